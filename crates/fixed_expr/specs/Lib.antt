@@ -1,0 +1,4 @@
+pub mod Range
+pub mod Quotient
+pub mod Expression
+pub mod Value

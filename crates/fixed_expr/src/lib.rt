@@ -1,0 +1,13 @@
+//! Expressions over whole numbers, and their values.
+//!
+//! The layer above gives an expression with the values of its variables, and `eval` answers the
+//! value, or None exactly where the value of some node leaves the range of 127 bits and a sign.
+//! Stands on std alone.
+#![tactic(auto)]
+
+mod arithmetic;
+mod evaluate;
+mod expr;
+
+pub use evaluate::eval;
+pub use expr::Expr;
