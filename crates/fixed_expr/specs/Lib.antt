@@ -2,3 +2,4 @@ pub mod Range
 pub mod Quotient
 pub mod Expression
 pub mod Value
+pub mod Tokens
