@@ -1,4 +1,4 @@
-// One operation each, with None where the result leaves the range.
+//! Operations on whole numbers, one each, with None where the result leaves the range.
 
 ghost use Rattle.std.specs.Prelude.{◌≡◌, neg_ℤ, ◌+ℤ◌, ◌-ℤ◌, ◌*ℤ◌, ◌≤ℤ◌, pos, nat_abs, SomeIff};
 ghost use Rattle.std.specs.Int.{int_min, int_max};

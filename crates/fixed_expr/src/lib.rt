@@ -5,7 +5,7 @@
 //! Stands on std alone.
 #![tactic(auto)]
 
-mod arithmetic;
+pub mod arithmetic;
 mod evaluate;
 mod expr;
 

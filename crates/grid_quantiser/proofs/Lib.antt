@@ -1,0 +1,13 @@
+pub mod Quotients
+pub mod Suffixes
+pub mod AxisNumbers
+pub mod SixAxes
+pub mod PointSteps
+pub mod Domain
+pub mod AtMost
+pub mod CellPoints
+pub mod Blocks
+pub mod BoxCells
+pub mod BetweenCells
+pub mod MeetingCells
+pub mod CentrePoints

@@ -1,0 +1,30 @@
+-- The axes of a uniform grid, one for each state.
+use Rattle.std.specs.Prelude.{ℕ, ◌*◌, ◌^◌, ◌≤◌, ℤ, pos, neg_ℤ, ◌+ℤ◌, ◌*ℤ◌, ◌<ℤ◌, ◌≤ℤ◌, List, [], ◌∷◌, length}
+use Rattle.std.specs.List.{All}
+use Rattle.grid_quantiser.specs.declared.axis.Axis.{Axis}
+
+-- the least number past an axis
+abbrev pub end_of : Axis → ℤ
+end_of a = a.lo +ℤ (a.width *ℤ pos a.count)
+
+-- An axis has a cell, and lies within 10^18.
+pub record IsAxis (a : Axis) : Type 0 where
+  pub some_width : pos 1 ≤ℤ a.width
+  pub some_cell : 1 ≤ a.count
+  pub low_bound : neg_ℤ (pos (10 ^ 18)) <ℤ a.lo
+  pub high_bound : end_of a ≤ℤ pos (10 ^ 18)
+
+-- what stands where there is no axis
+abbrev pub no_axis : Axis
+no_axis = record { lo = pos 0; width = pos 0; count = 0 }
+
+-- how many cells there are
+abbrev pub cells_of : List Axis → ℕ
+cells_of [] = 1
+cells_of (a ∷ axes) = a.count * cells_of axes
+
+-- A grid has one axis for each of 1 to 6 states.
+pub record AreAxes (axes : List Axis) : Type 0 where
+  pub some_state : 1 ≤ length axes
+  pub states_bound : length axes ≤ 6
+  pub each : All IsAxis axes

@@ -1,0 +1,28 @@
+-- What holds of every grid's cells.
+use Rattle.std.specs.Prelude.{ℕ, ◌<◌, ◌↔◌, ℤ, ◌+ℤ◌, ◌≤ℤ◌, List, [], ◌∷◌}
+use Rattle.grid_quantiser.specs.declared.axis.Axis.{Axis}
+use Rattle.grid_quantiser.specs.Axes.{cells_of, AreAxes}
+use Rattle.grid_quantiser.specs.Cells.{IsInDomain, cell_of, IsPointOf, low_of, radius_of, centre_of, high_of}
+use Rattle.grid_quantiser.specs.Boxes.{IsInBox}
+
+-- in each state the two are at most the radius of the axis apart
+abbrev pub AreNear : List Axis → List ℤ → List ℤ → Type 0
+AreNear [] xs ys = Unit {0}
+AreNear (a ∷ axes) [] ys = ⊥
+AreNear (a ∷ axes) (x ∷ xs) [] = ⊥
+AreNear (a ∷ axes) (x ∷ xs) (y ∷ ys) = (x ≤ℤ (y +ℤ radius_of a)) × (y ≤ℤ (x +ℤ radius_of a)) × AreNear axes xs ys
+
+-- the points of a cell are the box from its least point to its greatest
+abbrev pub CellsAreBoxes : Type 0
+CellsAreBoxes =
+    (axes : List Axis) (c : ℕ) (xs : List ℤ) → AreAxes axes → c < cells_of axes → IsPointOf axes c xs ↔ IsInBox axes (low_of axes c) (high_of axes c) xs
+
+-- the centre of a cell is a point of it, and near to every point of it
+abbrev pub CentresAreNear : Type 0
+CentresAreNear =
+    (axes : List Axis) (c : ℕ) → AreAxes axes → c < cells_of axes →
+    IsPointOf axes c (centre_of axes c) × ((xs : List ℤ) → IsPointOf axes c xs → AreNear axes (centre_of axes c) xs)
+
+-- each state in the domain has one of the cells
+abbrev pub StatesHaveCells : Type 0
+StatesHaveCells = (axes : List Axis) (xs : List ℤ) → AreAxes axes → IsInDomain axes xs → cell_of axes xs < cells_of axes

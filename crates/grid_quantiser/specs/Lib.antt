@@ -1,0 +1,7 @@
+pub mod Axes
+pub mod Cells
+pub mod Boxes
+pub mod Grid
+pub mod Kept
+pub mod Spots
+pub mod Laws

@@ -1,0 +1,70 @@
+ghost use Rattle.std.specs.Prelude.{◌≡◌, ℕ, ◌<◌, ◌≤◌, ◌↔◌, pos, ◌+ℤ◌, ◌*ℤ◌, ◌≤ℤ◌, ◌<ℤ◌, IsSome, IfSome};
+
+/// One state of a grid: `count` cells of `width` numbers each, from `lo` on.
+#[derive(Clone, Copy, Debug, PartialEq, Eq)]
+pub struct Axis {
+    pub lo: i128,
+    pub width: i128,
+    pub count: u64,
+}
+
+/// A number among those of a place on an axis.
+#[derive(Clone, Copy)]
+pub(crate) enum Spot {
+    Least,
+    Centre,
+    Greatest,
+}
+
+impl Axis {
+    ghost use Rattle.grid_quantiser.specs.Axes.{IsAxis, end_of};
+    ghost use Rattle.grid_quantiser.specs.Cells.{radius_of, place_of};
+    ghost use Rattle.grid_quantiser.specs.Spots.{number_of};
+
+    #[inline]
+    pub(crate) fn radius(&self) -> i128
+        requires { IsAxis self.now }
+        ensures { result ≡ radius_of self.now }
+    {
+        self.width / 2
+    }
+
+    /// The least number of a place, or at `count` the end of the axis.
+    #[inline]
+    fn start(&self, place: u64) -> i128
+        requires axis { IsAxis self.now }
+        requires within { place ≤ self.now.count }
+        ensures { result ≡ self.now.lo +ℤ (self.now.width *ℤ pos place) }
+    {
+        self.lo + self.width * place as i128
+    }
+
+    /// The place of a number, where it lies on the axis.
+    #[inline]
+    pub(crate) fn place(&self, x: i128) -> Option<u64>
+        requires { IsAxis self.now }
+        ensures inside { IsSome result ↔ ((self.now.lo ≤ℤ x) × (x <ℤ end_of self.now)) }
+        ensures place { IfSome result (λ place. place ≡ place_of self.now x) }
+        ensures below { IfSome result (λ place. place < self.now.count) }
+    {
+        if x < self.lo || self.start(self.count) <= x {
+            return None;
+        }
+        Some((x - self.lo) as u64 / self.width as u64)
+    }
+
+    /// A number of a place.
+    #[inline]
+    pub(crate) fn number(&self, place: u64, spot: Spot) -> i128
+        requires axis { IsAxis self.now }
+        requires within { place < self.now.count }
+        ensures { result ≡ number_of spot self.now place }
+    {
+        let least = self.start(place);
+        match spot {
+            Spot::Least => least,
+            Spot::Centre => least + self.radius(),
+            Spot::Greatest => least + (self.width - 1),
+        }
+    }
+}

@@ -1,0 +1,133 @@
+ghost use Rattle.std.specs.Prelude.{◌≡◌, ℕ, ◌<◌, ◌≤◌, ◌↔◌, length, slice_index, IsTrue, IsSome, IfSome};
+ghost use Rattle.std.specs.List.{Contains};
+ghost use Rattle.grid_quantiser.specs.Axes.{cells_of};
+ghost use Rattle.grid_quantiser.specs.Boxes.{IsAtMost, IsBoxInDomain, Touches, LiesInside, AreCornersMeeting, IsCellBox, cells_between};
+
+use crate::axis::Axis;
+use crate::cells::cell_in;
+use crate::grid::{Grid, Point};
+
+/// A box of cells of a grid, by the numbers of its lowest and its highest corner.
+#[derive(Clone, Copy, Debug, PartialEq, Eq)]
+pub struct CellBox {
+    pub first: u32,
+    pub last: u32,
+}
+
+impl Grid {
+    /// The cells that meet the box from `lo` to `hi`. A box that leaves the domain has none, and is
+    /// not clipped: a state in the part outside would have no cell.
+    #[inline]
+    pub fn meeting(&self, lo: &Point, hi: &Point) -> Option<CellBox>
+        requires { IsAtMost self.now lo.now hi.now }
+        ensures inside { IsSome result ↔ IsBoxInDomain self.now lo.now hi.now }
+        ensures corners { IfSome result (λ b. AreCornersMeeting self.now lo.now hi.now b.first b.last) }
+    {
+        let axes = self.axes();
+        let first = cell_in(axes, lo)?;
+        let last = cell_in(axes, hi)?;
+        Some(CellBox { first, last })
+    }
+
+    /// How many cells are in a box.
+    pub fn box_count(&self, b: CellBox) -> u64
+        requires { IsCellBox self.now b.first b.last }
+        ensures count { result ≡ length (cells_between self.now b.first b.last) }
+        ensures some { 1 ≤ result }
+        ensures limit { result ≤ cells_of self.now }
+    {
+        let axes = self.axes();
+        let mut first = u64::from(b.first);
+        let mut last = u64::from(b.last);
+        let mut count: u64 = 1;
+        for i in (0..axes.len()).rev() {
+            let n = axes[i].count;
+            count *= last % n - first % n + 1;
+            first /= n;
+            last /= n;
+        }
+        count
+    }
+
+    /// Whether a cell is in a box.
+    pub fn box_has(&self, b: CellBox, c: u32) -> bool
+        requires ordered { IsCellBox self.now b.first b.last }
+        requires cell { c < cells_of self.now }
+        ensures { IsTrue result ↔ Contains (cells_between self.now b.first b.last) c }
+    {
+        let axes = self.axes();
+        let mut first = u64::from(b.first);
+        let mut last = u64::from(b.last);
+        let mut rest = u64::from(c);
+        for i in (0..axes.len()).rev() {
+            let n = axes[i].count;
+            if rest % n < first % n || last % n < rest % n {
+                return false;
+            }
+            first /= n;
+            last /= n;
+            rest /= n;
+        }
+        true
+    }
+
+    /// The cell of a number from 0 among those of a box.
+    pub fn nth_of(&self, b: CellBox, i: u64) -> u32
+        requires ordered { IsCellBox self.now b.first b.last }
+        requires within { i < length (cells_between self.now b.first b.last) }
+        ensures nth { result ≡ slice_index (cells_between self.now b.first b.last) i }
+        ensures below { result < cells_of self.now }
+    {
+        let axes = self.axes();
+        let mut first = u64::from(b.first);
+        let mut last = u64::from(b.last);
+        let mut left = i;
+        let mut cell: u64 = 0;
+        let mut stride: u64 = 1;
+        for k in (0..axes.len()).rev() {
+            let n = axes[k].count;
+            let side = last % n - first % n + 1;
+            cell += (first % n + left % side) * stride;
+            stride *= n;
+            left /= side;
+            first /= n;
+            last /= n;
+        }
+        cell as u32
+    }
+
+    /// Whether all points of a cell lie in the box from `lo` to `hi`.
+    #[inline]
+    pub fn inside(&self, c: u32, lo: &Point, hi: &Point) -> bool
+        requires cell { c < cells_of self.now }
+        requires ordered { IsAtMost self.now lo.now hi.now }
+        ensures { IsTrue result ↔ LiesInside self.now c lo.now hi.now }
+    {
+        let axes = self.axes();
+        is_at_most(axes, lo, &self.low(c)) && is_at_most(axes, &self.high(c), hi)
+    }
+
+    /// Whether some point of a cell lies in the box from `lo` to `hi`.
+    #[inline]
+    pub fn touches(&self, c: u32, lo: &Point, hi: &Point) -> bool
+        requires cell { c < cells_of self.now }
+        requires ordered { IsAtMost self.now lo.now hi.now }
+        ensures { IsTrue result ↔ Touches self.now c lo.now hi.now }
+    {
+        let axes = self.axes();
+        is_at_most(axes, lo, &self.high(c)) && is_at_most(axes, &self.low(c), hi)
+    }
+}
+
+/// Whether `xs` is at most `ys` in each state.
+fn is_at_most(axes: &[Axis], xs: &Point, ys: &Point) -> bool
+    requires { length axes.now ≤ 6 }
+    ensures { IsTrue result ↔ IsAtMost axes.now xs.now ys.now }
+{
+    for i in (0..axes.len()).rev() {
+        if ys[i] < xs[i] {
+            return false;
+        }
+    }
+    true
+}

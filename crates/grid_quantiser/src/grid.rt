@@ -1,0 +1,121 @@
+ghost use Rattle.std.specs.Prelude.{◌≡◌, ℕ, ◌*◌, ◌^◌, ◌<◌, ◌≤◌, ◌↔◌, length, IfOk, IsErr, slice_index_or};
+ghost use Rattle.grid_quantiser.specs.Axes.{no_axis, cells_of, AreAxes};
+ghost use Rattle.grid_quantiser.specs.Cells.{radius_of};
+
+use crate::axis::Axis;
+use std::marker::Model;
+
+/// The numbers of a state, one for each axis of the grid. The places past the last axis are 0 in
+/// an answer, and are not looked at in what a call is given.
+pub type Point = [i128; 6];
+
+/// The grid would have more than 2^20 cells.
+#[derive(Clone, Copy, Debug, PartialEq, Eq)]
+pub struct TooManyCells;
+
+/// A uniform grid: its axes, in order. The cells are numbered from 0, the first state varying
+/// slowest.
+#[derive(Clone, Copy, Debug, PartialEq, Eq)]
+pub struct Grid {
+    axes: [Axis; 6],
+    states: u32,
+    cells: u32,
+}
+
+impl Model for Grid {
+    ghost use Rattle.std.specs.Prelude.{List, length, take};
+    ghost use Rattle.grid_quantiser.specs.declared.axis.Axis.{Axis};
+    ghost use Rattle.grid_quantiser.specs.Axes.{cells_of};
+    ghost use Rattle.grid_quantiser.specs.Grid.{six_of, IsKept};
+    ghost use Rattle.grid_quantiser.specs.Kept.{kept_back};
+
+    ghost Value = { List Axis };
+
+    ghost view = { λ g. take g.states g.axes };
+
+    ghost invariant = { λ g. IsKept g.axes g.states g.cells };
+
+    ghost inverse = { λ axes. record { axes = six_of axes; states = length axes; cells = cells_of axes } };
+
+    ghost inverse_ok = { λ g kept. kept_back g kept };
+}
+
+/// The most cells that a grid has.
+const CELLS_LIMIT: u64 = 1 << 20;
+
+/// What stands in a place with no axis.
+const NO_AXIS: Axis = Axis {
+    lo: 0,
+    width: 0,
+    count: 0,
+};
+
+impl Grid {
+    /// The grid of the axes, one for each state.
+    pub fn new(axes: &[Axis]) -> Result<Grid, TooManyCells>
+        requires { AreAxes axes.now }
+        ensures ok { IfOk result (λ grid. grid ≡ axes.now) }
+        ensures refused { IsErr result ↔ (2 ^ 20 < cells_of axes.now) }
+    {
+        let cells = cell_count(axes)?;
+        let mut six = [NO_AXIS; 6];
+        six[..axes.len()].copy_from_slice(axes);
+        Ok(Grid {
+            axes: six,
+            states: axes.len() as u32,
+            cells,
+        })
+    }
+
+    /// How many states. What holds of the axes of every grid is learnt here.
+    #[inline]
+    pub fn states(&self) -> u32
+        ensures count { result ≡ length self.now }
+        ensures axes { AreAxes self.now }
+    {
+        self.states
+    }
+
+    /// How many cells. The bound of every grid is learnt here.
+    #[inline]
+    pub fn cells(&self) -> u32
+        ensures count { result ≡ cells_of self.now }
+        ensures limit { cells_of self.now ≤ 2 ^ 20 }
+    {
+        self.cells
+    }
+
+    /// How far a state of a cell is at most from the centre, along an axis.
+    #[inline]
+    pub fn radius(&self, axis: u32) -> i128
+        requires { axis < length self.now }
+        ensures { result ≡ radius_of (slice_index_or self.now axis no_axis) }
+    {
+        self.axes()[axis as usize].radius()
+    }
+
+    #[inline]
+    pub(crate) fn axes(&self) -> &[Axis]
+        ensures same { result.now ≡ self.now }
+        ensures axes { AreAxes result.now }
+        ensures limit { cells_of result.now ≤ 2 ^ 20 }
+    {
+        &self.axes[..self.states as usize]
+    }
+}
+
+/// How many cells the axes make.
+fn cell_count(axes: &[Axis]) -> Result<u32, TooManyCells>
+    requires { AreAxes axes.now }
+    ensures ok { IfOk result (λ cells. cells ≡ cells_of axes.now) }
+    ensures refused { IsErr result ↔ (2 ^ 20 < cells_of axes.now) }
+{
+    let mut cells: u64 = 1;
+    for i in (0..axes.len()).rev() {
+        if axes[i].count > CELLS_LIMIT / cells {
+            return Err(TooManyCells);
+        }
+        cells *= axes[i].count;
+    }
+    Ok(cells as u32)
+}

@@ -1,0 +1,19 @@
+//! Uniform grids over boxes of whole numbers.
+//!
+//! The layer above hands in the axes and gets the cells that tile them: the cell of a state, the
+//! corner points and the centre of a cell, and the cells that meet a box of states. The contract:
+//! each answer speaks of the set of points of a cell, though no call lists a point. Stands on std
+//! alone, and takes no memory.
+#![tactic(auto)]
+
+mod axis;
+mod boxes;
+mod cells;
+mod grid;
+pub mod laws;
+#[cfg(test)]
+mod tests;
+
+pub use axis::Axis;
+pub use boxes::CellBox;
+pub use grid::{Grid, Point, TooManyCells};

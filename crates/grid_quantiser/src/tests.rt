@@ -1,0 +1,133 @@
+ghost use Rattle.std.specs.Prelude.{◌≡◌};
+ghost use Rattle.grid_quantiser.specs.Axes.{AreAxes};
+
+use crate::{Axis, CellBox, Grid, Point};
+use std::process::Abort;
+
+/// Five cells of three numbers: 0 to 2, 3 to 5, 6 to 8, 9 to 11 and 12 to 14.
+const ROW: [Axis; 1] = [Axis {
+    lo: 0,
+    width: 3,
+    count: 5,
+}];
+
+/// Six cells of ten numbers from 0 on, by four of five numbers from -10 on.
+const PLANE: [Axis; 2] = [
+    Axis {
+        lo: 0,
+        width: 10,
+        count: 6,
+    },
+    Axis {
+        lo: -10,
+        width: 5,
+        count: 4,
+    },
+];
+
+fn grid_of(rt: &impl Abort, axes: &[Axis]) -> Grid
+    requires { AreAxes axes.now }
+    ensures { result ≡ axes.now }
+{
+    let grid = Grid::new(axes);
+    assert!(rt; grid.is_ok());
+    grid.unwrap()
+}
+
+fn on_row(x: i128) -> Point {
+    [x, 0, 0, 0, 0, 0]
+}
+
+#[test]
+fn one_state(rt: HostRuntime) {
+    let grid = grid_of(&rt, &ROW);
+    assert_eq!(rt; grid.states(), 1);
+    assert_eq!(rt; grid.cells(), 5);
+    assert_eq!(rt; grid.radius(0), 1);
+    for (x, cell) in [
+        (-1, None),
+        (0, Some(0)),
+        (2, Some(0)),
+        (3, Some(1)),
+        (14, Some(4)),
+        (15, None),
+    ] {
+        assert_eq!(rt; grid.cell_of(&on_row(x)), cell, "at {x}");
+    }
+    assert_eq!(rt; grid.centre(3)[0], 10);
+    assert_eq!(rt; grid.low(3)[0], 9);
+    assert_eq!(rt; grid.high(3)[0], 11);
+    assert_eq!(rt;
+        grid.meeting(&[3, 0, 0, 0, 0, 0], &[9, 0, 0, 0, 0, 0]),
+        Some(CellBox { first: 1, last: 3 })
+    );
+    assert_eq!(rt;
+        grid.meeting(&[11, 0, 0, 0, 0, 0], &[15, 0, 0, 0, 0, 0]),
+        None
+    );
+}
+
+#[test]
+fn two_states(rt: HostRuntime) {
+    let grid = grid_of(&rt, &PLANE);
+    // (35, -6) stands at place 3 of 6 and place 0 of 4: cell 3 * 4 + 0.
+    assert_eq!(rt; grid.cell_of(&[35, -6, 0, 0, 0, 0]), Some(12));
+    assert_eq!(rt; grid.low(12), [30, -10, 0, 0, 0, 0]);
+    assert_eq!(rt; grid.centre(12), [35, -8, 0, 0, 0, 0]);
+    assert_eq!(rt; grid.high(12), [39, -6, 0, 0, 0, 0]);
+    // Places 3 and 4 by 0 and 1: cells 12, 13, 16 and 17.
+    let b = CellBox {
+        first: 12,
+        last: 17,
+    };
+    assert_eq!(rt;
+        grid.meeting(&[35, -6, 0, 0, 0, 0], &[41, -5, 0, 0, 0, 0]),
+        Some(b)
+    );
+    assert_eq!(rt; grid.box_count(b), 4);
+    assert_eq!(rt; grid.nth_of(b, 0), 12);
+    assert_eq!(rt; grid.nth_of(b, 1), 13);
+    assert_eq!(rt; grid.nth_of(b, 2), 16);
+    assert_eq!(rt; grid.nth_of(b, 3), 17);
+    assert!(rt; grid.box_has(b, 16));
+    assert!(rt; !grid.box_has(b, 14));
+    // The cell 12 is the box from (30, -10) to (39, -6).
+    assert!(rt; grid.inside(12, &[30, -10, 0, 0, 0, 0], &[39, -6, 0, 0, 0, 0]));
+    assert!(rt; !grid.inside(12, &[31, -10, 0, 0, 0, 0], &[99, 99, 0, 0, 0, 0]));
+    assert!(rt; grid.touches(12, &[39, -6, 0, 0, 0, 0], &[99, 99, 0, 0, 0, 0]));
+    assert!(rt; !grid.touches(12, &[40, -10, 0, 0, 0, 0], &[49, -6, 0, 0, 0, 0]));
+}
+
+#[test]
+fn six_states(rt: HostRuntime) {
+    let axis = Axis {
+        lo: 0,
+        width: 2,
+        count: 3,
+    };
+    let grid = grid_of(&rt, &[axis, axis, axis, axis, axis, axis]);
+    assert_eq!(rt; grid.states(), 6);
+    assert_eq!(rt; grid.cells(), 729);
+    // Places 0, 1, 1, 2, 2 and 0: 81 + 27 + 2 * 9 + 2 * 3.
+    assert_eq!(rt; grid.cell_of(&[1, 2, 3, 4, 5, 0]), Some(132));
+    assert_eq!(rt; grid.centre(132), [1, 3, 3, 5, 5, 1]);
+}
+
+#[test]
+fn too_many_cells(rt: HostRuntime) {
+    let axis = Axis {
+        lo: 0,
+        width: 1,
+        count: 1 << 20,
+    };
+    assert!(rt; Grid::new(&[axis]).is_ok());
+    assert!(rt;
+        Grid::new(&[Axis {
+            count: (1 << 20) + 1,
+            ..axis
+        }])
+        .is_err()
+    );
+    // 2^80 cells.
+    assert!(rt; Grid::new(&[axis, axis, axis, axis]).is_err());
+}
