@@ -1,0 +1,11 @@
+pub mod Trees
+pub mod Rows
+pub mod Reach
+pub mod Promises
+pub mod Counts
+pub mod Queues
+pub mod Edges
+pub mod Told
+pub mod Step
+pub mod Taking
+pub mod Gathering

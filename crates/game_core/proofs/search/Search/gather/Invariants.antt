@@ -1,0 +1,5 @@
+use Rattle.game_core.specs.Search.{IsGathered}
+use Rattle.game_core.proofs.search.Search.gather.Given as goal
+
+abbrev pub invariant-loop-c : goal.invariant-loop-c
+invariant-loop-c g l = IsGathered (g.G.Graph.game l.g) l.c l.self

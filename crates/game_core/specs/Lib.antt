@@ -1,0 +1,5 @@
+pub mod Game
+pub mod Strategy
+pub mod Solution
+pub mod Search
+pub mod Corridor

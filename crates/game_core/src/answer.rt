@@ -1,0 +1,60 @@
+ghost use Rattle.std.specs.Prelude.{◌≡◌, ℕ, ◌^◌, ◌<◌, ◌≤◌, None, replicate, length, slice_set, IfOk};
+ghost use Rattle.game_core.specs.Solution.{row_of};
+
+use crate::game::Row;
+use std::alloc::Global;
+use std::marker::Model;
+
+/// There was no memory left.
+#[derive(Clone, Copy, Debug, PartialEq, Eq)]
+pub struct NoMemory;
+
+/// One optional row for each cell of a game.
+#[derive(Drop)]
+pub struct Answer {
+    rows: Vec<Option<Row>>,
+}
+
+impl Model for Answer {
+    ghost use Rattle.std.specs.Prelude.{List, Option, length, ◌≤◌, ◌^◌};
+    ghost use Rattle.game_core.specs.declared.game.Row.{Row};
+
+    ghost Value = { List (Option Row) };
+
+    ghost view = { λ a. a.rows.items };
+
+    ghost invariant = { λ a. length a.rows.items ≤ 2 ^ 20 };
+}
+
+impl Answer {
+    /// No row at any cell.
+    pub fn blank(alloc: Global, cells: u32) -> Result<Answer, NoMemory>
+        requires { cells ≤ 2 ^ 20 }
+        ensures { IfOk result (λ a. a ≡ replicate cells None) }
+    {
+        let rows = vec![in alloc; None; cells as usize].map_err(|_| NoMemory)?;
+        Ok(Answer { rows })
+    }
+
+    pub fn cells(&self) -> u32
+        ensures { result ≡ length self.now }
+    {
+        self.rows.len() as u32
+    }
+
+    /// None where the cell has no row.
+    pub fn row(&self, c: u32) -> Option<Row>
+        requires { c < length self.now }
+        ensures { result ≡ row_of self.now c }
+    {
+        self.rows[c as usize]
+    }
+
+    /// Changes the row of one cell alone.
+    pub fn set(&mut self, c: u32, row: Option<Row>)
+        requires { c < length self.old }
+        ensures { self.new ≡ slice_set self.old c row }
+    {
+        self.rows[c as usize] = row;
+    }
+}

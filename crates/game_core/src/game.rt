@@ -1,0 +1,53 @@
+ghost use Rattle.std.specs.Prelude.{◌≡◌, ℕ, ◌*◌, ◌<◌, length, slice_index};
+ghost use Rattle.game_core.specs.Game.{Game, IsGame, AreSources, mark_of, successors_at, pairs_of};
+
+/// What a cell is to the controller.
+#[derive(Clone, Copy, Debug, PartialEq, Eq)]
+pub enum Mark {
+    /// To be reached.
+    Goal,
+    /// Never to be met.
+    Obstacle,
+    /// Neither.
+    Plain,
+}
+
+/// What a table says of one cell: the samples that suffice, and the input to apply.
+#[derive(Clone, Copy, Debug, PartialEq, Eq)]
+pub struct Row {
+    pub rank: u32,
+    pub input: u32,
+}
+
+/// A game in memory. A pair of a cell and an input has the number `cell * inputs + input`.
+pub trait Graph {
+    ghost game: { Self → Game };
+
+    fn cells(&self) -> u32
+        ensures { result ≡ (game self.now).cells };
+
+    fn inputs(&self) -> u32
+        ensures { result ≡ (game self.now).inputs };
+
+    fn mark(&self, c: u32) -> Mark
+        requires { c < (game self.now).cells }
+        ensures { result ≡ mark_of (game self.now) c };
+
+    /// How many successors a pair has: 0 exactly where its input isn't enabled.
+    fn fan(&self, pair: u32) -> u32
+        requires { pair < pairs_of (game self.now) }
+        ensures { result ≡ length (successors_at (game self.now) pair) };
+
+    /// The successors of a pair, in rising order.
+    fn successor(&self, pair: u32, at: u32) -> u32
+        requires pair { pair < pairs_of (game self.now) }
+        requires at { at < length (successors_at (game self.now) pair) }
+        ensures { result ≡ slice_index (successors_at (game self.now) pair) at };
+
+    /// The pairs that lead to a cell.
+    fn sources(&self, c: u32) -> &[u32]
+        requires { c < (game self.now).cells }
+        ensures { AreSources (game self.now) c result.now };
+
+    ghost lawful: { (g : Self) → IsGame (game g) };
+}

@@ -1,0 +1,15 @@
+//! Laws about the definitions, for callers and tests.
+ghost use Rattle.std.specs.Prelude.{◌≡◌, List, Option};
+ghost use Rattle.game_core.specs.declared.game.Row.{Row};
+ghost use Rattle.game_core.specs.Game.{Game, IsGame};
+ghost use Rattle.game_core.specs.Solution.{IsReachSolution, LeadsToGoals};
+
+/// Who follows the rows of a solution comes to lower ranks alone, and at rank 0 to a goal.
+pub fn rows_lead_to_goals()
+    ensures { (g : Game) (rows : List (Option Row)) → IsGame g → IsReachSolution g rows → LeadsToGoals g rows }
+{}
+
+/// A game has one solution.
+pub fn one_solution()
+    ensures { (g : Game) (first second : List (Option Row)) → IsReachSolution g first → IsReachSolution g second → first ≡ second }
+{}

@@ -1,0 +1,21 @@
+ghost use Rattle.std.specs.Prelude.{IfOk};
+ghost use Rattle.game_core.specs.Solution.{IsReachSolution};
+
+use crate::answer::{Answer, NoMemory};
+use crate::game::Graph;
+use crate::search::Search;
+use std::alloc::Global;
+
+/// The reach solution of a graph, by one thread.
+pub fn solve_plain<G: Graph>(alloc: Global, g: &G) -> Result<Answer, NoMemory>
+    ensures { IfOk result (λ a. IsReachSolution (G.game g.now) a) }
+{
+    let mut search = Search::new(alloc, g)?;
+    search.gather(g);
+    let mut head = 0;
+    while head < search.found() {
+        search.take(g, head);
+        head += 1;
+    }
+    Ok(search.into_answer())
+}

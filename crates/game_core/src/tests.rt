@@ -1,0 +1,93 @@
+ghost use Rattle.std.specs.Prelude.{◌≡◌};
+ghost use Rattle.game_core.specs.Corridor.{corridor};
+ghost use Rattle.game_core.specs.Game.{IsGame};
+
+use super::*;
+use std::test::Fail;
+
+/// The game of a corridor: x' = x + u + w on 0 to 14 in cells of three, with u of 4 or 7, w of -1
+/// to 1, and the target 9 to 14. A cell's box is its centre 3 c + 1 plus u, minus and plus 2.
+///
+/// | cell | u = 4 | u = 7 |
+/// |---|---|---|
+/// | 0 | 3 to 7: cells 1, 2 | 6 to 10: cells 2, 3 |
+/// | 1 | 6 to 10: cells 2, 3 | 9 to 13: cells 3, 4 |
+/// | 2 | 9 to 13: cells 3, 4 | 12 to 16: outside |
+/// | 3, 4 | outside | outside |
+#[derive(Drop)]
+struct Corridor {
+    ghost is_game: { IsGame corridor },
+}
+
+const MARKS: [Mark; 5] = [
+    Mark::Plain,
+    Mark::Plain,
+    Mark::Plain,
+    Mark::Goal,
+    Mark::Goal,
+];
+
+const FANS: [u32; 10] = [2, 2, 2, 2, 2, 0, 0, 0, 0, 0];
+
+const FIRST: [u32; 10] = [1, 2, 2, 3, 3, 0, 0, 0, 0, 0];
+
+impl Graph for Corridor {
+    ghost game = { λ _. corridor };
+
+    fn cells(&self) -> u32 {
+        5
+    }
+
+    fn inputs(&self) -> u32 {
+        2
+    }
+
+    fn mark(&self, c: u32) -> Mark {
+        MARKS[c as usize]
+    }
+
+    fn fan(&self, pair: u32) -> u32 {
+        FANS[pair as usize]
+    }
+
+    fn successor(&self, pair: u32, at: u32) -> u32 {
+        FIRST[pair as usize] + at
+    }
+
+    fn sources(&self, c: u32) -> &[u32] {
+        match c {
+            0 => &[],
+            1 => &[0],
+            2 => &[0, 1, 2],
+            3 => &[1, 2, 3, 4],
+            _ => &[3, 4],
+        }
+    }
+
+    ghost lawful = { λ g. g.is_game };
+}
+
+#[test]
+fn solves_the_corridor(rt: HostRuntime) -> Result<(), Fail> {
+    let answer = solve_plain(rt.alloc(), &Corridor {})?;
+    assert_eq!(rt; answer.cells(), 5);
+    // both inputs lead from cell 0 to rank 1 at most, and the lesser one stands
+    assert_eq!(rt; answer.row(0), Some(Row { rank: 2, input: 0 }));
+    assert_eq!(rt; answer.row(1), Some(Row { rank: 1, input: 1 }));
+    assert_eq!(rt; answer.row(2), Some(Row { rank: 1, input: 0 }));
+    assert_eq!(rt; answer.row(3), Some(Row { rank: 0, input: 0 }));
+    assert_eq!(rt; answer.row(4), Some(Row { rank: 0, input: 0 }));
+    Ok(())
+}
+
+#[test]
+fn sets_one_row(rt: HostRuntime) -> Result<(), Fail> {
+    let mut answer = Answer::blank(rt.alloc(), 3)?;
+    let row = Row { rank: 4, input: 7 };
+    answer.set(1, Some(row));
+    assert_eq!(rt; answer.cells(), 3);
+    assert_eq!(rt; answer.row(0), None);
+    assert_eq!(rt; answer.row(1), Some(row));
+    assert_eq!(rt; answer.row(2), None);
+    Ok(())
+}
