@@ -1,0 +1,9 @@
+pub mod Lists
+pub mod Countdown
+pub mod Parts
+pub mod Cuts
+pub mod Offers
+pub mod Entries
+pub mod Steps
+pub mod Roots
+pub mod Consequences

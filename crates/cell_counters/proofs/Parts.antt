@@ -1,0 +1,38 @@
+-- The accounts of all views, where one view changes.
+use Rattle.std.proofs.Common.{◌≡◌, ℕ, zero, suc, List, [], ◌∷◌, ◌++◌, length, set, refl, sym, ap, ◌∙◌, length-append}
+use Rattle.std.proofs.lemmas.List.Concat.{flat_map-append}
+use mathlib.Core.Option.{some, some-injective}
+use lib.ListN.{get_elem?}
+use Rattle.cell_counters.specs.declared.account.Account.{Account}
+use Rattle.cell_counters.specs.declared.rule.View.{View}
+use Rattle.cell_counters.specs.Rules.{accounts_of, made_of}
+use Rattle.cell_counters.proofs.Lists.{around}
+
+-- one account became another
+pub record Replaced (before after : List Account) (a b : Account) : Type 0 where
+  pub front : List Account
+  pub back : List Account
+  pub was : before ≡ front ++ a ∷ back
+  pub is : after ≡ front ++ b ∷ back
+
+pub accounts_around : (front back : List View) (v : View) (a : Account) → v.accounts ≡ a ∷ [] → accounts_of (front ++ v ∷ back) ≡ accounts_of front ++ a ∷ accounts_of back
+accounts_around front back v a one = flat_map-append (λ (u : View). u.accounts) front (v ∷ back) ∙ ap (λ l. accounts_of front ++ (l ++ accounts_of back)) one
+
+pub replaced : (views : List View) (id : ℕ) (v w : View) (a b : Account) → get_elem? views id ≡ some v → v.accounts ≡ a ∷ [] → w.accounts ≡ b ∷ [] → Replaced (accounts_of views) (accounts_of (set views id w)) a b
+replaced views id v w a b at one other =
+    let r = around views id v at in
+    record {
+      front = accounts_of r.front;
+      back = accounts_of r.back;
+      was = ap accounts_of r.is ∙ accounts_around r.front r.back v a one;
+      is = ap accounts_of (r.becomes w) ∙ accounts_around r.front r.back w b other;
+    }
+
+pub made_of-set : (views : List View) (id : ℕ) (v w : View) → get_elem? views id ≡ some v → w.made ≡ v.made → made_of (set views id w) ≡ made_of views
+made_of-set [] id v w at same = refl
+made_of-set (x ∷ xs) zero v w at same = same ∙ ap (λ (u : View). u.made) (sym (some-injective x v at))
+made_of-set (x ∷ xs) (suc id) v w at same = refl
+
+pub length-replaced : (before after : List Account) (a b : Account) → Replaced before after a b → length after ≡ length before
+length-replaced before after a b r =
+    ap length r.is ∙ length-append r.front (b ∷ r.back) ∙ sym (length-append r.front (a ∷ r.back)) ∙ ap length (sym r.was)

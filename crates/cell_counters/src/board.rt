@@ -1,0 +1,213 @@
+// A board, the root of its owner, and the hands of its callers.
+ghost use Rattle.std.specs.Prelude.{◌≡◌, ◌≢◌, ℕ, ◌+◌, ◌^◌, ◌<◌, ◌==◌, false, IsTrue, length, slice_index, IfOk, Any};
+ghost use Rattle.cell_counters.specs.Accounts.{IsLawfulCounter, IsLawfulLeast};
+ghost use Rattle.cell_counters.specs.Tokens.{fresh_hand, with_cut, with_offer, with_note, new_root, hand_out, taken_in, IsLawful};
+
+use crate::account::NONE;
+use crate::rule::{
+    Beginning, Collecting, Cutting, Dealing, Item, Lawful, Looking, Noting, Offering, View,
+};
+use atomic_table::{Seat, Table};
+use std::alloc::{AllocError, Global};
+use std::marker::{Brand, Model};
+use std::snapshot::Snapshot;
+
+/// There was no memory for the board.
+#[derive(Debug, Drop)]
+pub struct NoMemory;
+
+impl From<AllocError> for NoMemory {
+    fn from(_error: AllocError) -> NoMemory {
+        NoMemory
+    }
+}
+
+/// Counters and least words that threads share by reference.
+///
+/// To a contract it is which board it is, and the numbers with which it began.
+#[derive(Drop)]
+pub struct Board {
+    table: Table<(), View, Beginning, Lawful, Global>,
+    counters: usize,
+}
+
+impl Model for Board {
+    ghost use Rattle.cell_counters.specs.Tokens.{BoardModel};
+    ghost use Rattle.cell_counters.specs.Rules.{board_model, IsSized};
+
+    ghost Value = { BoardModel };
+
+    ghost view = { λ b. board_model b.table.shared.table_id b.table.shared.key };
+
+    ghost invariant = { λ b. IsSized b.table.shared.key b.counters b.table.shared.table_id.words };
+}
+
+/// The owner's token.
+///
+/// To a contract it is its board, how many hands are out, and the accounts of those that were taken in.
+#[derive(Drop)]
+pub struct Root {
+    seat: Seat<(), View>,
+    out: u32,
+}
+
+impl Model for Root {
+    ghost use Rattle.cell_counters.specs.Tokens.{RootModel};
+    ghost use Rattle.cell_counters.specs.Rules.{root_model, IsRoot};
+
+    ghost Value = { RootModel };
+
+    ghost view = { λ r. root_model r.seat.table_id r.seat.me.0 r.out };
+
+    ghost invariant = { λ r. IsRoot r.seat.id r.seat.me r.out };
+}
+
+/// The token of one caller, which may go to another thread. It has no bytes.
+///
+/// To a contract it is its board and its account.
+#[derive(Drop)]
+pub struct Hand {
+    seat: Seat<(), View>,
+}
+
+impl Model for Hand {
+    ghost use Rattle.cell_counters.specs.Tokens.{HandModel};
+    ghost use Rattle.cell_counters.specs.Rules.{hand_model, IsHand};
+
+    ghost Value = { HandModel };
+
+    ghost view = { λ h. hand_model h.seat.table_id h.seat.me.0 };
+
+    ghost invariant = { λ h. IsHand h.seat.me };
+}
+
+impl Root {
+    /// How many hands were made and not taken in.
+    pub fn out(&self) -> u32
+        ensures { result ≡ self.now.out }
+    {
+        self.out
+    }
+}
+
+impl Board {
+    /// A board whose counters begin as `starts` and whose least words begin as `least`. It takes their memory twice while it is made.
+    pub fn new(alloc: Global, starts: &[u64], least: &[u64]) -> Result<(Board, Root), NoMemory>
+        requires some { 0 < length starts.now + length least.now }
+        requires room { length starts.now + length least.now < 2 ^ 32 }
+        ensures starts { IfOk result (λ made. made.0.starts ≡ starts.now) }
+        ensures least { IfOk result (λ made. made.0.least ≡ least.now) }
+        ensures root { IfOk result (λ made. made.1 ≡ new_root made.0) }
+    {
+        let mut words = Vec::from_slice(alloc, starts)?;
+        words.extend_from_slice(least)?;
+        let beginning = Beginning {
+            words: Snapshot::of(&words),
+            counters: starts.len(),
+        };
+        let (table, seat) = Table::of_words(alloc, words.as_slice(), &beginning)?;
+        let board = Board {
+            table,
+            counters: starts.len(),
+        };
+        Ok((board, Root { seat, out: 0 }))
+    }
+
+    /// A new hand.
+    pub fn hand(&self, root: &mut Root) -> Hand
+        requires root { root.old.board ≡ self.now }
+        requires room { root.old.out < 64 }
+        ensures hand { result ≡ fresh_hand self.now }
+        ensures root { root.new ≡ hand_out root.old }
+    {
+        let shared = &self.table.shared;
+        let seat = shared.split_seat::<Dealing>(&mut root.seat);
+        root.out += 1;
+        Hand { seat }
+    }
+
+    /// Takes a hand back. Once all are back, the accounts tell all that was done on the board.
+    pub fn take_in(&self, root: &mut Root, hand: Hand)
+        requires root { root.old.board ≡ self.now }
+        requires hand { hand.board ≡ self.now }
+        ensures was_out { 0 < root.old.out }
+        ensures root { root.new ≡ taken_in root.old hand.account }
+        ensures lawful { root.new.out ≡ 0 → IsLawful root.new.accounts self.now.starts self.now.least }
+    {
+        let Hand { seat } = hand;
+        let shared = &self.table.shared;
+        shared.join_seat::<Collecting>(&mut root.seat, seat);
+        shared.load::<Looking>(&mut root.seat, 0);
+        root.out -= 1;
+    }
+
+    /// Takes one from a counter, modulo 2^64, and answers what is then left.
+    pub fn cut(&self, hand: &mut Hand, counter: u32) -> u64
+        requires hand { hand.old.board ≡ self.now }
+        requires counter { counter < length self.now.starts }
+        ensures { hand.new ≡ record hand.old { account = with_cut hand.old.account counter result } }
+    {
+        let shared = &self.table.shared;
+        let found = shared.fetch_sub::<Cutting>(&mut hand.seat, counter as usize, 1);
+        found.wrapping_sub(1)
+    }
+
+    /// Lowers a least word to `value`, unless it is lower, and answers whether it was free.
+    pub fn offer(&self, hand: &mut Hand, word: u32, value: u64) -> bool
+        requires hand { hand.old.board ≡ self.now }
+        requires word { word < length self.now.least }
+        requires value { value < NONE }
+        ensures account { hand.new ≡ record hand.old { account = with_offer hand.old.account word value result } }
+        ensures earlier { Any (λ o. o.word ≡ word) hand.old.account.offers → result ≡ false }
+        ensures taken { slice_index self.now.least word ≢ NONE → result ≡ false }
+    {
+        let shared = &self.table.shared;
+        let at = self.counters + word as usize;
+        let found = shared.fetch_min::<Offering>(&mut hand.seat, at, value);
+        found == NONE
+    }
+
+    /// Notes an item. It costs one load.
+    pub fn note(&self, hand: &mut Hand, item: u32)
+        requires { hand.old.board ≡ self.now }
+        ensures { hand.new ≡ record hand.old { account = with_note hand.old.account item } }
+    {
+        self.note_as::<Brand>(hand, item);
+    }
+
+    fn note_as<I: Item>(&self, hand: &mut Hand, item: u32)
+        requires hand { hand.old.board ≡ self.now }
+        requires item { item ≡ I.item }
+        ensures { hand.new ≡ record hand.old { account = with_note hand.old.account item } }
+    {
+        // Contracts alone see the item.
+        let _ = item;
+        let shared = &self.table.shared;
+        shared.load::<Noting<I>>(&mut hand.seat, 0);
+    }
+
+    /// What is left of a counter, once all hands are back.
+    pub fn left(&self, root: &mut Root, counter: u32) -> u64
+        requires root { root.old.board ≡ self.now }
+        requires settled { root.old.out ≡ 0 }
+        requires counter { counter < length self.now.starts }
+        ensures lawful { IsLawfulCounter root.old.accounts counter (slice_index self.now.starts counter) result }
+        ensures same { root.new ≡ root.old }
+    {
+        let shared = &self.table.shared;
+        shared.load::<Looking>(&mut root.seat, counter as usize)
+    }
+
+    /// A least word, once all hands are back.
+    pub fn read(&self, root: &mut Root, word: u32) -> u64
+        requires root { root.old.board ≡ self.now }
+        requires settled { root.old.out ≡ 0 }
+        requires word { word < length self.now.least }
+        ensures lawful { IsLawfulLeast root.old.accounts word (slice_index self.now.least word) result }
+        ensures same { root.new ≡ root.old }
+    {
+        let shared = &self.table.shared;
+        let at = self.counters + word as usize;
+        shared.load::<Looking>(&mut root.seat, at)
+    }
+}
