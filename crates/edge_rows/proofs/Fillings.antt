@@ -1,0 +1,58 @@
+-- What a filling's fields are after each step.
+use Rattle.std.proofs.Common.{◌≡◌, ℕ, ◌+◌, ◌-◌, ◌<◌, ◌^◌, [], length, get_or, set, Some, None, refl, sym, ap, subst, ◌∙◌, arith}
+use Rattle.std.proofs.lemmas.List.{get_or_default}
+use Rattle.edge_rows.specs.Rows.{Filling, appended, HasRoom}
+use Rattle.edge_rows.specs.Layout.{gaps, rows_between}
+use Rattle.edge_rows.specs.FillFields.{filling_of, IsFilledAs, IsFilling}
+use Rattle.edge_rows.specs.declared.fill.RowFill.TheInside.{Inside}
+use Rattle.edge_rows.proofs.Laid.{end_of, length-ends, length-laid, end_at, gaps-starts, read_back, end_within, end_free, laid-put, ends-put, fits-put, written-put, some_left}
+
+module _ (g : Inside) (f : Filling) (l : IsFilledAs g f) where
+  pub shown : filling_of g ≡ f
+  shown =
+      let read : rows_between g.block g.starts.items g.ends.items ≡ f.rows =
+      (λ i. rows_between (l.places i) (l.starts i) (l.ends i)) ∙ read_back [] 0 f.rows f.lengths refl l.within.fits in
+      let gap : gaps g.starts.items ≡ f.lengths = ap gaps l.starts ∙ gaps-starts 0 f.lengths in
+      λ i. record { rows = read i; lengths = gap i }
+
+  pub kept : IsFilling g
+  kept = subst (IsFilledAs g) (sym shown) l
+
+-- a filling f, a row of it that has room, and the end of that row as the fields have it
+module _ (g : Inside) (ok : IsFilling g) (f : Filling) (is : filling_of g ≡ f) (r : ℕ) (room : HasRoom f r) where
+  had : IsFilledAs g f
+  had = subst (IsFilledAs g) is ok
+
+  pub end_listed : r < length g.ends.items
+  end_listed = omega (arith, room.0, ap length had.ends, length-ends 0 f.rows f.lengths had.within.fits)
+
+  pub left_more : 0 < g.left
+  left_more = omega (arith, had.left, some_left f.rows f.lengths r had.within.fits room.1)
+
+  module _ (end : ℕ) (read : end ≡ get_or g.ends.items r end) where
+    end_read : end ≡ get_or g.ends.items r 0
+    end_read = read ∙ get_or_default g.ends.items r end 0 end_listed
+
+    end_is : end ≡ end_of f.rows f.lengths r
+    end_is = omega (arith, end_read, ap (λ l. get_or l r 0) had.ends, end_at 0 f.rows f.lengths r had.within.fits room.0)
+
+    pub end_small : end < 2 ^ 25
+    end_small = omega (arith, end_is, end_within f.rows f.lengths r room.1, had.within.small.1)
+
+    pub end_free_there : (end < length g.block) × (get_or g.block end None ≡ None)
+    end_free_there = (
+      omega (arith, end_is, end_within f.rows f.lengths r room.1, ap length had.places, length-laid f.rows f.lengths had.within.fits),
+      (λ i. get_or (had.places i) (end_is i) None) ∙ end_free f.rows f.lengths r had.within.fits room.0 room.1,
+    )
+
+    pub put_lies : (h : Inside) (v : ℕ) → h.block ≡ set g.block end (Some v) → h.starts.items ≡ g.starts.items → h.ends.items ≡ set g.ends.items r (end + 1) → h.left ≡ g.left - 1
+        → IsFilledAs h (record { rows = appended f.rows r v; lengths = f.lengths })
+    put_lies h v block starts ends left =
+        let next : end + 1 ≡ 0 + end_of f.rows f.lengths r + 1 = omega (arith, end_is) in
+        record {
+          within = record { fits = fits-put f.rows f.lengths r v had.within.fits room.1; small = had.within.small };
+          places = block ∙ (λ i. set (had.places i) (end_is i) (Some v)) ∙ laid-put f.rows f.lengths r v had.within.fits room.0 room.1;
+          starts = starts ∙ had.starts;
+          ends = ends ∙ (λ i. set (had.ends i) r (next i)) ∙ ends-put 0 f.rows f.lengths r v had.within.fits room.0;
+          left = omega (arith, left, left_more, had.left, written-put f.rows r v room.0);
+        }

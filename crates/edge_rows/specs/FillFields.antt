@@ -1,0 +1,20 @@
+-- What holds of the fields of a filling.
+use Rattle.std.specs.Prelude.{◌≡◌, ◌+◌, map, length, sum}
+use Rattle.edge_rows.specs.Rows.{Filling}
+use Rattle.edge_rows.specs.Layout.{laid, starts_from, ends_from, gaps, rows_between, IsWithin}
+use Rattle.edge_rows.specs.declared.fill.RowFill.TheInside.{Inside}
+
+-- the fields are those of this filling: in each row exactly the places below its end are written
+pub record IsFilledAs (fields : Inside) (f : Filling) : Type 0 where
+  pub within : IsWithin f.rows f.lengths
+  pub places : fields.block ≡ laid f.rows f.lengths
+  pub starts : fields.starts.items ≡ starts_from 0 f.lengths
+  pub ends : fields.ends.items ≡ ends_from 0 f.rows f.lengths
+  pub left : fields.left + sum (map length f.rows) ≡ sum f.lengths
+
+-- what the fields hold
+abbrev pub filling_of : Inside → Filling
+filling_of fields = record { rows = rows_between fields.block fields.starts.items fields.ends.items; lengths = gaps fields.starts.items }
+
+abbrev pub IsFilling : Inside → Type 0
+IsFilling fields = IsFilledAs fields (filling_of fields)

@@ -1,0 +1,115 @@
+//! `RowFill`: rows of fixed lengths that are filled one number at a time, in any order of rows.
+ghost use Rattle.std.specs.Prelude.{◌≡◌, ◌^◌, ◌≤◌, length, map, sum, IfOk};
+ghost use Rattle.edge_rows.specs.Rows.{row_at, appended, unfilled, HasRoom, places_left};
+ghost use Rattle.edge_rows.specs.Layout.{starts_from};
+
+use crate::block::Block;
+use crate::rows::Rows;
+use std::alloc::{AllocError, Global};
+use std::marker::Model;
+
+/// There was no memory for the rows.
+#[derive(Clone, Copy, Debug, PartialEq, Eq)]
+pub struct NoMemory;
+
+impl From<AllocError> for NoMemory {
+    fn from(_refused: AllocError) -> NoMemory {
+        NoMemory
+    }
+}
+
+/// Rows of fixed lengths in one block, as far as they are filled.
+#[derive(Drop)]
+pub struct RowFill {
+    block: Block,
+    // The first place of each row, and at last the number of places.
+    starts: Vec<u32>,
+    // The first place of each row that is not written.
+    ends: Vec<u32>,
+    left: u64,
+}
+
+impl Model for RowFill {
+    ghost use Rattle.edge_rows.specs.Rows.{Filling};
+
+    ghost Value = { Filling };
+
+    ghost use Rattle.edge_rows.specs.FillFields.{filling_of, IsFilling};
+
+    ghost view = { filling_of };
+
+    ghost invariant = { IsFilling };
+}
+
+// Where rows of these lengths start, and at last where they end.
+fn starts_of(alloc: Global, lengths: &[u32]) -> Result<Vec<u32>, AllocError>
+    requires rows { length lengths.now ≤ 2 ^ 20 }
+    requires places { sum lengths.now ≤ 2 ^ 25 }
+    ensures { IfOk result (λ v. v.items ≡ starts_from 0 lengths.now) }
+{
+    let mut starts = Vec::with_capacity(alloc, lengths.len() + 1)?;
+    let mut end = 0;
+    starts.push(end)?;
+    for length in lengths {
+        end += *length;
+        starts.push(end)?;
+    }
+    Ok(starts)
+}
+
+impl RowFill {
+    /// Rows of these lengths with nothing written. The block is not cleared.
+    pub fn new(alloc: Global, lengths: &[u32]) -> Result<RowFill, NoMemory>
+        requires rows { length lengths.now ≤ 2 ^ 20 }
+        requires places { sum lengths.now ≤ 2 ^ 25 }
+        ensures rows { IfOk result (λ fill. fill.rows ≡ unfilled lengths.now) }
+        ensures lengths { IfOk result (λ fill. fill.lengths ≡ lengths.now) }
+    {
+        let rows = lengths.len();
+        let starts = starts_of(alloc, lengths)?;
+        let ends = starts[..rows].to_vec(alloc)?;
+        let places = starts[rows];
+        let block = Block::new(alloc, places as usize)?;
+        Ok(RowFill {
+            block,
+            starts,
+            ends,
+            left: u64::from(places),
+        })
+    }
+
+    /// Writes the row's next place, in constant time.
+    pub fn put(&mut self, row: u32, value: u32)
+        requires { HasRoom self.old row }
+        ensures rows { self.new.rows ≡ appended self.old.rows row value }
+        ensures lengths { self.new.lengths ≡ self.old.lengths }
+    {
+        let row = row as usize;
+        let end = self.ends[row];
+        self.block.write(end as usize, value);
+        self.ends[row] = end + 1;
+        self.left -= 1;
+    }
+
+    /// How many places are not yet written.
+    pub fn left(&self) -> u64
+        ensures { result ≡ places_left self.now }
+    {
+        self.left
+    }
+
+    /// The rows, all of whose places are written.
+    pub fn finish(self) -> Rows
+        requires { places_left self ≡ 0 }
+        ensures rows { result ≡ self.rows }
+        ensures full { map length result ≡ self.lengths }
+    {
+        let RowFill {
+            block,
+            starts,
+            ends: _,
+            left: _,
+        } = self;
+        Rows { block, starts }
+    }
+}

@@ -1,0 +1,129 @@
+ghost use Rattle.std.specs.Prelude.{◌≡◌, ℕ, ◌+◌, ◌^◌, ◌<◌, ◌≤◌, [], ◌∷◌, ◌++◌, length, IfOk};
+ghost use Rattle.edge_rows.specs.Rows.{row_at, HasRoom};
+
+use crate::laws::full_rows_leave_no_place;
+use crate::{RowFill, Rows};
+use std::alloc::Global;
+use std::test::Fail;
+use std::thread;
+
+#[test]
+fn rows_are_read_as_they_were_filled(rt: HostRuntime) -> Result<(), Fail> {
+    let mut fill = RowFill::new(rt.alloc(), &[2, 0, 1])?;
+    fill.put(2, 9);
+    fill.put(0, 4);
+    fill.put(0, 6);
+    let rows = fill.finish();
+    assert_eq!(rt; rows.rows(), 3);
+    assert_eq!(rt; rows.row(0), [4, 6].as_slice());
+    assert_eq!(rt; rows.row(1), [].as_slice());
+    assert_eq!(rt; rows.row(2), [9].as_slice());
+    Ok(())
+}
+
+fn filled_as_far_as(alloc: Global, puts: u64) -> Result<RowFill, Fail> {
+    let mut fill = RowFill::new(alloc, &[2, 0, 1])?;
+    if puts == 0 {
+        return Ok(fill);
+    }
+    fill.put(2, 9);
+    if puts == 1 {
+        return Ok(fill);
+    }
+    fill.put(0, 4);
+    if puts == 2 {
+        return Ok(fill);
+    }
+    fill.put(0, 6);
+    Ok(fill)
+}
+
+#[test]
+fn a_fill_is_dropped_after_any_number_of_puts(rt: HostRuntime) -> Result<(), Fail> {
+    for puts in 0..4 {
+        let fill = filled_as_far_as(rt.alloc(), puts)?;
+        assert_eq!(rt; fill.left(), 3 - puts);
+    }
+    Ok(())
+}
+
+// Each row k gets k + more.
+fn put_rising(fill: &mut RowFill, rows: u32, more: u32)
+    requires room { (k : ℕ) → k < rows → HasRoom fill.old k }
+    requires small { rows + more < 2 ^ 32 }
+    ensures rows { (k : ℕ) → k < rows → row_at fill.new.rows k ≡ row_at fill.old.rows k ++ (k + more) ∷ [] }
+    ensures lengths { (fill.new.lengths ≡ fill.old.lengths) × (length fill.new.rows ≡ length fill.old.rows) }
+{
+    for row in 0..rows {
+        fill.put(row, row + more);
+    }
+}
+
+fn put_falling(fill: &mut RowFill, rows: u32, more: u32)
+    requires room { (k : ℕ) → k < rows → HasRoom fill.old k }
+    requires small { rows + more < 2 ^ 32 }
+    ensures rows { (k : ℕ) → k < rows → row_at fill.new.rows k ≡ row_at fill.old.rows k ++ (k + more) ∷ [] }
+    ensures lengths { (fill.new.lengths ≡ fill.old.lengths) × (length fill.new.rows ≡ length fill.old.rows) }
+{
+    for row in (0..rows).rev() {
+        fill.put(row, row + more);
+    }
+}
+
+// Each row k is k and k + more.
+fn filled_rising(alloc: Global, rows: u32, more: u32) -> Result<Rows, Fail>
+    requires { (rows ≤ 1000) × (more ≤ 1000) }
+    ensures { IfOk result (λ r. (length r ≡ rows) × ((k : ℕ) → k < rows → row_at r k ≡ k ∷ (k + more) ∷ [])) }
+{
+    let lengths = vec![in alloc; 2; rows as usize]?;
+    let mut fill = RowFill::new(alloc, &lengths)?;
+    put_rising(&mut fill, rows, 0);
+    put_rising(&mut fill, rows, more);
+    full_rows_leave_no_place(&fill);
+    Ok(fill.finish())
+}
+
+fn filled_falling(alloc: Global, rows: u32, more: u32) -> Result<Rows, Fail>
+    requires { (rows ≤ 1000) × (more ≤ 1000) }
+    ensures { IfOk result (λ r. (length r ≡ rows) × ((k : ℕ) → k < rows → row_at r k ≡ k ∷ (k + more) ∷ [])) }
+{
+    let lengths = vec![in alloc; 2; rows as usize]?;
+    let mut fill = RowFill::new(alloc, &lengths)?;
+    put_falling(&mut fill, rows, 0);
+    put_falling(&mut fill, rows, more);
+    full_rows_leave_no_place(&fill);
+    Ok(fill.finish())
+}
+
+#[test]
+fn rows_are_the_same_whatever_the_order_of_rows(rt: HostRuntime) -> Result<(), Fail> {
+    let rising = filled_rising(rt.alloc(), 1000, 500)?;
+    let falling = filled_falling(rt.alloc(), 1000, 500)?;
+    assert_eq!(rt; rising.rows(), 1000);
+    assert_eq!(rt; falling.rows(), 1000);
+    for row in 0..1000 {
+        assert_eq!(rt; rising.row(row), [row, row + 500].as_slice());
+        assert_eq!(rt; falling.row(row), rising.row(row));
+    }
+    Ok(())
+}
+
+// The sum of what the rows hold.
+fn sum_of(rows: &Rows) -> u64 {
+    let mut sum: u64 = 0;
+    for row in 0..rows.rows() {
+        for value in rows.row(row) {
+            sum = sum.wrapping_add(u64::from(*value));
+        }
+    }
+    sum
+}
+
+#[test]
+fn four_threads_read_one_rows(rt: HostRuntime) -> Result<(), Fail> {
+    let rows = filled_rising(rt.alloc(), 1000, 500)?;
+    let sums = thread::map_indices(&rt, rt.alloc(), 4, &|_| sum_of(&rows))?;
+    // Twice 0 + 1 + .. + 999, and 500 in each of 1,000 rows.
+    assert_eq!(rt; sums.as_slice(), [1_499_000; 4].as_slice());
+    Ok(())
+}
