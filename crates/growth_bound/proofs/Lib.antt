@@ -1,0 +1,4 @@
+pub mod Ceilings
+pub mod Fitting
+pub mod Distances
+pub mod Moves

@@ -1,0 +1,49 @@
+ghost use Rattle.std.specs.Prelude.{◌≡◌, pos, ◌≤ℤ◌, ℤ, List, length, All, SomeIff, IfSome};
+ghost use Rattle.fixed_expr.specs.Expression.{expression_of};
+ghost use Rattle.fixed_expr.specs.Value.{IsWellFormed, value_of};
+ghost use Rattle.interval_eval.specs.Span.{AreIn, SpanStaysInRange};
+ghost use Rattle.growth_bound.specs.Deviation.{IsNear, AreNear, DeviationStaysInRange, deviation_of};
+ghost use Rattle.growth_bound.specs.Growth.{growth_of};
+
+use crate::growth::Growth;
+use fixed_expr::Expr;
+use interval_eval::Interval;
+
+/// How far the value of an expression moves at most, where each variable lies in its range of the
+/// area and moves by at most its radius.
+pub fn deviation(e: &Expr, area: &[Interval], radii: &[i128]) -> Option<i128>
+    requires well_formed { IsWellFormed (expression_of e.now) (length area.now) }
+    requires one_for_each { length radii.now ≡ length area.now }
+    requires not_negative { All (λ r. pos 0 ≤ℤ r) radii.now }
+    ensures exact { SomeIff result
+        (SpanStaysInRange (expression_of e.now) area.now
+        × DeviationStaysInRange (expression_of e.now) area.now radii.now)
+        (pos (deviation_of (expression_of e.now) area.now radii.now)) }
+    ensures bounds { IfSome result (λ d.
+        (xs ys : List ℤ) → AreIn area.now xs → AreIn area.now ys → AreNear radii.now xs ys →
+        IsNear d (value_of (expression_of e.now) xs) (value_of (expression_of e.now) ys)) }
+{
+    Some(growth(e, area, radii)?.deviation as i128)
+}
+
+fn growth(e: &Expr, area: &[Interval], radii: &[i128]) -> Option<Growth>
+    requires well_formed { IsWellFormed (expression_of e.now) (length area.now) }
+    requires one_for_each { length radii.now ≡ length area.now }
+    ensures { SomeIff result
+        (SpanStaysInRange (expression_of e.now) area.now
+        × DeviationStaysInRange (expression_of e.now) area.now radii.now)
+        (growth_of (expression_of e.now) area.now radii.now) }
+{
+    match e {
+        Expr::Num(k) => Growth::number(*k),
+        Expr::Var(i) => Growth::variable(area[*i as usize], radii[*i as usize]),
+        Expr::Neg(a) => growth(a, area, radii)?.negation(),
+        Expr::Add(a, b) => growth(a, area, radii)?.sum(growth(b, area, radii)?),
+        Expr::Sub(a, b) => growth(a, area, radii)?.difference(growth(b, area, radii)?),
+        Expr::Mul(a, b) => growth(a, area, radii)?.product(growth(b, area, radii)?),
+        Expr::Div(a, k) => growth(a, area, radii)?.quotient(*k),
+        Expr::Min(a, b) => growth(a, area, radii)?.minimum(growth(b, area, radii)?),
+        Expr::Max(a, b) => growth(a, area, radii)?.maximum(growth(b, area, radii)?),
+        Expr::Abs(a) => growth(a, area, radii)?.absolute(),
+    }
+}

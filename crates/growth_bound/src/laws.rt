@@ -1,0 +1,9 @@
+//! What holds of every expression's deviation.
+
+ghost use Rattle.growth_bound.specs.Laws.{ValuesMoveByDeviations};
+
+/// The values at two lists of values over the area, each pair at most its radius apart, are at most
+/// the deviation apart.
+pub fn values_move_by_at_most_the_deviation()
+    ensures { ValuesMoveByDeviations }
+{}

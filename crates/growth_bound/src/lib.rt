@@ -1,0 +1,15 @@
+//! Growth bounds of expressions.
+//!
+//! The layer above gives an expression with a range and a radius for each variable, and `deviation`
+//! answers how far the value moves where each variable moves by at most its radius, or None exactly
+//! where a span end or a deviation of some node leaves 127 bits and a sign. Stands on
+//! `interval_eval`.
+#![tactic(auto)]
+
+mod deviations;
+mod growth;
+pub mod laws;
+#[cfg(test)]
+mod tests;
+
+pub use deviations::deviation;

@@ -1,0 +1,3 @@
+pub mod Corners
+pub mod Integers
+pub mod Holding

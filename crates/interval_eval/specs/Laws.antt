@@ -1,0 +1,15 @@
+-- What holds of every expression's span.
+use Rattle.std.specs.Prelude.{ℤ, List, length, All}
+use Rattle.fixed_expr.specs.Expression.{Expression}
+use Rattle.fixed_expr.specs.Value.{IsWellFormed, value_of}
+use Rattle.interval_eval.specs.declared.interval.Interval.{Interval}
+use Rattle.interval_eval.specs.Span.{IsInterval, IsIn, AreIn, span_of}
+
+-- a value over the area lies in the span
+abbrev pub ValuesLieInSpans : Type 0
+ValuesLieInSpans =
+    (e : Expression) (area : List Interval) (values : List ℤ) → IsWellFormed e (length area) → AreIn area values → IsIn (span_of e area) (value_of e values)
+
+-- the span over intervals is an interval
+abbrev pub SpansAreIntervals : Type 0
+SpansAreIntervals = (e : Expression) (area : List Interval) → IsWellFormed e (length area) → All IsInterval area → IsInterval (span_of e area)

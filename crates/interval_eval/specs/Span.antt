@@ -1,0 +1,84 @@
+-- The span of an expression over ranges of its variables, in unbounded whole numbers.
+use Rattle.std.specs.Prelude.{ℤ, pos, neg_ℤ, ◌+ℤ◌, ◌-ℤ◌, ◌*ℤ◌, ◌≤ℤ◌, int_le, List, [], ◌∷◌, slice_index_or, if◌then◌else◌}
+use Rattle.std.specs.Int.{int_min, int_max}
+use Rattle.fixed_expr.specs.Range.{IsInRange}
+use Rattle.fixed_expr.specs.Quotient.{floor_div}
+use Rattle.fixed_expr.specs.Expression.{Expression, Number, Variable, Negation, Sum, Difference, Product, Quotient, Minimum, Maximum, Absolute}
+use Rattle.interval_eval.specs.declared.interval.Interval.{Interval}
+
+-- the low end is at most the high end
+abbrev pub IsInterval : Interval → Type 0
+IsInterval i = i.lo ≤ℤ i.hi
+
+-- a number lies in an interval
+abbrev pub IsIn : Interval → ℤ → Type 0
+IsIn i x = (i.lo ≤ℤ x) × (x ≤ℤ i.hi)
+
+-- each value lies in its range, one for each
+abbrev pub AreIn : List Interval → List ℤ → Type 0
+AreIn [] [] = Unit {0}
+AreIn [] (x ∷ values) = ⊥
+AreIn (i ∷ area) [] = ⊥
+AreIn (i ∷ area) (x ∷ values) = IsIn i x × AreIn area values
+
+abbrev pub EndsFit : Interval → Type 0
+EndsFit i = IsInRange i.lo × IsInRange i.hi
+
+abbrev pub negation_of : Interval → Interval
+negation_of a = record { lo = neg_ℤ a.hi; hi = neg_ℤ a.lo }
+
+abbrev pub sum_of : Interval → Interval → Interval
+sum_of a b = record { lo = a.lo +ℤ b.lo; hi = a.hi +ℤ b.hi }
+
+abbrev pub difference_of : Interval → Interval → Interval
+difference_of a b = record { lo = a.lo -ℤ b.hi; hi = a.hi -ℤ b.lo }
+
+-- the least and the greatest of four numbers
+abbrev pub hull_of : ℤ → ℤ → ℤ → ℤ → Interval
+hull_of a b c d = record { lo = int_min (int_min a b) (int_min c d); hi = int_max (int_max a b) (int_max c d) }
+
+-- the least and the greatest of the four products of ends
+abbrev pub product_of : Interval → Interval → Interval
+product_of a b = hull_of (a.lo *ℤ b.lo) (a.lo *ℤ b.hi) (a.hi *ℤ b.lo) (a.hi *ℤ b.hi)
+
+abbrev pub quotient_of : Interval → ℤ → Interval
+quotient_of a k = record { lo = floor_div a.lo k; hi = floor_div a.hi k }
+
+abbrev pub minimum_of : Interval → Interval → Interval
+minimum_of a b = record { lo = int_min a.lo b.lo; hi = int_min a.hi b.hi }
+
+abbrev pub maximum_of : Interval → Interval → Interval
+maximum_of a b = record { lo = int_max a.lo b.lo; hi = int_max a.hi b.hi }
+
+-- 0 is the least absolute value where the range holds numbers of both signs
+abbrev pub absolute_of : Interval → Interval
+absolute_of a = record {
+  lo = if int_le (pos 0) a.lo then a.lo else (if int_le a.hi (pos 0) then neg_ℤ a.hi else pos 0);
+  hi = int_max (neg_ℤ a.lo) a.hi;
+}
+
+-- the span of an expression, where each variable lies in its range
+abbrev pub span_of : Expression → List Interval → Interval
+span_of (Number k) area = record { lo = k; hi = k }
+span_of (Variable i) area = slice_index_or area i (record { lo = pos 0; hi = pos 0 })
+span_of (Negation a) area = negation_of (span_of a area)
+span_of (Sum a b) area = sum_of (span_of a area) (span_of b area)
+span_of (Difference a b) area = difference_of (span_of a area) (span_of b area)
+span_of (Product a b) area = product_of (span_of a area) (span_of b area)
+span_of (Quotient a k) area = quotient_of (span_of a area) k
+span_of (Minimum a b) area = minimum_of (span_of a area) (span_of b area)
+span_of (Maximum a b) area = maximum_of (span_of a area) (span_of b area)
+span_of (Absolute a) area = absolute_of (span_of a area)
+
+-- the ends of every node's span lie in the range
+abbrev pub SpanStaysInRange : Expression → List Interval → Type 0
+SpanStaysInRange (Number k) area = EndsFit (span_of (Number k) area)
+SpanStaysInRange (Variable i) area = EndsFit (span_of (Variable i) area)
+SpanStaysInRange (Negation a) area = SpanStaysInRange a area × EndsFit (span_of (Negation a) area)
+SpanStaysInRange (Sum a b) area = SpanStaysInRange a area × SpanStaysInRange b area × EndsFit (span_of (Sum a b) area)
+SpanStaysInRange (Difference a b) area = SpanStaysInRange a area × SpanStaysInRange b area × EndsFit (span_of (Difference a b) area)
+SpanStaysInRange (Product a b) area = SpanStaysInRange a area × SpanStaysInRange b area × EndsFit (span_of (Product a b) area)
+SpanStaysInRange (Quotient a k) area = SpanStaysInRange a area × EndsFit (span_of (Quotient a k) area)
+SpanStaysInRange (Minimum a b) area = SpanStaysInRange a area × SpanStaysInRange b area × EndsFit (span_of (Minimum a b) area)
+SpanStaysInRange (Maximum a b) area = SpanStaysInRange a area × SpanStaysInRange b area × EndsFit (span_of (Maximum a b) area)
+SpanStaysInRange (Absolute a) area = SpanStaysInRange a area × EndsFit (span_of (Absolute a) area)
