@@ -1,0 +1,12 @@
+pub mod Numbers
+pub mod Fronts
+pub mod Bytes
+pub mod ManyNumbers
+pub mod Leaves
+pub mod Sums
+pub mod Lines
+pub mod Loops
+pub mod Axes
+pub mod Texts
+pub mod Allowed
+pub mod Shape

@@ -1,0 +1,5 @@
+use Rattle.plant_text.proofs.Allowed.{one_plant}
+use Rattle.plant_text.proofs.laws.one_plant_per_text.Goals as goal
+
+pub returns : goal.returns
+returns c = one_plant

@@ -1,0 +1,9 @@
+pub mod Names
+pub mod Description
+pub mod Steps
+pub mod Marks
+pub mod CanonicalText
+pub mod Narrow
+pub mod Reading
+pub mod Parts
+pub mod Kept
