@@ -1,0 +1,64 @@
+//! The program: hands its words and its standard streams to `run`, and ends with the status.
+#![tactic(auto)]
+
+mod streams;
+
+use std::alloc::{AllocError, Global};
+use std::env;
+use std::io::ErrorKind;
+use std::process::ExitCode;
+use std::rt::Env;
+use std::thread::Threads;
+use streams::{StdErrSink, StdSink, StdSource};
+use synth_run::{Open, run};
+
+const NO_MEMORY: u8 = 8;
+
+const NO_WORDS: u8 = 10;
+
+fn main(rt: HostRuntime) -> ExitCode {
+    let mut source = StdSource::new(rt.stdin());
+    let mut out = StdSink::new(rt.stdout());
+    let mut err = StdErrSink::new(rt.stderr());
+    let words = match own_words(&rt) {
+        Ok(words) => words,
+        Err(status) => return ExitCode::from(status),
+    };
+    let words = match borrowed(rt.alloc(), &words) {
+        Ok(words) => words,
+        Err(_) => return ExitCode::from(NO_MEMORY),
+    };
+    ExitCode::from(run(
+        &rt,
+        rt.alloc(),
+        &words,
+        &mut source,
+        &mut out,
+        &mut err,
+        &Open,
+    ))
+}
+
+/// The words behind the program's name, or the status that their lack gives.
+fn own_words<R: Env + AllocGlobal>(rt: &R) -> Result<Vec<String>, u8> {
+    let args = match env::args(rt) {
+        Ok(args) => args,
+        Err(e) if e.kind() == ErrorKind::OutOfMemory => return Err(NO_MEMORY),
+        Err(_) => return Err(NO_WORDS),
+    };
+    let mut words = Vec::new(rt.alloc());
+    for word in args.skip(1) {
+        if words.push(word).is_err() {
+            return Err(NO_MEMORY);
+        }
+    }
+    Ok(words)
+}
+
+fn borrowed(alloc: Global, words: &[String]) -> Result<Vec<&str>, AllocError> {
+    let mut texts = Vec::new(alloc);
+    for word in words {
+        texts.push(word.as_str())?;
+    }
+    Ok(texts)
+}

@@ -1,0 +1,74 @@
+// The standard streams as devices. They tell nothing of their bytes; each counts its faults.
+
+ghost use Rattle.std.specs.Prelude.{None};
+
+use std::io::{Read, Stderr, Stdin, Stdout, Write};
+use synth_run::{Failed, Sink, Source};
+
+/// A source over a reader.
+#[derive(Drop)]
+pub struct ReaderSource<R> {
+    reader: R,
+    faults: u64,
+}
+
+/// A sink over a writer.
+#[derive(Drop)]
+pub struct WriterSink<W> {
+    writer: W,
+    faults: u64,
+}
+
+/// Standard input.
+pub type StdSource = ReaderSource<Stdin>;
+
+/// Standard output.
+pub type StdSink = WriterSink<Stdout>;
+
+/// Standard error.
+pub type StdErrSink = WriterSink<Stderr>;
+
+impl<R> ReaderSource<R> {
+    pub fn new(reader: R) -> ReaderSource<R> {
+        ReaderSource { reader, faults: 0 }
+    }
+}
+
+impl<W> WriterSink<W> {
+    pub fn new(writer: W) -> WriterSink<W> {
+        WriterSink { writer, faults: 0 }
+    }
+}
+
+impl<R: Read> Source for ReaderSource<R> {
+    ghost left = { λ _. None };
+
+    ghost faults = { λ s. s.faults };
+
+    fn read(&mut self, buf: &mut [u8]) -> Result<usize, Failed> {
+        match self.reader.read(buf) {
+            Ok(n) => Ok(n),
+            Err(_) => {
+                self.faults = self.faults.saturating_add(1);
+                Err(Failed)
+            }
+        }
+    }
+}
+
+impl<W: Write> Sink for WriterSink<W> {
+    ghost got = { λ _. None };
+
+    ghost faults = { λ s. s.faults };
+
+    // A writer that takes nothing of a piece would be asked for ever.
+    fn write(&mut self, piece: &[u8]) -> Result<usize, Failed> {
+        match self.writer.write(piece) {
+            Ok(n) if n > 0 || piece.is_empty() => Ok(n),
+            _ => {
+                self.faults = self.faults.saturating_add(1);
+                Err(Failed)
+            }
+        }
+    }
+}

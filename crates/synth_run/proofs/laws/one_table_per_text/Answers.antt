@@ -1,0 +1,5 @@
+use Rattle.synth_run.proofs.OneTable.{one_table}
+use Rattle.synth_run.proofs.laws.one_table_per_text.Goals as goal
+
+pub returns : goal.returns
+returns c = one_table

@@ -1,0 +1,14 @@
+pub mod Devices
+pub mod Memory
+pub mod Form
+pub mod Boxes
+pub mod Abstraction
+pub mod TableText
+pub mod Headline
+pub mod Statuses
+pub mod BoxGame
+pub mod PlantGame
+pub mod Props
+pub mod Choice
+pub mod Drives
+pub mod Refinement

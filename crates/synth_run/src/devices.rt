@@ -1,0 +1,41 @@
+ghost use Rattle.std.specs.Prelude.{◌≡◌, ℕ, ◌<◌, ◌≤◌, List, [], Option, Ok, length, take, IfOk, IfSome, OnErr};
+ghost use Rattle.synth_run.specs.Devices.{Rose, Takes, Gains};
+
+/// A device failed in this call.
+#[derive(Clone, Copy, Debug, PartialEq, Eq)]
+pub struct Failed;
+
+/// Where bytes come from.
+pub trait Source {
+    /// What is still to be read, where the source tells it.
+    ghost left: { Self → Option (List ℕ) };
+
+    ghost faults: { Self → ℕ };
+
+    /// Takes bytes from the front into the front of a buffer. `Ok(0)` for a buffer that isn't empty
+    /// comes only at the end.
+    fn read(&mut self, buf: &mut [u8]) -> Result<usize, Failed>
+        ensures bound { IfOk result (λ n. n ≤ length buf.old) }
+        ensures taken { IfOk result (λ n. Takes (left self.old) (left self.new) n buf.new) }
+        ensures at_end { result ≡ Ok 0 → 0 < length buf.old → IfSome (left self.old) (λ bytes. bytes ≡ []) }
+        ensures failed { OnErr result (Rose (faults self.old) (faults self.new)) }
+        ensures kept { OnErr result (left self.new ≡ left self.old) }
+        ensures never_falls { faults self.old ≤ faults self.new };
+}
+
+/// Where bytes go.
+pub trait Sink {
+    /// What was written, where the sink tells it.
+    ghost got: { Self → Option (List ℕ) };
+
+    ghost faults: { Self → ℕ };
+
+    /// Appends bytes from the front of a piece, at least one of a piece that isn't empty.
+    fn write(&mut self, piece: &[u8]) -> Result<usize, Failed>
+        ensures bound { IfOk result (λ n. n ≤ length piece.now) }
+        ensures some { IfOk result (λ n. 0 < length piece.now → 0 < n) }
+        ensures gained { IfOk result (λ n. Gains (got self.old) (got self.new) (take n piece.now)) }
+        ensures failed { OnErr result (Rose (faults self.old) (faults self.new)) }
+        ensures kept { OnErr result (got self.new ≡ got self.old) }
+        ensures never_falls { faults self.old ≤ faults self.new };
+}

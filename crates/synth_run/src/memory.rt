@@ -1,0 +1,168 @@
+// Devices in memory.
+
+ghost use Rattle.std.specs.Prelude.{◌≡◌, ◌<◌, ◌≤◌, ◌↔◌, ◌⊎◌, ℕ, List, [], Some, Ok, length, take, min, max, IfOk, IfSome, IsErr, OnErr};
+ghost use Rattle.std.specs.List.{Contains};
+ghost use Rattle.synth_run.specs.Devices.{Rose, Takes, Gains};
+ghost use Rattle.synth_run.specs.Memory.{MemoryLeft, MemoryTaken, next_count};
+
+use crate::devices::{Failed, Sink, Source};
+use std::alloc::Global;
+use std::marker::Model;
+
+/// There was no memory left.
+#[derive(Clone, Copy, Debug, PartialEq, Eq)]
+pub struct NoMemory;
+
+/// A source over bytes in memory, of which chosen calls fail.
+#[derive(Drop)]
+pub struct MemorySource {
+    bytes: Vec<u8>,
+    at: usize,
+    calls: u64,
+    fails: Vec<u64>,
+    faults: u64,
+}
+
+impl Model for MemorySource {
+    ghost use Rattle.std.specs.Prelude.{length, drop, ◌≤◌};
+    ghost use Rattle.synth_run.specs.Memory.{MemoryLeft};
+
+    ghost Value = { MemoryLeft };
+
+    ghost view = { λ s. record { left = drop s.at s.bytes.items; calls = s.calls; fails = s.fails.items; faults = s.faults } };
+
+    ghost invariant = { λ s. s.at ≤ length s.bytes.items };
+}
+
+impl MemorySource {
+    /// The calls whose numbers, from 1, stand in `fails` fail.
+    pub fn new(bytes: Vec<u8>, fails: Vec<u64>) -> MemorySource
+        ensures { result ≡ record { left = bytes.items; calls = 0; fails = fails.items; faults = 0 } }
+    {
+        MemorySource {
+            bytes,
+            at: 0,
+            calls: 0,
+            fails,
+            faults: 0,
+        }
+    }
+}
+
+impl Source for MemorySource {
+    ghost left = { λ s. Some s.left };
+
+    ghost faults = { λ s. s.faults };
+
+    fn read(&mut self, buf: &mut [u8]) -> Result<usize, Failed>
+        ensures bound { IfOk result (λ n. n ≤ length buf.old) }
+        ensures taken { IfOk result (λ n. Takes (Some self.old.left) (Some self.new.left) n buf.new) }
+        ensures at_end { result ≡ Ok 0 → 0 < length buf.old → IfSome (Some self.old.left) (λ bytes. bytes ≡ []) }
+        ensures failed { OnErr result (Rose self.old.faults self.new.faults) }
+        ensures kept { OnErr result (Some self.new.left ≡ Some self.old.left) }
+        ensures never_falls { self.old.faults ≤ self.new.faults }
+
+        ensures calls { self.new.calls ≡ next_count self.old.calls }
+        ensures fails { self.new.fails ≡ self.old.fails }
+        ensures chosen { IsErr result ↔ Contains self.old.fails self.new.calls }
+    {
+        self.calls = self.calls.saturating_add(1);
+        if self.fails.contains(&self.calls) {
+            self.faults = self.faults.saturating_add(1);
+            return Err(Failed);
+        }
+        let left = &self.bytes[self.at..];
+        let n = left.len().min(buf.len());
+        buf[..n].copy_from_slice(&left[..n]);
+        self.at += n;
+        Ok(n)
+    }
+}
+
+/// A sink into memory with room for so many bytes, of which chosen calls fail.
+#[derive(Drop)]
+pub struct MemorySink {
+    got: Vec<u8>,
+    room: usize,
+    at_once: usize,
+    calls: u64,
+    fails: Vec<u64>,
+    faults: u64,
+}
+
+impl Model for MemorySink {
+    ghost use Rattle.std.specs.Prelude.{length, ◌≤◌, vec_capacity};
+    ghost use Rattle.synth_run.specs.Memory.{MemoryTaken};
+
+    ghost Value = { MemoryTaken };
+
+    ghost view = { λ s. record { got = s.got.items; room = s.room; at_once = s.at_once; calls = s.calls; fails = s.fails.items; faults = s.faults } };
+
+    ghost invariant = { λ s. (length s.got.items ≤ s.room) × (s.room ≤ vec_capacity s.got) };
+}
+
+impl MemorySink {
+    /// Takes all its memory here. A call takes at most `at_once` bytes, but at least one; the calls
+    /// whose numbers, from 1, stand in `fails` fail, and those that find no room left.
+    pub fn new(
+        alloc: Global,
+        room: usize,
+        at_once: usize,
+        fails: Vec<u64>,
+    ) -> Result<MemorySink, NoMemory>
+        ensures { IfOk result (λ s. s ≡ record { got = []; room = room; at_once = at_once; calls = 0; fails = fails.items; faults = 0 }) }
+    {
+        match Vec::with_capacity(alloc, room) {
+            Ok(got) => Ok(MemorySink {
+                got,
+                room,
+                at_once,
+                calls: 0,
+                fails,
+                faults: 0,
+            }),
+            Err(_) => Err(NoMemory),
+        }
+    }
+
+    /// What was taken.
+    pub fn got(&self) -> &[u8]
+        ensures { result.now ≡ self.now.got }
+    {
+        &self.got
+    }
+}
+
+impl Sink for MemorySink {
+    ghost got = { λ s. Some s.got };
+
+    ghost faults = { λ s. s.faults };
+
+    fn write(&mut self, piece: &[u8]) -> Result<usize, Failed>
+        ensures bound { IfOk result (λ n. n ≤ length piece.now) }
+        ensures some { IfOk result (λ n. 0 < length piece.now → 0 < n) }
+        ensures gained { IfOk result (λ n. Gains (Some self.old.got) (Some self.new.got) (take n piece.now)) }
+        ensures failed { OnErr result (Rose self.old.faults self.new.faults) }
+        ensures kept { OnErr result (Some self.new.got ≡ Some self.old.got) }
+        ensures never_falls { self.old.faults ≤ self.new.faults }
+
+        ensures at_once { IfOk result (λ n. n ≤ max self.old.at_once 1) }
+        ensures calls { self.new.calls ≡ next_count self.old.calls }
+        ensures same { (self.new.fails ≡ self.old.fails) × (self.new.room ≡ self.old.room) × (self.new.at_once ≡ self.old.at_once) }
+        ensures chosen { IsErr result ↔ (Contains self.old.fails self.new.calls ⊎ (self.old.room ≤ length self.old.got)) }
+    {
+        self.calls = self.calls.saturating_add(1);
+        if self.fails.contains(&self.calls) || self.room <= self.got.len() {
+            self.faults = self.faults.saturating_add(1);
+            return Err(Failed);
+        }
+        let n = piece
+            .len()
+            .min(self.at_once.max(1))
+            .min(self.room - self.got.len());
+        match self.got.extend_from_slice(&piece[..n]) {
+            Ok(()) => Ok(n),
+            Err(_) => unreachable!(),
+        }
+    }
+}

@@ -1,0 +1,84 @@
+// The top call over devices in memory, some of which fail.
+
+use super::*;
+use std::alloc::Global;
+use std::test::Fail;
+
+// The places 0 to 14 in cells of three, moved by three to either side, to be brought to 12 to 14.
+const PLANT: &[u8] =
+    b"plant 1\nstate x 0 14 3\ninput u -3 3\nnext x = x + u\ntarget 12 14\ngoal reach\nend\n";
+
+const TABLE: &[u8] =
+    b"table 1\nplant 1\nstate x 0 14 3\ninput u -3 3\nnext x = x + u\ntarget 12 14\ngoal reach\nend\nrows 5\n0 4 1\n1 3 1\n2 2 1\n3 1 1\n4 0 -\nend\n";
+
+fn source(alloc: Global, fails: &[u64]) -> Result<MemorySource, Fail> {
+    let bytes = Vec::from_slice(alloc, PLANT)?;
+    Ok(MemorySource::new(bytes, Vec::from_slice(alloc, fails)?))
+}
+
+fn sink(alloc: Global, at_once: usize, fails: &[u64]) -> Result<MemorySink, Fail> {
+    let fails = Vec::from_slice(alloc, fails)?;
+    Ok(MemorySink::new(alloc, 200, at_once, fails)?)
+}
+
+#[test]
+fn writes_the_table_of_the_plant(rt: HostRuntime) -> Result<(), Fail> {
+    let mut source = source(rt.alloc(), &[])?;
+    let mut out = sink(rt.alloc(), 7, &[])?;
+    let mut err = sink(rt.alloc(), 7, &[])?;
+    let status = run(
+        &rt,
+        rt.alloc(),
+        &["synth", "1"],
+        &mut source,
+        &mut out,
+        &mut err,
+        &Open,
+    );
+    assert_eq!(rt; status, 0);
+    assert_eq!(rt; out.got(), TABLE);
+    assert!(rt; err.got().is_empty());
+    Ok(())
+}
+
+// The first call takes the plant whole, and the second would find the end.
+#[test]
+fn read_that_fails_at_the_end_is_a_read_fault(rt: HostRuntime) -> Result<(), Fail> {
+    let mut source = source(rt.alloc(), &[2])?;
+    let mut out = sink(rt.alloc(), 200, &[])?;
+    let mut err = sink(rt.alloc(), 200, &[])?;
+    let status = run(
+        &rt,
+        rt.alloc(),
+        &["synth", "1"],
+        &mut source,
+        &mut out,
+        &mut err,
+        &Open,
+    );
+    assert_eq!(rt; status, 6);
+    assert!(rt; out.got().is_empty());
+    assert_eq!(rt; err.got(), b"read fault\n".as_slice());
+    Ok(())
+}
+
+// One byte for each of 39 calls: the bytes end in `input u `.
+#[test]
+fn write_that_fails_leaves_the_front_of_the_table(rt: HostRuntime) -> Result<(), Fail> {
+    let mut source = source(rt.alloc(), &[])?;
+    let mut out = sink(rt.alloc(), 1, &[40])?;
+    let mut err = sink(rt.alloc(), 200, &[])?;
+    let status = run(
+        &rt,
+        rt.alloc(),
+        &["synth", "1"],
+        &mut source,
+        &mut out,
+        &mut err,
+        &Open,
+    );
+    assert_eq!(rt; status, 7);
+    assert_eq!(rt; out.got(), &TABLE[..39]);
+    assert!(rt; err.got().is_empty());
+    Ok(())
+}
