@@ -9,3 +9,4 @@ pub mod Told
 pub mod Step
 pub mod Taking
 pub mod Gathering
+pub mod RankBound

@@ -3,7 +3,7 @@ use Rattle.std.specs.Prelude.{◌≡◌, ℕ, zero, suc, ◌<◌, ◌≤◌, Lis
 use Rattle.std.specs.List.{All}
 use Rattle.game_core.specs.declared.game.Mark.TheVariants.{Goal, Obstacle}
 use Rattle.game_core.specs.declared.game.Row.{Row}
-use Rattle.game_core.specs.Game.{Game, IsEnabled, mark_of, successors_of}
+use Rattle.game_core.specs.Game.{Game, IsGame, IsEnabled, mark_of, successors_of}
 use Rattle.game_core.specs.Strategy.{Tree, Wins, IsRank}
 
 -- the row of a cell, where it has one
@@ -40,3 +40,8 @@ pub record LeadsToGoals (g : Game) (rows : List (Option Row)) : Type 0 where
   pub arrived : (c u : ℕ) → row_of rows c ≡ Some (record { rank = 0; input = u }) → mark_of g c ≡ Goal
   pub descends : (c k u : ℕ) → row_of rows c ≡ Some (record { rank = suc k; input = u }) → IsEnabled g c u × All (HasRowBelow rows (suc k)) (successors_of g c u)
   pub clear : (c : ℕ) → mark_of g c ≡ Obstacle → row_of rows c ≡ None
+
+-- the rank of a row in the solution of a game is less than the number of cells
+abbrev pub RanksAreBelowTheCells : Type 0
+RanksAreBelowTheCells =
+    (g : Game) (rows : List (Option Row)) → IsGame g → IsReachSolution g rows → (c : ℕ) (row : Row) → row_of rows c ≡ Some row → row.rank < g.cells

@@ -1,4 +1,4 @@
-ghost use Rattle.std.specs.Prelude.{◌≡◌, ℕ, ◌^◌, ◌<◌, ◌≤◌, None, replicate, length, slice_set, IfOk};
+ghost use Rattle.std.specs.Prelude.{◌≡◌, ◌^◌, ◌<◌, ◌≤◌, None, replicate, length, slice_set, IfOk};
 ghost use Rattle.game_core.specs.Solution.{row_of};
 
 use crate::game::Row;

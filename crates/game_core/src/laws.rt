@@ -2,7 +2,7 @@
 ghost use Rattle.std.specs.Prelude.{◌≡◌, List, Option};
 ghost use Rattle.game_core.specs.declared.game.Row.{Row};
 ghost use Rattle.game_core.specs.Game.{Game, IsGame};
-ghost use Rattle.game_core.specs.Solution.{IsReachSolution, LeadsToGoals};
+ghost use Rattle.game_core.specs.Solution.{IsReachSolution, LeadsToGoals, RanksAreBelowTheCells};
 
 /// Who follows the rows of a solution comes to lower ranks alone, and at rank 0 to a goal.
 pub fn rows_lead_to_goals()
@@ -12,4 +12,9 @@ pub fn rows_lead_to_goals()
 /// A game has one solution.
 pub fn one_solution()
     ensures { (g : Game) (first second : List (Option Row)) → IsReachSolution g first → IsReachSolution g second → first ≡ second }
+{}
+
+/// The rank of a row in a solution is less than the number of cells.
+pub fn ranks_are_below_the_cells()
+    ensures { RanksAreBelowTheCells }
 {}

@@ -1,5 +1,5 @@
-ghost use Rattle.std.specs.Prelude.{◌≡◌, ℕ, ◌+◌, ◌*◌, ◌<◌, ◌≤◌, None, map, length, slice_index, IfOk};
-ghost use Rattle.game_core.specs.Game.{mark_of, pairs_of, AreSources};
+ghost use Rattle.std.specs.Prelude.{◌≡◌, ◌+◌, ◌*◌, ◌<◌, None, map, length, slice_index, IfOk};
+ghost use Rattle.game_core.specs.Game.{pairs_of};
 ghost use Rattle.game_core.specs.Solution.{row_of};
 ghost use Rattle.game_core.specs.Search.{begun, settled, offered, resolved, after_cut, rank_at, IsGathered, IsSearched};
 

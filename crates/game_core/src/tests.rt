@@ -1,4 +1,3 @@
-ghost use Rattle.std.specs.Prelude.{◌≡◌};
 ghost use Rattle.game_core.specs.Corridor.{corridor};
 ghost use Rattle.game_core.specs.Game.{IsGame};
 

@@ -1,4 +1,4 @@
-ghost use Rattle.std.specs.Prelude.{◌≡◌, ℕ, ◌<◌, ◌≤◌, ◌↔◌, length, slice_index, IsTrue, IsSome, IfSome};
+ghost use Rattle.std.specs.Prelude.{◌≡◌, ◌<◌, ◌≤◌, ◌↔◌, length, slice_index, IsTrue, IsSome, IfSome};
 ghost use Rattle.std.specs.List.{Contains};
 ghost use Rattle.grid_quantiser.specs.Axes.{cells_of};
 ghost use Rattle.grid_quantiser.specs.Boxes.{IsAtMost, IsBoxInDomain, Touches, LiesInside, AreCornersMeeting, IsCellBox, cells_between};

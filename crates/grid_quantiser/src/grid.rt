@@ -1,4 +1,4 @@
-ghost use Rattle.std.specs.Prelude.{◌≡◌, ℕ, ◌*◌, ◌^◌, ◌<◌, ◌≤◌, ◌↔◌, length, IfOk, IsErr, slice_index_or};
+ghost use Rattle.std.specs.Prelude.{◌≡◌, ◌*◌, ◌^◌, ◌<◌, ◌≤◌, ◌↔◌, length, IfOk, IsErr, slice_index_or};
 ghost use Rattle.grid_quantiser.specs.Axes.{no_axis, cells_of, AreAxes};
 ghost use Rattle.grid_quantiser.specs.Cells.{radius_of};
 

@@ -6,8 +6,9 @@ use Rattle.fixed_expr.specs.Expression.{Expression, Number, Variable, Negation, 
 use Rattle.fixed_expr.specs.Value.{IsWellFormed, value_of}
 use Rattle.interval_eval.specs.declared.interval.Interval.{Interval}
 use Rattle.interval_eval.specs.Span.{IsIn, AreIn, span_of}
-use Rattle.interval_eval.proofs.Holding.{values_lie}
+use Rattle.interval_eval.specs.Laws.{ValuesLieInSpans}
 use Rattle.growth_bound.specs.Deviation.{IsNear, AreNear, magnitude_of, deviation_of}
+use Rattle.growth_bound.specs.Laws.{ValuesMoveByDeviations}
 use Rattle.growth_bound.proofs.Distances.{near_negation, near_sum, near_difference, near_minimum, near_maximum, near_absolute, near_product, near_quotient}
 
 near_variable : (radii xs ys : List ℤ) (i : ℕ) → AreNear radii xs ys → IsNear (pos (nat_abs (slice_index_or radii i (pos 0)))) (slice_index_or xs i (pos 0)) (slice_index_or ys i (pos 0))
@@ -22,32 +23,34 @@ near_variable (r ∷ radii) (x ∷ xs) (y ∷ ys) (suc i) h = near_variable radi
 within_magnitude : (a : Interval) (x : ℤ) → IsIn a x → nat_abs x ≤ magnitude_of a
 within_magnitude a x h = omega (arith, ints, h.0, h.1)
 
--- the values are at most the deviation apart
-pub values_move : (e : Expression) (area : List Interval) (radii xs ys : List ℤ) → IsWellFormed e (length area) → AreIn area xs → AreIn area ys → AreNear radii xs ys → IsNear (pos (deviation_of e area radii)) (value_of e xs) (value_of e ys)
-values_move (Number k) area radii xs ys formed p q h = (omega (arith, ints), omega (arith, ints))
-values_move (Variable i) area radii xs ys formed p q h = near_variable radii xs ys i h
-values_move (Negation a) area radii xs ys formed p q h =
-    near_negation (deviation_of a area radii) (value_of a xs) (value_of a ys) (values_move a area radii xs ys formed p q h)
-values_move (Sum a b) area radii xs ys formed p q h =
-    near_sum (deviation_of a area radii) (deviation_of b area radii) (value_of a xs) (value_of a ys) (value_of b xs) (value_of b ys) (values_move a area radii xs ys formed.0 p q h) (values_move b area radii xs ys formed.1 p q h)
-values_move (Difference a b) area radii xs ys formed p q h =
-    near_difference (deviation_of a area radii) (deviation_of b area radii) (value_of a xs) (value_of a ys) (value_of b xs) (value_of b ys) (values_move a area radii xs ys formed.0 p q h) (values_move b area radii xs ys formed.1 p q h)
-values_move (Product a b) area radii xs ys formed p q h =
-    near_product (magnitude_of (span_of a area)) (magnitude_of (span_of b area)) (deviation_of a area radii) (deviation_of b area radii) (value_of a xs) (value_of a ys) (value_of b xs) (value_of b ys)
-    (within_magnitude (span_of a area) (value_of a xs) (values_lie a area xs formed.0 p))
-    (within_magnitude (span_of b area) (value_of b ys) (values_lie b area ys formed.1 q))
-    (values_move a area radii xs ys formed.0 p q h)
-    (values_move b area radii xs ys formed.1 p q h)
-values_move (Quotient a k) area radii xs ys formed p q h =
-    near_quotient (deviation_of a area radii) (value_of a xs) (value_of a ys) k formed.1 (values_move a area radii xs ys formed.0 p q h)
-values_move (Minimum a b) area radii xs ys formed p q h =
-    near_minimum (deviation_of a area radii) (deviation_of b area radii) (value_of a xs) (value_of a ys) (value_of b xs) (value_of b ys) (values_move a area radii xs ys formed.0 p q h) (values_move b area radii xs ys formed.1 p q h)
-values_move (Maximum a b) area radii xs ys formed p q h =
-    near_maximum (deviation_of a area radii) (deviation_of b area radii) (value_of a xs) (value_of a ys) (value_of b xs) (value_of b ys) (values_move a area radii xs ys formed.0 p q h) (values_move b area radii xs ys formed.1 p q h)
-values_move (Absolute a) area radii xs ys formed p q h =
-    near_absolute (deviation_of a area radii) (value_of a xs) (value_of a ys) (values_move a area radii xs ys formed p q h)
+-- The values are at most the deviation apart, as values lie in their spans.
+module _ (lies : ValuesLieInSpans) where
+  pub values_move : (e : Expression) (area : List Interval) (radii xs ys : List ℤ) → IsWellFormed e (length area) → AreIn area xs → AreIn area ys → AreNear radii xs ys → IsNear (pos (deviation_of e area radii)) (value_of e xs) (value_of e ys)
+  values_move (Number k) area radii xs ys formed p q h = (omega (arith, ints), omega (arith, ints))
+  values_move (Variable i) area radii xs ys formed p q h = near_variable radii xs ys i h
+  values_move (Negation a) area radii xs ys formed p q h =
+      near_negation (deviation_of a area radii) (value_of a xs) (value_of a ys) (values_move a area radii xs ys formed p q h)
+  values_move (Sum a b) area radii xs ys formed p q h =
+      near_sum (deviation_of a area radii) (deviation_of b area radii) (value_of a xs) (value_of a ys) (value_of b xs) (value_of b ys) (values_move a area radii xs ys formed.0 p q h) (values_move b area radii xs ys formed.1 p q h)
+  values_move (Difference a b) area radii xs ys formed p q h =
+      near_difference (deviation_of a area radii) (deviation_of b area radii) (value_of a xs) (value_of a ys) (value_of b xs) (value_of b ys) (values_move a area radii xs ys formed.0 p q h) (values_move b area radii xs ys formed.1 p q h)
+  values_move (Product a b) area radii xs ys formed p q h =
+      near_product (magnitude_of (span_of a area)) (magnitude_of (span_of b area)) (deviation_of a area radii) (deviation_of b area radii) (value_of a xs) (value_of a ys) (value_of b xs) (value_of b ys)
+      (within_magnitude (span_of a area) (value_of a xs) (lies a area xs formed.0 p))
+      (within_magnitude (span_of b area) (value_of b ys) (lies b area ys formed.1 q))
+      (values_move a area radii xs ys formed.0 p q h)
+      (values_move b area radii xs ys formed.1 p q h)
+  values_move (Quotient a k) area radii xs ys formed p q h =
+      near_quotient (deviation_of a area radii) (value_of a xs) (value_of a ys) k formed.1 (values_move a area radii xs ys formed.0 p q h)
+  values_move (Minimum a b) area radii xs ys formed p q h =
+      near_minimum (deviation_of a area radii) (deviation_of b area radii) (value_of a xs) (value_of a ys) (value_of b xs) (value_of b ys) (values_move a area radii xs ys formed.0 p q h) (values_move b area radii xs ys formed.1 p q h)
+  values_move (Maximum a b) area radii xs ys formed p q h =
+      near_maximum (deviation_of a area radii) (deviation_of b area radii) (value_of a xs) (value_of a ys) (value_of b xs) (value_of b ys) (values_move a area radii xs ys formed.0 p q h) (values_move b area radii xs ys formed.1 p q h)
+  values_move (Absolute a) area radii xs ys formed p q h =
+      near_absolute (deviation_of a area radii) (value_of a xs) (value_of a ys) (values_move a area radii xs ys formed p q h)
 
-pub deviation_bounds : (e : Expression) (area : List Interval) (radii : List ℤ) (d : ℤ) → IsWellFormed e (length area) → d ≡ pos (deviation_of e area radii) → (xs ys : List ℤ) → AreIn area xs → AreIn area ys → AreNear radii xs ys → IsNear d (value_of e xs) (value_of e ys)
-deviation_bounds e area radii d formed exact xs ys p q h =
+-- the same of a number that is the deviation
+pub deviation_bounds : ValuesMoveByDeviations → (e : Expression) (area : List Interval) (radii : List ℤ) (d : ℤ) → IsWellFormed e (length area) → d ≡ pos (deviation_of e area radii) → (xs ys : List ℤ) → AreIn area xs → AreIn area ys → AreNear radii xs ys → IsNear d (value_of e xs) (value_of e ys)
+deviation_bounds moves e area radii d formed exact xs ys p q h =
     let Near : ℤ → Type 0 = λ z. IsNear z (value_of e xs) (value_of e ys) in
-    subst Near (sym exact) (values_move e area radii xs ys formed p q h)
+    subst Near (sym exact) (moves e area radii xs ys formed p q h)

@@ -6,6 +6,7 @@ ghost use Rattle.growth_bound.specs.Deviation.{IsNear, AreNear, DeviationStaysIn
 ghost use Rattle.growth_bound.specs.Growth.{growth_of};
 
 use crate::growth::Growth;
+use crate::laws::values_move_by_at_most_the_deviation;
 use fixed_expr::Expr;
 use interval_eval::Interval;
 
@@ -23,6 +24,7 @@ pub fn deviation(e: &Expr, area: &[Interval], radii: &[i128]) -> Option<i128>
         (xs ys : List ℤ) → AreIn area.now xs → AreIn area.now ys → AreNear radii.now xs ys →
         IsNear d (value_of (expression_of e.now) xs) (value_of (expression_of e.now) ys)) }
 {
+    values_move_by_at_most_the_deviation();
     Some(growth(e, area, radii)?.deviation as i128)
 }
 

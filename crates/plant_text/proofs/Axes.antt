@@ -29,6 +29,15 @@ pub literal_bounds : (z : ℤ) → IsLiteral z → (neg_ℤ (pos (10 ^ 18)) <ℤ
 literal_bounds (pos n) lt = (omega (arith, ints), omega (arith, ints))
 literal_bounds (negsuc n) lt = (omega (arith, ints), omega (arith, ints))
 
+-- a state's cells end right past its greatest number
+pub end_is : (s : StateVariable) → IsStateVariable s → end_of (axis_of s) ≡ s.high +ℤ pos 1
+end_is s h =
+    let d : ℤ = (s.high -ℤ s.low) +ℤ pos 1 in
+    let width-is : s.width ≡ pos (nat_abs s.width) = positive s.width (omega (arith, ints, h.some_width)) in
+    let d-is : d ≡ pos (nat_abs d) = positive d (omega (arith, ints, h.ordered)) in
+    let w-some : 0 < nat_abs s.width = omega (arith, ints, h.some_width, width-is) in
+    whole_end s.low s.high s.width d (nat_abs d) (nat_abs s.width) width-is d-is refl w-some h.whole_cells
+
 pub axis_is : (s : StateVariable) → IsStateVariable s → IsAxis (axis_of s)
 axis_is s h =
     let d : ℤ = (s.high -ℤ s.low) +ℤ pos 1 in
@@ -36,12 +45,11 @@ axis_is s h =
     let d-is : d ≡ pos (nat_abs d) = positive d (omega (arith, ints, h.ordered)) in
     let w-some : 0 < nat_abs s.width = omega (arith, ints, h.some_width, width-is) in
     let n-some : 0 < nat_abs d = omega (arith, ints, h.ordered, d-is) in
-    let end-is : end_of (axis_of s) ≡ s.high +ℤ pos 1 = whole_end s.low s.high s.width d (nat_abs d) (nat_abs s.width) width-is d-is refl w-some h.whole_cells in
     record {
       some_width = h.some_width;
       some_cell = some_count (nat_abs d) (nat_abs s.width) n-some w-some h.whole_cells;
       low_bound = (literal_bounds s.low h.low).0;
-      high_bound = rw end-is (omega (arith, ints, (literal_bounds s.high h.high).1));
+      high_bound = rw (end_is s h) (omega (arith, ints, (literal_bounds s.high h.high).1));
     }
 
 pub axes_are : (s : StateVariable) → IsStateVariable s → AreAxes (axis_of s ∷ [])

@@ -6,9 +6,7 @@ use Rattle.std.specs.Fmt.{decimal, signed_decimal}
 use Rattle.std.proofs.lemmas.Bool.{eqb-true, leb-true, le-leb, and_parts, and_from, or_cases, false_from_ne_true}
 use Rattle.std.proofs.lemmas.List.Folds.{list_all-append}
 use Rattle.std.proofs.lemmas.Fmt.{decimal_by_steps, decimal_nonempty}
-use Rattle.plant_text.specs.Names.{is_name_byte, is_digit, is_letter, IsName, IsLiteral}
-use Rattle.plant_text.specs.Reading.{is_blank}
-use Rattle.plant_text.proofs.Fronts.{is_word}
+use Rattle.plant_text.specs.Names.{is_blank, is_word, is_name_byte, is_digit, is_letter, IsName, IsLiteral}
 
 blank_is : (b : ℕ) → is_blank b ≡ true → (P : ℕ → Type 0) → P b → (Q : Type 0) → (P 32 → Q) → (P 10 → Q) → Q
 blank_is b blank P h Q space feed =

@@ -1,11 +1,12 @@
 -- A literal or a word that is read stood at the front, and what stands at the front is read.
 use Rattle.std.proofs.Common.{◌≡◌, ℕ, ◌<◌, Bool, true, false, cond, ltb, List, [], ◌∷◌, ◌++◌, length, get_or, take, drop, Option, Some, None, refl, sym, ap, ◌∙◌, arith, not, one-add}
-use Rattle.std.specs.List.{list_all, position_or_len}
+use Rattle.std.specs.List.{position_or_len}
 use Rattle.std.specs.Str.{bytes_eq}
 use Rattle.std.proofs.lemmas.Bool.{lt-ltb, and_parts, not-true}
 use Rattle.std.proofs.lemmas.List.{take_at, drop_at, take-append-drop, length-append}
 use Rattle.std.proofs.lemmas.Slice.Eq.{bytes_eq-Decides}
-use Rattle.plant_text.specs.Reading.{◌>>=◌, behind, is_blank, word_len, word_at}
+use Rattle.plant_text.specs.Reading.{◌>>=◌, behind, word_len, word_at}
+use Rattle.plant_text.specs.Names.{is_blank, is_word}
 
 -- the value of a step that did not fail
 pub bind_some : {A B : Type 0} (r : Option A) (f : A → Option B) (y : B) → (r >>= f) ≡ Some y → (x : A) × (r ≡ Some x) × (f x ≡ Some y)
@@ -38,10 +39,6 @@ behind_again text rest =
     rw (same, drop_at text rest (length text) refl) refl
 
 -- ---- words
-
--- no byte is a blank
-abbrev pub is_word : List ℕ → Bool
-is_word w = list_all (λ b. not (is_blank b)) w
 
 -- the first byte is a blank
 abbrev pub StartsBlank : List ℕ → Type 0

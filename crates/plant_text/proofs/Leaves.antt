@@ -8,11 +8,11 @@ use Rattle.std.proofs.lemmas.Bool.{false_from_ne_true, le-ltb}
 use Rattle.std.proofs.lemmas.Slice.Eq.{bytes_eq-Decides}
 use Rattle.fixed_expr.specs.Expression.{Expression, Number, Variable, Negation, Sum, Difference, Product, Quotient, Minimum, Maximum, Absolute}
 use Rattle.plant_text.specs.CanonicalText.{expression_text}
-use Rattle.plant_text.specs.Names.{IsName, IsLiteral}
+use Rattle.plant_text.specs.Names.{is_word, IsName, IsLiteral}
 use Rattle.plant_text.specs.Narrow.{IsLeaf}
 use Rattle.plant_text.specs.Reading.{◌>>=◌, word_at, number_of, leaf_of}
 use Rattle.plant_text.proofs.Numbers.{number_takes, number_again}
-use Rattle.plant_text.proofs.Fronts.{bind_some, some_is, is_word, StartsBlank, word_takes, word_again}
+use Rattle.plant_text.proofs.Fronts.{bind_some, some_is, StartsBlank, word_takes, word_again}
 use Rattle.plant_text.proofs.Bytes.{name_word, number_word, no_name}
 
 -- a leaf's text, which is the same at each level

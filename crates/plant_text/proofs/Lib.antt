@@ -10,3 +10,5 @@ pub mod Axes
 pub mod Texts
 pub mod Allowed
 pub mod Shape
+pub mod Sound
+pub mod PlantFront

@@ -7,3 +7,4 @@ pub mod Narrow
 pub mod Reading
 pub mod Parts
 pub mod Kept
+pub mod Laws

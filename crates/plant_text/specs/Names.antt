@@ -3,6 +3,14 @@ use Rattle.std.specs.Prelude.{ℕ, ◌^◌, ◌<◌, Bool, not, ◌||◌, ◌&&�
 use Rattle.std.specs.List.{list_all}
 use Rattle.std.specs.Str.{bytes_eq}
 
+-- a space or a line feed
+abbrev pub is_blank : ℕ → Bool
+is_blank b = b == 32 || b == 10
+
+-- no byte is a blank
+abbrev pub is_word : List ℕ → Bool
+is_word w = list_all (λ b. not (is_blank b)) w
+
 -- `A` to `Z` and `a` to `z`
 abbrev pub is_letter : ℕ → Bool
 is_letter b = (nat_le 65 b && nat_le b 90) || (nat_le 97 b && nat_le b 122)

@@ -10,7 +10,7 @@ use Rattle.plant_text.specs.declared.fault.NarrowFault.TheVariants as faults
 use Rattle.plant_text.specs.declared.variables.StateVariable.{StateVariable}
 use Rattle.plant_text.specs.declared.variables.InputVariable.{InputVariable}
 use Rattle.plant_text.specs.declared.variables.StateBox.{StateBox}
-use Rattle.plant_text.specs.Names.{is_name}
+use Rattle.plant_text.specs.Names.{is_blank, is_name}
 use Rattle.plant_text.specs.Narrow.{NarrowParts}
 
 infixl 10 ◌>>=◌
@@ -32,10 +32,6 @@ abbrev pub behind : List ℕ → List ℕ → Option (List ℕ)
 behind text bytes = if bytes_eq (take (length text) bytes) text then Some (drop (length text) bytes) else None
 
 -- ---- words
-
--- a space or a line feed
-abbrev pub is_blank : ℕ → Bool
-is_blank b = b == 32 || b == 10
 
 abbrev pub word_len : List ℕ → ℕ
 word_len bytes = unwrap_or (position is_blank bytes) (length bytes)

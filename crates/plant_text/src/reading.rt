@@ -1,8 +1,8 @@
 // A narrow text from left to right: each reader answers what it found and the bytes after it.
 
-ghost use Rattle.std.specs.Prelude.{◌≡◌, [], Some};
+ghost use Rattle.std.specs.Prelude.{[], Some};
 ghost use Rattle.fixed_expr.specs.Expression.{expression_of};
-ghost use Rattle.plant_text.specs.Reading.{Gives, word_at, name_of, number_of, leaf_of, numbers_at, terms_at, sum_at, state_at, input_at, target_at, equation_at};
+ghost use Rattle.plant_text.specs.Reading.{Gives, word_at, name_of, number_of, leaf_of, numbers_at, sum_at, state_at, input_at, target_at, equation_at};
 
 use crate::fault::NarrowFault;
 use crate::variables::{InputVariable, Name, StateBox, StateVariable, Values};

@@ -4,8 +4,8 @@ ghost use Rattle.std.specs.Prelude.{◌≡◌, ◌<◌, ◌≤◌, ℤ, Some, le
 ghost use Rattle.std.specs.List.{list_all};
 ghost use Rattle.std.specs.Option.{option_map};
 ghost use Rattle.std.specs.Fmt.{signed_decimal};
-ghost use Rattle.plant_text.specs.Names.{is_name, is_reserved, is_name_byte, is_letter, IsLiteral};
-ghost use Rattle.plant_text.specs.Reading.{Gives, behind, is_blank, word_len, word_at, name_of, number_of};
+ghost use Rattle.plant_text.specs.Names.{is_blank, is_name, is_reserved, is_name_byte, is_letter, IsLiteral};
+ghost use Rattle.plant_text.specs.Reading.{Gives, behind, word_len, number_of};
 
 use crate::fault::NarrowFault;
 use crate::variables::Name;

@@ -1,7 +1,8 @@
 -- The values of the variables at a cell's centre, and at every point of the cell.
-use Rattle.std.proofs.Common.{◌≡◌, ℕ, List, [], ◌∷◌, ◌++◌, All, length, take, map, arith}
+use Rattle.std.proofs.Common.{◌≡◌, ℕ, suc, ◌%◌, List, [], ◌∷◌, ◌++◌, All, length, take, map, refl, ap, arith}
 use Rattle.std.specs.Prelude.{ℤ, pos, negsuc, ◌+ℤ◌, ◌-ℤ◌, ◌≤ℤ◌, ◌<ℤ◌}
 use Rattle.std.proofs.lemmas.Int.{ints}
+use Rattle.std.proofs.lemmas.List.{length-append, length-map}
 use Rattle.std.proofs.lemmas.List.Elements.{All-head, All-tail}
 use Rattle.fixed_expr.specs.Quotient.{floor_div}
 use Rattle.interval_eval.specs.declared.interval.Interval.{Interval}
@@ -11,9 +12,11 @@ use Rattle.grid_quantiser.specs.Axes.{end_of}
 use Rattle.grid_quantiser.specs.Cells.{IsInDomain, centre_of, radius_of}
 use Rattle.grid_quantiser.specs.Laws.{AreNear as AreStatesNear}
 use Rattle.plant_text.specs.declared.variables.StateVariable.{StateVariable}
+use Rattle.plant_text.specs.declared.variables.InputVariable.{InputVariable}
 use Rattle.plant_text.specs.declared.variables.NoiseVariable.{NoiseVariable}
-use Rattle.plant_text.specs.Description.{Description, axis_of, axes_of, vector_of}
+use Rattle.plant_text.specs.Description.{Description, axis_of, axes_of, names_of, vectors_of, vector_of}
 use Rattle.plant_text.specs.Steps.{IsNoise, values_at}
+use Rattle.plant_text.specs.Laws.{IsWhole}
 use Rattle.synth_run.specs.Boxes.{noise_centre, area_of, radii_of, central_values}
 
 near_append : (rs xs ys radii values others : List ℤ) → AreNear rs xs ys → AreNear radii values others → AreNear (rs ++ radii) (xs ++ values) (ys ++ others)
@@ -29,10 +32,6 @@ in_append [] area [] values h k = k
 in_append [] area (x ∷ xs) values h k = absurd h
 in_append (i ∷ is) area [] values h k = absurd h
 in_append (i ∷ is) area (x ∷ xs) values h k = (h.0, in_append is area xs values h.1 k)
-
--- an axis ends right past the state's greatest number
-abbrev pub IsWhole : StateVariable → Type 0
-IsWhole s = end_of (axis_of s) ≡ s.high +ℤ pos 1
 
 states_in : (states : List StateVariable) (xs : List ℤ) → All IsWhole states → IsInDomain (map axis_of states) xs → AreIn (map (λ (s : StateVariable). record { lo = s.low; hi = s.high }) states) (take (length states) xs)
 states_in [] xs whole inside = tt
@@ -107,3 +106,12 @@ module _ (p : Description) (c u : ℕ) (x w : List ℤ) (noise : IsNoise p.noise
   pub values_near : AreStatesNear (axes_of p) (centre_of (axes_of p) c) x → AreNear (radii_of p u) (central_values p c u) (values_at p x u w)
   values_near near =
       near_append _ _ _ _ _ _ (near_append _ _ _ _ _ _ (states_near p.states (centre_of (axes_of p) c) x near) (inputs_near (vector_of p.inputs u))) (noises_near p.noises w noise)
+
+-- ---- how many variables there are
+
+vector_count : (inputs : List InputVariable) (u : ℕ) → length (vector_of inputs u) ≡ length inputs
+vector_count [] u = refl
+vector_count (i ∷ inputs) u = ap suc (vector_count inputs (u % vectors_of inputs))
+
+pub area_count : (p : Description) (u : ℕ) → length (area_of p u) ≡ length (names_of p)
+area_count p u = simp (length-append, length-map, vector_count)

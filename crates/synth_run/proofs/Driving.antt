@@ -21,8 +21,7 @@ use Rattle.synth_run.specs.TableText.{table_text}
 use Rattle.synth_run.specs.Choice.{AreRowsOf}
 use Rattle.synth_run.specs.Refinement.{IsRefinement}
 use Rattle.synth_run.specs.Drives.{LiesInSome, IsClear, Comes, Drives}
-use Rattle.synth_run.proofs.FittingRows.{solution_fits}
-use Rattle.synth_run.proofs.OneTable.{one_table}
+use Rattle.synth_run.specs.Laws.{OneTablePerText}
 
 -- What the induction stands on.
 pub record Guides (p : Description) (g : Game) (rows : List (Option Row)) (bytes : List ℕ) : Type 0 where
@@ -87,9 +86,8 @@ comes {p = p} {g = g} {rows = rows} h (w ∷ ws) x (suc k) u inside is enough no
     )
 
 -- the table of a plant's solution drives the plant
-pub drives : (p : Description) (g : Game) (rows : List (Option Row)) (bytes : List ℕ) → IsNarrow p → IsGameOf p g → IsRefinement p g → IsReachSolution g rows → LeadsToGoals g rows → bytes ≡ table_text p rows → Drives p bytes
-drives p g rows bytes narrow abstraction refined solution leads text x k ws h len noises =
-    let fitting : AreRowsOf p rows = solution_fits p g rows abstraction solution in
+pub drives : OneTablePerText → (p : Description) (g : Game) (rows : List (Option Row)) (bytes : List ℕ) → IsNarrow p → IsGameOf p g → IsRefinement p g → IsReachSolution g rows → LeadsToGoals g rows → AreRowsOf p rows → bytes ≡ table_text p rows → Drives p bytes
+drives one p g rows bytes narrow abstraction refined solution leads fitting text x k ws h len noises =
     let guides : Guides p g rows bytes = record {
       narrow = narrow;
       fitting = fitting;
@@ -99,7 +97,7 @@ drives p g rows bytes narrow abstraction refined solution leads text x k ws h le
       refined = refined;
       one_each = solution.one_each;
     } in
-    let same = one_table h.plant p h.rows rows h.narrow narrow h.fitting fitting (sym h.text ∙ text) in
+    let same = one h.plant p h.rows rows h.narrow narrow h.fitting fitting (sym h.text ∙ text) in
     let inside : IsInDomain (axes_of p) x = subst (λ (q : Description). IsInDomain (axes_of q) x) same.0 h.inside in
     let row : row_of rows (cell_of (axes_of p) x) ≡ Some (record { rank = k; input = h.input }) = subst (λ (r : List (Option Row)). row_of r (cell_of (axes_of p) x) ≡ Some (record { rank = k; input = h.input })) same.1 (subst (λ (q : Description). row_of h.rows (cell_of (axes_of q) x) ≡ Some (record { rank = k; input = h.input })) same.0 h.row) in
     comes guides ws x k h.input inside row (omega (arith, len)) (recursion_from_All (IsNoise p.noises) ws noises)

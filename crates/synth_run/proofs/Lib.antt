@@ -12,7 +12,6 @@ pub mod NarrowBoxes
 pub mod NarrowGame
 pub mod LeadingPairs
 pub mod OneTable
-pub mod PlantFront
 pub mod FittingRows
 pub mod Driving
 pub mod Refines

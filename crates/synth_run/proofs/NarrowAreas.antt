@@ -1,23 +1,21 @@
 -- The ranges and the radii of a narrow plant, and how far its equation moves.
-use Rattle.std.proofs.Common.{◌≡◌, ℕ, zero, suc, ◌+◌, ◌-◌, ◌*◌, ◌/◌, ◌%◌, ◌^◌, ◌<◌, ◌≤◌, List, [], ◌∷◌, All, Some, length, get_or, refl, sym, ap₂, subst, arith}
+use Rattle.std.proofs.Common.{◌≡◌, ℕ, zero, suc, ◌+◌, ◌-◌, ◌*◌, ◌/◌, ◌^◌, ◌<◌, ◌≤◌, List, [], ◌∷◌, All, Some, length, get_or, refl, sym, ap₂, subst, arith}
 use Rattle.std.specs.Prelude.{ℤ, pos, nat_abs, ◌+ℤ◌, ◌-ℤ◌, ◌*ℤ◌, ◌≤ℤ◌, slice_get, map}
 use Rattle.std.proofs.lemmas.Int.{ints}
 use Rattle.std.proofs.lemmas.Option.{same_Some}
-use Rattle.std.proofs.lemmas.List.Elements.{All-from_recursion}
+use Rattle.std.proofs.lemmas.List.Elements.{All-from_recursion, All-head}
 use Rattle.fixed_expr.specs.Expression.{Expression}
 use Rattle.fixed_expr.specs.Value.{IsWellFormed}
 use Rattle.interval_eval.specs.declared.interval.Interval.{Interval}
 use Rattle.interval_eval.specs.Span.{SpanStaysInRange}
 use Rattle.growth_bound.specs.Deviation.{deviation_of, DeviationStaysInRange}
 use Rattle.grid_quantiser.specs.declared.axis.Axis.{Axis}
-use Rattle.grid_quantiser.specs.Axes.{no_axis, end_of, cells_of}
+use Rattle.grid_quantiser.specs.Axes.{no_axis, cells_of}
 use Rattle.grid_quantiser.specs.Cells.{low_of, high_of, radius_of, point_of}
 use Rattle.plant_text.specs.Names.{IsLiteral}
-use Rattle.plant_text.specs.declared.variables.StateVariable.{StateVariable}
 use Rattle.plant_text.specs.Description.{Description, axis_of, axes_of, vectors_of, vector_of}
-use Rattle.plant_text.specs.Narrow.{NarrowParts, AreNarrowParts, IsNarrow, IsStateVariable, narrow_description}
-use Rattle.plant_text.proofs.Axes.{axes_are, positive}
-use Rattle.plant_text.proofs.Shape.{well_formed}
+use Rattle.plant_text.specs.Narrow.{NarrowParts, AreNarrowParts, IsNarrow, narrow_description}
+use Rattle.plant_text.specs.Laws.{IsWhole, NarrowPlantsAreSound}
 use Rattle.synth_run.specs.Boxes.{area_of, radii_of, deviation_at}
 use Rattle.synth_run.proofs.LeafSums.{IsWithin, EndsWithin, no_interval, sum_span, sum_deviation}
 use Rattle.synth_run.proofs.NarrowSteps.{input_within, axis_within}
@@ -50,7 +48,7 @@ pair_radii r p (suc (suc i)) = omega arith
 few : (n d : ℕ) → n ≤ 64 → d ≤ n * 10 ^ 18 → d ≤ 64 * 10 ^ 18
 few n d p q = omega (arith, p, q)
 
-module _ (q : NarrowParts) (narrow : AreNarrowParts q) (u : ℕ) (input : u < vectors_of (narrow_description q).inputs) where
+module _ (sound : NarrowPlantsAreSound) (q : NarrowParts) (narrow : AreNarrowParts q) (u : ℕ) (input : u < vectors_of (narrow_description q).inputs) where
   narrow_moved : IsMoved (narrow_description q) u q.equation
   narrow_moved =
       let p = narrow_description q in
@@ -58,7 +56,7 @@ module _ (q : NarrowParts) (narrow : AreNarrowParts q) (u : ℕ) (input : u < ve
       let span = sum_span (area_of p u) (pair_ends _ _ (literal_within q.state.low narrow.state.low, literal_within q.state.high narrow.state.high) (v, v)) q.equation narrow.equation.0 narrow.equation.2 narrow.equation.1 in
       let moves = sum_deviation (area_of p u) (radii_of p u) (pair_radii _ (half_within q.state.width narrow.state.width)) q.equation narrow.equation.0 narrow.equation.2 narrow.equation.1 in
       record {
-        formed = well_formed q.equation narrow.equation.0 narrow.equation.2;
+        formed = All-head (λ e. IsWellFormed e 2) q.equation [] (sound p (q, narrow, refl)).formed;
         span = span.1;
         deviation = moves.1;
         bound = few narrow.equation.0 (deviation_of q.equation (area_of p u) (radii_of p u)) narrow.equation.1 moves.0;
@@ -66,22 +64,14 @@ module _ (q : NarrowParts) (narrow : AreNarrowParts q) (u : ℕ) (input : u < ve
         not_negative = All-from_recursion (λ r. pos 0 ≤ℤ r) (radii_of p u) (omega (arith, ints), (omega (arith, ints), tt));
       }
 
-pub equation_moved : (p : Description) → IsNarrow p → (u : ℕ) → u < vectors_of p.inputs → (e : Expression) → slice_get p.equations 0 ≡ Some e → IsMoved p u e
-equation_moved p n u input e is =
+pub equation_moved : NarrowPlantsAreSound → (p : Description) → IsNarrow p → (u : ℕ) → u < vectors_of p.inputs → (e : Expression) → slice_get p.equations 0 ≡ Some e → IsMoved p u e
+equation_moved sound p n u input e is =
     subst (λ (r : Description). u < vectors_of r.inputs → slice_get r.equations 0 ≡ Some e → IsMoved r u e) (sym n.2)
-    (λ lt only. subst (IsMoved (narrow_description n.0) u) (same_Some n.0.equation e only) (narrow_moved n.0 n.1 u lt)) input is
+    (λ lt only. subst (IsMoved (narrow_description n.0) u) (same_Some n.0.equation e only) (narrow_moved sound n.0 n.1 u lt)) input is
 
 -- the greatest number of the last cell is the state's greatest number
-whole_end : (low high width d : ℤ) (n w : ℕ) → width ≡ pos w → d ≡ pos n → d ≡ (high -ℤ low) +ℤ pos 1 → 0 < w → n % w ≡ 0 → low +ℤ (width *ℤ pos (n / w)) ≡ high +ℤ pos 1
-whole_end low high width d n w width-is d-is range some whole = rw width-is (omega (arith, ints, d-is, range))
-
-pub end_is : (s : StateVariable) → IsStateVariable s → end_of (axis_of s) ≡ s.high +ℤ pos 1
-end_is s h =
-    let d : ℤ = (s.high -ℤ s.low) +ℤ pos 1 in
-    let width-is : s.width ≡ pos (nat_abs s.width) = positive s.width (omega (arith, ints, h.some_width)) in
-    let d-is : d ≡ pos (nat_abs d) = positive d (omega (arith, ints, h.ordered)) in
-    let w-some : 0 < nat_abs s.width = omega (arith, ints, h.some_width, width-is) in
-    whole_end s.low s.high s.width d (nat_abs d) (nat_abs s.width) width-is d-is refl w-some h.whole_cells
+positive : (z : ℤ) → pos 1 ≤ℤ z → z ≡ pos (nat_abs z)
+positive z some = omega (arith, ints, some)
 
 last_place : (n : ℕ) → 1 ≤ n → (n * 1 - 1) / 1 + 1 ≡ n
 last_place n some = omega (arith, some)
@@ -98,12 +88,13 @@ last_number lo width high w n m width-is next end = by_product (width *ℤ pos n
 first_number : (lo width : ℤ) → lo +ℤ (width *ℤ pos 0) ≡ lo
 first_number lo width = omega (arith, ints)
 
-module _ (q : NarrowParts) (narrow : AreNarrowParts q) where
+module _ (sound : NarrowPlantsAreSound) (q : NarrowParts) (narrow : AreNarrowParts q) where
   high_is : get_or (point_of (high_of (axes_of (narrow_description q)) (cells_of (axes_of (narrow_description q)) - 1))) 0 (pos 0) ≡ q.state.high
   high_is =
       let a : Axis = axis_of q.state in
-      let axis = axis_within a (axes_are q.state narrow.state) in
-      last_number a.lo a.width q.state.high (nat_abs a.width) a.count ((a.count * 1 - 1) / 1) (positive a.width (omega (arith, ints, axis.some_width))) (last_place a.count axis.some_cell) (end_is q.state narrow.state)
+      let whole = sound (narrow_description q) (q, narrow, refl) in
+      let axis = axis_within a whole.axes in
+      last_number a.lo a.width q.state.high (nat_abs a.width) a.count ((a.count * 1 - 1) / 1) (positive a.width axis.some_width) (last_place a.count axis.some_cell) (All-head IsWhole q.state [] whole.whole)
 
   pub narrow_area : (u : ℕ) → ◌≡◌ {A = List Interval}
       (record { lo = get_or (point_of (low_of (axes_of (narrow_description q)) 0)) 0 (pos 0); hi = get_or (point_of (high_of (axes_of (narrow_description q)) (cells_of (axes_of (narrow_description q)) - 1))) 0 (pos 0) }
@@ -111,15 +102,15 @@ module _ (q : NarrowParts) (narrow : AreNarrowParts q) where
       (area_of (narrow_description q) u)
   narrow_area u = ap₂ (λ (lo hi : ℤ). record { lo = lo; hi = hi } ∷ record { lo = get_or (vector_of (narrow_description q).inputs u) 0 (pos 0); hi = get_or (vector_of (narrow_description q).inputs u) 0 (pos 0) } ∷ []) (first_number q.state.low q.state.width) high_is
 
-pub area_is : (p : Description) → IsNarrow p → (u : ℕ) → ◌≡◌ {A = List Interval}
+pub area_is : NarrowPlantsAreSound → (p : Description) → IsNarrow p → (u : ℕ) → ◌≡◌ {A = List Interval}
     (record { lo = get_or (point_of (low_of (axes_of p) 0)) 0 (pos 0); hi = get_or (point_of (high_of (axes_of p) (cells_of (axes_of p) - 1))) 0 (pos 0) }
     ∷ record { lo = get_or (vector_of p.inputs u) 0 (pos 0); hi = get_or (vector_of p.inputs u) 0 (pos 0) } ∷ [])
     (area_of p u)
-area_is p n u =
+area_is sound p n u =
     subst (λ (r : Description). ◌≡◌ {A = List Interval}
     (record { lo = get_or (point_of (low_of (axes_of r) 0)) 0 (pos 0); hi = get_or (point_of (high_of (axes_of r) (cells_of (axes_of r) - 1))) 0 (pos 0) }
     ∷ record { lo = get_or (vector_of r.inputs u) 0 (pos 0); hi = get_or (vector_of r.inputs u) 0 (pos 0) } ∷ [])
-    (area_of r u)) (sym n.2) (narrow_area n.0 n.1 u)
+    (area_of r u)) (sym n.2) (narrow_area sound n.0 n.1 u)
 
 pub radii_are : (p : Description) → IsNarrow p → (u : ℕ) → radius_of (get_or (axes_of p) 0 no_axis) ∷ pos 0 ∷ [] ≡ radii_of p u
 radii_are p n u = subst (λ (r : Description). radius_of (get_or (axes_of r) 0 no_axis) ∷ pos 0 ∷ [] ≡ radii_of r u) (sym n.2) refl

@@ -7,19 +7,34 @@ use Rattle.grid_quantiser.specs.declared.axis.Axis.{Axis}
 use Rattle.grid_quantiser.specs.declared.boxes.CellBox.{CellBox}
 use Rattle.grid_quantiser.specs.Cells.{point_of}
 use Rattle.grid_quantiser.specs.Boxes.{IsAtMost, IsBoxInDomain, Touches, AreCornersMeeting}
-use Rattle.grid_quantiser.proofs.AtMost.{at_most_left, at_most_right}
 use Rattle.plant_text.specs.Description.{Description, axis_of, axes_of}
 use Rattle.plant_text.specs.Narrow.{NarrowParts, IsNarrow, narrow_description}
 use Rattle.synth_run.specs.Boxes.{central_values, deviation_at, low_corner, high_corner}
 use Rattle.synth_run.specs.BoxGame.{IsBoxOf}
 
 -- on one axis only the first number of a point counts
+left_less : (a : Axis) (x : ℤ) (past ys : List ℤ) → IsAtMost (a ∷ []) (x ∷ past) ys → IsAtMost (a ∷ []) (x ∷ []) ys
+left_less a x past [] h = h
+left_less a x past (y ∷ ys) h = h
+
+left_more : (a : Axis) (x : ℤ) (past ys : List ℤ) → IsAtMost (a ∷ []) (x ∷ []) ys → IsAtMost (a ∷ []) (x ∷ past) ys
+left_more a x past [] h = h
+left_more a x past (y ∷ ys) h = h
+
+right_less : (a : Axis) (xs past : List ℤ) (y : ℤ) → IsAtMost (a ∷ []) xs (y ∷ past) → IsAtMost (a ∷ []) xs (y ∷ [])
+right_less a [] past y h = h
+right_less a (x ∷ xs) past y h = h
+
+right_more : (a : Axis) (xs past : List ℤ) (y : ℤ) → IsAtMost (a ∷ []) xs (y ∷ []) → IsAtMost (a ∷ []) xs (y ∷ past)
+right_more a [] past y h = h
+right_more a (x ∷ xs) past y h = h
+
 module _ (a : Axis) (lo hi : ℤ) where
   touches_less : (c : ℕ) → Touches (a ∷ []) c (point_of (lo ∷ [])) (point_of (hi ∷ [])) → Touches (a ∷ []) c (lo ∷ []) (hi ∷ [])
-  touches_less c t = (t.0, t.1, ((at_most_left (a ∷ []) (lo ∷ []) t.0 (replicate 5 (pos 0)) (omega arith)).0 t.2.0, (at_most_right (a ∷ []) t.0 (hi ∷ []) (replicate 5 (pos 0)) (omega arith)).0 t.2.1))
+  touches_less c t = (t.0, t.1, (left_less a lo (replicate 5 (pos 0)) t.0 t.2.0, right_less a t.0 (replicate 5 (pos 0)) hi t.2.1))
 
   touches_more : (c : ℕ) → Touches (a ∷ []) c (lo ∷ []) (hi ∷ []) → Touches (a ∷ []) c (point_of (lo ∷ [])) (point_of (hi ∷ []))
-  touches_more c t = (t.0, t.1, ((at_most_left (a ∷ []) (lo ∷ []) t.0 (replicate 5 (pos 0)) (omega arith)).1 t.2.0, (at_most_right (a ∷ []) t.0 (hi ∷ []) (replicate 5 (pos 0)) (omega arith)).1 t.2.1))
+  touches_more c t = (t.0, t.1, (left_more a lo (replicate 5 (pos 0)) t.0 t.2.0, right_more a t.0 (replicate 5 (pos 0)) hi t.2.1))
 
   corners_less : (b : Option CellBox) → IfSome b (λ b. AreCornersMeeting (a ∷ []) (point_of (lo ∷ [])) (point_of (hi ∷ [])) b.first b.last) → IfSome b (λ b. AreCornersMeeting (a ∷ []) (lo ∷ []) (hi ∷ []) b.first b.last)
   corners_less None h = tt

@@ -5,21 +5,20 @@ use Rattle.std.specs.Global.{Vec}
 use Rattle.std.specs.List.Sorted.{IsStrictlyIncreasing}
 use Rattle.std.proofs.lemmas.Option.{IfSome_then}
 use Rattle.std.proofs.lemmas.List.{length-map}
-use Rattle.std.proofs.lemmas.List.Elements.{All-map, All-from_get_or, All-weaker}
+use Rattle.std.proofs.lemmas.List.Elements.{All-map, All-weaker}
 use Rattle.std.proofs.lemmas.List.Sums.{sum_by-le}
 use Rattle.std.proofs.lemmas.Nat.{div-mul-add, mod-mul-add, mul-add-lt, mul-le}
 use Rattle.std.proofs.Math.Nat.{mul_comm}
 use Rattle.grid_quantiser.specs.declared.axis.Axis.{Axis}
 use Rattle.grid_quantiser.specs.declared.boxes.CellBox.{CellBox}
-use Rattle.grid_quantiser.specs.Axes.{AreAxes, IsAxis, cells_of}
-use Rattle.grid_quantiser.proofs.BoxCells.{between_limit, between_below}
-use Rattle.grid_quantiser.proofs.BetweenCells.{rising_between}
+use Rattle.grid_quantiser.specs.Axes.{AreAxes, cells_of}
+use Rattle.grid_quantiser.specs.Laws.{AreRisingCells, BoxesHaveCells}
 use Rattle.game_core.specs.declared.game.Mark.{Mark}
 use Rattle.game_core.specs.declared.game.Mark.TheVariants.{Plain}
 use Rattle.game_core.specs.Game.{Game, IsGame}
 use Rattle.plant_text.specs.Description.{Description, axis_of, axes_of, vectors_of}
 use Rattle.plant_text.specs.Narrow.{NarrowParts, AreNarrowParts, IsNarrow, narrow_description}
-use Rattle.plant_text.proofs.Axes.{axes_are}
+use Rattle.plant_text.specs.Laws.{NarrowPlantsAreSound}
 use Rattle.synth_run.specs.Abstraction.{IsGameOf}
 use Rattle.synth_run.specs.Boxes.{AreSuccessors}
 use Rattle.synth_run.specs.BoxGame.{AllAt, cells_in, box_game, IsBox, IsKept, IsBoxOf, IsBoxAt, IsMarkAt, sources_among}
@@ -33,12 +32,12 @@ pub record IsSmall (p : Description) : Type 0 where
   pub some_input : 1 ≤ vectors_of p.inputs
   pub few_inputs : vectors_of p.inputs ≤ 64
 
-pub small : (p : Description) → IsNarrow p → IsSmall p
-small p n = subst IsSmall (sym n.2) (narrow_small n.0 n.1)
+pub small : NarrowPlantsAreSound → (p : Description) → IsNarrow p → IsSmall p
+small sound p n = subst IsSmall (sym n.2) (narrow_small n.0 n.1)
   where
     narrow_small : (q : NarrowParts) → AreNarrowParts q → IsSmall (narrow_description q)
     narrow_small q narrow =
-        let axes = axes_are q.state narrow.state in
+        let axes = (sound (narrow_description q) (q, narrow, refl)).axes in
         record {
           axes = axes;
           some_cell = (let axis = axes.each 0 (axis_of q.state) (omega arith) in omega (arith, axis.some_cell));
@@ -47,18 +46,10 @@ small p n = subst IsSmall (sym n.2) (narrow_small n.0 n.1)
           few_inputs = omega (arith, narrow.input.values_bound);
         }
 
--- the cells of a box are few, rise, and are cells
-box_rises : (axes : List Axis) (b : Option CellBox) → All IsAxis axes → IsBox axes b → IsStrictlyIncreasing (cells_in axes b)
-box_rises axes None each box = λ k lt. absurd (omega (arith, lt))
-box_rises axes (Some b) each box = rising_between axes b.first b.last each box
-
-box_within : (axes : List Axis) (b : Option CellBox) → All IsAxis axes → IsBox axes b → All (λ s. s < cells_of axes) (cells_in axes b)
-box_within axes None each box = λ k d lt. absurd (omega (arith, lt))
-box_within axes (Some b) each box = All-from_get_or (λ s. s < cells_of axes) (cells_in axes (Some b)) 0 (λ i lt. between_below axes b.first b.last i each box lt)
-
-box_few : (axes : List Axis) (b : Option CellBox) → cells_of axes ≤ 512 → IsBox axes b → length (cells_in axes b) ≤ 512
-box_few axes None few box = omega arith
-box_few axes (Some b) few box = omega (arith, few, between_limit axes b.first b.last box)
+-- the cells of a box, or none, are few, rise, and are cells
+box_cells : BoxesHaveCells → (axes : List Axis) (b : Option CellBox) → AreAxes axes → IsBox axes b → AreRisingCells axes (cells_in axes b)
+box_cells cells axes None grid box = record { rising = λ k lt. absurd (omega (arith, lt)); within = λ k d lt. absurd (omega (arith, lt)); few = omega arith }
+box_cells cells axes (Some b) grid box = cells axes b.first b.last grid box
 
 few_edges : (pairs edges : ℕ) → edges ≤ pairs * 512 → pairs ≤ 32768 → edges ≤ 2 ^ 25
 few_edges pairs edges each few = omega (arith, each, few)
@@ -75,13 +66,13 @@ successors_from_box p c u (Some b) h = record { enabled = λ inside. h.corners.c
 pub ordered : (p : Description) (boxes : List (Option CellBox)) → AllAt (IsBoxAt p) boxes → All (IsBox (axes_of p)) boxes
 ordered p boxes each = λ k d lt. IfSome_then (get_or boxes k d) (each k d lt).corners (λ b meets. meets.ordered)
 
-module _ (p : Description) (n : IsNarrow p) (marks : List Mark) (boxes : List (Option CellBox)) (marks_count : length marks ≡ cells_of (axes_of p)) (marks_each : AllAt (IsMarkAt p) marks) (boxes_count : length boxes ≡ cells_of (axes_of p) * vectors_of p.inputs) (boxes_each : AllAt (IsBoxAt p) boxes) where
+module _ (sound : NarrowPlantsAreSound) (cells : BoxesHaveCells) (p : Description) (n : IsNarrow p) (marks : List Mark) (boxes : List (Option CellBox)) (marks_count : length marks ≡ cells_of (axes_of p)) (marks_each : AllAt (IsMarkAt p) marks) (boxes_count : length boxes ≡ cells_of (axes_of p) * vectors_of p.inputs) (boxes_each : AllAt (IsBoxAt p) boxes) where
   abbrev game : Game
   game = box_game (axes_of p) (vectors_of p.inputs) marks boxes
 
   pub is_game : IsGame game
   is_game =
-      let s = small p n in
+      let s = small sound p n in
       let boxes_ordered = ordered p boxes boxes_each in
       let one_list_each = length-map boxes (cells_in (axes_of p)) ∙ boxes_count in
       let few = few_pairs (cells_of (axes_of p)) (vectors_of p.inputs) s.few_cells s.few_inputs in
@@ -93,10 +84,10 @@ module _ (p : Description) (n : IsNarrow p) (marks : List Mark) (boxes : List (O
         pairs_bound = omega (arith, few);
         one_mark_each = marks_count;
         one_list_each = one_list_each;
-        rising = All-map IsStrictlyIncreasing (cells_in (axes_of p)) boxes (All-weaker (IsBox (axes_of p)) (λ b. IsStrictlyIncreasing (cells_in (axes_of p) b)) (λ b box. box_rises (axes_of p) b s.axes.each box) boxes boxes_ordered);
-        within = All-map (λ cells. All (λ c. c < cells_of (axes_of p)) cells) (cells_in (axes_of p)) boxes (All-weaker (IsBox (axes_of p)) (λ b. All (λ c. c < cells_of (axes_of p)) (cells_in (axes_of p) b)) (λ b box. box_within (axes_of p) b s.axes.each box) boxes boxes_ordered);
+        rising = All-map IsStrictlyIncreasing (cells_in (axes_of p)) boxes (All-weaker (IsBox (axes_of p)) (λ b. IsStrictlyIncreasing (cells_in (axes_of p) b)) (λ b box. (box_cells cells (axes_of p) b s.axes box).rising) boxes boxes_ordered);
+        within = All-map (λ cells. All (λ c. c < cells_of (axes_of p)) cells) (cells_in (axes_of p)) boxes (All-weaker (IsBox (axes_of p)) (λ b. All (λ c. c < cells_of (axes_of p)) (cells_in (axes_of p) b)) (λ b box. (box_cells cells (axes_of p) b s.axes box).within) boxes boxes_ordered);
         edges_bound = few_edges (length (map (cells_in (axes_of p)) boxes)) (sum_by length (map (cells_in (axes_of p)) boxes))
-            (sum_by-le length 512 (map (cells_in (axes_of p)) boxes) (All-map (λ cells. length cells ≤ 512) (cells_in (axes_of p)) boxes (All-weaker (IsBox (axes_of p)) (λ b. length (cells_in (axes_of p) b) ≤ 512) (λ b box. box_few (axes_of p) b s.few_cells box) boxes boxes_ordered)))
+            (sum_by-le length 512 (map (cells_in (axes_of p)) boxes) (All-map (λ cells. length cells ≤ 512) (cells_in (axes_of p)) boxes (All-weaker (IsBox (axes_of p)) (λ b. length (cells_in (axes_of p) b) ≤ 512) (λ b box. let few = (box_cells cells (axes_of p) b s.axes box).few in omega (arith, few, s.few_cells)) boxes boxes_ordered)))
             (omega (arith, one_list_each, few));
       }
 

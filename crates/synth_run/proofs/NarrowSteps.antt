@@ -1,5 +1,5 @@
 -- The step of a narrow plant from the centre of a cell stays in the range.
-use Rattle.std.proofs.Common.{ℕ, zero, suc, ◌*◌, ◌/◌, ◌^◌, ◌<◌, ◌≤◌, List, [], ◌∷◌, All, length, sym, subst, arith}
+use Rattle.std.proofs.Common.{ℕ, zero, suc, ◌*◌, ◌/◌, ◌^◌, ◌<◌, ◌≤◌, List, [], ◌∷◌, All, length, refl, sym, subst, arith}
 use Rattle.std.specs.Prelude.{ℤ, pos, negsuc, nat_abs, neg_ℤ, ◌+ℤ◌, ◌*ℤ◌, ◌≤ℤ◌, ◌<ℤ◌, slice_index_or}
 use Rattle.std.proofs.lemmas.Int.{ints}
 use Rattle.std.proofs.lemmas.List.Elements.{All-from_recursion}
@@ -7,13 +7,12 @@ use Rattle.fixed_expr.specs.Value.{value_of, StaysInRange}
 use Rattle.grid_quantiser.specs.declared.axis.Axis.{Axis}
 use Rattle.grid_quantiser.specs.Axes.{IsAxis, AreAxes, cells_of, end_of}
 use Rattle.grid_quantiser.specs.Cells.{centre_of, radius_of, point_of}
-use Rattle.grid_quantiser.proofs.CellPoints.{point_from_box}
-use Rattle.grid_quantiser.proofs.CentrePoints.{centre_between}
+use Rattle.grid_quantiser.specs.Laws.{CentresAreNear}
 use Rattle.plant_text.specs.Description.{Description, axis_of, axes_of, vectors_of}
 use Rattle.plant_text.specs.Narrow.{NarrowParts, AreNarrowParts, IsNarrow, narrow_description}
 use Rattle.plant_text.specs.Names.{IsLiteral}
 use Rattle.plant_text.specs.Steps.{step_of, StepStaysInRange}
-use Rattle.plant_text.proofs.Axes.{axes_are}
+use Rattle.plant_text.specs.Laws.{NarrowPlantsAreSound}
 use Rattle.synth_run.specs.Boxes.{central_values}
 use Rattle.synth_run.proofs.LeafSums.{IsWithin, sum_value}
 
@@ -24,9 +23,9 @@ only_axis q = axis_of q.state
 pub axis_within : (a : Axis) → AreAxes (a ∷ []) → IsAxis a
 axis_within a axes = axes.each 0 a (omega arith)
 
-pub centre_within : (a : Axis) (c : ℕ) → AreAxes (a ∷ []) → c < cells_of (a ∷ []) → IsWithin 1 ((a.lo +ℤ (a.width *ℤ pos (c / 1))) +ℤ radius_of a)
-centre_within a c axes lt =
-    let point = point_from_box (a ∷ []) c (centre_of (a ∷ []) c) axes.each lt (centre_between (a ∷ []) c axes.each) in
+pub centre_within : CentresAreNear → (a : Axis) (c : ℕ) → AreAxes (a ∷ []) → c < cells_of (a ∷ []) → IsWithin 1 ((a.lo +ℤ (a.width *ℤ pos (c / 1))) +ℤ radius_of a)
+centre_within near a c axes lt =
+    let point = (near (a ∷ []) c axes lt).0 in
     inside ((a.lo +ℤ (a.width *ℤ pos (c / 1))) +ℤ radius_of a) a (axis_within a axes) point.0.0 point.0.1
   where
     inside : (x : ℤ) (a : Axis) → IsAxis a → a.lo ≤ℤ x → x <ℤ end_of a → IsWithin 1 x
@@ -44,14 +43,14 @@ pair_within x v p q zero = p
 pair_within x v p q (suc zero) = q
 pair_within x v p q (suc (suc i)) = omega arith
 
-module _ (q : NarrowParts) (narrow : AreNarrowParts q) (c u : ℕ) (cell : c < cells_of (axes_of (narrow_description q))) (input : u < vectors_of (narrow_description q).inputs) where
+module _ (near : CentresAreNear) (sound : NarrowPlantsAreSound) (q : NarrowParts) (narrow : AreNarrowParts q) (c u : ℕ) (cell : c < cells_of (axes_of (narrow_description q))) (input : u < vectors_of (narrow_description q).inputs) where
   centre : List ℤ
   centre = centre_of (axes_of (narrow_description q)) c
 
   pub value_within : IsWithin narrow.equation.0 (value_of q.equation (central_values (narrow_description q) c u)) × StaysInRange q.equation (central_values (narrow_description q) c u)
   value_within =
       sum_value (central_values (narrow_description q) c u)
-      (pair_within _ _ (centre_within (axis_of q.state) c (axes_are q.state narrow.state) cell) (input_within q.input.values u narrow.input.each input))
+      (pair_within _ _ (centre_within near (axis_of q.state) c (sound (narrow_description q) (q, narrow, refl)).axes cell) (input_within q.input.values u narrow.input.each input))
       q.equation narrow.equation.0 narrow.equation.2 narrow.equation.1
 
   pub stays : (w : List ℤ) → StepStaysInRange (narrow_description q) (point_of (centre_of (axes_of (narrow_description q)) c)) u w
@@ -63,12 +62,12 @@ module _ (q : NarrowParts) (narrow : AreNarrowParts q) (c u : ℕ) (cell : c < c
       few : (n z : ℕ) → n ≤ 64 → z ≤ n * 10 ^ 18 → z ≤ 64 * 10 ^ 18
       few n z p q = omega (arith, p, q)
 
-pub centre_stays : (p : Description) → IsNarrow p → (c u : ℕ) → c < cells_of (axes_of p) → u < vectors_of p.inputs → (w : List ℤ) → StepStaysInRange p (point_of (centre_of (axes_of p) c)) u w
-centre_stays p n c u cell input w =
+pub centre_stays : CentresAreNear → NarrowPlantsAreSound → (p : Description) → IsNarrow p → (c u : ℕ) → c < cells_of (axes_of p) → u < vectors_of p.inputs → (w : List ℤ) → StepStaysInRange p (point_of (centre_of (axes_of p) c)) u w
+centre_stays near sound p n c u cell input w =
     subst (λ (r : Description). c < cells_of (axes_of r) → u < vectors_of r.inputs → StepStaysInRange r (point_of (centre_of (axes_of r) c)) u w) (sym n.2)
-    (λ lc lu. stays n.0 n.1 c u lc lu w) cell input
+    (λ lc lu. stays near sound n.0 n.1 c u lc lu w) cell input
 
-pub centre_bound : (p : Description) → IsNarrow p → (c u : ℕ) → c < cells_of (axes_of p) → u < vectors_of p.inputs → (w : List ℤ) → nat_abs (slice_index_or (point_of (step_of p (point_of (centre_of (axes_of p) c)) u w)) 0 (pos 0)) ≤ 64 * 10 ^ 18
-centre_bound p n c u cell input w =
+pub centre_bound : CentresAreNear → NarrowPlantsAreSound → (p : Description) → IsNarrow p → (c u : ℕ) → c < cells_of (axes_of p) → u < vectors_of p.inputs → (w : List ℤ) → nat_abs (slice_index_or (point_of (step_of p (point_of (centre_of (axes_of p) c)) u w)) 0 (pos 0)) ≤ 64 * 10 ^ 18
+centre_bound near sound p n c u cell input w =
     subst (λ (r : Description). c < cells_of (axes_of r) → u < vectors_of r.inputs → nat_abs (slice_index_or (point_of (step_of r (point_of (centre_of (axes_of r) c)) u w)) 0 (pos 0)) ≤ 64 * 10 ^ 18) (sym n.2)
-    (λ lc lu. first_within n.0 n.1 c u lc lu w) cell input
+    (λ lc lu. first_within near sound n.0 n.1 c u lc lu w) cell input

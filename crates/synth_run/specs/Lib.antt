@@ -12,3 +12,4 @@ pub mod Props
 pub mod Choice
 pub mod Drives
 pub mod Refinement
+pub mod Laws

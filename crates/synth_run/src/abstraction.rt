@@ -14,7 +14,9 @@ use crate::plant_game::PlantGame;
 use crate::sources::sources_of;
 use game_core::Mark;
 use grid_quantiser::CellBox;
+use grid_quantiser::laws::cells_of_a_box;
 use plant_text::Plant;
+use plant_text::laws::narrow_plants_are_sound;
 use std::alloc::{AllocError, Global};
 
 /// The game of a plant, with a box for each pair.
@@ -32,6 +34,8 @@ fn boxed_game(alloc: Global, p: &Plant) -> Result<PlantGame, AllocError>
     requires { IsNarrow p.now }
     ensures { IfOk result (λ g. IsGameOf p.now (played g)) }
 {
+    narrow_plants_are_sound();
+    cells_of_a_box();
     let grid = *p.grid();
     let marks = marks_of(alloc, p)?;
     let boxes = boxes_of(alloc, p)?;

@@ -9,9 +9,11 @@ ghost use Rattle.plant_text.specs.Narrow.{IsNarrow};
 ghost use Rattle.synth_run.specs.Boxes.{area_of, radii_of, central_values, deviation_at};
 ghost use Rattle.synth_run.specs.BoxGame.{IsBoxOf};
 
+use grid_quantiser::laws::centre_is_near;
 use grid_quantiser::{CellBox, Point};
 use growth_bound::deviation;
 use interval_eval::Interval;
+use plant_text::laws::narrow_plants_are_sound;
 use plant_text::{Plant, step};
 
 /// The box of a cell under an input.
@@ -53,6 +55,8 @@ fn next_centre(p: &Plant, c: u32, input: u32) -> i128
     ensures value { map (λ e. value_of e (central_values p.now c input)) p.now.equations ≡ result ∷ [] }
     ensures bound { nat_abs result ≤ 64 * 10 ^ 18 }
 {
+    centre_is_near();
+    narrow_plants_are_sound();
     match step(p, &p.grid().centre(c), input, &[0; 6]) {
         Some(next) => next[0],
         None => unreachable!(),
@@ -67,6 +71,7 @@ fn next_radius(p: &Plant, input: u32) -> i128
     ensures bound { nat_abs result ≤ 64 * 10 ^ 18 }
     ensures some { result ≡ pos (nat_abs result) }
 {
+    narrow_plants_are_sound();
     let area = area_of(p, input);
     let radii = radii_of(p, input);
     match deviation(p.equation(0), &area, &radii) {
@@ -81,6 +86,7 @@ fn area_of(p: &Plant, input: u32) -> [Interval; 2]
     requires input { input < vectors_of p.now.inputs }
     ensures { result ≡ area_of p.now input }
 {
+    narrow_plants_are_sound();
     let grid = p.grid();
     let low = grid.low(0);
     let high = grid.high(grid.cells() - 1);

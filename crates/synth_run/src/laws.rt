@@ -5,22 +5,31 @@ ghost use Rattle.game_core.specs.declared.game.Row.{Row};
 ghost use Rattle.game_core.specs.Game.{Game};
 ghost use Rattle.game_core.specs.Solution.{IsReachSolution};
 ghost use Rattle.plant_text.specs.Description.{Description};
-ghost use Rattle.plant_text.specs.Narrow.{IsNarrow};
 ghost use Rattle.synth_run.specs.Abstraction.{IsGameOf};
-ghost use Rattle.synth_run.specs.TableText.{table_text};
 ghost use Rattle.synth_run.specs.Choice.{AreRowsOf, IsChoice};
+ghost use Rattle.synth_run.specs.Laws.{OneTablePerText};
+
+use game_core::laws::ranks_are_below_the_cells;
+use plant_text::laws::{numbers_are_words, one_plant_at_the_front};
 
 /// No text is the table of two plants, or of one plant with other rows.
 pub fn one_table_per_text()
-    ensures { (p q : Description) (rows others : List (Option Row)) → IsNarrow p → IsNarrow q → AreRowsOf p rows → AreRowsOf q others → table_text p rows ≡ table_text q others → (p ≡ q) × (rows ≡ others) }
-{}
+    ensures { OneTablePerText }
+{
+    numbers_are_words();
+    one_plant_at_the_front();
+}
 
 /// The bytes of a table choose one input at a state.
 pub fn one_choice()
     ensures { (bytes : List ℕ) (x : List ℤ) (u v : ℕ) → IsChoice bytes x u → IsChoice bytes x v → u ≡ v }
-{}
+{
+    one_table_per_text();
+}
 
 /// The rows of the solution of a plant's game fit the plant.
 pub fn solution_fits()
     ensures { (p : Description) (g : Game) (rows : List (Option Row)) → IsGameOf p g → IsReachSolution g rows → AreRowsOf p rows }
-{}
+{
+    ranks_are_below_the_cells();
+}

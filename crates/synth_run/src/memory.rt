@@ -1,6 +1,6 @@
 // Devices in memory.
 
-ghost use Rattle.std.specs.Prelude.{◌≡◌, ◌<◌, ◌≤◌, ◌↔◌, ◌⊎◌, ℕ, List, [], Some, Ok, length, take, min, max, IfOk, IfSome, IsErr, OnErr};
+ghost use Rattle.std.specs.Prelude.{◌≡◌, ◌<◌, ◌≤◌, ◌↔◌, ◌⊎◌, [], Some, Ok, length, take, min, max, IfOk, IfSome, IsErr, OnErr};
 ghost use Rattle.std.specs.List.{Contains};
 ghost use Rattle.synth_run.specs.Devices.{Rose, Takes, Gains};
 ghost use Rattle.synth_run.specs.Memory.{MemoryLeft, MemoryTaken, next_count};

@@ -1,6 +1,4 @@
 // The game of a plant in memory.
-
-ghost use Rattle.std.specs.Prelude.{◌≡◌};
 ghost use Rattle.synth_run.specs.BoxGame.{IsKept};
 ghost use Rattle.synth_run.specs.Props.{box_props};
 

@@ -6,10 +6,14 @@ ghost use Rattle.plant_text.specs.Narrow.{IsNarrowText};
 ghost use Rattle.synth_run.specs.Headline.{IsTableFor};
 
 use crate::abstraction::game_of;
+use crate::laws::{one_table_per_text, solution_fits};
 use crate::memory::NoMemory;
 use crate::table::table_text;
 use game_core::laws::rows_lead_to_goals;
 use game_core::solve_plain;
+use grid_quantiser::laws::centre_is_near;
+use growth_bound::laws::values_move_by_at_most_the_deviation;
+use plant_text::laws::narrow_plants_are_sound;
 use plant_text::{NarrowFault, Plant, read_narrow};
 use std::alloc::Global;
 
@@ -30,8 +34,13 @@ fn table_of_plant(alloc: Global, bytes: &[u8], plant: &Plant) -> Result<Vec<u8>,
     requires { IsNarrowText bytes.now plant.now }
     ensures { IfOk result (λ text. IsTableFor bytes.now text.items) }
 {
-    let game = game_of(alloc, plant)?;
+    centre_is_near();
+    values_move_by_at_most_the_deviation();
     rows_lead_to_goals();
+    solution_fits();
+    one_table_per_text();
+    narrow_plants_are_sound();
+    let game = game_of(alloc, plant)?;
     match solve_plain(alloc, &game) {
         Ok(answer) => table_text(alloc, bytes, &answer),
         Err(_) => Err(NoMemory),

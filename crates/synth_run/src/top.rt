@@ -1,6 +1,4 @@
-ghost use Rattle.std.specs.Prelude.{◌≡◌, ◌≢◌, ◌↔◌, ◌⊎◌, map, IfSome, IfOk, IfErr, OnErr, Err, [], Some};
-ghost use Rattle.plant_text.specs.Description.{Description};
-ghost use Rattle.plant_text.specs.Narrow.{IsNarrowText};
+ghost use Rattle.std.specs.Prelude.{◌≡◌, ◌≢◌, ◌↔◌, map, IfSome, IfOk, IfErr, Err, [], Some};
 ghost use Rattle.synth_run.specs.Devices.{Rose};
 ghost use Rattle.synth_run.specs.Form.{IsOfForm};
 ghost use Rattle.synth_run.specs.declared.form.Form.{Form};

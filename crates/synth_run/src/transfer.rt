@@ -1,6 +1,6 @@
 // Reading a source to its end, and writing a whole text.
 
-ghost use Rattle.std.specs.Prelude.{◌≡◌, ◌≤◌, Ok, IfOk, OnOk, OnErr, Err};
+ghost use Rattle.std.specs.Prelude.{◌≡◌, Ok, IfOk, OnOk, OnErr, Err};
 ghost use Rattle.synth_run.specs.Devices.{Rose, Gains, GainsPart, ReadUpTo};
 ghost use Rattle.synth_run.specs.declared.transfer.ReadFault.TheVariants.{Memory, Device};
 

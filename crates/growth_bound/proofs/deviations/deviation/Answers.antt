@@ -28,4 +28,4 @@ returns-clause-exact c = (c.in_ok-growth.ensures.0, answer c)
 
 pub returns-clause-bounds : goal.returns-clause-bounds
 returns-clause-bounds c =
-    deviation_bounds (expression_of c.args.e.now) c.args.area.now c.args.radii.now (to_z w128 c.in_ok-growth.field-0.deviation) c.requires.well_formed (answer c)
+    deviation_bounds c.values_move_by_at_most_the_deviation.ensures (expression_of c.args.e.now) c.args.area.now c.args.radii.now (to_z w128 c.in_ok-growth.field-0.deviation) c.requires.well_formed (answer c)

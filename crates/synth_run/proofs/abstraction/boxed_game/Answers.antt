@@ -10,10 +10,10 @@ invariant_of-result c =
     let grid = c.grid.ensures in
     record {
       kept = rw (grid, c.vectors.ensures.count)
-          (kept p c.requires c.in_ok-marks.marks.items c.in_ok-boxes.boxes.items c.in_ok-marks.ensures.one_each c.in_ok-marks.ensures.each c.in_ok-boxes.ensures.one_each c.in_ok-boxes.ensures.each c.in_ok-sources.sources.items (rw grid at c.in_ok-sources.ensures.one_each) (rw (grid, c.deref.ensures.value) at c.in_ok-sources.ensures.each));
+          (kept c.narrow_plants_are_sound.ensures c.cells_of_a_box.ensures p c.requires c.in_ok-marks.marks.items c.in_ok-boxes.boxes.items c.in_ok-marks.ensures.one_each c.in_ok-marks.ensures.each c.in_ok-boxes.ensures.one_each c.in_ok-boxes.ensures.each c.in_ok-sources.sources.items (rw grid at c.in_ok-sources.ensures.one_each) (rw (grid, c.deref.ensures.value) at c.in_ok-sources.ensures.each));
     }
 
 pub returns : goal.returns
 returns c =
     let p = c.args.p.now in
-    rw (c.grid.ensures, c.vectors.ensures.count) (is_game_of p c.requires c.in_ok-marks.marks.items c.in_ok-boxes.boxes.items c.in_ok-marks.ensures.one_each c.in_ok-marks.ensures.each c.in_ok-boxes.ensures.one_each c.in_ok-boxes.ensures.each)
+    rw (c.grid.ensures, c.vectors.ensures.count) (is_game_of c.narrow_plants_are_sound.ensures c.cells_of_a_box.ensures p c.requires c.in_ok-marks.marks.items c.in_ok-boxes.boxes.items c.in_ok-marks.ensures.one_each c.in_ok-marks.ensures.each c.in_ok-boxes.ensures.one_each c.in_ok-boxes.ensures.each)

@@ -11,4 +11,4 @@ returns c =
     let high : FitsSigned w128 (get_or c.high-high.result 0 (pos 0)) = search rules in
     let value : FitsSigned w128 c.input_value-value.result = search rules in
     rw (to_z-of_z w128 (get_or c.low-low.result 0 (pos 0)) low, to_z-of_z w128 (get_or c.high-high.result 0 (pos 0)) high, to_z-of_z w128 c.input_value-value.result value, c.low-low.ensures, c.high-high.ensures, c.cells.ensures.count, c.grid-grid.ensures, c.input_value-value.ensures)
-    (area_is c.args.p.now c.requires.narrow c.args.input)
+    (area_is c.narrow_plants_are_sound.ensures c.args.p.now c.requires.narrow c.args.input)

@@ -1,0 +1,5 @@
+use Rattle.plant_text.proofs.Bytes.{number_word}
+use Rattle.plant_text.proofs.laws.numbers_are_words.Goals as goal
+
+pub returns : goal.returns
+returns c = number_word
