@@ -1,6 +1,6 @@
 // The standard streams as devices. They tell nothing of their bytes; each counts its faults.
 
-ghost use Rattle.std.specs.Prelude.{None};
+ghost use Rattle.std.specs.Prelude.{◌≡◌, None};
 
 use std::io::{Read, Stderr, Stdin, Stdout, Write};
 use synth_run::{Failed, Sink, Source};
@@ -29,13 +29,17 @@ pub type StdSink = WriterSink<Stdout>;
 pub type StdErrSink = WriterSink<Stderr>;
 
 impl<R> ReaderSource<R> {
-    pub fn new(reader: R) -> ReaderSource<R> {
+    pub(crate) fn new(reader: R) -> ReaderSource<R>
+        ensures { result ≡ record { reader = reader; faults = 0 } }
+    {
         ReaderSource { reader, faults: 0 }
     }
 }
 
 impl<W> WriterSink<W> {
-    pub fn new(writer: W) -> WriterSink<W> {
+    pub(crate) fn new(writer: W) -> WriterSink<W>
+        ensures { result ≡ record { writer = writer; faults = 0 } }
+    {
         WriterSink { writer, faults: 0 }
     }
 }

@@ -18,7 +18,7 @@ use Rattle.plant_text.specs.Narrow.{NarrowParts, AreNarrowParts, IsNarrow, narro
 use Rattle.plant_text.specs.Laws.{IsWhole, NarrowPlantsAreSound}
 use Rattle.synth_run.specs.Boxes.{area_of, radii_of, deviation_at}
 use Rattle.synth_run.proofs.LeafSums.{IsWithin, EndsWithin, no_interval, sum_span, sum_deviation}
-use Rattle.synth_run.proofs.NarrowSteps.{input_within, axis_within}
+use Rattle.synth_run.proofs.NarrowSteps.{input_within, axis_within, few}
 
 -- what the equation of a narrow plant is, and how far it moves
 pub record IsMoved (p : Description) (u : ℕ) (e : Expression) : Type 0 where
@@ -44,9 +44,6 @@ pair_radii : (r : ℤ) → IsWithin 1 r → (i : ℕ) → IsWithin 1 (get_or (r 
 pair_radii r p zero = p
 pair_radii r p (suc zero) = omega arith
 pair_radii r p (suc (suc i)) = omega arith
-
-few : (n d : ℕ) → n ≤ 64 → d ≤ n * 10 ^ 18 → d ≤ 64 * 10 ^ 18
-few n d p q = omega (arith, p, q)
 
 module _ (sound : NarrowPlantsAreSound) (q : NarrowParts) (narrow : AreNarrowParts q) (u : ℕ) (input : u < vectors_of (narrow_description q).inputs) where
   narrow_moved : IsMoved (narrow_description q) u q.equation

@@ -16,10 +16,6 @@ use Rattle.plant_text.specs.Laws.{NarrowPlantsAreSound}
 use Rattle.synth_run.specs.Boxes.{central_values}
 use Rattle.synth_run.proofs.LeafSums.{IsWithin, sum_value}
 
--- the axis of the one state
-pub only_axis : NarrowParts → Axis
-only_axis q = axis_of q.state
-
 pub axis_within : (a : Axis) → AreAxes (a ∷ []) → IsAxis a
 axis_within a axes = axes.each 0 a (omega arith)
 
@@ -37,6 +33,10 @@ centre_within near a c axes lt =
 
 pub input_within : (values : List ℤ) (u : ℕ) → All IsLiteral values → u < length values * 1 → IsWithin 1 (slice_index_or values (u / 1) (pos 0))
 input_within values u each lt = let literal : nat_abs (slice_index_or values (u / 1) (pos 0)) < 10 ^ 18 = each (u / 1) (pos 0) (omega arith) in omega (arith, literal)
+
+-- at most 64 numbers are within 64 times their bound
+pub few : (n z : ℕ) → n ≤ 64 → z ≤ n * 10 ^ 18 → z ≤ 64 * 10 ^ 18
+few n z p q = omega (arith, p, q)
 
 pair_within : (x v : ℤ) → IsWithin 1 x → IsWithin 1 v → (i : ℕ) → IsWithin 1 (slice_index_or (x ∷ v ∷ []) i (pos 0))
 pair_within x v p q zero = p
@@ -58,9 +58,6 @@ module _ (near : CentresAreNear) (sound : NarrowPlantsAreSound) (q : NarrowParts
 
   pub first_within : (w : List ℤ) → nat_abs (slice_index_or (point_of (step_of (narrow_description q) (point_of (centre_of (axes_of (narrow_description q)) c)) u w)) 0 (pos 0)) ≤ 64 * 10 ^ 18
   first_within w = few narrow.equation.0 (nat_abs (value_of q.equation (central_values (narrow_description q) c u))) narrow.equation.1 value_within.0
-    where
-      few : (n z : ℕ) → n ≤ 64 → z ≤ n * 10 ^ 18 → z ≤ 64 * 10 ^ 18
-      few n z p q = omega (arith, p, q)
 
 pub centre_stays : CentresAreNear → NarrowPlantsAreSound → (p : Description) → IsNarrow p → (c u : ℕ) → c < cells_of (axes_of p) → u < vectors_of p.inputs → (w : List ℤ) → StepStaysInRange p (point_of (centre_of (axes_of p) c)) u w
 centre_stays near sound p n c u cell input w =

@@ -1,8 +1,7 @@
 -- The lines of a table, one more row at a time.
-use Rattle.std.proofs.Common.{◌≡◌, ℕ, true, false, zero, suc, ◌+◌, List, [], ◌∷◌, ◌++◌, take, Option, Some, None, refl, sym, ap, ◌∙◌, append_assoc, arith, add-one, subst}
+use Rattle.std.proofs.Common.{◌≡◌, ℕ, true, false, zero, suc, ◌+◌, List, [], ◌∷◌, ◌++◌, take, Option, Some, None, refl, sym, ap, ◌∙◌, append_assoc, arith, add-one}
 use Rattle.std.proofs.lemmas.List.{append-nil}
-use Rattle.std.specs.Prelude.{codes, Result, Ok, Err, IfOk}
-use Rattle.std.specs.Result.{MatchResult, is_ok}
+use Rattle.std.specs.Prelude.{codes}
 use Rattle.std.specs.Option.{is_some}
 use Rattle.std.specs.Fmt.{decimal}
 use Rattle.game_core.specs.declared.game.Row.{Row}
@@ -78,9 +77,3 @@ whole_text plant rows text written p spelled =
     written
     ∙ ap (λ (x : List ℕ). parts_of x rows) spelled
     ∙ seven_parts (codes "table 1\n") (text_of p) (codes "rows ") (decimal (row_count rows)) (codes "\n") (row_lines 0 rows) (codes "end\n")
-
--- a result whose error alone was changed
-pub error_changed : {A E F : Type 0} (a : Result A E) (b : Result A F) (P R : A → Type 0) (Q : E → Type 0) → MatchResult a (λ x. b ≡ Ok x) Q → is_ok b ≡ is_ok a → ((x : A) → P x → R x) → IfOk a P → IfOk b R
-error_changed (Ok x) b P R Q same variant weaker given = subst (λ r. IfOk r R) (sym same) (weaker x given)
-error_changed (Err e) (Ok y) P R Q same variant weaker given = absurd (cc)
-error_changed (Err e) (Err f) P R Q same variant weaker given = tt

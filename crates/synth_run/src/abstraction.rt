@@ -24,16 +24,6 @@ pub fn game_of(alloc: Global, p: &Plant) -> Result<PlantGame, NoMemory>
     requires { IsNarrow p.now }
     ensures { IfOk result (λ g. IsGameOf p.now (played g)) }
 {
-    match boxed_game(alloc, p) {
-        Ok(game) => Ok(game),
-        Err(_) => Err(NoMemory),
-    }
-}
-
-fn boxed_game(alloc: Global, p: &Plant) -> Result<PlantGame, AllocError>
-    requires { IsNarrow p.now }
-    ensures { IfOk result (λ g. IsGameOf p.now (played g)) }
-{
     narrow_plants_are_sound();
     cells_of_a_box();
     let grid = *p.grid();

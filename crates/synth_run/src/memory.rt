@@ -6,12 +6,18 @@ ghost use Rattle.synth_run.specs.Devices.{Rose, Takes, Gains};
 ghost use Rattle.synth_run.specs.Memory.{MemoryLeft, MemoryTaken, next_count};
 
 use crate::devices::{Failed, Sink, Source};
-use std::alloc::Global;
+use std::alloc::{AllocError, Global};
 use std::marker::Model;
 
 /// There was no memory left.
 #[derive(Clone, Copy, Debug, PartialEq, Eq)]
 pub struct NoMemory;
+
+impl From<AllocError> for NoMemory {
+    fn from(_refused: AllocError) -> NoMemory {
+        NoMemory
+    }
+}
 
 /// A source over bytes in memory, of which chosen calls fail.
 #[derive(Drop)]
@@ -112,17 +118,14 @@ impl MemorySink {
     ) -> Result<MemorySink, NoMemory>
         ensures { IfOk result (λ s. s ≡ record { got = []; room = room; at_once = at_once; calls = 0; fails = fails.items; faults = 0 }) }
     {
-        match Vec::with_capacity(alloc, room) {
-            Ok(got) => Ok(MemorySink {
-                got,
-                room,
-                at_once,
-                calls: 0,
-                fails,
-                faults: 0,
-            }),
-            Err(_) => Err(NoMemory),
-        }
+        Ok(MemorySink {
+            got: Vec::with_capacity(alloc, room)?,
+            room,
+            at_once,
+            calls: 0,
+            fails,
+            faults: 0,
+        })
     }
 
     /// What was taken.

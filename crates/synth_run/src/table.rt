@@ -16,7 +16,7 @@ use std::alloc::{AllocError, Global};
 pub fn table_text(alloc: Global, plant: &[u8], answer: &Answer) -> Result<Vec<u8>, NoMemory>
     ensures { IfOk result (λ text. (p : Description) → plant.now ≡ text_of p → text.items ≡ table_text p answer.now) }
 {
-    written(alloc, plant, answer).map_err(|_| NoMemory)
+    Ok(written(alloc, plant, answer)?)
 }
 
 fn written(alloc: Global, plant: &[u8], answer: &Answer) -> Result<Vec<u8>, AllocError>

@@ -1,5 +1,5 @@
 use Rattle.synth_run.proofs.NarrowGame.{ordered, kept, is_game_of}
-use Rattle.synth_run.proofs.abstraction.boxed_game.Goals as goal
+use Rattle.synth_run.proofs.abstraction.game_of.Goals as goal
 
 pub sources_of-requires-clause-ordered : goal.sources_of-requires-clause-ordered
 sources_of-requires-clause-ordered c = rw (c.grid.ensures, c.deref.ensures.value) (ordered c.args.p.now _ c.in_ok-boxes.ensures.each)
