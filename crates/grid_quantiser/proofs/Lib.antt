@@ -11,3 +11,7 @@ pub mod BoxCells
 pub mod BetweenCells
 pub mod MeetingCells
 pub mod CentrePoints
+pub mod Turning
+pub mod RunSteps
+pub mod BoxRuns
+pub mod WheelsMade

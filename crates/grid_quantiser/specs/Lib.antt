@@ -4,4 +4,6 @@ pub mod Boxes
 pub mod Grid
 pub mod Kept
 pub mod Spots
+pub mod Runs
+pub mod RunFields
 pub mod Laws

@@ -1,6 +1,10 @@
 //! What holds of every grid's cells.
 
+ghost use Rattle.std.specs.Prelude.{◌^◌, ◌≤◌};
+ghost use Rattle.grid_quantiser.specs.Axes.{cells_of, AreAxes};
 ghost use Rattle.grid_quantiser.specs.Laws.{CellsAreBoxes, CentresAreNear, StatesHaveCells, BoxesHaveCells};
+
+use crate::grid::Grid;
 
 /// The points of a cell are those from its least point to its greatest.
 pub fn points_of_a_cell()
@@ -21,3 +25,11 @@ pub fn every_state_has_a_cell()
 pub fn cells_of_a_box()
     ensures { BoxesHaveCells }
 {}
+
+/// Every `Grid` has axes, and is within the limit on cells.
+pub fn every_grid_is_within_the_limit(grid: &Grid)
+    ensures axes { AreAxes grid.now }
+    ensures limit { cells_of grid.now ≤ 2 ^ 20 }
+{
+    let _axes = grid.axes();
+}

@@ -11,9 +11,11 @@ mod boxes;
 mod cells;
 mod grid;
 pub mod laws;
+mod runs;
 #[cfg(test)]
 mod tests;
 
 pub use axis::Axis;
 pub use boxes::CellBox;
 pub use grid::{Grid, Point, TooManyCells};
+pub use runs::Runs;

@@ -114,6 +114,41 @@ fn six_states(rt: HostRuntime) {
 }
 
 #[test]
+fn runs_of_two_states(rt: HostRuntime) {
+    let grid = grid_of(&rt, &PLANE);
+    // Places 3 and 4 by 0 and 1: cells 12, 13, 16 and 17.
+    let mut runs = grid.runs(CellBox {
+        first: 12,
+        last: 17,
+    });
+    assert_eq!(rt; runs.next_run(), Some((12, 2)));
+    assert_eq!(rt; runs.next_run(), Some((16, 2)));
+    assert_eq!(rt; runs.next_run(), None);
+    assert_eq!(rt; runs.next_run(), None);
+}
+
+#[test]
+fn runs_of_three_states(rt: HostRuntime) {
+    let axis = Axis {
+        lo: 0,
+        width: 2,
+        count: 3,
+    };
+    let grid = grid_of(&rt, &[axis, axis, axis]);
+    // Places 0 and 1 by 1 and 2 by 0 to 2.
+    let mut runs = grid.runs(CellBox { first: 3, last: 17 });
+    for run in [
+        Some((3, 3)),
+        Some((6, 3)),
+        Some((12, 3)),
+        Some((15, 3)),
+        None,
+    ] {
+        assert_eq!(rt; runs.next_run(), run);
+    }
+}
+
+#[test]
 fn too_many_cells(rt: HostRuntime) {
     let axis = Axis {
         lo: 0,

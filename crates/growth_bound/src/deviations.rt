@@ -1,7 +1,7 @@
 ghost use Rattle.std.specs.Prelude.{◌≡◌, pos, ◌≤ℤ◌, ℤ, List, length, All, SomeIff, IfSome};
 ghost use Rattle.fixed_expr.specs.Expression.{expression_of};
 ghost use Rattle.fixed_expr.specs.Value.{IsWellFormed, value_of};
-ghost use Rattle.interval_eval.specs.Span.{AreIn, SpanStaysInRange};
+ghost use Rattle.interval_eval.specs.Span.{AreIn, SpanStaysInRange, span_of};
 ghost use Rattle.growth_bound.specs.Deviation.{IsNear, AreNear, DeviationStaysInRange, deviation_of};
 ghost use Rattle.growth_bound.specs.Growth.{growth_of};
 
@@ -25,7 +25,20 @@ pub fn deviation(e: &Expr, area: &[Interval], radii: &[i128]) -> Option<i128>
         IsNear d (value_of (expression_of e.now) xs) (value_of (expression_of e.now) ys)) }
 {
     values_move_by_at_most_the_deviation();
-    Some(growth(e, area, radii)?.deviation as i128)
+    Some(span_and_deviation(e, area, radii)?.1)
+}
+
+/// The span of an expression beside its deviation, found together.
+pub fn span_and_deviation(e: &Expr, area: &[Interval], radii: &[i128]) -> Option<(Interval, i128)>
+    requires well_formed { IsWellFormed (expression_of e.now) (length area.now) }
+    requires one_for_each { length radii.now ≡ length area.now }
+    ensures { SomeIff result
+        (SpanStaysInRange (expression_of e.now) area.now
+        × DeviationStaysInRange (expression_of e.now) area.now radii.now)
+        (span_of (expression_of e.now) area.now, pos (deviation_of (expression_of e.now) area.now radii.now)) }
+{
+    let found = growth(e, area, radii)?;
+    Some((found.span, found.deviation as i128))
 }
 
 fn growth(e: &Expr, area: &[Interval], radii: &[i128]) -> Option<Growth>

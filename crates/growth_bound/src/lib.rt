@@ -12,4 +12,4 @@ pub mod laws;
 #[cfg(test)]
 mod tests;
 
-pub use deviations::deviation;
+pub use deviations::{deviation, span_and_deviation};

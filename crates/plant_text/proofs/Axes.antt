@@ -1,13 +1,16 @@
--- The grid of one state.
-use Rattle.std.proofs.Common.{◌≡◌, ℕ, zero, suc, ◌*◌, ◌/◌, ◌%◌, ◌^◌, ◌<◌, ◌≤◌, [], ◌∷◌, refl, arith}
-use Rattle.std.specs.Prelude.{ℤ, pos, negsuc, neg_ℤ, nat_abs, ◌+ℤ◌, ◌-ℤ◌, ◌*ℤ◌, ◌≤ℤ◌, ◌<ℤ◌}
+-- The grid of the states.
+use Rattle.std.proofs.Common.{◌≡◌, ℕ, zero, suc, ◌*◌, ◌/◌, ◌%◌, ◌^◌, ◌<◌, ◌≤◌, List, length, take, refl, sym, ap, ◌∙◌, arith}
+use Rattle.std.specs.Prelude.{ℤ, pos, negsuc, neg_ℤ, nat_abs, map, ◌+ℤ◌, ◌-ℤ◌, ◌*ℤ◌, ◌≤ℤ◌, ◌<ℤ◌}
 use Rattle.std.proofs.lemmas.Int.{ints}
-use Rattle.std.proofs.lemmas.List.Elements.{All-from_recursion}
+use Rattle.std.specs.List.{All}
+use Rattle.std.proofs.lemmas.List.{length-map, take_all}
+use Rattle.std.proofs.lemmas.List.Elements.{All-map, All-weaker}
+use Rattle.grid_quantiser.specs.declared.axis.Axis.{Axis}
 use Rattle.grid_quantiser.specs.Axes.{IsAxis, AreAxes, end_of}
 use Rattle.plant_text.specs.declared.variables.StateVariable.{StateVariable}
 use Rattle.plant_text.specs.Names.{IsLiteral}
 use Rattle.plant_text.specs.Description.{axis_of}
-use Rattle.plant_text.specs.Narrow.{IsStateVariable}
+use Rattle.plant_text.specs.Variables.{IsStateVariable}
 
 -- a number of at least 0 is its absolute value
 pub positive : (z : ℤ) → pos 0 ≤ℤ z → z ≡ pos (nat_abs z)
@@ -52,5 +55,13 @@ axis_is s h =
       high_bound = rw (end_is s h) (omega (arith, ints, (literal_bounds s.high h.high).1));
     }
 
-pub axes_are : (s : StateVariable) → IsStateVariable s → AreAxes (axis_of s ∷ [])
-axes_are s h = record { some_state = omega arith; states_bound = omega arith; each = All-from_recursion IsAxis (axis_of s ∷ []) (axis_is s h, tt) }
+pub axes_are : (states : List StateVariable) → 1 ≤ length states → length states ≤ 6 → All IsStateVariable states → AreAxes (map axis_of states)
+axes_are states some few each = record {
+  some_state = omega (arith, some, length-map states axis_of);
+  states_bound = omega (arith, few, length-map states axis_of);
+  each = All-map IsAxis axis_of states (All-weaker IsStateVariable (λ s. IsAxis (axis_of s)) axis_is states each);
+}
+
+pub axes_made : (states : List StateVariable) (axes : List Axis) (i : ℕ) → i ≡ length states → take i axes ≡ map axis_of (take i states) → take (length states) axes ≡ map axis_of states
+axes_made states axes i all made =
+    ap (λ n. take n axes) (sym all) ∙ made ∙ ap (map axis_of) (take_all i states (omega (arith, all)))

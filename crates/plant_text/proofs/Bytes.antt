@@ -42,7 +42,7 @@ digit_bytes (b ∷ w) h =
 is_digit_of : (n : ℕ) → n < 10 → is_digit (48 + n) ≡ true
 is_digit_of n lt = and_from (leb 48 (48 + n)) (leb (48 + n) 57) (le-leb _ _ (omega arith)) (le-leb _ _ (omega arith))
 
-decimal_digits : (n : ℕ) → n < 2 ^ 64 → list_all is_digit (decimal n) ≡ true
+pub decimal_digits : (n : ℕ) → n < 2 ^ 64 → list_all is_digit (decimal n) ≡ true
 decimal_digits =
     decimal_by_steps (λ n ds. list_all is_digit ds ≡ true)
     (λ n lt. and_from (is_digit (48 + n)) true (is_digit_of n lt) refl)
@@ -52,7 +52,7 @@ pub number_word : (z : ℤ) → IsLiteral z → is_word (signed_decimal z) ≡ t
 number_word (pos n) lt = digit_bytes (decimal n) (decimal_digits n (omega arith))
 number_word (negsuc n) lt = digit_bytes (decimal (suc n)) (decimal_digits (suc n) (omega arith))
 
-first_digit : (w : List ℕ) → list_all is_digit w ≡ true → 0 < length w → is_digit (get_or w 0 0) ≡ true
+pub first_digit : (w : List ℕ) → list_all is_digit w ≡ true → 0 < length w → is_digit (get_or w 0 0) ≡ true
 first_digit [] h some = absurd (omega (arith, some))
 first_digit (b ∷ w) h some = (and_parts (is_digit b) (list_all is_digit w) h).0
 

@@ -1,93 +1,161 @@
--- The text of a narrow plant at the front of a longer text: it is read, and what follows it is left.
-use Rattle.std.proofs.Common.{◌≡◌, ℕ, List, [], ◌∷◌, ◌++◌, Option, Some, refl, sym, ap, ◌∙◌, append_assoc, append-nil}
-use Rattle.std.specs.Prelude.{ℤ, codes, map}
-use Rattle.std.specs.List.{join_with_byte}
-use Rattle.std.specs.Fmt.{signed_decimal}
-use Rattle.plant_text.specs.Description.{Description}
-use Rattle.plant_text.specs.CanonicalText.{text_of, expression_text}
-use Rattle.plant_text.specs.Narrow.{NarrowParts, AreNarrowParts, IsNarrow, IsEnds, narrow_description}
-use Rattle.plant_text.specs.Reading.{◌>>=◌, behind, state_at, input_at, equation_at, target_at}
-use Rattle.plant_text.proofs.ManyNumbers.{numbers_text}
-use Rattle.plant_text.proofs.Leaves.{AreNames}
-use Rattle.plant_text.proofs.Lines.{state_text, state_again, input_text, input_again, target_text, target_again, equation_text, equation_again}
+-- No text starts with the canonical texts of two plants.
+use Rattle.std.proofs.Common.{inl, inr, ◌≡◌, ◌⊎◌, ℕ, true, false, List, [], ◌∷◌, ◌++◌, refl, sym, ap, ◌∙◌, append_assoc, append-nil, subst}
+use Rattle.std.specs.Prelude.{codes, length}
+use Rattle.std.proofs.lemmas.List.{append_cancel_left}
+use Rattle.std.specs.List.{flat_map}
+use Rattle.plant_text.specs.Description.{Description, names_of}
+use Rattle.plant_text.specs.CanonicalText.{text_of, line, state_line, input_line, noise_line, equation_lines, box_line, goal_word}
+use Rattle.plant_text.specs.Plants.{IsPlant}
+use Rattle.plant_text.specs.Words.{lines_of, words_of}
+use Rattle.plant_text.specs.Statements.{Statement, Version, State, Input, Noise, Next, Target, Obstacle, Goal, End}
+use Rattle.plant_text.specs.Grammar.{Part, nothing_yet, names_in, FitsAfter, extended, Extends, Leads, Reads, Spells}
+use Rattle.plant_text.specs.PartRules.{KeepsRules}
+use Rattle.plant_text.specs.PartLaws.{OneStatement, PassedOverStatesNothing}
+use Rattle.plant_text.specs.Laws.{CanonicalTextsSpell, OnePlantAtTheFront}
+use Rattle.plant_text.proofs.LineEnds.{HasFirst, some_line, lines_then}
+use Rattle.plant_text.proofs.PartRules.{rules_of_nothing, rules_led}
+use Rattle.plant_text.proofs.Leading.{led_apart, read_once, one_plant}
 
--- the parts of the plant at the front, and what follows its text
-unfoldable front_of : List ℕ → Option (NarrowParts × List ℕ)
-front_of bytes = do
-  b0 ← behind (codes "plant 1\nstate ") bytes
-  state ← state_at b0
-  b1 ← behind (codes "\ninput ") state.1
-  input ← input_at b1
-  b2 ← behind (codes "\nnext ") input.1
-  equation ← equation_at state.0.name input.0.name b2
-  b3 ← behind (codes "\ntarget ") equation.1
-  target ← target_at b3
-  b4 ← behind (codes "\ngoal reach\nend\n") target.1
-  Some (record { state = state.0; input = input.0; equation = equation.0; target = target.0 }, b4)
+-- ---- lists
 
--- the text of a narrow plant and what follows, from left to right
-abbrev front_text : NarrowParts → ℤ → ℤ → List ℕ → List ℕ
-front_text q low high rest =
-    codes "plant 1\nstate "
-    ++ state_text q.state
-    (codes "\ninput "
-    ++ input_text q.input
-    (codes "\nnext "
-    ++ equation_text q.state.name q.input.name q.equation
-    (codes "\ntarget " ++ target_text low high (codes "\ngoal reach\nend\n" ++ rest))))
+-- one of two texts at one front is the front of the other
+pub record IsLonger (xs ys rest others : List ℕ) : Type 0 where
+  pub more : List ℕ
+  pub longer : ys ≡ xs ++ more
+  pub after : rest ≡ more ++ others
 
-numbers_joined : (name : List ℕ) (zs : List ℤ) → join_with_byte 32 (name ∷ map signed_decimal zs) ≡ name ++ numbers_text zs
-numbers_joined name [] = sym (append-nil name)
-numbers_joined name (z ∷ zs) = ap (λ (x : List ℕ). name ++ (32 ∷ x)) (numbers_joined (signed_decimal z) zs)
+shorter_first : (xs ys rest others : List ℕ) → xs ++ rest ≡ ys ++ others → IsLonger xs ys rest others ⊎ IsLonger ys xs others rest
+shorter_first [] ys rest others e = inl (record { more = ys; longer = refl; after = e })
+shorter_first (x ∷ xs) [] rest others e = inr (record { more = x ∷ xs; longer = refl; after = sym e })
+shorter_first (x ∷ xs) (y ∷ ys) rest others e =
+    let head : x ≡ y = (let h = e in cc) in
+    let tail : xs ++ rest ≡ ys ++ others = (let h = e in cc) in
+    elim (shorter_first xs ys rest others tail) [
+      | inl l ↦ inl (record { more = l.more; longer = ap (λ (z : ℕ). z ∷ ys) (sym head) ∙ ap (λ (z : List ℕ). x ∷ z) l.longer; after = l.after })
+      | inr l ↦ inr (record { more = l.more; longer = ap (λ (z : ℕ). z ∷ xs) head ∙ ap (λ (z : List ℕ). y ∷ z) l.longer; after = l.after })
+    ]
 
--- the lines one after the other, and the same text from left to right
-regrouped : (first state input next target goal end sp eq nl n a b c i e l h rest : List ℕ)
-    → (first
-    ++ (((state ++ (sp ++ (n ++ (sp ++ (a ++ (sp ++ (b ++ (sp ++ c)))))))) ++ nl) ++ [])
-    ++ (((input ++ (sp ++ i)) ++ nl) ++ [])
-    ++ []
-    ++ (((next ++ (sp ++ (n ++ (sp ++ (eq ++ (sp ++ e)))))) ++ nl) ++ [])
-    ++ (((target ++ (sp ++ (l ++ (sp ++ h)))) ++ nl) ++ [])
-    ++ []
-    ++ goal
-    ++ end
-    ++ rest)
-    ≡ (first ++ (state ++ (sp ++ (n ++ (sp ++ (a ++ (sp ++ (b ++ (sp ++ (c ++ (nl ++ (input ++ (sp ++ (i ++ (nl ++ (next ++ (sp ++ (n ++ (sp ++ (eq ++ (sp ++ (e ++ (nl ++ (target ++ (sp ++ (l ++ (sp ++ (h ++ (nl ++ (goal ++ (end ++ rest)))))))))))))))))))))))))))))))
-regrouped first state input next target goal end sp eq nl n a b c i e l h rest = simp (append_assoc, append-nil)
+-- the last of a list that isn't empty
+pub record HasLast (xs : List (List ℕ)) : Type 0 where
+  pub front : List (List ℕ)
+  pub last : List ℕ
+  pub are : xs ≡ front ++ last ∷ []
 
-front_is : (q : NarrowParts) (low high : ℤ) (rest : List ℕ) → IsEnds q.target low high → text_of (narrow_description q) ++ rest ≡ front_text q low high rest
-front_is q low high rest ends =
-    rw (ends.low_end, ends.high_end, numbers_joined q.input.name q.input.values)
-    (regrouped (codes "plant 1\n") (codes "state") (codes "input") (codes "next") (codes "target") (codes "goal reach\n") (codes "end\n") (codes " ") (codes "=") (codes "\n") q.state.name (signed_decimal q.state.low) (signed_decimal q.state.high) (signed_decimal q.state.width) (q.input.name ++ numbers_text q.input.values) (expression_text (q.state.name ∷ q.input.name ∷ []) 1 q.equation) (signed_decimal low) (signed_decimal high) rest
-    ∙ ap (λ (x : List ℕ). codes "plant 1\nstate " ++ state_text q.state (codes "\ninput " ++ x)) (append_assoc q.input.name (numbers_text q.input.values) _))
+last_of : (x : List ℕ) (xs : List (List ℕ)) → HasLast (x ∷ xs)
+last_of x [] = record { front = []; last = x; are = refl }
+last_of x (y ∷ xs) = let more = last_of y xs in record { front = x ∷ more.front; last = more.last; are = ap (λ (z : List (List ℕ)). x ∷ z) more.are }
 
-front_again : (q : NarrowParts) (low high : ℤ) (rest : List ℕ) → AreNarrowParts q → IsEnds q.target low high → front_of (front_text q low high rest) ≡ Some (q, rest)
-unfolding front_of
-front_again q low high rest narrow ends =
-    let after3 : List ℕ = codes "\ngoal reach\nend\n" ++ rest in
-    let after2 : List ℕ = codes "\ntarget " ++ target_text low high after3 in
-    let after1 : List ℕ = codes "\nnext " ++ equation_text q.state.name q.input.name q.equation after2 in
-    let after0 : List ℕ = codes "\ninput " ++ input_text q.input after1 in
-    let names : AreNames q.state.name q.input.name = record { first = narrow.state.name; second = narrow.input.name; differ = narrow.names_differ } in
-    rw (
-      state_again q.state after0 narrow.state.name narrow.state.low narrow.state.high narrow.state.width refl,
-      input_again q.input (codes "next " ++ equation_text q.state.name q.input.name q.equation after2) narrow.input,
-      equation_again q.state.name q.input.name q.equation narrow.equation.0 (codes "target " ++ target_text low high after3) names narrow.equation.2 narrow.equation.1,
-      target_again q.target low high after3 ends refl,
-    ) refl
+same_last : (xs ys : List (List ℕ)) (x y : List ℕ) → xs ++ x ∷ [] ≡ ys ++ y ∷ [] → x ≡ y
+same_last [] [] x y e = cc
+same_last [] (z ∷ []) x y e = absurd (let h = e in cc)
+same_last [] (z ∷ w ∷ ys) x y e = absurd (let h = e in cc)
+same_last (z ∷ []) [] x y e = absurd (let h = e in cc)
+same_last (z ∷ w ∷ xs) [] x y e = absurd (let h = e in cc)
+same_last (z ∷ xs) (w ∷ ys) x y e = same_last xs ys x y (let h = e in cc)
 
-reads_front : (p : Description) (n : IsNarrow p) (rest : List ℕ) → front_of (text_of p ++ rest) ≡ Some (n.0, rest)
-reads_front p n rest =
-    let target = n.1.target in
-    ap (λ (d : Description). front_of (text_of d ++ rest)) n.2
-    ∙ ap front_of (front_is n.0 target.0 target.1 rest target.2)
-    ∙ front_again n.0 target.0 target.1 rest n.1 target.2
+-- ---- the last line
 
-some_pair : (a b : NarrowParts × List ℕ) → Some a ≡ Some b → a ≡ b
-some_pair a b e = cc
+-- the canonical text up to the line feed before its last line
+abbrev before_end : Description → List ℕ
+before_end p =
+    line (codes "plant" ∷ codes "1" ∷ [])
+    ++ (flat_map state_line p.states
+    ++ (flat_map input_line p.inputs
+    ++ (flat_map noise_line p.noises
+    ++ (equation_lines (names_of p) p.states p.equations
+    ++ (flat_map (box_line (codes "target") (length p.states)) p.targets
+    ++ (flat_map (box_line (codes "obstacle") (length p.states)) p.obstacles ++ (codes "goal " ++ goal_word p.goal)))))))
 
--- two narrow plants at the front of one text are one, and so is what follows them
-pub one_front : (p q : Description) (s t : List ℕ) → IsNarrow p → IsNarrow q → text_of p ++ s ≡ text_of q ++ t → (p ≡ q) × (s ≡ t)
-one_front p q s t m n e =
-    let same : (m.0, s) ≡ (n.0, t) = some_pair (m.0, s) (n.0, t) (sym (reads_front p m s) ∙ ap front_of e ∙ reads_front q n t) in
-    (m.2 ∙ ap narrow_description (ap (λ (x : NarrowParts × List ℕ). x.0) same) ∙ sym n.2, ap (λ (x : NarrowParts × List ℕ). x.1) same)
+nine_parts : (a b c d e f g h nl end : List ℕ) → a ++ b ++ c ++ d ++ e ++ f ++ g ++ (h ++ nl) ++ end ≡ ((a ++ (b ++ (c ++ (d ++ (e ++ (f ++ (g ++ h))))))) ++ nl) ++ end
+nine_parts a b c d e f g h nl end = simp append_assoc
+
+text_is : (p : Description) → text_of p ≡ (before_end p ++ 10 ∷ []) ++ codes "end\n"
+text_is p =
+    nine_parts (line (codes "plant" ∷ codes "1" ∷ [])) (flat_map state_line p.states) (flat_map input_line p.inputs) (flat_map noise_line p.noises) (equation_lines (names_of p) p.states p.equations)
+    (flat_map (box_line (codes "target") (length p.states)) p.targets) (flat_map (box_line (codes "obstacle") (length p.states)) p.obstacles) (codes "goal " ++ goal_word p.goal) (codes "\n") (codes "end\n")
+
+lines_are : (p : Description) → lines_of (text_of p) ≡ lines_of (before_end p ++ 10 ∷ []) ++ codes "end" ∷ []
+lines_are p = ap lines_of (text_is p) ∙ lines_then (before_end p) (codes "end\n")
+
+-- the text ends in a line feed
+ends_in_line_feed : (p : Description) → text_of p ≡ ((before_end p ++ 10 ∷ []) ++ codes "end") ++ 10 ∷ []
+ends_in_line_feed p = text_is p ∙ sym (append_assoc (before_end p ++ 10 ∷ []) (codes "end") (10 ∷ []))
+
+lines_behind : (p : Description) (more : List ℕ) → lines_of (text_of p ++ more) ≡ lines_of (text_of p) ++ lines_of more
+lines_behind p more =
+    ap (λ (x : List ℕ). lines_of (x ++ more)) (ends_in_line_feed p)
+    ∙ lines_then ((before_end p ++ 10 ∷ []) ++ codes "end") more
+    ∙ ap (λ (x : List ℕ). lines_of x ++ lines_of more) (sym (ends_in_line_feed p))
+
+-- ---- behind the end
+
+stays_ended_at : (q : Part) (line : List ℕ) (r : Part) → q.ended ≡ true → Extends q line r → r.ended ≡ true
+stays_ended_at q line r ended e =
+    elim e [
+      | inl over ↦ ap (λ (x : Part). x.ended) over.1 ∙ ended
+      | inr stated ↦ ap (λ (x : Part). x.ended) stated.leads_to ∙ kept q stated.statement ended
+    ]
+  where
+    kept : (q : Part) (s : Statement) → q.ended ≡ true → (extended q s).ended ≡ true
+    kept q Version e = e
+    kept q (State s) e = e
+    kept q (Input i) e = e
+    kept q (Noise w) e = e
+    kept q (Next name x) e = e
+    kept q (Target b) e = e
+    kept q (Obstacle b) e = e
+    kept q (Goal kind) e = e
+    kept q End e = refl
+
+stays_ended : (q : Part) (lines : List (List ℕ)) (r : Part) → q.ended ≡ true → Leads q lines r → r.ended ≡ true
+stays_ended q [] r ended leads = ap (λ (x : Part). x.ended) leads ∙ ended
+stays_ended q (line ∷ lines) r ended leads = stays_ended leads.0 lines r (stays_ended_at q line leads.0 ended leads.1) leads.2
+
+module _ (one : OneStatement) (nothing : PassedOverStatesNothing) where
+  -- no second `end` stands behind the first
+  no_second_end : (q r : Part) → KeepsRules q → q.ended ≡ true → Extends q (codes "end") r → ⊥
+  no_second_end q r k ended e =
+      elim e [
+        | inl over ↦ (let passed = over.0 in cc)
+        | inr stated ↦
+            let same : stated.statement ≡ End = one (names_in q) (length q.states) (words_of (codes "end")) stated.statement End k.names_differ k.names stated.states refl in
+            let fits : FitsAfter q End = subst (FitsAfter q) same stated.fits in
+            let open_still = fits.1 in cc
+      ]
+
+  -- a canonical text isn't the front of a longer one
+  none_longer : CanonicalTextsSpell → (p r : Description) → IsPlant p → IsPlant r → (more : List ℕ) → text_of r ≡ text_of p ++ more → more ≡ []
+  none_longer spell p r hp hr [] e = refl
+  none_longer spell p r hp hr (b ∷ more) e =
+      let some : HasFirst (lines_of (b ∷ more)) = some_line more b in
+      let ends : HasLast (some.first ∷ some.rest) = last_of some.first some.rest in
+      let lines : lines_of (text_of r) ≡ (lines_of (text_of p) ++ ends.front) ++ ends.last ∷ [] =
+      ap lines_of e
+      ∙ lines_behind p (b ∷ more)
+      ∙ ap (λ (x : List (List ℕ)). lines_of (text_of p) ++ x) (some.are ∙ ends.are)
+      ∙ sym (append_assoc (lines_of (text_of p)) ends.front (ends.last ∷ [])) in
+      let last : ends.last ≡ codes "end" = same_last (lines_of (text_of p) ++ ends.front) (lines_of (before_end r ++ 10 ∷ [])) ends.last (codes "end") (sym lines ∙ lines_are r) in
+      let whole = spell r hr in
+      let first = spell p hp in
+      let apart = led_apart nothing_yet (lines_of (text_of p) ++ ends.front) (ends.last ∷ []) whole.0 (subst (λ (x : List (List ℕ)). Reads x whole.0) lines whole.1) in
+      let parts = led_apart nothing_yet (lines_of (text_of p)) ends.front apart.0 apart.1 in
+      let same : parts.0 ≡ first.0 = read_once one nothing (lines_of (text_of p)) parts.0 first.0 parts.1 first.1 in
+      let ended : parts.0.ended ≡ true = ap (λ (x : Part). x.ended) same ∙ first.2.closed in
+      absurd (no_second_end apart.0 apart.2.0
+      (rules_led nothing_yet (lines_of (text_of p) ++ ends.front) apart.0 rules_of_nothing apart.1)
+      (stays_ended parts.0 ends.front apart.0 ended parts.2)
+      (subst (λ (x : List ℕ). Extends apart.0 x apart.2.0) last apart.2.1))
+
+  same_texts : CanonicalTextsSpell → (p r : Description) → IsPlant p → IsPlant r → text_of p ≡ text_of r → p ≡ r
+  same_texts spell p r hp hr e = one_plant one nothing (text_of p) p r (spell p hp) (subst (λ (x : List ℕ). Spells x r) (sym e) (spell r hr))
+
+  pub one_front : CanonicalTextsSpell → OnePlantAtTheFront
+  one_front spell p r rest others hp hr e =
+      elim (shorter_first (text_of p) (text_of r) rest others e) [
+        | inl l ↦
+            let none = none_longer spell p r hp hr l.more l.longer in
+            (same_texts spell p r hp hr (sym (l.longer ∙ ap (λ (x : List ℕ). text_of p ++ x) none ∙ append-nil (text_of p))), l.after ∙ ap (λ (x : List ℕ). x ++ others) none)
+        | inr l ↦
+            let none = none_longer spell r p hr hp l.more l.longer in
+            (same_texts spell p r hp hr (l.longer ∙ ap (λ (x : List ℕ). text_of r ++ x) none ∙ append-nil (text_of r)), sym (l.after ∙ ap (λ (x : List ℕ). x ++ rest) none))
+      ]

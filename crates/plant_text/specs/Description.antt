@@ -18,9 +18,13 @@ pub record Description : Type 0 where
   pub obstacles : List StateBox
   pub goal : GoalKind
 
--- the names of the variables, in their order
+-- the names of variables, in their order
+abbrev pub names_over : List StateVariable → List InputVariable → List NoiseVariable → List (List ℕ)
+names_over states inputs noises = map (λ (s : StateVariable). s.name) states ++ map (λ (i : InputVariable). i.name) inputs ++ map (λ (w : NoiseVariable). w.name) noises
+
+-- the names of a plant's variables
 abbrev pub names_of : Description → List (List ℕ)
-names_of p = map (λ (s : StateVariable). s.name) p.states ++ map (λ (i : InputVariable). i.name) p.inputs ++ map (λ (w : NoiseVariable). w.name) p.noises
+names_of p = names_over p.states p.inputs p.noises
 
 -- how many cells lie along a state
 abbrev pub count_of : StateVariable → ℕ

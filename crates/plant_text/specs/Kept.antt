@@ -9,7 +9,7 @@ use Rattle.plant_text.specs.declared.variables.NoiseVariable.{NoiseVariable}
 use Rattle.plant_text.specs.declared.variables.StateBox.{StateBox}
 use Rattle.plant_text.specs.declared.variables.GoalKind.{GoalKind}
 use Rattle.plant_text.specs.Description.{Description, axes_of}
-use Rattle.plant_text.specs.Narrow.{IsNarrow}
+use Rattle.plant_text.specs.Plants.{IsWithinLimits}
 
 -- a description by its parts, the equations where they lie in memory
 abbrev pub described : List StateVariable → List InputVariable → List NoiseVariable → List Expr → List StateBox → List StateBox → GoalKind → Description
@@ -23,7 +23,7 @@ described states inputs noises equations targets obstacles goal = record {
   goal = goal;
 }
 
--- The plant is narrow, and its grid is that of its states.
+-- The plant is within the limits, and its grid is that of its states.
 pub record IsKept (p : Description) (axes : List Axis) : Type 0 where
-  pub narrow : IsNarrow p
+  pub limits : IsWithinLimits p
   pub grid : axes ≡ axes_of p

@@ -1,24 +1,59 @@
-//! What holds of every plant text.
+//! What holds of every plant and of its text.
 
-ghost use Rattle.std.specs.Prelude.{◌≡◌};
-ghost use Rattle.plant_text.specs.Description.{Description};
-ghost use Rattle.plant_text.specs.CanonicalText.{text_of};
-ghost use Rattle.plant_text.specs.Narrow.{IsNarrow};
-ghost use Rattle.plant_text.specs.Laws.{NarrowPlantsAreSound, OnePlantAtTheFront, NumbersAreWords};
+ghost use Rattle.plant_text.specs.Laws.{OnePlantPerText, OnePlantAtTheFront, SpelledPlantsArePlants, OneRefusal, ReadOrRefused, PlantsAreSound, CanonicalTextsSpell, NumbersAreWords, OneFront};
+ghost use Rattle.plant_text.specs.Plants.{IsWithinLimits};
 
-/// No two narrow plants have one text.
+use crate::plant::Plant;
+
+/// No bytes spell two plants.
 pub fn one_plant_per_text()
-    ensures { (first second : Description) → IsNarrow first → IsNarrow second → text_of first ≡ text_of second → first ≡ second }
+    ensures { OnePlantPerText }
 {}
 
-/// No text starts with the texts of two narrow plants, and what follows the plant is one text too.
+/// A text that starts with the canonical text of a plant has one such start.
 pub fn one_plant_at_the_front()
     ensures { OnePlantAtTheFront }
+{
+    canonical_texts_spell();
+}
+
+/// No bytes have two plants at their front.
+pub fn one_front()
+    ensures { OneFront }
+{
+    one_plant_at_the_front();
+}
+
+/// What bytes spell is a plant.
+pub fn spelled_plants_are_plants()
+    ensures { SpelledPlantsArePlants }
 {}
 
-/// A narrow plant has a grid of whole cells, and a well-formed equation for each state.
-pub fn narrow_plants_are_sound()
-    ensures { NarrowPlantsAreSound }
+/// A text has one reason to be refused.
+pub fn one_refusal()
+    ensures { OneRefusal }
+{}
+
+/// No text is refused that spells a plant within the limits.
+pub fn read_or_refused()
+    ensures { ReadOrRefused }
+{}
+
+/// A plant has a grid of whole cells, and a well-formed equation for each state.
+pub fn plants_are_sound()
+    ensures { PlantsAreSound }
+{}
+
+/// Every `Plant` is within the limits.
+pub fn every_plant_is_within_limits(p: &Plant)
+    ensures { IsWithinLimits p.now }
+{
+    p.keep_within_limits();
+}
+
+/// The canonical text of a plant spells it.
+pub fn canonical_texts_spell()
+    ensures { CanonicalTextsSpell }
 {}
 
 /// A number's text has no blank.

@@ -1,23 +1,31 @@
-ghost use Rattle.std.specs.Prelude.{◌≡◌, ◌≤◌, ◌<◌, ◌↔◌, [], ◌∷◌, length, ◌/◌, ◌^◌, slice_get, slice_index_or, pos, IfOk, IsTrue, Some, SomeIff, List, ℤ};
+ghost use Rattle.std.specs.Prelude.{◌≡◌, ◌≤◌, ◌<◌, ◌↔◌, length, map, slice_get, slice_index_or, pos, IfOk, IfErr, IsTrue, Some};
+ghost use Rattle.std.specs.Option.{option_map};
 ghost use Rattle.fixed_expr.specs.Expression.{expression_of};
-ghost use Rattle.fixed_expr.specs.Value.{IsWellFormed};
 ghost use Rattle.grid_quantiser.specs.Axes.{cells_of};
-ghost use Rattle.grid_quantiser.specs.Boxes.{IsAtMost, LiesInside};
-ghost use Rattle.grid_quantiser.specs.Cells.{point_of};
-ghost use Rattle.plant_text.specs.Description.{Description, axis_of, count_of, axes_of, vectors_of, vector_of};
-ghost use Rattle.plant_text.specs.Narrow.{IsNarrow, IsStateVariable, AreNarrowParts, narrow_description};
-ghost use Rattle.plant_text.specs.Marks.{IsGoalCell};
-ghost use Rattle.plant_text.specs.Steps.{values_at, step_of, StepStaysInRange};
-ghost use Rattle.plant_text.specs.Parts.{view_of};
+ghost use Rattle.plant_text.specs.declared.variables.NoiseVariable.{NoiseVariable};
+ghost use Rattle.plant_text.specs.Description.{axes_of, names_of, vectors_of, vector_of};
+ghost use Rattle.plant_text.specs.Plants.{IsPlant, IsWithinLimits};
+ghost use Rattle.plant_text.specs.Refusals.{Exceeds};
+ghost use Rattle.plant_text.specs.Marks.{IsGoalCell, IsObstacleCell};
+ghost use Rattle.plant_text.specs.PlantParts.{description_of};
 
-use crate::narrow::{Parts, numbers_along};
-use crate::variables::{GoalKind, InputVariable, NoiseVariable, StateBox, StateVariable};
-use fixed_expr::{Expr, eval};
-use grid_quantiser::{Axis, Grid, Point};
-use std::alloc::{AllocError, Global};
+use crate::fault::LimitKind;
+use crate::marks::{lies_in_one, touches_one};
+use crate::parts::{PlantParts, grid_of, vectors_of};
+use crate::variables::{
+    GoalKind, InputVariable, Name, Names, NoiseVariable, StateBox, StateVariable, Variables,
+};
+use fixed_expr::Expr;
+use grid_quantiser::{Grid, Point};
 use std::marker::Model;
 
-/// A plant, seen as its description.
+/// The most input vectors of a plant.
+const VECTORS_LIMIT: u32 = 4096;
+
+/// The most pairs of a cell and an input vector.
+const PAIRS_LIMIT: u64 = 1 << 22;
+
+/// A plant within the limits, seen as its description.
 #[derive(Drop)]
 pub struct Plant {
     states: Vec<StateVariable>,
@@ -46,43 +54,78 @@ impl Model for Plant {
 }
 
 impl Plant {
-    pub(crate) fn new(alloc: Global, parts: Parts) -> Result<Plant, AllocError>
-        requires { AreNarrowParts (view_of parts) }
-        ensures { IfOk result (λ p. p ≡ narrow_description (view_of parts)) }
+    /// The plant of the parts, or the first limit that they exceed. It takes no memory.
+    pub(crate) fn new(parts: PlantParts) -> Result<Plant, LimitKind>
+        requires { IsPlant (description_of parts) }
+        ensures kept { IfOk result (λ p. p ≡ description_of parts) }
+        ensures limits { IfOk result (λ p. IsWithinLimits p) }
+        ensures exceeded { IfErr result (λ what. Exceeds (description_of parts) what) }
     {
-        let Parts {
-            state,
-            input,
-            equation,
-            target,
+        let vectors = vectors_of(&parts.variables.inputs);
+        if vectors > VECTORS_LIMIT {
+            return Err(LimitKind::Vectors);
+        }
+        let Ok(grid) = grid_of(&parts.variables.states) else {
+            return Err(LimitKind::Cells);
+        };
+        if u64::from(grid.cells()) * u64::from(vectors) > PAIRS_LIMIT {
+            return Err(LimitKind::Pairs);
+        }
+        let PlantParts {
+            variables,
+            equations,
+            targets,
+            obstacles,
+            goal,
         } = parts;
-        let grid = grid_of(&state);
-        let mut states = Vec::new(alloc);
-        states.push(state)?;
-        let mut inputs = Vec::new(alloc);
-        inputs.push(input)?;
-        let mut equations = Vec::new(alloc);
-        equations.push(equation)?;
-        let mut targets = Vec::new(alloc);
-        targets.push(target)?;
+        let Variables {
+            states,
+            inputs,
+            noises,
+        } = variables;
         Ok(Plant {
             states,
             inputs,
-            noises: Vec::new(alloc),
+            noises,
             equations,
             targets,
-            obstacles: Vec::new(alloc),
-            goal: GoalKind::Reach,
+            obstacles,
+            goal,
             grid,
         })
     }
 
+    /// How many states there are.
+    pub fn states(&self) -> u32
+        ensures { result ≡ length self.now.states }
+    {
+        self.states.len() as u32
+    }
+
+    pub fn input_variables(&self) -> u32
+        ensures { result ≡ length self.now.inputs }
+    {
+        self.inputs.len() as u32
+    }
+
+    /// How many noises there are.
+    pub fn noises(&self) -> u32
+        ensures { result ≡ length self.now.noises }
+    {
+        self.noises.len() as u32
+    }
+
     /// How many input vectors there are.
     pub fn vectors(&self) -> u32
-        ensures count { result ≡ vectors_of self.now.inputs }
-        ensures narrow { IsNarrow self.now }
+        ensures { result ≡ vectors_of self.now.inputs }
     {
-        self.inputs[0].values.len() as u32
+        vectors_of(&self.inputs)
+    }
+
+    pub fn goal(&self) -> GoalKind
+        ensures { result ≡ self.now.goal }
+    {
+        self.goal
     }
 
     pub fn grid(&self) -> &Grid
@@ -105,7 +148,27 @@ impl Plant {
         requires variable { variable < length self.now.inputs }
         ensures { result ≡ slice_index_or (vector_of self.now.inputs input) variable (pos 0) }
     {
-        self.inputs[variable as usize].values.as_slice()[input as usize]
+        let later = vectors_of(&self.inputs[variable as usize + 1..]);
+        let values = self.inputs[variable as usize].values.as_slice();
+        values[(input / later) as usize % values.len()]
+    }
+
+    /// The least and the greatest value of a noise.
+    pub fn noise_range(&self, k: u32) -> (i128, i128)
+        requires { k < length self.now.noises }
+        ensures { option_map (λ (w : NoiseVariable). (w.low, w.high)) (slice_get self.now.noises k) ≡ Some result }
+    {
+        let noise = &self.noises[k as usize];
+        let low = noise.low;
+        let high = noise.high;
+        (low, high)
+    }
+
+    /// How many targets there are.
+    pub fn targets(&self) -> u32
+        ensures { result ≡ length self.now.targets }
+    {
+        self.targets.len() as u32
     }
 
     /// The least and the greatest corner of a target.
@@ -119,75 +182,100 @@ impl Plant {
         (low, high)
     }
 
+    /// How many obstacles there are.
+    pub fn obstacles(&self) -> u32
+        ensures { result ≡ length self.now.obstacles }
+    {
+        self.obstacles.len() as u32
+    }
+
+    /// The least and the greatest corner of an obstacle.
+    pub fn obstacle(&self, k: u32) -> (Point, Point)
+        requires { k < length self.now.obstacles }
+        ensures { slice_get self.now.obstacles k ≡ Some (record { low = result.0; high = result.1 }) }
+    {
+        let obstacle = &self.obstacles[k as usize];
+        let low = obstacle.low;
+        let high = obstacle.high;
+        (low, high)
+    }
+
     /// Whether a cell is a goal: all its points lie in one target, and none in an obstacle.
     pub fn goal_cell(&self, c: u32) -> bool
         requires { c < cells_of (axes_of self.now) }
         ensures { IsTrue result ↔ IsGoalCell self.now c }
     {
-        self.lies_inside(c, &self.targets[0])
+        !self.obstacle_cell(c) && lies_in_one(&self.grid, c, &self.targets)
     }
 
-    fn lies_inside(&self, c: u32, target: &StateBox) -> bool
-        requires cell { c < cells_of (axes_of self.now) }
-        requires ordered { IsAtMost (axes_of self.now) target.now.low target.now.high }
-        ensures { IsTrue result ↔ LiesInside (axes_of self.now) c target.now.low target.now.high }
+    /// Whether some point of a cell lies in an obstacle.
+    pub fn obstacle_cell(&self, c: u32) -> bool
+        requires { c < cells_of (axes_of self.now) }
+        ensures { IsTrue result ↔ IsObstacleCell self.now c }
     {
-        self.grid.inside(c, &target.low, &target.high)
+        touches_one(&self.grid, c, &self.obstacles)
     }
 
-    fn only_equation(&self) -> &Expr
-        ensures only { self.now.equations ≡ expression_of result.now ∷ [] }
-        ensures well_formed { IsWellFormed (expression_of result.now) 2 }
+    /// The name of a variable: the states come first, then the inputs, then the noises.
+    pub fn name(&self, variable: u32) -> &Name
+        requires { variable < length (names_of self.now) }
+        ensures { slice_get (names_of self.now) variable ≡ Some result.now }
     {
-        &self.equations[0]
+        self.names().name(variable)
     }
 
-    /// The values of the state and of the input.
-    fn values(&self, x: &Point, input: u32) -> [i128; 2]
-        requires { input < vectors_of self.now.inputs }
-        ensures { (noise : List ℤ) → result ≡ values_at self.now x.now input noise }
+    pub(crate) fn names(&self) -> Names<'_>
+        ensures { result ≡ names_of self.now }
     {
-        [x[0], self.inputs[0].values.as_slice()[input as usize]]
+        Names {
+            states: &self.states,
+            inputs: &self.inputs,
+            noises: &self.noises,
+        }
     }
-}
 
-/// The state one sample later, all equations taken at the old state: None where the value of some
-/// node leaves the range.
-pub fn step(p: &Plant, x: &Point, input: u32, noise: &Point) -> Option<Point>
-    requires { input < vectors_of p.now.inputs }
-    ensures { SomeIff result (StepStaysInRange p.now x.now input noise.now) (point_of (step_of p.now x.now input noise.now)) }
-{
-    let value = eval(p.only_equation(), &p.values(x, input))?;
-    Some([value, 0, 0, 0, 0, 0])
-}
-
-fn grid_of(state: &StateVariable) -> Grid
-    requires state { IsStateVariable state.now }
-    requires cells { count_of state.now ≤ 512 }
-    ensures { result ≡ axis_of state.now ∷ [] }
-{
-    let axis = axis_of(state);
-    match Grid::new(&[axis]) {
-        Ok(grid) => grid,
-        Err(_) => unreachable!(),
+    pub(crate) fn state_list(&self) -> &[StateVariable]
+        ensures { result.now ≡ self.now.states }
+    {
+        &self.states
     }
-}
 
-fn axis_of(state: &StateVariable) -> Axis
-    requires { IsStateVariable state.now }
-    ensures { result ≡ axis_of state.now }
-{
-    Axis {
-        lo: state.low,
-        width: state.width,
-        count: count_of(numbers_along(state), state.width.unsigned_abs()),
+    pub(crate) fn input_list(&self) -> &[InputVariable]
+        ensures { result.now ≡ self.now.inputs }
+    {
+        &self.inputs
     }
-}
 
-fn count_of(numbers: u128, width: u128) -> u64
-    requires width { 0 < width }
-    requires bound { numbers / width < 2 ^ 64 }
-    ensures { result ≡ numbers / width }
-{
-    (numbers / width) as u64
+    pub(crate) fn noise_list(&self) -> &[NoiseVariable]
+        ensures { result.now ≡ self.now.noises }
+    {
+        &self.noises
+    }
+
+    pub(crate) fn target_list(&self) -> &[StateBox]
+        ensures { result.now ≡ self.now.targets }
+    {
+        &self.targets
+    }
+
+    pub(crate) fn obstacle_list(&self) -> &[StateBox]
+        ensures { result.now ≡ self.now.obstacles }
+    {
+        &self.obstacles
+    }
+
+    /// The equations, where they lie in memory.
+    pub(crate) fn equations(&self) -> &[Expr]
+        ensures same { map expression_of result.now ≡ self.now.equations }
+        ensures limits { IsWithinLimits self.now }
+    {
+        &self.equations
+    }
+
+    /// What every plant keeps is learnt here.
+    pub(crate) fn keep_within_limits(&self)
+        ensures { IsWithinLimits self.now }
+    {
+        let _ = &self.grid;
+    }
 }

@@ -1,5 +1,7 @@
-ghost use Rattle.std.specs.Prelude.{◌≡◌, length, IfOk};
+ghost use Rattle.std.specs.Prelude.{◌≡◌, ◌<◌, ◌≤◌, length, position, IfOk, IfSome, IfNone, slice_get, Some, Contains};
+ghost use Rattle.std.specs.Str.{bytes_eq};
 ghost use Rattle.plant_text.specs.Names.{IsName};
+ghost use Rattle.plant_text.specs.Description.{names_over};
 
 use grid_quantiser::Point;
 use std::alloc::{AllocError, Global};
@@ -95,6 +97,102 @@ pub struct NoiseVariable {
     pub name: Name,
     pub low: i128,
     pub high: i128,
+}
+
+/// The variables of a plant: its states first, then its inputs, then its noises.
+#[derive(Debug, Drop)]
+pub struct Variables {
+    pub states: Vec<StateVariable>,
+    pub inputs: Vec<InputVariable>,
+    pub noises: Vec<NoiseVariable>,
+}
+
+impl Variables {
+    /// The names of all variables.
+    pub(crate) fn names(&self) -> Names<'_>
+        ensures { result ≡ names_over self.now.states.items self.now.inputs.items self.now.noises.items }
+    {
+        Names {
+            states: &self.states,
+            inputs: &self.inputs,
+            noises: &self.noises,
+        }
+    }
+
+    /// The place of the variable of this name.
+    pub fn place_of(&self, name: &[u8]) -> Option<u32>
+        requires { length (names_over self.now.states.items self.now.inputs.items self.now.noises.items) ≤ 15 }
+        ensures found { IfSome result (λ i. slice_get (names_over self.now.states.items self.now.inputs.items self.now.noises.items) i ≡ Some name.now) }
+        ensures none { IfNone result (Contains (names_over self.now.states.items self.now.inputs.items self.now.noises.items) name.now → ⊥) }
+    {
+        if let Some(i) = state_named(&self.states, name) {
+            return Some(i as u32);
+        }
+        let states = self.states.len();
+        if let Some(i) = input_named(&self.inputs, name) {
+            return Some((states + i) as u32);
+        }
+        let inputs = self.inputs.len();
+        let i = noise_named(&self.noises, name)?;
+        Some((states + inputs + i) as u32)
+    }
+}
+
+fn state_named(states: &[StateVariable], name: &[u8]) -> Option<usize>
+    ensures place { result ≡ position (λ (s : StateVariable). bytes_eq s.name name.now) states.now }
+    ensures within { IfSome result (λ i. i < length states.now) }
+{
+    states.iter().position(|s| s.name.as_bytes() == name)
+}
+
+fn input_named(inputs: &[InputVariable], name: &[u8]) -> Option<usize>
+    ensures place { result ≡ position (λ (i : InputVariable). bytes_eq i.name name.now) inputs.now }
+    ensures within { IfSome result (λ i. i < length inputs.now) }
+{
+    inputs.iter().position(|i| i.name.as_bytes() == name)
+}
+
+fn noise_named(noises: &[NoiseVariable], name: &[u8]) -> Option<usize>
+    ensures place { result ≡ position (λ (w : NoiseVariable). bytes_eq w.name name.now) noises.now }
+    ensures within { IfSome result (λ i. i < length noises.now) }
+{
+    noises.iter().position(|w| w.name.as_bytes() == name)
+}
+
+/// The names of variables, by their places: those of the states come first, then those of the
+/// inputs, then those of the noises.
+#[derive(Drop)]
+pub struct Names<'a> {
+    pub states: &'a [StateVariable],
+    pub inputs: &'a [InputVariable],
+    pub noises: &'a [NoiseVariable],
+}
+
+impl<'a> Model for Names<'a> {
+    ghost use Rattle.std.specs.Prelude.{ℕ, List};
+    ghost use Rattle.plant_text.specs.Description.{names_over};
+
+    ghost Value = { List (List ℕ) };
+
+    ghost view = { λ n. names_over n.states.now n.inputs.now n.noises.now };
+}
+
+impl<'a> Names<'a> {
+    pub fn name(&self, variable: u32) -> &'a Name
+        requires { variable < length self.now }
+        ensures { slice_get self.now variable ≡ Some result.now }
+    {
+        let i = variable as usize;
+        let inputs = self.states.len();
+        let noises = inputs + self.inputs.len();
+        if i < inputs {
+            &self.states[i].name
+        } else if i < noises {
+            &self.inputs[i - inputs].name
+        } else {
+            &self.noises[i - noises].name
+        }
+    }
 }
 
 /// A box of states: the least and the greatest number of each. Places past the states are 0.

@@ -1,54 +1,45 @@
-// The words of a text: literals, names and numbers.
+// The words of a line: names, numbers and fixed words.
 
-ghost use Rattle.std.specs.Prelude.{◌≡◌, ◌<◌, ◌≤◌, ℤ, Some, length, position, take, drop, slice_index, ◌↔◌, IsTrue, IfSome};
-ghost use Rattle.std.specs.List.{list_all};
-ghost use Rattle.std.specs.Option.{option_map};
+ghost use Rattle.std.specs.Prelude.{◌≡◌, ◌<◌, ◌≤◌, ℤ, Some, [], ◌∷◌, length, position, not, slice_index, ◌↔◌, IsTrue, IfSome};
+ghost use Rattle.std.specs.List.{list_all, position_or_len};
+ghost use Rattle.std.specs.Option.{IfNone};
 ghost use Rattle.std.specs.Fmt.{signed_decimal};
-ghost use Rattle.plant_text.specs.Names.{is_blank, is_name, is_reserved, is_name_byte, is_letter, IsLiteral};
-ghost use Rattle.plant_text.specs.Reading.{Gives, behind, word_len, number_of};
+ghost use Rattle.plant_text.specs.Names.{is_name, is_reserved, is_name_byte, is_letter, IsLiteral};
+ghost use Rattle.plant_text.specs.Words.{is_blank, words_of, is_passed_over};
+ghost use Rattle.plant_text.specs.Readers.{Finds, StartsWithName, StartsWithNumber};
 
-use crate::fault::NarrowFault;
-use crate::variables::Name;
+use crate::fault::ReadFault;
 use itoa::Buffer;
-use std::alloc::Global;
 use std::str;
 
-/// The bytes behind a text that stands at the front.
-pub fn behind<'a>(bytes: &'a [u8], text: &[u8]) -> Option<&'a [u8]>
-    ensures { option_map (λ rest. rest.now) result ≡ behind text.now bytes.now }
+/// The first word and the bytes behind it: None where the line has no more words.
+pub fn next_word(bytes: &[u8]) -> Option<(&[u8], &[u8])>
+    ensures word { IfSome result (λ r. words_of bytes.now ≡ r.0.now ∷ words_of r.1.now) }
+    ensures some_byte { IfSome result (λ r. 0 < length r.0.now) }
+    ensures shorter { IfSome result (λ r. length r.1.now < length bytes.now) }
+    ensures ended { IfNone result (words_of bytes.now ≡ []) }
 {
-    bytes.strip_prefix(text)
+    let start = first_byte_of_word(bytes)?;
+    let word = &bytes[start..];
+    Some(word.split_at(word_end(word)))
 }
 
-/// The same, where the text has to stand there.
-pub fn expect<'a>(bytes: &'a [u8], text: &[u8]) -> Result<&'a [u8], NarrowFault>
-    ensures { Gives (λ rest. rest.now) result (behind text.now bytes.now) }
+fn first_byte_of_word(bytes: &[u8]) -> Option<usize>
+    ensures place { result ≡ position (λ b. not (is_blank b)) bytes.now }
+    ensures within { IfSome result (λ n. n < length bytes.now) }
 {
-    match behind(bytes, text) {
-        Some(rest) => Ok(rest),
-        None => Err(NarrowFault::Unbuilt),
-    }
-}
-
-/// The word at the front, up to the first blank, and the bytes after it.
-pub fn split_word(bytes: &[u8]) -> (&[u8], &[u8])
-    ensures word { result.0.now ≡ take (word_len bytes.now) bytes.now }
-    ensures rest { result.1.now ≡ drop (word_len bytes.now) bytes.now }
-{
-    let end = word_end(bytes);
-    bytes.split_at(end)
+    bytes.iter().position(|b| !is_blank(*b))
 }
 
 fn word_end(bytes: &[u8]) -> usize
-    ensures end { result ≡ word_len bytes.now }
+    ensures end { result ≡ position_or_len is_blank bytes.now }
     ensures within { result ≤ length bytes.now }
 {
     first_blank(bytes).unwrap_or(bytes.len())
 }
 
 fn first_blank(bytes: &[u8]) -> Option<usize>
-    ensures place { result ≡ position is_blank bytes.now }
-    ensures within { IfSome result (λ n. n < length bytes.now) }
+    ensures { result ≡ position is_blank bytes.now }
 {
     bytes.iter().position(|b| is_blank(*b))
 }
@@ -56,16 +47,66 @@ fn first_blank(bytes: &[u8]) -> Option<usize>
 fn is_blank(b: u8) -> bool
     ensures { result ≡ is_blank b }
 {
-    b == b' ' || b == b'\n'
+    b == b' ' || b == b'\t' || b == b'\r'
 }
 
-fn is_letter(b: u8) -> bool
+/// Whether a line states nothing: one of blanks, or one whose first word begins with `#`.
+pub fn is_passed_over(line: &[u8]) -> bool
+    ensures { result ≡ is_passed_over line.now }
+{
+    match next_word(line) {
+        Some((word, _)) => word.starts_with(b"#"),
+        None => true,
+    }
+}
+
+/// The next word, which has to be a name.
+pub fn name_in(bytes: &[u8]) -> Result<(&[u8], &[u8]), ReadFault>
+    ensures { Finds (λ r. (r.0.now, words_of r.1.now)) (StartsWithName (words_of bytes.now)) result }
+{
+    match next_word(bytes) {
+        Some((word, rest)) if is_name(word) => Ok((word, rest)),
+        _ => Err(ReadFault::Malformed),
+    }
+}
+
+/// The next word, which has to be a number.
+pub fn number_in(bytes: &[u8]) -> Result<(i128, &[u8]), ReadFault>
+    ensures { Finds (λ r. (r.0, words_of r.1.now)) (StartsWithNumber (words_of bytes.now)) result }
+{
+    match next_word(bytes) {
+        Some((word, rest)) => Ok((number_of(word)?, rest)),
+        None => Err(ReadFault::Malformed),
+    }
+}
+
+/// What stands behind the next word, which has to be this one.
+pub fn expect_word<'a>(bytes: &'a [u8], text: &[u8]) -> Result<&'a [u8], ReadFault>
+    ensures { Finds (λ rest. words_of rest.now) (λ words. words_of bytes.now ≡ text.now ∷ words) result }
+{
+    match next_word(bytes) {
+        Some((word, rest)) if word == text => Ok(rest),
+        _ => Err(ReadFault::Malformed),
+    }
+}
+
+/// No more words may follow.
+pub fn expect_end(bytes: &[u8]) -> Result<(), ReadFault>
+    ensures { Finds (λ _. tt) (λ (_ : Unit {0}). words_of bytes.now ≡ []) result }
+{
+    match next_word(bytes) {
+        Some(_) => Err(ReadFault::Malformed),
+        None => Ok(()),
+    }
+}
+
+pub fn is_letter(b: u8) -> bool
     ensures { result ≡ is_letter b }
 {
     b.is_ascii_alphabetic()
 }
 
-fn is_name_byte(b: u8) -> bool
+pub fn is_name_byte(b: u8) -> bool
     ensures { result ≡ is_name_byte b }
 {
     b.is_ascii_alphanumeric() || b == b'_'
@@ -100,17 +141,16 @@ pub fn is_name(word: &[u8]) -> bool
 }
 
 /// The number that a word spells in its one spelling, with at most 18 digits.
-#[tactic(auto, unfolding(crate::specs::Reading::number_of))]
-pub fn number_of(word: &[u8]) -> Result<i128, NarrowFault>
-    ensures { Gives (λ z. z) result (number_of word.now) }
+pub fn number_of(word: &[u8]) -> Result<i128, ReadFault>
+    ensures { Finds (λ z. z) (λ z. IsLiteral z × (word.now ≡ signed_decimal z)) result }
 {
     match parsed(word) {
         Some(z) if is_literal(z) && is_spelling(z, word) => Ok(i128::from(z)),
-        _ => Err(NarrowFault::Unbuilt),
+        _ => Err(ReadFault::Malformed),
     }
 }
 
-fn parsed(word: &[u8]) -> Option<i64>
+pub fn parsed(word: &[u8]) -> Option<i64>
     ensures { (z : ℤ) → IsLiteral z → word.now ≡ signed_decimal z → result ≡ Some z }
 {
     match str::from_utf8(word) {
@@ -125,13 +165,13 @@ fn parsed_text(text: &str) -> Option<i64>
     text.parse::<i64>().ok()
 }
 
-fn is_literal(z: i64) -> bool
+pub fn is_literal(z: i64) -> bool
     ensures { IsTrue result ↔ IsLiteral z }
 {
     z.unsigned_abs() < 1_000_000_000_000_000_000
 }
 
-fn is_spelling(z: i64, word: &[u8]) -> bool
+pub fn is_spelling(z: i64, word: &[u8]) -> bool
     ensures { IsTrue result ↔ (word.now ≡ signed_decimal z) }
 {
     Buffer::new().format(z).as_bytes() == word

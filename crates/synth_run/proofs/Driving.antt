@@ -15,17 +15,17 @@ use Rattle.plant_text.specs.declared.variables.StateBox.{StateBox}
 use Rattle.plant_text.specs.Description.{Description, axes_of}
 use Rattle.plant_text.specs.Steps.{step_of, IsNoise}
 use Rattle.plant_text.specs.Marks.{IsGoalCell, IsObstacleCell}
-use Rattle.plant_text.specs.Narrow.{IsNarrow}
-use Rattle.synth_run.specs.Abstraction.{IsGameOf}
+use Rattle.plant_text.specs.Plants.{IsWithinLimits}
+use Rattle.abstraction_table.specs.Abstraction.{IsGameOf}
 use Rattle.synth_run.specs.TableText.{table_text}
 use Rattle.synth_run.specs.Choice.{AreRowsOf}
-use Rattle.synth_run.specs.Refinement.{IsRefinement}
+use Rattle.abstraction_table.specs.Refinement.{IsRefinement}
 use Rattle.synth_run.specs.Drives.{LiesInSome, IsClear, Comes, Drives}
 use Rattle.synth_run.specs.Laws.{OneTablePerText}
 
 -- What the induction stands on.
 pub record Guides (p : Description) (g : Game) (rows : List (Option Row)) (bytes : List ℕ) : Type 0 where
-  pub narrow : IsNarrow p
+  pub limits : IsWithinLimits p
   pub fitting : AreRowsOf p rows
   pub text : bytes ≡ table_text p rows
   pub abstraction : IsGameOf p g
@@ -80,16 +80,16 @@ comes {p = p} {g = g} {rows = rows} h (w ∷ ws) x (suc k) u inside is enough no
       clear_at h x (record { rank = suc k; input = u }) inside is,
       inr (
         u,
-        record { plant = p; narrow = h.narrow; rows = rows; fitting = h.fitting; text = h.text; inside = inside; rank = k; row = is },
+        record { plant = p; limits = h.limits; rows = rows; fitting = h.fitting; text = h.text; inside = inside; rank = k; row = is },
         comes h ws next row.row.rank row.row.input next_inside row.is (omega (arith, below, enough)) noises.1,
       ),
     )
 
 -- the table of a plant's solution drives the plant
-pub drives : OneTablePerText → (p : Description) (g : Game) (rows : List (Option Row)) (bytes : List ℕ) → IsNarrow p → IsGameOf p g → IsRefinement p g → IsReachSolution g rows → LeadsToGoals g rows → AreRowsOf p rows → bytes ≡ table_text p rows → Drives p bytes
-drives one p g rows bytes narrow abstraction refined solution leads fitting text x k ws h len noises =
+pub drives : OneTablePerText → (p : Description) (g : Game) (rows : List (Option Row)) (bytes : List ℕ) → IsWithinLimits p → IsGameOf p g → IsRefinement p g → IsReachSolution g rows → LeadsToGoals g rows → AreRowsOf p rows → bytes ≡ table_text p rows → Drives p bytes
+drives one p g rows bytes limits abstraction refined solution leads fitting text x k ws h len noises =
     let guides : Guides p g rows bytes = record {
-      narrow = narrow;
+      limits = limits;
       fitting = fitting;
       text = text;
       abstraction = abstraction;
@@ -97,7 +97,7 @@ drives one p g rows bytes narrow abstraction refined solution leads fitting text
       refined = refined;
       one_each = solution.one_each;
     } in
-    let same = one h.plant p h.rows rows h.narrow narrow h.fitting fitting (sym h.text ∙ text) in
+    let same = one h.plant p h.rows rows h.limits limits h.fitting fitting (sym h.text ∙ text) in
     let inside : IsInDomain (axes_of p) x = subst (λ (q : Description). IsInDomain (axes_of q) x) same.0 h.inside in
     let row : row_of rows (cell_of (axes_of p) x) ≡ Some (record { rank = k; input = h.input }) = subst (λ (r : List (Option Row)). row_of r (cell_of (axes_of p) x) ≡ Some (record { rank = k; input = h.input })) same.1 (subst (λ (q : Description). row_of h.rows (cell_of (axes_of q) x) ≡ Some (record { rank = k; input = h.input })) same.0 h.row) in
     comes guides ws x k h.input inside row (omega (arith, len)) (recursion_from_All (IsNoise p.noises) ws noises)

@@ -7,7 +7,8 @@ use Rattle.game_core.specs.Game.{Game, IsGame}
 use Rattle.game_core.specs.Solution.{row_of, IsReachRow, IsChosenInput, IsReachSolution, RanksAreBelowTheCells}
 use Rattle.grid_quantiser.specs.Axes.{cells_of}
 use Rattle.plant_text.specs.Description.{Description, axes_of}
-use Rattle.synth_run.specs.Abstraction.{IsGameOf}
+use Rattle.abstraction_table.specs.Abstraction.{IsGameOf}
+use Rattle.plant_text.specs.declared.variables.GoalKind.TheVariants.{Reach}
 use Rattle.synth_run.specs.Choice.{IsRowOver, AreRowsOf}
 
 input_below : (g : Game) (c rank u : ℕ) → IsGame g → IsChosenInput g c rank u → u < 4096
@@ -18,8 +19,9 @@ arrived_at : (g : Game) (c rank u : ℕ) → IsChosenInput g c rank u → rank �
 arrived_at g c zero u h e = h
 arrived_at g c (suc k) u h e = absurd (omega (arith, e))
 
-pub solution_fits : RanksAreBelowTheCells → (p : Description) (g : Game) (rows : List (Option Row)) → IsGameOf p g → IsReachSolution g rows → AreRowsOf p rows
-solution_fits ranks p g rows a h = record {
+pub solution_fits : RanksAreBelowTheCells → (p : Description) (g : Game) (rows : List (Option Row)) → p.goal ≡ Reach → IsGameOf p g → IsReachSolution g rows → AreRowsOf p rows
+solution_fits ranks p g rows reach a h = record {
+  reach = reach;
   one_each = h.one_each ∙ a.cells;
   each = All-from_get_or (λ row. IfSome row (IsRowOver (cells_of (axes_of p)))) rows None (λ c lt. let n = h.one_each in fits_at c (row_of rows c) refl (h.each c (omega (arith, lt, n))));
 }

@@ -12,7 +12,7 @@ use Rattle.grid_quantiser.specs.Cells.{cell_of}
 use Rattle.grid_quantiser.specs.Axes.{cells_of}
 use Rattle.plant_text.specs.Description.{Description, axes_of}
 use Rattle.plant_text.specs.CanonicalText.{text_of, line}
-use Rattle.plant_text.specs.Narrow.{IsNarrow}
+use Rattle.plant_text.specs.Plants.{IsWithinLimits}
 use Rattle.plant_text.specs.Names.{is_blank, is_word}
 use Rattle.plant_text.specs.Laws.{OnePlantAtTheFront, NumbersAreWords}
 use Rattle.synth_run.specs.TableText.{table_text, input_word, row_line, row_lines, row_count}
@@ -95,15 +95,12 @@ count_within [] = omega arith
 count_within (None ∷ rows) = omega (arith, count_within rows)
 count_within (Some r ∷ rows) = omega (arith, count_within rows)
 
-bounded : (cells : ℕ) (rows : List (Option Row)) → cells ≤ 512 → AllByRecursion (λ row. IfSome row (IsRowOver cells)) rows → AreBounded rows
+bounded : (cells : ℕ) (rows : List (Option Row)) → cells ≤ 2 ^ 20 → AllByRecursion (λ row. IfSome row (IsRowOver cells)) rows → AreBounded rows
 bounded cells [] small h = tt
 bounded cells (None ∷ rows) small h = bounded cells rows small h.1
 bounded cells (Some r ∷ rows) small h =
     let one : IsRowOver cells r = h.0 in
     (record { rank = omega arith; input = omega arith; arrived = one.arrived }, bounded cells rows small h.1)
-
-few_cells : (p : Description) → IsNarrow p → cells_of (axes_of p) ≤ 512
-few_cells p n = rw n.2 (omega (arith, n.1.cells))
 
 same_some : (a b : Row) → Some a ≡ Some b → a ≡ b
 same_some a b e = cc
@@ -151,13 +148,13 @@ module _ (words : NumbersAreWords) (front : OnePlantAtTheFront) where
       let same = one_line c c a b (row_lines (suc c) rows ++ end_line) (row_lines (suc c) others ++ end_line) (omega (arith, bound)) (omega (arith, bound)) h.0 k.0 (sym (append_assoc (row_line c a) (row_lines (suc c) rows) end_line) ∙ e ∙ append_assoc (row_line c b) (row_lines (suc c) others) end_line) in
       ap (λ (x : Row). Some x ∷ rows) same.row ∙ ap (λ (x : List (Option Row)). Some b ∷ x) (one_rows (suc c) rows others (omega (arith, len)) (omega (arith, bound)) h.1 k.1 same.rest)
 
-  pub one_table : (p q : Description) (rows others : List (Option Row)) → IsNarrow p → IsNarrow q → AreRowsOf p rows → AreRowsOf q others → table_text p rows ≡ table_text q others → (p ≡ q) × (rows ≡ others)
+  pub one_table : (p q : Description) (rows others : List (Option Row)) → IsWithinLimits p → IsWithinLimits q → AreRowsOf p rows → AreRowsOf q others → table_text p rows ≡ table_text q others → (p ≡ q) × (rows ≡ others)
   one_table p q rows others m n h k e =
       let whole = sym (table_then p rows) ∙ e ∙ table_then q others in
-      let plants = front p q _ _ m n (ap (drop 8) whole) in
+      let plants = front p q _ _ m.plant n.plant (ap (drop 8) whole) in
       let len : length rows ≡ length others = h.one_each ∙ ap (λ (d : Description). cells_of (axes_of d)) plants.0 ∙ sym k.one_each in
-      let p-few = few_cells p m in
-      let q-few = few_cells q n in
+      let p-few = m.cells in
+      let q-few = n.cells in
       let counted = cut (decimal (row_count rows)) (decimal (row_count others)) 10 10 _ _
       (decimal_word (row_count rows) (omega (arith, count_within rows, h.one_each)))
       (decimal_word (row_count others) (omega (arith, count_within others, k.one_each)))
@@ -172,7 +169,7 @@ module _ (words : NumbersAreWords) (front : OnePlantAtTheFront) where
 -- the choice is a function of the bytes and the state
 pub one_input : OneTablePerText → (bytes : List ℕ) (x : List ℤ) (u v : ℕ) → IsChoice bytes x u → IsChoice bytes x v → u ≡ v
 one_input one bytes x u v a b =
-    let same = one a.plant b.plant a.rows b.rows a.narrow b.narrow a.fitting b.fitting (sym a.text ∙ b.text) in
+    let same = one a.plant b.plant a.rows b.rows a.limits b.limits a.fitting b.fitting (sym a.text ∙ b.text) in
     let rows : row_of a.rows (cell_of (axes_of a.plant) x) ≡ row_of b.rows (cell_of (axes_of b.plant) x) =
     ap (λ (r : List (Option Row)). row_of r (cell_of (axes_of a.plant) x)) same.1 ∙ ap (λ (d : Description). row_of b.rows (cell_of (axes_of d) x)) same.0 in
     ap (λ (r : Row). r.input) (same_some (record { rank = suc a.rank; input = u }) (record { rank = suc b.rank; input = v }) (sym a.row ∙ rows ∙ b.row))

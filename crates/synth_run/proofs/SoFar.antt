@@ -1,7 +1,8 @@
 -- What a loop over reads, or over writes, has done so far.
-use Rattle.std.proofs.Common.{◌≡◌, ℕ, zero, suc, ◌<◌, ◌≤◌, List, [], ◌∷◌, ◌++◌, length, take, drop, Option, Some, None, refl, sym, ap, ◌∙◌, append_assoc, arith, take-append-drop, length-append}
-use Rattle.std.proofs.lemmas.List.{append-nil, take_at, drop_at}
-use Rattle.std.specs.Prelude.{IfSome}
+use Rattle.std.proofs.Common.{◌≡◌, ℕ, zero, suc, ◌+◌, ◌<◌, ◌≤◌, List, [], ◌∷◌, ◌++◌, length, take, drop, drop-cons, get_or, add-one, subst, Option, Some, None, refl, sym, ap, ◌∙◌, append_assoc, arith, take-append-drop, length-append}
+use Rattle.std.proofs.lemmas.List.{append-nil, take_at, drop_at, take-append-le}
+use Rattle.std.proofs.Math.Nat.{zero-add, suc-add}
+use Rattle.std.specs.Prelude.{IfSome, flat_map}
 use Rattle.synth_run.specs.Devices.{Takes, Gains, GainsPart, ReadUpTo}
 
 -- these bytes were read, and the others are left
@@ -91,3 +92,37 @@ written_part start before after text rest w same some = record {
 
 pub written_whole : (start after : Option (List ℕ)) (text rest : List ℕ) → WrittenSoFar start after text rest → rest ≡ [] → Gains start after text
 written_whole start after text rest w nothing = rw (w.parts ∙ ap (λ (x : List ℕ). w.front ++ x) nothing ∙ append-nil w.front) w.gained
+
+-- ---- writes in pieces
+
+pub nothing_of_pieces : (before : Option (List ℕ)) (text : List ℕ) → WrittenSoFar before before text text
+nothing_of_pieces before text = nothing_written before text
+
+pub piece_more : (start before after : Option (List ℕ)) (text rest piece more : List ℕ) → WrittenSoFar start before text rest → rest ≡ piece ++ more → Gains before after piece → WrittenSoFar start after text more
+piece_more start before after text rest piece more w cut gains = record {
+  front = w.front ++ piece;
+  parts = w.parts ∙ ap (λ (x : List ℕ). w.front ++ x) cut ∙ sym (append_assoc w.front piece more);
+  gained = gains_more start before after w.front piece w.gained gains;
+}
+
+take_past : (front behind : List ℕ) (k : ℕ) → take (length front + k) (front ++ behind) ≡ front ++ take k behind
+take_past [] behind k = ap (λ (n : ℕ). take n behind) (zero-add k)
+take_past (x ∷ front) behind k = ap (λ (n : ℕ). take n (x ∷ (front ++ behind))) (suc-add (length front) k) ∙ ap (λ (y : List ℕ). x ∷ y) (take_past front behind k)
+
+-- a part of a piece is a part of the whole
+pub piece_part : (start before after : Option (List ℕ)) (text rest piece more : List ℕ) → WrittenSoFar start before text rest → rest ≡ piece ++ more → GainsPart before after piece → GainsPart start after text
+piece_part start before after text rest piece more w cut part =
+    let whole : text ≡ w.front ++ (piece ++ more) = w.parts ∙ ap (λ (x : List ℕ). w.front ++ x) cut in
+    let front_is : take (length w.front + part.count) text ≡ w.front ++ take part.count piece =
+    ap (take (length w.front + part.count)) whole
+    ∙ take_past w.front (piece ++ more) part.count
+    ∙ ap (λ (x : List ℕ). w.front ++ x) (take-append-le part.count piece more (let lt = part.proper in omega (arith, lt))) in
+    record {
+      count = length w.front + part.count;
+      proper = (let lt = part.proper in omega (arith, lt, ap length whole, length-append w.front (piece ++ more), length-append piece more));
+      gained = subst (λ (x : List ℕ). Gains start after x) (sym front_is) (gains_more start before after w.front (take part.count piece) w.gained part.gained);
+    }
+
+-- the pieces from one on are that piece and those behind it
+pub pieces_from : {X : Type 0} (f : X → List ℕ) (pieces : List X) (i : ℕ) (d : X) → i < length pieces → flat_map f (drop i pieces) ≡ f (get_or pieces i d) ++ flat_map f (drop (i + 1) pieces)
+pieces_from f pieces i d lt = rw (add-one i) (ap (flat_map f) (drop-cons pieces i d lt))

@@ -1,38 +1,68 @@
 -- What each status of the top call means.
-use Rattle.std.specs.Prelude.{◌≡◌, ◌⊎◌, ℕ, List, [], drop, Option, Some, codes, ◌==◌, if◌then◌else◌}
-use Rattle.plant_text.specs.Description.{Description}
-use Rattle.plant_text.specs.Narrow.{IsNarrowText}
+use Rattle.std.specs.Prelude.{◌≡◌, ◌⊎◌, ℕ, ◌≤◌, List, [], ◌++◌, drop, Option, Some, IfSome, codes}
+use Rattle.std.specs.Fmt.{decimal}
+use Rattle.plant_text.specs.declared.fault.LimitKind.{LimitKind}
+use Rattle.plant_text.specs.declared.fault.LimitKind.TheVariants.{PlantText, TableText, Vectors, Cells, Pairs, Edges}
 use Rattle.synth_run.specs.declared.outcome.Outcome.{Outcome}
-use Rattle.synth_run.specs.declared.outcome.Outcome.TheVariants.{Done, Usage, ReadFault, WriteFault, NoMemory, Unbuilt}
+use Rattle.synth_run.specs.declared.outcome.Outcome.TheVariants.{Done, Usage, Malformed, Overflow, Limit, ReadFault, WriteFault, NoMemory, Unbuilt}
 use Rattle.synth_run.specs.Devices.{Rose, Gains, GainsPart}
+use Rattle.synth_run.specs.Demands.{Demands}
 use Rattle.synth_run.specs.Headline.{IsTableFor}
 
 -- the exit status
 abbrev pub status_of : Outcome → ℕ
 status_of Done = 0
 status_of Usage = 2
+status_of (Malformed line) = 3
+status_of (Overflow equation input) = 4
+status_of (Limit what) = 5
 status_of ReadFault = 6
 status_of WriteFault = 7
 status_of NoMemory = 8
 status_of Unbuilt = 9
 
+abbrev pub limit_words : LimitKind → List ℕ
+limit_words PlantText = codes "plant text"
+limit_words TableText = codes "table text"
+limit_words Vectors = codes "vectors"
+limit_words Cells = codes "cells"
+limit_words Pairs = codes "pairs"
+limit_words Edges = codes "edges"
+
 -- the line on the error sink
 abbrev pub line_of : Outcome → List ℕ
 line_of Done = []
 line_of Usage = codes "usage\n"
+line_of (Malformed line) = codes "malformed: line " ++ decimal line ++ codes "\n"
+line_of (Overflow equation input) = codes "overflow: equation " ++ decimal equation ++ codes " input " ++ decimal input ++ codes "\n"
+line_of (Limit what) = codes "limit: " ++ limit_words what ++ codes "\n"
 line_of ReadFault = codes "read fault\n"
 line_of WriteFault = []
 line_of NoMemory = codes "no memory\n"
-line_of Unbuilt = codes "unbuilt: plant\n"
+line_of Unbuilt = codes "unbuilt: goal\n"
 
 -- a line was appended whole, or the sink's count of faults rose and a part of it was
 abbrev pub Reports : Option (List ℕ) → Option (List ℕ) → ℕ → ℕ → List ℕ → Type 0
 Reports before after faults_before faults_after line = Gains before after line ⊎ (Rose faults_before faults_after × GainsPart before after line)
 
--- no narrow text: the source was read to its end, or to one byte past the limit
-pub record IsUnbuilt (bytes : List ℕ) (left : Option (List ℕ)) : Type 0 where
-  pub no_plant : (p : Description) → IsNarrowText bytes p → ⊥
-  pub read : left ≡ Some (drop 65537 bytes)
+-- the text alone decides that the run ends so, and not the words, a device or want of memory
+abbrev pub IsTheTexts : Outcome → Type 0
+IsTheTexts Done = Unit {0}
+IsTheTexts Usage = ⊥
+IsTheTexts (Malformed line) = Unit {0}
+IsTheTexts (Overflow equation input) = Unit {0}
+IsTheTexts (Limit what) = Unit {0}
+IsTheTexts ReadFault = ⊥
+IsTheTexts WriteFault = ⊥
+IsTheTexts NoMemory = ⊥
+IsTheTexts Unbuilt = Unit {0}
+
+-- The status is that of an outcome whose line was reported, and which the text demands where it is the text's.
+pub record IsEnd (status : ℕ) (told before after : Option (List ℕ)) (faults_before faults_after : ℕ) : Type 0 where
+  pub outcome : Outcome
+  pub status_is : status ≡ status_of outcome
+  pub reported : Reports before after faults_before faults_after (line_of outcome)
+  pub demanded : IsTheTexts outcome → IfSome told (λ bytes. Demands bytes outcome)
 
 -- the source was read to its end, and the table was written whole
 pub record IsSolved (bytes : List ℕ) (left before after : Option (List ℕ)) : Type 0 where
@@ -48,16 +78,10 @@ pub record IsCutOff (bytes : List ℕ) (left before after : Option (List ℕ)) :
   pub written : GainsPart before after text
   pub read : left ≡ Some []
 
--- an outcome has this status
-abbrev pub IsStatus : ℕ → Type 0
-IsStatus status = (outcome : Outcome) × (status ≡ status_of outcome)
+-- the source was read to its end, or to one byte past the limit of a plant text
+abbrev pub IsReadToTheLimit : List ℕ → Option (List ℕ) → Type 0
+IsReadToTheLimit bytes left = left ≡ Some (drop 65537 bytes)
 
--- the line of a status
-abbrev pub line_at : ℕ → List ℕ
-line_at status =
-    if status == 2 then codes "usage\n" else (if status == 6 then codes "read fault\n" else (if status == 8 then codes "no memory\n" else (if status == 9 then codes "unbuilt: plant\n" else [])))
-
--- a narrow plant is solved and any other text is unbuilt, unless there is no memory
-pub record IsCompleteAnswer (status : ℕ) (bytes : List ℕ) : Type 0 where
-  pub narrow : (p : Description) → IsNarrowText bytes p → (status ≡ 0) ⊎ (status ≡ 8)
-  pub other : ((p : Description) → IsNarrowText bytes p → ⊥) → (status ≡ 9) ⊎ (status ≡ 8)
+-- whatever a text demands is answered, unless there is no memory
+abbrev pub IsCompleteAnswer : ℕ → List ℕ → Type 0
+IsCompleteAnswer status bytes = (outcome : Outcome) → Demands bytes outcome → (status ≡ status_of outcome) ⊎ (status ≡ 8)

@@ -5,12 +5,16 @@ ghost use Rattle.game_core.specs.declared.game.Row.{Row};
 ghost use Rattle.game_core.specs.Game.{Game};
 ghost use Rattle.game_core.specs.Solution.{IsReachSolution};
 ghost use Rattle.plant_text.specs.Description.{Description};
-ghost use Rattle.synth_run.specs.Abstraction.{IsGameOf};
+ghost use Rattle.plant_text.specs.declared.variables.GoalKind.TheVariants.{Reach};
+ghost use Rattle.abstraction_table.specs.Abstraction.{IsGameOf};
 ghost use Rattle.synth_run.specs.Choice.{AreRowsOf, IsChoice};
-ghost use Rattle.synth_run.specs.Laws.{OneTablePerText};
+ghost use Rattle.synth_run.specs.Laws.{OneTablePerText, OneDemandPerText};
 
+use abstraction_table::laws::one_edge_count;
 use game_core::laws::ranks_are_below_the_cells;
-use plant_text::laws::{numbers_are_words, one_plant_at_the_front};
+use plant_text::laws::{
+    numbers_are_words, one_plant_at_the_front, one_plant_per_text, one_refusal, read_or_refused,
+};
 
 /// No text is the table of two plants, or of one plant with other rows.
 pub fn one_table_per_text()
@@ -29,7 +33,17 @@ pub fn one_choice()
 
 /// The rows of the solution of a plant's game fit the plant.
 pub fn solution_fits()
-    ensures { (p : Description) (g : Game) (rows : List (Option Row)) → IsGameOf p g → IsReachSolution g rows → AreRowsOf p rows }
+    ensures { (p : Description) (g : Game) (rows : List (Option Row)) → p.goal ≡ Reach → IsGameOf p g → IsReachSolution g rows → AreRowsOf p rows }
 {
     ranks_are_below_the_cells();
+}
+
+/// A text demands one thing: one refusal, or to be solved.
+pub fn one_demand_per_text()
+    ensures { OneDemandPerText }
+{
+    one_plant_per_text();
+    one_refusal();
+    read_or_refused();
+    one_edge_count();
 }

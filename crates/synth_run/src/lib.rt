@@ -2,20 +2,16 @@
 //!
 //! `run` goes from the words and bytes that it is given to the bytes that it writes: its clauses say
 //! what each status means, and that status 0 of `synth` means the plant's table. Stands on
-//! `plant_text`, `game_core` and the crates below.
+//! `plant_text`, `abstraction_table`, `game_core` and the crates below.
 #![tactic(auto)]
 
-mod abstraction;
-mod boxes;
 mod devices;
 mod form;
 mod gate;
 pub mod laws;
 mod memory;
 mod outcome;
-mod plant_game;
 mod solving;
-mod sources;
 mod table;
 mod top;
 mod transfer;

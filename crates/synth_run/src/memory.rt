@@ -19,6 +19,12 @@ impl From<AllocError> for NoMemory {
     }
 }
 
+impl From<plant_text::NoMemory> for NoMemory {
+    fn from(_refused: plant_text::NoMemory) -> NoMemory {
+        NoMemory
+    }
+}
+
 /// A source over bytes in memory, of which chosen calls fail.
 #[derive(Drop)]
 pub struct MemorySource {

@@ -1,18 +1,81 @@
 ghost use Rattle.std.specs.Prelude.{◌≡◌};
-ghost use Rattle.synth_run.specs.Statuses.{status_of, line_of, Reports};
+ghost use Rattle.synth_run.specs.declared.outcome.Outcome.TheVariants as ends;
+ghost use Rattle.synth_run.specs.Statuses.{status_of, line_of, limit_words, Reports};
+ghost use Rattle.synth_run.specs.Causes.{of_plant, of_slopes, of_build};
 
 use crate::devices::Sink;
-use crate::transfer::write_whole;
+use crate::memory::NoMemory;
+use crate::transfer::write_pieces;
+use abstraction_table::BuildFault;
+use itoa::Buffer;
+use plant_text::{LimitKind, PlantFault};
+use successor_box::SlopeFault;
 
 /// How a run ended.
 #[derive(Clone, Copy, Debug, PartialEq, Eq)]
 pub enum Outcome {
     Done,
     Usage,
+    Malformed { line: u32 },
+    Overflow { equation: u32, input: u32 },
+    Limit { what: LimitKind },
     ReadFault,
     WriteFault,
     NoMemory,
+    /// The plant is to be kept off its obstacles, which isn't solved yet.
     Unbuilt,
+}
+
+impl From<PlantFault> for Outcome {
+    ghost from_gives = { λ fault outcome. outcome ≡ of_plant fault };
+
+    fn from(fault: PlantFault) -> Outcome {
+        match fault {
+            PlantFault::Malformed { line } => Outcome::Malformed { line },
+            PlantFault::Limit { what } => Outcome::Limit { what },
+            PlantFault::Memory => Outcome::NoMemory,
+        }
+    }
+}
+
+impl From<SlopeFault> for Outcome {
+    ghost from_gives = { λ fault outcome. outcome ≡ of_slopes fault };
+
+    fn from(fault: SlopeFault) -> Outcome {
+        match fault {
+            SlopeFault::Overflow { equation, input } => Outcome::Overflow { equation, input },
+            SlopeFault::Memory => Outcome::NoMemory,
+        }
+    }
+}
+
+impl From<BuildFault> for Outcome {
+    ghost from_gives = { λ fault outcome. outcome ≡ of_build fault };
+
+    fn from(fault: BuildFault) -> Outcome {
+        match fault {
+            BuildFault::TooManyEdges { .. } => Outcome::Limit {
+                what: LimitKind::Edges,
+            },
+            BuildFault::Memory => Outcome::NoMemory,
+        }
+    }
+}
+
+impl From<game_core::NoMemory> for Outcome {
+    ghost from_gives = { λ _ outcome. outcome ≡ ends.NoMemory };
+
+    fn from(_refused: game_core::NoMemory) -> Outcome {
+        Outcome::NoMemory
+    }
+}
+
+impl From<NoMemory> for Outcome {
+    ghost from_gives = { λ _ outcome. outcome ≡ ends.NoMemory };
+
+    fn from(_refused: NoMemory) -> Outcome {
+        Outcome::NoMemory
+    }
 }
 
 impl Outcome {
@@ -23,6 +86,9 @@ impl Outcome {
         match self {
             Outcome::Done => 0,
             Outcome::Usage => 2,
+            Outcome::Malformed { .. } => 3,
+            Outcome::Overflow { .. } => 4,
+            Outcome::Limit { .. } => 5,
             Outcome::ReadFault => 6,
             Outcome::WriteFault => 7,
             Outcome::NoMemory => 8,
@@ -30,23 +96,45 @@ impl Outcome {
         }
     }
 
-    /// The line on the error sink.
-    fn line(self) -> &'static [u8]
-        ensures { result.now ≡ line_of self }
-    {
-        match self {
-            Outcome::Done | Outcome::WriteFault => b"",
-            Outcome::Usage => b"usage\n",
-            Outcome::ReadFault => b"read fault\n",
-            Outcome::NoMemory => b"no memory\n",
-            Outcome::Unbuilt => b"unbuilt: plant\n",
-        }
-    }
-
     /// Writes the line; a sink that fails gets a part of it.
     pub fn report<E: Sink>(self, err: &mut E)
         ensures { Reports (E.got err.old) (E.got err.new) (E.faults err.old) (E.faults err.new) (line_of self) }
     {
-        let _ = write_whole(err, self.line());
+        let mut first = Buffer::new();
+        let mut second = Buffer::new();
+        let _ = match self {
+            Outcome::Done | Outcome::WriteFault => Ok(()),
+            Outcome::Usage => write_pieces(err, &[b"usage\n"]),
+            Outcome::Malformed { line } => {
+                let line = first.format(line).as_bytes();
+                write_pieces(err, &[b"malformed: line ", line, b"\n"])
+            }
+            Outcome::Overflow { equation, input } => {
+                let equation = first.format(equation).as_bytes();
+                let input = second.format(input).as_bytes();
+                write_pieces(
+                    err,
+                    &[b"overflow: equation ", equation, b" input ", input, b"\n"],
+                )
+            }
+            Outcome::Limit { what } => write_pieces(err, &[b"limit: ", words_of(what), b"\n"]),
+            Outcome::ReadFault => write_pieces(err, &[b"read fault\n"]),
+            Outcome::NoMemory => write_pieces(err, &[b"no memory\n"]),
+            Outcome::Unbuilt => write_pieces(err, &[b"unbuilt: goal\n"]),
+        };
+    }
+}
+
+/// The words of a limit.
+fn words_of(what: LimitKind) -> &'static [u8]
+    ensures { result.now ≡ limit_words what }
+{
+    match what {
+        LimitKind::PlantText => b"plant text",
+        LimitKind::TableText => b"table text",
+        LimitKind::Vectors => b"vectors",
+        LimitKind::Cells => b"cells",
+        LimitKind::Pairs => b"pairs",
+        LimitKind::Edges => b"edges",
     }
 }

@@ -1,48 +1,68 @@
 // From the bytes of a plant's text to the text of its table.
 
-ghost use Rattle.std.specs.Prelude.{◌≡◌, Err, IfOk};
-ghost use Rattle.plant_text.specs.Description.{Description};
-ghost use Rattle.plant_text.specs.Narrow.{IsNarrowText};
-ghost use Rattle.synth_run.specs.Headline.{IsTableFor};
+ghost use Rattle.std.specs.Prelude.{◌≡◌, ◌≢◌, IfOk, IfErr};
+ghost use Rattle.plant_text.specs.declared.variables.GoalKind.TheVariants.{Reach};
+ghost use Rattle.synth_run.specs.declared.outcome.Outcome.TheVariants.{Done, NoMemory};
+ghost use Rattle.synth_run.specs.Demands.{Demands, PlantDemands};
+ghost use Rattle.synth_run.specs.Headline.{IsTableOf, IsTableFor};
 
-use crate::abstraction::game_of;
 use crate::laws::{one_table_per_text, solution_fits};
-use crate::memory::NoMemory;
+use crate::outcome::Outcome;
 use crate::table::table_text;
+use abstraction_table::build;
+use abstraction_table::laws::games_refine_their_plants;
 use game_core::laws::rows_lead_to_goals;
 use game_core::solve_plain;
-use grid_quantiser::laws::centre_is_near;
-use growth_bound::laws::values_move_by_at_most_the_deviation;
-use plant_text::laws::narrow_plants_are_sound;
-use plant_text::{NarrowFault, Plant, read_narrow};
+use plant_text::laws::every_plant_is_within_limits;
+use plant_text::{GoalKind, Plant, read_plant};
 use std::alloc::Global;
+use std::thread::Threads;
+use successor_box::find_slopes;
 
 /// The text of the table of the plant that the bytes spell.
-pub fn table_of(alloc: Global, bytes: &[u8]) -> Result<Vec<u8>, NarrowFault>
+pub fn table_of<R: Threads + Sync>(rt: &R, alloc: Global, bytes: &[u8]) -> Result<Vec<u8>, Outcome>
     ensures table { IfOk result (λ text. IsTableFor bytes.now text.items) }
-    ensures unbuilt { result ≡ Err NarrowFault.Unbuilt → (p : Description) → IsNarrowText bytes.now p → ⊥ }
+    ensures demanded { IfErr result (λ outcome. outcome ≢ NoMemory → Demands bytes.now outcome) }
+    ensures failed { IfErr result (λ outcome. outcome ≢ Done) }
 {
-    let plant = read_narrow(alloc, bytes)?;
-    match table_of_plant(alloc, bytes, &plant) {
-        Ok(text) => Ok(text),
-        Err(_) => Err(NarrowFault::Memory),
+    let plant = read_plant(alloc, bytes)?;
+    table_of_plant(rt, alloc, &plant)
+}
+
+/// The text of the table of a plant.
+fn table_of_plant<R: Threads + Sync>(
+    rt: &R,
+    alloc: Global,
+    plant: &Plant,
+) -> Result<Vec<u8>, Outcome>
+    ensures table { IfOk result (λ text. IsTableOf plant.now text.items) }
+    ensures demanded { IfErr result (λ outcome. outcome ≢ NoMemory → PlantDemands plant.now outcome) }
+    ensures failed { IfErr result (λ outcome. outcome ≢ Done) }
+{
+    match plant.goal() {
+        GoalKind::Keep => Err(Outcome::Unbuilt),
+        GoalKind::Reach => reach_table_of(rt, alloc, plant),
     }
 }
 
-/// The same of a plant, whose text the bytes are.
-fn table_of_plant(alloc: Global, bytes: &[u8], plant: &Plant) -> Result<Vec<u8>, NoMemory>
-    requires { IsNarrowText bytes.now plant.now }
-    ensures { IfOk result (λ text. IsTableFor bytes.now text.items) }
+/// The text of the table of a plant that is to reach a target.
+fn reach_table_of<R: Threads + Sync>(
+    rt: &R,
+    alloc: Global,
+    plant: &Plant,
+) -> Result<Vec<u8>, Outcome>
+    requires { plant.now.goal ≡ Reach }
+    ensures table { IfOk result (λ text. IsTableOf plant.now text.items) }
+    ensures demanded { IfErr result (λ outcome. outcome ≢ NoMemory → PlantDemands plant.now outcome) }
+    ensures failed { IfErr result (λ outcome. outcome ≢ Done) }
 {
-    centre_is_near();
-    values_move_by_at_most_the_deviation();
+    every_plant_is_within_limits(plant);
+    games_refine_their_plants();
     rows_lead_to_goals();
     solution_fits();
     one_table_per_text();
-    narrow_plants_are_sound();
-    let game = game_of(alloc, plant)?;
-    match solve_plain(alloc, &game) {
-        Ok(answer) => table_text(alloc, bytes, &answer),
-        Err(_) => Err(NoMemory),
-    }
+    let slopes = find_slopes(alloc, plant)?;
+    let game = build(rt, alloc, plant, &slopes)?;
+    let answer = solve_plain(alloc, &game)?;
+    Ok(table_text(alloc, plant, &answer)?)
 }

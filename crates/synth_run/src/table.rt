@@ -10,20 +10,15 @@ ghost use Rattle.synth_run.specs.TableText.{table_text, row_line, row_lines, row
 use crate::memory::NoMemory;
 use game_core::{Answer, Row};
 use itoa::Buffer;
+use plant_text::{Plant, write_plant};
 use std::alloc::{AllocError, Global};
 
-/// The text of a reach table, from the bytes of the plant's canonical text.
-pub fn table_text(alloc: Global, plant: &[u8], answer: &Answer) -> Result<Vec<u8>, NoMemory>
-    ensures { IfOk result (λ text. (p : Description) → plant.now ≡ text_of p → text.items ≡ table_text p answer.now) }
-{
-    Ok(written(alloc, plant, answer)?)
-}
-
-fn written(alloc: Global, plant: &[u8], answer: &Answer) -> Result<Vec<u8>, AllocError>
-    ensures { IfOk result (λ text. text.items ≡ codes "table 1\n" ++ (plant.now ++ (codes "rows " ++ (decimal (row_count answer.now) ++ (codes "\n" ++ (row_lines 0 answer.now ++ codes "end\n")))))) }
+/// The text of a reach table of a plant.
+pub fn table_text(alloc: Global, plant: &Plant, answer: &Answer) -> Result<Vec<u8>, NoMemory>
+    ensures { IfOk result (λ text. text.items ≡ table_text plant.now answer.now) }
 {
     let mut text = Vec::from_slice(alloc, b"table 1\n")?;
-    text.extend_from_slice(plant)?;
+    write_plant(alloc, plant, &mut text)?;
     text.extend_from_slice(b"rows ")?;
     push_number(&mut text, count_rows(answer))?;
     text.extend_from_slice(b"\n")?;
@@ -82,6 +77,7 @@ fn push_number(text: &mut Vec<u8>, number: u32) -> Result<(), AllocError>
 #[cfg(test)]
 mod tests {
     use super::*;
+    use plant_text::read_plant;
     use std::test::Fail;
 
     // x' = x + u on 0 to 14 in cells of three, with u of -3 or 3, and the target 12 to 14: its cell 4
@@ -93,7 +89,8 @@ mod tests {
         let mut answer = Answer::blank(rt.alloc(), 5)?;
         answer.set(4, Some(Row { rank: 0, input: 0 }));
         answer.set(3, Some(Row { rank: 1, input: 1 }));
-        let text = table_text(rt.alloc(), PLANT, &answer)?;
+        let plant = read_plant(rt.alloc(), PLANT)?;
+        let text = table_text(rt.alloc(), &plant, &answer)?;
         let want = [b"table 1\n", PLANT, b"rows 2\n3 1 1\n4 0 -\nend\n"].concat(rt.alloc())?;
         assert_eq!(rt; text, want);
         Ok(())

@@ -1,6 +1,7 @@
 // Reading a source to its end, and writing a whole text.
 
-ghost use Rattle.std.specs.Prelude.{◌≡◌, Ok, IfOk, OnOk, OnErr, Err};
+ghost use Rattle.std.specs.List.{flat_map};
+ghost use Rattle.std.specs.Prelude.{◌≡◌, ◌≤◌, Ok, IfOk, OnOk, OnErr, Err};
 ghost use Rattle.synth_run.specs.Devices.{Rose, Gains, GainsPart, ReadUpTo};
 ghost use Rattle.synth_run.specs.declared.transfer.ReadFault.TheVariants.{Memory, Device};
 
@@ -57,12 +58,25 @@ pub fn write_whole<O: Sink>(out: &mut O, text: &[u8]) -> Result<(), Failed>
     ensures whole { OnOk result (Gains (O.got out.old) (O.got out.new) text.now) }
     ensures part { OnErr result (GainsPart (O.got out.old) (O.got out.new) text.now) }
     ensures failed { OnErr result (Rose (O.faults out.old) (O.faults out.new)) }
+    ensures never_falls { O.faults out.old ≤ O.faults out.new }
 {
     let mut rest = text;
     while !rest.is_empty() {
         let n = out.write(rest)?;
         let (_, after) = rest.split_at(n);
         rest = after;
+    }
+    Ok(())
+}
+
+/// Writes a text in pieces; a failed write ends it.
+pub fn write_pieces<O: Sink>(out: &mut O, pieces: &[&[u8]]) -> Result<(), Failed>
+    ensures whole { OnOk result (Gains (O.got out.old) (O.got out.new) (flat_map (λ piece. piece.now) pieces.now)) }
+    ensures part { OnErr result (GainsPart (O.got out.old) (O.got out.new) (flat_map (λ piece. piece.now) pieces.now)) }
+    ensures failed { OnErr result (Rose (O.faults out.old) (O.faults out.new)) }
+{
+    for piece in pieces {
+        write_whole(out, piece)?;
     }
     Ok(())
 }

@@ -1,5 +1,6 @@
-use Rattle.plant_text.proofs.Allowed.{one_plant}
+use Rattle.plant_text.proofs.LineLaws.{one_statement, passed_over}
+use Rattle.plant_text.proofs.Leading.{one_plant}
 use Rattle.plant_text.proofs.laws.one_plant_per_text.Goals as goal
 
 pub returns : goal.returns
-returns c = one_plant
+returns c = one_plant one_statement passed_over

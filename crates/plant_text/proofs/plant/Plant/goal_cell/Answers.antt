@@ -1,7 +1,19 @@
-use Rattle.plant_text.proofs.Shape.{goal_of}
+use Rattle.std.proofs.Common.{length, map}
+use Rattle.std.proofs.lemmas.List.{length-map}
+use Rattle.plant_text.specs.Description.{axis_of}
+use Rattle.plant_text.specs.Kept.{described}
+use Rattle.plant_text.proofs.CheckedBoxes.{boxes_ordered, goal_is}
 use Rattle.plant_text.proofs.plant.Plant.goal_cell.Goals as goal
 
-pub returns : goal.returns
-returns c =
-    let l = goal_of _ c.self.invariant.narrow c.index.result.now c.args.c c.index.ensures in
-    rw (← c.self.view_is) ((λ r. l.0 (rw (← c.self.view_is) at c.lies_inside.ensures.0 r)), (λ g. rw (← c.self.view_is) at (c.lies_inside.ensures.1) (l.1 g)))
+pub lies_in_one-requires-clause-ordered : goal.lies_in_one-requires-clause-ordered
+lies_in_one-requires-clause-ordered c =
+    rw (c.deref.ensures.value, c.self.invariant.grid)
+    (boxes_ordered (length c.self.inside.states.items) (map axis_of c.self.inside.states.items) c.self.inside.targets.items (length-map c.self.inside.states.items axis_of) c.self.invariant.limits.plant.targets)
+
+pub returns-then-not-obstacle_cell : goal.returns-then-not-obstacle_cell
+returns-then-not-obstacle_cell c =
+    let p = described c.self.inside.states.items c.self.inside.inputs.items c.self.inside.noises.items c.self.inside.equations.items c.self.inside.targets.items c.self.inside.obstacles.items c.self.inside.goal in
+    rw (← c.self.view_is)
+    (goal_is p c.args.c c.obstacle_cell.result c.lies_in_one.result c.if-not-obstacle_cell.true
+    (rw (← c.self.view_is) at c.obstacle_cell.ensures)
+    (rw (c.deref.ensures.value, c.self.invariant.grid) at c.lies_in_one.ensures))

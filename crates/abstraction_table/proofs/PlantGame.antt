@@ -1,0 +1,116 @@
+-- The marks and the boxes of a plant make its game.
+use Rattle.std.proofs.Common.{◌≡◌, ℕ, ◌+◌, ◌*◌, ◌/◌, ◌%◌, ◌^◌, ◌<◌, ◌≤◌, List, [], ◌∷◌, All, Option, Some, None, length, map, get_or, refl, sym, ap, subst, ◌∙◌, arith}
+use Rattle.std.specs.Prelude.{sum_by}
+use Rattle.std.specs.List.Sorted.{IsStrictlyIncreasing}
+use Rattle.std.proofs.lemmas.Option.{IfSome_then}
+use Rattle.std.proofs.lemmas.List.{length-map, get_or_default}
+use Rattle.std.proofs.lemmas.List.Elements.{All-head, All-tail, All-map, All-weaker}
+use Rattle.std.proofs.lemmas.List.Folds.{fold-map}
+use Rattle.std.proofs.lemmas.Nat.{div-add-mod', div_below, mod_below}
+use Rattle.std.proofs.Math.Nat.{mul-pos, mul_comm}
+use Rattle.grid_quantiser.specs.declared.axis.Axis.{Axis}
+use Rattle.grid_quantiser.specs.declared.boxes.CellBox.{CellBox}
+use Rattle.grid_quantiser.specs.Axes.{IsAxis, AreAxes, cells_of}
+use Rattle.grid_quantiser.specs.Laws.{BoxesHaveCells}
+use Rattle.game_core.specs.declared.game.Mark.{Mark}
+use Rattle.game_core.specs.Game.{Game, IsGame}
+use Rattle.plant_text.specs.declared.variables.InputVariable.{InputVariable}
+use Rattle.plant_text.specs.Description.{Description, axes_of, vectors_of}
+use Rattle.plant_text.specs.Variables.{IsInputVariable}
+use Rattle.plant_text.specs.Plants.{IsWithinLimits}
+use Rattle.plant_text.specs.Laws.{PlantsAreSound}
+use Rattle.successor_box.specs.Boxes.{AreSuccessors, IsBoxOf, cells_in}
+use Rattle.successor_box.specs.Laws.{BoxesHoldTheSuccessors}
+use Rattle.abstraction_table.specs.Abstraction.{IsGameOf, pairs_of, pair_of, box_at, AreBoxesOf, AreEdges}
+use Rattle.abstraction_table.specs.BoxGame.{box_game, IsBox, IsKept, AreMarksOf, AreSourceRows}
+use Rattle.abstraction_table.specs.Tallies.{edges_of}
+use Rattle.abstraction_table.proofs.LeadingPairs.{successors_are}
+use Rattle.abstraction_table.proofs.PairBoxes.{pair_below}
+use Rattle.abstraction_table.proofs.SourceSteps.{box_cells}
+
+-- axes have a cell
+some_cells : (axes : List Axis) → All IsAxis axes → 1 ≤ cells_of axes
+some_cells [] each = omega arith
+some_cells (a ∷ axes) each =
+    let some : 0 < a.count = omega (arith, (All-head IsAxis a axes each).some_cell) in
+    mul-pos some (some_cells axes (All-tail IsAxis a axes each))
+
+-- inputs have a vector
+some_vectors : (inputs : List InputVariable) → All IsInputVariable inputs → 1 ≤ vectors_of inputs
+some_vectors [] each = omega arith
+some_vectors (i ∷ inputs) each =
+    let some : 0 < length i.values = omega (arith, (All-head IsInputVariable i inputs each).some_value) in
+    mul-pos some (some_vectors inputs (All-tail IsInputVariable i inputs each))
+
+-- What the layers below say: of every plant, of every box of cells, of every pair's box.
+pub record Laws : Type 0 where
+  pub sound : PlantsAreSound
+  pub cells : BoxesHaveCells
+  pub successors : BoxesHoldTheSuccessors
+
+module _ (p : Description) (limits : IsWithinLimits p) (boxes : List (Option CellBox)) (boxes_of : AreBoxesOf p boxes) where
+  -- each box is that of a pair
+  box_of : (pair : ℕ) → pair < length boxes → IsBoxOf p (pair / vectors_of p.inputs) (pair % vectors_of p.inputs) (box_at boxes pair)
+  box_of pair below =
+      let vectors = vectors_of p.inputs in
+      let some : 0 < vectors = some_vectors p.inputs limits.plant.inputs in
+      let within : pair < cells_of (axes_of p) * vectors = omega (arith, below, boxes_of.one_each) in
+      subst (λ (k : ℕ). IsBoxOf p (pair / vectors) (pair % vectors) (box_at boxes k)) (div-add-mod' pair vectors)
+      (boxes_of.each (pair / vectors) (pair % vectors) (div_below pair vectors (cells_of (axes_of p)) some within) (mod_below pair vectors some))
+
+  -- the corners of each box are in order
+  pub ordered : All (IsBox (axes_of p)) boxes
+  ordered = λ k d lt.
+      subst (IsBox (axes_of p)) (get_or_default boxes k None d lt) (IfSome_then (box_at boxes k) (box_of k lt).corners (λ b meets. meets.ordered))
+
+  module _ (laws : Laws) where
+    axes : AreAxes (axes_of p)
+    axes = (laws.sound p limits.plant).axes
+
+    abbrev lists : List (List ℕ)
+    lists = map (cells_in (axes_of p)) boxes
+
+    one_list_each : length lists ≡ pairs_of p
+    one_list_each = length-map boxes (cells_in (axes_of p)) ∙ boxes_of.one_each
+
+    total : sum_by length lists ≡ edges_of (axes_of p) boxes
+    total = fold-map (λ (n : ℕ) (xs : List ℕ). n + length xs) (cells_in (axes_of p)) 0 boxes
+
+    lists_are : (c u : ℕ) → c < cells_of (axes_of p) → u < vectors_of p.inputs → AreSuccessors p c u (get_or lists (pair_of p c u) [])
+    lists_are c u cell input =
+        subst (AreSuccessors p c u) (sym (successors_are (axes_of p) (vectors_of p.inputs) [] boxes (pair_of p c u))) (laws.successors p c u (box_at boxes (pair_of p c u)) (boxes_of.each c u cell input))
+
+    -- the cells of all boxes are the plant's edges
+    pub are_edges : (n : ℕ) → n ≡ edges_of (axes_of p) boxes → AreEdges p n
+    are_edges n is = record { lists = lists; one_each = one_list_each; each = lists_are; total = is ∙ sym total }
+
+    module _ (marks : List Mark) (marks_of : AreMarksOf p marks) (few : edges_of (axes_of p) boxes ≤ 2 ^ 25) where
+      abbrev game : Game
+      game = box_game (axes_of p) (vectors_of p.inputs) marks boxes
+
+      is_game : IsGame game
+      is_game = record {
+        some_cell = some_cells (axes_of p) axes.each;
+        cells_bound = limits.cells;
+        some_input = some_vectors p.inputs limits.plant.inputs;
+        inputs_bound = limits.vectors;
+        pairs_bound = limits.pairs;
+        one_mark_each = marks_of.one_each;
+        one_list_each = one_list_each;
+        rising = All-map IsStrictlyIncreasing (cells_in (axes_of p)) boxes (All-weaker (IsBox (axes_of p)) (λ b. IsStrictlyIncreasing (cells_in (axes_of p) b)) (λ b box. (box_cells laws.cells (axes_of p) b axes box).rising) boxes ordered);
+        within = All-map (λ cells. All (λ c. c < cells_of (axes_of p)) cells) (cells_in (axes_of p)) boxes (All-weaker (IsBox (axes_of p)) (λ b. All (λ c. c < cells_of (axes_of p)) (cells_in (axes_of p) b)) (λ b box. (box_cells laws.cells (axes_of p) b axes box).within) boxes ordered);
+        edges_bound = omega (arith, total, few);
+      }
+
+      pub kept : (rows : List (List ℕ)) → AreSourceRows (axes_of p) boxes rows → IsKept (axes_of p) (vectors_of p.inputs) marks boxes rows
+      kept rows sources = record { game = is_game; ordered = ordered; sources = sources }
+
+      pub is_game_of : IsGameOf p game
+      is_game_of = record {
+        game = is_game;
+        cells = refl;
+        inputs = refl;
+        goals = λ c lt. (marks_of.each c lt).0;
+        obstacles = λ c lt. (marks_of.each c lt).1;
+        successors = lists_are;
+      }

@@ -1,0 +1,12 @@
+use Rattle.std.proofs.Common.{◌≡◌, ℕ, ◌∙◌, List, length, sym, subst}
+use Rattle.std.proofs.lemmas.List.{length-map}
+use Rattle.game_core.specs.Game.{AreSources}
+use Rattle.abstraction_table.specs.Table.{game_of}
+use Rattle.abstraction_table.proofs.LeadingPairs.{sources_are}
+use Rattle.abstraction_table.proofs.abstraction.AbstractionGraph.sources.Goals as goal
+
+pub returns : goal.returns
+returns c =
+    let a = c.args.self.now in
+    let one_each : length a.boxes.items ≡ _ = sym (length-map a.boxes.items _) ∙ a.kept.game.one_list_each in
+    subst (λ (pairs : List ℕ). AreSources (game_of a) c.args.c pairs) (sym (c.row.ensures ∙ a.kept.sources.each c.args.c c.requires)) (sources_are a.grid a.inputs a.marks.items a.boxes.items c.args.c one_each)

@@ -1,0 +1,11 @@
+-- Why a plant has no abstraction.
+use Rattle.std.specs.Prelude.{ℕ, ◌^◌, ◌<◌}
+use Rattle.plant_text.specs.Description.{Description}
+use Rattle.abstraction_table.specs.declared.fault.BuildFault.{BuildFault}
+use Rattle.abstraction_table.specs.declared.fault.BuildFault.TheVariants.{TooManyEdges, Memory}
+use Rattle.abstraction_table.specs.Abstraction.{AreEdges}
+
+-- what a fault says of the plant: the number of its edges, which is past the limit
+abbrev pub IsFaultOf : Description → BuildFault → Type 0
+IsFaultOf p (TooManyEdges edges) = AreEdges p edges × (2 ^ 25 < edges)
+IsFaultOf p Memory = Unit {0}

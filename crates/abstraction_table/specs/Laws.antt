@@ -1,0 +1,19 @@
+-- What holds of the game of every plant.
+use Rattle.std.specs.Prelude.{◌≡◌, ℕ, List, length, sum_by}
+use Rattle.game_core.specs.Game.{Game}
+use Rattle.plant_text.specs.Description.{Description}
+use Rattle.plant_text.specs.Plants.{IsPlant}
+use Rattle.abstraction_table.specs.Abstraction.{IsGameOf, AreEdges}
+use Rattle.abstraction_table.specs.Refinement.{IsRefinement}
+
+-- a game refines the plant whose game it is
+abbrev pub GamesRefineTheirPlants : Type 0
+GamesRefineTheirPlants = (p : Description) (g : Game) → IsPlant p → IsGameOf p g → IsRefinement p g
+
+-- a plant has one number of edges
+abbrev pub OneEdgeCount : Type 0
+OneEdgeCount = (p : Description) (m n : ℕ) → IsPlant p → AreEdges p m → AreEdges p n → m ≡ n
+
+-- the lists of successors of a plant's game have all its edges
+abbrev pub GamesCountTheirEdges : Type 0
+GamesCountTheirEdges = (p : Description) (g : Game) → IsGameOf p g → AreEdges p (sum_by length g.successors)

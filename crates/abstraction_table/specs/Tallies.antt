@@ -1,0 +1,37 @@
+-- How often numbers occur among cells, and where pairs are put for them. No public clause names this.
+use Rattle.std.specs.Prelude.{◌≡◌, ℕ, ◌+◌, ◌<◌, ◌≤◌, ◌==◌, List, ◌++◌, length, replicate, slice_index, sum, sum_by, count_by, Option}
+use Rattle.grid_quantiser.specs.declared.axis.Axis.{Axis}
+use Rattle.grid_quantiser.specs.declared.boxes.CellBox.{CellBox}
+use Rattle.grid_quantiser.specs.Axes.{cells_of}
+use Rattle.edge_rows.specs.Rows.{Filling, row_at, HasRoom}
+use Rattle.successor_box.specs.Boxes.{cells_in}
+use Rattle.abstraction_table.specs.BoxGame.{sources_among}
+
+-- how often a cell stands among cells
+abbrev pub times : ℕ → List ℕ → ℕ
+times c cells = count_by (λ x. c == x) cells
+
+-- Each cell's count has grown by how often it stands among cells.
+pub record AreCounted (before after cells : List ℕ) : Type 0 where
+  pub long : length after ≡ length before
+  pub each : (c : ℕ) → slice_index after c ≡ slice_index before c + times c cells
+  pub total : sum after ≡ sum before + length cells
+
+-- A pair was put at the end of each cell's row, as often as the cell stands among cells.
+pub record ArePut (pair : ℕ) (before after : Filling) (cells : List ℕ) : Type 0 where
+  pub long : length after.rows ≡ length before.rows
+  pub lengths : after.lengths ≡ before.lengths
+  pub each : (c : ℕ) → c < length before.rows → row_at after.rows c ≡ row_at before.rows c ++ replicate (times c cells) pair
+
+-- There is room for a pair at each of the cells.
+abbrev pub HasRoomFor : Filling → List ℕ → Type 0
+HasRoomFor f cells = (c : ℕ) → c < length f.rows → length (row_at f.rows c) + times c cells ≤ slice_index f.lengths c
+
+-- how many edges boxes have
+abbrev pub edges_of : List Axis → List (Option CellBox) → ℕ
+edges_of axes boxes = sum_by (λ b. length (cells_in axes b)) boxes
+
+-- The count of each cell is how many of the first n pairs lead to it.
+pub record AreCountsAmong (axes : List Axis) (boxes : List (Option CellBox)) (n : ℕ) (counts : List ℕ) : Type 0 where
+  pub one_each : length counts ≡ cells_of axes
+  pub each : (c : ℕ) → c < cells_of axes → slice_index counts c ≡ length (sources_among axes boxes n c)

@@ -1,0 +1,58 @@
+//! Building the abstraction of a plant.
+ghost use Rattle.std.specs.Prelude.{◌≡◌, IfOk, IfErr};
+ghost use Rattle.successor_box.specs.Slopes.{HasNoOverflow, slopes_of};
+ghost use Rattle.abstraction_table.specs.Abstraction.{IsGameOf, AreBoxesOf};
+ghost use Rattle.abstraction_table.specs.Faults.{IsFaultOf};
+ghost use Rattle.abstraction_table.specs.Table.{game_of, boxes_of};
+
+use crate::abstraction::Abstraction;
+use crate::boxes::find_boxes;
+use crate::edges::count_edges;
+use crate::fault::BuildFault;
+use crate::marks::find_marks;
+use crate::sources::find_sources;
+use grid_quantiser::laws::cells_of_a_box;
+use plant_text::Plant;
+use plant_text::laws::{every_plant_is_within_limits, plants_are_sound};
+use std::alloc::Global;
+use std::thread::Threads;
+use successor_box::Slopes;
+use successor_box::laws::boxes_hold_the_successors;
+
+/// The most edges of an abstraction.
+const EDGES_LIMIT: u64 = 1 << 25;
+
+/// The abstraction of a plant, by as many threads as there are processors. The number of edges is
+/// known before any edge is kept.
+pub fn build<R: Threads + Sync>(
+    rt: &R,
+    alloc: Global,
+    p: &Plant,
+    s: &Slopes,
+) -> Result<Abstraction, BuildFault>
+    requires slopes { s.now ≡ slopes_of p.now }
+    requires fits { HasNoOverflow p.now }
+    ensures game { IfOk result (λ a. IsGameOf p.now (game_of a)) }
+    ensures boxes { IfOk result (λ a. AreBoxesOf p.now (boxes_of a)) }
+    ensures fault { IfErr result (IsFaultOf p.now) }
+{
+    every_plant_is_within_limits(p);
+    plants_are_sound();
+    cells_of_a_box();
+    boxes_hold_the_successors();
+    let grid = *p.grid();
+    let boxes = find_boxes(rt, alloc, p, s)?;
+    let edges = count_edges(rt, &grid, &boxes);
+    if edges > EDGES_LIMIT {
+        return Err(BuildFault::TooManyEdges { edges });
+    }
+    let marks = find_marks(rt, alloc, p)?;
+    let sources = find_sources(alloc, &grid, &boxes)?;
+    Ok(Abstraction {
+        grid,
+        inputs: p.vectors(),
+        marks,
+        boxes,
+        sources,
+    })
+}

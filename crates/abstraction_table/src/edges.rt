@@ -1,0 +1,41 @@
+//! How many edges boxes have.
+ghost use Rattle.std.specs.Prelude.{◌≡◌, ◌^◌, ◌≤◌, length};
+ghost use Rattle.std.specs.List.{All};
+ghost use Rattle.successor_box.specs.Boxes.{cells_in};
+ghost use Rattle.abstraction_table.specs.BoxGame.{IsBox};
+ghost use Rattle.abstraction_table.specs.Tallies.{edges_of};
+
+use grid_quantiser::laws::{cells_of_a_box, every_grid_is_within_the_limit};
+use grid_quantiser::{CellBox, Grid};
+use rayon::prelude::*;
+use std::thread::Threads;
+
+/// How many cells all boxes have together.
+pub(crate) fn count_edges<R: Threads + Sync>(rt: &R, grid: &Grid, boxes: &[Option<CellBox>]) -> u64
+    requires ordered { All (IsBox grid.now) boxes.now }
+    requires limit { length boxes.now ≤ 2 ^ 22 }
+    ensures { result ≡ edges_of grid.now boxes.now }
+{
+    cells_of_a_box();
+    every_grid_is_within_the_limit(grid);
+    boxes
+        .par_iter()
+        .map(
+            |b: &Option<CellBox>| -> u64
+                requires { IsBox grid.now b.now }
+                ensures { result ≡ length (cells_in grid.entry.now b.now) }
+            { count_cells(grid, *b) },
+        )
+        .sum(rt)
+}
+
+/// How many cells a box has.
+fn count_cells(grid: &Grid, b: Option<CellBox>) -> u64
+    requires { IsBox grid.now b }
+    ensures { result ≡ length (cells_in grid.now b) }
+{
+    match b {
+        Some(b) => grid.box_count(b),
+        None => 0,
+    }
+}

@@ -1,0 +1,36 @@
+//! What holds of the game of every plant.
+
+ghost use Rattle.abstraction_table.specs.Laws.{GamesRefineTheirPlants, OneEdgeCount, GamesCountTheirEdges};
+
+use crate::abstraction::Abstraction;
+use plant_text::laws::plants_are_sound;
+use successor_box::laws::{enabled_pairs_have_successors, steps_lie_in_the_boxes};
+
+/// A game refines the plant whose game it is.
+pub fn games_refine_their_plants()
+    ensures { GamesRefineTheirPlants }
+{
+    plants_are_sound();
+    steps_lie_in_the_boxes();
+    enabled_pairs_have_successors();
+}
+
+/// A plant has one number of edges.
+pub fn one_edge_count()
+    ensures { OneEdgeCount }
+{
+    plants_are_sound();
+    enabled_pairs_have_successors();
+}
+
+/// The lists of successors of a plant's game have all its edges.
+pub fn games_count_their_edges()
+    ensures { GamesCountTheirEdges }
+{}
+
+fn may_cross<T: Send + Sync>() {}
+
+/// Any thread may own an abstraction, and any number of threads may read it at once.
+pub fn threads_may_share() {
+    may_cross::<Abstraction>();
+}

@@ -1,0 +1,78 @@
+use crate::{BuildFault, build};
+use game_core::{Graph, Mark};
+use grid_quantiser::CellBox;
+use plant_text::read_plant;
+use std::test::Fail;
+use successor_box::find_slopes;
+
+/// Each box is 0 to 8190, so 8,192 pairs have 8,191 successors each.
+const WIDE: &[u8] = b"plant 1\nstate x 0 8191 1\nnoise w 0 8190\nnext x = w\ngoal reach\nend\n";
+
+#[test]
+fn too_many_edges(rt: HostRuntime) -> Result<(), Fail> {
+    let plant = read_plant(rt.alloc(), WIDE)?;
+    let slopes = find_slopes(rt.alloc(), &plant)?;
+    assert_eq!(rt;
+        build(&rt, rt.alloc(), &plant, &slopes).err(),
+        Some(BuildFault::TooManyEdges { edges: 67_100_672 })
+    );
+    Ok(())
+}
+
+/// A cell's box is its centre 3 c + 1 plus the input, minus and plus 2.
+///
+/// | cell | u = 4 | u = 7 |
+/// |---|---|---|
+/// | 0 | 3 to 7: cells 1, 2 | 6 to 10: cells 2, 3 |
+/// | 1 | 6 to 10: cells 2, 3 | 9 to 13: cells 3, 4 |
+/// | 2 | 9 to 13: cells 3, 4 | 12 to 16: outside |
+/// | 3, 4 | outside | outside |
+const CORRIDOR: &[u8] =
+    b"plant 1\nstate x 0 14 3\ninput u 4 7\nnoise w -1 1\nnext x = x + u + w\ntarget 9 14\nobstacle 0 0\ngoal reach\nend\n";
+
+#[test]
+fn corridor(rt: HostRuntime) -> Result<(), Fail> {
+    let plant = read_plant(rt.alloc(), CORRIDOR)?;
+    let slopes = find_slopes(rt.alloc(), &plant)?;
+    let game = build(&rt, rt.alloc(), &plant, &slopes)?;
+    assert_eq!(rt; game.cells(), 5);
+    assert_eq!(rt; game.inputs(), 2);
+    assert_eq!(rt; game.mark(0), Mark::Obstacle);
+    assert_eq!(rt; game.mark(2), Mark::Plain);
+    assert_eq!(rt; game.mark(3), Mark::Goal);
+    assert_eq!(rt; game.boxes(3), Some(CellBox { first: 3, last: 4 }));
+    assert_eq!(rt; game.boxes(5), None);
+    assert_eq!(rt; game.fan(5), 0);
+    assert_eq!(rt; game.fan(3), 2);
+    assert_eq!(rt; game.successor(3, 1), 4);
+    assert_eq!(rt; game.sources(0), [].as_slice());
+    assert_eq!(rt; game.sources(1), [0].as_slice());
+    assert_eq!(rt; game.sources(2), [0, 1, 2].as_slice());
+    assert_eq!(rt; game.sources(3), [1, 2, 3, 4].as_slice());
+    assert_eq!(rt; game.sources(4), [3, 4].as_slice());
+    Ok(())
+}
+
+/// Three by four cells of one point. The box of (x, y) is (x - 1, y - 1) to (x + 1, y + 1), which
+/// lies in the domain for the cells 5 and 6 alone.
+const PLANE: &[u8] =
+    b"plant 1\nstate x 0 2 1\nstate y 0 3 1\nnoise v -1 1\nnoise w -1 1\nnext x = x + v\nnext y = y + w\ngoal keep\nend\n";
+
+#[test]
+fn plane(rt: HostRuntime) -> Result<(), Fail> {
+    let plant = read_plant(rt.alloc(), PLANE)?;
+    let slopes = find_slopes(rt.alloc(), &plant)?;
+    let game = build(&rt, rt.alloc(), &plant, &slopes)?;
+    assert_eq!(rt; game.cells(), 12);
+    assert_eq!(rt; game.inputs(), 1);
+    // Places 0 to 2 by 0 to 2.
+    assert_eq!(rt; game.boxes(5), Some(CellBox { first: 0, last: 10 }));
+    assert_eq!(rt; game.fan(5), 9);
+    assert_eq!(rt; game.successor(5, 3), 4);
+    assert_eq!(rt; game.boxes(6), Some(CellBox { first: 1, last: 11 }));
+    assert_eq!(rt; game.boxes(4), None);
+    assert_eq!(rt; game.sources(4), [5].as_slice());
+    assert_eq!(rt; game.sources(9), [5, 6].as_slice());
+    assert_eq!(rt; game.sources(7), [6].as_slice());
+    Ok(())
+}

@@ -1,0 +1,114 @@
+ghost use Rattle.std.specs.Prelude.{◌≡◌, ◌^◌, ◌<◌, ◌≤◌, [], length, IfSome, IfNone};
+ghost use Rattle.grid_quantiser.specs.Boxes.{IsCellBox, cells_between};
+ghost use Rattle.grid_quantiser.specs.Runs.{BeginsWithRun};
+ghost use Rattle.grid_quantiser.specs.RunFields.{AreWheels, next_start, turned};
+
+use crate::boxes::CellBox;
+use crate::grid::Grid;
+use std::marker::Model;
+
+/// A state of an odometer over a box: how far apart its places are, how many steps there are from
+/// its first place to its last, and how many of them are left.
+#[derive(Clone, Copy)]
+pub(crate) struct Wheel {
+    stride: u32,
+    steps: u32,
+    left: u32,
+}
+
+/// A wheel that doesn't turn.
+const STILL: Wheel = Wheel {
+    stride: 0,
+    steps: 0,
+    left: 0,
+};
+
+/// The cells of a box that are still to come, in rising order.
+#[derive(Drop)]
+pub struct Runs {
+    // One for each state but the last, from the last but one to the first.
+    wheels: [Wheel; 5],
+    turning: u32,
+    // The first cell of the next run.
+    next: Option<u32>,
+    side: u32,
+}
+
+impl Model for Runs {
+    ghost use Rattle.std.specs.Prelude.{List, ℕ, take};
+    ghost use Rattle.grid_quantiser.specs.RunFields.{runs_from, starts_after, AreRuns};
+
+    ghost Value = { List ℕ };
+
+    ghost view = { λ r. runs_from r.side (starts_after (take r.turning r.wheels) r.next) };
+
+    ghost invariant = { λ r. AreRuns r.wheels r.turning r.next r.side };
+}
+
+impl Grid {
+    /// The cells of a box, run by run.
+    #[inline]
+    pub fn runs(&self, b: CellBox) -> Runs
+        requires { IsCellBox self.now b.first b.last }
+        ensures { result ≡ cells_between self.now b.first b.last }
+    {
+        let axes = self.axes();
+        let turning = axes.len() - 1;
+        let mut stride = axes[turning].count as u32;
+        let mut rest = b.last - b.first;
+        let side = rest % stride + 1;
+        rest /= stride;
+        let mut wheels = [STILL; 5];
+        for i in (0..turning).rev() {
+            let count = axes[i].count as u32;
+            let steps = rest % count;
+            wheels[turning - 1 - i] = Wheel {
+                stride,
+                steps,
+                left: steps,
+            };
+            stride *= count;
+            rest /= count;
+        }
+        Runs {
+            wheels,
+            turning: turning as u32,
+            next: Some(b.first),
+            side,
+        }
+    }
+}
+
+impl Runs {
+    /// The next cells that follow one another: the first of them and how many they are. None where
+    /// all cells were given.
+    #[inline]
+    pub fn next_run(&mut self) -> Option<(u32, u32)>
+        ensures none { IfNone result (self.old ≡ []) }
+        ensures run { IfSome result (λ run. BeginsWithRun self.old self.new run.0 run.1) }
+    {
+        let first = self.next?;
+        self.next = turn(&mut self.wheels[..self.turning as usize], first);
+        Some((first, self.side))
+    }
+}
+
+/// The start of the next run, where there is one: the first wheel that has a step left makes it, and
+/// those before it go back to their first places.
+#[inline]
+fn turn(wheels: &mut [Wheel], mut start: u32) -> Option<u32>
+    requires made { AreWheels wheels.old start }
+    requires few { IfSome (next_start wheels.old start) (λ next. next < 2 ^ 32) }
+    ensures next { result ≡ next_start wheels.old start }
+    ensures turned { wheels.new ≡ turned wheels.old }
+{
+    for wheel in wheels.iter_mut() {
+        if wheel.left > 0 {
+            wheel.left -= 1;
+            return Some(start + wheel.stride);
+        }
+        wheel.left = wheel.steps;
+        start -= wheel.steps * wheel.stride;
+    }
+    None
+}

@@ -1,0 +1,5 @@
+use Rattle.plant_text.proofs.CanonicalSpelling.{canonical}
+use Rattle.plant_text.proofs.laws.canonical_texts_spell.Goals as goal
+
+pub returns : goal.returns
+returns c = canonical

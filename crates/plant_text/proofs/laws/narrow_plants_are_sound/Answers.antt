@@ -1,5 +1,0 @@
-use Rattle.plant_text.proofs.Sound.{sound}
-use Rattle.plant_text.proofs.laws.narrow_plants_are_sound.Goals as goal
-
-pub returns : goal.returns
-returns c = sound

@@ -1,0 +1,5 @@
+use Rattle.plant_text.proofs.Fronts as fronts
+use Rattle.plant_text.proofs.laws.one_front.Goals as goal
+
+pub returns : goal.returns
+returns c = fronts.one_front c.one_plant_at_the_front.ensures

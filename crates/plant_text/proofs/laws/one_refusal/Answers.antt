@@ -1,0 +1,6 @@
+use Rattle.plant_text.proofs.LineLaws.{one_statement, passed_over}
+use Rattle.plant_text.proofs.Leading as leading
+use Rattle.plant_text.proofs.laws.one_refusal.Goals as goal
+
+pub returns : goal.returns
+returns c = leading.one_refusal one_statement passed_over

@@ -1,0 +1,6 @@
+use Rattle.plant_text.proofs.LineLaws.{one_statement, passed_over}
+use Rattle.plant_text.proofs.Leading as leading
+use Rattle.plant_text.proofs.laws.read_or_refused.Goals as goal
+
+pub returns : goal.returns
+returns c = leading.read_or_refused one_statement passed_over

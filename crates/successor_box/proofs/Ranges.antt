@@ -1,0 +1,208 @@
+-- The ranges and the radii of a plant's variables, one by one.
+use Rattle.std.proofs.Common.{◌≡◌, ℕ, zero, suc, ◌+◌, ◌-◌, ◌*◌, ◌/◌, ◌%◌, ◌^◌, ◌<◌, ◌≤◌, List, [], ◌∷◌, ◌++◌, Some, All, length, map, get_or, refl, sym, ap, ap₂, subst, ◌∙◌, arith}
+use Rattle.std.specs.Prelude.{ℤ, pos, nat_abs, ◌+ℤ◌, ◌-ℤ◌, ◌*ℤ◌, ◌≤ℤ◌, slice_get}
+use Rattle.std.specs.Option.{option_map}
+use Rattle.std.proofs.lemmas.Int.{ints}
+use Rattle.std.proofs.lemmas.Nat.{div-mul-add, mod-mul-add, mul-le}
+use Rattle.std.proofs.lemmas.Option.{none-some, same_Some}
+use Rattle.std.proofs.lemmas.List.{length-append, length-map, get_or-map, get_or_append_left, get_or-append_right}
+use Rattle.std.proofs.lemmas.List.Elements.{All-head, All-tail}
+use Rattle.fixed_expr.specs.Quotient.{floor_div}
+use Rattle.interval_eval.specs.declared.interval.Interval.{Interval}
+use Rattle.grid_quantiser.specs.declared.axis.Axis.{Axis}
+use Rattle.grid_quantiser.specs.Axes.{IsAxis, no_axis, cells_of}
+use Rattle.grid_quantiser.specs.Cells.{low_of, high_of, radius_of, point_of}
+use Rattle.plant_text.specs.declared.variables.StateVariable.{StateVariable}
+use Rattle.plant_text.specs.declared.variables.NoiseVariable.{NoiseVariable}
+use Rattle.plant_text.specs.Variables.{IsNoiseVariable}
+use Rattle.plant_text.specs.Laws.{IsWhole, IsSound}
+use Rattle.plant_text.specs.Description.{Description, axis_of, axes_of, vector_of}
+use Rattle.successor_box.specs.Boxes.{noise_centre, area_of, radii_of}
+use Rattle.successor_box.specs.Area.{variables_of}
+use Rattle.successor_box.proofs.CellValues.{vector_count}
+
+-- ---- the least and the greatest point of the domain
+
+product_zero : (width lo : ℤ) → lo +ℤ (width *ℤ pos 0) ≡ lo
+product_zero width lo = omega (arith, ints)
+
+pub some_cells : (axes : List Axis) → All IsAxis axes → 1 ≤ cells_of axes
+some_cells [] each = omega arith
+some_cells (a ∷ axes) each = mul-le 1 1 a.count (cells_of axes) (All-head IsAxis a axes each).some_cell (some_cells axes (All-tail IsAxis a axes each))
+
+pub lows : (states : List StateVariable) → All IsAxis (map axis_of states) → low_of (map axis_of states) 0 ≡ map (λ (s : StateVariable). s.low) states
+lows [] each = refl
+lows (s ∷ states) each =
+    let rest = All-tail IsAxis (axis_of s) (map axis_of states) each in
+    let some = some_cells (map axis_of states) rest in
+    let place : 0 / cells_of (map axis_of states) ≡ 0 = omega (arith, some) in
+    let left : 0 % cells_of (map axis_of states) ≡ 0 = omega (arith, some) in
+    ap₂ (λ (x : ℤ) (xs : List ℤ). x ∷ xs) (ap (λ (n : ℕ). s.low +ℤ (s.width *ℤ pos n)) place ∙ product_zero s.width s.low) (ap (low_of (map axis_of states)) left ∙ lows states rest)
+
+one_less : (k m n : ℕ) → k + 1 ≡ n → n * m ≡ k * m + m
+one_less k m n is = ap (λ (i : ℕ). i * m) (sym is) ∙ grind arith
+
+last : (n m : ℕ) → 1 ≤ n → 1 ≤ m → n * m - 1 ≡ (n - 1) * m + (m - 1)
+last n m some_n some_m = omega (arith, some_m, one_less (n - 1) m n (omega (arith, some_n)))
+
+-- the greatest number of the last place is the state's greatest number
+last_number : (lo width high : ℤ) (w n m : ℕ) → width ≡ pos w → m + 1 ≡ n → lo +ℤ (width *ℤ pos n) ≡ high +ℤ pos 1 → (lo +ℤ (width *ℤ pos m)) +ℤ (width -ℤ pos 1) ≡ high
+last_number lo width high w n m width-is next end = by_product (width *ℤ pos n) (width *ℤ pos m) (rw (width-is, ← next) (product w m)) end
+  where
+    product : (w m : ℕ) → pos w *ℤ pos (m + 1) ≡ (pos w *ℤ pos m) +ℤ pos w
+    product w m = omega (arith, ints)
+
+    by_product : (x y : ℤ) → x ≡ y +ℤ width → lo +ℤ x ≡ high +ℤ pos 1 → (lo +ℤ y) +ℤ (width -ℤ pos 1) ≡ high
+    by_product x y e h = omega (arith, ints, e, h)
+
+positive : (z : ℤ) → pos 1 ≤ℤ z → z ≡ pos (nat_abs z)
+positive z some = omega (arith, ints, some)
+
+pub highs : (states : List StateVariable) → All IsAxis (map axis_of states) → All IsWhole states → high_of (map axis_of states) (cells_of (map axis_of states) - 1) ≡ map (λ (s : StateVariable). s.high) states
+highs [] each whole = refl
+highs (s ∷ states) each whole =
+    let a : Axis = axis_of s in
+    let axes : List Axis = map axis_of states in
+    let here = All-head IsAxis a axes each in
+    let rest = All-tail IsAxis a axes each in
+    let some = some_cells axes rest in
+    let split : cells_of (a ∷ axes) - 1 ≡ (a.count - 1) * cells_of axes + (cells_of axes - 1) = last a.count (cells_of axes) here.some_cell some in
+    let place : (cells_of (a ∷ axes) - 1) / cells_of axes ≡ a.count - 1 = ap (λ (n : ℕ). n / cells_of axes) split ∙ div-mul-add (a.count - 1) (cells_of axes) (cells_of axes - 1) (omega (arith, some)) in
+    let left : (cells_of (a ∷ axes) - 1) % cells_of axes ≡ cells_of axes - 1 = ap (λ (n : ℕ). n % cells_of axes) split ∙ mod-mul-add (a.count - 1) (cells_of axes) (cells_of axes - 1) (omega (arith, some)) in
+    ap₂ (λ (x : ℤ) (xs : List ℤ). x ∷ xs)
+    (ap (λ (n : ℕ). (a.lo +ℤ (a.width *ℤ pos n)) +ℤ (a.width -ℤ pos 1)) place ∙ last_number a.lo a.width s.high (nat_abs a.width) a.count (a.count - 1) (positive a.width here.some_width) (omega (arith, here.some_cell)) (All-head IsWhole s states whole))
+    (ap (high_of axes) left ∙ highs states rest (All-tail IsWhole s states whole))
+
+-- ---- one variable
+
+state_at : (states : List StateVariable) (k : ℕ) (d : Interval) → k < length states →
+    ◌≡◌ {A = Interval} (record { lo = get_or (map (λ (s : StateVariable). s.low) states) k (pos 0); hi = get_or (map (λ (s : StateVariable). s.high) states) k (pos 0) }) (get_or (map (λ (s : StateVariable). record { lo = s.low; hi = s.high }) states) k d)
+state_at [] k d lt = absurd (omega (arith, lt))
+state_at (s ∷ states) zero d lt = refl
+state_at (s ∷ states) (suc k) d lt = state_at states k d (omega (arith, lt))
+
+noise_at : (noises : List NoiseVariable) (k : ℕ) (r : ℤ × ℤ) (d : Interval) → option_map (λ (w : NoiseVariable). (w.low, w.high)) (slice_get noises k) ≡ Some r →
+    ◌≡◌ {A = Interval} (record { lo = r.0; hi = r.1 }) (get_or (map (λ (w : NoiseVariable). record { lo = w.low; hi = w.high }) noises) k d)
+noise_at [] k r d is = absurd (none-some r is)
+noise_at (w ∷ noises) zero r d is = let e : (w.low, w.high) ≡ r = same_Some (w.low, w.high) r is in ap (λ (q : ℤ × ℤ). record { lo = q.0; hi = q.1 }) (sym e)
+noise_at (w ∷ noises) (suc k) r d is = noise_at noises k r d is
+
+noise_radius_at : (noises : List NoiseVariable) (k : ℕ) (r : ℤ × ℤ) (d : ℤ) → option_map (λ (w : NoiseVariable). (w.low, w.high)) (slice_get noises k) ≡ Some r →
+    r.1 -ℤ floor_div (r.0 +ℤ r.1) (pos 2) ≡ get_or (map (λ (w : NoiseVariable). w.high -ℤ noise_centre w) noises) k d
+noise_radius_at [] k r d is = absurd (none-some r is)
+noise_radius_at (w ∷ noises) zero r d is = let e : (w.low, w.high) ≡ r = same_Some (w.low, w.high) r is in ap (λ (q : ℤ × ℤ). q.1 -ℤ floor_div (q.0 +ℤ q.1) (pos 2)) (sym e)
+noise_radius_at (w ∷ noises) (suc k) r d is = noise_radius_at noises k r d is
+
+pub noise_centre_at : (noises : List NoiseVariable) (k : ℕ) (r : ℤ × ℤ) (d : ℤ) → option_map (λ (w : NoiseVariable). (w.low, w.high)) (slice_get noises k) ≡ Some r →
+    floor_div (r.0 +ℤ r.1) (pos 2) ≡ get_or (map noise_centre noises) k d
+noise_centre_at [] k r d is = absurd (none-some r is)
+noise_centre_at (w ∷ noises) zero r d is = let e : (w.low, w.high) ≡ r = same_Some (w.low, w.high) r is in ap (λ (q : ℤ × ℤ). floor_div (q.0 +ℤ q.1) (pos 2)) (sym e)
+noise_centre_at (w ∷ noises) (suc k) r d is = noise_centre_at noises k r d is
+
+-- the range of a noise of a plant
+pub record IsNoiseRange (r : ℤ × ℤ) : Type 0 where
+  pub low : nat_abs r.0 < 10 ^ 18
+  pub high : nat_abs r.1 < 10 ^ 18
+  pub ordered : r.0 ≤ℤ r.1
+
+pub noise_bounds : (noises : List NoiseVariable) (k : ℕ) (r : ℤ × ℤ) → All IsNoiseVariable noises → option_map (λ (w : NoiseVariable). (w.low, w.high)) (slice_get noises k) ≡ Some r → IsNoiseRange r
+noise_bounds [] k r each is = absurd (none-some r is)
+noise_bounds (w ∷ noises) zero r each is =
+    let e : (w.low, w.high) ≡ r = same_Some (w.low, w.high) r is in
+    let here = All-head IsNoiseVariable w noises each in
+    subst IsNoiseRange e (record { low = here.low; high = here.high; ordered = here.ordered })
+noise_bounds (w ∷ noises) (suc k) r each is = noise_bounds noises k r (All-tail IsNoiseVariable w noises each) is
+
+-- an element of one of three lists
+module _ {X : Type 0} (xs ys zs : List X) (k : ℕ) (d : X) where
+  pub in_first : k < length xs → get_or (xs ++ ys ++ zs) k d ≡ get_or xs k d
+  in_first lt = get_or_append_left (xs ++ ys) zs d k (omega (arith, length-append xs ys, lt)) ∙ get_or_append_left xs ys d k lt
+
+  pub in_second : (n : ℕ) → length xs ≡ n → n ≤ k → k < n + length ys → get_or (xs ++ ys ++ zs) k d ≡ get_or ys (k - n) d
+  in_second n is le lt = get_or_append_left (xs ++ ys) zs d k (omega (arith, length-append xs ys, is, lt)) ∙ get_or-append_right xs ys n k d is le
+
+  pub in_third : (n m : ℕ) → length xs ≡ n → length ys ≡ m → n + m ≤ k → get_or (xs ++ ys ++ zs) k d ≡ get_or zs (k - n - m) d
+  in_third n m is are le =
+      let both : length (xs ++ ys) ≡ n + m = omega (arith, length-append xs ys, is, are) in
+      get_or-append_right (xs ++ ys) zs (n + m) k d both le ∙ ap (λ (i : ℕ). get_or zs i d) (omega (arith, le))
+
+module _ (p : Description) (u : ℕ) where
+  abbrev states_in : List Interval
+  states_in = map (λ (s : StateVariable). record { lo = s.low; hi = s.high }) p.states
+
+  abbrev inputs_in : List Interval
+  inputs_in = map (λ v. record { lo = v; hi = v }) (vector_of p.inputs u)
+
+  abbrev noises_in : List Interval
+  noises_in = map (λ (w : NoiseVariable). record { lo = w.low; hi = w.high }) p.noises
+
+  noises_count : length noises_in ≡ length p.noises
+  noises_count = length-map p.noises _
+
+  states_count : length states_in ≡ length p.states
+  states_count = length-map p.states _
+
+  inputs_count : length inputs_in ≡ length p.inputs
+  inputs_count = length-map (vector_of p.inputs u) _ ∙ vector_count p.inputs u
+
+  -- the range of a state
+  pub state_range : IsSound p → (k : ℕ) (d : Interval) → k < length p.states →
+      ◌≡◌ {A = Interval} (record { lo = get_or (point_of (low_of (axes_of p) 0)) k (pos 0); hi = get_or (point_of (high_of (axes_of p) (cells_of (axes_of p) - 1))) k (pos 0) }) (get_or (area_of p u) k d)
+  state_range sound k d lt =
+      let low = lows p.states sound.axes.each in
+      let high = highs p.states sound.axes.each sound.whole in
+      let at_low : get_or (point_of (low_of (axes_of p) 0)) k (pos 0) ≡ get_or (map (λ (s : StateVariable). s.low) p.states) k (pos 0) =
+      ap (λ (xs : List ℤ). get_or (point_of xs) k (pos 0)) low ∙ get_or_append_left (map (λ (s : StateVariable). s.low) p.states) _ (pos 0) k (omega (arith, lt, length-map p.states (λ (s : StateVariable). s.low))) in
+      let at_high : get_or (point_of (high_of (axes_of p) (cells_of (axes_of p) - 1))) k (pos 0) ≡ get_or (map (λ (s : StateVariable). s.high) p.states) k (pos 0) =
+      ap (λ (xs : List ℤ). get_or (point_of xs) k (pos 0)) high ∙ get_or_append_left (map (λ (s : StateVariable). s.high) p.states) _ (pos 0) k (omega (arith, lt, length-map p.states (λ (s : StateVariable). s.high))) in
+      ap₂ (λ (lo hi : ℤ). record { lo = lo; hi = hi }) at_low at_high ∙ state_at p.states k d lt ∙ sym (in_first states_in inputs_in noises_in k d (omega (arith, lt, states_count)))
+
+  -- the range of an input
+  pub input_range : (k : ℕ) (d : Interval) → length p.states ≤ k → k < length p.states + length p.inputs →
+      ◌≡◌ {A = Interval} (record { lo = get_or (vector_of p.inputs u) (k - length p.states) (pos 0); hi = get_or (vector_of p.inputs u) (k - length p.states) (pos 0) }) (get_or (area_of p u) k d)
+  input_range k d le lt =
+      let below : k - length p.states < length (vector_of p.inputs u) = omega (arith, le, lt, vector_count p.inputs u) in
+      sym (in_second states_in inputs_in noises_in k d (length p.states) states_count le (omega (arith, lt, inputs_count))
+      ∙ get_or-map (λ v. record { lo = v; hi = v }) (vector_of p.inputs u) (k - length p.states) (pos 0) d below)
+
+  -- the range of a noise
+  pub noise_range : (k : ℕ) (r : ℤ × ℤ) (d : Interval) → length p.states + length p.inputs ≤ k → option_map (λ (w : NoiseVariable). (w.low, w.high)) (slice_get p.noises (k - length p.states - length p.inputs)) ≡ Some r →
+      ◌≡◌ {A = Interval} (record { lo = r.0; hi = r.1 }) (get_or (area_of p u) k d)
+  noise_range k r d le is = noise_at p.noises (k - length p.states - length p.inputs) r d is ∙ sym (in_third states_in inputs_in noises_in k d (length p.states) (length p.inputs) states_count inputs_count le)
+
+  abbrev cell_radii : List ℤ
+  cell_radii = map radius_of (axes_of p)
+
+  abbrev input_radii : List ℤ
+  input_radii = map (λ _. pos 0) (vector_of p.inputs u)
+
+  abbrev noise_radii : List ℤ
+  noise_radii = map (λ (w : NoiseVariable). w.high -ℤ noise_centre w) p.noises
+
+  radii_count : length cell_radii ≡ length p.states
+  radii_count = length-map (axes_of p) radius_of ∙ length-map p.states axis_of
+
+  zeros_count : length input_radii ≡ length p.inputs
+  zeros_count = length-map (vector_of p.inputs u) _ ∙ vector_count p.inputs u
+
+  -- the radius of a state
+  pub state_radius : (k : ℕ) (d : ℤ) → k < length p.states → radius_of (get_or (axes_of p) k no_axis) ≡ get_or (radii_of p u) k d
+  state_radius k d lt = sym (in_first cell_radii input_radii noise_radii k d (omega (arith, lt, radii_count)) ∙ get_or-map radius_of (axes_of p) k no_axis d (omega (arith, lt, length-map p.states axis_of)))
+
+  -- the radius of an input
+  pub input_radius : (k : ℕ) (d : ℤ) → length p.states ≤ k → k < length p.states + length p.inputs → pos 0 ≡ get_or (radii_of p u) k d
+  input_radius k d le lt =
+      let below : k - length p.states < length (vector_of p.inputs u) = omega (arith, le, lt, vector_count p.inputs u) in
+      sym (in_second cell_radii input_radii noise_radii k d (length p.states) radii_count le (omega (arith, lt, zeros_count))
+      ∙ get_or-map (λ _. pos 0) (vector_of p.inputs u) (k - length p.states) (pos 0) d below)
+
+  -- the radius of a noise
+  pub noise_radius : (k : ℕ) (r : ℤ × ℤ) (d : ℤ) → length p.states + length p.inputs ≤ k → option_map (λ (w : NoiseVariable). (w.low, w.high)) (slice_get p.noises (k - length p.states - length p.inputs)) ≡ Some r →
+      r.1 -ℤ floor_div (r.0 +ℤ r.1) (pos 2) ≡ get_or (radii_of p u) k d
+  noise_radius k r d le is = noise_radius_at p.noises (k - length p.states - length p.inputs) r d is ∙ sym (in_third cell_radii input_radii noise_radii k d (length p.states) (length p.inputs) radii_count zeros_count le)
+
+  pub ranges_count : length (area_of p u) ≡ variables_of p
+  ranges_count = omega (arith, length-append (states_in ++ inputs_in) noises_in, length-append states_in inputs_in, states_count, inputs_count, noises_count)
+
+  pub all_radii_count : length (radii_of p u) ≡ variables_of p
+  all_radii_count = omega (arith, length-append (cell_radii ++ input_radii) noise_radii, length-append cell_radii input_radii, radii_count, zeros_count, length-map p.noises (λ (w : NoiseVariable). w.high -ℤ noise_centre w))

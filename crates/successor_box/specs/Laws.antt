@@ -1,0 +1,37 @@
+-- What holds of every sound plant's successor boxes.
+use Rattle.std.specs.Prelude.{◌≡◌, ℕ, ◌<◌, ◌≤◌, ◌↔◌, ℤ, List, [], length, Option}
+use Rattle.std.specs.List.{Contains}
+use Rattle.grid_quantiser.specs.declared.boxes.CellBox.{CellBox}
+use Rattle.grid_quantiser.specs.Axes.{cells_of}
+use Rattle.grid_quantiser.specs.Cells.{IsInDomain, IsPointOf, cell_of, point_of}
+use Rattle.plant_text.specs.Description.{Description, axes_of, vectors_of}
+use Rattle.plant_text.specs.Steps.{IsNoise, step_of, StepStaysInRange}
+use Rattle.plant_text.specs.Laws.{IsSound}
+use Rattle.successor_box.specs.Boxes.{IsEnabledAt, AreSuccessors, IsBoxOf, cells_in}
+use Rattle.successor_box.specs.Slopes.{HasNoOverflow}
+
+-- a step from a point of a cell, under an enabled input and a noise in range, lies in the domain, and its cell
+-- is a successor
+abbrev pub StepsLieInTheBoxes : Type 0
+StepsLieInTheBoxes =
+    (p : Description) (c u : ℕ) (x w : List ℤ) → IsSound p → c < cells_of (axes_of p) → IsEnabledAt p c u → IsPointOf (axes_of p) c x → IsNoise p.noises w →
+    IsInDomain (axes_of p) (step_of p x u w) × ((cells : List ℕ) → AreSuccessors p c u cells → Contains cells (cell_of (axes_of p) (step_of p x u w)))
+
+-- without an overflow no step from the domain leaves the range
+abbrev pub StepsStayInRange : Type 0
+StepsStayInRange =
+    (p : Description) (u : ℕ) (x w : List ℤ) → IsSound p → HasNoOverflow p → u < vectors_of p.inputs → IsInDomain (axes_of p) x → IsNoise p.noises w → StepStaysInRange p x u w
+
+-- the cells of a pair's box are its successors
+abbrev pub BoxesHoldTheSuccessors : Type 0
+BoxesHoldTheSuccessors = (p : Description) (c u : ℕ) (b : Option CellBox) → IsBoxOf p c u b → AreSuccessors p c u (cells_in (axes_of p) b)
+
+-- a pair has a successor exactly where its box lies in the domain
+abbrev pub EnabledPairsHaveSuccessors : Type 0
+EnabledPairsHaveSuccessors = (p : Description) (c u : ℕ) (cells : List ℕ) → IsSound p → AreSuccessors p c u cells → (cells ≡ [] → ⊥) ↔ IsEnabledAt p c u
+
+-- a state's point, with 0 in the places past the states, lies where the state does
+abbrev pub PointsLieWithTheirStates : Type 0
+PointsLieWithTheirStates =
+    (p : Description) (xs : List ℤ) → length p.states ≤ length xs →
+    (IsInDomain (axes_of p) (point_of xs) ↔ IsInDomain (axes_of p) xs) × (cell_of (axes_of p) (point_of xs) ≡ cell_of (axes_of p) xs)

@@ -1,0 +1,4 @@
+pub mod Boxes
+pub mod Slopes
+pub mod Area
+pub mod Laws

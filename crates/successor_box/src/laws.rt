@@ -1,0 +1,37 @@
+//! What holds of every sound plant's successor boxes.
+
+ghost use Rattle.successor_box.specs.Laws.{StepsLieInTheBoxes, StepsStayInRange, BoxesHoldTheSuccessors, EnabledPairsHaveSuccessors, PointsLieWithTheirStates};
+
+use grid_quantiser::laws::centre_is_near;
+use growth_bound::laws::values_move_by_at_most_the_deviation;
+use interval_eval::laws::values_lie_in_the_span;
+
+/// Every step from a cell, under an enabled input and a noise in range, leads into a successor.
+pub fn steps_lie_in_the_boxes()
+    ensures { StepsLieInTheBoxes }
+{
+    centre_is_near();
+    values_move_by_at_most_the_deviation();
+}
+
+/// Without an overflow no step from the domain leaves the range.
+pub fn steps_stay_in_range()
+    ensures { StepsStayInRange }
+{
+    values_lie_in_the_span();
+}
+
+/// The cells of a pair's box are its successors.
+pub fn boxes_hold_the_successors()
+    ensures { BoxesHoldTheSuccessors }
+{}
+
+/// A pair has a successor exactly where its box lies in the domain.
+pub fn enabled_pairs_have_successors()
+    ensures { EnabledPairsHaveSuccessors }
+{}
+
+/// The places of a point past the states decide nothing.
+pub fn points_lie_with_their_states()
+    ensures { PointsLieWithTheirStates }
+{}

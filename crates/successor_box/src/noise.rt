@@ -1,0 +1,57 @@
+// The centres of the noises' ranges.
+
+ghost use Rattle.std.specs.Prelude.{◌≡◌, ◌<◌, ◌*◌, ◌^◌, nat_abs, pos, ◌+ℤ◌, ◌-ℤ◌, map};
+ghost use Rattle.fixed_expr.specs.Quotient.{floor_div};
+ghost use Rattle.grid_quantiser.specs.Cells.{point_of};
+ghost use Rattle.successor_box.specs.Boxes.{noise_centre};
+
+use grid_quantiser::Point;
+use plant_text::Plant;
+use plant_text::laws::every_plant_is_within_limits;
+
+/// The middle of a noise's range, rounded down.
+#[inline]
+pub(crate) fn noise_centre(low: i128, high: i128) -> i128
+    requires low { nat_abs low < 10 ^ 18 }
+    requires high { nat_abs high < 10 ^ 18 }
+    ensures { result ≡ floor_div (low +ℤ high) (pos 2) }
+{
+    (low + high).div_euclid(2)
+}
+
+/// How far a noise is at most from the centre of its range.
+pub(crate) fn noise_radius(low: i128, high: i128) -> i128
+    requires low { nat_abs low < 10 ^ 18 }
+    requires high { nat_abs high < 10 ^ 18 }
+    ensures { result ≡ high -ℤ floor_div (low +ℤ high) (pos 2) }
+{
+    high - noise_centre(low, high)
+}
+
+/// The centres of all noises.
+#[inline]
+pub(crate) fn noise_centres(p: &Plant) -> Point
+    ensures { result ≡ point_of (map noise_centre p.now.noises) }
+{
+    every_plant_is_within_limits(p);
+    let mut centres = [0; 6];
+    for k in 0..p.noises() {
+        let (low, high) = p.noise_range(k);
+        centres[k as usize] = noise_centre(low, high);
+    }
+    centres
+}
+
+#[cfg(test)]
+mod tests {
+    use super::*;
+
+    // The middle of -4 to -1 is -2.5, whose floor is -3; from there to -1 it is 2.
+    #[test]
+    fn centre_rounds_down(rt: HostRuntime) {
+        assert_eq!(rt; noise_centre(-4, -1), -3);
+        assert_eq!(rt; noise_radius(-4, -1), 2);
+        assert_eq!(rt; noise_centre(-2, 2), 0);
+        assert_eq!(rt; noise_radius(-2, 2), 2);
+    }
+}

@@ -1,0 +1,167 @@
+ghost use Rattle.std.specs.Prelude.{◌≡◌, ◌<◌, ◌≤ℤ◌, [], length, slice_index_or, pos, ℕ, IfOk, IfErr, SomeIff};
+ghost use Rattle.std.specs.List.{All};
+ghost use Rattle.fixed_expr.specs.Expression.{expression_of};
+ghost use Rattle.fixed_expr.specs.Value.{IsWellFormed};
+ghost use Rattle.growth_bound.specs.Deviation.{deviation_of};
+ghost use Rattle.plant_text.specs.Description.{vectors_of};
+ghost use Rattle.successor_box.specs.Boxes.{deviation_at};
+ghost use Rattle.successor_box.specs.Slopes.{Fits, FitsAt, HasNoOverflow, equation_at, slopes_of, slopes_along, IsOverflow};
+ghost use Rattle.successor_box.specs.Area.{AreRadii, IsOverflowAlong};
+
+use crate::area::{VARIABLES_LIMIT, radii, ranges, variables};
+use crate::fault::SlopeFault;
+use fixed_expr::Expr;
+use fixed_expr::arithmetic::{difference, sum};
+use growth_bound::span_and_deviation;
+use interval_eval::Interval;
+use plant_text::Plant;
+use plant_text::laws::{every_plant_is_within_limits, plants_are_sound};
+use std::alloc::Global;
+use std::marker::Model;
+
+/// How far each equation of a plant moves within a cell, by input vector.
+#[derive(Drop)]
+pub struct Slopes {
+    rows: Vec<Vec<i128>>,
+}
+
+impl Model for Slopes {
+    ghost use Rattle.std.specs.Prelude.{List, ℤ, map};
+    ghost use Rattle.std.specs.Global.{Vec};
+
+    ghost Value = { List (List ℤ) };
+
+    ghost view = { λ s. map (λ (row : Vec ℤ). row.items) s.rows.items };
+}
+
+impl Slopes {
+    /// How far an equation moves within a cell, under an input vector.
+    #[inline]
+    pub fn of(&self, equation: u32, input: u32) -> i128
+        requires equation { equation < length self.now }
+        requires input { input < length (slice_index_or self.now equation []) }
+        ensures { result ≡ slice_index_or (slice_index_or self.now equation []) input (pos 0) }
+    {
+        self.rows[equation as usize][input as usize]
+    }
+}
+
+/// The deviations of a plant's equations. It takes memory for a number for each equation and input
+/// vector, and none for what lies between.
+pub fn find_slopes(alloc: Global, p: &Plant) -> Result<Slopes, SlopeFault>
+    ensures found { IfOk result (λ s. s ≡ slopes_of p.now) }
+    ensures fits { IfOk result (λ _. HasNoOverflow p.now) }
+    ensures overflow { IfErr result (λ f. IsOverflow p.now f) }
+{
+    every_plant_is_within_limits(p);
+    let radii = radii(p);
+    let mut rows = Vec::new(alloc);
+    for equation in 0..p.states() {
+        rows.push(slopes_along(alloc, p, &radii, equation)?)?;
+    }
+    Ok(Slopes { rows })
+}
+
+/// The deviations of one equation, by input vector.
+fn slopes_along(
+    alloc: Global,
+    p: &Plant,
+    radii: &[i128; VARIABLES_LIMIT],
+    equation: u32,
+) -> Result<Vec<i128>, SlopeFault>
+    requires equation { equation < length p.now.equations }
+    requires radii { AreRadii p.now radii.now }
+    ensures found { IfOk result (λ row. row.items ≡ slopes_along p.now (equation_at p.now equation)) }
+    ensures fits { IfOk result (λ _. (u : ℕ) → u < vectors_of p.now.inputs → FitsAt p.now equation u) }
+    ensures overflow { IfErr result (λ f. IsOverflowAlong p.now equation f) }
+{
+    let vectors = p.vectors();
+    let mut slopes = Vec::with_capacity(alloc, vectors as usize)?;
+    for input in 0..vectors {
+        match slope_at(p, radii, equation, input) {
+            Some(slope) => slopes.push(slope)?,
+            None => return Err(SlopeFault::Overflow { equation, input }),
+        }
+    }
+    Ok(slopes)
+}
+
+/// How far an equation moves under an input vector: None where a number leaves the range.
+fn slope_at(p: &Plant, radii: &[i128; VARIABLES_LIMIT], equation: u32, input: u32) -> Option<i128>
+    requires equation { equation < length p.now.equations }
+    requires input { input < vectors_of p.now.inputs }
+    requires radii { AreRadii p.now radii.now }
+    ensures { SomeIff result (FitsAt p.now equation input) (deviation_at p.now input (equation_at p.now equation)) }
+{
+    every_plant_is_within_limits(p);
+    plants_are_sound();
+    let count = variables(p) as usize;
+    slope(
+        p.equation(equation),
+        &ranges(p, input)[..count],
+        &radii[..count],
+    )
+}
+
+/// How far an expression moves over an area: None where a number leaves the range.
+fn slope(e: &Expr, area: &[Interval], radii: &[i128]) -> Option<i128>
+    requires well_formed { IsWellFormed (expression_of e.now) (length area.now) }
+    requires one_for_each { length radii.now ≡ length area.now }
+    requires not_negative { All (λ r. pos 0 ≤ℤ r) radii.now }
+    ensures { SomeIff result (Fits (expression_of e.now) area.now radii.now) (pos (deviation_of (expression_of e.now) area.now radii.now)) }
+{
+    let (ends, deviation) = span_and_deviation(e, area, radii)?;
+    difference(ends.lo, deviation)?;
+    sum(ends.hi, deviation)?;
+    Some(deviation)
+}
+
+#[cfg(test)]
+mod tests {
+    use super::*;
+    use std::test::Fail;
+
+    /// One state from 0 to 999999999999999998, which is a single cell.
+    const AREA: [Interval; 1] = [Interval {
+        lo: 0,
+        hi: 999999999999999998,
+    }];
+
+    const RADII: [i128; 1] = [499999999999999999];
+
+    fn square(alloc: Global) -> Result<Expr, Fail>
+        ensures { IfOk result (λ e. IsWellFormed (expression_of e) 1) }
+    {
+        Ok(Expr::Mul(
+            Box::new(alloc, Expr::Var(0))?,
+            Box::new(alloc, Expr::Var(0))?,
+        ))
+    }
+
+    // The cube of nearly 10^18 is beyond 2^127.
+    #[test]
+    fn cube_leaves_the_range(rt: HostRuntime) -> Result<(), Fail> {
+        let alloc = rt.alloc();
+        let cube = Expr::Mul(
+            Box::new(alloc, square(alloc)?)?,
+            Box::new(alloc, Expr::Var(0))?,
+        );
+        assert_eq!(rt; slope(&cube, &AREA, &RADII), None);
+        Ok(())
+    }
+
+    // Each square moves by at most twice 999999999999999998 * 499999999999999999.
+    #[test]
+    fn difference_of_squares_stays(rt: HostRuntime) -> Result<(), Fail> {
+        let alloc = rt.alloc();
+        let difference = Expr::Sub(
+            Box::new(alloc, square(alloc)?)?,
+            Box::new(alloc, square(alloc)?)?,
+        );
+        assert_eq!(rt;
+            slope(&difference, &AREA, &RADII),
+            Some(4 * 999999999999999998 * 499999999999999999)
+        );
+        Ok(())
+    }
+}

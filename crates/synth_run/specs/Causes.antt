@@ -1,0 +1,23 @@
+-- The outcome of a fault of a layer below. No public clause names this.
+use Rattle.plant_text.specs.declared.fault.LimitKind.TheVariants.{Edges}
+use Rattle.plant_text.specs.declared.fault.PlantFault.{PlantFault}
+use Rattle.plant_text.specs.declared.fault.PlantFault.TheVariants as plants
+use Rattle.successor_box.specs.declared.fault.SlopeFault.{SlopeFault}
+use Rattle.successor_box.specs.declared.fault.SlopeFault.TheVariants as slopes
+use Rattle.abstraction_table.specs.declared.fault.BuildFault.{BuildFault}
+use Rattle.abstraction_table.specs.declared.fault.BuildFault.TheVariants as builds
+use Rattle.synth_run.specs.declared.outcome.Outcome.{Outcome}
+use Rattle.synth_run.specs.declared.outcome.Outcome.TheVariants.{Malformed, Overflow, Limit, NoMemory}
+
+abbrev pub of_plant : PlantFault → Outcome
+of_plant (plants.Malformed line) = Malformed line
+of_plant (plants.Limit what) = Limit what
+of_plant plants.Memory = NoMemory
+
+abbrev pub of_slopes : SlopeFault → Outcome
+of_slopes (slopes.Overflow equation input) = Overflow equation input
+of_slopes slopes.Memory = NoMemory
+
+abbrev pub of_build : BuildFault → Outcome
+of_build (builds.TooManyEdges edges) = Limit Edges
+of_build builds.Memory = NoMemory
