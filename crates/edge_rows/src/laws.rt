@@ -1,20 +1,11 @@
-//! Laws about fillings and rows that callers use.
+//! A law about fillings that callers use.
 ghost use Rattle.std.specs.Prelude.{◌≡◌, ℕ, ◌<◌, length, slice_index};
 ghost use Rattle.edge_rows.specs.Rows.{row_at, places_left};
 
 use crate::fill::RowFill;
-use crate::rows::Rows;
 
 /// Where each row has as many values as places, no place is left.
 pub fn full_rows_leave_no_place(fill: &RowFill)
     requires { (r : ℕ) → r < length fill.now.lengths → length (row_at fill.now.rows r) ≡ slice_index fill.now.lengths r }
     ensures { places_left fill.now ≡ 0 }
 {}
-
-fn may_cross<T: Send + Sync>() {}
-
-/// Any thread may own a filling or rows, and any number of threads may read them at once.
-pub fn threads_may_share() {
-    may_cross::<RowFill>();
-    may_cross::<Rows>();
-}

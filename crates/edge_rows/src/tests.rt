@@ -1,5 +1,5 @@
 ghost use Rattle.std.specs.Prelude.{◌≡◌, ℕ, ◌+◌, ◌^◌, ◌<◌, ◌≤◌, [], ◌∷◌, ◌++◌, length, IfOk};
-ghost use Rattle.edge_rows.specs.Rows.{row_at, HasRoom};
+ghost use Rattle.edge_rows.specs.Rows.{row_at, appended, HasRoom};
 
 use crate::laws::full_rows_leave_no_place;
 use crate::{RowFill, Rows};
@@ -125,5 +125,44 @@ fn four_threads_read_one_rows(rt: HostRuntime) -> Result<(), Fail> {
     let sums = thread::map_indices(&rt, rt.alloc(), 4, &|_| sum_of(&rows))?;
     // Twice 0 + 1 + .. + 999, and 500 in each of 1,000 rows.
     assert_eq!(rt; sums.as_slice(), [1_499_000; 4].as_slice());
+    Ok(())
+}
+
+#[test]
+fn four_threads_ask_one_filling_what_is_left(rt: HostRuntime) -> Result<(), Fail> {
+    // Of three places one is written.
+    let fill = filled_as_far_as(rt.alloc(), 1)?;
+    let left = thread::map_indices(&rt, rt.alloc(), 4, &|_| fill.left())?;
+    assert_eq!(rt; left.as_slice(), [2; 4].as_slice());
+    Ok(())
+}
+
+// One row of two places, of which the first is written.
+fn half_filled(alloc: Global, value: u32) -> Result<RowFill, Fail>
+    ensures { IfOk result (λ fill. (fill.rows ≡ (value ∷ []) ∷ []) × (fill.lengths ≡ 2 ∷ [])) }
+{
+    let mut fill = RowFill::new(alloc, &[2])?;
+    fill.put(0, value);
+    Ok(fill)
+}
+
+// Writes the last place of a half filled row.
+fn completed(mut fill: RowFill, value: u32) -> Rows
+    requires { (length fill.rows ≡ 1) × (length (row_at fill.rows 0) ≡ 1) × (fill.lengths ≡ 2 ∷ []) }
+    ensures { result ≡ appended fill.rows 0 value }
+{
+    fill.put(0, value);
+    full_rows_leave_no_place(&fill);
+    fill.finish()
+}
+
+#[test]
+fn threads_finish_fillings_that_another_began(rt: HostRuntime) -> Result<(), Fail> {
+    let one = half_filled(rt.alloc(), 4)?;
+    let other = half_filled(rt.alloc(), 6)?;
+    let fills = vec![in rt.alloc(); one, other]?;
+    let rows = thread::map_vec(&rt, fills, &|fill| completed(fill, 9))?;
+    assert_eq!(rt; rows[0].row(0), [4, 9].as_slice());
+    assert_eq!(rt; rows[1].row(0), [6, 9].as_slice());
     Ok(())
 }
