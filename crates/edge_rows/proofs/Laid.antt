@@ -18,12 +18,6 @@ sum-cons n ns = sum_by-cons (λ k. k) n ns
 abbrev pub end_of : List (List ℕ) → List ℕ → ℕ → ℕ
 end_of rows ns r = sum (take r ns) + length (row_at rows r)
 
-pub length-rows : (rows : List (List ℕ)) (ns : List ℕ) → Fits rows ns → length rows ≡ length ns
-length-rows [] [] f = refl
-length-rows [] (n ∷ ns) f = absurd f
-length-rows (xs ∷ rows) [] f = absurd f
-length-rows (xs ∷ rows) (n ∷ ns) f = ap suc (length-rows rows ns f.1)
-
 pub length-ends : (at : ℕ) (rows : List (List ℕ)) (ns : List ℕ) → Fits rows ns → length (ends_from at rows ns) ≡ length rows
 length-ends at [] [] f = refl
 length-ends at [] (n ∷ ns) f = absurd f
@@ -78,11 +72,6 @@ values-written (x ∷ xs) = ap (λ l. x ∷ l) (values-written xs)
 -- one row of n places, before other places
 abbrev row_laid : List ℕ → ℕ → List (Option ℕ) → List (Option ℕ)
 row_laid xs n rest = map Some xs ++ (replicate (n - length xs) None ++ rest)
-
-length-row_laid : (xs : List ℕ) (n : ℕ) (rest : List (Option ℕ)) → length xs ≤ n → length (row_laid xs n rest) ≡ n + length rest
-length-row_laid xs n rest le =
-    let none : Option ℕ = None in
-    omega (arith, length-append (map Some xs) (replicate (n - length xs) none ++ rest), length-append (replicate (n - length xs) none) rest, length-map xs Some, length-replicate (n - length xs) none)
 
 past_row : (xs : List ℕ) (n : ℕ) (rest : List (Option ℕ)) (k m : ℕ) → length xs ≤ n → m ≡ n + k → drop m (row_laid xs n rest) ≡ drop k rest
 past_row xs n rest k m le e =

@@ -14,11 +14,6 @@ IsAtMost-drop (suc i) (a ∷ axes) [] ys h = absurd h
 IsAtMost-drop (suc i) (a ∷ axes) (x ∷ xs) [] h = absurd h
 IsAtMost-drop (suc i) (a ∷ axes) (x ∷ xs) (y ∷ ys) h = IsAtMost-drop i axes xs ys h.1
 
--- nothing is left to compare
-pub at_most_none : (axes : List Axis) (xs ys : List ℤ) → IsAtMost (drop (length axes) axes) xs ys
-at_most_none [] xs ys = tt
-at_most_none (a ∷ axes) xs ys = at_most_none axes xs ys
-
 -- One step of a loop over the axes and two lists.
 module _ (axes : List Axis) (xs ys : List ℤ) (i : ℕ) (some : 0 < i) (within : i ≤ length axes) (long_xs : length axes ≤ length xs) (long_ys : length axes ≤ length ys) where
   pub at_most_step : get_or xs (i - 1) (pos 0) ≤ℤ get_or ys (i - 1) (pos 0) → IsAtMost (drop i axes) (drop i xs) (drop i ys) → IsAtMost (drop (i - 1) axes) (drop (i - 1) xs) (drop (i - 1) ys)

@@ -23,15 +23,6 @@ some_width a axis = omega (arith, ints, axis.some_width, width_is a axis)
 pub widths_is : (a : Axis) → IsAxis a → (n : ℕ) → a.width *ℤ pos n ≡ pos (nat_abs a.width * n)
 widths_is a axis n = ap (λ w. w *ℤ pos n) (width_is a axis)
 
--- all places together have fewer than 2 * 10 ^ 18 numbers
-pub widths_bound : (a : Axis) → IsAxis a → nat_abs a.width * a.count < 2 * 10 ^ 18
-widths_bound a axis = omega (arith, ints, axis.low_bound, axis.high_bound, widths_is a axis a.count)
-
-pub width_bound : (a : Axis) → IsAxis a → nat_abs a.width < 2 * 10 ^ 18
-width_bound a axis =
-    let some : 0 < a.count = omega (arith, axis.some_cell) in
-    omega (arith, widths_bound a axis, le-mul_of_pos_right (nat_abs a.width) some)
-
 -- the distance from the low end
 offset_is : (a : Axis) (x : ℤ) → a.lo ≤ℤ x → pos (nat_abs (x -ℤ a.lo)) ≡ x -ℤ a.lo
 offset_is a x low = let some : pos 0 ≤ℤ (x -ℤ a.lo) = omega (arith, ints, low) in pos-nat_abs (x -ℤ a.lo) (yes_non_neg some)

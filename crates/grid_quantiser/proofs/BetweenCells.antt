@@ -111,11 +111,6 @@ IsBetween-drop (suc i) (a ∷ axes) f l c each between =
     let some : 0 < cells_of axes = some_cells axes later in
     IsBetween-drop i axes f l c later (rw (mod-mod f a.count (cells_of axes) some, mod-mod l a.count (cells_of axes) some, mod-mod c a.count (cells_of axes) some) at between.2)
 
--- nothing is left to compare
-pub between_none : (axes : List Axis) (f l c : ℕ) → IsBetween (drop (length axes) axes) f l c
-between_none [] f l c = tt
-between_none (a ∷ axes) f l c = between_none axes f l c
-
 -- One step of a loop over a box of cells and a cell.
 module _ (axes : List Axis) (i f l c : ℕ) (each : All IsAxis axes) (some : 0 < i) (within : i ≤ length axes) where
   pub inside_step : f / cells_of (drop i axes) % (next_axis axes i).count ≤ c / cells_of (drop i axes) % (next_axis axes i).count →

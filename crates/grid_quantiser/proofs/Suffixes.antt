@@ -6,8 +6,7 @@ use Rattle.std.specs.List.{All}
 use Rattle.std.proofs.lemmas.List.Elements.{All-head, All-tail, All-drop, All-get_or}
 use Rattle.std.proofs.lemmas.List.{drop_more}
 use Rattle.grid_quantiser.specs.declared.axis.Axis.{Axis}
-use Rattle.grid_quantiser.specs.Axes.{IsAxis, cells_of}
-use Rattle.grid_quantiser.specs.Axes.{no_axis}
+use Rattle.grid_quantiser.specs.Axes.{IsAxis, cells_of, no_axis}
 use Rattle.grid_quantiser.proofs.Quotients.{div-div, div-mod, mod-mod}
 
 -- the axis that a step from i to i - 1 brings
@@ -32,10 +31,6 @@ cells_of-drop (suc i) (a ∷ axes) each =
 -- before the first step
 pub rest_none : (axes : List Axis) (c : ℕ) → c ≡ c / cells_of (drop (length axes) axes)
 rest_none axes c = rw drop-length (sym (div-one c))
-
--- after the last step
-pub rest_all : (axes : List Axis) (c : ℕ) → c < cells_of axes → c % cells_of (drop 0 axes) ≡ c
-rest_all axes c within = mod-eq_of_lt within
 
 -- the next axis, and those behind it
 pub drop_step : (axes : List Axis) (i : ℕ) → 0 < i → i ≤ length axes → drop (i - 1) axes ≡ next_axis axes i ∷ drop i axes
