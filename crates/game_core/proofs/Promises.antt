@@ -1,5 +1,5 @@
 -- What solutions of the reach game promise, and that a game has one.
-use Rattle.std.proofs.Common.{◌≡◌, ℕ, zero, suc, ◌<◌, ◌≤◌, List, Option, Some, None, arith, refl, sym, ◌∙◌, ap₂, subst, ext_get_or, le_antisymm}
+use Rattle.std.proofs.Common.{◌≡◌, ◌≢◌, ℕ, zero, suc, ◌<◌, ◌≤◌, List, Option, Some, None, arith, refl, sym, ◌∙◌, ap₂, subst, ext_get_or, le_antisymm}
 use Rattle.game_core.proofs.Rows.{successors_below, below_from_row}
 use Rattle.game_core.specs.declared.game.Mark.TheVariants.{Goal, Obstacle}
 use Rattle.game_core.specs.declared.game.Row.{Row}
@@ -18,7 +18,8 @@ same_rank g c j k a b =
     let ge = b.least s.0 s.1 in
     omega arith
 
-row_at : (g : Game) (rows : List (Option Row)) → IsReachSolution g rows → (c : ℕ) (row : Row) → row_of rows c ≡ Some row → IsReachRow g c (Some row)
+-- the row of a cell is that of the solution
+pub row_at : (g : Game) (rows : List (Option Row)) → IsReachSolution g rows → (c : ℕ) (row : Row) → row_of rows c ≡ Some row → IsReachRow g c (Some row)
 row_at g rows h c row e =
     let lt = below_from_row rows c row e in
     let n = h.one_each in
@@ -28,7 +29,8 @@ goal_from_leaf : (g : Game) (c : ℕ) (t : Tree) → Wins g t c → depth_of t �
 goal_from_leaf g c Leaf w e = w
 goal_from_leaf g c (Apply u next) w e = absurd (omega arith)
 
-no_obstacle : (g : Game) (c : ℕ) (t : Tree) → Wins g t c → mark_of g c ≡ Obstacle → ⊥
+-- no strategy wins from an obstacle
+pub no_obstacle : (g : Game) (c : ℕ) (t : Tree) → Wins g t c → mark_of g c ≢ Obstacle
 no_obstacle g c Leaf w e = cc
 no_obstacle g c (Apply u next) w e = w.0 e
 

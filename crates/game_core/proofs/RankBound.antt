@@ -14,22 +14,12 @@ use Rattle.game_core.specs.Strategy.{Tree, Leaf, Apply, Wins, IsRank}
 use Rattle.game_core.specs.Solution.{row_of, HasRowBelow, IsReachRow, IsReachSolution}
 use Rattle.game_core.proofs.Rows.{below_from_row}
 use Rattle.game_core.proofs.Trees.{WinsWithin, trees_for}
-use Rattle.game_core.proofs.Promises.{leads_to_goals}
-
-row_at : (g : Game) (rows : List (Option Row)) → IsReachSolution g rows → (c : ℕ) (row : Row) → row_of rows c ≡ Some row → IsReachRow g c (Some row)
-row_at g rows h c row e =
-    let lt = below_from_row rows c row e in
-    let n = h.one_each in
-    subst (IsReachRow g c) e (h.each c (omega arith))
+use Rattle.game_core.proofs.Promises.{row_at, no_obstacle, leads_to_goals}
 
 -- a cell whose row has rank k
 record HasRowOf (rows : List (Option Row)) (k c : ℕ) : Type 0 where
   input : ℕ
   is : row_of rows c ≡ Some (record { rank = k; input = input })
-
-no_obstacle : (g : Game) (c : ℕ) (t : Tree) → Wins g t c → mark_of g c ≢ Obstacle
-no_obstacle g c Leaf w e = cc
-no_obstacle g c (Apply u next) w e = w.0 e
 
 -- one of the cells has a row of rank k, or all have lesser ones
 one_of : (rows : List (Option Row)) (k : ℕ) (cells : List ℕ) → All (HasRowBelow rows (suc k)) cells → ((s : ℕ) × HasRowOf rows k s) ⊎ All (HasRowBelow rows k) cells

@@ -6,6 +6,7 @@ use Rattle.std.proofs.lemmas.Int.{ints, clamps}
 use Rattle.fixed_expr.specs.Range.{IsInRange}
 use Rattle.interval_eval.specs.declared.interval.Interval.{Interval}
 use Rattle.interval_eval.specs.Span.{EndsFit, product_of}
+use Rattle.interval_eval.proofs.Integers.{IsBetween}
 
 abbrev IsWithin : ℤ → Type 0
 IsWithin z = (neg_ℤ (pos (2 ^ 127)) <ℤ z) × (z <ℤ pos (2 ^ 127))
@@ -37,10 +38,7 @@ least a b c d = int_min (int_min a b) (int_min c d)
 abbrev greatest : ℤ → ℤ → ℤ → ℤ → ℤ
 greatest a b c d = int_max (int_max a b) (int_max c d)
 
-abbrev Between : ℤ → ℤ → ℤ → Type 0
-Between low high x = (low ≤ℤ x) × (x ≤ℤ high)
-
-all_between : (a b c d : ℤ) → Between (least a b c d) (greatest a b c d) a × Between (least a b c d) (greatest a b c d) b × Between (least a b c d) (greatest a b c d) c × Between (least a b c d) (greatest a b c d) d
+all_between : (a b c d : ℤ) → IsBetween (least a b c d) (greatest a b c d) a × IsBetween (least a b c d) (greatest a b c d) b × IsBetween (least a b c d) (greatest a b c d) c × IsBetween (least a b c d) (greatest a b c d) d
 all_between a b c d =
     ((omega (arith, ints, clamps), omega (arith, ints, clamps)), (omega (arith, ints, clamps), omega (arith, ints, clamps)), (omega (arith, ints, clamps), omega (arith, ints, clamps)), (omega (arith, ints, clamps), omega (arith, ints, clamps)))
 
