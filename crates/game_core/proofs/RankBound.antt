@@ -1,5 +1,5 @@
 -- The rank of a row is less than the number of cells: each rank below it is that of another row.
-use Rattle.std.proofs.Common.{◌≡◌, ◌≢◌, ◌⊎◌, inl, inr, ℕ, Bool, true, false, zero, suc, ◌<◌, ◌≤◌, eqb, List, [], ◌∷◌, length, Option, Some, All, refl, sym, ap, subst, ◌∙◌, arith, rules}
+use Rattle.std.proofs.Common.{◌≡◌, ◌≢◌, ◌⊎◌, inl, inr, ℕ, Bool, true, false, zero, suc, ◌<◌, ◌≤◌, eqb, List, [], ◌∷◌, length, Option, Some, All, refl, sym, ap, ◌∙◌, arith, rules}
 use Rattle.std.specs.List.{AllPairs, AllByRecursion, list_any}
 use Rattle.std.proofs.lemmas.Bool.{or_cases, eqb-true, eqb-false}
 use Rattle.std.proofs.lemmas.Bool.Decides.{Decides-eqb}
@@ -7,11 +7,10 @@ use Rattle.std.proofs.lemmas.List.Elements.{All-head, All-tail, All-nil, All-con
 use Rattle.std.proofs.lemmas.List.Kept.{AllPairs-cons}
 use Rattle.std.proofs.lemmas.Map.Made.{IsDistinct-from_AllPairs}
 use Rattle.std.proofs.lemmas.Map.Steps.{length-le_from_distinct_below}
-use Rattle.game_core.specs.declared.game.Mark.TheVariants.{Obstacle}
 use Rattle.game_core.specs.declared.game.Row.{Row}
-use Rattle.game_core.specs.Game.{Game, IsGame, IsEnabled, mark_of, successors_of}
-use Rattle.game_core.specs.Strategy.{Tree, Leaf, Apply, Wins, IsRank}
-use Rattle.game_core.specs.Solution.{row_of, HasRowBelow, IsReachRow, IsReachSolution}
+use Rattle.game_core.specs.Game.{Game, IsGame, IsEnabled, successors_of}
+use Rattle.game_core.specs.Strategy.{Apply, IsRank}
+use Rattle.game_core.specs.Solution.{row_of, HasRowBelow, IsReachSolution}
 use Rattle.game_core.proofs.Rows.{below_from_row}
 use Rattle.game_core.proofs.Trees.{WinsWithin, trees_for}
 use Rattle.game_core.proofs.Promises.{row_at, no_obstacle, leads_to_goals}

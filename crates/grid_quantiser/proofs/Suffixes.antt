@@ -1,6 +1,6 @@
 -- The axes from one on, which the loops go through from the last axis to the first.
 use Rattle.std.proofs.Common.{◌≡◌, ℕ, zero, suc, ◌+◌, ◌-◌, ◌*◌, ◌/◌, ◌%◌, ◌<◌, ◌≤◌, arith, ap, sym, ◌∙◌, List, [], ◌∷◌, length, drop, get_or}
-use Rattle.std.proofs.Math.Nat.{mul-pos, le-mul_of_pos_right, mul_comm, div-one, mod-eq_of_lt}
+use Rattle.std.proofs.Math.Nat.{mul-pos, le-mul_of_pos_right, mul_comm, div-one}
 use Rattle.std.proofs.Math.Seq.{drop-length}
 use Rattle.std.specs.List.{All}
 use Rattle.std.proofs.lemmas.List.Elements.{All-head, All-tail, All-drop, All-get_or}

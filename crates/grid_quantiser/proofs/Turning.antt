@@ -1,5 +1,5 @@
 -- An odometer that turns: the starts that are left, and what one turn brings.
-use Rattle.std.proofs.Common.{◌≡◌, ℕ, zero, suc, ◌+◌, ◌-◌, ◌*◌, ◌<◌, ◌≤◌, ◌==◌, Bool, true, false, cond, List, [], ◌∷◌, ◌++◌, length, take, drop, get_or, set, Option, Some, None, refl, sym, ap, subst, ◌∙◌, arith}
+use Rattle.std.proofs.Common.{◌≡◌, ℕ, zero, suc, ◌+◌, ◌-◌, ◌*◌, ◌<◌, ◌==◌, Bool, false, cond, List, [], ◌∷◌, ◌++◌, length, take, drop, get_or, set, Option, Some, None, refl, sym, ap, subst, ◌∙◌, arith}
 use Rattle.std.specs.Prelude.{IfSome}
 use Rattle.std.specs.List.{flat_map}
 use Rattle.std.proofs.lemmas.Bool.{false_from_ne_true}
@@ -8,7 +8,7 @@ use Rattle.std.proofs.lemmas.List.{take-append-drop, take-set, drop-set, drop_mo
 use Rattle.std.proofs.Math.Dec.{eqb-suc-zero}
 use Rattle.std.proofs.Math.Nat.{zero-mul, add-mul}
 use Rattle.grid_quantiser.specs.declared.runs.Wheel.{Wheel}
-use Rattle.grid_quantiser.specs.RunFields.{stepped, whole_turn, starts_left, starts_after, next_start, turned, AreWheels}
+use Rattle.grid_quantiser.specs.RunFields.{stepped, starts_left, starts_after, next_start, turned, AreWheels}
 
 -- a list with another element, in its parts
 pub set_parts : (wheels : List Wheel) (i : ℕ) (w : Wheel) → i < length wheels → set wheels i w ≡ take i wheels ++ w ∷ drop (i + 1) wheels
