@@ -1,7 +1,7 @@
 -- One successor more is cut from one pair.
 use Rattle.std.proofs.Common.{inl, inr, ◌≡◌, ◌≢◌, ℕ, suc, ◌-◌, ◌<◌, ◌⊎◌, Bool, true, false, not, ◌||◌, ◌&&◌, ◌==◌, List, [], length, get_or, set, count_by, Contains, AllPairs, arith, refl, sym, ◌∙◌, ap, subst, length-set, get_or-set_same, get_or-set_other, mul_comm}
-use Rattle.std.proofs.lemmas.Bool.{cases_lt, cases_eq}
-use Rattle.std.proofs.lemmas.Bool.Decides.{Decides-eqb}
+use Rattle.std.proofs.Math.Bool.{or-true, or-false, and-false}
+use Rattle.std.proofs.lemmas.Bool.{cases_lt, cases_eq, eq-eqb, ne_eqb}
 use Rattle.std.proofs.lemmas.List.Elements.{Contains-get_or, All-get_or}
 use Rattle.std.proofs.lemmas.List.Kept.{AllPairs-from_increasing}
 use Rattle.std.proofs.lemmas.List.{get_or_past}
@@ -15,36 +15,14 @@ use Rattle.game_core.specs.Search.{IsCounted}
 abbrev pub with_edge : (ℕ → ℕ → Bool) → ℕ → ℕ → ℕ → ℕ → Bool
 with_edge cut pair c q s = cut q s || (q == pair && s == c)
 
-pub or_false : (b : Bool) → (b || false) ≡ b
-or_false true = refl
-or_false false = refl
-
-or_true : (b : Bool) → (b || true) ≡ true
-or_true true = refl
-or_true false = refl
-
-pub and_false : (b : Bool) → (b && false) ≡ false
-and_false true = refl
-and_false false = refl
-
-pub eqb_other : (a b : ℕ) → a ≢ b → (a == b) ≡ false
-eqb_other a b ne = by_test (a == b) refl
-  where
-    by_test : (t : Bool) → (a == b) ≡ t → t ≡ false
-    by_test true e = absurd (ne ((Decides-eqb a b).0 e))
-    by_test false e = refl
-
-pub eqb_same : (a b : ℕ) → a ≡ b → (a == b) ≡ true
-eqb_same a b e = (Decides-eqb a b).1 e
-
 pub edge_here : (cut : ℕ → ℕ → Bool) (pair c : ℕ) → with_edge cut pair c pair c ≡ true
-edge_here cut pair c = ap (λ t. cut pair c || (t && c == c)) (eqb_same pair pair refl) ∙ (ap (λ t. cut pair c || t) (eqb_same c c refl) ∙ or_true (cut pair c))
+edge_here cut pair c = ap (λ t. cut pair c || (t && c == c)) (eq-eqb pair pair refl) ∙ (ap (λ t. cut pair c || t) (eq-eqb c c refl) ∙ or-true (cut pair c))
 
 pub edge_other_cell : (cut : ℕ → ℕ → Bool) (pair c q s : ℕ) → s ≢ c → with_edge cut pair c q s ≡ cut q s
-edge_other_cell cut pair c q s ne = ap (λ t. cut q s || (q == pair && t)) (eqb_other s c ne) ∙ (ap (λ t. cut q s || t) (and_false (q == pair)) ∙ or_false (cut q s))
+edge_other_cell cut pair c q s ne = ap (λ t. cut q s || (q == pair && t)) (ne_eqb s c ne) ∙ (ap (λ t. cut q s || t) (and-false (q == pair)) ∙ or-false (cut q s))
 
 pub edge_other_pair : (cut : ℕ → ℕ → Bool) (pair c q s : ℕ) → q ≢ pair → with_edge cut pair c q s ≡ cut q s
-edge_other_pair cut pair c q s ne = ap (λ t. cut q s || (t && s == c)) (eqb_other q pair ne) ∙ or_false (cut q s)
+edge_other_pair cut pair c q s ne = ap (λ t. cut q s || (t && s == c)) (ne_eqb q pair ne) ∙ or-false (cut q s)
 
 pub edge_cases : (cut : ℕ → ℕ → Bool) (pair c q s : ℕ) → with_edge cut pair c q s ≡ true → (cut q s ≡ true) ⊎ ((q ≡ pair) × (s ≡ c))
 edge_cases cut pair c q s e =

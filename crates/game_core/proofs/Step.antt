@@ -1,6 +1,6 @@
 -- A search goes on being right as one successor more is cut.
 use Rattle.std.proofs.Common.{inl, inr, ◌≡◌, ◌≢◌, ℕ, zero, suc, ◌-◌, ◌/◌, ◌%◌, ◌<◌, ◌≤◌, ◌⊎◌, Bool, true, false, not, cond, ◌==◌, ◌&&◌, nat_lt, List, [], ◌∷◌, ◌++◌, length, get_or, set, count_by, Option, Some, None, All, Contains, arith, refl, sym, ◌∙◌, ap, subst, length-set, append-nil, get_or-set_same}
-use Rattle.std.proofs.lemmas.Bool.{cases_lt}
+use Rattle.std.proofs.lemmas.Bool.{cases_lt, not-false}
 use Rattle.std.proofs.lemmas.Bool.Decides.{Decides-eqb, Decides-ltb}
 use Rattle.std.proofs.lemmas.List.Elements.{All-weaker, Contains-get_or}
 use Rattle.std.proofs.lemmas.Nat.{div-add-mod', div_below, mod_below, same_from_place}
@@ -71,12 +71,8 @@ module _ (g : Game) (a : IsGame g) (cut : ℕ → ℕ → Bool) (head top : ℕ)
   }
 
   module _ (done : count_by (λ s. not (after pair s)) (successors_at g pair) ≡ 0) where
-    not_false : (b : Bool) → not b ≡ false → b ≡ true
-    not_false true e = refl
-    not_false false e = cc
-
     all_after : All (λ s. after pair s ≡ true) (successors_at g pair)
-    all_after i d li = not_false (after pair (get_or (successors_at g pair) i d)) (none_from_count (λ s. not (after pair s)) (successors_at g pair) done i d li)
+    all_after i d li = not-false (after pair (get_or (successors_at g pair) i d)) (none_from_count (λ s. not (after pair s)) (successors_at g pair) done i d li)
 
     each_below : All (HasRowBelow p.rows top) (successors_at g pair)
     each_below i d li =

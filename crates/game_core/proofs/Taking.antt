@@ -1,6 +1,7 @@
 -- The cell at the head of the queue is taken: it is cut from each pair that leads to it.
 use Rattle.std.proofs.Common.{inl, inr, ◌≡◌, ◌≢◌, ℕ, suc, ◌+◌, ◌<◌, ◌≤◌, ◌⊎◌, Bool, true, false, ◌||◌, ◌&&◌, ◌==◌, List, [], ◌∷◌, ◌++◌, length, get_or, take, Option, Some, Contains, arith, refl, sym, ◌∙◌, ap, subst, append-nil, append_assoc, length-append, length-take, get_or-take}
-use Rattle.std.proofs.lemmas.Bool.{cases_eq}
+use Rattle.std.proofs.Math.Bool.{or-false, and-false}
+use Rattle.std.proofs.lemmas.Bool.{cases_eq, ne_eqb}
 use Rattle.std.proofs.lemmas.List.{get_or_append_left, get_or_default, take-append-le, take_more, take_all}
 use Rattle.std.proofs.lemmas.List.Elements.{Contains-get_or}
 use Rattle.std.proofs.lemmas.List.Folds.{list_any-append, list_any_more, list_any_none}
@@ -8,7 +9,7 @@ use Rattle.std.proofs.lemmas.List.Kept.{AllPairs-from_increasing}
 use Rattle.std.proofs.lemmas.Map.Views.{list_any-from_Contains}
 use Rattle.std.specs.Cmp.{nat_eq_equiv}
 use Rattle.std.specs.List.{list_any}
-use Rattle.game_core.proofs.Edges.{with_edge, or_false, and_false, eqb_other, some_left, counted_alike, pair_below}
+use Rattle.game_core.proofs.Edges.{with_edge, some_left, counted_alike, pair_below}
 use Rattle.game_core.proofs.Queues.{raised_top, raise_queue, next_queue}
 use Rattle.game_core.proofs.Step.{Grows, IsStep, cut_step}
 use Rattle.game_core.specs.declared.game.Row.{Row}
@@ -64,7 +65,7 @@ pub record IsTaking (g : Game) (head top c : ℕ) (sources : List ℕ) (j : ℕ)
 
 module _ (g : Game) (head c : ℕ) (sources : List ℕ) (first : Progress) (lt : head < length first.queue) (at : get_or first.queue head 0 ≡ c) where
   taking_none : (pair s : ℕ) → taken head first.queue pair s ≡ taking head first.queue c sources 0 pair s
-  taking_none pair s = sym (or_false (list_any (◌==◌ s) (take head first.queue)))
+  taking_none pair s = sym (or-false (list_any (◌==◌ s) (take head first.queue)))
 
   pub taking_start : (top : ℕ) → top ≡ suc (rank_at first.rows c) → IsSearched g head first → IsTaking g head top c sources 0 first first
   taking_start top e h =
@@ -114,7 +115,7 @@ module _ (g : Game) (a : IsGame g) (head top c : ℕ) (sources : List ℕ) (are 
         let p2 = first_place head d lt in
         let at' : get_or first.queue head d ≡ c = get_or_default first.queue head d 0 lt ∙ at in
         let apart = h.search.queue.once i head d (omega arith) (let l = longer in omega arith) in
-        eqb_other c (get_or (take head first.queue) i d) (λ f. apart (omega arith)))
+        ne_eqb c (get_or (take head first.queue) i d) (λ f. apart (omega arith)))
 
     not_done : list_any (◌==◌ pair) (take j sources) ≡ false
     not_done = list_any_none (◌==◌ pair) (take j sources) (λ i d li.
@@ -122,7 +123,7 @@ module _ (g : Game) (a : IsGame g) (head top c : ℕ) (sources : List ℕ) (are 
         let e = get_or-take j sources i d (omega arith) in
         let apart = AllPairs-from_increasing sources are.rising i j d (omega arith) lj in
         let at' : get_or sources j d ≡ pair = get_or_default sources j d 0 lj in
-        eqb_other pair (get_or (take j sources) i d) (λ f. omega arith))
+        ne_eqb pair (get_or (take j sources) i d) (λ f. omega arith))
 
     whole : taking head first.queue c sources j pair c ≡ false
     whole = ap (λ t. t || (list_any (◌==◌ pair) (take j sources) && c == c)) not_taken ∙ ap (λ t. t && c == c) not_done
@@ -171,9 +172,9 @@ module _ (g : Game) (a : IsGame g) (head top c : ℕ) (sources : List ℕ) (are 
         by_cell (inl f) =
             let all : take j sources ≡ sources = take_all j sources (omega arith) in
             let yes' : list_any (◌==◌ q) sources ≡ true = list_any-from_Contains nat_eq_equiv q sources ((are.exactly q).1 (lq, subst (Contains (successors_at g q)) f ls)) in
-            ap (λ (xs : List ℕ). list_any (◌==◌ q) xs && s == c) all ∙ (ap (λ t. t && s == c) yes' ∙ sym (or_false (s == c)))
+            ap (λ (xs : List ℕ). list_any (◌==◌ q) xs && s == c) all ∙ (ap (λ t. t && s == c) yes' ∙ sym (or-false (s == c)))
         by_cell (inr ne) =
-            ap (λ t. list_any (◌==◌ q) (take j sources) && t) (eqb_other s c ne) ∙ (and_false (list_any (◌==◌ q) (take j sources)) ∙ (sym (eqb_other s c ne) ∙ sym (or_false (s == c))))
+            ap (λ t. list_any (◌==◌ q) (take j sources) && t) (ne_eqb s c ne) ∙ (and-false (list_any (◌==◌ q) (take j sources)) ∙ (sym (ne_eqb s c ne) ∙ sym (or-false (s == c))))
 
     pub taking_end : IsSearched g (head + 1) p
     taking_end = record {

@@ -2,7 +2,7 @@
 use Rattle.std.proofs.Common.{◌≡◌, ℕ, zero, suc, ◌+◌, ◌-◌, ◌*◌, ◌/◌, ◌%◌, ◌<◌, ◌≤◌, arith, ap, refl, sym, ◌∙◌, List, [], ◌∷◌, ◌++◌, length, map, get_or, inl, inr}
 use Rattle.std.specs.List.{All, range_with_len}
 use Rattle.std.proofs.lemmas.Bool.{cases_lt}
-use Rattle.std.proofs.lemmas.List.{length-append, get_or-append_right, get_or_default, append-nil}
+use Rattle.std.proofs.lemmas.List.{length-append, map-append, get_or-append_right, get_or_default, append-nil}
 use Rattle.std.proofs.lemmas.List.Concat.{flat_map-append}
 use Rattle.std.proofs.lemmas.List.Elements.{All-head, All-tail}
 use Rattle.std.proofs.lemmas.Nat.{div-add-mod', div-mul-add, mod-mul-add, mod_below}
@@ -31,10 +31,6 @@ starts_of (a ∷ b ∷ axes) f l = blocks (cells_of (b ∷ axes)) (starts_of (b 
 range_shift : (k s m : ℕ) → map (λ c. k + c) (range_with_len s m) ≡ range_with_len (k + s) m
 range_shift k s zero = refl
 range_shift k s (suc m) = ap (λ (xs : List ℕ). (k + s) ∷ xs) (range_shift k (s + 1) m ∙ ap (λ (n : ℕ). range_with_len n m) (let e : k + (s + 1) ≡ k + s + 1 = omega arith in e))
-
-pub map-append : (f : ℕ → ℕ) (xs ys : List ℕ) → map f (xs ++ ys) ≡ map f xs ++ map f ys
-map-append f [] ys = refl
-map-append f (x ∷ xs) ys = ap (λ (zs : List ℕ). f x ∷ zs) (map-append f xs ys)
 
 runs_shift : (k m : ℕ) (starts : List ℕ) → map (λ c. k + c) (runs_from m starts) ≡ runs_from m (map (λ c. k + c) starts)
 runs_shift k m [] = refl

@@ -1,7 +1,7 @@
 -- The wheels of a box, made from the last state but one to the first.
 use Rattle.std.proofs.Common.{◌≡◌, ℕ, zero, suc, ◌+◌, ◌-◌, ◌*◌, ◌/◌, ◌%◌, ◌^◌, ◌<◌, ◌≤◌, arith, ap, refl, sym, subst, ◌∙◌, List, [], ◌∷◌, ◌++◌, length, map, take, drop, get_or, set, Some}
 use Rattle.std.specs.List.{All, flat_map}
-use Rattle.std.proofs.lemmas.List.{append-nil, take_more_set, drop_more}
+use Rattle.std.proofs.lemmas.List.{append-nil, map-append, take_more_set, drop_more}
 use Rattle.std.proofs.lemmas.List.Concat.{flat_map-append}
 use Rattle.std.proofs.lemmas.List.Elements.{All-head, All-tail, All-append, All-drop, All-weaker}
 use Rattle.std.proofs.lemmas.Nat.{div-add-mod', mod_below}
@@ -14,7 +14,7 @@ use Rattle.grid_quantiser.specs.Boxes.{IsCellBox, cells_between}
 use Rattle.grid_quantiser.specs.RunFields.{stepped, whole_turn, starts_left, runs_from, AreWheels, AreRuns}
 use Rattle.grid_quantiser.proofs.Blocks.{blocks}
 use Rattle.grid_quantiser.proofs.BoxCells.{corners_below, box_whole, IsCellBox-drop, box_next, places_ordered}
-use Rattle.grid_quantiser.proofs.BoxRuns.{map-append, side_of, starts_of, in_runs, starts_below, difference_parts, quotients_ordered, box_ordered}
+use Rattle.grid_quantiser.proofs.BoxRuns.{side_of, starts_of, in_runs, starts_below, difference_parts, quotients_ordered, box_ordered}
 use Rattle.grid_quantiser.proofs.Suffixes.{next_axis, some_cells, some_later, cells_limit, drop_step, place_step, later_step}
 use Rattle.grid_quantiser.proofs.Turning.{starts_head}
 
