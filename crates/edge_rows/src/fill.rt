@@ -1,6 +1,6 @@
 //! `RowFill`: rows of fixed lengths that are filled one number at a time, in any order of rows.
 ghost use Rattle.std.specs.Prelude.{◌≡◌, ◌^◌, ◌≤◌, length, map, sum, IfOk};
-ghost use Rattle.edge_rows.specs.Rows.{row_at, appended, unfilled, HasRoom, places_left};
+ghost use Rattle.edge_rows.specs.Rows.{appended, unfilled, HasRoom, places_left};
 ghost use Rattle.edge_rows.specs.Layout.{starts_from};
 
 use crate::block::Block;

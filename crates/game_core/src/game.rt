@@ -1,4 +1,4 @@
-ghost use Rattle.std.specs.Prelude.{◌≡◌, ◌*◌, ◌<◌, length, slice_index};
+ghost use Rattle.std.specs.Prelude.{◌≡◌, ◌<◌, length, slice_index};
 ghost use Rattle.game_core.specs.Game.{Game, IsGame, AreSources, mark_of, successors_at, pairs_of};
 
 /// What a cell is to the controller.

@@ -1,4 +1,4 @@
-ghost use Rattle.std.specs.Prelude.{◌≡◌, ◌^◌, ◌<◌, ◌≤◌, [], length, IfSome, IfNone};
+ghost use Rattle.std.specs.Prelude.{◌≡◌, ◌^◌, ◌<◌, [], IfSome, IfNone};
 ghost use Rattle.grid_quantiser.specs.Boxes.{IsCellBox, cells_between};
 ghost use Rattle.grid_quantiser.specs.Runs.{BeginsWithRun};
 ghost use Rattle.grid_quantiser.specs.RunFields.{AreWheels, next_start, turned};

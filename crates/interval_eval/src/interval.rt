@@ -1,7 +1,7 @@
 ghost use Rattle.std.specs.Prelude.{◌≡◌, pos, ◌≤ℤ◌, SomeIff};
 ghost use Rattle.std.specs.Int.{int_min, int_max};
 ghost use Rattle.fixed_expr.specs.Range.{IsInRange};
-ghost use Rattle.interval_eval.specs.Span.{IsInterval, EndsFit, negation_of, sum_of, difference_of, product_of, hull_of, quotient_of, minimum_of, maximum_of, absolute_of};
+ghost use Rattle.interval_eval.specs.Span.{EndsFit, negation_of, sum_of, difference_of, product_of, hull_of, quotient_of, minimum_of, maximum_of, absolute_of};
 
 use fixed_expr::arithmetic::{
     difference, greater, lesser, negation, product, quotient, sum, within,
