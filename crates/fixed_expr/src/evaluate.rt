@@ -2,10 +2,9 @@ ghost use Rattle.std.specs.Prelude.{length, SomeIff};
 ghost use Rattle.fixed_expr.specs.Expression.{expression_of};
 ghost use Rattle.fixed_expr.specs.Value.{IsWellFormed, StaysInRange, value_of};
 
-use crate::arithmetic::{
-    absolute, difference, greater, lesser, negation, product, quotient, sum, within,
-};
 use crate::expr::Expr;
+use crate::narrow::eval_narrow;
+use crate::wide::eval_wide;
 
 /// The value of an expression at these values of its variables: None where the value of some node
 /// leaves the range. It takes no memory but a frame of the stack for each level of the expression.
@@ -13,17 +12,9 @@ pub fn eval(e: &Expr, values: &[i128]) -> Option<i128>
     requires { IsWellFormed (expression_of e.now) (length values.now) }
     ensures { SomeIff result (StaysInRange (expression_of e.now) values.now) (value_of (expression_of e.now) values.now) }
 {
-    match e {
-        Expr::Num(k) => within(*k),
-        Expr::Var(i) => within(values[*i as usize]),
-        Expr::Neg(a) => negation(eval(a, values)?),
-        Expr::Add(a, b) => sum(eval(a, values)?, eval(b, values)?),
-        Expr::Sub(a, b) => difference(eval(a, values)?, eval(b, values)?),
-        Expr::Mul(a, b) => product(eval(a, values)?, eval(b, values)?),
-        Expr::Div(a, k) => quotient(eval(a, values)?, *k),
-        Expr::Min(a, b) => lesser(eval(a, values)?, eval(b, values)?),
-        Expr::Max(a, b) => greater(eval(a, values)?, eval(b, values)?),
-        Expr::Abs(a) => absolute(eval(a, values)?),
+    match eval_narrow(e, values) {
+        Some(z) => Some(i128::from(z)),
+        None => eval_wide(e, values),
     }
 }
 

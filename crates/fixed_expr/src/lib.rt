@@ -8,6 +8,8 @@
 pub mod arithmetic;
 mod evaluate;
 mod expr;
+mod narrow;
+mod wide;
 
 pub use evaluate::eval;
 pub use expr::Expr;
