@@ -1,4 +1,4 @@
--- The bytes of names and numbers: neither holds a blank, and no number is a name.
+-- The bytes of numbers: none is a separator, and no number is a name.
 use Rattle.std.proofs.Common.{◌≡◌, ℕ, suc, ◌+◌, ◌%◌, ◌^◌, ◌<◌, true, false, eqb, leb, List, [], ◌∷◌, length, get_or, refl, subst, ◌∙◌, arith, ◌&&◌, inl, inr}
 use Rattle.std.specs.Prelude.{ℤ, pos, negsuc}
 use Rattle.std.specs.List.{list_all}
@@ -6,32 +6,17 @@ use Rattle.std.specs.Fmt.{decimal, signed_decimal}
 use Rattle.std.proofs.lemmas.Bool.{eqb-true, leb-true, le-leb, and_parts, and_from, or_cases, false_from_ne_true}
 use Rattle.std.proofs.lemmas.List.Folds.{list_all-append}
 use Rattle.std.proofs.lemmas.Fmt.{decimal_by_steps, decimal_nonempty}
-use Rattle.plant_text.specs.Names.{is_blank, is_word, is_name_byte, is_digit, is_letter, IsName, IsLiteral}
+use Rattle.plant_text.specs.Names.{is_separator, is_word, is_digit, is_letter, IsName, IsLiteral}
 
-blank_is : (b : ℕ) → is_blank b ≡ true → (P : ℕ → Type 0) → P b → (Q : Type 0) → (P 32 → Q) → (P 10 → Q) → Q
-blank_is b blank P h Q space feed =
-    elim (or_cases (eqb b 32) (eqb b 10) blank) [
+separator_is : (b : ℕ) → is_separator b ≡ true → (P : ℕ → Type 0) → P b → (Q : Type 0) → (P 32 → Q) → (P 10 → Q) → Q
+separator_is b separates P h Q space feed =
+    elim (or_cases (eqb b 32) (eqb b 10) separates) [
       | inl e ↦ space (subst P (eqb-true b 32 e) h)
       | inr e ↦ feed (subst P (eqb-true b 10 e) h)
     ]
 
-name_byte : (b : ℕ) → is_name_byte b ≡ true → is_blank b ≡ false
-name_byte b h = false_from_ne_true (is_blank b) (λ blank. blank_is b blank (λ x. is_name_byte x ≡ true) h ⊥ (λ e. absurd cc) (λ e. absurd cc))
-
-name_bytes : (w : List ℕ) → list_all is_name_byte w ≡ true → is_word w ≡ true
-name_bytes [] h = refl
-name_bytes (b ∷ w) h =
-    let parts = and_parts (is_name_byte b) (list_all is_name_byte w) h in
-    rw (name_byte b parts.0) (name_bytes w parts.1)
-
-pub name_word : (w : List ℕ) → IsName w → is_word w ≡ true
-name_word w h =
-    let a = and_parts (is_letter (get_or w 0 0)) _ h in
-    let b = and_parts (list_all is_name_byte w) _ a.1 in
-    name_bytes w b.0
-
-digit_byte : (b : ℕ) → is_digit b ≡ true → is_blank b ≡ false
-digit_byte b h = false_from_ne_true (is_blank b) (λ blank. blank_is b blank (λ x. is_digit x ≡ true) h ⊥ (λ e. absurd cc) (λ e. absurd cc))
+digit_byte : (b : ℕ) → is_digit b ≡ true → is_separator b ≡ false
+digit_byte b h = false_from_ne_true (is_separator b) (λ separates. separator_is b separates (λ x. is_digit x ≡ true) h ⊥ (λ e. absurd cc) (λ e. absurd cc))
 
 digit_bytes : (w : List ℕ) → list_all is_digit w ≡ true → is_word w ≡ true
 digit_bytes [] h = refl

@@ -1,11 +1,10 @@
 -- A canonical line has no line feed in it, and states one thing.
-use Rattle.std.proofs.Common.{◌≡◌, ℕ, ◌<◌, true, List, [], ◌∷◌, ◌++◌, length, get_or, map, refl, sym, ap, subst, ◌∙◌, arith, length-append}
+use Rattle.std.proofs.Common.{◌≡◌, ℕ, ◌<◌, true, List, [], ◌∷◌, ◌++◌, length, get_or, map, refl, ap, subst, ◌∙◌, arith, length-append}
 use Rattle.std.specs.Prelude.{codes}
 use Rattle.std.specs.List.{AllByRecursion, flat_map, join_with_byte}
 use Rattle.std.specs.Fmt.{signed_decimal}
 use Rattle.std.proofs.lemmas.List.{append_cancel_right, length-map}
 use Rattle.std.proofs.lemmas.List.Elements.{All-get_or, recursion_from_All}
-use Rattle.fixed_expr.specs.Expression.{Expression}
 use Rattle.plant_text.specs.declared.variables.StateVariable.{StateVariable}
 use Rattle.plant_text.specs.declared.variables.InputVariable.{InputVariable}
 use Rattle.plant_text.specs.declared.variables.NoiseVariable.{NoiseVariable}

@@ -1,5 +1,5 @@
 -- The boxes of a plant are ordered in its grid.
-use Rattle.std.proofs.Common.{◌≡◌, ℕ, List, [], ◌∷◌, ◌++◌, length, take, sym, subst, ◌∙◌, Bool, true, false, arith}
+use Rattle.std.proofs.Common.{◌≡◌, ℕ, List, [], ◌∷◌, ◌++◌, length, take, sym, subst, ◌∙◌, Bool, true, false, not, refl, arith}
 use Rattle.std.specs.Prelude.{ℤ, IsTrue, ◌↔◌}
 use Rattle.std.specs.List.{All, Any, AllZip}
 use Rattle.std.proofs.lemmas.List.Elements.{All-weaker}
@@ -26,8 +26,8 @@ box_ordered n axes b count h = ordered n axes b.low b.high _ _ h.low_rest h.high
 pub boxes_ordered : (n : ℕ) (axes : List Axis) (boxes : List StateBox) → length axes ≡ n → All (IsStateBox n) boxes → All (λ (b : StateBox). IsAtMost axes b.low b.high) boxes
 boxes_ordered n axes boxes count each = All-weaker (IsStateBox n) (λ (b : StateBox). IsAtMost axes b.low b.high) (λ b. box_ordered n axes b count) boxes each
 
--- a cell off the obstacles is a goal where it lies in a target
-pub goal_is : (p : Description) (c : ℕ) (blocked inside : Bool) → blocked ≡ false → (IsTrue blocked ↔ IsObstacleCell p c)
-    → (IsTrue inside ↔ Any (λ (b : StateBox). LiesInside (axes_of p) c b.low b.high) p.targets) → IsTrue inside ↔ IsGoalCell p c
-goal_is p c blocked inside off obstacle target =
-    ((λ r. ((λ o. let on : blocked ≡ true = obstacle.1 o in cc), target.0 r)), (λ g. target.1 g.1))
+-- a cell that lies in a target is a goal where it is off the obstacles
+pub goal_is : (p : Description) (c : ℕ) (blocked inside : Bool) → inside ≡ true → (IsTrue blocked ↔ IsObstacleCell p c)
+    → (IsTrue inside ↔ Any (λ (b : StateBox). LiesInside (axes_of p) c b.low b.high) p.targets) → IsTrue (not blocked) ↔ IsGoalCell p c
+goal_is p c true inside on obstacle target = ((λ r. cc), (λ g. absurd (g.0 (obstacle.0 refl))))
+goal_is p c false inside on obstacle target = ((λ r. ((λ o. let e = obstacle.1 o in cc), target.0 on)), (λ g. refl))

@@ -100,7 +100,8 @@ behind_blank b bytes e = rw e refl
 one_byte_word : (b : ℕ) (bytes : List ℕ) → is_blank b ≡ false → ends_word bytes ≡ true → words_of (b ∷ bytes) ≡ (b ∷ []) ∷ words_of bytes
 one_byte_word b bytes e f = rw (e, f) refl
 
-longer_word : (b : ℕ) (bytes : List ℕ) → is_blank b ≡ false → ends_word bytes ≡ false → words_of (b ∷ bytes) ≡ joined b (words_of bytes)
+-- a byte in front of a word
+pub longer_word : (b : ℕ) (bytes : List ℕ) → is_blank b ≡ false → ends_word bytes ≡ false → words_of (b ∷ bytes) ≡ joined b (words_of bytes)
 longer_word b bytes e f = rw (e, f) refl
 
 abbrev IsBehindBlanks : List ℕ → Type 0

@@ -9,14 +9,14 @@ use Rattle.fixed_expr.specs.Expression.{expression_of, Expression, Number, Varia
 use Rattle.plant_text.specs.declared.items.Item.{Item}
 use Rattle.plant_text.specs.Names.{IsName}
 use Rattle.plant_text.specs.Syntax.{Syntax, AreTokensOf, meaning_of, yield_of}
-use Rattle.plant_text.specs.Variables.{nodes_of, depth_of, HasLiterals, IsEquation}
+use Rattle.plant_text.specs.Variables.{nodes_of, depth_of}
 use Rattle.plant_text.specs.Items.{AreNames, items_before, turned, spelling_of, IsItem, AreItems, nodes_made, nodes_in, open_behind, most_open, open_after, next_item, ◌>>=◌}
 use Rattle.plant_text.specs.declared.expression.Counts.{Counts}
-use Rattle.plant_text.specs.Machine.{Pending, Machine, stepped, steps, state_after, IsEnd, counts_behind, IsWithinLimits}
+use Rattle.plant_text.specs.Machine.{Pending, Machine, stepped, steps, state_after, IsEnd, counts_behind, AreWithinLimits}
 use Rattle.plant_text.proofs.Completeness.{whole}
 use Rattle.plant_text.proofs.Soundness.{sum_spans}
 use Rattle.plant_text.proofs.Spelling.{item_again, next_takes, next_ends, then_some}
-use Rattle.plant_text.proofs.Trees.{spelled, yield_is, turned_is, nodes_are, open_are, tree_items, tree_literals, turned_nodes, turned_open, turned_bound, open_bound, StaysOpen}
+use Rattle.plant_text.proofs.Trees.{spelled, yield_is, turned_is, nodes_are, open_are, tree_items, turned_nodes, turned_open, turned_bound, open_bound, StaysOpen}
 
 -- the tokens of items, of which the last comes first, before others
 abbrev pub before : List (List ℕ) → List Item → List (List ℕ) → List (List ℕ)
@@ -75,9 +75,6 @@ left_of names all (x ∷ taken) ts ok ha ht e =
 tree_spelled : (names : List (List ℕ)) (t : Syntax) → spelled names (items_before t []) ≡ yield_of names t
 tree_spelled names t = yield_is names t [] ∙ append-nil (yield_of names t)
 
-pub equation_of_tokens : (names tokens : List (List ℕ)) (e : Expression) → AreTokensOf names tokens e → IsEquation (length names) e
-equation_of_tokens names tokens e h = record { literals = subst (HasLiterals (length names)) h.means (tree_literals (length names) h.syntax_tree h.grammatical); nodes = h.nodes; depth = h.depth }
-
 -- tokens spell at most one expression
 pub one_expression : (names tokens : List (List ℕ)) (e f : Expression) → AllPairs (λ a b. a ≢ b) names → All IsName names → AreTokensOf names tokens e → AreTokensOf names tokens f → e ≡ f
 one_expression names tokens e f differ each h k =
@@ -120,10 +117,10 @@ pub record Taken (names tokens rest : List (List ℕ)) (n : Machine) (c : Counts
   pub few : c.nodes ≤ 256
   pub bounded : StaysOpen items
 
-pub taken_within : (names tokens rest : List (List ℕ)) (n : Machine) (c : Counts) → Taken names tokens rest n c → IsWithinLimits c
+pub taken_within : (names tokens rest : List (List ℕ)) (n : Machine) (c : Counts) → Taken names tokens rest n c → AreWithinLimits c
 taken_within names tokens rest n c k = (k.few, omega (arith, k.open_now, open_bound k.items k.bounded))
 
-pub one_taken : (names tokens rest ts : List (List ℕ)) (n r : Machine) (c d : Counts) (x : Item) → Taken names tokens rest n c → next_item names rest ≡ Some (Some (x, ts)) → stepped x n.0 n.1 ≡ Some r → d ≡ counts_behind c x → IsWithinLimits d → Taken names tokens ts r d
+pub one_taken : (names tokens rest ts : List (List ℕ)) (n r : Machine) (c d : Counts) (x : Item) → Taken names tokens rest n c → next_item names rest ≡ Some (Some (x, ts)) → stepped x n.0 n.1 ≡ Some r → d ≡ counts_behind c x → AreWithinLimits d → Taken names tokens ts r d
 one_taken names tokens rest ts n r c d x h read step counts within =
     let b = next_takes names rest x ts read in
     let more : d.nodes ≡ c.nodes + nodes_made x = ap (λ (k : Counts). k.nodes) counts in
@@ -197,7 +194,7 @@ opened_at_least d [] = omega arith
 opened_at_least d (x ∷ xs) = omega arith
 
 -- where an item exceeds a limit, too
-pub no_room : (names tokens rest ts : List (List ℕ)) (n : Machine) (c : Counts) (x : Item) (e : Expression) → AreNames names → Taken names tokens rest n c → next_item names rest ≡ Some (Some (x, ts)) → (IsWithinLimits (counts_behind c x) → ⊥) → AreTokensOf names tokens e → ⊥
+pub no_room : (names tokens rest ts : List (List ℕ)) (n : Machine) (c : Counts) (x : Item) (e : Expression) → AreNames names → Taken names tokens rest n c → next_item names rest ≡ Some (Some (x, ts)) → (AreWithinLimits (counts_behind c x) → ⊥) → AreTokensOf names tokens e → ⊥
 no_room names tokens rest ts n c x e ok k read exceeded h =
     let l = next_left names rest ts (items_before h.syntax_tree []) k.items x ok (goes_on names tokens rest n c e ok k h) read in
     let t = h.syntax_tree in

@@ -1,5 +1,5 @@
 -- Lines in their canonical spelling and order make the canonical text.
-use Rattle.std.proofs.Common.{inl, inr, ◌≡◌, ◌≢◌, ◌⊎◌, ℕ, zero, suc, ◌<◌, ◌≤◌, true, false, List, [], ◌∷◌, ◌++◌, length, get_or, Option, Some, None, refl, sym, ap, ◌∙◌, append_assoc, append-nil, subst, arith, length-append}
+use Rattle.std.proofs.Common.{inl, inr, ◌≡◌, ℕ, ◌<◌, true, false, List, [], ◌∷◌, ◌++◌, length, None, refl, sym, ap, ◌∙◌, append_assoc, append-nil, arith, length-append}
 use Rattle.std.specs.Prelude.{codes, map, slice_index_or}
 use Rattle.std.specs.List.{flat_map}
 use Rattle.std.proofs.lemmas.Bool.{cases_Bool}
@@ -13,10 +13,10 @@ use Rattle.plant_text.specs.declared.variables.StateBox.{StateBox}
 use Rattle.plant_text.specs.declared.variables.GoalKind.{GoalKind}
 use Rattle.plant_text.specs.CanonicalText.{line, state_line, input_line, noise_line, equation_line, equation_lines, box_line, goal_word}
 use Rattle.plant_text.specs.Statements.{Statement, Version, State, Input, Noise, Next, Target, Obstacle, Goal, End}
-use Rattle.plant_text.specs.Grammar.{Part, nothing_yet, names_in, HasEquations, FitsAfter, extended}
+use Rattle.plant_text.specs.Grammar.{Part, nothing_yet, names_in, FitsAfter, extended}
 use Rattle.plant_text.specs.Fronts.{statement_line, IsInOrder}
-use Rattle.plant_text.specs.FrontText.{version_text, goal_text, end_text, part_text, IsOrderly}
-use Rattle.plant_text.specs.PartRules.{KeepsRules, IsAimless}
+use Rattle.plant_text.specs.FrontText.{version_text, goal_text, part_text, IsOrderly}
+use Rattle.plant_text.specs.PartRules.{KeepsRules}
 use Rattle.plant_text.proofs.PartRules.{aimless, no_equations}
 
 no_equation_lines : (names : List (List ℕ)) (states : List StateVariable) → equation_lines names states [] ≡ []

@@ -1,7 +1,6 @@
 -- From line to line of a canonical text, and the plant that it holds.
-use Rattle.std.proofs.Common.{inl, inr, ◌≡◌, ℕ, suc, ◌+◌, ◌-◌, ◌<◌, ◌≤◌, true, false, List, [], ◌∷◌, ◌++◌, length, take, drop, Some, None, refl, sym, ap, subst, ◌∙◌, arith, append_assoc, append-nil, length-append, length-drop}
+use Rattle.std.proofs.Common.{inl, inr, ◌≡◌, ℕ, ◌+◌, ◌-◌, ◌<◌, ◌≤◌, true, false, List, [], ◌∷◌, ◌++◌, length, take, drop, None, refl, sym, ap, subst, ◌∙◌, arith, append_assoc, append-nil, length-append, length-drop}
 use Rattle.std.specs.Prelude.{codes, ◌==◌, position}
-use Rattle.std.specs.List.{flat_map}
 use Rattle.std.proofs.lemmas.Bool.{cases_Bool}
 use Rattle.std.proofs.lemmas.Grind.{flat_map-append}
 use Rattle.std.proofs.lemmas.List.{take-append-drop}
@@ -10,14 +9,14 @@ use Rattle.plant_text.specs.Description.{Description}
 use Rattle.plant_text.specs.Words.{lines_of, words_of}
 use Rattle.plant_text.specs.Plants.{IsPlant}
 use Rattle.plant_text.specs.CanonicalText.{text_of}
-use Rattle.plant_text.specs.Grammar.{Part, nothing_yet, extended, IsWhole}
+use Rattle.plant_text.specs.Grammar.{Part, nothing_yet, IsWhole}
 use Rattle.plant_text.specs.Fronts.{ExtendsCanonically, LeadsCanonically, with_line_feeds, IsFirstRefusedAtFront, IsFront}
 use Rattle.plant_text.specs.FrontText.{part_text, IsOrderly}
 use Rattle.plant_text.specs.Laws.{OnePlantAtTheFront, OneFront}
 use Rattle.plant_text.specs.PartRules.{KeepsRules}
 use Rattle.plant_text.specs.ReadInFront.{IsReadInFront}
 use Rattle.plant_text.proofs.Cuts.{feed_has_place}
-use Rattle.plant_text.proofs.LineCuts.{is_printable, lines_front}
+use Rattle.plant_text.proofs.LineCuts.{lines_front}
 use Rattle.plant_text.proofs.PartRules.{rules_of_nothing, rules_stated}
 use Rattle.plant_text.proofs.Leading.{whole_is_plant}
 use Rattle.plant_text.proofs.FrontText.{text_extended, orderly_nothing, orderly_extended}

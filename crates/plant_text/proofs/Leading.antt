@@ -1,17 +1,16 @@
 -- Lines lead to one part, a text spells one plant, and it has one first refused line.
-use Rattle.std.proofs.Common.{inl, inr, ◌≡◌, ◌≢◌, ◌⊎◌, ℕ, suc, ◌<◌, ◌≤◌, true, false, List, [], ◌∷◌, ◌++◌, length, Option, Some, None, arith, refl, sym, ◌∙◌, ap, subst, take, drop}
+use Rattle.std.proofs.Common.{inl, inr, ◌≡◌, ◌⊎◌, ℕ, ◌<◌, ◌≤◌, List, [], ◌∷◌, ◌++◌, length, Some, None, arith, refl, sym, ◌∙◌, ap, subst, take, drop}
 use Rattle.std.proofs.lemmas.List.{take-append-drop, take_all, take-take}
 use Rattle.plant_text.specs.declared.fault.LimitKind.{LimitKind}
 use Rattle.plant_text.specs.declared.fault.LimitKind.TheVariants.{PlantText, TableText, Vectors, Cells, Pairs, Edges}
-use Rattle.plant_text.specs.declared.fault.PlantFault.{PlantFault}
 use Rattle.plant_text.specs.declared.fault.PlantFault.TheVariants as faults
 use Rattle.plant_text.specs.declared.variables.GoalKind.{GoalKind}
 use Rattle.plant_text.specs.Description.{Description}
 use Rattle.plant_text.specs.Plants.{IsPlant, IsWithinLimits}
 use Rattle.plant_text.specs.Words.{lines_of, words_of}
 use Rattle.plant_text.specs.Statements.{Statement, States}
-use Rattle.plant_text.specs.Grammar.{Part, nothing_yet, names_in, HasEquations, FitsAfter, extended, IsStated, Extends, Leads, Reads, IsWhole, Spells, IsFirstRefused}
-use Rattle.plant_text.specs.Refusals.{IsShort, Exceeds, ExceedsLimit, IsRefusedFor}
+use Rattle.plant_text.specs.Grammar.{Part, nothing_yet, names_in, HasEquations, FitsAfter, extended, Extends, Leads, Reads, IsWhole, Spells, IsFirstRefused}
+use Rattle.plant_text.specs.Refusals.{IsShort, Exceeds, ExceedsLimit}
 use Rattle.plant_text.specs.Laws.{OneRefusal, ReadOrRefused, SpelledPlantsArePlants}
 use Rattle.plant_text.specs.PartRules.{KeepsRules, IsAimless}
 use Rattle.plant_text.specs.PartLaws.{OneStatement, PassedOverStatesNothing}

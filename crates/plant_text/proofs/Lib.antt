@@ -6,7 +6,6 @@ pub mod CheckedBoxes
 pub mod Sound
 pub mod PartRules
 pub mod Leading
-pub mod Naming
 pub mod LineLaws
 pub mod Onwards
 pub mod VariableValues
@@ -22,7 +21,6 @@ pub mod NumberLists
 pub mod EndLists
 pub mod Stating
 pub mod OneStatement
-pub mod Equations
 pub mod Completeness
 pub mod Soundness
 pub mod Trees

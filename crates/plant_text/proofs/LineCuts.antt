@@ -4,7 +4,8 @@ use Rattle.std.specs.Prelude.{codes}
 use Rattle.std.specs.List.{list_all, join_with_byte, AllByRecursion}
 use Rattle.std.proofs.lemmas.Bool.{ltb-true, leb-true, le-leb, ne_eqb, and_parts, and_from}
 use Rattle.std.proofs.lemmas.List.Folds.{list_all-append}
-use Rattle.plant_text.specs.Words.{lines_of, words_of, is_blank, ends_word, joined}
+use Rattle.plant_text.specs.Words.{lines_of, words_of, is_blank, joined}
+use Rattle.plant_text.proofs.Cuts.{longer_word}
 
 -- no byte is a space or less
 abbrev pub is_dark : List ℕ → Bool
@@ -50,23 +51,19 @@ tail_word b c w dark =
     let parts = and_parts (ltb 32 b) (is_dark (c ∷ w)) dark in
     (dark_byte b parts.0, dark_byte c (and_parts (ltb 32 c) (is_dark w) parts.1).0, record { dark = parts.1; some = omega arith })
 
--- a byte in front of a word
-word_step : (b : ℕ) (rest : List ℕ) → is_blank b ≡ false → ends_word rest ≡ false → words_of (b ∷ rest) ≡ joined b (words_of rest)
-word_step b rest dark goes = rw (dark, goes) refl
-
 pub words_front : (w rest : List ℕ) → IsDarkWord w → words_of (w ++ 32 ∷ rest) ≡ w ∷ words_of rest
 words_front [] rest h = absurd (omega (arith, h.some))
 words_front (b ∷ []) rest h = rw (dark_byte b (and_parts (ltb 32 b) true h.dark).0) refl
 words_front (b ∷ c ∷ w) rest h =
     let t = tail_word b c w h.dark in
-    word_step b ((c ∷ w) ++ 32 ∷ rest) t.0 t.1 ∙ ap (joined b) (words_front (c ∷ w) rest t.2)
+    longer_word b ((c ∷ w) ++ 32 ∷ rest) t.0 t.1 ∙ ap (joined b) (words_front (c ∷ w) rest t.2)
 
 pub words_last : (w : List ℕ) → IsDarkWord w → words_of w ≡ w ∷ []
 words_last [] h = absurd (omega (arith, h.some))
 words_last (b ∷ []) h = rw (dark_byte b (and_parts (ltb 32 b) true h.dark).0) refl
 words_last (b ∷ c ∷ w) h =
     let t = tail_word b c w h.dark in
-    word_step b (c ∷ w) t.0 t.1 ∙ ap (joined b) (words_last (c ∷ w) t.2)
+    longer_word b (c ∷ w) t.0 t.1 ∙ ap (joined b) (words_last (c ∷ w) t.2)
 
 pub words_joined : (w : List ℕ) (ws : List (List ℕ)) → IsDarkWord w → AllByRecursion IsDarkWord ws → words_of (join_with_byte 32 (w ∷ ws)) ≡ w ∷ ws
 words_joined w [] h each = words_last w h

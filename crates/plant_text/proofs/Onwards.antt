@@ -1,13 +1,12 @@
 -- From line to line of a text.
-use Rattle.std.proofs.Common.{inl, inr, ◌≡◌, ℕ, suc, ◌+◌, ◌<◌, ◌≤◌, true, false, List, [], ◌∷◌, ◌++◌, length, take, arith, refl, sym, ◌∙◌, ap, subst, append_assoc, append-nil, length-append}
-use Rattle.std.proofs.lemmas.List.{take-append-le, take_all, append_cancel_left}
-use Rattle.plant_text.specs.declared.fault.PlantFault.{PlantFault}
+use Rattle.std.proofs.Common.{inl, inr, ◌≡◌, ℕ, ◌+◌, ◌<◌, false, List, [], ◌∷◌, ◌++◌, length, take, arith, refl, sym, ◌∙◌, ap, subst, append_assoc, append-nil, length-append}
+use Rattle.std.proofs.lemmas.List.{take-append-le, take_all}
 use Rattle.plant_text.specs.Words.{lines_of}
-use Rattle.plant_text.specs.Grammar.{Part, nothing_yet, Extends, Leads, Reads, IsFirstRefused}
+use Rattle.plant_text.specs.Grammar.{Part, nothing_yet, Extends, Reads, IsFirstRefused}
 use Rattle.plant_text.specs.PartRules.{KeepsRules}
 use Rattle.plant_text.specs.ReadUpTo.{IsReadUpTo}
 use Rattle.plant_text.proofs.PartRules.{rules_of_nothing}
-use Rattle.plant_text.proofs.Leading.{led_apart, led_on, read_once}
+use Rattle.plant_text.proofs.Leading.{led_apart, led_on}
 
 pub at_first_line : (bytes : List ℕ) (q : Part) → q ≡ nothing_yet → IsReadUpTo bytes bytes 1 q
 at_first_line bytes q e = record {

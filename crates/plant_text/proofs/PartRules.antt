@@ -1,8 +1,7 @@
 -- Every part that lines spell keeps the rules.
-use Rattle.std.proofs.Common.{inl, inr, ◌≡◌, ◌≢◌, ◌⊎◌, ℕ, ◌<◌, ◌≤◌, true, false, List, [], ◌∷◌, ◌++◌, length, get_or, Option, Some, None, All, Contains, arith, refl, sym, ◌∙◌, ap, subst, append_assoc, append-nil, length-append}
-use Rattle.std.specs.Prelude.{map, AllPairs}
+use Rattle.std.proofs.Common.{inl, inr, ◌≡◌, ◌≢◌, ℕ, ◌<◌, List, [], ◌∷◌, ◌++◌, length, None, All, Contains, arith, refl, sym, ap, subst, append_assoc, append-nil, length-append}
+use Rattle.std.specs.Prelude.{AllPairs}
 use Rattle.std.specs.List.{flat_map}
-use Rattle.std.proofs.lemmas.Int.{ints}
 use Rattle.std.proofs.lemmas.List.{map-append}
 use Rattle.std.proofs.lemmas.List.Elements.{All-push, All-same, All-nil, Contains-get_or}
 use Rattle.std.proofs.lemmas.List.Quantifiers.{all_pairs_push}
@@ -16,10 +15,11 @@ use Rattle.plant_text.specs.declared.variables.GoalKind.TheVariants.{Keep}
 use Rattle.plant_text.specs.Names.{IsName}
 use Rattle.plant_text.specs.Variables.{IsStateVariable, IsInputVariable, IsNoiseVariable, IsStateBox, IsEquation, HasLiterals}
 use Rattle.plant_text.specs.Words.{words_of, tokens_of}
-use Rattle.plant_text.specs.Syntax.{Syntax, Literal, Named, Minus, Plus, Less, Times, Over, Least, Greatest, Size, Bracketed, IsGrammatical, meaning_of, AreTokensOf}
+use Rattle.plant_text.specs.Syntax.{AreTokensOf}
 use Rattle.plant_text.specs.Statements.{Statement, Version, State, Input, Noise, Next, Target, Obstacle, Goal, End, States}
-use Rattle.plant_text.specs.Grammar.{Part, nothing_yet, names_in, HasEquations, IsNewIn, FitsAfter, extended, IsStated, Extends, Leads}
+use Rattle.plant_text.specs.Grammar.{Part, nothing_yet, names_in, HasEquations, FitsAfter, extended, Extends, Leads}
 use Rattle.plant_text.specs.PartRules.{KeepsRules, IsAimless}
+use Rattle.plant_text.proofs.Trees.{tree_literals}
 
 -- a new name at the end of the names
 pub with_state : (q : Part) (s : StateVariable) → q.inputs ≡ [] → q.noises ≡ [] → names_in (extended q (State s)) ≡ names_in q ++ s.name ∷ []
@@ -56,20 +56,6 @@ rules_of_nothing = record {
   kept_aims_nowhere = λ _. refl;
   closed = λ e. cc;
 }
-
--- a syntax tree by the rules means an expression of literals
-has_literals : (m : ℕ) (t : Syntax) → IsGrammatical m t → HasLiterals m (meaning_of t)
-has_literals m (Literal k) g = (omega (arith, ints), g)
-has_literals m (Named i) g = g
-has_literals m (Minus a) g = has_literals m a g.0
-has_literals m (Plus a b) g = (has_literals m a g.0, has_literals m b g.1)
-has_literals m (Less a b) g = (has_literals m a g.0, has_literals m b g.1)
-has_literals m (Times a b) g = (has_literals m a g.0, has_literals m b g.2)
-has_literals m (Over a k) g = (has_literals m a g.0, omega (arith, ints, g.2), g.3)
-has_literals m (Least a b) g = (has_literals m a g.0, has_literals m b g.1)
-has_literals m (Greatest a b) g = (has_literals m a g.0, has_literals m b g.1)
-has_literals m (Size a) g = has_literals m a g
-has_literals m (Bracketed a) g = has_literals m a g
 
 -- where no equation stands, nothing is aimed at
 pub aimless : (q : Part) → KeepsRules q → (HasEquations q → ⊥) → IsAimless q
@@ -287,7 +273,7 @@ module _ (q : Part) (k : KeepsRules q) where
 -- an expression that tokens spell is an equation
 pub equation_spelled : (names : List (List ℕ)) (tokens : List (List ℕ)) (e : Expression) → AreTokensOf names tokens e → IsEquation (length names) e
 equation_spelled names tokens e t =
-    record { literals = subst (HasLiterals (length names)) t.means (has_literals (length names) t.syntax_tree t.grammatical); nodes = t.nodes; depth = t.depth }
+    record { literals = subst (HasLiterals (length names)) t.means (tree_literals (length names) t.syntax_tree t.grammatical); nodes = t.nodes; depth = t.depth }
 
 pub rules_extended : (q : Part) (words : List (List ℕ)) (s : Statement) → KeepsRules q → States (names_in q) (length q.states) words s → FitsAfter q s → KeepsRules (extended q s)
 rules_extended q words Version k says fits = rules_version q k

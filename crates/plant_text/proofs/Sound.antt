@@ -7,7 +7,7 @@ use Rattle.fixed_expr.specs.Value.{IsWellFormed}
 use Rattle.plant_text.specs.Description.{Description}
 use Rattle.plant_text.specs.Variables.{IsStateVariable, HasLiterals, IsEquation}
 use Rattle.plant_text.specs.Plants.{IsPlant}
-use Rattle.plant_text.specs.Laws.{IsWhole, IsSound}
+use Rattle.plant_text.specs.Laws.{IsFilledByCells, IsSound}
 use Rattle.plant_text.proofs.Axes.{axes_are, end_is}
 
 pub well_formed : (m : ℕ) (e : Expression) → HasLiterals m e → IsWellFormed e m
@@ -28,7 +28,7 @@ all_formed m equations each = All-weaker (IsEquation m) (λ e. IsWellFormed e m)
 pub sound : (p : Description) → IsPlant p → IsSound p
 sound p h = record {
   axes = axes_are p.states h.some_state h.states_bound h.states;
-  whole = All-weaker IsStateVariable IsWhole end_is p.states h.states;
+  whole = All-weaker IsStateVariable IsFilledByCells end_is p.states h.states;
   one_each = h.one_each;
   formed = all_formed _ p.equations h.equations;
 }

@@ -3,17 +3,11 @@ use Rattle.std.proofs.Common.{◌≡◌, ℕ, ◌+◌, ◌*◌, List, [], ◌∷
 use Rattle.std.specs.Prelude.{codes}
 use Rattle.std.specs.List.{flat_map}
 use Rattle.fixed_expr.specs.Expression.{Expression}
-use Rattle.plant_text.specs.declared.variables.StateVariable.{StateVariable}
-use Rattle.plant_text.specs.declared.variables.InputVariable.{InputVariable}
-use Rattle.plant_text.specs.declared.variables.NoiseVariable.{NoiseVariable}
-use Rattle.plant_text.specs.declared.variables.StateBox.{StateBox}
-use Rattle.plant_text.specs.declared.variables.GoalKind.{GoalKind}
 use Rattle.plant_text.specs.declared.statements.Keyword.{Keyword}
 use Rattle.plant_text.specs.declared.statements.Keyword.TheVariants as keywords
 use Rattle.plant_text.specs.Stated.{keyword_text}
 use Rattle.plant_text.specs.Words.{tokens_of}
 use Rattle.plant_text.specs.Syntax.{AreTokensOf}
-use Rattle.plant_text.specs.Readers.{SpellsState, SpellsInput, SpellsNoise, SpellsBox, SpellsGoal}
 use Rattle.plant_text.specs.Statements.{Statement, Version, State, Input, Noise, Next, Target, Obstacle, Goal, End, States}
 
 -- the first two bytes of the first word, which tell the keywords apart
@@ -50,33 +44,9 @@ pub only_version : (names : List (List ℕ)) (n : ℕ) (ws : List (List ℕ)) (s
 only_version names n ws Version h = cc h
 only_version names n ws s h = absurd (omega (arith, clash (112, 108) (kind_of s) (front_is names n (codes "plant" ∷ ws) s h)))
 
-pub only_state : (names : List (List ℕ)) (n : ℕ) (ws : List (List ℕ)) (s : Statement) → States names n (codes "state" ∷ ws) s → (v : StateVariable) × SpellsState ws v
-only_state names n ws (State v) h = (v, (cc (h.0), h.1))
-only_state names n ws s h = absurd (omega (arith, clash (115, 116) (kind_of s) (front_is names n (codes "state" ∷ ws) s h)))
-
-pub only_input : (names : List (List ℕ)) (n : ℕ) (ws : List (List ℕ)) (s : Statement) → States names n (codes "input" ∷ ws) s → (v : InputVariable) × SpellsInput ws v
-only_input names n ws (Input v) h = (v, (cc (h.0), h.1))
-only_input names n ws s h = absurd (omega (arith, clash (105, 110) (kind_of s) (front_is names n (codes "input" ∷ ws) s h)))
-
-pub only_noise : (names : List (List ℕ)) (n : ℕ) (ws : List (List ℕ)) (s : Statement) → States names n (codes "noise" ∷ ws) s → (v : NoiseVariable) × SpellsNoise ws v
-only_noise names n ws (Noise v) h = (v, (cc (h.0), h.1))
-only_noise names n ws s h = absurd (omega (arith, clash (110, 111) (kind_of s) (front_is names n (codes "noise" ∷ ws) s h)))
-
 pub only_next : (names : List (List ℕ)) (n : ℕ) (ws : List (List ℕ)) (s : Statement) → States names n (codes "next" ∷ ws) s → (name : List ℕ) × (e : Expression) × (rest : List (List ℕ)) × (ws ≡ name ∷ codes "=" ∷ rest) × AreTokensOf names (flat_map tokens_of rest) e
 only_next names n ws (Next name e) h = (name, e, h.0, cc (h.1), h.2)
 only_next names n ws s h = absurd (omega (arith, clash (110, 101) (kind_of s) (front_is names n (codes "next" ∷ ws) s h)))
-
-pub only_target : (names : List (List ℕ)) (n : ℕ) (ws : List (List ℕ)) (s : Statement) → States names n (codes "target" ∷ ws) s → (b : StateBox) × SpellsBox n ws b
-only_target names n ws (Target b) h = (b, (cc (h.0), h.1))
-only_target names n ws s h = absurd (omega (arith, clash (116, 97) (kind_of s) (front_is names n (codes "target" ∷ ws) s h)))
-
-pub only_obstacle : (names : List (List ℕ)) (n : ℕ) (ws : List (List ℕ)) (s : Statement) → States names n (codes "obstacle" ∷ ws) s → (b : StateBox) × SpellsBox n ws b
-only_obstacle names n ws (Obstacle b) h = (b, (cc (h.0), h.1))
-only_obstacle names n ws s h = absurd (omega (arith, clash (111, 98) (kind_of s) (front_is names n (codes "obstacle" ∷ ws) s h)))
-
-pub only_goal : (names : List (List ℕ)) (n : ℕ) (ws : List (List ℕ)) (s : Statement) → States names n (codes "goal" ∷ ws) s → (kind : GoalKind) × SpellsGoal ws kind
-only_goal names n ws (Goal kind) h = (kind, cc h)
-only_goal names n ws s h = absurd (omega (arith, clash (103, 111) (kind_of s) (front_is names n (codes "goal" ∷ ws) s h)))
 
 pub only_end : (names : List (List ℕ)) (n : ℕ) (ws : List (List ℕ)) (s : Statement) → States names n (codes "end" ∷ ws) s → ws ≡ []
 only_end names n ws End h = cc h

@@ -115,6 +115,7 @@ tree_items m (Greatest a b) xs g h = (tt, tree_items m a (item.Comma ∷ items_b
 tree_items m (Size a) xs g h = (tt, tree_items m a (item.Close ∷ xs) g (tt, h))
 tree_items m (Bracketed a) xs g h = (tt, tree_items m a (item.Close ∷ xs) g (tt, h))
 
+-- a tree by the rules means an expression of literals
 pub tree_literals : (m : ℕ) (t : Syntax) → IsGrammatical m t → HasLiterals m (meaning_of t)
 tree_literals m (Literal k) g = (omega (arith, ints), g)
 tree_literals m (Named i) g = g
@@ -129,10 +130,6 @@ tree_literals m (Size a) g = tree_literals m a g
 tree_literals m (Bracketed a) g = tree_literals m a g
 
 -- ---- items turned round
-
-pub turned_items : (m : ℕ) (ys xs : List Item) → AreItems m ys → AreItems m xs → AreItems m (turned ys xs)
-turned_items m [] xs h k = k
-turned_items m (y ∷ ys) xs h k = turned_items m ys (y ∷ xs) h.1 (h.0, k)
 
 pub turned_nodes : (ys xs : List Item) → nodes_in (turned ys xs) ≡ nodes_in ys + nodes_in xs
 turned_nodes [] xs = omega arith

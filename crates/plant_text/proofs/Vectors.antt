@@ -3,17 +3,13 @@ use Rattle.std.proofs.Common.{◌≡◌, ℕ, zero, suc, ◌+◌, ◌-◌, ◌*�
 use Rattle.std.specs.Prelude.{pos}
 use Rattle.std.specs.List.{All}
 use Rattle.std.proofs.Math.Arith.{mod-mul}
-use Rattle.std.proofs.Math.Nat.{one-le-mul, mod-eq_of_lt, mul_assoc, mul_comm, mul-pos}
+use Rattle.std.proofs.Math.Nat.{mod-eq_of_lt, mul_assoc, mul_comm, mul-pos}
 use Rattle.std.proofs.lemmas.Nat.{mul-le, div_below, div-mul-add, mod-mul-add, mod_below}
 use Rattle.std.proofs.lemmas.List.{take_rest}
 use Rattle.std.proofs.lemmas.List.Elements.{All-head, All-tail, All-drop}
 use Rattle.plant_text.specs.declared.variables.InputVariable.{InputVariable}
 use Rattle.plant_text.specs.Description.{vectors_of, vector_of}
 use Rattle.plant_text.specs.Variables.{IsInputVariable}
-
-pub some_vector : (inputs : List InputVariable) → All IsInputVariable inputs → 1 ≤ vectors_of inputs
-some_vector [] each = omega arith
-some_vector (i ∷ inputs) each = one-le-mul (All-head IsInputVariable i inputs each).some_value (some_vector inputs (All-tail IsInputVariable i inputs each))
 
 one_more : (n m : ℕ) (i : InputVariable) (inputs : List InputVariable) → All IsInputVariable (i ∷ inputs) → vectors_of inputs ≤ n → 64 * n ≤ m → length i.values * vectors_of inputs ≤ m
 one_more n m i inputs each few bound = omega (arith, bound, mul-le (length i.values) (vectors_of inputs) 64 n (All-head IsInputVariable i inputs each).values_bound few)

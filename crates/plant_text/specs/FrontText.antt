@@ -1,5 +1,5 @@
 -- The canonical text of a part, as far as it goes. No public clause names this.
-use Rattle.std.specs.Prelude.{◌≡◌, ℕ, Bool, true, false, List, [], ◌∷◌, ◌++◌, length, Option, Some, None, codes, if◌then◌else◌}
+use Rattle.std.specs.Prelude.{◌≡◌, ℕ, Bool, false, List, [], ◌∷◌, ◌++◌, length, Option, Some, None, codes, if◌then◌else◌}
 use Rattle.std.specs.List.{flat_map}
 use Rattle.plant_text.specs.declared.variables.GoalKind.{GoalKind}
 use Rattle.plant_text.specs.CanonicalText.{line, state_line, input_line, noise_line, equation_lines, box_line, goal_word}

@@ -1,12 +1,10 @@
 -- The canonical text of a plant at the front of some bytes, and the first line that isn't of one.
-use Rattle.std.specs.Prelude.{◌≡◌, ℕ, suc, ◌≤◌, ◌*◌, ◌^◌, false, List, [], ◌∷◌, ◌++◌, length, take}
-use Rattle.std.specs.List.{Contains, flat_map}
-use Rattle.fixed_expr.specs.Expression.{Expression}
-use Rattle.plant_text.specs.declared.fault.LimitKind.{LimitKind}
+use Rattle.std.specs.Prelude.{◌≡◌, ℕ, suc, ◌≤◌, false, List, [], ◌∷◌, ◌++◌, length, take}
+use Rattle.std.specs.List.{flat_map}
 use Rattle.plant_text.specs.declared.fault.PlantFault.{PlantFault}
 use Rattle.plant_text.specs.declared.fault.PlantFault.TheVariants as faults
 use Rattle.plant_text.specs.Description.{Description}
-use Rattle.plant_text.specs.Plants.{IsPlant, IsWithinLimits}
+use Rattle.plant_text.specs.Plants.{IsPlant}
 use Rattle.plant_text.specs.Refusals.{Exceeds}
 use Rattle.plant_text.specs.CanonicalText.{line, text_of, state_line, input_line, noise_line, equation_line, box_line, goal_word}
 use Rattle.plant_text.specs.Statements.{Statement, Version, State, Input, Noise, Next, Target, Obstacle, Goal, End}

@@ -22,6 +22,7 @@ use Rattle.plant_text.specs.Syntax.{Syntax, Literal, Named, Minus, Plus, Less, T
 abbrev pub tokens_in : List ℕ → List (List ℕ)
 tokens_in bytes = flat_map tokens_of (words_of bytes)
 
+-- the names of the variables, in their order
 abbrev pub variable_names : Variables → List (List ℕ)
 variable_names v = names_over v.states.items v.inputs.items v.noises.items
 

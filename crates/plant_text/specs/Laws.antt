@@ -15,13 +15,13 @@ use Rattle.plant_text.specs.Fronts.{IsFront}
 use Rattle.plant_text.specs.Refusals.{IsShort, IsRefusedFor}
 
 -- the cells along a state end right past its greatest number
-abbrev pub IsWhole : StateVariable → Type 0
-IsWhole s = end_of (axis_of s) ≡ s.high +ℤ pos 1
+abbrev pub IsFilledByCells : StateVariable → Type 0
+IsFilledByCells s = end_of (axis_of s) ≡ s.high +ℤ pos 1
 
 -- A plant whose ranges are divided into whole cells, with a well-formed equation for each state.
 pub record IsSound (p : Description) : Type 0 where
   pub axes : AreAxes (axes_of p)
-  pub whole : All IsWhole p.states
+  pub whole : All IsFilledByCells p.states
   pub one_each : length p.equations ≡ length p.states
   pub formed : All (λ e. IsWellFormed e (length (names_of p))) p.equations
 
@@ -52,7 +52,7 @@ OneRefusal = (bytes : List ℕ) (f g : PlantFault) → IsRefusedFor bytes f → 
 abbrev pub ReadOrRefused : Type 0
 ReadOrRefused = (bytes : List ℕ) (p : Description) (f : PlantFault) → Spells bytes p → IsShort bytes → IsWithinLimits p → IsRefusedFor bytes f → ⊥
 
--- no byte of a number's text is a blank
+-- no byte of a number's text is a separator
 abbrev pub NumbersAreWords : Type 0
 NumbersAreWords = (z : ℤ) → IsLiteral z → is_word (signed_decimal z) ≡ true
 

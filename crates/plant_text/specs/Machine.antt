@@ -124,5 +124,6 @@ IsEnd (Some c, S) e = (term_ended c S ≡ (e, [])) × (depth_of e ≤ 64)
 abbrev pub counts_behind : Counts → Item → Counts
 counts_behind c x = record { nodes = c.nodes + nodes_made x; brackets = open_behind c.brackets x }
 
-abbrev pub IsWithinLimits : Counts → Type 0
-IsWithinLimits c = (c.nodes ≤ 256) × (c.brackets ≤ 64)
+-- at most 256 nodes and 64 open brackets
+abbrev pub AreWithinLimits : Counts → Type 0
+AreWithinLimits c = (c.nodes ≤ 256) × (c.brackets ≤ 64)

@@ -4,12 +4,12 @@ use Rattle.std.specs.List.{list_all}
 use Rattle.std.specs.Str.{bytes_eq}
 
 -- a space or a line feed
-abbrev pub is_blank : ℕ → Bool
-is_blank b = b == 32 || b == 10
+abbrev pub is_separator : ℕ → Bool
+is_separator b = b == 32 || b == 10
 
--- no byte is a blank
+-- no byte is a separator
 abbrev pub is_word : List ℕ → Bool
-is_word w = list_all (λ b. not (is_blank b)) w
+is_word w = list_all (λ b. not (is_separator b)) w
 
 -- `A` to `Z` and `a` to `z`
 abbrev pub is_letter : ℕ → Bool

@@ -1,5 +1,5 @@
 -- What every part keeps that lines spell. No public clause names this.
-use Rattle.std.specs.Prelude.{◌≡◌, ◌≢◌, ◌⊎◌, ◌≤◌, List, [], length, Some, None, AllPairs, true}
+use Rattle.std.specs.Prelude.{◌≡◌, ◌≢◌, ◌⊎◌, ◌≤◌, [], length, Some, None, AllPairs, true}
 use Rattle.std.specs.List.{All}
 use Rattle.plant_text.specs.declared.variables.GoalKind.TheVariants.{Keep}
 use Rattle.plant_text.specs.Names.{IsName}

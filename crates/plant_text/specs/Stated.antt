@@ -1,17 +1,11 @@
 -- What a line states, as it is read. No public clause names this.
 use Rattle.std.specs.Prelude.{ℕ, List, codes}
 use Rattle.fixed_expr.specs.Expression.{expression_of}
-use Rattle.plant_text.specs.declared.variables.Variables.{Variables}
 use Rattle.plant_text.specs.declared.statements.Statement.{Statement as Read}
 use Rattle.plant_text.specs.declared.statements.Statement.TheVariants as read
 use Rattle.plant_text.specs.declared.statements.Keyword.{Keyword}
 use Rattle.plant_text.specs.declared.statements.Keyword.TheVariants as keywords
-use Rattle.plant_text.specs.Description.{names_over}
 use Rattle.plant_text.specs.Statements.{Statement, Version, State, Input, Noise, Next, Target, Obstacle, Goal, End}
-
--- the names of the variables, in their order
-abbrev pub names_of : Variables → List (List ℕ)
-names_of v = names_over v.states.items v.inputs.items v.noises.items
 
 -- the statement without where its parts lie in memory
 abbrev pub statement_of : Read → Statement

@@ -9,7 +9,7 @@ ghost use Rattle.plant_text.specs.Words.{words_of, tokens_of};
 ghost use Rattle.plant_text.specs.Variables.{depth_of};
 ghost use Rattle.plant_text.specs.Syntax.{AreTokensOf};
 ghost use Rattle.plant_text.specs.Items.{Gives, variable_names, nodes_made, open_behind};
-ghost use Rattle.plant_text.specs.Machine.{pendings_of, machine_of, closed, halved, begun, continued, stepped, IsEnd, counts_behind, IsWithinLimits};
+ghost use Rattle.plant_text.specs.Machine.{pendings_of, machine_of, closed, halved, begun, continued, stepped, IsEnd, counts_behind, AreWithinLimits};
 
 use crate::fault::ReadFault;
 use crate::frames::{Frame, Stack};
@@ -56,8 +56,8 @@ fn open_behind(open_before: u32, item: Item) -> u32
 
 /// None where the item exceeds a limit.
 fn counts_behind(counts: Counts, item: Item) -> Option<Counts>
-    requires { IsWithinLimits counts }
-    ensures { SomeIff result (IsWithinLimits (counts_behind counts item)) (counts_behind counts item) }
+    requires { AreWithinLimits counts }
+    ensures { SomeIff result (AreWithinLimits (counts_behind counts item)) (counts_behind counts item) }
 {
     let nodes = counts.nodes + nodes_made(item);
     let brackets = open_behind(counts.brackets, item);
@@ -178,11 +178,11 @@ impl Reader {
     }
 
     fn take(&mut self, alloc: Global, item: Item) -> Result<(), ReadFault>
-        requires { IsWithinLimits self.old.counts }
+        requires { AreWithinLimits self.old.counts }
         ensures machine { OnOk result (stepped item (machine_of self.old).0 (machine_of self.old).1 ≡ Some (machine_of self.new)) }
         ensures counts { OnOk result (self.new.counts ≡ counts_behind self.old.counts item) }
-        ensures within { OnOk result (IsWithinLimits self.new.counts) }
-        ensures refused { result ≡ Err ReadFault.Malformed → (stepped item (machine_of self.old).0 (machine_of self.old).1 ≡ None) ⊎ (IsWithinLimits (counts_behind self.old.counts item) → ⊥) }
+        ensures within { OnOk result (AreWithinLimits self.new.counts) }
+        ensures refused { result ≡ Err ReadFault.Malformed → (stepped item (machine_of self.old).0 (machine_of self.old).1 ≡ None) ⊎ (AreWithinLimits (counts_behind self.old.counts item) → ⊥) }
     {
         let Some(counts) = counts_behind(self.counts, item) else {
             return Err(ReadFault::Malformed);

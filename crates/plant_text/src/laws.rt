@@ -48,7 +48,8 @@ pub fn plants_are_sound()
 pub fn every_plant_is_within_limits(p: &Plant)
     ensures { IsWithinLimits p.now }
 {
-    p.keep_within_limits();
+    // Its contract says so.
+    p.equations();
 }
 
 /// The canonical text of a plant spells it.
@@ -56,7 +57,7 @@ pub fn canonical_texts_spell()
     ensures { CanonicalTextsSpell }
 {}
 
-/// A number's text has no blank.
+/// A number's text has no space and no line feed.
 pub fn numbers_are_words()
     ensures { NumbersAreWords }
 {}

@@ -34,9 +34,9 @@ pub use fixed_expr::{Expr, eval};
 pub use front::{Front, read_front};
 pub use plant::Plant;
 pub use reader::{TEXT_LIMIT, read_plant};
-pub use transition::step;
+pub use transition::{step, step_along};
 pub use variables::{
-    GoalKind, InputVariable, Name, NoiseVariable, StateBox, StateVariable, Values, Variables,
+    GoalKind, InputVariable, Name, NoiseVariable, StateBox, StateVariable, Values,
 };
 pub use writer::write_plant;
 

@@ -8,8 +8,7 @@ ghost use Rattle.plant_text.specs.Words.{lines_of};
 pub fn next_line(bytes: &[u8]) -> Option<(&[u8], &[u8])>
     ensures line { IfSome result (λ r. lines_of bytes.now ≡ r.0.now ∷ lines_of r.1.now) }
     ensures shorter { IfSome result (λ r. length r.1.now < length bytes.now) }
-    ensures ended { IfNone result (lines_of bytes.now ≡ []) }
-    ensures empty { IfNone result (bytes.now ≡ []) }
+    ensures ended { IfNone result (bytes.now ≡ []) }
 {
     if bytes.is_empty() {
         return None;

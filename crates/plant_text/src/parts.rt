@@ -3,7 +3,7 @@
 ghost use Rattle.std.specs.Prelude.{◌≡◌, ◌/◌, ◌^◌, ◌<◌, ◌≤◌, ◌↔◌, ◌+ℤ◌, ◌-ℤ◌, length, map, nat_abs, pos, IfOk, IsErr};
 ghost use Rattle.std.specs.List.{All};
 ghost use Rattle.grid_quantiser.specs.Axes.{cells_of};
-ghost use Rattle.plant_text.specs.Description.{axis_of, count_of, vectors_of};
+ghost use Rattle.plant_text.specs.Description.{axis_of, vectors_of};
 ghost use Rattle.plant_text.specs.Names.{IsLiteral};
 ghost use Rattle.plant_text.specs.Variables.{IsStateVariable, IsInputVariable};
 

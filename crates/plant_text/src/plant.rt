@@ -1,4 +1,4 @@
-ghost use Rattle.std.specs.Prelude.{◌≡◌, ◌≤◌, ◌<◌, ◌↔◌, length, map, slice_get, slice_index_or, pos, IfOk, IfErr, IsTrue, Some};
+ghost use Rattle.std.specs.Prelude.{◌≡◌, ◌<◌, ◌↔◌, length, map, slice_get, slice_index_or, pos, IfOk, IfErr, IsTrue, Some};
 ghost use Rattle.std.specs.Option.{option_map};
 ghost use Rattle.fixed_expr.specs.Expression.{expression_of};
 ghost use Rattle.grid_quantiser.specs.Axes.{cells_of};
@@ -205,7 +205,7 @@ impl Plant {
         requires { c < cells_of (axes_of self.now) }
         ensures { IsTrue result ↔ IsGoalCell self.now c }
     {
-        !self.obstacle_cell(c) && lies_in_one(&self.grid, c, &self.targets)
+        lies_in_one(&self.grid, c, &self.targets) && !self.obstacle_cell(c)
     }
 
     /// Whether some point of a cell lies in an obstacle.
@@ -270,12 +270,5 @@ impl Plant {
         ensures limits { IsWithinLimits self.now }
     {
         &self.equations
-    }
-
-    /// What every plant keeps is learnt here.
-    pub(crate) fn keep_within_limits(&self)
-        ensures { IsWithinLimits self.now }
-    {
-        let _ = &self.grid;
     }
 }

@@ -1,4 +1,4 @@
-ghost use Rattle.std.specs.Prelude.{◌≡◌, ◌≢◌, ◌<◌, ◌≤◌, length, IfOk, IfErr, true};
+ghost use Rattle.std.specs.Prelude.{◌≡◌, ◌≢◌, ◌<◌, IfOk, IfErr, true};
 ghost use Rattle.plant_text.specs.declared.fault.PlantFault.TheVariants.{Memory};
 ghost use Rattle.plant_text.specs.Words.{lines_of};
 ghost use Rattle.plant_text.specs.Grammar.{Reads, Spells};
@@ -17,7 +17,7 @@ use std::alloc::Global;
 pub const TEXT_LIMIT: usize = 65_536;
 
 /// Reads the plant that a text spells, or answers why the text is refused: the first reason that
-/// applies. It goes over the bytes once, and takes memory for the plant alone.
+/// applies. It goes over the bytes once, and keeps no copy of the text.
 pub fn read_plant(alloc: Global, bytes: &[u8]) -> Result<Plant, PlantFault>
     ensures short { IfOk result (λ _. IsShort bytes.now) }
     ensures spelled { IfOk result (λ p. Spells bytes.now p) }

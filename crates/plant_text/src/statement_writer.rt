@@ -2,7 +2,8 @@
 
 ghost use Rattle.std.specs.Prelude.{◌≡◌, ◌↔◌, ◌≤◌, ◌++◌, length, codes, IfOk, IsTrue, OnOk};
 ghost use Rattle.plant_text.specs.Fronts.{statement_line};
-ghost use Rattle.plant_text.specs.Stated.{names_of, statement_of};
+ghost use Rattle.plant_text.specs.Items.{variable_names};
+ghost use Rattle.plant_text.specs.Stated.{statement_of};
 ghost use Rattle.plant_text.specs.WrittenStatements.{HasFormedEquation};
 
 use crate::statements::Statement;
@@ -19,8 +20,8 @@ pub fn is_canonical(
     scratch: &mut Vec<u8>,
 ) -> Result<bool, AllocError>
     requires states { length variables.now.states.items ≤ 6 }
-    requires formed { HasFormedEquation (length (names_of variables.now)) (statement_of statement.now) }
-    ensures { IfOk result (λ b. IsTrue b ↔ (line.now ++ codes "\n" ≡ statement_line (names_of variables.now) (length variables.now.states.items) (statement_of statement.now))) }
+    requires formed { HasFormedEquation (length (variable_names variables.now)) (statement_of statement.now) }
+    ensures { IfOk result (λ b. IsTrue b ↔ (line.now ++ codes "\n" ≡ statement_line (variable_names variables.now) (length variables.now.states.items) (statement_of statement.now))) }
 {
     scratch.clear();
     push_statement(scratch, variables, statement)?;
@@ -44,8 +45,8 @@ fn push_statement(
     statement: &Statement<'_>,
 ) -> Result<(), AllocError>
     requires states { length variables.now.states.items ≤ 6 }
-    requires formed { HasFormedEquation (length (names_of variables.now)) (statement_of statement.now) }
-    ensures { OnOk result (text.new.items ≡ text.old.items ++ statement_line (names_of variables.now) (length variables.now.states.items) (statement_of statement.now)) }
+    requires formed { HasFormedEquation (length (variable_names variables.now)) (statement_of statement.now) }
+    ensures { OnOk result (text.new.items ≡ text.old.items ++ statement_line (variable_names variables.now) (length variables.now.states.items) (statement_of statement.now)) }
 {
     let states = variables.states.len();
     match statement {

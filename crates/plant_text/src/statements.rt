@@ -4,7 +4,8 @@ ghost use Rattle.std.specs.Prelude.{◌≡◌, ◌≢◌, ◌≤◌, ◌∷◌, 
 ghost use Rattle.std.specs.List.{All};
 ghost use Rattle.plant_text.specs.Names.{IsName};
 ghost use Rattle.plant_text.specs.Readers.{Finds};
-ghost use Rattle.plant_text.specs.Stated.{names_of, statement_of, keyword_text};
+ghost use Rattle.plant_text.specs.Items.{variable_names};
+ghost use Rattle.plant_text.specs.Stated.{statement_of, keyword_text};
 ghost use Rattle.plant_text.specs.Statements.{Statement as Stated, States};
 ghost use Rattle.plant_text.specs.Words.{words_of};
 
@@ -71,12 +72,12 @@ pub fn statement_in<'a>(
     variables: &Variables,
     line: &'a [u8],
 ) -> Result<Statement<'a>, ReadFault>
-    requires few { length (names_of variables.now) ≤ 15 }
-    requires differ { AllPairs (λ a b. a ≢ b) (names_of variables.now) }
-    requires named { All IsName (names_of variables.now) }
+    requires few { length (variable_names variables.now) ≤ 15 }
+    requires differ { AllPairs (λ a b. a ≢ b) (variable_names variables.now) }
+    requires named { All IsName (variable_names variables.now) }
     requires states { length variables.now.states.items ≤ 6 }
-    ensures found { IfOk result (λ s. States (names_of variables.now) (length variables.now.states.items) (words_of line.now) (statement_of s)) }
-    ensures refused { result ≡ Err ReadFault.Malformed → (s : Stated) → States (names_of variables.now) (length variables.now.states.items) (words_of line.now) s → ⊥ }
+    ensures found { IfOk result (λ s. States (variable_names variables.now) (length variables.now.states.items) (words_of line.now) (statement_of s)) }
+    ensures refused { result ≡ Err ReadFault.Malformed → (s : Stated) → States (variable_names variables.now) (length variables.now.states.items) (words_of line.now) s → ⊥ }
 {
     let Some((word, rest)) = next_word(line) else {
         return Err(ReadFault::Malformed);
@@ -92,11 +93,11 @@ fn statement_behind<'a>(
     keyword: Keyword,
     bytes: &'a [u8],
 ) -> Result<Statement<'a>, ReadFault>
-    requires few { length (names_of variables.now) ≤ 15 }
-    requires differ { AllPairs (λ a b. a ≢ b) (names_of variables.now) }
-    requires named { All IsName (names_of variables.now) }
+    requires few { length (variable_names variables.now) ≤ 15 }
+    requires differ { AllPairs (λ a b. a ≢ b) (variable_names variables.now) }
+    requires named { All IsName (variable_names variables.now) }
     requires states { length variables.now.states.items ≤ 6 }
-    ensures { Finds statement_of (States (names_of variables.now) (length variables.now.states.items) (keyword_text keyword ∷ words_of bytes.now)) result }
+    ensures { Finds statement_of (States (variable_names variables.now) (length variables.now.states.items) (keyword_text keyword ∷ words_of bytes.now)) result }
 {
     match keyword {
         Keyword::Plant => {
@@ -123,10 +124,10 @@ fn equation_behind<'a>(
     variables: &Variables,
     bytes: &'a [u8],
 ) -> Result<Statement<'a>, ReadFault>
-    requires few { length (names_of variables.now) ≤ 15 }
-    requires differ { AllPairs (λ a b. a ≢ b) (names_of variables.now) }
-    requires named { All IsName (names_of variables.now) }
-    ensures { Finds statement_of (States (names_of variables.now) (length variables.now.states.items) (codes "next" ∷ words_of bytes.now)) result }
+    requires few { length (variable_names variables.now) ≤ 15 }
+    requires differ { AllPairs (λ a b. a ≢ b) (variable_names variables.now) }
+    requires named { All IsName (variable_names variables.now) }
+    ensures { Finds statement_of (States (variable_names variables.now) (length variables.now.states.items) (codes "next" ∷ words_of bytes.now)) result }
 {
     let Some((state, rest)) = next_word(bytes) else {
         return Err(ReadFault::Malformed);

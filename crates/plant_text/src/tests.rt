@@ -1,4 +1,4 @@
-ghost use Rattle.std.specs.Prelude.{◌≡◌, [], ◌∷◌, codes, pos, negsuc, IfOk, replicate};
+ghost use Rattle.std.specs.Prelude.{◌≡◌, [], ◌∷◌, codes, pos, negsuc, IfOk};
 ghost use Rattle.fixed_expr.specs.Expression.{expression_of, Variable, Number, Sum, Difference, Product};
 ghost use Rattle.plant_text.specs.Plants.{IsPlant};
 ghost use Rattle.plant_text.specs.PlantParts.{description_of};

@@ -6,13 +6,7 @@ ghost use Rattle.plant_text.specs.Names.{is_digit};
 ghost use Rattle.plant_text.specs.Words.{is_blank, goes_on};
 ghost use Rattle.plant_text.specs.Items.{tokens_in};
 
-use crate::words::{is_letter, is_name_byte};
-
-fn is_blank(b: u8) -> bool
-    ensures { result ≡ is_blank b }
-{
-    b == b' ' || b == b'\t' || b == b'\r'
-}
+use crate::words::{is_blank, is_letter, is_name_byte};
 
 fn is_digit(b: u8) -> bool
     ensures { result ≡ is_digit b }

@@ -4,7 +4,7 @@ ghost use Rattle.fixed_expr.specs.Expression.{expression_of};
 ghost use Rattle.fixed_expr.specs.Value.{IsWellFormed, StaysInRange, value_of};
 ghost use Rattle.grid_quantiser.specs.Cells.{point_of};
 ghost use Rattle.plant_text.specs.Description.{names_of, vectors_of};
-ghost use Rattle.plant_text.specs.Steps.{values_at, step_of, StepStaysInRange};
+ghost use Rattle.plant_text.specs.Steps.{equation_at, values_at, step_of, StepStaysInRange};
 
 use crate::laws::every_plant_is_within_limits;
 use crate::plant::Plant;
@@ -19,6 +19,18 @@ pub fn step(p: &Plant, x: &Point, input: u32, noise: &Point) -> Option<Point>
 {
     let values = values_at(p, x, input, noise);
     next_point(p.equations(), &values[..variables(p)])
+}
+
+/// One state of the next, as `step` gives it: None where the value of some node of its equation leaves
+/// the range.
+pub fn step_along(p: &Plant, x: &Point, input: u32, noise: &Point, state: u32) -> Option<i128>
+    requires input { input < vectors_of p.now.inputs }
+    requires state { state < length p.now.equations }
+    ensures { SomeIff result (StaysInRange (equation_at p.now state) (values_at p.now x.now input noise.now)) (value_of (equation_at p.now state) (values_at p.now x.now input noise.now)) }
+{
+    every_plant_is_within_limits(p);
+    let values = values_at(p, x, input, noise);
+    eval(p.equation(state), &values[..variables(p)])
 }
 
 /// How many variables there are.

@@ -120,7 +120,7 @@ impl Variables {
     }
 
     /// The place of the variable of this name.
-    pub fn place_of(&self, name: &[u8]) -> Option<u32>
+    pub(crate) fn place_of(&self, name: &[u8]) -> Option<u32>
         requires { length (names_over self.now.states.items self.now.inputs.items self.now.noises.items) ≤ 15 }
         ensures found { IfSome result (λ i. slice_get (names_over self.now.states.items self.now.inputs.items self.now.noises.items) i ≡ Some name.now) }
         ensures none { IfNone result (Contains (names_over self.now.states.items self.now.inputs.items self.now.noises.items) name.now → ⊥) }

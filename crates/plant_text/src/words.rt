@@ -44,7 +44,8 @@ fn first_blank(bytes: &[u8]) -> Option<usize>
     bytes.iter().position(|b| is_blank(*b))
 }
 
-fn is_blank(b: u8) -> bool
+/// A space, a tab or a carriage return.
+pub fn is_blank(b: u8) -> bool
     ensures { result ≡ is_blank b }
 {
     b == b' ' || b == b'\t' || b == b'\r'

@@ -1,6 +1,5 @@
-use Rattle.std.proofs.Common.{◌≡◌, length, arith, ◌+◌, List, Err, ap}
+use Rattle.std.proofs.Common.{arith, Err, ap}
 use Rattle.plant_text.specs.Words.{lines_of}
-use Rattle.plant_text.specs.Grammar.{Part, Reads, Extends}
 use Rattle.plant_text.specs.Drafts.{part_of}
 use Rattle.plant_text.proofs.Leading.{read_once}
 use Rattle.plant_text.proofs.Onwards.{at_first_line, at_next_line, refused_here, all_read, ends_early}
@@ -32,11 +31,11 @@ loop-line-preserved c =
 pub returns-then-not-has_ended-clause-refused : goal.returns-then-not-has_ended-clause-refused
 returns-then-not-has_ended-clause-refused c = λ _. (
   c.requires,
-  ends_early c.args.bytes.now c.loop-line.rest.now c.loop-line.number (part_of c.loop-line.draft) c.loop-line.invariant c.in_default.ensures.ended (let e = c.has_ended.ensures in let f = c.if-not-has_ended.true in cc),
+  ends_early c.args.bytes.now c.loop-line.rest.now c.loop-line.number (part_of c.loop-line.draft) c.loop-line.invariant (ap lines_of c.in_default.ensures.ended) (let e = c.has_ended.ensures in let f = c.if-not-has_ended.true in cc),
 )
 
 pub returns-clause-read : goal.returns-clause-read
-returns-clause-read c = all_read c.args.bytes.now c.loop-line.rest.now c.loop-line.number (part_of c.loop-line.draft) c.loop-line.invariant c.in_default.ensures.ended
+returns-clause-read c = all_read c.args.bytes.now c.loop-line.rest.now c.loop-line.number (part_of c.loop-line.draft) c.loop-line.invariant (ap lines_of c.in_default.ensures.ended)
 
 pub returns-clause-rules : goal.returns-clause-rules
 returns-clause-rules c = c.loop-line.invariant.rules

@@ -1,7 +1,8 @@
 use Rattle.std.proofs.Common.{◌≡◌, ℕ, List, length, ◌∷◌, subst}
 use Rattle.std.specs.Prelude.{codes}
 use Rattle.std.specs.List.{flat_map}
-use Rattle.plant_text.specs.Stated.{names_of, statement_of}
+use Rattle.plant_text.specs.Items.{variable_names}
+use Rattle.plant_text.specs.Stated.{statement_of}
 use Rattle.plant_text.specs.Statements.{States}
 use Rattle.plant_text.specs.Syntax.{AreTokensOf}
 use Rattle.plant_text.specs.Words.{words_of, tokens_of}
@@ -11,7 +12,7 @@ use Rattle.plant_text.proofs.statements.equation_behind.Goals as goal
 
 pub returns-in_err-equation : goal.returns-in_err-equation
 returns-in_err-equation c =
-    let names = names_of c.args.variables.now in
+    let names = variable_names c.args.variables.now in
     let n = length c.args.variables.now.states.items in
     let Part = AreTokensOf names (flat_map tokens_of (words_of c.in_ok-rest.rest.now)) in
     exits statement_of (States names n (codes "next" ∷ words_of c.args.bytes.now)) Part c.in_err-equation.field-0.0 _ c.from_residual-in_err-equation.ensures.1 (refuses Part c.in_err-equation.field-0.0 c.in_err-equation.ensures.refused)

@@ -3,7 +3,7 @@ use Rattle.std.proofs.lemmas.Result.{on_ok_weaker}
 use Rattle.plant_text.specs.Grammar.{names_in}
 use Rattle.plant_text.specs.Words.{words_of}
 use Rattle.plant_text.specs.Drafts.{part_of}
-use Rattle.plant_text.specs.Stated.{names_of, statement_of}
+use Rattle.plant_text.specs.Stated.{statement_of}
 use Rattle.plant_text.proofs.PartRules.{rules_stated}
 use Rattle.plant_text.proofs.LineLaws.{one_statement}
 use Rattle.plant_text.proofs.CanonicalLines.{formed, extends_canonically, leads_nowhere}

@@ -1,5 +1,4 @@
 use Rattle.std.proofs.Common.{refl}
-use Rattle.plant_text.specs.Grammar.{names_in}
 use Rattle.plant_text.specs.Words.{words_of}
 use Rattle.plant_text.specs.Drafts.{part_of}
 use Rattle.plant_text.specs.Stated.{statement_of}
