@@ -3,3 +3,4 @@ pub mod Quotient
 pub mod Expression
 pub mod Value
 pub mod Tokens
+pub mod Mentions

@@ -8,6 +8,8 @@
 pub mod arithmetic;
 mod evaluate;
 mod expr;
+pub mod laws;
+mod mentions;
 mod narrow;
 mod wide;
 

@@ -1,4 +1,4 @@
--- Consistent rows are the solution of the reach game, and a game has one solution.
+-- Consistent rows are the solution of the reach game.
 use Rattle.std.proofs.Common.{◌≡◌, ◌≢◌, ℕ, zero, suc, ◌<◌, ◌≤◌, List, Option, Some, None, All, arith, refl, sym, ap, subst}
 use Rattle.game_core.proofs.Rows.{successors_below, plain_from}
 use Rattle.game_core.proofs.Trees.{row_for, rank_from_row, same_row}

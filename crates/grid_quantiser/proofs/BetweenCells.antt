@@ -6,7 +6,7 @@ use Rattle.std.proofs.lemmas.Bool.{cases_lt}
 use Rattle.std.proofs.lemmas.List.{get_or_default}
 use Rattle.std.proofs.lemmas.List.Elements.{All-tail}
 use Rattle.std.proofs.lemmas.Nat.{div-add-mod', div-mul-add, mod-mul-add, mod_below, div_below, mul-add-lt}
-use Rattle.std.proofs.Math.Nat.{mul_comm, add-mul, add_assoc}
+use Rattle.std.proofs.Math.Nat.{mul_comm, mul-le-mul_right, add-mul, add_assoc}
 use Rattle.grid_quantiser.specs.declared.axis.Axis.{Axis}
 use Rattle.grid_quantiser.specs.Axes.{IsAxis, cells_of}
 use Rattle.grid_quantiser.specs.Boxes.{IsCellBox, cells_between}
@@ -41,6 +41,20 @@ between_from_contains (a ∷ axes) f l c each box has =
     let row : k / m < side = div_below k m side some within in
     let short : k % m < m = mod_below k m some in
     (omega (arith, place), omega (arith, place, row, box.0), between_from_contains axes (f % n) (l % n) (c % n) later box.2 (k % m, short, get_or_default part (k % m) (c % n) 0 short ∙ rest))
+
+-- a cell between two corners lies there by its number
+pub between_by_number : (axes : List Axis) (f l c : ℕ) → 1 ≤ length axes → IsBetween axes f l c → (f ≤ c) × (c ≤ l)
+between_by_number [] f l c some between = absurd (omega (arith, some))
+between_by_number (a ∷ []) f l c some between = (omega (arith, between.0), omega (arith, between.1))
+between_by_number (a ∷ b ∷ axes) f l c some between =
+    let n : ℕ = cells_of (b ∷ axes) in
+    let rest = between_by_number (b ∷ axes) (f % n) (l % n) (c % n) (omega arith) between.2 in (
+      below f c n between.0 rest.0,
+      below c l n between.1 rest.1,
+    )
+  where
+    below : (x y n : ℕ) → x / n ≤ y / n → x % n ≤ y % n → x ≤ y
+    below x y n quotient rest = omega (arith, div-add-mod' x n, div-add-mod' y n, mul-le-mul_right n quotient)
 
 pub contains_from_between : (axes : List Axis) (f l c : ℕ) → All IsAxis axes → c < cells_of axes → IsBetween axes f l c → Contains (cells_between axes f l) c
 contains_from_between [] f l c each below between =

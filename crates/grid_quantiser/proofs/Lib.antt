@@ -10,8 +10,10 @@ pub mod Blocks
 pub mod BoxCells
 pub mod BetweenCells
 pub mod MeetingCells
+pub mod SideCells
 pub mod CentrePoints
 pub mod Turning
 pub mod RunSteps
 pub mod BoxRuns
 pub mod WheelsMade
+pub mod LaterPlaces

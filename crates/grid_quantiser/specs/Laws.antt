@@ -1,5 +1,5 @@
 -- What holds of every grid's cells.
-use Rattle.std.specs.Prelude.{ℕ, ◌<◌, ◌≤◌, ◌↔◌, ℤ, ◌+ℤ◌, ◌≤ℤ◌, List, [], ◌∷◌, length}
+use Rattle.std.specs.Prelude.{◌≡◌, ℕ, ◌%◌, ◌<◌, ◌≤◌, ◌↔◌, ℤ, pos, ◌+ℤ◌, ◌≤ℤ◌, List, [], ◌∷◌, drop, length, slice_index_or}
 use Rattle.std.specs.List.{All}
 use Rattle.std.specs.List.Sorted.{IsStrictlyIncreasing}
 use Rattle.grid_quantiser.specs.declared.axis.Axis.{Axis}
@@ -25,6 +25,13 @@ CentresAreNear =
     (axes : List Axis) (c : ℕ) → AreAxes axes → c < cells_of axes →
     IsPointOf axes c (centre_of axes c) × ((xs : List ℤ) → IsPointOf axes c xs → AreNear axes (centre_of axes c) xs)
 
+-- the centre in a state rests on the places in that state and the later ones alone: the cell may be counted
+-- among the cells of the states from k on
+abbrev pub CentresRestOnLaterPlaces : Type 0
+CentresRestOnLaterPlaces =
+    (axes : List Axis) (c k i : ℕ) → AreAxes axes → c < cells_of axes → k ≤ i → i < length axes →
+    slice_index_or (centre_of axes (c % cells_of (drop k axes))) i (pos 0) ≡ slice_index_or (centre_of axes c) i (pos 0)
+
 -- each state in the domain has one of the cells
 abbrev pub StatesHaveCells : Type 0
 StatesHaveCells = (axes : List Axis) (xs : List ℤ) → AreAxes axes → IsInDomain axes xs → cell_of axes xs < cells_of axes
@@ -38,3 +45,7 @@ pub record AreRisingCells (axes : List Axis) (cells : List ℕ) : Type 0 where
 -- the cells between the corners of a box are such
 abbrev pub BoxesHaveCells : Type 0
 BoxesHaveCells = (axes : List Axis) (first last : ℕ) → AreAxes axes → IsCellBox axes first last → AreRisingCells axes (cells_between axes first last)
+
+-- the cells between the corners of a box lie there also by their numbers
+abbrev pub CellsLieBetweenCorners : Type 0
+CellsLieBetweenCorners = (axes : List Axis) (first last : ℕ) → AreAxes axes → IsCellBox axes first last → All (λ c. (first ≤ c) × (c ≤ last)) (cells_between axes first last)

@@ -6,4 +6,5 @@ pub mod Kept
 pub mod Spots
 pub mod Runs
 pub mod RunFields
+pub mod Sides
 pub mod Laws

@@ -36,7 +36,8 @@ impl Axis {
         requires within { place ≤ self.now.count }
         ensures { result ≡ self.now.lo +ℤ (self.now.width *ℤ pos place) }
     {
-        self.lo + self.width * place as i128
+        // The axis is less than 2 * 10^18 long.
+        self.lo + i128::from(self.width as u64 * place)
     }
 
     /// The place of a number, where it lies on the axis.

@@ -2,7 +2,7 @@
 
 ghost use Rattle.std.specs.Prelude.{◌^◌, ◌≤◌};
 ghost use Rattle.grid_quantiser.specs.Axes.{cells_of, AreAxes};
-ghost use Rattle.grid_quantiser.specs.Laws.{CellsAreBoxes, CentresAreNear, StatesHaveCells, BoxesHaveCells};
+ghost use Rattle.grid_quantiser.specs.Laws.{CellsAreBoxes, CentresAreNear, StatesHaveCells, BoxesHaveCells, CellsLieBetweenCorners, CentresRestOnLaterPlaces};
 
 use crate::grid::Grid;
 
@@ -24,6 +24,16 @@ pub fn every_state_has_a_cell()
 /// The cells between the corners of a box rise, and are cells.
 pub fn cells_of_a_box()
     ensures { BoxesHaveCells }
+{}
+
+/// The cells between the corners of a box lie there also by their numbers.
+pub fn cells_lie_between_corners()
+    ensures { CellsLieBetweenCorners }
+{}
+
+/// The centre of a cell in a state rests on its places in that state and the later ones alone.
+pub fn centres_rest_on_later_places()
+    ensures { CentresRestOnLaterPlaces }
 {}
 
 /// Every `Grid` has axes, and is within the limit on cells.

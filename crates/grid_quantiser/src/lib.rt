@@ -12,6 +12,7 @@ mod cells;
 mod grid;
 pub mod laws;
 mod runs;
+mod sides;
 #[cfg(test)]
 mod tests;
 
@@ -19,3 +20,4 @@ pub use axis::Axis;
 pub use boxes::CellBox;
 pub use grid::{Grid, Point, TooManyCells};
 pub use runs::Runs;
+pub use sides::Side;

@@ -1,4 +1,4 @@
-ghost use Rattle.std.specs.Prelude.{◌≡◌, ◌^◌, ◌<◌, [], IfSome, IfNone};
+ghost use Rattle.std.specs.Prelude.{◌≡◌, ◌/◌, ◌%◌, ◌^◌, ◌<◌, [], IfSome, IfNone};
 ghost use Rattle.grid_quantiser.specs.Boxes.{IsCellBox, cells_between};
 ghost use Rattle.grid_quantiser.specs.Runs.{BeginsWithRun};
 ghost use Rattle.grid_quantiser.specs.RunFields.{AreWheels, next_start, turned};
@@ -56,19 +56,20 @@ impl Grid {
         let turning = axes.len() - 1;
         let mut stride = axes[turning].count as u32;
         let mut rest = b.last - b.first;
-        let side = rest % stride + 1;
-        rest /= stride;
+        let (quotient, last) = split(rest, stride);
+        let side = last + 1;
+        rest = quotient;
         let mut wheels = [STILL; 5];
         for i in (0..turning).rev() {
             let count = axes[i].count as u32;
-            let steps = rest % count;
+            let (quotient, steps) = split(rest, count);
             wheels[turning - 1 - i] = Wheel {
                 stride,
                 steps,
                 left: steps,
             };
             stride *= count;
-            rest /= count;
+            rest = quotient;
         }
         Runs {
             wheels,
@@ -91,6 +92,23 @@ impl Runs {
         self.next = turn(&mut self.wheels[..self.turning as usize], first);
         Some((first, self.side))
     }
+}
+
+/// A quotient and what is left. The sides of most boxes are so small that no division is made.
+#[inline]
+fn split(n: u32, by: u32) -> (u32, u32)
+    requires { 0 < by }
+    ensures quotient { result.0 ≡ n / by }
+    ensures left { result.1 ≡ n % by }
+{
+    if n < by {
+        return (0, n);
+    }
+    let more = n - by;
+    if more < by {
+        return (1, more);
+    }
+    (n / by, n % by)
 }
 
 /// The start of the next run, where there is one: the first wheel that has a step left makes it, and

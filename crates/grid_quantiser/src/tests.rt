@@ -1,7 +1,7 @@
 ghost use Rattle.std.specs.Prelude.{◌≡◌};
 ghost use Rattle.grid_quantiser.specs.Axes.{AreAxes};
 
-use crate::{Axis, CellBox, Grid, Point};
+use crate::{Axis, CellBox, Grid, Point, Side};
 use std::process::Abort;
 
 /// Five cells of three numbers: 0 to 2, 3 to 5, 6 to 8, 9 to 11 and 12 to 14.
@@ -165,4 +165,16 @@ fn too_many_cells(rt: HostRuntime) {
     );
     // 2^80 cells.
     assert!(rt; Grid::new(&[axis, axis, axis, axis]).is_err());
+}
+
+#[test]
+fn sides_of_two_states(rt: HostRuntime) {
+    let grid = grid_of(&rt, &PLANE);
+    // 35 and 41 stand at the places 3 and 4, -6 and -5 at 0 and 1; 60 is past the last place.
+    assert_eq!(rt; grid.side(0, 35, 41), Some(Side { first: 3, last: 4 }));
+    assert_eq!(rt; grid.side(1, -6, -5), Some(Side { first: 0, last: 1 }));
+    assert_eq!(rt; grid.side(0, 35, 60), None);
+    assert_eq!(rt; grid.cells_from(0), 24);
+    assert_eq!(rt; grid.cells_from(1), 4);
+    assert_eq!(rt; grid.cells_from(2), 1);
 }

@@ -16,7 +16,7 @@ use Rattle.plant_text.specs.declared.variables.InputVariable.{InputVariable}
 use Rattle.plant_text.specs.declared.variables.NoiseVariable.{NoiseVariable}
 use Rattle.plant_text.specs.Description.{Description, axis_of, axes_of, names_of, vectors_of, vector_of}
 use Rattle.plant_text.specs.Steps.{IsNoise, values_at}
-use Rattle.plant_text.specs.Laws.{IsWhole}
+use Rattle.plant_text.specs.Laws.{IsFilledByCells}
 use Rattle.successor_box.specs.Boxes.{noise_centre, area_of, radii_of, central_values}
 
 near_append : (rs xs ys radii values others : List ℤ) → AreNear rs xs ys → AreNear radii values others → AreNear (rs ++ radii) (xs ++ values) (ys ++ others)
@@ -33,11 +33,11 @@ in_append [] area (x ∷ xs) values h k = absurd h
 in_append (i ∷ is) area [] values h k = absurd h
 in_append (i ∷ is) area (x ∷ xs) values h k = (h.0, in_append is area xs values h.1 k)
 
-states_in : (states : List StateVariable) (xs : List ℤ) → All IsWhole states → IsInDomain (map axis_of states) xs → AreIn (map (λ (s : StateVariable). record { lo = s.low; hi = s.high }) states) (take (length states) xs)
+states_in : (states : List StateVariable) (xs : List ℤ) → All IsFilledByCells states → IsInDomain (map axis_of states) xs → AreIn (map (λ (s : StateVariable). record { lo = s.low; hi = s.high }) states) (take (length states) xs)
 states_in [] xs whole inside = tt
 states_in (s ∷ states) [] whole inside = absurd inside
 states_in (s ∷ states) (x ∷ xs) whole inside =
-    ((inside.0, up_to x (end_of (axis_of s)) s.high inside.1 (All-head IsWhole s states whole)), states_in states xs (All-tail IsWhole s states whole) inside.2)
+    ((inside.0, up_to x (end_of (axis_of s)) s.high inside.1 (All-head IsFilledByCells s states whole)), states_in states xs (All-tail IsFilledByCells s states whole) inside.2)
   where
     up_to : (x end high : ℤ) → x <ℤ end → end ≡ high +ℤ pos 1 → x ≤ℤ high
     up_to x end high below is = omega (arith, ints, below, is)
@@ -93,12 +93,12 @@ noises_near (v ∷ noises) (x ∷ w) noise = let m = middle v.low v.high x noise
 
 module _ (p : Description) (c u : ℕ) (x w : List ℤ) (noise : IsNoise p.noises w) where
   -- the values at a state in the domain lie in the area
-  pub values_in : All IsWhole p.states → IsInDomain (axes_of p) x → AreIn (area_of p u) (values_at p x u w)
+  pub values_in : All IsFilledByCells p.states → IsInDomain (axes_of p) x → AreIn (area_of p u) (values_at p x u w)
   values_in whole inside =
       in_append _ _ _ _ (in_append _ _ _ _ (states_in p.states x whole inside) (inputs_in (vector_of p.inputs u))) (noises_in p.noises w noise)
 
   -- so do the values at a cell's centre
-  pub central_in : All IsWhole p.states → IsInDomain (axes_of p) (centre_of (axes_of p) c) → AreIn (area_of p u) (central_values p c u)
+  pub central_in : All IsFilledByCells p.states → IsInDomain (axes_of p) (centre_of (axes_of p) c) → AreIn (area_of p u) (central_values p c u)
   central_in whole inside =
       in_append _ _ _ _ (in_append _ _ _ _ (states_in p.states (centre_of (axes_of p) c) whole inside) (inputs_in (vector_of p.inputs u))) (centres_in p.noises w noise)
 

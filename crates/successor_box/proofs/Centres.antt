@@ -17,10 +17,10 @@ use Rattle.interval_eval.specs.Span.{span_of}
 use Rattle.plant_text.specs.declared.variables.NoiseVariable.{NoiseVariable}
 use Rattle.plant_text.specs.Description.{Description, axis_of, axes_of, vectors_of, vector_of}
 use Rattle.plant_text.specs.Variables.{IsNoiseVariable}
-use Rattle.plant_text.specs.Steps.{IsNoise, step_of}
+use Rattle.plant_text.specs.Steps.{IsNoise, values_at, step_of, equation_at}
 use Rattle.plant_text.specs.Laws.{IsSound}
 use Rattle.successor_box.specs.Boxes.{noise_centre, area_of, radii_of, deviation_at, central_values}
-use Rattle.successor_box.specs.Slopes.{HasNoOverflow, equation_at}
+use Rattle.successor_box.specs.Slopes.{HasNoOverflow}
 use Rattle.successor_box.proofs.CellValues.{middle, central_in}
 use Rattle.successor_box.proofs.Staying.{between}
 use Rattle.successor_box.proofs.Steps.{formed_over}
@@ -40,14 +40,16 @@ centre_count [] c = refl
 centre_count (a ∷ axes) c = ap suc (centre_count axes (c % cells_of axes))
 
 -- what lies past the states and the noises is not looked at
-pub central_step : (p : Description) (c u : ℕ) → step_of p (point_of (centre_of (axes_of p) c)) u (point_of (map noise_centre p.noises)) ≡ map (λ e. value_of e (central_values p c u)) p.equations
-central_step p c u =
+pub central_list : (p : Description) (c u : ℕ) → values_at p (point_of (centre_of (axes_of p) c)) u (point_of (map noise_centre p.noises)) ≡ central_values p c u
+central_list p c u =
     let states : length p.states ≤ length (centre_of (axes_of p) c) = omega (arith, centre_count (axes_of p) c, length-map p.states axis_of) in
     let noises : length p.noises ≤ length (map noise_centre p.noises) = omega (arith, length-map p.noises noise_centre) in
     let xs : List ℤ = centre_of (axes_of p) c in
     let ws : List ℤ = map noise_centre p.noises in
-    ap (λ (values : List ℤ). map (λ e. value_of e values) p.equations)
-    (ap₂ (λ (front back : List ℤ). front ++ vector_of p.inputs u ++ back) (take-append-le (length p.states) xs (replicate (6 - length xs) (pos 0)) states) (take-append-le (length p.noises) ws (replicate (6 - length ws) (pos 0)) noises))
+    ap₂ (λ (front back : List ℤ). front ++ vector_of p.inputs u ++ back) (take-append-le (length p.states) xs (replicate (6 - length xs) (pos 0)) states) (take-append-le (length p.noises) ws (replicate (6 - length ws) (pos 0)) noises)
+
+pub central_step : (p : Description) (c u : ℕ) → step_of p (point_of (centre_of (axes_of p) c)) u (point_of (map noise_centre p.noises)) ≡ map (λ e. value_of e (central_values p c u)) p.equations
+central_step p c u = ap (λ (values : List ℤ). map (λ e. value_of e values) p.equations) (central_list p c u)
 
 -- the value of one equation
 pub central_value : (p : Description) (c u i : ℕ) → i < length p.equations → get_or (point_of (map (λ e. value_of e (central_values p c u)) p.equations)) i (pos 0) ≡ value_of (equation_at p i) (central_values p c u)

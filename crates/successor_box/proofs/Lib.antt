@@ -10,3 +10,4 @@ pub mod Centres
 pub mod SlopeRows
 pub mod CornerSteps
 pub mod Ranges
+pub mod Supports

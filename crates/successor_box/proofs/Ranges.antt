@@ -15,7 +15,7 @@ use Rattle.grid_quantiser.specs.Cells.{low_of, high_of, radius_of, point_of}
 use Rattle.plant_text.specs.declared.variables.StateVariable.{StateVariable}
 use Rattle.plant_text.specs.declared.variables.NoiseVariable.{NoiseVariable}
 use Rattle.plant_text.specs.Variables.{IsNoiseVariable}
-use Rattle.plant_text.specs.Laws.{IsWhole, IsSound}
+use Rattle.plant_text.specs.Laws.{IsFilledByCells, IsSound}
 use Rattle.plant_text.specs.Description.{Description, axis_of, axes_of, vector_of}
 use Rattle.successor_box.specs.Boxes.{noise_centre, area_of, radii_of}
 use Rattle.successor_box.specs.Area.{variables_of}
@@ -58,7 +58,7 @@ last_number lo width high w n m width-is next end = by_product (width *ℤ pos n
 positive : (z : ℤ) → pos 1 ≤ℤ z → z ≡ pos (nat_abs z)
 positive z some = omega (arith, ints, some)
 
-pub highs : (states : List StateVariable) → All IsAxis (map axis_of states) → All IsWhole states → high_of (map axis_of states) (cells_of (map axis_of states) - 1) ≡ map (λ (s : StateVariable). s.high) states
+pub highs : (states : List StateVariable) → All IsAxis (map axis_of states) → All IsFilledByCells states → high_of (map axis_of states) (cells_of (map axis_of states) - 1) ≡ map (λ (s : StateVariable). s.high) states
 highs [] each whole = refl
 highs (s ∷ states) each whole =
     let a : Axis = axis_of s in
@@ -70,8 +70,8 @@ highs (s ∷ states) each whole =
     let place : (cells_of (a ∷ axes) - 1) / cells_of axes ≡ a.count - 1 = ap (λ (n : ℕ). n / cells_of axes) split ∙ div-mul-add (a.count - 1) (cells_of axes) (cells_of axes - 1) (omega (arith, some)) in
     let left : (cells_of (a ∷ axes) - 1) % cells_of axes ≡ cells_of axes - 1 = ap (λ (n : ℕ). n % cells_of axes) split ∙ mod-mul-add (a.count - 1) (cells_of axes) (cells_of axes - 1) (omega (arith, some)) in
     ap₂ (λ (x : ℤ) (xs : List ℤ). x ∷ xs)
-    (ap (λ (n : ℕ). (a.lo +ℤ (a.width *ℤ pos n)) +ℤ (a.width -ℤ pos 1)) place ∙ last_number a.lo a.width s.high (nat_abs a.width) a.count (a.count - 1) (positive a.width here.some_width) (omega (arith, here.some_cell)) (All-head IsWhole s states whole))
-    (ap (high_of axes) left ∙ highs states rest (All-tail IsWhole s states whole))
+    (ap (λ (n : ℕ). (a.lo +ℤ (a.width *ℤ pos n)) +ℤ (a.width -ℤ pos 1)) place ∙ last_number a.lo a.width s.high (nat_abs a.width) a.count (a.count - 1) (positive a.width here.some_width) (omega (arith, here.some_cell)) (All-head IsFilledByCells s states whole))
+    (ap (high_of axes) left ∙ highs states rest (All-tail IsFilledByCells s states whole))
 
 -- ---- one variable
 

@@ -6,7 +6,8 @@ use Rattle.std.proofs.lemmas.List.FromFn.{length-map-range_with_len, get_or-map-
 use Rattle.fixed_expr.specs.Expression.{Number}
 use Rattle.plant_text.specs.Description.{Description, vectors_of}
 use Rattle.successor_box.specs.Boxes.{deviation_at}
-use Rattle.successor_box.specs.Slopes.{equation_at, slopes_along, slopes_of}
+use Rattle.plant_text.specs.Steps.{equation_at}
+use Rattle.successor_box.specs.Slopes.{slopes_along, slopes_of}
 
 module _ (p : Description) (i : ℕ) (lt : i < length p.equations) where
   row_is : get_or (slopes_of p) i [] ≡ slopes_along p (equation_at p i)
@@ -17,6 +18,3 @@ module _ (p : Description) (i : ℕ) (lt : i < length p.equations) where
 
   pub entry_is : (u : ℕ) → u < vectors_of p.inputs → get_or (get_or (slopes_of p) i []) u (pos 0) ≡ deviation_at p u (equation_at p i)
   entry_is u below = ap (λ (row : List ℤ). get_or row u (pos 0)) row_is ∙ get_or-map-range_with_len (λ u. deviation_at p u (equation_at p i)) 0 (vectors_of p.inputs) u u (pos 0) below (omega arith)
-
-pub rows_count : (p : Description) → length (slopes_of p) ≡ length p.equations
-rows_count p = length-map p.equations (slopes_along p)

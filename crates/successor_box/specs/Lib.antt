@@ -2,3 +2,5 @@ pub mod Boxes
 pub mod Slopes
 pub mod Area
 pub mod Laws
+pub mod Centre
+pub mod Sides

@@ -1,12 +1,13 @@
 -- The deviations of a plant's equations, and where one leaves the range.
-use Rattle.std.specs.Prelude.{ℕ, ◌<◌, ℤ, pos, ◌+ℤ◌, ◌-ℤ◌, List, length, map, slice_index_or}
+use Rattle.std.specs.Prelude.{ℕ, ◌<◌, ℤ, pos, ◌+ℤ◌, ◌-ℤ◌, List, length, map}
 use Rattle.std.specs.List.{range_with_len}
 use Rattle.fixed_expr.specs.Range.{IsInRange}
-use Rattle.fixed_expr.specs.Expression.{Expression, Number}
+use Rattle.fixed_expr.specs.Expression.{Expression}
 use Rattle.interval_eval.specs.declared.interval.Interval.{Interval}
 use Rattle.interval_eval.specs.Span.{SpanStaysInRange, span_of}
 use Rattle.growth_bound.specs.Deviation.{DeviationStaysInRange, deviation_of}
 use Rattle.plant_text.specs.Description.{Description, vectors_of}
+use Rattle.plant_text.specs.Steps.{equation_at}
 use Rattle.successor_box.specs.declared.fault.SlopeFault.{SlopeFault}
 use Rattle.successor_box.specs.declared.fault.SlopeFault.TheVariants.{Overflow, Memory}
 use Rattle.successor_box.specs.Boxes.{area_of, radii_of, deviation_at}
@@ -18,10 +19,6 @@ pub record Fits (e : Expression) (area : List Interval) (radii : List ℤ) : Typ
   pub deviation : DeviationStaysInRange e area radii
   pub low_end : IsInRange ((span_of e area).lo -ℤ pos (deviation_of e area radii))
   pub high_end : IsInRange ((span_of e area).hi +ℤ pos (deviation_of e area radii))
-
--- the equation of a state
-abbrev pub equation_at : Description → ℕ → Expression
-equation_at p i = slice_index_or p.equations i (Number (pos 0))
 
 -- an equation fits under an input vector, over the whole domain and the noises' ranges
 abbrev pub FitsAt : Description → ℕ → ℕ → Type 0

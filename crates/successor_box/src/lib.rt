@@ -7,11 +7,16 @@
 
 mod area;
 mod boxes;
+mod centre;
 mod fault;
 pub mod laws;
 mod noise;
+mod sides;
 mod slopes;
+mod support;
 
 pub use boxes::successors;
 pub use fault::SlopeFault;
+pub use sides::{box_of_sides, side};
 pub use slopes::{Slopes, find_slopes};
+pub use support::{Support, find_support};

@@ -4,8 +4,9 @@ ghost use Rattle.fixed_expr.specs.Expression.{expression_of};
 ghost use Rattle.fixed_expr.specs.Value.{IsWellFormed};
 ghost use Rattle.growth_bound.specs.Deviation.{deviation_of};
 ghost use Rattle.plant_text.specs.Description.{vectors_of};
+ghost use Rattle.plant_text.specs.Steps.{equation_at};
 ghost use Rattle.successor_box.specs.Boxes.{deviation_at};
-ghost use Rattle.successor_box.specs.Slopes.{Fits, FitsAt, HasNoOverflow, equation_at, slopes_of, slopes_along, IsOverflow};
+ghost use Rattle.successor_box.specs.Slopes.{Fits, FitsAt, HasNoOverflow, slopes_of, slopes_along, IsOverflow};
 ghost use Rattle.successor_box.specs.Area.{AreRadii, IsOverflowAlong};
 
 use crate::area::{VARIABLES_LIMIT, radii, ranges, variables};

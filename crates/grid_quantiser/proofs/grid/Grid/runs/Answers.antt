@@ -47,7 +47,7 @@ loop-i-init c =
     let n = cells_of (drop (length axes - 1) axes) in
     let stride = sym (last_cells axes some) in
     let start = no_wheel axes _ _ (c.args.b.first % n) (c.args.b.last % n) some (omega arith) in
-    record { five = refl; fresh = start.0; starts = start.1; stride = stride; rest = ap (λ k. (c.args.b.last - c.args.b.first) / k) stride }
+    record { five = refl; fresh = start.0; starts = start.1; stride = stride; rest = c.split-quotient.ensures.quotient ∙ ap (λ k. (c.args.b.last - c.args.b.first) / k) stride }
 
 pub loop-i-preserved : goal.loop-i-preserved
 loop-i-preserved c =
@@ -62,16 +62,17 @@ loop-i-preserved c =
     let some = c.loop-i-test.true in
     let count = (next_axis axes i).count in
     let n = cells_of (drop i axes) in
-    let steps = c.loop-i.rest % count in
+    let split = c.split-quotient-in-loop-i in
+    let steps = split.result.1 in
     let w : Wheel = record { stride = c.loop-i.stride; steps = steps; left = steps } in
     let place = wheel_set c.loop-i.wheels turning i w some (omega arith) (omega (arith, so_far.five, k.grid.states_bound)) in
-    let is : steps ≡ (l - f) / n % count = ap (λ r. r % count) so_far.rest in
+    let is : steps ≡ (l - f) / n % count = split.ensures.left ∙ ap (λ r. r % count) so_far.rest in
     record {
       five = length-set c.loop-i.wheels _ w ∙ so_far.five;
       fresh = rw place (fresh_more (take (turning - i) c.loop-i.wheels) w so_far.fresh refl);
       starts = rw (place, so_far.stride) (starts_here axes i f l each some (omega arith) (omega arith) k.order k.box (take (turning - i) c.loop-i.wheels) steps is so_far.starts);
       stride = ap (λ r. r * count) so_far.stride ∙ mul_comm n count ∙ sym (cells_step axes i each some (omega arith));
-      rest = ap (λ r. r / count) so_far.rest ∙ div_step axes i each some (omega arith) (l - f);
+      rest = split.ensures.quotient ∙ ap (λ r. r / count) so_far.rest ∙ div_step axes i each some (omega arith) (l - f);
     }
 
 pub invariant_of-result : goal.invariant_of-result
@@ -86,5 +87,6 @@ returns c =
     let l = c.args.b.last in
     let k = corners axes c.args.self.now f l c.axes-axes.ensures.same c.axes-axes.ensures.axes c.axes-axes.ensures.limit c.requires in
     let positive = some_step axes (length axes) k.grid.each (omega (arith, k.grid.some_state)) (omega arith) in
-    made_cells axes f l _ c.loop-i.i c.loop-i.wheels k refl (omega arith) c.loop-i.invariant.fresh c.loop-i.invariant.starts _ (side_is axes f l k.grid.each k.grid.some_state k.order k.ordered positive)
+    (rw c.split-quotient.ensures.left
+    (made_cells axes f l _ c.loop-i.i c.loop-i.wheels k refl (omega arith) c.loop-i.invariant.fresh c.loop-i.invariant.starts _ (side_is axes f l k.grid.each k.grid.some_state k.order k.ordered positive)))
     ∙ ap (λ given. cells_between given f l) c.axes-axes.ensures.same

@@ -1,0 +1,45 @@
+ghost use Rattle.std.specs.Prelude.{◌≡◌};
+ghost use Rattle.fixed_expr.specs.Expression.{expression_of};
+ghost use Rattle.fixed_expr.specs.Mentions.{mentions};
+
+use crate::expr::Expr;
+
+impl Expr {
+    /// Whether a variable from `from` up to `to` stands in the expression.
+    pub fn mentions(&self, from: u32, to: u32) -> bool
+        ensures { result ≡ mentions (expression_of self.now) from to }
+    {
+        match self {
+            Expr::Num(_) => false,
+            Expr::Var(i) => from <= *i && *i < to,
+            Expr::Neg(a) | Expr::Div(a, _) | Expr::Abs(a) => a.mentions(from, to),
+            Expr::Add(a, b)
+            | Expr::Sub(a, b)
+            | Expr::Mul(a, b)
+            | Expr::Min(a, b)
+            | Expr::Max(a, b) => a.mentions(from, to) || b.mentions(from, to),
+        }
+    }
+}
+
+#[cfg(test)]
+mod tests {
+    use super::*;
+    use std::test::Fail;
+
+    // x1 + 3 * x4
+    #[test]
+    fn variables_of_a_sum(rt: HostRuntime) -> Result<(), Fail> {
+        let alloc = rt.alloc();
+        let product = Expr::Mul(
+            Box::new(alloc, Expr::Num(3))?,
+            Box::new(alloc, Expr::Var(4))?,
+        );
+        let sum = Expr::Add(Box::new(alloc, Expr::Var(1))?, Box::new(alloc, product)?);
+        assert!(rt; sum.mentions(0, 2));
+        assert!(rt; !sum.mentions(2, 4));
+        assert!(rt; sum.mentions(4, 5));
+        assert!(rt; !sum.mentions(5, 15));
+        Ok(())
+    }
+}

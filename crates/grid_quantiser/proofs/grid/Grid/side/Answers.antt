@@ -1,0 +1,40 @@
+use Rattle.std.proofs.Common.{◌≡◌, ℕ, ◌-◌, ◌+◌, ◌^◌, ◌<◌, ◌≤◌, List, length, get_or, ap, refl, sym, subst, arith, rules, FitsSigned}
+use Rattle.std.specs.Int.{w128}
+use Rattle.std.proofs.lemmas.Int.{to_z-of_z}
+use Rattle.grid_quantiser.specs.declared.axis.Axis.{Axis}
+use Rattle.grid_quantiser.specs.Axes.{AreAxes, no_axis, cells_of}
+use Rattle.grid_quantiser.proofs.WheelsMade.{count_limit}
+use Rattle.grid_quantiser.proofs.grid.Grid.side.Goals as goal
+
+-- the places of an axis are few
+few_places : (axes given : List Axis) (i : ℕ) → axes ≡ given → AreAxes axes → cells_of axes ≤ 2 ^ 20 → i < length given → (get_or axes i no_axis).count ≤ 2 ^ 20
+few_places axes given i same grid limit within =
+    let below : i < length axes = subst (λ (l : List Axis). i < length l) (sym same) within in
+    let here : i + 1 - 1 ≡ i = omega arith in
+    omega (arith, count_limit axes (i + 1) grid.each (omega arith) (omega (arith, below)), ap (λ (k : ℕ). (get_or axes k no_axis).count) here, limit)
+
+pub overflow_cast-first : goal.overflow_cast-first
+overflow_cast-first c =
+    omega (arith, few_places c.axes.result.now c.args.self.now c.args.axis c.axes.ensures.same c.axes.ensures.axes c.axes.ensures.limit c.requires, c.in_ok-first.ensures.below)
+
+pub overflow_cast-last : goal.overflow_cast-last
+overflow_cast-last c =
+    omega (arith, few_places c.axes.result.now c.args.self.now c.args.axis c.axes.ensures.same c.axes.ensures.axes c.axes.ensures.limit c.requires, c.in_ok-last.ensures.below)
+
+pub returns-in_err-last : goal.returns-in_err-last
+returns-in_err-last c =
+    let fits : FitsSigned w128 c.args.high = search rules in
+    let outside = rw (to_z-of_z w128 c.args.high fits) at c.in_err-last.ensures.inside.1 in
+    rw (c.from_residual-in_err-last.ensures, ← c.axes.ensures.same)
+    (record { inside = ((λ h. cc), (λ both. absurd (let h = outside both.1 in cc))); places = tt; on_axis = tt })
+
+pub returns : goal.returns
+returns c =
+    let low_fits : FitsSigned w128 c.args.low = search rules in
+    let high_fits : FitsSigned w128 c.args.high = search rules in
+    let inside_low = rw (to_z-of_z w128 c.args.low low_fits) at (c.in_ok-first.ensures.inside.0 refl) in
+    let inside_high = rw (to_z-of_z w128 c.args.high high_fits) at (c.in_ok-last.ensures.inside.0 refl) in
+    let first = rw (to_z-of_z w128 c.args.low low_fits) at c.in_ok-first.ensures.place in
+    let last = rw (to_z-of_z w128 c.args.high high_fits) at c.in_ok-last.ensures.place in
+    rw (← c.axes.ensures.same)
+    (record { inside = ((λ h. (inside_low, inside_high)), (λ both. refl)); places = (first, last); on_axis = (c.in_ok-first.ensures.below, c.in_ok-last.ensures.below) })
