@@ -1,21 +1,19 @@
 -- A plant has one number of edges, since each pair has one list of successors.
-use Rattle.std.proofs.Common.{inl, inr, ◌≡◌, ℕ, zero, suc, ◌+◌, ◌*◌, ◌/◌, ◌%◌, ◌<◌, ◌≤◌, List, [], ◌∷◌, length, get_or, All, Contains, arith, refl, sym, ap, subst, ◌∙◌}
+use Rattle.std.proofs.Common.{◌≡◌, ℕ, zero, suc, ◌+◌, ◌*◌, ◌/◌, ◌%◌, ◌<◌, ◌≤◌, List, [], ◌∷◌, length, get_or, Contains, arith, refl, sym, ap, subst, ◌∙◌}
 use Rattle.std.specs.Prelude.{sum_by, slice_index_or, AllPairs}
 use Rattle.std.proofs.lemmas.List.Kept.{AllPairs-from_increasing}
-use Rattle.std.proofs.lemmas.Bool.{cases_order}
 use Rattle.std.proofs.lemmas.List.{ext_get_or}
 use Rattle.std.proofs.lemmas.Nat.{div_below, mod_below, div-add-mod'}
 use Rattle.std.proofs.Math.Nat.{mul-zero}
 use Rattle.grid_quantiser.specs.Boxes.{AreCellsMeeting}
 use Rattle.plant_text.specs.Description.{Description, axes_of, vectors_of}
-use Rattle.plant_text.specs.Plants.{IsPlant}
 use Rattle.plant_text.specs.Laws.{IsSound}
 use Rattle.grid_quantiser.specs.Axes.{cells_of}
 use Rattle.game_core.specs.Game.{Game}
 use Rattle.successor_box.specs.Boxes.{IsEnabledAt, AreSuccessors, low_corner, high_corner}
 use Rattle.successor_box.specs.Laws.{EnabledPairsHaveSuccessors}
 use Rattle.plant_text.specs.Laws.{PlantsAreSound}
-use Rattle.abstraction_table.specs.Abstraction.{IsGameOf, AreEdges, pairs_of, pair_of}
+use Rattle.abstraction_table.specs.Abstraction.{IsGameOf, pairs_of, pair_of}
 use Rattle.abstraction_table.specs.Laws.{OneEdgeCount, GamesCountTheirEdges}
 
 -- ---- rising lists
@@ -88,19 +86,34 @@ pair_split : (pair cells vectors : ℕ) → pair < cells * vectors → (pair / v
 pair_split pair cells zero lt = absurd (omega (arith, lt, mul-zero cells))
 pair_split pair cells (suc v) lt = (div_below pair (suc v) cells (omega arith) lt, mod_below pair (suc v) (omega arith), div-add-mod' pair (suc v))
 
+-- the lists of all pairs
+abbrev pub AreLists : Description → List (List ℕ) → Type 0
+AreLists p lists = (c u : ℕ) → c < cells_of (axes_of p) → u < vectors_of p.inputs → AreSuccessors p c u (slice_index_or lists (pair_of p c u) [])
+
+pub one_lists : EnabledPairsHaveSuccessors → (p : Description) → IsSound p → (f g : List (List ℕ)) → length f ≡ pairs_of p → length g ≡ pairs_of p → AreLists p f → AreLists p g → f ≡ g
+one_lists enabled p sound f g long as_long lists others =
+    ext_get_or [] f g (long ∙ sym as_long) (λ pair lt.
+    let c : ℕ = pair / vectors_of p.inputs in
+    let u : ℕ = pair % vectors_of p.inputs in
+    let parts = pair_split pair (cells_of (axes_of p)) (vectors_of p.inputs) (omega (arith, lt, long)) in
+    subst (λ (q : ℕ). slice_index_or f q [] ≡ slice_index_or g q []) parts.2 (one_list enabled p sound c u _ _ (lists c u parts.0 parts.1) (others c u parts.0 parts.1)))
+
 pub one_edge_count : PlantsAreSound → EnabledPairsHaveSuccessors → OneEdgeCount
 one_edge_count sound enabled p m n plant f g =
-    let same : f.lists ≡ g.lists = ext_get_or [] f.lists g.lists (f.one_each ∙ sym g.one_each) (λ pair lt.
-    let parts = pair_split pair (cells_of (axes_of p)) (vectors_of p.inputs) (omega (arith, lt, f.one_each)) in
-    subst (λ (q : ℕ). slice_index_or f.lists q [] ≡ slice_index_or g.lists q []) parts.2
-    (one_list enabled p (sound p plant) (pair / vectors_of p.inputs) (pair % vectors_of p.inputs) _ _ (f.each (pair / vectors_of p.inputs) (pair % vectors_of p.inputs) parts.0 parts.1) (g.each (pair / vectors_of p.inputs) (pair % vectors_of p.inputs) parts.0 parts.1))) in
-    f.total ∙ ap (sum_by length) same ∙ sym g.total
+    f.total ∙ ap (sum_by length) (one_lists enabled p (sound p plant) f.lists g.lists f.one_each g.one_each f.each g.each) ∙ sym g.total
+
+-- the lists of a plant's game
+pub one_list_each : (p : Description) (g : Game) → IsGameOf p g → length g.successors ≡ pairs_of p
+one_list_each p g h = h.game.one_list_each ∙ ap (λ (n : ℕ). n * g.inputs) h.cells ∙ ap (λ (n : ℕ). cells_of (axes_of p) * n) h.inputs
+
+pub game_lists : (p : Description) (g : Game) → IsGameOf p g → AreLists p g.successors
+game_lists p g h c u cell input =
+    subst (λ (n : ℕ). AreSuccessors p c u (slice_index_or g.successors (c * n + u) [])) h.inputs (h.successors c u (subst (λ (n : ℕ). c < n) (sym h.cells) cell) (subst (λ (n : ℕ). u < n) (sym h.inputs) input))
 
 pub games_count_their_edges : GamesCountTheirEdges
 games_count_their_edges p g h = record {
   lists = g.successors;
-  one_each = h.game.one_list_each ∙ ap (λ (n : ℕ). n * g.inputs) h.cells ∙ ap (λ (n : ℕ). cells_of (axes_of p) * n) h.inputs;
-  each = λ c u cell input.
-      subst (λ (n : ℕ). AreSuccessors p c u (slice_index_or g.successors (c * n + u) [])) h.inputs (h.successors c u (subst (λ (n : ℕ). c < n) (sym h.cells) cell) (subst (λ (n : ℕ). u < n) (sym h.inputs) input));
+  one_each = one_list_each p g h;
+  each = game_lists p g h;
   total = refl;
 }

@@ -1,5 +1,5 @@
 -- The marks and the boxes of a plant make its game.
-use Rattle.std.proofs.Common.{◌≡◌, ℕ, ◌+◌, ◌*◌, ◌/◌, ◌%◌, ◌^◌, ◌<◌, ◌≤◌, List, [], ◌∷◌, All, Option, Some, None, length, map, get_or, refl, sym, ap, subst, ◌∙◌, arith}
+use Rattle.std.proofs.Common.{◌≡◌, ℕ, ◌+◌, ◌*◌, ◌/◌, ◌%◌, ◌^◌, ◌<◌, ◌≤◌, List, [], ◌∷◌, All, Option, None, length, map, get_or, refl, sym, subst, ◌∙◌, arith}
 use Rattle.std.specs.Prelude.{sum_by}
 use Rattle.std.specs.List.Sorted.{IsStrictlyIncreasing}
 use Rattle.std.proofs.lemmas.Option.{IfSome_then}
@@ -7,7 +7,7 @@ use Rattle.std.proofs.lemmas.List.{length-map, get_or_default}
 use Rattle.std.proofs.lemmas.List.Elements.{All-head, All-tail, All-map, All-weaker}
 use Rattle.std.proofs.lemmas.List.Folds.{fold-map}
 use Rattle.std.proofs.lemmas.Nat.{div-add-mod', div_below, mod_below}
-use Rattle.std.proofs.Math.Nat.{mul-pos, mul_comm}
+use Rattle.std.proofs.Math.Nat.{mul-pos}
 use Rattle.grid_quantiser.specs.declared.axis.Axis.{Axis}
 use Rattle.grid_quantiser.specs.declared.boxes.CellBox.{CellBox}
 use Rattle.grid_quantiser.specs.Axes.{IsAxis, AreAxes, cells_of}
@@ -22,10 +22,9 @@ use Rattle.plant_text.specs.Laws.{PlantsAreSound}
 use Rattle.successor_box.specs.Boxes.{AreSuccessors, IsBoxOf, cells_in}
 use Rattle.successor_box.specs.Laws.{BoxesHoldTheSuccessors}
 use Rattle.abstraction_table.specs.Abstraction.{IsGameOf, pairs_of, pair_of, box_at, AreBoxesOf, AreEdges}
-use Rattle.abstraction_table.specs.BoxGame.{box_game, IsBox, IsKept, AreMarksOf, AreSourceRows}
+use Rattle.abstraction_table.specs.BoxGame.{box_game, IsBox, IsKept, AreMarksOf, AreSourceBands}
 use Rattle.abstraction_table.specs.Tallies.{edges_of}
 use Rattle.abstraction_table.proofs.LeadingPairs.{successors_are}
-use Rattle.abstraction_table.proofs.PairBoxes.{pair_below}
 use Rattle.abstraction_table.proofs.SourceSteps.{box_cells}
 
 -- axes have a cell
@@ -36,7 +35,7 @@ some_cells (a ∷ axes) each =
     mul-pos some (some_cells axes (All-tail IsAxis a axes each))
 
 -- inputs have a vector
-some_vectors : (inputs : List InputVariable) → All IsInputVariable inputs → 1 ≤ vectors_of inputs
+pub some_vectors : (inputs : List InputVariable) → All IsInputVariable inputs → 1 ≤ vectors_of inputs
 some_vectors [] each = omega arith
 some_vectors (i ∷ inputs) each =
     let some : 0 < length i.values = omega (arith, (All-head IsInputVariable i inputs each).some_value) in
@@ -102,8 +101,8 @@ module _ (p : Description) (limits : IsWithinLimits p) (boxes : List (Option Cel
         edges_bound = omega (arith, total, few);
       }
 
-      pub kept : (rows : List (List ℕ)) → AreSourceRows (axes_of p) boxes rows → IsKept (axes_of p) (vectors_of p.inputs) marks boxes rows
-      kept rows sources = record { game = is_game; ordered = ordered; sources = sources }
+      pub kept : (size : ℕ) (bands : List (List (List ℕ))) → AreSourceBands (axes_of p) boxes size bands → IsKept (axes_of p) (vectors_of p.inputs) marks boxes size bands
+      kept size bands sources = record { game = is_game; ordered = ordered; sources = sources }
 
       pub is_game_of : IsGameOf p game
       is_game_of = record {

@@ -1,5 +1,5 @@
 -- The game of a plant refines it.
-use Rattle.std.proofs.Common.{◌≡◌, ℕ, ◌<◌, List, [], subst}
+use Rattle.std.proofs.Common.{ℕ, ◌<◌, List, subst}
 use Rattle.std.specs.Prelude.{ℤ}
 use Rattle.game_core.specs.Game.{Game, IsEnabled, successors_of}
 use Rattle.grid_quantiser.specs.Cells.{IsInDomain, IsPointOf, cell_of}

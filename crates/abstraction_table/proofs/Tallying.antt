@@ -1,19 +1,18 @@
 -- One more cell, or some more, that is counted or that a pair is put at.
-use Rattle.std.proofs.Common.{◌≡◌, ◌≢◌, ℕ, zero, suc, ◌+◌, ◌-◌, ◌^◌, ◌<◌, ◌≤◌, Bool, true, false, ◌==◌, cond, List, [], ◌∷◌, ◌++◌, All, length, replicate, get_or, set, sum, refl, sym, ap, subst, ◌∙◌, arith, inl, inr, append_assoc, append-nil}
-use Rattle.std.specs.Prelude.{sum_by, count_by}
+use Rattle.std.proofs.Common.{◌≡◌, ◌≢◌, ℕ, zero, suc, ◌+◌, ◌-◌, ◌^◌, ◌<◌, ◌≤◌, Bool, true, false, ◌==◌, cond, List, [], ◌∷◌, ◌++◌, All, length, replicate, get_or, set, refl, sym, ap, subst, ◌∙◌, arith, append_assoc, append-nil}
 use Rattle.std.specs.List.{range_with_len}
 use Rattle.std.proofs.lemmas.Bool.{false_from_ne_true, false≢true}
 use Rattle.std.proofs.lemmas.Bool.Decides.{Decides-eqb}
 use Rattle.std.proofs.lemmas.List.{length-append, length-replicate, length-set, get_or-set_same, get_or-set_other, replicate-append-replicate}
 use Rattle.std.proofs.lemmas.List.FromFn.{length-range_with_len, get_or-range_with_len}
-use Rattle.std.proofs.lemmas.List.Sums.{sum_by-append, sum_by_push, sum_by-cons, sum_by-set}
+use Rattle.std.proofs.lemmas.List.Sums.{sum_by-append, sum_by_push, sum_by-set}
 use Rattle.rayon.proofs.ListFacts.{All-parts}
 use Rattle.grid_quantiser.specs.Runs.{BeginsWithRun}
 use Rattle.edge_rows.specs.Rows.{Filling, row_at, appended, HasRoom}
 use Rattle.abstraction_table.specs.Tallies.{times, AreCounted, ArePut, HasRoomFor}
 
 -- a number is a cell or another
-by_cell : {P : Type 0} (c x : ℕ) → (c ≡ x → P) → (c ≢ x → P) → P
+pub by_cell : {P : Type 0} (c x : ℕ) → (c ≡ x → P) → (c ≢ x → P) → P
 by_cell {P} c x same other = decide (c == x) refl
   where
     decide : (b : Bool) → (c == x) ≡ b → P

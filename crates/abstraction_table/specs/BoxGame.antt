@@ -1,5 +1,5 @@
 -- Games by boxes: each pair of a cell and an input has a box of cells, or none. No public clause names this.
-use Rattle.std.specs.Prelude.{◌≡◌, ℕ, ◌*◌, ◌<◌, ◌↔◌, Bool, ◌==◌, List, [], length, map, slice_index_or, Option, Some, None, IfSome}
+use Rattle.std.specs.Prelude.{◌≡◌, ℕ, ◌+◌, ◌/◌, ◌%◌, ◌<◌, ◌↔◌, Bool, ◌==◌, List, [], length, map, slice_index_or, Option, IfSome}
 use Rattle.std.specs.List.{All, list_any, filter, range_with_len}
 use Rattle.grid_quantiser.specs.declared.axis.Axis.{Axis}
 use Rattle.grid_quantiser.specs.declared.boxes.CellBox.{CellBox}
@@ -30,16 +30,26 @@ leads_to axes boxes c pair = list_any (◌==◌ c) (cells_in axes (box_at boxes 
 abbrev pub sources_among : List Axis → List (Option CellBox) → ℕ → ℕ → List ℕ
 sources_among axes boxes n c = filter (leads_to axes boxes c) (range_with_len 0 n)
 
--- Rows hold for each cell the pairs that lead to it.
-pub record AreSourceRows (axes : List Axis) (boxes : List (Option CellBox)) (rows : List (List ℕ)) : Type 0 where
-  pub one_each : length rows ≡ cells_of axes
-  pub each : (c : ℕ) → c < cells_of axes → row_at rows c ≡ sources_among axes boxes (length boxes) c
+-- Rows hold, for each cell of a band of len cells from `from` on, the pairs that lead to it.
+pub record AreBandRows (axes : List Axis) (boxes : List (Option CellBox)) (from len : ℕ) (rows : List (List ℕ)) : Type 0 where
+  pub one_each : length rows ≡ len
+  pub each : (i : ℕ) → i < len → row_at rows i ≡ sources_among axes boxes (length boxes) (from + i)
+
+-- the rows of a cell's band, where each band has `size` cells
+abbrev pub band_of : ℕ → List (List (List ℕ)) → ℕ → List (List ℕ)
+band_of size bands c = slice_index_or bands (c / size) []
+
+-- Bands of `size` cells each hold for each cell the pairs that lead to it.
+pub record AreSourceBands (axes : List Axis) (boxes : List (Option CellBox)) (size : ℕ) (bands : List (List (List ℕ))) : Type 0 where
+  pub some_size : 0 < size
+  pub inside : (c : ℕ) → c < cells_of axes → (c / size < length bands) × (c % size < length (band_of size bands c))
+  pub each : (c : ℕ) → c < cells_of axes → row_at (band_of size bands c) (c % size) ≡ sources_among axes boxes (length boxes) c
 
 -- What a game in memory keeps.
-pub record IsKept (axes : List Axis) (inputs : ℕ) (marks : List Mark) (boxes : List (Option CellBox)) (rows : List (List ℕ)) : Type 0 where
+pub record IsKept (axes : List Axis) (inputs : ℕ) (marks : List Mark) (boxes : List (Option CellBox)) (size : ℕ) (bands : List (List (List ℕ))) : Type 0 where
   pub game : IsGame (box_game axes inputs marks boxes)
   pub ordered : All (IsBox axes) boxes
-  pub sources : AreSourceRows axes boxes rows
+  pub sources : AreSourceBands axes boxes size bands
 
 -- the mark of a cell
 abbrev pub IsMarkAt : Description → ℕ → Mark → Type 0

@@ -1,5 +1,5 @@
 -- What holds of the game of every plant.
-use Rattle.std.specs.Prelude.{◌≡◌, ℕ, List, length, sum_by}
+use Rattle.std.specs.Prelude.{◌≡◌, ℕ, length, sum_by}
 use Rattle.game_core.specs.Game.{Game}
 use Rattle.plant_text.specs.Description.{Description}
 use Rattle.plant_text.specs.Plants.{IsPlant}
@@ -9,6 +9,10 @@ use Rattle.abstraction_table.specs.Refinement.{IsRefinement}
 -- a game refines the plant whose game it is
 abbrev pub GamesRefineTheirPlants : Type 0
 GamesRefineTheirPlants = (p : Description) (g : Game) → IsPlant p → IsGameOf p g → IsRefinement p g
+
+-- a plant has one game
+abbrev pub OneGamePerPlant : Type 0
+OneGamePerPlant = (p : Description) (g h : Game) → IsPlant p → IsGameOf p g → IsGameOf p h → g ≡ h
 
 -- a plant has one number of edges
 abbrev pub OneEdgeCount : Type 0

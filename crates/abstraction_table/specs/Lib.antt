@@ -6,3 +6,4 @@ pub mod Table
 pub mod Tallies
 pub mod Refinement
 pub mod Laws
+pub mod Sides

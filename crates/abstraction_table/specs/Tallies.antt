@@ -1,9 +1,9 @@
 -- How often numbers occur among cells, and where pairs are put for them. No public clause names this.
-use Rattle.std.specs.Prelude.{◌≡◌, ℕ, ◌+◌, ◌<◌, ◌≤◌, ◌==◌, List, ◌++◌, length, replicate, slice_index, sum, sum_by, count_by, Option}
+use Rattle.std.specs.Prelude.{◌≡◌, ℕ, ◌+◌, ◌-◌, ◌<◌, ◌≤◌, ◌==◌, ◌&&◌, leb, ltb, List, ◌++◌, map, length, replicate, slice_index, sum, sum_by, count_by, Option}
+use Rattle.std.specs.List.{filter}
 use Rattle.grid_quantiser.specs.declared.axis.Axis.{Axis}
 use Rattle.grid_quantiser.specs.declared.boxes.CellBox.{CellBox}
-use Rattle.grid_quantiser.specs.Axes.{cells_of}
-use Rattle.edge_rows.specs.Rows.{Filling, row_at, HasRoom}
+use Rattle.edge_rows.specs.Rows.{Filling, row_at}
 use Rattle.successor_box.specs.Boxes.{cells_in}
 use Rattle.abstraction_table.specs.BoxGame.{sources_among}
 
@@ -27,11 +27,15 @@ pub record ArePut (pair : ℕ) (before after : Filling) (cells : List ℕ) : Typ
 abbrev pub HasRoomFor : Filling → List ℕ → Type 0
 HasRoomFor f cells = (c : ℕ) → c < length f.rows → length (row_at f.rows c) + times c cells ≤ slice_index f.lengths c
 
+-- the places in a band, which has len cells from `from` on, of the cells that lie in it
+abbrev pub places_in : ℕ → ℕ → List ℕ → List ℕ
+places_in from len cells = map (λ c. c - from) (filter (λ c. leb from c && ltb c (from + len)) cells)
+
 -- how many edges boxes have
 abbrev pub edges_of : List Axis → List (Option CellBox) → ℕ
 edges_of axes boxes = sum_by (λ b. length (cells_in axes b)) boxes
 
--- The count of each cell is how many of the first n pairs lead to it.
-pub record AreCountsAmong (axes : List Axis) (boxes : List (Option CellBox)) (n : ℕ) (counts : List ℕ) : Type 0 where
-  pub one_each : length counts ≡ cells_of axes
-  pub each : (c : ℕ) → c < cells_of axes → slice_index counts c ≡ length (sources_among axes boxes n c)
+-- The count of each cell of a band is how many of the first n pairs lead to it.
+pub record AreCountsAmong (axes : List Axis) (boxes : List (Option CellBox)) (from len n : ℕ) (counts : List ℕ) : Type 0 where
+  pub one_each : length counts ≡ len
+  pub each : (i : ℕ) → i < len → slice_index counts i ≡ length (sources_among axes boxes n (from + i))

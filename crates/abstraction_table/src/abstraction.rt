@@ -1,7 +1,7 @@
 ghost use Rattle.abstraction_table.specs.BoxGame.{IsKept};
 ghost use Rattle.abstraction_table.specs.Props.{box_props};
 
-use edge_rows::Rows;
+use crate::sources::Sources;
 use game_core::{Graph, Mark};
 use grid_quantiser::{CellBox, Grid};
 
@@ -13,8 +13,8 @@ pub struct Abstraction {
     pub(crate) inputs: u32,
     pub(crate) marks: Vec<Mark>,
     pub(crate) boxes: Vec<Option<CellBox>>,
-    pub(crate) sources: Rows,
-    ghost kept: { IsKept grid inputs marks.items boxes.items sources } by { Prim.hlevel box_props },
+    pub(crate) sources: Sources,
+    ghost kept: { IsKept grid inputs marks.items boxes.items sources.size sources.bands.items } by { Prim.hlevel box_props },
 }
 
 impl Abstraction {

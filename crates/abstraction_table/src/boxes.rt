@@ -1,20 +1,23 @@
 //! The boxes of all pairs.
-ghost use Rattle.std.specs.Prelude.{◌≡◌, ◌*◌, ◌/◌, ◌%◌, ◌<◌, IfOk};
+ghost use Rattle.std.specs.Prelude.{◌≡◌, ℕ, ◌*◌, ◌/◌, ◌≤◌, ◌<◌, length, slice_index_or, None, IfOk};
 ghost use Rattle.grid_quantiser.specs.Axes.{cells_of};
 ghost use Rattle.plant_text.specs.Description.{axes_of, vectors_of};
 ghost use Rattle.successor_box.specs.Boxes.{IsBoxOf};
 ghost use Rattle.successor_box.specs.Slopes.{HasNoOverflow, slopes_of};
 ghost use Rattle.abstraction_table.specs.Abstraction.{AreBoxesOf};
+ghost use Rattle.abstraction_table.specs.Sides.{HoldSides};
 
+use crate::sides::{SideTable, find_tables};
 use grid_quantiser::CellBox;
 use plant_text::Plant;
 use plant_text::laws::every_plant_is_within_limits;
 use rayon::prelude::*;
 use std::alloc::{AllocError, Global};
 use std::thread::Threads;
-use successor_box::{Slopes, successors};
+use successor_box::{Slopes, box_of_sides};
 
-/// The box of each pair of a cell and an input.
+/// The box of each pair of a cell and an input. The sides along each axis are found first, once for
+/// all pairs that share one.
 pub(crate) fn find_boxes<R: Threads + Sync>(
     rt: &R,
     alloc: Global,
@@ -26,18 +29,55 @@ pub(crate) fn find_boxes<R: Threads + Sync>(
     ensures { IfOk result (λ boxes. AreBoxesOf p.now boxes.items) }
 {
     every_plant_is_within_limits(p);
-    let inputs = p.vectors();
-    let pairs = p.grid().cells() * inputs;
-    (0..pairs)
-        .into_par_iter()
-        .map(
-            |pair: u32| -> Option<CellBox>
-                requires slopes { s.now ≡ slopes_of p.now }
-                requires fits { HasNoOverflow p.now }
-                requires inputs { inputs ≡ vectors_of p.now.inputs }
-                requires pair { pair < cells_of (axes_of p.now) * vectors_of p.now.inputs }
-                ensures { IsBoxOf p.entry.now (pair / inputs) (pair % inputs) result }
-            { successors(p, s, pair / inputs, pair % inputs) },
-        )
-        .collect(rt, alloc)
+    let tables = find_tables(rt, alloc, p, s)?;
+    let tables = tables.as_slice();
+    let inputs = p.vectors() as usize;
+    let pairs = p.grid().cells() as usize * inputs;
+    let mut boxes = vec![in alloc; None; pairs]?;
+    par_chunks_mut_for_each(
+        rt,
+        &mut boxes,
+        inputs,
+        |at: usize, boxes: &mut [Option<CellBox>]|
+            requires tables { HoldSides p.now tables.now }
+            requires inputs { inputs ≡ vectors_of p.now.inputs }
+            requires some_input { 0 < inputs }
+            requires cell { at / inputs < cells_of (axes_of p.now) }
+            requires one_each { length boxes.now ≡ inputs }
+            ensures { (u : ℕ) → u < inputs → IsBoxOf p.entry.now (at / inputs) u (slice_index_or boxes.exit.now u None) }
+        {
+            every_plant_is_within_limits(p);
+            boxes_of_cell(p, tables, (at / inputs) as u32, boxes);
+        },
+    );
+    Ok(boxes)
+}
+
+/// The boxes of a cell, one for each input.
+fn boxes_of_cell(p: &Plant, tables: &[SideTable], c: u32, boxes: &mut [Option<CellBox>])
+    requires tables { HoldSides p.now tables.now }
+    requires cell { c < cells_of (axes_of p.now) }
+    requires one_each { length boxes.old ≡ vectors_of p.now.inputs }
+    ensures long { length boxes.new ≡ length boxes.old }
+    ensures each { (u : ℕ) → u < length boxes.old → IsBoxOf p.now c u (slice_index_or boxes.new u None) }
+{
+    for input in 0..p.vectors() {
+        boxes[input as usize] = box_at(p, tables, c, input);
+    }
+}
+
+/// The box of a pair.
+#[inline]
+fn box_at(p: &Plant, tables: &[SideTable], c: u32, input: u32) -> Option<CellBox>
+    requires tables { HoldSides p.now tables.now }
+    requires cell { c < cells_of (axes_of p.now) }
+    requires input { input < vectors_of p.now.inputs }
+    ensures { IsBoxOf p.now c input result }
+{
+    every_plant_is_within_limits(p);
+    let mut sides = [None; 6];
+    for state in 0..tables.len() {
+        sides[state] = tables[state].side(c, input);
+    }
+    box_of_sides(p, &sides)
 }

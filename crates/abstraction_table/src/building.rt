@@ -47,7 +47,7 @@ pub fn build<R: Threads + Sync>(
         return Err(BuildFault::TooManyEdges { edges });
     }
     let marks = find_marks(rt, alloc, p)?;
-    let sources = find_sources(alloc, &grid, &boxes)?;
+    let sources = find_sources(rt, alloc, &grid, &boxes)?;
     Ok(Abstraction {
         grid,
         inputs: p.vectors(),

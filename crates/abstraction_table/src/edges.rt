@@ -24,13 +24,13 @@ pub(crate) fn count_edges<R: Threads + Sync>(rt: &R, grid: &Grid, boxes: &[Optio
             |b: &Option<CellBox>| -> u64
                 requires { IsBox grid.now b.now }
                 ensures { result ≡ length (cells_in grid.entry.now b.now) }
-            { count_cells(grid, *b) },
+            { box_size(grid, *b) },
         )
         .sum(rt)
 }
 
 /// How many cells a box has.
-fn count_cells(grid: &Grid, b: Option<CellBox>) -> u64
+fn box_size(grid: &Grid, b: Option<CellBox>) -> u64
     requires { IsBox grid.now b }
     ensures { result ≡ length (cells_in grid.now b) }
 {

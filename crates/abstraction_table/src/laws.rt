@@ -1,8 +1,7 @@
 //! What holds of the game of every plant.
 
-ghost use Rattle.abstraction_table.specs.Laws.{GamesRefineTheirPlants, OneEdgeCount, GamesCountTheirEdges};
+ghost use Rattle.abstraction_table.specs.Laws.{GamesRefineTheirPlants, OneGamePerPlant, OneEdgeCount, GamesCountTheirEdges};
 
-use crate::abstraction::Abstraction;
 use plant_text::laws::plants_are_sound;
 use successor_box::laws::{enabled_pairs_have_successors, steps_lie_in_the_boxes};
 
@@ -12,6 +11,14 @@ pub fn games_refine_their_plants()
 {
     plants_are_sound();
     steps_lie_in_the_boxes();
+    enabled_pairs_have_successors();
+}
+
+/// A plant has one game.
+pub fn one_game_per_plant()
+    ensures { OneGamePerPlant }
+{
+    plants_are_sound();
     enabled_pairs_have_successors();
 }
 
@@ -27,10 +34,3 @@ pub fn one_edge_count()
 pub fn games_count_their_edges()
     ensures { GamesCountTheirEdges }
 {}
-
-fn may_cross<T: Send + Sync>() {}
-
-/// Any thread may own an abstraction, and any number of threads may read it at once.
-pub fn threads_may_share() {
-    may_cross::<Abstraction>();
-}

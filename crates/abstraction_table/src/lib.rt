@@ -8,12 +8,15 @@
 #![tactic(auto)]
 
 mod abstraction;
+mod band;
 mod boxes;
 mod building;
 mod edges;
 mod fault;
+mod filling;
 pub mod laws;
 mod marks;
+mod sides;
 mod sources;
 #[cfg(test)]
 mod tests;

@@ -1,148 +1,91 @@
 //! The pairs that lead to each cell.
-ghost use Rattle.std.specs.Prelude.{◌≡◌, ◌+◌, ◌^◌, ◌<◌, ◌≤◌, ℕ, [], length, slice_index, sum, IfOk};
-ghost use Rattle.std.specs.List.{All, range_with_len};
+ghost use Rattle.std.specs.Prelude.{◌≡◌, ℕ, ◌-◌, ◌*◌, ◌/◌, ◌%◌, ◌^◌, ◌<◌, ◌≤◌, min, length, IfOk};
+ghost use Rattle.std.specs.List.{All};
 ghost use Rattle.grid_quantiser.specs.Axes.{cells_of};
-ghost use Rattle.edge_rows.specs.Rows.{unfilled};
-ghost use Rattle.successor_box.specs.Boxes.{cells_in};
-ghost use Rattle.abstraction_table.specs.BoxGame.{IsBox, AreSourceRows};
-ghost use Rattle.abstraction_table.specs.Tallies.{times, AreCounted, ArePut, HasRoomFor, edges_of, AreCountsAmong};
+ghost use Rattle.edge_rows.specs.Rows.{row_at};
+ghost use Rattle.abstraction_table.specs.BoxGame.{IsBox, AreBandRows, AreSourceBands, band_of};
+ghost use Rattle.abstraction_table.specs.Tallies.{edges_of};
 
-use edge_rows::laws::full_rows_leave_no_place;
-use edge_rows::{NoMemory, RowFill, Rows};
-use grid_quantiser::laws::{cells_of_a_box, every_grid_is_within_the_limit};
-use grid_quantiser::{CellBox, Grid, Runs};
-use std::alloc::{AllocError, Global};
+use crate::band::Band;
+use crate::filling::fill_band;
+use edge_rows::{NoMemory, Rows};
+use grid_quantiser::laws::every_grid_is_within_the_limit;
+use grid_quantiser::{CellBox, Grid};
+use rayon::current_num_threads;
+use rayon::prelude::*;
+use std::alloc::Global;
+use std::thread::Threads;
 
-/// The pairs that lead to each cell, in rising order.
-pub(crate) fn find_sources(
+/// The most bands: each goes over all boxes.
+const BANDS_LIMIT: usize = 32;
+
+/// The pairs that lead to each cell, in bands of `size` cells, the last with what is left.
+#[derive(Drop)]
+pub(crate) struct Sources {
+    pub(crate) size: u32,
+    pub(crate) bands: Vec<Rows>,
+}
+
+impl Sources {
+    /// The pairs that lead to a cell, in rising order.
+    pub(crate) fn row(&self, c: u32) -> &[u32]
+        requires size { 0 < self.now.size }
+        requires band { c / self.now.size < length self.now.bands.items }
+        requires place { c % self.now.size < length (band_of self.now.size self.now.bands.items c) }
+        ensures { result.now ≡ row_at (band_of self.now.size self.now.bands.items c) (c % self.now.size) }
+    {
+        self.bands[(c / self.size) as usize].row(c % self.size)
+    }
+}
+
+/// The pairs that lead to each cell. Bands are filled side by side, each by one thread.
+pub(crate) fn find_sources<R: Threads + Sync>(
+    rt: &R,
     alloc: Global,
     grid: &Grid,
     boxes: &[Option<CellBox>],
-) -> Result<Rows, NoMemory>
+) -> Result<Sources, NoMemory>
     requires ordered { All (IsBox grid.now) boxes.now }
     requires pairs { length boxes.now ≤ 2 ^ 22 }
     requires edges { edges_of grid.now boxes.now ≤ 2 ^ 25 }
-    ensures { IfOk result (λ rows. AreSourceRows grid.now boxes.now rows) }
+    ensures { IfOk result (λ s. AreSourceBands grid.now boxes.now s.size s.bands.items) }
 {
     every_grid_is_within_the_limit(grid);
-    let counts = count_sources(alloc, grid, boxes)?;
-    let mut fill = RowFill::new(alloc, &counts)?;
-    put_sources(grid, boxes, &mut fill);
-    full_rows_leave_no_place(&fill);
-    Ok(fill.finish())
+    let cells = grid.cells();
+    let size = band_size(rt, cells);
+    let bands = (0..cells.div_ceil(size))
+        .into_par_iter()
+        .with_min_len(1)
+        .map(
+            |k: u32| -> Result<Rows, NoMemory>
+                requires ordered { All (IsBox grid.now) boxes.now }
+                requires pairs { length boxes.now ≤ 2 ^ 22 }
+                requires edges { edges_of grid.now boxes.now ≤ 2 ^ 25 }
+                requires cells { cells ≡ cells_of grid.now }
+                requires limit { cells ≤ 2 ^ 20 }
+                requires band { k * size < cells }
+                ensures { IfOk result (λ rows. (len : ℕ) × (len ≡ min size (cells - k * size)) × AreBandRows grid.entry.now boxes.entry.now (k * size) len rows) }
+            {
+                let from = k * size;
+                fill_band(
+                    alloc,
+                    grid,
+                    boxes,
+                    Band {
+                        from,
+                        len: size.min(cells - from),
+                    },
+                )
+            },
+        )
+        .collect::<Result<Vec<Rows>, NoMemory>>(rt, alloc)??;
+    Ok(Sources { size, bands })
 }
 
-/// How many pairs lead to each cell.
-fn count_sources(
-    alloc: Global,
-    grid: &Grid,
-    boxes: &[Option<CellBox>],
-) -> Result<Vec<u32>, AllocError>
-    requires ordered { All (IsBox grid.now) boxes.now }
-    requires pairs { length boxes.now ≤ 2 ^ 22 }
-    requires edges { edges_of grid.now boxes.now ≤ 2 ^ 25 }
-    ensures counts { IfOk result (λ counts. AreCountsAmong grid.now boxes.now (length boxes.now) counts.items) }
-    ensures total { IfOk result (λ counts. sum counts.items ≡ edges_of grid.now boxes.now) }
+/// How many cells a band has. There is a band for each processor.
+fn band_size<R: Threads>(rt: &R, cells: u32) -> u32
+    ensures some { 1 ≤ result }
 {
-    cells_of_a_box();
-    every_grid_is_within_the_limit(grid);
-    let mut counts = vec![in alloc; 0; grid.cells() as usize]?;
-    for b in boxes {
-        count_box(grid, *b, &mut counts);
-    }
-    Ok(counts)
-}
-
-/// Puts each pair, in rising order, at the cells of its box.
-fn put_sources(grid: &Grid, boxes: &[Option<CellBox>], fill: &mut RowFill)
-    requires ordered { All (IsBox grid.now) boxes.now }
-    requires pairs { length boxes.now ≤ 2 ^ 22 }
-    requires empty { fill.old.rows ≡ unfilled fill.old.lengths }
-    requires counts { AreCountsAmong grid.now boxes.now (length boxes.now) fill.old.lengths }
-    ensures rows { AreSourceRows grid.now boxes.now fill.new.rows }
-    ensures lengths { fill.new.lengths ≡ fill.old.lengths }
-{
-    cells_of_a_box();
-    every_grid_is_within_the_limit(grid);
-    for pair in 0..boxes.len() {
-        put_box(grid, boxes[pair], pair as u32, fill);
-    }
-}
-
-/// Adds one to the count of each cell of a box.
-fn count_box(grid: &Grid, b: Option<CellBox>, counts: &mut [u32])
-    requires ordered { IsBox grid.now b }
-    requires one_each { length counts.old ≡ cells_of grid.now }
-    requires room { (c : ℕ) → slice_index counts.old c + times c (cells_in grid.now b) < 2 ^ 32 }
-    ensures { AreCounted counts.old counts.new (cells_in grid.now b) }
-{
-    cells_of_a_box();
-    every_grid_is_within_the_limit(grid);
-    if let Some(b) = b {
-        count_cells(grid.runs(b), counts);
-    }
-}
-
-/// Puts a pair at each cell of its box.
-fn put_box(grid: &Grid, b: Option<CellBox>, pair: u32, fill: &mut RowFill)
-    requires ordered { IsBox grid.now b }
-    requires one_each { length fill.old.rows ≡ cells_of grid.now }
-    requires room { HasRoomFor fill.old (cells_in grid.now b) }
-    ensures { ArePut pair fill.old fill.new (cells_in grid.now b) }
-{
-    cells_of_a_box();
-    every_grid_is_within_the_limit(grid);
-    if let Some(b) = b {
-        put_cells(grid.runs(b), pair, fill);
-    }
-}
-
-/// Adds one to the count of each cell.
-fn count_cells(mut cells: Runs, counts: &mut [u32])
-    requires within { All (λ c. c < length counts.old) cells }
-    requires limit { length counts.old < 2 ^ 32 }
-    requires room { (c : ℕ) → slice_index counts.old c + times c cells < 2 ^ 32 }
-    ensures { AreCounted counts.old counts.new cells }
-{
-    while let Some((first, len)) = cells.next_run() {
-        count_run(first, len, counts);
-    }
-}
-
-/// The same for cells that follow one another.
-#[inline]
-fn count_run(first: u32, len: u32, counts: &mut [u32])
-    requires within { first + len ≤ length counts.old }
-    requires limit { length counts.old < 2 ^ 32 }
-    requires room { (c : ℕ) → slice_index counts.old c + times c (range_with_len first len) < 2 ^ 32 }
-    ensures { AreCounted counts.old counts.new (range_with_len first len) }
-{
-    for c in first..first + len {
-        counts[c as usize] += 1;
-    }
-}
-
-/// Puts a pair at each cell.
-fn put_cells(mut cells: Runs, pair: u32, fill: &mut RowFill)
-    requires within { All (λ c. c < length fill.old.rows) cells }
-    requires rows { length fill.old.rows < 2 ^ 32 }
-    requires room { HasRoomFor fill.old cells }
-    ensures { ArePut pair fill.old fill.new cells }
-{
-    while let Some((first, len)) = cells.next_run() {
-        put_run(first, len, pair, fill);
-    }
-}
-
-/// The same for cells that follow one another.
-#[inline]
-fn put_run(first: u32, len: u32, pair: u32, fill: &mut RowFill)
-    requires within { first + len ≤ length fill.old.rows }
-    requires rows { length fill.old.rows < 2 ^ 32 }
-    requires room { HasRoomFor fill.old (range_with_len first len) }
-    ensures { ArePut pair fill.old fill.new (range_with_len first len) }
-{
-    for c in first..first + len {
-        fill.put(c, pair);
-    }
+    let bands = current_num_threads(rt).min(BANDS_LIMIT) as u32;
+    cells.div_ceil(bands).max(1)
 }

@@ -1,8 +1,9 @@
-use crate::{BuildFault, build};
+use crate::{Abstraction, BuildFault, build};
 use game_core::{Graph, Mark};
 use grid_quantiser::CellBox;
 use plant_text::read_plant;
 use std::test::Fail;
+use std::thread;
 use successor_box::find_slopes;
 
 /// Each box is 0 to 8190, so 8,192 pairs have 8,191 successors each.
@@ -74,5 +75,39 @@ fn plane(rt: HostRuntime) -> Result<(), Fail> {
     assert_eq!(rt; game.sources(4), [5].as_slice());
     assert_eq!(rt; game.sources(9), [5, 6].as_slice());
     assert_eq!(rt; game.sources(7), [6].as_slice());
+    Ok(())
+}
+
+// How many successors all pairs have.
+fn edges(game: &Abstraction) -> u32 {
+    let mut edges: u32 = 0;
+    for c in 0..game.cells() {
+        for u in 0..game.inputs() {
+            edges = edges.wrapping_add(game.fan(c * game.inputs() + u));
+        }
+    }
+    edges
+}
+
+// The corridor's cells 0 and 1 have two successors under each input, and cell 2 under the first.
+#[test]
+fn four_threads_read_one_game(rt: HostRuntime) -> Result<(), Fail> {
+    let plant = read_plant(rt.alloc(), CORRIDOR)?;
+    let slopes = find_slopes(rt.alloc(), &plant)?;
+    let game = build(&rt, rt.alloc(), &plant, &slopes)?;
+    let counts = thread::map_indices(&rt, rt.alloc(), 4, &|_| edges(&game))?;
+    assert_eq!(rt; counts.as_slice(), [10; 4].as_slice());
+    Ok(())
+}
+
+#[test]
+fn another_thread_takes_a_game(rt: HostRuntime) -> Result<(), Fail> {
+    let plant = read_plant(rt.alloc(), CORRIDOR)?;
+    let slopes = find_slopes(rt.alloc(), &plant)?;
+    let mut games = Vec::new(rt.alloc());
+    games.push(build(&rt, rt.alloc(), &plant, &slopes)?)?;
+    games.push(build(&rt, rt.alloc(), &plant, &slopes)?)?;
+    let counts = thread::map_vec(&rt, games, &|game: Abstraction| edges(&game))?;
+    assert_eq!(rt; counts.as_slice(), [10; 2].as_slice());
     Ok(())
 }

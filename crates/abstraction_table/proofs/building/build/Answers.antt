@@ -1,4 +1,4 @@
-use Rattle.std.proofs.Common.{◌≡◌, ◌^◌, ◌≤◌, ◌∙◌, arith}
+use Rattle.std.proofs.Common.{◌^◌, ◌≤◌, arith}
 use Rattle.abstraction_table.specs.Tallies.{edges_of}
 use Rattle.plant_text.specs.Description.{axes_of}
 use Rattle.abstraction_table.proofs.PlantGame.{Laws, ordered, are_edges, kept, is_game_of}
@@ -9,7 +9,7 @@ count_edges-edges-requires-clause-ordered g c = λ κs within.
     rw (c.grid.ensures, c.deref.ensures.value) (ordered c.args.p.now c.every_plant_is_within_limits.ensures c.in_ok-boxes.boxes.items c.in_ok-boxes.ensures)
 
 pub find_sources-requires-clause-ordered : goal.find_sources-requires-clause-ordered
-find_sources-requires-clause-ordered g c =
+find_sources-requires-clause-ordered g c = λ κs within.
     rw (c.grid.ensures, c.deref-2.ensures.value) (ordered c.args.p.now c.every_plant_is_within_limits.ensures c.in_ok-boxes.boxes.items c.in_ok-boxes.ensures)
 
 pub returns-then-edges-gt-EDGES_LIMIT-clause-fault : goal.returns-then-edges-gt-EDGES_LIMIT-clause-fault
@@ -25,7 +25,7 @@ invariant_of-result g c =
     let few : edges_of (axes_of c.args.p.now) c.in_ok-boxes.boxes.items ≤ 2 ^ 25 = omega (arith, counted, c.if-edges-gt-EDGES_LIMIT.false) in
     record {
       kept = rw (c.grid.ensures, c.vectors.ensures)
-          (kept c.args.p.now c.every_plant_is_within_limits.ensures c.in_ok-boxes.boxes.items c.in_ok-boxes.ensures laws c.in_ok-marks.marks.items c.in_ok-marks.ensures few c.in_ok-sources.sources (rw (c.grid.ensures, c.deref-2.ensures.value) at c.in_ok-sources.ensures));
+          (kept c.args.p.now c.every_plant_is_within_limits.ensures c.in_ok-boxes.boxes.items c.in_ok-boxes.ensures laws c.in_ok-marks.marks.items c.in_ok-marks.ensures few c.in_ok-sources.sources.size c.in_ok-sources.sources.bands.items (rw (c.grid.ensures, c.deref-2.ensures.value) at c.in_ok-sources.ensures));
     }
 
 pub returns-clause-game : goal.returns-clause-game

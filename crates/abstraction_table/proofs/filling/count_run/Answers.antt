@@ -1,8 +1,8 @@
-use Rattle.std.proofs.Common.{◌≡◌, ℕ, ◌+◌, ◌-◌, ◌^◌, ◌<◌, List, ◌∷◌, ◌++◌, length, get_or, ap, subst, arith}
+use Rattle.std.proofs.Common.{ℕ, ◌+◌, ◌-◌, ◌^◌, ◌<◌, List, length, get_or, subst, arith}
 use Rattle.std.specs.List.{range_with_len}
-use Rattle.abstraction_table.specs.Tallies.{times, AreCounted}
+use Rattle.abstraction_table.specs.Tallies.{times}
 use Rattle.abstraction_table.proofs.Tallying.{range_none, range_more, range_split, counted_none, counted_one, count_fits}
-use Rattle.abstraction_table.proofs.sources.count_run.Goals as goal
+use Rattle.abstraction_table.proofs.filling.count_run.Goals as goal
 
 pub loop-c-init : goal.loop-c-init
 loop-c-init c = rw (range_none c.args.first) (counted_none c.args.counts.now)

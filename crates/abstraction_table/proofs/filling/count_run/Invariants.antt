@@ -1,7 +1,7 @@
-use Rattle.std.proofs.Common.{◌-◌, ◌≤◌}
+use Rattle.std.proofs.Common.{◌-◌}
 use Rattle.std.specs.List.{range_with_len}
 use Rattle.abstraction_table.specs.Tallies.{AreCounted}
-use Rattle.abstraction_table.proofs.sources.count_run.Given as goal
+use Rattle.abstraction_table.proofs.filling.count_run.Given as goal
 
 -- the cells so far are counted
 abbrev pub invariant-loop-c : goal.invariant-loop-c

@@ -1,8 +1,8 @@
-use Rattle.std.proofs.Common.{◌≡◌, ℕ, ◌+◌, ◌-◌, ◌<◌, List, ◌∷◌, ◌++◌, length, subst, arith}
+use Rattle.std.proofs.Common.{◌+◌, ◌-◌, ◌<◌, length, subst, arith}
 use Rattle.std.specs.List.{range_with_len}
-use Rattle.abstraction_table.specs.Tallies.{ArePut, HasRoomFor}
+use Rattle.abstraction_table.specs.Tallies.{HasRoomFor}
 use Rattle.abstraction_table.proofs.Tallying.{range_none, range_more, range_split, put_none, put_one, room_here}
-use Rattle.abstraction_table.proofs.sources.put_run.Goals as goal
+use Rattle.abstraction_table.proofs.filling.put_run.Goals as goal
 
 pub loop-c-init : goal.loop-c-init
 loop-c-init c = rw (range_none c.args.first) (put_none c.args.pair c.args.fill.now)

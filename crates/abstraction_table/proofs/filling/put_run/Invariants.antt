@@ -1,7 +1,7 @@
 use Rattle.std.proofs.Common.{◌-◌}
 use Rattle.std.specs.List.{range_with_len}
 use Rattle.abstraction_table.specs.Tallies.{ArePut}
-use Rattle.abstraction_table.proofs.sources.put_run.Given as goal
+use Rattle.abstraction_table.proofs.filling.put_run.Given as goal
 
 -- the pair is put at the cells so far
 abbrev pub invariant-loop-c : goal.invariant-loop-c

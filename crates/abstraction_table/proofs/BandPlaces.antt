@@ -1,0 +1,127 @@
+-- The places in a band of the cells that lie in it.
+use Rattle.std.proofs.Common.{◌≡◌, ℕ, zero, suc, ◌+◌, ◌-◌, ◌<◌, ◌≤◌, Bool, true, false, ◌==◌, ◌&&◌, leb, ltb, cond, List, [], ◌∷◌, ◌++◌, All, length, map, get_or, refl, sym, ap, subst, ◌∙◌, arith, inl, inr, append-nil}
+use Rattle.std.specs.List.{filter, range_with_len}
+use Rattle.std.proofs.lemmas.Bool.{cases_lt, le-leb, lt-leb, lt-ltb, le-ltb, and_from, and_left, and_right, false_from_ne_true}
+use Rattle.std.proofs.lemmas.Bool.Decides.{Decides-eqb}
+use Rattle.std.proofs.lemmas.List.{map-append}
+use Rattle.std.proofs.lemmas.List.Elements.{All-cons, All-head, All-tail, filter-append}
+use Rattle.std.proofs.lemmas.List.FromFn.{length-range_with_len, get_or-range_with_len}
+use Rattle.std.proofs.lemmas.List.Sums.{sum_by-cons}
+use Rattle.abstraction_table.specs.Tallies.{times, places_in}
+use Rattle.abstraction_table.proofs.Tallying.{by_cell, range-append}
+
+module _ (from len : ℕ) where
+  abbrev lies_here : ℕ → Bool
+  lies_here c = leb from c && ltb c (from + len)
+
+  -- a cell that lies in the band, or one that doesn't
+  pub by_band : {P : Type 0} (c : ℕ) → (from ≤ c → c < from + len → lies_here c ≡ true → P) → ((from ≤ c → c < from + len → ⊥) → lies_here c ≡ false → P) → P
+  by_band c inside outside =
+      elim (cases_lt c from) [
+        | inl before ↦ outside (λ low high. omega (arith, before, low)) (and_left (leb from c) (ltb c (from + len)) (lt-leb from c before))
+        | inr low ↦ elim (cases_lt c (from + len)) [
+          | inl high ↦ inside low high (and_from (leb from c) (ltb c (from + len)) (le-leb from c low) (lt-ltb c (from + len) high))
+          | inr past ↦ outside (λ low high. omega (arith, past, high)) (and_right (leb from c) (ltb c (from + len)) (le-ltb c (from + len) past))
+        ]
+      ]
+
+  kept : (c : ℕ) (cells : List ℕ) → lies_here c ≡ true → places_in from len (c ∷ cells) ≡ (c - from) ∷ places_in from len cells
+  kept c cells here = rw here refl
+
+  dropped : (c : ℕ) (cells : List ℕ) → lies_here c ≡ false → places_in from len (c ∷ cells) ≡ places_in from len cells
+  dropped c cells here = rw here refl
+
+  pub places-append : (xs ys : List ℕ) → places_in from len (xs ++ ys) ≡ places_in from len xs ++ places_in from len ys
+  places-append xs ys = ap (map (λ c. c - from)) (filter-append lies_here xs ys) ∙ map-append (λ c. c - from) (filter lies_here xs) (filter lies_here ys)
+
+  pub places-done : (all done run later : List ℕ) → all ≡ (done ++ run) ++ later → places_in from len all ≡ (places_in from len done ++ places_in from len run) ++ places_in from len later
+  places-done all done run later parts =
+      ap (places_in from len) parts
+      ∙ places-append (done ++ run) later
+      ∙ ap (λ (cells : List ℕ). cells ++ places_in from len later) (places-append done run)
+
+  -- a cell of the band has its place as often as it stands among cells
+  pub places-times : (i : ℕ) (cells : List ℕ) → i < len → times i (places_in from len cells) ≡ times (from + i) cells
+  places-times i [] below = refl
+  places-times i (c ∷ cells) below =
+      by_band c
+      (λ low high here.
+      ap (times i) (kept c cells here)
+      ∙ sum_by-cons (λ x. cond (i == x) 1 0) (c - from) (places_in from len cells)
+      ∙ ap (λ (n : ℕ). cond (i == (c - from)) 1 0 + n) (places-times i cells below)
+      ∙ ap (λ (b : Bool). cond b 1 0 + times (from + i) cells) (same_test c low)
+      ∙ sym (sum_by-cons (λ x. cond (from + i == x) 1 0) c cells))
+      (λ outside here.
+      ap (times i) (dropped c cells here)
+      ∙ places-times i cells below
+      ∙ (let none : times (from + i) cells ≡ 0 + times (from + i) cells = omega arith in none)
+      ∙ ap (λ (b : Bool). cond b 1 0 + times (from + i) cells) (sym (other_test c outside))
+      ∙ sym (sum_by-cons (λ x. cond (from + i == x) 1 0) c cells))
+    where
+      false_test : (x y : ℕ) → (x ≡ y → ⊥) → (x == y) ≡ false
+      false_test x y other = false_from_ne_true (x == y) (λ e. other ((Decides-eqb x y).0 e))
+
+      same_test : (c : ℕ) → from ≤ c → (i == (c - from)) ≡ (from + i == c)
+      same_test c low =
+          by_cell i (c - from)
+          (λ same. (Decides-eqb i (c - from)).1 same ∙ sym ((Decides-eqb (from + i) c).1 (omega (arith, same, low))))
+          (λ other. false_test i (c - from) other ∙ sym (false_test (from + i) c (λ same. other (omega (arith, same)))))
+
+      other_test : (c : ℕ) → (from ≤ c → c < from + len → ⊥) → (from + i == c) ≡ false
+      other_test c outside = false_test (from + i) c (λ same. outside (omega (arith, same)) (omega (arith, same, below)))
+
+  pub places-within : (cells : List ℕ) → All (λ i. i < len) (places_in from len cells)
+  places-within [] = λ k d lt. absurd (omega (arith, lt))
+  places-within (c ∷ cells) =
+      by_band c
+      (λ low high here. subst (All (λ i. i < len)) (sym (kept c cells here)) (All-cons (λ i. i < len) (c - from) (places_in from len cells) (omega (arith, low, high)) (places-within cells)))
+      (λ outside here. subst (All (λ i. i < len)) (sym (dropped c cells here)) (places-within cells))
+
+  pub places-length : (cells : List ℕ) → length (places_in from len cells) ≤ length cells
+  places-length [] = omega arith
+  places-length (c ∷ cells) =
+      by_band c
+      (λ low high here. omega (arith, ap length (kept c cells here), places-length cells))
+      (λ outside here. omega (arith, ap length (dropped c cells here), places-length cells))
+
+  -- where no cell lies in the band there are no places
+  pub places-none : (cells : List ℕ) → All (λ c. from ≤ c → c < from + len → ⊥) cells → places_in from len cells ≡ []
+  places-none [] each = refl
+  places-none (c ∷ cells) each =
+      by_band c
+      (λ low high here. absurd (All-head (λ c. from ≤ c → c < from + len → ⊥) c cells each low high))
+      (λ outside here. dropped c cells here ∙ places-none cells (All-tail (λ c. from ≤ c → c < from + len → ⊥) c cells each))
+
+  -- a run of cells of which none lies in the band
+  pub run_outside : (a n : ℕ) → ((c : ℕ) → a ≤ c → c < a + n → from ≤ c → c < from + len → ⊥) → places_in from len (range_with_len a n) ≡ []
+  run_outside a n outside =
+      places-none (range_with_len a n) (λ k d lt low high.
+      let below : k < n = omega (arith, lt, length-range_with_len a n) in
+      let is : get_or (range_with_len a n) k d ≡ a + k = get_or-range_with_len a n k d below in
+      outside (a + k) (omega arith) (omega (arith, below)) (omega (arith, low, is)) (omega (arith, high, is)))
+
+  -- a run of cells that all lie in the band
+  pub run_inside : (a n : ℕ) → from ≤ a → a + n ≤ from + len → places_in from len (range_with_len a n) ≡ range_with_len (a - from) n
+  run_inside a zero low high = refl
+  run_inside a (suc n) low high =
+      kept a (range_with_len (a + 1) n) (and_from (leb from a) (ltb a (from + len)) (le-leb from a low) (lt-ltb a (from + len) (omega (arith, high))))
+      ∙ ap (λ (cells : List ℕ). (a - from) ∷ cells) (run_inside (a + 1) n (omega (arith, low)) (omega (arith, high)) ∙ ap (λ (x : ℕ). range_with_len x n) (let e : a + 1 - from ≡ a - from + 1 = omega (arith, low) in e))
+
+  -- the part of a run that lies in the band
+  pub run_clipped : (a n low high : ℕ) → a ≤ low → low ≤ high → high ≤ a + n → from ≤ low → high ≤ from + len →
+      ((c : ℕ) → a ≤ c → c < low → c < from) → ((c : ℕ) → high ≤ c → c < a + n → from + len ≤ c) →
+      places_in from len (range_with_len a n) ≡ range_with_len (low - from) (high - low)
+  run_clipped a n low high first order last low_in high_in before behind =
+      ap (λ (m : ℕ). places_in from len (range_with_len a m)) (let e : n ≡ low - a + (high - low + (a + n - high)) = omega (arith, first, order, last) in e)
+      ∙ ap (places_in from len) (range-append a (low - a) (high - low + (a + n - high)))
+      ∙ places-append (range_with_len a (low - a)) (range_with_len (a + (low - a)) (high - low + (a + n - high)))
+      ∙ ap (λ (cells : List ℕ). cells ++ places_in from len (range_with_len (a + (low - a)) (high - low + (a + n - high))))
+      (run_outside a (low - a) (λ c from_a to_low inside past. omega (arith, inside, before c from_a (omega (arith, to_low, first)))))
+      ∙ ap (λ (x : ℕ). places_in from len (range_with_len x (high - low + (a + n - high)))) (let e : a + (low - a) ≡ low = omega (arith, first) in e)
+      ∙ ap (places_in from len) (range-append low (high - low) (a + n - high))
+      ∙ places-append (range_with_len low (high - low)) (range_with_len (low + (high - low)) (a + n - high))
+      ∙ ap (λ (cells : List ℕ). cells ++ places_in from len (range_with_len (low + (high - low)) (a + n - high)))
+      (run_inside low (high - low) low_in (omega (arith, order, high_in)))
+      ∙ ap (λ (cells : List ℕ). range_with_len (low - from) (high - low) ++ cells)
+      (run_outside (low + (high - low)) (a + n - high) (λ c from_high to_end inside past. omega (arith, past, behind c (omega (arith, from_high, order)) (omega (arith, to_end, order, last)))))
+      ∙ append-nil (range_with_len (low - from) (high - low))

@@ -1,0 +1,52 @@
+//! Bands of cells.
+ghost use Rattle.std.specs.Prelude.{◌≡◌, ◌+◌, ◌^◌, ◌<◌, ◌≤◌, [], IfSome, IfNone};
+ghost use Rattle.std.specs.List.{range_with_len};
+ghost use Rattle.grid_quantiser.specs.Axes.{cells_of};
+ghost use Rattle.successor_box.specs.Boxes.{cells_in};
+ghost use Rattle.abstraction_table.specs.BoxGame.{IsBox};
+ghost use Rattle.abstraction_table.specs.Tallies.{places_in};
+
+use grid_quantiser::laws::{cells_lie_between_corners, every_grid_is_within_the_limit};
+use grid_quantiser::{CellBox, Grid, Runs};
+
+/// Cells that follow one another. The first of them has the place 0.
+#[derive(Clone, Copy)]
+pub(crate) struct Band {
+    pub(crate) from: u32,
+    pub(crate) len: u32,
+}
+
+impl Band {
+    /// The runs of a box, unless its corners show that it has no cell here.
+    #[inline]
+    pub(crate) fn runs(&self, grid: &Grid, b: Option<CellBox>) -> Option<Runs>
+        requires ordered { IsBox grid.now b }
+        requires within { self.now.from + self.now.len ≤ cells_of grid.now }
+        ensures runs { IfSome result (λ cells. cells ≡ cells_in grid.now b) }
+        ensures none { IfNone result (places_in self.now.from self.now.len (cells_in grid.now b) ≡ []) }
+    {
+        cells_lie_between_corners();
+        every_grid_is_within_the_limit(grid);
+        let b = b?;
+        if b.last < self.from || self.from + self.len <= b.first {
+            return None;
+        }
+        Some(grid.runs(b))
+    }
+
+    /// The places that a run of cells has here: the first, and how many.
+    #[inline]
+    pub(crate) fn clip(&self, first: u32, len: u32) -> (u32, u32)
+        requires run { first + len < 2 ^ 32 }
+        requires band { self.now.from + self.now.len < 2 ^ 32 }
+        ensures within { result.0 + result.1 ≤ self.now.len }
+        ensures places { places_in self.now.from self.now.len (range_with_len first len) ≡ range_with_len result.0 result.1 }
+    {
+        let low = first.max(self.from);
+        let high = (first + len).min(self.from + self.len);
+        if high <= low {
+            return (0, 0);
+        }
+        (low - self.from, high - low)
+    }
+}
