@@ -1,14 +1,11 @@
 -- Where no device fails, every text has its answer.
-use Rattle.std.proofs.Common.{inl, inr, ◌≡◌, ◌⊎◌, ℕ, ◌^◌, ◌≤◌, List, [], length, Option, Some, None, refl, ap, sym, ◌∙◌}
+use Rattle.std.proofs.Common.{inl, inr, ◌≡◌, ℕ, List, [], length, Option, Some, None, refl, ap}
 use Rattle.std.specs.Prelude.{IfSome, sum_by}
-use Rattle.plant_text.specs.Description.{Description}
-use Rattle.game_core.specs.Game.{Game}
-use Rattle.abstraction_table.specs.Abstraction.{IsGameOf}
 use Rattle.abstraction_table.specs.Abstraction.{AreEdges}
 use Rattle.abstraction_table.specs.Laws.{GamesCountTheirEdges}
 use Rattle.synth_run.specs.declared.outcome.Outcome.{Outcome}
 use Rattle.synth_run.specs.declared.outcome.Outcome.TheVariants.{Done, Usage, Malformed, Overflow, Limit, ReadFault, WriteFault, NoMemory, Unbuilt}
-use Rattle.synth_run.specs.Demands.{Demands, HasEdges}
+use Rattle.synth_run.specs.Demands.{Demands}
 use Rattle.synth_run.specs.Headline.{IsTableOf, IsTableFor}
 use Rattle.synth_run.specs.Laws.{OneDemandPerText}
 use Rattle.synth_run.specs.Statuses.{status_of, IsTheTexts, IsReadToTheLimit, IsCompleteAnswer}

@@ -1,22 +1,20 @@
 -- A text demands one thing, and who solves it does what it demands.
-use Rattle.std.proofs.Common.{inl, inr, ◌≡◌, ◌⊎◌, ℕ, ◌^◌, ◌<◌, ◌≤◌, List, length, sym, ap, subst, ◌∙◌, refl, arith}
+use Rattle.std.proofs.Common.{inl, inr, ◌≡◌, ℕ, ◌^◌, ◌<◌, ◌≤◌, List, sym, ap, subst, ◌∙◌, refl, arith}
 use Rattle.std.proofs.lemmas.Bool.{cases_order}
 use Rattle.plant_text.specs.declared.fault.LimitKind.{LimitKind}
 use Rattle.plant_text.specs.declared.fault.LimitKind.TheVariants.{PlantText, TableText, Vectors, Cells, Pairs, Edges}
 use Rattle.plant_text.specs.declared.fault.PlantFault.{PlantFault}
 use Rattle.plant_text.specs.declared.fault.PlantFault.TheVariants as faults
-use Rattle.plant_text.specs.declared.variables.GoalKind.{GoalKind}
 use Rattle.plant_text.specs.declared.variables.GoalKind.TheVariants.{Reach, Keep}
-use Rattle.plant_text.specs.Description.{Description, vectors_of}
+use Rattle.plant_text.specs.Description.{Description}
 use Rattle.plant_text.specs.Plants.{IsPlant}
 use Rattle.plant_text.specs.Refusals.{IsRefusedFor}
 use Rattle.plant_text.specs.Laws.{OnePlantPerText, OneRefusal, ReadOrRefused}
 use Rattle.successor_box.specs.Slopes.{HasNoOverflow, IsFirstOverflow}
-use Rattle.abstraction_table.specs.Abstraction.{AreEdges}
 use Rattle.abstraction_table.specs.Laws.{OneEdgeCount}
 use Rattle.synth_run.specs.declared.outcome.Outcome.{Outcome}
 use Rattle.synth_run.specs.declared.outcome.Outcome.TheVariants.{Done, Usage, Malformed, Overflow, Limit, ReadFault, WriteFault, NoMemory, Unbuilt}
-use Rattle.synth_run.specs.Demands.{IsAccepted, IsRefused, HasEdges, ExceedsEdges, PlantDemands, Demands}
+use Rattle.synth_run.specs.Demands.{IsRefused, HasEdges, ExceedsEdges, PlantDemands}
 use Rattle.synth_run.specs.Causes.{of_plant}
 use Rattle.synth_run.specs.Laws.{OneDemandPerText}
 

@@ -1,5 +1,5 @@
 -- A source that is read to one byte past the limit of texts.
-use Rattle.std.proofs.Common.{inl, inr, ◌≡◌, ◌⊎◌, ℕ, ◌<◌, ◌≤◌, List, [], length, take, drop, Option, Some, None, sym, ap, subst, ◌∙◌, arith, length-take}
+use Rattle.std.proofs.Common.{inl, inr, ◌≡◌, ℕ, ◌<◌, ◌≤◌, List, [], length, take, Option, Some, None, sym, ap, subst, ◌∙◌, arith, length-take}
 use Rattle.std.specs.Prelude.{IfSome}
 use Rattle.std.proofs.lemmas.Bool.{cases_lt}
 use Rattle.plant_text.specs.declared.fault.LimitKind.{LimitKind}

@@ -7,17 +7,20 @@ use Rattle.std.proofs.lemmas.Bool.{and_parts, not-true}
 use Rattle.std.proofs.lemmas.Fmt.{decimal_injective}
 use Rattle.std.proofs.lemmas.List.Elements.{recursion_from_All}
 use Rattle.game_core.specs.declared.game.Row.{Row}
-use Rattle.game_core.specs.Solution.{row_of}
+use Rattle.game_core.specs.Game.{Game}
+use Rattle.game_core.specs.Solution.{IsReachSolution, row_of}
 use Rattle.grid_quantiser.specs.Cells.{cell_of}
 use Rattle.grid_quantiser.specs.Axes.{cells_of}
 use Rattle.plant_text.specs.Description.{Description, axes_of}
 use Rattle.plant_text.specs.CanonicalText.{text_of, line}
 use Rattle.plant_text.specs.Plants.{IsWithinLimits}
-use Rattle.plant_text.specs.Names.{is_blank, is_word}
-use Rattle.plant_text.specs.Laws.{OnePlantAtTheFront, NumbersAreWords}
+use Rattle.plant_text.specs.Names.{is_separator, is_word}
+use Rattle.plant_text.specs.Laws.{OnePlantAtTheFront, OnePlantPerText, NumbersAreWords}
+use Rattle.abstraction_table.specs.Laws.{OneGamePerPlant}
+use Rattle.synth_run.specs.Headline.{IsTableOf}
 use Rattle.synth_run.specs.TableText.{table_text, input_word, row_line, row_lines, row_count}
 use Rattle.synth_run.specs.Choice.{IsRowOver, AreRowsOf, IsChoice}
-use Rattle.synth_run.specs.Laws.{OneTablePerText}
+use Rattle.synth_run.specs.Laws.{OneTablePerText, OneTableForBytes}
 
 -- ---- words
 
@@ -27,11 +30,11 @@ pub record AreSame (v w : List ℕ) (a b : ℕ) (s t : List ℕ) : Type 0 where
   pub blank : a ≡ b
   pub rest : s ≡ t
 
-blank_or_not : (b : ℕ) → is_blank b ≡ true → is_blank b ≡ false → ⊥
-blank_or_not b y n = cc
+separator_or_not : (b : ℕ) → is_separator b ≡ true → is_separator b ≡ false → ⊥
+separator_or_not b y n = cc
 
-first_is_word : (b : ℕ) (w : List ℕ) → is_word (b ∷ w) ≡ true → (is_blank b ≡ false) × (is_word w ≡ true)
-first_is_word b w h = let parts = and_parts (not (is_blank b)) (is_word w) h in (not-true (is_blank b) parts.0, parts.1)
+first_is_word : (b : ℕ) (w : List ℕ) → is_word (b ∷ w) ≡ true → (is_separator b ≡ false) × (is_word w ≡ true)
+first_is_word b w h = let parts = and_parts (not (is_separator b)) (is_word w) h in (not-true (is_separator b) parts.0, parts.1)
 
 same_head : (a b : ℕ) (s t : List ℕ) → a ∷ s ≡ b ∷ t → a ≡ b
 same_head a b s t e = cc
@@ -39,10 +42,10 @@ same_head a b s t e = cc
 same_tail : (a b : ℕ) (s t : List ℕ) → a ∷ s ≡ b ∷ t → s ≡ t
 same_tail a b s t e = cc
 
-cut : (v w : List ℕ) (a b : ℕ) (s t : List ℕ) → is_word v ≡ true → is_word w ≡ true → is_blank a ≡ true → is_blank b ≡ true → v ++ a ∷ s ≡ w ++ b ∷ t → AreSame v w a b s t
+cut : (v w : List ℕ) (a b : ℕ) (s t : List ℕ) → is_word v ≡ true → is_word w ≡ true → is_separator a ≡ true → is_separator b ≡ true → v ++ a ∷ s ≡ w ++ b ∷ t → AreSame v w a b s t
 cut [] [] a b s t hv hw ha hb e = record { word = refl; blank = same_head a b s t e; rest = same_tail a b s t e }
-cut [] (y ∷ w) a b s t hv hw ha hb e = absurd (blank_or_not y (subst (λ (x : ℕ). is_blank x ≡ true) (same_head a y s (w ++ b ∷ t) e) ha) (first_is_word y w hw).0)
-cut (x ∷ v) [] a b s t hv hw ha hb e = absurd (blank_or_not x (subst (λ (y : ℕ). is_blank y ≡ true) (sym (same_head x b (v ++ a ∷ s) t e)) hb) (first_is_word x v hv).0)
+cut [] (y ∷ w) a b s t hv hw ha hb e = absurd (separator_or_not y (subst (λ (x : ℕ). is_separator x ≡ true) (same_head a y s (w ++ b ∷ t) e) ha) (first_is_word y w hw).0)
+cut (x ∷ v) [] a b s t hv hw ha hb e = absurd (separator_or_not x (subst (λ (y : ℕ). is_separator y ≡ true) (sym (same_head x b (v ++ a ∷ s) t e)) hb) (first_is_word x v hv).0)
 cut (x ∷ v) (y ∷ w) a b s t hv hw ha hb e =
     let head = same_head x y (v ++ a ∷ s) (w ++ b ∷ t) e in
     let more = cut v w a b s t (first_is_word x v hv).1 (first_is_word y w hw).1 ha hb (same_tail x y (v ++ a ∷ s) (w ++ b ∷ t) e) in
@@ -173,3 +176,13 @@ one_input one bytes x u v a b =
     let rows : row_of a.rows (cell_of (axes_of a.plant) x) ≡ row_of b.rows (cell_of (axes_of b.plant) x) =
     ap (λ (r : List (Option Row)). row_of r (cell_of (axes_of a.plant) x)) same.1 ∙ ap (λ (d : Description). row_of b.rows (cell_of (axes_of d) x)) same.0 in
     ap (λ (r : Row). r.input) (same_some (record { rank = suc a.rank; input = u }) (record { rank = suc b.rank; input = v }) (sym a.row ∙ rows ∙ b.row))
+
+-- bytes spell one plant, which has one game, which has one solution
+pub one_for_bytes : OnePlantPerText → OneGamePerPlant → ((g : Game) (first second : List (Option Row)) → IsReachSolution g first → IsReachSolution g second → first ≡ second) → OneTableForBytes
+one_for_bytes one_plant one_game one_solution bytes a b first second =
+    let p : Description = second.0 in
+    let table : IsTableOf p a = subst (λ (d : Description). IsTableOf d a) (one_plant bytes first.0 p first.1.spells second.1.spells) first.2 in
+    let other : IsTableOf p b = second.2 in
+    let games : table.game ≡ other.game = one_game p table.game other.game second.1.limits.plant table.abstraction other.abstraction in
+    let rows : table.rows ≡ other.rows = one_solution other.game table.rows other.rows (subst (λ (g : Game). IsReachSolution g table.rows) games table.solution) other.solution in
+    table.text_is ∙ ap (table_text p) rows ∙ sym other.text_is

@@ -1,9 +1,9 @@
 -- What a loop over reads, or over writes, has done so far.
 use Rattle.std.proofs.Common.{◌≡◌, ℕ, zero, suc, ◌+◌, ◌<◌, ◌≤◌, List, [], ◌∷◌, ◌++◌, length, take, drop, drop-cons, get_or, add-one, subst, Option, Some, None, refl, sym, ap, ◌∙◌, append_assoc, arith, take-append-drop, length-append}
-use Rattle.std.proofs.lemmas.List.{append-nil, take_at, drop_at, take-append-le}
+use Rattle.std.proofs.lemmas.List.{append-nil, take_at, take-append-le}
 use Rattle.std.proofs.Math.Nat.{zero-add, suc-add}
-use Rattle.std.specs.Prelude.{IfSome, flat_map}
-use Rattle.synth_run.specs.Devices.{Takes, Gains, GainsPart, ReadUpTo}
+use Rattle.std.specs.Prelude.{flat_map}
+use Rattle.synth_run.specs.Devices.{Gains, GainsPart}
 
 -- these bytes were read, and the others are left
 abbrev pub ReadSoFar : Option (List ℕ) → Option (List ℕ) → List ℕ → Type 0
@@ -17,22 +17,6 @@ nothing_read (Some told) = (told, refl, refl)
 same_some : (a b : List ℕ) → Some a ≡ Some b → a ≡ b
 same_some a b e = cc
 
-pub read_more : (start before after : Option (List ℕ)) (bytes buffer : List ℕ) (n : ℕ) → ReadSoFar start before bytes → Takes before after n buffer → ReadSoFar start after (bytes ++ take n buffer)
-read_more None before after bytes buffer n so_far takes = tt
-read_more (Some told) None after bytes buffer n so_far takes = absurd (let e : None ≡ Some so_far.0 = so_far.2 in cc)
-read_more (Some told) (Some left) after bytes buffer n so_far takes =
-    let same : left ≡ so_far.0 = same_some left so_far.0 so_far.2 in (
-      drop n left,
-      so_far.1 ∙ ap (λ (x : List ℕ). bytes ++ x) (sym same ∙ sym (take-append-drop n left) ∙ ap (λ (x : List ℕ). x ++ drop n left) (sym takes.2)) ∙ sym (append_assoc bytes (take n buffer) (drop n left)),
-      takes.1,
-    )
-
--- at the limit
-pub read_full : (start after : Option (List ℕ)) (bytes : List ℕ) (most : ℕ) → ReadSoFar start after bytes → length bytes ≡ most → ReadUpTo start after most bytes
-read_full None after bytes most so_far full = tt
-read_full (Some told) after bytes most so_far full =
-    (sym (ap (take most) so_far.1 ∙ take_at bytes so_far.0 most full), so_far.2 ∙ ap (λ (x : List ℕ). Some x) (sym (ap (drop most) so_far.1 ∙ drop_at bytes so_far.0 most full)))
-
 pub take_all : (n : ℕ) (xs : List ℕ) → length xs ≤ n → take n xs ≡ xs
 take_all zero [] h = refl
 take_all zero (x ∷ xs) h = absurd (omega (arith, h))
@@ -44,16 +28,6 @@ drop_all zero [] h = refl
 drop_all zero (x ∷ xs) h = absurd (omega (arith, h))
 drop_all (suc n) [] h = refl
 drop_all (suc n) (x ∷ xs) h = drop_all n xs (omega (arith, h))
-
--- at the end
-pub read_ended : (start before after : Option (List ℕ)) (bytes buffer : List ℕ) (most : ℕ) → ReadSoFar start before bytes → Takes before after 0 buffer → IfSome before (λ left. left ≡ []) → length bytes ≤ most → ReadUpTo start after most bytes
-read_ended None before after bytes buffer most so_far takes ended short = tt
-read_ended (Some told) None after bytes buffer most so_far takes ended short = absurd (let e : None ≡ Some so_far.0 = so_far.2 in cc)
-read_ended (Some told) (Some left) after bytes buffer most so_far takes ended short =
-    let nothing : so_far.0 ≡ [] = sym (same_some left so_far.0 so_far.2) ∙ ended in
-    let all : told ≡ bytes = so_far.1 ∙ ap (λ (x : List ℕ). bytes ++ x) nothing ∙ append-nil bytes in
-    let long : length told ≤ most = rw all short in
-    (sym (take_all most told long ∙ all), takes.1 ∙ so_far.2 ∙ ap (λ (x : List ℕ). Some x) (nothing ∙ sym (drop_all most told long)))
 
 -- ---- writes
 
@@ -90,13 +64,7 @@ written_part start before after text rest w same some = record {
     front_is : take (length w.front) text ≡ w.front
     front_is = ap (take (length w.front)) w.parts ∙ take_at w.front rest (length w.front) refl
 
-pub written_whole : (start after : Option (List ℕ)) (text rest : List ℕ) → WrittenSoFar start after text rest → rest ≡ [] → Gains start after text
-written_whole start after text rest w nothing = rw (w.parts ∙ ap (λ (x : List ℕ). w.front ++ x) nothing ∙ append-nil w.front) w.gained
-
 -- ---- writes in pieces
-
-pub nothing_of_pieces : (before : Option (List ℕ)) (text : List ℕ) → WrittenSoFar before before text text
-nothing_of_pieces before text = nothing_written before text
 
 pub piece_more : (start before after : Option (List ℕ)) (text rest piece more : List ℕ) → WrittenSoFar start before text rest → rest ≡ piece ++ more → Gains before after piece → WrittenSoFar start after text more
 piece_more start before after text rest piece more w cut gains = record {

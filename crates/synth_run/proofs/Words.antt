@@ -1,5 +1,5 @@
 -- The words of a command line.
-use Rattle.std.proofs.Common.{◌≡◌, ℕ, List, [], ◌∷◌, length, suc, get_or, Bor, refl, ap, subst, ◌∙◌, arith}
+use Rattle.std.proofs.Common.{◌≡◌, ℕ, List, [], ◌∷◌, length, get_or, Bor, refl, ap, subst, ◌∙◌, arith}
 use Rattle.std.specs.Prelude.{map, codes, Option, IfSome, IfNone}
 use Rattle.std.specs.Fmt.{decimal}
 use Rattle.std.proofs.lemmas.Fmt.{decimal_digit}
@@ -18,13 +18,6 @@ found_for_two r words a b len h = subst (λ (texts : List (List ℕ)). IfSome r 
 
 pub none_for_two : (r : Option Form) (words : List (Bor (List ℕ))) (a b : Bor (List ℕ)) → length words ≡ 2 → IfNone r ((f : Form) → IsOfForm ((get_or words 0 a).now ∷ (get_or words 1 b).now ∷ []) f → ⊥) → IfNone r ((f : Form) → IsOfForm (map (λ (w : Bor (List ℕ)). w.now) words) f → ⊥)
 none_for_two r words a b len h = subst (λ (texts : List (List ℕ)). IfNone r ((f : Form) → IsOfForm texts f → ⊥)) (two_words words a b len) h
-
-pub not_two : (words : List (Bor (List ℕ))) → (length words ≡ 2 → ⊥) → (f : Form) → IsOfForm (map (λ (w : Bor (List ℕ)). w.now) words) f → ⊥
-not_two words other (Synth n) h = other (length_map words ∙ ap length h.0)
-  where
-    length_map : (words : List (Bor (List ℕ))) → length words ≡ length (map (λ (w : Bor (List ℕ)). w.now) words)
-    length_map [] = refl
-    length_map (w ∷ words) = ap suc (length_map words)
 
 one_word : decimal 1 ≡ codes "1"
 one_word = decimal_digit 1 (omega arith)

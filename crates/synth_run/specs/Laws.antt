@@ -5,6 +5,7 @@ use Rattle.plant_text.specs.Description.{Description}
 use Rattle.plant_text.specs.Plants.{IsWithinLimits}
 use Rattle.synth_run.specs.declared.outcome.Outcome.{Outcome}
 use Rattle.synth_run.specs.Demands.{Demands}
+use Rattle.synth_run.specs.Headline.{IsTableFor}
 use Rattle.synth_run.specs.TableText.{table_text}
 use Rattle.synth_run.specs.Choice.{AreRowsOf}
 
@@ -16,3 +17,7 @@ OneTablePerText =
 -- a text demands one thing
 abbrev pub OneDemandPerText : Type 0
 OneDemandPerText = (bytes : List ℕ) (a b : Outcome) → Demands bytes a → Demands bytes b → a ≡ b
+
+-- bytes have one table
+abbrev pub OneTableForBytes : Type 0
+OneTableForBytes = (bytes a b : List ℕ) → IsTableFor bytes a → IsTableFor bytes b → a ≡ b

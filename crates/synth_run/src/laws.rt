@@ -8,10 +8,10 @@ ghost use Rattle.plant_text.specs.Description.{Description};
 ghost use Rattle.plant_text.specs.declared.variables.GoalKind.TheVariants.{Reach};
 ghost use Rattle.abstraction_table.specs.Abstraction.{IsGameOf};
 ghost use Rattle.synth_run.specs.Choice.{AreRowsOf, IsChoice};
-ghost use Rattle.synth_run.specs.Laws.{OneTablePerText, OneDemandPerText};
+ghost use Rattle.synth_run.specs.Laws.{OneTablePerText, OneTableForBytes, OneDemandPerText};
 
-use abstraction_table::laws::one_edge_count;
-use game_core::laws::ranks_are_below_the_cells;
+use abstraction_table::laws::{one_edge_count, one_game_per_plant};
+use game_core::laws::{one_solution, ranks_are_below_the_cells};
 use plant_text::laws::{
     numbers_are_words, one_plant_at_the_front, one_plant_per_text, one_refusal, read_or_refused,
 };
@@ -22,6 +22,15 @@ pub fn one_table_per_text()
 {
     numbers_are_words();
     one_plant_at_the_front();
+}
+
+/// Bytes that spell a plant have one table: `synth` has no choice of what to write.
+pub fn one_table_for_bytes()
+    ensures { OneTableForBytes }
+{
+    one_plant_per_text();
+    one_game_per_plant();
+    one_solution();
 }
 
 /// The bytes of a table choose one input at a state.

@@ -1,4 +1,4 @@
-use Rattle.std.proofs.Common.{◌≡◌, ◌<◌, ◌+◌, List, ℕ, ap, sym, drop, drop-cons, length, get_or, [], arith, Bor}
+use Rattle.std.proofs.Common.{◌+◌, List, ℕ, drop, get_or, [], arith, Bor}
 use Rattle.std.specs.List.{flat_map}
 use Rattle.std.proofs.lemmas.Result.{err_from_is_err_and}
 use Rattle.synth_run.proofs.SoFar.{piece_part, piece_more, pieces_from}
