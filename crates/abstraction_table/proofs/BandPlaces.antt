@@ -1,7 +1,7 @@
 -- The places in a band of the cells that lie in it.
 use Rattle.std.proofs.Common.{◌≡◌, ℕ, zero, suc, ◌+◌, ◌-◌, ◌<◌, ◌≤◌, Bool, true, false, ◌==◌, ◌&&◌, leb, ltb, cond, List, [], ◌∷◌, ◌++◌, All, length, map, get_or, refl, sym, ap, subst, ◌∙◌, arith, inl, inr, append-nil}
 use Rattle.std.specs.List.{filter, range_with_len}
-use Rattle.std.proofs.lemmas.Bool.{cases_lt, le-leb, lt-leb, lt-ltb, le-ltb, and_from, and_left, and_right, false_from_ne_true}
+use Rattle.std.proofs.lemmas.Bool.{cases_lt, le-leb, lt-leb, lt-ltb, le-ltb, and_from, and_left, and_right, ne_eqb}
 use Rattle.std.proofs.lemmas.Bool.Decides.{Decides-eqb}
 use Rattle.std.proofs.lemmas.List.{map-append}
 use Rattle.std.proofs.lemmas.List.Elements.{All-cons, All-head, All-tail, filter-append}
@@ -58,17 +58,14 @@ module _ (from len : ℕ) where
       ∙ ap (λ (b : Bool). cond b 1 0 + times (from + i) cells) (sym (other_test c outside))
       ∙ sym (sum_by-cons (λ x. cond (from + i == x) 1 0) c cells))
     where
-      false_test : (x y : ℕ) → (x ≡ y → ⊥) → (x == y) ≡ false
-      false_test x y other = false_from_ne_true (x == y) (λ e. other ((Decides-eqb x y).0 e))
-
       same_test : (c : ℕ) → from ≤ c → (i == (c - from)) ≡ (from + i == c)
       same_test c low =
           by_cell i (c - from)
           (λ same. (Decides-eqb i (c - from)).1 same ∙ sym ((Decides-eqb (from + i) c).1 (omega (arith, same, low))))
-          (λ other. false_test i (c - from) other ∙ sym (false_test (from + i) c (λ same. other (omega (arith, same)))))
+          (λ other. ne_eqb i (c - from) other ∙ sym (ne_eqb (from + i) c (λ same. other (omega (arith, same)))))
 
       other_test : (c : ℕ) → (from ≤ c → c < from + len → ⊥) → (from + i == c) ≡ false
-      other_test c outside = false_test (from + i) c (λ same. outside (omega (arith, same)) (omega (arith, same, below)))
+      other_test c outside = ne_eqb (from + i) c (λ same. outside (omega (arith, same)) (omega (arith, same, below)))
 
   pub places-within : (cells : List ℕ) → All (λ i. i < len) (places_in from len cells)
   places-within [] = λ k d lt. absurd (omega (arith, lt))

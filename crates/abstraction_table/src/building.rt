@@ -22,8 +22,8 @@ use successor_box::laws::boxes_hold_the_successors;
 /// The most edges of an abstraction.
 const EDGES_LIMIT: u64 = 1 << 25;
 
-/// The abstraction of a plant, by as many threads as there are processors. The number of edges is
-/// known before any edge is kept.
+/// The abstraction of a plant, by several threads. The number of edges is known before any edge is
+/// kept.
 pub fn build<R: Threads + Sync>(
     rt: &R,
     alloc: Global,

@@ -2,5 +2,4 @@ pub mod Boxes
 pub mod Slopes
 pub mod Area
 pub mod Laws
-pub mod Centre
 pub mod Sides

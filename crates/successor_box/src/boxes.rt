@@ -4,11 +4,10 @@ ghost use Rattle.grid_quantiser.specs.Axes.{cells_of};
 ghost use Rattle.grid_quantiser.specs.Cells.{point_of};
 ghost use Rattle.plant_text.specs.Description.{axes_of, vectors_of};
 ghost use Rattle.successor_box.specs.Boxes.{central_values, low_corner, high_corner, IsBoxOf};
-ghost use Rattle.successor_box.specs.Centre.{IsCentreIn};
 ghost use Rattle.successor_box.specs.Slopes.{HasNoOverflow, slopes_of};
 
-use crate::centre::{Centre, centre_of};
 use crate::laws::steps_stay_in_range;
+use crate::noise::noise_centres;
 use crate::slopes::Slopes;
 use grid_quantiser::laws::centre_is_near;
 use grid_quantiser::{CellBox, Point};
@@ -27,49 +26,49 @@ pub fn successors(p: &Plant, s: &Slopes, c: u32, input: u32) -> Option<CellBox>
 {
     every_plant_is_within_limits(p);
     plants_are_sound();
-    let (low, high) = corners(p, s, &centre_of(p, c), input);
+    let (low, high) = corners(p, s, c, input);
     p.grid().meeting(&low, &high)
 }
 
 /// The next state from the centre of a cell, less and plus the deviations.
 #[inline]
-fn corners(p: &Plant, s: &Slopes, centre: &Centre, input: u32) -> (Point, Point)
+fn corners(p: &Plant, s: &Slopes, c: u32, input: u32) -> (Point, Point)
     requires slopes { s.now ≡ slopes_of p.now }
     requires fits { HasNoOverflow p.now }
-    requires centre { IsCentreIn p.now centre.now }
+    requires cell { c < cells_of (axes_of p.now) }
     requires input { input < vectors_of p.now.inputs }
-    ensures low { result.0 ≡ point_of (low_corner p.now centre.now.cell input) }
-    ensures high { result.1 ≡ point_of (high_corner p.now centre.now.cell input) }
+    ensures low { result.0 ≡ point_of (low_corner p.now c input) }
+    ensures high { result.1 ≡ point_of (high_corner p.now c input) }
 {
     every_plant_is_within_limits(p);
     plants_are_sound();
     centre_is_near();
     values_lie_in_the_span();
-    let next = next_centre(p, centre, input);
+    let centre = next_centre(p, c, input);
     let mut low = [0; 6];
     let mut high = [0; 6];
     for equation in 0..p.states() {
         let i = equation as usize;
         let slope = s.of(equation, input);
-        low[i] = next[i] - slope;
-        high[i] = next[i] + slope;
+        low[i] = centre[i] - slope;
+        high[i] = centre[i] + slope;
     }
     (low, high)
 }
 
 /// The next state from the centre of a cell, at the noises' centres.
 #[inline]
-fn next_centre(p: &Plant, centre: &Centre, input: u32) -> Point
+fn next_centre(p: &Plant, c: u32, input: u32) -> Point
     requires fits { HasNoOverflow p.now }
-    requires centre { IsCentreIn p.now centre.now }
+    requires cell { c < cells_of (axes_of p.now) }
     requires input { input < vectors_of p.now.inputs }
-    ensures { result ≡ point_of (map (λ e. value_of e (central_values p.now centre.now.cell input)) p.now.equations) }
+    ensures { result ≡ point_of (map (λ e. value_of e (central_values p.now c input)) p.now.equations) }
 {
     every_plant_is_within_limits(p);
     plants_are_sound();
     centre_is_near();
     steps_stay_in_range();
-    match step(p, &centre.state, input, &centre.noises) {
+    match step(p, &p.grid().centre(c), input, &noise_centres(p)) {
         Some(next) => next,
         None => unreachable!(),
     }

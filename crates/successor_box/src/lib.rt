@@ -7,7 +7,6 @@
 
 mod area;
 mod boxes;
-mod centre;
 mod fault;
 pub mod laws;
 mod noise;

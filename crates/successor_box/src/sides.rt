@@ -4,12 +4,11 @@ ghost use Rattle.grid_quantiser.specs.Axes.{cells_of};
 ghost use Rattle.plant_text.specs.Description.{axes_of, vectors_of};
 ghost use Rattle.plant_text.specs.Steps.{equation_at};
 ghost use Rattle.successor_box.specs.Boxes.{central_values, IsBoxOf};
-ghost use Rattle.successor_box.specs.Centre.{IsCentreIn};
 ghost use Rattle.successor_box.specs.Sides.{IsSideAt, AreSidesAt};
 ghost use Rattle.successor_box.specs.Slopes.{HasNoOverflow, slopes_of};
 
-use crate::centre::{Centre, centre_of};
 use crate::laws::steps_stay_in_range;
+use crate::noise::noise_centres;
 use crate::slopes::Slopes;
 use grid_quantiser::laws::centre_is_near;
 use grid_quantiser::{CellBox, Side};
@@ -31,7 +30,7 @@ pub fn side(p: &Plant, s: &Slopes, c: u32, input: u32, state: u32) -> Option<Sid
     plants_are_sound();
     centre_is_near();
     values_lie_in_the_span();
-    let next = next_along(p, &centre_of(p, c), input, state);
+    let next = next_along(p, c, input, state);
     let slope = s.of(state, input);
     p.grid().side(state, next - slope, next + slope)
 }
@@ -49,18 +48,19 @@ pub fn box_of_sides(p: &Plant, sides: &[Option<Side>; 6]) -> Option<CellBox>
 
 /// One state of the next from the centre of a cell, at the noises' centres.
 #[inline]
-fn next_along(p: &Plant, centre: &Centre, input: u32, state: u32) -> i128
+fn next_along(p: &Plant, c: u32, input: u32, state: u32) -> i128
     requires fits { HasNoOverflow p.now }
-    requires centre { IsCentreIn p.now centre.now }
+    requires cell { c < cells_of (axes_of p.now) }
     requires input { input < vectors_of p.now.inputs }
     requires state { state < length p.now.equations }
-    ensures { result ≡ value_of (equation_at p.now state) (central_values p.now centre.now.cell input) }
+    ensures { result ≡ value_of (equation_at p.now state) (central_values p.now c input) }
 {
     every_plant_is_within_limits(p);
     plants_are_sound();
     centre_is_near();
     steps_stay_in_range();
-    match step_along(p, &centre.state, input, &centre.noises, state) {
+    let centre = p.grid().centre(c);
+    match step_along(p, &centre, input, &noise_centres(p), state) {
         Some(next) => next,
         None => unreachable!(),
     }

@@ -6,6 +6,6 @@ use Rattle.successor_box.proofs.boxes.corners.Given as goal
 -- the ends so far
 abbrev pub invariant-loop-equation : goal.invariant-loop-equation
 invariant-loop-equation l = record {
-  low : l.low ≡ point_of (take l.equation (low_corner l.p l.centre.cell l.input));
-  high : l.high ≡ point_of (take l.equation (high_corner l.p l.centre.cell l.input));
+  low : l.low ≡ point_of (take l.equation (low_corner l.p l.c l.input));
+  high : l.high ≡ point_of (take l.equation (high_corner l.p l.c l.input));
 }

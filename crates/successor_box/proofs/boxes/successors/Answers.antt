@@ -10,7 +10,7 @@ pub meeting-requires : goal.meeting-requires
 meeting-requires c =
     let p = c.args.p.now in
     let sound = c.plants_are_sound.ensures p c.every_plant_is_within_limits.ensures.plant in
-    rw (c.grid.ensures, c.corners.ensures.low, c.corners.ensures.high, c.centre_of.ensures.cell) (at_most_more (axes_of p) _ _ _ _ (corners_ordered p c.args.c c.args.input sound).0)
+    rw (c.grid.ensures, c.corners.ensures.low, c.corners.ensures.high) (at_most_more (axes_of p) _ _ _ _ (corners_ordered p c.args.c c.args.input sound).0)
 
 pub returns : goal.returns
 returns c =
@@ -21,8 +21,8 @@ returns c =
     let highs : length (high_corner p c.args.c c.args.input) ≡ length p.equations = length-map p.equations _ in
     let long_low : length (axes_of p) ≤ length (low_corner p c.args.c c.args.input) = omega (arith, plant.one_each) in
     let long_high : length (axes_of p) ≤ length (high_corner p c.args.c c.args.input) = omega (arith, plant.one_each) in
-    let inside = rw (c.grid.ensures, c.corners.ensures.low, c.corners.ensures.high, c.centre_of.ensures.cell) at c.meeting.ensures.inside in
-    let corners = rw (c.grid.ensures, c.corners.ensures.low, c.corners.ensures.high, c.centre_of.ensures.cell) at c.meeting.ensures.corners in
+    let inside = rw (c.grid.ensures, c.corners.ensures.low, c.corners.ensures.high) at c.meeting.ensures.inside in
+    let corners = rw (c.grid.ensures, c.corners.ensures.low, c.corners.ensures.high) at c.meeting.ensures.corners in
     record {
       inside = (
         (λ some. box_less (axes_of p) (low_corner p c.args.c c.args.input) (high_corner p c.args.c c.args.input) _ _ long_low long_high (inside.0 some)),

@@ -23,7 +23,7 @@ overflow_sub-next c =
     let d : ℤ = c.of-slope.result in
     let next : FitsSigned w128 x = search rules in
     let slope : FitsSigned w128 d = search rules in
-    let value : x ≡ value_of (equation_at p c.args.state) (central_values p c.args.c c.args.input) = rw c.centre_of.ensures.cell at c.next_along-next.ensures in
+    let value : x ≡ value_of (equation_at p c.args.state) (central_values p c.args.c c.args.input) = c.next_along-next.ensures in
     let step = end_step c.values_lie_in_the_span.ensures c.centre_is_near.ensures p (c.plants_are_sound.ensures p plant) c.requires.fits plant.noises c.args.c c.args.input c.args.state c.requires.cell c.requires.input c.requires.state x c.args.s.now d value c.requires.slopes c.of-slope.ensures in
     rw (to_z-of_z w128 x next, to_z-of_z w128 d slope) step.low_fits
 
@@ -35,7 +35,7 @@ overflow_add-next c =
     let d : ℤ = c.of-slope.result in
     let next : FitsSigned w128 x = search rules in
     let slope : FitsSigned w128 d = search rules in
-    let value : x ≡ value_of (equation_at p c.args.state) (central_values p c.args.c c.args.input) = rw c.centre_of.ensures.cell at c.next_along-next.ensures in
+    let value : x ≡ value_of (equation_at p c.args.state) (central_values p c.args.c c.args.input) = c.next_along-next.ensures in
     let step = end_step c.values_lie_in_the_span.ensures c.centre_is_near.ensures p (c.plants_are_sound.ensures p plant) c.requires.fits plant.noises c.args.c c.args.input c.args.state c.requires.cell c.requires.input c.requires.state x c.args.s.now d value c.requires.slopes c.of-slope.ensures in
     rw (to_z-of_z w128 x next, to_z-of_z w128 d slope) step.high_fits
 
@@ -47,7 +47,7 @@ returns c =
     let d : ℤ = c.of-slope.result in
     let next : FitsSigned w128 x = search rules in
     let slope : FitsSigned w128 d = search rules in
-    let value : x ≡ value_of (equation_at p c.args.state) (central_values p c.args.c c.args.input) = rw c.centre_of.ensures.cell at c.next_along-next.ensures in
+    let value : x ≡ value_of (equation_at p c.args.state) (central_values p c.args.c c.args.input) = c.next_along-next.ensures in
     let step = end_step c.values_lie_in_the_span.ensures c.centre_is_near.ensures p (c.plants_are_sound.ensures p plant) c.requires.fits plant.noises c.args.c c.args.input c.args.state c.requires.cell c.requires.input c.requires.state x c.args.s.now d value c.requires.slopes c.of-slope.ensures in
     let is = rw (c.grid.ensures, to_z-of_z w128 x next, to_z-of_z w128 d slope, to_z-of_z w128 (x -ℤ d) step.low_fits, to_z-of_z w128 (x +ℤ d) step.high_fits) at c.side.ensures in
     subst₂ (λ (low high : ℤ). IsSideOf (get_or (axes_of p) c.args.state no_axis) low high c.side.result) step.low step.high is
