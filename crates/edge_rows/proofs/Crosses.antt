@@ -10,7 +10,7 @@ use denote.Struct.Owning.{shape, fields, to}
 use denote.Param.Send.{IsSend, IsSync, Common, AllSend, part_keyless, owning_send, struct_send, struct_sync, sendable}
 use Rattle.core.specs.declared.alloc.Allocator.{Ghosts}
 use Rattle.std_alloc.proofs.SendSync.{FreesAnywhere, quiet}
-use Rattle.edge_rows.specs.Ownership.{slots, slots_lent, places_own, places_lent}
+use Rattle.edge_rows.specs.inside.Ownership.{slots, slots_lent, places_own, places_lent}
 use Rattle.edge_rows.specs.contracts.places.Places as Places
 use Rattle.edge_rows.specs.contracts.places.Deed as Deed
 

@@ -2,8 +2,8 @@
 use Rattle.std.proofs.Common.{◌≡◌, ℕ, ◌+◌, ◌-◌, ◌<◌, ◌^◌, [], length, get_or, set, Some, None, refl, sym, ap, subst, ◌∙◌, arith}
 use Rattle.std.proofs.lemmas.List.{get_or_default}
 use Rattle.edge_rows.specs.Rows.{Filling, appended, HasRoom}
-use Rattle.edge_rows.specs.Layout.{gaps, rows_between}
-use Rattle.edge_rows.specs.FillFields.{filling_of, IsFilledAs, IsFilling}
+use Rattle.edge_rows.specs.inside.Layout.{gaps, rows_between}
+use Rattle.edge_rows.specs.inside.FillFields.{filling_of, IsFilledAs, IsFilling}
 use Rattle.edge_rows.specs.declared.fill.RowFill.TheInside.{Inside}
 use Rattle.edge_rows.proofs.Laid.{end_of, length-ends, length-laid, end_at, gaps-starts, read_back, end_within, end_free, laid-put, ends-put, fits-put, written-put, some_left}
 

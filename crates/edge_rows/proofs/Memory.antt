@@ -36,7 +36,7 @@ use Rattle.std.specs.Mem.{type_size}
 use Rattle.core.proofs.mem.Param.{El, R, el_x, elτ}
 use Rattle.std_alloc.proofs.RawLayout.{as_raw}
 use Rattle.std_alloc.proofs.RcSteps.{Good, word}
-use Rattle.edge_rows.specs.Ownership.{slot, slots, slot_lent, slots_lent}
+use Rattle.edge_rows.specs.inside.Ownership.{slot, slots, slot_lent, slots_lent}
 use Rattle.edge_rows.specs.contracts.places.Places as P-type
 use Rattle.edge_rows.specs.contracts.places.Base as B-type
 

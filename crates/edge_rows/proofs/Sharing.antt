@@ -12,7 +12,7 @@ use denote.Sharing.{ShrLaws, said}
 use denote.SharingLaws.{beside_shr_laws, nothing_shr_laws, said_shr_laws}
 use denote.Shares.{Shares-less}
 use denote.Struct.Lending.{Lends, Lends-both, Lends-nothing, Lends-said, Lends-false}
-use Rattle.edge_rows.specs.Ownership.{slot, slots, slot_lent, slots_lent, fit, places_own, places_lent}
+use Rattle.edge_rows.specs.inside.Ownership.{slot, slots, slot_lent, slots_lent, fit, places_own, places_lent}
 
 module _ (R : RattleType) (L : RowLaws R) where
   slot_lent_laws : (b o : ℕ) (c : Option R.Denot) → ShrLaws (slot_lent R b o c)

@@ -1,6 +1,6 @@
 //! `Block`: places for numbers, which a clause sees as a list with a number or nothing at each.
 ghost use Rattle.std.specs.Prelude.{◌≡◌, ◌^◌, ◌<◌, Some, None, map, length, take, drop, replicate, get_or, slice_set, IfOk};
-ghost use Rattle.edge_rows.specs.Layout.{IsRun};
+ghost use Rattle.edge_rows.specs.inside.Layout.{IsRun};
 
 use crate::places::{Base, Deed, Places, allocate, deallocate};
 use std::alloc::{AllocError, Global};
@@ -20,7 +20,7 @@ impl Model for Block {
 
     ghost Value = { List (Option ℕ) };
 
-    ghost use Rattle.edge_rows.specs.BlockParts.{IsWhole};
+    ghost use Rattle.edge_rows.specs.inside.BlockParts.{IsWhole};
 
     ghost view = { λ b. b.places.slots };
 

@@ -1,7 +1,7 @@
 //! `RowFill`: rows of fixed lengths that are filled one number at a time, in any order of rows.
 ghost use Rattle.std.specs.Prelude.{◌≡◌, ◌^◌, ◌≤◌, length, map, sum, IfOk};
 ghost use Rattle.edge_rows.specs.Rows.{appended, unfilled, HasRoom, places_left};
-ghost use Rattle.edge_rows.specs.Layout.{starts_from};
+ghost use Rattle.edge_rows.specs.inside.Layout.{starts_from};
 
 use crate::block::Block;
 use crate::rows::Rows;
@@ -34,7 +34,7 @@ impl Model for RowFill {
 
     ghost Value = { Filling };
 
-    ghost use Rattle.edge_rows.specs.FillFields.{filling_of, IsFilling};
+    ghost use Rattle.edge_rows.specs.inside.FillFields.{filling_of, IsFilling};
 
     ghost view = { filling_of };
 

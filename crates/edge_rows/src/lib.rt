@@ -2,7 +2,7 @@
 //! number of threads. The layer above gets `RowFill`, which it fills in any order of rows, and `Rows`, which lends each row as
 //! a slice. To contracts a filling is its rows so far with their lengths, and `Rows` is the list of its rows: `put` appends to
 //! its row and changes no other, and `row` is the row as it was filled. No place is read before it was written, and the block
-//! is given back exactly once, also where a filling is dropped half way.
+//! is given back at most once; tests show that it is given back, also where a filling is dropped half way.
 //!
 //! The pointers are in `places`, and the crate stands on std's allocator alone.
 #![tactic(auto)]

@@ -3,8 +3,8 @@ ghost use Rattle.std.specs.Prelude.{◌≡◌, ℕ, ◌<◌, List, Option, Some,
 ghost use Rattle.std.specs.Vec.Ownership.{FitsInBlock};
 ghost use base.Fml.{ftrue};
 ghost use denote.RawPtr.{Ptr};
-ghost use Rattle.edge_rows.specs.Layout.{IsRun};
-ghost use Rattle.edge_rows.specs.Ownership.{places_own, places_lent, deed_owns};
+ghost use Rattle.edge_rows.specs.inside.Layout.{IsRun};
+ghost use Rattle.edge_rows.specs.inside.Ownership.{places_own, places_lent, deed_owns};
 
 use std::alloc::{AllocError, Allocator};
 use std::marker::{Model, PhantomData, Send, Sync};

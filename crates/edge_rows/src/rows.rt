@@ -17,7 +17,7 @@ impl Model for Rows {
 
     ghost Value = { List (List ℕ) };
 
-    ghost use Rattle.edge_rows.specs.RowsFields.{rows_of, IsRows};
+    ghost use Rattle.edge_rows.specs.inside.RowsFields.{rows_of, IsRows};
 
     ghost view = { rows_of };
 

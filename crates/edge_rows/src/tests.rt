@@ -47,6 +47,16 @@ fn a_fill_is_dropped_after_any_number_of_puts(rt: HostRuntime) -> Result<(), Fai
     Ok(())
 }
 
+// Blocks that weren't given back would soon fill the 2^47 bytes of addresses that a process has.
+#[test]
+fn a_block_is_given_back(rt: HostRuntime) -> Result<(), Fail> {
+    for _ in 0..1_100_000 {
+        let mut fill = RowFill::new(rt.alloc(), &[1 << 25])?;
+        fill.put(0, 7);
+    }
+    Ok(())
+}
+
 // Each row k gets k + more.
 fn put_rising(fill: &mut RowFill, rows: u32, more: u32)
     requires room { (k : ℕ) → k < rows → HasRoom fill.old k }

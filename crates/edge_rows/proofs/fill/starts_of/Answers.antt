@@ -1,7 +1,7 @@
 use Rattle.std.proofs.Common.{◌≡◌, ◌+◌, ◌∷◌, ◌++◌, [], take, sum, get_or, ap, sym, ◌∙◌, arith}
 use Rattle.std.proofs.lemmas.List.{take_more}
 use Rattle.std.proofs.lemmas.List.Sums.{sum_by_more}
-use Rattle.edge_rows.specs.Layout.{starts_from}
+use Rattle.edge_rows.specs.inside.Layout.{starts_from}
 use Rattle.edge_rows.proofs.Laid.{starts-more}
 use Rattle.edge_rows.proofs.fill.starts_of.Goals as goal
 

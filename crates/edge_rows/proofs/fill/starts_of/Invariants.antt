@@ -1,5 +1,5 @@
 use Rattle.std.proofs.Common.{◌≡◌, take, sum}
-use Rattle.edge_rows.specs.Layout.{starts_from}
+use Rattle.edge_rows.specs.inside.Layout.{starts_from}
 use Rattle.edge_rows.proofs.fill.starts_of.Given as goal
 
 abbrev pub invariant-loop-length : goal.invariant-loop-length

@@ -44,7 +44,7 @@ use denote.Builtin.{usize}
 use Rattle.std.specs.Prelude.{None}
 use Rattle.core.proofs.mem.Param.{El, R, elτ}
 use Rattle.std_alloc.proofs.RawLayout.{as_written}
-use Rattle.edge_rows.specs.Ownership.{slots}
+use Rattle.edge_rows.specs.inside.Ownership.{slots}
 use Rattle.edge_rows.proofs.Memory.{Ps, Bs, Mark, sz, mark, mark_made, word_made}
 use base.Fml.{Incl-trans}
 use lib.ListN.{replicate, length-replicate}

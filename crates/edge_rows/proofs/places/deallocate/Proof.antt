@@ -40,7 +40,7 @@ use denote.Builtin.{usize}
 use Rattle.std.specs.Prelude.{None}
 use Rattle.core.proofs.mem.Param.{El, R, elτ}
 use Rattle.std_alloc.proofs.RawLayout.{as_raw}
-use Rattle.edge_rows.specs.Ownership.{places_own}
+use Rattle.edge_rows.specs.inside.Ownership.{places_own}
 use Rattle.edge_rows.proofs.Memory.{Ps, Bs, sz, mark, mark_had, word_had}
 use base.Fml.{Incl-trans}
 use lib.Dec.{T}
@@ -59,7 +59,7 @@ use denote.Triple.Statement.{Triple}
 use denote.Triple.Call.{calls_at_last}
 use Rattle.core.proofs.alloc.Calls.{Al, second, token, gives_key, Gives, at_gives, Gives-goes, Gives-Gives}
 use Rattle.core.proofs.slots.Leases.{uncapped, block_ty, block_size, block_align, args, P}
-use Rattle.edge_rows.specs.Ownership.{deed_owns, slots}
+use Rattle.edge_rows.specs.inside.Ownership.{deed_owns, slots}
 use Rattle.edge_rows.proofs.Memory.{forgets, to_room}
 use Rattle.edge_rows.specs.contracts.places.Deed as D-type
 use Rattle.edge_rows.specs.contracts.places.deallocate as F

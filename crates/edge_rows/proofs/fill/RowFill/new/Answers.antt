@@ -1,7 +1,7 @@
 use Rattle.std.proofs.Common.{◌≡◌, suc, length, take, get_or, replicate, sum, None, ap, ◌∙◌, arith, length-take}
 use Rattle.std.proofs.lemmas.List.{get_or_default, take_all}
 use Rattle.edge_rows.specs.Rows.{Filling, unfilled}
-use Rattle.edge_rows.specs.FillFields.{IsFilledAs}
+use Rattle.edge_rows.specs.inside.FillFields.{IsFilledAs}
 use Rattle.edge_rows.proofs.Laid.{length-starts, start_at, fits-unfilled, written-unfilled, laid-unfilled, ends-unfilled}
 use Rattle.edge_rows.proofs.Fillings.{shown, kept}
 use Rattle.edge_rows.proofs.fill.RowFill.new.Goals as goal

@@ -1,7 +1,7 @@
 use Rattle.std.proofs.Common.{◌+◌, ◌-◌, refl, ap, arith}
 use Rattle.std.specs.Vec.{with_item}
 use Rattle.edge_rows.specs.Rows.{Filling, appended}
-use Rattle.edge_rows.specs.FillFields.{IsFilledAs}
+use Rattle.edge_rows.specs.inside.FillFields.{IsFilledAs}
 use Rattle.edge_rows.proofs.Fillings.{shown, kept, end_listed, end_small, end_free_there, left_more, put_lies}
 use Rattle.edge_rows.proofs.fill.RowFill.put.Goals as goal
 

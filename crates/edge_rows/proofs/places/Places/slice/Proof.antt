@@ -48,8 +48,8 @@ use Rattle.std.specs.Prelude.{Some}
 use Rattle.std.proofs.lemmas.List.{length-map}
 use Rattle.core.proofs.mem.Param.{El, R, args, el_x}
 use Rattle.core.proofs.ptr.Rows.{times_below}
-use Rattle.edge_rows.specs.Layout.{IsRun}
-use Rattle.edge_rows.specs.Ownership.{places_lent}
+use Rattle.edge_rows.specs.inside.Layout.{IsRun}
+use Rattle.edge_rows.specs.inside.Ownership.{places_lent}
 use Rattle.edge_rows.proofs.Memory.{Ps, Bs, sz, word_had, run_seen}
 use denote.Slice.{ShrSlice, slice_val, elements_shared}
 use types.Run.{size_word}

@@ -46,7 +46,7 @@ use Rattle.std.specs.Prelude.{Some, None}
 use Rattle.core.proofs.mem.Param.{El, R, args, elτ}
 use Rattle.core.proofs.ptr.Rows.{times_below, one_below}
 use Rattle.std_alloc.proofs.RawLayout.{as_written}
-use Rattle.edge_rows.specs.Ownership.{slot, slots, places_own}
+use Rattle.edge_rows.specs.inside.Ownership.{slot, slots, places_own}
 use Rattle.edge_rows.proofs.Memory.{Ps, Bs, sz, Place, word_had, value_in, tells, Besides, slot_out, slot_in}
 use Rattle.edge_rows.specs.contracts.places.Places.write.Key.{name as #self}
 use Rattle.edge_rows.proofs.places.Places.write.Statement as stated

@@ -1,6 +1,6 @@
 -- What holds of the fields of rows.
 use Rattle.std.specs.Prelude.{◌≡◌, ℕ, List, drop, length, map}
-use Rattle.edge_rows.specs.Layout.{laid, starts_from, rows_between, IsWithin}
+use Rattle.edge_rows.specs.inside.Layout.{laid, starts_from, rows_between, IsWithin}
 use Rattle.edge_rows.specs.declared.rows.Rows.TheInside.{Inside}
 
 -- the fields are those of these rows: every place of every row is written

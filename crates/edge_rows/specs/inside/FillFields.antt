@@ -1,7 +1,7 @@
 -- What holds of the fields of a filling.
 use Rattle.std.specs.Prelude.{◌≡◌, ◌+◌, map, length, sum}
 use Rattle.edge_rows.specs.Rows.{Filling}
-use Rattle.edge_rows.specs.Layout.{laid, starts_from, ends_from, gaps, rows_between, IsWithin}
+use Rattle.edge_rows.specs.inside.Layout.{laid, starts_from, ends_from, gaps, rows_between, IsWithin}
 use Rattle.edge_rows.specs.declared.fill.RowFill.TheInside.{Inside}
 
 -- the fields are those of this filling: in each row exactly the places below its end are written
