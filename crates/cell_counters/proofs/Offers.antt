@@ -12,7 +12,7 @@ use Rattle.cell_counters.specs.declared.account.Offer.{Offer}
 use Rattle.cell_counters.specs.declared.account.Account.{Account}
 use Rattle.cell_counters.specs.Accounts.{offers_on, all_offers, values, first_count, NoneIsFirst, IsLeastOf}
 use Rattle.cell_counters.specs.Tokens.{blank}
-use Rattle.cell_counters.specs.Rules.{Stands}
+use Rattle.cell_counters.specs.inside.Rules.{Stands}
 use Rattle.cell_counters.proofs.Lists.{All-replaced, pushed_inside}
 use Rattle.cell_counters.proofs.Parts.{Replaced}
 

@@ -5,7 +5,7 @@ use mathlib.Core.Option.{some, some-injective}
 use lib.ListN.{get_elem?}
 use Rattle.cell_counters.specs.declared.account.Account.{Account}
 use Rattle.cell_counters.specs.declared.rule.View.{View}
-use Rattle.cell_counters.specs.Rules.{accounts_of, made_of}
+use Rattle.cell_counters.specs.inside.Rules.{accounts_of, made_of}
 use Rattle.cell_counters.proofs.Lists.{around}
 
 -- one account became another

@@ -13,7 +13,7 @@ use Rattle.cell_counters.specs.declared.rule.View.{View}
 use Rattle.cell_counters.specs.declared.rule.Beginning.{Beginning}
 use Rattle.cell_counters.specs.Accounts.{answers, offers_on, all_answers, all_offers, IsLawfulCounter, IsLawfulLeast}
 use Rattle.cell_counters.specs.Tokens.{blank}
-use Rattle.cell_counters.specs.Rules.{Keeps, Stands, starts_of, least_of, accounts_of, made_of, root_of, one_more, new_hand, collected, nobody, Seated, IsAlone, Looks, IsSized}
+use Rattle.cell_counters.specs.inside.Rules.{Keeps, Stands, starts_of, least_of, accounts_of, made_of, root_of, one_more, new_hand, collected, nobody, Seated, IsAlone, Looks, IsSized}
 use Rattle.cell_counters.proofs.Lists.{around, part_moved, flat_map_moved}
 use Rattle.cell_counters.proofs.Cuts.{counter_begins, counter_moved, counter_welcomes}
 use Rattle.cell_counters.proofs.Offers.{OnlyEarliest, word_begins, word_moved, word_welcomes}

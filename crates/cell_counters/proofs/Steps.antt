@@ -12,7 +12,7 @@ use Rattle.cell_counters.specs.declared.account.Account.{Account}
 use Rattle.cell_counters.specs.declared.rule.View.{View}
 use Rattle.cell_counters.specs.Accounts.{IsLawfulCounter}
 use Rattle.cell_counters.specs.Tokens.{with_cut, with_offer, with_note}
-use Rattle.cell_counters.specs.Rules.{Keeps, ExplainsCounters, ExplainsLeast, Stands, accounts_of, account_of, with_account, Seated, Cuts, Offers, Notes}
+use Rattle.cell_counters.specs.inside.Rules.{Keeps, ExplainsCounters, ExplainsLeast, Stands, accounts_of, account_of, with_account, Seated, Cuts, Offers, Notes}
 use Rattle.cell_counters.proofs.Parts.{Replaced, replaced, made_of-set, length-replaced}
 use Rattle.cell_counters.proofs.Cuts.{counter_stays, counter_cut}
 use Rattle.cell_counters.proofs.Offers.{word_stays, word_offered, found_free}

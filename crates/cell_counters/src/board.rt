@@ -33,7 +33,7 @@ pub struct Board {
 
 impl Model for Board {
     ghost use Rattle.cell_counters.specs.Tokens.{BoardModel};
-    ghost use Rattle.cell_counters.specs.Rules.{board_model, IsSized};
+    ghost use Rattle.cell_counters.specs.inside.Rules.{board_model, IsSized};
 
     ghost Value = { BoardModel };
 
@@ -53,7 +53,7 @@ pub struct Root {
 
 impl Model for Root {
     ghost use Rattle.cell_counters.specs.Tokens.{RootModel};
-    ghost use Rattle.cell_counters.specs.Rules.{root_model, IsRoot};
+    ghost use Rattle.cell_counters.specs.inside.Rules.{root_model, IsRoot};
 
     ghost Value = { RootModel };
 
@@ -72,7 +72,7 @@ pub struct Hand {
 
 impl Model for Hand {
     ghost use Rattle.cell_counters.specs.Tokens.{HandModel};
-    ghost use Rattle.cell_counters.specs.Rules.{hand_model, IsHand};
+    ghost use Rattle.cell_counters.specs.inside.Rules.{hand_model, IsHand};
 
     ghost Value = { HandModel };
 

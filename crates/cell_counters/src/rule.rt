@@ -26,7 +26,7 @@ pub struct Beginning {
 pub struct Lawful;
 
 impl TableRule<(), View, Beginning> for Lawful {
-    ghost use Rattle.cell_counters.specs.Rules.{Keeps, starts_of, least_of, root_of};
+    ghost use Rattle.cell_counters.specs.inside.Rules.{Keeps, starts_of, least_of, root_of};
 
     ghost holds = { λ b s. Keeps (starts_of b) (least_of b) s };
 
@@ -36,7 +36,7 @@ impl TableRule<(), View, Beginning> for Lawful {
 pub struct Dealing;
 
 impl Split<View> for Dealing {
-    ghost use Rattle.cell_counters.specs.Rules.{one_more, new_hand};
+    ghost use Rattle.cell_counters.specs.inside.Rules.{one_more, new_hand};
 
     ghost left = { one_more };
 
@@ -46,7 +46,7 @@ impl Split<View> for Dealing {
 pub struct Collecting;
 
 impl Join<View> for Collecting {
-    ghost use Rattle.cell_counters.specs.Rules.{collected, nobody};
+    ghost use Rattle.cell_counters.specs.inside.Rules.{collected, nobody};
 
     ghost both = { collected };
 
@@ -56,7 +56,7 @@ impl Join<View> for Collecting {
 pub struct Cutting;
 
 impl Play<(), View> for Cutting {
-    ghost use Rattle.cell_counters.specs.Rules.{Cuts};
+    ghost use Rattle.cell_counters.specs.inside.Rules.{Cuts};
 
     ghost then = { Cuts };
 }
@@ -64,7 +64,7 @@ impl Play<(), View> for Cutting {
 pub struct Offering;
 
 impl Play<(), View> for Offering {
-    ghost use Rattle.cell_counters.specs.Rules.{Offers};
+    ghost use Rattle.cell_counters.specs.inside.Rules.{Offers};
 
     ghost then = { Offers };
 }
@@ -85,7 +85,7 @@ pub struct Noting<I: Item> {
 }
 
 impl<I: Item> Play<(), View> for Noting<I> {
-    ghost use Rattle.cell_counters.specs.Rules.{Notes};
+    ghost use Rattle.cell_counters.specs.inside.Rules.{Notes};
 
     ghost then = { Notes I.item };
 }
@@ -93,7 +93,7 @@ impl<I: Item> Play<(), View> for Noting<I> {
 pub struct Looking;
 
 impl Play<(), View> for Looking {
-    ghost use Rattle.cell_counters.specs.Rules.{Looks};
+    ghost use Rattle.cell_counters.specs.inside.Rules.{Looks};
 
     ghost then = { Looks };
 }

@@ -2,7 +2,7 @@ use Rattle.std.proofs.Common.{◌≡◌, ◌<◌, ◌^◌, [], ◌++◌, length,
 use Rattle.std.proofs.lemmas.List.Elements.{All-append, All-from_get_or}
 use Rattle.atomic_table.specs.Table.{opening}
 use Rattle.cell_counters.specs.declared.rule.Beginning.{Beginning}
-use Rattle.cell_counters.specs.Rules.{Keeps, IsSized, starts_of, least_of, root_of}
+use Rattle.cell_counters.specs.inside.Rules.{Keeps, IsSized, starts_of, least_of, root_of}
 use Rattle.cell_counters.proofs.Roots.{begins}
 use Rattle.cell_counters.proofs.board.Board.new.Goals as goal
 

@@ -3,7 +3,7 @@ use Rattle.cell_counters.specs.declared.account.TheConstants.{NONE}
 use Rattle.cell_counters.specs.declared.account.Offer.{Offer}
 use Rattle.cell_counters.specs.Accounts.{offers_on}
 use Rattle.cell_counters.specs.Tokens.{BoardModel, HandModel}
-use Rattle.cell_counters.specs.Rules.{starts_of, least_of, account_of}
+use Rattle.cell_counters.specs.inside.Rules.{starts_of, least_of, account_of}
 use Rattle.cell_counters.proofs.Entries.{has_offer}
 use Rattle.cell_counters.proofs.Steps.{offer_allowed}
 use Rattle.cell_counters.proofs.Roots.{starts_len, all_len}

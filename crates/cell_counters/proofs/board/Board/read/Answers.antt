@@ -1,6 +1,6 @@
 use Rattle.std.proofs.Common.{length, ◌<◌, sym, subst, arith, rules}
 use Rattle.cell_counters.specs.Tokens.{BoardModel}
-use Rattle.cell_counters.specs.Rules.{least_of}
+use Rattle.cell_counters.specs.inside.Rules.{least_of}
 use Rattle.cell_counters.proofs.Roots.{look_allowed, all_len}
 use Rattle.cell_counters.proofs.board.Board.read.Goals as goal
 
