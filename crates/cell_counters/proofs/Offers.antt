@@ -1,5 +1,5 @@
 -- What a step does to lawful accounts of a least word.
-use Rattle.std.proofs.Common.{◌≡◌, ◌≢◌, ℕ, zero, suc, ◌+◌, ◌^◌, ◌<◌, ◌≤◌, ◌==◌, Bool, false, cond, List, [], ◌∷◌, ◌++◌, length, drop, min, eq-eqb, ne_eqb, refl, sym, ap, ◌∙◌, subst, arith, All, Contains, IsPermutation, length-append}
+use Rattle.std.proofs.Common.{◌≡◌, ◌≢◌, ℕ, zero, suc, ◌+◌, ◌^◌, ◌<◌, ◌≤◌, ◌==◌, false, cond, List, [], ◌∷◌, ◌++◌, length, drop, min, eq-eqb, ne_eqb, refl, sym, ap, ◌∙◌, subst, arith, All, Contains, IsPermutation, length-append}
 use mathlib.Core.Logic.{dite}
 use native.Mathlib.Decide.{dec_le, dec_lt, ℕ_discrete}
 use Rattle.std.proofs.lemmas.List.{append-nil, length-map}
@@ -10,10 +10,11 @@ use Rattle.std.proofs.lemmas.List.Sorted.{IsPermutation-refl, IsPermutation-cons
 use Rattle.cell_counters.specs.declared.account.TheConstants.{NONE}
 use Rattle.cell_counters.specs.declared.account.Offer.{Offer}
 use Rattle.cell_counters.specs.declared.account.Account.{Account}
-use Rattle.cell_counters.specs.Accounts.{offers_on, all_offers, values, first_count, NoneIsFirst, IsLeastOf}
+use Rattle.cell_counters.specs.Accounts.{offers_on, all_offers, values, first_count, NoneIsFirst, IsLeastOf, IsLawfulLeast}
 use Rattle.cell_counters.specs.Tokens.{blank}
 use Rattle.cell_counters.specs.inside.Rules.{Stands}
 use Rattle.cell_counters.proofs.Lists.{All-replaced, pushed_inside}
+use Rattle.cell_counters.proofs.Counts.{one_if}
 use Rattle.cell_counters.proofs.Parts.{Replaced}
 
 -- of an account only the earliest offer may be first
@@ -45,13 +46,12 @@ least_more s k xs n h =
     among (suc i, lt, e) = (suc (suc i), omega arith, e)
 
 -- with no account nothing was offered
+pub least_begins : (word start : ℕ) → IsLawfulLeast [] word start start
+least_begins word start =
+    record { least = ((0, omega arith, refl), All-cons (λ m. start ≤ m) start [] (omega arith) (All-nil (λ m. start ≤ m))); one_first = λ free some. absurd (omega arith); none_first = λ taken. refl; earliest = All-nil (OnlyEarliest word) }
+
 pub word_begins : (word start : ℕ) → start < 2 ^ 64 → Stands [] word start start
-word_begins word start small =
-    record {
-      lawful = record { least = ((0, omega arith, refl), All-cons (λ m. start ≤ m) start [] (omega arith) (All-nil (λ m. start ≤ m))); one_first = λ free some. absurd (omega arith); none_first = λ taken. refl; earliest = All-nil (OnlyEarliest word) };
-      offered = λ some. absurd (omega arith);
-      taken = λ apart. omega arith;
-    }
+word_begins word start small = record { lawful = least_begins word start; offered = λ some. absurd (omega arith); taken = λ apart. omega arith }
 
 -- the offers are the same, maybe in another order
 pub word_moved : (xs ys : List Account) (word start now : ℕ) → All (OnlyEarliest word) ys → IsPermutation (all_offers word xs) (all_offers word ys) → Stands xs word start now → Stands ys word start now
@@ -84,9 +84,6 @@ pub word_welcomes : (xs : List Account) (word start now : ℕ) → Stands xs wor
 word_welcomes xs word start now h =
     let all : all_offers word xs ≡ all_offers word (xs ++ blank ∷ []) = sym (flat_map-append (offers_on word) xs (blank ∷ []) ∙ append-nil (all_offers word xs)) in
     word_moved xs (xs ++ blank ∷ []) word start now (All-push (OnlyEarliest word) xs blank h.lawful.earliest (λ k d lt. absurd (omega arith))) (subst (IsPermutation (all_offers word xs)) all (IsPermutation-refl (all_offers word xs))) h
-
-abbrev pub one_if : Bool → ℕ
-one_if b = cond b 1 0
 
 one_if_free : (n : ℕ) → n ≡ NONE → one_if (n == NONE) ≡ 1
 one_if_free n e = ap one_if (eq-eqb n NONE e)
