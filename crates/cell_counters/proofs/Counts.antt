@@ -1,5 +1,5 @@
 -- How often a number stands in a list.
-use Rattle.std.proofs.Common.{◌≡◌, ◌≢◌, ℕ, zero, suc, ◌+◌, ◌<◌, ◌≤◌, ◌==◌, Bool, cond, List, [], ◌∷◌, ◌++◌, remove, eq-eqb, ne_eqb, refl, sym, ap, ◌∙◌, arith, All, Contains, count_by, IsPermutation}
+use Rattle.std.proofs.Common.{◌≡◌, ◌≢◌, ℕ, zero, suc, ◌+◌, ◌<◌, ◌≤◌, ◌==◌, Bool, cond, List, [], ◌∷◌, ◌++◌, map, remove, eq-eqb, ne_eqb, refl, sym, ap, ◌∙◌, arith, All, Contains, count_by, IsPermutation}
 use Rattle.std.specs.List.{range_with_len}
 use mathlib.Core.Logic.{dite}
 use native.Mathlib.Decide.{ℕ_discrete}
@@ -32,12 +32,12 @@ times-append v xs ys = sum_by-append (one_at v) xs ys
 pub times-permutation : (v : ℕ) (xs ys : List ℕ) → IsPermutation xs ys → times v ys ≡ times v xs
 times-permutation v xs ys same = sum_by-IsPermutation (one_at v) xs ys same
 
--- a number that never stands in a list is none of its elements
-pub never : (v : ℕ) (xs : List ℕ) → times v xs ≡ 0 → All (λ x. x ≢ v) xs
-never v [] none = λ k d lt. absurd (omega arith)
-never v (x ∷ xs) none =
-    let both = times-cons v x xs in
-    All-cons (λ y. y ≢ v) x xs (λ e. let one = one_at-yes v x e in absurd (omega arith)) (never v xs (omega arith))
+-- a number that never stands in a list of numbers belongs to no element
+pub never : {A : Type 0} (f : A → ℕ) (v : ℕ) (xs : List A) → times v (map f xs) ≡ 0 → All (λ x. f x ≢ v) xs
+never f v [] none = λ k d lt. absurd (omega arith)
+never f v (x ∷ xs) none =
+    let both = times-cons v (f x) (map f xs) in
+    All-cons (λ y. f y ≢ v) x xs (λ e. let one = one_at-yes v (f x) e in absurd (omega arith)) (never f v xs (omega arith))
 
 range_past : (v a n : ℕ) → v < a → times v (range_with_len a n) ≡ 0
 range_past v a zero lt = refl

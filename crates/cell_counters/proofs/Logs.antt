@@ -20,7 +20,7 @@ use Rattle.cell_counters.specs.Accounts.{all_logs, log_count, numbers, cell_at}
 use Rattle.cell_counters.specs.Tokens.{blank, with_log}
 use Rattle.cell_counters.specs.inside.Rules.{accounts_of, account_of, tail_of, place_of, IsCounted, IsStored, HasStored, KeepsLog, awaited, drawn, settled, one_more, new_hand, collected, nobody}
 use Rattle.cell_counters.proofs.Lists.{around, All-at, All-parts, All-joined, pushed_inside}
-use Rattle.cell_counters.proofs.Counts.{one_at-yes, times, times-cons, times-permutation, range_once, range-append}
+use Rattle.cell_counters.proofs.Counts.{one_at-yes, times, times-cons, times-permutation, range_once, range-append, never}
 
 abbrev number_of : Log → ℕ
 number_of l = l.number
@@ -63,13 +63,6 @@ counted_more xs ys l now is same h =
           (IsPermutation-trans (l.number ∷ range_with_len 0 n) (numbers (l ∷ xs)) (numbers ys) (IsPermutation-cons l.number (range_with_len 0 n) (numbers xs) (h.drawn (omega arith))) (IsPermutation-map number_of (l ∷ xs) ys same)));
     }
 
--- no other log has a number that never stands among the numbers
-pub none_has : (v : ℕ) (xs : List Log) → times v (numbers xs) ≡ 0 → All (λ (l : Log). l.number ≢ v) xs
-none_has v [] none = λ k d lt. absurd (omega arith)
-none_has v (x ∷ xs) none =
-    let both = times-cons v x.number (numbers xs) in
-    All-cons (λ (l : Log). l.number ≢ v) x xs (λ e. let one = one_at-yes v x.number e in absurd (omega arith)) (none_has v xs (omega arith))
-
 -- all logs with a number have one cell
 has_cell : (xs rest : List Log) (l : Log) (now : ℕ) → IsPermutation (l ∷ rest) xs → length xs < 2 ^ 64 → IsCounted xs now → All (λ (m : Log). m.number ≡ l.number → m.cell ≡ l.cell) xs
 has_cell xs rest l now same few h =
@@ -80,7 +73,7 @@ has_cell xs rest l now same few h =
     let one = one_at-yes l.number l.number refl in
     All-permutation (λ (m : Log). m.number ≡ l.number → m.cell ≡ l.cell) (l ∷ rest) xs same
     (All-cons (λ (m : Log). m.number ≡ l.number → m.cell ≡ l.cell) l rest (λ e. refl)
-    (All-weaker (λ (m : Log). m.number ≢ l.number) (λ (m : Log). m.number ≡ l.number → m.cell ≡ l.cell) (λ m apart e. absurd (apart e)) rest (none_has l.number rest (omega arith))))
+    (All-weaker (λ (m : Log). m.number ≢ l.number) (λ (m : Log). m.number ≡ l.number → m.cell ≡ l.cell) (λ m apart e. absurd (apart e)) rest (never number_of l.number rest (omega arith))))
 
 -- some log has each number that was drawn
 pub has_number : (logs : List Log) (k now : ℕ) → k < length logs → length logs < 2 ^ 64 → IsCounted logs now → Contains (numbers logs) k
@@ -106,7 +99,7 @@ cells_told [] once = λ k d lt. absurd (omega arith)
 cells_told (x ∷ xs) once =
     let rest = cells_told xs (λ v. let both = times-cons v x.number (numbers xs) in let all = once v in omega arith) in
     let apart : All (λ (l : Log). l.number ≢ x.number) xs =
-    none_has x.number xs (let both = times-cons x.number x.number (numbers xs) in let one = one_at-yes x.number x.number refl in let all = once x.number in omega arith) in
+    never number_of x.number xs (let both = times-cons x.number x.number (numbers xs) in let one = one_at-yes x.number x.number refl in let all = once x.number in omega arith) in
     All-cons (λ (l : Log). cell_at l.number (x ∷ xs) ≡ l.cell) x xs (ap (λ (b : Bool). cond b x.cell (cell_at x.number xs)) (eq-eqb x.number x.number refl))
     (λ k d lt. let l : Log = get_or xs k d in ap (λ (b : Bool). cond b x.cell (cell_at l.number xs)) (ne_eqb x.number l.number (λ e. apart k d lt (sym e))) ∙ rest k d lt)
 

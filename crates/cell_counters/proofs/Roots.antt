@@ -118,7 +118,7 @@ explains n at s v h there mine idle =
       counter = λ lt. counters at lt;
       least = λ w lt is_at. subst (λ k. IsLawfulLeast v.accounts w (slice_index n.least w) (slice_index s.words k)) (sym is_at) (words w lt);
       tail = λ is_at. ap (λ k. slice_index s.words k) is_at ∙ counted.count;
-      cell = λ k lt is_at. subst (λ j. slice_index s.words j < 2 ^ 32) (sym is_at) (h.log.cells k lt);
+      cell = λ past within. subst (λ j. slice_index s.words j < 2 ^ 32) (omega arith) (h.log.cells (at - (tail_of n + 1)) (omega arith));
       place = λ k lt is_at few.
           let stored : HasStored n s.words v = All-at (HasStored n s.words) s.views 0 v there (h.log.stored (subst (λ l. log_count l < 2 ^ 64) (sym mine) few)) in
           ap (λ j. slice_index s.words j) is_at ∙ sym (cell_at-is (all_logs v.accounts) k (slice_index s.words (place_of n k)) (has_number (all_logs v.accounts) k (slice_index s.words (tail_of n)) (omega arith) few counted)

@@ -198,7 +198,7 @@ pub record Explains (n : Setup) (accounts : List Account) (word found : ℕ) : T
   pub counter : word < length n.starts → IsLawfulCounter accounts word (slice_index n.starts word) found
   pub least : (w : ℕ) → w < length n.least → word ≡ length n.starts + w → IsLawfulLeast accounts w (slice_index n.least w) found
   pub tail : word ≡ tail_of n → found ≡ log_count accounts % 2 ^ 64
-  pub cell : (k : ℕ) → k < n.places → word ≡ place_of n k → found < 2 ^ 32
+  pub cell : tail_of n < word → word < place_of n n.places → found < 2 ^ 32
   pub place : (k : ℕ) → k < filled accounts n.places → word ≡ place_of n k → log_count accounts < 2 ^ 64 → found ≡ cell_at k (all_logs accounts)
 
 -- what a look by the root tells: no more were taken in than were made, and where none is out, its accounts explain the word

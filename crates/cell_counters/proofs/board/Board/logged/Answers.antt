@@ -12,10 +12,10 @@ load-requires c =
 
 pub overflow_cast-result : goal.overflow_cast-result
 overflow_cast-result c =
-    let own = c.root.inside.seat.me.0 in
     let places : c.args.self.now.places ≡ c.self.inside.places = ap (λ (b : BoardModel). b.places) (sym c.self.view_is) ∙ sym c.self.invariant.log in
     let began = setup_is _ _ _ _ (ap (λ (r : RootModel). r.board) c.root.view_is ∙ c.requires.root ∙ sym c.self.view_is) in
     let none_out : c.root.inside.out ≡ 0 = ap (λ (r : RootModel). r.out) c.root.view_is ∙ c.requires.settled in
     let told = c.load.ensures.2.explained (omega (arith, c.root.invariant.made)) in
-    let small = told.cell c.args.at (omega (arith, places, ap (λ (n : Setup). n.places) began, c.self.invariant.log)) (omega (arith, ap tail_of began, tail_is _ _ _ _ _ c.self.invariant)) in
+    let tail = ap tail_of began ∙ tail_is _ _ _ _ _ c.self.invariant in
+    let small = told.cell (omega (arith, tail)) (omega (arith, tail, places, ap (λ (n : Setup). n.places) began, c.self.invariant.log)) in
     search rules
