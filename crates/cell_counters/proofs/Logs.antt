@@ -19,17 +19,15 @@ use Rattle.cell_counters.specs.declared.rule.View.{View}
 use Rattle.cell_counters.specs.Accounts.{all_logs, log_count, numbers, cell_at}
 use Rattle.cell_counters.specs.Tokens.{blank, with_log}
 use Rattle.cell_counters.specs.inside.Rules.{accounts_of, account_of, tail_of, place_of, IsCounted, IsStored, HasStored, KeepsLog, awaited, drawn, settled, one_more, new_hand, collected, nobody}
-use Rattle.cell_counters.proofs.Lists.{around, All-at, All-parts, All-joined, pushed_inside}
+use Rattle.cell_counters.proofs.Lists.{All-at, All-parts, All-joined, pushed_inside}
+use Rattle.cell_counters.proofs.Parts.{replaced, entries_were, entries_stay, entries_grow}
 use Rattle.cell_counters.proofs.Counts.{one_at-yes, times, times-cons, times-permutation, range_once, range-append, never}
 
 abbrev number_of : Log → ℕ
 number_of l = l.number
 
-logs-around : (front back : List View) (v : View) → all_logs (accounts_of (front ++ v ∷ back)) ≡ all_logs (accounts_of front) ++ (all_logs v.accounts ++ all_logs (accounts_of back))
-logs-around front back v =
-    ap all_logs (flat_map-append (λ (u : View). u.accounts) front (v ∷ back))
-    ∙ flat_map-append (λ (a : Account). a.logs) (accounts_of front) (v.accounts ++ accounts_of back)
-    ∙ ap (λ l. all_logs (accounts_of front) ++ l) (flat_map-append (λ (a : Account). a.logs) v.accounts (accounts_of back))
+abbrev logs_of : Account → List Log
+logs_of a = a.logs
 
 -- with no account nothing was logged
 pub counted_begins : IsCounted [] 0
@@ -110,15 +108,12 @@ of_views P views h =
     (All-parts (λ (a : Account). All P a.logs) (λ (v : View). v.accounts) views (All-parts P (λ (a : Account). a.logs) (accounts_of views) h))
 
 -- a step that logs nothing, and changes no word of the log
-pub log_stays : (n : Setup) (words others : List ℕ) (views : List View) (id : ℕ) (v w : View) → get_elem? views id ≡ some v → all_logs w.accounts ≡ all_logs v.accounts → w.awaits ≡ v.awaits
+pub log_stays : (n : Setup) (words others : List ℕ) (views : List View) (id : ℕ) (v w : View) (a b : Account) → get_elem? views id ≡ some v → v.accounts ≡ a ∷ [] → w.accounts ≡ b ∷ [] → b.logs ≡ a.logs → w.awaits ≡ v.awaits
     → ((k : ℕ) → tail_of n ≤ k → slice_index others k ≡ slice_index words k) → KeepsLog n words views → KeepsLog n others (set views id w)
-log_stays n words others views id v w at logs awaits same h =
-    let r = around views id v at in
-    let F = all_logs (accounts_of r.front) in
-    let R = all_logs (accounts_of r.back) in
-    let all : all_logs (accounts_of (set views id w)) ≡ all_logs (accounts_of views) =
-    ap (λ vs. all_logs (accounts_of vs)) (r.becomes w) ∙ logs-around r.front r.back w ∙ ap (λ l. F ++ (l ++ R)) logs ∙ sym (logs-around r.front r.back v) ∙ ap (λ vs. all_logs (accounts_of vs)) (sym r.is) in
-    let mine : HasStored n words v → HasStored n words w = subst (λ (p : List Log × Option ℕ). All (IsStored n words p.1) p.0) (λ k. (sym logs k, sym awaits k)) in
+log_stays n words others views id v w a b at one other logs awaits same h =
+    let all : all_logs (accounts_of (set views id w)) ≡ all_logs (accounts_of views) = entries_stay logs_of (accounts_of views) (accounts_of (set views id w)) a b (replaced views id v w a b at one other) logs in
+    let own : all_logs v.accounts ≡ all_logs w.accounts = ap all_logs one ∙ ap (λ l. l ++ []) (sym logs) ∙ ap all_logs (sym other) in
+    let mine : HasStored n words v → HasStored n words w = subst (λ (p : List Log × Option ℕ). All (IsStored n words p.1) p.0) (λ k. (own k, sym awaits k)) in
     let moved : (u : View) → HasStored n words u → HasStored n others u =
     (λ u. All-weaker (IsStored n words u.awaits) (IsStored n others u.awaits) (λ l has below apart. same (place_of n l.number) (omega arith) ∙ has below apart) (all_logs u.accounts)) in
     record {
@@ -140,31 +135,28 @@ log_draws n words views id cell v at one idle began there h =
     let l : Log = record { cell = cell; number = now } in
     let w = drawn v cell now in
     let others = set words (tail_of n) ((now + 1) % 2 ^ 64) in
-    let G = (account_of v).logs in
-    let r = around views id v at in
-    let F = all_logs (accounts_of r.front) in
-    let R = all_logs (accounts_of r.back) in
-    let mine : all_logs v.accounts ≡ G = ap all_logs one ∙ append-nil G in
-    let new : all_logs w.accounts ≡ G ++ l ∷ [] = append-nil (G ++ l ∷ []) in
-    let was : all_logs (accounts_of views) ≡ F ++ (G ++ R) = ap (λ vs. all_logs (accounts_of vs)) r.is ∙ logs-around r.front r.back v ∙ ap (λ x. F ++ (x ++ R)) mine in
-    let is : all_logs (accounts_of (set views id w)) ≡ F ++ ((G ++ l ∷ []) ++ R) = ap (λ vs. all_logs (accounts_of vs)) (r.becomes w) ∙ logs-around r.front r.back w ∙ ap (λ x. F ++ (x ++ R)) new in
-    let grown : IsPermutation (l ∷ all_logs (accounts_of views)) (all_logs (accounts_of (set views id w))) =
-    subst (λ x. IsPermutation (l ∷ x) (all_logs (accounts_of (set views id w)))) (sym was) (subst (IsPermutation (l ∷ (F ++ (G ++ R)))) (sym is) (pushed_inside F G R l)) in
-    let count : log_count (accounts_of (set views id w)) ≡ log_count (accounts_of views) + 1 = length_permutation (l ∷ all_logs (accounts_of views)) (all_logs (accounts_of (set views id w))) grown ∙ omega arith in
+    let a = account_of v in
+    let b = with_log a cell now in
+    let xs = accounts_of views in
+    let ys = accounts_of (set views id w) in
+    let mine : all_logs v.accounts ≡ a.logs = ap all_logs one ∙ append-nil a.logs in
+    let new : all_logs w.accounts ≡ a.logs ++ l ∷ [] = append-nil (a.logs ++ l ∷ []) in
+    let grown : IsPermutation (l ∷ all_logs xs) (all_logs ys) = entries_grow logs_of xs ys a b (replaced views id v w a b at one refl) l refl in
+    let count : log_count ys ≡ log_count xs + 1 = length_permutation (l ∷ all_logs xs) (all_logs ys) grown ∙ omega arith in
     let apart : (k : ℕ) → slice_index others (place_of n k) ≡ slice_index words (place_of n k) = (λ k. get_or-set_other words (tail_of n) (place_of n k) ((now + 1) % 2 ^ 64) 0 (λ e. absurd (omega arith))) in
     let moved : (u : View) → HasStored n words u → HasStored n others u = (λ u. All-weaker (IsStored n words u.awaits) (IsStored n others u.awaits) (λ m has below free. apart m.number ∙ has below free) (all_logs u.accounts)) in
     record {
-      counted = subst (IsCounted (all_logs (accounts_of (set views id w)))) (sym (get_or-set_same words (tail_of n) ((now + 1) % 2 ^ 64) 0 there))
-          (counted_more (all_logs (accounts_of views)) (all_logs (accounts_of (set views id w))) l now refl grown h.counted);
+      counted = subst (IsCounted (all_logs ys)) (sym (get_or-set_same words (tail_of n) ((now + 1) % 2 ^ 64) 0 there))
+          (counted_more (all_logs xs) (all_logs ys) l now refl grown h.counted);
       cells = λ k lt. subst (λ x. x < 2 ^ 32) (sym (apart k)) (h.cells k lt);
       stored = λ few.
           let before : All (HasStored n words) views = h.stored (omega arith) in
           let own : HasStored n others v = moved v (All-at (HasStored n words) views id v at before) in
-          let earlier : All (IsStored n others w.awaits) G =
+          let earlier : All (IsStored n others w.awaits) a.logs =
           subst (All (IsStored n others w.awaits)) mine
           (All-weaker (IsStored n others v.awaits) (IsStored n others w.awaits) (λ m has below free. has below (λ e. absurd (cc (idle, e)))) (all_logs v.accounts) own) in
           let latest : IsStored n others w.awaits l = (λ below free. absurd (free (awaited_is v.began.places now (subst (λ (m : Setup). now < m.places) (sym began) below)))) in
-          All-set (HasStored n others) views id w (subst (All (IsStored n others w.awaits)) (sym new) (All-push (IsStored n others w.awaits) G l earlier latest)) (All-weaker (HasStored n words) (HasStored n others) moved views before);
+          All-set (HasStored n others) views id w (subst (All (IsStored n others w.awaits)) (sym new) (All-push (IsStored n others w.awaits) a.logs l earlier latest)) (All-weaker (HasStored n words) (HasStored n others) moved views before);
     }
 
 -- a store at the place that was drawn
@@ -174,13 +166,14 @@ log_stores n words views id cell place v a at one awaits lt small there h =
     let l : Log = record { cell = cell; number = place } in
     let others = set words (place_of n place) cell in
     let w = settled v in
-    let r = around views id v at in
-    let F = all_logs (accounts_of r.front) in
-    let R = all_logs (accounts_of r.back) in
-    let mine : all_logs v.accounts ≡ a.logs ++ l ∷ [] = ap all_logs one ∙ append-nil (a.logs ++ l ∷ []) in
-    let was : all_logs (accounts_of views) ≡ F ++ ((a.logs ++ l ∷ []) ++ R) = ap (λ vs. all_logs (accounts_of vs)) r.is ∙ logs-around r.front r.back v ∙ ap (λ x. F ++ (x ++ R)) mine in
-    let all : all_logs (accounts_of (set views id w)) ≡ all_logs (accounts_of views) = ap (λ vs. all_logs (accounts_of vs)) (r.becomes w) ∙ logs-around r.front r.back w ∙ sym (logs-around r.front r.back v) ∙ ap (λ vs. all_logs (accounts_of vs)) (sym r.is) in
-    let grown : IsPermutation (l ∷ (F ++ (a.logs ++ R))) (all_logs (accounts_of views)) = subst (IsPermutation (l ∷ (F ++ (a.logs ++ R)))) (sym was) (pushed_inside F a.logs R l) in
+    let b = with_log a cell place in
+    let xs = accounts_of views in
+    let ys = accounts_of (set views id w) in
+    let r = replaced views id v w b b at one one in
+    let F = all_logs r.front in
+    let R = all_logs r.back in
+    let all : all_logs ys ≡ all_logs xs = entries_stay logs_of xs ys b b r refl in
+    let grown : IsPermutation (l ∷ (F ++ (a.logs ++ R))) (all_logs xs) = subst (IsPermutation (l ∷ (F ++ (a.logs ++ R)))) (sym (entries_were logs_of xs ys b b r)) (pushed_inside F a.logs R l) in
     let tail : slice_index others (tail_of n) ≡ slice_index words (tail_of n) = get_or-set_other words (place_of n place) (tail_of n) cell 0 (λ e. absurd (omega arith)) in
     let here : slice_index others (place_of n place) ≡ cell = get_or-set_same words (place_of n place) cell 0 there in
     let apart : (k : ℕ) → k ≢ place → slice_index others (place_of n k) ≡ slice_index words (place_of n k) = (λ k other. get_or-set_other words (place_of n place) (place_of n k) cell 0 (λ e. other (omega arith))) in
@@ -190,16 +183,16 @@ log_stores n words views id cell place v a at one awaits lt small there h =
     (λ (same : m.number ≡ place). ap (λ k. slice_index others (place_of n k)) same ∙ here ∙ sym (told same))
     (λ (other : m.number ≢ place). apart m.number other ∙ has below (frees other free))) in
     record {
-      counted = subst (IsCounted (all_logs (accounts_of (set views id w)))) (sym tail) (subst (λ x. IsCounted x (slice_index words (tail_of n))) (sym all) h.counted);
+      counted = subst (IsCounted (all_logs ys)) (sym tail) (subst (λ x. IsCounted x (slice_index words (tail_of n))) (sym all) h.counted);
       cells = λ k below.
           dite (ℕ_discrete k place)
           (λ (same : k ≡ place). subst (λ x. x < 2 ^ 32) (sym (ap (λ j. slice_index others (place_of n j)) same ∙ here)) small)
           (λ (other : k ≢ place). subst (λ x. x < 2 ^ 32) (sym (apart k other)) (h.cells k below));
       stored = λ few.
-          let few_before : log_count (accounts_of views) < 2 ^ 64 = subst (λ x. length x < 2 ^ 64) all few in
+          let few_before : log_count xs < 2 ^ 64 = subst (λ x. length x < 2 ^ 64) all few in
           let before : All (HasStored n words) views = h.stored few_before in
           let told : All (λ (u : View). All (λ (m : Log). m.number ≡ place → m.cell ≡ cell) (all_logs u.accounts)) views =
-          of_views (λ (m : Log). m.number ≡ place → m.cell ≡ cell) views (has_cell (all_logs (accounts_of views)) (F ++ (a.logs ++ R)) l (slice_index words (tail_of n)) grown few_before h.counted) in
+          of_views (λ (m : Log). m.number ≡ place → m.cell ≡ cell) views (has_cell (all_logs xs) (F ++ (a.logs ++ R)) l (slice_index words (tail_of n)) grown few_before h.counted) in
           let own = All-at (HasStored n words) views id v at before in
           let own_told = All-at (λ (u : View). All (λ (m : Log). m.number ≡ place → m.cell ≡ cell) (all_logs u.accounts)) views id v at told in
           All-set (HasStored n others) views id w

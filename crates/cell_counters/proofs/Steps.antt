@@ -1,5 +1,5 @@
 -- Each step keeps the rule.
-use Rattle.std.proofs.Common.{◌≡◌, ◌≢◌, ℕ, ◌+◌, ◌-◌, ◌%◌, ◌^◌, ◌<◌, ◌≤◌, List, [], ◌∷◌, length, set, min, ◌==◌, Bool, Some, None, refl, sym, ap, ◌∙◌, subst, arith}
+use Rattle.std.proofs.Common.{◌≡◌, ◌≢◌, ℕ, ◌+◌, ◌-◌, ◌%◌, ◌^◌, ◌<◌, ◌≤◌, List, [], ◌∷◌, length, set, min, ◌==◌, Some, None, refl, sym, ap, ◌∙◌, subst, arith}
 use Rattle.std.specs.Prelude.{slice_index}
 use mathlib.Core.Option.{none, some}
 use mathlib.Core.Logic.{dite, inr, ⊎_elim}
@@ -12,7 +12,7 @@ use Rattle.cell_counters.specs.declared.account.TheConstants.{NONE}
 use Rattle.cell_counters.specs.declared.account.Account.{Account}
 use Rattle.cell_counters.specs.declared.rule.Setup.{Setup}
 use Rattle.cell_counters.specs.declared.rule.View.{View}
-use Rattle.cell_counters.specs.Accounts.{IsLawfulCounter, answers, offers_on, all_logs}
+use Rattle.cell_counters.specs.Accounts.{IsLawfulCounter, answers, offers_on}
 use Rattle.cell_counters.specs.Tokens.{with_cut, with_offer, with_note, with_log}
 use Rattle.cell_counters.specs.inside.Rules.{Keeps, ExplainsCounters, ExplainsLeast, KeepsLog, Knows, Stands, accounts_of, account_of, tail_of, place_of, nobody, with_account, drawn, settled, Seated, Cuts, Offers, Notes, Draws, Stores}
 use Rattle.cell_counters.proofs.Lists.{All-at}
@@ -71,25 +71,21 @@ cut_counters starts words xs ys a counter there r h c lt =
     subst (IsLawfulCounter ys c (slice_index starts c)) (sym (get_or-set_other words counter c x 0 else))
     (counter_stays xs ys a (with_cut a counter x) c (slice_index starts c) (slice_index words c) r (answers-other_cut a counter c x (λ e. else (sym e))) (h c lt)))
 
-cut_least : (starts least words : List ℕ) (xs ys : List Account) (a : Account) (counter x : ℕ) → counter < length starts → Replaced xs ys a (with_cut a counter x) → ExplainsLeast starts least words xs → ExplainsLeast starts least (set words counter x) ys
-cut_least starts least words xs ys a counter x there r h w lt =
-    subst (Stands ys w (slice_index least w)) (sym (get_or-set_other words counter (length starts + w) x 0 (λ e. absurd (omega arith))))
-    (word_stays xs ys a (with_cut a counter x) w (slice_index least w) (slice_index words (length starts + w)) r refl (h w lt))
-
 pub cut_allowed : (n : Setup) (slots id counter : ℕ) (me : Seated) → me.0.accounts ≡ account_of me.0 ∷ [] → counter < length n.starts
     → Allows (Keeps n) slots id me counter (λ m. (m + (2 ^ 64 - 1)) % 2 ^ 64) (Cuts (step slots counter 1 0 none) me)
 cut_allowed n slots id counter me one there s h home at small =
     let x = (slice_index s.words counter + (2 ^ 64 - 1)) % 2 ^ 64 in
     let a = account_of me.0 in
     let b = with_cut a counter x in
-    let w = with_account me.0 b in (
+    let w = with_account me.0 b in
+    let ys = accounts_of (set s.views id w) in (
       w,
       keeps,
       tt,
       keeps_after n s counter x id me.0 w a b h at one refl refl refl
-          (λ r. cut_counters n.starts s.words (accounts_of s.views) (accounts_of (set s.views id w)) a counter (let width = h.width in omega arith) r h.cuts)
-          (λ r. cut_least n.starts n.least s.words (accounts_of s.views) (accounts_of (set s.views id w)) a counter x there r h.offers)
-          (log_stays n s.words (set s.words counter x) s.views id me.0 w at (ap all_logs (sym one)) refl (λ k past. get_or-set_other s.words counter k x 0 (λ e. absurd (omega arith))) h.log),
+          (λ r. cut_counters n.starts s.words (accounts_of s.views) ys a counter (let width = h.width in omega arith) r h.cuts)
+          (λ r. least_words n.starts n.least s.words (set s.words counter x) ys (λ k lt. get_or-set_other s.words counter (length n.starts + k) x 0 (λ e. absurd (omega arith))) (least_stay n.starts n.least s.words (accounts_of s.views) ys a b r (λ w. refl) h.offers))
+          (log_stays n s.words (set s.words counter x) s.views id me.0 w a b at one refl refl refl (λ k past. get_or-set_other s.words counter k x 0 (λ e. absurd (omega arith))) h.log),
       refl,
     )
 
@@ -110,14 +106,9 @@ note_allowed n slots id item me one s h home at small =
       keeps_after n s 0 (slice_index s.words 0) id me.0 w a b h at one refl refl refl
           (λ r. subst (λ words. ExplainsCounters n.starts words ys) (sym (loaded s.words 0)) (counters_stay n.starts s.words (accounts_of s.views) ys a b r (λ c. refl) h.cuts))
           (λ r. subst (λ words. ExplainsLeast n.starts n.least words ys) (sym (loaded s.words 0)) (least_stay n.starts n.least s.words (accounts_of s.views) ys a b r (λ c. refl) h.offers))
-          (log_stays n s.words (set s.words 0 (slice_index s.words 0)) s.views id me.0 w at (ap all_logs (sym one)) refl (λ k past. ap (λ words. slice_index words k) (loaded s.words 0)) h.log),
+          (log_stays n s.words (set s.words 0 (slice_index s.words 0)) s.views id me.0 w a b at one refl refl refl (λ k past. ap (λ words. slice_index words k) (loaded s.words 0)) h.log),
       refl,
     )
-
-offer_counters : (starts words : List ℕ) (xs ys : List Account) (a : Account) (at word value x : ℕ) (first : Bool) → length starts ≤ at → Replaced xs ys a (with_offer a word value first) → ExplainsCounters starts words xs → ExplainsCounters starts (set words at x) ys
-offer_counters starts words xs ys a at word value x first past r h c lt =
-    subst (IsLawfulCounter ys c (slice_index starts c)) (sym (get_or-set_other words at c x 0 (λ e. absurd (omega arith))))
-    (counter_stays xs ys a (with_offer a word value first) c (slice_index starts c) (slice_index words c) r refl (h c lt))
 
 offer_least : (starts least words : List ℕ) (xs ys : List Account) (a : Account) (at word value : ℕ) → at ≡ length starts + word → at < length words → value < NONE → Replaced xs ys a (with_offer a word value (slice_index words at == NONE)) → ExplainsLeast starts least words xs
     → ExplainsLeast starts least (set words at (min (slice_index words at) value)) ys
@@ -153,9 +144,9 @@ offer_allowed n slots id at value me one past there small s h home seat full =
       keeps,
       tt,
       keeps_after n s at (min found value) id me.0 w a b h seat one refl refl refl
-          (λ r. offer_counters n.starts s.words xs ys a at word value (min found value) (found == NONE) past r h.cuts)
+          (λ r. counters_words n.starts s.words (set s.words at (min found value)) ys (λ k lt. get_or-set_other s.words at k (min found value) 0 (λ e. absurd (omega arith))) (counters_stay n.starts s.words xs ys a b r (λ c. refl) h.cuts))
           (λ r. offer_least n.starts n.least s.words xs ys a at word value is (let width = h.width in omega arith) small r h.offers)
-          (log_stays n s.words (set s.words at (min found value)) s.views id me.0 w seat (ap all_logs (sym one)) refl (λ k behind. get_or-set_other s.words at k (min found value) 0 (λ e. absurd (omega arith))) h.log),
+          (log_stays n s.words (set s.words at (min found value)) s.views id me.0 w a b seat one refl refl refl (λ k behind. get_or-set_other s.words at k (min found value) 0 (λ e. absurd (omega arith))) h.log),
       (
         refl,
         λ free.
