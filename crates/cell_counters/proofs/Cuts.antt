@@ -8,16 +8,13 @@ use Rattle.std.proofs.lemmas.List.Sorted.{IsPermutation-refl, IsPermutation-tran
 use Rattle.cell_counters.specs.declared.account.Account.{Account}
 use Rattle.cell_counters.specs.Accounts.{minus, lefts, answers, all_answers, cut_count, IsLawfulCounter}
 use Rattle.cell_counters.specs.Tokens.{blank}
-use Rattle.cell_counters.proofs.Lists.{All-replaced, All-front, All-back, pushed_inside, IsStrictlyIncreasing-push}
+use Rattle.cell_counters.proofs.Lists.{All-front, All-back, IsStrictlyIncreasing-push}
 use Rattle.cell_counters.proofs.Countdown.{minus-zero, minus-more, minus-minus, lefts-more, numbers_below}
-use Rattle.cell_counters.proofs.Parts.{Replaced}
+use Rattle.cell_counters.proofs.Parts.{Replaced, entries_were, entries_stay, entries_grow, All-after}
 
 -- an account's cuts are in the order in which they were made
 abbrev pub InOrder : ℕ → ℕ → Account → Type 0
 InOrder counter start a = IsStrictlyIncreasing (map (minus start) (answers counter a))
-
-all_answers-around : (counter : ℕ) (front back : List Account) (a : Account) → all_answers counter (front ++ a ∷ back) ≡ all_answers counter front ++ (answers counter a ++ all_answers counter back)
-all_answers-around counter front back a = flat_map-append (answers counter) front (a ∷ back)
 
 -- with no account nothing was taken
 pub counter_begins : (counter start : ℕ) → start < 2 ^ 64 → IsLawfulCounter [] counter start start
@@ -37,16 +34,11 @@ counter_moved xs ys counter start now accounts same h =
 -- a step that adds no cut of this counter
 pub counter_stays : (xs ys : List Account) (a b : Account) (counter start now : ℕ) → Replaced xs ys a b → answers counter b ≡ answers counter a → IsLawfulCounter xs counter start now → IsLawfulCounter ys counter start now
 counter_stays xs ys a b counter start now r same h =
-    let all : all_answers counter ys ≡ all_answers counter xs =
-    ap (all_answers counter) r.is ∙ all_answers-around counter r.front r.back b ∙ ap (λ l. all_answers counter r.front ++ (l ++ all_answers counter r.back)) same
-    ∙ sym (all_answers-around counter r.front r.back a) ∙ ap (all_answers counter) (sym r.was) in
+    let all : all_answers counter ys ≡ all_answers counter xs = entries_stay (answers counter) xs ys a b r same in
     record {
       left = h.left ∙ ap (λ l. minus start (length l)) (sym all);
       answered = subst (λ l. IsPermutation (lefts start (length l)) l) (sym all) h.answered;
-      in_order = λ few.
-          subst (All (InOrder counter start)) (sym r.is)
-          (All-replaced (InOrder counter start) r.front r.back a b (subst (λ l. IsStrictlyIncreasing (map (minus start) l)) (sym same))
-          (subst (All (InOrder counter start)) r.was (h.in_order (subst (λ l. length l < 2 ^ 64) all few))));
+      in_order = λ few. All-after (InOrder counter start) xs ys a b r (subst (λ l. IsStrictlyIncreasing (map (minus start) l)) (sym same)) (h.in_order (subst (λ l. length l < 2 ^ 64) all few));
     }
 
 -- a cut of this counter
@@ -55,13 +47,9 @@ pub counter_cut : (xs ys : List Account) (a b : Account) (counter start now : �
 counter_cut xs ys a b counter start now r more h =
     let n = cut_count counter xs in
     let x = (now + (2 ^ 64 - 1)) % 2 ^ 64 in
-    let F = all_answers counter r.front in
     let G = answers counter a in
-    let R = all_answers counter r.back in
-    let was : all_answers counter xs ≡ F ++ (G ++ R) = ap (all_answers counter) r.was ∙ all_answers-around counter r.front r.back a in
-    let is : all_answers counter ys ≡ F ++ ((G ++ x ∷ []) ++ R) = ap (all_answers counter) r.is ∙ all_answers-around counter r.front r.back b ∙ ap (λ l. F ++ (l ++ R)) more in
     let left : x ≡ minus start (n + 1) = ap (λ m. (m + (2 ^ 64 - 1)) % 2 ^ 64) h.left ∙ minus-more start n in
-    let grown : IsPermutation (x ∷ all_answers counter xs) (all_answers counter ys) = subst (λ l. IsPermutation (x ∷ l) (all_answers counter ys)) (sym was) (subst (λ l. IsPermutation (x ∷ (F ++ (G ++ R))) l) (sym is) (pushed_inside F G R x)) in
+    let grown : IsPermutation (x ∷ all_answers counter xs) (all_answers counter ys) = entries_grow (answers counter) xs ys a b r x more in
     let count : cut_count counter ys ≡ n + 1 = length_permutation (x ∷ all_answers counter xs) (all_answers counter ys) grown ∙ omega arith in
     let lefts_is : lefts start n ++ x ∷ [] ≡ lefts start (n + 1) = ap (λ y. lefts start n ++ y ∷ []) left ∙ sym (lefts-more start n) in
     let all : IsPermutation (lefts start n ++ x ∷ []) (all_answers counter ys) =
@@ -74,12 +62,13 @@ counter_cut xs ys a b counter start now r more h =
           let small : n + 1 < 2 ^ 64 = omega arith in
           let numbers : All (λ answer. minus start answer ≤ n) (all_answers counter xs) = All-permutation (λ answer. minus start answer ≤ n) (lefts start n) (all_answers counter xs) h.answered (numbers_below start n (omega arith)) in
           let mine : All (λ answer. minus start answer ≤ n) G =
-          All-front (λ answer. minus start answer ≤ n) G R (All-back (λ answer. minus start answer ≤ n) F (G ++ R) (subst (All (λ answer. minus start answer ≤ n)) was numbers)) in
+          All-front (λ answer. minus start answer ≤ n) G (all_answers counter r.back)
+          (All-back (λ answer. minus start answer ≤ n) (all_answers counter r.front) (G ++ all_answers counter r.back) (subst (All (λ answer. minus start answer ≤ n)) (entries_were (answers counter) xs ys a b r) numbers)) in
           let number : minus start x ≡ n + 1 = ap (minus start) left ∙ minus-minus start (n + 1) small in
           let below : All (λ k. k < minus start x) (map (minus start) G) = All-map (λ k. k < minus start x) (minus start) G (All-weaker (λ answer. minus start answer ≤ n) (λ answer. minus start answer < minus start x) (λ answer le. omega arith) G mine) in
           let grows : InOrder counter start a → InOrder counter start b =
           (λ up. subst (λ l. IsStrictlyIncreasing (map (minus start) l)) (sym more) (subst IsStrictlyIncreasing (sym (map-append (minus start) G (x ∷ []))) (IsStrictlyIncreasing-push (map (minus start) G) (minus start x) up below))) in
-          subst (All (InOrder counter start)) (sym r.is) (All-replaced (InOrder counter start) r.front r.back a b grows (subst (All (InOrder counter start)) r.was (h.in_order (omega arith))));
+          All-after (InOrder counter start) xs ys a b r grows (h.in_order (omega arith));
     }
 
 -- one more account, of who has done nothing

@@ -1,18 +1,12 @@
 -- What one more entry in an account changes.
 use Rattle.std.proofs.Common.{◌≡◌, ◌≢◌, ℕ, ◌==◌, Bool, true, false, cond, List, [], ◌∷◌, ◌++◌, map, filter, eq-eqb, ne_eqb, refl, sym, ap, ◌∙◌, zero, suc, arith, Any}
-use Rattle.std.proofs.lemmas.List.{append-nil, map-append}
-use Rattle.std.proofs.lemmas.List.Elements.{filter-append}
+use Rattle.std.proofs.lemmas.List.{map-append}
 use Rattle.cell_counters.specs.declared.account.Cut.{Cut}
 use Rattle.cell_counters.specs.declared.account.Offer.{Offer}
 use Rattle.cell_counters.specs.declared.account.Account.{Account}
 use Rattle.cell_counters.specs.Accounts.{answers, offers_on}
 use Rattle.cell_counters.specs.Tokens.{with_cut, with_offer}
-
-filter_push_yes : {A : Type 0} (p : A → Bool) (xs : List A) (x : A) → p x ≡ true → filter p (xs ++ x ∷ []) ≡ filter p xs ++ x ∷ []
-filter_push_yes p xs x passes = filter-append p xs (x ∷ []) ∙ ap (λ b. filter p xs ++ cond b (x ∷ []) []) passes
-
-filter_push_no : {A : Type 0} (p : A → Bool) (xs : List A) (x : A) → p x ≡ false → filter p (xs ++ x ∷ []) ≡ filter p xs
-filter_push_no p xs x fails = filter-append p xs (x ∷ []) ∙ ap (λ b. filter p xs ++ cond b (x ∷ []) []) fails ∙ append-nil (filter p xs)
+use Rattle.cell_counters.proofs.Lists.{filter_push_yes, filter_push_no}
 
 pub answers-cut : (a : Account) (counter left : ℕ) → answers counter (with_cut a counter left) ≡ answers counter a ++ left ∷ []
 answers-cut a counter left =

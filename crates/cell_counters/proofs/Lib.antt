@@ -1,8 +1,10 @@
 pub mod Lists
+pub mod Counts
 pub mod Countdown
 pub mod Parts
 pub mod Cuts
 pub mod Offers
+pub mod Logs
 pub mod Entries
 pub mod Steps
 pub mod Roots

@@ -1,14 +1,14 @@
 -- Lists in which one element or one part changes or moves.
-use Rattle.std.proofs.Common.{◌≡◌, ℕ, zero, suc, ◌+◌, ◌<◌, List, [], ◌∷◌, ◌++◌, length, get_or, set, refl, sym, ap, ◌∙◌, subst, arith, All, IsPermutation, append_assoc}
+use Rattle.std.proofs.Common.{◌≡◌, ℕ, zero, suc, ◌+◌, ◌<◌, Bool, true, false, cond, filter, List, [], ◌∷◌, ◌++◌, length, get_or, set, refl, sym, ap, ◌∙◌, subst, arith, All, IsPermutation, append_assoc}
 use Rattle.std.specs.List.Sorted.{IsStrictlyIncreasing}
 use mathlib.Core.Option.{some, some-ne-none, some-injective}
 use mathlib.Core.Logic.{dite}
 use native.Mathlib.Decide.{dec_lt}
 use lib.ListN.{get_elem?}
-use Rattle.std.proofs.lemmas.List.{get_or_append_left, get_or_push, length_push}
+use Rattle.std.proofs.lemmas.List.{append-nil, get_or_append_left, get_or_push, length_push}
 use Rattle.std.specs.List.{flat_map}
 use Rattle.std.proofs.lemmas.List.Concat.{flat_map-append}
-use Rattle.std.proofs.lemmas.List.Elements.{All-cons, All-head, All-tail}
+use Rattle.std.proofs.lemmas.List.Elements.{All-cons, All-head, All-tail, All-append, filter-append}
 use Rattle.std.proofs.lemmas.List.Sorted.{IsPermutation-sym, IsPermutation-middle, IsPermutation-append_left, IsPermutation-append_right, IsPermutation-append_comm}
 
 module _ {A : Type 0} where
@@ -39,6 +39,11 @@ module _ {A : Type 0} where
   All-back P [] ys h = h
   All-back P (x ∷ xs) ys h = All-back P xs ys (All-tail P x (xs ++ ys) h)
 
+  pub All-at : (P : A → Type 0) (xs : List A) (i : ℕ) (a : A) → get_elem? xs i ≡ some a → All P xs → P a
+  All-at P [] i a e h = absurd (some-ne-none a (sym e))
+  All-at P (x ∷ xs) zero a e h = subst P (some-injective x a e) (All-head P x xs h)
+  All-at P (x ∷ xs) (suc i) a e h = All-at P xs i a e (All-tail P x xs h)
+
   -- one more element at the end of an inner part
   pub pushed_inside : (front part back : List A) (x : A) → IsPermutation (x ∷ (front ++ (part ++ back))) (front ++ ((part ++ x ∷ []) ++ back))
   pushed_inside front part back x =
@@ -66,6 +71,22 @@ flat_map_moved f front before part back =
     subst (λ l. IsPermutation l (flat_map f ((front ++ part) ++ (before ++ back)))) (sym was)
     (subst (λ l. IsPermutation (flat_map f front ++ (flat_map f before ++ (flat_map f part ++ flat_map f back))) l) (sym is)
     (part_moved (flat_map f front) (flat_map f before) (flat_map f part) (flat_map f back)))
+
+-- one more element, which passes a test or doesn't
+pub filter_push_yes : {A : Type 0} (p : A → Bool) (xs : List A) (x : A) → p x ≡ true → filter p (xs ++ x ∷ []) ≡ filter p xs ++ x ∷ []
+filter_push_yes p xs x passes = filter-append p xs (x ∷ []) ∙ ap (λ b. filter p xs ++ cond b (x ∷ []) []) passes
+
+pub filter_push_no : {A : Type 0} (p : A → Bool) (xs : List A) (x : A) → p x ≡ false → filter p (xs ++ x ∷ []) ≡ filter p xs
+filter_push_no p xs x fails = filter-append p xs (x ∷ []) ∙ ap (λ b. filter p xs ++ cond b (x ∷ []) []) fails ∙ append-nil (filter p xs)
+
+-- what holds of all parts' elements holds of each part's, and back
+pub All-parts : {A B : Type 0} (P : B → Type 0) (f : A → List B) (xs : List A) → All P (flat_map f xs) → All (λ x. All P (f x)) xs
+All-parts P f [] h = λ k d lt. absurd (omega arith)
+All-parts P f (x ∷ xs) h = All-cons (λ y. All P (f y)) x xs (All-front P (f x) (flat_map f xs) h) (All-parts P f xs (All-back P (f x) (flat_map f xs) h))
+
+pub All-joined : {A B : Type 0} (P : B → Type 0) (f : A → List B) (xs : List A) → All (λ x. All P (f x)) xs → All P (flat_map f xs)
+All-joined P f [] h = λ k d lt. absurd (omega arith)
+All-joined P f (x ∷ xs) h = All-append P (f x) (flat_map f xs) (All-head (λ y. All P (f y)) x xs h) (All-joined P f xs (All-tail (λ y. All P (f y)) x xs h))
 
 -- a greater number at the end keeps a list rising
 pub IsStrictlyIncreasing-push : (xs : List ℕ) (y : ℕ) → IsStrictlyIncreasing xs → All (λ x. x < y) xs → IsStrictlyIncreasing (xs ++ y ∷ [])

@@ -1,5 +1,5 @@
 -- What a step does to lawful accounts of a least word.
-use Rattle.std.proofs.Common.{◌≡◌, ◌≢◌, ℕ, zero, suc, ◌+◌, ◌^◌, ◌<◌, ◌≤◌, ◌==◌, Bool, false, cond, List, [], ◌∷◌, ◌++◌, length, drop, min, eq-eqb, ne_eqb, refl, sym, ap, ◌∙◌, subst, arith, All, Contains, IsPermutation, length-append}
+use Rattle.std.proofs.Common.{◌≡◌, ◌≢◌, ℕ, zero, suc, ◌+◌, ◌^◌, ◌<◌, ◌≤◌, ◌==◌, false, cond, List, [], ◌∷◌, ◌++◌, length, drop, min, eq-eqb, ne_eqb, refl, sym, ap, ◌∙◌, subst, arith, All, Contains, IsPermutation, length-append}
 use mathlib.Core.Logic.{dite}
 use native.Mathlib.Decide.{dec_le, dec_lt, ℕ_discrete}
 use Rattle.std.proofs.lemmas.List.{append-nil, length-map}
@@ -10,18 +10,15 @@ use Rattle.std.proofs.lemmas.List.Sorted.{IsPermutation-refl, IsPermutation-cons
 use Rattle.cell_counters.specs.declared.account.TheConstants.{NONE}
 use Rattle.cell_counters.specs.declared.account.Offer.{Offer}
 use Rattle.cell_counters.specs.declared.account.Account.{Account}
-use Rattle.cell_counters.specs.Accounts.{offers_on, all_offers, values, first_count, NoneIsFirst, IsLeastOf}
+use Rattle.cell_counters.specs.Accounts.{offers_on, all_offers, values, first_count, NoneIsFirst, IsLeastOf, IsLawfulLeast}
 use Rattle.cell_counters.specs.Tokens.{blank}
-use Rattle.cell_counters.specs.Rules.{Stands}
-use Rattle.cell_counters.proofs.Lists.{All-replaced, pushed_inside}
-use Rattle.cell_counters.proofs.Parts.{Replaced}
+use Rattle.cell_counters.specs.inside.Rules.{Stands}
+use Rattle.cell_counters.proofs.Counts.{one_if}
+use Rattle.cell_counters.proofs.Parts.{Replaced, entries_were, entries_stay, entries_grow, All-after}
 
 -- of an account only the earliest offer may be first
 abbrev pub OnlyEarliest : ℕ → Account → Type 0
 OnlyEarliest word a = NoneIsFirst (drop 1 (offers_on word a))
-
-all_offers-around : (word : ℕ) (front back : List Account) (a : Account) → all_offers word (front ++ a ∷ back) ≡ all_offers word front ++ (offers_on word a ++ all_offers word back)
-all_offers-around word front back a = flat_map-append (offers_on word) front (a ∷ back)
 
 -- the least of some numbers, in another order
 pub least_moved : (xs ys : List ℕ) (n : ℕ) → IsPermutation xs ys → IsLeastOf xs n → IsLeastOf ys n
@@ -45,13 +42,12 @@ least_more s k xs n h =
     among (suc i, lt, e) = (suc (suc i), omega arith, e)
 
 -- with no account nothing was offered
+pub least_begins : (word start : ℕ) → IsLawfulLeast [] word start start
+least_begins word start =
+    record { least = ((0, omega arith, refl), All-cons (λ m. start ≤ m) start [] (omega arith) (All-nil (λ m. start ≤ m))); one_first = λ free some. absurd (omega arith); none_first = λ taken. refl; earliest = All-nil (OnlyEarliest word) }
+
 pub word_begins : (word start : ℕ) → start < 2 ^ 64 → Stands [] word start start
-word_begins word start small =
-    record {
-      lawful = record { least = ((0, omega arith, refl), All-cons (λ m. start ≤ m) start [] (omega arith) (All-nil (λ m. start ≤ m))); one_first = λ free some. absurd (omega arith); none_first = λ taken. refl; earliest = All-nil (OnlyEarliest word) };
-      offered = λ some. absurd (omega arith);
-      taken = λ apart. omega arith;
-    }
+word_begins word start small = record { lawful = least_begins word start; offered = λ some. absurd (omega arith); taken = λ apart. omega arith }
 
 -- the offers are the same, maybe in another order
 pub word_moved : (xs ys : List Account) (word start now : ℕ) → All (OnlyEarliest word) ys → IsPermutation (all_offers word xs) (all_offers word ys) → Stands xs word start now → Stands ys word start now
@@ -72,11 +68,8 @@ word_moved xs ys word start now earliest same h =
 -- a step that adds no offer on this word
 pub word_stays : (xs ys : List Account) (a b : Account) (word start now : ℕ) → Replaced xs ys a b → offers_on word b ≡ offers_on word a → Stands xs word start now → Stands ys word start now
 word_stays xs ys a b word start now r same h =
-    let all : all_offers word xs ≡ all_offers word ys =
-    ap (all_offers word) r.was ∙ all_offers-around word r.front r.back a ∙ ap (λ l. all_offers word r.front ++ (l ++ all_offers word r.back)) (sym same)
-    ∙ sym (all_offers-around word r.front r.back b) ∙ ap (all_offers word) (sym r.is) in
-    let earliest : All (OnlyEarliest word) ys =
-    subst (All (OnlyEarliest word)) (sym r.is) (All-replaced (OnlyEarliest word) r.front r.back a b (subst (λ l. NoneIsFirst (drop 1 l)) (sym same)) (subst (All (OnlyEarliest word)) r.was h.lawful.earliest)) in
+    let all : all_offers word xs ≡ all_offers word ys = sym (entries_stay (offers_on word) xs ys a b r same) in
+    let earliest : All (OnlyEarliest word) ys = All-after (OnlyEarliest word) xs ys a b r (subst (λ l. NoneIsFirst (drop 1 l)) (sym same)) h.lawful.earliest in
     word_moved xs ys word start now earliest (subst (IsPermutation (all_offers word xs)) all (IsPermutation-refl (all_offers word xs))) h
 
 -- one more account, of who has done nothing
@@ -84,9 +77,6 @@ pub word_welcomes : (xs : List Account) (word start now : ℕ) → Stands xs wor
 word_welcomes xs word start now h =
     let all : all_offers word xs ≡ all_offers word (xs ++ blank ∷ []) = sym (flat_map-append (offers_on word) xs (blank ∷ []) ∙ append-nil (all_offers word xs)) in
     word_moved xs (xs ++ blank ∷ []) word start now (All-push (OnlyEarliest word) xs blank h.lawful.earliest (λ k d lt. absurd (omega arith))) (subst (IsPermutation (all_offers word xs)) all (IsPermutation-refl (all_offers word xs))) h
-
-abbrev pub one_if : Bool → ℕ
-one_if b = cond b 1 0
 
 one_if_free : (n : ℕ) → n ≡ NONE → one_if (n == NONE) ≡ 1
 one_if_free n e = ap one_if (eq-eqb n NONE e)
@@ -108,20 +98,23 @@ earliest_push : (os : List Offer) (o : Offer) → NoneIsFirst (drop 1 os) → (0
 earliest_push [] o none later = All-nil (λ (p : Offer). p.first ≡ false)
 earliest_push (x ∷ xs) o none later = All-push (λ (p : Offer). p.first ≡ false) xs o none (later (omega arith))
 
+-- an account's offers are among all
+own_within : (xs ys : List Account) (a b : Account) (word : ℕ) → Replaced xs ys a b → length (offers_on word a) ≤ length (all_offers word xs)
+own_within xs ys a b word r =
+    let F = all_offers word r.front in
+    let R = all_offers word r.back in
+    omega (arith, ap length (entries_were (offers_on word) xs ys a b r), length-append F (offers_on word a ++ R), length-append (offers_on word a) R)
+
 -- an offer on this word
 pub word_offered : (xs ys : List Account) (a b : Account) (word start now value : ℕ) → Replaced xs ys a b → offers_on word b ≡ offers_on word a ++ record { word = word; value = value; first = now == NONE } ∷ [] → value < NONE → Stands xs word start now
     → Stands ys word start (min now value)
 word_offered xs ys a b word start now value r more small h =
     let o : Offer = record { word = word; value = value; first = now == NONE } in
-    let F = all_offers word r.front in
     let G = offers_on word a in
-    let R = all_offers word r.back in
-    let was : all_offers word xs ≡ F ++ (G ++ R) = ap (all_offers word) r.was ∙ all_offers-around word r.front r.back a in
-    let is : all_offers word ys ≡ F ++ ((G ++ o ∷ []) ++ R) = ap (all_offers word) r.is ∙ all_offers-around word r.front r.back b ∙ ap (λ l. F ++ (l ++ R)) more in
-    let grown : IsPermutation (o ∷ all_offers word xs) (all_offers word ys) = subst (λ l. IsPermutation (o ∷ l) (all_offers word ys)) (sym was) (subst (λ l. IsPermutation (o ∷ (F ++ (G ++ R))) l) (sym is) (pushed_inside F G R o)) in
+    let grown : IsPermutation (o ∷ all_offers word xs) (all_offers word ys) = entries_grow (offers_on word) xs ys a b r o more in
     let firsts : first_count (all_offers word ys) ≡ one_if (now == NONE) + first_count (all_offers word xs) =
     sum_by-IsPermutation (λ (p : Offer). one_if p.first) (o ∷ all_offers word xs) (all_offers word ys) grown ∙ sum_by-cons (λ (p : Offer). one_if p.first) o (all_offers word xs) in
-    let earlier : 0 < length G → 0 < length (all_offers word xs) = (λ some. omega (arith, ap length was, length-append F (G ++ R), length-append G R)) in
+    let earlier : 0 < length G → 0 < length (all_offers word xs) = (λ some. let within = own_within xs ys a b word r in omega arith) in
     let not_first : now < NONE → first_count (all_offers word ys) ≡ first_count (all_offers word xs) =
     (λ lt. let none : one_if (now == NONE) ≡ 0 = one_if_taken now (λ e. absurd (omega arith)) in omega (arith, firsts)) in
     record {
@@ -137,9 +130,9 @@ word_offered xs ys a b word start now value r more small h =
             let others : first_count (all_offers word xs) ≤ length (all_offers word xs) = count_by-le-length (λ (p : Offer). p.first) (all_offers word xs) in
             omega (arith, firsts));
         none_first = λ taken. not_first (h.taken taken) ∙ h.lawful.none_first taken;
-        earliest = subst (All (OnlyEarliest word)) (sym r.is) (All-replaced (OnlyEarliest word) r.front r.back a b
+        earliest = All-after (OnlyEarliest word) xs ys a b r
             (λ none. subst (λ l. NoneIsFirst (drop 1 l)) (sym more) (earliest_push G o none (λ some. ne_eqb now NONE (λ e. let lt : now < NONE = h.offered (earlier some) in absurd (omega arith)))))
-            (subst (All (OnlyEarliest word)) r.was h.lawful.earliest));
+            h.lawful.earliest;
       };
       offered = λ some. omega arith;
       taken = λ apart. omega arith;
@@ -148,13 +141,9 @@ word_offered xs ys a b word start now value r more small h =
 -- an offer that found the word free: the word began free, and the account has no earlier offer on it
 pub found_free : (xs ys : List Account) (a b : Account) (word start now : ℕ) → Replaced xs ys a b → Stands xs word start now → now ≡ NONE → (start ≡ NONE) × (offers_on word a ≡ [])
 found_free xs ys a b word start now r h free =
-    let G = offers_on word a in
-    let F = all_offers word r.front in
-    let R = all_offers word r.back in
-    let was : all_offers word xs ≡ F ++ (G ++ R) = ap (all_offers word) r.was ∙ all_offers-around word r.front r.back a in
-    let count : length (all_offers word xs) ≡ length F + (length G + length R) = ap length was ∙ length-append F (G ++ R) ∙ ap (λ n. length F + n) (length-append G R) in (
+    let within = own_within xs ys a b word r in (
       dite (ℕ_discrete start NONE) (λ (e : start ≡ NONE). e) (λ (apart : start ≢ NONE). let lt : now < NONE = h.taken apart in absurd (omega arith)),
-      none G (λ some. let lt : now < NONE = h.offered (omega arith) in omega arith),
+      none (offers_on word a) (λ some. let lt : now < NONE = h.offered (omega arith) in omega arith),
     )
   where
     none : (os : List Offer) → ¬ (0 < length os) → os ≡ []

@@ -1,12 +1,13 @@
 -- The accounts of all views, where one view changes.
-use Rattle.std.proofs.Common.{◌≡◌, ℕ, zero, suc, List, [], ◌∷◌, ◌++◌, length, set, refl, sym, ap, ◌∙◌, length-append}
+use Rattle.std.proofs.Common.{◌≡◌, ℕ, zero, suc, List, [], ◌∷◌, ◌++◌, length, set, refl, sym, ap, ◌∙◌, subst, All, IsPermutation, length-append}
+use Rattle.std.specs.List.{flat_map}
 use Rattle.std.proofs.lemmas.List.Concat.{flat_map-append}
 use mathlib.Core.Option.{some, some-injective}
 use lib.ListN.{get_elem?}
 use Rattle.cell_counters.specs.declared.account.Account.{Account}
 use Rattle.cell_counters.specs.declared.rule.View.{View}
-use Rattle.cell_counters.specs.Rules.{accounts_of, made_of}
-use Rattle.cell_counters.proofs.Lists.{around}
+use Rattle.cell_counters.specs.inside.Rules.{accounts_of, made_of}
+use Rattle.cell_counters.proofs.Lists.{around, All-replaced, pushed_inside}
 
 -- one account became another
 pub record Replaced (before after : List Account) (a b : Account) : Type 0 where
@@ -14,6 +15,29 @@ pub record Replaced (before after : List Account) (a b : Account) : Type 0 where
   pub back : List Account
   pub was : before ≡ front ++ a ∷ back
   pub is : after ≡ front ++ b ∷ back
+
+module _ {X : Type 0} (f : Account → List X) (xs ys : List Account) (a b : Account) (r : Replaced xs ys a b) where
+  -- the entries of all accounts, around those of the one
+  pub entries_were : flat_map f xs ≡ flat_map f r.front ++ (f a ++ flat_map f r.back)
+  entries_were = ap (flat_map f) r.was ∙ flat_map-append f r.front (a ∷ r.back)
+
+  entries_are : flat_map f ys ≡ flat_map f r.front ++ (f b ++ flat_map f r.back)
+  entries_are = ap (flat_map f) r.is ∙ flat_map-append f r.front (b ∷ r.back)
+
+  -- a step that adds no entry
+  pub entries_stay : f b ≡ f a → flat_map f ys ≡ flat_map f xs
+  entries_stay same = entries_are ∙ ap (λ l. flat_map f r.front ++ (l ++ flat_map f r.back)) same ∙ sym entries_were
+
+  -- a step that adds one
+  pub entries_grow : (x : X) → f b ≡ f a ++ x ∷ [] → IsPermutation (x ∷ flat_map f xs) (flat_map f ys)
+  entries_grow x more =
+      let F = flat_map f r.front in
+      let R = flat_map f r.back in
+      subst (λ l. IsPermutation (x ∷ l) (flat_map f ys)) (sym entries_were) (subst (IsPermutation (x ∷ (F ++ (f a ++ R)))) (sym (entries_are ∙ ap (λ l. F ++ (l ++ R)) more)) (pushed_inside F (f a) R x))
+
+-- what holds of all accounts before, and is kept by the one, holds of all after
+pub All-after : (P : Account → Type 0) (xs ys : List Account) (a b : Account) → Replaced xs ys a b → (P a → P b) → All P xs → All P ys
+All-after P xs ys a b r keeps h = subst (All P) (sym r.is) (All-replaced P r.front r.back a b keeps (subst (All P) r.was h))
 
 pub accounts_around : (front back : List View) (v : View) (a : Account) → v.accounts ≡ a ∷ [] → accounts_of (front ++ v ∷ back) ≡ accounts_of front ++ a ∷ accounts_of back
 accounts_around front back v a one = flat_map-append (λ (u : View). u.accounts) front (v ∷ back) ∙ ap (λ l. accounts_of front ++ (l ++ accounts_of back)) one

@@ -1,36 +1,62 @@
 -- Each step keeps the rule.
-use Rattle.std.proofs.Common.{◌≡◌, ◌≢◌, ℕ, ◌+◌, ◌-◌, ◌%◌, ◌^◌, ◌<◌, ◌≤◌, List, [], ◌∷◌, length, set, min, ◌==◌, Bool, refl, sym, ap, ◌∙◌, subst, arith}
+use Rattle.std.proofs.Common.{◌≡◌, ◌≢◌, ℕ, ◌+◌, ◌-◌, ◌%◌, ◌^◌, ◌<◌, ◌≤◌, List, [], ◌∷◌, length, set, min, ◌==◌, Some, None, refl, sym, ap, ◌∙◌, subst, arith}
 use Rattle.std.specs.Prelude.{slice_index}
 use mathlib.Core.Option.{none, some}
-use mathlib.Core.Logic.{dite}
+use mathlib.Core.Logic.{dite, inr, ⊎_elim}
 use native.Mathlib.Decide.{ℕ_discrete}
 use lib.ListN.{get_elem?}
 use Rattle.std.proofs.lemmas.List.{get_or-set_same, get_or-set_other, length-set, set-get_or}
+use Rattle.std.proofs.lemmas.List.Elements.{All-set}
 use Rattle.atomic_table.specs.Table.{State, Allows, step, keeps}
 use Rattle.cell_counters.specs.declared.account.TheConstants.{NONE}
 use Rattle.cell_counters.specs.declared.account.Account.{Account}
+use Rattle.cell_counters.specs.declared.rule.Setup.{Setup}
 use Rattle.cell_counters.specs.declared.rule.View.{View}
-use Rattle.cell_counters.specs.Accounts.{IsLawfulCounter}
-use Rattle.cell_counters.specs.Tokens.{with_cut, with_offer, with_note}
-use Rattle.cell_counters.specs.Rules.{Keeps, ExplainsCounters, ExplainsLeast, Stands, accounts_of, account_of, with_account, Seated, Cuts, Offers, Notes}
+use Rattle.cell_counters.specs.Accounts.{IsLawfulCounter, answers, offers_on}
+use Rattle.cell_counters.specs.Tokens.{with_cut, with_offer, with_note, with_log}
+use Rattle.cell_counters.specs.inside.Rules.{Keeps, ExplainsCounters, ExplainsLeast, KeepsLog, Knows, Stands, accounts_of, account_of, tail_of, place_of, nobody, with_account, drawn, settled, Seated, Cuts, Offers, Notes, Draws, Stores}
+use Rattle.cell_counters.proofs.Lists.{All-at}
+use Rattle.cell_counters.proofs.Logs.{log_stays, log_draws, log_stores}
 use Rattle.cell_counters.proofs.Parts.{Replaced, replaced, made_of-set, length-replaced}
 use Rattle.cell_counters.proofs.Cuts.{counter_stays, counter_cut}
 use Rattle.cell_counters.proofs.Offers.{word_stays, word_offered, found_free}
 use Rattle.cell_counters.proofs.Entries.{answers-cut, answers-other_cut, offers_on-offer, offers_on-other_offer}
 
--- the rule after a step of a hand, whose account a became b
-keeps_after : (starts least : List ℕ) (s : State (Unit {0}) View) (i x id : ℕ) (v : View) (b : Account) → Keeps starts least s → get_elem? s.views id ≡ some v → v.accounts ≡ account_of v ∷ []
-    → (Replaced (accounts_of s.views) (accounts_of (set s.views id (with_account v b))) (account_of v) b → ExplainsCounters starts (set s.words i x) (accounts_of (set s.views id (with_account v b))))
-    → (Replaced (accounts_of s.views) (accounts_of (set s.views id (with_account v b))) (account_of v) b → ExplainsLeast starts least (set s.words i x) (accounts_of (set s.views id (with_account v b))))
-    → Keeps starts least (record { words = set s.words i x; homes = s.homes; views = set s.views id (with_account v b) })
-keeps_after starts least s i x id v b h at one cuts offers =
-    let r = replaced s.views id v (with_account v b) (account_of v) b at one refl in
+-- a view with an account knows how the board began
+pub hand_knows : (n : Setup) (s : State (Unit {0}) View) (id : ℕ) (v : View) (a : Account) → Keeps n s → get_elem? s.views id ≡ some v → v.accounts ≡ a ∷ [] → v.began ≡ n
+hand_knows n s id v a h at one = ⊎_elim (λ (e : v ≡ nobody). absurd (cc (ap (λ (u : View). u.accounts) e, one))) (λ (e : v.began ≡ n). e) (All-at (Knows n) s.views id v at h.known)
+
+-- the rule after a step of a hand, whose view v became w and its account a became b
+keeps_after : (n : Setup) (s : State (Unit {0}) View) (i x id : ℕ) (v w : View) (a b : Account) → Keeps n s → get_elem? s.views id ≡ some v → v.accounts ≡ a ∷ [] → w.accounts ≡ b ∷ [] → w.made ≡ v.made → w.began ≡ v.began
+    → (Replaced (accounts_of s.views) (accounts_of (set s.views id w)) a b → ExplainsCounters n.starts (set s.words i x) (accounts_of (set s.views id w)))
+    → (Replaced (accounts_of s.views) (accounts_of (set s.views id w)) a b → ExplainsLeast n.starts n.least (set s.words i x) (accounts_of (set s.views id w)))
+    → KeepsLog n (set s.words i x) (set s.views id w)
+    → Keeps n (record { words = set s.words i x; homes = s.homes; views = set s.views id w })
+keeps_after n s i x id v w a b h at one other made began cuts offers log =
+    let r = replaced s.views id v w a b at one other in
     record {
       width = length-set s.words i x ∙ h.width;
-      made = made_of-set s.views id v (with_account v b) at refl ∙ h.made ∙ sym (length-replaced (accounts_of s.views) (accounts_of (set s.views id (with_account v b))) (account_of v) b r);
+      made = made_of-set s.views id v w at made ∙ h.made ∙ sym (length-replaced (accounts_of s.views) (accounts_of (set s.views id w)) a b r);
+      known = All-set (Knows n) s.views id w (inr (began ∙ hand_knows n s id v a h at one)) h.known;
       cuts = cuts r;
       offers = offers r;
+      log = log;
     }
+
+-- a step that adds no cut
+counters_stay : (starts words : List ℕ) (xs ys : List Account) (a b : Account) → Replaced xs ys a b → ((c : ℕ) → answers c b ≡ answers c a) → ExplainsCounters starts words xs → ExplainsCounters starts words ys
+counters_stay starts words xs ys a b r same h c lt = counter_stays xs ys a b c (slice_index starts c) (slice_index words c) r (same c) (h c lt)
+
+-- a step that adds no offer
+least_stay : (starts least words : List ℕ) (xs ys : List Account) (a b : Account) → Replaced xs ys a b → ((w : ℕ) → offers_on w b ≡ offers_on w a) → ExplainsLeast starts least words xs → ExplainsLeast starts least words ys
+least_stay starts least words xs ys a b r same h w lt = word_stays xs ys a b w (slice_index least w) (slice_index words (length starts + w)) r (same w) (h w lt)
+
+-- the words of the counters alone count for the counters, and those of the least words for the least words
+counters_words : (starts words others : List ℕ) (xs : List Account) → ((k : ℕ) → k < length starts → slice_index others k ≡ slice_index words k) → ExplainsCounters starts words xs → ExplainsCounters starts others xs
+counters_words starts words others xs same h c lt = subst (IsLawfulCounter xs c (slice_index starts c)) (sym (same c lt)) (h c lt)
+
+least_words : (starts least words others : List ℕ) (xs : List Account) → ((k : ℕ) → k < length least → slice_index others (length starts + k) ≡ slice_index words (length starts + k)) → ExplainsLeast starts least words xs → ExplainsLeast starts least others xs
+least_words starts least words others xs same h w lt = subst (Stands xs w (slice_index least w)) (sym (same w lt)) (h w lt)
 
 cut_counters : (starts words : List ℕ) (xs ys : List Account) (a : Account) (counter : ℕ) → let x = (slice_index words counter + (2 ^ 64 - 1)) % 2 ^ 64 in
     counter < length words → Replaced xs ys a (with_cut a counter x) → ExplainsCounters starts words xs → ExplainsCounters starts (set words counter x) ys
@@ -45,22 +71,21 @@ cut_counters starts words xs ys a counter there r h c lt =
     subst (IsLawfulCounter ys c (slice_index starts c)) (sym (get_or-set_other words counter c x 0 else))
     (counter_stays xs ys a (with_cut a counter x) c (slice_index starts c) (slice_index words c) r (answers-other_cut a counter c x (λ e. else (sym e))) (h c lt)))
 
-cut_least : (starts least words : List ℕ) (xs ys : List Account) (a : Account) (counter x : ℕ) → counter < length starts → Replaced xs ys a (with_cut a counter x) → ExplainsLeast starts least words xs → ExplainsLeast starts least (set words counter x) ys
-cut_least starts least words xs ys a counter x there r h w lt =
-    subst (Stands ys w (slice_index least w)) (sym (get_or-set_other words counter (length starts + w) x 0 (λ e. absurd (omega arith))))
-    (word_stays xs ys a (with_cut a counter x) w (slice_index least w) (slice_index words (length starts + w)) r refl (h w lt))
-
-pub cut_allowed : (starts least : List ℕ) (slots id counter : ℕ) (me : Seated) → me.0.accounts ≡ account_of me.0 ∷ [] → counter < length starts
-    → Allows (Keeps starts least) slots id me counter (λ n. (n + (2 ^ 64 - 1)) % 2 ^ 64) (Cuts (step slots counter 1 0 none) me)
-cut_allowed starts least slots id counter me one there s h home at small =
+pub cut_allowed : (n : Setup) (slots id counter : ℕ) (me : Seated) → me.0.accounts ≡ account_of me.0 ∷ [] → counter < length n.starts
+    → Allows (Keeps n) slots id me counter (λ m. (m + (2 ^ 64 - 1)) % 2 ^ 64) (Cuts (step slots counter 1 0 none) me)
+cut_allowed n slots id counter me one there s h home at small =
     let x = (slice_index s.words counter + (2 ^ 64 - 1)) % 2 ^ 64 in
-    let b = with_cut (account_of me.0) counter x in (
-      with_account me.0 b,
+    let a = account_of me.0 in
+    let b = with_cut a counter x in
+    let w = with_account me.0 b in
+    let ys = accounts_of (set s.views id w) in (
+      w,
       keeps,
       tt,
-      keeps_after starts least s counter x id me.0 b h at one
-          (λ r. cut_counters starts s.words (accounts_of s.views) (accounts_of (set s.views id (with_account me.0 b))) (account_of me.0) counter (let w = h.width in omega arith) r h.cuts)
-          (λ r. cut_least starts least s.words (accounts_of s.views) (accounts_of (set s.views id (with_account me.0 b))) (account_of me.0) counter x there r h.offers),
+      keeps_after n s counter x id me.0 w a b h at one refl refl refl
+          (λ r. cut_counters n.starts s.words (accounts_of s.views) ys a counter (let width = h.width in omega arith) r h.cuts)
+          (λ r. least_words n.starts n.least s.words (set s.words counter x) ys (λ k lt. get_or-set_other s.words counter (length n.starts + k) x 0 (λ e. absurd (omega arith))) (least_stay n.starts n.least s.words (accounts_of s.views) ys a b r (λ w. refl) h.offers))
+          (log_stays n s.words (set s.words counter x) s.views id me.0 w a b at one refl refl refl (λ k past. get_or-set_other s.words counter k x 0 (λ e. absurd (omega arith))) h.log),
       refl,
     )
 
@@ -68,27 +93,22 @@ cut_allowed starts least slots id counter me one there s h home at small =
 loaded : (words : List ℕ) (i : ℕ) → set words i (slice_index words i) ≡ words
 loaded words i = set-get_or words i 0
 
-pub note_allowed : (starts least : List ℕ) (slots id item : ℕ) (me : Seated) → me.0.accounts ≡ account_of me.0 ∷ []
-    → Allows (Keeps starts least) slots id me 0 (λ n. n) (Notes item (step slots 0 0 0 none) me)
-note_allowed starts least slots id item me one s h home at small =
+pub note_allowed : (n : Setup) (slots id item : ℕ) (me : Seated) → me.0.accounts ≡ account_of me.0 ∷ []
+    → Allows (Keeps n) slots id me 0 (λ m. m) (Notes item (step slots 0 0 0 none) me)
+note_allowed n slots id item me one s h home at small =
     let a = account_of me.0 in
     let b = with_note a item in
-    let ys = accounts_of (set s.views id (with_account me.0 b)) in (
-      with_account me.0 b,
+    let w = with_account me.0 b in
+    let ys = accounts_of (set s.views id w) in (
+      w,
       keeps,
       tt,
-      keeps_after starts least s 0 (slice_index s.words 0) id me.0 b h at one
-          (λ r c lt. subst (λ words. IsLawfulCounter ys c (slice_index starts c) (slice_index words c)) (sym (loaded s.words 0))
-          (counter_stays (accounts_of s.views) ys a b c (slice_index starts c) (slice_index s.words c) r refl (h.cuts c lt)))
-          (λ r w lt. subst (λ words. Stands ys w (slice_index least w) (slice_index words (length starts + w))) (sym (loaded s.words 0))
-          (word_stays (accounts_of s.views) ys a b w (slice_index least w) (slice_index s.words (length starts + w)) r refl (h.offers w lt))),
+      keeps_after n s 0 (slice_index s.words 0) id me.0 w a b h at one refl refl refl
+          (λ r. subst (λ words. ExplainsCounters n.starts words ys) (sym (loaded s.words 0)) (counters_stay n.starts s.words (accounts_of s.views) ys a b r (λ c. refl) h.cuts))
+          (λ r. subst (λ words. ExplainsLeast n.starts n.least words ys) (sym (loaded s.words 0)) (least_stay n.starts n.least s.words (accounts_of s.views) ys a b r (λ c. refl) h.offers))
+          (log_stays n s.words (set s.words 0 (slice_index s.words 0)) s.views id me.0 w a b at one refl refl refl (λ k past. ap (λ words. slice_index words k) (loaded s.words 0)) h.log),
       refl,
     )
-
-offer_counters : (starts words : List ℕ) (xs ys : List Account) (a : Account) (at word value x : ℕ) (first : Bool) → length starts ≤ at → Replaced xs ys a (with_offer a word value first) → ExplainsCounters starts words xs → ExplainsCounters starts (set words at x) ys
-offer_counters starts words xs ys a at word value x first past r h c lt =
-    subst (IsLawfulCounter ys c (slice_index starts c)) (sym (get_or-set_other words at c x 0 (λ e. absurd (omega arith))))
-    (counter_stays xs ys a (with_offer a word value first) c (slice_index starts c) (slice_index words c) r refl (h c lt))
 
 offer_least : (starts least words : List ℕ) (xs ys : List Account) (a : Account) (at word value : ℕ) → at ≡ length starts + word → at < length words → value < NONE → Replaced xs ys a (with_offer a word value (slice_index words at == NONE)) → ExplainsLeast starts least words xs
     → ExplainsLeast starts least (set words at (min (slice_index words at) value)) ys
@@ -107,27 +127,68 @@ offer_least starts least words xs ys a at word value is there small r h w lt =
     subst (Stands ys w (slice_index least w)) (sym (get_or-set_other words at (length starts + w) (min found value) 0 (λ e. else (omega arith))))
     (word_stays xs ys a b w (slice_index least w) (slice_index words (length starts + w)) r (offers_on-other_offer a word w value (found == NONE) (λ e. else (sym e))) (h w lt)))
 
-pub offer_allowed : (starts least : List ℕ) (slots id at value : ℕ) (me : Seated) → me.0.accounts ≡ account_of me.0 ∷ [] → me.0.starts ≡ starts → me.0.least ≡ least → length starts ≤ at → at < length starts + length least → value < NONE
-    → Allows (Keeps starts least) slots id me at (λ n. min n value) (Offers (step slots at value 0 none) me)
-offer_allowed starts least slots id at value me one same_starts same_least past there small s h home seat full =
-    let word = at - length me.0.starts in
-    let is : at ≡ length starts + word = omega (arith, ap length same_starts) in
+pub offer_allowed : (n : Setup) (slots id at value : ℕ) (me : Seated) → me.0.accounts ≡ account_of me.0 ∷ [] → length n.starts ≤ at → at < tail_of n → value < NONE
+    → Allows (Keeps n) slots id me at (λ m. min m value) (Offers (step slots at value 0 none) me)
+offer_allowed n slots id at value me one past there small s h home seat full =
+    let began : me.0.began ≡ n = hand_knows n s id me.0 (account_of me.0) h seat one in
+    let word = at - length me.0.began.starts in
+    let is : at ≡ length n.starts + word = omega (arith, ap (λ (m : Setup). length m.starts) began) in
     let found = slice_index s.words at in
     let a = account_of me.0 in
     let b = with_offer a word value (found == NONE) in
+    let w = with_account me.0 b in
     let xs = accounts_of s.views in
-    let ys = accounts_of (set s.views id (with_account me.0 b)) in
-    let was : Stands xs word (slice_index least word) found = subst (λ k. Stands xs word (slice_index least word) (slice_index s.words k)) (sym is) (h.offers word (omega arith)) in (
-      with_account me.0 b,
+    let ys = accounts_of (set s.views id w) in
+    let was : Stands xs word (slice_index n.least word) found = subst (λ k. Stands xs word (slice_index n.least word) (slice_index s.words k)) (sym is) (h.offers word (omega arith)) in (
+      w,
       keeps,
       tt,
-      keeps_after starts least s at (min found value) id me.0 b h seat one
-          (λ r. offer_counters starts s.words xs ys a at word value (min found value) (found == NONE) past r h.cuts)
-          (λ r. offer_least starts least s.words xs ys a at word value is (let w = h.width in omega arith) small r h.offers),
+      keeps_after n s at (min found value) id me.0 w a b h seat one refl refl refl
+          (λ r. counters_words n.starts s.words (set s.words at (min found value)) ys (λ k lt. get_or-set_other s.words at k (min found value) 0 (λ e. absurd (omega arith))) (counters_stay n.starts s.words xs ys a b r (λ c. refl) h.cuts))
+          (λ r. offer_least n.starts n.least s.words xs ys a at word value is (let width = h.width in omega arith) small r h.offers)
+          (log_stays n s.words (set s.words at (min found value)) s.views id me.0 w a b seat one refl refl refl (λ k behind. get_or-set_other s.words at k (min found value) 0 (λ e. absurd (omega arith))) h.log),
       (
         refl,
         λ free.
-            let told = found_free xs ys a b word (slice_index least word) found (replaced s.views id me.0 (with_account me.0 b) a b seat one refl) was free in
-            (ap (λ l. slice_index l word) same_least ∙ told.0, told.1),
+            let told = found_free xs ys a b word (slice_index n.least word) found (replaced s.views id me.0 w a b seat one refl) was free in
+            (ap (λ (m : Setup). slice_index m.least word) began ∙ told.0, told.1),
       ),
+    )
+
+pub draw_allowed : (n : Setup) (slots id at cell : ℕ) (me : Seated) → me.0.accounts ≡ account_of me.0 ∷ [] → me.0.awaits ≡ None → at ≡ tail_of n
+    → Allows (Keeps n) slots id me at (λ m. (m + 1) % 2 ^ 64) (Draws cell (step slots at 1 0 none) me)
+draw_allowed n slots id at cell me one idle is s h home seat full =
+    let began : me.0.began ≡ n = hand_knows n s id me.0 (account_of me.0) h seat one in
+    let now = slice_index s.words at in
+    let x = (now + 1) % 2 ^ 64 in
+    let a = account_of me.0 in
+    let b = with_log a cell now in
+    let w = drawn me.0 cell now in
+    let ys = accounts_of (set s.views id w) in (
+      w,
+      keeps,
+      tt,
+      keeps_after n s at x id me.0 w a b h seat one refl refl refl
+          (λ r. counters_words n.starts s.words (set s.words at x) ys (λ k lt. get_or-set_other s.words at k x 0 (λ e. absurd (omega arith))) (counters_stay n.starts s.words (accounts_of s.views) ys a b r (λ c. refl) h.cuts))
+          (λ r. least_words n.starts n.least s.words (set s.words at x) ys (λ k lt. get_or-set_other s.words at (length n.starts + k) x 0 (λ e. absurd (omega arith))) (least_stay n.starts n.least s.words (accounts_of s.views) ys a b r (λ c. refl) h.offers))
+          (subst (λ i. KeepsLog n (set s.words i ((slice_index s.words i + 1) % 2 ^ 64)) (set s.views id (drawn me.0 cell (slice_index s.words i)))) (sym is)
+          (log_draws n s.words s.views id cell me.0 seat one idle began (let width = h.width in omega arith) h.log)),
+      refl,
+    )
+
+pub store_allowed : (n : Setup) (slots id at place cell : ℕ) (me : Seated) (a : Account) → me.0.accounts ≡ with_log a cell place ∷ [] → me.0.awaits ≡ Some place → place < n.places → cell < 2 ^ 32 → at ≡ place_of n place
+    → Allows (Keeps n) slots id me at (λ m. cell) (λ m. Stores (step slots at cell 0 none) me cell)
+store_allowed n slots id at place cell me a one awaits below small is s h home seat full =
+    let w = settled me.0 in
+    let b = with_log a cell place in
+    let ys = accounts_of (set s.views id w) in (
+      w,
+      keeps,
+      tt,
+      keeps_after n s at cell id me.0 w b b h seat one one refl refl
+          (λ r. counters_words n.starts s.words (set s.words at cell) ys (λ k lt. get_or-set_other s.words at k cell 0 (λ e. absurd (omega arith))) (counters_stay n.starts s.words (accounts_of s.views) ys b b r (λ c. refl) h.cuts))
+          (λ r. least_words n.starts n.least s.words (set s.words at cell) ys (λ k lt. get_or-set_other s.words at (length n.starts + k) cell 0 (λ e. absurd (omega arith))) (least_stay n.starts n.least s.words (accounts_of s.views) ys b b r (λ c. refl) h.offers))
+          (subst (λ i. KeepsLog n (set s.words i cell) (set s.views id w)) (sym is)
+          (log_stores n s.words s.views id cell place me.0 a seat one awaits below small (let width = h.width in omega arith) h.log)),
+      refl,
     )

@@ -1,10 +1,11 @@
--- Which accounts are lawful for a counter and for a least word.
-use Rattle.std.specs.Prelude.{◌≡◌, ◌≢◌, ℕ, ◌+◌, ◌-◌, ◌*◌, ◌%◌, ◌^◌, ◌<◌, ◌≤◌, ◌==◌, false, List, ◌∷◌, map, filter, length, drop, count_by, All, Contains, IsPermutation}
+-- Which accounts are lawful for a counter, for a least word and for the log.
+use Rattle.std.specs.Prelude.{◌≡◌, ◌≢◌, ℕ, ◌+◌, ◌-◌, ◌*◌, ◌%◌, ◌^◌, ◌<◌, ◌≤◌, ◌==◌, false, List, [], ◌∷◌, cond, map, filter, length, drop, count_by, All, Contains, IsPermutation}
 use Rattle.std.specs.List.{flat_map, range_with_len}
 use Rattle.std.specs.List.Sorted.{IsStrictlyIncreasing}
 use Rattle.cell_counters.specs.declared.account.TheConstants.{NONE}
 use Rattle.cell_counters.specs.declared.account.Cut.{Cut}
 use Rattle.cell_counters.specs.declared.account.Offer.{Offer}
+use Rattle.cell_counters.specs.declared.account.Log.{Log}
 use Rattle.cell_counters.specs.declared.account.Account.{Account}
 
 -- a - b modulo 2^64
@@ -69,3 +70,24 @@ pub record IsLawfulLeast (accounts : List Account) (word start now : ℕ) : Type
   pub none_first : start ≢ NONE → first_count (all_offers word accounts) ≡ 0
   -- of one account only the earliest may be first
   pub earliest : All (λ a. NoneIsFirst (drop 1 (offers_on word a))) accounts
+
+-- all logs in these accounts
+abbrev pub all_logs : List Account → List Log
+all_logs accounts = flat_map (λ (a : Account). a.logs) accounts
+
+-- how many logs these accounts have
+abbrev pub log_count : List Account → ℕ
+log_count accounts = length (all_logs accounts)
+
+-- the numbers that were drawn for these logs
+abbrev pub numbers : List Log → List ℕ
+numbers logs = map (λ (l : Log). l.number) logs
+
+-- the cell of the first of these logs whose number is this place
+abbrev pub cell_at : ℕ → List Log → ℕ
+cell_at place [] = 0
+cell_at place (l ∷ rest) = cond (l.number == place) l.cell (cell_at place rest)
+
+-- the numbers that were drawn are 0, 1, 2 and so on, each once
+abbrev pub IsLawfulLog : List Account → Type 0
+IsLawfulLog accounts = IsPermutation (range_with_len 0 (log_count accounts)) (numbers (all_logs accounts))

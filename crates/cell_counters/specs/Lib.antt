@@ -1,4 +1,4 @@
 pub mod Accounts
 pub mod Tokens
-pub mod Rules
 pub mod Laws
+pub mod inside

@@ -1,14 +1,15 @@
 -- A board, its root and its hands as contracts see them, and what the calls change in them.
-use Rattle.std.specs.Prelude.{ℕ, ◌+◌, ◌-◌, ◌<◌, Bool, List, [], ◌∷◌, ◌++◌, length, slice_index}
+use Rattle.std.specs.Prelude.{◌≡◌, ℕ, ◌+◌, ◌-◌, ◌^◌, ◌<◌, Bool, List, [], ◌∷◌, ◌++◌, length, slice_index, min, nat_lt}
 use Rattle.atomic_table.specs.Seated.{TableId}
 use Rattle.cell_counters.specs.declared.account.Account.{Account}
-use Rattle.cell_counters.specs.Accounts.{IsLawfulCounter, IsLawfulLeast}
+use Rattle.cell_counters.specs.Accounts.{IsLawfulCounter, IsLawfulLeast, IsLawfulLog, log_count}
 
--- which board it is, and the numbers with which its counters and its least words began
+-- which board it is, the numbers with which its counters and its least words began, and how many places its log has
 pub record BoardModel : Type 0 where
   pub table : TableId
   pub starts : List ℕ
   pub least : List ℕ
+  pub places : ℕ
 
 -- whose hand it is, and its account
 pub record HandModel : Type 0 where
@@ -23,7 +24,7 @@ pub record RootModel : Type 0 where
 
 -- the account of who has done nothing
 abbrev pub blank : Account
-blank = record { cuts = []; offers = []; notes = [] }
+blank = record { cuts = []; offers = []; notes = []; logs = [] }
 
 -- the account with one more cut
 abbrev pub with_cut : Account → ℕ → ℕ → Account
@@ -36,6 +37,21 @@ with_offer a word value first = record a { offers = a.offers ++ record { word = 
 -- the account with one more note
 abbrev pub with_note : Account → ℕ → Account
 with_note a item = record a { notes = a.notes ++ item ∷ [] }
+
+-- the account with one more log
+abbrev pub with_log : Account → ℕ → ℕ → Account
+with_log a cell number = record a { logs = a.logs ++ record { cell = cell; number = number } ∷ [] }
+
+-- the hand has logged a cell: a number was drawn for it, and the answer is whether the log has that place
+pub record Logs (before after : HandModel) (cell : ℕ) (answer : Bool) : Type 0 where
+  pub number : ℕ
+  pub small : number < 2 ^ 64
+  pub entered : after ≡ record before { account = with_log before.account cell number }
+  pub answered : answer ≡ nat_lt number before.board.places
+
+-- how many of so many places the logs in these accounts fill
+abbrev pub filled : List Account → ℕ → ℕ
+filled accounts places = min (log_count accounts) places
 
 -- the hand of who has done nothing
 abbrev pub fresh_hand : BoardModel → HandModel
@@ -53,7 +69,8 @@ hand_out r = record r { out = r.out + 1 }
 abbrev pub taken_in : RootModel → Account → RootModel
 taken_in r a = record r { out = r.out - 1; accounts = r.accounts ++ a ∷ [] }
 
--- for each counter and each least word there is a number for which these accounts are lawful
+-- for each counter and each least word there is a number for which these accounts are lawful, and so they are for the log
 pub record IsLawful (accounts : List Account) (starts least : List ℕ) : Type 0 where
   pub counters : (c : ℕ) → c < length starts → (now : ℕ) × IsLawfulCounter accounts c (slice_index starts c) now
   pub words : (w : ℕ) → w < length least → (now : ℕ) × IsLawfulLeast accounts w (slice_index least w) now
+  pub log : log_count accounts < 2 ^ 64 → IsLawfulLog accounts

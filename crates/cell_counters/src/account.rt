@@ -17,9 +17,16 @@ pub struct Offer {
     pub first: bool,
 }
 
+/// A cell that was logged, and the number that was drawn for it.
+pub struct Log {
+    pub cell: u32,
+    pub number: u64,
+}
+
 /// All that the holder of one hand has done, in order.
 pub struct Account {
     pub cuts: LinkedList<Cut>,
     pub offers: LinkedList<Offer>,
     pub notes: LinkedList<u32>,
+    pub logs: LinkedList<Log>,
 }

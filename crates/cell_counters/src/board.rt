@@ -1,11 +1,12 @@
 // A board, the root of its owner, and the hands of its callers.
-ghost use Rattle.std.specs.Prelude.{◌≡◌, ◌≢◌, ℕ, ◌+◌, ◌^◌, ◌<◌, ◌==◌, false, IsTrue, length, slice_index, IfOk, Any};
-ghost use Rattle.cell_counters.specs.Accounts.{IsLawfulCounter, IsLawfulLeast};
-ghost use Rattle.cell_counters.specs.Tokens.{fresh_hand, with_cut, with_offer, with_note, new_root, hand_out, taken_in, IsLawful};
+ghost use Rattle.std.specs.Prelude.{◌≡◌, ◌≢◌, ℕ, ◌+◌, ◌^◌, ◌<◌, ◌≤◌, ◌==◌, false, IsTrue, length, slice_index, IfOk, Any};
+ghost use Rattle.cell_counters.specs.Accounts.{IsLawfulCounter, IsLawfulLeast, IsLawfulLog, log_count, all_logs, cell_at};
+ghost use Rattle.cell_counters.specs.Tokens.{fresh_hand, with_cut, with_offer, with_note, new_root, hand_out, taken_in, IsLawful, Logs, filled};
 
 use crate::account::NONE;
 use crate::rule::{
-    Beginning, Collecting, Cutting, Dealing, Item, Lawful, Looking, Noting, Offering, View,
+    Beginning, Collecting, Cutting, Dealing, Drawing, Item, Lawful, Looking, Noting, Offering,
+    Storing, View,
 };
 use atomic_table::{Seat, Table};
 use std::alloc::{AllocError, Global};
@@ -22,24 +23,27 @@ impl From<AllocError> for NoMemory {
     }
 }
 
-/// Counters and least words that threads share by reference.
+/// Counters, least words and a log that threads share by reference.
 ///
-/// To a contract it is which board it is, and the numbers with which it began.
+/// To a contract it is which board it is, the numbers with which it began, and how many places its log has.
 #[derive(Drop)]
 pub struct Board {
     table: Table<(), View, Beginning, Lawful, Global>,
     counters: usize,
+    // The word that counts the logs. The places of the log follow it.
+    tail: usize,
+    places: u32,
 }
 
 impl Model for Board {
     ghost use Rattle.cell_counters.specs.Tokens.{BoardModel};
-    ghost use Rattle.cell_counters.specs.Rules.{board_model, IsSized};
+    ghost use Rattle.cell_counters.specs.inside.Rules.{board_model, IsSized};
 
     ghost Value = { BoardModel };
 
     ghost view = { λ b. board_model b.table.shared.table_id b.table.shared.key };
 
-    ghost invariant = { λ b. IsSized b.table.shared.key b.counters b.table.shared.table_id.words };
+    ghost invariant = { λ b. IsSized b.table.shared.key b.counters b.tail b.places b.table.shared.table_id.words };
 }
 
 /// The owner's token.
@@ -53,7 +57,7 @@ pub struct Root {
 
 impl Model for Root {
     ghost use Rattle.cell_counters.specs.Tokens.{RootModel};
-    ghost use Rattle.cell_counters.specs.Rules.{root_model, IsRoot};
+    ghost use Rattle.cell_counters.specs.inside.Rules.{root_model, IsRoot};
 
     ghost Value = { RootModel };
 
@@ -72,7 +76,7 @@ pub struct Hand {
 
 impl Model for Hand {
     ghost use Rattle.cell_counters.specs.Tokens.{HandModel};
-    ghost use Rattle.cell_counters.specs.Rules.{hand_model, IsHand};
+    ghost use Rattle.cell_counters.specs.inside.Rules.{hand_model, IsHand};
 
     ghost Value = { HandModel };
 
@@ -91,24 +95,50 @@ impl Root {
 }
 
 impl Board {
-    /// A board whose counters begin as `starts` and whose least words begin as `least`. It takes their memory twice while it is made.
+    /// A board whose counters begin as `starts` and whose least words begin as `least`. Its log has no places.
     pub fn new(alloc: Global, starts: &[u64], least: &[u64]) -> Result<(Board, Root), NoMemory>
         requires some { 0 < length starts.now + length least.now }
         requires room { length starts.now + length least.now < 2 ^ 32 }
         ensures starts { IfOk result (λ made. made.0.starts ≡ starts.now) }
         ensures least { IfOk result (λ made. made.0.least ≡ least.now) }
+        ensures places { IfOk result (λ made. made.0.places ≡ 0) }
         ensures root { IfOk result (λ made. made.1 ≡ new_root made.0) }
     {
-        let mut words = Vec::from_slice(alloc, starts)?;
+        Board::with_log(alloc, starts, least, 0)
+    }
+
+    /// The same with a log of so many places. Each number and each place takes 8 bytes, and as much again while the board is made.
+    pub fn with_log(
+        alloc: Global,
+        starts: &[u64],
+        least: &[u64],
+        places: u32,
+    ) -> Result<(Board, Root), NoMemory>
+        requires some { 0 < length starts.now + length least.now + places }
+        requires room { length starts.now + length least.now + places < 2 ^ 32 }
+        ensures starts { IfOk result (λ made. made.0.starts ≡ starts.now) }
+        ensures least { IfOk result (λ made. made.0.least ≡ least.now) }
+        ensures places { IfOk result (λ made. made.0.places ≡ places) }
+        ensures root { IfOk result (λ made. made.1 ≡ new_root made.0) }
+    {
+        let counters = starts.len();
+        let tail = counters + least.len();
+        let all = tail + 1 + places as usize;
+        let mut words = Vec::with_capacity(alloc, all)?;
+        words.extend_from_slice(starts)?;
         words.extend_from_slice(least)?;
         let beginning = Beginning {
             words: Snapshot::of(&words),
-            counters: starts.len(),
+            counters,
+            places,
         };
+        words.resize(all, 0)?;
         let (table, seat) = Table::of_words(alloc, words.as_slice(), &beginning)?;
         let board = Board {
             table,
-            counters: starts.len(),
+            counters,
+            tail,
+            places,
         };
         Ok((board, Root { seat, out: 0 }))
     }
@@ -184,6 +214,60 @@ impl Board {
         let _ = item;
         let shared = &self.table.shared;
         shared.load::<Noting<I>>(&mut hand.seat, 0);
+    }
+
+    /// Draws the next number of the log, stores the cell at that place where the log has it, and answers whether it has.
+    pub fn log(&self, hand: &mut Hand, cell: u32) -> bool
+        requires { hand.old.board ≡ self.now }
+        ensures { Logs hand.old hand.new cell result }
+    {
+        self.log_as::<Brand>(hand, cell)
+    }
+
+    fn log_as<I: Item>(&self, hand: &mut Hand, cell: u32) -> bool
+        requires hand { hand.old.board ≡ self.now }
+        requires item { cell ≡ I.item }
+        ensures { Logs hand.old hand.new cell result }
+    {
+        let shared = &self.table.shared;
+        let number = shared.fetch_add::<Drawing<I>>(&mut hand.seat, self.tail, 1);
+        if number >= u64::from(self.places) {
+            return false;
+        }
+        let at = self.tail + 1 + number as usize;
+        shared.store::<Storing>(&mut hand.seat, at, u64::from(cell));
+        true
+    }
+
+    /// How many places of the log are filled, once all hands are back.
+    pub fn log_len(&self, root: &mut Root) -> u32
+        requires root { root.old.board ≡ self.now }
+        requires settled { root.old.out ≡ 0 }
+        ensures lawful { log_count root.old.accounts < 2 ^ 64 → IsLawfulLog root.old.accounts }
+        ensures filled { log_count root.old.accounts < 2 ^ 64 → result ≡ filled root.old.accounts self.now.places }
+        ensures within { result ≤ filled root.old.accounts self.now.places }
+        ensures same { root.new ≡ root.old }
+    {
+        let shared = &self.table.shared;
+        let logs = shared.load::<Looking>(&mut root.seat, self.tail);
+        if logs < u64::from(self.places) {
+            logs as u32
+        } else {
+            self.places
+        }
+    }
+
+    /// The cell at a place of the log, once all hands are back.
+    pub fn logged(&self, root: &mut Root, at: u32) -> u32
+        requires root { root.old.board ≡ self.now }
+        requires settled { root.old.out ≡ 0 }
+        requires at { at < filled root.old.accounts self.now.places }
+        ensures cell { log_count root.old.accounts < 2 ^ 64 → result ≡ cell_at at (all_logs root.old.accounts) }
+        ensures same { root.new ≡ root.old }
+    {
+        let shared = &self.table.shared;
+        let place = self.tail + 1 + at as usize;
+        shared.load::<Looking>(&mut root.seat, place) as u32
     }
 
     /// What is left of a counter, once all hands are back.

@@ -1,5 +1,5 @@
 //! What lawful accounts tell. Each call does nothing, and ensures its law.
-ghost use Rattle.cell_counters.specs.Laws.{CountsDown, AnswersOnce, OneIsFirst};
+ghost use Rattle.cell_counters.specs.Laws.{CountsDown, AnswersOnce, OneIsFirst, NothingDone, NewAnswers, NewFirsts, NewPlaces};
 
 /// At most as many cuts as the counter began with answer one number less each time.
 pub fn counts_down()
@@ -14,4 +14,24 @@ pub fn answers_once()
 /// Exactly one offer on a word that began as `NONE` was first, and the word is the least of them.
 pub fn one_is_first()
     ensures { OneIsFirst }
+{}
+
+/// With no account at all counters and least words are what they began as, and the log is empty.
+pub fn nothing_done()
+    ensures { NothingDone }
+{}
+
+/// Each number that a round of cuts newly reaches is the answer of exactly one of its cuts, and no other number is.
+pub fn new_answers()
+    ensures { NewAnswers }
+{}
+
+/// Of a round's offers on a word exactly one was first where the word had been free until then, and else none.
+pub fn new_firsts()
+    ensures { NewFirsts }
+{}
+
+/// The cells that a round logged stand at the places after those of the rounds before.
+pub fn new_places()
+    ensures { NewPlaces }
 {}

@@ -1,34 +1,43 @@
-// The rule of the table below a board. A word is a counter or a least word, and a view is what the root or a hand knows.
+// The rule of the table below a board. Its words are the counters, the least words, the tail of the log and the places
+// of the log, in this order, and a view is what the root or a hand knows.
 use crate::account::Account;
 use atomic_table::{Join, Play, Split, TableRule};
 use std::collections::LinkedList;
 use std::marker::{Brand, PhantomData};
 use std::snapshot::Snapshot;
 
-// No value of it is made.
-pub struct View {
-    // The numbers with which the counters and the least words began.
+// The numbers with which the counters and the least words began, and how many places the log has. No value of it is made.
+pub struct Setup {
     pub starts: LinkedList<u64>,
     pub least: LinkedList<u64>,
+    pub places: u32,
+}
+
+// No value of it is made.
+pub struct View {
+    pub began: Setup,
     // How many hands the root has made.
     pub made: u64,
     // Of a hand its account, and of the root those that were taken in.
     pub accounts: LinkedList<Account>,
+    // The place of the log that was drawn and is still to be stored.
+    pub awaits: Option<u64>,
 }
 
-// The words with which a table begins. The counters stand before the least words.
+// What a table is told when it is made: its counters and then its least words, and how many places its log has.
 #[derive(Drop)]
 pub struct Beginning {
     pub words: Snapshot<Vec<u64>>,
     pub counters: usize,
+    pub places: u32,
 }
 
 pub struct Lawful;
 
 impl TableRule<(), View, Beginning> for Lawful {
-    ghost use Rattle.cell_counters.specs.Rules.{Keeps, starts_of, least_of, root_of};
+    ghost use Rattle.cell_counters.specs.inside.Rules.{Keeps, setup_of, root_of};
 
-    ghost holds = { λ b s. Keeps (starts_of b) (least_of b) s };
+    ghost holds = { λ b s. Keeps (setup_of b) s };
 
     ghost first = { root_of };
 }
@@ -36,7 +45,7 @@ impl TableRule<(), View, Beginning> for Lawful {
 pub struct Dealing;
 
 impl Split<View> for Dealing {
-    ghost use Rattle.cell_counters.specs.Rules.{one_more, new_hand};
+    ghost use Rattle.cell_counters.specs.inside.Rules.{one_more, new_hand};
 
     ghost left = { one_more };
 
@@ -46,7 +55,7 @@ impl Split<View> for Dealing {
 pub struct Collecting;
 
 impl Join<View> for Collecting {
-    ghost use Rattle.cell_counters.specs.Rules.{collected, nobody};
+    ghost use Rattle.cell_counters.specs.inside.Rules.{collected, nobody};
 
     ghost both = { collected };
 
@@ -56,7 +65,7 @@ impl Join<View> for Collecting {
 pub struct Cutting;
 
 impl Play<(), View> for Cutting {
-    ghost use Rattle.cell_counters.specs.Rules.{Cuts};
+    ghost use Rattle.cell_counters.specs.inside.Rules.{Cuts};
 
     ghost then = { Cuts };
 }
@@ -64,12 +73,12 @@ impl Play<(), View> for Cutting {
 pub struct Offering;
 
 impl Play<(), View> for Offering {
-    ghost use Rattle.cell_counters.specs.Rules.{Offers};
+    ghost use Rattle.cell_counters.specs.inside.Rules.{Offers};
 
     ghost then = { Offers };
 }
 
-// The item that a load is to note, which a load has no operand for.
+// The item that a step is to enter into the account, which is no operand of the step.
 pub trait Item {
     ghost use Rattle.std.specs.Prelude.{ℕ};
 
@@ -85,15 +94,34 @@ pub struct Noting<I: Item> {
 }
 
 impl<I: Item> Play<(), View> for Noting<I> {
-    ghost use Rattle.cell_counters.specs.Rules.{Notes};
+    ghost use Rattle.cell_counters.specs.inside.Rules.{Notes};
 
     ghost then = { Notes I.item };
+}
+
+// Draws a number of the log for the item.
+pub struct Drawing<I: Item> {
+    of: PhantomData<I>,
+}
+
+impl<I: Item> Play<(), View> for Drawing<I> {
+    ghost use Rattle.cell_counters.specs.inside.Rules.{Draws};
+
+    ghost then = { Draws I.item };
+}
+
+pub struct Storing;
+
+impl Play<(), View> for Storing {
+    ghost use Rattle.cell_counters.specs.inside.Rules.{Stores};
+
+    ghost then = { Stores };
 }
 
 pub struct Looking;
 
 impl Play<(), View> for Looking {
-    ghost use Rattle.cell_counters.specs.Rules.{Looks};
+    ghost use Rattle.cell_counters.specs.inside.Rules.{Looks};
 
     ghost then = { Looks };
 }

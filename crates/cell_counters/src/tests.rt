@@ -84,6 +84,45 @@ fn two_hands_cut_and_offer(rt: HostRuntime) -> Result<(), Fail> {
     Ok(())
 }
 
+// The same calls, and three logs, of which two have a place. The places have the cells of those.
+#[test]
+fn two_hands_log_three_cells(rt: HostRuntime) -> Result<(), Fail> {
+    let (board, mut root) = Board::with_log(rt.alloc(), &[3], &[NONE, 5], 2)?;
+    let mut one = board.hand(&mut root);
+    let mut other = board.hand(&mut root);
+    let shared = &board;
+    let (a, b) = thread::join(
+        &rt,
+        move || {
+            let left = [shared.cut(&mut one, 0), shared.cut(&mut one, 0)];
+            let first = shared.offer(&mut one, 0, 9);
+            let kept = [shared.log(&mut one, 10), shared.log(&mut one, 11)];
+            (one, left, first, kept)
+        },
+        move || {
+            let left = shared.cut(&mut other, 0);
+            let first = shared.offer(&mut other, 0, 4);
+            let taken = shared.offer(&mut other, 1, 7);
+            let kept = shared.log(&mut other, 12);
+            (other, left, first, taken, kept)
+        },
+    );
+    let mut left = [a.1[0], a.1[1], b.1];
+    left.sort_unstable();
+    assert_eq!(rt; left, [0, 1, 2]);
+    assert!(rt; a.2 != b.2 && !b.3);
+    board.take_in(&mut root, a.0);
+    board.take_in(&mut root, b.0);
+    assert_eq!(rt; board.read(&mut root, 0), 4);
+    assert_eq!(rt; board.log_len(&mut root), 2);
+    let mut cells = [board.logged(&mut root, 0), board.logged(&mut root, 1)];
+    cells.sort_unstable();
+    let calls = [(10, a.3[0]), (11, a.3[1]), (12, b.4)];
+    let kept = calls.iter().filter(|call| call.1).map(|call| call.0);
+    assert!(rt; kept.eq(cells));
+    Ok(())
+}
+
 // 1,000 cuts of 1,000 leave 999 to 0.
 #[test]
 fn four_hands_empty_a_counter(rt: HostRuntime) -> Result<(), Fail> {

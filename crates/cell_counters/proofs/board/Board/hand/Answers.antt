@@ -1,6 +1,8 @@
-use Rattle.std.proofs.Common.{rules}
-use Rattle.cell_counters.proofs.Roots.{hand_splits}
+use Rattle.std.proofs.Common.{ap, sym, ◌∙◌, rules, arith}
+use Rattle.cell_counters.specs.Tokens.{RootModel}
+use Rattle.cell_counters.proofs.Roots.{hand_splits, setup_is}
 use Rattle.cell_counters.proofs.board.Board.hand.Goals as goal
 
 pub split_seat-seat-requires : goal.split_seat-seat-requires
-split_seat-seat-requires c = (search rules, c.self.invariant.some, hand_splits _ _ _ _ c.root.invariant.first)
+split_seat-seat-requires c =
+    (search rules, omega arith, hand_splits _ _ _ c.root.invariant.first (setup_is _ _ _ _ (ap (λ (r : RootModel). r.board) c.root.view_is ∙ c.requires.root ∙ sym c.self.view_is)))

@@ -1,11 +1,12 @@
-use Rattle.std.proofs.Common.{length, ◌<◌, sym, subst, arith, rules}
-use Rattle.cell_counters.specs.Tokens.{BoardModel}
-use Rattle.cell_counters.specs.Rules.{least_of}
-use Rattle.cell_counters.proofs.Roots.{look_allowed, all_len}
+use Rattle.std.proofs.Common.{length, ◌<◌, ap, sym, ◌∙◌, subst, arith, rules}
+use Rattle.cell_counters.specs.Tokens.{BoardModel, RootModel}
+use Rattle.cell_counters.specs.inside.Rules.{setup_of}
+use Rattle.cell_counters.proofs.Roots.{look_allowed, starts_len, tail_is, setup_is}
 use Rattle.cell_counters.proofs.board.Board.read.Goals as goal
 
 pub load-requires : goal.load-requires
 load-requires c =
-    let there : c.args.word < length (least_of c.self.inside.table.shared.key) = subst (λ (b : BoardModel). c.args.word < length b.least) (sym c.self.view_is) c.requires.word in
-    let all = all_len _ _ _ c.self.invariant in
-    (search rules, omega (arith, all), look_allowed _ _ _ _ _ _ c.root.invariant.first (search rules) (search rules))
+    let there : c.args.word < length (setup_of c.self.inside.table.shared.key).least = subst (λ (b : BoardModel). c.args.word < length b.least) (sym c.self.view_is) c.requires.word in
+    let front = starts_len _ _ _ _ _ c.self.invariant in
+    let tail = tail_is _ _ _ _ _ c.self.invariant in
+    (search rules, omega (arith, front, tail), look_allowed _ _ _ _ _ c.root.invariant.first (setup_is _ _ _ _ (ap (λ (r : RootModel). r.board) c.root.view_is ∙ c.requires.root ∙ sym c.self.view_is)) c.root.invariant.idle)

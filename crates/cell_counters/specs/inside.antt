@@ -1,0 +1,2 @@
+-- what only private clauses and proofs name
+pub mod Rules
