@@ -1,12 +1,9 @@
 -- Each of four numbers lies in the range where the least and the greatest of them do.
-use Rattle.std.proofs.Common.{arith}
-use Rattle.std.specs.Prelude.{ℤ, ◌*ℤ◌}
-use Rattle.std.specs.Int.{int_min, int_max}
-use Rattle.std.proofs.lemmas.Int.{ints, clamps}
+use Rattle.std.specs.Prelude.{◌*ℤ◌}
 use Rattle.fixed_expr.specs.Range.{IsInRange}
 use Rattle.interval_eval.specs.declared.interval.Interval.{Interval}
 use Rattle.interval_eval.specs.Span.{EndsFit, product_of}
-use Rattle.interval_eval.proofs.Integers.{IsBetween}
+use Rattle.interval_eval.proofs.Integers.{least, greatest, all_between}
 use Rattle.interval_eval.proofs.Ranging.{between}
 
 -- each product of ends lies in the range
@@ -15,16 +12,6 @@ pub record CornersFit (a b : Interval) : Type 0 where
   pub second : IsInRange (a.lo *ℤ b.hi)
   pub third : IsInRange (a.hi *ℤ b.lo)
   pub fourth : IsInRange (a.hi *ℤ b.hi)
-
-abbrev least : ℤ → ℤ → ℤ → ℤ → ℤ
-least a b c d = int_min (int_min a b) (int_min c d)
-
-abbrev greatest : ℤ → ℤ → ℤ → ℤ → ℤ
-greatest a b c d = int_max (int_max a b) (int_max c d)
-
-all_between : (a b c d : ℤ) → IsBetween (least a b c d) (greatest a b c d) a × IsBetween (least a b c d) (greatest a b c d) b × IsBetween (least a b c d) (greatest a b c d) c × IsBetween (least a b c d) (greatest a b c d) d
-all_between a b c d =
-    ((omega (arith, ints, clamps), omega (arith, ints, clamps)), (omega (arith, ints, clamps), omega (arith, ints, clamps)), (omega (arith, ints, clamps), omega (arith, ints, clamps)), (omega (arith, ints, clamps), omega (arith, ints, clamps)))
 
 pub corners_fit : (a b : Interval) → EndsFit (product_of a b) → CornersFit a b
 corners_fit a b fits =
