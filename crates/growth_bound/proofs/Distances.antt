@@ -1,14 +1,12 @@
 -- How far apart what is made of numbers is, where the numbers are near.
-use Rattle.std.proofs.Common.{◌≡◌, ℕ, suc, ◌+◌, ◌-◌, ◌*◌, ◌<◌, ◌≤◌, max, arith}
-use Rattle.std.specs.Prelude.{ℤ, pos, negsuc, nat_abs, neg_ℤ, ◌+ℤ◌, ◌-ℤ◌, ◌*ℤ◌, ◌≤ℤ◌, ◌<ℤ◌}
+use Rattle.std.proofs.Common.{◌≡◌, ℕ, suc, ◌+◌, ◌*◌, ◌<◌, ◌≤◌, max, arith}
+use Rattle.std.specs.Prelude.{ℤ, pos, negsuc, nat_abs, neg_ℤ, ◌+ℤ◌, ◌-ℤ◌, ◌*ℤ◌, ◌≤ℤ◌}
 use Rattle.std.specs.Int.{int_min, int_max}
-use Rattle.std.proofs.lemmas.Int.{ints, clamps, by_lt_z}
-use Rattle.std.proofs.lemmas.Nat.{div-add-mod', mod_below}
-use Rattle.std.proofs.Math.Nat.{mul-le-mul_right}
+use Rattle.std.proofs.lemmas.Int.{ints, clamps}
 use Rattle.std.proofs.Math.IntN.{*ℤ_comm}
-use borrow.Author.Differences.{up, down}
 use Rattle.fixed_expr.specs.Quotient.{floor_div}
 use Rattle.growth_bound.specs.Deviation.{IsNear, ceiling_div}
+use Rattle.growth_bound.proofs.Division.{multiple, floor_below}
 
 pub near_negation : (d : ℕ) (x y : ℤ) → IsNear (pos d) x y → IsNear (pos d) (neg_ℤ x) (neg_ℤ y)
 near_negation d x y h = (omega (arith, ints), omega (arith, ints))
@@ -28,13 +26,6 @@ near_maximum d e x x' y y' h k = (omega (arith, ints, clamps), omega (arith, int
 pub near_absolute : (d : ℕ) (x y : ℤ) → IsNear (pos d) x y → IsNear (pos d) (pos (nat_abs x)) (pos (nat_abs y))
 near_absolute d x y h = (omega (arith, ints), omega (arith, ints))
 
-multiple : (n d m : ℕ) (x y : ℤ) → n ≤ m → x ≤ℤ (y +ℤ pos d) → up x * n + down y * n ≤ up y * n + down x * n + m * d
-multiple n d m x y small below =
-    let apart : up x + down y ≤ up y + down x + d = omega (arith, ints) in
-    let times = mul-le-mul_right n apart in
-    let most = mul-le-mul_right d small in
-    omega (arith, times, most)
-
 -- multiples by one number of at most m
 near_multiple : (k x y : ℤ) (m d : ℕ) → nat_abs k ≤ m → IsNear (pos d) x y → IsNear (pos (m * d)) (k *ℤ x) (k *ℤ y)
 near_multiple (pos n) x y m d small h =
@@ -53,27 +44,6 @@ near_product m n d e x x' y y' small small' h k =
   where
     joined : (d e : ℕ) (x y z u v : ℤ) → y ≡ z → u ≡ v → IsNear (pos d) x y → IsNear (pos e) z v → IsNear (pos (d + e)) x u
     joined d e x y z u v p q h k = (omega (arith, ints), omega (arith, ints))
-
-floor_bounds : (x : ℤ) (n : ℕ) → 0 < n → ((floor_div x (pos n) *ℤ pos n) ≤ℤ x) × (x <ℤ (floor_div x (pos n) *ℤ pos n +ℤ pos n))
-floor_bounds (pos m) n some = (omega (arith, ints, div-add-mod' m n, mod_below m n some), omega (arith, ints, div-add-mod' m n, mod_below m n some))
-floor_bounds (negsuc m) n some = (omega (arith, ints, div-add-mod' m n, mod_below m n some), omega (arith, ints, div-add-mod' m n, mod_below m n some))
-
-ceiling_bound : (d n : ℕ) → 0 < n → d ≤ ceiling_div d n * n
-ceiling_bound d n some = omega (arith, div-add-mod' (d + (n - 1)) n, mod_below (d + (n - 1)) n some)
-
--- the floors of quotients go up by at most the quotient rounded up
-floor_below : (x y : ℤ) (n d : ℕ) → 0 < n → x ≤ℤ (y +ℤ pos d) → floor_div x (pos n) ≤ℤ (floor_div y (pos n) +ℤ pos (ceiling_div d n))
-floor_below x y n d some below =
-    by_lt_z (floor_div y (pos n) +ℤ pos (ceiling_div d n)) (floor_div x (pos n)) past (λ h. h)
-  where
-    steps : (p q x y : ℤ) (c d : ℕ) → (p *ℤ pos n) ≤ℤ x → y <ℤ (q *ℤ pos n +ℤ pos n) → d ≤ c * n → x ≤ℤ (y +ℤ pos d) → ((q +ℤ pos c) <ℤ p) → ⊥
-    steps p q x y c d low high most near far =
-        let apart : up q + c + down p + 1 ≤ up p + down q = omega (arith, ints) in
-        let times = mul-le-mul_right n apart in
-        omega (arith, ints, times)
-
-    past : (floor_div y (pos n) +ℤ pos (ceiling_div d n)) <ℤ floor_div x (pos n) → floor_div x (pos n) ≤ℤ (floor_div y (pos n) +ℤ pos (ceiling_div d n))
-    past far = absurd (steps (floor_div x (pos n)) (floor_div y (pos n)) x y (ceiling_div d n) d ((floor_bounds x n some).0) ((floor_bounds y n some).1) (ceiling_bound d n some) below far)
 
 pub near_quotient : (d : ℕ) (x y k : ℤ) → pos 1 ≤ℤ k → IsNear (pos d) x y → IsNear (pos (ceiling_div d (nat_abs k))) (floor_div x k) (floor_div y k)
 near_quotient d x y (pos n) some h =

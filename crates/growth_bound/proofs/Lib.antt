@@ -1,4 +1,4 @@
-pub mod Ceilings
+pub mod Division
 pub mod Fitting
 pub mod Distances
 pub mod Moves

@@ -1,4 +1,4 @@
--- Products, floors of quotients and absolute values of whole numbers, in order.
+-- Products, floors of quotients and extremes of whole numbers, in order.
 use Rattle.std.proofs.Common.{ℕ, suc, ◌+◌, ◌/◌, ◌<◌, ◌≤◌, arith}
 use Rattle.std.specs.Prelude.{ℤ, pos, negsuc, nat_abs, ◌*ℤ◌, ◌≤ℤ◌}
 use Rattle.std.specs.Int.{int_min, int_max}
@@ -51,3 +51,14 @@ floors_in_order (negsuc m) (negsuc n) k some below =
     let order : n ≤ m = omega (arith, ints) in
     let divisor : 0 < nat_abs k = omega (arith, ints) in
     omega (arith, ints, quotients_in_order n m (nat_abs k) divisor order)
+
+-- the least and the greatest of four numbers
+abbrev pub least : ℤ → ℤ → ℤ → ℤ → ℤ
+least a b c d = int_min (int_min a b) (int_min c d)
+
+abbrev pub greatest : ℤ → ℤ → ℤ → ℤ → ℤ
+greatest a b c d = int_max (int_max a b) (int_max c d)
+
+pub all_between : (a b c d : ℤ) → IsBetween (least a b c d) (greatest a b c d) a × IsBetween (least a b c d) (greatest a b c d) b × IsBetween (least a b c d) (greatest a b c d) c × IsBetween (least a b c d) (greatest a b c d) d
+all_between a b c d =
+    ((omega (arith, ints, clamps), omega (arith, ints, clamps)), (omega (arith, ints, clamps), omega (arith, ints, clamps)), (omega (arith, ints, clamps), omega (arith, ints, clamps)), (omega (arith, ints, clamps), omega (arith, ints, clamps)))
