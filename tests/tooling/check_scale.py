@@ -62,6 +62,15 @@ def check(report):
         model = report.top / "examples" / name / f"{name}.model"
         if model.exists():
             compare(report, name, model.read_text(), report.plant_text(name).decode(), 1000)
+    check_without_noise(report)
+
+
+def check_without_noise(report):
+    """The comparison sees what the noise is for: without it, real steps of the gate leave the successor box."""
+    text = report.plant_text("gate").decode()
+    faults = outside(Model((report.top / "examples/gate/gate.model").read_text()),
+                     read_plant(text.replace("noise r_x 0 1\n", "").replace(" + r_x", "").encode()), 3000)
+    report.holds("without its noise the gate's real steps leave the box", any("leaves" in fault for fault in faults))
 
 
 class Model:
@@ -90,25 +99,37 @@ def linear(model, lines):
 
 
 def compare(report, what, text, plant_text, count=300):
-    """The real step, rounded down to units, lies within the noise of the plant's step, and in the successor box."""
-    model, plant, draws = Model(text), read_plant(plant_text.encode()), random.Random(3)
+    faults = outside(Model(text), read_plant(plant_text.encode()), count)
+    report.expect(f"{what}: the error of rounding lies within the noise", [], faults[:3])
+
+
+def outside(model, plant, count):
+    """The real steps from random states which, rounded down to units, are farther from the plant's than its noise allows, or
+    leave the successor box."""
+    draws, faults = random.Random(3), []
     codes = [compile(equation, "equation", "eval") for equation in model.equations]
     noise = {name: (low, high) for name, low, high in plant.noises}
-    faults = []
     for _ in range(count):
-        whole = [draws.choice([low, high, draws.randint(low, high)]) for _, low, high, _ in plant.states]
-        real = {state[0]: (value + Fraction(draws.choice([0, 999, draws.randrange(1000)]), 1000)) * state[-1]
-                for state, value in zip(model.states, whole)}
-        vector = draws.randrange(plant.vectors)
-        applied = plant.vector(vector)
-        real |= {name: value * unit for (name, unit, _), value in zip(model.inputs, applied)}
-        real |= {name: low + (high - low) * Fraction(draws.choice([0, 100, draws.randrange(101)]), 100)
-                 for name, low, high in model.noises}
-        step = plant.step(whole, applied, [0] * len(plant.noises))
+        whole, real, vector = drawn(model, plant, draws)
+        step = plant.step(whole, plant.vector(vector), [0] * len(plant.noises))
         low_corner, high_corner = plant.box(plant.cell_of(whole), vector)
         for i, (code, state) in enumerate(zip(codes, model.states)):
             arrived = math.floor(eval(code, {"F": Fraction}, dict(real)) / state[-1])
             low, high = noise.get(f"r_{state[0]}", (0, 0))
-            if not (low <= arrived - step[i] <= high and low_corner[i] <= arrived <= high_corner[i]):
+            if not low <= arrived - step[i] <= high:
                 faults.append(f"{state[0]} at {whole}: {arrived} for {step[i]}")
-    report.expect(f"{what}: the error of rounding lies within the noise", [], faults[:3])
+            if not low_corner[i] <= arrived <= high_corner[i]:
+                faults.append(f"{state[0]} at {whole} leaves the box: {arrived}")
+    return faults
+
+
+def drawn(model, plant, draws):
+    """A state in whole units, a real one in the same units with inputs and disturbances, and the input vector's number."""
+    whole = [draws.choice([low, high, draws.randint(low, high)]) for _, low, high, _ in plant.states]
+    real = {state[0]: (value + Fraction(draws.choice([0, 999, draws.randrange(1000)]), 1000)) * state[-1]
+            for state, value in zip(model.states, whole)}
+    vector = draws.randrange(plant.vectors)
+    real |= {name: value * unit for (name, unit, _), value in zip(model.inputs, plant.vector(vector))}
+    real |= {name: low + (high - low) * Fraction(draws.choice([0, 100, draws.randrange(101)]), 100)
+             for name, low, high in model.noises}
+    return whole, real, vector

@@ -149,6 +149,8 @@ class _Draft:
             return wrong
         if keyword.startswith(("//", ";", "%", "/*", "--")):
             return "a comment begins with `#`"
+        if due == ["plant"] and keyword == "table":
+            return "the text is a table; a plant text begins with `plant 1`"
         if due == ["plant"]:
             return "the first line is `plant 1`"
         if keyword in KEYWORDS:
