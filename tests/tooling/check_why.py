@@ -9,7 +9,7 @@ ANSWERS = [
     # Place 39 and speed 15 have the centre 395 and 55; with -20 the box is 406 +- 6 by 35 +- 7: two places, three speeds.
     ("cart", ["395", "55", "--input", "0"], ["cell 795 (p 390 to 399, v 50 to 59): its row: rank 1, apply input 0 (a = -20)",
                                              "  deviation: p 6, v 7", "  successor box: p 400 to 412, v 28 to 42",
-                                             "  successors: 6", "  wins within 1 samples"]),
+                                             "  successors: 6", "  wins within 1 sample"]),
     ("cart", ["0", "-100"], ["cell 0 (p 0 to 9, v -100 to -91): no row",
                              "  stopped: the box leaves the domain in p (-20 is below 0) and in v (-122 is below -100)"]),
     ("cart", ["--cell", "418", "--input", "0"], ["cell 418 (p 200 to 209, v 80 to 89): no row: it meets obstacle 1 (p 200 to "

@@ -133,5 +133,8 @@ def said(value):
     """A fraction as a decimal number, exactly where that is short."""
     if value.denominator == 1:
         return str(value.numerator)
-    short = f"{float(value):.9g}"
-    return short if Fraction(short) == value else "about " + f"{float(value):.6g}"
+    try:
+        short = f"{float(value):.9g}"
+        return short if Fraction(short) == value else f"about {float(value):.6g}"
+    except OverflowError:
+        return "more than 10^300" if value > 0 else "less than -10^300"

@@ -15,8 +15,10 @@ class Fault(Exception):
 
 def number_of(word):
     """A decimal number as a fraction; else raises Fault."""
-    if not re.match(r"[+-]?([0-9]+\.?[0-9]*|\.[0-9]+)([eE][+-]?[0-9]{1,3})?\Z", word):
+    if not re.match(r"[+-]?([0-9]+\.?[0-9]*|\.[0-9]+)([eE][+-]?[0-9]+)?\Z", word):
         raise Fault(f"`{word}` is no number")
+    if not re.match(r"[^eE]{1,40}([eE][+-]?[0-3]?[0-9])?\Z", word):
+        raise Fault(f"`{word[:60]}` has more than 40 places or an exponent past 39")
     return Fraction(word)
 
 
