@@ -11,6 +11,9 @@ def check(report):
     guide = (report.top / "docs" / "GUIDE.md").read_text()
     code = re.search(r"```c\n(.*?)```", guide, re.DOTALL).group(1)
     report.holds("the guide's C is that of control.c", code in (report.top / "examples/device/control.c").read_text())
+    model = re.search(r"```\n(sample .*?)```", guide, re.DOTALL).group(1)
+    report.expect("the guide's model gives the double integrator", lines_of(report.plant_text("double_integrator").decode()),
+                  lines_of(report.tool("scale", "-", data=model.encode())[1]))
     rows = re.findall(r"^\| ([0-9.]+) s \| ([0-9,]+) \| ([0-9]+) \|$", guide, re.MULTILINE)
     report.expect("the guide's sampling times", 5, len(rows))
     for time, won, rank in rows:
@@ -23,6 +26,10 @@ def check(report):
         plant = read_plant(f"plant 1\nstate e 0 199 10\ninput u 0 100\nnext e = {expression}\ngoal reach\nend\n".encode())
         report.expect(f"the deviation of `{expression}`", [moves], plant.deviations(1))
         report.holds(f"the guide has `{expression}`", expression in guide)
+
+
+def lines_of(text):
+    return [line for line in text.splitlines() if not line.startswith("#")]
 
 
 def gate_at(report, time):

@@ -19,6 +19,12 @@ SCALED = [
     # The same as a linear system, with 0.02 of disturbance on v: 2 units to each side, and below one more by quantising.
     (HEAD + "A 1 0.5\nA 0 1\nB 0.125\nB 0.5\nw 0 0\nw -0.02 0.02\ntarget 8 9 -0.2 0.2\ngoal reach\n",
      ["noise r_x 0 1", "noise r_v -2 2", "next x = (8 * x + 4 * v + u) / 8 + r_x", "next v = (2 * v + u) / 2 + r_v"]),
+    # The same from the differential equation.
+    (HEAD + "sample 0.5\nA 0 1\nA 0 0\nB 0\nB 1\nw 0 0\nw -0.02 0.02\ntarget 8 9 -0.2 0.2\ngoal reach\n",
+     ["noise r_x 0 1", "noise r_v -2 2", "next x = (8 * x + 4 * v + u) / 8 + r_x", "next v = (2 * v + u) / 2 + r_v"]),
+    # exp(-0.1) is 0.904837, 1 - exp(-0.1) is 0.095163.
+    ("denominator 1000000\nsample 0.1\nstate x 0 10 0.1 0.001\ninput u 1 0 10\nA -1\nB 1\ntarget 5 6\ngoal reach\n",
+     ["next x = (904837 * x + 95162582 * u) / 1000000 + r_x"]),
     # A third over 10 is 3 tenths: on 0 to 99 the coefficient's rounding moves by up to 99 / 30 = 3.3; the remainder adds
     # up to 0.9, quantising below a third: -4 to 4.
     ("denominator 10\nstate x 0 1 0.1 0.01\nnext x = x / 3\ntarget 0 0.1\ngoal reach\n",
@@ -42,6 +48,9 @@ COMPLAINTS = [
     ("", "the model has no state"),
     ("state x 0 1 0.1 0.1\nA 1\ninput u 1 2\ngoal reach\n", "1 lines `B` are due"),
     ("state x 0 10000000 1 1\nnext x = x\ngoal reach\n", "limit: cells"),
+    ("sample 1\nstate x 0 1 0.1 0.1\nnext x = x\ngoal reach\n", "`sample` is for a linear system alone"),
+    ("sample 100\nstate x 0 1 0.1 0.1\nA -1\ngoal reach\n", "the sampling time is too long"),
+    ("sample 0\nstate x 0 1 0.1 0.1\nA -1\ngoal reach\n", "line 1: a sampling time is above 0"),
     ("bogus\n", "line 1: `bogus` begins no line"),
 ]
 
@@ -53,7 +62,8 @@ def check(report):
         for line in lines:
             report.holds(f"scale says `{line}`", line in output.splitlines(), output)
         if not status:
-            compare(report, model[:60], model, output)
+            if "sample" not in model:
+                compare(report, model[:60], model, output)
     for model, said in COMPLAINTS:
         status, output, error = report.tool("scale", "-", data=model.encode())
         report.expect(f"scale of {model[:40]!r}", (1, "", 1), (status, output, error.count("\n")))

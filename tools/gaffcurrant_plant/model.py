@@ -5,11 +5,12 @@ from fractions import Fraction
 from .command import Trouble
 from .polynomial import Fault, added, number_of, parse
 from .reader import NAME, NO_NAMES
+from .sampling import TooLong, sampled
 
 
 class Model:
     def __init__(self):
-        self.denominator = None
+        self.denominator = self.sample = None
         self.states, self.inputs, self.noises = [], [], []
         self.equations, self.rows = [], {"A": [], "B": [], "c": [], "w": []}
         self.boxes, self.goal = [], None
@@ -33,6 +34,8 @@ def read_model(data):
         raise Trouble("the model has no state" if not model.states else "the model has no `goal reach` line")
     if model.rows["A"]:
         add_linear_system(model)
+    elif model.sample:
+        raise Trouble("`sample` is for a linear system alone, of lines A, B and c; `next` lines are sampled already")
     if len(model.equations) != len(model.states):
         raise Trouble(f"there are {len(model.states)} states and {len(model.equations)} equations")
     return model
@@ -49,6 +52,10 @@ def read_line(model, words):
         if value.denominator != 1 or value < 1:
             fail("the denominator is a whole number of at least 1")
         model.denominator = int(value)
+    elif keyword == "sample":
+        model.sample = numbers(rest, 1)[0]
+        if model.sample <= 0:
+            fail("a sampling time is above 0")
     elif keyword in ("state", "input", "noise"):
         read_variable(model, keyword, rest)
     elif keyword == "next":
@@ -113,12 +120,11 @@ def add_linear_system(model):
         wanted = len(model.states) if rows or keyword == "A" or (keyword == "B" and model.inputs) else 0
         if len(rows) != wanted:
             raise Trouble(f"{wanted} lines `{keyword}` are due, one for each state, here are {len(rows)}")
+    of_states, of_inputs = one_sample(model)
     for i in range(len(model.states)):
-        terms = {(state[0],): a for state, a in zip(model.states, model.rows["A"][i])}
-        if model.rows["B"]:
-            terms.update({(entry[0],): b for entry, b in zip(model.inputs, model.rows["B"][i])})
-        if model.rows["c"]:
-            terms[()] = model.rows["c"][i][0]
+        terms = {(state[0],): a for state, a in zip(model.states, of_states[i])}
+        terms.update({(entry[0],): b for entry, b in zip(model.inputs, of_inputs[i])})
+        terms[()] = of_inputs[i][-1]
         if model.rows["w"]:
             low, high = model.rows["w"][i]
             if low > high:
@@ -127,6 +133,18 @@ def add_linear_system(model):
             model.noises.append((name, low, high))
             terms[name,] = Fraction(1)
         model.equations.append(added({}, terms))
+
+
+def one_sample(model):
+    """The matrices of a step: A, and B with c as its last column, sampled where the model has a sampling time."""
+    constants = model.rows["c"] or [[Fraction(0)] for _ in model.states]
+    inputs = [list(b) + c for b, c in zip(model.rows["B"] or [[] for _ in model.states], constants)]
+    if not model.sample:
+        return model.rows["A"], inputs
+    try:
+        return sampled(model.rows["A"], inputs, model.sample)
+    except TooLong:
+        raise Trouble("the sampling time is too long beside the fastest time of the system") from None
 
 
 def said(value):
