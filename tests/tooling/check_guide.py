@@ -20,7 +20,7 @@ def check(report):
         report.expect(f"the gate at {time} s", (int(won.replace(",", "")), int(rank)), solved(report, gate_at(report, Fraction(time))))
     wide = (report.top / "examples/double_integrator/double_integrator.model").read_text()
     narrow = wide.replace("target -0.21 0.21 -0.21 0.21", "target -0.20 0.20 -0.20 0.20")
-    report.expect("the double integrator with its target on the cells' bounds, and within them", (2595, 67),
+    report.expect("the double integrator with its target on the cells' bounds, and within them", (2559, 36),
                   (solved(report, wide)[0], solved(report, narrow)[0]))
     for expression, moves in (("e + (u - e) * 2 / 5", 7), ("(3 * e + 2 * u) / 5", 3)):
         plant = read_plant(f"plant 1\nstate e 0 199 10\ninput u 0 100\nnext e = {expression}\ngoal reach\nend\n".encode())
@@ -36,6 +36,7 @@ def gate_at(report, time):
     """The model of the gate, sampled exactly with another time, its disturbance in proportion."""
     text = (report.top / "examples/gate/gate.model").read_text()
     for old, new in (("0.5*v", f"{float(time)}*v"), ("0.5*u", f"{float(time)}*u"), ("0.125*u", f"{float(time * time / 2)}*u"),
+                     ("0.25*w", f"{float(time / 2)}*w"),
                      ("noise w -0.02 0.02", f"noise w {float(-time / 25)} {float(time / 25)}")):
         assert old in text
         text = text.replace(old, new)

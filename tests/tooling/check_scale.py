@@ -79,7 +79,7 @@ def check_without_noise(report):
     """The comparison sees what the noise is for: without it, real steps of the gate leave the successor box."""
     text = report.plant_text("gate").decode()
     faults = outside(Model((report.top / "examples/gate/gate.model").read_text()),
-                     read_plant(text.replace("noise r_x 0 1\n", "").replace(" + r_x", "").encode()), 3000)
+                     read_plant(text.replace("noise r_x -1 2\n", "").replace(" + r_x", "").encode()), 3000)
     report.holds("without its noise the gate's real steps leave the box", any("leaves" in fault for fault in faults))
 
 
