@@ -1,0 +1,90 @@
+"""Each example is solved, its README states its numbers, its plant is what tools/scale makes of its model, and its table
+drives it."""
+
+import random
+import re
+import subprocess
+import sys
+
+from gaffcurrant_plant.reader import read_plant
+from gaffcurrant_plant.table import read_table
+
+STARTS = 60
+
+
+def check(report):
+    for name in report.examples():
+        check_model(report, name)
+        check_table(report, name)
+    for script, words in (("vehicle/compare", []), ("pendulum/compare", ["2000"])):
+        done = subprocess.run([sys.executable, str(report.top / "examples" / script), *words], capture_output=True, check=False)
+        report.expect(f"examples/{script}", (0, b""), (done.returncode, done.stderr))
+
+
+def check_model(report, name):
+    model = report.top / "examples" / name / f"{name}.model"
+    if model.exists():
+        status, text, _ = report.tool("scale", model)
+        report.expect(f"{name}: the plant is that of its model", (0, report.plant_text(name).decode()), (status, text))
+
+
+def check_table(report, name):
+    plant = read_plant(report.plant_text(name))
+    text = report.table_text(name)
+    if text is None and plant.goal == "keep":
+        report.expect(f"{name}: not solved yet", b"unbuilt: goal\n", report.run(("synth", "1"), report.plant_text(name))[2])
+        return
+    report.holds(f"{name}: is solved", text)
+    if not text:
+        return
+    table = read_table(text)
+    report.expect(f"{name}: the table has the plant", plant.text(), table.plant.text())
+    if plant.goal == "reach":
+        report.expect(f"{name}: the numbers of its README", stated(report, name), numbers_of(table))
+        report.expect(f"{name}: runs arrive", [], [fault for fault in faults(table) if fault])
+
+
+def numbers_of(table):
+    plant = table.plant
+    edges, exact = plant.edges()
+    return [plant.cells, plant.vectors, plant.pairs, edges if exact else "not counted", len(table.rows),
+            max(rank for rank, _ in table.rows.values())]
+
+
+def stated(report, name):
+    """The numbers of the table in an example's README, without the seconds."""
+    lines = (report.top / "examples" / name / "README.md").read_text().splitlines()
+    at = next((i for i, line in enumerate(lines) if line.startswith("| cells |")), None)
+    if at is None:
+        return None
+    words = [word.strip().replace(",", "") for word in lines[at + 2].strip("|").split("|")]
+    return [int(word) for word in words[:6]] if all(re.match(r"[0-9.]+\Z", word) for word in words) else words
+
+
+def faults(table):
+    """Runs from corners of ranked cells under random and extreme disturbances: what is wrong with each, or None."""
+    plant, draws = table.plant, random.Random(1)
+    cells = sorted(table.rows)
+    for cell in [cells[0], cells[-1]] + draws.choices(cells, k=STARTS):
+        start = [draws.choice(ends) for ends in zip(plant.low(cell), plant.high(cell))]
+        yield fault_of(table, cell, start, draws)
+
+
+def fault_of(table, cell, start, draws):
+    """Steps a run by hand: an obstacle, a state outside or a rank that doesn't fall is a fault."""
+    plant, state, rank = table.plant, start, table.rows[cell][0]
+    extreme = draws.random() < 0.5
+    for left in range(rank, -1, -1):
+        at = plant.cell_of(state)
+        if at is None or at not in table.rows or inside(plant.obstacles, state) or table.rows[at][0] > left:
+            return f"from {start}: {state} with {left} samples left"
+        choice = table.rows[at][1]
+        if choice is None:
+            return None if inside(plant.targets, state) else f"from {start}: {state} is in no target"
+        noise = [draws.choice([low, high]) if extreme else draws.randint(low, high) for _, low, high in plant.noises]
+        state = plant.step(state, plant.vector(choice), noise)
+    return f"from {start}: not there after {rank} samples"
+
+
+def inside(boxes, state):
+    return any(all(low <= value <= high for value, (low, high) in zip(state, box)) for box in boxes)

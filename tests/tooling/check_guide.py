@@ -1,0 +1,50 @@
+"""The numbers and the code of docs/GUIDE.md."""
+
+import re
+from fractions import Fraction
+
+from gaffcurrant_plant.reader import read_plant
+from gaffcurrant_plant.table import read_table
+
+
+def check(report):
+    guide = (report.top / "docs" / "GUIDE.md").read_text()
+    code = re.search(r"```c\n(.*?)```", guide, re.DOTALL).group(1)
+    report.holds("the guide's C is that of control.c", code in (report.top / "examples/device/control.c").read_text())
+    model = re.search(r"```\n(sample .*?)```", guide, re.DOTALL).group(1)
+    report.expect("the guide's model gives the double integrator", lines_of(report.plant_text("double_integrator").decode()),
+                  lines_of(report.tool("scale", "-", data=model.encode())[1]))
+    rows = re.findall(r"^\| ([0-9.]+) s \| ([0-9,]+) \| ([0-9]+) \|$", guide, re.MULTILINE)
+    report.expect("the guide's sampling times", 5, len(rows))
+    for time, won, rank in rows:
+        report.expect(f"the gate at {time} s", (int(won.replace(",", "")), int(rank)), solved(report, gate_at(report, Fraction(time))))
+    wide = (report.top / "examples/double_integrator/double_integrator.model").read_text()
+    narrow = wide.replace("target -0.21 0.21 -0.21 0.21", "target -0.20 0.20 -0.20 0.20")
+    report.expect("the double integrator with its target on the cells' bounds, and within them", (2559, 36),
+                  (solved(report, wide)[0], solved(report, narrow)[0]))
+    for expression, moves in (("e + (u - e) * 2 / 5", 7), ("(3 * e + 2 * u) / 5", 3)):
+        plant = read_plant(f"plant 1\nstate e 0 199 10\ninput u 0 100\nnext e = {expression}\ngoal reach\nend\n".encode())
+        report.expect(f"the deviation of `{expression}`", [moves], plant.deviations(1))
+        report.holds(f"the guide has `{expression}`", expression in guide)
+
+
+def lines_of(text):
+    return [line for line in text.splitlines() if not line.startswith("#")]
+
+
+def gate_at(report, time):
+    """The model of the gate, sampled exactly with another time, its disturbance in proportion."""
+    text = (report.top / "examples/gate/gate.model").read_text()
+    for old, new in (("0.5*v", f"{float(time)}*v"), ("0.5*u", f"{float(time)}*u"), ("0.125*u", f"{float(time * time / 2)}*u"),
+                     ("0.25*w", f"{float(time / 2)}*w"),
+                     ("noise w -0.02 0.02", f"noise w {float(-time / 25)} {float(time / 25)}")):
+        assert old in text
+        text = text.replace(old, new)
+    return text
+
+
+def solved(report, model):
+    """How many cells of a model are won, and the greatest rank."""
+    text = report.tool("scale", "-", data=model.encode())[1].encode()
+    table = read_table(report.run(("synth", "1"), text)[1])
+    return len(table.rows), max(rank for rank, _ in table.rows.values())

@@ -1,0 +1,116 @@
+"""tools/lint says what the program says of every text of tests/cases, and gives the reason."""
+
+import subprocess
+
+LINE = ["plant 1", "state x 0 14 3", "input u -3 3", "next x = x + u", "target 12 14", "goal reach", "end"]
+CART = ["plant 1", "state p 0 599 10", "state v -100 99 10", "input a -20 0 20", "noise w -2 2", "next p = p + v / 5",
+        "next v = v + a + w", "target 400 559 -50 49", "goal reach", "end"]
+
+# The base, a line of it from 1, what stands in its place, the first line of the answer, a part of the reason.
+REFUSED = [
+    (LINE, 2, "state x 0 15 3", "malformed: line 2", "`state x 0 14 3` or `state x 0 17 3`"),
+    (LINE, 2, "state x 0.5 14 3", "malformed: line 2", "`0.5` is no whole number"),
+    (LINE, 2, "state x 0 1e3 3", "malformed: line 2", "no whole number"),
+    (LINE, 2, "state x 14 0 3", "malformed: line 2", "turned round"),
+    (LINE, 2, "state x 0 14", "malformed: line 2", "has 4 words"),
+    (LINE, 2, "state x, 0 14 3", "malformed: line 2", "is no name"),
+    (LINE, 2, "state x 0 14 3 # metres", "malformed: line 2", "a line of its own"),
+    (LINE, 2, "states x 0 14 3", "malformed: line 2", "is `state` meant"),
+    (LINE, 2, "State x 0 14 3", "malformed: line 2", "is `state` meant"),
+    (LINE, 3, "input u \u22123 3", "malformed: line 3", "the minus of the keyboard"),
+    (LINE, 3, "input u +3", "malformed: line 3", "plus sign"),
+    (LINE, 3, "input u", "malformed: line 3", "at least one value"),
+    (LINE, 3, "input x 3", "malformed: line 3", "taken by an earlier line"),
+    (LINE, 3, "disturbance w -1 1", "malformed: line 3", "is `noise` meant"),
+    (LINE, 4, "target 12 14", "malformed: line 4", "`next x = ..` is due"),
+    (LINE, 4, "next x = 0.2 * x + u", "malformed: line 4", "real numbers"),
+    (LINE, 4, "next x = x + 2u", "malformed: line 4", "between `2` and `u`"),
+    (LINE, 4, "next x = x u", "malformed: line 4", "before `u` a sign is due"),
+    (LINE, 4, "next x = u / x", "malformed: line 4", "`x`, which varies"),
+    (LINE, 4, "next x = u / 0", "malformed: line 4", "quotient by 0"),
+    (LINE, 4, "next x = u / (2 + 3)", "malformed: line 4", "written out in digits"),
+    (LINE, 4, "next x = x ^ 2", "malformed: line 4", "no powers"),
+    (LINE, 4, "next x = x ** 2", "malformed: line 4", "no powers"),
+    (LINE, 4, "next x = max(x, u, 3)", "malformed: line 4", "max(a, max(b, c))"),
+    (LINE, 4, "next x = abs(x, u)", "malformed: line 4", "`abs` takes one"),
+    (LINE, 4, "next x = min(x)", "malformed: line 4", "`min` takes two"),
+    (LINE, 4, "next x = sin(x)", "malformed: line 4", "isn't known"),
+    (LINE, 4, "next x = x + v", "malformed: line 4", "`v` is no state, input or noise"),
+    (LINE, 4, "next x = (x + u", "malformed: line 4", "left open"),
+    (LINE, 4, "next x = x + u)", "malformed: line 4", "has no opening one"),
+    (LINE, 4, "next x=x+u", "malformed: line 4", "a word of its own"),
+    (LINE, 5, "target 12", "malformed: line 5", "two numbers for each state"),
+    (LINE, 5, "target 14 12", "malformed: line 5", "turned round"),
+    (LINE, 6, "goal stay", "malformed: line 6", "`goal reach` or `goal keep`"),
+    (LINE, 6, "goal keep", "malformed: line 6", "has no targets"),
+    (LINE, 7, "", "malformed: line 7", "ends before its `end` line"),
+    (LINE, 1, "plant 2", "malformed: line 1", "the version is 1"),
+    (LINE, 1, "\ufeffplant 1", "malformed: line 1", "byte order mark"),
+    (CART, 7, "target 400 559 -50 49", "malformed: line 7", "the equation of v is missing"),
+    (CART, 6, "next v = v + a + w", "malformed: line 6", "that of p is due"),
+    (CART, 8, "target 400 559", "malformed: line 8", "LO_p HI_p LO_v HI_v"),
+    (CART, 2, "state p 0 1048575 1", "limit: cells", "1048576 are the most"),
+    (LINE, 2, "state x 0 999999999999999999 1000000000000000000", "malformed: line 2", "more than 18 digits"),
+]
+
+# The same for texts that are read, with a note that they are to get.
+NOTED = [
+    (LINE, 4, "next x = x + 1 / 5 * u", "`1 / 5` is 0"),
+    (LINE, 4, "next x = x + u / 2 * 3", "multiplies what a quotient has rounded"),
+    (LINE, 4, "next x = x + 3", "the input u stands in no equation"),
+    (LINE, 5, "# no target", "there is no target"),
+    (LINE, 5, "target 13 14", "no cell of x lies between 13 and 14"),
+    (LINE, 5, "target 11 14", "the cells of x fill 12 to 14 alone"),
+    (LINE, 5, "target 12 14\nobstacle 12 12", "an obstacle meets each of its cells"),
+    (LINE, 3, "input u 3 3", "more than once"),
+    (LINE, 4, "next x = x + u - x + x", "x stands in it more than once"),
+    (LINE, 4, "next x = x + u + 30", "the box of every input leaves the domain"),
+    (LINE, 4, "next x = x + u / 3", "may lead back into the cell itself"),
+    (CART, 5, "noise w -2 2\nnoise e 0 1", "the noise e stands in no equation"),
+]
+
+
+def check(report):
+    check_cases(report)
+    for base, number, line, answer, reason in REFUSED:
+        status, output, error = report.tool("lint", "-", data=changed(base, number, line))
+        first, second = (output.splitlines() + ["", ""])[:2]
+        report.expect(f"lint of `{line}`", (1, answer, ""), (status, first, error))
+        report.holds(f"lint of `{line}` says `{reason}`", reason in second, second)
+        report.expect(f"the program on `{line}`", answer + "\n",
+                      report.run(("synth", "1"), changed(base, number, line))[2].decode())
+    for base, number, line, note in NOTED:
+        status, output, error = report.tool("lint", "-", data=changed(base, number, line))
+        report.expect(f"lint of `{line}`", (0, "accepted", ""), (status, output.split("\n")[0], error))
+        report.holds(f"lint of `{line}` notes `{note}`", any(note in one for one in output.splitlines()), output)
+    report.expect("lint of the line example", (0, "accepted\nsize: deviation of x: 1; half a cell is 1; a box meets up to 2 "
+                  "places\nsize: 5 cells, 2 input vectors, 10 pairs, 8 edges\n", ""),
+                  report.tool("lint", "-", data=changed(LINE, 1, "plant 1")))
+
+
+def changed(base, number, line):
+    return ("\n".join(base[:number - 1] + [line] * bool(line) + base[number:]) + "\n" * bool(line)).encode()
+
+
+def check_cases(report):
+    """Every text of tests/cases that the program is given by `synth 1` with its output to a file."""
+    for folder in sorted((report.top / "tests" / "cases").iterdir()):
+        if (folder / "words").read_text().split() != ["synth", "1"] or (folder / "stdout").exists():
+            continue
+        status = (folder / "status").read_text().strip()
+        error = (folder / "error").read_text() if (folder / "error").exists() else ""
+        refused = status not in ("0", "9")
+        done, output, complaint = report.tool("lint", "-", data=text_of(folder))
+        report.expect(f"lint agrees on {folder.name}", (int(refused), error if refused else "accepted\n", ""),
+                      (done, output.split("\n")[0] + "\n", complaint))
+
+
+def text_of(folder):
+    """The text of a case; of an endless one the first part, which is past the limit."""
+    if (folder / "input").exists():
+        return (folder / "input").read_bytes()
+    with subprocess.Popen([str(folder / "make")], stdout=subprocess.PIPE) as process:
+        text = process.stdout.read(70000)
+        process.stdout.close()
+        process.terminate()
+    return text

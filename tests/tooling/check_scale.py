@@ -1,0 +1,145 @@
+"""tools/scale: the noise that it derives, by hand, and the error of the integer plant on random states, by another way."""
+
+import math
+import random
+import re
+from fractions import Fraction
+
+from gaffcurrant_plant.reader import read_plant
+
+HEAD = "state x 0 9.99 0.09 0.01\nstate v -1.21 1.22 0.09 0.01\ninput u 0.01 -1 -0.6 0 0.2 1\n"
+
+# A model, and lines that its plant has.
+SCALED = [
+    # x + v/2 + u/8 = (8x + 4v + u) / 8 with u a multiple of 20: the remainder is 0 or 4 eighths; quantising x and v moves
+    # by 0 up to 1.5; so below 2: the noise is 0 to 1. In v the quotient by 2 is exact, and the noise 0.
+    (HEAD + "next x = x + 0.5*v + 0.125*u\nnext v = v + 0.5*u\ntarget 8 9 -0.2 0.2\ngoal reach\n",
+     ["state x 0 998 9", "state v -121 121 9", "input u -100 -60 0 20 100", "noise r_x 0 1",
+      "next x = (8 * x + 4 * v + u) / 8 + r_x", "next v = (2 * v + u) / 2", "target 800 899 -20 19"]),
+    # The same as a linear system, with 0.02 of disturbance on v: 2 units to each side, and below one more by quantising.
+    (HEAD + "A 1 0.5\nA 0 1\nB 0.125\nB 0.5\nw 0 0\nw -0.02 0.02\ntarget 8 9 -0.2 0.2\ngoal reach\n",
+     ["noise r_x 0 1", "noise r_v -2 2", "next x = (8 * x + 4 * v + u) / 8 + r_x", "next v = (2 * v + u) / 2 + r_v"]),
+    # The same from the differential equation.
+    (HEAD + "sample 0.5\nA 0 1\nA 0 0\nB 0\nB 1\nw 0 0\nw -0.02 0.02\ntarget 8 9 -0.2 0.2\ngoal reach\n",
+     ["noise r_x 0 1", "noise r_v -2 2", "next x = (8 * x + 4 * v + u) / 8 + r_x", "next v = (2 * v + u) / 2 + r_v"]),
+    # exp(-0.1) is 0.904837, 1 - exp(-0.1) is 0.095163.
+    ("denominator 1000000\nsample 0.1\nstate x 0 10 0.1 0.001\ninput u 1 0 10\nA -1\nB 1\ntarget 5 6\ngoal reach\n",
+     ["next x = (904837 * x + 95162582 * u) / 1000000 + r_x"]),
+    # A third over 10 is 3 tenths: on 0 to 99 the coefficient's rounding moves by up to 99 / 30 = 3.3; the remainder adds
+    # up to 0.9, quantising below a third: -4 to 4.
+    ("denominator 10\nstate x 0 1 0.1 0.01\nnext x = x / 3\ntarget 0 0.1\ngoal reach\n",
+     ["noise r_x -4 4", "next x = 3 * x / 10 + r_x"]),
+    # The input's weights stand beside the state that they weigh, and a box is cut to whole units: a target inside, an
+    # obstacle outside.
+    ("state x 0 1 0.1 0.01\ninput m 1 0 1\nnext x = (1 - m)*0.5*x + m*0.25*x\ntarget 0.115 0.2\nobstacle 0.115 0.2\n"
+     "goal reach\n", ["next x = x * (2 - m) / 4 + r_x", "target 12 19", "obstacle 11 19"]),
+    # -x turns the quantising round: the real value lies up to one below.
+    ("state x -5 5 1 1\nnext x = -x\ngoal keep\n", ["noise r_x -1 0", "next x = -x + r_x"]),
+]
+
+COMPLAINTS = [
+    ("state x 0 1 0.3 0.1\nnext x = x\ngoal reach\n", "HI - LO of x, 1, is no multiple of the width 0.3"),
+    ("state x 0 1 0.1 0.3\nnext x = x\ngoal reach\n", "line 1: WIDTH of x, 0.1, is no multiple of the unit 0.3"),
+    ("state x 0 1 0.1 0.1\nnext x = sin(x)\ngoal reach\n", "line 2: `sin` isn't taken here"),
+    ("state x 0 1 0.1 0.1\nnext x = x / x\ngoal reach\n", "line 2: a divisor is a number"),
+    ("state x 0 1 0.1 0.1\nnext x = y\ngoal reach\n", "line 2: `y` is no variable"),
+    ("state x 0 1 0.1 0.1\ngoal reach\n", "1 states and 0 equations"),
+    ("state x 0 1 0.1 0.1\nnext x = x\n", "no `goal reach` line"),
+    ("", "the model has no state"),
+    ("state x 0 1 0.1 0.1\nA 1\ninput u 1 2\ngoal reach\n", "1 lines `B` are due"),
+    ("state x 0 10000000 1 1\nnext x = x\ngoal reach\n", "limit: cells"),
+    ("sample 1\nstate x 0 1 0.1 0.1\nnext x = x\ngoal reach\n", "`sample` is for a linear system alone"),
+    ("sample 100\nstate x 0 1 0.1 0.1\nA -1\ngoal reach\n", "the sampling time is too long"),
+    ("sample 0\nstate x 0 1 0.1 0.1\nA -1\ngoal reach\n", "line 1: a sampling time is above 0"),
+    ("bogus\n", "line 1: `bogus` begins no line"),
+]
+
+
+def check(report):
+    for model, lines in SCALED:
+        status, output, error = report.tool("scale", "-", data=model.encode())
+        report.expect(f"scale of {model[:60]!r}", (0, ""), (status, error))
+        for line in lines:
+            report.holds(f"scale says `{line}`", line in output.splitlines(), output)
+        if not status:
+            if "sample" not in model:
+                compare(report, model[:60], model, output)
+    for model, said in COMPLAINTS:
+        status, output, error = report.tool("scale", "-", data=model.encode())
+        report.expect(f"scale of {model[:40]!r}", (1, "", 1), (status, output, error.count("\n")))
+        report.holds(f"scale says `{said}`", said in error, error)
+    for name in report.examples():
+        model = report.top / "examples" / name / f"{name}.model"
+        if model.exists():
+            compare(report, name, model.read_text(), report.plant_text(name).decode(), 1000)
+    check_without_noise(report)
+
+
+def check_without_noise(report):
+    """The comparison sees what the noise is for: without it, real steps of the gate leave the successor box."""
+    text = report.plant_text("gate").decode()
+    faults = outside(Model((report.top / "examples/gate/gate.model").read_text()),
+                     read_plant(text.replace("noise r_x -1 2\n", "").replace(" + r_x", "").encode()), 3000)
+    report.holds("without its noise the gate's real steps leave the box", any("leaves" in fault for fault in faults))
+
+
+class Model:
+    """A model, its equations as Python's expressions over fractions."""
+
+    def __init__(self, text):
+        lines = [line.split("#")[0].split() for line in text.splitlines()]
+        self.states = [(one[1], *map(Fraction, one[2:])) for one in lines if one[:1] == ["state"]]
+        self.inputs = [(one[1], Fraction(one[2]), [Fraction(word) for word in one[3:]]) for one in lines
+                       if one[:1] == ["input"]]
+        self.noises = [(one[1], Fraction(one[2]), Fraction(one[3])) for one in lines if one[:1] == ["noise"]]
+        self.equations = [exact(" ".join(one[3:])) for one in lines if one[:1] == ["next"]] or linear(self, lines)
+
+
+def exact(text):
+    return re.sub(r"(?<![A-Za-z0-9_])[0-9]+(\.[0-9]+)?", lambda found: f"F('{found.group()}')", text)
+
+
+def linear(model, lines):
+    rows = {keyword: [one[1:] for one in lines if one[:1] == [keyword]] for keyword in "ABw"}
+    model.noises += [(f"w{i}", Fraction(row[0]), Fraction(row[1])) for i, row in enumerate(rows["w"])]
+    names = [state[0] for state in model.states] + [one[0] for one in model.inputs]
+    sums = [" + ".join(f"F('{a}') * {name}" for a, name in zip(a_row + b_row, names))
+            for a_row, b_row in zip(rows["A"], rows["B"])]
+    return [f"{total} + w{i}" for i, total in enumerate(sums)]
+
+
+def compare(report, what, text, plant_text, count=300):
+    faults = outside(Model(text), read_plant(plant_text.encode()), count)
+    report.expect(f"{what}: the error of rounding lies within the noise", [], faults[:3])
+
+
+def outside(model, plant, count):
+    """The real steps from random states which, rounded down to units, are farther from the plant's than its noise allows, or
+    leave the successor box."""
+    draws, faults = random.Random(3), []
+    codes = [compile(equation, "equation", "eval") for equation in model.equations]
+    noise = {name: (low, high) for name, low, high in plant.noises}
+    for _ in range(count):
+        whole, real, vector = drawn(model, plant, draws)
+        step = plant.step(whole, plant.vector(vector), [0] * len(plant.noises))
+        low_corner, high_corner = plant.box(plant.cell_of(whole), vector)
+        for i, (code, state) in enumerate(zip(codes, model.states)):
+            arrived = math.floor(eval(code, {"F": Fraction}, dict(real)) / state[-1])
+            low, high = noise.get(f"r_{state[0]}", (0, 0))
+            if not low <= arrived - step[i] <= high:
+                faults.append(f"{state[0]} at {whole}: {arrived} for {step[i]}")
+            if not low_corner[i] <= arrived <= high_corner[i]:
+                faults.append(f"{state[0]} at {whole} leaves the box: {arrived}")
+    return faults
+
+
+def drawn(model, plant, draws):
+    """A state in whole units, a real one in the same units with inputs and disturbances, and the input vector's number."""
+    whole = [draws.choice([low, high, draws.randint(low, high)]) for _, low, high, _ in plant.states]
+    real = {state[0]: (value + Fraction(draws.choice([0, 999, draws.randrange(1000)]), 1000)) * state[-1]
+            for state, value in zip(model.states, whole)}
+    vector = draws.randrange(plant.vectors)
+    real |= {name: value * unit for (name, unit, _), value in zip(model.inputs, plant.vector(vector))}
+    real |= {name: low + (high - low) * Fraction(draws.choice([0, 100, draws.randrange(101)]), 100)
+             for name, low, high in model.noises}
+    return whole, real, vector

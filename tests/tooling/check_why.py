@@ -1,0 +1,79 @@
+"""tools/why on the tables of line, tank and cart, against boxes worked out by hand."""
+
+# Words behind the table, and whole lines that the answer has.
+ANSWERS = [
+    ("line", ["7"], ["cell 2 (x 6 to 8): its row: rank 2, apply input 1 (u = 3)", "  deviation: x 1", "  successor box: x 3 to 5",
+                     "  successor box: x 9 to 11", "  wins within 4 samples", "  wins within 2 samples"]),
+    ("line", ["--cell", "4"], ["cell 4 (x 12 to 14): its row: rank 0, the cell lies in a target",
+                               "  stopped: the box leaves the domain in x (17 is above 14)"]),
+    # Place 39 and speed 15 have the centre 395 and 55; with -20 the box is 406 +- 6 by 35 +- 7: two places, three speeds.
+    ("cart", ["395", "55", "--input", "0"], ["cell 795 (p 390 to 399, v 50 to 59): its row: rank 1, apply input 0 (a = -20)",
+                                             "  deviation: p 6, v 7", "  successor box: p 400 to 412, v 28 to 42",
+                                             "  successors: 6", "  wins within 1 sample"]),
+    ("cart", ["0", "-100"], ["cell 0 (p 0 to 9, v -100 to -91): no row",
+                             "  stopped: the box leaves the domain in p (-20 is below 0) and in v (-122 is below -100)"]),
+    ("cart", ["--cell", "418", "--input", "0"], ["cell 418 (p 200 to 209, v 80 to 89): no row: it meets obstacle 1 (p 200 to "
+                                                 "219, v 80 to 99), so no input helps"]),
+]
+
+# A table by hand: from the first cell 2 is no way, and 3 comes back or meets an obstacle.
+HAND = b"""table 1
+plant 1
+state x 0 14 3
+input u 0 3 6
+next x = x + u
+target 12 14
+obstacle 4 4
+goal reach
+end
+rows 3
+2 2 1
+3 1 1
+4 0 -
+end
+"""
+
+COMPLAINTS = [
+    (["0", "0"], 2, "a state of this plant has 1 numbers (x), here are 2"),
+    (["15"], 1, "x = 15 is outside 0 to 14"),
+    (["--cell", "5"], 1, "there are 5 cells"),
+    (["x"], 2, "`x` is no whole number"),
+    (["7", "--cell", "2"], 2, "not both"),
+    (["7", "--input", "3"], 1, "there are 3 input vectors"),
+]
+
+
+def check(report):
+    for name, words, lines in ANSWERS:
+        status, output, error = report.tool("why", report.top / "examples" / name / f"{name}.table", *words)
+        report.expect(f"why {name} {words}", (0, ""), (status, error))
+        for line in lines:
+            report.holds(f"why {name} {words} says `{line}`", line in output.splitlines(), output)
+    _, output, _ = report.tool("why", "-", "0", data=HAND)
+    report.expect("why of a table by hand", [
+        "cell 0 (x 0 to 2): no row",
+        "input 0 (u = 0)", "  deviation: x 1", "  successor box: x 0 to 2", "  successors: 1",
+        "  stopped: it may come back to the cell itself",
+        "input 1 (u = 3)", "  deviation: x 1", "  successor box: x 3 to 5", "  successors: 1",
+        "  stopped: it may meet an obstacle: cell 1 (x 3 to 5)",
+        "input 2 (u = 6)", "  deviation: x 1", "  successor box: x 6 to 8", "  successors: 1",
+        "  wins within 3 samples"], output.splitlines())
+    _, output, _ = report.tool("why", "-", "0", "--input", "2", data=HAND.replace(b"rows 3\n2 2 1\n", b"rows 2\n"))
+    report.expect("why of a row less", "  stopped: it may lead to cells without a row: cell 2 (x 6 to 8)", output.splitlines()[-1])
+    for words, wanted, said in COMPLAINTS:
+        status, output, error = report.tool("why", "-", *words, data=HAND)
+        report.expect(f"why {words}", (wanted, ""), (status, output))
+        report.holds(f"why {words} says `{said}`", said in error and error.count("\n") == 1, error)
+    check_damaged(report)
+
+
+def check_damaged(report):
+    """Damaged tables, and the line that is named."""
+    table = (report.top / "examples/line/line.table").read_bytes()
+    for what, data, line in (("no row count", table.replace(b"rows 5", b"rows x"), 9), ("a row too many",
+                             table.replace(b"rows 5", b"rows 4"), 14), ("no last line", table[:-4], 15),
+                             ("a falling cell", table.replace(b"1 3 1", b"0 3 1"), 11), ("a plant", table[8:], 1),
+                             ("an input too large", table.replace(b"0 4 1", b"0 4 2"), 10)):
+        status, output, error = report.tool("why", "-", "7", data=data)
+        report.expect(f"why on {what}", (1, "", 1), (status, output, error.count("\n")))
+        report.holds(f"why on {what} names line {line}", f"malformed: line {line}:" in error, error)

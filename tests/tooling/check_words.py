@@ -1,0 +1,45 @@
+"""Each program of tools/ has --help, and says in one line what is wrong: with its words, its input and its output."""
+
+import subprocess
+import sys
+
+TOOLS = ("lint", "why", "scale", "header", "picture")
+
+
+def check(report):
+    table = report.top / "examples/line/line.table"
+    plant = report.top / "examples/line/line.plant"
+    model = report.top / "examples/gate/gate.model"
+    right = {"lint": [plant], "why": [table, "7"], "scale": [model], "header": [table]}
+    for name in TOOLS:
+        status, output, error = report.tool(name, "--help")
+        report.expect(f"{name} --help", (0, ""), (status, error))
+        report.holds(f"{name} --help says what it does", len(output) > 200 and output.startswith("usage: "), output)
+        output_words = ["-o", "/tmp/none.png"] if name == "picture" else []
+        wrong(report, f"{name} without words", 2, report.tool(name))
+        wrong(report, f"{name} with an unknown word", 2, report.tool(name, "--bogus"))
+        wrong(report, f"{name} without its file", 1, report.tool(name, "/nowhere/file", *right["why"][1:] * (name == "why"),
+                                                                 *output_words))
+        wrong(report, f"{name} of a folder", 1, report.tool(name, "/", *right["why"][1:] * (name == "why"), *output_words))
+    for name, words in right.items():
+        for what, opened in (("a full device", "/dev/full"), ("a closed output", None)):
+            wrong(report, f"{name} to {what}", 1, redirected(report, name, words, opened))
+        if name != "lint":
+            noise = bytes(range(256)) * 40
+            wrong(report, f"{name} of noise", 1, report.tool(name, "-", *words[1:], data=noise))
+    status, output, error = report.tool("lint", "-", data=bytes(range(256)) * 40)
+    report.expect("lint of noise", (1, "malformed: line 1", ""), (status, output.split("\n")[0], error))
+
+
+def redirected(report, name, words, path):
+    """A run whose output goes to a device, or nowhere for None."""
+    command = [sys.executable, str(report.top / "tools" / name), *map(str, words)]
+    shell = ["bash", "-c", f'exec "$@" >{path}' if path else 'exec "$@" >&-', "bash", *command]
+    done = subprocess.run(shell, stdin=subprocess.DEVNULL, capture_output=True, check=False)
+    return done.returncode, done.stdout.decode(), done.stderr.decode()
+
+
+def wrong(report, what, wanted, answer):
+    """A refusal: the status, nothing on standard output, and one line on standard error."""
+    status, output, error = answer
+    report.expect(what, (wanted, "", 1), (status, output, error.count("\n") if "Traceback" not in error else error[-200:]))

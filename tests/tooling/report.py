@@ -1,0 +1,46 @@
+"""Counts what passed and prints what failed; runs programs."""
+
+import subprocess
+import sys
+from functools import lru_cache
+
+
+class Report:
+    def __init__(self, top, program):
+        self.top, self.program = top, program
+        self.passed = self.failed = 0
+
+    def expect(self, what, wanted, got):
+        """Counts a comparison, and prints it where it failed."""
+        if wanted == got:
+            self.passed += 1
+        else:
+            self.failed += 1
+            print(f"failed {what}: wanted {wanted!r}, got {got!r}"[:400])
+
+    def holds(self, what, fact, else_said=""):
+        self.expect(what, True, bool(fact) or else_said or False)
+
+    def tool(self, name, *words, data=b"", **more):
+        """Runs a program of tools/; answers its status, output and error as text."""
+        done = subprocess.run([sys.executable, str(self.top / "tools" / name), *map(str, words)], input=data,
+                              capture_output=True, check=False, **more)
+        return done.returncode, done.stdout.decode("utf-8", "replace"), done.stderr.decode("utf-8", "replace")
+
+    @lru_cache(maxsize=None)
+    def run(self, words, data):
+        """Runs the program; answers its status, output and error as bytes."""
+        done = subprocess.run([str(self.program), *words], input=data, capture_output=True, check=False)
+        return done.returncode, done.stdout, done.stderr
+
+    def examples(self):
+        """The names of the examples that are plants."""
+        return sorted(path.stem for path in self.top.glob("examples/*/*.plant"))
+
+    def plant_text(self, name):
+        return (self.top / "examples" / name / f"{name}.plant").read_bytes()
+
+    def table_text(self, name):
+        """The table of an example by the program, or None where it isn't solved."""
+        status, output, _ = self.run(("synth", "1"), self.plant_text(name))
+        return output if status == 0 else None

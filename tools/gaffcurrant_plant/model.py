@@ -1,0 +1,158 @@
+"""Reads a model with real coefficients, for tools/scale, whose --help gives the lines of its text."""
+
+from fractions import Fraction
+
+from .command import Trouble
+from .polynomial import Fault, added, number_of, parse
+from .reader import NAME, NO_NAMES
+from .sampling import TooLong, sampled
+
+
+class Model:
+    def __init__(self):
+        self.denominator = self.sample = None
+        self.states, self.inputs, self.noises = [], [], []
+        self.equations, self.rows = [], {"A": [], "B": [], "c": [], "w": []}
+        self.boxes, self.goal = [], None
+
+    def names(self):
+        return [entry[0] for entry in self.states + self.inputs + self.noises]
+
+
+def read_model(data):
+    """The model that a text spells; raises Trouble with the line."""
+    model = Model()
+    for number, line in enumerate(data.decode("utf-8", "replace").splitlines(), 1):
+        words = line.split("#")[0].split()
+        if not words:
+            continue
+        try:
+            read_line(model, words)
+        except Fault as fault:
+            raise Trouble(f"line {number}: {fault}") from None
+    if not model.states or model.goal is None:
+        raise Trouble("the model has no state" if not model.states else "the model has no `goal reach` line")
+    if model.rows["A"]:
+        add_linear_system(model)
+    elif model.sample:
+        raise Trouble("`sample` is for a linear system alone, of lines A, B and c; `next` lines are sampled already")
+    if len(model.equations) != len(model.states):
+        raise Trouble(f"there are {len(model.states)} states and {len(model.equations)} equations")
+    return model
+
+
+def fail(said):
+    raise Fault(said)
+
+
+def read_line(model, words):
+    keyword, rest = words[0], words[1:]
+    if keyword == "denominator":
+        value = numbers(rest, 1)[0]
+        if value.denominator != 1 or value < 1:
+            fail("the denominator is a whole number of at least 1")
+        model.denominator = int(value)
+    elif keyword == "sample":
+        model.sample = numbers(rest, 1)[0]
+        if model.sample <= 0:
+            fail("a sampling time is above 0")
+    elif keyword in ("state", "input", "noise"):
+        read_variable(model, keyword, rest)
+    elif keyword == "next":
+        if len(rest) < 2 or rest[1] != "=":
+            fail("`next NAME = EXPRESSION` has the `=` as a word of its own")
+        if len(model.equations) >= len(model.states) or rest[0] != model.states[len(model.equations)][0]:
+            fail(f"the equations stand in the order of the states, one for each; `next {rest[0]}` isn't due")
+        model.equations.append(parse(" ".join(rest[2:]), model.names()))
+    elif keyword in model.rows:
+        size = {"A": len(model.states), "B": len(model.inputs), "c": 1, "w": 2}[keyword]
+        model.rows[keyword].append(numbers(rest, size))
+    elif keyword in ("target", "obstacle"):
+        ends = numbers(rest, 2 * len(model.states))
+        model.boxes.append((keyword, list(zip(ends[::2], ends[1::2]))))
+    elif keyword == "goal" and rest in (["reach"], ["keep"]):
+        model.goal = rest[0]
+    elif keyword != "end" or rest:
+        fail(f"`{' '.join(words[:2])}` begins no line of a model; see --help")
+
+
+def numbers(words, count):
+    if len(words) != count:
+        fail(f"{count} numbers are due, here are {len(words)}")
+    return [number_of(word) for word in words]
+
+
+def read_variable(model, keyword, rest):
+    if not rest or not NAME.match(rest[0]) or rest[0] in NO_NAMES or rest[0] in model.names():
+        fail(f"behind `{keyword}` a new name is due")
+    name = rest[0]
+    if keyword == "state":
+        low, high, width, unit = numbers(rest[1:], 4)
+        if unit <= 0 or width <= 0 or low >= high:
+            fail("a state has LO below HI, and a WIDTH and a UNIT above 0")
+        for what, value in (("LO", low), ("WIDTH", width), ("HI - LO", high - low)):
+            whole = unit if what != "HI - LO" else width
+            if value % whole:
+                fail(f"{what} of {name}, {said(value)}, is no multiple of {'the width' if what == 'HI - LO' else 'the unit'} "
+                     f"{said(whole)}")
+        model.states.append((name, low, high, width, unit))
+    elif keyword == "input":
+        if len(rest) < 3:
+            fail("`input NAME UNIT V1 .. Vm` has a unit and at least one value")
+        unit, *values = numbers(rest[1:], len(rest) - 1)
+        if unit <= 0:
+            fail("a unit is above 0")
+        if wrong := [value for value in values if value % unit]:
+            fail(f"the value {said(wrong[0])} of {name} is no multiple of its unit {said(unit)}")
+        model.inputs.append((name, unit, values))
+    else:
+        low, high = numbers(rest[1:], 2)
+        if low > high:
+            fail("a noise has LO of at most HI")
+        model.noises.append((name, low, high))
+
+
+def add_linear_system(model):
+    """Makes equations of the lines A, B, c and w."""
+    if model.equations:
+        raise Trouble("a model has `next` lines or a matrix A, not both")
+    for keyword, rows in model.rows.items():
+        wanted = len(model.states) if rows or keyword == "A" or (keyword == "B" and model.inputs) else 0
+        if len(rows) != wanted:
+            raise Trouble(f"{wanted} lines `{keyword}` are due, one for each state, here are {len(rows)}")
+    of_states, of_inputs = one_sample(model)
+    for i in range(len(model.states)):
+        terms = {(state[0],): a for state, a in zip(model.states, of_states[i])}
+        terms.update({(entry[0],): b for entry, b in zip(model.inputs, of_inputs[i])})
+        terms[()] = of_inputs[i][-1]
+        if model.rows["w"]:
+            low, high = model.rows["w"][i]
+            if low > high:
+                raise Trouble("a line `w LO HI` has LO of at most HI")
+            name = f"w_{model.states[i][0]}"
+            model.noises.append((name, low, high))
+            terms[name,] = Fraction(1)
+        model.equations.append(added({}, terms))
+
+
+def one_sample(model):
+    """The matrices of a step: A, and B with c as its last column, sampled where the model has a sampling time."""
+    constants = model.rows["c"] or [[Fraction(0)] for _ in model.states]
+    inputs = [list(b) + c for b, c in zip(model.rows["B"] or [[] for _ in model.states], constants)]
+    if not model.sample:
+        return model.rows["A"], inputs
+    try:
+        return sampled(model.rows["A"], inputs, model.sample)
+    except TooLong:
+        raise Trouble("the sampling time is too long beside the fastest time of the system") from None
+
+
+def said(value):
+    """A fraction as a decimal number, exactly where that is short."""
+    if value.denominator == 1:
+        return str(value.numerator)
+    try:
+        short = f"{float(value):.9g}"
+        return short if Fraction(short) == value else f"about {float(value):.6g}"
+    except OverflowError:
+        return "more than 10^300" if value > 0 else "less than -10^300"

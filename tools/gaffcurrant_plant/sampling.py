@@ -1,0 +1,34 @@
+"""Samples a linear differential equation x' = A x + B u with the input held: the exponential of its matrix, by its series."""
+
+from fractions import Fraction
+
+PLACES, KEPT, MOST_NORM = 80, 20, 50
+
+
+class TooLong(Exception):
+    """The sampling time is too long beside the fastest time of the system."""
+
+
+def sampled(states, inputs, time):
+    """The matrices of one sample, to KEPT decimals, where states and inputs are the rows of A and B."""
+    wide = len(states)
+    rows = [list(a) + list(b) for a, b in zip(states, inputs)]
+    size = len(rows[0])
+    norm = max(sum(abs(entry * time) for entry in row) for row in rows)
+    if norm > MOST_NORM:
+        raise TooLong
+    one = 10 ** PLACES
+    matrix = [[round(entry * time * one) for entry in row] for row in rows] + [[0] * size for _ in range(size - wide)]
+    power = [[one * (i == j) for j in range(size)] for i in range(size)]
+    total, number = [row[:] for row in power], 0
+    while any(map(any, power)):
+        number += 1
+        power = [[quotient(sum(row[k] * matrix[k][j] for k in range(size)), one * number) for j in range(size)] for row in power]
+        total = [[a + b for a, b in zip(left, right)] for left, right in zip(total, power)]
+    kept = [[Fraction(round(Fraction(entry, one) * 10 ** KEPT), 10 ** KEPT) for entry in row] for row in total[:wide]]
+    return [row[:wide] for row in kept], [row[wide:] for row in kept]
+
+
+def quotient(dividend, divisor):
+    """Rounded towards zero, so that the powers of the series end at zero."""
+    return dividend // divisor if dividend >= 0 else -(-dividend // divisor)
