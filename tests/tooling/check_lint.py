@@ -93,23 +93,23 @@ def changed(base, number, line):
 
 
 def check_cases(report):
-    """Every text of tests/cases that the program is given by `synth 1` with its output to a file."""
-    for folder in sorted((report.top / "tests" / "cases").iterdir()):
-        if (folder / "words").read_text().split() != ["synth", "1"] or (folder / "stdout").exists():
+    """Every text of tests/cases/synth that the program is given by `synth 1` with its output to a file."""
+    for folder in sorted((report.top / "tests" / "cases" / "synth").iterdir()):
+        if not folder.is_dir() or any((folder / name).exists() for name in ("words", "stdin", "stdout")):
             continue
-        status = (folder / "status").read_text().strip()
         error = (folder / "error").read_text() if (folder / "error").exists() else ""
-        refused = status not in ("0", "9")
-        done, output, complaint = report.tool("lint", "-", data=text_of(folder))
+        refused = error.startswith(("malformed", "limit", "overflow"))
+        done, output, complaint = report.tool("lint", "-", data=text_of(report, folder))
         report.expect(f"lint agrees on {folder.name}", (int(refused), error if refused else "accepted\n", ""),
                       (done, output.split("\n")[0] + "\n", complaint))
 
 
-def text_of(folder):
-    """The text of a case; of an endless one the first part, which is past the limit."""
-    if (folder / "input").exists():
-        return (folder / "input").read_bytes()
-    with subprocess.Popen([str(folder / "make")], stdout=subprocess.PIPE) as process:
+def text_of(report, folder):
+    """The text of a case, or that of its command where it has none; of an endless one the first part, which is past the limit."""
+    if not (folder / "make").exists():
+        own = folder / "input"
+        return (own if own.exists() else folder.parent / "input").read_bytes()
+    with subprocess.Popen([str(folder / "make")], stdout=subprocess.PIPE, cwd=report.top / "tests") as process:
         text = process.stdout.read(70000)
         process.stdout.close()
         process.terminate()
