@@ -23,12 +23,12 @@ SpelledPlantsArePlants = (bytes : List ℕ) (p : Description) → Spells bytes p
 abbrev pub CanonicalTextsSpell : Type 0
 CanonicalTextsSpell = (p : Description) → IsPlant p → Spells (text_of p) p
 
--- a text that starts with the canonical text of a plant has one such start
+-- a text starts with the canonical text of at most one plant
 abbrev pub OnePlantAtTheFront : Type 0
 OnePlantAtTheFront =
     (first second : Description) (rest others : List ℕ) → IsPlant first → IsPlant second → text_of first ++ rest ≡ text_of second ++ others → (first ≡ second) × (rest ≡ others)
 
--- a text has one reason to be refused, and none where it spells a plant within the limits
+-- a text has at most one reason to be refused, and none where it spells a plant within the limits
 abbrev pub OneRefusal : Type 0
 OneRefusal = (bytes : List ℕ) (f g : PlantFault) → IsRefusedFor bytes f → IsRefusedFor bytes g → f ≡ g
 
@@ -43,7 +43,7 @@ NumbersAreWords = (z : ℤ) → IsLiteral z → is_word (signed_decimal z) ≡ t
 abbrev pub OneFront : Type 0
 OneFront = (bytes : List ℕ) (p q : Description) (m n : ℕ) → IsFront bytes p m → IsFront bytes q n → (p ≡ q) × (m ≡ n)
 
--- bytes have one reason why no plant is read at their front, and none where a plant within the limits stands there
+-- bytes have at most one reason why no plant is read at their front, and none where a plant within the limits stands there
 abbrev pub OneFrontRefusal : Type 0
 OneFrontRefusal = (bytes : List ℕ) (f g : PlantFault) → IsFrontRefusedFor bytes f → IsFrontRefusedFor bytes g → f ≡ g
 

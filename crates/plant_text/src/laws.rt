@@ -11,7 +11,7 @@ pub fn one_plant_per_text()
     ensures { OnePlantPerText }
 {}
 
-/// A text that starts with the canonical text of a plant has one such start.
+/// A text starts with the canonical text of at most one plant.
 pub fn one_plant_at_the_front()
     ensures { OnePlantAtTheFront }
 {}
@@ -21,7 +21,7 @@ pub fn one_front()
     ensures { OneFront }
 {}
 
-/// Bytes have one reason why no plant is read at their front.
+/// Bytes have at most one reason why no plant is read at their front.
 pub fn one_front_refusal()
     ensures { OneFrontRefusal }
 {}
@@ -36,7 +36,7 @@ pub fn spelled_plants_are_plants()
     ensures { SpelledPlantsArePlants }
 {}
 
-/// A text has one reason to be refused.
+/// A text has at most one reason to be refused.
 pub fn one_refusal()
     ensures { OneRefusal }
 {}
