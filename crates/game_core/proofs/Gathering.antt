@@ -13,7 +13,7 @@ use Rattle.game_core.specs.declared.game.Mark.TheVariants.{Goal}
 use Rattle.game_core.specs.declared.game.Row.{Row}
 use Rattle.game_core.specs.Game.{Game, IsGame, IsEnabled, mark_of, pair_of, successors_at, successors_of}
 use Rattle.game_core.specs.Solution.{row_of, HasRowBelow}
-use Rattle.game_core.specs.Search.{Progress, begun, settled, IsSoundRow, IsConsistent, IsSearched, IsGathered, taken}
+use Rattle.game_core.specs.inside.Search.{Progress, begun, settled, IsSoundRow, IsConsistent, IsSearched, IsGathered, taken}
 
 no_row : (n c : ℕ) → row_of (replicate n None) c ≡ None
 no_row n c =

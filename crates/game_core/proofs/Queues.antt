@@ -7,7 +7,7 @@ use Rattle.std.proofs.lemmas.List.Elements.{Contains-get_or, Contains-append_lef
 use Rattle.game_core.proofs.Rows.{row_after_set, count_first, count_again}
 use Rattle.game_core.specs.declared.game.Row.{Row}
 use Rattle.game_core.specs.Solution.{row_of}
-use Rattle.game_core.specs.Search.{rank_at, rank_in, IsQueue}
+use Rattle.game_core.specs.inside.Search.{rank_at, rank_in, IsQueue}
 
 -- a cell without a row gets one of the top rank
 module _ (head top c : ℕ) (row : Row) (rows : List (Option Row)) (queue : List ℕ) (h : IsQueue head top rows queue) (lt : c < length rows) (none : row_of rows c ≡ None) (rank : row.rank ≡ top) (long : top ≤ length queue) where

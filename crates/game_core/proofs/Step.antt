@@ -14,7 +14,7 @@ use Rattle.game_core.specs.declared.game.Mark.TheVariants.{Goal, Obstacle, Plain
 use Rattle.game_core.specs.declared.game.Row.{Row}
 use Rattle.game_core.specs.Game.{Game, IsGame, IsEnabled, mark_of, pair_of, pairs_of, successors_at, successors_of}
 use Rattle.game_core.specs.Solution.{row_of, HasRowBelow}
-use Rattle.game_core.specs.Search.{Progress, settled, offered_to, offered_at, resolved, lessened, after_cut, HasRowAtMost, IsSoundRow, IsGoalRow, IsCounted, IsTold, IsSearch}
+use Rattle.game_core.specs.inside.Search.{Progress, settled, offered_to, offered_at, resolved, lessened, after_cut, HasRowAtMost, IsSoundRow, IsGoalRow, IsCounted, IsTold, IsSearch}
 
 -- the queue gets cells at its end alone
 pub record Grows (p q : Progress) : Type 0 where

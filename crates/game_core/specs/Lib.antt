@@ -1,5 +1,4 @@
 pub mod Game
 pub mod Strategy
 pub mod Solution
-pub mod Search
-pub mod Corridor
+pub mod inside

@@ -3,7 +3,7 @@ use Rattle.std.proofs.lemmas.List.Sums.{count_by-le-length}
 use Rattle.game_core.proofs.Gathering.{searched_none, consistent_all}
 use Rattle.game_core.proofs.Reach.{solution_from_consistent}
 use Rattle.game_core.specs.Game.{Game, IsGame}
-use Rattle.game_core.specs.Search.{Progress, IsSearched}
+use Rattle.game_core.specs.inside.Search.{Progress, IsSearched}
 use Rattle.game_core.specs.Solution.{IsReachSolution}
 use Rattle.game_core.proofs.plain.solve_plain.Goals as goal
 
