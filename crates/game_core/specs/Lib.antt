@@ -1,4 +1,5 @@
 pub mod Game
 pub mod Strategy
 pub mod Solution
+pub mod Keep
 pub mod inside
