@@ -3,7 +3,7 @@ ghost use Rattle.std.specs.Prelude.{◌≡◌, ℕ, ◌+◌, ◌*◌, ◌/◌, �
 ghost use Rattle.grid_quantiser.specs.Axes.{cells_of};
 ghost use Rattle.plant_text.specs.Description.{axes_of, vectors_of};
 ghost use Rattle.successor_box.specs.Sides.{IsSideAt, RestsOn};
-ghost use Rattle.successor_box.specs.Slopes.{HasNoOverflow, slopes_of};
+ghost use Rattle.successor_box.specs.Deviations.{HasNoOverflow, deviations_of};
 ghost use Rattle.abstraction_table.specs.Sides.{side_in, HasPlaceFor, HoldsSidesAlong, HoldSides};
 
 use grid_quantiser::Side;
@@ -42,7 +42,7 @@ pub(crate) fn find_tables<R: Threads + Sync>(
     p: &Plant,
     s: &Slopes,
 ) -> Result<Vec<SideTable>, AllocError>
-    requires slopes { s.now ≡ slopes_of p.now }
+    requires slopes { s.now ≡ deviations_of p.now }
     requires fits { HasNoOverflow p.now }
     ensures { IfOk result (λ tables. HoldSides p.now tables.items) }
 {
@@ -62,7 +62,7 @@ fn find_table<R: Threads + Sync>(
     s: &Slopes,
     state: u32,
 ) -> Result<SideTable, AllocError>
-    requires slopes { s.now ≡ slopes_of p.now }
+    requires slopes { s.now ≡ deviations_of p.now }
     requires fits { HasNoOverflow p.now }
     requires state { state < length p.now.equations }
     ensures { IfOk result (λ table. HoldsSidesAlong p.now state table) }
@@ -74,7 +74,7 @@ fn find_table<R: Threads + Sync>(
         .into_par_iter()
         .map(
             |place: u32| -> Option<Side>
-                requires slopes { s.now ≡ slopes_of p.now }
+                requires slopes { s.now ≡ deviations_of p.now }
                 requires fits { HasNoOverflow p.now }
                 requires state { state < length p.now.equations }
                 requires some_input { 0 < inputs }

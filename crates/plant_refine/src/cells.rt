@@ -4,7 +4,7 @@ ghost use Rattle.grid_quantiser.specs.Cells.{IsInDomain, cell_of, point_of};
 ghost use Rattle.plant_text.specs.Description.{axes_of, vectors_of};
 ghost use Rattle.plant_text.specs.Steps.{IsNoise, step_of};
 ghost use Rattle.successor_box.specs.Boxes.{IsEnabledAt, AreSuccessors};
-ghost use Rattle.successor_box.specs.Slopes.{HasNoOverflow, slopes_of};
+ghost use Rattle.successor_box.specs.Deviations.{HasNoOverflow, deviations_of};
 
 use grid_quantiser::Point;
 use grid_quantiser::laws::every_state_has_a_cell;
@@ -17,7 +17,7 @@ use successor_box::laws::{
 
 /// The state one sample later and its cell, which is a successor of the pair.
 pub fn next_cell(p: &Plant, s: &Slopes, x: &Point, input: u32, noise: &Point) -> (Point, u32)
-    requires slopes { s.now ≡ slopes_of p.now }
+    requires slopes { s.now ≡ deviations_of p.now }
     requires fits { HasNoOverflow p.now }
     requires input { input < vectors_of p.now.inputs }
     requires inside { IsInDomain (axes_of p.now) x.now }

@@ -20,7 +20,7 @@ use Rattle.plant_text.specs.Variables.{IsNoiseVariable}
 use Rattle.plant_text.specs.Steps.{IsNoise, values_at, step_of, equation_at}
 use Rattle.plant_text.specs.Laws.{IsSound}
 use Rattle.successor_box.specs.Boxes.{noise_centre, area_of, radii_of, deviation_at, central_values}
-use Rattle.successor_box.specs.Slopes.{HasNoOverflow}
+use Rattle.successor_box.specs.Deviations.{HasNoOverflow}
 use Rattle.successor_box.proofs.CellValues.{middle, central_in}
 use Rattle.successor_box.proofs.Staying.{between}
 use Rattle.successor_box.proofs.Steps.{formed_over}

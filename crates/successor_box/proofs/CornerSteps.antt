@@ -15,9 +15,9 @@ use Rattle.plant_text.specs.Variables.{IsNoiseVariable}
 use Rattle.plant_text.specs.Laws.{IsSound}
 use Rattle.successor_box.specs.Boxes.{deviation_at, central_values, low_corner, high_corner}
 use Rattle.plant_text.specs.Steps.{equation_at}
-use Rattle.successor_box.specs.Slopes.{HasNoOverflow, slopes_of}
+use Rattle.successor_box.specs.Deviations.{HasNoOverflow, deviations_of}
 use Rattle.successor_box.proofs.Staying.{fits_signed}
-use Rattle.successor_box.proofs.SlopeRows.{entry_is}
+use Rattle.successor_box.proofs.DeviationRows.{entry_is}
 use Rattle.successor_box.proofs.Centres.{central_value, ends_fit}
 
 -- one number of each corner
@@ -35,7 +35,7 @@ pub record IsCornerStep (p : Description) (c u i : ℕ) (value slope : ℤ) : Ty
   pub high_fits : FitsSigned w128 (value +ℤ slope)
 
 pub end_step : ValuesLieInSpans → CentresAreNear → (p : Description) → IsSound p → HasNoOverflow p → All IsNoiseVariable p.noises → (c u i : ℕ) → c < cells_of (axes_of p) → u < vectors_of p.inputs → i < length p.equations
-    → (value : ℤ) (slopes : List (List ℤ)) (slope : ℤ) → value ≡ value_of (equation_at p i) (central_values p c u) → slopes ≡ slopes_of p → slope ≡ get_or (get_or slopes i []) u (pos 0)
+    → (value : ℤ) (slopes : List (List ℤ)) (slope : ℤ) → value ≡ value_of (equation_at p i) (central_values p c u) → slopes ≡ deviations_of p → slope ≡ get_or (get_or slopes i []) u (pos 0)
     → IsCornerStep p c u i value slope
 end_step spans near p sound fits noises c u i cell input lt value slopes slope at slopes-are slope-is =
     let by : slope ≡ deviation_at p u (equation_at p i) = slope-is ∙ ap (λ (rows : List (List ℤ)). get_or (get_or rows i []) u (pos 0)) slopes-are ∙ entry_is p i lt u input in
@@ -50,7 +50,7 @@ end_step spans near p sound fits noises c u i cell input lt value slopes slope a
     }
 
 pub corner_step : ValuesLieInSpans → CentresAreNear → (p : Description) → IsSound p → HasNoOverflow p → All IsNoiseVariable p.noises → (c u i : ℕ) → c < cells_of (axes_of p) → u < vectors_of p.inputs → i < length p.equations
-    → (centre : List ℤ) (slopes : List (List ℤ)) (slope : ℤ) → centre ≡ point_of (map (λ e. value_of e (central_values p c u)) p.equations) → slopes ≡ slopes_of p → slope ≡ get_or (get_or slopes i []) u (pos 0)
+    → (centre : List ℤ) (slopes : List (List ℤ)) (slope : ℤ) → centre ≡ point_of (map (λ e. value_of e (central_values p c u)) p.equations) → slopes ≡ deviations_of p → slope ≡ get_or (get_or slopes i []) u (pos 0)
     → IsCornerStep p c u i (get_or centre i (pos 0)) slope
 corner_step spans near p sound fits noises c u i cell input lt centre slopes slope centre-is slopes-are slope-is =
     end_step spans near p sound fits noises c u i cell input lt (get_or centre i (pos 0)) slopes slope (ap (λ (xs : List ℤ). get_or xs i (pos 0)) centre-is ∙ central_value p c u i lt) slopes-are slope-is

@@ -4,7 +4,7 @@ ghost use Rattle.grid_quantiser.specs.Axes.{cells_of};
 ghost use Rattle.grid_quantiser.specs.Cells.{point_of};
 ghost use Rattle.plant_text.specs.Description.{axes_of, vectors_of};
 ghost use Rattle.successor_box.specs.Boxes.{central_values, low_corner, high_corner, IsBoxOf};
-ghost use Rattle.successor_box.specs.Slopes.{HasNoOverflow, slopes_of};
+ghost use Rattle.successor_box.specs.Deviations.{HasNoOverflow, deviations_of};
 
 use crate::laws::steps_stay_in_range;
 use crate::noise::noise_centres;
@@ -18,7 +18,7 @@ use plant_text::{Plant, step};
 /// The cells that a cell's points can be in one sample later, under an input vector: None where the
 /// successor box leaves the domain. It takes no memory.
 pub fn successors(p: &Plant, s: &Slopes, c: u32, input: u32) -> Option<CellBox>
-    requires slopes { s.now ≡ slopes_of p.now }
+    requires slopes { s.now ≡ deviations_of p.now }
     requires fits { HasNoOverflow p.now }
     requires cell { c < cells_of (axes_of p.now) }
     requires input { input < vectors_of p.now.inputs }
@@ -33,7 +33,7 @@ pub fn successors(p: &Plant, s: &Slopes, c: u32, input: u32) -> Option<CellBox>
 /// The next state from the centre of a cell, less and plus the deviations.
 #[inline]
 fn corners(p: &Plant, s: &Slopes, c: u32, input: u32) -> (Point, Point)
-    requires slopes { s.now ≡ slopes_of p.now }
+    requires slopes { s.now ≡ deviations_of p.now }
     requires fits { HasNoOverflow p.now }
     requires cell { c < cells_of (axes_of p.now) }
     requires input { input < vectors_of p.now.inputs }

@@ -5,7 +5,7 @@ ghost use Rattle.plant_text.specs.Description.{axes_of, vectors_of};
 ghost use Rattle.plant_text.specs.Steps.{equation_at};
 ghost use Rattle.successor_box.specs.Boxes.{central_values, IsBoxOf};
 ghost use Rattle.successor_box.specs.Sides.{IsSideAt, AreSidesAt};
-ghost use Rattle.successor_box.specs.Slopes.{HasNoOverflow, slopes_of};
+ghost use Rattle.successor_box.specs.Deviations.{HasNoOverflow, deviations_of};
 
 use crate::laws::steps_stay_in_range;
 use crate::noise::noise_centres;
@@ -19,7 +19,7 @@ use plant_text::{Plant, step_along};
 /// The side of a successor box along the axis of a state: None where one of its ends leaves the axis.
 /// It takes no memory.
 pub fn side(p: &Plant, s: &Slopes, c: u32, input: u32, state: u32) -> Option<Side>
-    requires slopes { s.now ≡ slopes_of p.now }
+    requires slopes { s.now ≡ deviations_of p.now }
     requires fits { HasNoOverflow p.now }
     requires cell { c < cells_of (axes_of p.now) }
     requires input { input < vectors_of p.now.inputs }

@@ -5,7 +5,7 @@ use Rattle.std.proofs.lemmas.Int.{to_z-of_z}
 use Rattle.std.proofs.lemmas.List.{length-map}
 use Rattle.successor_box.specs.Boxes.{low_corner, high_corner}
 use Rattle.successor_box.proofs.Padding.{point_more}
-use Rattle.successor_box.proofs.SlopeRows.{row_count}
+use Rattle.successor_box.proofs.DeviationRows.{row_count}
 use Rattle.successor_box.proofs.CornerSteps.{corner_step}
 use Rattle.successor_box.proofs.boxes.corners.Goals as goal
 

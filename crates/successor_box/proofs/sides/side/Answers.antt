@@ -8,7 +8,7 @@ use Rattle.grid_quantiser.specs.Sides.{IsSideOf}
 use Rattle.plant_text.specs.Description.{axes_of}
 use Rattle.plant_text.specs.Steps.{equation_at}
 use Rattle.successor_box.specs.Boxes.{central_values}
-use Rattle.successor_box.proofs.SlopeRows.{row_count}
+use Rattle.successor_box.proofs.DeviationRows.{row_count}
 use Rattle.successor_box.proofs.CornerSteps.{end_step}
 use Rattle.successor_box.proofs.sides.side.Goals as goal
 

@@ -5,7 +5,7 @@ use Rattle.plant_text.specs.Description.{Description, vectors_of}
 use Rattle.successor_box.specs.declared.fault.SlopeFault.{SlopeFault}
 use Rattle.successor_box.specs.declared.fault.SlopeFault.TheVariants.{Overflow, Memory}
 use Rattle.successor_box.specs.Boxes.{area_of, radii_of}
-use Rattle.successor_box.specs.Slopes.{FitsAt}
+use Rattle.successor_box.specs.Deviations.{HasNoOverflowAt}
 
 -- how many variables a plant has
 abbrev pub variables_of : Description → ℕ
@@ -24,5 +24,5 @@ AreRadii p radii = (u : ℕ) → take (variables_of p) radii ≡ radii_of p u
 
 -- what an overflow of one equation says
 abbrev pub IsOverflowAlong : Description → ℕ → SlopeFault → Type 0
-IsOverflowAlong p i (Overflow j u) = (j ≡ i) × (u < vectors_of p.inputs) × (FitsAt p i u → ⊥) × ((v : ℕ) → v < u → FitsAt p i v)
+IsOverflowAlong p i (Overflow j u) = (j ≡ i) × (u < vectors_of p.inputs) × (HasNoOverflowAt p i u → ⊥) × ((v : ℕ) → v < u → HasNoOverflowAt p i v)
 IsOverflowAlong p i Memory = Unit {0}

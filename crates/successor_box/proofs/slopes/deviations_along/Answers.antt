@@ -6,8 +6,8 @@ use Rattle.std.proofs.lemmas.Int.{to_z-of_z}
 use Rattle.std.proofs.lemmas.List.FromFn.{map-range_with_len_more}
 use Rattle.successor_box.specs.Boxes.{deviation_at}
 use Rattle.plant_text.specs.Steps.{equation_at}
-use Rattle.successor_box.specs.Slopes.{FitsAt}
-use Rattle.successor_box.proofs.slopes.slopes_along.Goals as goal
+use Rattle.successor_box.specs.Deviations.{HasNoOverflowAt}
+use Rattle.successor_box.proofs.slopes.deviations_along.Goals as goal
 
 pub loop-input-preserved : goal.loop-input-preserved
 loop-input-preserved c =
@@ -17,5 +17,5 @@ loop-input-preserved c =
     let fits : FitsSigned w128 c.in-Some.slope = search rules in
     record {
       so_far = c.in_ok-push-in-Some.ensures.items ∙ ap₂ (λ (xs : List ℤ) (x : ℤ). xs ++ x ∷ []) c.loop-input.invariant.so_far (to_z-of_z w128 c.in-Some.slope fits ∙ c.in-Some.ensures.1) ∙ sym (map-range_with_len_more (λ u. deviation_at p u (equation_at p i)) 0 n n (omega arith));
-      fits = below_more (FitsAt p i) n c.loop-input.invariant.fits c.in-Some.ensures.0;
+      fits = below_more (HasNoOverflowAt p i) n c.loop-input.invariant.fits c.in-Some.ensures.0;
     }

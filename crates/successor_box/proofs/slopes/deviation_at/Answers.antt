@@ -5,7 +5,7 @@ use Rattle.fixed_expr.specs.Expression.{Number, expression_of}
 use Rattle.plant_text.specs.Steps.{equation_at}
 use Rattle.successor_box.proofs.Steps.{formed_over}
 use Rattle.successor_box.proofs.Radii.{radii_not_negative}
-use Rattle.successor_box.proofs.slopes.slope_at.Goals as goal
+use Rattle.successor_box.proofs.slopes.deviation_at.Goals as goal
 
 pub slope-requires-clause-well_formed : goal.slope-requires-clause-well_formed
 slope-requires-clause-well_formed c =
