@@ -8,6 +8,6 @@ pub mod Filling
 pub mod Radii
 pub mod Centres
 pub mod DeviationRows
-pub mod CornerSteps
+pub mod SideEnds
 pub mod Ranges
 pub mod Supports

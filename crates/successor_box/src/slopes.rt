@@ -77,18 +77,23 @@ fn deviations_along(
     ensures overflow { IfErr result (λ f. IsOverflowAlong p.now equation f) }
 {
     let vectors = p.vectors();
-    let mut slopes = Vec::with_capacity(alloc, vectors as usize)?;
+    let mut deviations = Vec::with_capacity(alloc, vectors as usize)?;
     for input in 0..vectors {
         match deviation_at(p, radii, equation, input) {
-            Some(slope) => slopes.push(slope)?,
+            Some(deviation) => deviations.push(deviation)?,
             None => return Err(SlopeFault::Overflow { equation, input }),
         }
     }
-    Ok(slopes)
+    Ok(deviations)
 }
 
 /// How far an equation moves under an input vector: None where a number leaves the range.
-fn deviation_at(p: &Plant, radii: &[i128; VARIABLES_LIMIT], equation: u32, input: u32) -> Option<i128>
+fn deviation_at(
+    p: &Plant,
+    radii: &[i128; VARIABLES_LIMIT],
+    equation: u32,
+    input: u32,
+) -> Option<i128>
     requires equation { equation < length p.now.equations }
     requires input { input < vectors_of p.now.inputs }
     requires radii { AreRadii p.now radii.now }
@@ -97,7 +102,7 @@ fn deviation_at(p: &Plant, radii: &[i128; VARIABLES_LIMIT], equation: u32, input
     every_plant_is_within_limits(p);
     plants_are_sound();
     let count = variables(p) as usize;
-    slope(
+    deviation_over(
         p.equation(equation),
         &ranges(p, input)[..count],
         &radii[..count],
@@ -105,7 +110,7 @@ fn deviation_at(p: &Plant, radii: &[i128; VARIABLES_LIMIT], equation: u32, input
 }
 
 /// How far an expression moves over an area: None where a number leaves the range.
-fn slope(e: &Expr, area: &[Interval], radii: &[i128]) -> Option<i128>
+fn deviation_over(e: &Expr, area: &[Interval], radii: &[i128]) -> Option<i128>
     requires well_formed { IsWellFormed (expression_of e.now) (length area.now) }
     requires one_for_each { length radii.now ≡ length area.now }
     requires not_negative { All (λ r. pos 0 ≤ℤ r) radii.now }
@@ -147,7 +152,7 @@ mod tests {
             Box::new(alloc, square(alloc)?)?,
             Box::new(alloc, Expr::Var(0))?,
         );
-        assert_eq!(rt; slope(&cube, &AREA, &RADII), None);
+        assert_eq!(rt; deviation_over(&cube, &AREA, &RADII), None);
         Ok(())
     }
 
@@ -160,7 +165,7 @@ mod tests {
             Box::new(alloc, square(alloc)?)?,
         );
         assert_eq!(rt;
-            slope(&difference, &AREA, &RADII),
+            deviation_over(&difference, &AREA, &RADII),
             Some(4 * 999999999999999998 * 499999999999999999)
         );
         Ok(())

@@ -1,4 +1,4 @@
--- The ranges and the radii of a plant's variables, in arrays that are longer. No public clause names this.
+-- The ranges and the radii of a plant's variables, in arrays that are longer.
 use Rattle.std.specs.Prelude.{◌≡◌, ℕ, ◌+◌, ◌<◌, ℤ, pos, List, length, take}
 use Rattle.interval_eval.specs.declared.interval.Interval.{Interval}
 use Rattle.plant_text.specs.Description.{Description, vectors_of}

@@ -14,8 +14,8 @@ loop-input-preserved c =
     let p = c.args.p.now in
     let i = c.args.equation in
     let n = c.loop-input.input in
-    let fits : FitsSigned w128 c.in-Some.slope = search rules in
+    let fits : FitsSigned w128 c.in-Some.deviation = search rules in
     record {
-      so_far = c.in_ok-push-in-Some.ensures.items ∙ ap₂ (λ (xs : List ℤ) (x : ℤ). xs ++ x ∷ []) c.loop-input.invariant.so_far (to_z-of_z w128 c.in-Some.slope fits ∙ c.in-Some.ensures.1) ∙ sym (map-range_with_len_more (λ u. deviation_at p u (equation_at p i)) 0 n n (omega arith));
+      so_far = c.in_ok-push-in-Some.ensures.items ∙ ap₂ (λ (xs : List ℤ) (x : ℤ). xs ++ x ∷ []) c.loop-input.invariant.so_far (to_z-of_z w128 c.in-Some.deviation fits ∙ c.in-Some.ensures.1) ∙ sym (map-range_with_len_more (λ u. deviation_at p u (equation_at p i)) 0 n n (omega arith));
       fits = below_more (HasNoOverflowAt p i) n c.loop-input.invariant.fits c.in-Some.ensures.0;
     }

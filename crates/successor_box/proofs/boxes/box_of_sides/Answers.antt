@@ -3,7 +3,7 @@ use Rattle.std.proofs.lemmas.List.{length-map}
 use Rattle.plant_text.specs.Description.{axis_of}
 use Rattle.successor_box.specs.Boxes.{low_corner, high_corner}
 use Rattle.successor_box.proofs.Enabled.{corners_ordered}
-use Rattle.successor_box.proofs.sides.box_of_sides.Goals as goal
+use Rattle.successor_box.proofs.boxes.box_of_sides.Goals as goal
 
 pub box_with-requires : goal.box_with-requires
 box_with-requires c =
