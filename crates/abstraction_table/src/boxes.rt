@@ -5,7 +5,7 @@ ghost use Rattle.plant_text.specs.Description.{axes_of, vectors_of};
 ghost use Rattle.successor_box.specs.Boxes.{IsBoxOf};
 ghost use Rattle.successor_box.specs.Deviations.{HasNoOverflow, deviations_of};
 ghost use Rattle.abstraction_table.specs.Abstraction.{AreBoxesOf};
-ghost use Rattle.abstraction_table.specs.Sides.{HoldSides};
+ghost use Rattle.abstraction_table.specs.inside.Sides.{HoldSides};
 
 use crate::sides::{SideTable, find_tables};
 use grid_quantiser::CellBox;

@@ -7,7 +7,7 @@ use Rattle.grid_quantiser.specs.declared.axis.Axis.{Axis}
 use Rattle.grid_quantiser.specs.declared.boxes.CellBox.{CellBox}
 use Rattle.grid_quantiser.specs.Axes.{cells_of}
 use Rattle.grid_quantiser.specs.Boxes.{IsCellBox}
-use Rattle.abstraction_table.specs.BoxGame.{IsBox}
+use Rattle.abstraction_table.specs.inside.Sources.{IsBox}
 
 IsCellBox-prop : (axes : List Axis) (first last : ℕ) → IsProp (IsCellBox axes first last)
 IsCellBox-prop [] first last = Unit-prop

@@ -1,11 +1,11 @@
--- How often numbers occur among cells, and where pairs are put for them. No public clause names this.
+-- How often numbers occur among cells, and where pairs are put for them.
 use Rattle.std.specs.Prelude.{◌≡◌, ℕ, ◌+◌, ◌-◌, ◌<◌, ◌≤◌, ◌==◌, ◌&&◌, leb, ltb, List, ◌++◌, map, length, replicate, slice_index, sum, sum_by, count_by, Option}
 use Rattle.std.specs.List.{filter}
 use Rattle.grid_quantiser.specs.declared.axis.Axis.{Axis}
 use Rattle.grid_quantiser.specs.declared.boxes.CellBox.{CellBox}
 use Rattle.edge_rows.specs.Rows.{Filling, row_at}
 use Rattle.successor_box.specs.Boxes.{cells_in}
-use Rattle.abstraction_table.specs.BoxGame.{sources_among}
+use Rattle.abstraction_table.specs.inside.Sources.{sources_among}
 
 -- how often a cell stands among cells
 abbrev pub times : ℕ → List ℕ → ℕ

@@ -1,4 +1,4 @@
--- The sides of all boxes, in one table for each state. No public clause names this.
+-- The sides of all boxes, in one table for each state.
 use Rattle.std.specs.Prelude.{◌≡◌, ℕ, ◌+◌, ◌*◌, ◌%◌, ◌<◌, List, length, slice_index_or, Option, None}
 use Rattle.grid_quantiser.specs.declared.sides.Side.{Side}
 use Rattle.grid_quantiser.specs.Axes.{cells_of}
