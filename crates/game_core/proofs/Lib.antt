@@ -10,3 +10,4 @@ pub mod Step
 pub mod Taking
 pub mod Gathering
 pub mod RankBound
+pub mod Right

@@ -1,5 +1,6 @@
 pub mod Game
 pub mod Strategy
 pub mod Solution
+pub mod Right
 pub mod Keep
 pub mod inside

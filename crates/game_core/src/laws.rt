@@ -2,6 +2,7 @@
 ghost use Rattle.std.specs.Prelude.{◌≡◌, List, Option};
 ghost use Rattle.game_core.specs.declared.game.Row.{Row};
 ghost use Rattle.game_core.specs.Game.{Game, IsGame};
+ghost use Rattle.game_core.specs.Right.{AreRight};
 ghost use Rattle.game_core.specs.Solution.{IsReachSolution, LeadsToGoals, RanksAreBelowTheCells};
 
 /// Who follows the rows of a solution comes to lower ranks alone, and at rank 0 to a goal.
@@ -17,4 +18,14 @@ pub fn one_solution()
 /// The rank of a row in a solution is less than the number of cells.
 pub fn ranks_are_below_the_cells()
     ensures { RanksAreBelowTheCells }
+{}
+
+/// Rows all of whose cells are right are the solution.
+pub fn right_rows_are_the_solution()
+    ensures { (g : Game) (rows : List (Option Row)) → IsGame g → AreRight g rows → IsReachSolution g rows }
+{}
+
+/// Each cell of a solution is right.
+pub fn solutions_are_right()
+    ensures { (g : Game) (rows : List (Option Row)) → IsGame g → IsReachSolution g rows → AreRight g rows }
 {}
