@@ -11,3 +11,4 @@ pub mod Taking
 pub mod Gathering
 pub mod RankBound
 pub mod Right
+pub mod Keep

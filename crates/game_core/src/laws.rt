@@ -2,6 +2,7 @@
 ghost use Rattle.std.specs.Prelude.{◌≡◌, List, Option};
 ghost use Rattle.game_core.specs.declared.game.Row.{Row};
 ghost use Rattle.game_core.specs.Game.{Game, IsGame};
+ghost use Rattle.game_core.specs.Keep.{IsKeepSolution};
 ghost use Rattle.game_core.specs.Right.{AreRight};
 ghost use Rattle.game_core.specs.Solution.{IsReachSolution, LeadsToGoals, RanksAreBelowTheCells};
 
@@ -10,9 +11,14 @@ pub fn rows_lead_to_goals()
     ensures { (g : Game) (rows : List (Option Row)) → IsGame g → IsReachSolution g rows → LeadsToGoals g rows }
 {}
 
-/// A game has one solution.
+/// A game has one reach solution.
 pub fn one_solution()
     ensures { (g : Game) (first second : List (Option Row)) → IsReachSolution g first → IsReachSolution g second → first ≡ second }
+{}
+
+/// A game has one keep solution.
+pub fn one_keep_solution()
+    ensures { (g : Game) (first second : List (Option Row)) → IsKeepSolution g first → IsKeepSolution g second → first ≡ second }
 {}
 
 /// The rank of a row in a solution is less than the number of cells.
