@@ -12,3 +12,5 @@ pub mod Gathering
 pub mod RankBound
 pub mod Right
 pub mod Keep
+pub mod Times
+pub mod SmallGames

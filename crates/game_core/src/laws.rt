@@ -2,6 +2,7 @@
 ghost use Rattle.std.specs.Prelude.{◌≡◌, List, Option};
 ghost use Rattle.game_core.specs.declared.game.Row.{Row};
 ghost use Rattle.game_core.specs.Game.{Game, IsGame};
+ghost use Rattle.game_core.specs.Counts.{CountsTell, EdgesFromBothEnds};
 ghost use Rattle.game_core.specs.Keep.{IsKeepSolution};
 ghost use Rattle.game_core.specs.Right.{AreRight};
 ghost use Rattle.game_core.specs.Solution.{IsReachSolution, LeadsToGoals, RanksAreBelowTheCells};
@@ -34,4 +35,14 @@ pub fn right_rows_are_the_solution()
 /// Each cell of a solution is right.
 pub fn solutions_are_right()
     ensures { (g : Game) (rows : List (Option Row)) → IsGame g → IsReachSolution g rows → AreRight g rows }
+{}
+
+/// How often each number stands in lists tells the lists up to their order, and how sums over two lists meet.
+pub fn counts_tell()
+    ensures { CountsTell }
+{}
+
+/// A pair stands among the sources of a cell as often as the cell among the pair's successors.
+pub fn edges_from_both_ends()
+    ensures { EdgesFromBothEnds }
 {}
