@@ -1,3 +1,3 @@
 -- What only tests and proofs name.
 pub mod Search
-pub mod Corridor
+pub mod SmallGames

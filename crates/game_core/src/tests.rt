@@ -1,4 +1,4 @@
-ghost use Rattle.game_core.specs.inside.Corridor.{corridor};
+ghost use Rattle.game_core.specs.inside.SmallGames.{corridor};
 ghost use Rattle.game_core.specs.Game.{IsGraph};
 
 use super::*;

@@ -6,7 +6,7 @@ use Rattle.game_core.specs.declared.game.Mark.{Mark}
 use Rattle.game_core.specs.declared.game.Mark.TheVariants.{Goal, Obstacle, Plain}
 use Rattle.game_core.specs.declared.game.Row.{Row}
 use Rattle.game_core.specs.Game.{Game, mark_of, pair_of, pairs_of, successors_at, successors_of, IsEnabled}
-use Rattle.game_core.specs.Solution.{row_of, HasRowBelow}
+use Rattle.game_core.specs.Solution.{row_of, rank_at, HasRowBelow}
 
 -- How far a search has come: for each pair the successors that are still to be taken, the rows, and the
 -- cells that have one, in the order of their ranks.
@@ -57,14 +57,6 @@ lessened pair p = record { left = slice_set p.left pair (slice_index p.left pair
 -- a successor of a pair is taken
 abbrev pub after_cut : Game → ℕ → ℕ → Progress → Progress
 after_cut g pair rank p = if slice_index p.left pair - 1 == 0 then resolved g pair rank (lessened pair p) else lessened pair p
-
--- the rank of a cell's row, and 0 where it has none
-abbrev pub rank_in : Option Row → ℕ
-rank_in None = 0
-rank_in (Some row) = row.rank
-
-abbrev pub rank_at : List (Option Row) → ℕ → ℕ
-rank_at rows c = rank_in (row_of rows c)
 
 -- a row tells the truth: rank 0 stands at a goal, and a higher one leads to lower ones
 abbrev pub IsSoundRow : Game → List (Option Row) → ℕ → ℕ → ℕ → Type 0

@@ -4,7 +4,8 @@ use Rattle.std.proofs.lemmas.List.Sums.{count_by-le-length}
 use Rattle.game_core.proofs.Rows.{below_from_row}
 use Rattle.game_core.proofs.Taking.{taking_start, taking_step, taking_end, left_to_cut}
 use Rattle.game_core.specs.Game.{Game, IsGraph}
-use Rattle.game_core.specs.inside.Search.{Progress, IsSearched, rank_at}
+use Rattle.game_core.specs.inside.Search.{Progress, IsSearched}
+use Rattle.game_core.specs.Solution.{rank_at}
 use Rattle.game_core.proofs.search.Search.take.Goals as goal
 
 -- the cell at the head has a row
