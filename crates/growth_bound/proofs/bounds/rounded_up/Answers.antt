@@ -2,7 +2,7 @@ use Rattle.std.proofs.Common.{◌<◌, ◌∙◌, ap, nat_abs, arith, FitsSigned
 use Rattle.std.specs.Int.{w128, div_ceil}
 use Rattle.std.proofs.lemmas.Int.{ints, to_z-of_z}
 use Rattle.growth_bound.proofs.Ceilings.{ceiling-is}
-use Rattle.growth_bound.proofs.growth.rounded_up.Goals as goal
+use Rattle.growth_bound.proofs.bounds.rounded_up.Goals as goal
 
 pub returns : goal.returns
 returns c =
