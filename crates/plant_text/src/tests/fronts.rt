@@ -1,7 +1,6 @@
 ghost use Rattle.std.specs.Prelude.{◌≤◌, length};
 
-use crate::fault::PlantFault;
-use crate::reading::front_reader::read_front;
+use crate::{PlantFault, read_front, write_plant};
 use std::alloc::Global;
 use std::test::*;
 
@@ -21,13 +20,13 @@ fn refused_line(alloc: Global, bytes: &[u8]) -> Option<u32>
 
 #[test]
 fn reads_the_front_alone(rt: HostRuntime) -> Result<(), Fail> {
-    let front = read_front(rt.alloc(), BYTES)?;
-    assert_eq!(rt; front.length, 79);
-    assert_eq!(rt; front.plant.states(), 1);
-    assert_eq!(rt; front.plant.vectors(), 2);
-    assert_eq!(rt; front.plant.targets(), 1);
-    assert_eq!(rt; front.plant.obstacles(), 0);
-    assert_eq!(rt; read_front(rt.alloc(), &BYTES[..79])?.length, 79);
+    for bytes in [BYTES, &BYTES[..79]] {
+        let front = read_front(rt.alloc(), bytes)?;
+        assert_eq!(rt; front.length, 79);
+        let mut text = Vec::new(rt.alloc());
+        write_plant(rt.alloc(), &front.plant, &mut text)?;
+        assert_eq!(rt; text.as_slice(), &BYTES[..79]);
+    }
     Ok(())
 }
 
