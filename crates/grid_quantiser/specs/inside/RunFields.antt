@@ -1,4 +1,4 @@
--- How the runs of a box are gone through, as an odometer turns. No public clause names this.
+-- How the runs of a box are gone through, as an odometer turns.
 use Rattle.std.specs.Prelude.{◌≡◌, ℕ, zero, suc, ◌+◌, ◌-◌, ◌*◌, ◌^◌, ◌<◌, ◌≤◌, ◌==◌, List, [], ◌∷◌, ◌++◌, length, drop, take, Option, Some, None, IfSome, if◌then◌else◌}
 use Rattle.std.specs.List.{All, flat_map, range_with_len}
 use Rattle.grid_quantiser.specs.declared.runs.Wheel.{Wheel}

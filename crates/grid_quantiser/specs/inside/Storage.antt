@@ -8,7 +8,7 @@ abbrev pub six_of : List Axis → List Axis
 six_of axes = axes ++ replicate (6 - length axes) no_axis
 
 -- Six places keep the axes of a grid, beside how many they are and the number of its cells.
-pub record IsKept (six : List Axis) (states cells : ℕ) : Type 0 where
+pub record IsStored (six : List Axis) (states cells : ℕ) : Type 0 where
   pub axes : AreAxes (take states six)
   pub rest : six ≡ six_of (take states six)
   pub states_is : states ≡ length (take states six)
