@@ -1,8 +1,8 @@
 -- The step from the centre of a cell, at the centres of the noises.
-use Rattle.std.proofs.Common.{◌≡◌, ℕ, suc, ◌-◌, ◌%◌, ◌<◌, ◌≤◌, List, [], ◌∷◌, ◌++◌, All, length, map, get_or, replicate, refl, ap, ap₂, ◌∙◌, arith}
+use Rattle.std.proofs.Common.{◌≡◌, ℕ, suc, ◌-◌, ◌%◌, ◌<◌, ◌≤◌, List, [], ◌∷◌, ◌++◌, All, length, map, replicate, refl, ap, ap₂, arith}
 use Rattle.std.specs.Prelude.{ℤ, pos, ◌+ℤ◌, ◌-ℤ◌, ◌≤ℤ◌}
 use Rattle.std.proofs.lemmas.Int.{ints}
-use Rattle.std.proofs.lemmas.List.{length-map, take-append-le, get_or-map, get_or_append_left}
+use Rattle.std.proofs.lemmas.List.{length-map, take-append-le}
 use Rattle.std.proofs.lemmas.List.Elements.{All-head, All-tail}
 use Rattle.fixed_expr.specs.Range.{IsInRange}
 use Rattle.fixed_expr.specs.Expression.{Expression, Number}
@@ -18,7 +18,7 @@ use Rattle.interval_eval.specs.Span.{span_of}
 use Rattle.plant_text.specs.declared.plant.variables.NoiseVariable.{NoiseVariable}
 use Rattle.plant_text.specs.plant.Description.{Description, axis_of, axes_of, vectors_of, vector_of}
 use Rattle.plant_text.specs.plant.Variables.{IsNoiseVariable}
-use Rattle.plant_text.specs.plant.Steps.{IsNoise, values_at, step_of, equation_at}
+use Rattle.plant_text.specs.plant.Steps.{IsNoise, values_at, equation_at}
 use Rattle.plant_text.specs.plant.Soundness.{IsSound}
 use Rattle.successor_box.specs.Boxes.{noise_centre, area_of, radii_of, deviation_at, central_values}
 use Rattle.successor_box.specs.Deviations.{HasNoOverflow}
