@@ -1,6 +1,6 @@
 //! Building the abstraction of a plant.
 ghost use Rattle.std.specs.Prelude.{◌≡◌, IfOk, IfErr};
-ghost use Rattle.successor_box.specs.Slopes.{HasNoOverflow, slopes_of};
+ghost use Rattle.successor_box.specs.Deviations.{HasNoOverflow, deviations_of};
 ghost use Rattle.abstraction_table.specs.Abstraction.{IsGameOf, AreBoxesOf};
 ghost use Rattle.abstraction_table.specs.Faults.{IsFaultOf};
 ghost use Rattle.abstraction_table.specs.Table.{game_of, boxes_of};
@@ -11,7 +11,7 @@ use crate::edges::count_edges;
 use crate::fault::BuildFault;
 use crate::marks::find_marks;
 use crate::sources::find_sources;
-use grid_quantiser::laws::cells_of_a_box;
+use grid_quantiser::laws::{cells_of_a_box, every_grid_is_within_the_limit};
 use plant_text::Plant;
 use plant_text::laws::{every_plant_is_within_limits, plants_are_sound};
 use std::alloc::Global;
@@ -30,7 +30,7 @@ pub fn build<R: Threads + Sync>(
     p: &Plant,
     s: &Slopes,
 ) -> Result<Abstraction, BuildFault>
-    requires slopes { s.now ≡ slopes_of p.now }
+    requires slopes { s.now ≡ deviations_of p.now }
     requires fits { HasNoOverflow p.now }
     ensures game { IfOk result (λ a. IsGameOf p.now (game_of a)) }
     ensures boxes { IfOk result (λ a. AreBoxesOf p.now (boxes_of a)) }
@@ -41,6 +41,7 @@ pub fn build<R: Threads + Sync>(
     cells_of_a_box();
     boxes_hold_the_successors();
     let grid = *p.grid();
+    every_grid_is_within_the_limit(&grid);
     let boxes = find_boxes(rt, alloc, p, s)?;
     let edges = count_edges(rt, &grid, &boxes);
     if edges > EDGES_LIMIT {

@@ -49,7 +49,7 @@ pub struct Plant {
 
 impl Model for Plant {
     ghost use Rattle.std.specs.Coded.{codes};
-    ghost use Rattle.fixed_expr.specs.Tokens.{expression_code};
+    ghost use Rattle.fixed_expr.specs.inside.Postfix.{expression_code};
     ghost use Rattle.plant_text.specs.plant.Description.{Description};
     ghost use Rattle.plant_text.specs.inside.PlantsInMemory.{described, IsPlantWithGrid};
 

@@ -1,13 +1,12 @@
 pub mod BoxDomains
 pub mod CellValues
-pub mod Staying
 pub mod Steps
 pub mod Enabled
 pub mod Padding
 pub mod Filling
 pub mod Radii
 pub mod Centres
-pub mod SlopeRows
-pub mod CornerSteps
+pub mod DeviationRows
+pub mod SideEnds
 pub mod Ranges
 pub mod Supports

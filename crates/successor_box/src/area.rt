@@ -5,7 +5,7 @@ ghost use Rattle.grid_quantiser.specs.Axes.{cells_of};
 ghost use Rattle.grid_quantiser.specs.Cells.{low_of, high_of, point_of};
 ghost use Rattle.plant_text.specs.plant.Description.{axes_of, vectors_of};
 ghost use Rattle.successor_box.specs.Boxes.{area_of, radii_of};
-ghost use Rattle.successor_box.specs.Area.{AreRanges, AreRadii, no_range, variables_of};
+ghost use Rattle.successor_box.specs.inside.Area.{AreRanges, AreRadii, no_range, variables_of};
 
 use crate::noise::noise_radius;
 use grid_quantiser::Point;
@@ -35,8 +35,9 @@ pub(crate) fn ranges(p: &Plant, input: u32) -> [Interval; VARIABLES_LIMIT]
     every_plant_is_within_limits(p);
     plants_are_sound();
     let grid = p.grid();
+    let last = grid.cells() - 1;
     let low = grid.low(0);
-    let high = grid.high(grid.cells() - 1);
+    let high = grid.high(last);
     let mut ranges = [NO_RANGE; VARIABLES_LIMIT];
     for k in 0..variables(p) {
         ranges[k as usize] = range(p, &low, &high, input, k);
