@@ -14,3 +14,4 @@ pub mod Right
 pub mod Keep
 pub mod Times
 pub mod SmallGames
+pub mod InTime
