@@ -1,5 +1,6 @@
 -- One successor more is cut from one pair.
-use Rattle.std.proofs.Common.{inl, inr, ◌≡◌, ◌≢◌, ℕ, suc, ◌-◌, ◌<◌, ◌⊎◌, Bool, true, false, not, ◌||◌, ◌&&◌, ◌==◌, List, [], length, get_or, set, count_by, Contains, AllPairs, arith, refl, sym, ◌∙◌, ap, subst, length-set, get_or-set_same, get_or-set_other, mul_comm}
+use Rattle.std.proofs.Common.{inl, inr, zero, ◌*◌, ◌≡◌, ◌≢◌, ℕ, suc, ◌-◌, ◌<◌, ◌⊎◌, Bool, true, false, not, ◌||◌, ◌&&◌, ◌==◌, List, [], length, get_or, set, count_by, Contains, AllPairs, arith, refl, sym, ◌∙◌, ap, subst, length-set, get_or-set_same, get_or-set_other, mul_comm}
+use Rattle.std.proofs.Math.Nat.{mul-zero}
 use Rattle.std.proofs.Math.Bool.{or-true, or-false, and-false}
 use Rattle.std.proofs.lemmas.Bool.{cases_lt, cases_eq, eq-eqb, ne_eqb}
 use Rattle.std.proofs.lemmas.List.Elements.{Contains-get_or, All-get_or}
@@ -41,6 +42,11 @@ successors_apart g h pair =
       | inl lt ↦ (λ i j d l m e. let r = AllPairs-from_increasing (successors_at g pair) (All-get_or IsStrictlyIncreasing g.successors pair [] lt h.rising) i j d l m in omega arith)
       | inr ge ↦ (λ i j d l m e. let n : length (successors_at g pair) ≡ 0 = ap length (get_or_past g.successors pair [] ge) in omega arith)
     ]
+
+-- where there is a product above a number, there is a factor above 0
+pub factor_above_zero : (m n k : ℕ) → k < m * n → 0 < n
+factor_above_zero m zero k lt = let z = mul-zero m in absurd (omega arith)
+factor_above_zero m (suc n) k lt = omega arith
 
 pub pair_below : (g : Game) (c v : ℕ) → c < g.cells → v < g.inputs → pair_of g c v < pairs_of g
 pair_below g c v lt lv = let l = mul-add-lt c g.inputs v g.cells lt lv in subst (λ n. pair_of g c v < n) (mul_comm g.inputs g.cells) l

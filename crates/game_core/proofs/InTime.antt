@@ -1,66 +1,17 @@
 -- Each cell of a keep game is kept, or has fallen by a round below the number of cells: a round in which no cell
 -- falls is the last one.
-use Rattle.std.proofs.Common.{inl, inr, ◌≡◌, ◌≢◌, ◌⊎◌, ℕ, zero, suc, ◌<◌, ◌≤◌, Bool, true, false, ◌&&◌, ◌||◌, ◌==◌, List, [], ◌∷◌, length, get_or, All, count_by, arith, refl, sym, ◌∙◌, ap, subst, eq-eqb}
-use Rattle.std.specs.List.{Any, list_any, list_all, range_with_len}
+use Rattle.std.proofs.Common.{inl, inr, ◌≡◌, ◌≢◌, ◌⊎◌, ℕ, zero, suc, ◌<◌, ◌≤◌, Bool, true, false, ◌||◌, ◌==◌, length, get_or, All, count_by, arith, refl, sym, ◌∙◌, ap, eq-eqb}
+use Rattle.std.specs.List.{list_any, range_with_len}
 use Rattle.std.proofs.lemmas.Bool.{cases_lt}
-use Rattle.std.proofs.lemmas.List.Elements.{All-nil, All-cons}
 use Rattle.std.proofs.lemmas.List.FromFn.{length-range_with_len, get_or-range_with_len}
-use Rattle.std.proofs.lemmas.List.Sums.{sum_by-le-sum_by}
 use Rattle.game_core.specs.declared.game.Mark.{Mark}
 use Rattle.game_core.specs.declared.game.Mark.TheVariants.{Goal, Obstacle, Plain}
 use Rattle.game_core.specs.Game.{Game, IsGame, IsEnabled, mark_of, pair_of, successors_of}
 use Rattle.game_core.specs.Keep.{HasKeepTree, IsKept}
 use Rattle.game_core.specs.Fallen.{is_obstacle, is_useless, is_helpless, has_fallen, KeptOrFallsInTime}
-use Rattle.game_core.proofs.Counts.{one_if, count-cons, count_every, none_from_count}
+use Rattle.game_core.proofs.Counts.{either_false, none_of, not_every, alike_from_counts, below_end, count_every, none_from_count}
 use Rattle.game_core.proofs.Keep.{IsClosed, closed_is_kept, no_keep_tree}
 use Rattle.game_core.proofs.Rows.{successors_below}
-
-either_false : (a b : Bool) → (a || b) ≡ false → (a ≡ false) × (b ≡ false)
-either_false true b e = absurd (cc)
-either_false false b e = (refl, e)
-
-none_of : (p : ℕ → Bool) (xs : List ℕ) → list_any p xs ≡ false → All (λ x. p x ≡ false) xs
-none_of p [] e = All-nil (λ x. p x ≡ false)
-none_of p (x ∷ xs) e = let b = either_false (p x) (list_any p xs) e in All-cons (λ x. p x ≡ false) x xs b.0 (none_of p xs b.1)
-
-not_every : (p : ℕ → Bool) (xs : List ℕ) → list_all p xs ≡ false → Any (λ x. p x ≡ false) xs
-not_every p [] e = absurd (let f : true ≡ false = e in cc)
-not_every p (x ∷ xs) e = by_test (p x) refl (not_every p xs)
-  where
-    by_test : (b : Bool) → p x ≡ b → (list_all p xs ≡ false → Any (λ x. p x ≡ false) xs) → Any (λ x. p x ≡ false) (x ∷ xs)
-    by_test false f later = (0, x, omega arith, refl, f)
-    by_test true f later =
-        let same : list_all p (x ∷ xs) ≡ list_all p xs = ap (λ b. b && list_all p xs) f in
-        let rest = later (sym same ∙ e) in
-        (suc rest.0, rest.1, (let lt = rest.2 in omega arith), rest.3, rest.4)
-
--- a test that passes wherever another does, and no more often, passes alike
-one_if_le : (a b : Bool) → (a ≡ true → b ≡ true) → one_if a ≤ one_if b
-one_if_le true b h = let e : one_if b ≡ 1 = ap one_if (h refl) in omega arith
-one_if_le false b h = omega arith
-
-one_if_same : (a b : Bool) → one_if a ≡ one_if b → a ≡ b
-one_if_same true true e = refl
-one_if_same true false e = absurd (omega arith)
-one_if_same false true e = absurd (omega arith)
-one_if_same false false e = refl
-
-alike_from_counts : (p q : ℕ → Bool) → ((x : ℕ) → p x ≡ true → q x ≡ true) → (xs : List ℕ) → count_by q xs ≤ count_by p xs → All (λ x. p x ≡ q x) xs
-alike_from_counts p q more [] le = All-nil (λ x. p x ≡ q x)
-alike_from_counts p q more (x ∷ xs) le =
-    let a = count-cons p x xs in
-    let b = count-cons q x xs in
-    let here = one_if_le (p x) (q x) (more x) in
-    let rest : count_by p xs ≤ count_by q xs = sum_by-le-sum_by (λ x. one_if (p x)) (λ x. one_if (q x)) xs (λ x. one_if_le (p x) (q x) (more x)) in
-    All-cons (λ x. p x ≡ q x) x xs (one_if_same (p x) (q x) (omega arith)) (alike_from_counts p q more xs (omega arith))
-
--- what holds of all numbers of a range holds of each below its end
-below_end : (P : ℕ → Type 0) (n c : ℕ) → c < n → All P (range_with_len 0 n) → P c
-below_end P n c lt all =
-    let len = length-range_with_len 0 n in
-    let at = get_or-range_with_len 0 n c c lt in
-    let same : get_or (range_with_len 0 n) c c ≡ c = omega arith in
-    subst P same (all c c (omega arith))
 
 -- an input of a cell that isn't helpless leads to cells alone that don't pass the test
 helpful : (g : Game) (test : ℕ → Bool) (c : ℕ) → is_helpless g test c ≡ false → (u : ℕ) × IsEnabled g c u × All (λ s. test s ≡ false) (successors_of g c u)

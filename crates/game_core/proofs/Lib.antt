@@ -15,3 +15,6 @@ pub mod Keep
 pub mod Times
 pub mod SmallGames
 pub mod InTime
+pub mod Falls
+pub mod Losses
+pub mod Held

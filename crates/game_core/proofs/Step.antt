@@ -1,12 +1,11 @@
 -- A search goes on being right as one successor more is cut.
-use Rattle.std.proofs.Common.{inl, inr, ◌*◌, ◌≡◌, ◌≢◌, ℕ, zero, suc, ◌-◌, ◌/◌, ◌%◌, ◌<◌, ◌≤◌, ◌⊎◌, Bool, true, false, not, cond, ◌==◌, ◌&&◌, nat_lt, List, [], ◌∷◌, ◌++◌, length, get_or, set, count_by, Option, Some, None, All, Contains, arith, refl, sym, ◌∙◌, ap, subst, length-set, append-nil, get_or-set_same}
-use Rattle.std.proofs.Math.Nat.{mul-zero}
+use Rattle.std.proofs.Common.{inl, inr, ◌≡◌, ◌≢◌, ℕ, zero, suc, ◌-◌, ◌/◌, ◌%◌, ◌<◌, ◌≤◌, ◌⊎◌, Bool, true, false, not, cond, ◌==◌, ◌&&◌, nat_lt, List, [], ◌∷◌, ◌++◌, length, get_or, set, count_by, Option, Some, None, All, Contains, arith, refl, sym, ◌∙◌, ap, subst, length-set, append-nil, get_or-set_same}
 use Rattle.std.proofs.lemmas.Bool.{cases_lt, not-false}
 use Rattle.std.proofs.lemmas.Bool.Decides.{Decides-eqb, Decides-ltb}
 use Rattle.std.proofs.lemmas.List.Elements.{All-weaker, Contains-get_or}
 use Rattle.std.proofs.lemmas.Nat.{div-add-mod', div_below, mod_below, same_from_place}
 use Rattle.game_core.proofs.Counts.{count_none, none_from_count}
-use Rattle.game_core.proofs.Edges.{with_edge, edge_cases, counted_less}
+use Rattle.game_core.proofs.Edges.{factor_above_zero, with_edge, edge_cases, counted_less}
 use Rattle.game_core.proofs.Queues.{settle_queue, improve_queue}
 use Rattle.game_core.proofs.Rows.{row_after_set}
 use Rattle.game_core.proofs.Told.{Refines, refines_itself, below_after, sound_after, told_step}
@@ -27,11 +26,6 @@ pub record IsStep (g : Game) (cut : ℕ → ℕ → Bool) (head top : ℕ) (p q 
   pub search : IsSearch g cut head top q
   pub refines : Refines p.rows q.rows
   pub grows : Grows p q
-
--- where there is a product above a number, there is a factor above 0
-factor_above_zero : (m n k : ℕ) → k < m * n → 0 < n
-factor_above_zero m zero k lt = let z = mul-zero m in absurd (omega arith)
-factor_above_zero m (suc n) k lt = omega arith
 
 module _ (g : Game) (a : IsGame g) (cut : ℕ → ℕ → Bool) (head top : ℕ) (p : Progress) (h : IsSearch g cut head top p) (pair c : ℕ) (lt : pair < pairs_of g) (leads : Contains (successors_at g pair) c) (whole : cut pair c ≡ false) (row : Row) (has : row_of p.rows c ≡ Some row) (rank : suc row.rank ≡ top) (long : top ≤ length p.queue) where
   abbrev after : ℕ → ℕ → Bool

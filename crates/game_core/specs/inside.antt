@@ -1,3 +1,4 @@
 -- What only tests and proofs name.
 pub mod Search
+pub mod Falling
 pub mod SmallGames

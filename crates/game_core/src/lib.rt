@@ -7,6 +7,7 @@
 #![tactic(auto)]
 
 mod answer;
+mod falling;
 mod game;
 pub mod laws;
 mod plain;
@@ -15,7 +16,7 @@ mod tally;
 
 pub use answer::{Answer, NoMemory};
 pub use game::{Graph, Mark, Row};
-pub use plain::solve_plain;
+pub use plain::{keep_plain, solve_plain};
 pub use tally::Tally;
 
 #[cfg(test)]
