@@ -2,3 +2,4 @@
 pub mod Search
 pub mod Falling
 pub mod SmallGames
+pub mod Remarks

@@ -36,3 +36,12 @@ corridor_rows =
 
 abbrev pub corridor_tally : Tally
 corridor_tally = record { cuts = 10; offers = 5; rounds = 3 }
+
+-- the line with the second input alone
+abbrev pub one_way : Game
+one_way = record {
+  cells = 5;
+  inputs = 1;
+  marks = Plain ∷ Plain ∷ Plain ∷ Plain ∷ Plain ∷ [];
+  successors = (1 ∷ []) ∷ (2 ∷ []) ∷ (3 ∷ []) ∷ (4 ∷ []) ∷ [] ∷ [];
+}
