@@ -1,5 +1,5 @@
 -- Games that are small enough to be solved by hand, with their solutions and tallies.
-use Rattle.std.specs.Prelude.{[], ◌∷◌, List, Option, Some}
+use Rattle.std.specs.Prelude.{[], ◌∷◌, List, Option, Some, None}
 use Rattle.game_core.specs.declared.game.Mark.TheVariants.{Goal, Plain}
 use Rattle.game_core.specs.declared.game.Row.{Row}
 use Rattle.game_core.specs.declared.tally.Tally.{Tally}
@@ -45,3 +45,9 @@ one_way = record {
   marks = Plain ∷ Plain ∷ Plain ∷ Plain ∷ Plain ∷ [];
   successors = (1 ∷ []) ∷ (2 ∷ []) ∷ (3 ∷ []) ∷ (4 ∷ []) ∷ [] ∷ [];
 }
+
+abbrev pub one_way_rows : List (Option Row)
+one_way_rows = None ∷ None ∷ None ∷ None ∷ None ∷ []
+
+abbrev pub one_way_tally : Tally
+one_way_tally = record { cuts = 8; offers = 0; rounds = 5 }
