@@ -7,11 +7,11 @@ use Rattle.std.proofs.lemmas.List.{get_or_append_left, get_or_default, length_pu
 use Rattle.std.proofs.lemmas.List.Elements.{All-cons, Contains-get_or}
 use Rattle.std.proofs.lemmas.List.FromFn.{length-range_with_len, get_or-range_with_len}
 use Rattle.std.proofs.lemmas.List.Kept.{AllPairs-cons}
-use Rattle.std.proofs.lemmas.Nat.{div-add-mod', div_below, mod_below, same_from_place}
+use Rattle.std.proofs.lemmas.Nat.{same_from_place}
 use Rattle.game_core.specs.Game.{Game, AreSources, pair_of, pairs_of, successors_at}
 use Rattle.game_core.specs.inside.Falling.{Progress, fallen, lessened, after_check, after_loss, is_safe, safe_pairs, AreSafe, IsFalling}
 use Rattle.game_core.proofs.Counts.{count_same, count_less, range_apart}
-use Rattle.game_core.proofs.Edges.{factor_above_zero}
+use Rattle.game_core.proofs.Edges.{HasParts, parts_of}
 use Rattle.game_core.proofs.Times.{length_of_distinct_below}
 use Rattle.game_core.proofs.Falls.{fall_step}
 
@@ -23,17 +23,8 @@ module _ (g : Game) (head : ℕ) (p : Progress) (h : IsFalling g g.cells head p)
   abbrev input : ℕ
   input = pair % g.inputs
 
-  some_inputs : 0 < g.inputs
-  some_inputs = factor_above_zero g.cells g.inputs pair lt
-
-  cell_below : cell < g.cells
-  cell_below = div_below pair g.inputs g.cells some_inputs lt
-
-  input_below : input < g.inputs
-  input_below = mod_below pair g.inputs some_inputs
-
-  its_pair : pair_of g cell input ≡ pair
-  its_pair = div-add-mod' pair g.inputs
+  parts : HasParts g pair
+  parts = parts_of g pair lt
 
   abbrev less : List Bool
   less = set p.safe pair false
@@ -54,26 +45,26 @@ module _ (g : Game) (head : ℕ) (p : Progress) (h : IsFalling g g.cells head p)
 
   one_less : suc (safe_pairs g less cell) ≡ safe_pairs g p.safe cell
   one_less =
-      let at = get_or-range_with_len 0 g.inputs input input input_below in
+      let at = get_or-range_with_len 0 g.inputs input input parts.input in
       let len = length-range_with_len 0 g.inputs in
-      let below = input_below in
+      let below = parts.input in
       count_less (λ u. is_safe p.safe (pair_of g cell u)) (λ u. is_safe less (pair_of g cell u)) input
-      (ap (is_safe p.safe) its_pair ∙ safe) (ap (is_safe less) its_pair ∙ safe_here)
+      (ap (is_safe p.safe) parts.is ∙ safe) (ap (is_safe less) parts.is ∙ safe_here)
       (λ u ne. safe_there (pair_of g cell u) (λ e. other u ne e))
       (range_with_len 0 g.inputs) input (range_apart 0 g.inputs) (omega arith) (omega arith)
     where
       other : (u : ℕ) → u ≢ input → pair_of g cell u ≡ pair → ⊥
-      other u ne e = let i = its_pair in ne (omega arith)
+      other u ne e = let i = parts.is in ne (omega arith)
 
   same_count : (d : ℕ) → d ≢ cell → safe_pairs g less d ≡ safe_pairs g p.safe d
   same_count d ne = count_same (λ u. is_safe less (pair_of g d u)) (λ u. is_safe p.safe (pair_of g d u)) (range_with_len 0 g.inputs) (λ i e li.
       let len = length-range_with_len 0 g.inputs in
       let at = get_or-range_with_len 0 g.inputs i e (omega arith) in
       let u = get_or (range_with_len 0 g.inputs) i e in
-      safe_there (pair_of g d u) (λ f. ne (same_from_place d u cell input g.inputs (omega arith) input_below (f ∙ sym its_pair)).0))
+      safe_there (pair_of g d u) (λ f. ne (same_from_place d u cell input g.inputs (omega arith) parts.input (f ∙ sym parts.is)).0))
 
   pub some_left : 1 ≤ get_or p.left cell 0
-  some_left = let n = h.safe.counted cell cell_below in let l = one_less in omega arith
+  some_left = let n = h.safe.counted cell parts.cell in let l = one_less in omega arith
 
   abbrev q : Progress
   q = lessened pair (pair / g.inputs) p
@@ -81,7 +72,7 @@ module _ (g : Game) (head : ℕ) (p : Progress) (h : IsFalling g g.cells head p)
   left_here : suc (get_or q.left cell 0) ≡ get_or p.left cell 0
   left_here =
       let n = h.safe.one_number_each in
-      let b = cell_below in
+      let b = parts.cell in
       let w = get_or-set_same p.left cell (get_or p.left cell 0 - 1) 0 (omega arith) in
       let s = some_left in
       omega arith
@@ -99,7 +90,7 @@ module _ (g : Game) (head : ℕ) (p : Progress) (h : IsFalling g g.cells head p)
   -- so there is room for the cell
   pub room : length p.queue < length p.left
   room =
-      let within : All (λ d. d < g.cells) (cell ∷ p.queue) = All-cons (λ d. d < g.cells) cell p.queue cell_below (λ i d li. (elsewhere (get_or p.queue i d) (Contains-get_or p.queue i d li)).0) in
+      let within : All (λ d. d < g.cells) (cell ∷ p.queue) = All-cons (λ d. d < g.cells) cell p.queue parts.cell (λ i d li. (elsewhere (get_or p.queue i d) (Contains-get_or p.queue i d li)).0) in
       let apart : AllPairs (λ a b. a ≢ b) (cell ∷ p.queue) = AllPairs-cons (λ a b. a ≢ b) cell p.queue (λ i d li e. (elsewhere (get_or p.queue i d) (Contains-get_or p.queue i d li)).2 (sym e)) h.fallen.once in
       let few = length_of_distinct_below g.cells (cell ∷ p.queue) apart within in
       let n = h.safe.one_number_each in
@@ -121,7 +112,7 @@ module _ (g : Game) (head : ℕ) (p : Progress) (h : IsFalling g g.cells head p)
             | inl e ↦
                 let a = left_here in
                 let b = one_less in
-                let n = h.safe.counted cell cell_below in
+                let n = h.safe.counted cell parts.cell in
                 let here : get_or q.left cell 0 ≡ safe_pairs g less cell = omega arith in
                 subst (λ d. get_or q.left d 0 ≡ safe_pairs g less d) (sym e) here
             | inr ne ↦ left_there d ne ∙ (h.safe.counted d ld ∙ sym (same_count d ne))
@@ -133,8 +124,8 @@ module _ (g : Game) (head : ℕ) (p : Progress) (h : IsFalling g g.cells head p)
 
     checked : (b : Bool) → (get_or q.left cell 0 == 0) ≡ b → IsFalling g g.cells head (cond b (fallen cell q) q)
     checked true e =
-        fall_step g g.cells cell q safe_after cell_below ((Decides-eqb (get_or q.left cell 0) 0).0 e)
-        (λ d ld ne z. h.fallen.queued d ld (sym (left_there d ne) ∙ z)) elsewhere cell_below h.fallen.once h.fallen.falls
+        fall_step g g.cells cell q safe_after parts.cell ((Decides-eqb (get_or q.left cell 0) 0).0 e)
+        (λ d ld ne z. h.fallen.queued d ld (sym (left_there d ne) ∙ z)) elsewhere parts.cell h.fallen.once h.fallen.falls
         head h.reached taken_after
     checked false e = record {
       safe = safe_after;

@@ -1,5 +1,5 @@
 -- How often numbers stand in lists.
-use Rattle.std.proofs.Common.{eqb, true, inl, inr, ◌≡◌, ◌≢◌, ℕ, zero, suc, ◌+◌, ◌<◌, ◌≤◌, ◌==◌, List, [], ◌∷◌, length, get_or, All, AllPairs, Contains, sum_by, arith, refl, sym, ◌∙◌, ap, eq-eqb}
+use Rattle.std.proofs.Common.{eqb, true, inl, inr, ◌⊎◌, ◌≡◌, ◌≢◌, ℕ, zero, suc, ◌+◌, ◌<◌, ◌≤◌, ◌==◌, List, [], ◌∷◌, length, get_or, All, AllPairs, Contains, sum_by, arith, refl, sym, ◌∙◌, ap, eq-eqb}
 use Rattle.std.specs.List.{range_with_len, remove, AllByRecursion, list_any}
 use Rattle.std.specs.List.Sorted.{IsPermutation, IsStrictlyIncreasing}
 use Rattle.std.proofs.lemmas.Bool.{cases_lt, cases_eq, ne_eqb, or_cases, eqb-true}
@@ -87,20 +87,17 @@ same (x ∷ xs) ys h =
     IsPermutation-trans (x ∷ xs) (x ∷ remove ys stands.0) ys (IsPermutation-cons x xs (remove ys stands.0) rest) (IsPermutation-sym ys (x ∷ remove ys stands.0) moved)
 
 -- a range has each of its numbers once
-before_range : (i a n : ℕ) → i < a → times i (range_with_len a n) ≡ 0
-before_range i a zero lt = refl
-before_range i a (suc n) lt =
+out_of_range : (i a n : ℕ) → (i < a) ⊎ (a + n ≤ i) → times i (range_with_len a n) ≡ 0
+out_of_range i a zero out = refl
+out_of_range i a (suc n) (inl lt) =
     let c = times-cons i a (range_with_len (a + 1) n) in
     let b = elsewhere a i (omega arith) in
-    let rest = before_range i (a + 1) n (omega arith) in
+    let rest = out_of_range i (a + 1) n (inl (omega arith)) in
     omega arith
-
-past_range : (i a n : ℕ) → a + n ≤ i → times i (range_with_len a n) ≡ 0
-past_range i a zero le = refl
-past_range i a (suc n) le =
+out_of_range i a (suc n) (inr le) =
     let c = times-cons i a (range_with_len (a + 1) n) in
     let b = elsewhere a i (omega arith) in
-    let rest = past_range i (a + 1) n (omega arith) in
+    let rest = out_of_range i (a + 1) n (inr (omega arith)) in
     omega arith
 
 pub in_range : (i a n : ℕ) → a ≤ i → i < a + n → times i (range_with_len a n) ≡ 1
@@ -108,7 +105,7 @@ in_range i a zero le lt = absurd (omega arith)
 in_range i a (suc n) le lt =
     let c = times-cons i a (range_with_len (a + 1) n) in
     elim (cases_eq a i) [
-      | inl e ↦ let b = here a i e in let rest = before_range i (a + 1) n (omega arith) in omega arith
+      | inl e ↦ let b = here a i e in let rest = out_of_range i (a + 1) n (inl (omega arith)) in omega arith
       | inr ne ↦ let b = elsewhere a i ne in let rest = in_range i (a + 1) n (omega arith) (omega arith) in omega arith
     ]
 
@@ -117,7 +114,7 @@ each_once n xs within once = same (range_with_len 0 n) xs (λ i.
     elim (cases_lt i n) [
       | inl lt ↦ let a = in_range i 0 n (omega arith) (omega arith) in let b = once i lt in omega arith
       | inr ge ↦
-          let a = past_range i 0 n (omega arith) in
+          let a = out_of_range i 0 n (inr (omega arith)) in
           let b = times_none i xs (λ k d lk e. let lt = within k d lk in omega arith) in
           omega arith
     ])
