@@ -7,15 +7,18 @@
 #![tactic(auto)]
 
 mod answer;
+mod falling;
 mod game;
 pub mod laws;
 mod plain;
+mod remark;
 mod search;
 mod tally;
 
 pub use answer::{Answer, NoMemory};
 pub use game::{Graph, Mark, Row};
-pub use plain::solve_plain;
+pub use plain::{keep_plain, solve_plain};
+pub use remark::Remark;
 pub use tally::Tally;
 
 #[cfg(test)]
