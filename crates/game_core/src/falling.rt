@@ -188,8 +188,9 @@ impl Falling {
         requires cell { c < (G.game g.now).cells }
         ensures { IsFirstSafe (G.game g.now) self.now.safe c result }
     {
-        let first = c * g.inputs();
-        for input in 0..g.inputs() {
+        let inputs = g.inputs();
+        let first = c * inputs;
+        for input in 0..inputs {
             if self.is_safe(first + input) {
                 return Some(Row { rank: 0, input });
             }
