@@ -1,6 +1,6 @@
-ghost use Rattle.std.specs.Prelude.{◌≡◌, ℕ, ◌+◌, ◌*◌, ◌<◌, ◌≤◌, ◌^◌, map, true, length, slice_index, IfOk};
+ghost use Rattle.std.specs.Prelude.{◌≡◌, ℕ, ◌+◌, ◌<◌, map, length, slice_index, IfOk};
 ghost use Rattle.std.specs.List.{range_with_len};
-ghost use Rattle.game_core.specs.Game.{pairs_of, pair_of};
+ghost use Rattle.game_core.specs.Game.{pairs_of};
 ghost use Rattle.game_core.specs.inside.Falling.{begun, fallen, lessened, after_loss, is_live, is_safe, safe_at_first, safe_pairs, IsFalling, IsFirstSafe, AreFirstSafe};
 
 use crate::answer::{Answer, NoMemory};
