@@ -121,8 +121,8 @@ module _ (g : Game) (rows : List (Option Row)) (a : IsGame g) (h : AreSettled g 
     least = λ v leads. is.least v (leads.0, λ i d li. has_row (get_or (successors_of g c v) i d) (successors_below g a (pair_of g c v) i d li) (leads.1 i d li));
   }
 
-  pub settled_rows_are_kept : IsKeepSolution g rows
-  settled_rows_are_kept = record { one_each = h.one_each; each = λ c lt. keep_row c lt (row_of rows c) refl (h.each c lt) }
+  pub settled_rows_are_the_keep_solution : IsKeepSolution g rows
+  settled_rows_are_the_keep_solution = record { one_each = h.one_each; each = λ c lt. keep_row c lt (row_of rows c) refl (h.each c lt) }
 
 same_keep_row : (g : Game) (c : ℕ) (a b : Option Row) → IsKeepRow g c a → IsKeepRow g c b → a ≡ b
 same_keep_row g c None None a b = refl

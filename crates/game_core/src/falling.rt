@@ -1,6 +1,6 @@
-ghost use Rattle.std.specs.Prelude.{◌≡◌, ℕ, ◌+◌, ◌*◌, ◌<◌, ◌≤◌, ◌^◌, map, true, length, slice_index, IfOk};
+ghost use Rattle.std.specs.Prelude.{◌≡◌, ℕ, ◌+◌, ◌<◌, map, length, slice_index, IfOk};
 ghost use Rattle.std.specs.List.{range_with_len};
-ghost use Rattle.game_core.specs.Game.{pairs_of, pair_of};
+ghost use Rattle.game_core.specs.Game.{pairs_of};
 ghost use Rattle.game_core.specs.inside.Falling.{begun, fallen, lessened, after_loss, is_live, is_safe, safe_at_first, safe_pairs, IsFalling, IsFirstSafe, AreFirstSafe};
 
 use crate::answer::{Answer, NoMemory};
@@ -188,8 +188,9 @@ impl Falling {
         requires cell { c < (G.game g.now).cells }
         ensures { IsFirstSafe (G.game g.now) self.now.safe c result }
     {
-        let first = c * g.inputs();
-        for input in 0..g.inputs() {
+        let inputs = g.inputs();
+        let first = c * inputs;
+        for input in 0..inputs {
             if self.is_safe(first + input) {
                 return Some(Row { rank: 0, input });
             }

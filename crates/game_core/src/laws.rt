@@ -24,7 +24,7 @@ pub fn one_keep_solution()
 {}
 
 /// Settled rows are the keep solution.
-pub fn settled_rows_are_kept()
+pub fn settled_rows_are_the_keep_solution()
     ensures { (g : Game) (rows : List (Option Row)) → IsGame g → AreSettled g rows → IsKeepSolution g rows }
 {}
 

@@ -1,9 +1,10 @@
 //! Finite games of a controller against disturbances, and their plain solvers.
 //!
-//! The layer above gives a `Graph`, a game whose laws are its contract, and gets an `Answer`:
-//! for each cell that can be won the least depth of a winning strategy and the input to apply.
-//! `solve_plain` is the reach solution of any graph, and `laws` says what such a solution promises
-//! and that a game has one. Stands on std alone.
+//! The layer above gives a `Graph`, a game whose laws are its contract, and gets an `Answer`.
+//! `solve_plain` is the reach solution: for each cell that can be won the least depth of a winning
+//! strategy and the input to apply. `keep_plain` is the keep solution: the cells from which the
+//! controller can go on for ever, with an input. `laws` says what solutions promise, that a game has
+//! one of each, and that rows whose cells are right one by one are a solution. Stands on std alone.
 #![tactic(auto)]
 
 mod answer;
