@@ -19,7 +19,7 @@ use Rattle.abstraction_table.specs.Abstraction.{IsGameOf}
 use Rattle.plant_refine.specs.Arrives.{LiesInSome, IsClear, HasRowAt, Arrives}
 use Rattle.plant_refine.specs.Refinement.{IsRefinement}
 
-any_other : (P Q : StateBox → Type 0) (boxes : List StateBox) → ((b : StateBox) → P b → Q b) → Any P boxes → Any Q boxes
+pub any_other : (P Q : StateBox → Type 0) (boxes : List StateBox) → ((b : StateBox) → P b → Q b) → Any P boxes → Any Q boxes
 any_other P Q boxes f a = (a.0, a.1, a.2, a.3, f a.1 a.4)
 
 module _ (p : Description) (g : Game) (rows : List (Option Row)) (abstraction : IsGameOf p g) (leads : LeadsToGoals g rows) (refined : IsRefinement p g) (one_each : length rows ≡ g.cells) where
