@@ -1,3 +1,5 @@
 pub mod Landing
 pub mod Refining
+pub mod Driving
+pub mod Keeping
 pub mod Noises

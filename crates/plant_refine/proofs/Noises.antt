@@ -1,5 +1,5 @@
 -- A noise within the one range of a plant.
-use Rattle.std.proofs.Common.{◌≡◌, suc, List, [], ◌∷◌, Some, length, sym, ap, subst, arith}
+use Rattle.std.proofs.Common.{◌≡◌, List, [], ◌∷◌, Some, length, sym, subst, arith}
 use Rattle.std.specs.Prelude.{ℤ, ◌≤ℤ◌, slice_get}
 use Rattle.std.specs.Option.{option_map}
 use Rattle.std.proofs.lemmas.Option.{same_Some}

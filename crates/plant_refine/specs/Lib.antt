@@ -1,2 +1,4 @@
 pub mod Refinement
+pub mod Arrives
+pub mod Remains
 pub mod Laws

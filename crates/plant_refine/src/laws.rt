@@ -1,7 +1,9 @@
 //! What holds of every plant and its game.
 
-ghost use Rattle.plant_refine.specs.Laws.{GamesRefineTheirPlants};
+ghost use Rattle.plant_refine.specs.Laws.{GamesRefineTheirPlants, RightRowsDrivePlants, KeptRowsKeepPlants};
 
+use game_core::laws::{right_rows_are_the_solution, rows_lead_to_goals};
+use grid_quantiser::laws::every_state_has_a_cell;
 use plant_text::laws::plants_are_sound;
 use successor_box::laws::{enabled_pairs_have_successors, steps_lie_in_the_boxes};
 
@@ -12,4 +14,23 @@ pub fn games_refine_their_plants()
     plants_are_sound();
     steps_lie_in_the_boxes();
     enabled_pairs_have_successors();
+}
+
+/// Right rows of a plant's game bring the plant into its target, within as many samples as their ranks
+/// say and past no obstacle. After arrival nothing is said.
+pub fn right_rows_drive_plants()
+    ensures { RightRowsDrivePlants }
+{
+    games_refine_their_plants();
+    right_rows_are_the_solution();
+    rows_lead_to_goals();
+}
+
+/// The rows of the keep solution of a plant's game keep the plant for ever.
+pub fn kept_rows_keep_plants()
+    ensures { KeptRowsKeepPlants }
+{
+    plants_are_sound();
+    every_state_has_a_cell();
+    games_refine_their_plants();
 }

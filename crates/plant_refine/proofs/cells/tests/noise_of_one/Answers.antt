@@ -1,7 +1,6 @@
-use Rattle.std.proofs.Common.{arith, rules}
-use Rattle.std.specs.Prelude.{pos, ◌≤ℤ◌, FitsSigned}
-use Rattle.std.specs.Int.{w128}
-use Rattle.std.proofs.lemmas.Int.{ints, to_z-of_z}
+use Rattle.std.proofs.Common.{arith}
+use Rattle.std.specs.Prelude.{pos, ◌≤ℤ◌}
+use Rattle.std.proofs.lemmas.Int.{ints}
 use Rattle.plant_refine.proofs.Noises.{one_noise}
 use Rattle.plant_refine.proofs.cells.tests.noise_of_one.Goals as goal
 
