@@ -9,3 +9,4 @@ pub mod SoFar
 pub mod TableRows
 pub mod Tables
 pub mod Words
+pub mod Working

@@ -1,4 +1,4 @@
--- What a plant text demands: to be refused for the first reason that applies, or to be solved.
+-- What a text demands: to be refused for the first reason that applies, or to be answered.
 use Rattle.std.specs.Prelude.{◌≡◌, ◌⊎◌, ℕ, ◌^◌, ◌<◌, ◌≤◌, List}
 use Rattle.plant_text.specs.declared.fault.LimitKind.{LimitKind}
 use Rattle.plant_text.specs.declared.fault.LimitKind.TheVariants.{PlantText, TableText, Vectors, Cells, Pairs, Edges}
@@ -10,6 +10,8 @@ use Rattle.plant_text.specs.Grammar.{Spells}
 use Rattle.plant_text.specs.Refusals.{IsShort, IsRefusedFor}
 use Rattle.successor_box.specs.Slopes.{HasNoOverflow, IsFirstOverflow}
 use Rattle.abstraction_table.specs.Abstraction.{AreEdges}
+use Rattle.synth_run.specs.declared.form.Form.{Form}
+use Rattle.synth_run.specs.declared.form.Form.TheVariants.{Synth}
 use Rattle.synth_run.specs.declared.outcome.Outcome.{Outcome}
 use Rattle.synth_run.specs.declared.outcome.Outcome.TheVariants.{Done, Usage, Malformed, Overflow, Limit, ReadFault, WriteFault, NoMemory, Unbuilt}
 
@@ -58,6 +60,10 @@ PlantDemands p WriteFault = ⊥
 PlantDemands p NoMemory = ⊥
 PlantDemands p Unbuilt = p.goal ≡ Keep
 
--- the text is refused, or it spells a plant, which demands it
-abbrev pub Demands : List ℕ → Outcome → Type 0
-Demands bytes outcome = IsRefused bytes outcome ⊎ ((p : Description) × IsAccepted bytes p × PlantDemands p outcome)
+-- a plant text is refused, or it spells a plant, which demands it
+abbrev pub PlantTextDemands : List ℕ → Outcome → Type 0
+PlantTextDemands bytes outcome = IsRefused bytes outcome ⊎ ((p : Description) × IsAccepted bytes p × PlantDemands p outcome)
+
+-- what the bytes demand of a form
+abbrev pub Demands : Form → List ℕ → Outcome → Type 0
+Demands (Synth workers) bytes outcome = PlantTextDemands bytes outcome

@@ -1,4 +1,4 @@
--- What `synth` promises of the bytes that it writes.
+-- What status 0 means: the text that was written is the answer of the form for the bytes on the source.
 use Rattle.std.specs.Prelude.{◌≡◌, ℕ, List, Option}
 use Rattle.game_core.specs.declared.game.Row.{Row}
 use Rattle.game_core.specs.Game.{Game}
@@ -7,6 +7,8 @@ use Rattle.plant_text.specs.declared.variables.GoalKind.TheVariants.{Reach}
 use Rattle.plant_text.specs.Description.{Description}
 use Rattle.successor_box.specs.Slopes.{HasNoOverflow}
 use Rattle.abstraction_table.specs.Abstraction.{IsGameOf}
+use Rattle.synth_run.specs.declared.form.Form.{Form}
+use Rattle.synth_run.specs.declared.form.Form.TheVariants.{Synth}
 use Rattle.synth_run.specs.Demands.{IsAccepted}
 use Rattle.synth_run.specs.TableText.{table_text}
 use Rattle.synth_run.specs.Drives.{Drives}
@@ -28,3 +30,7 @@ pub record IsTableOf (p : Description) (text : List ℕ) : Type 0 where
 -- the bytes spell a plant, and the text is its table
 abbrev pub IsTableFor : List ℕ → List ℕ → Type 0
 IsTableFor bytes text = (p : Description) × IsAccepted bytes p × IsTableOf p text
+
+-- the answer of a form for some bytes: that of `synth` is the plant's one table, whatever the number of workers
+abbrev pub IsAnswer : Form → List ℕ → List ℕ → Type 0
+IsAnswer (Synth workers) bytes text = IsTableFor bytes text

@@ -3,7 +3,7 @@
 ghost use Rattle.std.specs.Prelude.{◌≡◌, ◌≢◌, IfOk, IfErr};
 ghost use Rattle.plant_text.specs.declared.variables.GoalKind.TheVariants.{Reach};
 ghost use Rattle.synth_run.specs.declared.outcome.Outcome.TheVariants.{Done, NoMemory};
-ghost use Rattle.synth_run.specs.Demands.{Demands, PlantDemands};
+ghost use Rattle.synth_run.specs.Demands.{PlantTextDemands, PlantDemands};
 ghost use Rattle.synth_run.specs.Headline.{IsTableOf, IsTableFor};
 
 use crate::laws::{one_table_per_text, solution_fits};
@@ -22,7 +22,7 @@ use successor_box::find_slopes;
 /// The text of the table of the plant that the bytes spell.
 pub fn table_of<R: Threads + Sync>(rt: &R, alloc: Global, bytes: &[u8]) -> Result<Vec<u8>, Outcome>
     ensures table { IfOk result (λ text. IsTableFor bytes.now text.items) }
-    ensures demanded { IfErr result (λ outcome. outcome ≢ NoMemory → Demands bytes.now outcome) }
+    ensures demanded { IfErr result (λ outcome. outcome ≢ NoMemory → PlantTextDemands bytes.now outcome) }
     ensures failed { IfErr result (λ outcome. outcome ≢ Done) }
 {
     let plant = read_plant(alloc, bytes)?;

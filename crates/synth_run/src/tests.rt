@@ -41,6 +41,26 @@ fn writes_the_table_of_the_plant(rt: HostRuntime) -> Result<(), Fail> {
     Ok(())
 }
 
+// The first call takes the plant whole, the second finds the end, and the third would fail.
+#[test]
+fn nothing_is_read_behind_the_end(rt: HostRuntime) -> Result<(), Fail> {
+    let mut source = source(rt.alloc(), &[3])?;
+    let mut out = sink(rt.alloc(), 200, &[])?;
+    let mut err = sink(rt.alloc(), 200, &[])?;
+    let status = run(
+        &rt,
+        rt.alloc(),
+        &["synth", "1"],
+        &mut source,
+        &mut out,
+        &mut err,
+        &Open,
+    );
+    assert_eq!(rt; status, 0);
+    assert_eq!(rt; out.got(), TABLE);
+    Ok(())
+}
+
 // The first call takes the plant whole, and the second would find the end.
 #[test]
 fn read_that_fails_at_the_end_is_a_read_fault(rt: HostRuntime) -> Result<(), Fail> {
