@@ -7,7 +7,7 @@ use Rattle.std.proofs.lemmas.List.{map-append}
 use Rattle.std.proofs.lemmas.List.Elements.{All-cons, All-head, All-tail, filter-append}
 use Rattle.std.proofs.lemmas.List.FromFn.{length-range_with_len, get_or-range_with_len}
 use Rattle.std.proofs.lemmas.List.Sums.{sum_by-cons}
-use Rattle.abstraction_table.specs.Tallies.{times, places_in}
+use Rattle.abstraction_table.specs.inside.Tallies.{times, places_in}
 use Rattle.abstraction_table.proofs.Tallying.{by_cell, range-append}
 
 module _ (from len : ℕ) where

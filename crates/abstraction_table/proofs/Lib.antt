@@ -2,11 +2,11 @@ pub mod Mapped
 pub mod PairBoxes
 pub mod EdgeCounts
 pub mod OneGame
+pub mod OneSolution
 pub mod Tallying
 pub mod BandPlaces
 pub mod SourceBands
 pub mod LeadingPairs
 pub mod SourceSteps
 pub mod PlantGame
-pub mod Refining
 pub mod SideTables

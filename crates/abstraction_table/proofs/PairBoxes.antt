@@ -1,19 +1,14 @@
--- The boxes of the pairs, pair by pair, and the marks of the cells, cell by cell.
+-- The boxes of the pairs, pair by pair.
 use Rattle.std.proofs.Common.{◌≡◌, ℕ, ◌+◌, ◌*◌, ◌/◌, ◌<◌, List, Option, None, length, drop, get_or, sym, ap, subst₂, ◌∙◌, arith}
 use Rattle.std.specs.Fork.{slice_chunk}
 use Rattle.std.proofs.lemmas.List.{get_or-take, get_or-drop}
-use Rattle.std.specs.List.{AllZip, range_with_len}
 use Rattle.std.proofs.lemmas.Nat.{div-mul-add, mul-add-lt}
 use Rattle.std.proofs.Math.Nat.{mul_comm}
 use Rattle.grid_quantiser.specs.declared.boxes.CellBox.{CellBox}
 use Rattle.grid_quantiser.specs.Axes.{cells_of}
-use Rattle.game_core.specs.declared.game.Mark.{Mark}
-use Rattle.game_core.specs.declared.game.Mark.TheVariants.{Plain}
 use Rattle.plant_text.specs.Description.{Description, axes_of, vectors_of}
 use Rattle.successor_box.specs.Boxes.{IsBoxOf}
 use Rattle.abstraction_table.specs.Abstraction.{pairs_of, pair_of, AreBoxesOf}
-use Rattle.abstraction_table.specs.BoxGame.{IsMarkAt, AreMarksOf}
-use Rattle.abstraction_table.proofs.Mapped.{mapped_at, mapped_long}
 
 -- the number of a pair is below the number of pairs
 pub pair_below : (p : Description) (c u : ℕ) → c < cells_of (axes_of p) → u < vectors_of p.inputs → pair_of p c u < pairs_of p
@@ -34,10 +29,4 @@ are_boxes p boxes long by_cell = record {
       let begins : c * n < length boxes = omega (arith, pair_below p c u cell input, long) in
       let there : get_or (slice_chunk boxes n c) u None ≡ get_or boxes (c * n + u) None = get_or-take n (drop (c * n) boxes) u None input ∙ get_or-drop (c * n) boxes u None in
       subst₂ (λ (a : ℕ) (b : Option CellBox). IsBoxOf p a u b) quotient there (by_cell c begins u input);
-}
-
-pub are_marks : (p : Description) (marks : List Mark) → AllZip (IsMarkAt p) (range_with_len 0 (cells_of (axes_of p))) marks → AreMarksOf p marks
-are_marks p marks each = record {
-  one_each = mapped_long (IsMarkAt p) (cells_of (axes_of p)) marks each;
-  each = λ c cell. mapped_at (IsMarkAt p) (cells_of (axes_of p)) marks each c Plain cell;
 }

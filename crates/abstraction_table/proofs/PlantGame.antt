@@ -13,7 +13,7 @@ use Rattle.grid_quantiser.specs.declared.boxes.CellBox.{CellBox}
 use Rattle.grid_quantiser.specs.Axes.{IsAxis, AreAxes, cells_of}
 use Rattle.grid_quantiser.specs.Laws.{BoxesHaveCells}
 use Rattle.game_core.specs.declared.game.Mark.{Mark}
-use Rattle.game_core.specs.Game.{Game, IsGame}
+use Rattle.game_core.specs.Game.{Game, IsGame, IsGraph}
 use Rattle.plant_text.specs.declared.variables.InputVariable.{InputVariable}
 use Rattle.plant_text.specs.Description.{Description, axes_of, vectors_of}
 use Rattle.plant_text.specs.Variables.{IsInputVariable}
@@ -22,8 +22,11 @@ use Rattle.plant_text.specs.Laws.{PlantsAreSound}
 use Rattle.successor_box.specs.Boxes.{AreSuccessors, IsBoxOf, cells_in}
 use Rattle.successor_box.specs.Laws.{BoxesHoldTheSuccessors}
 use Rattle.abstraction_table.specs.Abstraction.{IsGameOf, pairs_of, pair_of, box_at, AreBoxesOf, AreEdges}
-use Rattle.abstraction_table.specs.BoxGame.{box_game, IsBox, IsKept, AreMarksOf, AreSourceBands}
-use Rattle.abstraction_table.specs.Tallies.{edges_of}
+use Rattle.abstraction_table.specs.BoxGame.{box_game}
+use Rattle.abstraction_table.specs.inside.Marks.{AreMarksOf}
+use Rattle.abstraction_table.specs.inside.Memory.{HoldsGame}
+use Rattle.abstraction_table.specs.inside.Sources.{IsBox, AreSourceBands}
+use Rattle.abstraction_table.specs.inside.Tallies.{edges_of}
 use Rattle.abstraction_table.proofs.LeadingPairs.{successors_are}
 use Rattle.abstraction_table.proofs.SourceSteps.{box_cells}
 
@@ -83,26 +86,17 @@ module _ (p : Description) (limits : IsWithinLimits p) (boxes : List (Option Cel
     pub are_edges : (n : ℕ) → n ≡ edges_of (axes_of p) boxes → AreEdges p n
     are_edges n is = record { lists = lists; one_each = one_list_each; each = lists_are; total = is ∙ sym total }
 
-    module _ (marks : List Mark) (marks_of : AreMarksOf p marks) (few : edges_of (axes_of p) boxes ≤ 2 ^ 25) where
+    module _ (marks : List Mark) (marks_of : AreMarksOf p marks) where
       abbrev game : Game
       game = box_game (axes_of p) (vectors_of p.inputs) marks boxes
 
       is_game : IsGame game
       is_game = record {
-        some_cell = some_cells (axes_of p) axes.each;
-        cells_bound = limits.cells;
-        some_input = some_vectors p.inputs limits.plant.inputs;
-        inputs_bound = limits.vectors;
-        pairs_bound = limits.pairs;
         one_mark_each = marks_of.one_each;
         one_list_each = one_list_each;
         rising = All-map IsStrictlyIncreasing (cells_in (axes_of p)) boxes (All-weaker (IsBox (axes_of p)) (λ b. IsStrictlyIncreasing (cells_in (axes_of p) b)) (λ b box. (box_cells laws.cells (axes_of p) b axes box).rising) boxes ordered);
         within = All-map (λ cells. All (λ c. c < cells_of (axes_of p)) cells) (cells_in (axes_of p)) boxes (All-weaker (IsBox (axes_of p)) (λ b. All (λ c. c < cells_of (axes_of p)) (cells_in (axes_of p) b)) (λ b box. (box_cells laws.cells (axes_of p) b axes box).within) boxes ordered);
-        edges_bound = omega (arith, total, few);
       }
-
-      pub kept : (size : ℕ) (bands : List (List (List ℕ))) → AreSourceBands (axes_of p) boxes size bands → IsKept (axes_of p) (vectors_of p.inputs) marks boxes size bands
-      kept size bands sources = record { game = is_game; ordered = ordered; sources = sources }
 
       pub is_game_of : IsGameOf p game
       is_game_of = record {
@@ -113,3 +107,18 @@ module _ (p : Description) (limits : IsWithinLimits p) (boxes : List (Option Cel
         obstacles = λ c lt. (marks_of.each c lt).1;
         successors = lists_are;
       }
+
+      module _ (few : edges_of (axes_of p) boxes ≤ 2 ^ 25) where
+        is_graph : IsGraph game
+        is_graph = record {
+          game = is_game;
+          some_cell = some_cells (axes_of p) axes.each;
+          cells_bound = limits.cells;
+          some_input = some_vectors p.inputs limits.plant.inputs;
+          inputs_bound = limits.vectors;
+          pairs_bound = limits.pairs;
+          edges_bound = omega (arith, total, few);
+        }
+
+        pub in_memory : (size : ℕ) (bands : List (List (List ℕ))) → AreSourceBands (axes_of p) boxes size bands → HoldsGame (axes_of p) (vectors_of p.inputs) marks boxes size bands
+        in_memory size bands sources = record { graph = is_graph; ordered = ordered; sources = sources }

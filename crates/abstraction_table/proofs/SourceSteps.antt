@@ -11,8 +11,8 @@ use Rattle.grid_quantiser.specs.Axes.{cells_of, AreAxes}
 use Rattle.grid_quantiser.specs.Laws.{AreRisingCells, BoxesHaveCells}
 use Rattle.edge_rows.specs.Rows.{Filling, row_at}
 use Rattle.successor_box.specs.Boxes.{cells_in}
-use Rattle.abstraction_table.specs.BoxGame.{IsBox, sources_among}
-use Rattle.abstraction_table.specs.Tallies.{times, AreCounted, ArePut, HasRoomFor, places_in, edges_of, AreCountsAmong}
+use Rattle.abstraction_table.specs.inside.Sources.{IsBox, sources_among}
+use Rattle.abstraction_table.specs.inside.Tallies.{times, AreCounted, ArePut, HasRoomFor, places_in, edges_of, AreCountsAmong}
 use Rattle.abstraction_table.proofs.BandPlaces.{places-times, places-length}
 use Rattle.abstraction_table.proofs.LeadingPairs.{sources_more, count_more, count_rises}
 

@@ -9,7 +9,7 @@ use Rattle.std.proofs.lemmas.List.Sums.{sum_by-append, sum_by_push, sum_by-set}
 use Rattle.rayon.proofs.ListFacts.{All-parts}
 use Rattle.grid_quantiser.specs.Runs.{BeginsWithRun}
 use Rattle.edge_rows.specs.Rows.{Filling, row_at, appended, HasRoom}
-use Rattle.abstraction_table.specs.Tallies.{times, AreCounted, ArePut, HasRoomFor}
+use Rattle.abstraction_table.specs.inside.Tallies.{times, AreCounted, ArePut, HasRoomFor}
 
 -- a number is a cell or another
 pub by_cell : {P : Type 0} (c x : ℕ) → (c ≡ x → P) → (c ≢ x → P) → P

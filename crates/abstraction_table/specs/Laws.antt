@@ -1,18 +1,19 @@
 -- What holds of the game of every plant.
-use Rattle.std.specs.Prelude.{◌≡◌, ℕ, length, sum_by}
+use Rattle.std.specs.Prelude.{◌≡◌, ℕ, List, Option, length, sum_by}
+use Rattle.game_core.specs.declared.game.Row.{Row}
 use Rattle.game_core.specs.Game.{Game}
 use Rattle.plant_text.specs.Description.{Description}
 use Rattle.plant_text.specs.Plants.{IsPlant}
 use Rattle.abstraction_table.specs.Abstraction.{IsGameOf, AreEdges}
-use Rattle.abstraction_table.specs.Refinement.{IsRefinement}
-
--- a game refines the plant whose game it is
-abbrev pub GamesRefineTheirPlants : Type 0
-GamesRefineTheirPlants = (p : Description) (g : Game) → IsPlant p → IsGameOf p g → IsRefinement p g
+use Rattle.abstraction_table.specs.Solution.{IsSolutionOf}
 
 -- a plant has one game
 abbrev pub OneGamePerPlant : Type 0
 OneGamePerPlant = (p : Description) (g h : Game) → IsPlant p → IsGameOf p g → IsGameOf p h → g ≡ h
+
+-- a plant has one solution at most
+abbrev pub OneSolutionPerPlant : Type 0
+OneSolutionPerPlant = (p : Description) (rows others : List (Option Row)) → IsPlant p → IsSolutionOf p rows → IsSolutionOf p others → rows ≡ others
 
 -- a plant has one number of edges
 abbrev pub OneEdgeCount : Type 0

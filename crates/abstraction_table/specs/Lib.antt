@@ -1,9 +1,7 @@
 pub mod Abstraction
-pub mod Faults
 pub mod BoxGame
-pub mod Props
 pub mod Table
-pub mod Tallies
-pub mod Refinement
+pub mod Solution
+pub mod Faults
 pub mod Laws
-pub mod Sides
+pub mod inside

@@ -1,5 +1,5 @@
-ghost use Rattle.abstraction_table.specs.BoxGame.{IsKept};
-ghost use Rattle.abstraction_table.specs.Props.{box_props};
+ghost use Rattle.abstraction_table.specs.inside.Memory.{HoldsGame};
+ghost use Rattle.abstraction_table.specs.inside.Props.{box_props};
 
 use crate::sources::Sources;
 use game_core::{Graph, Mark};
@@ -14,7 +14,7 @@ pub struct Abstraction {
     pub(crate) marks: Vec<Mark>,
     pub(crate) boxes: Vec<Option<CellBox>>,
     pub(crate) sources: Sources,
-    ghost kept: { IsKept grid inputs marks.items boxes.items sources.size sources.bands.items } by { Prim.hlevel box_props },
+    ghost in_memory: { HoldsGame grid inputs marks.items boxes.items sources.size sources.bands.items } by { Prim.hlevel box_props },
 }
 
 impl Abstraction {
@@ -67,5 +67,5 @@ impl Graph for Abstraction {
         self.sources.row(c)
     }
 
-    ghost lawful = { λ g. g.kept.game };
+    ghost lawful = { λ g. g.in_memory.graph };
 }

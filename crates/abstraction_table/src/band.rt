@@ -3,8 +3,8 @@ ghost use Rattle.std.specs.Prelude.{◌≡◌, ◌+◌, ◌^◌, ◌<◌, ◌≤
 ghost use Rattle.std.specs.List.{range_with_len};
 ghost use Rattle.grid_quantiser.specs.Axes.{cells_of};
 ghost use Rattle.successor_box.specs.Boxes.{cells_in};
-ghost use Rattle.abstraction_table.specs.BoxGame.{IsBox};
-ghost use Rattle.abstraction_table.specs.Tallies.{places_in};
+ghost use Rattle.abstraction_table.specs.inside.Sources.{IsBox};
+ghost use Rattle.abstraction_table.specs.inside.Tallies.{places_in};
 
 use grid_quantiser::laws::{cells_lie_between_corners, every_grid_is_within_the_limit};
 use grid_quantiser::{CellBox, Grid, Runs};

@@ -3,9 +3,9 @@ ghost use Rattle.std.specs.Prelude.{◌≡◌, ℕ, ◌*◌, ◌/◌, ◌≤◌,
 ghost use Rattle.grid_quantiser.specs.Axes.{cells_of};
 ghost use Rattle.plant_text.specs.Description.{axes_of, vectors_of};
 ghost use Rattle.successor_box.specs.Boxes.{IsBoxOf};
-ghost use Rattle.successor_box.specs.Slopes.{HasNoOverflow, slopes_of};
+ghost use Rattle.successor_box.specs.Deviations.{HasNoOverflow, deviations_of};
 ghost use Rattle.abstraction_table.specs.Abstraction.{AreBoxesOf};
-ghost use Rattle.abstraction_table.specs.Sides.{HoldSides};
+ghost use Rattle.abstraction_table.specs.inside.Sides.{HoldSides};
 
 use crate::sides::{SideTable, find_tables};
 use grid_quantiser::CellBox;
@@ -24,7 +24,7 @@ pub(crate) fn find_boxes<R: Threads + Sync>(
     p: &Plant,
     s: &Slopes,
 ) -> Result<Vec<Option<CellBox>>, AllocError>
-    requires slopes { s.now ≡ slopes_of p.now }
+    requires slopes { s.now ≡ deviations_of p.now }
     requires fits { HasNoOverflow p.now }
     ensures { IfOk result (λ boxes. AreBoxesOf p.now boxes.items) }
 {

@@ -1,6 +1,6 @@
 //! Building the abstraction of a plant.
 ghost use Rattle.std.specs.Prelude.{◌≡◌, IfOk, IfErr};
-ghost use Rattle.successor_box.specs.Slopes.{HasNoOverflow, slopes_of};
+ghost use Rattle.successor_box.specs.Deviations.{HasNoOverflow, deviations_of};
 ghost use Rattle.abstraction_table.specs.Abstraction.{IsGameOf, AreBoxesOf};
 ghost use Rattle.abstraction_table.specs.Faults.{IsFaultOf};
 ghost use Rattle.abstraction_table.specs.Table.{game_of, boxes_of};
@@ -30,7 +30,7 @@ pub fn build<R: Threads + Sync>(
     p: &Plant,
     s: &Slopes,
 ) -> Result<Abstraction, BuildFault>
-    requires slopes { s.now ≡ slopes_of p.now }
+    requires slopes { s.now ≡ deviations_of p.now }
     requires fits { HasNoOverflow p.now }
     ensures game { IfOk result (λ a. IsGameOf p.now (game_of a)) }
     ensures boxes { IfOk result (λ a. AreBoxesOf p.now (boxes_of a)) }

@@ -2,8 +2,8 @@
 ghost use Rattle.std.specs.Prelude.{◌≡◌, ◌^◌, ◌≤◌, length};
 ghost use Rattle.std.specs.List.{All};
 ghost use Rattle.successor_box.specs.Boxes.{cells_in};
-ghost use Rattle.abstraction_table.specs.BoxGame.{IsBox};
-ghost use Rattle.abstraction_table.specs.Tallies.{edges_of};
+ghost use Rattle.abstraction_table.specs.inside.Sources.{IsBox};
+ghost use Rattle.abstraction_table.specs.inside.Tallies.{edges_of};
 
 use grid_quantiser::laws::{cells_of_a_box, every_grid_is_within_the_limit};
 use grid_quantiser::{CellBox, Grid};

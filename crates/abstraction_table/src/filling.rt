@@ -4,8 +4,8 @@ ghost use Rattle.std.specs.List.{All, range_with_len};
 ghost use Rattle.grid_quantiser.specs.Axes.{cells_of};
 ghost use Rattle.edge_rows.specs.Rows.{unfilled};
 ghost use Rattle.successor_box.specs.Boxes.{cells_in};
-ghost use Rattle.abstraction_table.specs.BoxGame.{IsBox, AreBandRows};
-ghost use Rattle.abstraction_table.specs.Tallies.{times, places_in, AreCounted, ArePut, HasRoomFor, edges_of, AreCountsAmong};
+ghost use Rattle.abstraction_table.specs.inside.Sources.{IsBox, AreBandRows};
+ghost use Rattle.abstraction_table.specs.inside.Tallies.{times, places_in, AreCounted, ArePut, HasRoomFor, edges_of, AreCountsAmong};
 
 use crate::band::Band;
 use edge_rows::laws::full_rows_leave_no_place;

@@ -1,18 +1,10 @@
 //! What holds of the game of every plant.
 
-ghost use Rattle.abstraction_table.specs.Laws.{GamesRefineTheirPlants, OneGamePerPlant, OneEdgeCount, GamesCountTheirEdges};
+ghost use Rattle.abstraction_table.specs.Laws.{OneGamePerPlant, OneSolutionPerPlant, OneEdgeCount, GamesCountTheirEdges};
 
+use game_core::laws::{one_keep_solution, one_solution};
 use plant_text::laws::plants_are_sound;
-use successor_box::laws::{enabled_pairs_have_successors, steps_lie_in_the_boxes};
-
-/// A game refines the plant whose game it is.
-pub fn games_refine_their_plants()
-    ensures { GamesRefineTheirPlants }
-{
-    plants_are_sound();
-    steps_lie_in_the_boxes();
-    enabled_pairs_have_successors();
-}
+use successor_box::laws::enabled_pairs_have_successors;
 
 /// A plant has one game.
 pub fn one_game_per_plant()
@@ -20,6 +12,15 @@ pub fn one_game_per_plant()
 {
     plants_are_sound();
     enabled_pairs_have_successors();
+}
+
+/// A plant has one solution at most.
+pub fn one_solution_per_plant()
+    ensures { OneSolutionPerPlant }
+{
+    one_game_per_plant();
+    one_solution();
+    one_keep_solution();
 }
 
 /// A plant has one number of edges.

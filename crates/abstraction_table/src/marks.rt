@@ -1,8 +1,8 @@
 //! The marks of all cells.
-ghost use Rattle.std.specs.Prelude.{◌≡◌, ◌<◌, IfOk};
+ghost use Rattle.std.specs.Prelude.{◌≡◌, ◌^◌, ◌<◌, IfOk};
 ghost use Rattle.grid_quantiser.specs.Axes.{cells_of};
 ghost use Rattle.plant_text.specs.Description.{axes_of};
-ghost use Rattle.abstraction_table.specs.BoxGame.{IsMarkAt, AreMarksOf};
+ghost use Rattle.abstraction_table.specs.inside.Marks.{IsMarkAt, AreMarksOf};
 
 use game_core::Mark;
 use plant_text::Plant;
@@ -18,16 +18,18 @@ pub(crate) fn find_marks<R: Threads + Sync>(
 ) -> Result<Vec<Mark>, AllocError>
     ensures { IfOk result (λ marks. AreMarksOf p.now marks.items) }
 {
-    let cells = p.grid().cells();
-    (0..cells)
-        .into_par_iter()
-        .map(
-            |c: u32| -> Mark
-                requires { c < cells_of (axes_of p.now) }
-                ensures { IsMarkAt p.entry.now c result }
-            { mark_of(p, c) },
-        )
-        .collect(rt, alloc)
+    let cells = p.grid().cells() as usize;
+    let mut marks = vec![in alloc; Mark::Plain; cells]?;
+    par_for_each_mut(
+        rt,
+        &mut marks,
+        |c: usize, mark: &mut Mark|
+            requires cell { c < cells_of (axes_of p.now) }
+            requires limit { c < 2 ^ 32 }
+            ensures { IsMarkAt p.entry.now c mark.exit.now }
+        { *mark = mark_of(p, c as u32) },
+    );
+    Ok(marks)
 }
 
 /// The mark of a cell.

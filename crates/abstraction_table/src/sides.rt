@@ -1,10 +1,10 @@
 //! The sides of all boxes, state by state.
-ghost use Rattle.std.specs.Prelude.{◌≡◌, ℕ, ◌+◌, ◌*◌, ◌/◌, ◌%◌, ◌≤◌, ◌<◌, length, slice_index_or, None, IfOk};
+ghost use Rattle.std.specs.Prelude.{◌≡◌, ℕ, ◌+◌, ◌*◌, ◌/◌, ◌%◌, ◌^◌, ◌≤◌, ◌<◌, length, slice_index_or, None, IfOk};
 ghost use Rattle.grid_quantiser.specs.Axes.{cells_of};
 ghost use Rattle.plant_text.specs.Description.{axes_of, vectors_of};
 ghost use Rattle.successor_box.specs.Sides.{IsSideAt, RestsOn};
-ghost use Rattle.successor_box.specs.Slopes.{HasNoOverflow, slopes_of};
-ghost use Rattle.abstraction_table.specs.Sides.{side_in, HasPlaceFor, HoldsSidesAlong, HoldSides};
+ghost use Rattle.successor_box.specs.Deviations.{HasNoOverflow, deviations_of};
+ghost use Rattle.abstraction_table.specs.inside.Sides.{side_in, HasPlaceFor, HoldsSidesAlong, HoldSides};
 
 use grid_quantiser::Side;
 use plant_text::Plant;
@@ -42,7 +42,7 @@ pub(crate) fn find_tables<R: Threads + Sync>(
     p: &Plant,
     s: &Slopes,
 ) -> Result<Vec<SideTable>, AllocError>
-    requires slopes { s.now ≡ slopes_of p.now }
+    requires slopes { s.now ≡ deviations_of p.now }
     requires fits { HasNoOverflow p.now }
     ensures { IfOk result (λ tables. HoldSides p.now tables.items) }
 {
@@ -62,7 +62,7 @@ fn find_table<R: Threads + Sync>(
     s: &Slopes,
     state: u32,
 ) -> Result<SideTable, AllocError>
-    requires slopes { s.now ≡ slopes_of p.now }
+    requires slopes { s.now ≡ deviations_of p.now }
     requires fits { HasNoOverflow p.now }
     requires state { state < length p.now.equations }
     ensures { IfOk result (λ table. HoldsSidesAlong p.now state table) }
@@ -70,20 +70,24 @@ fn find_table<R: Threads + Sync>(
     every_plant_is_within_limits(p);
     let support = find_support(p, s, state);
     let (cells, inputs) = (support.cells, support.inputs);
-    let sides = (0..cells * inputs)
-        .into_par_iter()
-        .map(
-            |place: u32| -> Option<Side>
-                requires slopes { s.now ≡ slopes_of p.now }
-                requires fits { HasNoOverflow p.now }
-                requires state { state < length p.now.equations }
-                requires some_input { 0 < inputs }
-                requires cell { place / inputs < cells_of (axes_of p.now) }
-                requires input { place % inputs < vectors_of p.now.inputs }
-                ensures { IsSideAt p.entry.now (place / inputs) (place % inputs) state result }
-            { side(p, s, place / inputs, place % inputs, state) },
-        )
-        .collect(rt, alloc)?;
+    let mut sides = vec![in alloc; None; (cells * inputs) as usize]?;
+    par_for_each_mut(
+        rt,
+        &mut sides,
+        |place: usize, found: &mut Option<Side>|
+            requires slopes { s.now ≡ deviations_of p.now }
+            requires fits { HasNoOverflow p.now }
+            requires state { state < length p.now.equations }
+            requires some_input { 0 < inputs }
+            requires cell { place / inputs < cells_of (axes_of p.now) }
+            requires input { place % inputs < vectors_of p.now.inputs }
+            requires place { place < 2 ^ 32 }
+            ensures { IsSideAt p.entry.now (place / inputs) (place % inputs) state found.exit.now }
+        {
+            let place = place as u32;
+            *found = side(p, s, place / inputs, place % inputs, state);
+        },
+    );
     Ok(SideTable {
         cells,
         inputs,

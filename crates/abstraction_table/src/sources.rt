@@ -3,8 +3,8 @@ ghost use Rattle.std.specs.Prelude.{◌≡◌, ℕ, ◌-◌, ◌*◌, ◌/◌, �
 ghost use Rattle.std.specs.List.{All};
 ghost use Rattle.grid_quantiser.specs.Axes.{cells_of};
 ghost use Rattle.edge_rows.specs.Rows.{row_at};
-ghost use Rattle.abstraction_table.specs.BoxGame.{IsBox, AreBandRows, AreSourceBands, band_of};
-ghost use Rattle.abstraction_table.specs.Tallies.{edges_of};
+ghost use Rattle.abstraction_table.specs.inside.Sources.{IsBox, AreBandRows, AreSourceBands, band_of};
+ghost use Rattle.abstraction_table.specs.inside.Tallies.{edges_of};
 
 use crate::band::Band;
 use crate::filling::fill_band;

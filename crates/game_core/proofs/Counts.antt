@@ -1,5 +1,5 @@
--- How many elements pass a test.
-use Rattle.std.proofs.Common.{◌≡◌, ◌≢◌, ℕ, zero, suc, ◌+◌, ◌<◌, Bool, true, false, cond, List, [], ◌∷◌, length, get_or, All, AllPairs, count_by, arith, refl, sym, ◌∙◌, ap}
+-- Sums over lists, and how many elements pass a test.
+use Rattle.std.proofs.Common.{◌≡◌, ◌≢◌, ℕ, zero, suc, ◌+◌, ◌<◌, Bool, true, false, cond, List, [], ◌∷◌, length, get_or, All, AllPairs, count_by, sum_by, arith, refl, sym, ◌∙◌, ap}
 use Rattle.std.proofs.lemmas.List.Elements.{All-head, All-tail, All-nil, All-cons}
 use Rattle.std.proofs.lemmas.List.Sums.{sum_by-cons}
 
@@ -10,24 +10,48 @@ one_if b = cond b 1 0
 pub count-cons : {X : Type 0} (p : X → Bool) (x : X) (xs : List X) → count_by p (x ∷ xs) ≡ one_if (p x) + count_by p xs
 count-cons p x xs = sum_by-cons (λ y. one_if (p y)) x xs
 
+-- sums of equal terms, of ones, of zeros and of added terms
+pub sum_alike : {X : Type 0} (f h : X → ℕ) (xs : List X) → All (λ x. f x ≡ h x) xs → sum_by f xs ≡ sum_by h xs
+sum_alike f h [] e = refl
+sum_alike f h (x ∷ xs) e =
+    let a = sum_by-cons f x xs in
+    let b = sum_by-cons h x xs in
+    let first = All-head (λ x. f x ≡ h x) x xs e in
+    let rest = sum_alike f h xs (All-tail (λ x. f x ≡ h x) x xs e) in
+    omega arith
+
+pub sum_ones : {X : Type 0} (f : X → ℕ) (xs : List X) → All (λ x. f x ≡ 1) xs → sum_by f xs ≡ length xs
+sum_ones f [] e = refl
+sum_ones f (x ∷ xs) e =
+    let a = sum_by-cons f x xs in
+    let first = All-head (λ x. f x ≡ 1) x xs e in
+    let rest = sum_ones f xs (All-tail (λ x. f x ≡ 1) x xs e) in
+    omega arith
+
+pub sum_zeros : {X : Type 0} (f : X → ℕ) (xs : List X) → All (λ x. f x ≡ 0) xs → sum_by f xs ≡ 0
+sum_zeros f [] e = refl
+sum_zeros f (x ∷ xs) e =
+    let a = sum_by-cons f x xs in
+    let first = All-head (λ x. f x ≡ 0) x xs e in
+    let rest = sum_zeros f xs (All-tail (λ x. f x ≡ 0) x xs e) in
+    omega arith
+
+pub sum_added : {X : Type 0} (f h : X → ℕ) (xs : List X) → sum_by (λ x. f x + h x) xs ≡ sum_by f xs + sum_by h xs
+sum_added f h [] = refl
+sum_added f h (x ∷ xs) =
+    let a = sum_by-cons f x xs in
+    let b = sum_by-cons h x xs in
+    let c = sum_by-cons (λ x. f x + h x) x xs in
+    let rest = sum_added f h xs in
+    omega arith
+
 -- tests that agree on the elements count alike
 pub count_same : {X : Type 0} (p q : X → Bool) (xs : List X) → All (λ x. p x ≡ q x) xs → count_by p xs ≡ count_by q xs
-count_same p q [] h = refl
-count_same p q (x ∷ xs) h =
-    let rest = count_same p q xs (All-tail (λ y. p y ≡ q y) x xs h) in
-    let first : one_if (p x) ≡ one_if (q x) = ap one_if (All-head (λ y. p y ≡ q y) x xs h) in
-    let a = count-cons p x xs in
-    let b = count-cons q x xs in
-    omega arith
+count_same p q xs h = sum_alike (λ x. one_if (p x)) (λ x. one_if (q x)) xs (λ i d lt. ap one_if (h i d lt))
 
 -- a test that fails at each element counts none
 pub count_none : {X : Type 0} (p : X → Bool) (xs : List X) → All (λ x. p x ≡ false) xs → count_by p xs ≡ 0
-count_none p [] h = refl
-count_none p (x ∷ xs) h =
-    let rest = count_none p xs (All-tail (λ y. p y ≡ false) x xs h) in
-    let first : one_if (p x) ≡ 0 = ap one_if (All-head (λ y. p y ≡ false) x xs h) in
-    let a = count-cons p x xs in
-    omega arith
+count_none p xs h = sum_zeros (λ x. one_if (p x)) xs (λ i d lt. ap one_if (h i d lt))
 
 test_fails : (b : Bool) (n : ℕ) → one_if b + n ≡ 0 → b ≡ false
 test_fails true n e = absurd (omega arith)
@@ -60,5 +84,4 @@ count_less p q c before after else (x ∷ xs) (suc k) apart lt e =
 
 -- a test that always passes counts all
 pub count_every : (xs : List ℕ) → count_by (λ s. true) xs ≡ length xs
-count_every [] = refl
-count_every (x ∷ xs) = let e = count-cons (λ s. true) x xs in let rest = count_every xs in omega arith
+count_every xs = sum_ones (λ s. 1) xs (λ i d lt. refl)

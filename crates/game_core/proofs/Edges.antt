@@ -9,7 +9,7 @@ use Rattle.std.proofs.lemmas.Nat.{mul-add-lt}
 use Rattle.std.specs.List.Sorted.{IsStrictlyIncreasing}
 use Rattle.game_core.proofs.Counts.{count_same, count_less}
 use Rattle.game_core.specs.Game.{Game, IsGame, pair_of, pairs_of, successors_at}
-use Rattle.game_core.specs.Search.{IsCounted}
+use Rattle.game_core.specs.inside.Search.{IsCounted}
 
 -- the same cuts, and one of c from the pair
 abbrev pub with_edge : (ℕ → ℕ → Bool) → ℕ → ℕ → ℕ → ℕ → Bool

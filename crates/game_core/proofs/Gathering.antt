@@ -1,5 +1,5 @@
 -- The goals get their rows first, and at the end all rows agree.
-use Rattle.std.proofs.Common.{inl, inr, ◌≡◌, ◌≢◌, ℕ, ◌+◌, ◌<◌, ◌≤◌, true, false, ◌==◌, List, [], ◌∷◌, length, get_or, replicate, Option, Some, None, is_some, arith, refl, sym, ◌∙◌, ap, subst, take_all, length-set, mul-le-mul_right}
+use Rattle.std.proofs.Common.{inl, inr, ◌≡◌, ◌≢◌, ℕ, ◌+◌, ◌<◌, ◌≤◌, true, false, ◌==◌, List, [], ◌∷◌, length, get_or, replicate, Option, Some, None, is_some, arith, refl, sym, ◌∙◌, ap, subst, take_all, length-set}
 use Rattle.std.proofs.lemmas.Bool.{cases_lt, cases_eq}
 use Rattle.std.proofs.lemmas.List.{get_or-map, get_or-replicate, get_or_past, length-replicate, length-map}
 use Rattle.std.proofs.lemmas.List.Elements.{All-replicate}
@@ -8,12 +8,12 @@ use Rattle.std.specs.Cmp.{nat_eq_equiv}
 use Rattle.std.specs.List.{list_any}
 use Rattle.game_core.proofs.Counts.{count_none, count_every}
 use Rattle.game_core.proofs.Queues.{settle_queue}
-use Rattle.game_core.proofs.Rows.{row_after_set}
+use Rattle.game_core.proofs.Rows.{row_after_set, enabled_below}
 use Rattle.game_core.specs.declared.game.Mark.TheVariants.{Goal}
 use Rattle.game_core.specs.declared.game.Row.{Row}
-use Rattle.game_core.specs.Game.{Game, IsGame, IsEnabled, mark_of, pair_of, successors_at, successors_of}
+use Rattle.game_core.specs.Game.{Game, IsGame, mark_of, pair_of, successors_at, successors_of}
 use Rattle.game_core.specs.Solution.{row_of, HasRowBelow}
-use Rattle.game_core.specs.Search.{Progress, begun, settled, IsSoundRow, IsConsistent, IsSearched, IsGathered, taken}
+use Rattle.game_core.specs.inside.Search.{Progress, begun, settled, IsSoundRow, IsConsistent, IsSearched, IsGathered, taken}
 
 no_row : (n c : ℕ) → row_of (replicate n None) c ≡ None
 no_row n c =
@@ -116,16 +116,9 @@ consistent_all g a p head long h = record {
   one_each = h.search.told.one_each;
   goals = h.search.told.goals;
   sound = h.search.told.sound;
-  best = λ c v m plain enabled each. h.search.told.best c v m (below c v enabled) plain enabled (λ i d li. cut_all (pair_of g c v) (each i d li)) each;
+  best = λ c v m plain enabled each. h.search.told.best c v m (enabled_below g a c v enabled) plain enabled (λ i d li. cut_all (pair_of g c v) (each i d li)) each;
 }
   where
     cut_all : (pair : ℕ) {m s : ℕ} → HasRowBelow p.rows m s → taken head p.queue pair s ≡ true
     cut_all pair {m} {s} r =
         ap (list_any (◌==◌ s)) (take_all head p.queue long) ∙ list_any-from_Contains nat_eq_equiv s p.queue (h.search.queue.has_place s r.row r.is)
-
-    below : (c v : ℕ) → IsEnabled g c v → c < g.cells
-    below c v enabled =
-        elim (cases_lt c g.cells) [
-          | inl lt ↦ lt
-          | inr ge ↦ absurd (enabled.1 (get_or_past g.successors (pair_of g c v) [] (let n = a.one_list_each in let l = mul-le-mul_right g.inputs ge in omega arith)))
-        ]

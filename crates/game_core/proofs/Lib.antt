@@ -10,3 +10,7 @@ pub mod Step
 pub mod Taking
 pub mod Gathering
 pub mod RankBound
+pub mod Right
+pub mod Keep
+pub mod Times
+pub mod SmallGames

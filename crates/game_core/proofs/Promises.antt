@@ -25,7 +25,8 @@ row_at g rows h c row e =
     let n = h.one_each in
     subst (IsReachRow g c) e (h.each c (omega arith))
 
-goal_from_leaf : (g : Game) (c : ℕ) (t : Tree) → Wins g t c → depth_of t ≡ 0 → mark_of g c ≡ Goal
+-- a tree of depth 0 wins from goals alone
+pub goal_from_leaf : (g : Game) (c : ℕ) (t : Tree) → Wins g t c → depth_of t ≡ 0 → mark_of g c ≡ Goal
 goal_from_leaf g c Leaf w e = w
 goal_from_leaf g c (Apply u next) w e = absurd (omega arith)
 

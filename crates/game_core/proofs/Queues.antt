@@ -6,8 +6,8 @@ use Rattle.std.proofs.lemmas.List.Quantifiers.{all_pairs_push}
 use Rattle.std.proofs.lemmas.List.Elements.{Contains-get_or, Contains-append_left, Contains-push, Contains-push_cases}
 use Rattle.game_core.proofs.Rows.{row_after_set, count_first, count_again}
 use Rattle.game_core.specs.declared.game.Row.{Row}
-use Rattle.game_core.specs.Solution.{row_of}
-use Rattle.game_core.specs.Search.{rank_at, rank_in, IsQueue}
+use Rattle.game_core.specs.Solution.{row_of, rank_at, rank_in}
+use Rattle.game_core.specs.inside.Search.{IsQueue}
 
 -- a cell without a row gets one of the top rank
 module _ (head top c : ℕ) (row : Row) (rows : List (Option Row)) (queue : List ℕ) (h : IsQueue head top rows queue) (lt : c < length rows) (none : row_of rows c ≡ None) (rank : row.rank ≡ top) (long : top ≤ length queue) where

@@ -36,7 +36,7 @@ one_of rows k (s ∷ cells) h =
         inr (All-cons (HasRowBelow rows k) s cells (record { row = here.row; is = here.is; below = omega (arith, other, below) }) rest)
 
 -- not all successors have lesser rows, or the row's rank wouldn't be the least
-not_all_less : (g : Game) (rows : List (Option Row)) → IsReachSolution g rows → (c k u : ℕ) → IsRank g c (suc k) → IsEnabled g c u → All (HasRowBelow rows k) (successors_of g c u) → ⊥
+pub not_all_less : (g : Game) (rows : List (Option Row)) → IsReachSolution g rows → (c k u : ℕ) → IsRank g c (suc k) → IsEnabled g c u → All (HasRowBelow rows k) (successors_of g c u) → ⊥
 not_all_less g rows h c zero u r enabled less = enabled.1 (none (successors_of g c u) less)
   where
     none : (cells : List ℕ) → All (HasRowBelow rows 0) cells → cells ≡ []

@@ -7,7 +7,7 @@ use Rattle.game_core.specs.declared.game.Row.{Row}
 use Rattle.game_core.specs.Game.{Game, IsGame, mark_of, pair_of, successors_of}
 use Rattle.game_core.specs.Strategy.{IsRank}
 use Rattle.game_core.specs.Solution.{row_of, HasRowBelow, IsReachRow, IsChosenInput, IsReachSolution}
-use Rattle.game_core.specs.Search.{IsSoundRow, IsConsistent}
+use Rattle.game_core.specs.inside.Search.{IsSoundRow, IsConsistent}
 
 -- a cell has a rank of at most k
 abbrev HasRankWithin : Game → ℕ → ℕ → Type 0

@@ -1,5 +1,5 @@
 -- Lemmas on games and rows.
-use Rattle.std.proofs.Common.{inl, inr, ◌≡◌, ◌≢◌, ℕ, ◌<◌, ◌⊎◌, List, [], length, set, ◌+◌, count_by, is_some, get_or-set_same, get_or-set_other, Option, Some, None, All, arith, refl, sym, ◌∙◌, ap, subst}
+use Rattle.std.proofs.Common.{inl, inr, mul-le-mul_right, ◌≡◌, ◌≢◌, ℕ, ◌<◌, ◌⊎◌, List, [], length, set, ◌+◌, count_by, is_some, get_or-set_same, get_or-set_other, Option, Some, None, All, arith, refl, sym, ◌∙◌, ap, subst}
 use Rattle.std.proofs.lemmas.List.{get_or_past}
 use Rattle.std.proofs.lemmas.List.Elements.{All-get_or, All-nil}
 use Rattle.std.proofs.lemmas.Bool.{cases_lt, cases_eq}
@@ -8,7 +8,7 @@ use Rattle.game_core.proofs.Counts.{one_if}
 use Rattle.game_core.specs.declared.game.Mark.{Mark}
 use Rattle.game_core.specs.declared.game.Mark.TheVariants.{Goal, Obstacle, Plain}
 use Rattle.game_core.specs.declared.game.Row.{Row}
-use Rattle.game_core.specs.Game.{Game, IsGame, successors_at}
+use Rattle.game_core.specs.Game.{Game, IsGame, IsEnabled, pair_of, successors_at}
 use Rattle.game_core.specs.Solution.{row_of}
 
 -- every successor is a cell
@@ -17,6 +17,14 @@ successors_below g h pair =
     elim (cases_lt pair (length g.successors)) [
       | inl lt ↦ All-get_or (All (λ s. s < g.cells)) g.successors pair [] lt h.within
       | inr ge ↦ subst (All (λ s. s < g.cells)) (sym (get_or_past g.successors pair [] ge)) (All-nil (λ s. s < g.cells))
+    ]
+
+-- an input is enabled at a cell alone
+pub enabled_below : (g : Game) → IsGame g → (c u : ℕ) → IsEnabled g c u → c < g.cells
+enabled_below g a c u enabled =
+    elim (cases_lt c g.cells) [
+      | inl lt ↦ lt
+      | inr ge ↦ absurd (enabled.1 (get_or_past g.successors (pair_of g c u) [] (let n = a.one_list_each in let l = mul-le-mul_right g.inputs ge in omega arith)))
     ]
 
 -- a cell past the end has no row

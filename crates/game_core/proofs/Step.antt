@@ -1,5 +1,6 @@
 -- A search goes on being right as one successor more is cut.
-use Rattle.std.proofs.Common.{inl, inr, ◌≡◌, ◌≢◌, ℕ, zero, suc, ◌-◌, ◌/◌, ◌%◌, ◌<◌, ◌≤◌, ◌⊎◌, Bool, true, false, not, cond, ◌==◌, ◌&&◌, nat_lt, List, [], ◌∷◌, ◌++◌, length, get_or, set, count_by, Option, Some, None, All, Contains, arith, refl, sym, ◌∙◌, ap, subst, length-set, append-nil, get_or-set_same}
+use Rattle.std.proofs.Common.{inl, inr, ◌*◌, ◌≡◌, ◌≢◌, ℕ, zero, suc, ◌-◌, ◌/◌, ◌%◌, ◌<◌, ◌≤◌, ◌⊎◌, Bool, true, false, not, cond, ◌==◌, ◌&&◌, nat_lt, List, [], ◌∷◌, ◌++◌, length, get_or, set, count_by, Option, Some, None, All, Contains, arith, refl, sym, ◌∙◌, ap, subst, length-set, append-nil, get_or-set_same}
+use Rattle.std.proofs.Math.Nat.{mul-zero}
 use Rattle.std.proofs.lemmas.Bool.{cases_lt, not-false}
 use Rattle.std.proofs.lemmas.Bool.Decides.{Decides-eqb, Decides-ltb}
 use Rattle.std.proofs.lemmas.List.Elements.{All-weaker, Contains-get_or}
@@ -14,7 +15,7 @@ use Rattle.game_core.specs.declared.game.Mark.TheVariants.{Goal, Obstacle, Plain
 use Rattle.game_core.specs.declared.game.Row.{Row}
 use Rattle.game_core.specs.Game.{Game, IsGame, IsEnabled, mark_of, pair_of, pairs_of, successors_at, successors_of}
 use Rattle.game_core.specs.Solution.{row_of, HasRowBelow}
-use Rattle.game_core.specs.Search.{Progress, settled, offered_to, offered_at, resolved, lessened, after_cut, HasRowAtMost, IsSoundRow, IsGoalRow, IsCounted, IsTold, IsSearch}
+use Rattle.game_core.specs.inside.Search.{Progress, settled, offered_to, offered_at, resolved, lessened, after_cut, HasRowAtMost, IsSoundRow, IsGoalRow, IsCounted, IsTold, IsSearch}
 
 -- the queue gets cells at its end alone
 pub record Grows (p q : Progress) : Type 0 where
@@ -26,6 +27,11 @@ pub record IsStep (g : Game) (cut : ℕ → ℕ → Bool) (head top : ℕ) (p q 
   pub search : IsSearch g cut head top q
   pub refines : Refines p.rows q.rows
   pub grows : Grows p q
+
+-- where there is a product above a number, there is a factor above 0
+factor_above_zero : (m n k : ℕ) → k < m * n → 0 < n
+factor_above_zero m zero k lt = let z = mul-zero m in absurd (omega arith)
+factor_above_zero m (suc n) k lt = omega arith
 
 module _ (g : Game) (a : IsGame g) (cut : ℕ → ℕ → Bool) (head top : ℕ) (p : Progress) (h : IsSearch g cut head top p) (pair c : ℕ) (lt : pair < pairs_of g) (leads : Contains (successors_at g pair) c) (whole : cut pair c ≡ false) (row : Row) (has : row_of p.rows c ≡ Some row) (rank : suc row.rank ≡ top) (long : top ≤ length p.queue) where
   abbrev after : ℕ → ℕ → Bool
@@ -41,7 +47,7 @@ module _ (g : Game) (a : IsGame g) (cut : ℕ → ℕ → Bool) (head top : ℕ)
   less = set p.left pair (get_or p.left pair 0 - 1)
 
   some_inputs : 0 < g.inputs
-  some_inputs = let n = a.some_input in omega arith
+  some_inputs = factor_above_zero g.cells g.inputs pair lt
 
   cell_below : cell < g.cells
   cell_below = div_below pair g.inputs g.cells some_inputs lt

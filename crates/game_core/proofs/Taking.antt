@@ -14,8 +14,8 @@ use Rattle.game_core.proofs.Queues.{raised_top, raise_queue, next_queue}
 use Rattle.game_core.proofs.Step.{Grows, IsStep, cut_step}
 use Rattle.game_core.specs.declared.game.Row.{Row}
 use Rattle.game_core.specs.Game.{Game, IsGame, AreSources, pair_of, pairs_of, successors_at}
-use Rattle.game_core.specs.Solution.{row_of}
-use Rattle.game_core.specs.Search.{Progress, after_cut, rank_at, rank_in, IsTold, IsSearch, IsSearched, taken}
+use Rattle.game_core.specs.Solution.{row_of, rank_at, rank_in}
+use Rattle.game_core.specs.inside.Search.{Progress, after_cut, IsTold, IsSearch, IsSearched, taken}
 
 -- cuts that agree on the successors tell alike
 pub told_alike : (g : Game) (cut other : ℕ → ℕ → Bool) (top : ℕ) (rows : List (Option Row)) → IsTold g cut top rows → ((pair s : ℕ) → pair < pairs_of g → Contains (successors_at g pair) s → cut pair s ≡ other pair s) → IsTold g other top rows

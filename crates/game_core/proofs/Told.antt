@@ -7,7 +7,7 @@ use Rattle.game_core.specs.declared.game.Mark.TheVariants.{Goal, Plain}
 use Rattle.game_core.specs.declared.game.Row.{Row}
 use Rattle.game_core.specs.Game.{Game, IsEnabled, mark_of, pair_of, pairs_of, successors_at, successors_of}
 use Rattle.game_core.specs.Solution.{row_of, HasRowBelow}
-use Rattle.game_core.specs.Search.{HasRowAtMost, IsSoundRow, IsGoalRow, IsTold}
+use Rattle.game_core.specs.inside.Search.{HasRowAtMost, IsSoundRow, IsGoalRow, IsTold}
 
 -- what became of a row: its rank stays and its input doesn't rise
 pub record Became (rows : List (Option Row)) (s rank input : ℕ) : Type 0 where

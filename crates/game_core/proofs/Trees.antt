@@ -6,7 +6,7 @@ use Rattle.game_core.specs.Game.{Game, IsGame, mark_of, pair_of, successors_of}
 use Rattle.game_core.specs.Strategy.{Tree, Leaf, Apply, Trees, NoTrees, AndTree, Wins, WinEach, depth_of, greatest_depth, IsRank}
 use Rattle.game_core.specs.Solution.{row_of, HasRowBelow}
 use Rattle.game_core.proofs.Rows.{successors_below, plain_from, mark_cases}
-use Rattle.game_core.specs.Search.{IsSoundRow, IsConsistent}
+use Rattle.game_core.specs.inside.Search.{IsSoundRow, IsConsistent}
 
 -- some tree of depth at most k wins from c
 pub record WinsWithin (g : Game) (k c : ℕ) : Type 0 where

@@ -37,17 +37,21 @@ successors_of g c u = successors_at g (pair_of g c u)
 abbrev pub IsEnabled : Game → ℕ → ℕ → Type 0
 IsEnabled g c u = (u < g.inputs) × (successors_of g c u ≢ [])
 
--- What every game keeps.
+-- What every game keeps: a mark and successors for all that there is, each successor a cell, once.
 pub record IsGame (g : Game) : Type 0 where
+  pub one_mark_each : length g.marks ≡ g.cells
+  pub one_list_each : length g.successors ≡ pairs_of g
+  pub rising : All IsStrictlyIncreasing g.successors
+  pub within : All (λ cells. All (λ s. s < g.cells) cells) g.successors
+
+-- A game within the limits of what is kept in memory.
+pub record IsGraph (g : Game) : Type 0 where
+  pub game : IsGame g
   pub some_cell : 1 ≤ g.cells
   pub cells_bound : g.cells ≤ 2 ^ 20
   pub some_input : 1 ≤ g.inputs
   pub inputs_bound : g.inputs ≤ 4096
   pub pairs_bound : pairs_of g ≤ 2 ^ 22
-  pub one_mark_each : length g.marks ≡ g.cells
-  pub one_list_each : length g.successors ≡ pairs_of g
-  pub rising : All IsStrictlyIncreasing g.successors
-  pub within : All (λ cells. All (λ s. s < g.cells) cells) g.successors
   pub edges_bound : sum_by length g.successors ≤ 2 ^ 25
 
 -- The pairs that have a cell among their successors, in rising order.

@@ -1,5 +1,8 @@
 pub mod Game
 pub mod Strategy
 pub mod Solution
-pub mod Search
-pub mod Corridor
+pub mod Right
+pub mod Keep
+pub mod Counts
+pub mod Tally
+pub mod inside

@@ -1,5 +1,5 @@
 -- The solution of the reach game: the rank of each cell that can be won, and the input to apply there.
-use Rattle.std.specs.Prelude.{◌≡◌, ℕ, zero, suc, ◌<◌, ◌≤◌, List, length, Option, Some, None, slice_index_or}
+use Rattle.std.specs.Prelude.{◌≡◌, ℕ, zero, suc, ◌<◌, ◌≤◌, max, List, [], ◌∷◌, map, length, Option, Some, None, slice_index_or}
 use Rattle.std.specs.List.{All}
 use Rattle.game_core.specs.declared.game.Mark.TheVariants.{Goal, Obstacle}
 use Rattle.game_core.specs.declared.game.Row.{Row}
@@ -9,6 +9,23 @@ use Rattle.game_core.specs.Strategy.{Tree, Wins, IsRank}
 -- the row of a cell, where it has one
 abbrev pub row_of : List (Option Row) → ℕ → Option Row
 row_of rows c = slice_index_or rows c None
+
+-- the rank of a cell's row, 0 where it has none
+abbrev pub rank_in : Option Row → ℕ
+rank_in None = 0
+rank_in (Some row) = row.rank
+
+abbrev pub rank_at : List (Option Row) → ℕ → ℕ
+rank_at rows c = rank_in (row_of rows c)
+
+-- the greatest of some numbers, 0 where there are none
+abbrev pub greatest : List ℕ → ℕ
+greatest [] = 0
+greatest (n ∷ rest) = max n (greatest rest)
+
+-- the greatest rank among cells
+abbrev pub greatest_rank : List (Option Row) → List ℕ → ℕ
+greatest_rank rows cells = greatest (map (rank_at rows) cells)
 
 -- each successor has a rank of at most k
 abbrev pub LeadsWithin : Game → ℕ → ℕ → ℕ → Type 0
@@ -28,6 +45,10 @@ IsReachRow g c (Some row) = IsRank g c row.rank × IsChosenInput g c row.rank ro
 pub record IsReachSolution (g : Game) (rows : List (Option Row)) : Type 0 where
   pub one_each : length rows ≡ g.cells
   pub each : (c : ℕ) → c < g.cells → IsReachRow g c (row_of rows c)
+
+-- a cell has a row
+abbrev pub HasRow : List (Option Row) → ℕ → Type 0
+HasRow rows s = (row : Row) × (row_of rows s ≡ Some row)
 
 -- a cell has a row of a rank below k
 pub record HasRowBelow (rows : List (Option Row)) (k s : ℕ) : Type 0 where

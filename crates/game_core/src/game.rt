@@ -1,5 +1,5 @@
 ghost use Rattle.std.specs.Prelude.{◌≡◌, ◌<◌, length, slice_index};
-ghost use Rattle.game_core.specs.Game.{Game, IsGame, AreSources, mark_of, successors_at, pairs_of};
+ghost use Rattle.game_core.specs.Game.{Game, IsGraph, AreSources, mark_of, successors_at, pairs_of};
 
 /// What a cell is to the controller.
 #[derive(Clone, Copy, Debug, PartialEq, Eq)]
@@ -49,5 +49,5 @@ pub trait Graph {
         requires { c < (game self.now).cells }
         ensures { AreSources (game self.now) c result.now };
 
-    ghost lawful: { (g : Self) → IsGame (game g) };
+    ghost lawful: { (g : Self) → IsGraph (game g) };
 }

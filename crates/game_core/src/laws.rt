@@ -2,6 +2,9 @@
 ghost use Rattle.std.specs.Prelude.{◌≡◌, List, Option};
 ghost use Rattle.game_core.specs.declared.game.Row.{Row};
 ghost use Rattle.game_core.specs.Game.{Game, IsGame};
+ghost use Rattle.game_core.specs.Counts.{CountsTell, EdgesFromBothEnds};
+ghost use Rattle.game_core.specs.Keep.{IsKeepSolution};
+ghost use Rattle.game_core.specs.Right.{AreRight};
 ghost use Rattle.game_core.specs.Solution.{IsReachSolution, LeadsToGoals, RanksAreBelowTheCells};
 
 /// Who follows the rows of a solution comes to lower ranks alone, and at rank 0 to a goal.
@@ -9,12 +12,37 @@ pub fn rows_lead_to_goals()
     ensures { (g : Game) (rows : List (Option Row)) → IsGame g → IsReachSolution g rows → LeadsToGoals g rows }
 {}
 
-/// A game has one solution.
+/// A game has one reach solution.
 pub fn one_solution()
     ensures { (g : Game) (first second : List (Option Row)) → IsReachSolution g first → IsReachSolution g second → first ≡ second }
+{}
+
+/// A game has one keep solution.
+pub fn one_keep_solution()
+    ensures { (g : Game) (first second : List (Option Row)) → IsKeepSolution g first → IsKeepSolution g second → first ≡ second }
 {}
 
 /// The rank of a row in a solution is less than the number of cells.
 pub fn ranks_are_below_the_cells()
     ensures { RanksAreBelowTheCells }
+{}
+
+/// Rows all of whose cells are right are the solution.
+pub fn right_rows_are_the_solution()
+    ensures { (g : Game) (rows : List (Option Row)) → IsGame g → AreRight g rows → IsReachSolution g rows }
+{}
+
+/// Each cell of a solution is right.
+pub fn solutions_are_right()
+    ensures { (g : Game) (rows : List (Option Row)) → IsGame g → IsReachSolution g rows → AreRight g rows }
+{}
+
+/// How often each number stands in lists tells the lists up to their order, and how sums over two lists meet.
+pub fn counts_tell()
+    ensures { CountsTell }
+{}
+
+/// A pair stands among the sources of a cell as often as the cell among the pair's successors.
+pub fn edges_from_both_ends()
+    ensures { EdgesFromBothEnds }
 {}

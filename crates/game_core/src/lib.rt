@@ -11,10 +11,12 @@ mod game;
 pub mod laws;
 mod plain;
 mod search;
+mod tally;
 
 pub use answer::{Answer, NoMemory};
 pub use game::{Graph, Mark, Row};
 pub use plain::solve_plain;
+pub use tally::Tally;
 
 #[cfg(test)]
 mod tests;

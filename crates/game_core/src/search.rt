@@ -1,7 +1,7 @@
 ghost use Rattle.std.specs.Prelude.{◌≡◌, ◌+◌, ◌*◌, ◌<◌, None, map, length, slice_index, IfOk};
 ghost use Rattle.game_core.specs.Game.{pairs_of};
-ghost use Rattle.game_core.specs.Solution.{row_of};
-ghost use Rattle.game_core.specs.Search.{begun, settled, offered, resolved, after_cut, rank_at, IsGathered, IsSearched};
+ghost use Rattle.game_core.specs.Solution.{row_of, rank_at};
+ghost use Rattle.game_core.specs.inside.Search.{begun, settled, offered, resolved, after_cut, IsGathered, IsSearched};
 
 use crate::answer::{Answer, NoMemory};
 use crate::game::{Graph, Mark, Row};
@@ -20,7 +20,7 @@ pub(crate) struct Search {
 }
 
 impl Model for Search {
-    ghost use Rattle.game_core.specs.Search.{Progress, HasRoom};
+    ghost use Rattle.game_core.specs.inside.Search.{Progress, HasRoom};
     ghost use Rattle.std.specs.Prelude.{take};
 
     ghost Value = { Progress };

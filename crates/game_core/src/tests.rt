@@ -1,5 +1,5 @@
-ghost use Rattle.game_core.specs.Corridor.{corridor};
-ghost use Rattle.game_core.specs.Game.{IsGame};
+ghost use Rattle.game_core.specs.inside.SmallGames.{corridor};
+ghost use Rattle.game_core.specs.Game.{IsGraph};
 
 use super::*;
 use std::test::Fail;
@@ -15,7 +15,7 @@ use std::test::Fail;
 /// | 3, 4 | outside | outside |
 #[derive(Drop)]
 struct Corridor {
-    ghost is_game: { IsGame corridor },
+    ghost is_graph: { IsGraph corridor },
 }
 
 const MARKS: [Mark; 5] = [
@@ -63,7 +63,7 @@ impl Graph for Corridor {
         }
     }
 
-    ghost lawful = { λ g. g.is_game };
+    ghost lawful = { λ g. g.is_graph };
 }
 
 #[test]

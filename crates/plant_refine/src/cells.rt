@@ -4,7 +4,7 @@ ghost use Rattle.grid_quantiser.specs.Cells.{IsInDomain, cell_of, point_of};
 ghost use Rattle.plant_text.specs.Description.{axes_of, vectors_of};
 ghost use Rattle.plant_text.specs.Steps.{IsNoise, step_of};
 ghost use Rattle.successor_box.specs.Boxes.{IsEnabledAt, AreSuccessors};
-ghost use Rattle.successor_box.specs.Slopes.{HasNoOverflow, slopes_of};
+ghost use Rattle.successor_box.specs.Deviations.{HasNoOverflow, deviations_of};
 
 use grid_quantiser::Point;
 use grid_quantiser::laws::every_state_has_a_cell;
@@ -17,7 +17,7 @@ use successor_box::laws::{
 
 /// The state one sample later and its cell, which is a successor of the pair.
 pub fn next_cell(p: &Plant, s: &Slopes, x: &Point, input: u32, noise: &Point) -> (Point, u32)
-    requires slopes { s.now ≡ slopes_of p.now }
+    requires slopes { s.now ≡ deviations_of p.now }
     requires fits { HasNoOverflow p.now }
     requires input { input < vectors_of p.now.inputs }
     requires inside { IsInDomain (axes_of p.now) x.now }
@@ -41,4 +41,39 @@ pub fn next_cell(p: &Plant, s: &Slopes, x: &Point, input: u32, noise: &Point) ->
         unreachable!()
     };
     (next, cell)
+}
+
+#[cfg(test)]
+mod tests {
+    use super::*;
+    use grid_quantiser::CellBox;
+    use plant_text::read_plant;
+    use std::test::Fail;
+    use successor_box::{find_slopes, successors};
+
+    /// Five cells of three places each.
+    const CORRIDOR: &[u8] =
+        b"plant 1\nstate x 0 14 3\ninput u -3 3\nnoise w -1 1\nnext x = x + u + w\ntarget 12 14\ngoal reach\nend\n";
+
+    // Cell 1 is 3 to 5, its centre 4 and the deviation 1 + 1, so the input 3 leads to 5 to 9: cells 1 to 3.
+    // From 5 with the noise 1 the state is 5 + 3 + 1.
+    #[test]
+    fn step_from_the_end_of_a_cell(rt: HostRuntime) -> Result<(), Fail> {
+        let plant = read_plant(rt.alloc(), CORRIDOR)?;
+        let slopes = find_slopes(rt.alloc(), &plant)?;
+        let x = [5, 0, 0, 0, 0, 0];
+        let noise = [1, 0, 0, 0, 0, 0];
+        let cell = plant.grid().cell_of(&x).ok_or("outside")?;
+        assert_eq!(rt; plant.vectors(), 2);
+        assert_eq!(rt; plant.noises(), 1);
+        assert_eq!(rt; plant.noise_range(0), (-1, 1));
+        assert_eq!(rt;
+            successors(&plant, &slopes, cell, 1),
+            Some(CellBox { first: 1, last: 3 })
+        );
+        let (next, landed) = next_cell(&plant, &slopes, &x, 1, &noise);
+        assert_eq!(rt; next, [9, 0, 0, 0, 0, 0]);
+        assert_eq!(rt; landed, 3);
+        Ok(())
+    }
 }

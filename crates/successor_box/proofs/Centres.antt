@@ -20,7 +20,7 @@ use Rattle.plant_text.specs.Variables.{IsNoiseVariable}
 use Rattle.plant_text.specs.Steps.{IsNoise, values_at, step_of, equation_at}
 use Rattle.plant_text.specs.Laws.{IsSound}
 use Rattle.successor_box.specs.Boxes.{noise_centre, area_of, radii_of, deviation_at, central_values}
-use Rattle.successor_box.specs.Slopes.{HasNoOverflow}
+use Rattle.successor_box.specs.Deviations.{HasNoOverflow}
 use Rattle.successor_box.proofs.CellValues.{middle, central_in}
 use Rattle.successor_box.proofs.Staying.{between}
 use Rattle.successor_box.proofs.Steps.{formed_over}
@@ -47,15 +47,6 @@ central_list p c u =
     let xs : List ℤ = centre_of (axes_of p) c in
     let ws : List ℤ = map noise_centre p.noises in
     ap₂ (λ (front back : List ℤ). front ++ vector_of p.inputs u ++ back) (take-append-le (length p.states) xs (replicate (6 - length xs) (pos 0)) states) (take-append-le (length p.noises) ws (replicate (6 - length ws) (pos 0)) noises)
-
-pub central_step : (p : Description) (c u : ℕ) → step_of p (point_of (centre_of (axes_of p) c)) u (point_of (map noise_centre p.noises)) ≡ map (λ e. value_of e (central_values p c u)) p.equations
-central_step p c u = ap (λ (values : List ℤ). map (λ e. value_of e values) p.equations) (central_list p c u)
-
--- the value of one equation
-pub central_value : (p : Description) (c u i : ℕ) → i < length p.equations → get_or (point_of (map (λ e. value_of e (central_values p c u)) p.equations)) i (pos 0) ≡ value_of (equation_at p i) (central_values p c u)
-central_value p c u i lt =
-    get_or_append_left (map (λ e. value_of e (central_values p c u)) p.equations) (replicate (6 - length (map (λ e. value_of e (central_values p c u)) p.equations)) (pos 0)) (pos 0) i (omega (arith, lt, length-map p.equations (λ e. value_of e (central_values p c u))))
-    ∙ get_or-map (λ e. value_of e (central_values p c u)) p.equations i (Number (pos 0)) (pos 0) lt
 
 ends_between : (lo hi v : ℤ) (d : ℕ) → IsInRange (lo -ℤ pos d) → IsInRange (hi +ℤ pos d) → lo ≤ℤ v → v ≤ℤ hi → IsInRange (v -ℤ pos d) × IsInRange (v +ℤ pos d)
 ends_between lo hi v d low high below above = (

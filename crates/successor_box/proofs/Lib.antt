@@ -7,7 +7,7 @@ pub mod Padding
 pub mod Filling
 pub mod Radii
 pub mod Centres
-pub mod SlopeRows
-pub mod CornerSteps
+pub mod DeviationRows
+pub mod SideEnds
 pub mod Ranges
 pub mod Supports

@@ -18,7 +18,7 @@ use Rattle.plant_text.specs.Variables.{IsNoiseVariable}
 use Rattle.plant_text.specs.Laws.{IsFilledByCells, IsSound}
 use Rattle.plant_text.specs.Description.{Description, axis_of, axes_of, vector_of}
 use Rattle.successor_box.specs.Boxes.{noise_centre, area_of, radii_of}
-use Rattle.successor_box.specs.Area.{variables_of}
+use Rattle.successor_box.specs.inside.Area.{variables_of}
 use Rattle.successor_box.proofs.CellValues.{vector_count}
 
 -- ---- the least and the greatest point of the domain

@@ -19,7 +19,7 @@ use Rattle.plant_text.specs.Description.{Description, axis_of, axes_of, vectors_
 use Rattle.plant_text.specs.Steps.{IsNoise, step_of, values_at, StepStaysInRange}
 use Rattle.plant_text.specs.Laws.{IsSound}
 use Rattle.successor_box.specs.Boxes.{IsEnabledAt, AreSuccessors, area_of, radii_of, deviation_at, central_values, low_corner, high_corner}
-use Rattle.successor_box.specs.Slopes.{HasNoOverflow}
+use Rattle.successor_box.specs.Deviations.{HasNoOverflow}
 use Rattle.successor_box.proofs.BoxDomains.{box_inside, cell_touches}
 use Rattle.successor_box.proofs.CellValues.{area_count, values_in, central_in, values_near}
 use Rattle.successor_box.proofs.Staying.{stays}

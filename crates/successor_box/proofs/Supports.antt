@@ -20,7 +20,7 @@ use Rattle.successor_box.specs.Boxes.{noise_centre, deviation_at, central_values
 use Rattle.successor_box.specs.Sides.{IsSideAt, RestsOn}
 use Rattle.successor_box.proofs.CellValues.{vector_count}
 use Rattle.successor_box.proofs.Centres.{centre_count}
-use Rattle.successor_box.proofs.CornerSteps.{low_is, high_is}
+use Rattle.successor_box.proofs.SideEnds.{low_is, high_is}
 
 -- lists that are the same from a place on are so with the same list behind
 same_behind : (xs ys behind : List ℤ) (k i : ℕ) → length xs ≡ length ys → ((j : ℕ) → k ≤ j → j < length xs → get_or xs j (pos 0) ≡ get_or ys j (pos 0)) → k ≤ i → get_or (xs ++ behind) i (pos 0) ≡ get_or (ys ++ behind) i (pos 0)

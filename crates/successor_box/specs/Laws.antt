@@ -8,7 +8,7 @@ use Rattle.plant_text.specs.Description.{Description, axes_of, vectors_of}
 use Rattle.plant_text.specs.Steps.{IsNoise, step_of, StepStaysInRange}
 use Rattle.plant_text.specs.Laws.{IsSound}
 use Rattle.successor_box.specs.Boxes.{IsEnabledAt, AreSuccessors, IsBoxOf, cells_in}
-use Rattle.successor_box.specs.Slopes.{HasNoOverflow}
+use Rattle.successor_box.specs.Deviations.{HasNoOverflow}
 
 -- a step from a point of a cell, under an enabled input and a noise in range, lies in the domain, and its cell
 -- is a successor

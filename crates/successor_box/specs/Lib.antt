@@ -1,5 +1,5 @@
 pub mod Boxes
-pub mod Slopes
-pub mod Area
-pub mod Laws
+pub mod Deviations
 pub mod Sides
+pub mod Laws
+pub mod inside

@@ -14,8 +14,8 @@ mod sides;
 mod slopes;
 mod support;
 
-pub use boxes::successors;
+pub use boxes::{box_of_sides, successors};
 pub use fault::SlopeFault;
-pub use sides::{box_of_sides, side};
+pub use sides::side;
 pub use slopes::{Slopes, find_slopes};
 pub use support::{Support, find_support};

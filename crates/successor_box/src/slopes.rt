@@ -6,8 +6,8 @@ ghost use Rattle.growth_bound.specs.Deviation.{deviation_of};
 ghost use Rattle.plant_text.specs.Description.{vectors_of};
 ghost use Rattle.plant_text.specs.Steps.{equation_at};
 ghost use Rattle.successor_box.specs.Boxes.{deviation_at};
-ghost use Rattle.successor_box.specs.Slopes.{Fits, FitsAt, HasNoOverflow, slopes_of, slopes_along, IsOverflow};
-ghost use Rattle.successor_box.specs.Area.{AreRadii, IsOverflowAlong};
+ghost use Rattle.successor_box.specs.Deviations.{HasNoOverflowOver, HasNoOverflowAt, HasNoOverflow, deviations_of, deviations_along, IsOverflow};
+ghost use Rattle.successor_box.specs.inside.Area.{AreRadii, IsOverflowAlong};
 
 use crate::area::{VARIABLES_LIMIT, radii, ranges, variables};
 use crate::fault::SlopeFault;
@@ -50,7 +50,7 @@ impl Slopes {
 /// The deviations of a plant's equations. It takes memory for a number for each equation and input
 /// vector, and none for what lies between.
 pub fn find_slopes(alloc: Global, p: &Plant) -> Result<Slopes, SlopeFault>
-    ensures found { IfOk result (λ s. s ≡ slopes_of p.now) }
+    ensures found { IfOk result (λ s. s ≡ deviations_of p.now) }
     ensures fits { IfOk result (λ _. HasNoOverflow p.now) }
     ensures overflow { IfErr result (λ f. IsOverflow p.now f) }
 {
@@ -58,13 +58,13 @@ pub fn find_slopes(alloc: Global, p: &Plant) -> Result<Slopes, SlopeFault>
     let radii = radii(p);
     let mut rows = Vec::new(alloc);
     for equation in 0..p.states() {
-        rows.push(slopes_along(alloc, p, &radii, equation)?)?;
+        rows.push(deviations_along(alloc, p, &radii, equation)?)?;
     }
     Ok(Slopes { rows })
 }
 
 /// The deviations of one equation, by input vector.
-fn slopes_along(
+fn deviations_along(
     alloc: Global,
     p: &Plant,
     radii: &[i128; VARIABLES_LIMIT],
@@ -72,32 +72,37 @@ fn slopes_along(
 ) -> Result<Vec<i128>, SlopeFault>
     requires equation { equation < length p.now.equations }
     requires radii { AreRadii p.now radii.now }
-    ensures found { IfOk result (λ row. row.items ≡ slopes_along p.now (equation_at p.now equation)) }
-    ensures fits { IfOk result (λ _. (u : ℕ) → u < vectors_of p.now.inputs → FitsAt p.now equation u) }
+    ensures found { IfOk result (λ row. row.items ≡ deviations_along p.now (equation_at p.now equation)) }
+    ensures fits { IfOk result (λ _. (u : ℕ) → u < vectors_of p.now.inputs → HasNoOverflowAt p.now equation u) }
     ensures overflow { IfErr result (λ f. IsOverflowAlong p.now equation f) }
 {
     let vectors = p.vectors();
-    let mut slopes = Vec::with_capacity(alloc, vectors as usize)?;
+    let mut deviations = Vec::with_capacity(alloc, vectors as usize)?;
     for input in 0..vectors {
-        match slope_at(p, radii, equation, input) {
-            Some(slope) => slopes.push(slope)?,
+        match deviation_at(p, radii, equation, input) {
+            Some(deviation) => deviations.push(deviation)?,
             None => return Err(SlopeFault::Overflow { equation, input }),
         }
     }
-    Ok(slopes)
+    Ok(deviations)
 }
 
 /// How far an equation moves under an input vector: None where a number leaves the range.
-fn slope_at(p: &Plant, radii: &[i128; VARIABLES_LIMIT], equation: u32, input: u32) -> Option<i128>
+fn deviation_at(
+    p: &Plant,
+    radii: &[i128; VARIABLES_LIMIT],
+    equation: u32,
+    input: u32,
+) -> Option<i128>
     requires equation { equation < length p.now.equations }
     requires input { input < vectors_of p.now.inputs }
     requires radii { AreRadii p.now radii.now }
-    ensures { SomeIff result (FitsAt p.now equation input) (deviation_at p.now input (equation_at p.now equation)) }
+    ensures { SomeIff result (HasNoOverflowAt p.now equation input) (deviation_at p.now input (equation_at p.now equation)) }
 {
     every_plant_is_within_limits(p);
     plants_are_sound();
     let count = variables(p) as usize;
-    slope(
+    deviation_over(
         p.equation(equation),
         &ranges(p, input)[..count],
         &radii[..count],
@@ -105,11 +110,11 @@ fn slope_at(p: &Plant, radii: &[i128; VARIABLES_LIMIT], equation: u32, input: u3
 }
 
 /// How far an expression moves over an area: None where a number leaves the range.
-fn slope(e: &Expr, area: &[Interval], radii: &[i128]) -> Option<i128>
+fn deviation_over(e: &Expr, area: &[Interval], radii: &[i128]) -> Option<i128>
     requires well_formed { IsWellFormed (expression_of e.now) (length area.now) }
     requires one_for_each { length radii.now ≡ length area.now }
     requires not_negative { All (λ r. pos 0 ≤ℤ r) radii.now }
-    ensures { SomeIff result (Fits (expression_of e.now) area.now radii.now) (pos (deviation_of (expression_of e.now) area.now radii.now)) }
+    ensures { SomeIff result (HasNoOverflowOver (expression_of e.now) area.now radii.now) (pos (deviation_of (expression_of e.now) area.now radii.now)) }
 {
     let (ends, deviation) = span_and_deviation(e, area, radii)?;
     difference(ends.lo, deviation)?;
@@ -147,7 +152,7 @@ mod tests {
             Box::new(alloc, square(alloc)?)?,
             Box::new(alloc, Expr::Var(0))?,
         );
-        assert_eq!(rt; slope(&cube, &AREA, &RADII), None);
+        assert_eq!(rt; deviation_over(&cube, &AREA, &RADII), None);
         Ok(())
     }
 
@@ -160,7 +165,7 @@ mod tests {
             Box::new(alloc, square(alloc)?)?,
         );
         assert_eq!(rt;
-            slope(&difference, &AREA, &RADII),
+            deviation_over(&difference, &AREA, &RADII),
             Some(4 * 999999999999999998 * 499999999999999999)
         );
         Ok(())

@@ -3,7 +3,7 @@ ghost use Rattle.fixed_expr.specs.Expression.{expression_of};
 ghost use Rattle.fixed_expr.specs.Mentions.{mentions};
 ghost use Rattle.plant_text.specs.Description.{vectors_of};
 ghost use Rattle.successor_box.specs.Sides.{RestsOn};
-ghost use Rattle.successor_box.specs.Slopes.{slopes_of};
+ghost use Rattle.successor_box.specs.Deviations.{deviations_of};
 
 use crate::slopes::Slopes;
 use fixed_expr::Expr;
@@ -23,7 +23,7 @@ pub struct Support {
 /// What the sides along a state's axis rest on: the state's equation and its deviations look at some
 /// states and inputs alone.
 pub fn find_support(p: &Plant, s: &Slopes, state: u32) -> Support
-    requires slopes { s.now ≡ slopes_of p.now }
+    requires slopes { s.now ≡ deviations_of p.now }
     requires state { state < length p.now.equations }
     ensures { RestsOn p.now state result.cells result.inputs }
 {

@@ -1,9 +1,7 @@
-use Rattle.std.proofs.Common.{◌∙◌, sym, subst, arith}
+use Rattle.std.proofs.Common.{◌<◌, ◌≢◌, length, get_or-set_other, get_or-set_same, below_more, sym, subst, arith}
 use Rattle.std.proofs.lemmas.List.{length-set}
-use Rattle.successor_box.specs.Sides.{IsSideAt}
 use Rattle.abstraction_table.specs.declared.sides.SideTable.{SideTable}
-use Rattle.abstraction_table.specs.Sides.{HoldsSidesAlong}
-use Rattle.abstraction_table.proofs.SideTables.{sides_more}
+use Rattle.abstraction_table.specs.inside.Sides.{HoldsSidesAlong}
 use Rattle.abstraction_table.proofs.boxes.box_at.Goals as goal
 
 pub loop-state-preserved : goal.loop-state-preserved
@@ -13,8 +11,10 @@ loop-state-preserved c =
     let t : SideTable = c.index-tables-state.result in
     let held = subst (HoldsSidesAlong c.args.p.now state) (sym c.index-tables-state.is) (c.requires.tables.each state t (omega (arith, c.loop-state-test.true, c.requires.tables.one_each))) in
     record {
-      six = length-set c.loop-state.sides state c.side.result ∙ so_far.six;
-      each = sides_more (IsSideAt c.args.p.now c.args.c c.args.input) c.loop-state.sides state c.side.result (omega arith) so_far.each (rw c.side.ensures (held.side c.args.c c.args.input c.requires.cell c.requires.input));
+      six = omega (arith, length-set c.loop-state.sides state c.side.result);
+      each = below_more _ _
+          (λ i before. let other : i ≢ state = omega arith in rw get_or-set_other (so_far.each i before))
+          (let here : state < length c.loop-state.sides = omega arith in rw (get_or-set_same, c.side.ensures) (held.side c.args.c c.args.input c.requires.cell c.requires.input));
     }
 
 pub box_of_sides-requires : goal.box_of_sides-requires

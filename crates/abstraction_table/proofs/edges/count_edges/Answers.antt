@@ -3,7 +3,7 @@ use Rattle.std.proofs.lemmas.List.Sums.{sum-map}
 use Rattle.grid_quantiser.specs.declared.boxes.CellBox.{CellBox}
 use Rattle.successor_box.specs.Boxes.{cells_in}
 use Rattle.rayon.proofs.ToStd.{slice-map}
-use Rattle.abstraction_table.specs.Tallies.{edges_of}
+use Rattle.abstraction_table.specs.inside.Tallies.{edges_of}
 use Rattle.abstraction_table.proofs.SourceSteps.{edges_fit}
 use Rattle.abstraction_table.proofs.edges.count_edges.Goals as goal
 

@@ -1,6 +1,6 @@
 use Rattle.std.proofs.Common.{◌≡◌, ℕ, ◌+◌, ◌^◌, ◌<◌, List, ◌++◌, All, get_or, sym, subst, ap, ◌∙◌, append-nil, arith}
 use Rattle.std.specs.List.{range_with_len}
-use Rattle.abstraction_table.specs.Tallies.{times, places_in, AreCounted}
+use Rattle.abstraction_table.specs.inside.Tallies.{times, places_in, AreCounted}
 use Rattle.abstraction_table.proofs.Tallying.{counted_more, run_fits, run_below, run_shorter, run_done}
 use Rattle.abstraction_table.proofs.BandPlaces.{places-append, places-done}
 use Rattle.abstraction_table.proofs.filling.count_cells.Goals as goal

@@ -1,5 +1,5 @@
 use Rattle.std.proofs.Common.{◌≡◌, ℕ, List, ◌++◌, length}
-use Rattle.abstraction_table.specs.Tallies.{places_in, AreCounted}
+use Rattle.abstraction_table.specs.inside.Tallies.{places_in, AreCounted}
 use Rattle.abstraction_table.proofs.filling.count_cells.Given as goal
 
 -- the cells that are done are counted

@@ -1,6 +1,6 @@
 use Rattle.std.proofs.Common.{ℕ, ◌+◌, ◌-◌, ◌^◌, ◌<◌, List, length, get_or, subst, arith}
 use Rattle.std.specs.List.{range_with_len}
-use Rattle.abstraction_table.specs.Tallies.{times}
+use Rattle.abstraction_table.specs.inside.Tallies.{times}
 use Rattle.abstraction_table.proofs.Tallying.{range_none, range_more, range_split, counted_none, counted_one, count_fits}
 use Rattle.abstraction_table.proofs.filling.count_run.Goals as goal
 

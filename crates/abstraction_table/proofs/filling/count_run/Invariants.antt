@@ -1,6 +1,6 @@
 use Rattle.std.proofs.Common.{◌-◌}
 use Rattle.std.specs.List.{range_with_len}
-use Rattle.abstraction_table.specs.Tallies.{AreCounted}
+use Rattle.abstraction_table.specs.inside.Tallies.{AreCounted}
 use Rattle.abstraction_table.proofs.filling.count_run.Given as goal
 
 -- the cells so far are counted

@@ -1,6 +1,6 @@
 use Rattle.std.proofs.Common.{◌≡◌, ℕ, ◌^◌, ◌<◌, List, ◌++◌, All, sym, subst, ap, ◌∙◌, append-nil, arith}
 use Rattle.std.specs.List.{range_with_len}
-use Rattle.abstraction_table.specs.Tallies.{places_in, ArePut, HasRoomFor}
+use Rattle.abstraction_table.specs.inside.Tallies.{places_in, ArePut, HasRoomFor}
 use Rattle.abstraction_table.proofs.Tallying.{put_more, room_left, run_below, run_shorter, run_done}
 use Rattle.abstraction_table.proofs.BandPlaces.{places-append, places-done}
 use Rattle.abstraction_table.proofs.filling.put_cells.Goals as goal

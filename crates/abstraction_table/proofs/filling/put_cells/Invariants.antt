@@ -1,5 +1,5 @@
 use Rattle.std.proofs.Common.{◌≡◌, ℕ, List, ◌++◌, length}
-use Rattle.abstraction_table.specs.Tallies.{places_in, ArePut}
+use Rattle.abstraction_table.specs.inside.Tallies.{places_in, ArePut}
 use Rattle.abstraction_table.proofs.filling.put_cells.Given as goal
 
 -- the pair is put at the cells that are done

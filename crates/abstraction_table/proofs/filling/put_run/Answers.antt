@@ -1,6 +1,6 @@
 use Rattle.std.proofs.Common.{◌+◌, ◌-◌, ◌<◌, length, subst, arith}
 use Rattle.std.specs.List.{range_with_len}
-use Rattle.abstraction_table.specs.Tallies.{HasRoomFor}
+use Rattle.abstraction_table.specs.inside.Tallies.{HasRoomFor}
 use Rattle.abstraction_table.proofs.Tallying.{range_none, range_more, range_split, put_none, put_one, room_here}
 use Rattle.abstraction_table.proofs.filling.put_run.Goals as goal
 

@@ -1,6 +1,6 @@
 use Rattle.std.proofs.Common.{◌-◌}
 use Rattle.std.specs.List.{range_with_len}
-use Rattle.abstraction_table.specs.Tallies.{ArePut}
+use Rattle.abstraction_table.specs.inside.Tallies.{ArePut}
 use Rattle.abstraction_table.proofs.filling.put_run.Given as goal
 
 -- the pair is put at the cells so far

@@ -1,6 +1,6 @@
 use Rattle.std.proofs.Common.{◌≡◌, ℕ, ◌<◌, length, get_or}
 use Rattle.abstraction_table.specs.declared.sides.SideTable.{SideTable}
-use Rattle.abstraction_table.specs.Sides.{HoldsSidesAlong}
+use Rattle.abstraction_table.specs.inside.Sides.{HoldsSidesAlong}
 use Rattle.abstraction_table.proofs.sides.find_tables.Given as goal
 
 -- the tables so far

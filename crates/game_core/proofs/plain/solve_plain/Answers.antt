@@ -3,7 +3,7 @@ use Rattle.std.proofs.lemmas.List.Sums.{count_by-le-length}
 use Rattle.game_core.proofs.Gathering.{searched_none, consistent_all}
 use Rattle.game_core.proofs.Reach.{solution_from_consistent}
 use Rattle.game_core.specs.Game.{Game, IsGame}
-use Rattle.game_core.specs.Search.{Progress, IsSearched}
+use Rattle.game_core.specs.inside.Search.{Progress, IsSearched}
 use Rattle.game_core.specs.Solution.{IsReachSolution}
 use Rattle.game_core.proofs.plain.solve_plain.Goals as goal
 
@@ -21,7 +21,7 @@ nearer g head p q h k lt =
     omega arith
 
 pub loop-head-init : goal.loop-head-init
-loop-head-init g c = (searched_none (g.G.Graph.game c.args.g.now) (g.met.G.Graph.lawful c.args.g.now) c.gather.new.self c.gather.ensures, omega arith)
+loop-head-init g c = (searched_none (g.G.Graph.game c.args.g.now) (g.met.G.Graph.lawful c.args.g.now).game c.gather.new.self c.gather.ensures, omega arith)
 
 pub loop-head-smaller : goal.loop-head-smaller
 loop-head-smaller g c = nearer (g.G.Graph.game c.args.g.now) c.loop-head.head c.loop-head.search c.take.new.self c.loop-head.invariant.0 c.take.ensures.searched c.take.ensures.at
@@ -35,4 +35,4 @@ returns g c =
     let found = c.found.ensures in
     let test = c.loop-head-test.false in
     subst (IsReachSolution game) {x = c.loop-head.search.rows} (sym c.into_answer.ensures)
-    (solution_from_searched game (g.met.G.Graph.lawful c.args.g.now) c.loop-head.search c.loop-head.head (omega arith) c.loop-head.invariant.0)
+    (solution_from_searched game (g.met.G.Graph.lawful c.args.g.now).game c.loop-head.search c.loop-head.head (omega arith) c.loop-head.invariant.0)

@@ -1,5 +1,5 @@
 use Rattle.std.proofs.Common.{◌-◌, ◌≤◌, length}
-use Rattle.game_core.specs.Search.{IsSearched}
+use Rattle.game_core.specs.inside.Search.{IsSearched}
 use Rattle.game_core.proofs.plain.solve_plain.Given as goal
 
 abbrev pub invariant-loop-head : goal.invariant-loop-head

@@ -2,7 +2,7 @@ use Rattle.std.proofs.Common.{get_or, rules, arith}
 use Rattle.std.specs.Prelude.{pos, FitsSigned}
 use Rattle.std.specs.Int.{w128}
 use Rattle.std.proofs.lemmas.Int.{to_z-of_z}
-use Rattle.successor_box.specs.Area.{no_range}
+use Rattle.successor_box.specs.inside.Area.{no_range}
 use Rattle.successor_box.proofs.Ranges.{state_range, input_range, noise_range}
 use Rattle.successor_box.proofs.area.range.Goals as goal
 

@@ -1,7 +1,7 @@
 use Rattle.std.proofs.Common.{arith, rules}
 use Rattle.plant_text.specs.Description.{axes_of}
 use Rattle.successor_box.specs.Boxes.{area_of}
-use Rattle.successor_box.specs.Area.{no_range}
+use Rattle.successor_box.specs.inside.Area.{no_range}
 use Rattle.successor_box.proofs.Filling.{fill_more, fill_all}
 use Rattle.successor_box.proofs.Ranges.{some_cells, ranges_count}
 use Rattle.successor_box.proofs.area.ranges.Goals as goal

@@ -5,11 +5,11 @@ use borrow.Author.Count.{below_more}
 use Rattle.std.proofs.lemmas.List.{map-append, map_more, take_all}
 use Rattle.fixed_expr.specs.Expression.{Number}
 use Rattle.plant_text.specs.Description.{vectors_of}
-use Rattle.successor_box.specs.Slopes.{FitsAt, slopes_along}
+use Rattle.successor_box.specs.Deviations.{HasNoOverflowAt, deviations_along}
 use Rattle.successor_box.proofs.slopes.find_slopes.Goals as goal
 
-pub slopes_along-requires-clause-equation : goal.slopes_along-requires-clause-equation
-slopes_along-requires-clause-equation c = let each = c.every_plant_is_within_limits.ensures.plant.one_each in omega (arith, each)
+pub deviations_along-requires-clause-equation : goal.deviations_along-requires-clause-equation
+deviations_along-requires-clause-equation c = let each = c.every_plant_is_within_limits.ensures.plant.one_each in omega (arith, each)
 
 pub loop-equation-preserved : goal.loop-equation-preserved
 loop-equation-preserved c =
@@ -18,17 +18,17 @@ loop-equation-preserved c =
     let each = c.every_plant_is_within_limits.ensures.plant.one_each in
     let below : k < length p.equations = omega (arith, each) in
     record {
-      so_far = ap (map (λ (row : Vec ℤ). row.items)) c.in_ok-push.ensures.items ∙ map-append (λ (row : Vec ℤ). row.items) c.loop-equation.rows.items (c.in_ok-slopes_along.field-0 ∷ [])
-          ∙ ap₂ (λ (xs : List (List ℤ)) (x : List ℤ). xs ++ x ∷ []) c.loop-equation.invariant.so_far c.in_ok-slopes_along.ensures.found
-          ∙ sym (map_more (slopes_along p) p.equations k (Number (pos 0)) below);
-      fits = λ i u lt lu. below_more (λ j. (v : ℕ) → v < vectors_of p.inputs → FitsAt p j v) k (λ j before v lv. c.loop-equation.invariant.fits j v before lv) c.in_ok-slopes_along.ensures.fits i lt u lu;
+      so_far = ap (map (λ (row : Vec ℤ). row.items)) c.in_ok-push.ensures.items ∙ map-append (λ (row : Vec ℤ). row.items) c.loop-equation.rows.items (c.in_ok-deviations_along.field-0 ∷ [])
+          ∙ ap₂ (λ (xs : List (List ℤ)) (x : List ℤ). xs ++ x ∷ []) c.loop-equation.invariant.so_far c.in_ok-deviations_along.ensures.found
+          ∙ sym (map_more (deviations_along p) p.equations k (Number (pos 0)) below);
+      fits = λ i u lt lu. below_more (λ j. (v : ℕ) → v < vectors_of p.inputs → HasNoOverflowAt p j v) k (λ j before v lv. c.loop-equation.invariant.fits j v before lv) c.in_ok-deviations_along.ensures.fits i lt u lu;
     }
 
 pub returns-clause-found : goal.returns-clause-found
 returns-clause-found c =
     let p = c.args.p.now in
     let each = c.every_plant_is_within_limits.ensures.plant.one_each in
-    c.loop-equation.invariant.so_far ∙ ap (map (slopes_along p)) (take_all c.loop-equation.equation p.equations (omega (arith, each)))
+    c.loop-equation.invariant.so_far ∙ ap (map (deviations_along p)) (take_all c.loop-equation.equation p.equations (omega (arith, each)))
 
 pub returns-clause-fits : goal.returns-clause-fits
 returns-clause-fits c =

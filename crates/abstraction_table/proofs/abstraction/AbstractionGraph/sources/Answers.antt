@@ -8,5 +8,5 @@ use Rattle.abstraction_table.proofs.abstraction.AbstractionGraph.sources.Goals a
 pub returns : goal.returns
 returns c =
     let a = c.args.self.now in
-    let one_each : length a.boxes.items ≡ _ = sym (length-map a.boxes.items _) ∙ a.kept.game.one_list_each in
-    subst (λ (pairs : List ℕ). AreSources (game_of a) c.args.c pairs) (sym (c.row.ensures ∙ a.kept.sources.each c.args.c c.requires)) (sources_are a.grid a.inputs a.marks.items a.boxes.items c.args.c one_each)
+    let one_each : length a.boxes.items ≡ _ = sym (length-map a.boxes.items _) ∙ a.in_memory.graph.game.one_list_each in
+    subst (λ (pairs : List ℕ). AreSources (game_of a) c.args.c pairs) (sym (c.row.ensures ∙ a.in_memory.sources.each c.args.c c.requires)) (sources_are a.grid a.inputs a.marks.items a.boxes.items c.args.c one_each)

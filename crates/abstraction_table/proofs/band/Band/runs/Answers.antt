@@ -2,8 +2,8 @@ use Rattle.std.proofs.Common.{◌≡◌, ◌+◌, ◌<◌, ◌≤◌, ◌⊎◌,
 use Rattle.grid_quantiser.specs.declared.boxes.CellBox.{CellBox}
 use Rattle.grid_quantiser.specs.Boxes.{IsCellBox, cells_between}
 use Rattle.successor_box.specs.Boxes.{cells_in}
-use Rattle.abstraction_table.specs.BoxGame.{IsBox}
-use Rattle.abstraction_table.specs.Tallies.{places_in}
+use Rattle.abstraction_table.specs.inside.Sources.{IsBox}
+use Rattle.abstraction_table.specs.inside.Tallies.{places_in}
 use Rattle.abstraction_table.proofs.BandPlaces.{places-none}
 use Rattle.abstraction_table.proofs.band.Band.runs.Goals as goal
 use Rattle.abstraction_table.proofs.band.Band.runs.Goals.{then-b-self-via-then-b-self, then-b-self-via-else-b-self+then-self-b}

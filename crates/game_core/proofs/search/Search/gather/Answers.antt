@@ -1,7 +1,7 @@
 use Rattle.std.proofs.Common.{◌≡◌, ◌+◌, ◌<◌, arith, subst, sym, ◌∙◌}
 use Rattle.game_core.proofs.Gathering.{gathered_none, gathered_goal, gathered_other, not_yet, goal_row}
 use Rattle.game_core.proofs.Rows.{not_goal}
-use Rattle.game_core.specs.Search.{settled, IsGathered}
+use Rattle.game_core.specs.inside.Search.{settled, IsGathered}
 use Rattle.game_core.proofs.search.Search.gather.Goals as goal
 use Rattle.game_core.proofs.search.Search.gather.Goals.{in-Goal, in-Obstacle}
 

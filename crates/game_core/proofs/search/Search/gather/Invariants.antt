@@ -1,4 +1,4 @@
-use Rattle.game_core.specs.Search.{IsGathered}
+use Rattle.game_core.specs.inside.Search.{IsGathered}
 use Rattle.game_core.proofs.search.Search.gather.Given as goal
 
 abbrev pub invariant-loop-c : goal.invariant-loop-c

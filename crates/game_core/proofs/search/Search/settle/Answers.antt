@@ -4,7 +4,7 @@ use Rattle.std.proofs.lemmas.List.Sums.{count_by-le-length}
 use Rattle.game_core.proofs.Rows.{count_first}
 use Rattle.game_core.specs.declared.game.Row.{Row}
 use Rattle.game_core.specs.Solution.{row_of}
-use Rattle.game_core.specs.Search.{Progress, settled}
+use Rattle.game_core.specs.inside.Search.{Progress, settled}
 use Rattle.game_core.proofs.search.Search.settle.Goals as goal
 
 -- a cell without a row leaves a place in the queue

@@ -3,8 +3,9 @@ use Rattle.std.proofs.lemmas.List.Elements.{Contains-get_or}
 use Rattle.std.proofs.lemmas.List.Sums.{count_by-le-length}
 use Rattle.game_core.proofs.Rows.{below_from_row}
 use Rattle.game_core.proofs.Taking.{taking_start, taking_step, taking_end, left_to_cut}
-use Rattle.game_core.specs.Game.{Game, IsGame}
-use Rattle.game_core.specs.Search.{Progress, IsSearched, rank_at}
+use Rattle.game_core.specs.Game.{Game, IsGraph}
+use Rattle.game_core.specs.inside.Search.{Progress, IsSearched}
+use Rattle.game_core.specs.Solution.{rank_at}
 use Rattle.game_core.proofs.search.Search.take.Goals as goal
 
 -- the cell at the head has a row
@@ -14,7 +15,7 @@ cell_below g head p h lt c e =
     below_from_row p.rows c has.0 has.1
 
 -- its rank is below the number of cells
-rank_below : (g : Game) → IsGame g → (head : ℕ) (p : Progress) → IsSearched g head p → head < length p.queue → (c : ℕ) → c ≡ get_or p.queue head 0 → rank_at p.rows c < 2 ^ 20
+rank_below : (g : Game) → IsGraph g → (head : ℕ) (p : Progress) → IsSearched g head p → head < length p.queue → (c : ℕ) → c ≡ get_or p.queue head 0 → rank_at p.rows c < 2 ^ 20
 rank_below g a head p h lt c e =
     let q = h.search.queue in
     let short = q.short head 0 lt in
@@ -57,16 +58,16 @@ cut-requires-clause-rows g c = c.loop-pair.invariant.search.told.one_each
 
 pub cut-requires-clause-open : goal.cut-requires-clause-open
 cut-requires-clause-open g c =
-    left_to_cut (g.G.Graph.game c.args.g.now) (g.met.G.Graph.lawful c.args.g.now) c.args.head (c.rank_of-rank.result + 1) c.cell_at-c.result c.sources-pair-items.result.now c.sources-pair-items.ensures c.args.self.now c.requires.at (sym c.cell_at-c.ensures) c.loop-pair.self c.loop-pair.pair-index c.loop-pair-test.true c.loop-pair.invariant
+    left_to_cut (g.G.Graph.game c.args.g.now) (g.met.G.Graph.lawful c.args.g.now).game c.args.head (c.rank_of-rank.result + 1) c.cell_at-c.result c.sources-pair-items.result.now c.sources-pair-items.ensures c.args.self.now c.requires.at (sym c.cell_at-c.ensures) c.loop-pair.self c.loop-pair.pair-index c.loop-pair-test.true c.loop-pair.invariant
 
 pub loop-pair-preserved : goal.loop-pair-preserved
 loop-pair-preserved g c =
-    taking_step (g.G.Graph.game c.args.g.now) (g.met.G.Graph.lawful c.args.g.now) c.args.head (c.rank_of-rank.result + 1) c.cell_at-c.result c.sources-pair-items.result.now c.sources-pair-items.ensures c.args.self.now c.requires.at (sym c.cell_at-c.ensures) c.loop-pair.self c.loop-pair.pair-index c.loop-pair-test.true c.loop-pair.invariant c.cut.new.self c.cut.ensures
+    taking_step (g.G.Graph.game c.args.g.now) (g.met.G.Graph.lawful c.args.g.now).game c.args.head (c.rank_of-rank.result + 1) c.cell_at-c.result c.sources-pair-items.result.now c.sources-pair-items.ensures c.args.self.now c.requires.at (sym c.cell_at-c.ensures) c.loop-pair.self c.loop-pair.pair-index c.loop-pair-test.true c.loop-pair.invariant c.cut.new.self c.cut.ensures
 
 pub returns-clause-searched : goal.returns-clause-searched
 returns-clause-searched g c =
     let ended : c.loop-pair.pair-index ≡ length c.sources-pair-items.result.now = (let t = c.loop-pair-test.false in let a = c.loop-pair.auto.pair-index-end in omega arith) in
-    taking_end (g.G.Graph.game c.args.g.now) (g.met.G.Graph.lawful c.args.g.now) c.args.head (c.rank_of-rank.result + 1) c.cell_at-c.result c.sources-pair-items.result.now c.sources-pair-items.ensures c.args.self.now c.requires.at (sym c.cell_at-c.ensures) c.loop-pair.self c.loop-pair.pair-index ended c.loop-pair.invariant
+    taking_end (g.G.Graph.game c.args.g.now) (g.met.G.Graph.lawful c.args.g.now).game c.args.head (c.rank_of-rank.result + 1) c.cell_at-c.result c.sources-pair-items.result.now c.sources-pair-items.ensures c.args.self.now c.requires.at (sym c.cell_at-c.ensures) c.loop-pair.self c.loop-pair.pair-index ended c.loop-pair.invariant
 
 pub returns-clause-at : goal.returns-clause-at
 returns-clause-at g c =

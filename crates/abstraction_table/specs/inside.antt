@@ -1,0 +1,7 @@
+-- What only private clauses and proofs name.
+pub mod Marks
+pub mod Memory
+pub mod Props
+pub mod Sides
+pub mod Sources
+pub mod Tallies

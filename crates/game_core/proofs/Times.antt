@@ -1,0 +1,165 @@
+-- How often numbers stand in lists.
+use Rattle.std.proofs.Common.{inl, inr, ◌≡◌, ◌≢◌, ℕ, zero, suc, ◌+◌, ◌<◌, ◌≤◌, ◌==◌, List, [], ◌∷◌, length, get_or, All, AllPairs, Contains, sum_by, arith, refl, sym, ◌∙◌, ap, eq-eqb}
+use Rattle.std.specs.List.{range_with_len, remove}
+use Rattle.std.specs.List.Sorted.{IsPermutation, IsStrictlyIncreasing}
+use Rattle.std.proofs.lemmas.Bool.{cases_lt, cases_eq, ne_eqb}
+use Rattle.std.proofs.lemmas.List.Elements.{All-head, All-tail}
+use Rattle.std.proofs.lemmas.List.Kept.{AllPairs-from_increasing}
+use Rattle.std.proofs.lemmas.List.Sorted.{IsPermutation-refl, IsPermutation-sym, IsPermutation-cons, IsPermutation-trans, IsPermutation-remove, sum_by-IsPermutation}
+use Rattle.std.proofs.lemmas.List.Sums.{sum_by-cons}
+use Rattle.game_core.specs.Counts.{times, CountsTell, EdgesFromBothEnds}
+use Rattle.game_core.specs.Game.{successors_at}
+use Rattle.game_core.proofs.Counts.{one_if, count-cons, sum_alike, sum_added, sum_ones, sum_zeros}
+use Rattle.game_core.proofs.Edges.{successors_apart}
+
+-- one element more counts where it is the number
+times-cons : (n x : ℕ) (xs : List ℕ) → times n (x ∷ xs) ≡ one_if (x == n) + times n xs
+times-cons n x xs = count-cons (λ x. x == n) x xs
+
+here : (x n : ℕ) → x ≡ n → one_if (x == n) ≡ 1
+here x n e = ap one_if (eq-eqb x n e)
+
+elsewhere : (x n : ℕ) → x ≢ n → one_if (x == n) ≡ 0
+elsewhere x n ne = ap one_if (ne_eqb x n ne)
+
+pub times_none : (n : ℕ) (xs : List ℕ) → All (λ x. x ≢ n) xs → times n xs ≡ 0
+times_none n [] h = refl
+times_none n (x ∷ xs) h =
+    let a = times-cons n x xs in
+    let b = elsewhere x n (All-head (λ x. x ≢ n) x xs h) in
+    let rest = times_none n xs (All-tail (λ x. x ≢ n) x xs h) in
+    omega arith
+
+-- a number that is counted stands there
+pub found : (n : ℕ) (xs : List ℕ) → 0 < times n xs → Contains xs n
+found n [] lt = absurd (let z : times n [] ≡ 0 = refl in omega arith)
+found n (x ∷ xs) lt =
+    elim (cases_eq x n) [
+      | inl e ↦ (0, omega arith, e)
+      | inr ne ↦
+          let a = times-cons n x xs in
+          let b = elsewhere x n ne in
+          let rest = found n xs (omega arith) in
+          (suc rest.0, (let l = rest.1 in omega arith), rest.2)
+    ]
+
+-- where the elements differ, one that stands there stands there once
+pub times_once : (n : ℕ) (xs : List ℕ) → AllPairs (λ a b. a ≢ b) xs → Contains xs n → times n xs ≡ 1
+times_once n [] apart has = absurd (let lt = has.1 in omega arith)
+times_once n (x ∷ xs) apart has =
+    let a = times-cons n x xs in
+    elim (cases_eq x n) [
+      | inl e ↦
+          let b = here x n e in
+          let rest = times_none n xs (λ i d lt f. apart 0 (suc i) d (omega arith) (omega arith) (e ∙ sym f)) in
+          omega arith
+      | inr ne ↦
+          let b = elsewhere x n ne in
+          let rest = times_once n xs (λ i j d l m. apart (suc i) (suc j) d (omega arith) (omega arith)) (later ne has) in
+          omega arith
+    ]
+  where
+    later : x ≢ n → Contains (x ∷ xs) n → Contains xs n
+    later ne (zero, lt, e) = absurd (ne e)
+    later ne (suc k, lt, e) = (k, omega arith, e)
+
+-- lists with equal counts have the same elements
+pub same : (xs ys : List ℕ) → ((n : ℕ) → times n xs ≡ times n ys) → IsPermutation xs ys
+same [] [] h = IsPermutation-refl []
+same [] (y ∷ ys) h =
+    let e = h y in
+    let a = times-cons y y ys in
+    let b = here y y refl in
+    let z : times y [] ≡ 0 = refl in
+    absurd (omega arith)
+same (x ∷ xs) ys h =
+    let stands = found x ys (let e = h x in let a = times-cons x x xs in let b = here x x refl in omega arith) in
+    let moved = IsPermutation-remove ys stands.0 x stands.1 (sym stands.2) in
+    let rest = same xs (remove ys stands.0) (λ n.
+    let e = h n in
+    let a = times-cons n x xs in
+    let b = times-cons n x (remove ys stands.0) in
+    let c : times n (x ∷ remove ys stands.0) ≡ times n ys = sum_by-IsPermutation (λ y. one_if (y == n)) ys (x ∷ remove ys stands.0) moved in
+    omega arith) in
+    IsPermutation-trans (x ∷ xs) (x ∷ remove ys stands.0) ys (IsPermutation-cons x xs (remove ys stands.0) rest) (IsPermutation-sym ys (x ∷ remove ys stands.0) moved)
+
+-- a range has each of its numbers once
+before_range : (i a n : ℕ) → i < a → times i (range_with_len a n) ≡ 0
+before_range i a zero lt = refl
+before_range i a (suc n) lt =
+    let c = times-cons i a (range_with_len (a + 1) n) in
+    let b = elsewhere a i (omega arith) in
+    let rest = before_range i (a + 1) n (omega arith) in
+    omega arith
+
+past_range : (i a n : ℕ) → a + n ≤ i → times i (range_with_len a n) ≡ 0
+past_range i a zero le = refl
+past_range i a (suc n) le =
+    let c = times-cons i a (range_with_len (a + 1) n) in
+    let b = elsewhere a i (omega arith) in
+    let rest = past_range i (a + 1) n (omega arith) in
+    omega arith
+
+pub in_range : (i a n : ℕ) → a ≤ i → i < a + n → times i (range_with_len a n) ≡ 1
+in_range i a zero le lt = absurd (omega arith)
+in_range i a (suc n) le lt =
+    let c = times-cons i a (range_with_len (a + 1) n) in
+    elim (cases_eq a i) [
+      | inl e ↦ let b = here a i e in let rest = before_range i (a + 1) n (omega arith) in omega arith
+      | inr ne ↦ let b = elsewhere a i ne in let rest = in_range i (a + 1) n (omega arith) (omega arith) in omega arith
+    ]
+
+pub each_once : (n : ℕ) (xs : List ℕ) → All (λ x. x < n) xs → ((i : ℕ) → i < n → times i xs ≡ 1) → IsPermutation (range_with_len 0 n) xs
+each_once n xs within once = same (range_with_len 0 n) xs (λ i.
+    elim (cases_lt i n) [
+      | inl lt ↦ let a = in_range i 0 n (omega arith) (omega arith) in let b = once i lt in omega arith
+      | inr ge ↦
+          let a = past_range i 0 n (omega arith) in
+          let b = times_none i xs (λ k d lk e. let lt = within k d lk in omega arith) in
+          omega arith
+    ])
+
+flips : (x y : ℕ) → one_if (x == y) ≡ one_if (y == x)
+flips x y =
+    elim (cases_eq x y) [
+      | inl e ↦ here x y e ∙ sym (here y x (sym e))
+      | inr ne ↦ elsewhere x y ne ∙ sym (elsewhere y x (λ e. ne (sym e)))
+    ]
+
+pub from_both_sides : (xs ys : List ℕ) → sum_by (λ x. times x ys) xs ≡ sum_by (λ y. times y xs) ys
+from_both_sides [] ys = sym (sum_zeros (λ y. times y []) ys (λ i d lt. refl))
+from_both_sides (x ∷ xs) ys =
+    let a = sum_by-cons (λ x. times x ys) x xs in
+    let rest = from_both_sides xs ys in
+    let split = sum_alike (λ y. times y (x ∷ xs)) (λ y. one_if (x == y) + times y xs) ys (λ i d lt. times-cons (get_or ys i d) x xs) in
+    let added = sum_added (λ y. one_if (x == y)) (λ y. times y xs) ys in
+    let flipped : times x ys ≡ sum_by (λ y. one_if (x == y)) ys = sum_alike (λ y. one_if (y == x)) (λ y. one_if (x == y)) ys (λ i d lt. flips (get_or ys i d) x) in
+    omega arith
+
+pub of_all_below : (n : ℕ) (xs : List ℕ) → All (λ x. x < n) xs → sum_by (λ i. times i xs) (range_with_len 0 n) ≡ length xs
+of_all_below n xs within =
+    from_both_sides (range_with_len 0 n) xs
+    ∙ sum_ones (λ x. times x (range_with_len 0 n)) xs (λ i d lt. in_range (get_or xs i d) 0 n (omega arith) (let l = within i d lt in omega arith))
+
+pub counts_tell : CountsTell
+counts_tell = record { same = same; each_once = each_once; from_both_sides = from_both_sides; of_all_below = of_all_below }
+
+pub edges_from_both_ends : EdgesFromBothEnds
+edges_from_both_ends g c pair pairs a h lt =
+    elim (cases_lt 0 (times c (successors_at g pair))) [
+      | inl some' ↦
+          let leads = found c (successors_at g pair) some' in
+          times_once pair pairs (AllPairs-from_increasing' pairs h.rising) ((h.exactly pair).1 (lt, leads))
+          ∙ sym (times_once c (successors_at g pair) (successors_apart g a pair) leads)
+      | inr none' ↦
+          elim (cases_lt 0 (times pair pairs)) [
+            | inl some' ↦
+                let leads = ((h.exactly pair).0 (found pair pairs some')).1 in
+                let once = times_once c (successors_at g pair) (successors_apart g a pair) leads in
+                absurd (omega arith)
+            | inr none'' ↦ omega arith
+          ]
+    ]
+  where
+    AllPairs-from_increasing' : (xs : List ℕ) → IsStrictlyIncreasing xs → AllPairs (λ a b. a ≢ b) xs
+    AllPairs-from_increasing' xs up = λ i j d l m e. let r = AllPairs-from_increasing xs up i j d l m in omega arith

@@ -1,0 +1,3 @@
+-- What only tests and proofs name.
+pub mod Search
+pub mod SmallGames

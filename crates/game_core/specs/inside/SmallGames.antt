@@ -1,0 +1,38 @@
+-- Games that are small enough to be solved by hand, with their solutions and tallies.
+use Rattle.std.specs.Prelude.{[], ◌∷◌, List, Option, Some}
+use Rattle.game_core.specs.declared.game.Mark.TheVariants.{Goal, Plain}
+use Rattle.game_core.specs.declared.game.Row.{Row}
+use Rattle.game_core.specs.declared.tally.Tally.{Tally}
+use Rattle.game_core.specs.Game.{Game}
+
+-- five cells in a row, of which the last is a goal, and two inputs that lead to the cell on either side
+abbrev pub line : Game
+line = record {
+  cells = 5;
+  inputs = 2;
+  marks = Plain ∷ Plain ∷ Plain ∷ Plain ∷ Goal ∷ [];
+  successors = [] ∷ (1 ∷ []) ∷ (0 ∷ []) ∷ (2 ∷ []) ∷ (1 ∷ []) ∷ (3 ∷ []) ∷ (2 ∷ []) ∷ (4 ∷ []) ∷ (3 ∷ []) ∷ [] ∷ [];
+}
+
+abbrev pub line_rows : List (Option Row)
+line_rows =
+    Some (record { rank = 4; input = 1 }) ∷ Some (record { rank = 3; input = 1 }) ∷ Some (record { rank = 2; input = 1 }) ∷ Some (record { rank = 1; input = 1 }) ∷ Some (record { rank = 0; input = 0 }) ∷ []
+
+abbrev pub line_tally : Tally
+line_tally = record { cuts = 8; offers = 8; rounds = 5 }
+
+-- five cells in a row, of which the last two are goals, and two inputs that lead on
+abbrev pub corridor : Game
+corridor = record {
+  cells = 5;
+  inputs = 2;
+  marks = Plain ∷ Plain ∷ Plain ∷ Goal ∷ Goal ∷ [];
+  successors = (1 ∷ 2 ∷ []) ∷ (2 ∷ 3 ∷ []) ∷ (2 ∷ 3 ∷ []) ∷ (3 ∷ 4 ∷ []) ∷ (3 ∷ 4 ∷ []) ∷ [] ∷ [] ∷ [] ∷ [] ∷ [] ∷ [];
+}
+
+abbrev pub corridor_rows : List (Option Row)
+corridor_rows =
+    Some (record { rank = 2; input = 0 }) ∷ Some (record { rank = 1; input = 1 }) ∷ Some (record { rank = 1; input = 0 }) ∷ Some (record { rank = 0; input = 0 }) ∷ Some (record { rank = 0; input = 0 }) ∷ []
+
+abbrev pub corridor_tally : Tally
+corridor_tally = record { cuts = 10; offers = 5; rounds = 3 }

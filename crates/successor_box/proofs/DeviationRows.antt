@@ -1,0 +1,20 @@
+-- The entries of a plant's deviations.
+use Rattle.std.proofs.Common.{◌≡◌, ℕ, ◌<◌, List, [], length, get_or, ap, ◌∙◌, arith}
+use Rattle.std.specs.Prelude.{ℤ, pos}
+use Rattle.std.proofs.lemmas.List.{get_or-map}
+use Rattle.std.proofs.lemmas.List.FromFn.{length-map-range_with_len, get_or-map-range_with_len}
+use Rattle.fixed_expr.specs.Expression.{Number}
+use Rattle.plant_text.specs.Description.{Description, vectors_of}
+use Rattle.successor_box.specs.Boxes.{deviation_at}
+use Rattle.plant_text.specs.Steps.{equation_at}
+use Rattle.successor_box.specs.Deviations.{deviations_along, deviations_of}
+
+module _ (p : Description) (i : ℕ) (lt : i < length p.equations) where
+  row_is : get_or (deviations_of p) i [] ≡ deviations_along p (equation_at p i)
+  row_is = get_or-map (deviations_along p) p.equations i (Number (pos 0)) [] lt
+
+  pub row_count : length (get_or (deviations_of p) i []) ≡ vectors_of p.inputs
+  row_count = ap length row_is ∙ length-map-range_with_len (λ u. deviation_at p u (equation_at p i)) 0 (vectors_of p.inputs)
+
+  pub entry_is : (u : ℕ) → u < vectors_of p.inputs → get_or (get_or (deviations_of p) i []) u (pos 0) ≡ deviation_at p u (equation_at p i)
+  entry_is u below = ap (λ (row : List ℤ). get_or row u (pos 0)) row_is ∙ get_or-map-range_with_len (λ u. deviation_at p u (equation_at p i)) 0 (vectors_of p.inputs) u u (pos 0) below (omega arith)
