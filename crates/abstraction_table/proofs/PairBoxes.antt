@@ -6,7 +6,7 @@ use Rattle.std.proofs.lemmas.Nat.{div-mul-add, mul-add-lt}
 use Rattle.std.proofs.Math.Nat.{mul_comm}
 use Rattle.grid_quantiser.specs.declared.boxes.CellBox.{CellBox}
 use Rattle.grid_quantiser.specs.Axes.{cells_of}
-use Rattle.plant_text.specs.Description.{Description, axes_of, vectors_of}
+use Rattle.plant_text.specs.plant.Description.{Description, axes_of, vectors_of}
 use Rattle.successor_box.specs.Boxes.{IsBoxOf}
 use Rattle.abstraction_table.specs.Abstraction.{pairs_of, pair_of, AreBoxesOf}
 

@@ -1,7 +1,7 @@
 -- What holds of every plant and its game.
 use Rattle.game_core.specs.Game.{Game}
-use Rattle.plant_text.specs.Description.{Description}
-use Rattle.plant_text.specs.Plants.{IsPlant}
+use Rattle.plant_text.specs.plant.Description.{Description}
+use Rattle.plant_text.specs.plant.Plants.{IsPlant}
 use Rattle.abstraction_table.specs.Abstraction.{IsGameOf}
 use Rattle.plant_refine.specs.Refinement.{IsRefinement}
 

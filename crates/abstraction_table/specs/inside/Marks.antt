@@ -3,8 +3,8 @@ use Rattle.std.specs.Prelude.{◌≡◌, ℕ, ◌<◌, ◌↔◌, List, length, 
 use Rattle.grid_quantiser.specs.Axes.{cells_of}
 use Rattle.game_core.specs.declared.game.Mark.{Mark}
 use Rattle.game_core.specs.declared.game.Mark.TheVariants.{Goal, Obstacle, Plain}
-use Rattle.plant_text.specs.Description.{Description, axes_of}
-use Rattle.plant_text.specs.Marks.{IsGoalCell, IsObstacleCell}
+use Rattle.plant_text.specs.plant.Description.{Description, axes_of}
+use Rattle.plant_text.specs.plant.Marks.{IsGoalCell, IsObstacleCell}
 
 -- the mark of a cell
 abbrev pub IsMarkAt : Description → ℕ → Mark → Type 0

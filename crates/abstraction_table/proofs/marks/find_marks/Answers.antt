@@ -3,7 +3,7 @@ use Rattle.std.proofs.lemmas.List.{take_at}
 use Rattle.grid_quantiser.specs.Axes.{cells_of}
 use Rattle.game_core.specs.declared.game.Mark.{Mark}
 use Rattle.game_core.specs.declared.game.Mark.TheVariants.{Plain}
-use Rattle.plant_text.specs.Description.{axes_of}
+use Rattle.plant_text.specs.plant.Description.{axes_of}
 use Rattle.abstraction_table.specs.inside.Marks.{IsMarkAt, AreMarksOf}
 use Rattle.abstraction_table.proofs.marks.find_marks.Goals as goal
 

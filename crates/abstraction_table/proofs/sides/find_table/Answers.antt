@@ -4,7 +4,7 @@ use Rattle.std.specs.Vec.{with_items}
 use Rattle.std.proofs.lemmas.Nat.{div_below, mod_below, mul-le}
 use Rattle.grid_quantiser.specs.Axes.{cells_of}
 use Rattle.grid_quantiser.specs.declared.sides.Side.{Side}
-use Rattle.plant_text.specs.Description.{axes_of, vectors_of}
+use Rattle.plant_text.specs.plant.Description.{axes_of, vectors_of}
 use Rattle.successor_box.specs.Sides.{IsSideAt}
 use Rattle.abstraction_table.specs.declared.sides.SideTable.{SideTable}
 use Rattle.abstraction_table.specs.inside.Sides.{HoldsSidesAlong}
