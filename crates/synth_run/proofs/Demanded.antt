@@ -10,7 +10,7 @@ use Rattle.plant_text.specs.plant.Description.{Description}
 use Rattle.plant_text.specs.plant.Plants.{IsPlant}
 use Rattle.plant_text.specs.reading.Refusals.{IsRefusedFor}
 use Rattle.plant_text.specs.Laws.{OnePlantPerText, OneRefusal, ReadOrRefused}
-use Rattle.successor_box.specs.Slopes.{HasNoOverflow, IsFirstOverflow}
+use Rattle.successor_box.specs.Deviations.{HasNoOverflow, IsFirstOverflow}
 use Rattle.abstraction_table.specs.Laws.{OneEdgeCount}
 use Rattle.synth_run.specs.declared.form.Form.TheVariants.{Synth}
 use Rattle.synth_run.specs.declared.outcome.Outcome.{Outcome}

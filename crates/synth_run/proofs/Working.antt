@@ -4,7 +4,6 @@ use Rattle.std.specs.Prelude.{IfSome}
 use Rattle.synth_run.specs.declared.form.Form.TheVariants.{Synth}
 use Rattle.synth_run.specs.declared.outcome.Outcome.{Outcome}
 use Rattle.synth_run.specs.declared.outcome.Outcome.TheVariants.{Done, Usage, ReadFault, WriteFault, NoMemory}
-use Rattle.abstraction_table.specs.Laws.{GamesCountTheirEdges}
 use Rattle.synth_run.specs.Devices.{Reading}
 use Rattle.synth_run.specs.inside.Transfers.{ReadUpTo}
 use Rattle.synth_run.specs.inside.Working.{IsWorkedOut, IsTurnedDown}
@@ -15,10 +14,10 @@ use Rattle.synth_run.proofs.Limits.{demands_of_whole, table_of_whole, read_to_th
 use Rattle.synth_run.proofs.Completeness.{solved_is_demanded}
 
 -- the table of what was read of a source answers `synth`
-pub table_answers : GamesCountTheirEdges → (workers : ℕ) (source : Reading) (read text : List ℕ) → ReadUpTo source.before source.after 65537 read → source.faults_after ≡ source.faults_before → IsTableFor read text → IsWorkedOut (Synth workers) text source
-table_answers count workers source read text up_to no_fault table = record {
+pub table_answers : (workers : ℕ) (source : Reading) (read text : List ℕ) → ReadUpTo source.before source.after 65537 read → source.faults_after ≡ source.faults_before → IsTableFor read text → IsWorkedOut (Synth workers) text source
+table_answers workers source read text up_to no_fault table = record {
   answer = whole;
-  demanded = solved_is_demanded count source.before text whole;
+  demanded = solved_is_demanded source.before text whole;
   read = read_to_the_limit source.before source.after read up_to;
   no_fault = no_fault;
 }

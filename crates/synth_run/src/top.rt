@@ -12,7 +12,6 @@ use crate::laws::one_demand_per_text;
 use crate::outcome::Outcome;
 use crate::solving::table_of;
 use crate::transfer::{ReadFault, read_up_to, write_whole};
-use abstraction_table::laws::games_count_their_edges;
 use plant_text::TEXT_LIMIT;
 use std::alloc::Global;
 use std::thread::Threads;
@@ -26,7 +25,6 @@ fn synth<R: Threads + Sync, S: Source>(
     ensures answer { (workers : ℕ) → IfOk result (λ text. IsWorkedOut (Form.Synth workers) text.items (reading S.left S.faults S.is_sound source.old source.new)) }
     ensures refusal { (workers : ℕ) → IfErr result (λ outcome. IsTurnedDown (Form.Synth workers) outcome (reading S.left S.faults S.is_sound source.old source.new)) }
 {
-    games_count_their_edges();
     let bytes = match read_up_to(alloc, source, TEXT_LIMIT + 1) {
         Ok(bytes) => bytes,
         Err(ReadFault::Device) => return Err(Outcome::ReadFault),

@@ -9,7 +9,7 @@ use Rattle.synth_run.proofs.top.synth.Goals as goal
 pub returns-clause-answer : goal.returns-clause-answer
 returns-clause-answer g c =
     λ workers. if_ok_more c.table_of.result _ _
-    (λ text table. table_answers c.games_count_their_edges.ensures workers (reading g.S.Source.left g.S.Source.faults g.S.Source.is_sound c.args.source.now c.read_up_to.new.source) c.in-Ok.bytes.items text.items c.in-Ok.ensures.read (c.in-Ok.ensures.no_fault (λ e. cc))
+    (λ text table. table_answers workers (reading g.S.Source.left g.S.Source.faults g.S.Source.is_sound c.args.source.now c.read_up_to.new.source) c.in-Ok.bytes.items text.items c.in-Ok.ensures.read (c.in-Ok.ensures.no_fault (λ e. cc))
     (subst (λ (bytes : List ℕ). IsTableFor bytes text.items) c.deref.ensures.value table))
     c.table_of.ensures.table
 
