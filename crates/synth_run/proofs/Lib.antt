@@ -3,6 +3,7 @@ pub mod Demanded
 pub mod Driving
 pub mod FittingRows
 pub mod Limits
+pub mod MemoryRuns
 pub mod OneTable
 pub mod Reporting
 pub mod SoFar
