@@ -82,7 +82,7 @@ module _ (enabled : EnabledPairsHaveSuccessors) (p : Description) (sound : IsSou
   one_list c u (x ∷ xs) ys f g = where_enabled c u (x ∷ xs) ys f g ((enabled p c u (x ∷ xs) sound f).0 (λ e. cc))
   one_list c u [] (y ∷ ys) f g = where_enabled c u [] (y ∷ ys) f g ((enabled p c u (y ∷ ys) sound g).0 (λ e. cc))
 
-pair_split : (pair cells vectors : ℕ) → pair < cells * vectors → (pair / vectors < cells) × (pair % vectors < vectors) × ((pair / vectors) * vectors + pair % vectors ≡ pair)
+pub pair_split : (pair cells vectors : ℕ) → pair < cells * vectors → (pair / vectors < cells) × (pair % vectors < vectors) × ((pair / vectors) * vectors + pair % vectors ≡ pair)
 pair_split pair cells zero lt = absurd (omega (arith, lt, mul-zero cells))
 pair_split pair cells (suc v) lt = (div_below pair (suc v) cells (omega arith) lt, mod_below pair (suc v) (omega arith), div-add-mod' pair (suc v))
 

@@ -1,22 +1,17 @@
 -- The marks and the boxes of a plant make its game.
-use Rattle.std.proofs.Common.{◌≡◌, ℕ, ◌+◌, ◌*◌, ◌/◌, ◌%◌, ◌^◌, ◌<◌, ◌≤◌, List, [], ◌∷◌, All, Option, None, length, map, get_or, refl, sym, subst, ◌∙◌, arith}
+use Rattle.std.proofs.Common.{◌≡◌, ℕ, ◌+◌, ◌/◌, ◌%◌, ◌^◌, ◌<◌, ◌≤◌, List, [], All, Option, None, length, map, get_or, refl, sym, subst, ◌∙◌, arith}
 use Rattle.std.specs.Prelude.{sum_by}
 use Rattle.std.specs.List.Sorted.{IsStrictlyIncreasing}
 use Rattle.std.proofs.lemmas.Option.{IfSome_then}
 use Rattle.std.proofs.lemmas.List.{length-map, get_or_default}
-use Rattle.std.proofs.lemmas.List.Elements.{All-head, All-tail, All-map, All-weaker}
+use Rattle.std.proofs.lemmas.List.Elements.{All-map, All-weaker}
 use Rattle.std.proofs.lemmas.List.Folds.{fold-map}
-use Rattle.std.proofs.lemmas.Nat.{div-add-mod', div_below, mod_below}
-use Rattle.std.proofs.Math.Nat.{mul-pos}
-use Rattle.grid_quantiser.specs.declared.axis.Axis.{Axis}
 use Rattle.grid_quantiser.specs.declared.boxes.CellBox.{CellBox}
-use Rattle.grid_quantiser.specs.Axes.{IsAxis, AreAxes, cells_of}
+use Rattle.grid_quantiser.specs.Axes.{AreAxes, cells_of}
 use Rattle.grid_quantiser.specs.Laws.{BoxesHaveCells}
 use Rattle.game_core.specs.declared.game.Mark.{Mark}
 use Rattle.game_core.specs.Game.{Game, IsGame, IsGraph}
-use Rattle.plant_text.specs.declared.plant.variables.InputVariable.{InputVariable}
 use Rattle.plant_text.specs.plant.Description.{Description, axes_of, vectors_of}
-use Rattle.plant_text.specs.plant.Variables.{IsInputVariable}
 use Rattle.plant_text.specs.plant.Limits.{IsWithinLimits}
 use Rattle.plant_text.specs.plant.Soundness.{PlantsAreSound}
 use Rattle.successor_box.specs.Boxes.{AreSuccessors, IsBoxOf, cells_in}
@@ -27,22 +22,9 @@ use Rattle.abstraction_table.specs.inside.Marks.{AreMarksOf}
 use Rattle.abstraction_table.specs.inside.Memory.{HoldsGame}
 use Rattle.abstraction_table.specs.inside.Sources.{IsBox, AreSourceBands}
 use Rattle.abstraction_table.specs.inside.Tallies.{edges_of}
+use Rattle.abstraction_table.proofs.EdgeCounts.{pair_split}
 use Rattle.abstraction_table.proofs.LeadingPairs.{successors_are}
 use Rattle.abstraction_table.proofs.SourceSteps.{box_cells}
-
--- axes have a cell
-some_cells : (axes : List Axis) → All IsAxis axes → 1 ≤ cells_of axes
-some_cells [] each = omega arith
-some_cells (a ∷ axes) each =
-    let some : 0 < a.count = omega (arith, (All-head IsAxis a axes each).some_cell) in
-    mul-pos some (some_cells axes (All-tail IsAxis a axes each))
-
--- inputs have a vector
-pub some_vectors : (inputs : List InputVariable) → All IsInputVariable inputs → 1 ≤ vectors_of inputs
-some_vectors [] each = omega arith
-some_vectors (i ∷ inputs) each =
-    let some : 0 < length i.values = omega (arith, (All-head IsInputVariable i inputs each).some_value) in
-    mul-pos some (some_vectors inputs (All-tail IsInputVariable i inputs each))
 
 -- What the layers below say: of every plant, of every box of cells, of every pair's box.
 pub record Laws : Type 0 where
@@ -55,10 +37,8 @@ module _ (p : Description) (limits : IsWithinLimits p) (boxes : List (Option Cel
   box_of : (pair : ℕ) → pair < length boxes → IsBoxOf p (pair / vectors_of p.inputs) (pair % vectors_of p.inputs) (box_at boxes pair)
   box_of pair below =
       let vectors = vectors_of p.inputs in
-      let some : 0 < vectors = some_vectors p.inputs limits.plant.inputs in
-      let within : pair < cells_of (axes_of p) * vectors = omega (arith, below, boxes_of.one_each) in
-      subst (λ (k : ℕ). IsBoxOf p (pair / vectors) (pair % vectors) (box_at boxes k)) (div-add-mod' pair vectors)
-      (boxes_of.each (pair / vectors) (pair % vectors) (div_below pair vectors (cells_of (axes_of p)) some within) (mod_below pair vectors some))
+      let parts = pair_split pair (cells_of (axes_of p)) vectors (omega (arith, below, boxes_of.one_each)) in
+      subst (λ (k : ℕ). IsBoxOf p (pair / vectors) (pair % vectors) (box_at boxes k)) parts.2 (boxes_of.each (pair / vectors) (pair % vectors) parts.0 parts.1)
 
   -- the corners of each box are in order
   pub ordered : All (IsBox (axes_of p)) boxes
@@ -108,13 +88,13 @@ module _ (p : Description) (limits : IsWithinLimits p) (boxes : List (Option Cel
         successors = lists_are;
       }
 
-      module _ (few : edges_of (axes_of p) boxes ≤ 2 ^ 25) where
+      module _ (some_cell : 1 ≤ cells_of (axes_of p)) (some_input : 1 ≤ vectors_of p.inputs) (few : edges_of (axes_of p) boxes ≤ 2 ^ 25) where
         is_graph : IsGraph game
         is_graph = record {
           game = is_game;
-          some_cell = some_cells (axes_of p) axes.each;
+          some_cell = some_cell;
           cells_bound = limits.cells;
-          some_input = some_vectors p.inputs limits.plant.inputs;
+          some_input = some_input;
           inputs_bound = limits.vectors;
           pairs_bound = limits.pairs;
           edges_bound = omega (arith, total, few);

@@ -1,21 +1,13 @@
 -- Tables of the sides of all boxes.
-use Rattle.std.proofs.Common.{◌≡◌, ℕ, ◌+◌, ◌*◌, ◌/◌, ◌%◌, ◌<◌, ◌≤◌, ◌-◌, List, [], ◌∷◌, ◌++◌, Option, None, length, get_or, sym, ap, subst, subst₂, ◌∙◌, arith, inl, inr}
+use Rattle.std.proofs.Common.{◌≡◌, ℕ, ◌+◌, ◌*◌, ◌/◌, ◌%◌, ◌<◌, ◌-◌, List, [], ◌∷◌, ◌++◌, None, length, get_or, sym, ap, subst, subst₂, ◌∙◌, arith, inl, inr}
 use Rattle.std.proofs.lemmas.Bool.{cases_lt}
 use Rattle.std.proofs.lemmas.List.{get_or_append_left, get_or-append_right}
 use Rattle.std.proofs.lemmas.Nat.{mod_below, div-mul-add, mod-mul-add, mul-add-lt}
 use Rattle.std.proofs.Math.Nat.{mul_comm}
-use Rattle.grid_quantiser.specs.declared.sides.Side.{Side}
-use Rattle.plant_text.specs.plant.Description.{Description, vectors_of}
+use Rattle.plant_text.specs.plant.Description.{Description}
 use Rattle.successor_box.specs.Sides.{IsSideAt, RestsOn}
 use Rattle.abstraction_table.specs.declared.sides.SideTable.{SideTable}
 use Rattle.abstraction_table.specs.inside.Sides.{place_of, HoldsSidesAlong}
-
--- there is an input, and no more than all
-pub some_input : (p : Description) (i cells inputs : ℕ) → RestsOn p i cells inputs → 1 ≤ vectors_of p.inputs → 1 ≤ inputs
-some_input p i cells inputs rests some = elim rests.one_or_all [ inl one ↦ omega (arith, one) | inr all ↦ omega (arith, all, some) ]
-
-pub few_inputs : (p : Description) (i cells inputs : ℕ) → RestsOn p i cells inputs → 1 ≤ vectors_of p.inputs → inputs ≤ vectors_of p.inputs
-few_inputs p i cells inputs rests some = elim rests.one_or_all [ inl one ↦ omega (arith, one, some) | inr all ↦ omega (arith, all) ]
 
 -- one table more
 pub tables_more : (p : Description) (tables : List SideTable) (n : ℕ) (t : SideTable) → length tables ≡ n → ((i : ℕ) (d : SideTable) → i < n → HoldsSidesAlong p i (get_or tables i d)) → HoldsSidesAlong p n t → (i : ℕ) (d : SideTable) → i < n + 1 → HoldsSidesAlong p i (get_or (tables ++ t ∷ []) i d)
@@ -30,18 +22,15 @@ tables_more p tables n t long each here i d lt =
     ]
 
 -- what was found for each place is a table of all sides
-pub table_of : (p : Description) (i : ℕ) (t : SideTable) → 1 ≤ vectors_of p.inputs → RestsOn p i t.cells t.inputs → length t.sides.items ≡ t.cells * t.inputs →
+pub table_of : (p : Description) (i : ℕ) (t : SideTable) → RestsOn p i t.cells t.inputs → length t.sides.items ≡ t.cells * t.inputs →
     ((place : ℕ) → place < t.cells * t.inputs → IsSideAt p (place / t.inputs) (place % t.inputs) i (get_or t.sides.items place None)) → HoldsSidesAlong p i t
-table_of p i t some rests long each = record {
-  place = λ c u cell input. record { some_cell = rests.some_cell; some_input = positive; within = omega (arith, below c u, long) };
+table_of p i t rests long each = record {
+  place = λ c u cell input. record { some_cell = rests.some_cell; some_input = rests.some_input; within = omega (arith, below c u, long) };
   side = λ c u cell input.
-      let last : u % t.inputs < t.inputs = mod_below u t.inputs positive in
+      let last : u % t.inputs < t.inputs = mod_below u t.inputs rests.some_input in
       rests.same c u (get_or t.sides.items (place_of t c u) None) cell input
       (subst₂ (λ (a b : ℕ). IsSideAt p a b i (get_or t.sides.items (place_of t c u) None)) (div-mul-add (c % t.cells) t.inputs (u % t.inputs) last) (mod-mul-add (c % t.cells) t.inputs (u % t.inputs) last) (each (place_of t c u) (below c u)));
 }
   where
-    positive : 0 < t.inputs
-    positive = some_input p i t.cells t.inputs rests some
-
     below : (c u : ℕ) → place_of t c u < t.cells * t.inputs
-    below c u = omega (arith, mul-add-lt (c % t.cells) t.inputs (u % t.inputs) t.cells (mod_below c t.cells rests.some_cell) (mod_below u t.inputs positive), mul_comm t.inputs t.cells)
+    below c u = omega (arith, mul-add-lt (c % t.cells) t.inputs (u % t.inputs) t.cells (mod_below c t.cells rests.some_cell) (mod_below u t.inputs rests.some_input), mul_comm t.inputs t.cells)

@@ -11,7 +11,7 @@ use crate::edges::count_edges;
 use crate::fault::BuildFault;
 use crate::marks::find_marks;
 use crate::sources::find_sources;
-use grid_quantiser::laws::cells_of_a_box;
+use grid_quantiser::laws::{cells_of_a_box, every_grid_is_within_the_limit};
 use plant_text::Plant;
 use plant_text::laws::{every_plant_is_within_limits, plants_are_sound};
 use std::alloc::Global;
@@ -41,6 +41,7 @@ pub fn build<R: Threads + Sync>(
     cells_of_a_box();
     boxes_hold_the_successors();
     let grid = *p.grid();
+    every_grid_is_within_the_limit(&grid);
     let boxes = find_boxes(rt, alloc, p, s)?;
     let edges = count_edges(rt, &grid, &boxes);
     if edges > EDGES_LIMIT {

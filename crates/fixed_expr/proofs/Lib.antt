@@ -1,1 +1,2 @@
+pub mod Narrowness
 pub mod Values

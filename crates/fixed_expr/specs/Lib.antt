@@ -2,5 +2,5 @@ pub mod Range
 pub mod Quotient
 pub mod Expression
 pub mod Value
-pub mod Tokens
 pub mod Mentions
+pub mod inside

@@ -8,6 +8,7 @@ use crate::wide::eval_wide;
 
 /// The value of an expression at these values of its variables: None where the value of some node
 /// leaves the range. It takes no memory but a frame of the stack for each level of the expression.
+#[tactic(auto, using(crate::proofs::Narrowness::narrow_stays))]
 pub fn eval(e: &Expr, values: &[i128]) -> Option<i128>
     requires { IsWellFormed (expression_of e.now) (length values.now) }
     ensures { SomeIff result (StaysInRange (expression_of e.now) values.now) (value_of (expression_of e.now) values.now) }

@@ -1,16 +1,16 @@
 // Values in 64 bits, which most plants never leave: several times faster than in 128.
 
-ghost use Rattle.std.specs.Prelude.{◌≡◌, length, IfSome};
+ghost use Rattle.std.specs.Prelude.{length, SomeIff};
 ghost use Rattle.fixed_expr.specs.Expression.{expression_of};
-ghost use Rattle.fixed_expr.specs.Value.{IsWellFormed, StaysInRange, value_of};
+ghost use Rattle.fixed_expr.specs.Value.{IsWellFormed, value_of};
+ghost use Rattle.fixed_expr.specs.inside.Narrow.{IsNarrow, StaysNarrow};
 
 use crate::expr::Expr;
 
-/// The value of an expression, unless the value of some node leaves 64 bits.
+/// The value of an expression: None where the value of some node, or a divisor, leaves 64 bits.
 pub(crate) fn eval_narrow(e: &Expr, values: &[i128]) -> Option<i64>
     requires { IsWellFormed (expression_of e.now) (length values.now) }
-    ensures range { IfSome result (λ _. StaysInRange (expression_of e.now) values.now) }
-    ensures value { IfSome result (λ z. z ≡ value_of (expression_of e.now) values.now) }
+    ensures { SomeIff result (StaysNarrow (expression_of e.now) values.now) (value_of (expression_of e.now) values.now) }
 {
     match e {
         Expr::Num(k) => narrow(*k),
@@ -26,9 +26,9 @@ pub(crate) fn eval_narrow(e: &Expr, values: &[i128]) -> Option<i64>
     }
 }
 
-/// A number, where it fits 64 bits.
+/// The number itself: None where it leaves 64 bits.
 fn narrow(z: i128) -> Option<i64>
-    ensures { IfSome result (λ y. y ≡ z) }
+    ensures { SomeIff result (IsNarrow z) z }
 {
     i64::try_from(z).ok()
 }

@@ -8,7 +8,7 @@ use Rattle.std.proofs.lemmas.Nat.{div-add-mod', div-mul-add, mod_below, div_belo
 use Rattle.grid_quantiser.specs.declared.axis.Axis.{Axis}
 use Rattle.grid_quantiser.specs.Axes.{IsAxis, end_of}
 use Rattle.grid_quantiser.specs.declared.axis.Spot.TheVariants.{Least, Greatest}
-use Rattle.grid_quantiser.specs.Spots.{number_of}
+use Rattle.grid_quantiser.specs.inside.Spots.{number_of}
 use Rattle.grid_quantiser.specs.Cells.{place_of}
 
 -- a width is a natural number

@@ -1,18 +1,16 @@
 -- The cells of a box in runs of one length.
-use Rattle.std.proofs.Common.{◌≡◌, ℕ, zero, suc, ◌+◌, ◌-◌, ◌*◌, ◌/◌, ◌%◌, ◌<◌, ◌≤◌, arith, ap, refl, sym, ◌∙◌, List, [], ◌∷◌, ◌++◌, length, map, get_or, inl, inr}
+use Rattle.std.proofs.Common.{◌≡◌, ℕ, zero, suc, ◌+◌, ◌-◌, ◌*◌, ◌/◌, ◌%◌, ◌<◌, ◌≤◌, arith, ap, refl, sym, ◌∙◌, List, [], ◌∷◌, ◌++◌, length, map, get_or}
 use Rattle.std.specs.List.{All, range_with_len}
-use Rattle.std.proofs.lemmas.Bool.{cases_lt}
-use Rattle.std.proofs.lemmas.List.{length-append, map-append, get_or-append_right, get_or_default, append-nil}
+use Rattle.std.proofs.lemmas.List.{map-append, get_or_default, append-nil}
 use Rattle.std.proofs.lemmas.List.Concat.{flat_map-append}
 use Rattle.std.proofs.lemmas.List.Elements.{All-head, All-tail}
-use Rattle.std.proofs.lemmas.Nat.{div-add-mod', div-mul-add, mod-mul-add, mod_below}
-use Rattle.std.proofs.Math.Nat.{add-mul, mul_comm, div-one, mod-eq_of_lt, mul-le-mul_right}
+use Rattle.std.proofs.lemmas.Nat.{div-add-mod', mod_below}
+use Rattle.std.proofs.Math.Nat.{add-mul, mul_comm, div-one, mod-eq_of_lt}
 use Rattle.grid_quantiser.specs.declared.axis.Axis.{Axis}
 use Rattle.grid_quantiser.specs.Axes.{IsAxis, no_axis, cells_of}
 use Rattle.grid_quantiser.specs.Boxes.{IsCellBox, cells_between}
-use Rattle.grid_quantiser.specs.RunFields.{runs_from}
-use Rattle.grid_quantiser.proofs.Quotients.{mod-mod}
-use Rattle.grid_quantiser.proofs.Blocks.{blocks}
+use Rattle.grid_quantiser.specs.inside.RunFields.{runs_from}
+use Rattle.grid_quantiser.proofs.General.{mod-mod, all_right, difference_parts, quotients_ordered, blocks}
 use Rattle.grid_quantiser.proofs.BoxCells.{between_below}
 use Rattle.grid_quantiser.proofs.Suffixes.{some_cells}
 
@@ -66,12 +64,6 @@ in_runs (a ∷ b ∷ axes) f l some =
 
 -- ---- the starts are cells
 
-all_right : (P : ℕ → Type 0) (xs ys : List ℕ) → All P (xs ++ ys) → All P ys
-all_right P xs ys all = λ k d lt.
-    let past : length xs ≤ length xs + k = omega arith in
-    let here : get_or (xs ++ ys) (length xs + k) d ≡ get_or ys k d = get_or-append_right xs ys (length xs) (length xs + k) d refl past ∙ ap (λ (i : ℕ). get_or ys i d) (let e : length xs + k - length xs ≡ k = omega arith in e) in
-    rw here at (all (length xs + k) d (omega (arith, lt, length-append xs ys)))
-
 starts_within : (P : ℕ → Type 0) (m : ℕ) (starts : List ℕ) → All P (runs_from (suc m) starts) → All P starts
 starts_within P m [] all = λ k d lt. absurd (omega (arith, lt))
 starts_within P m (s ∷ starts) all = both (starts_within P m starts (all_right P (range_with_len s (suc m)) (runs_from (suc m) starts) all))
@@ -115,26 +107,6 @@ side_along (a ∷ []) f l each some box =
 side_along (a ∷ b ∷ axes) f l each some box =
     let later : All IsAxis (b ∷ axes) = All-tail IsAxis a (b ∷ axes) each in
     rw (last_place b axes f later, last_place b axes l later) at (side_along (b ∷ axes) (f % cells_of (b ∷ axes)) (l % cells_of (b ∷ axes)) later (omega arith) box.2)
-
--- ---- differences
-
-pub quotients_ordered : (f l n : ℕ) → 0 < n → f ≤ l → f / n ≤ l / n
-quotients_ordered f l n some order =
-    elim (cases_lt (l / n) (f / n)) [
-      | inl less ↦
-          let row : (l / n + 1) * n ≤ f / n * n = mul-le-mul_right n (omega arith) in
-          absurd (omega (arith, row, add-mul (l / n) 1 n, div-add-mod' l n, div-add-mod' f n, mod_below l n some, order))
-      | inr fine ↦ fine
-    ]
-
--- the place and the rest of a difference are the differences of the places and of the rests
-pub difference_parts : (f l n : ℕ) → 0 < n → f / n ≤ l / n → f % n ≤ l % n → ((l - f) / n ≡ l / n - f / n) × ((l - f) % n ≡ l % n - f % n)
-difference_parts f l n some places rests =
-    let short : l % n - f % n < n = omega (arith, mod_below l n some) in
-    let split : l / n ≡ f / n + (l / n - f / n) = omega (arith, places) in
-    let product : l / n * n ≡ f / n * n + (l / n - f / n) * n = ap (λ (k : ℕ). k * n) split ∙ add-mul (f / n) (l / n - f / n) n in
-    let whole : l - f ≡ (l / n - f / n) * n + (l % n - f % n) = omega (arith, div-add-mod' l n, div-add-mod' f n, product, rests) in
-    (ap (λ (k : ℕ). k / n) whole ∙ div-mul-add (l / n - f / n) n (l % n - f % n) short, ap (λ (k : ℕ). k % n) whole ∙ mod-mul-add (l / n - f / n) n (l % n - f % n) short)
 
 -- the first corner is at most the last
 pub box_ordered : (axes : List Axis) (f l : ℕ) → All IsAxis axes → f < cells_of axes → l < cells_of axes → IsCellBox axes f l → f ≤ l

@@ -8,7 +8,7 @@ use Rattle.std.proofs.lemmas.List.Elements.{All-tail, All-drop}
 use Rattle.grid_quantiser.specs.declared.axis.Axis.{Axis}
 use Rattle.grid_quantiser.specs.Axes.{IsAxis, cells_of}
 use Rattle.grid_quantiser.specs.Cells.{centre_of}
-use Rattle.grid_quantiser.proofs.Quotients.{mod-mod}
+use Rattle.grid_quantiser.proofs.General.{mod-mod}
 use Rattle.grid_quantiser.proofs.Suffixes.{some_cells, cells_of-drop}
 
 -- what is left of a cell in the later states is so after one state more

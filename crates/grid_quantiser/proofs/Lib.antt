@@ -1,12 +1,12 @@
-pub mod Quotients
+pub mod General
 pub mod Suffixes
 pub mod AxisNumbers
 pub mod SixAxes
 pub mod PointSteps
 pub mod Domain
 pub mod AtMost
+pub mod DomainBox
 pub mod CellPoints
-pub mod Blocks
 pub mod BoxCells
 pub mod BetweenCells
 pub mod MeetingCells

@@ -9,7 +9,7 @@ use Rattle.grid_quantiser.specs.declared.axis.Spot.{Spot}
 use Rattle.grid_quantiser.specs.declared.axis.Spot.TheVariants.{Least, Centre, Greatest}
 use Rattle.grid_quantiser.specs.Axes.{IsAxis, cells_of}
 use Rattle.grid_quantiser.specs.Cells.{point_of, low_of, centre_of, high_of}
-use Rattle.grid_quantiser.specs.Spots.{number_of, numbers_of}
+use Rattle.grid_quantiser.specs.inside.Spots.{number_of, numbers_of}
 use Rattle.grid_quantiser.proofs.Suffixes.{next_axis, drop_step, place_step, later_step}
 
 -- a write over the last of the zeros

@@ -5,7 +5,7 @@ use Rattle.std.proofs.lemmas.List.{take_at}
 use Rattle.std.proofs.lemmas.List.Elements.{All-head, All-tail}
 use Rattle.grid_quantiser.specs.declared.runs.Wheel.{Wheel}
 use Rattle.grid_quantiser.specs.Runs.{BeginsWithRun}
-use Rattle.grid_quantiser.specs.RunFields.{starts_left, starts_after, runs_from, next_start, turned, AreRuns}
+use Rattle.grid_quantiser.specs.inside.RunFields.{starts_left, starts_after, runs_from, next_start, turned, AreRuns}
 use Rattle.grid_quantiser.proofs.Turning.{starts_head, turn_once, made_once}
 
 -- what holds of all starts that are left holds of the next one

@@ -10,7 +10,7 @@ use Rattle.grid_quantiser.specs.declared.axis.Axis.{Axis}
 use Rattle.grid_quantiser.specs.declared.sides.Side.{Side}
 use Rattle.grid_quantiser.specs.Axes.{IsAxis, cells_of, no_axis}
 use Rattle.grid_quantiser.specs.Cells.{IsInDomain, place_of, cell_of}
-use Rattle.grid_quantiser.specs.Boxes.{IsAtMost, IsBoxInDomain}
+use Rattle.grid_quantiser.specs.Boxes.{IsBoxInDomain}
 use Rattle.grid_quantiser.specs.Sides.{IsOnAxis, IsSideOf, AreSidesOf}
 use Rattle.grid_quantiser.proofs.Suffixes.{some_cells}
 
@@ -50,11 +50,11 @@ last_below_one a low high (Some s) axis is = is.on_axis.1
 module _ (axes : List Axis) (lo hi : List ℤ) (sides : List (Option Side)) (each : All IsAxis axes) (are : AreSidesOf axes lo hi sides) where
   pub firsts_below : AreBelow first_of axes sides
   firsts_below i lt =
-      first_below_one (slice_index_or axes i no_axis) (slice_index_or lo i (pos 0)) (slice_index_or hi i (pos 0)) (slice_index_or sides i None) (All-get_or IsAxis axes i no_axis lt each) (are i lt)
+      first_below_one (slice_index_or axes i no_axis) (slice_index_or lo i (pos 0)) (slice_index_or hi i (pos 0)) (slice_index_or sides i None) (All-get_or IsAxis axes i no_axis lt each) (are.each i lt)
 
   pub lasts_below : AreBelow last_of axes sides
   lasts_below i lt =
-      last_below_one (slice_index_or axes i no_axis) (slice_index_or lo i (pos 0)) (slice_index_or hi i (pos 0)) (slice_index_or sides i None) (All-get_or IsAxis axes i no_axis lt each) (are i lt)
+      last_below_one (slice_index_or axes i no_axis) (slice_index_or lo i (pos 0)) (slice_index_or hi i (pos 0)) (slice_index_or sides i None) (All-get_or IsAxis axes i no_axis lt each) (are.each i lt)
 
 cell_with_below : (place : Option Side → ℕ) (axes : List Axis) (sides : List (Option Side)) → All IsAxis axes → AreBelow place axes sides → cell_with place axes sides < cells_of axes
 cell_with_below place [] sides each below = omega arith
@@ -124,17 +124,21 @@ on_axis_at (a ∷ axes) (x ∷ xs) (suc i) lt inside = on_axis_at axes xs i (ome
 
 -- a box in the domain has all its sides
 pub some_at : (axes : List Axis) (lo hi : List ℤ) (sides : List (Option Side)) (i : ℕ) → i < length axes → AreSidesOf axes lo hi sides → IsBoxInDomain axes lo hi → IsSome (slice_index_or sides i None)
-some_at axes lo hi sides i lt are inside = (are i lt).inside.1 (on_axis_at axes lo i lt inside.0, on_axis_at axes hi i lt inside.1)
+some_at axes lo hi sides i lt are inside = (are.each i lt).inside.1 (on_axis_at axes lo i lt inside.0, on_axis_at axes hi i lt inside.1)
+
+-- the sides along the later axes
+later_sides : (a : Axis) (axes : List Axis) (x y : ℤ) (lo hi : List ℤ) (s : Option Side) (sides : List (Option Side)) → AreSidesOf (a ∷ axes) (x ∷ lo) (y ∷ hi) (s ∷ sides) → AreSidesOf axes lo hi sides
+later_sides a axes x y lo hi s sides are = record { ordered = are.ordered.1; each = λ i lt. are.each (suc i) (omega (arith, lt)) }
 
 -- the box with all its sides lies in the domain
-pub inside_from_sides : (axes : List Axis) (lo hi : List ℤ) (sides : List (Option Side)) → IsAtMost axes lo hi → AreSidesOf axes lo hi sides → AreSome (length axes) sides → IsBoxInDomain axes lo hi
-inside_from_sides [] lo hi sides ordered are some = (tt, tt)
-inside_from_sides (a ∷ axes) [] hi sides ordered are some = absurd ordered
-inside_from_sides (a ∷ axes) (x ∷ lo) [] sides ordered are some = absurd ordered
-inside_from_sides (a ∷ axes) (x ∷ lo) (y ∷ hi) [] ordered are some = absurd (false≢true (some 0 (omega arith)))
-inside_from_sides (a ∷ axes) (x ∷ lo) (y ∷ hi) (s ∷ sides) ordered are some =
-    let here = (are 0 (omega arith)).inside.0 (some 0 (omega arith)) in
-    let later = inside_from_sides axes lo hi sides ordered.1 (λ i lt. are (suc i) (omega (arith, lt))) (λ i lt. some (suc i) (omega (arith, lt))) in
+pub inside_from_sides : (axes : List Axis) (lo hi : List ℤ) (sides : List (Option Side)) → AreSidesOf axes lo hi sides → AreSome (length axes) sides → IsBoxInDomain axes lo hi
+inside_from_sides [] lo hi sides are some = (tt, tt)
+inside_from_sides (a ∷ axes) [] hi sides are some = absurd are.ordered
+inside_from_sides (a ∷ axes) (x ∷ lo) [] sides are some = absurd are.ordered
+inside_from_sides (a ∷ axes) (x ∷ lo) (y ∷ hi) [] are some = absurd (false≢true (some 0 (omega arith)))
+inside_from_sides (a ∷ axes) (x ∷ lo) (y ∷ hi) (s ∷ sides) are some =
+    let here = (are.each 0 (omega arith)).inside.0 (some 0 (omega arith)) in
+    let later = inside_from_sides axes lo hi sides (later_sides a axes x y lo hi s sides are) (λ i lt. some (suc i) (omega (arith, lt))) in
     ((here.0.0, here.0.1, later.0), (here.1.0, here.1.1, later.1))
 
 first_place_is : (a : Axis) (x y : ℤ) (side : Option Side) → IsSideOf a x y side → IsSome side → first_of side ≡ place_of a x
@@ -146,14 +150,14 @@ last_place_is a x y None is some = absurd (false≢true some)
 last_place_is a x y (Some s) is some = is.places.1
 
 -- the cells of its ends
-pub cells_from_sides : (axes : List Axis) (lo hi : List ℤ) (sides : List (Option Side)) → IsAtMost axes lo hi → AreSidesOf axes lo hi sides → AreSome (length axes) sides →
+pub cells_from_sides : (axes : List Axis) (lo hi : List ℤ) (sides : List (Option Side)) → AreSidesOf axes lo hi sides → AreSome (length axes) sides →
     (cell_with first_of axes sides ≡ cell_of axes lo) × (cell_with last_of axes sides ≡ cell_of axes hi)
-cells_from_sides [] lo hi sides ordered are some = (refl, refl)
-cells_from_sides (a ∷ axes) [] hi sides ordered are some = absurd ordered
-cells_from_sides (a ∷ axes) (x ∷ lo) [] sides ordered are some = absurd ordered
-cells_from_sides (a ∷ axes) (x ∷ lo) (y ∷ hi) [] ordered are some = absurd (false≢true (some 0 (omega arith)))
-cells_from_sides (a ∷ axes) (x ∷ lo) (y ∷ hi) (s ∷ sides) ordered are some =
-    let is : IsSideOf a x y s = are 0 (omega arith) in
+cells_from_sides [] lo hi sides are some = (refl, refl)
+cells_from_sides (a ∷ axes) [] hi sides are some = absurd are.ordered
+cells_from_sides (a ∷ axes) (x ∷ lo) [] sides are some = absurd are.ordered
+cells_from_sides (a ∷ axes) (x ∷ lo) (y ∷ hi) [] are some = absurd (false≢true (some 0 (omega arith)))
+cells_from_sides (a ∷ axes) (x ∷ lo) (y ∷ hi) (s ∷ sides) are some =
+    let is : IsSideOf a x y s = are.each 0 (omega arith) in
     let there : IsSome s = some 0 (omega arith) in
-    let later = cells_from_sides axes lo hi sides ordered.1 (λ i lt. are (suc i) (omega (arith, lt))) (λ i lt. some (suc i) (omega (arith, lt))) in
+    let later = cells_from_sides axes lo hi sides (later_sides a axes x y lo hi s sides are) (λ i lt. some (suc i) (omega (arith, lt))) in
     (rw (first_place_is a x y s is there, later.0) refl, rw (last_place_is a x y s is there, later.1) refl)

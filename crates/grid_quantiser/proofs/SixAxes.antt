@@ -3,12 +3,12 @@ use Rattle.std.proofs.Common.{◌≡◌, ℕ, ◌≤◌, ◌^◌, ap, sym, subst
 use Rattle.std.proofs.lemmas.List.{take_at, drop-replicate}
 use Rattle.grid_quantiser.specs.declared.axis.Axis.{Axis}
 use Rattle.grid_quantiser.specs.Axes.{no_axis, cells_of, AreAxes}
-use Rattle.grid_quantiser.specs.Grid.{six_of, IsKept}
+use Rattle.grid_quantiser.specs.inside.Storage.{six_of, IsStored}
 
 -- axes that are written over the first of six empty places are kept there
-pub IsKept-from_axes : (axes : List Axis) (cells : ℕ) → AreAxes axes → cells ≡ cells_of axes → cells ≤ 2 ^ 20 →
-    IsKept (axes ++ drop (length axes) (replicate 6 no_axis)) (length axes) cells
-IsKept-from_axes axes cells grid is limit =
+pub IsStored-from_axes : (axes : List Axis) (cells : ℕ) → AreAxes axes → cells ≡ cells_of axes → cells ≤ 2 ^ 20 →
+    IsStored (axes ++ drop (length axes) (replicate 6 no_axis)) (length axes) cells
+IsStored-from_axes axes cells grid is limit =
     let rest : List Axis = drop (length axes) (replicate 6 no_axis) in
     let front : take (length axes) (axes ++ rest) ≡ axes = take_at axes rest (length axes) refl in
     record {

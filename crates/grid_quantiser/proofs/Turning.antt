@@ -4,16 +4,12 @@ use Rattle.std.specs.Prelude.{IfSome}
 use Rattle.std.specs.List.{flat_map}
 use Rattle.std.proofs.lemmas.Bool.{false_from_ne_true}
 use Rattle.std.proofs.lemmas.Bool.Decides.{Decides-eqb}
-use Rattle.std.proofs.lemmas.List.{take-append-drop, take-set, drop-set, drop_more}
+use Rattle.std.proofs.lemmas.List.{drop_more}
 use Rattle.std.proofs.Math.Dec.{eqb-suc-zero}
 use Rattle.std.proofs.Math.Nat.{zero-mul, add-mul}
 use Rattle.grid_quantiser.specs.declared.runs.Wheel.{Wheel}
-use Rattle.grid_quantiser.specs.RunFields.{stepped, starts_left, starts_after, next_start, turned, AreWheels}
-
--- a list with another element, in its parts
-pub set_parts : (wheels : List Wheel) (i : ℕ) (w : Wheel) → i < length wheels → set wheels i w ≡ take i wheels ++ w ∷ drop (i + 1) wheels
-set_parts wheels i w lt =
-    sym (take-append-drop i (set wheels i w)) ∙ ap (λ (ws : List Wheel). ws ++ drop i (set wheels i w)) (take-set wheels i w) ∙ ap (λ (ws : List Wheel). take i wheels ++ ws) (drop-set wheels i w lt)
+use Rattle.grid_quantiser.specs.inside.RunFields.{stepped, starts_left, starts_after, next_start, turned, AreWheels}
+use Rattle.grid_quantiser.proofs.General.{set_parts}
 
 -- a wheel that makes a step ends the turn
 pub turned_here : (before wheels : List Wheel) (i : ℕ) (d : Wheel) → i < length wheels → 0 < (get_or wheels i d).left → before ≡ take i wheels ++ turned (drop i wheels) →

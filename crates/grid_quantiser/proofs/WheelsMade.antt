@@ -2,7 +2,6 @@
 use Rattle.std.proofs.Common.{◌≡◌, ℕ, zero, suc, ◌+◌, ◌-◌, ◌*◌, ◌/◌, ◌%◌, ◌^◌, ◌<◌, ◌≤◌, arith, ap, refl, sym, subst, ◌∙◌, List, [], ◌∷◌, ◌++◌, length, map, take, drop, get_or, set, Some}
 use Rattle.std.specs.List.{All, flat_map}
 use Rattle.std.proofs.lemmas.List.{append-nil, map-append, take_more_set, drop_more}
-use Rattle.std.proofs.lemmas.List.Concat.{flat_map-append}
 use Rattle.std.proofs.lemmas.List.Elements.{All-head, All-tail, All-append, All-drop, All-weaker}
 use Rattle.std.proofs.lemmas.Nat.{div-add-mod', mod_below}
 use Rattle.std.proofs.Math.Nat.{add-mul, zero-mul, mod-eq_of_lt, le-mul_of_pos_right}
@@ -11,10 +10,10 @@ use Rattle.grid_quantiser.specs.declared.axis.Axis.{Axis}
 use Rattle.grid_quantiser.specs.declared.runs.Wheel.{Wheel}
 use Rattle.grid_quantiser.specs.Axes.{IsAxis, AreAxes, no_axis, cells_of}
 use Rattle.grid_quantiser.specs.Boxes.{IsCellBox, cells_between}
-use Rattle.grid_quantiser.specs.RunFields.{stepped, whole_turn, starts_left, runs_from, AreWheels, AreRuns}
-use Rattle.grid_quantiser.proofs.Blocks.{blocks}
+use Rattle.grid_quantiser.specs.inside.RunFields.{stepped, whole_turn, starts_left, runs_from, AreWheels, AreRuns}
+use Rattle.grid_quantiser.proofs.General.{blocks, turns_of_turns, one_each, difference_parts, quotients_ordered}
 use Rattle.grid_quantiser.proofs.BoxCells.{corners_below, box_whole, IsCellBox-drop, box_next, places_ordered}
-use Rattle.grid_quantiser.proofs.BoxRuns.{side_of, starts_of, in_runs, starts_below, difference_parts, quotients_ordered, box_ordered}
+use Rattle.grid_quantiser.proofs.BoxRuns.{side_of, starts_of, in_runs, starts_below, box_ordered}
 use Rattle.grid_quantiser.proofs.Suffixes.{next_axis, some_cells, some_later, cells_limit, drop_step, place_step, later_step}
 use Rattle.grid_quantiser.proofs.Turning.{starts_head}
 
@@ -68,14 +67,6 @@ shift_turns w k (s ∷ starts) =
 shift_starts : (wheels : List Wheel) (k start : ℕ) → full_starts wheels (k + start) ≡ map (λ c. k + c) (full_starts wheels start)
 shift_starts [] k start = refl
 shift_starts (w ∷ wheels) k start = ap (flat_map (whole_turn w)) (shift_starts wheels k start) ∙ shift_turns w k (full_starts wheels start)
-
-turns_of_turns : (f g : ℕ → List ℕ) (xs : List ℕ) → flat_map f (flat_map g xs) ≡ flat_map (λ x. flat_map f (g x)) xs
-turns_of_turns f g [] = refl
-turns_of_turns f g (x ∷ xs) = flat_map-append f (g x) (flat_map g xs) ∙ ap (λ (ys : List ℕ). flat_map f (g x) ++ ys) (turns_of_turns f g xs)
-
-one_each : (xs : List ℕ) → flat_map (λ x. x ∷ []) xs ≡ xs
-one_each [] = refl
-one_each (x ∷ xs) = ap (λ (ys : List ℕ). x ∷ ys) (one_each xs)
 
 outer_starts : (wheels : List Wheel) (w : Wheel) (start : ℕ) → full_starts (wheels ++ w ∷ []) start ≡ flat_map (full_starts wheels) (whole_turn w start)
 outer_starts [] w start = append-nil (whole_turn w start) ∙ sym (one_each (whole_turn w start))

@@ -1,5 +1,5 @@
 -- What holds of every grid's cells.
-use Rattle.std.specs.Prelude.{◌≡◌, ℕ, ◌%◌, ◌<◌, ◌≤◌, ◌↔◌, ℤ, pos, ◌+ℤ◌, ◌≤ℤ◌, List, [], ◌∷◌, drop, length, slice_index_or}
+use Rattle.std.specs.Prelude.{◌≡◌, ℕ, ◌-◌, ◌%◌, ◌<◌, ◌≤◌, ◌↔◌, ℤ, pos, ◌+ℤ◌, ◌≤ℤ◌, List, [], ◌∷◌, drop, length, slice_index_or}
 use Rattle.std.specs.List.{All}
 use Rattle.std.specs.List.Sorted.{IsStrictlyIncreasing}
 use Rattle.grid_quantiser.specs.declared.axis.Axis.{Axis}
@@ -8,22 +8,26 @@ use Rattle.grid_quantiser.specs.Cells.{IsInDomain, cell_of, IsPointOf, low_of, r
 use Rattle.grid_quantiser.specs.Boxes.{IsInBox, IsCellBox, cells_between}
 
 -- in each state the two are at most the radius of the axis apart
-abbrev pub AreNear : List Axis → List ℤ → List ℤ → Type 0
-AreNear [] xs ys = Unit {0}
-AreNear (a ∷ axes) [] ys = ⊥
-AreNear (a ∷ axes) (x ∷ xs) [] = ⊥
-AreNear (a ∷ axes) (x ∷ xs) (y ∷ ys) = (x ≤ℤ (y +ℤ radius_of a)) × (y ≤ℤ (x +ℤ radius_of a)) × AreNear axes xs ys
+abbrev pub AreStatesNear : List Axis → List ℤ → List ℤ → Type 0
+AreStatesNear [] xs ys = Unit {0}
+AreStatesNear (a ∷ axes) [] ys = ⊥
+AreStatesNear (a ∷ axes) (x ∷ xs) [] = ⊥
+AreStatesNear (a ∷ axes) (x ∷ xs) (y ∷ ys) = (x ≤ℤ (y +ℤ radius_of a)) × (y ≤ℤ (x +ℤ radius_of a)) × AreStatesNear axes xs ys
 
 -- the points of a cell are the box from its least point to its greatest
 abbrev pub CellsAreBoxes : Type 0
 CellsAreBoxes =
     (axes : List Axis) (c : ℕ) (xs : List ℤ) → AreAxes axes → c < cells_of axes → IsPointOf axes c xs ↔ IsInBox axes (low_of axes c) (high_of axes c) xs
 
+-- the domain is the box from the least point of the first cell to the greatest point of the last
+abbrev pub DomainIsBox : Type 0
+DomainIsBox = (axes : List Axis) (xs : List ℤ) → AreAxes axes → IsInDomain axes xs ↔ IsInBox axes (low_of axes 0) (high_of axes (cells_of axes - 1)) xs
+
 -- the centre of a cell is a point of it, and near to every point of it
 abbrev pub CentresAreNear : Type 0
 CentresAreNear =
     (axes : List Axis) (c : ℕ) → AreAxes axes → c < cells_of axes →
-    IsPointOf axes c (centre_of axes c) × ((xs : List ℤ) → IsPointOf axes c xs → AreNear axes (centre_of axes c) xs)
+    IsPointOf axes c (centre_of axes c) × ((xs : List ℤ) → IsPointOf axes c xs → AreStatesNear axes (centre_of axes c) xs)
 
 -- the centre in a state rests on the places in that state and the later ones alone: the cell may be counted
 -- among the cells of the states from k on

@@ -1,10 +1,7 @@
 pub mod Axes
 pub mod Cells
 pub mod Boxes
-pub mod Grid
-pub mod Kept
-pub mod Spots
 pub mod Runs
-pub mod RunFields
 pub mod Sides
 pub mod Laws
+pub mod inside

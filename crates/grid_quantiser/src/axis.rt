@@ -19,7 +19,7 @@ pub(crate) enum Spot {
 impl Axis {
     ghost use Rattle.grid_quantiser.specs.Axes.{IsAxis, end_of};
     ghost use Rattle.grid_quantiser.specs.Cells.{radius_of, place_of};
-    ghost use Rattle.grid_quantiser.specs.Spots.{number_of};
+    ghost use Rattle.grid_quantiser.specs.inside.Spots.{number_of};
 
     #[inline]
     pub(crate) fn radius(&self) -> i128

@@ -1,7 +1,7 @@
 ghost use Rattle.std.specs.Prelude.{◌≡◌, ◌^◌, ◌<◌, ◌≤◌, ◌↔◌, IsSome, IfSome};
 ghost use Rattle.grid_quantiser.specs.Axes.{cells_of, AreAxes};
 ghost use Rattle.grid_quantiser.specs.Cells.{IsInDomain, cell_of, low_of, centre_of, high_of, point_of};
-ghost use Rattle.grid_quantiser.specs.Spots.{numbers_of};
+ghost use Rattle.grid_quantiser.specs.inside.Spots.{numbers_of};
 
 use crate::axis::{Axis, Spot};
 use crate::grid::{Grid, Point};

@@ -26,18 +26,18 @@ impl Model for Grid {
     ghost use Rattle.std.specs.Prelude.{List, length, take};
     ghost use Rattle.grid_quantiser.specs.declared.axis.Axis.{Axis};
     ghost use Rattle.grid_quantiser.specs.Axes.{cells_of};
-    ghost use Rattle.grid_quantiser.specs.Grid.{six_of, IsKept};
-    ghost use Rattle.grid_quantiser.specs.Kept.{kept_back};
+    ghost use Rattle.grid_quantiser.specs.inside.Storage.{six_of, IsStored};
+    ghost use Rattle.grid_quantiser.specs.inside.Restored.{restored};
 
     ghost Value = { List Axis };
 
     ghost view = { λ g. take g.states g.axes };
 
-    ghost invariant = { λ g. IsKept g.axes g.states g.cells };
+    ghost invariant = { λ g. IsStored g.axes g.states g.cells };
 
     ghost inverse = { λ axes. record { axes = six_of axes; states = length axes; cells = cells_of axes } };
 
-    ghost inverse_ok = { λ g kept. kept_back g kept };
+    ghost inverse_ok = { λ g kept. restored g kept };
 }
 
 /// The most cells that a grid has.
@@ -76,10 +76,11 @@ impl Grid {
         self.states
     }
 
-    /// How many cells. The bound of every grid is learnt here.
+    /// How many cells. The bounds of every grid are learnt here.
     #[inline]
     pub fn cells(&self) -> u32
         ensures count { result ≡ cells_of self.now }
+        ensures some { 1 ≤ cells_of self.now }
         ensures limit { cells_of self.now ≤ 2 ^ 20 }
     {
         self.cells

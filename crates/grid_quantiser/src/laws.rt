@@ -2,7 +2,7 @@
 
 ghost use Rattle.std.specs.Prelude.{◌^◌, ◌≤◌};
 ghost use Rattle.grid_quantiser.specs.Axes.{cells_of, AreAxes};
-ghost use Rattle.grid_quantiser.specs.Laws.{CellsAreBoxes, CentresAreNear, StatesHaveCells, BoxesHaveCells, CellsLieBetweenCorners, CentresRestOnLaterPlaces};
+ghost use Rattle.grid_quantiser.specs.Laws.{CellsAreBoxes, DomainIsBox, CentresAreNear, StatesHaveCells, BoxesHaveCells, CellsLieBetweenCorners, CentresRestOnLaterPlaces};
 
 use crate::grid::Grid;
 
@@ -14,6 +14,11 @@ pub fn points_of_a_cell()
 /// The centre of a cell is a point of it, at most the radius from every other.
 pub fn centre_is_near()
     ensures { CentresAreNear }
+{}
+
+/// The domain reaches from the least point of the first cell to the greatest point of the last.
+pub fn domain_of_the_cells()
+    ensures { DomainIsBox }
 {}
 
 /// Each state in the domain has a cell.
@@ -36,9 +41,10 @@ pub fn centres_rest_on_later_places()
     ensures { CentresRestOnLaterPlaces }
 {}
 
-/// Every `Grid` has axes, and is within the limit on cells.
+/// Every `Grid` has axes and a cell, and is within the limit on cells.
 pub fn every_grid_is_within_the_limit(grid: &Grid)
     ensures axes { AreAxes grid.now }
+    ensures some { 1 ≤ cells_of grid.now }
     ensures limit { cells_of grid.now ≤ 2 ^ 20 }
 {
     let _axes = grid.axes();

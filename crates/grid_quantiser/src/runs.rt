@@ -1,7 +1,7 @@
 ghost use Rattle.std.specs.Prelude.{◌≡◌, ◌/◌, ◌%◌, ◌^◌, ◌<◌, [], IfSome, IfNone};
 ghost use Rattle.grid_quantiser.specs.Boxes.{IsCellBox, cells_between};
 ghost use Rattle.grid_quantiser.specs.Runs.{BeginsWithRun};
-ghost use Rattle.grid_quantiser.specs.RunFields.{AreWheels, next_start, turned};
+ghost use Rattle.grid_quantiser.specs.inside.RunFields.{AreWheels, next_start, turned};
 
 use crate::boxes::CellBox;
 use crate::grid::Grid;
@@ -36,7 +36,7 @@ pub struct Runs {
 
 impl Model for Runs {
     ghost use Rattle.std.specs.Prelude.{List, ℕ, take};
-    ghost use Rattle.grid_quantiser.specs.RunFields.{runs_from, starts_after, AreRuns};
+    ghost use Rattle.grid_quantiser.specs.inside.RunFields.{runs_from, starts_after, AreRuns};
 
     ghost Value = { List ℕ };
 
@@ -82,10 +82,11 @@ impl Grid {
 
 impl Runs {
     /// The next cells that follow one another: the first of them and how many they are. None where
-    /// all cells were given.
+    /// all cells were given, and at every later call.
     #[inline]
     pub fn next_run(&mut self) -> Option<(u32, u32)>
         ensures none { IfNone result (self.old ≡ []) }
+        ensures ended { IfNone result (self.new ≡ []) }
         ensures run { IfSome result (λ run. BeginsWithRun self.old self.new run.0 run.1) }
     {
         let first = self.next?;

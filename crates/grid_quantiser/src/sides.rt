@@ -1,6 +1,6 @@
 ghost use Rattle.std.specs.Prelude.{◌≡◌, ◌<◌, ◌≤◌, ◌↔◌, ℤ, List, drop, length, slice_index_or, IsSome, IfSome};
 ghost use Rattle.grid_quantiser.specs.Axes.{no_axis, cells_of};
-ghost use Rattle.grid_quantiser.specs.Boxes.{IsAtMost, IsBoxInDomain, AreCornersMeeting};
+ghost use Rattle.grid_quantiser.specs.Boxes.{IsBoxInDomain, AreCornersMeeting};
 ghost use Rattle.grid_quantiser.specs.Sides.{IsSideOf, AreSidesOf};
 
 use crate::boxes::CellBox;
@@ -27,12 +27,12 @@ impl Grid {
     }
 
     /// The box with these sides, one for each state: None where one is missing. It is the box that
-    /// `meeting` gives, without a division.
+    /// `meeting` gives between the ends of any box of states with these sides, without a division.
     #[inline]
     pub fn box_with(&self, sides: &[Option<Side>; 6]) -> Option<CellBox>
         requires { (lo : List ℤ) × (hi : List ℤ) × AreSidesOf self.now lo hi sides.now }
-        ensures inside { (lo hi : List ℤ) → IsAtMost self.now lo hi → AreSidesOf self.now lo hi sides.now → IsSome result ↔ IsBoxInDomain self.now lo hi }
-        ensures corners { (lo hi : List ℤ) → IsAtMost self.now lo hi → AreSidesOf self.now lo hi sides.now → IfSome result (λ b. AreCornersMeeting self.now lo hi b.first b.last) }
+        ensures inside { (lo hi : List ℤ) → AreSidesOf self.now lo hi sides.now → IsSome result ↔ IsBoxInDomain self.now lo hi }
+        ensures corners { (lo hi : List ℤ) → AreSidesOf self.now lo hi sides.now → IfSome result (λ b. AreCornersMeeting self.now lo hi b.first b.last) }
     {
         let axes = self.axes();
         let mut first: u64 = 0;

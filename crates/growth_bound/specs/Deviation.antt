@@ -1,7 +1,8 @@
 -- How far the value of an expression moves, where each variable moves by at most its radius: a growth
 -- bound as in Reissig, Weber and Rungger, 'Feedback refinement relations for the synthesis of symbolic
 -- controllers' (IEEE Transactions on Automatic Control, 2017), with every rounding.
-use Rattle.std.specs.Prelude.{ℕ, ◌+◌, ◌-◌, ◌*◌, ◌/◌, ◌^◌, ◌<◌, max, ℤ, pos, nat_abs, ◌+ℤ◌, ◌≤ℤ◌, List, [], ◌∷◌, slice_index_or}
+use Rattle.std.specs.Prelude.{ℕ, ◌+◌, ◌-◌, ◌*◌, ◌/◌, max, ℤ, pos, nat_abs, ◌+ℤ◌, ◌≤ℤ◌, List, [], ◌∷◌, slice_index_or}
+use Rattle.fixed_expr.specs.Range.{IsInRange}
 use Rattle.fixed_expr.specs.Expression.{Expression, Number, Variable, Negation, Sum, Difference, Product, Quotient, Minimum, Maximum, Absolute}
 use Rattle.interval_eval.specs.declared.interval.Interval.{Interval}
 use Rattle.interval_eval.specs.Span.{span_of}
@@ -37,19 +38,15 @@ deviation_of (Minimum a b) area radii = max (deviation_of a area radii) (deviati
 deviation_of (Maximum a b) area radii = max (deviation_of a area radii) (deviation_of b area radii)
 deviation_of (Absolute a) area radii = deviation_of a area radii
 
--- a deviation lies in the range
-abbrev pub Fits : ℕ → Type 0
-Fits d = d < 2 ^ 127
-
 -- the deviation of every node lies in the range
 abbrev pub DeviationStaysInRange : Expression → List Interval → List ℤ → Type 0
-DeviationStaysInRange (Number k) area radii = Fits (deviation_of (Number k) area radii)
-DeviationStaysInRange (Variable i) area radii = Fits (deviation_of (Variable i) area radii)
-DeviationStaysInRange (Negation a) area radii = DeviationStaysInRange a area radii × Fits (deviation_of (Negation a) area radii)
-DeviationStaysInRange (Sum a b) area radii = DeviationStaysInRange a area radii × DeviationStaysInRange b area radii × Fits (deviation_of (Sum a b) area radii)
-DeviationStaysInRange (Difference a b) area radii = DeviationStaysInRange a area radii × DeviationStaysInRange b area radii × Fits (deviation_of (Difference a b) area radii)
-DeviationStaysInRange (Product a b) area radii = DeviationStaysInRange a area radii × DeviationStaysInRange b area radii × Fits (deviation_of (Product a b) area radii)
-DeviationStaysInRange (Quotient a k) area radii = DeviationStaysInRange a area radii × Fits (deviation_of (Quotient a k) area radii)
-DeviationStaysInRange (Minimum a b) area radii = DeviationStaysInRange a area radii × DeviationStaysInRange b area radii × Fits (deviation_of (Minimum a b) area radii)
-DeviationStaysInRange (Maximum a b) area radii = DeviationStaysInRange a area radii × DeviationStaysInRange b area radii × Fits (deviation_of (Maximum a b) area radii)
-DeviationStaysInRange (Absolute a) area radii = DeviationStaysInRange a area radii × Fits (deviation_of (Absolute a) area radii)
+DeviationStaysInRange (Number k) area radii = IsInRange (pos (deviation_of (Number k) area radii))
+DeviationStaysInRange (Variable i) area radii = IsInRange (pos (deviation_of (Variable i) area radii))
+DeviationStaysInRange (Negation a) area radii = DeviationStaysInRange a area radii × IsInRange (pos (deviation_of (Negation a) area radii))
+DeviationStaysInRange (Sum a b) area radii = DeviationStaysInRange a area radii × DeviationStaysInRange b area radii × IsInRange (pos (deviation_of (Sum a b) area radii))
+DeviationStaysInRange (Difference a b) area radii = DeviationStaysInRange a area radii × DeviationStaysInRange b area radii × IsInRange (pos (deviation_of (Difference a b) area radii))
+DeviationStaysInRange (Product a b) area radii = DeviationStaysInRange a area radii × DeviationStaysInRange b area radii × IsInRange (pos (deviation_of (Product a b) area radii))
+DeviationStaysInRange (Quotient a k) area radii = DeviationStaysInRange a area radii × IsInRange (pos (deviation_of (Quotient a k) area radii))
+DeviationStaysInRange (Minimum a b) area radii = DeviationStaysInRange a area radii × DeviationStaysInRange b area radii × IsInRange (pos (deviation_of (Minimum a b) area radii))
+DeviationStaysInRange (Maximum a b) area radii = DeviationStaysInRange a area radii × DeviationStaysInRange b area radii × IsInRange (pos (deviation_of (Maximum a b) area radii))
+DeviationStaysInRange (Absolute a) area radii = DeviationStaysInRange a area radii × IsInRange (pos (deviation_of (Absolute a) area radii))

@@ -1,3 +1,3 @@
 pub mod Deviation
-pub mod Growth
 pub mod Laws
+pub mod inside

@@ -3,9 +3,9 @@ ghost use Rattle.fixed_expr.specs.Expression.{expression_of};
 ghost use Rattle.fixed_expr.specs.Value.{IsWellFormed, value_of};
 ghost use Rattle.interval_eval.specs.Span.{AreIn, SpanStaysInRange, span_of};
 ghost use Rattle.growth_bound.specs.Deviation.{IsNear, AreNear, DeviationStaysInRange, deviation_of};
-ghost use Rattle.growth_bound.specs.Growth.{growth_of};
+ghost use Rattle.growth_bound.specs.inside.Bounds.{bounds_of};
 
-use crate::growth::Growth;
+use crate::bounds::Bounds;
 use crate::laws::values_move_by_at_most_the_deviation;
 use fixed_expr::Expr;
 use interval_eval::Interval;
@@ -37,28 +37,28 @@ pub fn span_and_deviation(e: &Expr, area: &[Interval], radii: &[i128]) -> Option
         × DeviationStaysInRange (expression_of e.now) area.now radii.now)
         (span_of (expression_of e.now) area.now, pos (deviation_of (expression_of e.now) area.now radii.now)) }
 {
-    let found = growth(e, area, radii)?;
+    let found = bounds(e, area, radii)?;
     Some((found.span, found.deviation as i128))
 }
 
-fn growth(e: &Expr, area: &[Interval], radii: &[i128]) -> Option<Growth>
+fn bounds(e: &Expr, area: &[Interval], radii: &[i128]) -> Option<Bounds>
     requires well_formed { IsWellFormed (expression_of e.now) (length area.now) }
     requires one_for_each { length radii.now ≡ length area.now }
     ensures { SomeIff result
         (SpanStaysInRange (expression_of e.now) area.now
         × DeviationStaysInRange (expression_of e.now) area.now radii.now)
-        (growth_of (expression_of e.now) area.now radii.now) }
+        (bounds_of (expression_of e.now) area.now radii.now) }
 {
     match e {
-        Expr::Num(k) => Growth::number(*k),
-        Expr::Var(i) => Growth::variable(area[*i as usize], radii[*i as usize]),
-        Expr::Neg(a) => growth(a, area, radii)?.negation(),
-        Expr::Add(a, b) => growth(a, area, radii)?.sum(growth(b, area, radii)?),
-        Expr::Sub(a, b) => growth(a, area, radii)?.difference(growth(b, area, radii)?),
-        Expr::Mul(a, b) => growth(a, area, radii)?.product(growth(b, area, radii)?),
-        Expr::Div(a, k) => growth(a, area, radii)?.quotient(*k),
-        Expr::Min(a, b) => growth(a, area, radii)?.minimum(growth(b, area, radii)?),
-        Expr::Max(a, b) => growth(a, area, radii)?.maximum(growth(b, area, radii)?),
-        Expr::Abs(a) => growth(a, area, radii)?.absolute(),
+        Expr::Num(k) => Bounds::number(*k),
+        Expr::Var(i) => Bounds::variable(area[*i as usize], radii[*i as usize]),
+        Expr::Neg(a) => bounds(a, area, radii)?.negation(),
+        Expr::Add(a, b) => bounds(a, area, radii)?.sum(bounds(b, area, radii)?),
+        Expr::Sub(a, b) => bounds(a, area, radii)?.difference(bounds(b, area, radii)?),
+        Expr::Mul(a, b) => bounds(a, area, radii)?.product(bounds(b, area, radii)?),
+        Expr::Div(a, k) => bounds(a, area, radii)?.quotient(*k),
+        Expr::Min(a, b) => bounds(a, area, radii)?.minimum(bounds(b, area, radii)?),
+        Expr::Max(a, b) => bounds(a, area, radii)?.maximum(bounds(b, area, radii)?),
+        Expr::Abs(a) => bounds(a, area, radii)?.absolute(),
     }
 }

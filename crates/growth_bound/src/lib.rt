@@ -1,4 +1,4 @@
-//! Growth bounds of expressions.
+//! Deviations of expressions, which the literature calls growth bounds.
 //!
 //! The layer above gives an expression with a range and a radius for each variable, and `deviation`
 //! answers how far the value moves where each variable moves by at most its radius, or None exactly
@@ -6,8 +6,8 @@
 //! `interval_eval`.
 #![tactic(auto)]
 
+mod bounds;
 mod deviations;
-mod growth;
 pub mod laws;
 #[cfg(test)]
 mod tests;

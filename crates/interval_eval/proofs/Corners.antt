@@ -1,23 +1,13 @@
 -- Each of four numbers lies in the range where the least and the greatest of them do.
-use Rattle.std.proofs.Common.{◌^◌, arith}
-use Rattle.std.specs.Prelude.{ℤ, pos, negsuc, neg_ℤ, ◌<ℤ◌, ◌≤ℤ◌, ◌*ℤ◌}
+use Rattle.std.proofs.Common.{arith}
+use Rattle.std.specs.Prelude.{ℤ, ◌*ℤ◌}
 use Rattle.std.specs.Int.{int_min, int_max}
 use Rattle.std.proofs.lemmas.Int.{ints, clamps}
 use Rattle.fixed_expr.specs.Range.{IsInRange}
 use Rattle.interval_eval.specs.declared.interval.Interval.{Interval}
 use Rattle.interval_eval.specs.Span.{EndsFit, product_of}
 use Rattle.interval_eval.proofs.Integers.{IsBetween}
-
-abbrev IsWithin : ℤ → Type 0
-IsWithin z = (neg_ℤ (pos (2 ^ 127)) <ℤ z) × (z <ℤ pos (2 ^ 127))
-
-within_range : (z : ℤ) → IsWithin z → IsInRange z
-within_range (pos n) h = omega (arith, ints, h.1)
-within_range (negsuc n) h = omega (arith, ints, h.0)
-
-range_within : (z : ℤ) → IsInRange z → IsWithin z
-range_within (pos n) h = (omega (arith, ints), omega (arith, ints))
-range_within (negsuc n) h = (omega (arith, ints), omega (arith, ints))
+use Rattle.interval_eval.proofs.Ranging.{between}
 
 -- each product of ends lies in the range
 pub record CornersFit (a b : Interval) : Type 0 where
@@ -25,12 +15,6 @@ pub record CornersFit (a b : Interval) : Type 0 where
   pub second : IsInRange (a.lo *ℤ b.hi)
   pub third : IsInRange (a.hi *ℤ b.lo)
   pub fourth : IsInRange (a.hi *ℤ b.hi)
-
-between : (low high x : ℤ) → IsInRange low → IsInRange high → low ≤ℤ x → x ≤ℤ high → IsInRange x
-between low high x low_fits high_fits above below =
-    let l : IsWithin low = range_within low low_fits in
-    let h : IsWithin high = range_within high high_fits in
-    within_range x (omega (arith, ints, l.0, above), omega (arith, ints, h.1, below))
 
 abbrev least : ℤ → ℤ → ℤ → ℤ → ℤ
 least a b c d = int_min (int_min a b) (int_min c d)

@@ -1,3 +1,4 @@
-pub mod Corners
 pub mod Integers
 pub mod Holding
+pub mod Ranging
+pub mod Corners

@@ -1,6 +1,6 @@
 //! What holds of every expression's span.
 
-ghost use Rattle.interval_eval.specs.Laws.{ValuesLieInSpans, SpansAreIntervals};
+ghost use Rattle.interval_eval.specs.Laws.{ValuesLieInSpans, SpansAreIntervals, NumbersLieInRange, ValuesStayInRange};
 
 /// Where each variable has a value in its range, the value of the expression lies in its span.
 pub fn values_lie_in_the_span()
@@ -10,4 +10,14 @@ pub fn values_lie_in_the_span()
 /// The low end of a span is at most its high end, where that holds of each range.
 pub fn spans_are_intervals()
     ensures { SpansAreIntervals }
+{}
+
+/// A number of an interval lies in the range where both ends do.
+pub fn numbers_of_an_interval_lie_in_the_range()
+    ensures { NumbersLieInRange }
+{}
+
+/// Where the spans of all nodes stay in the range, so do their values.
+pub fn values_stay_in_the_range()
+    ensures { ValuesStayInRange }
 {}

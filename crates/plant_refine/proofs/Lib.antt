@@ -1,3 +1,4 @@
 pub mod Landing
 pub mod Refining
+pub mod Driving
 pub mod Noises

@@ -1,2 +1,3 @@
 pub mod Refinement
+pub mod Arrives
 pub mod Laws

@@ -48,12 +48,24 @@ mod tests {
     use super::*;
     use grid_quantiser::CellBox;
     use plant_text::read_plant;
+    use std::process::Abort;
     use std::test::Fail;
     use successor_box::{find_slopes, successors};
 
     /// Five cells of three places each.
     const CORRIDOR: &[u8] =
         b"plant 1\nstate x 0 14 3\ninput u -3 3\nnoise w -1 1\nnext x = x + u + w\ntarget 12 14\ngoal reach\nend\n";
+
+    /// The noise 1, which the range of the plant's one noise has.
+    fn noise_of_one(rt: &impl Abort, p: &Plant) -> Point
+        ensures { IsNoise p.now.noises result }
+    {
+        assert_eq!(rt; p.noises(), 1);
+        let (low, high) = p.noise_range(0);
+        assert!(rt; low <= 1);
+        assert!(rt; 1 <= high);
+        [1, 0, 0, 0, 0, 0]
+    }
 
     // Cell 1 is 3 to 5, its centre 4 and the deviation 1 + 1, so the input 3 leads to 5 to 9: cells 1 to 3.
     // From 5 with the noise 1 the state is 5 + 3 + 1.
@@ -62,15 +74,11 @@ mod tests {
         let plant = read_plant(rt.alloc(), CORRIDOR)?;
         let slopes = find_slopes(rt.alloc(), &plant)?;
         let x = [5, 0, 0, 0, 0, 0];
-        let noise = [1, 0, 0, 0, 0, 0];
+        let noise = noise_of_one(&rt, &plant);
         let cell = plant.grid().cell_of(&x).ok_or("outside")?;
         assert_eq!(rt; plant.vectors(), 2);
-        assert_eq!(rt; plant.noises(), 1);
-        assert_eq!(rt; plant.noise_range(0), (-1, 1));
-        assert_eq!(rt;
-            successors(&plant, &slopes, cell, 1),
-            Some(CellBox { first: 1, last: 3 })
-        );
+        let reached = successors(&plant, &slopes, cell, 1).ok_or("not enabled")?;
+        assert_eq!(rt; reached, CellBox { first: 1, last: 3 });
         let (next, landed) = next_cell(&plant, &slopes, &x, 1, &noise);
         assert_eq!(rt; next, [9, 0, 0, 0, 0, 0]);
         assert_eq!(rt; landed, 3);

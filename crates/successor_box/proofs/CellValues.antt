@@ -10,7 +10,7 @@ use Rattle.interval_eval.specs.Span.{AreIn}
 use Rattle.growth_bound.specs.Deviation.{IsNear, AreNear}
 use Rattle.grid_quantiser.specs.Axes.{end_of}
 use Rattle.grid_quantiser.specs.Cells.{IsInDomain, centre_of, radius_of}
-use Rattle.grid_quantiser.specs.Laws.{AreNear as AreStatesNear}
+use Rattle.grid_quantiser.specs.Laws.{AreStatesNear}
 use Rattle.plant_text.specs.declared.plant.variables.StateVariable.{StateVariable}
 use Rattle.plant_text.specs.declared.plant.variables.InputVariable.{InputVariable}
 use Rattle.plant_text.specs.declared.plant.variables.NoiseVariable.{NoiseVariable}

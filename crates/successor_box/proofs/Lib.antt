@@ -1,6 +1,5 @@
 pub mod BoxDomains
 pub mod CellValues
-pub mod Staying
 pub mod Steps
 pub mod Enabled
 pub mod Padding

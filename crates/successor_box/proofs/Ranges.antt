@@ -26,7 +26,7 @@ use Rattle.successor_box.proofs.CellValues.{vector_count}
 product_zero : (width lo : ℤ) → lo +ℤ (width *ℤ pos 0) ≡ lo
 product_zero width lo = omega (arith, ints)
 
-pub some_cells : (axes : List Axis) → All IsAxis axes → 1 ≤ cells_of axes
+some_cells : (axes : List Axis) → All IsAxis axes → 1 ≤ cells_of axes
 some_cells [] each = omega arith
 some_cells (a ∷ axes) each = mul-le 1 1 a.count (cells_of axes) (All-head IsAxis a axes each).some_cell (some_cells axes (All-tail IsAxis a axes each))
 

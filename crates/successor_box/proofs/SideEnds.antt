@@ -1,12 +1,13 @@
 -- The ends of a successor box along the axis of a state.
-use Rattle.std.proofs.Common.{◌≡◌, ℕ, ◌<◌, List, [], All, length, map, get_or, sym, ap, ap₂, subst, ◌∙◌}
-use Rattle.std.specs.Prelude.{ℤ, pos, ◌+ℤ◌, ◌-ℤ◌, FitsSigned}
+use Rattle.std.proofs.Common.{◌≡◌, ℕ, ◌^◌, ◌<◌, List, [], All, length, get_or, sym, ap, ap₂, subst, ◌∙◌, arith}
+use Rattle.std.specs.Prelude.{ℤ, pos, nat_abs, ◌+ℤ◌, ◌-ℤ◌, FitsSigned}
 use Rattle.std.specs.Int.{w128}
+use Rattle.std.proofs.lemmas.Int.{ints}
 use Rattle.std.proofs.lemmas.List.{get_or-map}
 use Rattle.fixed_expr.specs.Range.{IsInRange}
 use Rattle.fixed_expr.specs.Expression.{Number}
 use Rattle.fixed_expr.specs.Value.{value_of}
-use Rattle.interval_eval.specs.Laws.{ValuesLieInSpans}
+use Rattle.interval_eval.specs.Laws.{NumbersLieInRange, ValuesLieInSpans}
 use Rattle.grid_quantiser.specs.Axes.{cells_of}
 use Rattle.grid_quantiser.specs.Laws.{CentresAreNear}
 use Rattle.plant_text.specs.plant.Description.{Description, axes_of, vectors_of}
@@ -15,7 +16,6 @@ use Rattle.plant_text.specs.plant.Soundness.{IsSound}
 use Rattle.successor_box.specs.Boxes.{deviation_at, central_values, low_corner, high_corner}
 use Rattle.plant_text.specs.plant.Steps.{equation_at}
 use Rattle.successor_box.specs.Deviations.{HasNoOverflow, deviations_of}
-use Rattle.successor_box.proofs.Staying.{fits_signed}
 use Rattle.successor_box.proofs.DeviationRows.{entry_is}
 use Rattle.successor_box.proofs.Centres.{ends_fit}
 
@@ -33,14 +33,17 @@ pub record AreSideEnds (p : Description) (c u i : ℕ) (value deviation : ℤ) :
   pub low_fits : FitsSigned w128 (value -ℤ deviation)
   pub high_fits : FitsSigned w128 (value +ℤ deviation)
 
-pub end_step : ValuesLieInSpans → CentresAreNear → (p : Description) → IsSound p → HasNoOverflow p → All IsNoiseVariable p.noises → (c u i : ℕ) → c < cells_of (axes_of p) → u < vectors_of p.inputs → i < length p.equations
+fits_signed : (z : ℤ) → IsInRange z → FitsSigned w128 z
+fits_signed z h = let h' : nat_abs z < 2 ^ 127 = h in omega (arith, ints)
+
+pub end_step : NumbersLieInRange → ValuesLieInSpans → CentresAreNear → (p : Description) → IsSound p → HasNoOverflow p → All IsNoiseVariable p.noises → (c u i : ℕ) → c < cells_of (axes_of p) → u < vectors_of p.inputs → i < length p.equations
     → (value : ℤ) (rows : List (List ℤ)) (deviation : ℤ) → value ≡ value_of (equation_at p i) (central_values p c u) → rows ≡ deviations_of p → deviation ≡ get_or (get_or rows i []) u (pos 0)
     → AreSideEnds p c u i value deviation
-end_step spans near p sound fits noises c u i cell input lt value rows deviation at rows-are deviation-is =
+end_step numbers spans near p sound fits noises c u i cell input lt value rows deviation at rows-are deviation-is =
     let by : deviation ≡ deviation_at p u (equation_at p i) = deviation-is ∙ ap (λ (r : List (List ℤ)). get_or (get_or r i []) u (pos 0)) rows-are ∙ entry_is p i lt u input in
     let low : value -ℤ deviation ≡ value_of (equation_at p i) (central_values p c u) -ℤ deviation_at p u (equation_at p i) = ap₂ (λ (x y : ℤ). x -ℤ y) at by in
     let high : value +ℤ deviation ≡ value_of (equation_at p i) (central_values p c u) +ℤ deviation_at p u (equation_at p i) = ap₂ (λ (x y : ℤ). x +ℤ y) at by in
-    let ends = ends_fit spans near p sound fits noises c u i cell input lt in
+    let ends = ends_fit numbers spans near p sound fits noises c u i cell input lt in
     record {
       low = low ∙ sym (low_is p c u i lt);
       high = high ∙ sym (high_is p c u i lt);

@@ -7,7 +7,7 @@ use Rattle.std.proofs.lemmas.List.{length-map}
 use Rattle.std.proofs.lemmas.List.Elements.{All-head, All-tail, All-weaker, All-from_get_or}
 use Rattle.fixed_expr.specs.Expression.{Expression, Number}
 use Rattle.fixed_expr.specs.Value.{IsWellFormed, value_of, StaysInRange}
-use Rattle.interval_eval.specs.Laws.{ValuesLieInSpans}
+use Rattle.interval_eval.specs.Laws.{ValuesStayInRange}
 use Rattle.growth_bound.specs.Deviation.{IsNear}
 use Rattle.growth_bound.specs.Laws.{ValuesMoveByDeviations}
 use Rattle.grid_quantiser.specs.declared.axis.Axis.{Axis}
@@ -22,7 +22,6 @@ use Rattle.successor_box.specs.Boxes.{IsEnabledAt, AreSuccessors, area_of, radii
 use Rattle.successor_box.specs.Deviations.{HasNoOverflow}
 use Rattle.successor_box.proofs.BoxDomains.{box_inside, cell_touches}
 use Rattle.successor_box.proofs.CellValues.{area_count, values_in, central_in, values_near}
-use Rattle.successor_box.proofs.Staying.{stays}
 
 -- values near to their centres lie between the corners
 low_end : (d y z : ℤ) → IsNear d y z → (y -ℤ d) ≤ℤ z
@@ -56,7 +55,7 @@ module _ (near : CentresAreNear) (moves : ValuesMoveByDeviations) (p : Descripti
       let inside = box_inside (axes_of p) (low_corner p c u) (high_corner p c u) (step_of p x u w) enabled step_in_box in
       (inside, (λ cells successors. ((successors.enabled enabled).exactly (cell_of (axes_of p) (step_of p x u w))).1 (cell_touches (axes_of p) (low_corner p c u) (high_corner p c u) (step_of p x u w) inside step_in_box)))
 
-pub step_stays : ValuesLieInSpans → (p : Description) (u : ℕ) (x w : List ℤ) → IsSound p → HasNoOverflow p → u < vectors_of p.inputs → IsInDomain (axes_of p) x → IsNoise p.noises w → StepStaysInRange p x u w
-step_stays spans p u x w sound fits input inside noise =
+pub step_stays : ValuesStayInRange → (p : Description) (u : ℕ) (x w : List ℤ) → IsSound p → HasNoOverflow p → u < vectors_of p.inputs → IsInDomain (axes_of p) x → IsNoise p.noises w → StepStaysInRange p x u w
+step_stays stay p u x w sound fits input inside noise =
     All-from_get_or (λ e. StaysInRange e (values_at p x u w)) p.equations (Number _) (λ i lt.
-    stays spans (area_of p u) (values_at p x u w) (values_in p 0 u x w noise sound.whole inside) (get_or p.equations i (Number _)) (formed_over p u sound i (Number _) lt) (fits i u lt input).span)
+    stay (get_or p.equations i (Number _)) (area_of p u) (values_at p x u w) (formed_over p u sound i (Number _) lt) (values_in p 0 u x w noise sound.whole inside) (fits i u lt input).span)

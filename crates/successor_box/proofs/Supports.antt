@@ -104,11 +104,12 @@ module _ (values : ValuesRestOnVariables) (later : CentresRestOnLaterPlaces) (p 
     cell_value : (c u : ℕ) → c < cells_of (axes_of p) → value_of (equation_at p i) (central_values p (c % cells) u) ≡ value_of (equation_at p i) (central_values p c u)
     cell_value c u cell = ap (λ (n : ℕ). value_of (equation_at p i) (central_values p (c % n) u)) is ∙ same_cell_value k within none c u cell
 
-    pub rests_on_inputs : RestsOn p i cells (vectors_of p.inputs)
-    rests_on_inputs = record {
+    pub rests_on_inputs : 1 ≤ vectors_of p.inputs → RestsOn p i cells (vectors_of p.inputs)
+    rests_on_inputs vectors = record {
       some_cell = some;
       cells_bound = limit;
-      one_or_all = inr refl;
+      some_input = vectors;
+      inputs_bound = omega arith;
       same = λ c u side cell input at.
           let all : u % vectors_of p.inputs ≡ u = mod-eq_of_lt input in
           same_side c u (c % cells) (u % vectors_of p.inputs) side
@@ -117,11 +118,12 @@ module _ (values : ValuesRestOnVariables) (later : CentresRestOnLaterPlaces) (p 
           at;
     }
 
-    pub rests_on_no_input : mentions (equation_at p i) states (states + length p.inputs) ≡ false → ((u : ℕ) → u < vectors_of p.inputs → deviation_at p u (equation_at p i) ≡ deviation_at p 0 (equation_at p i)) → RestsOn p i cells 1
-    rests_on_no_input no_input constant = record {
+    pub rests_on_no_input : 1 ≤ vectors_of p.inputs → mentions (equation_at p i) states (states + length p.inputs) ≡ false → ((u : ℕ) → u < vectors_of p.inputs → deviation_at p u (equation_at p i) ≡ deviation_at p 0 (equation_at p i)) → RestsOn p i cells 1
+    rests_on_no_input vectors no_input constant = record {
       some_cell = some;
       cells_bound = limit;
-      one_or_all = inl refl;
+      some_input = omega arith;
+      inputs_bound = vectors;
       same = λ c u side cell input at.
           let first : u % 1 ≡ 0 = omega (arith, mod_below u 1 (omega arith)) in
           same_side c u (c % cells) (u % 1) side

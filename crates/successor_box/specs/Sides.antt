@@ -1,5 +1,5 @@
 -- The successor box of a pair, state by state.
-use Rattle.std.specs.Prelude.{◌≡◌, ◌⊎◌, ℕ, ◌%◌, ◌<◌, ◌≤◌, pos, List, length, slice_index_or, Option, None}
+use Rattle.std.specs.Prelude.{ℕ, ◌%◌, ◌<◌, ◌≤◌, pos, List, length, slice_index_or, Option, None}
 use Rattle.grid_quantiser.specs.declared.sides.Side.{Side}
 use Rattle.grid_quantiser.specs.Axes.{no_axis, cells_of}
 use Rattle.grid_quantiser.specs.Sides.{IsSideOf}
@@ -19,5 +19,6 @@ AreSidesAt p c u sides = (i : ℕ) → i < length p.equations → IsSideAt p c u
 pub record RestsOn (p : Description) (i cells inputs : ℕ) : Type 0 where
   pub some_cell : 1 ≤ cells
   pub cells_bound : cells ≤ cells_of (axes_of p)
-  pub one_or_all : (inputs ≡ 1) ⊎ (inputs ≡ vectors_of p.inputs)
+  pub some_input : 1 ≤ inputs
+  pub inputs_bound : inputs ≤ vectors_of p.inputs
   pub same : (c u : ℕ) (side : Option Side) → c < cells_of (axes_of p) → u < vectors_of p.inputs → IsSideAt p (c % cells) (u % inputs) i side → IsSideAt p c u i side

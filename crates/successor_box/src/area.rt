@@ -35,8 +35,9 @@ pub(crate) fn ranges(p: &Plant, input: u32) -> [Interval; VARIABLES_LIMIT]
     every_plant_is_within_limits(p);
     plants_are_sound();
     let grid = p.grid();
+    let last = grid.cells() - 1;
     let low = grid.low(0);
-    let high = grid.high(grid.cells() - 1);
+    let high = grid.high(last);
     let mut ranges = [NO_RANGE; VARIABLES_LIMIT];
     for k in 0..variables(p) {
         ranges[k as usize] = range(p, &low, &high, input, k);

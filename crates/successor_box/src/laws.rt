@@ -4,7 +4,7 @@ ghost use Rattle.successor_box.specs.Laws.{StepsLieInTheBoxes, StepsStayInRange,
 
 use grid_quantiser::laws::centre_is_near;
 use growth_bound::laws::values_move_by_at_most_the_deviation;
-use interval_eval::laws::values_lie_in_the_span;
+use interval_eval::laws::values_stay_in_the_range;
 
 /// Every step from a cell, under an enabled input and a noise in range, leads into a successor.
 pub fn steps_lie_in_the_boxes()
@@ -18,7 +18,7 @@ pub fn steps_lie_in_the_boxes()
 pub fn steps_stay_in_range()
     ensures { StepsStayInRange }
 {
-    values_lie_in_the_span();
+    values_stay_in_the_range();
 }
 
 /// The cells of a pair's box are its successors.

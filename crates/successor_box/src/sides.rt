@@ -12,7 +12,7 @@ use crate::noise::noise_centres;
 use crate::slopes::Slopes;
 use grid_quantiser::Side;
 use grid_quantiser::laws::centre_is_near;
-use interval_eval::laws::values_lie_in_the_span;
+use interval_eval::laws::{numbers_of_an_interval_lie_in_the_range, values_lie_in_the_span};
 use plant_text::laws::{every_plant_is_within_limits, plants_are_sound};
 use plant_text::{Plant, step_along};
 
@@ -30,6 +30,7 @@ pub fn side(p: &Plant, s: &Slopes, c: u32, input: u32, state: u32) -> Option<Sid
     plants_are_sound();
     centre_is_near();
     values_lie_in_the_span();
+    numbers_of_an_interval_lie_in_the_range();
     let next = next_along(p, c, input, state);
     let deviation = s.of(state, input);
     p.grid().side(state, next - deviation, next + deviation)

@@ -25,7 +25,7 @@ described states inputs noises equations targets obstacles goal = record {
 }
 
 -- The plant is within the limits, and its grid is that of its states.
-pub record IsKept (p : Description) (axes : List Axis) : Type 0 where
+pub record IsPlantWithGrid (p : Description) (axes : List Axis) : Type 0 where
   pub limits : IsWithinLimits p
   pub grid : axes ≡ axes_of p
 

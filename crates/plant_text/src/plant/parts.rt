@@ -33,7 +33,8 @@ const NO_AXIS: Axis = Axis {
 pub fn vectors_of(inputs: &[InputVariable]) -> u32
     requires bound { length inputs.now ≤ 3 }
     requires each { All IsInputVariable inputs.now }
-    ensures { result ≡ vectors_of inputs.now }
+    ensures count { result ≡ vectors_of inputs.now }
+    ensures some { 1 ≤ result }
 {
     let mut vectors: u32 = 1;
     for i in (0..inputs.len()).rev() {

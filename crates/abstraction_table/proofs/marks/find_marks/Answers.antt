@@ -1,7 +1,6 @@
-use Rattle.std.proofs.Common.{◌≡◌, ◌<◌, ◌∙◌, List, length, sym, ap, subst, arith}
+use Rattle.std.proofs.Common.{◌≡◌, ◌∙◌, length, ap, subst, arith}
 use Rattle.std.proofs.lemmas.List.{take_at}
 use Rattle.grid_quantiser.specs.Axes.{cells_of}
-use Rattle.game_core.specs.declared.game.Mark.{Mark}
 use Rattle.game_core.specs.declared.game.Mark.TheVariants.{Plain}
 use Rattle.plant_text.specs.plant.Description.{axes_of}
 use Rattle.abstraction_table.specs.inside.Marks.{IsMarkAt, AreMarksOf}

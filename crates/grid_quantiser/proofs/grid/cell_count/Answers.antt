@@ -1,5 +1,5 @@
 use Rattle.std.proofs.Common.{◌*◌, ◌<◌, ◌^◌, arith, ap, refl}
-use Rattle.grid_quantiser.proofs.Quotients.{past_quotient}
+use Rattle.grid_quantiser.proofs.General.{past_quotient}
 use Rattle.grid_quantiser.proofs.Suffixes.{next_axis, cells_limit}
 use Rattle.grid_quantiser.proofs.grid.cell_count.Goals as goal
 

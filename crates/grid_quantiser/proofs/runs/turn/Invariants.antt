@@ -1,5 +1,5 @@
 use Rattle.std.proofs.Common.{◌≡◌, ◌++◌, take, drop}
-use Rattle.grid_quantiser.specs.RunFields.{AreWheels, next_start, turned}
+use Rattle.grid_quantiser.specs.inside.RunFields.{AreWheels, next_start, turned}
 use Rattle.grid_quantiser.proofs.runs.turn.Given as goal
 
 -- the wheels so far are back at their first places

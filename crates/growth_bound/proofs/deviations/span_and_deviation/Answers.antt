@@ -5,15 +5,15 @@ use Rattle.std.proofs.lemmas.Int.{to_z_pos}
 use Rattle.fixed_expr.specs.Expression.{Expression, expression_of}
 use Rattle.interval_eval.specs.declared.interval.Interval.{Interval}
 use Rattle.growth_bound.specs.Deviation.{deviation_of, DeviationStaysInRange}
-use Rattle.growth_bound.specs.Growth.{growth_of}
-use Rattle.growth_bound.specs.declared.growth.Growth.{Growth}
+use Rattle.growth_bound.specs.inside.Bounds.{bounds_of}
+use Rattle.growth_bound.specs.declared.bounds.Bounds.{Bounds}
 use Rattle.growth_bound.proofs.Fitting.{whole_fits}
 use Rattle.growth_bound.proofs.deviations.span_and_deviation.Goals as goal
 
-fits : (e : Expression) (area : List Interval) (radii : List ℤ) (g : Growth) → DeviationStaysInRange e area radii → g ≡ growth_of e area radii → g.deviation < 2 ^ 127
-fits e area radii g stays is =
+fits : (e : Expression) (area : List Interval) (radii : List ℤ) (b : Bounds) → DeviationStaysInRange e area radii → b ≡ bounds_of e area radii → b.deviation < 2 ^ 127
+fits e area radii b stays is =
     let whole : deviation_of e area radii < 2 ^ 127 = whole_fits e area radii stays in
-    let same : g.deviation ≡ deviation_of e area radii = ap (λ (f : Growth). f.deviation) is in
+    let same : b.deviation ≡ deviation_of e area radii = ap (λ (f : Bounds). f.deviation) is in
     omega (arith, same, whole)
 
 pub overflow_cast-result : goal.overflow_cast-result
@@ -22,4 +22,4 @@ overflow_cast-result c = record { sfits = fits (expression_of c.args.e.now) c.ar
 pub returns : goal.returns
 returns c =
     let small = fits (expression_of c.args.e.now) c.args.area.now c.args.radii.now c.in_ok-found.found c.in_ok-found.ensures.0.1 c.in_ok-found.ensures.1 in
-    (c.in_ok-found.ensures.0, ap₂ (λ (span : Interval) (d : ℤ). (span, d)) (ap (λ (g : Growth). g.span) c.in_ok-found.ensures.1) (to_z_pos w128 c.in_ok-found.found.deviation small ∙ ap (λ (g : Growth). pos g.deviation) c.in_ok-found.ensures.1))
+    (c.in_ok-found.ensures.0, ap₂ (λ (span : Interval) (d : ℤ). (span, d)) (ap (λ (b : Bounds). b.span) c.in_ok-found.ensures.1) (to_z_pos w128 c.in_ok-found.found.deviation small ∙ ap (λ (b : Bounds). pos b.deviation) c.in_ok-found.ensures.1))

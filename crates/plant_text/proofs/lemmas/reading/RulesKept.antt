@@ -1,10 +1,9 @@
 -- Every part that lines spell keeps the rules.
-use Rattle.std.proofs.Common.{inl, inr, ◌≡◌, ◌≢◌, ℕ, ◌<◌, List, [], ◌∷◌, ◌++◌, length, None, All, Contains, arith, refl, sym, ap, subst, append_assoc, append-nil, length-append}
+use Rattle.std.proofs.Common.{inl, inr, ◌≡◌, ◌≢◌, ℕ, ◌<◌, List, [], ◌∷◌, ◌++◌, length, None, All, arith, refl, sym, ap, subst, append_assoc, append-nil, length-append}
 use Rattle.std.specs.Prelude.{AllPairs}
 use Rattle.std.specs.List.{flat_map}
 use Rattle.std.proofs.lemmas.List.{map-append}
-use Rattle.std.proofs.lemmas.List.Elements.{All-push, All-same, All-nil, Contains-get_or}
-use Rattle.std.proofs.lemmas.List.Quantifiers.{all_pairs_push}
+use Rattle.std.proofs.lemmas.List.Elements.{All-push, All-same, All-nil}
 use Rattle.fixed_expr.specs.Expression.{Expression}
 use Rattle.plant_text.specs.declared.plant.variables.StateVariable.{StateVariable}
 use Rattle.plant_text.specs.declared.plant.variables.InputVariable.{InputVariable}
@@ -23,6 +22,7 @@ use Rattle.plant_text.specs.reading.Statements.{Statement, Version, State, Input
 use Rattle.plant_text.specs.reading.Grammar.{Part, nothing_yet, names_in, HasEquations, FitsAfter, extended, Extends, Leads}
 use Rattle.plant_text.specs.inside.PartRules.{KeepsRules, IsAimless}
 use Rattle.plant_text.proofs.lemmas.reading.ItemsOfTrees.{tree_literals}
+use Rattle.plant_text.proofs.lemmas.general.Lists.{differ}
 
 -- a new name at the end of the names
 pub with_state : (q : Part) (s : StateVariable) → q.inputs ≡ [] → q.noises ≡ [] → names_in (extended q (State s)) ≡ names_in q ++ s.name ∷ []
@@ -33,11 +33,6 @@ with_input q i w = rw (w, map-append (λ (t : InputVariable). t.name) q.inputs (
 
 pub with_noise : (q : Part) (w : NoiseVariable) → names_in (extended q (Noise w)) ≡ names_in q ++ w.name ∷ []
 with_noise q w = rw (map-append (λ (t : NoiseVariable). t.name) q.noises (w ∷ [])) (simp append_assoc)
-
--- names that all differ and a new one
-differ : (names : List (List ℕ)) (name : List ℕ) → AllPairs (λ a b. a ≢ b) names → (Contains names name → ⊥) → AllPairs (λ a b. a ≢ b) (names ++ name ∷ [])
-differ names name all new =
-    all_pairs_push (λ a b. a ≢ b) names name all (λ k d lt e. new (subst (λ (x : List ℕ). Contains names x) e (Contains-get_or names k d lt)))
 
 pub rules_of_nothing : KeepsRules nothing_yet
 rules_of_nothing = record {

@@ -1,25 +1,36 @@
-use Rattle.std.proofs.Common.{arith}
+use Rattle.std.proofs.Common.{ℕ, List, Option, arith}
 use Rattle.std.proofs.lemmas.List.{length-map}
-use Rattle.plant_text.specs.plant.Description.{axis_of}
+use Rattle.grid_quantiser.specs.declared.sides.Side.{Side}
+use Rattle.grid_quantiser.specs.Sides.{AreSidesOf}
+use Rattle.plant_text.specs.plant.Description.{Description, axis_of, axes_of}
+use Rattle.plant_text.specs.plant.Soundness.{IsSound}
 use Rattle.successor_box.specs.Boxes.{low_corner, high_corner}
+use Rattle.successor_box.specs.Sides.{AreSidesAt}
 use Rattle.successor_box.proofs.Enabled.{corners_ordered}
 use Rattle.successor_box.proofs.boxes.box_of_sides.Goals as goal
+
+-- the sides of a pair are those of its box
+sides_of_box : (p : Description) (c u : ℕ) (sides : List (Option Side)) → IsSound p → AreSidesAt p c u sides → AreSidesOf (axes_of p) (low_corner p c u) (high_corner p c u) sides
+sides_of_box p c u sides sound each = record {
+  ordered = (corners_ordered p c u sound).0;
+  each = λ i lt. each i (omega (arith, lt, length-map p.states axis_of, sound.one_each));
+}
 
 pub box_with-requires : goal.box_with-requires
 box_with-requires c =
     let p = c.args.p.now in
     let pair = c.requires in
-    let one_each = c.every_plant_is_within_limits.ensures.plant.one_each in
-    rw c.grid.ensures (low_corner p pair.0 pair.1, high_corner p pair.0 pair.1, λ i lt. pair.2 i (omega (arith, lt, length-map p.states axis_of, one_each)))
+    let sound = c.plants_are_sound.ensures p c.every_plant_is_within_limits.ensures.plant in
+    rw c.grid.ensures (low_corner p pair.0 pair.1, high_corner p pair.0 pair.1, sides_of_box p pair.0 pair.1 c.args.sides.now sound pair.2)
 
 pub returns : goal.returns
 returns c = λ cell u sides.
     let p = c.args.p.now in
-    let plant = c.every_plant_is_within_limits.ensures.plant in
-    let ordered = (corners_ordered p cell u (c.plants_are_sound.ensures p plant)).0 in
+    let sound = c.plants_are_sound.ensures p c.every_plant_is_within_limits.ensures.plant in
     let inside = rw c.grid.ensures at c.box_with.ensures.inside in
     let corners = rw c.grid.ensures at c.box_with.ensures.corners in
+    let whole = sides_of_box p cell u c.args.sides.now sound sides in
     record {
-      inside = inside (low_corner p cell u) (high_corner p cell u) ordered (λ i lt. sides i (omega (arith, lt, length-map p.states axis_of, plant.one_each)));
-      corners = corners (low_corner p cell u) (high_corner p cell u) ordered (λ i lt. sides i (omega (arith, lt, length-map p.states axis_of, plant.one_each)));
+      inside = inside (low_corner p cell u) (high_corner p cell u) whole;
+      corners = corners (low_corner p cell u) (high_corner p cell u) whole;
     }

@@ -24,7 +24,7 @@ overflow_sub-next c =
     let next : FitsSigned w128 x = search rules in
     let deviation : FitsSigned w128 d = search rules in
     let value : x ≡ value_of (equation_at p c.args.state) (central_values p c.args.c c.args.input) = c.next_along-next.ensures in
-    let step = end_step c.values_lie_in_the_span.ensures c.centre_is_near.ensures p (c.plants_are_sound.ensures p plant) c.requires.fits plant.noises c.args.c c.args.input c.args.state c.requires.cell c.requires.input c.requires.state x c.args.s.now d value c.requires.slopes c.of-deviation.ensures in
+    let step = end_step c.numbers_of_an_interval_lie_in_the_range.ensures c.values_lie_in_the_span.ensures c.centre_is_near.ensures p (c.plants_are_sound.ensures p plant) c.requires.fits plant.noises c.args.c c.args.input c.args.state c.requires.cell c.requires.input c.requires.state x c.args.s.now d value c.requires.slopes c.of-deviation.ensures in
     rw (to_z-of_z w128 x next, to_z-of_z w128 d deviation) step.low_fits
 
 pub overflow_add-next : goal.overflow_add-next
@@ -36,7 +36,7 @@ overflow_add-next c =
     let next : FitsSigned w128 x = search rules in
     let deviation : FitsSigned w128 d = search rules in
     let value : x ≡ value_of (equation_at p c.args.state) (central_values p c.args.c c.args.input) = c.next_along-next.ensures in
-    let step = end_step c.values_lie_in_the_span.ensures c.centre_is_near.ensures p (c.plants_are_sound.ensures p plant) c.requires.fits plant.noises c.args.c c.args.input c.args.state c.requires.cell c.requires.input c.requires.state x c.args.s.now d value c.requires.slopes c.of-deviation.ensures in
+    let step = end_step c.numbers_of_an_interval_lie_in_the_range.ensures c.values_lie_in_the_span.ensures c.centre_is_near.ensures p (c.plants_are_sound.ensures p plant) c.requires.fits plant.noises c.args.c c.args.input c.args.state c.requires.cell c.requires.input c.requires.state x c.args.s.now d value c.requires.slopes c.of-deviation.ensures in
     rw (to_z-of_z w128 x next, to_z-of_z w128 d deviation) step.high_fits
 
 pub returns : goal.returns
@@ -48,6 +48,6 @@ returns c =
     let next : FitsSigned w128 x = search rules in
     let deviation : FitsSigned w128 d = search rules in
     let value : x ≡ value_of (equation_at p c.args.state) (central_values p c.args.c c.args.input) = c.next_along-next.ensures in
-    let step = end_step c.values_lie_in_the_span.ensures c.centre_is_near.ensures p (c.plants_are_sound.ensures p plant) c.requires.fits plant.noises c.args.c c.args.input c.args.state c.requires.cell c.requires.input c.requires.state x c.args.s.now d value c.requires.slopes c.of-deviation.ensures in
+    let step = end_step c.numbers_of_an_interval_lie_in_the_range.ensures c.values_lie_in_the_span.ensures c.centre_is_near.ensures p (c.plants_are_sound.ensures p plant) c.requires.fits plant.noises c.args.c c.args.input c.args.state c.requires.cell c.requires.input c.requires.state x c.args.s.now d value c.requires.slopes c.of-deviation.ensures in
     let is = rw (c.grid.ensures, to_z-of_z w128 x next, to_z-of_z w128 d deviation, to_z-of_z w128 (x -ℤ d) step.low_fits, to_z-of_z w128 (x +ℤ d) step.high_fits) at c.side.ensures in
     subst₂ (λ (low high : ℤ). IsSideOf (get_or (axes_of p) c.args.state no_axis) low high c.side.result) step.low step.high is

@@ -5,7 +5,7 @@ use Rattle.fixed_expr.specs.Expression.{Expression, Number, expression_of}
 use Rattle.fixed_expr.specs.Mentions.{mentions}
 use Rattle.grid_quantiser.specs.declared.axis.Axis.{Axis}
 use Rattle.grid_quantiser.specs.Axes.{cells_of}
-use Rattle.plant_text.specs.plant.Description.{Description, axes_of}
+use Rattle.plant_text.specs.plant.Description.{Description, axes_of, vectors_of}
 use Rattle.plant_text.specs.plant.Steps.{equation_at}
 use Rattle.successor_box.proofs.DeviationRows.{row_count, entry_is}
 use Rattle.successor_box.proofs.Supports.{rests_on_inputs, rests_on_no_input}
@@ -15,7 +15,7 @@ equation_is : (p : Description) (i : ℕ) (e : Expression) → slice_get p.equat
 equation_is p i e at = get_or_from_slice_get p.equations i e (Number (pos 0)) at
 
 pub is_constant-requires-clause-inputs : goal.is_constant-requires-clause-inputs
-is_constant-requires-clause-inputs c = rw c.requires.slopes (c.vectors-inputs.ensures ∙ sym (row_count c.args.p.now c.args.state c.requires.state))
+is_constant-requires-clause-inputs c = rw c.requires.slopes (c.vectors-inputs.ensures.count ∙ sym (row_count c.args.p.now c.args.state c.requires.state))
 
 pub returns-then-mentions : goal.returns-then-mentions
 returns-then-mentions c =
@@ -30,7 +30,8 @@ returns-then-mentions c =
     let none : mentions (equation_at p i) 0 k ≡ false = subst (λ (e : Expression). mentions e 0 k ≡ false) (sym is) c.first_mentioned.ensures.none_before in
     let count : cells ≡ cells_of (drop k (axes_of p)) = c.cells_from-cells.ensures.count ∙ ap (λ (axes : List Axis). cells_of (drop k axes)) c.grid.ensures in
     let limit : cells ≤ cells_of (axes_of p) = omega (arith, c.cells_from-cells.ensures.limit, ap cells_of c.grid.ensures) in
-    rw c.vectors-inputs.ensures (rests_on_inputs c.values_rest_on_variables.ensures c.centres_rest_on_later_places.ensures p sound i c.requires.state k cells within none count c.cells_from-cells.ensures.some limit)
+    let vectors : 1 ≤ vectors_of p.inputs = omega (arith, c.vectors-inputs.ensures.some, c.vectors-inputs.ensures.count) in
+    rw c.vectors-inputs.ensures.count (rests_on_inputs c.values_rest_on_variables.ensures c.centres_rest_on_later_places.ensures p sound i c.requires.state k cells within none count c.cells_from-cells.ensures.some limit vectors)
 
 pub returns : goal.returns
 returns c =
@@ -50,6 +51,7 @@ returns c =
     ∙ ap₂ (λ (m n : ℕ). mentions (expression_of c.equation-equation.result.now) m (m + n)) (sym c.states-states.ensures) (sym c.input_variables.ensures)
     ∙ sym c.mentions.ensures ∙ c.if-mentions.false
     in
-    let same = rw (c.requires.slopes, c.vectors-inputs.ensures) at c.if-not-is_constant.ensures in
-    rests_on_no_input c.values_rest_on_variables.ensures c.centres_rest_on_later_places.ensures p sound i c.requires.state k cells within none count c.cells_from-cells.ensures.some limit no_input
+    let vectors : 1 ≤ vectors_of p.inputs = omega (arith, c.vectors-inputs.ensures.some, c.vectors-inputs.ensures.count) in
+    let same = rw (c.requires.slopes, c.vectors-inputs.ensures.count) at c.if-not-is_constant.ensures in
+    rests_on_no_input c.values_rest_on_variables.ensures c.centres_rest_on_later_places.ensures p sound i c.requires.state k cells within none count c.cells_from-cells.ensures.some limit vectors no_input
     (λ u input. sym (entry_is p i c.requires.state u input) ∙ same refl u input ∙ entry_is p i c.requires.state 0 (omega (arith, input)))

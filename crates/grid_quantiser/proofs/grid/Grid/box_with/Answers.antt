@@ -45,7 +45,7 @@ loop-i-init c = record {
 
 -- the box is not in the domain where a side is missing
 pub returns-in_err-side-clause-inside : goal.returns-in_err-side-clause-inside
-returns-in_err-side-clause-inside c lo hi ordered are =
+returns-in_err-side-clause-inside c lo hi are =
     rw c.from_residual.ensures (
       λ h. absurd (false≢true h),
       λ inside.
@@ -95,13 +95,13 @@ all_some c k lt =
     c.loop-i.invariant.some k (omega (arith, lt, c.loop-i-test.false, ap (λ (axes : List Axis). length axes) c.axes-axes.ensures.same))
 
 pub returns-clause-inside : goal.returns-clause-inside
-returns-clause-inside c lo hi ordered are = (
-  λ h. inside_from_sides c.args.self.now lo hi c.args.sides.now ordered are (all_some c),
+returns-clause-inside c lo hi are = (
+  λ h. inside_from_sides c.args.self.now lo hi c.args.sides.now are (all_some c),
   λ inside. refl,
 )
 
 pub returns-clause-corners : goal.returns-clause-corners
-returns-clause-corners c lo hi ordered are =
+returns-clause-corners c lo hi are =
     let grid = c.args.self.now in
     let axes = c.axes-axes.result.now in
     let sides = c.args.sides.now in
@@ -110,6 +110,6 @@ returns-clause-corners c lo hi ordered are =
     let first = all_is first_of axes sides c.loop-i.i c.loop-i.first each (firsts grid axes sides same c.axes-axes.ensures.axes c.requires) c.loop-i.invariant.first c.loop-i-test.false in
     let last = all_is last_of axes sides c.loop-i.i c.loop-i.last each (lasts grid axes sides same c.axes-axes.ensures.axes c.requires) c.loop-i.invariant.last c.loop-i-test.false in
     let are_axes = subst (λ (axes : List Axis). AreAxes axes) same c.axes-axes.ensures.axes in
-    let inside = inside_from_sides grid lo hi sides ordered are (all_some c) in
-    let cells = cells_from_sides grid lo hi sides ordered are (all_some c) in
-    rw (first, last, same, cells.0, cells.1) (meeting_corners grid lo hi are_axes.each ordered inside)
+    let inside = inside_from_sides grid lo hi sides are (all_some c) in
+    let cells = cells_from_sides grid lo hi sides are (all_some c) in
+    rw (first, last, same, cells.0, cells.1) (meeting_corners grid lo hi are_axes.each are.ordered inside)

@@ -6,7 +6,7 @@ use Rattle.std.proofs.lemmas.List.Elements.{All-drop}
 use Rattle.grid_quantiser.specs.declared.axis.Axis.{Axis}
 use Rattle.grid_quantiser.specs.Axes.{IsAxis, cells_of}
 use Rattle.grid_quantiser.specs.Boxes.{IsCellBox, cells_between}
-use Rattle.grid_quantiser.proofs.Quotients.{div-div}
+use Rattle.grid_quantiser.proofs.General.{div-div}
 use Rattle.grid_quantiser.proofs.Suffixes.{next_axis, div_step, cells_of-drop, cells_step, cells_limit}
 use Rattle.grid_quantiser.proofs.BoxCells.{part_between, corners_below, box_whole, between_some, between_below, box_next, places_ordered, length_step, nth_step}
 use Rattle.grid_quantiser.proofs.grid.Grid.nth_of.Goals as goal

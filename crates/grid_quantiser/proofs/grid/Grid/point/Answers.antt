@@ -2,7 +2,7 @@ use Rattle.std.proofs.Common.{◌≡◌, ◌/◌, ◌%◌, ◌-◌, arith, ap, �
 use Rattle.std.specs.Int.{w128}
 use Rattle.std.proofs.lemmas.Int.{to_z-of_z}
 use Rattle.grid_quantiser.specs.Axes.{cells_of}
-use Rattle.grid_quantiser.specs.Spots.{number_of}
+use Rattle.grid_quantiser.specs.inside.Spots.{number_of}
 use Rattle.grid_quantiser.proofs.Suffixes.{next_axis, rest_none, div_step}
 use Rattle.grid_quantiser.proofs.PointSteps.{part_of, part_none, part_more, part_all}
 use Rattle.grid_quantiser.proofs.grid.Grid.point.Goals as goal

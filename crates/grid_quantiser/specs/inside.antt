@@ -1,0 +1,4 @@
+pub mod Storage
+pub mod Restored
+pub mod Spots
+pub mod RunFields

@@ -1,0 +1,16 @@
+-- A grid keeps its axes in six places.
+use Rattle.std.specs.Prelude.{◌≡◌, ℕ, ◌-◌, ◌^◌, ◌≤◌, List, ◌++◌, length, take, replicate}
+use Rattle.grid_quantiser.specs.declared.axis.Axis.{Axis}
+use Rattle.grid_quantiser.specs.Axes.{no_axis, cells_of, AreAxes}
+
+-- the axes, and no axis in the places that are left of six
+abbrev pub six_of : List Axis → List Axis
+six_of axes = axes ++ replicate (6 - length axes) no_axis
+
+-- Six places keep the axes of a grid, beside how many they are and the number of its cells.
+pub record IsStored (six : List Axis) (states cells : ℕ) : Type 0 where
+  pub axes : AreAxes (take states six)
+  pub rest : six ≡ six_of (take states six)
+  pub states_is : states ≡ length (take states six)
+  pub cells_is : cells ≡ cells_of (take states six)
+  pub limit : cells ≤ 2 ^ 20

@@ -1,0 +1,36 @@
+-- What lies between numbers of the range lies in it, and so do the values of an expression whose spans do.
+use Rattle.std.proofs.Common.{◌^◌, ◌<◌, List, length, arith}
+use Rattle.std.specs.Prelude.{ℤ, nat_abs, ◌≤ℤ◌}
+use Rattle.std.proofs.lemmas.Int.{ints}
+use Rattle.fixed_expr.specs.Range.{IsInRange}
+use Rattle.fixed_expr.specs.Expression.{Expression, Number, Variable, Negation, Sum, Difference, Product, Quotient, Minimum, Maximum, Absolute}
+use Rattle.fixed_expr.specs.Value.{IsWellFormed, value_of, StaysInRange}
+use Rattle.interval_eval.specs.declared.interval.Interval.{Interval}
+use Rattle.interval_eval.specs.Span.{AreIn, EndsFit, span_of, SpanStaysInRange}
+use Rattle.interval_eval.specs.Laws.{NumbersLieInRange}
+use Rattle.interval_eval.proofs.Holding.{values_lie}
+
+pub between : (low high x : ℤ) → IsInRange low → IsInRange high → low ≤ℤ x → x ≤ℤ high → IsInRange x
+between low high x p q above below =
+    let low_fits : nat_abs low < 2 ^ 127 = p in
+    let high_fits : nat_abs high < 2 ^ 127 = q in
+    omega (arith, ints, above, below)
+
+pub numbers_fit : NumbersLieInRange
+numbers_fit i x ends inside = between i.lo i.hi x ends.0 ends.1 inside.0 inside.1
+
+module _ (area : List Interval) (values : List ℤ) (within : AreIn area values) where
+  value_fits : (e : Expression) → IsWellFormed e (length area) → EndsFit (span_of e area) → IsInRange (value_of e values)
+  value_fits e formed ends = numbers_fit (span_of e area) (value_of e values) ends (values_lie e area values formed within)
+
+  pub values_stay : (e : Expression) → IsWellFormed e (length area) → SpanStaysInRange e area → StaysInRange e values
+  values_stay (Number k) formed span = value_fits (Number k) formed span
+  values_stay (Variable i) formed span = value_fits (Variable i) formed span
+  values_stay (Negation a) formed span = (values_stay a formed span.0, value_fits (Negation a) formed span.1)
+  values_stay (Sum a b) formed span = (values_stay a formed.0 span.0, values_stay b formed.1 span.1, value_fits (Sum a b) formed span.2)
+  values_stay (Difference a b) formed span = (values_stay a formed.0 span.0, values_stay b formed.1 span.1, value_fits (Difference a b) formed span.2)
+  values_stay (Product a b) formed span = (values_stay a formed.0 span.0, values_stay b formed.1 span.1, value_fits (Product a b) formed span.2)
+  values_stay (Quotient a k) formed span = (values_stay a formed.0 span.0, value_fits (Quotient a k) formed span.1)
+  values_stay (Minimum a b) formed span = (values_stay a formed.0 span.0, values_stay b formed.1 span.1, value_fits (Minimum a b) formed span.2)
+  values_stay (Maximum a b) formed span = (values_stay a formed.0 span.0, values_stay b formed.1 span.1, value_fits (Maximum a b) formed span.2)
+  values_stay (Absolute a) formed span = (values_stay a formed span.0, value_fits (Absolute a) formed span.1)
