@@ -1,6 +1,6 @@
-// The standard streams as devices. They tell nothing of their bytes; each counts its faults.
+// Readers and writers as devices, which tell of their bytes what std does: the standard streams tell nothing.
 
-ghost use Rattle.std.specs.Prelude.{◌≡◌, None};
+ghost use Rattle.std.specs.Prelude.{◌≡◌};
 
 use std::io::{Read, Stderr, Stdin, Stdout, Write};
 use synth_run::{Failed, Sink, Source};
@@ -45,7 +45,7 @@ impl<W> WriterSink<W> {
 }
 
 impl<R: Read> Source for ReaderSource<R> {
-    ghost left = { λ _. None };
+    ghost left = { λ s. R.remaining s.reader };
 
     ghost faults = { λ s. s.faults };
 
@@ -61,7 +61,7 @@ impl<R: Read> Source for ReaderSource<R> {
 }
 
 impl<W: Write> Sink for WriterSink<W> {
-    ghost got = { λ _. None };
+    ghost got = { λ s. W.contents s.writer };
 
     ghost faults = { λ s. s.faults };
 

@@ -10,12 +10,13 @@ use Rattle.plant_text.specs.plant.Description.{Description}
 use Rattle.plant_text.specs.plant.Plants.{IsPlant}
 use Rattle.plant_text.specs.reading.Refusals.{IsRefusedFor}
 use Rattle.plant_text.specs.Laws.{OnePlantPerText, OneRefusal, ReadOrRefused}
-use Rattle.successor_box.specs.Slopes.{HasNoOverflow, IsFirstOverflow}
+use Rattle.successor_box.specs.Deviations.{HasNoOverflow, IsFirstOverflow}
 use Rattle.abstraction_table.specs.Laws.{OneEdgeCount}
+use Rattle.synth_run.specs.declared.form.Form.TheVariants.{Synth}
 use Rattle.synth_run.specs.declared.outcome.Outcome.{Outcome}
 use Rattle.synth_run.specs.declared.outcome.Outcome.TheVariants.{Done, Usage, Malformed, Overflow, Limit, ReadFault, WriteFault, NoMemory, Unbuilt}
-use Rattle.synth_run.specs.Demands.{IsRefused, HasEdges, ExceedsEdges, PlantDemands}
-use Rattle.synth_run.specs.Causes.{of_plant}
+use Rattle.synth_run.specs.Demands.{IsRefused, HasEdges, ExceedsEdges, PlantDemands, PlantTextDemands}
+use Rattle.synth_run.specs.inside.Causes.{of_plant}
 use Rattle.synth_run.specs.Laws.{OneDemandPerText}
 
 not_both_goals : (p : Description) → p.goal ≡ Reach → p.goal ≡ Keep → ⊥
@@ -130,8 +131,8 @@ faulty bytes WriteFault h = absurd h
 faulty bytes NoMemory h = absurd h
 faulty bytes Unbuilt h = absurd h
 
-pub one_demand : OnePlantPerText → OneRefusal → ReadOrRefused → OneEdgeCount → OneDemandPerText
-one_demand plant refusal read count bytes a b f g =
+one_demand_of_plants : OnePlantPerText → OneRefusal → ReadOrRefused → OneEdgeCount → (bytes : List ℕ) (a b : Outcome) → PlantTextDemands bytes a → PlantTextDemands bytes b → a ≡ b
+one_demand_of_plants plant refusal read count bytes a b f g =
     elim f [
       | inl refused ↦ elim g [
         | inl other ↦ (let x = faulty bytes a refused in let y = faulty bytes b other in x.is ∙ ap of_plant (refusal bytes x.fault y.fault x.refused y.refused) ∙ sym y.is)
@@ -142,3 +143,6 @@ one_demand plant refusal read count bytes a b f g =
         | inr also ↦ (let same : accepted.0 ≡ also.0 = plant bytes accepted.0 also.0 accepted.1.spells also.1.spells in plant_demands_one count also.0 a b also.1.limits.plant (subst (λ (p : Description). PlantDemands p a) same accepted.2) also.2)
       ]
     ]
+
+pub one_demand : OnePlantPerText → OneRefusal → ReadOrRefused → OneEdgeCount → OneDemandPerText
+one_demand plant refusal read count (Synth workers) bytes a b f g = one_demand_of_plants plant refusal read count bytes a b f g

@@ -19,7 +19,7 @@ use Rattle.plant_text.specs.plant.Limits.{IsWithinLimits}
 use Rattle.abstraction_table.specs.Abstraction.{IsGameOf}
 use Rattle.synth_run.specs.TableText.{table_text}
 use Rattle.synth_run.specs.Choice.{AreRowsOf}
-use Rattle.abstraction_table.specs.Refinement.{IsRefinement}
+use Rattle.plant_refine.specs.Refinement.{IsRefinement}
 use Rattle.synth_run.specs.Drives.{LiesInSome, IsClear, Comes, Drives}
 use Rattle.synth_run.specs.Laws.{OneTablePerText}
 

@@ -7,8 +7,7 @@ use Rattle.std.proofs.lemmas.Bool.{and_parts, not-true}
 use Rattle.std.proofs.lemmas.Fmt.{decimal_injective}
 use Rattle.std.proofs.lemmas.List.Elements.{recursion_from_All}
 use Rattle.game_core.specs.declared.game.Row.{Row}
-use Rattle.game_core.specs.Game.{Game}
-use Rattle.game_core.specs.Solution.{IsReachSolution, row_of}
+use Rattle.game_core.specs.Solution.{row_of}
 use Rattle.grid_quantiser.specs.Cells.{cell_of}
 use Rattle.grid_quantiser.specs.Axes.{cells_of}
 use Rattle.plant_text.specs.plant.Description.{Description, axes_of}
@@ -16,7 +15,7 @@ use Rattle.plant_text.specs.writing.CanonicalText.{text_of, line}
 use Rattle.plant_text.specs.plant.Limits.{IsWithinLimits}
 use Rattle.plant_text.specs.words.Separators.{is_word, is_separator}
 use Rattle.plant_text.specs.Laws.{OnePlantAtTheFront, OnePlantPerText, NumbersAreWords}
-use Rattle.abstraction_table.specs.Laws.{OneGamePerPlant}
+use Rattle.abstraction_table.specs.Laws.{OneSolutionPerPlant}
 use Rattle.synth_run.specs.Headline.{IsTableOf}
 use Rattle.synth_run.specs.TableText.{table_text, input_word, row_line, row_lines, row_count}
 use Rattle.synth_run.specs.Choice.{IsRowOver, AreRowsOf, IsChoice}
@@ -177,12 +176,11 @@ one_input one bytes x u v a b =
     ap (λ (r : List (Option Row)). row_of r (cell_of (axes_of a.plant) x)) same.1 ∙ ap (λ (d : Description). row_of b.rows (cell_of (axes_of d) x)) same.0 in
     ap (λ (r : Row). r.input) (same_some (record { rank = suc a.rank; input = u }) (record { rank = suc b.rank; input = v }) (sym a.row ∙ rows ∙ b.row))
 
--- bytes spell one plant, which has one game, which has one solution
-pub one_for_bytes : OnePlantPerText → OneGamePerPlant → ((g : Game) (first second : List (Option Row)) → IsReachSolution g first → IsReachSolution g second → first ≡ second) → OneTableForBytes
-one_for_bytes one_plant one_game one_solution bytes a b first second =
+-- bytes spell one plant, which has one solution
+pub one_for_bytes : OnePlantPerText → OneSolutionPerPlant → OneTableForBytes
+one_for_bytes one_plant one_solution bytes a b first second =
     let p : Description = second.0 in
-    let table : IsTableOf p a = subst (λ (d : Description). IsTableOf d a) (one_plant bytes first.0 p first.1.spells second.1.spells) first.2 in
-    let other : IsTableOf p b = second.2 in
-    let games : table.game ≡ other.game = one_game p table.game other.game second.1.limits.plant table.abstraction other.abstraction in
-    let rows : table.rows ≡ other.rows = one_solution other.game table.rows other.rows (subst (λ (g : Game). IsReachSolution g table.rows) games table.solution) other.solution in
+    let table : IsTableOf p a = subst (λ (d : Description). IsTableOf d a) (one_plant bytes first.0 p first.1.spells second.1.spells) first.3 in
+    let other : IsTableOf p b = second.3 in
+    let rows : table.rows ≡ other.rows = one_solution p table.rows other.rows second.1.limits.plant table.solution other.solution in
     table.text_is ∙ ap (table_text p) rows ∙ sym other.text_is

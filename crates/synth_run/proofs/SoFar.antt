@@ -1,9 +1,11 @@
 -- What a loop over reads, or over writes, has done so far.
-use Rattle.std.proofs.Common.{◌≡◌, ℕ, zero, suc, ◌+◌, ◌<◌, ◌≤◌, List, [], ◌∷◌, ◌++◌, length, take, drop, drop-cons, get_or, add-one, subst, Option, Some, None, refl, sym, ap, ◌∙◌, append_assoc, arith, take-append-drop, length-append}
+use Rattle.std.proofs.Common.{◌≡◌, ℕ, zero, suc, ◌+◌, ◌<◌, ◌≤◌, List, [], ◌∷◌, ◌++◌, length, take, drop, drop-cons, get_or, add-one, subst, Option, Some, None, refl, sym, ap, ◌∙◌, append_assoc, arith, inl, inr, take-append-drop, length-append}
 use Rattle.std.proofs.lemmas.List.{append-nil, take_at, take-append-le}
+use Rattle.std.proofs.lemmas.Bool.{cases_lt}
 use Rattle.std.proofs.Math.Nat.{zero-add, suc-add}
 use Rattle.std.specs.Prelude.{flat_map}
-use Rattle.synth_run.specs.Devices.{Gains, GainsPart}
+use Rattle.std.specs.Io.KnownBytes.{Keeps}
+use Rattle.synth_run.specs.Devices.{Rose, Gains, GainsPart, Writing}
 
 -- these bytes were read, and the others are left
 abbrev pub ReadSoFar : Option (List ℕ) → Option (List ℕ) → List ℕ → Type 0
@@ -22,12 +24,6 @@ take_all zero [] h = refl
 take_all zero (x ∷ xs) h = absurd (omega (arith, h))
 take_all (suc n) [] h = refl
 take_all (suc n) (x ∷ xs) h = ap (λ (ys : List ℕ). x ∷ ys) (take_all n xs (omega (arith, h)))
-
-pub drop_all : (n : ℕ) (xs : List ℕ) → length xs ≤ n → drop n xs ≡ []
-drop_all zero [] h = refl
-drop_all zero (x ∷ xs) h = absurd (omega (arith, h))
-drop_all (suc n) [] h = refl
-drop_all (suc n) (x ∷ xs) h = drop_all n xs (omega (arith, h))
 
 -- ---- writes
 
@@ -54,11 +50,24 @@ written_more start before after text rest n w gains = record {
   gained = gains_more start before after w.front (take n rest) w.gained gains;
 }
 
-pub written_part : (start before after : Option (List ℕ)) (text rest : List ℕ) → WrittenSoFar start before text rest → after ≡ before → 0 < length rest → GainsPart start after text
-written_part start before after text rest w same some = record {
+gains_kept : (start before after : Option (List ℕ)) (front : List ℕ) → Gains start before front → Keeps before after → Gains start after front
+gains_kept None before after front p q = tt
+gains_kept (Some bytes) None after front p q = absurd (let e : None ≡ Some (bytes ++ front) = p in cc)
+gains_kept (Some bytes) (Some got) None front p q = absurd q
+gains_kept (Some bytes) (Some got) (Some now) front p q = ap (λ (x : List ℕ). Some x) q ∙ p
+
+-- a sink that doesn't promise what is left hadn't promised the whole
+pub short_of_room : (room now rest text : ℕ) → room + rest ≤ now + text → (rest ≤ now → ⊥) → room < text
+short_of_room room now rest text within none = elim (cases_lt now rest) [ inl lt ↦ omega (arith, lt, within) | inr le ↦ absurd (none le) ]
+
+-- the write of what is left failed
+pub written_part : (sink : Writing) (before : Option (List ℕ)) (text rest : List ℕ) → WrittenSoFar sink.before before text rest → Keeps before sink.after → 0 < length rest → Rose sink.faults_before sink.faults_after → sink.room < length text → GainsPart sink text
+written_part sink before text rest w kept some fault no_room = record {
   count = length w.front;
   proper = omega (arith, length-append w.front rest, ap length w.parts);
-  gained = rw (same, front_is) w.gained;
+  gained = rw front_is (gains_kept sink.before before sink.after w.front w.gained kept);
+  fault = fault;
+  no_room = no_room;
 }
   where
     front_is : take (length w.front) text ≡ w.front
@@ -78,8 +87,9 @@ take_past [] behind k = ap (λ (n : ℕ). take n behind) (zero-add k)
 take_past (x ∷ front) behind k = ap (λ (n : ℕ). take n (x ∷ (front ++ behind))) (suc-add (length front) k) ∙ ap (λ (y : List ℕ). x ∷ y) (take_past front behind k)
 
 -- a part of a piece is a part of the whole
-pub piece_part : (start before after : Option (List ℕ)) (text rest piece more : List ℕ) → WrittenSoFar start before text rest → rest ≡ piece ++ more → GainsPart before after piece → GainsPart start after text
-piece_part start before after text rest piece more w cut part =
+pub piece_part : (sink : Writing) (before : Option (List ℕ)) (faults room : ℕ) (text rest piece more : List ℕ) → WrittenSoFar sink.before before text rest → faults ≡ sink.faults_before → sink.room + length rest ≤ room + length text → rest ≡ piece ++ more
+    → GainsPart (record { before = before; after = sink.after; faults_before = faults; faults_after = sink.faults_after; room = room }) piece → GainsPart sink text
+piece_part sink before faults room text rest piece more w same within cut part =
     let whole : text ≡ w.front ++ (piece ++ more) = w.parts ∙ ap (λ (x : List ℕ). w.front ++ x) cut in
     let front_is : take (length w.front + part.count) text ≡ w.front ++ take part.count piece =
     ap (take (length w.front + part.count)) whole
@@ -88,7 +98,9 @@ piece_part start before after text rest piece more w cut part =
     record {
       count = length w.front + part.count;
       proper = (let lt = part.proper in omega (arith, lt, ap length whole, length-append w.front (piece ++ more), length-append piece more));
-      gained = subst (λ (x : List ℕ). Gains start after x) (sym front_is) (gains_more start before after w.front (take part.count piece) w.gained part.gained);
+      gained = subst (λ (x : List ℕ). Gains sink.before sink.after x) (sym front_is) (gains_more sink.before before sink.after w.front (take part.count piece) w.gained part.gained);
+      fault = subst (λ (n : ℕ). Rose n sink.faults_after) same part.fault;
+      no_room = (let none = part.no_room in omega (arith, none, within, ap length cut, length-append piece more));
     }
 
 -- the pieces from one on are that piece and those behind it

@@ -1,4 +1,4 @@
--- What a plant text demands: to be refused for the first reason that applies, or to be solved.
+-- What a text demands: to be refused for the first reason that applies, or to be answered.
 use Rattle.std.specs.Prelude.{◌≡◌, ◌⊎◌, ℕ, ◌^◌, ◌<◌, ◌≤◌, List}
 use Rattle.plant_text.specs.declared.fault.LimitKind.{LimitKind}
 use Rattle.plant_text.specs.declared.fault.LimitKind.TheVariants.{PlantText, TableText, Vectors, Cells, Pairs, Edges}
@@ -8,8 +8,10 @@ use Rattle.plant_text.specs.plant.Description.{Description}
 use Rattle.plant_text.specs.plant.Limits.{IsWithinLimits}
 use Rattle.plant_text.specs.reading.Grammar.{Spells}
 use Rattle.plant_text.specs.reading.Refusals.{IsShort, IsRefusedFor}
-use Rattle.successor_box.specs.Slopes.{HasNoOverflow, IsFirstOverflow}
+use Rattle.successor_box.specs.Deviations.{HasNoOverflow, IsFirstOverflow}
 use Rattle.abstraction_table.specs.Abstraction.{AreEdges}
+use Rattle.synth_run.specs.declared.form.Form.{Form}
+use Rattle.synth_run.specs.declared.form.Form.TheVariants.{Synth}
 use Rattle.synth_run.specs.declared.outcome.Outcome.{Outcome}
 use Rattle.synth_run.specs.declared.outcome.Outcome.TheVariants.{Done, Usage, Malformed, Overflow, Limit, ReadFault, WriteFault, NoMemory, Unbuilt}
 
@@ -37,6 +39,10 @@ pub record HasEdges (p : Description) (edges : ℕ) : Type 0 where
   pub fits : HasNoOverflow p
   pub counted : AreEdges p edges
 
+-- A plant that nothing refuses: with `goal reach`, numbers that stay in the range, and no more edges than the limit.
+abbrev pub IsSolvable : Description → Type 0
+IsSolvable p = (edges : ℕ) × HasEdges p edges × (edges ≤ 2 ^ 25)
+
 -- the one limit that only the game shows
 abbrev pub ExceedsEdges : Description → LimitKind → Type 0
 ExceedsEdges p PlantText = ⊥
@@ -48,7 +54,7 @@ ExceedsEdges p Edges = (edges : ℕ) × HasEdges p edges × (2 ^ 25 < edges)
 
 -- what a plant within the limits demands
 abbrev pub PlantDemands : Description → Outcome → Type 0
-PlantDemands p Done = (edges : ℕ) × HasEdges p edges × (edges ≤ 2 ^ 25)
+PlantDemands p Done = IsSolvable p
 PlantDemands p Usage = ⊥
 PlantDemands p (Malformed line) = ⊥
 PlantDemands p (Overflow equation input) = (p.goal ≡ Reach) × IsFirstOverflow p equation input
@@ -58,6 +64,10 @@ PlantDemands p WriteFault = ⊥
 PlantDemands p NoMemory = ⊥
 PlantDemands p Unbuilt = p.goal ≡ Keep
 
--- the text is refused, or it spells a plant, which demands it
-abbrev pub Demands : List ℕ → Outcome → Type 0
-Demands bytes outcome = IsRefused bytes outcome ⊎ ((p : Description) × IsAccepted bytes p × PlantDemands p outcome)
+-- a plant text is refused, or it spells a plant, which demands it
+abbrev pub PlantTextDemands : List ℕ → Outcome → Type 0
+PlantTextDemands bytes outcome = IsRefused bytes outcome ⊎ ((p : Description) × IsAccepted bytes p × PlantDemands p outcome)
+
+-- what the bytes demand of a form
+abbrev pub Demands : Form → List ℕ → Outcome → Type 0
+Demands (Synth workers) bytes outcome = PlantTextDemands bytes outcome

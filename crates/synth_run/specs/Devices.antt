@@ -1,5 +1,5 @@
 -- What a source gave and what a sink took, where they tell their bytes.
-use Rattle.std.specs.Prelude.{◌≡◌, ◌⊎◌, ℕ, ◌-◌, ◌^◌, ◌<◌, ◌≤◌, List, ◌++◌, length, take, drop, Option, Some, None}
+use Rattle.std.specs.Prelude.{◌≡◌, ◌⊎◌, ℕ, ◌-◌, ◌^◌, ◌<◌, ◌≤◌, Bool, List, ◌++◌, length, take, drop, Option, Some, None}
 
 -- a count of faults rose: it is greater, or has come to the last number that it can hold
 abbrev pub Rose : ℕ → ℕ → Type 0
@@ -15,13 +15,41 @@ abbrev pub Gains : Option (List ℕ) → Option (List ℕ) → List ℕ → Type
 Gains None after piece = Unit {0}
 Gains (Some bytes) after piece = after ≡ Some (bytes ++ piece)
 
--- where the source tells its bytes, the first of them up to a limit are these, and the rest is left
-abbrev pub ReadUpTo : Option (List ℕ) → Option (List ℕ) → ℕ → List ℕ → Type 0
-ReadUpTo None after most bytes = Unit {0}
-ReadUpTo (Some told) after most bytes = (bytes ≡ take most told) × (after ≡ Some (drop most told))
+-- What became of a source in a run: what was left to read before and after it, where the source tells it, how
+-- many faults it counted, and whether it had promised that none comes.
+pub record Reading : Type 0 where
+  pub before : Option (List ℕ)
+  pub after : Option (List ℕ)
+  pub faults_before : ℕ
+  pub faults_after : ℕ
+  pub is_sound : Bool
 
--- A part of a text was appended, and not the whole.
-pub record GainsPart (before after : Option (List ℕ)) (text : List ℕ) : Type 0 where
+-- What became of a sink in a run: what it had before and after it, where the sink tells it, how many faults it
+-- counted, and for how many bytes it had promised that none comes.
+pub record Writing : Type 0 where
+  pub before : Option (List ℕ)
+  pub after : Option (List ℕ)
+  pub faults_before : ℕ
+  pub faults_after : ℕ
+  pub room : ℕ
+
+-- a source between two moments, by its meanings
+abbrev pub reading : {D : Type 0} → (D → Option (List ℕ)) → (D → ℕ) → (D → Bool) → D → D → Reading
+reading left faults is_sound old new = record { before = left old; after = left new; faults_before = faults old; faults_after = faults new; is_sound = is_sound old }
+
+-- a sink between two moments, by its meanings
+abbrev pub writing : {D : Type 0} → (D → Option (List ℕ)) → (D → ℕ) → (D → ℕ) → D → D → Writing
+writing got faults room old new = record { before = got old; after = got new; faults_before = faults old; faults_after = faults new; room = room old }
+
+-- The whole text was appended, and no fault was counted.
+pub record GainsWhole (sink : Writing) (text : List ℕ) : Type 0 where
+  pub gained : Gains sink.before sink.after text
+  pub no_fault : sink.faults_after ≡ sink.faults_before
+
+-- A part of a text was appended, and not the whole: a fault was counted, and the sink hadn't promised room for the text.
+pub record GainsPart (sink : Writing) (text : List ℕ) : Type 0 where
   pub count : ℕ
   pub proper : count < length text
-  pub gained : Gains before after (take count text)
+  pub gained : Gains sink.before sink.after (take count text)
+  pub fault : Rose sink.faults_before sink.faults_after
+  pub no_room : sink.room < length text

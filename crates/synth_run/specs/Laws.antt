@@ -3,6 +3,7 @@ use Rattle.std.specs.Prelude.{◌≡◌, ℕ, List, Option}
 use Rattle.game_core.specs.declared.game.Row.{Row}
 use Rattle.plant_text.specs.plant.Description.{Description}
 use Rattle.plant_text.specs.plant.Limits.{IsWithinLimits}
+use Rattle.synth_run.specs.declared.form.Form.{Form}
 use Rattle.synth_run.specs.declared.outcome.Outcome.{Outcome}
 use Rattle.synth_run.specs.Demands.{Demands}
 use Rattle.synth_run.specs.Headline.{IsTableFor}
@@ -14,9 +15,9 @@ abbrev pub OneTablePerText : Type 0
 OneTablePerText =
     (p q : Description) (rows others : List (Option Row)) → IsWithinLimits p → IsWithinLimits q → AreRowsOf p rows → AreRowsOf q others → table_text p rows ≡ table_text q others → (p ≡ q) × (rows ≡ others)
 
--- a text demands one thing
+-- a text demands one thing of a form
 abbrev pub OneDemandPerText : Type 0
-OneDemandPerText = (bytes : List ℕ) (a b : Outcome) → Demands bytes a → Demands bytes b → a ≡ b
+OneDemandPerText = (form : Form) (bytes : List ℕ) (a b : Outcome) → Demands form bytes a → Demands form bytes b → a ≡ b
 
 -- bytes have one table
 abbrev pub OneTableForBytes : Type 0

@@ -7,5 +7,6 @@ pub mod Choice
 pub mod Drives
 pub mod Headline
 pub mod Statuses
-pub mod Causes
+pub mod Runs
 pub mod Laws
+pub mod inside

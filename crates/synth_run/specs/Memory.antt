@@ -1,5 +1,5 @@
 -- Devices in memory, by what they still have and what becomes of the next call.
-use Rattle.std.specs.Prelude.{ℕ, ◌+◌, ◌-◌, ◌^◌, min, List}
+use Rattle.std.specs.Prelude.{ℕ, ◌+◌, ◌-◌, ◌^◌, Bool, true, false, min, List, [], ◌∷◌, length}
 
 -- The bytes that are left, the calls so far, the numbers of the calls that fail, and the faults so far.
 pub record MemoryLeft : Type 0 where
@@ -21,3 +21,13 @@ pub record MemoryTaken : Type 0 where
 -- one more, up to the greatest number of 64 bits
 abbrev pub next_count : ℕ → ℕ
 next_count n = min (n + 1) (2 ^ 64 - 1)
+
+-- no call is to fail
+abbrev pub is_none_listed : List ℕ → Bool
+is_none_listed [] = true
+is_none_listed (n ∷ fails) = false
+
+-- the room that is left where no call is to fail, and otherwise none that could be relied upon
+abbrev pub room_of : List ℕ → ℕ → List ℕ → ℕ
+room_of [] room got = room - length got
+room_of (n ∷ fails) room got = 0

@@ -6,12 +6,13 @@ ghost use Rattle.game_core.specs.Game.{Game};
 ghost use Rattle.game_core.specs.Solution.{IsReachSolution};
 ghost use Rattle.plant_text.specs.plant.Description.{Description};
 ghost use Rattle.plant_text.specs.declared.plant.aims.GoalKind.TheVariants.{Reach};
+ghost use Rattle.plant_text.specs.plant.Limits.{IsWithinLimits};
 ghost use Rattle.abstraction_table.specs.Abstraction.{IsGameOf};
 ghost use Rattle.synth_run.specs.Choice.{AreRowsOf, IsChoice};
 ghost use Rattle.synth_run.specs.Laws.{OneTablePerText, OneTableForBytes, OneDemandPerText};
 
-use abstraction_table::laws::{one_edge_count, one_game_per_plant};
-use game_core::laws::{one_solution, ranks_are_below_the_cells};
+use abstraction_table::laws::{one_edge_count, one_solution_per_plant};
+use game_core::laws::ranks_are_below_the_cells;
 use plant_text::laws::{
     numbers_are_words, one_plant_at_the_front, one_plant_per_text, one_refusal, read_or_refused,
 };
@@ -29,8 +30,7 @@ pub fn one_table_for_bytes()
     ensures { OneTableForBytes }
 {
     one_plant_per_text();
-    one_game_per_plant();
-    one_solution();
+    one_solution_per_plant();
 }
 
 /// The bytes of a table choose one input at a state.
@@ -42,7 +42,7 @@ pub fn one_choice()
 
 /// The rows of the solution of a plant's game fit the plant.
 pub fn solution_fits()
-    ensures { (p : Description) (g : Game) (rows : List (Option Row)) → p.goal ≡ Reach → IsGameOf p g → IsReachSolution g rows → AreRowsOf p rows }
+    ensures { (p : Description) (g : Game) (rows : List (Option Row)) → IsWithinLimits p → p.goal ≡ Reach → IsGameOf p g → IsReachSolution g rows → AreRowsOf p rows }
 {
     ranks_are_below_the_cells();
 }

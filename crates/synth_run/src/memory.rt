@@ -1,9 +1,10 @@
 // Devices in memory.
 
-ghost use Rattle.std.specs.Prelude.{◌≡◌, ◌<◌, ◌≤◌, ◌↔◌, ◌⊎◌, [], Some, Ok, length, take, min, max, IfOk, IfSome, IsErr, OnErr};
+ghost use Rattle.std.specs.Prelude.{◌≡◌, ◌<◌, ◌≤◌, ◌+◌, ◌↔◌, ◌⊎◌, [], Some, Ok, length, take, min, max, IsTrue, IsOk, IfOk, IfSome, IsErr, OnOk, OnErr};
+ghost use Rattle.std.specs.Io.KnownBytes.{Keeps};
 ghost use Rattle.std.specs.List.{Contains};
 ghost use Rattle.synth_run.specs.Devices.{Rose, Takes, Gains};
-ghost use Rattle.synth_run.specs.Memory.{MemoryLeft, MemoryTaken, next_count};
+ghost use Rattle.synth_run.specs.Memory.{MemoryLeft, MemoryTaken, next_count, is_none_listed, room_of};
 
 use crate::devices::{Failed, Sink, Source};
 use std::alloc::{AllocError, Global};
@@ -66,13 +67,18 @@ impl Source for MemorySource {
 
     ghost faults = { λ s. s.faults };
 
+    ghost is_sound = { λ s. is_none_listed s.fails };
+
     fn read(&mut self, buf: &mut [u8]) -> Result<usize, Failed>
         ensures bound { IfOk result (λ n. n ≤ length buf.old) }
         ensures taken { IfOk result (λ n. Takes (Some self.old.left) (Some self.new.left) n buf.new) }
         ensures at_end { result ≡ Ok 0 → 0 < length buf.old → IfSome (Some self.old.left) (λ bytes. bytes ≡ []) }
+        ensures kept { OnErr result (Keeps (Some self.old.left) (Some self.new.left)) }
+        ensures counted { OnOk result (self.new.faults ≡ self.old.faults) }
         ensures failed { OnErr result (Rose self.old.faults self.new.faults) }
-        ensures kept { OnErr result (Some self.new.left ≡ Some self.old.left) }
         ensures never_falls { self.old.faults ≤ self.new.faults }
+        ensures sound { IsTrue (is_none_listed self.old.fails) → IsOk result }
+        ensures stays_sound { IsTrue (is_none_listed self.old.fails) → IsTrue (is_none_listed self.new.fails) }
 
         ensures calls { self.new.calls ≡ next_count self.old.calls }
         ensures fails { self.new.fails ≡ self.old.fails }
@@ -147,13 +153,18 @@ impl Sink for MemorySink {
 
     ghost faults = { λ s. s.faults };
 
+    ghost room = { λ s. room_of s.fails s.room s.got };
+
     fn write(&mut self, piece: &[u8]) -> Result<usize, Failed>
         ensures bound { IfOk result (λ n. n ≤ length piece.now) }
         ensures some { IfOk result (λ n. 0 < length piece.now → 0 < n) }
         ensures gained { IfOk result (λ n. Gains (Some self.old.got) (Some self.new.got) (take n piece.now)) }
+        ensures kept { OnErr result (Keeps (Some self.old.got) (Some self.new.got)) }
+        ensures counted { OnOk result (self.new.faults ≡ self.old.faults) }
         ensures failed { OnErr result (Rose self.old.faults self.new.faults) }
-        ensures kept { OnErr result (Some self.new.got ≡ Some self.old.got) }
         ensures never_falls { self.old.faults ≤ self.new.faults }
+        ensures room { 0 < length piece.now → length piece.now ≤ room_of self.old.fails self.old.room self.old.got → IsOk result }
+        ensures room_left { IfOk result (λ n. room_of self.old.fails self.old.room self.old.got ≤ room_of self.new.fails self.new.room self.new.got + n) }
 
         ensures at_once { IfOk result (λ n. n ≤ max self.old.at_once 1) }
         ensures calls { self.new.calls ≡ next_count self.old.calls }

@@ -1,7 +1,8 @@
 ghost use Rattle.std.specs.Prelude.{◌≡◌};
+ghost use Rattle.synth_run.specs.Devices.{writing};
 ghost use Rattle.synth_run.specs.declared.outcome.Outcome.TheVariants as ends;
 ghost use Rattle.synth_run.specs.Statuses.{status_of, line_of, limit_words, Reports};
-ghost use Rattle.synth_run.specs.Causes.{of_plant, of_slopes, of_build};
+ghost use Rattle.synth_run.specs.inside.Causes.{of_plant, of_slopes, of_build};
 
 use crate::devices::Sink;
 use crate::memory::NoMemory;
@@ -98,7 +99,7 @@ impl Outcome {
 
     /// Writes the line; a sink that fails gets a part of it.
     pub fn report<E: Sink>(self, err: &mut E)
-        ensures { Reports (E.got err.old) (E.got err.new) (E.faults err.old) (E.faults err.new) (line_of self) }
+        ensures { Reports (writing E.got E.faults E.room err.old err.new) (line_of self) }
     {
         let mut first = Buffer::new();
         let mut second = Buffer::new();

@@ -1,8 +1,14 @@
 // The top call over devices in memory, some of which fail.
 
+ghost use Rattle.std.specs.Prelude.{◌≡◌, ℕ, ◌+◌, ◌≤◌, List, [], length};
+ghost use Rattle.synth_run.specs.declared.form.Form.TheVariants.{Synth};
+ghost use Rattle.synth_run.specs.Headline.{IsTableFor};
+ghost use Rattle.synth_run.specs.Runs.{IsCompleteAnswer};
+
 use super::*;
 use std::alloc::Global;
 use std::test::Fail;
+use std::thread::Threads;
 
 // The places 0 to 14 in cells of three, moved by three to either side, to be brought to 12 to 14.
 const PLANT: &[u8] =
@@ -21,23 +27,41 @@ fn sink(alloc: Global, at_once: usize, fails: &[u64]) -> Result<MemorySink, Fail
     Ok(MemorySink::new(alloc, 200, at_once, fails)?)
 }
 
+// `synth 1` over devices in memory. What the text demands is answered where no call is to fail and the sink has
+// room for the table: so the premises of completeness can be met.
+fn status_in_memory<R: Threads + Sync>(
+    rt: &R,
+    alloc: Global,
+    source: &mut MemorySource,
+    out: &mut MemorySink,
+    err: &mut MemorySink,
+) -> u8
+    ensures { source.old.fails ≡ [] → source.old.faults ≡ 0 → out.old.fails ≡ [] → out.old.faults ≡ 0 → ((text : List ℕ) → IsTableFor source.old.left text → length out.old.got + length text ≤ out.old.room) → IsCompleteAnswer (Synth 1) result source.old.left }
+{
+    run(rt, alloc, &["synth", "1"], source, out, err, &Open)
+}
+
 #[test]
 fn writes_the_table_of_the_plant(rt: HostRuntime) -> Result<(), Fail> {
     let mut source = source(rt.alloc(), &[])?;
     let mut out = sink(rt.alloc(), 7, &[])?;
     let mut err = sink(rt.alloc(), 7, &[])?;
-    let status = run(
-        &rt,
-        rt.alloc(),
-        &["synth", "1"],
-        &mut source,
-        &mut out,
-        &mut err,
-        &Open,
-    );
+    let status = status_in_memory(&rt, rt.alloc(), &mut source, &mut out, &mut err);
     assert_eq!(rt; status, 0);
     assert_eq!(rt; out.got(), TABLE);
     assert!(rt; err.got().is_empty());
+    Ok(())
+}
+
+// The first call takes the plant whole, the second finds the end, and the third would fail.
+#[test]
+fn nothing_is_read_behind_the_end(rt: HostRuntime) -> Result<(), Fail> {
+    let mut source = source(rt.alloc(), &[3])?;
+    let mut out = sink(rt.alloc(), 200, &[])?;
+    let mut err = sink(rt.alloc(), 200, &[])?;
+    let status = status_in_memory(&rt, rt.alloc(), &mut source, &mut out, &mut err);
+    assert_eq!(rt; status, 0);
+    assert_eq!(rt; out.got(), TABLE);
     Ok(())
 }
 
@@ -47,15 +71,7 @@ fn read_that_fails_at_the_end_is_a_read_fault(rt: HostRuntime) -> Result<(), Fai
     let mut source = source(rt.alloc(), &[2])?;
     let mut out = sink(rt.alloc(), 200, &[])?;
     let mut err = sink(rt.alloc(), 200, &[])?;
-    let status = run(
-        &rt,
-        rt.alloc(),
-        &["synth", "1"],
-        &mut source,
-        &mut out,
-        &mut err,
-        &Open,
-    );
+    let status = status_in_memory(&rt, rt.alloc(), &mut source, &mut out, &mut err);
     assert_eq!(rt; status, 6);
     assert!(rt; out.got().is_empty());
     assert_eq!(rt; err.got(), b"read fault\n".as_slice());
@@ -68,15 +84,7 @@ fn write_that_fails_leaves_the_front_of_the_table(rt: HostRuntime) -> Result<(),
     let mut source = source(rt.alloc(), &[])?;
     let mut out = sink(rt.alloc(), 1, &[40])?;
     let mut err = sink(rt.alloc(), 200, &[])?;
-    let status = run(
-        &rt,
-        rt.alloc(),
-        &["synth", "1"],
-        &mut source,
-        &mut out,
-        &mut err,
-        &Open,
-    );
+    let status = status_in_memory(&rt, rt.alloc(), &mut source, &mut out, &mut err);
     assert_eq!(rt; status, 7);
     assert_eq!(rt; out.got(), &TABLE[..39]);
     assert!(rt; err.got().is_empty());

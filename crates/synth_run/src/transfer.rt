@@ -1,8 +1,9 @@
 // Reading a source to its end, and writing a whole text.
 
 ghost use Rattle.std.specs.List.{flat_map};
-ghost use Rattle.std.specs.Prelude.{◌≡◌, ◌≤◌, Ok, IfOk, OnOk, OnErr, Err};
-ghost use Rattle.synth_run.specs.Devices.{Rose, Gains, GainsPart, ReadUpTo};
+ghost use Rattle.std.specs.Prelude.{◌≡◌, ◌≢◌, ◌≤◌, ◌+◌, Ok, IfOk, OnOk, OnErr, IsTrue, IsOk, Err, length};
+ghost use Rattle.synth_run.specs.Devices.{Rose, Gains, GainsWhole, GainsPart, writing};
+ghost use Rattle.synth_run.specs.inside.Transfers.{ReadUpTo};
 ghost use Rattle.synth_run.specs.declared.transfer.ReadFault.TheVariants.{Memory, Device};
 
 use crate::devices::{Failed, Sink, Source};
@@ -38,7 +39,9 @@ pub fn read_up_to<S: Source>(
     most: usize,
 ) -> Result<Vec<u8>, ReadFault>
     ensures read { IfOk result (λ bytes. ReadUpTo (S.left source.old) (S.left source.new) most bytes.items) }
-    ensures device { result ≡ Err ReadFault.Device → Rose (S.faults source.old) (S.faults source.new) }
+    ensures fault { result ≡ Err ReadFault.Device → Rose (S.faults source.old) (S.faults source.new) }
+    ensures no_fault { result ≢ Err ReadFault.Device → S.faults source.new ≡ S.faults source.old }
+    ensures sound { IsTrue (S.is_sound source.old) → result ≢ Err ReadFault.Device }
 {
     let mut bytes = Vec::new(alloc);
     let mut buffer = [0; 4096];
@@ -55,10 +58,9 @@ pub fn read_up_to<S: Source>(
 
 /// Writes a whole text; a failed write ends it.
 pub fn write_whole<O: Sink>(out: &mut O, text: &[u8]) -> Result<(), Failed>
-    ensures whole { OnOk result (Gains (O.got out.old) (O.got out.new) text.now) }
-    ensures part { OnErr result (GainsPart (O.got out.old) (O.got out.new) text.now) }
-    ensures failed { OnErr result (Rose (O.faults out.old) (O.faults out.new)) }
-    ensures never_falls { O.faults out.old ≤ O.faults out.new }
+    ensures whole { OnOk result (GainsWhole (writing O.got O.faults O.room out.old out.new) text.now) }
+    ensures part { OnErr result (GainsPart (writing O.got O.faults O.room out.old out.new) text.now) }
+    ensures room { OnOk result (O.room out.old ≤ O.room out.new + length text.now) }
 {
     let mut rest = text;
     while !rest.is_empty() {
@@ -71,9 +73,8 @@ pub fn write_whole<O: Sink>(out: &mut O, text: &[u8]) -> Result<(), Failed>
 
 /// Writes a text in pieces; a failed write ends it.
 pub fn write_pieces<O: Sink>(out: &mut O, pieces: &[&[u8]]) -> Result<(), Failed>
-    ensures whole { OnOk result (Gains (O.got out.old) (O.got out.new) (flat_map (λ piece. piece.now) pieces.now)) }
-    ensures part { OnErr result (GainsPart (O.got out.old) (O.got out.new) (flat_map (λ piece. piece.now) pieces.now)) }
-    ensures failed { OnErr result (Rose (O.faults out.old) (O.faults out.new)) }
+    ensures whole { OnOk result (GainsWhole (writing O.got O.faults O.room out.old out.new) (flat_map (λ piece. piece.now) pieces.now)) }
+    ensures part { OnErr result (GainsPart (writing O.got O.faults O.room out.old out.new) (flat_map (λ piece. piece.now) pieces.now)) }
 {
     for piece in pieces {
         write_whole(out, piece)?;

@@ -3,13 +3,13 @@ use Rattle.synth_run.proofs.Reporting.{reports_by}
 use Rattle.synth_run.proofs.outcome.Outcome.report.Goals as goal
 
 pub returns-in-Malformed : goal.returns-in-Malformed
-returns-in-Malformed g c = rw c.in-Malformed.is (reports_by c.write_pieces-in-Malformed.result _ _ _ _ _ _ (rw (c.as_bytes-line.ensures.value, c.format.ensures.text) (simp (append_assoc, append-nil))) c.write_pieces-in-Malformed.ensures.whole c.write_pieces-in-Malformed.ensures.part c.write_pieces-in-Malformed.ensures.failed)
+returns-in-Malformed g c = rw c.in-Malformed.is (reports_by c.write_pieces-in-Malformed.result _ _ _ (rw (c.as_bytes-line.ensures.value, c.format.ensures.text) (simp (append_assoc, append-nil))) c.write_pieces-in-Malformed.ensures.whole c.write_pieces-in-Malformed.ensures.part)
 
 pub returns-in-Overflow : goal.returns-in-Overflow
-returns-in-Overflow g c = rw c.in-Overflow.is (reports_by c.write_pieces-in-Overflow.result _ _ _ _ _ _ (rw (c.as_bytes-equation.ensures.value, c.format-in-Overflow.ensures.text, c.as_bytes-input.ensures.value, c.format-in-Overflow-2.ensures.text) (simp (append_assoc, append-nil))) c.write_pieces-in-Overflow.ensures.whole c.write_pieces-in-Overflow.ensures.part c.write_pieces-in-Overflow.ensures.failed)
+returns-in-Overflow g c = rw c.in-Overflow.is (reports_by c.write_pieces-in-Overflow.result _ _ _ (rw (c.as_bytes-equation.ensures.value, c.format-in-Overflow.ensures.text, c.as_bytes-input.ensures.value, c.format-in-Overflow-2.ensures.text) (simp (append_assoc, append-nil))) c.write_pieces-in-Overflow.ensures.whole c.write_pieces-in-Overflow.ensures.part)
 
 pub returns-in-ReadFault : goal.returns-in-ReadFault
-returns-in-ReadFault g c = rw c.in-ReadFault.is (reports_by c.write_pieces-in-ReadFault.result _ _ _ _ _ _ refl c.write_pieces-in-ReadFault.ensures.whole c.write_pieces-in-ReadFault.ensures.part c.write_pieces-in-ReadFault.ensures.failed)
+returns-in-ReadFault g c = rw c.in-ReadFault.is (reports_by c.write_pieces-in-ReadFault.result _ _ _ refl c.write_pieces-in-ReadFault.ensures.whole c.write_pieces-in-ReadFault.ensures.part)
 
 pub returns-in-Unbuilt : goal.returns-in-Unbuilt
-returns-in-Unbuilt g c = rw c.in-Unbuilt.is (reports_by c.write_pieces-in-Unbuilt.result _ _ _ _ _ _ refl c.write_pieces-in-Unbuilt.ensures.whole c.write_pieces-in-Unbuilt.ensures.part c.write_pieces-in-Unbuilt.ensures.failed)
+returns-in-Unbuilt g c = rw c.in-Unbuilt.is (reports_by c.write_pieces-in-Unbuilt.result _ _ _ refl c.write_pieces-in-Unbuilt.ensures.whole c.write_pieces-in-Unbuilt.ensures.part)

@@ -1,4 +1,4 @@
--- The outcome of a fault of a layer below. No public clause names this.
+-- The outcome of a fault of a layer below.
 use Rattle.plant_text.specs.declared.fault.LimitKind.TheVariants.{Edges}
 use Rattle.plant_text.specs.declared.fault.PlantFault.{PlantFault}
 use Rattle.plant_text.specs.declared.fault.PlantFault.TheVariants as plants

@@ -1,0 +1,63 @@
+-- What a run of some words gives.
+use Rattle.std.specs.Prelude.{◌≡◌, ◌≢◌, ◌⊎◌, ◌↔◌, ℕ, List, drop, Some, IfSome, IsTrue}
+use Rattle.synth_run.specs.declared.form.Form.{Form}
+use Rattle.synth_run.specs.declared.outcome.Outcome.{Outcome}
+use Rattle.synth_run.specs.declared.outcome.Outcome.TheVariants.{Done, Usage, ReadFault, WriteFault, NoMemory}
+use Rattle.synth_run.specs.Devices.{Rose, Reading, Writing, GainsWhole, GainsPart}
+use Rattle.synth_run.specs.Form.{IsOfForm, AreOfNoForm, given, most_read}
+use Rattle.synth_run.specs.Demands.{Demands}
+use Rattle.synth_run.specs.Headline.{IsAnswer}
+use Rattle.synth_run.specs.Statuses.{status_of, line_of, IsTheTexts, Reports}
+
+-- the answer of a form for some bytes was written whole
+abbrev pub IsAnswered : Form → List ℕ → Writing → Type 0
+IsAnswered form bytes out = (text : List ℕ) × IsAnswer form bytes text × GainsWhole out text
+
+-- a write failed, and a part of the answer was written
+abbrev pub IsCutOff : Form → List ℕ → Writing → Type 0
+IsCutOff form bytes out = (text : List ℕ) × IsAnswer form bytes text × GainsPart out text
+
+-- a source that tells its bytes was read to its end, or to one byte past the limit of a form's text
+abbrev pub IsRead : Form → Reading → Type 0
+IsRead form source = IfSome source.before (λ bytes. source.after ≡ Some (drop (most_read form) bytes))
+
+-- What a run of a form gives, by how it ends.
+pub record IsRunOf (form : Form) (outcome : Outcome) (source : Reading) (out : Writing) : Type 0 where
+  pub not_usage : outcome ≢ Usage
+  -- what was written
+  pub answered : outcome ≡ Done → IfSome (given form source.before) (λ bytes. IsAnswered form bytes out)
+  pub cut_off : outcome ≡ WriteFault → IfSome (given form source.before) (λ bytes. IsCutOff form bytes out)
+  pub nothing_written : outcome ≢ Done → outcome ≢ WriteFault → out.after ≡ out.before
+  -- what was read, and that a refusal is the one that the text demands
+  pub read : outcome ≢ ReadFault → outcome ≢ NoMemory → IsRead form source
+  pub demanded : IsTheTexts outcome → IfSome (given form source.before) (λ bytes. Demands form bytes outcome)
+  -- a device is told to have failed where its count rose, and its count stands everywhere else
+  pub read_fault : outcome ≡ ReadFault → Rose source.faults_before source.faults_after
+  pub no_read_fault : outcome ≢ ReadFault → source.faults_after ≡ source.faults_before
+  pub sound_source : IsTrue source.is_sound → outcome ≢ ReadFault
+  pub write_fault : outcome ≡ WriteFault → Rose out.faults_before out.faults_after
+  pub no_write_fault : outcome ≢ WriteFault → out.faults_after ≡ out.faults_before
+
+-- Neither device was used.
+pub record AreUnused (source : Reading) (out : Writing) : Type 0 where
+  pub nothing_read : source.after ≡ source.before
+  pub no_read_fault : source.faults_after ≡ source.faults_before
+  pub nothing_written : out.after ≡ out.before
+  pub no_write_fault : out.faults_after ≡ out.faults_before
+
+-- What a run of some words gives: what their form does, or `usage` where they are of no form.
+pub record Gives (words : List (List ℕ)) (outcome : Outcome) (source : Reading) (out : Writing) : Type 0 where
+  pub usage : (outcome ≡ Usage) ↔ AreOfNoForm words
+  pub unused : outcome ≡ Usage → AreUnused source out
+  pub of_form : (form : Form) → IsOfForm words form → IsRunOf form outcome source out
+
+-- A run of some words ends with a status: that of an outcome whose line is reported.
+pub record IsRun (words : List (List ℕ)) (status : ℕ) (source : Reading) (out err : Writing) : Type 0 where
+  pub outcome : Outcome
+  pub status_is : status ≡ status_of outcome
+  pub reported : Reports err (line_of outcome)
+  pub gives : Gives words outcome source out
+
+-- whatever a text demands of a form is answered, unless there is no memory
+abbrev pub IsCompleteAnswer : Form → ℕ → List ℕ → Type 0
+IsCompleteAnswer form status bytes = (outcome : Outcome) → Demands form bytes outcome → (status ≡ status_of outcome) ⊎ (status ≡ 8)

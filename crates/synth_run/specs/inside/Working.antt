@@ -1,0 +1,29 @@
+-- What a form has worked out from its source before anything is written.
+use Rattle.std.specs.Prelude.{◌≡◌, ◌≢◌, ℕ, List, IfSome, IsTrue}
+use Rattle.synth_run.specs.declared.form.Form.{Form}
+use Rattle.synth_run.specs.declared.outcome.Outcome.{Outcome}
+use Rattle.synth_run.specs.declared.outcome.Outcome.TheVariants.{Done, Usage, ReadFault, WriteFault, NoMemory}
+use Rattle.synth_run.specs.Devices.{Rose, Reading}
+use Rattle.synth_run.specs.Form.{given}
+use Rattle.synth_run.specs.Demands.{Demands}
+use Rattle.synth_run.specs.Headline.{IsAnswer}
+use Rattle.synth_run.specs.Statuses.{IsTheTexts}
+use Rattle.synth_run.specs.Runs.{IsRead}
+
+-- The text of the answer was worked out.
+pub record IsWorkedOut (form : Form) (text : List ℕ) (source : Reading) : Type 0 where
+  pub answer : IfSome (given form source.before) (λ bytes. IsAnswer form bytes text)
+  pub demanded : IfSome (given form source.before) (λ bytes. Demands form bytes Done)
+  pub read : IsRead form source
+  pub no_fault : source.faults_after ≡ source.faults_before
+
+-- There is no answer, and the run is to end so.
+pub record IsTurnedDown (form : Form) (outcome : Outcome) (source : Reading) : Type 0 where
+  pub not_done : outcome ≢ Done
+  pub not_usage : outcome ≢ Usage
+  pub not_write_fault : outcome ≢ WriteFault
+  pub demanded : IsTheTexts outcome → IfSome (given form source.before) (λ bytes. Demands form bytes outcome)
+  pub read : outcome ≢ ReadFault → outcome ≢ NoMemory → IsRead form source
+  pub fault : outcome ≡ ReadFault → Rose source.faults_before source.faults_after
+  pub no_fault : outcome ≢ ReadFault → source.faults_after ≡ source.faults_before
+  pub sound : IsTrue source.is_sound → outcome ≢ ReadFault
