@@ -9,7 +9,7 @@ use Rattle.grid_quantiser.specs.declared.boxes.CellBox.{CellBox}
 use Rattle.grid_quantiser.specs.Axes.{cells_of}
 use Rattle.game_core.specs.declared.game.Mark.{Mark}
 use Rattle.game_core.specs.declared.game.Mark.TheVariants.{Plain}
-use Rattle.plant_text.specs.Description.{Description, axes_of, vectors_of}
+use Rattle.plant_text.specs.plant.Description.{Description, axes_of, vectors_of}
 use Rattle.successor_box.specs.Boxes.{IsBoxOf}
 use Rattle.abstraction_table.specs.Abstraction.{pairs_of, pair_of, AreBoxesOf}
 use Rattle.abstraction_table.specs.BoxGame.{IsMarkAt, AreMarksOf}

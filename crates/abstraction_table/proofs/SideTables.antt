@@ -6,7 +6,7 @@ use Rattle.std.proofs.lemmas.List.{get_or-set_same, get_or-set_other, get_or_app
 use Rattle.std.proofs.lemmas.Nat.{mod_below, div-mul-add, mod-mul-add, mul-add-lt}
 use Rattle.std.proofs.Math.Nat.{mul_comm}
 use Rattle.grid_quantiser.specs.declared.sides.Side.{Side}
-use Rattle.plant_text.specs.Description.{Description, vectors_of}
+use Rattle.plant_text.specs.plant.Description.{Description, vectors_of}
 use Rattle.successor_box.specs.Sides.{IsSideAt, RestsOn}
 use Rattle.abstraction_table.specs.declared.sides.SideTable.{SideTable}
 use Rattle.abstraction_table.specs.Sides.{place_of, HoldsSidesAlong}

@@ -9,8 +9,8 @@ use Rattle.edge_rows.specs.Rows.{row_at}
 use Rattle.game_core.specs.declared.game.Mark.{Mark}
 use Rattle.game_core.specs.declared.game.Mark.TheVariants.{Goal, Obstacle, Plain}
 use Rattle.game_core.specs.Game.{Game, IsGame}
-use Rattle.plant_text.specs.Description.{Description, axes_of}
-use Rattle.plant_text.specs.Marks.{IsGoalCell, IsObstacleCell}
+use Rattle.plant_text.specs.plant.Description.{Description, axes_of}
+use Rattle.plant_text.specs.plant.Marks.{IsGoalCell, IsObstacleCell}
 use Rattle.successor_box.specs.Boxes.{cells_in}
 use Rattle.abstraction_table.specs.Abstraction.{box_at}
 

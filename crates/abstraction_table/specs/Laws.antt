@@ -1,8 +1,8 @@
 -- What holds of the game of every plant.
 use Rattle.std.specs.Prelude.{◌≡◌, ℕ, length, sum_by}
 use Rattle.game_core.specs.Game.{Game}
-use Rattle.plant_text.specs.Description.{Description}
-use Rattle.plant_text.specs.Plants.{IsPlant}
+use Rattle.plant_text.specs.plant.Description.{Description}
+use Rattle.plant_text.specs.plant.Plants.{IsPlant}
 use Rattle.abstraction_table.specs.Abstraction.{IsGameOf, AreEdges}
 use Rattle.abstraction_table.specs.Refinement.{IsRefinement}
 

@@ -1,7 +1,7 @@
 //! The boxes of all pairs.
 ghost use Rattle.std.specs.Prelude.{◌≡◌, ℕ, ◌*◌, ◌/◌, ◌≤◌, ◌<◌, length, slice_index_or, None, IfOk};
 ghost use Rattle.grid_quantiser.specs.Axes.{cells_of};
-ghost use Rattle.plant_text.specs.Description.{axes_of, vectors_of};
+ghost use Rattle.plant_text.specs.plant.Description.{axes_of, vectors_of};
 ghost use Rattle.successor_box.specs.Boxes.{IsBoxOf};
 ghost use Rattle.successor_box.specs.Slopes.{HasNoOverflow, slopes_of};
 ghost use Rattle.abstraction_table.specs.Abstraction.{AreBoxesOf};

@@ -1,7 +1,7 @@
 //! The marks of all cells.
 ghost use Rattle.std.specs.Prelude.{◌≡◌, ◌<◌, IfOk};
 ghost use Rattle.grid_quantiser.specs.Axes.{cells_of};
-ghost use Rattle.plant_text.specs.Description.{axes_of};
+ghost use Rattle.plant_text.specs.plant.Description.{axes_of};
 ghost use Rattle.abstraction_table.specs.BoxGame.{IsMarkAt, AreMarksOf};
 
 use game_core::Mark;

@@ -1,8 +1,8 @@
 ghost use Rattle.std.specs.Prelude.{◌≡◌, ◌<◌, ℕ, List};
 ghost use Rattle.std.specs.List.{Contains};
 ghost use Rattle.grid_quantiser.specs.Cells.{IsInDomain, cell_of, point_of};
-ghost use Rattle.plant_text.specs.Description.{axes_of, vectors_of};
-ghost use Rattle.plant_text.specs.Steps.{IsNoise, step_of};
+ghost use Rattle.plant_text.specs.plant.Description.{axes_of, vectors_of};
+ghost use Rattle.plant_text.specs.plant.Steps.{IsNoise, step_of};
 ghost use Rattle.successor_box.specs.Boxes.{IsEnabledAt, AreSuccessors};
 ghost use Rattle.successor_box.specs.Slopes.{HasNoOverflow, slopes_of};
 

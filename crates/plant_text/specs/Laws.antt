@@ -1,29 +1,16 @@
--- What holds of every plant and of its text.
-use Rattle.std.specs.Prelude.{◌≡◌, ℕ, ℤ, pos, ◌+ℤ◌, List, ◌++◌, length, true}
-use Rattle.std.specs.List.{All}
+-- What holds of every plant text.
+use Rattle.std.specs.Prelude.{◌≡◌, ℕ, ℤ, List, ◌++◌, true}
 use Rattle.std.specs.Fmt.{signed_decimal}
-use Rattle.fixed_expr.specs.Value.{IsWellFormed}
-use Rattle.grid_quantiser.specs.Axes.{AreAxes, end_of}
-use Rattle.plant_text.specs.declared.variables.StateVariable.{StateVariable}
-use Rattle.plant_text.specs.Names.{is_word, IsLiteral}
-use Rattle.plant_text.specs.Description.{Description, axis_of, axes_of, names_of}
-use Rattle.plant_text.specs.CanonicalText.{text_of}
+use Rattle.plant_text.specs.words.Separators.{is_word}
+use Rattle.plant_text.specs.words.Numbers.{IsLiteral}
+use Rattle.plant_text.specs.plant.Description.{Description}
+use Rattle.plant_text.specs.writing.CanonicalText.{text_of}
 use Rattle.plant_text.specs.declared.fault.PlantFault.{PlantFault}
-use Rattle.plant_text.specs.Plants.{IsPlant, IsWithinLimits}
-use Rattle.plant_text.specs.Grammar.{Spells}
-use Rattle.plant_text.specs.Fronts.{IsFront}
-use Rattle.plant_text.specs.Refusals.{IsShort, IsRefusedFor}
-
--- the cells along a state end right past its greatest number
-abbrev pub IsFilledByCells : StateVariable → Type 0
-IsFilledByCells s = end_of (axis_of s) ≡ s.high +ℤ pos 1
-
--- A plant whose ranges are divided into whole cells, with a well-formed equation for each state.
-pub record IsSound (p : Description) : Type 0 where
-  pub axes : AreAxes (axes_of p)
-  pub whole : All IsFilledByCells p.states
-  pub one_each : length p.equations ≡ length p.states
-  pub formed : All (λ e. IsWellFormed e (length (names_of p))) p.equations
+use Rattle.plant_text.specs.plant.Plants.{IsPlant}
+use Rattle.plant_text.specs.plant.Limits.{IsWithinLimits}
+use Rattle.plant_text.specs.reading.Grammar.{Spells}
+use Rattle.plant_text.specs.reading.CanonicalFronts.{IsFront}
+use Rattle.plant_text.specs.reading.Refusals.{IsShort, IsRefusedFor}
 
 -- no bytes spell two plants, and what they spell is a plant
 abbrev pub OnePlantPerText : Type 0
@@ -40,10 +27,6 @@ CanonicalTextsSpell = (p : Description) → IsPlant p → Spells (text_of p) p
 abbrev pub OnePlantAtTheFront : Type 0
 OnePlantAtTheFront =
     (first second : Description) (rest others : List ℕ) → IsPlant first → IsPlant second → text_of first ++ rest ≡ text_of second ++ others → (first ≡ second) × (rest ≡ others)
-
--- a plant has whole cells, and well-formed equations
-abbrev pub PlantsAreSound : Type 0
-PlantsAreSound = (p : Description) → IsPlant p → IsSound p
 
 -- a text has one reason to be refused, and none where it spells a plant within the limits
 abbrev pub OneRefusal : Type 0

@@ -1,7 +1,7 @@
 ghost use Rattle.std.specs.Prelude.{◌≤◌, length};
 
 use crate::fault::PlantFault;
-use crate::front::read_front;
+use crate::reading::front_reader::read_front;
 use std::alloc::Global;
 use std::test::*;
 

@@ -1,7 +1,8 @@
 //! What holds of every plant and of its text.
 
-ghost use Rattle.plant_text.specs.Laws.{OnePlantPerText, OnePlantAtTheFront, SpelledPlantsArePlants, OneRefusal, ReadOrRefused, PlantsAreSound, CanonicalTextsSpell, NumbersAreWords, OneFront};
-ghost use Rattle.plant_text.specs.Plants.{IsWithinLimits};
+ghost use Rattle.plant_text.specs.Laws.{OnePlantPerText, OnePlantAtTheFront, SpelledPlantsArePlants, OneRefusal, ReadOrRefused, CanonicalTextsSpell, NumbersAreWords, OneFront};
+ghost use Rattle.plant_text.specs.plant.Soundness.{PlantsAreSound};
+ghost use Rattle.plant_text.specs.plant.Limits.{IsWithinLimits};
 
 use crate::plant::Plant;
 

@@ -6,39 +6,21 @@
 //! `grid_quantiser`.
 #![tactic(auto)]
 
-mod boxes;
-mod declarations;
-mod draft;
-mod expression;
-mod expression_writer;
 mod fault;
-mod frames;
-mod front;
-mod items;
 pub mod laws;
-mod lines;
-mod marks;
-mod parts;
 mod plant;
-mod reader;
-mod statement_writer;
-mod statements;
-mod tokens;
-mod transition;
-mod variables;
+mod reading;
 mod words;
-mod writer;
+mod writing;
 
 pub use fault::{LimitKind, NoMemory, PlantFault};
-pub use fixed_expr::{Expr, eval};
-pub use front::{Front, read_front};
 pub use plant::Plant;
-pub use reader::{TEXT_LIMIT, read_plant};
-pub use transition::{step, step_along};
-pub use variables::{
-    GoalKind, InputVariable, Name, NoiseVariable, StateBox, StateVariable, Values,
-};
-pub use writer::write_plant;
+pub use plant::aims::{GoalKind, StateBox};
+pub use plant::transition::{step, step_along};
+pub use plant::variables::{InputVariable, Name, NoiseVariable, StateVariable, Values};
+pub use reading::front_reader::{Front, read_front};
+pub use reading::plant_reader::{TEXT_LIMIT, read_plant};
+pub use writing::plant_writer::write_plant;
 
 #[cfg(test)]
 mod front_tests;

@@ -1,10 +1,11 @@
-use crate::boxes::box_in;
-use crate::declarations::{input_in, noise_in, state_in};
 use crate::fault::ReadFault;
-use crate::lines::next_line;
-use crate::statements::{Statement, statement_in};
-use crate::variables::{GoalKind, StateBox, Variables};
-use crate::words::{is_passed_over, next_word};
+use crate::plant::aims::{GoalKind, StateBox};
+use crate::plant::variables::Variables;
+use crate::reading::boxes::box_in;
+use crate::reading::declarations::{input_in, noise_in, state_in};
+use crate::reading::statements::{Statement, statement_in};
+use crate::words::blanks::{is_passed_over, next_word};
+use crate::words::lines::next_line;
 use std::alloc::Global;
 use std::test::*;
 

@@ -1,20 +1,29 @@
+// A plant: what it is made of, what it keeps, and what it does from one sample to the next.
+
 ghost use Rattle.std.specs.Prelude.{◌≡◌, ◌<◌, ◌↔◌, length, map, slice_get, slice_index_or, pos, IfOk, IfErr, IsTrue, Some};
 ghost use Rattle.std.specs.Option.{option_map};
 ghost use Rattle.fixed_expr.specs.Expression.{expression_of};
 ghost use Rattle.grid_quantiser.specs.Axes.{cells_of};
-ghost use Rattle.plant_text.specs.declared.variables.NoiseVariable.{NoiseVariable};
-ghost use Rattle.plant_text.specs.Description.{axes_of, names_of, vectors_of, vector_of};
-ghost use Rattle.plant_text.specs.Plants.{IsPlant, IsWithinLimits};
-ghost use Rattle.plant_text.specs.Refusals.{Exceeds};
-ghost use Rattle.plant_text.specs.Marks.{IsGoalCell, IsObstacleCell};
-ghost use Rattle.plant_text.specs.PlantParts.{description_of};
+ghost use Rattle.plant_text.specs.declared.plant.variables.NoiseVariable.{NoiseVariable};
+ghost use Rattle.plant_text.specs.plant.Description.{axes_of, names_of, vectors_of, vector_of};
+ghost use Rattle.plant_text.specs.plant.Plants.{IsPlant};
+ghost use Rattle.plant_text.specs.plant.Limits.{IsWithinLimits, Exceeds};
+ghost use Rattle.plant_text.specs.plant.Marks.{IsGoalCell, IsObstacleCell};
+ghost use Rattle.plant_text.specs.inside.PlantsInMemory.{description_of};
+
+pub mod aims;
+pub mod marks;
+pub mod parts;
+pub mod transition;
+pub mod variable_names;
+pub mod variables;
 
 use crate::fault::LimitKind;
-use crate::marks::{lies_in_one, touches_one};
-use crate::parts::{PlantParts, grid_of, vectors_of};
-use crate::variables::{
-    GoalKind, InputVariable, Name, Names, NoiseVariable, StateBox, StateVariable, Variables,
-};
+use crate::plant::aims::{GoalKind, StateBox};
+use crate::plant::marks::{lies_in_one, touches_one};
+use crate::plant::parts::{PlantParts, grid_of, vectors_of};
+use crate::plant::variable_names::Names;
+use crate::plant::variables::{InputVariable, Name, NoiseVariable, StateVariable, Variables};
 use fixed_expr::Expr;
 use grid_quantiser::{Grid, Point};
 use std::marker::Model;
@@ -41,8 +50,8 @@ pub struct Plant {
 impl Model for Plant {
     ghost use Rattle.std.specs.Coded.{codes};
     ghost use Rattle.fixed_expr.specs.Tokens.{expression_code};
-    ghost use Rattle.plant_text.specs.Description.{Description};
-    ghost use Rattle.plant_text.specs.Kept.{described, IsKept};
+    ghost use Rattle.plant_text.specs.plant.Description.{Description};
+    ghost use Rattle.plant_text.specs.inside.PlantsInMemory.{described, IsKept};
 
     ghost Value = { Description };
 

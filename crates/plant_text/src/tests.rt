@@ -1,11 +1,11 @@
 ghost use Rattle.std.specs.Prelude.{◌≡◌, [], ◌∷◌, codes, pos, negsuc, IfOk};
 ghost use Rattle.fixed_expr.specs.Expression.{expression_of, Variable, Number, Sum, Difference, Product};
-ghost use Rattle.plant_text.specs.Plants.{IsPlant};
-ghost use Rattle.plant_text.specs.PlantParts.{description_of};
+ghost use Rattle.plant_text.specs.plant.Plants.{IsPlant};
+ghost use Rattle.plant_text.specs.inside.PlantsInMemory.{description_of};
 
 use super::*;
-use crate::parts::PlantParts;
-use crate::variables::Variables;
+use crate::plant::parts::PlantParts;
+use crate::plant::variables::Variables;
 use std::alloc::{AllocError, Global};
 use std::test::Fail;
 

@@ -14,11 +14,11 @@ use Rattle.grid_quantiser.specs.Axes.{cells_of}
 use Rattle.grid_quantiser.specs.Cells.{centre_of, point_of}
 use Rattle.grid_quantiser.specs.Laws.{CentresAreNear}
 use Rattle.interval_eval.specs.Span.{span_of}
-use Rattle.plant_text.specs.declared.variables.NoiseVariable.{NoiseVariable}
-use Rattle.plant_text.specs.Description.{Description, axis_of, axes_of, vectors_of, vector_of}
-use Rattle.plant_text.specs.Variables.{IsNoiseVariable}
-use Rattle.plant_text.specs.Steps.{IsNoise, values_at, step_of, equation_at}
-use Rattle.plant_text.specs.Laws.{IsSound}
+use Rattle.plant_text.specs.declared.plant.variables.NoiseVariable.{NoiseVariable}
+use Rattle.plant_text.specs.plant.Description.{Description, axis_of, axes_of, vectors_of, vector_of}
+use Rattle.plant_text.specs.plant.Variables.{IsNoiseVariable}
+use Rattle.plant_text.specs.plant.Steps.{IsNoise, values_at, step_of, equation_at}
+use Rattle.plant_text.specs.plant.Soundness.{IsSound}
 use Rattle.successor_box.specs.Boxes.{noise_centre, area_of, radii_of, deviation_at, central_values}
 use Rattle.successor_box.specs.Slopes.{HasNoOverflow}
 use Rattle.successor_box.proofs.CellValues.{middle, central_in}

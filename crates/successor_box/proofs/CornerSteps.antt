@@ -10,11 +10,11 @@ use Rattle.interval_eval.specs.Laws.{ValuesLieInSpans}
 use Rattle.grid_quantiser.specs.Axes.{cells_of}
 use Rattle.grid_quantiser.specs.Cells.{point_of}
 use Rattle.grid_quantiser.specs.Laws.{CentresAreNear}
-use Rattle.plant_text.specs.Description.{Description, axes_of, vectors_of}
-use Rattle.plant_text.specs.Variables.{IsNoiseVariable}
-use Rattle.plant_text.specs.Laws.{IsSound}
+use Rattle.plant_text.specs.plant.Description.{Description, axes_of, vectors_of}
+use Rattle.plant_text.specs.plant.Variables.{IsNoiseVariable}
+use Rattle.plant_text.specs.plant.Soundness.{IsSound}
 use Rattle.successor_box.specs.Boxes.{deviation_at, central_values, low_corner, high_corner}
-use Rattle.plant_text.specs.Steps.{equation_at}
+use Rattle.plant_text.specs.plant.Steps.{equation_at}
 use Rattle.successor_box.specs.Slopes.{HasNoOverflow, slopes_of}
 use Rattle.successor_box.proofs.Staying.{fits_signed}
 use Rattle.successor_box.proofs.SlopeRows.{entry_is}

@@ -2,7 +2,7 @@
 use Rattle.std.proofs.Common.{◌≡◌, ℕ, suc, ◌+◌, ◌-◌, ◌*◌, ◌<◌, ◌≤◌, List, [], ◌∷◌, ◌++◌, Option, Some, None, length, take, set, get_or, replicate, refl, sym, ap, ◌∙◌, append_assoc, arith}
 use Rattle.std.specs.Prelude.{ℤ, pos, ◌↔◌, IfSome}
 use Rattle.std.proofs.lemmas.List.{length-map, take_more, set_at, length-take-le}
-use Rattle.plant_text.specs.Description.{Description, axis_of, axes_of}
+use Rattle.plant_text.specs.plant.Description.{Description, axis_of, axes_of}
 use Rattle.grid_quantiser.specs.declared.axis.Axis.{Axis}
 use Rattle.grid_quantiser.specs.declared.boxes.CellBox.{CellBox}
 use Rattle.grid_quantiser.specs.Axes.{cells_of}

@@ -13,9 +13,9 @@ use Rattle.grid_quantiser.specs.Axes.{no_axis, cells_of}
 use Rattle.grid_quantiser.specs.Cells.{centre_of}
 use Rattle.grid_quantiser.specs.Sides.{IsSideOf}
 use Rattle.grid_quantiser.specs.Laws.{CentresRestOnLaterPlaces}
-use Rattle.plant_text.specs.Description.{Description, axis_of, axes_of, vectors_of, vector_of}
-use Rattle.plant_text.specs.Laws.{IsSound}
-use Rattle.plant_text.specs.Steps.{equation_at}
+use Rattle.plant_text.specs.plant.Description.{Description, axis_of, axes_of, vectors_of, vector_of}
+use Rattle.plant_text.specs.plant.Soundness.{IsSound}
+use Rattle.plant_text.specs.plant.Steps.{equation_at}
 use Rattle.successor_box.specs.Boxes.{noise_centre, deviation_at, central_values, low_corner, high_corner}
 use Rattle.successor_box.specs.Sides.{IsSideAt, RestsOn}
 use Rattle.successor_box.proofs.CellValues.{vector_count}

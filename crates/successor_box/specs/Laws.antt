@@ -4,9 +4,9 @@ use Rattle.std.specs.List.{Contains}
 use Rattle.grid_quantiser.specs.declared.boxes.CellBox.{CellBox}
 use Rattle.grid_quantiser.specs.Axes.{cells_of}
 use Rattle.grid_quantiser.specs.Cells.{IsInDomain, IsPointOf, cell_of, point_of}
-use Rattle.plant_text.specs.Description.{Description, axes_of, vectors_of}
-use Rattle.plant_text.specs.Steps.{IsNoise, step_of, StepStaysInRange}
-use Rattle.plant_text.specs.Laws.{IsSound}
+use Rattle.plant_text.specs.plant.Description.{Description, axes_of, vectors_of}
+use Rattle.plant_text.specs.plant.Steps.{IsNoise, step_of, StepStaysInRange}
+use Rattle.plant_text.specs.plant.Soundness.{IsSound}
 use Rattle.successor_box.specs.Boxes.{IsEnabledAt, AreSuccessors, IsBoxOf, cells_in}
 use Rattle.successor_box.specs.Slopes.{HasNoOverflow}
 

@@ -3,7 +3,7 @@ use Rattle.std.specs.Prelude.{◌≡◌, ◌⊎◌, ℕ, ◌%◌, ◌<◌, ◌�
 use Rattle.grid_quantiser.specs.declared.sides.Side.{Side}
 use Rattle.grid_quantiser.specs.Axes.{no_axis, cells_of}
 use Rattle.grid_quantiser.specs.Sides.{IsSideOf}
-use Rattle.plant_text.specs.Description.{Description, axes_of, vectors_of}
+use Rattle.plant_text.specs.plant.Description.{Description, axes_of, vectors_of}
 use Rattle.successor_box.specs.Boxes.{low_corner, high_corner}
 
 -- the side of the successor box of a cell, under an input, along the axis of a state

@@ -3,7 +3,7 @@
 ghost use Rattle.std.specs.Prelude.{◌≡◌, ℕ, ◌+◌, ◌-◌, ◌<◌, ◌≤◌, ◌≤ℤ◌, length, take, slice_index_or, pos};
 ghost use Rattle.grid_quantiser.specs.Axes.{cells_of};
 ghost use Rattle.grid_quantiser.specs.Cells.{low_of, high_of, point_of};
-ghost use Rattle.plant_text.specs.Description.{axes_of, vectors_of};
+ghost use Rattle.plant_text.specs.plant.Description.{axes_of, vectors_of};
 ghost use Rattle.successor_box.specs.Boxes.{area_of, radii_of};
 ghost use Rattle.successor_box.specs.Area.{AreRanges, AreRadii, no_range, variables_of};
 

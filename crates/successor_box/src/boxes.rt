@@ -2,7 +2,7 @@ ghost use Rattle.std.specs.Prelude.{◌≡◌, ◌<◌, map};
 ghost use Rattle.fixed_expr.specs.Value.{value_of};
 ghost use Rattle.grid_quantiser.specs.Axes.{cells_of};
 ghost use Rattle.grid_quantiser.specs.Cells.{point_of};
-ghost use Rattle.plant_text.specs.Description.{axes_of, vectors_of};
+ghost use Rattle.plant_text.specs.plant.Description.{axes_of, vectors_of};
 ghost use Rattle.successor_box.specs.Boxes.{central_values, low_corner, high_corner, IsBoxOf};
 ghost use Rattle.successor_box.specs.Slopes.{HasNoOverflow, slopes_of};
 

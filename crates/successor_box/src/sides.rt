@@ -1,8 +1,8 @@
 ghost use Rattle.std.specs.Prelude.{◌≡◌, ℕ, ◌<◌, length};
 ghost use Rattle.fixed_expr.specs.Value.{value_of};
 ghost use Rattle.grid_quantiser.specs.Axes.{cells_of};
-ghost use Rattle.plant_text.specs.Description.{axes_of, vectors_of};
-ghost use Rattle.plant_text.specs.Steps.{equation_at};
+ghost use Rattle.plant_text.specs.plant.Description.{axes_of, vectors_of};
+ghost use Rattle.plant_text.specs.plant.Steps.{equation_at};
 ghost use Rattle.successor_box.specs.Boxes.{central_values, IsBoxOf};
 ghost use Rattle.successor_box.specs.Sides.{IsSideAt, AreSidesAt};
 ghost use Rattle.successor_box.specs.Slopes.{HasNoOverflow, slopes_of};

@@ -1,7 +1,7 @@
 ghost use Rattle.std.specs.Prelude.{◌≡◌, ℕ, ◌≤◌, ◌<◌, [], length, slice_index_or, pos, false, IsTrue};
 ghost use Rattle.fixed_expr.specs.Expression.{expression_of};
 ghost use Rattle.fixed_expr.specs.Mentions.{mentions};
-ghost use Rattle.plant_text.specs.Description.{vectors_of};
+ghost use Rattle.plant_text.specs.plant.Description.{vectors_of};
 ghost use Rattle.successor_box.specs.Sides.{RestsOn};
 ghost use Rattle.successor_box.specs.Slopes.{slopes_of};
 

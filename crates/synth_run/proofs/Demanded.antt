@@ -5,10 +5,10 @@ use Rattle.plant_text.specs.declared.fault.LimitKind.{LimitKind}
 use Rattle.plant_text.specs.declared.fault.LimitKind.TheVariants.{PlantText, TableText, Vectors, Cells, Pairs, Edges}
 use Rattle.plant_text.specs.declared.fault.PlantFault.{PlantFault}
 use Rattle.plant_text.specs.declared.fault.PlantFault.TheVariants as faults
-use Rattle.plant_text.specs.declared.variables.GoalKind.TheVariants.{Reach, Keep}
-use Rattle.plant_text.specs.Description.{Description}
-use Rattle.plant_text.specs.Plants.{IsPlant}
-use Rattle.plant_text.specs.Refusals.{IsRefusedFor}
+use Rattle.plant_text.specs.declared.plant.aims.GoalKind.TheVariants.{Reach, Keep}
+use Rattle.plant_text.specs.plant.Description.{Description}
+use Rattle.plant_text.specs.plant.Plants.{IsPlant}
+use Rattle.plant_text.specs.reading.Refusals.{IsRefusedFor}
 use Rattle.plant_text.specs.Laws.{OnePlantPerText, OneRefusal, ReadOrRefused}
 use Rattle.successor_box.specs.Slopes.{HasNoOverflow, IsFirstOverflow}
 use Rattle.abstraction_table.specs.Laws.{OneEdgeCount}

@@ -11,11 +11,11 @@ use Rattle.game_core.specs.Game.{Game, mark_of, successors_of}
 use Rattle.game_core.specs.Solution.{row_of, HasRowBelow, LeadsToGoals, IsReachSolution}
 use Rattle.grid_quantiser.specs.Cells.{IsInDomain, cell_of}
 use Rattle.grid_quantiser.specs.Boxes.{IsInBox, Touches, LiesInside}
-use Rattle.plant_text.specs.declared.variables.StateBox.{StateBox}
-use Rattle.plant_text.specs.Description.{Description, axes_of}
-use Rattle.plant_text.specs.Steps.{step_of, IsNoise}
-use Rattle.plant_text.specs.Marks.{IsGoalCell, IsObstacleCell}
-use Rattle.plant_text.specs.Plants.{IsWithinLimits}
+use Rattle.plant_text.specs.declared.plant.aims.StateBox.{StateBox}
+use Rattle.plant_text.specs.plant.Description.{Description, axes_of}
+use Rattle.plant_text.specs.plant.Steps.{step_of, IsNoise}
+use Rattle.plant_text.specs.plant.Marks.{IsGoalCell, IsObstacleCell}
+use Rattle.plant_text.specs.plant.Limits.{IsWithinLimits}
 use Rattle.abstraction_table.specs.Abstraction.{IsGameOf}
 use Rattle.synth_run.specs.TableText.{table_text}
 use Rattle.synth_run.specs.Choice.{AreRowsOf}

@@ -6,9 +6,9 @@ use Rattle.game_core.specs.declared.game.Row.{Row}
 use Rattle.game_core.specs.Game.{Game, IsGame}
 use Rattle.game_core.specs.Solution.{row_of, IsReachRow, IsChosenInput, IsReachSolution, RanksAreBelowTheCells}
 use Rattle.grid_quantiser.specs.Axes.{cells_of}
-use Rattle.plant_text.specs.Description.{Description, axes_of}
+use Rattle.plant_text.specs.plant.Description.{Description, axes_of}
 use Rattle.abstraction_table.specs.Abstraction.{IsGameOf}
-use Rattle.plant_text.specs.declared.variables.GoalKind.TheVariants.{Reach}
+use Rattle.plant_text.specs.declared.plant.aims.GoalKind.TheVariants.{Reach}
 use Rattle.synth_run.specs.Choice.{IsRowOver, AreRowsOf}
 
 input_below : (g : Game) (c rank u : ℕ) → IsGame g → IsChosenInput g c rank u → u < 4096

@@ -11,10 +11,10 @@ use Rattle.game_core.specs.Game.{Game}
 use Rattle.game_core.specs.Solution.{IsReachSolution, row_of}
 use Rattle.grid_quantiser.specs.Cells.{cell_of}
 use Rattle.grid_quantiser.specs.Axes.{cells_of}
-use Rattle.plant_text.specs.Description.{Description, axes_of}
-use Rattle.plant_text.specs.CanonicalText.{text_of, line}
-use Rattle.plant_text.specs.Plants.{IsWithinLimits}
-use Rattle.plant_text.specs.Names.{is_separator, is_word}
+use Rattle.plant_text.specs.plant.Description.{Description, axes_of}
+use Rattle.plant_text.specs.writing.CanonicalText.{text_of, line}
+use Rattle.plant_text.specs.plant.Limits.{IsWithinLimits}
+use Rattle.plant_text.specs.words.Separators.{is_word, is_separator}
 use Rattle.plant_text.specs.Laws.{OnePlantAtTheFront, OnePlantPerText, NumbersAreWords}
 use Rattle.abstraction_table.specs.Laws.{OneGamePerPlant}
 use Rattle.synth_run.specs.Headline.{IsTableOf}

@@ -6,8 +6,8 @@ use Rattle.std.specs.Option.{is_some}
 use Rattle.std.specs.Fmt.{decimal}
 use Rattle.game_core.specs.declared.game.Row.{Row}
 use Rattle.game_core.specs.Solution.{row_of}
-use Rattle.plant_text.specs.Description.{Description}
-use Rattle.plant_text.specs.CanonicalText.{text_of}
+use Rattle.plant_text.specs.plant.Description.{Description}
+use Rattle.plant_text.specs.writing.CanonicalText.{text_of}
 use Rattle.synth_run.specs.TableText.{row_line, row_lines, row_count, table_text}
 
 count_none : (rows : List (Option Row)) (i : ℕ) → is_some (row_of rows i) ≡ false → row_count (take (suc i) rows) ≡ row_count (take i rows)

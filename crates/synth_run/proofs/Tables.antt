@@ -3,9 +3,9 @@ use Rattle.std.proofs.Common.{◌≡◌, ℕ, List, Option}
 use Rattle.game_core.specs.declared.game.Row.{Row}
 use Rattle.game_core.specs.Game.{Game}
 use Rattle.game_core.specs.Solution.{IsReachSolution, LeadsToGoals}
-use Rattle.plant_text.specs.declared.variables.GoalKind.TheVariants.{Reach}
-use Rattle.plant_text.specs.Description.{Description}
-use Rattle.plant_text.specs.Plants.{IsWithinLimits}
+use Rattle.plant_text.specs.declared.plant.aims.GoalKind.TheVariants.{Reach}
+use Rattle.plant_text.specs.plant.Description.{Description}
+use Rattle.plant_text.specs.plant.Limits.{IsWithinLimits}
 use Rattle.successor_box.specs.Slopes.{HasNoOverflow}
 use Rattle.abstraction_table.specs.Abstraction.{IsGameOf}
 use Rattle.abstraction_table.specs.Refinement.{IsRefinement}

@@ -5,9 +5,9 @@ use Rattle.game_core.specs.declared.game.Row.{Row}
 use Rattle.game_core.specs.Solution.{row_of}
 use Rattle.grid_quantiser.specs.Axes.{cells_of}
 use Rattle.grid_quantiser.specs.Cells.{IsInDomain, cell_of}
-use Rattle.plant_text.specs.declared.variables.GoalKind.TheVariants.{Reach}
-use Rattle.plant_text.specs.Description.{Description, axes_of}
-use Rattle.plant_text.specs.Plants.{IsWithinLimits}
+use Rattle.plant_text.specs.declared.plant.aims.GoalKind.TheVariants.{Reach}
+use Rattle.plant_text.specs.plant.Description.{Description, axes_of}
+use Rattle.plant_text.specs.plant.Limits.{IsWithinLimits}
 use Rattle.synth_run.specs.TableText.{table_text}
 
 -- A row of a table over so many cells: the rank is below their number, and at rank 0 the input is 0.

@@ -3,11 +3,11 @@ use Rattle.std.specs.Prelude.{◌≡◌, ◌⊎◌, ℕ, ◌^◌, ◌<◌, ◌�
 use Rattle.plant_text.specs.declared.fault.LimitKind.{LimitKind}
 use Rattle.plant_text.specs.declared.fault.LimitKind.TheVariants.{PlantText, TableText, Vectors, Cells, Pairs, Edges}
 use Rattle.plant_text.specs.declared.fault.PlantFault.TheVariants as faults
-use Rattle.plant_text.specs.declared.variables.GoalKind.TheVariants.{Reach, Keep}
-use Rattle.plant_text.specs.Description.{Description}
-use Rattle.plant_text.specs.Plants.{IsWithinLimits}
-use Rattle.plant_text.specs.Grammar.{Spells}
-use Rattle.plant_text.specs.Refusals.{IsShort, IsRefusedFor}
+use Rattle.plant_text.specs.declared.plant.aims.GoalKind.TheVariants.{Reach, Keep}
+use Rattle.plant_text.specs.plant.Description.{Description}
+use Rattle.plant_text.specs.plant.Limits.{IsWithinLimits}
+use Rattle.plant_text.specs.reading.Grammar.{Spells}
+use Rattle.plant_text.specs.reading.Refusals.{IsShort, IsRefusedFor}
 use Rattle.successor_box.specs.Slopes.{HasNoOverflow, IsFirstOverflow}
 use Rattle.abstraction_table.specs.Abstraction.{AreEdges}
 use Rattle.synth_run.specs.declared.outcome.Outcome.{Outcome}

@@ -3,8 +3,8 @@ use Rattle.std.specs.Prelude.{◌≡◌, ℕ, List, Option}
 use Rattle.game_core.specs.declared.game.Row.{Row}
 use Rattle.game_core.specs.Game.{Game}
 use Rattle.game_core.specs.Solution.{IsReachSolution}
-use Rattle.plant_text.specs.declared.variables.GoalKind.TheVariants.{Reach}
-use Rattle.plant_text.specs.Description.{Description}
+use Rattle.plant_text.specs.declared.plant.aims.GoalKind.TheVariants.{Reach}
+use Rattle.plant_text.specs.plant.Description.{Description}
 use Rattle.successor_box.specs.Slopes.{HasNoOverflow}
 use Rattle.abstraction_table.specs.Abstraction.{IsGameOf}
 use Rattle.synth_run.specs.Demands.{IsAccepted}

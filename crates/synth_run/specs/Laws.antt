@@ -1,8 +1,8 @@
 -- What holds of every table.
 use Rattle.std.specs.Prelude.{◌≡◌, ℕ, List, Option}
 use Rattle.game_core.specs.declared.game.Row.{Row}
-use Rattle.plant_text.specs.Description.{Description}
-use Rattle.plant_text.specs.Plants.{IsWithinLimits}
+use Rattle.plant_text.specs.plant.Description.{Description}
+use Rattle.plant_text.specs.plant.Limits.{IsWithinLimits}
 use Rattle.synth_run.specs.declared.outcome.Outcome.{Outcome}
 use Rattle.synth_run.specs.Demands.{Demands}
 use Rattle.synth_run.specs.Headline.{IsTableFor}

@@ -2,8 +2,8 @@
 use Rattle.std.specs.Prelude.{ℕ, zero, suc, List, [], ◌∷◌, ◌++◌, Option, Some, None, codes}
 use Rattle.std.specs.Fmt.{decimal}
 use Rattle.game_core.specs.declared.game.Row.{Row}
-use Rattle.plant_text.specs.Description.{Description}
-use Rattle.plant_text.specs.CanonicalText.{line, text_of}
+use Rattle.plant_text.specs.plant.Description.{Description}
+use Rattle.plant_text.specs.writing.CanonicalText.{line, text_of}
 
 -- how many cells have a row
 abbrev pub row_count : List (Option Row) → ℕ

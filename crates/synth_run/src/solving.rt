@@ -1,7 +1,7 @@
 // From the bytes of a plant's text to the text of its table.
 
 ghost use Rattle.std.specs.Prelude.{◌≡◌, ◌≢◌, IfOk, IfErr};
-ghost use Rattle.plant_text.specs.declared.variables.GoalKind.TheVariants.{Reach};
+ghost use Rattle.plant_text.specs.declared.plant.aims.GoalKind.TheVariants.{Reach};
 ghost use Rattle.synth_run.specs.declared.outcome.Outcome.TheVariants.{Done, NoMemory};
 ghost use Rattle.synth_run.specs.Demands.{Demands, PlantDemands};
 ghost use Rattle.synth_run.specs.Headline.{IsTableOf, IsTableFor};

@@ -3,8 +3,8 @@
 ghost use Rattle.std.specs.Prelude.{◌≡◌, ◌++◌, codes, IfOk, OnOk};
 ghost use Rattle.std.specs.Fmt.{decimal};
 ghost use Rattle.game_core.specs.declared.game.Row.{Row};
-ghost use Rattle.plant_text.specs.Description.{Description};
-ghost use Rattle.plant_text.specs.CanonicalText.{text_of};
+ghost use Rattle.plant_text.specs.plant.Description.{Description};
+ghost use Rattle.plant_text.specs.writing.CanonicalText.{text_of};
 ghost use Rattle.synth_run.specs.TableText.{table_text, row_line, row_lines, row_count};
 
 use crate::memory::NoMemory;

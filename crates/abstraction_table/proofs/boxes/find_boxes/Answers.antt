@@ -3,7 +3,7 @@ use Rattle.std.specs.Fork.{slice_chunk}
 use Rattle.std.proofs.lemmas.List.{take_at}
 use Rattle.grid_quantiser.specs.declared.boxes.CellBox.{CellBox}
 use Rattle.grid_quantiser.specs.Axes.{cells_of}
-use Rattle.plant_text.specs.Description.{axes_of}
+use Rattle.plant_text.specs.plant.Description.{axes_of}
 use Rattle.successor_box.specs.Boxes.{IsBoxOf}
 use Rattle.abstraction_table.specs.Abstraction.{pairs_of}
 use Rattle.abstraction_table.proofs.PlantGame.{some_vectors}

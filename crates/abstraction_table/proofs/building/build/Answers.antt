@@ -1,6 +1,6 @@
 use Rattle.std.proofs.Common.{◌^◌, ◌≤◌, arith}
 use Rattle.abstraction_table.specs.Tallies.{edges_of}
-use Rattle.plant_text.specs.Description.{axes_of}
+use Rattle.plant_text.specs.plant.Description.{axes_of}
 use Rattle.abstraction_table.proofs.PlantGame.{Laws, ordered, are_edges, kept, is_game_of}
 use Rattle.abstraction_table.proofs.building.build.Goals as goal
 

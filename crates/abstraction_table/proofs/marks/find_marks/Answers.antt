@@ -1,7 +1,7 @@
 use Rattle.std.proofs.Common.{◌≡◌, ℕ, ◌-◌, ◌∙◌, List, ap, subst, arith}
 use Rattle.std.specs.List.{AllZip, range_with_len}
 use Rattle.grid_quantiser.specs.Axes.{cells_of}
-use Rattle.plant_text.specs.Description.{axes_of}
+use Rattle.plant_text.specs.plant.Description.{axes_of}
 use Rattle.rayon.specs.Numbers.{nat_range}
 use Rattle.rayon.proofs.ListFacts.{IfOk-then}
 use Rattle.abstraction_table.specs.BoxGame.{IsMarkAt}

@@ -1,7 +1,7 @@
 use Rattle.std.proofs.Common.{◌≡◌, ℕ, ◌*◌, ◌-◌, ◌/◌, ◌%◌, ◌<◌, ◌≤◌, List, get_or, ap, subst, ◌∙◌, arith}
 use Rattle.std.specs.List.{AllZip, range_with_len}
 use Rattle.std.proofs.lemmas.Nat.{div_below, mod_below}
-use Rattle.plant_text.specs.Description.{vectors_of}
+use Rattle.plant_text.specs.plant.Description.{vectors_of}
 use Rattle.rayon.specs.Numbers.{nat_range}
 use Rattle.successor_box.specs.Sides.{IsSideAt}
 use Rattle.abstraction_table.proofs.Mapped.{below_end}

@@ -1,4 +1,4 @@
-use Rattle.plant_text.proofs.Fronts as fronts
+use Rattle.plant_text.proofs.lemmas.reading.FrontLineByLine as fronts
 use Rattle.plant_text.proofs.laws.one_front.Goals as goal
 
 pub returns : goal.returns

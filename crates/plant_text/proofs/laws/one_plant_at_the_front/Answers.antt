@@ -1,5 +1,5 @@
-use Rattle.plant_text.proofs.LineLaws.{one_statement, passed_over}
-use Rattle.plant_text.proofs.PlantFront.{one_front}
+use Rattle.plant_text.proofs.lemmas.reading.StatementLaws.{one_statement, passed_over}
+use Rattle.plant_text.proofs.lemmas.reading.OnePlantInFront.{one_front}
 use Rattle.plant_text.proofs.laws.one_plant_at_the_front.Goals as goal
 
 pub returns : goal.returns

@@ -1,5 +1,5 @@
-use Rattle.plant_text.proofs.LineLaws.{one_statement, passed_over}
-use Rattle.plant_text.proofs.Leading.{one_plant}
+use Rattle.plant_text.proofs.lemmas.reading.StatementLaws.{one_statement, passed_over}
+use Rattle.plant_text.proofs.lemmas.reading.LinesLead.{one_plant}
 use Rattle.plant_text.proofs.laws.one_plant_per_text.Goals as goal
 
 pub returns : goal.returns

@@ -1,5 +1,5 @@
 use Rattle.std.proofs.Common.{arith, rules}
-use Rattle.plant_text.specs.Description.{axes_of}
+use Rattle.plant_text.specs.plant.Description.{axes_of}
 use Rattle.successor_box.specs.Boxes.{area_of}
 use Rattle.successor_box.specs.Area.{no_range}
 use Rattle.successor_box.proofs.Filling.{fill_more, fill_all}

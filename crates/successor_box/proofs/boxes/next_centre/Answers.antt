@@ -1,7 +1,7 @@
 use Rattle.std.proofs.Common.{◌≡◌, List, map, ◌∙◌, ap}
 use Rattle.grid_quantiser.specs.declared.axis.Axis.{Axis}
 use Rattle.grid_quantiser.specs.Cells.{centre_of, point_of}
-use Rattle.plant_text.specs.Description.{axes_of}
+use Rattle.plant_text.specs.plant.Description.{axes_of}
 use Rattle.successor_box.specs.Boxes.{noise_centre}
 use Rattle.successor_box.proofs.Padding.{domain_more}
 use Rattle.successor_box.proofs.Centres.{centres_are_noise, central_step}

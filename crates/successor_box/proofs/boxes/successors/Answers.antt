@@ -1,6 +1,6 @@
 use Rattle.std.proofs.Common.{◌≡◌, ◌≤◌, length, arith}
 use Rattle.std.proofs.lemmas.List.{length-map}
-use Rattle.plant_text.specs.Description.{axis_of, axes_of}
+use Rattle.plant_text.specs.plant.Description.{axis_of, axes_of}
 use Rattle.successor_box.specs.Boxes.{low_corner, high_corner}
 use Rattle.successor_box.proofs.Padding.{at_most_more, box_less, box_more, corners_less}
 use Rattle.successor_box.proofs.Enabled.{corners_ordered}

@@ -1,6 +1,6 @@
 use Rattle.std.proofs.Common.{arith}
 use Rattle.std.proofs.lemmas.List.{length-map}
-use Rattle.plant_text.specs.Description.{axis_of}
+use Rattle.plant_text.specs.plant.Description.{axis_of}
 use Rattle.successor_box.specs.Boxes.{low_corner, high_corner}
 use Rattle.successor_box.proofs.Enabled.{corners_ordered}
 use Rattle.successor_box.proofs.sides.box_of_sides.Goals as goal

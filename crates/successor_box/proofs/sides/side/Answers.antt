@@ -5,8 +5,8 @@ use Rattle.std.proofs.lemmas.Int.{to_z-of_z}
 use Rattle.fixed_expr.specs.Value.{value_of}
 use Rattle.grid_quantiser.specs.Axes.{no_axis}
 use Rattle.grid_quantiser.specs.Sides.{IsSideOf}
-use Rattle.plant_text.specs.Description.{axes_of}
-use Rattle.plant_text.specs.Steps.{equation_at}
+use Rattle.plant_text.specs.plant.Description.{axes_of}
+use Rattle.plant_text.specs.plant.Steps.{equation_at}
 use Rattle.successor_box.specs.Boxes.{central_values}
 use Rattle.successor_box.proofs.SlopeRows.{row_count}
 use Rattle.successor_box.proofs.CornerSteps.{end_step}

@@ -5,8 +5,8 @@ use Rattle.fixed_expr.specs.Expression.{Expression, Number, expression_of}
 use Rattle.fixed_expr.specs.Mentions.{mentions}
 use Rattle.grid_quantiser.specs.declared.axis.Axis.{Axis}
 use Rattle.grid_quantiser.specs.Axes.{cells_of}
-use Rattle.plant_text.specs.Description.{Description, axes_of}
-use Rattle.plant_text.specs.Steps.{equation_at}
+use Rattle.plant_text.specs.plant.Description.{Description, axes_of}
+use Rattle.plant_text.specs.plant.Steps.{equation_at}
 use Rattle.successor_box.proofs.SlopeRows.{row_count, entry_is}
 use Rattle.successor_box.proofs.Supports.{rests_on_inputs, rests_on_no_input}
 use Rattle.successor_box.proofs.support.find_support.Goals as goal

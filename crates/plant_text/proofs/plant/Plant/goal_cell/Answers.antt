@@ -1,8 +1,8 @@
 use Rattle.std.proofs.Common.{length, map}
 use Rattle.std.proofs.lemmas.List.{length-map}
-use Rattle.plant_text.specs.Description.{axis_of}
-use Rattle.plant_text.specs.Kept.{described}
-use Rattle.plant_text.proofs.CheckedBoxes.{boxes_ordered, goal_is}
+use Rattle.plant_text.specs.plant.Description.{axis_of}
+use Rattle.plant_text.specs.inside.PlantsInMemory.{described}
+use Rattle.plant_text.proofs.lemmas.plant.OrderedBoxes.{boxes_ordered, goal_is}
 use Rattle.plant_text.proofs.plant.Plant.goal_cell.Goals as goal
 
 pub lies_in_one-requires-clause-ordered : goal.lies_in_one-requires-clause-ordered

@@ -4,7 +4,7 @@ use Rattle.std.specs.Option.{option_map}
 use Rattle.std.specs.Int.{w128}
 use Rattle.std.proofs.lemmas.Int.{to_z-of_z}
 use Rattle.std.proofs.lemmas.Option.{slice_get_read}
-use Rattle.plant_text.specs.declared.variables.NoiseVariable.{NoiseVariable}
+use Rattle.plant_text.specs.declared.plant.variables.NoiseVariable.{NoiseVariable}
 use Rattle.plant_text.proofs.plant.Plant.noise_range.Goals as goal
 
 pub returns : goal.returns

@@ -1,7 +1,7 @@
 use Rattle.std.proofs.Common.{length, map}
 use Rattle.std.proofs.lemmas.List.{length-map}
-use Rattle.plant_text.specs.Description.{axis_of}
-use Rattle.plant_text.proofs.CheckedBoxes.{boxes_ordered}
+use Rattle.plant_text.specs.plant.Description.{axis_of}
+use Rattle.plant_text.proofs.lemmas.plant.OrderedBoxes.{boxes_ordered}
 use Rattle.plant_text.proofs.plant.Plant.obstacle_cell.Goals as goal
 
 pub touches_one-requires-clause-ordered : goal.touches_one-requires-clause-ordered

@@ -1,0 +1,5 @@
+-- Lemmas that several proofs use.
+pub mod words
+pub mod plant
+pub mod writing
+pub mod reading

@@ -1,0 +1,7 @@
+pub mod Axes
+pub mod InputVectors
+pub mod NamePlaces
+pub mod NextPoints
+pub mod OrderedBoxes
+pub mod SoundPlants
+pub mod VariableValues

@@ -1,0 +1,6 @@
+pub mod CanonicalLines
+pub mod CanonicalTrees
+pub mod CanonicalWords
+pub mod ExpressionTokens
+pub mod PlantsSpelled
+pub mod WrittenLines

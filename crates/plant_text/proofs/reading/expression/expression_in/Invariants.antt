@@ -1,0 +1,13 @@
+use Rattle.std.proofs.Common.{length}
+use Rattle.plant_text.specs.inside.ExpressionItems.{tokens_in, variable_names}
+use Rattle.plant_text.specs.inside.ExpressionMachine.{machine_of}
+use Rattle.plant_text.proofs.lemmas.reading.ExpressionsRead.{Taken}
+use Rattle.plant_text.proofs.reading.expression.expression_in.Given as goal
+
+abbrev pub invariant-loop-reader : goal.invariant-loop-reader
+invariant-loop-reader l = record {
+  taken : Taken (variable_names l.variables) (tokens_in l.fn.rest) (tokens_in l.rest) (machine_of l.reader) l.reader.counts;
+}
+
+abbrev pub decreases-loop-reader : goal.decreases-loop-reader
+decreases-loop-reader l = length l.rest

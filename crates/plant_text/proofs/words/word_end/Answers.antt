@@ -1,7 +1,0 @@
-use Rattle.std.proofs.Common.{arith}
-use Rattle.plant_text.specs.Words.{is_blank}
-use Rattle.plant_text.proofs.Cuts.{place_or_len}
-use Rattle.plant_text.proofs.words.word_end.Goals as goal
-
-pub returns-clause-end : goal.returns-clause-end
-returns-clause-end c = grind (arith, place_or_len is_blank c.args.bytes.now)

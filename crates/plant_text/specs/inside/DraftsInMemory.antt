@@ -1,0 +1,18 @@
+-- What a draft in memory holds. No public clause names this.
+use Rattle.std.specs.Prelude.{map}
+use Rattle.fixed_expr.specs.Expression.{expression_of}
+use Rattle.plant_text.specs.declared.reading.draft.Draft.{Draft}
+use Rattle.plant_text.specs.reading.Grammar.{Part}
+
+abbrev pub part_of : Draft → Part
+part_of d = record {
+  begun = d.begun;
+  states = d.variables.states.items;
+  inputs = d.variables.inputs.items;
+  noises = d.variables.noises.items;
+  equations = map expression_of d.equations.items;
+  targets = d.targets.items;
+  obstacles = d.obstacles.items;
+  goal = d.goal;
+  ended = d.ended;
+}

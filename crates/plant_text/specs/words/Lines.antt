@@ -1,0 +1,17 @@
+-- The lines of a text.
+use Rattle.std.specs.Prelude.{ℕ, codes, ◌==◌, List, [], ◌∷◌, ◌++◌, if◌then◌else◌}
+use Rattle.std.specs.List.{flat_map}
+
+-- a byte at the front of the first of the pieces
+abbrev pub joined : ℕ → List (List ℕ) → List (List ℕ)
+joined b [] = (b ∷ []) ∷ []
+joined b (piece ∷ pieces) = (b ∷ piece) ∷ pieces
+
+-- the lines of a text: a line feed ends a line, and so does the end of the text where something stands behind the last one
+abbrev pub lines_of : List ℕ → List (List ℕ)
+lines_of [] = []
+lines_of (b ∷ bytes) = if b == 10 then [] ∷ lines_of bytes else joined b (lines_of bytes)
+
+-- lines, each with its line feed
+abbrev pub with_line_feeds : List (List ℕ) → List ℕ
+with_line_feeds lines = flat_map (λ words. words ++ codes "\n") lines

@@ -1,0 +1,6 @@
+-- How large a number a plant text may hold.
+use Rattle.std.specs.Prelude.{◌^◌, ◌<◌, ℤ, nat_abs}
+
+-- a number of at most 18 digits
+abbrev pub IsLiteral : ℤ → Type 0
+IsLiteral z = nat_abs z < 10 ^ 18

@@ -1,0 +1,3 @@
+-- The canonical text of a plant.
+pub mod CanonicalText
+pub mod ExpressionText

@@ -1,0 +1,21 @@
+-- The canonical text of an expression: one space on either side of an operator, brackets only where they are needed.
+use Rattle.std.specs.Prelude.{ℕ, List, [], ◌++◌, nat_lt, if◌then◌else◌, slice_index_or, codes}
+use Rattle.std.specs.Fmt.{signed_decimal}
+use Rattle.fixed_expr.specs.Expression.{Expression, Number, Variable, Negation, Sum, Difference, Product, Quotient, Minimum, Maximum, Absolute}
+
+-- the text, in brackets where its own level is less than the one that its place asks for
+abbrev pub at_level : ℕ → ℕ → List ℕ → List ℕ
+at_level own asked text = if nat_lt own asked then codes "(" ++ text ++ codes ")" else text
+
+-- an expression at a place that asks for a level: sums have 1, products 2, all others 3
+abbrev pub expression_text : List (List ℕ) → ℕ → Expression → List ℕ
+expression_text names asked (Number k) = signed_decimal k
+expression_text names asked (Variable i) = slice_index_or names i []
+expression_text names asked (Negation a) = codes "-" ++ expression_text names 3 a
+expression_text names asked (Sum a b) = at_level 1 asked (expression_text names 1 a ++ codes " + " ++ expression_text names 2 b)
+expression_text names asked (Difference a b) = at_level 1 asked (expression_text names 1 a ++ codes " - " ++ expression_text names 2 b)
+expression_text names asked (Product a b) = at_level 2 asked (expression_text names 2 a ++ codes " * " ++ expression_text names 3 b)
+expression_text names asked (Quotient a k) = at_level 2 asked (expression_text names 2 a ++ codes " / " ++ signed_decimal k)
+expression_text names asked (Minimum a b) = codes "min(" ++ expression_text names 1 a ++ codes ", " ++ expression_text names 1 b ++ codes ")"
+expression_text names asked (Maximum a b) = codes "max(" ++ expression_text names 1 a ++ codes ", " ++ expression_text names 1 b ++ codes ")"
+expression_text names asked (Absolute a) = codes "abs(" ++ expression_text names 1 a ++ codes ")"
