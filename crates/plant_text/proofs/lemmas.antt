@@ -1,4 +1,5 @@
 -- Lemmas that several proofs use.
+pub mod general
 pub mod words
 pub mod plant
 pub mod writing

@@ -9,7 +9,7 @@ use Rattle.plant_text.specs.declared.fault.PlantFault.{PlantFault}
 use Rattle.plant_text.specs.plant.Plants.{IsPlant}
 use Rattle.plant_text.specs.plant.Limits.{IsWithinLimits}
 use Rattle.plant_text.specs.reading.Grammar.{Spells}
-use Rattle.plant_text.specs.reading.CanonicalFronts.{IsFront}
+use Rattle.plant_text.specs.reading.CanonicalFronts.{IsFront, IsFrontRefusedFor}
 use Rattle.plant_text.specs.reading.Refusals.{IsShort, IsRefusedFor}
 
 -- no bytes spell two plants, and what they spell is a plant
@@ -42,3 +42,14 @@ NumbersAreWords = (z : ℤ) → IsLiteral z → is_word (signed_decimal z) ≡ t
 -- no bytes have two plants at their front
 abbrev pub OneFront : Type 0
 OneFront = (bytes : List ℕ) (p q : Description) (m n : ℕ) → IsFront bytes p m → IsFront bytes q n → (p ≡ q) × (m ≡ n)
+
+-- bytes have one reason why no plant is read at their front, and none where a plant within the limits stands there
+abbrev pub OneFrontRefusal : Type 0
+OneFrontRefusal = (bytes : List ℕ) (f g : PlantFault) → IsFrontRefusedFor bytes f → IsFrontRefusedFor bytes g → f ≡ g
+
+abbrev pub FrontReadOrRefused : Type 0
+FrontReadOrRefused = (bytes : List ℕ) (p : Description) (count : ℕ) (f : PlantFault) → IsFront bytes p count → IsWithinLimits p → IsFrontRefusedFor bytes f → ⊥
+
+-- the canonical text of a plant within the limits, if it is short, spells no other plant and is refused for nothing
+abbrev pub CanonicalTextsReadBack : Type 0
+CanonicalTextsReadBack = (p : Description) → IsWithinLimits p → IsShort (text_of p) → ((q : Description) → Spells (text_of p) q → q ≡ p) × ((f : PlantFault) → IsRefusedFor (text_of p) f → ⊥)

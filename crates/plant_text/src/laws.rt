@@ -1,7 +1,7 @@
 //! What holds of every plant and of its text.
 
-ghost use Rattle.plant_text.specs.Laws.{OnePlantPerText, OnePlantAtTheFront, SpelledPlantsArePlants, OneRefusal, ReadOrRefused, CanonicalTextsSpell, NumbersAreWords, OneFront};
-ghost use Rattle.plant_text.specs.plant.Soundness.{PlantsAreSound};
+ghost use Rattle.plant_text.specs.Laws.{OnePlantPerText, OnePlantAtTheFront, SpelledPlantsArePlants, OneRefusal, ReadOrRefused, CanonicalTextsSpell, CanonicalTextsReadBack, NumbersAreWords, OneFront, OneFrontRefusal, FrontReadOrRefused};
+ghost use Rattle.plant_text.specs.plant.Soundness.{PlantsAreSound, VectorsHaveOneEach};
 ghost use Rattle.plant_text.specs.plant.Limits.{IsWithinLimits};
 
 use crate::plant::Plant;
@@ -14,16 +14,22 @@ pub fn one_plant_per_text()
 /// A text that starts with the canonical text of a plant has one such start.
 pub fn one_plant_at_the_front()
     ensures { OnePlantAtTheFront }
-{
-    canonical_texts_spell();
-}
+{}
 
 /// No bytes have two plants at their front.
 pub fn one_front()
     ensures { OneFront }
-{
-    one_plant_at_the_front();
-}
+{}
+
+/// Bytes have one reason why no plant is read at their front.
+pub fn one_front_refusal()
+    ensures { OneFrontRefusal }
+{}
+
+/// No front is refused that is the canonical text of a plant within the limits.
+pub fn front_read_or_refused()
+    ensures { FrontReadOrRefused }
+{}
 
 /// What bytes spell is a plant.
 pub fn spelled_plants_are_plants()
@@ -45,6 +51,11 @@ pub fn plants_are_sound()
     ensures { PlantsAreSound }
 {}
 
+/// An input vector has one number for each input variable.
+pub fn vectors_have_one_each()
+    ensures { VectorsHaveOneEach }
+{}
+
 /// Every `Plant` is within the limits.
 pub fn every_plant_is_within_limits(p: &Plant)
     ensures { IsWithinLimits p.now }
@@ -57,6 +68,16 @@ pub fn every_plant_is_within_limits(p: &Plant)
 pub fn canonical_texts_spell()
     ensures { CanonicalTextsSpell }
 {}
+
+/// The canonical text of a plant within the limits reads back, where it has at most 65,536 bytes:
+/// `read_plant` answers that plant, or want of memory.
+pub fn canonical_texts_read_back()
+    ensures { CanonicalTextsReadBack }
+{
+    canonical_texts_spell();
+    one_plant_per_text();
+    read_or_refused();
+}
 
 /// A number's text has no space and no line feed.
 pub fn numbers_are_words()

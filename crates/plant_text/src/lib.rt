@@ -23,8 +23,4 @@ pub use reading::plant_reader::{TEXT_LIMIT, read_plant};
 pub use writing::plant_writer::write_plant;
 
 #[cfg(test)]
-mod front_tests;
-#[cfg(test)]
-mod line_tests;
-#[cfg(test)]
 mod tests;

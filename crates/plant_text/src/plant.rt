@@ -1,6 +1,6 @@
 // A plant: what it is made of, what it keeps, and what it does from one sample to the next.
 
-ghost use Rattle.std.specs.Prelude.{◌≡◌, ◌<◌, ◌↔◌, length, map, slice_get, slice_index_or, pos, IfOk, IfErr, IsTrue, Some};
+ghost use Rattle.std.specs.Prelude.{◌≡◌, ◌<◌, ◌≤◌, ◌↔◌, length, map, slice_get, slice_index_or, pos, IfOk, IfErr, IsTrue, Some};
 ghost use Rattle.std.specs.Option.{option_map};
 ghost use Rattle.fixed_expr.specs.Expression.{expression_of};
 ghost use Rattle.grid_quantiser.specs.Axes.{cells_of};
@@ -13,7 +13,7 @@ ghost use Rattle.plant_text.specs.inside.PlantsInMemory.{description_of};
 
 pub mod aims;
 pub mod marks;
-pub mod parts;
+pub mod plant_parts;
 pub mod transition;
 pub mod variable_names;
 pub mod variables;
@@ -21,7 +21,7 @@ pub mod variables;
 use crate::fault::LimitKind;
 use crate::plant::aims::{GoalKind, StateBox};
 use crate::plant::marks::{lies_in_one, touches_one};
-use crate::plant::parts::{PlantParts, grid_of, vectors_of};
+use crate::plant::plant_parts::{PlantParts, grid_of, vectors_of};
 use crate::plant::variable_names::Names;
 use crate::plant::variables::{InputVariable, Name, NoiseVariable, StateVariable, Variables};
 use fixed_expr::Expr;
@@ -51,7 +51,7 @@ impl Model for Plant {
     ghost use Rattle.std.specs.Coded.{codes};
     ghost use Rattle.fixed_expr.specs.Tokens.{expression_code};
     ghost use Rattle.plant_text.specs.plant.Description.{Description};
-    ghost use Rattle.plant_text.specs.inside.PlantsInMemory.{described, IsKept};
+    ghost use Rattle.plant_text.specs.inside.PlantsInMemory.{described, IsPlantWithGrid};
 
     ghost Value = { Description };
 
@@ -59,7 +59,7 @@ impl Model for Plant {
 
     ghost view = { λ p. described p.states.items p.inputs.items p.noises.items p.equations.items p.targets.items p.obstacles.items p.goal };
 
-    ghost invariant = { λ p. IsKept (described p.states.items p.inputs.items p.noises.items p.equations.items p.targets.items p.obstacles.items p.goal) p.grid };
+    ghost invariant = { λ p. IsPlantWithGrid (described p.states.items p.inputs.items p.noises.items p.equations.items p.targets.items p.obstacles.items p.goal) p.grid };
 }
 
 impl Plant {
@@ -126,7 +126,8 @@ impl Plant {
 
     /// How many input vectors there are.
     pub fn vectors(&self) -> u32
-        ensures { result ≡ vectors_of self.now.inputs }
+        ensures count { result ≡ vectors_of self.now.inputs }
+        ensures some { 1 ≤ result }
     {
         vectors_of(&self.inputs)
     }

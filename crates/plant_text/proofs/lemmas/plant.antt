@@ -1,5 +1,6 @@
 pub mod Axes
 pub mod InputVectors
+pub mod Limits
 pub mod NamePlaces
 pub mod NextPoints
 pub mod OrderedBoxes

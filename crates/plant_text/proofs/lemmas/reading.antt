@@ -1,5 +1,7 @@
 pub mod BoxEnds
+pub mod CanonicalFronts
 pub mod CanonicalParts
+pub mod CanonicalWays
 pub mod ExpressionsRead
 pub mod FrontLineByLine
 pub mod InputValues
@@ -8,10 +10,10 @@ pub mod ItemsOfTrees
 pub mod KeywordsTell
 pub mod LineByLine
 pub mod LinesLead
-pub mod OnePlantInFront
 pub mod OneStatement
 pub mod RefusalsPassOn
 pub mod RulesKept
+pub mod SpelledCanonically
 pub mod Stacks
 pub mod StatementLaws
 pub mod TermsAreTrees

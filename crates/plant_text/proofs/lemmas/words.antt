@@ -1,5 +1,4 @@
 pub mod FirstTokens
-pub mod FullLines
 pub mod NumberBytes
 pub mod NumberWords
 pub mod OneScan

@@ -2,5 +2,5 @@ pub mod CanonicalLines
 pub mod CanonicalTrees
 pub mod CanonicalWords
 pub mod ExpressionTokens
-pub mod PlantsSpelled
+pub mod PlantLines
 pub mod WrittenLines

@@ -1,7 +1,7 @@
 -- The items of an expression, by which it is read: its tokens, but a `/` with its divisor and a
 -- function with its bracket are one. No public clause names this.
 use Rattle.std.specs.Prelude.{◌≡◌, ◌≢◌, Result, Ok, Err, ℕ, suc, ◌+◌, ◌-◌, ◌^◌, ◌<◌, ◌≤◌, max, ◌&&◌, ◌==◌, nat_lt, if◌then◌else◌, List, [], ◌∷◌, Option, Some, None, slice_index_or, codes}
-use Rattle.std.specs.List.{flat_map, All, AllPairs}
+use Rattle.std.specs.List.{All, AllPairs}
 use Rattle.std.specs.Option.{option_map}
 use Rattle.std.specs.Str.{bytes_eq}
 use Rattle.std.specs.Str.Parse.{digits_value}
@@ -15,13 +15,7 @@ use Rattle.plant_text.specs.declared.reading.items.Item.{Item}
 use Rattle.plant_text.specs.declared.reading.items.Item.TheVariants as item
 use Rattle.plant_text.specs.words.Names.{IsName}
 use Rattle.plant_text.specs.plant.Description.{names_over}
-use Rattle.plant_text.specs.words.Words.{words_of}
-use Rattle.plant_text.specs.words.Tokens.{tokens_of}
 use Rattle.plant_text.specs.reading.SyntaxTrees.{Syntax, Literal, Named, Minus, Plus, Less, Times, Over, Least, Greatest, Size, Bracketed}
-
--- the tokens of a line
-abbrev pub tokens_in : List ℕ → List (List ℕ)
-tokens_in bytes = flat_map tokens_of (words_of bytes)
 
 -- the names of the variables, in their order
 abbrev pub variable_names : Variables → List (List ℕ)

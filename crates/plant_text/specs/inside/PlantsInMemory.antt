@@ -10,7 +10,7 @@ use Rattle.plant_text.specs.declared.plant.aims.StateBox.{StateBox}
 use Rattle.plant_text.specs.declared.plant.aims.GoalKind.{GoalKind}
 use Rattle.plant_text.specs.plant.Description.{Description, axes_of}
 use Rattle.plant_text.specs.plant.Limits.{IsWithinLimits}
-use Rattle.plant_text.specs.declared.plant.parts.PlantParts.{PlantParts}
+use Rattle.plant_text.specs.declared.plant.plant_parts.PlantParts.{PlantParts}
 
 -- a description by its parts, the equations where they lie in memory
 abbrev pub described : List StateVariable → List InputVariable → List NoiseVariable → List Expr → List StateBox → List StateBox → GoalKind → Description
@@ -25,7 +25,7 @@ described states inputs noises equations targets obstacles goal = record {
 }
 
 -- The plant is within the limits, and its grid is that of its states.
-pub record IsKept (p : Description) (axes : List Axis) : Type 0 where
+pub record IsPlantWithGrid (p : Description) (axes : List Axis) : Type 0 where
   pub limits : IsWithinLimits p
   pub grid : axes ≡ axes_of p
 

@@ -1,10 +1,11 @@
 -- What holds of the grid and the equations of every plant.
-use Rattle.std.specs.Prelude.{◌≡◌, pos, ◌+ℤ◌, length}
+use Rattle.std.specs.Prelude.{◌≡◌, pos, ◌+ℤ◌, ℕ, List, length}
 use Rattle.std.specs.List.{All}
 use Rattle.fixed_expr.specs.Value.{IsWellFormed}
 use Rattle.grid_quantiser.specs.Axes.{AreAxes, end_of}
 use Rattle.plant_text.specs.declared.plant.variables.StateVariable.{StateVariable}
-use Rattle.plant_text.specs.plant.Description.{Description, axis_of, axes_of, names_of}
+use Rattle.plant_text.specs.declared.plant.variables.InputVariable.{InputVariable}
+use Rattle.plant_text.specs.plant.Description.{Description, axis_of, axes_of, names_of, vector_of}
 use Rattle.plant_text.specs.plant.Plants.{IsPlant}
 
 -- the cells along a state end right past its greatest number
@@ -21,3 +22,7 @@ pub record IsSound (p : Description) : Type 0 where
 -- a plant has whole cells, and well-formed equations
 abbrev pub PlantsAreSound : Type 0
 PlantsAreSound = (p : Description) → IsPlant p → IsSound p
+
+-- an input vector has one number for each input variable
+abbrev pub VectorsHaveOneEach : Type 0
+VectorsHaveOneEach = (inputs : List InputVariable) (u : ℕ) → length (vector_of inputs u) ≡ length inputs

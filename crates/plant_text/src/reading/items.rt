@@ -5,7 +5,8 @@ ghost use Rattle.std.specs.Prelude.{◌≡◌, ◌↔◌, ◌<◌, ◌≤◌, �
 ghost use Rattle.std.specs.Fmt.{signed_decimal};
 ghost use Rattle.std.specs.Option.{option_map};
 ghost use Rattle.plant_text.specs.words.Numbers.{IsLiteral};
-ghost use Rattle.plant_text.specs.inside.ExpressionItems.{AreNames, Gives, variable_names, tokens_in, literal_of, function_of, symbol_of, leaf_of, item_of, divided, opened, item_behind, next_item};
+ghost use Rattle.plant_text.specs.inside.LineTokens.{tokens_in};
+ghost use Rattle.plant_text.specs.inside.ExpressionItems.{AreNames, Gives, variable_names, literal_of, function_of, symbol_of, leaf_of, item_of, divided, opened, item_behind, next_item};
 
 use crate::fault::ReadFault;
 use crate::plant::variables::Variables;

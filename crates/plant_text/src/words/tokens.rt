@@ -5,7 +5,7 @@ ghost use Rattle.std.specs.List.{prefix_len};
 ghost use Rattle.plant_text.specs.words.Names.{is_digit};
 ghost use Rattle.plant_text.specs.words.Words.{is_blank};
 ghost use Rattle.plant_text.specs.words.Tokens.{goes_on};
-ghost use Rattle.plant_text.specs.inside.ExpressionItems.{tokens_in};
+ghost use Rattle.plant_text.specs.inside.LineTokens.{tokens_in};
 
 use crate::words::blanks::is_blank;
 use crate::words::names::{is_letter, is_name_byte};

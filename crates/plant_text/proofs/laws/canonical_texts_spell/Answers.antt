@@ -1,5 +1,5 @@
-use Rattle.plant_text.proofs.lemmas.writing.PlantsSpelled.{canonical}
+use Rattle.plant_text.proofs.lemmas.reading.SpelledCanonically as spelled
 use Rattle.plant_text.proofs.laws.canonical_texts_spell.Goals as goal
 
 pub returns : goal.returns
-returns c = canonical
+returns c = spelled.canonical_texts_spell

@@ -1,6 +1,6 @@
-use Rattle.plant_text.proofs.lemmas.reading.StatementLaws.{one_statement, passed_over}
-use Rattle.plant_text.proofs.lemmas.reading.OnePlantInFront.{one_front}
+use Rattle.plant_text.proofs.lemmas.reading.StatementLaws.{one_statement}
+use Rattle.plant_text.proofs.lemmas.reading.CanonicalFronts as fronts
 use Rattle.plant_text.proofs.laws.one_plant_at_the_front.Goals as goal
 
 pub returns : goal.returns
-returns c = one_front one_statement passed_over c.canonical_texts_spell.ensures
+returns c = fronts.one_plant_at_the_front one_statement

@@ -1,6 +1,6 @@
 -- The grid of the states.
-use Rattle.std.proofs.Common.{◌≡◌, ℕ, zero, suc, ◌*◌, ◌/◌, ◌%◌, ◌^◌, ◌<◌, ◌≤◌, List, length, take, refl, sym, ap, ◌∙◌, arith}
-use Rattle.std.specs.Prelude.{ℤ, pos, negsuc, neg_ℤ, nat_abs, map, ◌+ℤ◌, ◌-ℤ◌, ◌*ℤ◌, ◌≤ℤ◌, ◌<ℤ◌}
+use Rattle.std.proofs.Common.{◌≡◌, ℕ, ◌^◌, ◌<◌, ◌≤◌, List, length, take, refl, sym, ap, ◌∙◌, arith}
+use Rattle.std.specs.Prelude.{ℤ, pos, negsuc, neg_ℤ, nat_abs, map, ◌+ℤ◌, ◌-ℤ◌, ◌<ℤ◌}
 use Rattle.std.proofs.lemmas.Int.{ints}
 use Rattle.std.specs.List.{All}
 use Rattle.std.proofs.lemmas.List.{length-map, take_all}
@@ -11,21 +11,7 @@ use Rattle.plant_text.specs.declared.plant.variables.StateVariable.{StateVariabl
 use Rattle.plant_text.specs.words.Numbers.{IsLiteral}
 use Rattle.plant_text.specs.plant.Description.{axis_of}
 use Rattle.plant_text.specs.plant.Variables.{IsStateVariable}
-
--- a number of at least 0 is its absolute value
-pub positive : (z : ℤ) → pos 0 ≤ℤ z → z ≡ pos (nat_abs z)
-positive (pos n) h = refl
-positive (negsuc n) h = absurd (omega (arith, ints))
-
-whole_end : (low high width d : ℤ) (n w : ℕ) → width ≡ pos w → d ≡ pos n → d ≡ (high -ℤ low) +ℤ pos 1 → 0 < w → n % w ≡ 0 → low +ℤ (width *ℤ pos (n / w)) ≡ high +ℤ pos 1
-whole_end low high width d n w width-is d-is range some whole = rw width-is (omega (arith, ints, d-is, range))
-
-omega_count : (q n w : ℕ) → 0 < n → n ≡ w * q → 1 ≤ q
-omega_count zero n w n-some e = absurd (omega (arith, e))
-omega_count (suc q) n w n-some e = omega arith
-
-some_count : (n w : ℕ) → 0 < n → 0 < w → n % w ≡ 0 → 1 ≤ n / w
-some_count n w n-some w-some whole = omega_count (n / w) n w n-some (omega arith)
+use Rattle.plant_text.proofs.lemmas.general.Numbers.{positive, whole_end, some_count}
 
 -- the numbers within 10^18
 pub literal_bounds : (z : ℤ) → IsLiteral z → (neg_ℤ (pos (10 ^ 18)) <ℤ z) × (z <ℤ pos (10 ^ 18))

@@ -2,14 +2,14 @@
 use Rattle.std.proofs.Common.{◌≡◌, ℕ, zero, suc, ◌+◌, ◌-◌, ◌*◌, ◌/◌, ◌%◌, ◌<◌, ◌≤◌, List, [], ◌∷◌, length, get_or, drop, sym, ap, drop-cons, length-drop, take, add-one, ◌∙◌, arith}
 use Rattle.std.specs.Prelude.{pos}
 use Rattle.std.specs.List.{All}
-use Rattle.std.proofs.Math.Arith.{mod-mul}
 use Rattle.std.proofs.Math.Nat.{mod-eq_of_lt, mul_assoc, mul_comm, mul-pos}
-use Rattle.std.proofs.lemmas.Nat.{mul-le, div_below, div-mul-add, mod-mul-add, mod_below}
+use Rattle.std.proofs.lemmas.Nat.{mul-le, div_below, mod_below}
 use Rattle.std.proofs.lemmas.List.{take_rest}
 use Rattle.std.proofs.lemmas.List.Elements.{All-head, All-tail, All-drop}
 use Rattle.plant_text.specs.declared.plant.variables.InputVariable.{InputVariable}
 use Rattle.plant_text.specs.plant.Description.{vectors_of, vector_of}
 use Rattle.plant_text.specs.plant.Variables.{IsInputVariable}
+use Rattle.plant_text.proofs.lemmas.general.Numbers.{digit, some_factors, some_tail}
 
 one_more : (n m : ℕ) (i : InputVariable) (inputs : List InputVariable) → All IsInputVariable (i ∷ inputs) → vectors_of inputs ≤ n → 64 * n ≤ m → length i.values * vectors_of inputs ≤ m
 one_more n m i inputs each few bound = omega (arith, bound, mul-le (length i.values) (vectors_of inputs) 64 n (All-head IsInputVariable i inputs each).values_bound few)
@@ -26,6 +26,11 @@ few_vectors (a ∷ b ∷ c ∷ []) few each =
     let t' = All-tail IsInputVariable b (c ∷ []) t in
     one_more 4096 262144 a (b ∷ c ∷ []) each (one_more 64 4096 b (c ∷ []) t (one_more 1 64 c [] t' (omega arith) (omega arith)) (omega arith)) (omega arith)
 few_vectors (a ∷ b ∷ c ∷ d ∷ inputs) few each = absurd (omega (arith, few))
+
+-- each variable has a value
+pub some_vectors : (inputs : List InputVariable) → All IsInputVariable inputs → 1 ≤ vectors_of inputs
+some_vectors [] each = omega arith
+some_vectors (i ∷ inputs) each = mul-pos (All-head IsInputVariable i inputs each).some_value (some_vectors inputs (All-tail IsInputVariable i inputs each))
 
 -- one list more, from the last on
 pub vectors_back : (inputs : List InputVariable) (i : ℕ) (x : InputVariable) → 0 < i → i ≤ length inputs → x ≡ get_or inputs (i - 1) x → vectors_of (drop i inputs) * length x.values ≡ vectors_of (drop (i - 1) inputs)
@@ -55,23 +60,6 @@ factor (i ∷ inputs) zero d lt = (1, omega arith)
 factor (i ∷ inputs) (suc v) d lt =
     let f = factor inputs v d (omega (arith, lt)) in
     (length i.values * f.0, ap (λ n. length i.values * n) f.1 ∙ sym (mul_assoc (length i.values) f.0 (here inputs v d * later inputs v)))
-
--- a digit of a number's remainder is that of the number
-digit : (u k m c : ℕ) → 0 < k → 0 < m → 0 < c → u % (k * (m * c)) / c % m ≡ u / c % m
-digit u k m c some_k some_m some_c =
-    ap (λ x. x / c % m) (ap (λ y. u % y) (sym (mul_assoc k m c)) ∙ mod-mul u (mul-pos some_k some_m) some_c)
-    ∙ ap (λ x. x % m) (div-mul-add (u / c % (k * m)) c (u % c) (mod_below u c some_c) ∙ mod-mul (u / c) some_k some_m)
-    ∙ mod-mul-add (u / c / m % k) m (u / c % m) (mod_below (u / c) m some_m)
-
-some_factors : (n k m c : ℕ) → n ≡ k * (m * c) → 0 < n → (0 < k) × (0 < m) × (0 < c)
-some_factors n zero m c e some = absurd (omega (arith, e, some))
-some_factors n (suc k) zero c e some = absurd (omega (arith, e, some))
-some_factors n (suc k) (suc m) zero e some = absurd (omega (arith, e, some))
-some_factors n (suc k) (suc m) (suc c) e some = (omega arith, omega arith, omega arith)
-
-some_tail : (m n u : ℕ) → u < m * n → 0 < n
-some_tail m zero u below = absurd (omega (arith, below))
-some_tail m (suc n) u below = omega arith
 
 -- the value of the variable at a place, by the vectors that the later ones make
 pub value_in : (inputs : List InputVariable) (v u : ℕ) (d : InputVariable) → v < length inputs → u < vectors_of inputs

@@ -1,4 +1,5 @@
 -- The place of a name among those of states, inputs and noises.
+use Rattle.std.proofs.lemmas.Bool.{cases_Bool}
 use Rattle.std.proofs.Common.{◌≡◌, ℕ, zero, suc, ◌+◌, Bool, true, List, [], ◌∷◌, ◌++◌, length, get_or, Option, Some, None, refl, sym, ap, ◌∙◌, arith, inl, inr}
 use Rattle.std.specs.Prelude.{position, slice_get, map, Contains}
 use Rattle.std.specs.List.{position_from}
@@ -10,7 +11,6 @@ use Rattle.std.proofs.lemmas.List.Quantifiers.{position-Some}
 use Rattle.std.proofs.lemmas.List.Elements.{Contains-append_cases}
 use Rattle.std.proofs.lemmas.Option.{slice_get-get_or, slice_get-map}
 use Rattle.std.proofs.lemmas.Slice.Eq.{bytes_eq-Decides}
-use Rattle.plant_text.proofs.lemmas.words.FirstTokens.{true_or_false}
 
 -- the one that is found has the name
 pub named_at : {X : Type 0} (f : X → List ℕ) (xs : List X) (w : List ℕ) (i : ℕ) → position (λ x. bytes_eq (f x) w) xs ≡ Some i → slice_get (map f xs) i ≡ Some w
@@ -28,7 +28,7 @@ none_passes p (x ∷ xs) i zero y none at passes =
     let found : Some i ≡ None = rw first at none in
     absurd cc
 none_passes p (x ∷ xs) i (suc k) y none at passes =
-    elim (true_or_false (p x)) [
+    elim (cases_Bool (p x)) [
       | inl e ↦ let found : Some i ≡ None = rw e at none in absurd cc
       | inr e ↦ none_passes p xs (i + 1) k y (rw e at none) at passes
     ]

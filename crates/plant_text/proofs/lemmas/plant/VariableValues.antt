@@ -6,6 +6,7 @@ use Rattle.plant_text.specs.declared.plant.variables.StateVariable.{StateVariabl
 use Rattle.plant_text.specs.declared.plant.variables.InputVariable.{InputVariable}
 use Rattle.plant_text.specs.declared.plant.variables.NoiseVariable.{NoiseVariable}
 use Rattle.plant_text.specs.plant.Description.{Description, names_of, vector_of}
+use Rattle.plant_text.specs.plant.Soundness.{VectorsHaveOneEach}
 use Rattle.plant_text.specs.plant.Limits.{IsWithinLimits}
 use Rattle.plant_text.specs.plant.Steps.{values_at}
 
@@ -20,9 +21,9 @@ names_count p =
     let d : length noises ≡ length p.noises = length-map p.noises (λ (w : NoiseVariable). w.name) in
     omega (arith, length-append (states ++ inputs) noises, length-append states inputs, a, b, d)
 
-length-vector : (inputs : List InputVariable) (u : ℕ) → length (vector_of inputs u) ≡ length inputs
-length-vector [] u = refl
-length-vector (i ∷ inputs) u = ap suc (length-vector inputs _)
+pub vector_length : VectorsHaveOneEach
+vector_length [] u = refl
+vector_length (i ∷ inputs) u = ap suc (vector_length inputs _)
 
 -- Six numbers each for the states and the noises.
 pub record AreSix (p : Description) (x w : List ℤ) : Type 0 where
@@ -34,7 +35,7 @@ state_count : (p : Description) (x w : List ℤ) → AreSix p x w → length (ta
 state_count p x w six = length-take-le (length p.states) x (omega (arith, six.states, six.limits.plant.states_bound))
 
 input_count : (p : Description) (x w : List ℤ) (u : ℕ) → AreSix p x w → length (take (length p.states) x ++ vector_of p.inputs u) ≡ length p.states + length p.inputs
-input_count p x w u six = length-append (take (length p.states) x) (vector_of p.inputs u) ∙ omega (arith, state_count p x w six, length-vector p.inputs u)
+input_count p x w u six = length-append (take (length p.states) x) (vector_of p.inputs u) ∙ omega (arith, state_count p x w six, vector_length p.inputs u)
 
 pub values_count : (p : Description) (x w : List ℤ) (u : ℕ) → AreSix p x w → length (values_at p x u w) ≡ length (names_of p)
 values_count p x w u six =

@@ -1,10 +1,9 @@
 -- Lines in their canonical spelling and order make the canonical text.
-use Rattle.std.proofs.Common.{inl, inr, ◌≡◌, ℕ, ◌<◌, true, false, List, [], ◌∷◌, ◌++◌, length, None, refl, sym, ap, ◌∙◌, append_assoc, append-nil, arith, length-append}
+use Rattle.std.proofs.Common.{inl, inr, ◌≡◌, ℕ, ◌<◌, true, false, List, [], ◌∷◌, ◌++◌, length, None, refl, sym, ap, ◌∙◌, append_assoc, append-nil, arith}
 use Rattle.std.specs.Prelude.{codes, map, slice_index_or}
 use Rattle.std.specs.List.{flat_map}
 use Rattle.std.proofs.lemmas.Bool.{cases_Bool}
-use Rattle.std.proofs.lemmas.Grind.{flat_map-append}
-use Rattle.std.proofs.lemmas.List.{nil_from_length, get_or_append_left, length-map}
+use Rattle.std.proofs.lemmas.List.{nil_from_length, length-map}
 use Rattle.fixed_expr.specs.Expression.{Expression}
 use Rattle.plant_text.specs.declared.plant.variables.StateVariable.{StateVariable}
 use Rattle.plant_text.specs.declared.plant.variables.InputVariable.{InputVariable}
@@ -18,6 +17,7 @@ use Rattle.plant_text.specs.reading.CanonicalFronts.{statement_line, IsInOrder}
 use Rattle.plant_text.specs.inside.PartText.{version_text, goal_text, part_text, IsOrderly}
 use Rattle.plant_text.specs.inside.PartRules.{KeepsRules}
 use Rattle.plant_text.proofs.lemmas.reading.RulesKept.{aimless, no_equations}
+use Rattle.plant_text.proofs.lemmas.general.Lists.{flat_map_one_more, some_last, among_the_first}
 
 no_equation_lines : (names : List (List ℕ)) (states : List StateVariable) → equation_lines names states [] ≡ []
 no_equation_lines names [] = refl
@@ -38,9 +38,6 @@ next_line names (s ∷ states) [] e lt = ap (λ (x : List ℕ). equation_line na
 next_line names (s ∷ states) (x ∷ equations) e lt =
     ap (λ (y : List ℕ). equation_line names s.name x ++ y) (next_line names states equations e (omega (arith, lt)))
     ∙ sym (append_assoc (equation_line names s.name x) (equation_lines names states equations) _)
-
-more : {X : Type 0} (f : X → List ℕ) (xs : List X) (x : X) → flat_map f (xs ++ x ∷ []) ≡ flat_map f xs ++ f x
-more f xs x = flat_map-append f xs (x ∷ []) ∙ ap (λ (y : List ℕ). flat_map f xs ++ y) (append-nil (f x))
 
 -- where the later parts are empty
 behind_states : (a b x : List ℕ) → a ++ (b ++ x) ++ [] ++ [] ++ [] ++ [] ++ [] ++ [] ++ [] ≡ (a ++ b ++ [] ++ [] ++ [] ++ [] ++ [] ++ [] ++ []) ++ x
@@ -67,26 +64,23 @@ behind_goal a b c d e f g x = simp (append_assoc, append-nil)
 behind_end : (a b c d e f g h x : List ℕ) → a ++ b ++ c ++ d ++ e ++ f ++ g ++ h ++ x ≡ (a ++ b ++ c ++ d ++ e ++ f ++ g ++ h ++ []) ++ x
 behind_end a b c d e f g h x = simp (append_assoc, append-nil)
 
-among_the_first : (a b c : List (List ℕ)) (i : ℕ) → i < length a → slice_index_or (a ++ b ++ c) i [] ≡ slice_index_or a i []
-among_the_first a b c i lt = get_or_append_left (a ++ b) c [] i (omega (arith, lt, length-append a b)) ∙ get_or_append_left a b [] i lt
-
 module _ (q : Part) (k : KeepsRules q) (o : IsOrderly q) where
   text_state : (s : StateVariable) → FitsAfter q (State s) → part_text (extended q (State s)) ≡ part_text q ++ state_line s
   text_state s fits =
       let aims = aimless q k (no_equations q fits.3) in
-      rw (fits.1, fits.2, fits.3, aims.0, aims.1, aims.2, not_ended q k aims.2, no_equation_lines _ q.states, no_equation_lines _ (q.states ++ s ∷ []), more state_line q.states s)
+      rw (fits.1, fits.2, fits.3, aims.0, aims.1, aims.2, not_ended q k aims.2, no_equation_lines _ q.states, no_equation_lines _ (q.states ++ s ∷ []), flat_map_one_more state_line q.states s)
       (behind_states (version_text q.begun) (flat_map state_line q.states) (state_line s))
 
   text_input : (i : InputVariable) → FitsAfter q (Input i) → part_text (extended q (Input i)) ≡ part_text q ++ input_line i
   text_input i fits =
       let aims = aimless q k (no_equations q fits.2) in
-      rw (fits.1, fits.2, aims.0, aims.1, aims.2, not_ended q k aims.2, no_equation_lines _ q.states, no_equation_lines _ q.states, more input_line q.inputs i)
+      rw (fits.1, fits.2, aims.0, aims.1, aims.2, not_ended q k aims.2, no_equation_lines _ q.states, no_equation_lines _ q.states, flat_map_one_more input_line q.inputs i)
       (behind_inputs (version_text q.begun) (flat_map state_line q.states) (flat_map input_line q.inputs) (input_line i))
 
   text_noise : (w : NoiseVariable) → FitsAfter q (Noise w) → part_text (extended q (Noise w)) ≡ part_text q ++ noise_line w
   text_noise w fits =
       let aims = aimless q k (no_equations q fits.1) in
-      rw (fits.1, aims.0, aims.1, aims.2, not_ended q k aims.2, no_equation_lines _ q.states, no_equation_lines _ q.states, more noise_line q.noises w)
+      rw (fits.1, aims.0, aims.1, aims.2, not_ended q k aims.2, no_equation_lines _ q.states, no_equation_lines _ q.states, flat_map_one_more noise_line q.noises w)
       (behind_noises (version_text q.begun) (flat_map state_line q.states) (flat_map input_line q.inputs) (flat_map noise_line q.noises) (noise_line w))
 
   -- the name of the state whose equation is next
@@ -103,13 +97,13 @@ module _ (q : Part) (k : KeepsRules q) (o : IsOrderly q) where
 
   text_target : (b : StateBox) → FitsAfter q (Target b) → q.obstacles ≡ [] → part_text (extended q (Target b)) ≡ part_text q ++ box_line (codes "target") (length q.states) b
   text_target b fits none =
-      rw (fits.1, none, not_ended q k fits.1, more (box_line (codes "target") (length q.states)) q.targets b)
+      rw (fits.1, none, not_ended q k fits.1, flat_map_one_more (box_line (codes "target") (length q.states)) q.targets b)
       (behind_targets (version_text q.begun) (flat_map state_line q.states) (flat_map input_line q.inputs) (flat_map noise_line q.noises) (equation_lines (names_in q) q.states q.equations) (flat_map (box_line (codes "target") (length q.states)) q.targets)
       (box_line (codes "target") (length q.states) b))
 
   text_obstacle : (b : StateBox) → FitsAfter q (Obstacle b) → part_text (extended q (Obstacle b)) ≡ part_text q ++ box_line (codes "obstacle") (length q.states) b
   text_obstacle b fits =
-      rw (fits.1, not_ended q k fits.1, more (box_line (codes "obstacle") (length q.states)) q.obstacles b)
+      rw (fits.1, not_ended q k fits.1, flat_map_one_more (box_line (codes "obstacle") (length q.states)) q.obstacles b)
       (behind_obstacles (version_text q.begun) (flat_map state_line q.states) (flat_map input_line q.inputs) (flat_map noise_line q.noises) (equation_lines (names_in q) q.states q.equations) (flat_map (box_line (codes "target") (length q.states)) q.targets)
       (flat_map (box_line (codes "obstacle") (length q.states)) q.obstacles) (box_line (codes "obstacle") (length q.states) b))
 
@@ -148,15 +142,11 @@ module _ (q : Part) (k : KeepsRules q) (o : IsOrderly q) where
 pub orderly_nothing : IsOrderly nothing_yet
 orderly_nothing = record { unbegun = λ _. refl; stateless = λ _. (refl, refl) }
 
-some_first : {X : Type 0} (xs : List X) (x : X) → xs ++ x ∷ [] ≡ [] → ⊥
-some_first [] x e = cc
-some_first (y ∷ xs) x e = cc
-
 pub orderly_extended : (q : Part) (s : Statement) → IsOrderly q → FitsAfter q s → IsOrderly (extended q s)
 orderly_extended q Version o fits = record { unbegun = λ e. (let t : true ≡ false = e in absurd cc); stateless = o.stateless }
 orderly_extended q (State s) o fits = record {
   unbegun = λ e. absurd (let b = fits.0 in cc);
-  stateless = λ e. absurd (some_first q.states s e);
+  stateless = λ e. absurd (some_last q.states s e);
 }
 orderly_extended q (Input i) o fits = record { unbegun = o.unbegun; stateless = λ e. absurd (let n : length q.states ≡ 0 = ap length e in omega (arith, n, fits.0)) }
 orderly_extended q (Noise w) o fits = record { unbegun = o.unbegun; stateless = λ e. absurd (let n : length q.states ≡ 0 = ap length e in omega (arith, n, fits.0)) }

@@ -1,27 +1,23 @@
 -- From line to line of a canonical text, and the plant that it holds.
-use Rattle.std.proofs.Common.{inl, inr, ◌≡◌, ℕ, ◌+◌, ◌-◌, ◌<◌, ◌≤◌, true, false, List, [], ◌∷◌, ◌++◌, length, take, drop, None, refl, sym, ap, subst, ◌∙◌, arith, append_assoc, append-nil, length-append, length-drop}
+use Rattle.std.proofs.Common.{inl, inr, ◌≡◌, ℕ, ◌+◌, ◌-◌, ◌<◌, ◌≤◌, true, false, List, [], ◌∷◌, ◌++◌, length, take, None, refl, sym, ap, subst, ◌∙◌, arith, append_assoc, append-nil, length-append}
 use Rattle.std.specs.Prelude.{codes, ◌==◌, position}
 use Rattle.std.proofs.lemmas.Bool.{cases_Bool}
-use Rattle.std.proofs.lemmas.Grind.{flat_map-append}
-use Rattle.std.proofs.lemmas.List.{take-append-drop}
 use Rattle.std.proofs.Math.Seq.{take-append_seam}
 use Rattle.plant_text.specs.plant.Description.{Description}
 use Rattle.plant_text.specs.words.Lines.{lines_of, with_line_feeds}
-use Rattle.plant_text.specs.words.Words.{words_of}
 use Rattle.plant_text.specs.plant.Plants.{IsPlant}
 use Rattle.plant_text.specs.writing.CanonicalText.{text_of}
 use Rattle.plant_text.specs.reading.Grammar.{Part, nothing_yet, IsWhole}
 use Rattle.plant_text.specs.reading.CanonicalFronts.{ExtendsCanonically, LeadsCanonically, IsFirstRefusedAtFront, IsFront}
 use Rattle.plant_text.specs.inside.PartText.{part_text, IsOrderly}
-use Rattle.plant_text.specs.Laws.{OnePlantAtTheFront, OneFront}
 use Rattle.plant_text.specs.inside.PartRules.{KeepsRules}
 use Rattle.plant_text.specs.inside.ReadInFront.{IsReadInFront}
 use Rattle.plant_text.proofs.lemmas.words.WhereCut.{feed_has_place}
-use Rattle.plant_text.proofs.lemmas.words.PutTogether.{lines_front}
-use Rattle.plant_text.proofs.lemmas.reading.RulesKept.{rules_of_nothing, rules_stated}
+use Rattle.plant_text.proofs.lemmas.reading.RulesKept.{rules_of_nothing}
 use Rattle.plant_text.proofs.lemmas.reading.LinesLead.{whole_is_plant}
-use Rattle.plant_text.proofs.lemmas.reading.CanonicalParts.{text_extended, orderly_nothing, orderly_extended}
-use Rattle.plant_text.proofs.lemmas.writing.CanonicalLines.{printable_line}
+use Rattle.plant_text.proofs.lemmas.reading.CanonicalParts.{text_extended}
+use Rattle.plant_text.proofs.lemmas.general.Lists.{flat_map_one_more, same_first}
+use Rattle.plant_text.proofs.lemmas.reading.CanonicalWays.{IsOnTheWay, at_the_beginning, onwards, all_the_way, line_at}
 
 -- ---- onwards
 
@@ -30,7 +26,7 @@ led_on q [] m line r leads extends = (r, subst (λ (x : Part). ExtendsCanonicall
 led_on q (first ∷ lines) m line r leads extends = (leads.0, leads.1, led_on leads.0 lines m line r leads.2 extends)
 
 fed_on : (lines : List (List ℕ)) (line : List ℕ) → with_line_feeds (lines ++ line ∷ []) ≡ with_line_feeds lines ++ (line ++ codes "\n")
-fed_on lines line = flat_map-append (λ (words : List ℕ). words ++ codes "\n") lines (line ∷ []) ∙ ap (λ (x : List ℕ). with_line_feeds lines ++ x) (append-nil (line ++ codes "\n"))
+fed_on lines line = flat_map_one_more (λ (words : List ℕ). words ++ codes "\n") lines line
 
 pub at_first_line : (bytes : List ℕ) (q : Part) → q ≡ nothing_yet → IsReadInFront bytes bytes 1 q
 at_first_line bytes q e = record {
@@ -57,71 +53,40 @@ at_next_line bytes rest line after n q r up cut shorter extends rules = record {
 
 -- ---- where no line leads on
 
--- a canonical line at the front of some bytes is their first line
-first_is : (q : Part) (rest words behind : List ℕ) (r : Part) → KeepsRules q → rest ≡ words ++ codes "\n" ++ behind → ExtendsCanonically q words r → lines_of rest ≡ words ∷ lines_of behind
-first_is q rest words behind r k at e =
-    ap lines_of at ∙ lines_front words behind (printable_line q words e.stated.statement k e.stated.states e.stated.fits e.spelling)
-
-same_first : (x y : List ℕ) (xs ys : List (List ℕ)) → x ∷ xs ≡ y ∷ ys → x ≡ y
-same_first x y xs ys e = cc
+refused_at : (bytes rest : List ℕ) (n : ℕ) (q : Part) → IsReadInFront bytes rest n q → q.ended ≡ false → ((words behind : List ℕ) (r : Part) → rest ≡ words ++ codes "\n" ++ behind → ExtendsCanonically q words r → ⊥)
+    → IsFirstRefusedAtFront bytes n
+refused_at bytes rest n q up goes_on refused = record { lines = up.lines; next = up.numbered; part = q; leads = up.leads; goes_on = goes_on; rest = rest; are = up.are; refused = refused }
 
 pub refused_here : (bytes rest line after : List ℕ) (n : ℕ) (q : Part) → IsReadInFront bytes rest n q → q.ended ≡ false → lines_of rest ≡ line ∷ lines_of after → ((r : Part) → ExtendsCanonically q line r → ⊥) → IsFirstRefusedAtFront bytes n
-refused_here bytes rest line after n q up goes_on cut refused = record {
-  lines = up.lines;
-  next = up.numbered;
-  part = q;
-  leads = up.leads;
-  goes_on = goes_on;
-  rest = rest;
-  are = up.are;
-  refused = λ words behind r at e.
-      refused r (subst (λ (x : List ℕ). ExtendsCanonically q x r) (same_first words line (lines_of behind) (lines_of after) (sym (first_is q rest words behind r up.rules at e) ∙ cut)) e);
-}
+refused_here bytes rest line after n q up goes_on cut refused =
+    refused_at bytes rest n q up goes_on
+    (λ words behind r at e.
+    refused r (subst (λ (x : List ℕ). ExtendsCanonically q x r) (same_first words line (lines_of behind) (lines_of after) (sym (ap lines_of at ∙ line_at q words behind r up.rules e) ∙ cut)) e))
 
 pub no_line_left : (bytes rest : List ℕ) (n : ℕ) (q : Part) → IsReadInFront bytes rest n q → q.ended ≡ false → None ≡ position (λ b. b == 10) rest → IsFirstRefusedAtFront bytes n
-no_line_left bytes rest n q up goes_on none = record {
-  lines = up.lines;
-  next = up.numbered;
-  part = q;
-  leads = up.leads;
-  goes_on = goes_on;
-  rest = rest;
-  are = up.are;
-  refused = λ words behind r at e. feed_has_place words behind (none ∙ ap (position (λ b. b == 10)) (at ∙ append_assoc words (10 ∷ []) behind));
-}
+no_line_left bytes rest n q up goes_on none =
+    refused_at bytes rest n q up goes_on (λ words behind r at e. feed_has_place words behind (none ∙ ap (position (λ b. b == 10)) (at ∙ append_assoc words (10 ∷ []) behind)))
 
 -- ---- the text
 
--- The text of a part goes on to that of another.
-record GoesOn (q r : Part) (more : List ℕ) : Type 0 where
-  text : part_text r ≡ part_text q ++ more
-  orderly : IsOrderly r
-
-text_led : (q : Part) (lines : List (List ℕ)) (r : Part) → KeepsRules q → IsOrderly q → LeadsCanonically q lines r → GoesOn q r (with_line_feeds lines)
-text_led q [] r k o leads = record { text = ap part_text leads ∙ sym (append-nil (part_text q)); orderly = subst IsOrderly (sym leads) o }
-text_led q (line ∷ lines) r k o leads =
+text_led : (q : Part) (lines : List (List ℕ)) (r : Part) → IsOnTheWay q → LeadsCanonically q lines r → part_text r ≡ part_text q ++ with_line_feeds lines
+text_led q [] r w leads = ap part_text leads ∙ sym (append-nil (part_text q))
+text_led q (line ∷ lines) r w leads =
     let e = leads.1 in
-    let s = e.stated.statement in
-    let rules : KeepsRules leads.0 = rules_stated q (words_of line) s leads.0 k e.stated.states e.stated.fits e.stated.leads_to in
-    let orderly : IsOrderly leads.0 = subst IsOrderly (sym e.stated.leads_to) (orderly_extended q s o e.stated.fits) in
-    let later = text_led leads.0 lines r rules orderly leads.2 in
     let here : part_text leads.0 ≡ part_text q ++ (line ++ codes "\n") =
-    ap part_text e.stated.leads_to ∙ text_extended q k o s e.stated.fits e.order ∙ ap (λ (x : List ℕ). part_text q ++ x) (sym e.spelling) in
-    record {
-      text = later.text ∙ ap (λ (x : List ℕ). x ++ with_line_feeds lines) here ∙ append_assoc (part_text q) (line ++ codes "\n") (with_line_feeds lines);
-      orderly = later.orderly;
-    }
+    ap part_text e.stated.leads_to ∙ text_extended q w.rules w.orderly e.stated.statement e.stated.fits e.order ∙ ap (λ (x : List ℕ). part_text q ++ x) (sym e.spelling) in
+    text_led leads.0 lines r (onwards q line leads.0 w e) leads.2 ∙ ap (λ (x : List ℕ). x ++ with_line_feeds lines) here ∙ append_assoc (part_text q) (line ++ codes "\n") (with_line_feeds lines)
 
 -- what is read is the text of the part
 pub read_text : (bytes rest : List ℕ) (n : ℕ) (q : Part) → IsReadInFront bytes rest n q → take (length bytes - length rest) bytes ≡ part_text q
 read_text bytes rest n q up =
-    let text : part_text q ≡ with_line_feeds up.lines = (text_led nothing_yet up.lines q rules_of_nothing orderly_nothing up.leads).text in
+    let text : part_text q ≡ with_line_feeds up.lines = text_led nothing_yet up.lines q at_the_beginning up.leads in
     let count : length bytes ≡ length (with_line_feeds up.lines) + length rest = ap length up.are ∙ length-append (with_line_feeds up.lines) rest in
     let here : length bytes - length rest ≡ length (with_line_feeds up.lines) = omega (arith, count) in
     ap (λ (k : ℕ). take k bytes) here ∙ ap (take (length (with_line_feeds up.lines))) up.are ∙ take-append_seam (with_line_feeds up.lines) rest ∙ sym text
 
 pub read_orderly : (bytes rest : List ℕ) (n : ℕ) (q : Part) → IsReadInFront bytes rest n q → IsOrderly q
-read_orderly bytes rest n q up = (text_led nothing_yet up.lines q rules_of_nothing orderly_nothing up.leads).orderly
+read_orderly bytes rest n q up = (all_the_way nothing_yet up.lines q at_the_beginning up.leads).orderly
 
 -- the text of a part that is whole is that of its plant
 whole_text : (q : Part) (p : Description) → IsPlant p → IsOrderly q → IsWhole q p → part_text q ≡ text_of p
@@ -136,10 +101,3 @@ pub at_front : (bytes : List ℕ) (count : ℕ) (q : Part) (p : Description) →
 at_front bytes count q p k o within text w =
     let plant = whole_is_plant q p k w in
     record { plant = plant; within = within; text = text ∙ whole_text q p plant o w }
-
-pub one_front : OnePlantAtTheFront → OneFront
-one_front apart bytes p q m n f g =
-    let both : text_of p ++ drop m bytes ≡ text_of q ++ drop n bytes =
-    ap (λ (x : List ℕ). x ++ drop m bytes) (sym f.text) ∙ take-append-drop m bytes ∙ sym (take-append-drop n bytes) ∙ ap (λ (x : List ℕ). x ++ drop n bytes) g.text in
-    let same = apart p q (drop m bytes) (drop n bytes) f.plant g.plant both in
-    (same.0, omega (arith, f.within, g.within, ap length same.1, length-drop m bytes, length-drop n bytes))

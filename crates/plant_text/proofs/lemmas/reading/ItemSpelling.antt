@@ -1,5 +1,5 @@
 -- An item that is read is spelled so, and what is spelled so is read.
-use Rattle.std.proofs.Common.{◌≡◌, ◌≢◌, ℕ, zero, suc, ◌^◌, ◌<◌, ◌≤◌, Bool, true, false, cond, eqb, leb, ltb, List, [], ◌∷◌, ◌++◌, length, get_or, Option, Some, None, refl, sym, ap, subst, ◌∙◌, arith, ◌⊎◌, ◌&&◌, ◌||◌, not, inl, inr}
+use Rattle.std.proofs.Common.{◌≡◌, ◌≢◌, ℕ, zero, suc, ◌^◌, ◌<◌, ◌≤◌, Bool, true, false, cond, eqb, leb, ltb, List, [], ◌∷◌, ◌++◌, length, get_or, Option, Some, None, refl, sym, ap, subst, ◌∙◌, arith, ◌⊎◌, ◌&&◌, not, inl, inr}
 use Rattle.std.specs.Prelude.{codes, ℤ, pos, negsuc, nat_abs, ◌≤ℤ◌, slice_get}
 use Rattle.std.specs.List.{All, AllPairs, Contains, list_all}
 use Rattle.std.specs.Option.{option_map}
@@ -20,6 +20,7 @@ use Rattle.plant_text.specs.words.Names.{is_letter, is_digit, is_name_byte, is_r
 use Rattle.plant_text.specs.words.Numbers.{IsLiteral}
 use Rattle.plant_text.specs.inside.ExpressionItems.{AreNames, opening_of, spelling_of, IsItem, or_else, ◌>>=◌, literal_of, function_of, symbol_of, place_in, leaf_of, item_of, divided, opened, item_behind, next_item}
 use Rattle.plant_text.proofs.lemmas.words.NumberBytes.{decimal_digits, first_digit, no_name}
+use Rattle.plant_text.proofs.lemmas.general.Booleans.{neither_of}
 
 -- ---- tests
 
@@ -154,10 +155,6 @@ number_token w d = (
   rw (first_differs is_digit w (codes "+") d refl, first_differs is_digit w (codes "-") d refl, first_differs is_digit w (codes "*") d refl, first_differs is_digit w (codes "(") d refl, first_differs is_digit w (codes ",") d refl, first_differs is_digit w (codes ")") d refl) refl,
 )
 
-or_false : (a b : Bool) → (a || b) ≡ false → (a ≡ false) × (b ≡ false)
-or_false true b e = absurd cc
-or_false false b e = (refl, e)
-
 not_true : (b : Bool) → not b ≡ true → b ≡ false
 not_true true e = absurd cc
 not_true false e = refl
@@ -169,9 +166,9 @@ name_token w name =
     let b = and_parts (list_all is_name_byte w) _ a.1 in
     let c = and_parts (leb (length w) 32) _ b.1 in
     let free = not_true (is_reserved w) c.1 in
-    let no_min = or_false (bytes_eq w (codes "min")) _ free in
-    let no_max = or_false (bytes_eq w (codes "max")) _ no_min.1 in
-    let no_abs = or_false (bytes_eq w (codes "abs")) _ no_max.1 in
+    let no_min = neither_of (bytes_eq w (codes "min")) _ free in
+    let no_max = neither_of (bytes_eq w (codes "max")) _ no_min.1 in
+    let no_abs = neither_of (bytes_eq w (codes "abs")) _ no_max.1 in
     let l = a.0 in (
       first_differs is_letter w (codes "/") l refl,
       rw (no_min.0, no_max.0, no_abs.0) refl,

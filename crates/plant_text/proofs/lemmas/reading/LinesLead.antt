@@ -7,7 +7,7 @@ use Rattle.plant_text.specs.declared.fault.PlantFault.TheVariants as faults
 use Rattle.plant_text.specs.declared.plant.aims.GoalKind.{GoalKind}
 use Rattle.plant_text.specs.plant.Description.{Description}
 use Rattle.plant_text.specs.plant.Plants.{IsPlant}
-use Rattle.plant_text.specs.plant.Limits.{IsWithinLimits, Exceeds}
+use Rattle.plant_text.specs.plant.Limits.{Exceeds}
 use Rattle.plant_text.specs.words.Lines.{lines_of}
 use Rattle.plant_text.specs.words.Words.{words_of}
 use Rattle.plant_text.specs.reading.Statements.{Statement, States}
@@ -16,6 +16,7 @@ use Rattle.plant_text.specs.reading.Refusals.{IsShort, ExceedsLimit}
 use Rattle.plant_text.specs.Laws.{OneRefusal, ReadOrRefused, SpelledPlantsArePlants}
 use Rattle.plant_text.specs.inside.PartRules.{KeepsRules, IsAimless}
 use Rattle.plant_text.specs.inside.StatementLaws.{OneStatement, PassedOverStatesNothing}
+use Rattle.plant_text.proofs.lemmas.plant.Limits.{one_limit, exceeds_none}
 use Rattle.plant_text.proofs.lemmas.reading.RulesKept.{rules_of_nothing, rules_after, rules_led}
 
 -- lines in two pieces lead first through the one and then through the other
@@ -43,6 +44,26 @@ read_less lines n m r le reads =
 same_goal : (a b : GoalKind) → Some a ≡ Some b → a ≡ b
 same_goal a b e = cc
 
+-- a whole part holds one plant
+pub one_whole : (q : Part) (p r : Description) → IsWhole q p → IsWhole q r → p ≡ r
+one_whole q p r first second = λ i.
+    record {
+      states = (sym first.states ∙ second.states) i;
+      inputs = (sym first.inputs ∙ second.inputs) i;
+      noises = (sym first.noises ∙ second.noises) i;
+      equations = (sym first.equations ∙ second.equations) i;
+      targets = (sym first.targets ∙ second.targets) i;
+      obstacles = (sym first.obstacles ∙ second.obstacles) i;
+      goal = same_goal p.goal r.goal (sym first.goal ∙ second.goal) i;
+    }
+
+-- where a goal stands, each state has its equation
+pub has_equations : (q : Part) → HasEquations q ⊎ IsAimless q → (q.goal ≡ None → ⊥) → HasEquations q
+has_equations q placed some = elim placed [
+  | inl has ↦ has
+  | inr aims ↦ absurd (some aims.2)
+]
+
 module _ (one : OneStatement) (nothing : PassedOverStatesNothing) where
   once : (q : Part) (line : List ℕ) (r s : Part) → KeepsRules q → Extends q line r → Extends q line s → r ≡ s
   once q line r s k first second =
@@ -65,19 +86,6 @@ module _ (one : OneStatement) (nothing : PassedOverStatesNothing) where
 
   pub read_once : (lines : List (List ℕ)) (r s : Part) → Reads lines r → Reads lines s → r ≡ s
   read_once lines r s first second = led_once nothing_yet lines r s rules_of_nothing first second
-
-  -- a whole part holds one plant
-  one_whole : (q : Part) (p r : Description) → IsWhole q p → IsWhole q r → p ≡ r
-  one_whole q p r first second = λ i.
-      record {
-        states = (sym first.states ∙ second.states) i;
-        inputs = (sym first.inputs ∙ second.inputs) i;
-        noises = (sym first.noises ∙ second.noises) i;
-        equations = (sym first.equations ∙ second.equations) i;
-        targets = (sym first.targets ∙ second.targets) i;
-        obstacles = (sym first.obstacles ∙ second.obstacles) i;
-        goal = same_goal p.goal r.goal (sym first.goal ∙ second.goal) i;
-      }
 
   pub one_plant : (bytes : List ℕ) (p r : Description) → Spells bytes p → Spells bytes r → p ≡ r
   one_plant bytes p r first second =
@@ -115,32 +123,8 @@ module _ (one : OneStatement) (nothing : PassedOverStatesNothing) where
             cc)
       ]
 
-  -- a text has one reason to be refused
-  pub one_limit : (bytes : List ℕ) (p r : Description) (a b : LimitKind) → Spells bytes p → Spells bytes r → Exceeds p a → Exceeds r b → a ≡ b
-  one_limit bytes p r a b first second over also = exceeds_one r a b (subst (λ (x : Description). Exceeds x a) (one_plant bytes p r first second) over) also
-    where
-      exceeds_one : (r : Description) (a b : LimitKind) → Exceeds r a → Exceeds r b → a ≡ b
-      exceeds_one r Vectors Vectors f g = refl
-      exceeds_one r Vectors Cells f g = absurd (f g.0)
-      exceeds_one r Vectors Pairs f g = absurd (f g.0)
-      exceeds_one r Cells Vectors f g = absurd (g f.0)
-      exceeds_one r Cells Cells f g = refl
-      exceeds_one r Cells Pairs f g = absurd (f.1 g.1)
-      exceeds_one r Pairs Vectors f g = absurd (g f.0)
-      exceeds_one r Pairs Cells f g = absurd (g.1 f.1)
-      exceeds_one r Pairs Pairs f g = refl
-      exceeds_one r PlantText b f g = absurd f
-      exceeds_one r TableText b f g = absurd f
-      exceeds_one r Edges b f g = absurd f
-      exceeds_one r Vectors PlantText f g = absurd g
-      exceeds_one r Vectors TableText f g = absurd g
-      exceeds_one r Vectors Edges f g = absurd g
-      exceeds_one r Cells PlantText f g = absurd g
-      exceeds_one r Cells TableText f g = absurd g
-      exceeds_one r Cells Edges f g = absurd g
-      exceeds_one r Pairs PlantText f g = absurd g
-      exceeds_one r Pairs TableText f g = absurd g
-      exceeds_one r Pairs Edges f g = absurd g
+  one_limit_of : (bytes : List ℕ) (p r : Description) (a b : LimitKind) → Spells bytes p → Spells bytes r → Exceeds p a → Exceeds r b → a ≡ b
+  one_limit_of bytes p r a b first second over also = one_limit r a b (subst (λ (x : Description). Exceeds x a) (one_plant bytes p r first second) over) also
 
   -- why a text whose plant exceeds a limit is refused, and that it is short and spells a plant
   record ExceedsAs (bytes : List ℕ) (what : LimitKind) : Type 0 where
@@ -167,7 +151,7 @@ module _ (one : OneStatement) (nothing : PassedOverStatesNothing) where
         ]
         | inr plant ↦ elim (limit_cases bytes b second) [
           | inl long ↦ absurd (long.1 plant.short)
-          | inr other ↦ one_limit bytes plant.plant other.plant a b plant.spells other.spells plant.exceeds other.exceeds
+          | inr other ↦ one_limit_of bytes plant.plant other.plant a b plant.spells other.spells plant.exceeds other.exceeds
         ]
       ]
 
@@ -187,15 +171,6 @@ module _ (one : OneStatement) (nothing : PassedOverStatesNothing) where
   one_refusal bytes (faults.Limit a) (faults.Limit b) f g = ap faults.Limit (same_limit bytes a b f g)
   one_refusal bytes (faults.Limit a) faults.Memory f g = absurd g
   one_refusal bytes faults.Memory g f h = absurd f
-
-  -- a plant within the limits exceeds none
-  exceeds_none : (p : Description) (what : LimitKind) → IsWithinLimits p → Exceeds p what → ⊥
-  exceeds_none p PlantText within e = e
-  exceeds_none p TableText within e = e
-  exceeds_none p Vectors within e = e within.vectors
-  exceeds_none p Cells within e = e.1 within.cells
-  exceeds_none p Pairs within e = e.2 within.pairs
-  exceeds_none p Edges within e = e
 
   pub read_or_refused : ReadOrRefused
   read_or_refused bytes p (faults.Malformed n) spells short within e = not_refused bytes p n spells e.1
@@ -227,12 +202,6 @@ whole_is_plant q p k whole =
       obstacles = k.obstacles;
       kept_aims_nowhere = λ e. k.kept_aims_nowhere (whole.goal ∙ ap Some e);
     })
-  where
-    has_equations : (q : Part) → HasEquations q ⊎ IsAimless q → (q.goal ≡ None → ⊥) → HasEquations q
-    has_equations q placed some = elim placed [
-      | inl has ↦ has
-      | inr aims ↦ absurd (some aims.2)
-    ]
 
 pub spelled_is_plant : SpelledPlantsArePlants
 spelled_is_plant bytes p spells = whole_is_plant spells.0 p (rules_led nothing_yet (lines_of bytes) spells.0 rules_of_nothing spells.1) spells.2

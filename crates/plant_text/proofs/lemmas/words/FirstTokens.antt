@@ -1,17 +1,13 @@
 -- The first token of a line, and the tokens of what is behind it.
-use Rattle.std.proofs.Common.{◌≡◌, ℕ, suc, ◌+◌, Bool, true, false, cond, eqb, List, [], ◌∷◌, ◌++◌, length, take, drop, refl, sym, ap, subst, ◌∙◌, arith, append_assoc, ◌⊎◌, ◌&&◌, ◌||◌, inl, inr}
+use Rattle.std.proofs.Common.{◌≡◌, ℕ, suc, ◌+◌, true, false, cond, eqb, List, [], ◌∷◌, ◌++◌, length, take, drop, refl, sym, ap, subst, ◌∙◌, arith, append_assoc, ◌⊎◌, ◌&&◌, ◌||◌, inl, inr}
 use Rattle.std.specs.List.{flat_map, prefix_len}
-use Rattle.std.proofs.lemmas.Bool.{eqb-true, and_parts, or_cases, false_from_ne_true}
+use Rattle.std.proofs.lemmas.Bool.{cases_Bool, eqb-true, and_parts, or_cases, false_from_ne_true}
 use Rattle.std.proofs.lemmas.List.{append-nil, nil_from_length}
 use Rattle.plant_text.specs.words.Names.{is_letter, is_digit, is_name_byte}
 use Rattle.plant_text.specs.words.Words.{is_blank, ends_word, words_of}
 use Rattle.plant_text.specs.words.Lines.{joined}
 use Rattle.plant_text.specs.words.Tokens.{goes_on, tokens_after, tokens_of}
-use Rattle.plant_text.specs.inside.ExpressionItems.{tokens_in}
-
-pub true_or_false : (b : Bool) → (b ≡ true) ⊎ (b ≡ false)
-true_or_false true = inl refl
-true_or_false false = inr refl
+use Rattle.plant_text.specs.inside.LineTokens.{tokens_in}
 
 one_more : (n : ℕ) → 1 + n ≡ suc n
 one_more n = omega arith
@@ -19,7 +15,7 @@ one_more n = omega arith
 pub blanks_pass : (bytes : List ℕ) → tokens_in (drop (prefix_len is_blank bytes) bytes) ≡ tokens_in bytes
 blanks_pass [] = refl
 blanks_pass (b ∷ bytes) =
-    elim (true_or_false (is_blank b)) [
+    elim (cases_Bool (is_blank b)) [
       | inl e ↦ rw (e, one_more (prefix_len is_blank bytes)) (blanks_pass bytes)
       | inr e ↦ rw (e, e) refl
     ]
@@ -28,7 +24,7 @@ blanks_pass (b ∷ bytes) =
 pub no_blank : (bytes after : List ℕ) (b : ℕ) → drop (prefix_len is_blank bytes) bytes ≡ b ∷ after → is_blank b ≡ false
 no_blank [] after b h = absurd cc
 no_blank (c ∷ bytes) after b h =
-    elim (true_or_false (is_blank c)) [
+    elim (cases_Bool (is_blank c)) [
       | inl e ↦ no_blank bytes after b (rw (e, one_more (prefix_len is_blank bytes)) at h)
       | inr e ↦ let first : c ≡ b = cc (rw e at h) in subst (λ (d : ℕ). is_blank d ≡ false) first e
     ]
@@ -65,7 +61,7 @@ behind_begun token bytes = cond (ends_word bytes) (token ∷ tokens_in bytes) (b
 
 begun : (b : ℕ) (bytes : List ℕ) → is_blank b ≡ false → tokens_in (b ∷ bytes) ≡ behind_begun (b ∷ []) bytes
 begun b bytes e =
-    elim (true_or_false (ends_word bytes)) [
+    elim (cases_Bool (ends_word bytes)) [
       | inl ends ↦ rw (e, ends) refl
       | inr goes ↦ rw (e, goes) (with_first (words_of bytes))
     ]
@@ -84,14 +80,14 @@ joined_ends token c (w ∷ words) stops = rw stops refl
 
 behind_goes_on : (token : List ℕ) (c : ℕ) (bytes : List ℕ) → is_blank c ≡ false → goes_on token c ≡ true → behind_begun token (c ∷ bytes) ≡ behind_begun (token ++ c ∷ []) bytes
 behind_goes_on token c bytes e on =
-    elim (true_or_false (ends_word bytes)) [
+    elim (cases_Bool (ends_word bytes)) [
       | inl ends ↦ rw (e, ends, on) refl
       | inr goes ↦ rw (e, goes) (joined_goes_on token c (words_of bytes) on)
     ]
 
 behind_ends : (token : List ℕ) (c : ℕ) (bytes : List ℕ) → is_blank c ≡ false → goes_on token c ≡ false → behind_begun token (c ∷ bytes) ≡ token ∷ tokens_in (c ∷ bytes)
 behind_ends token c bytes e stops =
-    elim (true_or_false (ends_word bytes)) [
+    elim (cases_Bool (ends_word bytes)) [
       | inl ends ↦ rw (e, ends, stops) refl
       | inr goes ↦ rw (e, goes) (joined_ends token c (words_of bytes) stops)
     ]
@@ -99,12 +95,12 @@ behind_ends token c bytes e stops =
 behind_is : (first : ℕ) (more bytes : List ℕ) → behind_begun (first ∷ more) bytes ≡ ((first ∷ more) ++ take (prefix_len (goes_on (first ∷ [])) bytes) bytes) ∷ tokens_in (drop (prefix_len (goes_on (first ∷ [])) bytes) bytes)
 behind_is first more [] = ap (λ (t : List ℕ). t ∷ []) (sym (append-nil (first ∷ more)))
 behind_is first more (c ∷ bytes) =
-    elim (true_or_false (is_blank c)) [
+    elim (cases_Bool (is_blank c)) [
       | inl blank ↦
           let stops = blank_ends first c blank in
           let whole = append-nil (first ∷ more) in
           rw (blank, stops, whole, blank) refl
-      | inr e ↦ elim (true_or_false (goes_on (first ∷ []) c)) [
+      | inr e ↦ elim (cases_Bool (goes_on (first ∷ []) c)) [
         | inl on ↦
             behind_goes_on (first ∷ more) c bytes e on
             ∙ behind_is first (more ++ c ∷ []) bytes

@@ -1,16 +1,15 @@
 -- The tokens of a text by one scan over its bytes.
 use Rattle.std.proofs.Common.{◌≡◌, ℕ, ◌<◌, ◌≤◌, Bool, true, false, cond, eqb, leb, List, [], ◌∷◌, ◌++◌, length, refl, sym, ap, ◌∙◌, append_assoc, arith, not, ◌||◌, ◌&&◌, inl, inr}
 use Rattle.std.specs.List.{list_all, flat_map}
-use Rattle.std.proofs.lemmas.Bool.{and_parts, not-true, or_cases, eqb-true, leb-true, ne_eqb}
+use Rattle.std.proofs.lemmas.Bool.{and_parts, not-true, or_cases, eqb-true, leb-true}
 use Rattle.std.proofs.lemmas.List.{append-nil}
+use Rattle.plant_text.specs.inside.LineTokens.{tokens_in}
 use Rattle.plant_text.specs.words.Names.{is_letter, is_digit, is_name_byte, IsName}
 use Rattle.plant_text.specs.words.Words.{words_of, is_blank, ends_word}
 use Rattle.plant_text.specs.words.Lines.{joined}
 use Rattle.plant_text.specs.words.Tokens.{goes_on, tokens_after, tokens_of}
-
--- the tokens of the words
-abbrev pub tokens_in : List ℕ → List (List ℕ)
-tokens_in text = flat_map tokens_of (words_of text)
+use Rattle.plant_text.proofs.lemmas.general.Booleans.{and_false, neither_of, or_true}
+use Rattle.plant_text.proofs.lemmas.words.WhereCut.{above_space}
 
 -- a token that is begun, if one is
 abbrev pub flushed : List ℕ → List (List ℕ) → List (List ℕ)
@@ -95,21 +94,12 @@ is_break (b ∷ text) = not (is_name_byte b)
 abbrev pub is_run : ℕ → List ℕ → Bool
 is_run c w = list_all (λ b. not (is_blank b) && goes_on (c ∷ []) b) w
 
-or_false : (x : Bool) → (x && false) ≡ false
-or_false true = refl
-or_false false = refl
-
-neither : (x y z : Bool) → (x || (y || z)) ≡ false → y ≡ false
-neither x false z e = refl
-neither false true z e = e
-neither true true z e = e
-
 -- what is no name byte goes on with no token
 stops : (c b : ℕ) (token : List ℕ) → not (is_name_byte b) ≡ true → goes_on (c ∷ token) b ≡ false
 stops c b token h =
     let name : is_name_byte b ≡ false = not-true (is_name_byte b) h in
-    let digit : is_digit b ≡ false = neither (is_letter b) (is_digit b) (eqb b 95) name in
-    rw (name, digit, or_false (is_letter c), or_false (is_digit c)) refl
+    let digit : is_digit b ≡ false = (neither_of (is_digit b) (eqb b 95) (neither_of (is_letter b) (is_digit b || eqb b 95) name).1).0 in
+    rw (name, digit, and_false (is_letter c), and_false (is_digit c)) refl
 
 run : (c : ℕ) (token w text : List ℕ) → is_run c w ≡ true → is_break text ≡ true → scan (c ∷ token) (w ++ text) ≡ (c ∷ token ++ w) ∷ scan [] text
 run c token [] [] goes ends = ap (λ (t : List ℕ). (c ∷ t) ∷ []) (sym (append-nil token))
@@ -127,9 +117,6 @@ run_front c w text dark goes ends = rw dark (run c [] w text goes ends)
 
 -- ---- names and numbers
 
-above_space : (b : ℕ) → 32 < b → is_blank b ≡ false
-above_space b lt = rw (ne_eqb b 32 (λ e. omega (arith, lt, e)), ne_eqb b 9 (λ e. omega (arith, lt, e)), ne_eqb b 13 (λ e. omega (arith, lt, e))) refl
-
 -- the least byte of a name is a digit
 pub name_byte_above : (b : ℕ) → is_name_byte b ≡ true → 47 < b
 name_byte_above b h =
@@ -145,10 +132,6 @@ name_byte_above b h =
             | inr h ↦ omega (arith, eqb-true b 95 h)
           ]
     ]
-
-or_true : (x : Bool) → (x || true) ≡ true
-or_true true = refl
-or_true false = refl
 
 name_run : (c : ℕ) (w : List ℕ) → is_letter c ≡ true → list_all is_name_byte w ≡ true → is_run c w ≡ true
 name_run c [] letter names = refl

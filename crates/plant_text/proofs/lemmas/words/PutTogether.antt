@@ -6,7 +6,7 @@ use Rattle.std.proofs.lemmas.Bool.{ltb-true, leb-true, le-leb, ne_eqb, and_parts
 use Rattle.std.proofs.lemmas.List.Folds.{list_all-append}
 use Rattle.plant_text.specs.words.Lines.{lines_of, joined}
 use Rattle.plant_text.specs.words.Words.{words_of, is_blank}
-use Rattle.plant_text.proofs.lemmas.words.WhereCut.{longer_word}
+use Rattle.plant_text.proofs.lemmas.words.WhereCut.{above_space, longer_word}
 
 -- no byte is a space or less
 abbrev pub is_dark : List ℕ → Bool
@@ -22,9 +22,7 @@ pub record IsDarkWord (w : List ℕ) : Type 0 where
   pub some : 0 < length w
 
 pub dark_byte : (b : ℕ) → ltb 32 b ≡ true → is_blank b ≡ false
-dark_byte b dark =
-    let lt : 32 < b = ltb-true 32 b dark in
-    rw (ne_eqb b 32 (λ e. omega (arith, lt, e)), ne_eqb b 9 (λ e. omega (arith, lt, e)), ne_eqb b 13 (λ e. omega (arith, lt, e))) refl
+dark_byte b dark = above_space b (ltb-true 32 b dark)
 
 pub dark_printable : (w : List ℕ) → is_dark w ≡ true → is_printable w ≡ true
 dark_printable [] dark = refl

@@ -1,27 +1,17 @@
 -- Where a text is cut into lines, and a line into words.
-use Rattle.std.proofs.Common.{◌≡◌, ℕ, ◌+◌, ◌-◌, ◌<◌, ◌≤◌, Bool, true, false, cond, eqb, List, [], ◌∷◌, ◌++◌, append_assoc, length, length-append, get_or, take, drop, drop-cons, suc, Some, None, refl, sym, ap, ◌∙◌, arith, not, one-add, add-one, add-zero, unwrap_or, ltb, subst}
+use Rattle.std.proofs.Common.{◌≡◌, ℕ, ◌+◌, ◌-◌, ◌<◌, ◌≤◌, Bool, true, false, eqb, List, [], ◌∷◌, ◌++◌, append_assoc, length, length-append, get_or, take, drop, drop-cons, suc, Some, None, refl, sym, ap, ◌∙◌, arith, not, one-add, add-one, add-zero, subst}
 use Rattle.std.specs.List.{position, position_or_len}
-use Rattle.std.proofs.lemmas.Bool.{ltb-true, ltb-false, not-true, eqb-true}
+use Rattle.std.proofs.lemmas.Bool.{not-true, eqb-true}
 use Rattle.std.proofs.lemmas.List.{take_all, drop_all, take_rest, take-append-drop, length-drop, get_or-drop, get_or_at}
-use Rattle.std.proofs.lemmas.List.Sums.{passes_at_first, prefix_len-le-length, prefix_len_passes}
+use Rattle.std.proofs.lemmas.List.Sums.{passes_at_first, prefix_len_passes}
 use Rattle.plant_text.specs.words.Lines.{lines_of, joined}
 use Rattle.plant_text.specs.words.Words.{words_of, is_blank, ends_word}
+use Rattle.plant_text.proofs.lemmas.general.Positions.{place_some, place_none}
+use Rattle.std.proofs.lemmas.Bool.{ne_eqb}
 
-some_if : {A : Type 0} (b : Bool) (x y : A) → cond b (Some x) None ≡ Some y → (b ≡ true) × (x ≡ y)
-some_if true x y e = (refl, cc)
-some_if false x y e = absurd cc
-
-none_if : {A : Type 0} (b : Bool) (x : A) → cond b (Some x) None ≡ None → b ≡ false
-none_if true x e = absurd cc
-none_if false x e = refl
-
-place_some : (p : ℕ → Bool) (xs : List ℕ) (n : ℕ) → Some n ≡ position p xs → (position_or_len p xs ≡ n) × (position_or_len p xs < length xs)
-place_some p xs n e =
-    let f = some_if _ _ n (sym e) in
-    (f.1, ltb-true _ _ f.0)
-
-place_none : (p : ℕ → Bool) (xs : List ℕ) → None ≡ position p xs → length xs ≤ position_or_len p xs
-place_none p xs e = ltb-false _ _ (none_if _ _ (sym e))
+-- a byte above the space is no blank
+pub above_space : (b : ℕ) → 32 < b → is_blank b ≡ false
+above_space b lt = rw (ne_eqb b 32 (λ e. omega (arith, lt, e)), ne_eqb b 9 (λ e. omega (arith, lt, e)), ne_eqb b 13 (λ e. omega (arith, lt, e))) refl
 
 -- ---- lines
 
@@ -160,10 +150,3 @@ first_word bytes n e =
 
 pub no_word : (bytes : List ℕ) → None ≡ position is_inside bytes → words_of bytes ≡ []
 no_word bytes e = behind_blanks bytes ∙ ap words_of (drop_all _ bytes (place_none is_inside bytes e))
-
-or_len : (p : ℕ → Bool) (xs : List ℕ) (t : Bool) → ltb (position_or_len p xs) (length xs) ≡ t → unwrap_or (position p xs) (length xs) ≡ position_or_len p xs
-or_len p xs true e = rw e refl
-or_len p xs false e = rw e (omega (arith, ltb-false _ _ e, prefix_len-le-length (λ x. not (p x)) xs))
-
-pub place_or_len : (p : ℕ → Bool) (xs : List ℕ) → unwrap_or (position p xs) (length xs) ≡ position_or_len p xs
-place_or_len p xs = or_len p xs (ltb (position_or_len p xs) (length xs)) refl

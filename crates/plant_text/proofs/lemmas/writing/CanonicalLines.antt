@@ -23,8 +23,7 @@ use Rattle.plant_text.specs.inside.FormedEquations.{HasFormedEquation}
 use Rattle.plant_text.proofs.lemmas.plant.SoundPlants.{well_formed}
 use Rattle.plant_text.proofs.lemmas.reading.RulesKept.{equation_spelled}
 use Rattle.plant_text.proofs.lemmas.words.PutTogether.{is_printable, IsDarkWord, printable_joined}
-use Rattle.plant_text.proofs.lemmas.writing.CanonicalWords.{name_dark, number_dark, numbers_dark, goal_dark, expression_printable}
-use Rattle.plant_text.proofs.lemmas.writing.PlantsSpelled.{equation_printable, box_dark}
+use Rattle.plant_text.proofs.lemmas.writing.CanonicalWords.{name_dark, number_dark, numbers_dark, box_dark, goal_dark, expression_printable, equation_printable}
 
 -- a stated equation has the variables that it names
 pub formed : (names : List (List ℕ)) (n : ℕ) (words : List (List ℕ)) (s : Statement) → States names n words s → HasFormedEquation (length names) s

@@ -1,6 +1,6 @@
 -- The syntax tree of a canonical expression text means the expression, and has few brackets.
 use Rattle.std.proofs.Common.{◌≡◌, ℕ, suc, ◌<◌, ◌≤◌, max, Bool, true, false, cond, List, [], length, refl, sym, ap, ◌∙◌, arith}
-use Rattle.std.specs.Prelude.{ℤ, pos, negsuc, nat_abs, ◌≤ℤ◌, nat_lt}
+use Rattle.std.specs.Prelude.{pos, nat_abs, nat_lt}
 use Rattle.std.specs.List.{All, flat_map}
 use Rattle.std.proofs.lemmas.Bool.{ltb-false}
 use Rattle.std.proofs.lemmas.Int.{ints}
@@ -12,9 +12,10 @@ use Rattle.plant_text.specs.writing.ExpressionText.{expression_text}
 use Rattle.plant_text.specs.words.Words.{words_of}
 use Rattle.plant_text.specs.words.Tokens.{tokens_of}
 use Rattle.plant_text.specs.reading.SyntaxTrees.{Syntax, Plus, Less, Times, Over, Bracketed, yield_of, level_of, IsGrammatical, meaning_of, brackets_of, AreTokensOf}
-use Rattle.plant_text.proofs.lemmas.plant.Axes.{positive}
+use Rattle.plant_text.proofs.lemmas.general.Numbers.{positive}
 use Rattle.plant_text.proofs.lemmas.words.OneScan.{scan, scan_is}
 use Rattle.plant_text.proofs.lemmas.writing.ExpressionTokens.{tree, yields}
+use Rattle.plant_text.proofs.lemmas.general.Numbers.{some_divisor}
 
 -- ---- brackets around a tree
 
@@ -60,10 +61,6 @@ level asked (Quotient a k) le = enough (nat_lt 2 asked) 2 asked (Over (tree 2 a)
 level asked (Minimum a b) le = le
 level asked (Maximum a b) le = le
 level asked (Absolute a) le = le
-
-some_divisor : (k : ℤ) → pos 1 ≤ℤ k → 1 ≤ nat_abs k
-some_divisor (pos n) h = omega (arith, ints, h)
-some_divisor (negsuc n) h = absurd (omega (arith, ints, h))
 
 grammatical : (m asked : ℕ) (e : Expression) → HasLiterals m e → IsGrammatical m (tree asked e)
 grammatical m asked (Number k) h = h.1

@@ -1,7 +1,7 @@
 -- The words of canonical lines, and the bytes of expression texts.
 use Rattle.std.proofs.Common.{◌≡◌, ℕ, zero, suc, ◌≤◌, Bool, true, false, cond, ltb, leb, List, [], ◌∷◌, ◌++◌, length, get_or, take, map, refl, arith}
 use Rattle.std.specs.Prelude.{ℤ, pos, negsuc, codes, nat_lt}
-use Rattle.std.specs.List.{All, AllZip, AllByRecursion, list_all}
+use Rattle.std.specs.List.{All, AllZip, AllByRecursion, list_all, join_with_byte}
 use Rattle.std.specs.Fmt.{decimal, signed_decimal}
 use Rattle.std.proofs.lemmas.Bool.{lt-ltb, leb-true, and_parts, and_from}
 use Rattle.std.proofs.lemmas.Fmt.{decimal_nonempty}
@@ -12,7 +12,8 @@ use Rattle.plant_text.specs.declared.plant.aims.GoalKind.TheVariants.{Reach, Kee
 use Rattle.plant_text.specs.words.Names.{IsName, is_letter, is_digit, is_name_byte}
 use Rattle.plant_text.specs.words.Numbers.{IsLiteral}
 use Rattle.plant_text.specs.plant.Equations.{HasLiterals}
-use Rattle.plant_text.specs.plant.Boxes.{AreEnds}
+use Rattle.plant_text.specs.plant.Boxes.{AreEnds, IsStateBox}
+use Rattle.plant_text.specs.declared.plant.aims.StateBox.{StateBox}
 use Rattle.plant_text.specs.writing.ExpressionText.{expression_text}
 use Rattle.plant_text.specs.writing.CanonicalText.{end_words, goal_word}
 use Rattle.plant_text.proofs.lemmas.words.NumberBytes.{decimal_digits}
@@ -53,6 +54,9 @@ ends_dark (suc n) [] high ends = tt
 ends_dark (suc n) (l ∷ low) [] ends = tt
 ends_dark (suc n) (l ∷ low) (h ∷ high) ends = (number_dark l ends.0.0, (number_dark h ends.0.1, ends_dark n low high ends.1))
 
+pub box_dark : (n : ℕ) (b : StateBox) → IsStateBox n b → AllByRecursion IsDarkWord (end_words n b.low b.high)
+box_dark n b h = ends_dark n b.low b.high h.ends
+
 pub goal_dark : (goal : GoalKind) → IsDarkWord (goal_word goal)
 goal_dark Reach = record { dark = refl; some = omega arith }
 goal_dark Keep = record { dark = refl; some = omega arith }
@@ -89,3 +93,6 @@ expression_printable names asked (Maximum a b) named h =
     printable_both (codes "max(" ++ expression_text names 1 a ++ codes ", " ++ expression_text names 1 b) (codes ")")
     (three (codes "max(" ++ expression_text names 1 a) (codes ", ") (expression_text names 1 b) (expression_printable names 1 a named h.0) refl (expression_printable names 1 b named h.1)) refl
 expression_printable names asked (Absolute a) named h = printable_both (codes "abs(" ++ expression_text names 1 a) (codes ")") (expression_printable names 1 a named h) refl
+
+pub equation_printable : (name text : List ℕ) → IsName name → is_printable text ≡ true → is_printable (join_with_byte 32 (codes "next" ∷ name ∷ codes "=" ∷ text ∷ [])) ≡ true
+equation_printable name text named h = printable_both name (codes " = " ++ text) (dark_printable name (name_dark name named).dark) h

@@ -2,7 +2,8 @@ use Rattle.std.proofs.Common.{◌≡◌, ap, inl, inr}
 use Rattle.std.specs.Prelude.{Err}
 use Rattle.std.proofs.lemmas.Result.{err_from_is_err_and}
 use Rattle.plant_text.specs.declared.fault.ReadFault.TheVariants as faults
-use Rattle.plant_text.specs.inside.ExpressionItems.{AreNames, variable_names, tokens_in}
+use Rattle.plant_text.specs.inside.LineTokens.{tokens_in}
+use Rattle.plant_text.specs.inside.ExpressionItems.{AreNames, variable_names}
 use Rattle.plant_text.specs.inside.ExpressionMachine.{machine_of}
 use Rattle.plant_text.proofs.lemmas.reading.ExpressionsRead.{taken_within, one_taken, no_item, no_step, no_room, end_meant, result_spelled}
 use Rattle.plant_text.proofs.reading.expression.expression_in.Goals as goal

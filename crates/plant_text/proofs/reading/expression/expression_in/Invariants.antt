@@ -1,5 +1,6 @@
 use Rattle.std.proofs.Common.{length}
-use Rattle.plant_text.specs.inside.ExpressionItems.{tokens_in, variable_names}
+use Rattle.plant_text.specs.inside.LineTokens.{tokens_in}
+use Rattle.plant_text.specs.inside.ExpressionItems.{variable_names}
 use Rattle.plant_text.specs.inside.ExpressionMachine.{machine_of}
 use Rattle.plant_text.proofs.lemmas.reading.ExpressionsRead.{Taken}
 use Rattle.plant_text.proofs.reading.expression.expression_in.Given as goal

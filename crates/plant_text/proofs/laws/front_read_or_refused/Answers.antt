@@ -1,0 +1,6 @@
+use Rattle.plant_text.proofs.lemmas.reading.StatementLaws.{one_statement}
+use Rattle.plant_text.proofs.lemmas.reading.CanonicalFronts as fronts
+use Rattle.plant_text.proofs.laws.front_read_or_refused.Goals as goal
+
+pub returns : goal.returns
+returns c = fronts.front_read_or_refused one_statement

@@ -1,0 +1,6 @@
+use Rattle.plant_text.proofs.lemmas.reading.StatementLaws.{one_statement}
+use Rattle.plant_text.proofs.lemmas.reading.CanonicalFronts as fronts
+use Rattle.plant_text.proofs.laws.one_front_refusal.Goals as goal
+
+pub returns : goal.returns
+returns c = fronts.one_front_refusal one_statement

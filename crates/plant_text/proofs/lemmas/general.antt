@@ -1,0 +1,5 @@
+-- What knows nothing of plants.
+pub mod Booleans
+pub mod Lists
+pub mod Numbers
+pub mod Positions

@@ -1,0 +1,28 @@
+-- Where the first item stands that passes a test.
+use Rattle.std.proofs.Common.{◌≡◌, ℕ, ◌<◌, ◌≤◌, Bool, true, false, cond, List, length, Some, None, refl, sym, arith, not, unwrap_or, ltb}
+use Rattle.std.specs.List.{position, position_or_len}
+use Rattle.std.proofs.lemmas.Bool.{ltb-true, ltb-false}
+use Rattle.std.proofs.lemmas.List.Sums.{prefix_len-le-length}
+
+some_if : {A : Type 0} (b : Bool) (x y : A) → cond b (Some x) None ≡ Some y → (b ≡ true) × (x ≡ y)
+some_if true x y e = (refl, cc)
+some_if false x y e = absurd cc
+
+none_if : {A : Type 0} (b : Bool) (x : A) → cond b (Some x) None ≡ None → b ≡ false
+none_if true x e = absurd cc
+none_if false x e = refl
+
+pub place_some : (p : ℕ → Bool) (xs : List ℕ) (n : ℕ) → Some n ≡ position p xs → (position_or_len p xs ≡ n) × (position_or_len p xs < length xs)
+place_some p xs n e =
+    let f = some_if _ _ n (sym e) in
+    (f.1, ltb-true _ _ f.0)
+
+pub place_none : (p : ℕ → Bool) (xs : List ℕ) → None ≡ position p xs → length xs ≤ position_or_len p xs
+place_none p xs e = ltb-false _ _ (none_if _ _ (sym e))
+
+or_len : (p : ℕ → Bool) (xs : List ℕ) (t : Bool) → ltb (position_or_len p xs) (length xs) ≡ t → unwrap_or (position p xs) (length xs) ≡ position_or_len p xs
+or_len p xs true e = rw e refl
+or_len p xs false e = rw e (omega (arith, ltb-false _ _ e, prefix_len-le-length (λ x. not (p x)) xs))
+
+pub place_or_len : (p : ℕ → Bool) (xs : List ℕ) → unwrap_or (position p xs) (length xs) ≡ position_or_len p xs
+place_or_len p xs = or_len p xs (ltb (position_or_len p xs) (length xs)) refl
