@@ -13,3 +13,4 @@ pub mod RefusedRows
 pub mod RefusedPlant
 pub mod ReadTable
 pub mod SolutionsFit
+pub mod OneTable
