@@ -14,3 +14,4 @@ pub mod RefusedPlant
 pub mod ReadTable
 pub mod SolutionsFit
 pub mod OneTable
+pub mod OneRefusal
