@@ -1,0 +1,7 @@
+pub mod Sums
+pub mod Steps
+pub mod Gains
+pub mod Lists
+pub mod Rooms
+pub mod Counts
+pub mod Swept

@@ -1,0 +1,21 @@
+-- What a sweep does, as the lists of what the hands did tell it.
+use Rattle.std.specs.Prelude.{◌≡◌, ℕ, List, [], ◌∷◌, ◌++◌, length, None, IsPermutation}
+use Rattle.std.specs.List.{concat, range_with_len}
+use Rattle.frontier_pool.specs.declared.member.Member.{Member}
+
+-- each list followed by its part
+abbrev pub followed : List (List ℕ) → List (List ℕ) → List (List ℕ)
+followed [] parts = []
+followed (was ∷ more) [] = []
+followed (was ∷ more) (part ∷ parts) = (was ++ part) ∷ followed more parts
+
+-- each list after is the one before followed by a part, and the parts together are the numbers below items, each once
+pub record Sweeps (before after : List (List ℕ)) (items : ℕ) : Type 0 where
+  pub parts : List (List ℕ)
+  pub each : length parts ≡ length before
+  pub grown : after ≡ followed before parts
+  pub once : IsPermutation (range_with_len 0 items) (concat parts)
+
+-- the member's room is empty
+abbrev pub IsIdle : {H : Type 0} → Member H → Type 0
+IsIdle m = m.room ≡ None

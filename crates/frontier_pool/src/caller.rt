@@ -1,0 +1,114 @@
+// What the caller of a sweep does before its members work, and after.
+ghost use Rattle.std.specs.Prelude.{◌≡◌, ℕ, ◌+◌, ◌<◌, [], ◌∷◌, length, All, IfOk};
+ghost use Rattle.frontier_pool.specs.Sweeps.{IsIdle};
+ghost use Rattle.frontier_pool.specs.inside.Rules.{no_items, times_in};
+ghost use Rattle.frontier_pool.specs.inside.Gains.{Gained};
+ghost use Rattle.frontier_pool.specs.inside.Members.{IsCaller, HasAll, IsReady, IsSeated, parts_of, hands};
+
+use crate::gate::Gate;
+use crate::member::{Member, Room};
+use crate::round::Round;
+use crate::rule::{Collecting, Dealing, Once, Settling, View};
+use crate::toil::Toil;
+use atomic_table::{Seat, Shared, Table};
+use crossbeam_deque::{Stealer, Worker};
+use std::alloc::{AllocError, Global};
+
+// A table with a word for each item, all 0, and the caller's seat.
+pub(crate) fn open(
+    alloc: Global,
+    items: u32,
+) -> Result<(Table<(), View, u32, Once, Global>, Seat<(), View>), AllocError>
+    ensures told { IfOk result (λ t. t.0.shared.key ≡ items) }
+    ensures width { IfOk result (λ t. t.0.shared.table_id.words ≡ items) }
+    ensures caller { IfOk result (λ t. IsCaller t.0.shared.table_id 1 (no_items ∷ []) t.1) }
+{
+    let zeros = vec![in alloc; 0u64; items as usize]?;
+    Table::of_words(alloc, zeros.as_slice(), &items)
+}
+
+// Gives each member a seat and a deque with room for its share, and makes a stealer for each deque.
+pub(crate) fn fill_rooms<H>(
+    alloc: Global,
+    claimed: &Shared<(), View, u32, Once>,
+    caller: &mut Seat<(), View>,
+    members: &mut [Member<H>],
+    share: usize,
+) -> Result<Vec<Stealer<u32>>, AllocError>
+    requires caller { IsCaller claimed.now.table_id 1 (no_items ∷ []) caller.old }
+    requires some { 0 < claimed.now.table_id.words }
+    ensures caller { IfOk result (λ s. IsCaller claimed.now.table_id (1 + length members.old) (no_items ∷ []) caller.new) }
+    ensures ready { IfOk result (λ s. All (IsReady claimed.now.table_id) members.new) }
+    ensures hands { hands members.new ≡ hands members.old }
+{
+    let mut stealers = Vec::with_capacity(alloc, members.len())?;
+    for member in members.iter_mut() {
+        let own = Worker::new_fifo(alloc, share)?;
+        stealers.push(own.stealer()?)?;
+        let seat = claimed.split_seat::<Dealing>(caller);
+        member.settle(Room { seat, own });
+    }
+    Ok(stealers)
+}
+
+// Takes each member's room back: its deque is dropped, and its seat joined with the caller's.
+pub(crate) fn empty_rooms<H>(
+    claimed: &Shared<(), View, u32, Once>,
+    caller: &mut Seat<(), View>,
+    members: &mut [Member<H>],
+)
+    requires caller { IsCaller claimed.now.table_id caller.old.me.0.made (no_items ∷ []) caller.old }
+    requires some { 0 < claimed.now.table_id.words }
+    requires seated { All (IsSeated claimed.now.table_id) members.old }
+    ensures caller { IsCaller claimed.now.table_id caller.old.me.0.made (no_items ∷ parts_of members.old) caller.new }
+    ensures hands { hands members.new ≡ hands members.old }
+    ensures idle { All IsIdle members.new }
+{
+    for member in members.iter_mut() {
+        if let Some(Room { seat, own }) = member.leave() {
+            drop(own);
+            claimed.join_seat::<Collecting>(caller, seat);
+        }
+    }
+}
+
+// Empties each room.
+pub(crate) fn forget_rooms<H>(members: &mut [Member<H>])
+    ensures hands { hands members.new ≡ hands members.old }
+    ensures idle { All IsIdle members.new }
+{
+    for member in members.iter_mut() {
+        drop(member.leave());
+    }
+}
+
+impl<T: Toil, G: Gate> Round<'_, T, G> {
+    // The caller claims every item, once all seats are joined, and does what nobody has done.
+    pub(crate) fn finish(&self, caller: &mut Seat<(), View>, hand: &mut T::Hand)
+        requires caller { HasAll self.now.claimed.now.table_id caller.old }
+        requires sound { T.sound self.now.toil.now hand.old }
+        ensures gained { Gained self.now.items caller.old caller.new (T.done hand.old) (T.done hand.new) }
+        ensures once { (n : ℕ) → n < self.now.items → times_in n caller.new.me.0.parts ≡ 1 }
+        ensures sound { T.sound self.now.toil.now hand.new }
+    {
+        for item in 0..self.items {
+            self.finish_one(item, caller, hand);
+        }
+    }
+
+    fn finish_one(&self, item: u32, caller: &mut Seat<(), View>, hand: &mut T::Hand)
+        requires item { item < self.now.items }
+        requires caller { HasAll self.now.claimed.now.table_id caller.old }
+        requires sound { T.sound self.now.toil.now hand.old }
+        ensures gained { Gained self.now.items caller.old caller.new (T.done hand.old) (T.done hand.new) }
+        ensures once { times_in item caller.new.me.0.parts ≡ 1 }
+        ensures others { (n : ℕ) → n < item → times_in n caller.new.me.0.parts ≡ times_in n caller.old.me.0.parts }
+        ensures sound { T.sound self.now.toil.now hand.new }
+    {
+        let found = self.claimed.fetch_max::<Settling>(caller, item as usize, 1);
+        if found == 0 {
+            self.gate.pass(0, item);
+            self.toil.one(hand, item);
+        }
+    }
+}

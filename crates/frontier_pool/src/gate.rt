@@ -1,0 +1,15 @@
+// What stands before each item.
+
+/// A gate that a worker passes before each item, for tests that hold workers up.
+pub trait Gate: Sync {
+    /// A worker is about to do an item. Its number is its member's place.
+    fn pass(&self, worker: u32, item: u32);
+}
+
+/// The gate that holds nobody up.
+#[derive(Clone, Copy, Debug)]
+pub struct Open;
+
+impl Gate for Open {
+    fn pass(&self, _worker: u32, _item: u32) {}
+}

@@ -1,0 +1,58 @@
+// A hand, and room for what it needs during a sweep.
+ghost use Rattle.std.specs.Prelude.{◌≡◌, None, Some};
+ghost use Rattle.frontier_pool.specs.Sweeps.{IsIdle};
+
+use crate::rule::View;
+use atomic_table::Seat;
+use crossbeam_deque::Worker;
+
+// What a member has during a sweep: the seat by which it claims, and its own deque.
+#[derive(Drop)]
+pub(crate) struct Room {
+    pub(crate) seat: Seat<(), View>,
+    pub(crate) own: Worker<u32>,
+}
+
+/// A hand that takes part in sweeps.
+#[derive(Drop)]
+pub struct Member<H> {
+    pub hand: H,
+    // Empty between sweeps.
+    pub(crate) room: Option<Room>,
+}
+
+impl<H> Member<H> {
+    /// Puts a hand in.
+    pub fn new(hand: H) -> Member<H>
+        ensures hand { result.hand ≡ hand }
+        ensures idle { IsIdle result }
+    {
+        Member { hand, room: None }
+    }
+
+    /// Gives the hand back.
+    pub fn into_hand(self) -> H
+        ensures { result ≡ self.hand }
+    {
+        let Member { hand, room } = self;
+        drop(room);
+        hand
+    }
+
+    // Fills the room.
+    pub(crate) fn settle(&mut self, room: Room)
+        ensures hand { self.new.hand ≡ self.old.hand }
+        ensures room { self.new.room ≡ Some room }
+    {
+        self.room = Some(room);
+    }
+
+    // Empties the room.
+    pub(crate) fn leave(&mut self) -> Option<Room>
+        ensures room { result ≡ self.old.room }
+        ensures hand { self.new.hand ≡ self.old.hand }
+        ensures idle { IsIdle self.new }
+    {
+        self.room.take()
+    }
+}

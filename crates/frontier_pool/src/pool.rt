@@ -1,0 +1,141 @@
+// A sweep, and how many hands a round is worth.
+ghost use Rattle.std.specs.Prelude.{◌≡◌, ℕ, ◌+◌, ◌/◌, ◌<◌, ◌≤◌, length, map, min, max, All, OnOk, OnErr};
+ghost use Rattle.frontier_pool.specs.Sweeps.{Sweeps, IsIdle};
+ghost use Rattle.frontier_pool.specs.inside.Members.{IsReady, Worked, HaveWorked, hands};
+
+use crate::caller::{empty_rooms, fill_rooms, forget_rooms, open};
+use crate::gate::Gate;
+use crate::member::Member;
+use crate::round::Round;
+use crate::serial::one_by_one;
+use crate::toil::Toil;
+use std::alloc::{AllocError, Global};
+use std::thread;
+use std::thread::Threads;
+
+// Fewer items a hand aren't worth a thread.
+const ITEMS_A_HAND: u32 = 500;
+
+/// How many hands a round is worth: in round 0 as many as there are items, and later one for each 500 items.
+///
+/// A further hand takes some 20 microseconds, as long as some 500 short items. Most rounds are short and come by the
+/// thousand, so threads in each would take longer than all items. Round 0 comes once.
+pub fn hands_for(round: u32, items: u32, workers: u32) -> u32
+    ensures first { round ≡ 0 → result ≡ max 1 (min workers items) }
+    ensures later { 0 < round → result ≡ max 1 (min workers (items / 500)) }
+{
+    let worth = if round == 0 {
+        items
+    } else {
+        items / ITEMS_A_HAND
+    };
+    workers.min(worth).max(1)
+}
+
+/// Does each item below a number with exactly one of the members' hands, once, after the gate.
+///
+/// The members work in threads of their own, where these can be made. A worker's number is its member's place. A sweep
+/// takes 8 bytes an item, for a moment as much again, and 32 to 64 bytes an item for the deques. Where there is no memory
+/// for these, the first hand does all items, and so there is no refusal.
+pub fn sweep<R: Threads + Sync, T: Toil, G: Gate>(
+    rt: &R,
+    alloc: Global,
+    toil: &T,
+    members: &mut [Member<T::Hand>],
+    items: u32,
+    gate: &G,
+)
+    requires members { (0 < length members.old) × (length members.old ≤ 64) }
+    requires sound { All (λ m. T.sound toil.now m.hand) members.old }
+    requires items { items ≤ T.count toil.now }
+    ensures swept { Sweeps (map (λ m. T.done m.hand) members.old) (map (λ m. T.done m.hand) members.new) items }
+    ensures sound { All (λ m. T.sound toil.now m.hand) members.new }
+    ensures idle { All IsIdle members.old → All IsIdle members.new }
+{
+    if items == 0 {
+        return;
+    }
+    if share_out(rt, alloc, toil, members, items, gate).is_err() {
+        forget_rooms(members);
+        do_all(toil, members, items, gate);
+    }
+}
+
+// The first hand does all items.
+fn do_all<T: Toil, G: Gate>(toil: &T, members: &mut [Member<T::Hand>], items: u32, gate: &G)
+    requires some { 0 < length members.old }
+    requires sound { All (λ m. T.sound toil.now m.hand) members.old }
+    requires items { items ≤ T.count toil.now }
+    requires idle { All IsIdle members.old }
+    ensures swept { Sweeps (map (λ m. T.done m.hand) members.old) (map (λ m. T.done m.hand) members.new) items }
+    ensures sound { All (λ m. T.sound toil.now m.hand) members.new }
+    ensures idle { All IsIdle members.new }
+{
+    let first = &mut members[0];
+    one_by_one(toil, &mut first.hand, items, gate);
+}
+
+// The members do the items beside one another. Where there is no memory for that, nothing is done.
+fn share_out<R: Threads + Sync, T: Toil, G: Gate>(
+    rt: &R,
+    alloc: Global,
+    toil: &T,
+    members: &mut [Member<T::Hand>],
+    items: u32,
+    gate: &G,
+) -> Result<(), AllocError>
+    requires members { (0 < length members.old) × (length members.old ≤ 64) }
+    requires some { 0 < items }
+    requires sound { All (λ m. T.sound toil.now m.hand) members.old }
+    requires items { items ≤ T.count toil.now }
+    ensures swept { OnOk result (Sweeps (map (λ m. T.done m.hand) members.old) (map (λ m. T.done m.hand) members.new) items) }
+    ensures sound { OnOk result (All (λ m. T.sound toil.now m.hand) members.new) }
+    ensures idle { OnOk result (All IsIdle members.new) }
+    ensures same { OnErr result (hands members.new ≡ hands members.old) }
+{
+    let (table, mut caller) = open(alloc, items)?;
+    let count = members.len();
+    let share = (items as usize).div_ceil(count);
+    let stealers = fill_rooms(alloc, &table.shared, &mut caller, members, share)?;
+    let round = Round {
+        toil,
+        gate,
+        claimed: &table.shared,
+        stealers: &stealers,
+        items,
+        members: count as u32,
+    };
+    work_all(rt, &round, members);
+    empty_rooms(&table.shared, &mut caller, members);
+    let first = &mut members[0];
+    round.finish(&mut caller, &mut first.hand);
+    Ok(())
+}
+
+// All members work, each in a thread where one can be made.
+fn work_all<R: Threads + Sync, T: Toil, G: Gate>(
+    rt: &R,
+    round: &Round<'_, T, G>,
+    members: &mut [Member<T::Hand>],
+)
+    requires count { (length members.old ≡ round.now.members) × (length members.old ≤ 64) }
+    requires ready { All (IsReady round.now.claimed.now.table_id) members.old }
+    requires sound { All (λ m. T.sound round.now.toil.now m.hand) members.old }
+    ensures worked { HaveWorked T.done round.now.claimed.now.table_id round.now.items members.old members.new }
+    ensures sound { All (λ m. T.sound round.now.toil.now m.hand) members.new }
+{
+    let count = members.len();
+    thread::for_each_mut(
+        rt,
+        members,
+        count,
+        &|at: usize, member: &mut Member<T::Hand>|
+            requires at { at < round.now.members }
+            requires few { at < 64 }
+            requires ready { IsReady round.now.claimed.now.table_id member.now }
+            requires sound { T.sound round.now.toil.now member.now.hand }
+            ensures worked { Worked T.done round.entry.now.claimed.now.table_id round.entry.now.items member.entry.now member.exit.now }
+            ensures sound { T.sound round.entry.now.toil.now member.exit.now.hand }
+        { round.work(at as u32, member) },
+    );
+}

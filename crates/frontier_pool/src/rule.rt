@@ -1,0 +1,63 @@
+// The rule of the table below a sweep. It has one word an item, and a view lists the items that its seat claimed.
+use atomic_table::{Join, Play, Split, TableRule};
+use std::collections::LinkedList;
+
+// The items that one seat claimed, in order. No value of it is made.
+pub struct Part {
+    pub items: LinkedList<u32>,
+}
+
+// No value of it is made.
+pub struct View {
+    // Of the caller how many parts were made, its own among them.
+    pub made: u64,
+    // Of a member its part, and of the caller its own and then those that were collected.
+    pub parts: LinkedList<Part>,
+}
+
+// Each item is claimed at most once. The table is told how many items there are.
+pub struct Once;
+
+impl TableRule<(), View, u32> for Once {
+    ghost use Rattle.frontier_pool.specs.inside.Rules.{Keeps, first_view};
+
+    ghost holds = { Keeps };
+
+    ghost first = { λ items. first_view };
+}
+
+pub struct Dealing;
+
+impl Split<View> for Dealing {
+    ghost use Rattle.frontier_pool.specs.inside.Rules.{one_more, fresh};
+
+    ghost left = { one_more };
+
+    ghost right = { λ caller. fresh };
+}
+
+pub struct Collecting;
+
+impl Join<View> for Collecting {
+    ghost use Rattle.frontier_pool.specs.inside.Rules.{collected, nobody};
+
+    ghost both = { collected };
+
+    ghost spent = { nobody };
+}
+
+pub struct Claiming;
+
+impl Play<(), View> for Claiming {
+    ghost use Rattle.frontier_pool.specs.inside.Rules.{Claims};
+
+    ghost then = { Claims };
+}
+
+pub struct Settling;
+
+impl Play<(), View> for Settling {
+    ghost use Rattle.frontier_pool.specs.inside.Rules.{Settles};
+
+    ghost then = { Settles };
+}
