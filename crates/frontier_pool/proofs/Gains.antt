@@ -7,7 +7,7 @@ use Rattle.frontier_pool.specs.declared.rule.View.{View}
 use Rattle.frontier_pool.specs.inside.Rules.{longer, grown, claimed, Seated}
 use Rattle.frontier_pool.specs.inside.Gains.{SeatOf, Gained}
 use Rattle.atomic_table.specs.Seated.{TableId}
-use Rattle.frontier_pool.specs.inside.Members.{HasAll}
+use Rattle.frontier_pool.specs.inside.Members.{HasAll, MayClaim}
 use Rattle.frontier_pool.proofs.Sums.{length-longer}
 
 longer-nil : (parts : List Part) → longer parts [] ≡ parts
@@ -60,12 +60,18 @@ gained_then items a b c x y z g h = record {
 }
 
 -- the seat keeps as many parts
-pub gained_parts : (items : ℕ) (was now : SeatOf) (did does : List ℕ) → Gained items was now did does → length now.me.0.parts ≡ length was.me.0.parts
+gained_parts : (items : ℕ) (was now : SeatOf) (did does : List ℕ) → Gained items was now did does → length now.me.0.parts ≡ length was.me.0.parts
 gained_parts items was now did does g = ap (λ (me : Seated). length me.0.parts) g.claims ∙ length-longer was.me.0.parts g.part
 
 -- the same gain, told of another name of the seat and of what the hand does
 pub gained_as : (items : ℕ) (was now again : SeatOf) (did does doing : List ℕ) → again ≡ now → doing ≡ does → Gained items was now did does → Gained items was again did doing
 gained_as items was now again did does doing seat same g = subst (λ s. Gained items was s did doing) (sym seat) (subst (λ l. Gained items was now did l) (sym same) g)
+
+-- a seat goes on claiming
+pub gained_may : (items : ℕ) (was now : SeatOf) (did does : List ℕ) (table : TableId) → MayClaim table was → Gained items was now did does → MayClaim table now
+gained_may items was now did does table h g =
+    let parts = gained_parts items was now did does g in
+    record { at = g.table ∙ h.at; some = let some_part = h.some in omega arith }
 
 -- the caller keeps all parts
 pub gained_all : (items : ℕ) (was now : SeatOf) (did does : List ℕ) (table : TableId) → HasAll table was → Gained items was now did does → HasAll table now

@@ -8,6 +8,7 @@
 
 mod caller;
 mod gate;
+pub mod laws;
 mod member;
 mod pool;
 mod round;

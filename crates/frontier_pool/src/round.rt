@@ -1,7 +1,7 @@
 // A sweep as its members see it, and what one of them does.
-ghost use Rattle.std.specs.Prelude.{◌≡◌, ℕ, ◌+◌, ◌<◌, ◌≤◌, length};
+ghost use Rattle.std.specs.Prelude.{◌≡◌, ◌<◌, ◌≤◌};
 ghost use Rattle.frontier_pool.specs.inside.Gains.{Gained};
-ghost use Rattle.frontier_pool.specs.inside.Members.{IsReady, Worked};
+ghost use Rattle.frontier_pool.specs.inside.Members.{IsReady, MayClaim, Worked};
 
 use crate::gate::Gate;
 use crate::member::{Member, Room};
@@ -42,10 +42,10 @@ impl<T: Toil, G: Gate> Round<'_, T, G> {
         }
     }
 
+    // Pushes its share, pops what it can, and goes once through the deques of the others.
     fn serve(&self, at: u32, room: &mut Room, hand: &mut T::Hand)
         requires at { at < self.now.members }
-        requires table { room.old.seat.table_id ≡ self.now.claimed.now.table_id }
-        requires part { 0 < length room.old.seat.me.0.parts }
+        requires seat { MayClaim self.now.claimed.now.table_id room.old.seat }
         requires sound { T.sound self.now.toil.now hand.old }
         ensures gained { Gained self.now.items room.old.seat room.new.seat (T.done hand.old) (T.done hand.new) }
         ensures sound { T.sound self.now.toil.now hand.new }
@@ -58,8 +58,7 @@ impl<T: Toil, G: Gate> Round<'_, T, G> {
     // Pushes the member's share into its own deque, and tells how many it took. What it hands back is done at once.
     fn push_share(&self, at: u32, room: &mut Room, hand: &mut T::Hand) -> u32
         requires at { at < self.now.members }
-        requires table { room.old.seat.table_id ≡ self.now.claimed.now.table_id }
-        requires part { 0 < length room.old.seat.me.0.parts }
+        requires seat { MayClaim self.now.claimed.now.table_id room.old.seat }
         requires sound { T.sound self.now.toil.now hand.old }
         ensures gained { Gained self.now.items room.old.seat room.new.seat (T.done hand.old) (T.done hand.new) }
         ensures sound { T.sound self.now.toil.now hand.new }
@@ -84,8 +83,7 @@ impl<T: Toil, G: Gate> Round<'_, T, G> {
 
     // Does what the member's own deque gives, so many times at most.
     fn pop_own(&self, at: u32, most: u32, room: &mut Room, hand: &mut T::Hand)
-        requires table { room.old.seat.table_id ≡ self.now.claimed.now.table_id }
-        requires part { 0 < length room.old.seat.me.0.parts }
+        requires seat { MayClaim self.now.claimed.now.table_id room.old.seat }
         requires sound { T.sound self.now.toil.now hand.old }
         ensures gained { Gained self.now.items room.old.seat room.new.seat (T.done hand.old) (T.done hand.new) }
         ensures sound { T.sound self.now.toil.now hand.new }
@@ -100,8 +98,7 @@ impl<T: Toil, G: Gate> Round<'_, T, G> {
 
     // Goes once through the deques of the others.
     fn steal_all(&self, at: u32, seat: &mut Seat<(), View>, hand: &mut T::Hand)
-        requires table { seat.old.table_id ≡ self.now.claimed.now.table_id }
-        requires part { 0 < length seat.old.me.0.parts }
+        requires seat { MayClaim self.now.claimed.now.table_id seat.old }
         requires sound { T.sound self.now.toil.now hand.old }
         ensures gained { Gained self.now.items seat.old seat.new (T.done hand.old) (T.done hand.new) }
         ensures sound { T.sound self.now.toil.now hand.new }
@@ -121,8 +118,7 @@ impl<T: Toil, G: Gate> Round<'_, T, G> {
         seat: &mut Seat<(), View>,
         hand: &mut T::Hand,
     )
-        requires table { seat.old.table_id ≡ self.now.claimed.now.table_id }
-        requires part { 0 < length seat.old.me.0.parts }
+        requires seat { MayClaim self.now.claimed.now.table_id seat.old }
         requires sound { T.sound self.now.toil.now hand.old }
         ensures gained { Gained self.now.items seat.old seat.new (T.done hand.old) (T.done hand.new) }
         ensures sound { T.sound self.now.toil.now hand.new }
@@ -137,8 +133,7 @@ impl<T: Toil, G: Gate> Round<'_, T, G> {
 
     // Does a number's item after the gate, if there is such an item and nobody has claimed it.
     fn try_one(&self, at: u32, number: u32, seat: &mut Seat<(), View>, hand: &mut T::Hand)
-        requires table { seat.old.table_id ≡ self.now.claimed.now.table_id }
-        requires part { 0 < length seat.old.me.0.parts }
+        requires seat { MayClaim self.now.claimed.now.table_id seat.old }
         requires sound { T.sound self.now.toil.now hand.old }
         ensures gained { Gained self.now.items seat.old seat.new (T.done hand.old) (T.done hand.new) }
         ensures sound { T.sound self.now.toil.now hand.new }

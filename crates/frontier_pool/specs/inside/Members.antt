@@ -14,6 +14,11 @@ pub record IsCaller (table : TableId) (made : ℕ) (parts : List Part) (seat : S
   pub first : seat.id ≡ 0
   pub me : seat.me ≡ (record { made = made; parts = parts }, [])
 
+-- a seat of the table that may claim items
+pub record MayClaim (table : TableId) (seat : SeatOf) : Type 0 where
+  pub at : seat.table_id ≡ table
+  pub some : 0 < length seat.me.0.parts
+
 -- the caller's seat, with all parts that were made
 pub record HasAll (table : TableId) (seat : SeatOf) : Type 0 where
   pub at : seat.table_id ≡ table

@@ -1,15 +1,11 @@
-use Rattle.std.proofs.Common.{arith, ◌∙◌}
-use Rattle.frontier_pool.proofs.Gains.{gained_none, gained_then, gained_parts}
+use Rattle.frontier_pool.proofs.Gains.{gained_none, gained_then, gained_may}
 use Rattle.frontier_pool.proofs.round.Round.pop_own.Goals as goal
 
 pub loop-pop-init : goal.loop-pop-init
 loop-pop-init g c = record { gained = gained_none _ _ _; sound = c.requires.sound }
 
-pub try_one-requires-clause-table : goal.try_one-requires-clause-table
-try_one-requires-clause-table g c κs within = c.loop-pop.invariant.gained.table ∙ c.requires.table
-
-pub try_one-requires-clause-part : goal.try_one-requires-clause-part
-try_one-requires-clause-part g c κs within = omega (arith, gained_parts _ _ _ _ _ c.loop-pop.invariant.gained, c.requires.part)
+pub try_one-requires-clause-seat : goal.try_one-requires-clause-seat
+try_one-requires-clause-seat g c κs within = gained_may _ _ _ _ _ _ c.requires.seat c.loop-pop.invariant.gained
 
 pub try_one-requires-clause-sound : goal.try_one-requires-clause-sound
 try_one-requires-clause-sound g c κs within = c.loop-pop.invariant.sound

@@ -1,5 +1,5 @@
-use Rattle.std.proofs.Common.{ap, sym, subst, arith, ◌∙◌}
-use Rattle.frontier_pool.proofs.Gains.{gained_none, gained_then, gained_parts, gained_as}
+use Rattle.std.proofs.Common.{ap, sym, subst, arith}
+use Rattle.frontier_pool.proofs.Gains.{gained_none, gained_then, gained_may, gained_as}
 use Rattle.frontier_pool.proofs.round.Round.push_share.Goals as goal
 use Rattle.frontier_pool.proofs.round.Round.push_share.Goals.{in-Ok, in-Err}
 use Rattle.frontier_pool.specs.declared.member.Room.{Room}
@@ -7,11 +7,8 @@ use Rattle.frontier_pool.specs.declared.member.Room.{Room}
 pub loop-number-init : goal.loop-number-init
 loop-number-init g c = record { gained = gained_none _ _ _; sound = c.requires.sound; few = omega arith }
 
-pub try_one-requires-clause-table : goal.try_one-requires-clause-table
-try_one-requires-clause-table g c κs within = c.loop-number.invariant.gained.table ∙ c.requires.table
-
-pub try_one-requires-clause-part : goal.try_one-requires-clause-part
-try_one-requires-clause-part g c κs within = omega (arith, gained_parts _ _ _ _ _ c.loop-number.invariant.gained, c.requires.part)
+pub try_one-requires-clause-seat : goal.try_one-requires-clause-seat
+try_one-requires-clause-seat g c κs within = gained_may _ _ _ _ _ _ c.requires.seat c.loop-number.invariant.gained
 
 pub try_one-requires-clause-sound : goal.try_one-requires-clause-sound
 try_one-requires-clause-sound g c κs within = c.loop-number.invariant.sound

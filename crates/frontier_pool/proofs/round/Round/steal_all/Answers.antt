@@ -1,16 +1,13 @@
-use Rattle.std.proofs.Common.{ap, sym, subst, arith, ◌∙◌}
-use Rattle.frontier_pool.proofs.Gains.{gained_none, gained_then, gained_parts, gained_as}
+use Rattle.std.proofs.Common.{ap, sym, subst}
+use Rattle.frontier_pool.proofs.Gains.{gained_none, gained_then, gained_may, gained_as}
 use Rattle.frontier_pool.proofs.round.Round.steal_all.Goals as goal
 use Rattle.frontier_pool.proofs.round.Round.steal_all.Goals.{then-place-at, else-place-at}
 
 pub loop-place-init : goal.loop-place-init
 loop-place-init g c = record { gained = gained_none _ _ _; sound = c.requires.sound }
 
-pub steal_from-requires-clause-table : goal.steal_from-requires-clause-table
-steal_from-requires-clause-table g c κs within = c.loop-place.invariant.gained.table ∙ c.requires.table
-
-pub steal_from-requires-clause-part : goal.steal_from-requires-clause-part
-steal_from-requires-clause-part g c κs within = omega (arith, gained_parts _ _ _ _ _ c.loop-place.invariant.gained, c.requires.part)
+pub steal_from-requires-clause-seat : goal.steal_from-requires-clause-seat
+steal_from-requires-clause-seat g c κs within = gained_may _ _ _ _ _ _ c.requires.seat c.loop-place.invariant.gained
 
 pub steal_from-requires-clause-sound : goal.steal_from-requires-clause-sound
 steal_from-requires-clause-sound g c κs within = c.loop-place.invariant.sound

@@ -1,0 +1,7 @@
+//! What a sweep tells. The call does nothing, and ensures its law.
+ghost use Rattle.frontier_pool.specs.Laws.{NewHandsShare};
+
+/// What hands that had done nothing did in a sweep is all its items, each once.
+pub fn new_hands_share()
+    ensures { NewHandsShare }
+{}
