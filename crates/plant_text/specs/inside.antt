@@ -3,6 +3,7 @@ pub mod DraftsInMemory
 pub mod ExpressionItems
 pub mod ExpressionMachine
 pub mod FormedEquations
+pub mod LineReaders
 pub mod LineTokens
 pub mod PartRules
 pub mod PartText

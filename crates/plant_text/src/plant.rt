@@ -13,7 +13,7 @@ ghost use Rattle.plant_text.specs.inside.PlantsInMemory.{description_of};
 
 pub mod aims;
 pub mod marks;
-pub mod parts;
+pub mod plant_parts;
 pub mod transition;
 pub mod variable_names;
 pub mod variables;
@@ -21,7 +21,7 @@ pub mod variables;
 use crate::fault::LimitKind;
 use crate::plant::aims::{GoalKind, StateBox};
 use crate::plant::marks::{lies_in_one, touches_one};
-use crate::plant::parts::{PlantParts, grid_of, vectors_of};
+use crate::plant::plant_parts::{PlantParts, grid_of, vectors_of};
 use crate::plant::variable_names::Names;
 use crate::plant::variables::{InputVariable, Name, NoiseVariable, StateVariable, Variables};
 use fixed_expr::Expr;

@@ -10,7 +10,7 @@ use Rattle.plant_text.specs.declared.plant.aims.StateBox.{StateBox}
 use Rattle.plant_text.specs.declared.plant.aims.GoalKind.{GoalKind}
 use Rattle.plant_text.specs.plant.Description.{Description, axes_of}
 use Rattle.plant_text.specs.plant.Limits.{IsWithinLimits}
-use Rattle.plant_text.specs.declared.plant.parts.PlantParts.{PlantParts}
+use Rattle.plant_text.specs.declared.plant.plant_parts.PlantParts.{PlantParts}
 
 -- a description by its parts, the equations where they lie in memory
 abbrev pub described : List StateVariable → List InputVariable → List NoiseVariable → List Expr → List StateBox → List StateBox → GoalKind → Description

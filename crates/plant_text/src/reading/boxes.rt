@@ -2,7 +2,8 @@
 
 ghost use Rattle.std.specs.Prelude.{◌≤◌};
 ghost use Rattle.plant_text.specs.words.Words.{words_of};
-ghost use Rattle.plant_text.specs.inside.WordReaders.{Finds, SpellsBox};
+ghost use Rattle.plant_text.specs.inside.WordReaders.{Finds};
+ghost use Rattle.plant_text.specs.inside.LineReaders.{SpellsBox};
 
 use crate::fault::ReadFault;
 use crate::plant::aims::StateBox;

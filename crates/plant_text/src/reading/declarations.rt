@@ -4,7 +4,8 @@ ghost use Rattle.std.specs.Prelude.{◌≡◌, ◌↔◌, ◌<◌, ◌%◌, IsTr
 ghost use Rattle.plant_text.specs.writing.CanonicalText.{goal_word};
 ghost use Rattle.plant_text.specs.words.Numbers.{IsLiteral};
 ghost use Rattle.plant_text.specs.words.Words.{words_of};
-ghost use Rattle.plant_text.specs.inside.WordReaders.{Finds, HasWholeCells, StartsWithEnds, SpellsState, SpellsInput, SpellsNoise, SpellsValues, SpellsGoal};
+ghost use Rattle.plant_text.specs.inside.WordReaders.{Finds};
+ghost use Rattle.plant_text.specs.inside.LineReaders.{HasWholeCells, StartsWithEnds, SpellsState, SpellsInput, SpellsNoise, SpellsValues, SpellsGoal};
 
 use crate::fault::ReadFault;
 use crate::plant::aims::GoalKind;

@@ -13,7 +13,7 @@ ghost use Rattle.plant_text.specs.reading.CanonicalFronts.{IsInOrder, ExtendsCan
 use crate::fault::{LimitKind, ReadFault};
 use crate::plant::Plant;
 use crate::plant::aims::{GoalKind, StateBox};
-use crate::plant::parts::PlantParts;
+use crate::plant::plant_parts::PlantParts;
 use crate::plant::variables::{Name, Variables};
 use crate::reading::statements::{Statement, statement_in};
 use crate::words::blanks::is_passed_over;

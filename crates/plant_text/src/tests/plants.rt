@@ -3,7 +3,7 @@ ghost use Rattle.fixed_expr.specs.Expression.{expression_of, Variable, Number, S
 ghost use Rattle.plant_text.specs.plant.Plants.{IsPlant};
 ghost use Rattle.plant_text.specs.inside.PlantsInMemory.{description_of};
 
-use crate::plant::parts::PlantParts;
+use crate::plant::plant_parts::PlantParts;
 use crate::plant::variables::Variables;
 use crate::*;
 use fixed_expr::Expr;

@@ -29,7 +29,7 @@ fn limit(what: LimitKind) -> Option<PlantFault> {
 /// The worked text with a comment behind it that makes it this long.
 fn with_comment(alloc: Global, length: usize) -> Result<Vec<u8>, AllocError> {
     let mut text = Vec::from_slice(alloc, WORKED)?;
-    while text.len() < length {
+    for _ in WORKED.len()..length {
         text.push(b'#')?;
     }
     Ok(text)

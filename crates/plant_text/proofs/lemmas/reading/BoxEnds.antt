@@ -8,7 +8,7 @@ use Rattle.std.proofs.lemmas.List.Elements.{AllZip-push}
 use Rattle.plant_text.specs.declared.plant.aims.StateBox.{StateBox}
 use Rattle.plant_text.specs.plant.Boxes.{AreEnds}
 use Rattle.plant_text.specs.writing.CanonicalText.{end_words}
-use Rattle.plant_text.specs.inside.WordReaders.{StartsWithEnds, SpellsBox}
+use Rattle.plant_text.specs.inside.LineReaders.{StartsWithEnds, SpellsBox}
 
 -- The first i ends of a box are read, and its other places are 0.
 pub record AreRead (i : ℕ) (low high : List ℤ) (words rest : List (List ℕ)) : Type 0 where

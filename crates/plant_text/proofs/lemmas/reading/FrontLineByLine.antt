@@ -53,30 +53,19 @@ at_next_line bytes rest line after n q r up cut shorter extends rules = record {
 
 -- ---- where no line leads on
 
+refused_at : (bytes rest : List ℕ) (n : ℕ) (q : Part) → IsReadInFront bytes rest n q → q.ended ≡ false → ((words behind : List ℕ) (r : Part) → rest ≡ words ++ codes "\n" ++ behind → ExtendsCanonically q words r → ⊥)
+    → IsFirstRefusedAtFront bytes n
+refused_at bytes rest n q up goes_on refused = record { lines = up.lines; next = up.numbered; part = q; leads = up.leads; goes_on = goes_on; rest = rest; are = up.are; refused = refused }
+
 pub refused_here : (bytes rest line after : List ℕ) (n : ℕ) (q : Part) → IsReadInFront bytes rest n q → q.ended ≡ false → lines_of rest ≡ line ∷ lines_of after → ((r : Part) → ExtendsCanonically q line r → ⊥) → IsFirstRefusedAtFront bytes n
-refused_here bytes rest line after n q up goes_on cut refused = record {
-  lines = up.lines;
-  next = up.numbered;
-  part = q;
-  leads = up.leads;
-  goes_on = goes_on;
-  rest = rest;
-  are = up.are;
-  refused = λ words behind r at e.
-      refused r (subst (λ (x : List ℕ). ExtendsCanonically q x r) (same_first words line (lines_of behind) (lines_of after) (sym (ap lines_of at ∙ line_at q words behind r up.rules e) ∙ cut)) e);
-}
+refused_here bytes rest line after n q up goes_on cut refused =
+    refused_at bytes rest n q up goes_on
+    (λ words behind r at e.
+    refused r (subst (λ (x : List ℕ). ExtendsCanonically q x r) (same_first words line (lines_of behind) (lines_of after) (sym (ap lines_of at ∙ line_at q words behind r up.rules e) ∙ cut)) e))
 
 pub no_line_left : (bytes rest : List ℕ) (n : ℕ) (q : Part) → IsReadInFront bytes rest n q → q.ended ≡ false → None ≡ position (λ b. b == 10) rest → IsFirstRefusedAtFront bytes n
-no_line_left bytes rest n q up goes_on none = record {
-  lines = up.lines;
-  next = up.numbered;
-  part = q;
-  leads = up.leads;
-  goes_on = goes_on;
-  rest = rest;
-  are = up.are;
-  refused = λ words behind r at e. feed_has_place words behind (none ∙ ap (position (λ b. b == 10)) (at ∙ append_assoc words (10 ∷ []) behind));
-}
+no_line_left bytes rest n q up goes_on none =
+    refused_at bytes rest n q up goes_on (λ words behind r at e. feed_has_place words behind (none ∙ ap (position (λ b. b == 10)) (at ∙ append_assoc words (10 ∷ []) behind)))
 
 -- ---- the text
 

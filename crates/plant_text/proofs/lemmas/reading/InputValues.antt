@@ -5,7 +5,7 @@ use Rattle.std.specs.List.{All}
 use Rattle.std.specs.Fmt.{signed_decimal}
 use Rattle.std.proofs.lemmas.List.Elements.{All-head, All-tail}
 use Rattle.plant_text.specs.words.Numbers.{IsLiteral}
-use Rattle.plant_text.specs.inside.WordReaders.{SpellsValues}
+use Rattle.plant_text.specs.inside.LineReaders.{SpellsValues}
 
 -- The numbers behind those that have been read.
 pub record AreBehind (ws : List (List ℕ)) : Type 0 where

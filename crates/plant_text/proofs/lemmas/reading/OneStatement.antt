@@ -19,7 +19,7 @@ use Rattle.plant_text.specs.writing.CanonicalText.{end_words, goal_word}
 use Rattle.plant_text.specs.words.Words.{words_of, is_passed_over}
 use Rattle.plant_text.specs.words.Tokens.{tokens_of}
 use Rattle.plant_text.specs.reading.SyntaxTrees.{AreTokensOf}
-use Rattle.plant_text.specs.inside.WordReaders.{SpellsState, SpellsInput, SpellsNoise, SpellsBox}
+use Rattle.plant_text.specs.inside.LineReaders.{SpellsState, SpellsInput, SpellsNoise, SpellsBox}
 use Rattle.plant_text.specs.reading.Statements.{Statement, Version, State, Input, Noise, Next, Target, Obstacle, Goal, End, States}
 use Rattle.plant_text.proofs.lemmas.words.NumberWords.{one_number}
 use Rattle.plant_text.proofs.lemmas.reading.KeywordsTell.{front_of, kind_of, front_is}

@@ -1,5 +1,5 @@
 -- Every part that lines spell keeps the rules.
-use Rattle.std.proofs.Common.{inl, inr, ◌≡◌, ◌≢◌, ℕ, ◌<◌, List, [], ◌∷◌, ◌++◌, length, None, All, arith, refl, sym, ap, subst, append_assoc, append-nil, length-append}
+use Rattle.std.proofs.Common.{inl, inr, ◌≡◌, ◌≢◌, ◌⊎◌, ℕ, ◌<◌, ◌≤◌, Bool, true, Option, Some, List, [], ◌∷◌, ◌++◌, length, None, All, arith, refl, sym, ap, subst, append_assoc, append-nil, length-append}
 use Rattle.std.specs.Prelude.{AllPairs}
 use Rattle.std.specs.List.{flat_map}
 use Rattle.std.proofs.lemmas.List.{map-append}
@@ -64,27 +64,6 @@ aimless q k none = elim k.placed [
 
 pub no_equations : (q : Part) → q.equations ≡ [] → HasEquations q → ⊥
 no_equations q none has = let count : length q.equations ≡ 0 = ap length none in omega (arith, count, has.0, has.1)
-
-rules_version : (q : Part) → KeepsRules q → KeepsRules (extended q Version)
-rules_version q k = record {
-  states_bound = k.states_bound;
-  states = k.states;
-  inputs_bound = k.inputs_bound;
-  inputs = k.inputs;
-  noises_bound = k.noises_bound;
-  noises = k.noises;
-  names = k.names;
-  names_differ = k.names_differ;
-  equations_bound = k.equations_bound;
-  equations = k.equations;
-  targets_bound = k.targets_bound;
-  targets = k.targets;
-  obstacles_bound = k.obstacles_bound;
-  obstacles = k.obstacles;
-  placed = k.placed;
-  kept_aims_nowhere = k.kept_aims_nowhere;
-  closed = k.closed;
-}
 
 rules_state : (q : Part) (s : StateVariable) → KeepsRules q → IsStateVariable s → FitsAfter q (State s) → KeepsRules (extended q (State s))
 rules_state q s k is fits =
@@ -159,33 +138,13 @@ rules_noise q w k is fits =
       closed = k.closed;
     }
 
-rules_next : (q : Part) (name : List ℕ) (e : Expression) → KeepsRules q → IsEquation (length (names_in q)) e → FitsAfter q (Next name e) → KeepsRules (extended q (Next name e))
-rules_next q name e k is fits =
-    let room : length q.equations < length q.states = fits.0 in
-    let aims = aimless q k (λ has. omega (arith, room, has.1)) in
-    record {
-      states_bound = k.states_bound;
-      states = k.states;
-      inputs_bound = k.inputs_bound;
-      inputs = k.inputs;
-      noises_bound = k.noises_bound;
-      noises = k.noises;
-      names = k.names;
-      names_differ = k.names_differ;
-      equations_bound = omega (arith, room, length-append q.equations (e ∷ []));
-      equations = All-push (IsEquation (length (names_in q))) q.equations e k.equations is;
-      targets_bound = k.targets_bound;
-      targets = k.targets;
-      obstacles_bound = k.obstacles_bound;
-      obstacles = k.obstacles;
-      placed = inr aims;
-      kept_aims_nowhere = k.kept_aims_nowhere;
-      closed = k.closed;
-    }
-
 module _ (q : Part) (k : KeepsRules q) where
-  rules_target : (b : StateBox) → IsStateBox (length q.states) b → FitsAfter q (Target b) → KeepsRules (extended q (Target b))
-  rules_target b is fits = record {
+  -- other equations, boxes and goal behind the same variables
+  same_variables : (begun : Bool) (equations : List Expression) (targets obstacles : List StateBox) (goal : Option GoalKind) (ended : Bool)
+      → let r = record q { begun = begun; equations = equations; targets = targets; obstacles = obstacles; goal = goal; ended = ended } in
+      length equations ≤ length q.states → All (IsEquation (length (names_in q))) equations → length targets ≤ 64 → All (IsStateBox (length q.states)) targets → length obstacles ≤ 64 → All (IsStateBox (length q.states)) obstacles
+      → HasEquations r ⊎ IsAimless r → (goal ≡ Some Keep → targets ≡ []) → (ended ≡ true → goal ≢ None) → KeepsRules r
+  same_variables begun equations targets obstacles goal ended equations_bound equations_are targets_bound targets_are obstacles_bound obstacles_are placed kept_aims_nowhere closed = record {
     states_bound = k.states_bound;
     states = k.states;
     inputs_bound = k.inputs_bound;
@@ -194,79 +153,52 @@ module _ (q : Part) (k : KeepsRules q) where
     noises = k.noises;
     names = k.names;
     names_differ = k.names_differ;
-    equations_bound = k.equations_bound;
-    equations = k.equations;
-    targets_bound = (let room : length q.targets < 64 = fits.2 in omega (arith, room, length-append q.targets (b ∷ [])));
-    targets = All-push (IsStateBox (length q.states)) q.targets b k.targets is;
-    obstacles_bound = k.obstacles_bound;
-    obstacles = k.obstacles;
-    placed = inl fits.0;
-    kept_aims_nowhere = λ e. (let g : q.goal ≡ None = fits.1 in cc);
-    closed = k.closed;
+    equations_bound = equations_bound;
+    equations = equations_are;
+    targets_bound = targets_bound;
+    targets = targets_are;
+    obstacles_bound = obstacles_bound;
+    obstacles = obstacles_are;
+    placed = placed;
+    kept_aims_nowhere = kept_aims_nowhere;
+    closed = closed;
   }
+
+  rules_version : KeepsRules (extended q Version)
+  rules_version = same_variables true q.equations q.targets q.obstacles q.goal q.ended k.equations_bound k.equations k.targets_bound k.targets k.obstacles_bound k.obstacles k.placed k.kept_aims_nowhere k.closed
+
+  rules_next : (name : List ℕ) (e : Expression) → IsEquation (length (names_in q)) e → FitsAfter q (Next name e) → KeepsRules (extended q (Next name e))
+  rules_next name e is fits =
+      let room : length q.equations < length q.states = fits.0 in
+      same_variables q.begun (q.equations ++ e ∷ []) q.targets q.obstacles q.goal q.ended
+      (omega (arith, room, length-append q.equations (e ∷ []))) (All-push (IsEquation (length (names_in q))) q.equations e k.equations is) k.targets_bound k.targets k.obstacles_bound k.obstacles
+      (inr (aimless q k (λ has. omega (arith, room, has.1)))) k.kept_aims_nowhere k.closed
+
+  rules_target : (b : StateBox) → IsStateBox (length q.states) b → FitsAfter q (Target b) → KeepsRules (extended q (Target b))
+  rules_target b is fits =
+      let room : length q.targets < 64 = fits.2 in
+      same_variables q.begun q.equations (q.targets ++ b ∷ []) q.obstacles q.goal q.ended
+      k.equations_bound k.equations (omega (arith, room, length-append q.targets (b ∷ []))) (All-push (IsStateBox (length q.states)) q.targets b k.targets is) k.obstacles_bound k.obstacles
+      (inl fits.0) (λ e. (let g : q.goal ≡ None = fits.1 in cc)) k.closed
 
   rules_obstacle : (b : StateBox) → IsStateBox (length q.states) b → FitsAfter q (Obstacle b) → KeepsRules (extended q (Obstacle b))
-  rules_obstacle b is fits = record {
-    states_bound = k.states_bound;
-    states = k.states;
-    inputs_bound = k.inputs_bound;
-    inputs = k.inputs;
-    noises_bound = k.noises_bound;
-    noises = k.noises;
-    names = k.names;
-    names_differ = k.names_differ;
-    equations_bound = k.equations_bound;
-    equations = k.equations;
-    targets_bound = k.targets_bound;
-    targets = k.targets;
-    obstacles_bound = (let room : length q.obstacles < 64 = fits.2 in omega (arith, room, length-append q.obstacles (b ∷ [])));
-    obstacles = All-push (IsStateBox (length q.states)) q.obstacles b k.obstacles is;
-    placed = inl fits.0;
-    kept_aims_nowhere = k.kept_aims_nowhere;
-    closed = k.closed;
-  }
+  rules_obstacle b is fits =
+      let room : length q.obstacles < 64 = fits.2 in
+      same_variables q.begun q.equations q.targets (q.obstacles ++ b ∷ []) q.goal q.ended
+      k.equations_bound k.equations k.targets_bound k.targets (omega (arith, room, length-append q.obstacles (b ∷ []))) (All-push (IsStateBox (length q.states)) q.obstacles b k.obstacles is)
+      (inl fits.0) k.kept_aims_nowhere k.closed
 
   rules_goal : (kind : GoalKind) → FitsAfter q (Goal kind) → KeepsRules (extended q (Goal kind))
-  rules_goal kind fits = record {
-    states_bound = k.states_bound;
-    states = k.states;
-    inputs_bound = k.inputs_bound;
-    inputs = k.inputs;
-    noises_bound = k.noises_bound;
-    noises = k.noises;
-    names = k.names;
-    names_differ = k.names_differ;
-    equations_bound = k.equations_bound;
-    equations = k.equations;
-    targets_bound = k.targets_bound;
-    targets = k.targets;
-    obstacles_bound = k.obstacles_bound;
-    obstacles = k.obstacles;
-    placed = inl fits.0;
-    kept_aims_nowhere = λ e. (let is : kind ≡ Keep = (let same : kind ≡ Keep = cc in same) in fits.2 is);
-    closed = λ _ e. cc;
-  }
+  rules_goal kind fits =
+      same_variables q.begun q.equations q.targets q.obstacles (Some kind) q.ended
+      k.equations_bound k.equations k.targets_bound k.targets k.obstacles_bound k.obstacles
+      (inl fits.0) (λ e. (let is : kind ≡ Keep = (let same : kind ≡ Keep = cc in same) in fits.2 is)) (λ _ e. cc)
 
   rules_end : FitsAfter q End → KeepsRules (extended q End)
-  rules_end fits = record {
-    states_bound = k.states_bound;
-    states = k.states;
-    inputs_bound = k.inputs_bound;
-    inputs = k.inputs;
-    noises_bound = k.noises_bound;
-    noises = k.noises;
-    names = k.names;
-    names_differ = k.names_differ;
-    equations_bound = k.equations_bound;
-    equations = k.equations;
-    targets_bound = k.targets_bound;
-    targets = k.targets;
-    obstacles_bound = k.obstacles_bound;
-    obstacles = k.obstacles;
-    placed = k.placed;
-    kept_aims_nowhere = k.kept_aims_nowhere;
-    closed = λ _. fits.0;
-  }
+  rules_end fits =
+      same_variables q.begun q.equations q.targets q.obstacles q.goal true
+      k.equations_bound k.equations k.targets_bound k.targets k.obstacles_bound k.obstacles
+      k.placed k.kept_aims_nowhere (λ _. fits.0)
 
 -- an expression that tokens spell is an equation
 pub equation_spelled : (names : List (List ℕ)) (tokens : List (List ℕ)) (e : Expression) → AreTokensOf names tokens e → IsEquation (length names) e
@@ -278,7 +210,7 @@ rules_extended q words Version k says fits = rules_version q k
 rules_extended q words (State s) k says fits = rules_state q s k says.1 fits
 rules_extended q words (Input i) k says fits = rules_input q i k says.1 fits
 rules_extended q words (Noise w) k says fits = rules_noise q w k says.1 fits
-rules_extended q words (Next name e) k says fits = rules_next q name e k (equation_spelled (names_in q) (flat_map tokens_of says.0) e says.2) fits
+rules_extended q words (Next name e) k says fits = rules_next q k name e (equation_spelled (names_in q) (flat_map tokens_of says.0) e says.2) fits
 rules_extended q words (Target b) k says fits = rules_target q k b says.1 fits
 rules_extended q words (Obstacle b) k says fits = rules_obstacle q k b says.1 fits
 rules_extended q words (Goal kind) k says fits = rules_goal q k kind fits

@@ -4,7 +4,8 @@ use Rattle.std.specs.Prelude.{ℤ, ◌≤ℤ◌}
 use Rattle.std.specs.Fmt.{signed_decimal}
 use Rattle.plant_text.specs.declared.plant.variables.StateVariable.{StateVariable}
 use Rattle.plant_text.specs.words.Numbers.{IsLiteral}
-use Rattle.plant_text.specs.inside.WordReaders.{StartsWithNumber, StartsWithEnds, SpellsState, HasWholeCells}
+use Rattle.plant_text.specs.inside.WordReaders.{StartsWithNumber}
+use Rattle.plant_text.specs.inside.LineReaders.{StartsWithEnds, SpellsState, HasWholeCells}
 use Rattle.plant_text.proofs.lemmas.words.NumberWords.{one_number}
 
 -- numbers that are read one after the other, and are out of order, are no ends

@@ -1,6 +1,6 @@
 use Rattle.std.proofs.Common.{◌≡◌, [], subst, arith}
 use Rattle.plant_text.specs.words.Words.{words_of}
-use Rattle.plant_text.specs.inside.WordReaders.{SpellsBox, StartsWithEnds}
+use Rattle.plant_text.specs.inside.LineReaders.{SpellsBox, StartsWithEnds}
 use Rattle.plant_text.proofs.lemmas.reading.RefusalsPassOn.{exits}
 use Rattle.plant_text.proofs.lemmas.words.NumberWords.{whole}
 use Rattle.plant_text.proofs.lemmas.reading.BoxEnds.{AreRead, none_read, one_read_more, all_read, next_ends, no_more_ends}

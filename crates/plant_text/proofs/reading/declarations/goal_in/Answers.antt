@@ -1,6 +1,6 @@
 use Rattle.std.proofs.Common.{◌≡◌, []}
 use Rattle.plant_text.specs.words.Words.{words_of}
-use Rattle.plant_text.specs.inside.WordReaders.{SpellsGoal}
+use Rattle.plant_text.specs.inside.LineReaders.{SpellsGoal}
 use Rattle.plant_text.proofs.lemmas.reading.RefusalsPassOn.{exits}
 use Rattle.plant_text.proofs.reading.declarations.goal_in.Goals as goal
 

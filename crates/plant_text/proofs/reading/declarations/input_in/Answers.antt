@@ -1,7 +1,8 @@
 use Rattle.std.proofs.Common.{map}
 use Rattle.std.specs.Fmt.{signed_decimal}
 use Rattle.plant_text.specs.words.Words.{words_of}
-use Rattle.plant_text.specs.inside.WordReaders.{SpellsInput, SpellsValues, StartsWithName}
+use Rattle.plant_text.specs.inside.WordReaders.{StartsWithName}
+use Rattle.plant_text.specs.inside.LineReaders.{SpellsInput, SpellsValues}
 use Rattle.plant_text.proofs.lemmas.reading.RefusalsPassOn.{exits}
 use Rattle.plant_text.proofs.reading.declarations.input_in.Goals as goal
 

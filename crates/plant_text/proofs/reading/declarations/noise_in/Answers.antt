@@ -1,7 +1,8 @@
 use Rattle.std.proofs.Common.{◌≡◌, [], ◌∷◌}
 use Rattle.std.specs.Fmt.{signed_decimal}
 use Rattle.plant_text.specs.words.Words.{words_of}
-use Rattle.plant_text.specs.inside.WordReaders.{SpellsNoise, StartsWithName, StartsWithEnds}
+use Rattle.plant_text.specs.inside.WordReaders.{StartsWithName}
+use Rattle.plant_text.specs.inside.LineReaders.{SpellsNoise, StartsWithEnds}
 use Rattle.plant_text.proofs.lemmas.reading.RefusalsPassOn.{exits}
 use Rattle.plant_text.proofs.reading.declarations.noise_in.Goals as goal
 

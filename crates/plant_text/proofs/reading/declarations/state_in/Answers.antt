@@ -2,7 +2,8 @@ use Rattle.std.proofs.Common.{◌≡◌, [], ◌∷◌}
 use Rattle.std.specs.Fmt.{signed_decimal}
 use Rattle.std.proofs.lemmas.Bool.{iff_false}
 use Rattle.plant_text.specs.words.Words.{words_of}
-use Rattle.plant_text.specs.inside.WordReaders.{SpellsState, StartsWithName, StartsWithNumber}
+use Rattle.plant_text.specs.inside.WordReaders.{StartsWithName, StartsWithNumber}
+use Rattle.plant_text.specs.inside.LineReaders.{SpellsState}
 use Rattle.plant_text.proofs.lemmas.reading.RefusalsPassOn.{exits}
 use Rattle.plant_text.proofs.lemmas.words.NumberWords.{whole}
 use Rattle.plant_text.proofs.lemmas.reading.WordsSpellOne.{no_state}

@@ -3,7 +3,7 @@ use Rattle.std.specs.Prelude.{ℤ}
 use Rattle.std.specs.Fmt.{signed_decimal}
 use Rattle.plant_text.specs.words.Numbers.{IsLiteral}
 use Rattle.plant_text.specs.words.Words.{words_of}
-use Rattle.plant_text.specs.inside.WordReaders.{SpellsValues}
+use Rattle.plant_text.specs.inside.LineReaders.{SpellsValues}
 use Rattle.plant_text.proofs.lemmas.reading.RefusalsPassOn.{exits}
 use Rattle.plant_text.proofs.lemmas.reading.InputValues.{next_value}
 use Rattle.plant_text.proofs.reading.declarations.values_in.Goals as goal

@@ -4,7 +4,7 @@ use Rattle.grid_quantiser.specs.declared.axis.Axis.{Axis}
 use Rattle.grid_quantiser.specs.Axes.{AreAxes}
 use Rattle.plant_text.specs.plant.Description.{axis_of}
 use Rattle.plant_text.proofs.lemmas.plant.Axes.{axes_are, axes_made}
-use Rattle.plant_text.proofs.plant.parts.grid_of.Goals as goal
+use Rattle.plant_text.proofs.plant.plant_parts.grid_of.Goals as goal
 
 pub loop-i-preserved : goal.loop-i-preserved
 loop-i-preserved c =

@@ -3,7 +3,7 @@ use Rattle.std.proofs.lemmas.List.Elements.{All-drop}
 use Rattle.plant_text.specs.plant.Variables.{IsInputVariable}
 use Rattle.plant_text.specs.plant.Description.{vectors_of}
 use Rattle.plant_text.proofs.lemmas.plant.InputVectors.{vectors_back, few_from, some_vectors}
-use Rattle.plant_text.proofs.plant.parts.vectors_of.Goals as goal
+use Rattle.plant_text.proofs.plant.plant_parts.vectors_of.Goals as goal
 
 pub overflow_mul-vectors : goal.overflow_mul-vectors
 overflow_mul-vectors c =
