@@ -1,0 +1,48 @@
+use Rattle.std.proofs.Common.{◌≡◌, ◌+◌, ◌*◌, length, sym, ap, subst, ◌∙◌, arith}
+use Rattle.std.specs.Prelude.{List, ℤ, ℕ}
+use Rattle.std.proofs.lemmas.Grind.{not_there}
+use Rattle.grid_quantiser.specs.Cells.{point_of}
+use Rattle.plant_text.specs.plant.Description.{Description}
+use Rattle.plant_text.specs.plant.Steps.{step_of, StepStaysInRange}
+use Rattle.loop_sim.specs.Noise.{generator, noises_from}
+use Rattle.loop_sim.proofs.Draws.{generator_more}
+use Rattle.loop_sim.proofs.Steps.{stays, drawn_step, lines_go_on}
+use Rattle.loop_sim.proofs.closed_loop.next_sample.Goals as goal
+
+pub unreachable-requires : goal.unreachable-requires
+unreachable-requires c =
+    let t = c.args.t.now in
+    let s = c.args.sample in
+    let plant : c.plant-p.result.now ≡ t.plant = c.plant-p.ensures in
+    let drawn : c.draw-state.result.0 ≡ point_of (noises_from t.plant.noises s.state 0) = c.draw-state.ensures.noises ∙ ap (λ (p : Description). point_of (noises_from p.noises s.state 0)) plant in
+    not_there c.requires.fits
+    (λ fits. c.in_default.ensures
+    (subst (λ (p : Description). StepStaysInRange p s.x c.args.row.input c.draw-state.result.0) (sym plant)
+    (stays c.steps_stay_in_range.ensures c.plants_are_sound.ensures t.plant t.rows s.x c.draw-state.result.0 c.args.row s.state c.every_table_fits.ensures.limits c.every_table_fits.ensures.rows fits c.requires.row drawn)))
+
+pub returns-clause-sample : goal.returns-clause-sample
+returns-clause-sample c =
+    let t = c.args.t.now in
+    let s = c.args.sample in
+    let m = length t.plant.noises in
+    let further : s.time * m + m ≡ (s.time + 1) * m = omega arith in
+    record {
+      state =
+          c.draw-state.ensures.state
+          ∙ ap (λ (p : Description). generator s.state (length p.noises)) c.plant-p.ensures
+          ∙ ap (λ (n : ℕ). generator n m) c.requires.sample.state
+          ∙ generator_more s.seed (s.time * m) m
+          ∙ ap (generator s.seed) further;
+      bound = omega (arith, c.requires.sample.bound, c.requires.left);
+    }
+
+pub returns-clause-lines : goal.returns-clause-lines
+returns-clause-lines c =
+    let t = c.args.t.now in
+    let s = c.args.sample in
+    let plant : c.plant-p.result.now ≡ t.plant = c.plant-p.ensures in
+    let drawn : c.draw-state.result.0 ≡ point_of (noises_from t.plant.noises s.state 0) = c.draw-state.ensures.noises ∙ ap (λ (p : Description). point_of (noises_from p.noises s.state 0)) plant in
+    lines_go_on t s.seed s.left s.time s.x c.in-Some.x c.args.row c.requires.left
+    (c.in-Some.ensures.1
+    ∙ ap (λ (p : Description). point_of (step_of p s.x c.args.row.input c.draw-state.result.0)) plant
+    ∙ ap point_of (drawn_step t.plant s.x c.draw-state.result.0 c.args.row.input s.seed s.time s.state c.requires.sample.state drawn))

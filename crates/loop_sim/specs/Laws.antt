@@ -1,0 +1,36 @@
+-- What holds of every trace.
+use Rattle.std.specs.Prelude.{◌≡◌, ℕ, ◌↔◌, ℤ, List, [], ◌∷◌, Option, Some}
+use Rattle.game_core.specs.declared.game.Row.{Row}
+use Rattle.plant_text.specs.plant.Description.{Description}
+use Rattle.plant_text.specs.plant.Plants.{IsPlant}
+use Rattle.plant_text.specs.plant.Steps.{IsNoise}
+use Rattle.controller_table.specs.Choice.{HasRowAt}
+use Rattle.loop_sim.specs.declared.line.SimLine.{SimLine}
+use Rattle.loop_sim.specs.declared.line.SimLine.TheVariants.{At, Arrived, Stopped, Lost}
+use Rattle.loop_sim.specs.Noise.{noises_at}
+use Rattle.loop_sim.specs.Trace.{row_at, trace_lines}
+
+-- each noise that is drawn lies in its range
+abbrev pub NoisesLieInTheirRanges : Type 0
+NoisesLieInTheirRanges = (p : Description) (seed t : ℕ) → IsPlant p → IsNoise p.noises (noises_at p seed t)
+
+-- the row at a state is that of its cell, and there is none outside the domain
+abbrev pub RowsStandAtStates : Type 0
+RowsStandAtStates = (p : Description) (rows : List (Option Row)) (x : List ℤ) (row : Row) → row_at p rows x ≡ Some row ↔ HasRowAt p rows x row
+
+-- a line of a sample, behind which the trace goes on
+abbrev pub IsSampleLine : SimLine → Type 0
+IsSampleLine (At t x row) = Unit {0}
+IsSampleLine (Arrived t) = ⊥
+IsSampleLine (Stopped t) = ⊥
+IsSampleLine (Lost t x) = ⊥
+
+-- lines of samples, and one line behind them that is none
+abbrev pub EndWithTheirLast : List SimLine → Type 0
+EndWithTheirLast [] = ⊥
+EndWithTheirLast (line ∷ []) = IsSampleLine line → ⊥
+EndWithTheirLast (line ∷ next ∷ lines) = IsSampleLine line × EndWithTheirLast (next ∷ lines)
+
+-- a trace ends at its first line that is no sample's
+abbrev pub TracesEnd : Type 0
+TracesEnd = (p : Description) (rows : List (Option Row)) (seed left t : ℕ) (x : List ℤ) → EndWithTheirLast (trace_lines p rows seed left t x)

@@ -1,0 +1,40 @@
+-- How far a closed loop has run. No public clause names this.
+use Rattle.std.specs.Prelude.{◌≡◌, ℕ, suc, zero, ℤ, ◌+◌, ◌*◌, ◌≤◌, List, [], ◌∷◌, length, if◌then◌else◌}
+use Rattle.game_core.specs.declared.game.Row.{Row}
+use Rattle.grid_quantiser.specs.Cells.{point_of}
+use Rattle.plant_text.specs.plant.Steps.{step_of}
+use Rattle.plant_text.specs.plant.Description.{Description}
+use Rattle.controller_table.specs.Tables.{TableModel}
+use Rattle.loop_sim.specs.declared.line.SimLine.{SimLine}
+use Rattle.loop_sim.specs.declared.closed_loop.Sample.{Sample}
+use Rattle.loop_sim.specs.declared.closed_loop.Stage.{Stage}
+use Rattle.loop_sim.specs.declared.closed_loop.Stage.TheVariants.{Due, Ending, Over}
+use Rattle.loop_sim.specs.declared.line.SimLine.TheVariants.{Arrived, Stopped}
+use Rattle.loop_sim.specs.Noise.{generator, noises_at}
+use Rattle.loop_sim.specs.Trace.{has_arrived, trace_lines}
+
+-- the lines that are still to come
+abbrev pub lines_left : TableModel → Stage → List SimLine
+lines_left t (Due s) = trace_lines t.plant t.rows s.seed s.left s.time s.x
+lines_left t (Ending line) = line ∷ []
+lines_left t Over = []
+
+-- the lines behind the first line of a sample that has a row and does not end the trace
+abbrev pub lines_on : TableModel → ℕ → ℕ → ℕ → List ℤ → Row → List SimLine
+lines_on t seed zero time x row = Stopped time ∷ []
+lines_on t seed (suc left) time x row =
+    trace_lines t.plant t.rows seed left (suc time) (point_of (step_of t.plant x row.input (noises_at t.plant seed time)))
+
+-- the lines behind the first line of a sample that has a row
+abbrev pub lines_behind : TableModel → Sample → Row → List SimLine
+lines_behind t s row =
+    if has_arrived t.plant.goal row then Arrived s.time ∷ [] else lines_on t s.seed s.left s.time s.x row
+
+-- A sample before whose noises the generator is at this state.
+pub record IsSample (p : Description) (s : Sample) : Type 0 where
+  pub state : s.state ≡ generator s.seed (s.time * length p.noises)
+  pub bound : s.time + s.left ≤ 1000000
+
+-- what is known of the sample that is due
+abbrev pub IsStage : Description → Stage → Type 0
+IsStage p stage = (s : Sample) → stage ≡ Due s → IsSample p s

@@ -1,0 +1,113 @@
+// A closed loop, sample by sample.
+
+ghost use Rattle.std.specs.Prelude.{◌≡◌, ◌<◌, ◌∷◌, Some};
+ghost use Rattle.successor_box.specs.Deviations.{HasNoOverflow};
+ghost use Rattle.loop_sim.specs.Trace.{row_at, has_arrived, trace_lines};
+ghost use Rattle.loop_sim.specs.inside.Stages.{IsSample, IsStage, lines_left, lines_behind, lines_on};
+
+use crate::line::SimLine;
+use crate::noise::draw;
+use controller_table::laws::every_table_fits;
+use controller_table::{Row, Table};
+use grid_quantiser::Point;
+use plant_text::laws::plants_are_sound;
+use plant_text::{GoalKind, step};
+use successor_box::laws::steps_stay_in_range;
+
+/// A sample of a closed loop.
+#[derive(Clone, Copy, Debug)]
+pub(crate) struct Sample {
+    pub time: u32,
+    pub x: Point,
+    /// The samples that may follow.
+    pub left: u32,
+    /// The state of the noises' generator before this sample, and as the trace began.
+    pub state: u64,
+    pub seed: u64,
+}
+
+/// What comes next in a trace.
+#[derive(Clone, Copy, Debug)]
+pub(crate) enum Stage {
+    /// The lines of a sample, and what is behind them.
+    Due(Sample),
+    /// The last line.
+    Ending(SimLine),
+    Over,
+}
+
+/// The row of the cell in which a state lies.
+pub(crate) fn row_at(t: &Table, x: &Point) -> Option<Row>
+    ensures { result ≡ row_at t.now.plant t.now.rows x.now }
+{
+    let cell = t.plant().grid().cell_of(x)?;
+    t.row(cell)
+}
+
+/// The first line of a sample, and what is behind it.
+pub(crate) fn first_line(t: &Table, sample: Sample) -> (SimLine, Stage)
+    requires fits { ∥ HasNoOverflow t.now.plant ∥₁ }
+    requires sample { IsSample t.now.plant sample }
+    ensures lines { trace_lines t.now.plant t.now.rows sample.seed sample.left sample.time sample.x ≡ result.0 ∷ lines_left t.now result.1 }
+    ensures stage { IsStage t.now.plant result.1 }
+{
+    let Sample { time, x, .. } = sample;
+    match row_at(t, &x) {
+        Some(row) => (SimLine::At { time, x, row }, behind(t, sample, row)),
+        None => (SimLine::Lost { time, x }, Stage::Over),
+    }
+}
+
+/// What is behind the first line of a sample.
+fn behind(t: &Table, sample: Sample, row: Row) -> Stage
+    requires fits { ∥ HasNoOverflow t.now.plant ∥₁ }
+    requires sample { IsSample t.now.plant sample }
+    requires row { row_at t.now.plant t.now.rows sample.x ≡ Some row }
+    ensures lines { lines_left t.now result ≡ lines_behind t.now sample row }
+    ensures stage { IsStage t.now.plant result }
+{
+    let time = sample.time;
+    if has_arrived(t.plant().goal(), row) {
+        Stage::Ending(SimLine::Arrived { time })
+    } else if sample.left == 0 {
+        Stage::Ending(SimLine::Stopped { time })
+    } else {
+        Stage::Due(next_sample(t, sample, row))
+    }
+}
+
+/// Whether a plant is where it was to be brought.
+fn has_arrived(goal: GoalKind, row: Row) -> bool
+    ensures { result ≡ has_arrived goal row }
+{
+    match goal {
+        GoalKind::Reach => row.rank == 0,
+        GoalKind::Keep => false,
+    }
+}
+
+/// The sample behind one that is not the last.
+fn next_sample(t: &Table, sample: Sample, row: Row) -> Sample
+    requires fits { ∥ HasNoOverflow t.now.plant ∥₁ }
+    requires sample { IsSample t.now.plant sample }
+    requires row { row_at t.now.plant t.now.rows sample.x ≡ Some row }
+    requires left { 0 < sample.left }
+    ensures sample { IsSample t.now.plant result }
+    ensures lines { trace_lines t.now.plant t.now.rows result.seed result.left result.time result.x ≡ lines_on t.now sample.seed sample.left sample.time sample.x row }
+{
+    every_table_fits(t);
+    plants_are_sound();
+    steps_stay_in_range();
+    let p = t.plant();
+    let (noises, state) = draw(p, sample.state);
+    let Some(x) = step(p, &sample.x, row.input, &noises) else {
+        unreachable!()
+    };
+    Sample {
+        time: sample.time + 1,
+        x,
+        left: sample.left - 1,
+        state,
+        seed: sample.seed,
+    }
+}

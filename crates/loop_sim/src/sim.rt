@@ -1,0 +1,70 @@
+ghost use Rattle.std.specs.Prelude.{◌≡◌, ◌≤◌, ◌∷◌, [], IfSome, IfNone, SomeIff};
+ghost use Rattle.game_core.specs.declared.game.Row.{Row};
+ghost use Rattle.controller_table.specs.Choice.{HasRowAt};
+ghost use Rattle.successor_box.specs.Deviations.{HasNoOverflow, deviations_of};
+ghost use Rattle.loop_sim.specs.Trace.{trace_lines};
+
+use crate::closed_loop::{Sample, Stage, first_line, row_at};
+use crate::line::SimLine;
+use controller_table::Table;
+use grid_quantiser::Point;
+use std::marker::Model;
+use successor_box::Slopes;
+
+/// A plant in closed loop with its table. Seen as the lines of its trace that are still to come.
+#[derive(Drop)]
+pub struct Sim<'a> {
+    table: &'a Table,
+    stage: Stage,
+}
+
+impl<'a> Model for Sim<'a> {
+    ghost use Rattle.std.specs.Prelude.{List};
+    ghost use Rattle.successor_box.specs.Deviations.{HasNoOverflow};
+    ghost use Rattle.loop_sim.specs.declared.line.SimLine.{SimLine};
+    ghost use Rattle.loop_sim.specs.inside.Stages.{lines_left, IsStage};
+
+    ghost Value = { List SimLine };
+
+    ghost view = { λ s. lines_left s.table.now s.stage };
+
+    ghost invariant = { λ s. ∥ HasNoOverflow s.table.now.plant ∥₁ × IsStage s.table.now.plant s.stage };
+}
+
+impl<'a> Sim<'a> {
+    /// The trace from a state, whose noises begin at the seed, with at most as many samples behind the
+    /// first: None where the table has no row at the state.
+    pub fn new(t: &'a Table, s: &'a Slopes, x: &Point, seed: u64, steps: u32) -> Option<Sim<'a>>
+        requires slopes { s.now ≡ deviations_of t.now.plant }
+        requires fits { HasNoOverflow t.now.plant }
+        requires steps { steps ≤ 1000000 }
+        ensures { SomeIff result ((row : Row) × HasRowAt t.now.plant t.now.rows x.now row) (trace_lines t.now.plant t.now.rows seed steps 0 x.now) }
+    {
+        row_at(t, x)?;
+        Some(Sim {
+            table: t,
+            stage: Stage::Due(Sample {
+                time: 0,
+                x: *x,
+                left: steps,
+                state: seed,
+                seed,
+            }),
+        })
+    }
+
+    /// The next line of the trace.
+    pub fn next(&mut self) -> Option<SimLine>
+        ensures line { IfSome result (λ line. self.old ≡ line ∷ self.new) }
+        ensures none { IfNone result (self.old ≡ []) }
+        ensures stays { IfNone result (self.new ≡ []) }
+    {
+        let (line, stage) = match self.stage {
+            Stage::Due(sample) => first_line(self.table, sample),
+            Stage::Ending(line) => (line, Stage::Over),
+            Stage::Over => return None,
+        };
+        self.stage = stage;
+        Some(line)
+    }
+}
