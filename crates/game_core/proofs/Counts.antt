@@ -1,7 +1,9 @@
 -- Sums over lists, and how many elements pass a test.
-use Rattle.std.proofs.Common.{◌≡◌, ◌≢◌, ℕ, zero, suc, ◌+◌, ◌<◌, Bool, true, false, cond, List, [], ◌∷◌, length, get_or, All, AllPairs, count_by, sum_by, arith, refl, sym, ◌∙◌, ap}
+use Rattle.std.proofs.Common.{◌≤◌, ◌&&◌, ◌||◌, subst, ◌≡◌, ◌≢◌, ℕ, zero, suc, ◌+◌, ◌<◌, Bool, true, false, cond, List, [], ◌∷◌, length, get_or, All, AllPairs, count_by, sum_by, arith, refl, sym, ◌∙◌, ap}
 use Rattle.std.proofs.lemmas.List.Elements.{All-head, All-tail, All-nil, All-cons}
-use Rattle.std.proofs.lemmas.List.Sums.{sum_by-cons}
+use Rattle.std.specs.List.{Any, list_any, list_all, range_with_len}
+use Rattle.std.proofs.lemmas.List.FromFn.{length-range_with_len, get_or-range_with_len}
+use Rattle.std.proofs.lemmas.List.Sums.{sum_by-cons, sum_by-le-sum_by}
 
 abbrev pub one_if : Bool → ℕ
 one_if b = cond b 1 0
@@ -85,3 +87,74 @@ count_less p q c before after else (x ∷ xs) (suc k) apart lt e =
 -- a test that always passes counts all
 pub count_every : (xs : List ℕ) → count_by (λ s. true) xs ≡ length xs
 count_every xs = sum_ones (λ s. 1) xs (λ i d lt. refl)
+
+-- a range that is longer by one
+count_longer : (p : ℕ → Bool) (a n : ℕ) → count_by p (range_with_len a (suc n)) ≡ count_by p (range_with_len a n) + one_if (p (a + n))
+count_longer p a zero = let e : one_if (p (a + 0)) ≡ one_if (p a) = ap (λ n. one_if (p n)) (omega arith) in let c = count-cons p a [] in omega arith
+count_longer p a (suc n) =
+    let e : one_if (p (a + 1 + n)) ≡ one_if (p (a + suc n)) = ap (λ n. one_if (p n)) (omega arith) in
+    let long = count-cons p a (range_with_len (a + 1) (suc n)) in
+    let short = count-cons p a (range_with_len (a + 1) n) in
+    let rest = count_longer p (a + 1) n in
+    omega arith
+
+pub count_range_more : (p : ℕ → Bool) (n : ℕ) → count_by p (range_with_len 0 (n + 1)) ≡ count_by p (range_with_len 0 n) + one_if (p n)
+count_range_more p n =
+    ap (λ n. count_by p (range_with_len 0 n)) {x = n + 1} {y = suc n} (omega arith)
+    ∙ (count_longer p 0 n ∙ ap (λ m. count_by p (range_with_len 0 n) + one_if (p m)) {x = 0 + n} {y = n} (omega arith))
+
+-- the numbers of a range differ
+pub range_apart : (a n : ℕ) → AllPairs (λ a b. a ≢ b) (range_with_len a n)
+range_apart a n i j d l m e =
+    let len = length-range_with_len a n in
+    let first = get_or-range_with_len a n i d (omega arith) in
+    let second = get_or-range_with_len a n j d (omega arith) in
+    omega arith
+
+-- what fails for either of two tests, and lists by their elements
+pub either_false : (a b : Bool) → (a || b) ≡ false → (a ≡ false) × (b ≡ false)
+either_false true b e = absurd (cc)
+either_false false b e = (refl, e)
+
+pub none_of : (p : ℕ → Bool) (xs : List ℕ) → list_any p xs ≡ false → All (λ x. p x ≡ false) xs
+none_of p [] e = All-nil (λ x. p x ≡ false)
+none_of p (x ∷ xs) e = let b = either_false (p x) (list_any p xs) e in All-cons (λ x. p x ≡ false) x xs b.0 (none_of p xs b.1)
+
+pub not_every : (p : ℕ → Bool) (xs : List ℕ) → list_all p xs ≡ false → Any (λ x. p x ≡ false) xs
+not_every p [] e = absurd (let f : true ≡ false = e in cc)
+not_every p (x ∷ xs) e = by_test (p x) refl (not_every p xs)
+  where
+    by_test : (b : Bool) → p x ≡ b → (list_all p xs ≡ false → Any (λ x. p x ≡ false) xs) → Any (λ x. p x ≡ false) (x ∷ xs)
+    by_test false f later = (0, x, omega arith, refl, f)
+    by_test true f later =
+        let same : list_all p (x ∷ xs) ≡ list_all p xs = ap (λ b. b && list_all p xs) f in
+        let rest = later (sym same ∙ e) in
+        (suc rest.0, rest.1, (let lt = rest.2 in omega arith), rest.3, rest.4)
+
+-- a test that passes wherever another does, and no more often, passes alike
+pub one_if_le : (a b : Bool) → (a ≡ true → b ≡ true) → one_if a ≤ one_if b
+one_if_le true b h = let e : one_if b ≡ 1 = ap one_if (h refl) in omega arith
+one_if_le false b h = omega arith
+
+pub one_if_same : (a b : Bool) → one_if a ≡ one_if b → a ≡ b
+one_if_same true true e = refl
+one_if_same true false e = absurd (omega arith)
+one_if_same false true e = absurd (omega arith)
+one_if_same false false e = refl
+
+pub alike_from_counts : (p q : ℕ → Bool) → ((x : ℕ) → p x ≡ true → q x ≡ true) → (xs : List ℕ) → count_by q xs ≤ count_by p xs → All (λ x. p x ≡ q x) xs
+alike_from_counts p q more [] le = All-nil (λ x. p x ≡ q x)
+alike_from_counts p q more (x ∷ xs) le =
+    let a = count-cons p x xs in
+    let b = count-cons q x xs in
+    let here = one_if_le (p x) (q x) (more x) in
+    let rest : count_by p xs ≤ count_by q xs = sum_by-le-sum_by (λ x. one_if (p x)) (λ x. one_if (q x)) xs (λ x. one_if_le (p x) (q x) (more x)) in
+    All-cons (λ x. p x ≡ q x) x xs (one_if_same (p x) (q x) (omega arith)) (alike_from_counts p q more xs (omega arith))
+
+-- what holds of all numbers of a range holds of each below its end
+pub below_end : (P : ℕ → Type 0) (n c : ℕ) → c < n → All P (range_with_len 0 n) → P c
+below_end P n c lt all =
+    let len = length-range_with_len 0 n in
+    let at = get_or-range_with_len 0 n c c lt in
+    let same : get_or (range_with_len 0 n) c c ≡ c = omega arith in
+    subst P same (all c c (omega arith))

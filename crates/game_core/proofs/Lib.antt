@@ -14,3 +14,7 @@ pub mod Right
 pub mod Keep
 pub mod Times
 pub mod SmallGames
+pub mod InTime
+pub mod Falls
+pub mod Losses
+pub mod Held

@@ -1,17 +1,15 @@
 -- The rank of a row is less than the number of cells: each rank below it is that of another row.
 use Rattle.std.proofs.Common.{◌≡◌, ◌≢◌, ◌⊎◌, inl, inr, ℕ, Bool, true, false, zero, suc, ◌<◌, ◌≤◌, eqb, List, [], ◌∷◌, length, Option, Some, All, refl, sym, ap, ◌∙◌, arith, rules}
-use Rattle.std.specs.List.{AllPairs, AllByRecursion, list_any}
-use Rattle.std.proofs.lemmas.Bool.{or_cases, eqb-true, eqb-false}
-use Rattle.std.proofs.lemmas.Bool.Decides.{Decides-eqb}
-use Rattle.std.proofs.lemmas.List.Elements.{All-head, All-tail, All-nil, All-cons, All-weaker, recursion_from_All}
+use Rattle.std.specs.List.{AllPairs}
+use Rattle.std.proofs.lemmas.Bool.{eqb-true, eqb-false}
+use Rattle.std.proofs.lemmas.List.Elements.{All-head, All-tail, All-nil, All-cons, All-weaker}
 use Rattle.std.proofs.lemmas.List.Kept.{AllPairs-cons}
-use Rattle.std.proofs.lemmas.Map.Made.{IsDistinct-from_AllPairs}
-use Rattle.std.proofs.lemmas.Map.Steps.{length-le_from_distinct_below}
 use Rattle.game_core.specs.declared.game.Row.{Row}
 use Rattle.game_core.specs.Game.{Game, IsGame, IsEnabled, successors_of}
 use Rattle.game_core.specs.Strategy.{Apply, IsRank}
 use Rattle.game_core.specs.Solution.{row_of, HasRowBelow, IsReachSolution}
 use Rattle.game_core.proofs.Rows.{below_from_row}
+use Rattle.game_core.proofs.Times.{length_of_distinct_below}
 use Rattle.game_core.proofs.Trees.{WinsWithin, trees_for}
 use Rattle.game_core.proofs.Promises.{row_at, no_obstacle, leads_to_goals}
 
@@ -106,14 +104,6 @@ chain g rows a h (suc k) c row =
       },
     )
 
-any_below : (n : ℕ) (cells : List ℕ) → AllByRecursion (λ s. s < n) cells → (q : ℕ) → list_any (eqb q) cells ≡ true → q < n
-any_below n [] h q e = absurd (cc)
-any_below n (s ∷ cells) h q e =
-    elim (or_cases (eqb q s) (list_any (eqb q) cells) e) [
-      | inl here ↦ (let same = eqb-true q s here in let lt = h.0 in omega (arith, same, lt))
-      | inr there ↦ any_below n cells h.1 q there
-    ]
-
 -- the rank of a row is less than the number of cells
 pub rank_below : (g : Game) (rows : List (Option Row)) → IsGame g → IsReachSolution g rows → (c : ℕ) (row : Row) → row_of rows c ≡ Some row → row.rank < g.cells
 rank_below g rows a h c row e =
@@ -122,6 +112,6 @@ rank_below g rows a h c row e =
     let within : All (λ s. s < g.cells) cells =
     All-weaker (HasRowBelow rows (suc row.rank)) (λ s. s < g.cells) (λ s b. let lt = below_from_row rows s b.row b.is in let n = h.one_each in omega (arith, lt, n)) cells found.1.ranks in
     let few : length cells ≤ g.cells =
-    length-le_from_distinct_below cells g.cells (IsDistinct-from_AllPairs Decides-eqb cells found.1.apart) (any_below g.cells cells (recursion_from_All (λ s. s < g.cells) cells within)) in
+    length_of_distinct_below g.cells cells found.1.apart within in
     let count = found.1.count in
     omega (arith, few, count)

@@ -1,12 +1,11 @@
 -- A search goes on being right as one successor more is cut.
-use Rattle.std.proofs.Common.{inl, inr, ◌*◌, ◌≡◌, ◌≢◌, ℕ, zero, suc, ◌-◌, ◌/◌, ◌%◌, ◌<◌, ◌≤◌, ◌⊎◌, Bool, true, false, not, cond, ◌==◌, ◌&&◌, nat_lt, List, [], ◌∷◌, ◌++◌, length, get_or, set, count_by, Option, Some, None, All, Contains, arith, refl, sym, ◌∙◌, ap, subst, length-set, append-nil, get_or-set_same}
-use Rattle.std.proofs.Math.Nat.{mul-zero}
+use Rattle.std.proofs.Common.{inl, inr, ◌≡◌, ◌≢◌, ℕ, zero, suc, ◌-◌, ◌/◌, ◌%◌, ◌<◌, ◌≤◌, ◌⊎◌, Bool, true, false, not, cond, ◌==◌, ◌&&◌, nat_lt, List, [], ◌∷◌, ◌++◌, length, get_or, set, count_by, Option, Some, None, All, Contains, arith, refl, sym, ◌∙◌, ap, subst, length-set, append-nil, get_or-set_same}
 use Rattle.std.proofs.lemmas.Bool.{cases_lt, not-false}
 use Rattle.std.proofs.lemmas.Bool.Decides.{Decides-eqb, Decides-ltb}
 use Rattle.std.proofs.lemmas.List.Elements.{All-weaker, Contains-get_or}
-use Rattle.std.proofs.lemmas.Nat.{div-add-mod', div_below, mod_below, same_from_place}
+use Rattle.std.proofs.lemmas.Nat.{same_from_place}
 use Rattle.game_core.proofs.Counts.{count_none, none_from_count}
-use Rattle.game_core.proofs.Edges.{with_edge, edge_cases, counted_less}
+use Rattle.game_core.proofs.Edges.{HasParts, parts_of, with_edge, edge_cases, counted_less}
 use Rattle.game_core.proofs.Queues.{settle_queue, improve_queue}
 use Rattle.game_core.proofs.Rows.{row_after_set}
 use Rattle.game_core.proofs.Told.{Refines, refines_itself, below_after, sound_after, told_step}
@@ -28,11 +27,6 @@ pub record IsStep (g : Game) (cut : ℕ → ℕ → Bool) (head top : ℕ) (p q 
   pub refines : Refines p.rows q.rows
   pub grows : Grows p q
 
--- where there is a product above a number, there is a factor above 0
-factor_above_zero : (m n k : ℕ) → k < m * n → 0 < n
-factor_above_zero m zero k lt = let z = mul-zero m in absurd (omega arith)
-factor_above_zero m (suc n) k lt = omega arith
-
 module _ (g : Game) (a : IsGame g) (cut : ℕ → ℕ → Bool) (head top : ℕ) (p : Progress) (h : IsSearch g cut head top p) (pair c : ℕ) (lt : pair < pairs_of g) (leads : Contains (successors_at g pair) c) (whole : cut pair c ≡ false) (row : Row) (has : row_of p.rows c ≡ Some row) (rank : suc row.rank ≡ top) (long : top ≤ length p.queue) where
   abbrev after : ℕ → ℕ → Bool
   after = with_edge cut pair c
@@ -46,17 +40,8 @@ module _ (g : Game) (a : IsGame g) (cut : ℕ → ℕ → Bool) (head top : ℕ)
   abbrev less : List ℕ
   less = set p.left pair (get_or p.left pair 0 - 1)
 
-  some_inputs : 0 < g.inputs
-  some_inputs = factor_above_zero g.cells g.inputs pair lt
-
-  cell_below : cell < g.cells
-  cell_below = div_below pair g.inputs g.cells some_inputs lt
-
-  input_below : input < g.inputs
-  input_below = mod_below pair g.inputs some_inputs
-
-  its_pair : pair_of g cell input ≡ pair
-  its_pair = div-add-mod' pair g.inputs
+  parts : HasParts g pair
+  parts = parts_of g pair lt
 
   counted_then : IsCounted g after less
   counted_then = counted_less g a cut p.left h.counted pair c lt leads whole
@@ -93,7 +78,7 @@ module _ (g : Game) (a : IsGame g) (cut : ℕ → ℕ → Bool) (head top : ℕ)
 
     module _ (plain : mark_of g cell ≡ Plain) where
       cell_has_place : cell < length p.rows
-      cell_has_place = let n = h.told.one_each in let l = cell_below in omega arith
+      cell_has_place = let n = h.told.one_each in let l = parts.cell in omega arith
 
       -- the rows with the cell's new row
       module _ (new : Row) (f : Refines p.rows (set p.rows cell (Some new))) (sound_new : IsSoundRow g (set p.rows cell (Some new)) cell new.rank new.input) (within : new.rank ≤ top) (least : new.rank ≡ top → new.input ≤ input) where
@@ -113,7 +98,7 @@ module _ (g : Game) (a : IsGame g) (cut : ℕ → ℕ → Bool) (head top : ℕ)
 
         newly : (d v : ℕ) → d < g.cells → pair_of g d v ≡ pair → mark_of g d ≡ Plain → IsEnabled g d v → All (λ s. after pair s ≡ true) (successors_at g pair) → HasRowAtMost (set p.rows cell (Some new)) top v d
         newly d v ld e pd enabled all =
-            let place = same_from_place d v cell input g.inputs enabled.0 input_below (e ∙ sym its_pair) in
+            let place = same_from_place d v cell input g.inputs enabled.0 parts.input (e ∙ sym parts.is) in
             let vi = place.1 in
             elim (row_after_set p.rows cell (Some new) d cell_has_place) [
               | inl here ↦ record { row = new; is = here.1; within = within; least = λ k. let l = least k in omega arith }
@@ -128,8 +113,8 @@ module _ (g : Game) (a : IsGame g) (cut : ℕ → ℕ → Bool) (head top : ℕ)
       offer_is_sound rows f zero e = absurd (omega arith)
       offer_is_sound rows f (suc k) e = (
         (λ m. cc),
-        (input_below, λ n. let l = leads.1 in let z : length (successors_of g cell input) ≡ 0 = ap length n in let same : length (successors_of g cell input) ≡ length (successors_at g pair) = ap (λ q. length (successors_at g q)) its_pair in omega arith),
-        subst (λ q. All (HasRowBelow rows (suc k)) (successors_at g q)) (sym its_pair)
+        (parts.input, λ n. let l = leads.1 in let z : length (successors_of g cell input) ≡ 0 = ap length n in let same : length (successors_of g cell input) ≡ length (successors_at g pair) = ap (λ q. length (successors_at g q)) parts.is in omega arith),
+        subst (λ q. All (HasRowBelow rows (suc k)) (successors_at g q)) (sym parts.is)
             (subst (λ t. All (HasRowBelow rows t) (successors_at g pair)) (sym e)
             (All-weaker (HasRowBelow p.rows top) (HasRowBelow rows top) (λ s r. below_after p.rows rows f top s r) (successors_at g pair) each_below)),
       )
@@ -214,7 +199,7 @@ module _ (g : Game) (a : IsGame g) (cut : ℕ → ℕ → Bool) (head top : ℕ)
       where
         never : mark_of g cell ≢ Plain → (d v : ℕ) → pair_of g d v ≡ pair → v < g.inputs → mark_of g d ≡ Plain → All (λ s. after pair s ≡ true) (successors_at g pair) → ⊥
         never other d v e lv plain all =
-            let place = same_from_place d v cell input g.inputs lv input_below (e ∙ sym its_pair) in
+            let place = same_from_place d v cell input g.inputs lv parts.input (e ∙ sym parts.is) in
             other (sym (ap (mark_of g) place.0) ∙ plain)
 
         by_mark : (m : Mark) → mark_of g cell ≡ m → IsStep g after head top p (offered_at m cell resolved_row (lessened pair p))

@@ -1,9 +1,12 @@
 -- How often numbers stand in lists.
-use Rattle.std.proofs.Common.{inl, inr, ◌≡◌, ◌≢◌, ℕ, zero, suc, ◌+◌, ◌<◌, ◌≤◌, ◌==◌, List, [], ◌∷◌, length, get_or, All, AllPairs, Contains, sum_by, arith, refl, sym, ◌∙◌, ap, eq-eqb}
-use Rattle.std.specs.List.{range_with_len, remove}
+use Rattle.std.proofs.Common.{eqb, true, inl, inr, ◌⊎◌, ◌≡◌, ◌≢◌, ℕ, zero, suc, ◌+◌, ◌<◌, ◌≤◌, ◌==◌, List, [], ◌∷◌, length, get_or, All, AllPairs, Contains, sum_by, arith, refl, sym, ◌∙◌, ap, eq-eqb}
+use Rattle.std.specs.List.{range_with_len, remove, AllByRecursion, list_any}
 use Rattle.std.specs.List.Sorted.{IsPermutation, IsStrictlyIncreasing}
-use Rattle.std.proofs.lemmas.Bool.{cases_lt, cases_eq, ne_eqb}
-use Rattle.std.proofs.lemmas.List.Elements.{All-head, All-tail}
+use Rattle.std.proofs.lemmas.Bool.{cases_lt, cases_eq, ne_eqb, or_cases, eqb-true}
+use Rattle.std.proofs.lemmas.Bool.Decides.{Decides-eqb}
+use Rattle.std.proofs.lemmas.Map.Made.{IsDistinct-from_AllPairs}
+use Rattle.std.proofs.lemmas.Map.Steps.{length-le_from_distinct_below}
+use Rattle.std.proofs.lemmas.List.Elements.{All-head, All-tail, recursion_from_All}
 use Rattle.std.proofs.lemmas.List.Kept.{AllPairs-from_increasing}
 use Rattle.std.proofs.lemmas.List.Sorted.{IsPermutation-refl, IsPermutation-sym, IsPermutation-cons, IsPermutation-trans, IsPermutation-remove, sum_by-IsPermutation}
 use Rattle.std.proofs.lemmas.List.Sums.{sum_by-cons}
@@ -84,20 +87,17 @@ same (x ∷ xs) ys h =
     IsPermutation-trans (x ∷ xs) (x ∷ remove ys stands.0) ys (IsPermutation-cons x xs (remove ys stands.0) rest) (IsPermutation-sym ys (x ∷ remove ys stands.0) moved)
 
 -- a range has each of its numbers once
-before_range : (i a n : ℕ) → i < a → times i (range_with_len a n) ≡ 0
-before_range i a zero lt = refl
-before_range i a (suc n) lt =
+out_of_range : (i a n : ℕ) → (i < a) ⊎ (a + n ≤ i) → times i (range_with_len a n) ≡ 0
+out_of_range i a zero out = refl
+out_of_range i a (suc n) (inl lt) =
     let c = times-cons i a (range_with_len (a + 1) n) in
     let b = elsewhere a i (omega arith) in
-    let rest = before_range i (a + 1) n (omega arith) in
+    let rest = out_of_range i (a + 1) n (inl (omega arith)) in
     omega arith
-
-past_range : (i a n : ℕ) → a + n ≤ i → times i (range_with_len a n) ≡ 0
-past_range i a zero le = refl
-past_range i a (suc n) le =
+out_of_range i a (suc n) (inr le) =
     let c = times-cons i a (range_with_len (a + 1) n) in
     let b = elsewhere a i (omega arith) in
-    let rest = past_range i (a + 1) n (omega arith) in
+    let rest = out_of_range i (a + 1) n (inr (omega arith)) in
     omega arith
 
 pub in_range : (i a n : ℕ) → a ≤ i → i < a + n → times i (range_with_len a n) ≡ 1
@@ -105,7 +105,7 @@ in_range i a zero le lt = absurd (omega arith)
 in_range i a (suc n) le lt =
     let c = times-cons i a (range_with_len (a + 1) n) in
     elim (cases_eq a i) [
-      | inl e ↦ let b = here a i e in let rest = before_range i (a + 1) n (omega arith) in omega arith
+      | inl e ↦ let b = here a i e in let rest = out_of_range i (a + 1) n (inl (omega arith)) in omega arith
       | inr ne ↦ let b = elsewhere a i ne in let rest = in_range i (a + 1) n (omega arith) (omega arith) in omega arith
     ]
 
@@ -114,7 +114,7 @@ each_once n xs within once = same (range_with_len 0 n) xs (λ i.
     elim (cases_lt i n) [
       | inl lt ↦ let a = in_range i 0 n (omega arith) (omega arith) in let b = once i lt in omega arith
       | inr ge ↦
-          let a = past_range i 0 n (omega arith) in
+          let a = out_of_range i 0 n (inr (omega arith)) in
           let b = times_none i xs (λ k d lk e. let lt = within k d lk in omega arith) in
           omega arith
     ])
@@ -163,3 +163,16 @@ edges_from_both_ends g c pair pairs a h lt =
   where
     AllPairs-from_increasing' : (xs : List ℕ) → IsStrictlyIncreasing xs → AllPairs (λ a b. a ≢ b) xs
     AllPairs-from_increasing' xs up = λ i j d l m e. let r = AllPairs-from_increasing xs up i j d l m in omega arith
+
+-- numbers below n that differ are n at most
+pub length_of_distinct_below : (n : ℕ) (xs : List ℕ) → AllPairs (λ a b. a ≢ b) xs → All (λ x. x < n) xs → length xs ≤ n
+length_of_distinct_below n xs apart within =
+    length-le_from_distinct_below xs n (IsDistinct-from_AllPairs Decides-eqb xs apart) (any_below n xs (recursion_from_All (λ s. s < n) xs within))
+  where
+    any_below : (n : ℕ) (cells : List ℕ) → AllByRecursion (λ s. s < n) cells → (q : ℕ) → list_any (eqb q) cells ≡ true → q < n
+    any_below n [] h q e = absurd (cc)
+    any_below n (s ∷ cells) h q e =
+        elim (or_cases (eqb q s) (list_any (eqb q) cells) e) [
+          | inl here ↦ (let same = eqb-true q s here in let lt = h.0 in omega (arith, same, lt))
+          | inr there ↦ any_below n cells h.1 q there
+        ]

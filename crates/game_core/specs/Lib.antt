@@ -3,6 +3,7 @@ pub mod Strategy
 pub mod Solution
 pub mod Right
 pub mod Keep
+pub mod Fallen
 pub mod Counts
 pub mod Tally
 pub mod inside

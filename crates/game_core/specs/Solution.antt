@@ -62,6 +62,10 @@ pub record LeadsToGoals (g : Game) (rows : List (Option Row)) : Type 0 where
   pub descends : (c k u : ℕ) → row_of rows c ≡ Some (record { rank = suc k; input = u }) → IsEnabled g c u × All (HasRowBelow rows (suc k)) (successors_of g c u)
   pub clear : (c : ℕ) → mark_of g c ≡ Obstacle → row_of rows c ≡ None
 
+-- a row stands at a cell
+abbrev pub RowsStandAtCells : Type 0
+RowsStandAtCells = (rows : List (Option Row)) (c : ℕ) (row : Row) → row_of rows c ≡ Some row → c < length rows
+
 -- the rank of a row in the solution of a game is less than the number of cells
 abbrev pub RanksAreBelowTheCells : Type 0
 RanksAreBelowTheCells =

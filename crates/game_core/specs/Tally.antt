@@ -1,9 +1,10 @@
--- What a search of the reach game counts, said of its solution alone.
-use Rattle.std.specs.Prelude.{◌≡◌, ℕ, suc, Bool, ◌&&◌, ◌==◌, nat_lt, List, map, length, Option, Some, None, is_some, sum_by, count_by}
+-- What solvers of the two games count, said of the solutions alone.
+use Rattle.std.specs.Prelude.{◌≡◌, ℕ, suc, ◌+◌, ◌/◌, ◌<◌, ◌≤◌, Bool, true, not, ◌&&◌, ◌==◌, nat_lt, List, map, length, Option, Some, None, is_some, sum_by, count_by}
 use Rattle.std.specs.List.{range_with_len}
 use Rattle.game_core.specs.declared.game.Row.{Row}
 use Rattle.game_core.specs.declared.tally.Tally.{Tally}
-use Rattle.game_core.specs.Game.{Game, pairs_of, successors_at}
+use Rattle.game_core.specs.Fallen.{is_obstacle, has_fallen}
+use Rattle.game_core.specs.Game.{Game, mark_of, pairs_of, successors_at}
 use Rattle.game_core.specs.Solution.{row_of, greatest, greatest_rank}
 
 abbrev pub all_pairs : Game → List ℕ
@@ -31,3 +32,22 @@ pub record IsReachTally (g : Game) (rows : List (Option Row)) (tally : Tally) : 
   pub cuts : tally.cuts ≡ sum_by (ranked_in g rows) (all_pairs g)
   pub offers : tally.offers ≡ count_by (is_resolved g rows) (all_pairs g)
   pub rounds : tally.rounds ≡ greatest (map rounds_to rows)
+
+-- how many successors of a pair have no row
+abbrev pub unkept_in : Game → List (Option Row) → ℕ → ℕ
+unkept_in g rows pair = count_by (λ s. not (is_some (row_of rows s))) (successors_at g pair)
+
+-- the cell of a pair is no obstacle, and a successor has no row
+abbrev pub is_lost : Game → List (Option Row) → ℕ → Bool
+is_lost g rows pair = not (is_obstacle (mark_of g (pair / g.inputs))) && nat_lt 0 (unkept_in g rows pair)
+
+-- each cell without a row fell in a round before n
+abbrev pub FellBefore : Game → List (Option Row) → ℕ → Type 0
+FellBefore g rows n = (c : ℕ) → c < g.cells → row_of rows c ≡ None → (d : ℕ) × (d < n) × (has_fallen g d c ≡ true)
+
+-- The tally of a keep solution: the edges into cells that aren't kept and the lost pairs, and the rounds in which a cell falls.
+pub record IsKeepTally (g : Game) (rows : List (Option Row)) (tally : Tally) : Type 0 where
+  pub cuts : tally.cuts ≡ sum_by (unkept_in g rows) (all_pairs g) + count_by (is_lost g rows) (all_pairs g)
+  pub offers : tally.offers ≡ 0
+  pub all_fell : FellBefore g rows tally.rounds
+  pub no_sooner : (n : ℕ) → FellBefore g rows n → tally.rounds ≤ n

@@ -1,11 +1,12 @@
 //! Laws about the definitions, for callers and tests.
 ghost use Rattle.std.specs.Prelude.{◌≡◌, List, Option};
 ghost use Rattle.game_core.specs.declared.game.Row.{Row};
+ghost use Rattle.game_core.specs.Fallen.{AreSettled, KeptOrFallsInTime};
 ghost use Rattle.game_core.specs.Game.{Game, IsGame};
 ghost use Rattle.game_core.specs.Counts.{CountsTell, EdgesFromBothEnds};
 ghost use Rattle.game_core.specs.Keep.{IsKeepSolution};
 ghost use Rattle.game_core.specs.Right.{AreRight};
-ghost use Rattle.game_core.specs.Solution.{IsReachSolution, LeadsToGoals, RanksAreBelowTheCells};
+ghost use Rattle.game_core.specs.Solution.{IsReachSolution, LeadsToGoals, RanksAreBelowTheCells, RowsStandAtCells};
 
 /// Who follows the rows of a solution comes to lower ranks alone, and at rank 0 to a goal.
 pub fn rows_lead_to_goals()
@@ -20,6 +21,21 @@ pub fn one_solution()
 /// A game has one keep solution.
 pub fn one_keep_solution()
     ensures { (g : Game) (first second : List (Option Row)) → IsKeepSolution g first → IsKeepSolution g second → first ≡ second }
+{}
+
+/// Settled rows are the keep solution.
+pub fn settled_rows_are_the_keep_solution()
+    ensures { (g : Game) (rows : List (Option Row)) → IsGame g → AreSettled g rows → IsKeepSolution g rows }
+{}
+
+/// A cell that isn't kept has no keep tree of some depth that is at most the number of cells.
+pub fn kept_or_falls_in_time()
+    ensures { KeptOrFallsInTime }
+{}
+
+/// A row stands at a cell.
+pub fn rows_stand_at_cells()
+    ensures { RowsStandAtCells }
 {}
 
 /// The rank of a row in a solution is less than the number of cells.

@@ -1,21 +1,25 @@
 //! Finite games of a controller against disturbances, and their plain solvers.
 //!
-//! The layer above gives a `Graph`, a game whose laws are its contract, and gets an `Answer`:
-//! for each cell that can be won the least depth of a winning strategy and the input to apply.
-//! `solve_plain` is the reach solution of any graph, and `laws` says what such a solution promises
-//! and that a game has one. Stands on std alone.
+//! The layer above gives a `Graph`, a game whose laws are its contract, and gets an `Answer`.
+//! `solve_plain` is the reach solution: for each cell that can be won the least depth of a winning
+//! strategy and the input to apply. `keep_plain` is the keep solution: the cells from which the
+//! controller can go on for ever, with an input. `laws` says what solutions promise, that a game has
+//! one of each, and that rows whose cells are right one by one are a solution. Stands on std alone.
 #![tactic(auto)]
 
 mod answer;
+mod falling;
 mod game;
 pub mod laws;
 mod plain;
+mod remark;
 mod search;
 mod tally;
 
 pub use answer::{Answer, NoMemory};
 pub use game::{Graph, Mark, Row};
-pub use plain::solve_plain;
+pub use plain::{keep_plain, solve_plain};
+pub use remark::Remark;
 pub use tally::Tally;
 
 #[cfg(test)]

@@ -1,5 +1,5 @@
 -- Games that are small enough to be solved by hand, with their solutions and tallies.
-use Rattle.std.specs.Prelude.{[], ◌∷◌, List, Option, Some}
+use Rattle.std.specs.Prelude.{[], ◌∷◌, List, Option, Some, None}
 use Rattle.game_core.specs.declared.game.Mark.TheVariants.{Goal, Plain}
 use Rattle.game_core.specs.declared.game.Row.{Row}
 use Rattle.game_core.specs.declared.tally.Tally.{Tally}
@@ -36,3 +36,18 @@ corridor_rows =
 
 abbrev pub corridor_tally : Tally
 corridor_tally = record { cuts = 10; offers = 5; rounds = 3 }
+
+-- the line with the second input alone
+abbrev pub one_way : Game
+one_way = record {
+  cells = 5;
+  inputs = 1;
+  marks = Plain ∷ Plain ∷ Plain ∷ Plain ∷ Plain ∷ [];
+  successors = (1 ∷ []) ∷ (2 ∷ []) ∷ (3 ∷ []) ∷ (4 ∷ []) ∷ [] ∷ [];
+}
+
+abbrev pub one_way_rows : List (Option Row)
+one_way_rows = None ∷ None ∷ None ∷ None ∷ None ∷ []
+
+abbrev pub one_way_tally : Tally
+one_way_tally = record { cuts = 8; offers = 0; rounds = 5 }
