@@ -1,0 +1,19 @@
+// The demo plants: what `demo` solves.
+
+ghost use Rattle.std.specs.Prelude.{◌≡◌, ◌++◌, OnOk};
+ghost use Rattle.std.specs.Fmt.{decimal};
+
+mod plant;
+
+use itoa::Buffer;
+pub use plant::demo_plant;
+use std::alloc::AllocError;
+
+/// A piece and a number.
+fn push_part(text: &mut Vec<u8>, piece: &[u8], number: u32) -> Result<(), AllocError>
+    ensures { OnOk result (text.new.items ≡ text.old.items ++ piece.now ++ decimal number) }
+{
+    let mut buffer = Buffer::new();
+    text.extend_from_slice(piece)?;
+    text.extend_from_slice(buffer.format(number).as_bytes())
+}
