@@ -5,3 +5,4 @@ pub mod Sizes
 pub mod Texts
 pub mod Overflows
 pub mod FewEdges
+pub mod GreatestRank

@@ -1,11 +1,13 @@
-// The demo plants: what `demo` solves.
+// The demo plants: what `demo` solves, and the line that it writes.
 
 ghost use Rattle.std.specs.Prelude.{◌≡◌, ◌++◌, OnOk};
 ghost use Rattle.std.specs.Fmt.{decimal};
 
+mod line;
 mod plant;
 
 use itoa::Buffer;
+pub use line::demo_line;
 pub use plant::demo_plant;
 use std::alloc::AllocError;
 

@@ -17,7 +17,7 @@ mod table;
 mod top;
 mod transfer;
 
-pub use demo::demo_plant;
+pub use demo::{demo_line, demo_plant};
 pub use devices::{Failed, Sink, Source};
 pub use gate::{Gate, Open};
 pub use memory::{MemorySink, MemorySource, NoMemory};
