@@ -1,6 +1,7 @@
 pub mod Completeness
 pub mod Demanded
 pub mod Driving
+pub mod demo_lemmas
 pub mod FittingRows
 pub mod Limits
 pub mod MemoryRuns

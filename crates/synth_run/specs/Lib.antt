@@ -9,4 +9,6 @@ pub mod Headline
 pub mod Statuses
 pub mod Runs
 pub mod Laws
+pub mod Demo
+pub mod DemoLaws
 pub mod inside

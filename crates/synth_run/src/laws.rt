@@ -11,6 +11,8 @@ ghost use Rattle.abstraction_table.specs.Abstraction.{IsGameOf};
 ghost use Rattle.synth_run.specs.Choice.{AreRowsOf, IsChoice};
 ghost use Rattle.synth_run.specs.Laws.{OneTablePerText, OneTableForBytes, OneDemandPerText};
 
+pub mod demo;
+
 use abstraction_table::laws::{one_edge_count, one_solution_per_plant};
 use game_core::laws::ranks_are_below_the_cells;
 use plant_text::laws::{

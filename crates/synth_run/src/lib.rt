@@ -5,6 +5,7 @@
 //! `plant_text`, `abstraction_table`, `game_core` and the crates below.
 #![tactic(auto)]
 
+mod demo;
 mod devices;
 mod form;
 mod gate;
@@ -16,6 +17,7 @@ mod table;
 mod top;
 mod transfer;
 
+pub use demo::{demo_line, demo_plant};
 pub use devices::{Failed, Sink, Source};
 pub use gate::{Gate, Open};
 pub use memory::{MemorySink, MemorySource, NoMemory};
