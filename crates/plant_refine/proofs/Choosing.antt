@@ -1,5 +1,5 @@
 -- What the rows of a table choose at a state, one input at most.
-use Rattle.std.proofs.Common.{◌≡◌, ℕ, ◌<◌, List, Option, Some, None, refl, sym, subst, ap, ◌∙◌, arith}
+use Rattle.std.proofs.Common.{◌≡◌, ℕ, ◌<◌, List, Option, Some, None, refl, sym, subst, ap, ◌∙◌}
 use Rattle.std.specs.Prelude.{ℤ}
 use Rattle.game_core.specs.declared.game.Row.{Row}
 use Rattle.game_core.specs.Solution.{row_of, RowsStandAtCells}

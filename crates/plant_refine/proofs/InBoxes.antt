@@ -1,5 +1,5 @@
 -- A state lies in a box where it does in each state, and in some box of a list.
-use Rattle.std.proofs.Common.{◌≡◌, ℕ, zero, suc, ◌<◌, ◌≤◌, List, [], ◌∷◌, length, get_or, Option, Some, None, pos, ◌≤ℤ◌, refl, arith}
+use Rattle.std.proofs.Common.{◌≡◌, ℕ, zero, suc, ◌<◌, ◌≤◌, List, [], ◌∷◌, length, get_or, Some, None, pos, ◌≤ℤ◌, refl, arith}
 use Rattle.std.specs.Prelude.{ℤ, slice_get}
 use Rattle.grid_quantiser.specs.declared.axis.Axis.{Axis}
 use Rattle.grid_quantiser.specs.Boxes.{IsAtMost}

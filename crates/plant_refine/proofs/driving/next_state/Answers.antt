@@ -1,4 +1,4 @@
-use Rattle.std.proofs.Common.{◌≡◌, subst}
+use Rattle.std.proofs.Common.{subst}
 use Rattle.grid_quantiser.specs.Cells.{cell_of}
 use Rattle.plant_text.specs.plant.Description.{axes_of}
 use Rattle.successor_box.specs.Boxes.{IsEnabledAt}

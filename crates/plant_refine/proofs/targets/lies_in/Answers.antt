@@ -1,4 +1,4 @@
-use Rattle.std.proofs.Common.{◌≡◌, ℕ, ◌<◌, ◌≤◌, length, get_or, pos, ◌<ℤ◌, subst, sym, arith, rules}
+use Rattle.std.proofs.Common.{◌<◌, ◌≤◌, length, get_or, pos, ◌<ℤ◌, arith, rules}
 use Rattle.std.proofs.lemmas.Int.{ints}
 use Rattle.plant_refine.proofs.InBoxes.{at_most_all, at_most_each}
 use Rattle.plant_refine.proofs.targets.lies_in.Goals as goal
