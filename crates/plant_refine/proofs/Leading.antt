@@ -26,7 +26,7 @@ pub record Guides (p : Description) (g : Game) (rows : List (Option Row)) : Type
   pub stand : RowsStandAtCells
 
 module _ {p : Description} {g : Game} {rows : List (Option Row)} (h : Guides p g rows) where
-  cell_below : (c : ℕ) (row : Row) → row_of rows c ≡ Some row → c < g.cells
+  pub cell_below : (c : ℕ) (row : Row) → row_of rows c ≡ Some row → c < g.cells
   cell_below c row is = omega (arith, h.stand rows c row is, h.one_each)
 
   pub clear_at : (x : List ℤ) (row : Row) → HasRowAt p rows x row → IsClear p x

@@ -1,7 +1,12 @@
 pub mod Boxes
 pub mod Landing
 pub mod Leading
+pub mod Down
+pub mod InBoxes
+pub mod Points
+pub mod Choosing
+pub mod Arriving
 pub mod Refining
-pub mod Driving
-pub mod Keeping
+pub mod RightTables
+pub mod KeptTables
 pub mod Noises

@@ -1,4 +1,7 @@
 pub mod Refinement
 pub mod Drives
 pub mod Stays
+pub mod RightRows
+pub mod Runs
 pub mod Laws
+pub mod inside

@@ -1,4 +1,4 @@
-use Rattle.plant_refine.proofs.Keeping.{Keeps, table_keeps}
+use Rattle.plant_refine.proofs.KeptTables.{Keeps, table_keeps}
 use Rattle.plant_refine.proofs.laws.kept_tables_keep_plants.Goals as goal
 
 pub returns : goal.returns

@@ -1,5 +1,5 @@
 use Rattle.plant_refine.proofs.Leading.{Guides}
-use Rattle.plant_refine.proofs.Driving.{table_drives}
+use Rattle.plant_refine.proofs.RightTables.{table_drives}
 use Rattle.plant_refine.proofs.laws.right_tables_drive_plants.Goals as goal
 
 pub returns : goal.returns

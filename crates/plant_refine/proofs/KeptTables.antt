@@ -26,7 +26,7 @@ use Rattle.plant_refine.specs.Drives.{IsClear}
 use Rattle.plant_refine.specs.Refinement.{IsRefinement}
 use Rattle.plant_refine.specs.Stays.{HasSomeRow, Remains, Stays}
 use Rattle.plant_refine.proofs.Boxes.{any_other}
-use Rattle.plant_refine.proofs.Driving.{row_of_table}
+use Rattle.plant_refine.proofs.RightTables.{row_of_table}
 
 -- where a tree of depth 0 stands is no obstacle
 no_obstacle : (g : Game) (c : ℕ) (t : Tree) → StandsOn g t 0 c → mark_of g c ≢ Obstacle

@@ -1,0 +1,64 @@
+-- What the rows of a table choose at a state, one input at most.
+use Rattle.std.proofs.Common.{◌≡◌, ℕ, ◌<◌, List, Option, Some, None, refl, sym, subst, ap, ◌∙◌}
+use Rattle.std.specs.Prelude.{ℤ}
+use Rattle.game_core.specs.declared.game.Row.{Row}
+use Rattle.game_core.specs.Solution.{row_of, RowsStandAtCells}
+use Rattle.grid_quantiser.specs.Axes.{cells_of}
+use Rattle.grid_quantiser.specs.Cells.{cell_of, point_of}
+use Rattle.plant_text.specs.declared.plant.aims.GoalKind.{GoalKind}
+use Rattle.plant_text.specs.declared.plant.aims.GoalKind.TheVariants.{Reach, Keep}
+use Rattle.plant_text.specs.plant.Description.{Description, axes_of}
+use Rattle.plant_text.specs.plant.Steps.{step_of, IsNoise}
+use Rattle.controller_table.specs.Choice.{Applies, Chooses, HasRowAt}
+use Rattle.controller_table.specs.Tables.{HasFittingRank, IsRowOf, RowsFit}
+use Rattle.std.specs.Prelude.{IfSome}
+use Rattle.plant_refine.specs.inside.Descents.{HasLowerRow, LeadDown}
+
+pub one_row : (p : Description) (rows : List (Option Row)) (x : List ℤ) (row other : Row) → HasRowAt p rows x row → HasRowAt p rows x other → row ≡ other
+one_row p rows x row other h k =
+    let is : row_of rows (cell_of (axes_of p) x) ≡ Some row = h.is in
+    let also : row_of rows (cell_of (axes_of p) x) ≡ Some other = k.is in cc
+
+one_input : (goal : GoalKind) (row : Row) (u v : ℕ) → Applies goal row u → Applies goal row v → u ≡ v
+one_input Reach row u v h k = sym h.1 ∙ k.1
+one_input Keep row u v h k = sym h ∙ k
+
+pub one_choice_at : (p : Description) (rows : List (Option Row)) (x : List ℤ) (u v : ℕ) → Chooses p rows x u → Chooses p rows x v → u ≡ v
+one_choice_at p rows x u v h k =
+    let same : k.0 ≡ h.0 = one_row p rows x k.0 h.0 k.1 h.1 in
+    one_input p.goal h.0 u v h.2 (subst (λ (row : Row). Applies p.goal row v) same k.2)
+
+-- a row above rank 0 chooses its input, where the plant is to reach its targets
+pub chooses_input : (p q : Description) (rows : List (Option Row)) (x : List ℤ) (row : Row) → q ≡ p → p.goal ≡ Reach → HasRowAt p rows x row → 0 < row.rank → Chooses q rows x row.input
+chooses_input p q rows x row same goal has some =
+    subst (λ (r : Description). Chooses r rows x row.input) (sym same) (row, has, subst (λ (g : GoalKind). Applies g row row.input) (sym goal) (some, refl))
+
+-- Where an input is chosen, it is that of a row above rank 0.
+pub record IsInputOf (p : Description) (rows : List (Option Row)) (x : List ℤ) (u : ℕ) : Type 0 where
+  pub row : Row
+  pub has : HasRowAt p rows x row
+  pub some : 0 < row.rank
+  pub is : row.input ≡ u
+
+pub input_of : (p q : Description) (rows : List (Option Row)) (x : List ℤ) (u : ℕ) → q ≡ p → p.goal ≡ Reach → Chooses q rows x u → IsInputOf p rows x u
+input_of p q rows x u same goal chosen =
+    let h : Chooses p rows x u = subst (λ (r : Description). Chooses r rows x u) same chosen in
+    let applies : Applies Reach h.0 u = subst (λ (g : GoalKind). Applies g h.0 u) goal h.2 in
+    record { row = h.0; has = h.1; some = applies.0; is = applies.1 }
+
+-- the chosen input leads to a lower row
+pub leads_lower : (p : Description) (rows : List (Option Row)) (x w y : List ℤ) (u : ℕ) (row : Row) → LeadDown p rows → IsInputOf p rows x u → IsNoise p.noises w → y ≡ point_of (step_of p x u w) → HasRowAt p rows x row → HasLowerRow p rows row.rank y
+leads_lower p rows x w y u row down input noise is has =
+    let same : input.row ≡ row = one_row p rows x input.row row input.has has in
+    let lower : HasLowerRow p rows input.row.rank (point_of (step_of p x input.row.input w)) = down.lower x w input.row input.has input.some noise in
+    let there : point_of (step_of p x input.row.input w) ≡ y = ap (λ (v : ℕ). point_of (step_of p x v w)) input.is ∙ sym is in
+    subst (λ (r : Row). HasLowerRow p rows r.rank y) same (subst (HasLowerRow p rows input.row.rank) there lower)
+
+-- the rank of a row of a reach table is below the number of cells
+pub rank_below : (p q : Description) (rows : List (Option Row)) (x : List ℤ) (row : Row) → q ≡ p → p.goal ≡ Reach → RowsStandAtCells → RowsFit q rows → HasRowAt p rows x row → row.rank < cells_of (axes_of p)
+rank_below p q rows x row same goal stand fit has =
+    let c : ℕ = cell_of (axes_of p) x in
+    let fits : RowsFit p rows = subst (λ (r : Description). RowsFit r rows) same fit in
+    let is : IsRowOf p row = subst (λ (o : Option Row). IfSome o (IsRowOf p)) has.is (fits.each c None (stand rows c row has.is)) in
+    let rank : HasFittingRank Reach (cells_of (axes_of p)) row = subst (λ (g : GoalKind). HasFittingRank g (cells_of (axes_of p)) row) goal is.rank in
+    rank.0

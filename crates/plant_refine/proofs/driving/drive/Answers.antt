@@ -1,0 +1,61 @@
+use Rattle.std.proofs.Common.{◌≡◌, ℕ, ◌<◌, length, false, true, subst, add-one, arith}
+use Rattle.grid_quantiser.specs.Axes.{cells_of}
+use Rattle.plant_text.specs.plant.Description.{axes_of}
+use Rattle.plant_refine.specs.Runs.{ArrivesFirst}
+use Rattle.plant_refine.proofs.Choosing.{rank_below}
+use Rattle.plant_refine.proofs.InBoxes.{gets}
+use Rattle.plant_refine.proofs.Arriving.{begins, goes_on, comes_in, some_rank}
+use Rattle.plant_refine.proofs.driving.drive.Goals as goal
+
+pub loop-sample-init : goal.loop-sample-init
+loop-sample-init c =
+    let down = c.right_rows_lead_down.ensures c.args.p.now c.args.t.now.rows c.every_plant_is_within_limits.ensures.plant c.requires.right in
+    begins down c.args.x.now c.args.noises.now c.points_lie_with_their_states.ensures c.requires.start.0 c.requires.start.1 c.start_of-at.result c.start_of-at.ensures
+
+pub overflow_cast-result : goal.overflow_cast-result
+overflow_cast-result c =
+    let start = c.requires.start in
+    let falls = c.loop-sample.invariant.falls start.0 start.1 in
+    let below : start.0.rank < cells_of (axes_of c.args.p.now) = rank_below c.args.p.now c.args.t.now.plant c.args.t.now.rows c.args.x.now start.0 c.requires.plant c.requires.goal c.rows_stand_at_cells.ensures c.every_table_fits.ensures.rows start.1 in
+    omega (arith, falls, below, c.every_plant_is_within_limits.ensures.cells)
+
+pub returns-then-lies_in_target-clause-arrives : goal.returns-then-lies_in_target-clause-arrives
+returns-then-lies_in_target-clause-arrives c =
+    let down = c.right_rows_lead_down.ensures c.args.p.now c.args.t.now.rows c.every_plant_is_within_limits.ensures.plant c.requires.right in
+    comes_in down c.args.x.now c.args.noises.now c.loop-sample.sample c.loop-sample.at c.loop-sample.invariant (c.if-lies_in_target.ensures.0 (let same : true ≡ true = cc in same))
+
+pub returns-then-lies_in_target-clause-bound : goal.returns-then-lies_in_target-clause-bound
+returns-then-lies_in_target-clause-bound c = λ row has. omega (arith, c.loop-sample.invariant.falls row has)
+
+pub next_state-at-requires-clause-row : goal.next_state-at-requires-clause-row
+next_state-at-requires-clause-row c =
+    let down = c.right_rows_lead_down.ensures c.args.p.now c.args.t.now.rows c.every_plant_is_within_limits.ensures.plant c.requires.right in
+    let h = c.loop-sample.invariant in
+    (h.row, h.has, some_rank down c.args.x.now c.args.noises.now c.loop-sample.at h.row h.has (λ met. let false-true : false ≡ true = c.if-lies_in_target.ensures.1 met in cc))
+
+pub loop-sample-preserved : goal.loop-sample-preserved
+loop-sample-preserved c =
+    let down = c.right_rows_lead_down.ensures c.args.p.now c.args.t.now.rows c.every_plant_is_within_limits.ensures.plant c.requires.right in
+    let lt : c.loop-sample.sample < length c.args.noises.now = omega arith in
+    rw add-one (goes_on down c.args.x.now c.args.noises.now c.loop-sample.sample c.loop-sample.at _ c.next_state-at.result c.loop-sample.invariant (gets c.args.noises.now c.loop-sample.sample _ lt) c.next_state-at.ensures.moves c.next_state-at.ensures.lower (λ met. let false-true : false ≡ true = c.if-lies_in_target.ensures.1 met in cc))
+
+pub overflow_cast-result-2 : goal.overflow_cast-result-2
+overflow_cast-result-2 c =
+    let start = c.requires.start in
+    let falls = c.loop-sample.invariant.falls start.0 start.1 in
+    let below : start.0.rank < cells_of (axes_of c.args.p.now) = rank_below c.args.p.now c.args.t.now.plant c.args.t.now.rows c.args.x.now start.0 c.requires.plant c.requires.goal c.rows_stand_at_cells.ensures c.every_table_fits.ensures.rows start.1 in
+    omega (arith, falls, below, c.every_plant_is_within_limits.ensures.cells)
+
+pub returns-clause-arrives : goal.returns-clause-arrives
+returns-clause-arrives c =
+    let down = c.right_rows_lead_down.ensures c.args.p.now c.args.t.now.rows c.every_plant_is_within_limits.ensures.plant c.requires.right in
+    let start = c.requires.start in
+    let h = c.loop-sample.invariant in
+    let falls = h.falls start.0 start.1 in
+    let end : c.loop-sample.sample ≡ length c.args.noises.now = omega arith in
+    let none : h.row.rank ≡ 0 = omega (arith, falls, end, start.2) in
+    subst (λ (n : ℕ). ArrivesFirst c.args.p.now c.args.t.now.rows c.args.x.now c.args.noises.now n c.loop-sample.at) end
+    (comes_in down c.args.x.now c.args.noises.now c.loop-sample.sample c.loop-sample.at h (down.arrived c.loop-sample.at h.row h.has none))
+
+pub returns-clause-bound : goal.returns-clause-bound
+returns-clause-bound c = λ row has. omega (arith, c.loop-sample.invariant.falls row has)

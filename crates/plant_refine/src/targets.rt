@@ -1,0 +1,35 @@
+// Whether a state lies in a target.
+
+ghost use Rattle.std.specs.Prelude.{◌↔◌, IsTrue};
+ghost use Rattle.grid_quantiser.specs.Boxes.{IsInBox};
+ghost use Rattle.plant_refine.specs.Drives.{LiesInSome};
+
+use grid_quantiser::laws::every_grid_is_within_the_limit;
+use grid_quantiser::{Grid, Point};
+use plant_text::Plant;
+
+/// Whether a state lies in a target box.
+pub(crate) fn lies_in_target(p: &Plant, x: &Point) -> bool
+    ensures { IsTrue result ↔ LiesInSome p.now p.now.targets x.now }
+{
+    for k in 0..p.targets() {
+        let (low, high) = p.target(k);
+        if lies_in(p.grid(), &low, &high, x) {
+            return true;
+        }
+    }
+    false
+}
+
+/// Whether a state lies in the box from `low` to `high`.
+fn lies_in(grid: &Grid, low: &Point, high: &Point, x: &Point) -> bool
+    ensures { IsTrue result ↔ IsInBox grid.now low.now high.now x.now }
+{
+    every_grid_is_within_the_limit(grid);
+    for i in 0..grid.states() as usize {
+        if x[i] < low[i] || high[i] < x[i] {
+            return false;
+        }
+    }
+    true
+}
