@@ -1,5 +1,5 @@
 -- What the engineer paid for: the table, read back from its bytes, brings the plant into the target.
--- No solver, graph or grid code occurs here.
+-- No solver and no game occurs here.
 use Rattle.std.specs.Prelude.{◌≡◌, ℕ, ◌⊎◌, ℤ, List, [], ◌∷◌, length}
 use Rattle.std.specs.List.{Any, All}
 use Rattle.grid_quantiser.specs.Cells.{IsInDomain}

@@ -1,5 +1,5 @@
 -- The table, read back from its bytes, keeps the plant off its obstacles for ever.
--- No solver, graph or grid code occurs here.
+-- No solver and no game occurs here.
 use Rattle.std.specs.Prelude.{ℕ, ℤ, List, [], ◌∷◌}
 use Rattle.std.specs.List.{All}
 use Rattle.plant_text.specs.plant.Description.{Description}
