@@ -7,8 +7,9 @@ ghost use Rattle.loop_sim.specs.inside.Stages.{IsSample, IsStage, lines_left, li
 
 use crate::line::SimLine;
 use crate::noise::draw;
+use controller_table::Table;
 use controller_table::laws::every_table_fits;
-use controller_table::{Row, Table};
+use game_core::Row;
 use grid_quantiser::Point;
 use plant_text::laws::plants_are_sound;
 use plant_text::{GoalKind, step};

@@ -1,4 +1,4 @@
-use controller_table::Row;
+use game_core::Row;
 use grid_quantiser::Point;
 
 /// A line of a trace. Times count samples from 0.
