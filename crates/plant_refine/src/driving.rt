@@ -108,3 +108,6 @@ fn right_rows_lead_down()
     enabled_pairs_have_successors();
     points_lie_with_their_states();
 }
+
+#[cfg(test)]
+mod tests;
