@@ -1,2 +1,3 @@
 -- What only tests and proofs name.
 pub mod Below
+pub mod Line
