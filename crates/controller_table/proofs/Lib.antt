@@ -1,0 +1,15 @@
+pub mod Digits
+pub mod Entries
+pub mod Text
+pub mod Pieces
+pub mod Lines
+pub mod Cuts
+pub mod EntryLines
+pub mod InFront
+pub mod Fitting
+pub mod MoreEntries
+pub mod Standing
+pub mod RefusedRows
+pub mod RefusedPlant
+pub mod ReadTable
+pub mod SolutionsFit

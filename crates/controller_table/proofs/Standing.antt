@@ -1,0 +1,132 @@
+-- Which lines may come next behind a plant's text.
+use Rattle.std.proofs.Common.{inl, inr, ◌≡◌, ◌⊎◌, ℕ, ◌^◌, ◌<◌, ◌≤◌, List, [], ◌∷◌, ◌++◌, length, length-append, map, refl, sym, ap, subst, ◌∙◌, arith}
+use Rattle.std.specs.List.{AllByRecursion}
+use Rattle.std.proofs.lemmas.List.{length-map}
+use Rattle.std.proofs.lemmas.List.Elements.{recursion_from_All}
+use Rattle.grid_quantiser.specs.Axes.{cells_of}
+use Rattle.plant_text.specs.plant.Description.{Description, axes_of}
+use Rattle.plant_text.specs.plant.Limits.{IsWithinLimits}
+use Rattle.controller_table.specs.declared.entry.Entry.{Entry}
+use Rattle.controller_table.specs.TableText.{Version, First, entry_line, count_line, end_line}
+use Rattle.controller_table.specs.RowLines.{IsEntryOf, AreEntriesOf, AreRowLines, AreBegun, AreWhole, MayStand}
+use Rattle.controller_table.proofs.EntryLines.{count_same, entry_same}
+use Rattle.controller_table.proofs.Fitting.{spelled_entry}
+
+-- ---- the parts of lines
+
+same_head : (x y : List ℕ) (xs ys : List (List ℕ)) → x ∷ xs ≡ y ∷ ys → x ≡ y
+same_head x y xs ys e = cc
+
+same_tail : (x y : List ℕ) (xs ys : List (List ℕ)) → x ∷ xs ≡ y ∷ ys → xs ≡ ys
+same_tail x y xs ys e = cc
+
+-- The row lines behind that on their number.
+pub record RowsBegun (v : Version) (p : Description) (n : ℕ) (lines : List (List ℕ)) : Type 0 where
+  pub row_lines : AreRowLines v p lines
+  pub so_far : length lines ≤ n
+
+-- All row lines behind that on their number, and the end.
+pub record RowsWhole (v : Version) (p : Description) (n : ℕ) (lines : List (List ℕ)) : Type 0 where
+  pub rows : List (List ℕ)
+  pub row_lines : AreRowLines v p rows
+  pub counted : length rows ≡ n
+  pub are : lines ≡ rows ++ end_line ∷ []
+
+module _ (p : Description) (within : IsWithinLimits p) where
+  few : (n : ℕ) → n ≤ cells_of (axes_of p) → n < 2 ^ 64
+  few n le = let cells = within.cells in omega arith
+
+  pub begun_rows : (v : Version) (n : ℕ) (lines : List (List ℕ)) → n ≤ cells_of (axes_of p) → AreBegun v p (count_line n ∷ lines) → RowsBegun v p n lines
+  begun_rows v n lines le b =
+      let count : n ≡ b.count = count_same n b.count (few n le) (few b.count b.count_bound) (same_head (count_line n) (count_line b.count) lines b.rows b.are) in
+      let same : b.rows ≡ lines = sym (same_tail (count_line n) (count_line b.count) lines b.rows b.are) in
+      record { row_lines = subst (AreRowLines v p) same b.row_lines; so_far = omega (arith, b.so_far, count, ap length same) }
+
+  pub whole_rows : (v : Version) (n : ℕ) (lines : List (List ℕ)) → n ≤ cells_of (axes_of p) → AreWhole v p (count_line n ∷ lines) → RowsWhole v p n lines
+  whole_rows v n lines le w =
+      let count : n ≡ length w.rows = count_same n (length w.rows) (few n le) (few (length w.rows) w.count_bound) (same_head (count_line n) (count_line (length w.rows)) lines (w.rows ++ end_line ∷ []) w.are) in
+      record { rows = w.rows; row_lines = w.row_lines; counted = sym count; are = same_tail (count_line n) (count_line (length w.rows)) lines (w.rows ++ end_line ∷ []) w.are }
+
+  -- what may stand behind the number of rows
+  pub stands : (v : Version) (n : ℕ) (lines : List (List ℕ)) → n ≤ cells_of (axes_of p) → MayStand v p (count_line n ∷ lines) → RowsBegun v p n lines ⊎ RowsWhole v p n lines
+  stands v n lines le may = elim may [
+    | inl none ↦ absurd (let h = none in cc)
+    | inr more ↦ elim more [
+      | inl begun ↦ inl (begun_rows v n lines le begun)
+      | inr whole ↦ inr (whole_rows v n lines le whole)
+    ]
+  ]
+
+  -- the first line is that on the number of rows
+  pub first_stands : (v : Version) (line : List ℕ) → MayStand v p (line ∷ []) → (n : ℕ) × (n ≤ cells_of (axes_of p)) × (line ≡ count_line n)
+  first_stands v line may = elim may [
+    | inl none ↦ absurd (let h = none in cc)
+    | inr more ↦ elim more [
+      | inl begun ↦ (begun.count, begun.count_bound, same_head line (count_line begun.count) [] begun.rows begun.are)
+      | inr whole ↦ (length whole.rows, whole.count_bound, same_head line (count_line (length whole.rows)) [] (whole.rows ++ end_line ∷ []) whole.are)
+    ]
+  ]
+
+  -- ---- one line more
+
+  -- An entry more, and its line.
+  pub record IsEntryMore (es : List Entry) (line : List ℕ) (all : List Entry) : Type 0 where
+    pub entry : Entry
+    pub entries : all ≡ es ++ entry ∷ []
+    pub line_is : line ≡ entry_line p.goal entry
+
+  one_more : (es all : List Entry) (line : List ℕ) → AllByRecursion (IsEntryOf p) es → AllByRecursion (IsEntryOf p) all → map (entry_line p.goal) es ++ line ∷ [] ≡ map (entry_line p.goal) all → IsEntryMore es line all
+  one_more [] [] line h k e = absurd cc
+  one_more [] (e ∷ []) line h k same = record { entry = e; entries = refl; line_is = same_head line (entry_line p.goal e) [] [] same }
+  one_more [] (e ∷ f ∷ all) line h k same = absurd (let s = same_tail line (entry_line p.goal e) [] (entry_line p.goal f ∷ map (entry_line p.goal) all) same in cc)
+  one_more (d ∷ es) [] line h k same = absurd cc
+  one_more (d ∷ es) (e ∷ all) line h k same =
+      let head = same_head (entry_line p.goal d) (entry_line p.goal e) (map (entry_line p.goal) es ++ line ∷ []) (map (entry_line p.goal) all) same in
+      let first : d ≡ e = entry_same p.goal d e (spelled_entry p d within h.0) (spelled_entry p e within k.0) head in
+      let more = one_more es all line h.1 k.1 (same_tail (entry_line p.goal d) (entry_line p.goal e) (map (entry_line p.goal) es ++ line ∷ []) (map (entry_line p.goal) all) same) in
+      record { entry = more.entry; entries = ap (λ (x : Entry). x ∷ all) (sym first) ∙ ap (λ (x : List Entry). d ∷ x) more.entries; line_is = more.line_is }
+
+  -- what may come behind some rows, too few, is the line of a further row
+  pub row_next : (n : ℕ) (es : List Entry) (line : List ℕ) → n ≤ cells_of (axes_of p) → AreEntriesOf p es → length es < n → MayStand First p (count_line n ∷ (map (entry_line p.goal) es ++ line ∷ [])) → (e : Entry) × AreEntriesOf p (es ++ e ∷ []) × (line ≡ entry_line p.goal e)
+  row_next n es line le are lt may = elim (stands First n (map (entry_line p.goal) es ++ line ∷ []) le may) [
+    | inl begun ↦
+        let all = begun.row_lines.0 in
+        let more = one_more es all line (recursion_from_All (IsEntryOf p) es are.each) (recursion_from_All (IsEntryOf p) all begun.row_lines.1.each) begun.row_lines.2 in
+        (more.entry, subst (AreEntriesOf p) more.entries begun.row_lines.1, more.line_is)
+    | inr whole ↦ absurd (
+        let first = length-append (map (entry_line p.goal) es) (line ∷ []) in
+        let second = length-append whole.rows (end_line ∷ []) in
+        omega (arith, first, second, length-map es (entry_line p.goal), ap length whole.are, whole.counted, lt))
+  ]
+
+  -- what may come behind all rows is the end
+  pub end_next : (v : Version) (n : ℕ) (rows : List (List ℕ)) (line : List ℕ) → n ≤ cells_of (axes_of p) → length rows ≡ n → MayStand v p (count_line n ∷ (rows ++ line ∷ [])) → line ≡ end_line
+  end_next v n rows line le counted may = elim (stands v n (rows ++ line ∷ []) le may) [
+    | inl begun ↦ absurd (let first = length-append rows (line ∷ []) in omega (arith, first, counted, begun.so_far))
+    | inr whole ↦ same_last rows whole.rows line end_line whole.are
+  ]
+    where
+      same_last : (xs ys : List (List ℕ)) (x y : List ℕ) → xs ++ x ∷ [] ≡ ys ++ y ∷ [] → x ≡ y
+      same_last [] [] x y e = cc
+      same_last [] (z ∷ []) x y e = absurd (let h = e in cc)
+      same_last [] (z ∷ w ∷ ys) x y e = absurd (let h = e in cc)
+      same_last (z ∷ []) [] x y e = absurd (let h = e in cc)
+      same_last (z ∷ w ∷ xs) [] x y e = absurd (let h = e in cc)
+      same_last (z ∷ xs) (w ∷ ys) x y e = same_last xs ys x y (same_tail z w (xs ++ x ∷ []) (ys ++ y ∷ []) e)
+
+  -- nothing comes behind the end
+  pub nothing_next : (v : Version) (n : ℕ) (rows : List (List ℕ)) (line : List ℕ) (more : List (List ℕ)) → n ≤ cells_of (axes_of p) → length rows ≡ n → MayStand v p (count_line n ∷ ((rows ++ end_line ∷ []) ++ line ∷ more)) → ⊥
+  nothing_next v n rows line more le counted may =
+      let first = length-append (rows ++ end_line ∷ []) (line ∷ more) in
+      let front = length-append rows (end_line ∷ []) in
+      elim (stands v n ((rows ++ end_line ∷ []) ++ line ∷ more) le may) [
+        | inl begun ↦ omega (arith, first, front, counted, begun.so_far)
+        | inr whole ↦ (let last = length-append whole.rows (end_line ∷ []) in omega (arith, first, front, counted, whole.counted, last, ap length whole.are))
+      ]
+
+  -- lines without the end aren't whole
+  pub not_whole : (v : Version) (n : ℕ) (rows : List (List ℕ)) → n ≤ cells_of (axes_of p) → length rows ≤ n → AreWhole v p (count_line n ∷ rows) → ⊥
+  not_whole v n rows le short w =
+      let whole = whole_rows v n rows le w in
+      let last = length-append whole.rows (end_line ∷ []) in
+      omega (arith, short, whole.counted, last, ap length whole.are)

@@ -1,0 +1,40 @@
+-- What a table says to do at a state: the static quantiser with one input for each cell (Reissig, Weber and
+-- Rungger, 2017, section VI).
+use Rattle.std.specs.Prelude.{◌≡◌, ℕ, ◌<◌, ℤ, List, Option, Some}
+use Rattle.game_core.specs.declared.game.Row.{Row}
+use Rattle.game_core.specs.Solution.{row_of}
+use Rattle.grid_quantiser.specs.Cells.{IsInDomain, cell_of}
+use Rattle.plant_text.specs.declared.plant.aims.GoalKind.{GoalKind}
+use Rattle.plant_text.specs.declared.plant.aims.GoalKind.TheVariants.{Reach, Keep}
+use Rattle.plant_text.specs.plant.Description.{Description, axes_of}
+use Rattle.controller_table.specs.Tables.{IsTable}
+
+-- The state lies in a cell with this row.
+pub record HasRowAt (p : Description) (rows : List (Option Row)) (x : List ℤ) (row : Row) : Type 0 where
+  pub inside : IsInDomain (axes_of p) x
+  pub is : row_of rows (cell_of (axes_of p) x) ≡ Some row
+
+-- a row applies an input: at rank 0 a plant has reached its targets, and nothing is applied
+abbrev pub Applies : GoalKind → Row → ℕ → Type 0
+Applies Reach row u = (0 < row.rank) × (row.input ≡ u)
+Applies Keep row u = row.input ≡ u
+
+-- the state lies in a cell whose row applies the input
+abbrev pub Chooses : Description → List (Option Row) → List ℤ → ℕ → Type 0
+Chooses p rows x u = (row : Row) × HasRowAt p rows x row × Applies p.goal row u
+
+-- The bytes are a table that chooses the input at the state.
+pub record IsChoice (bytes : List ℕ) (x : List ℤ) (u : ℕ) : Type 0 where
+  pub plant : Description
+  pub rows : List (Option Row)
+  pub table : IsTable bytes plant rows
+  pub chosen : Chooses plant rows x u
+
+-- The bytes are a table in which the state lies in a cell with a row of this rank.
+pub record HasRank (bytes : List ℕ) (x : List ℤ) (rank : ℕ) : Type 0 where
+  pub plant : Description
+  pub rows : List (Option Row)
+  pub table : IsTable bytes plant rows
+  pub row : Row
+  pub has : HasRowAt plant rows x row
+  pub ranked : row.rank ≡ rank

@@ -1,0 +1,49 @@
+-- What holds of every table and of its text.
+use Rattle.std.specs.Prelude.{◌≡◌, ℕ, ℤ, List, Option}
+use Rattle.game_core.specs.declared.game.Row.{Row}
+use Rattle.game_core.specs.Game.{Game, IsGraph}
+use Rattle.game_core.specs.Keep.{IsKeepSolution}
+use Rattle.game_core.specs.Solution.{IsReachSolution}
+use Rattle.grid_quantiser.specs.Axes.{cells_of}
+use Rattle.plant_text.specs.declared.plant.aims.GoalKind.TheVariants.{Reach, Keep}
+use Rattle.plant_text.specs.plant.Description.{Description, axes_of, vectors_of}
+use Rattle.controller_table.specs.declared.fault.TableFault.{TableFault}
+use Rattle.controller_table.specs.Tables.{RowsFit, IsTable}
+use Rattle.controller_table.specs.Choice.{IsChoice, HasRank}
+use Rattle.controller_table.specs.Refusals.{IsShortTable, IsTableRefusedFor}
+
+-- no bytes are the table of two plants, or of one plant with other rows
+abbrev pub OneTablePerText : Type 0
+OneTablePerText =
+    (bytes : List ℕ) (p q : Description) (rows others : List (Option Row)) → IsTable bytes p rows → IsTable bytes q others → (p ≡ q) × (rows ≡ others)
+
+-- a table chooses one input at a state, and its row there has one rank
+abbrev pub OneChoice : Type 0
+OneChoice = (bytes : List ℕ) (x : List ℤ) (u v : ℕ) → IsChoice bytes x u → IsChoice bytes x v → u ≡ v
+
+abbrev pub OneRank : Type 0
+OneRank = (bytes : List ℕ) (x : List ℤ) (j k : ℕ) → HasRank bytes x j → HasRank bytes x k → j ≡ k
+
+-- a text has one reason to be refused, and none where it is a table
+abbrev pub OneTableRefusal : Type 0
+OneTableRefusal = (bytes : List ℕ) (f g : TableFault) → IsTableRefusedFor bytes f → IsTableRefusedFor bytes g → f ≡ g
+
+abbrev pub TableOrRefused : Type 0
+TableOrRefused = (bytes : List ℕ) (p : Description) (rows : List (Option Row)) (f : TableFault) → IsTable bytes p rows → IsTableRefusedFor bytes f → ⊥
+
+-- a table's text is within the limit on its bytes
+abbrev pub TablesAreShort : Type 0
+TablesAreShort = (bytes : List ℕ) (p : Description) (rows : List (Option Row)) → IsTable bytes p rows → IsShortTable bytes
+
+-- A game in memory over a plant's cells and input vectors.
+pub record IsGraphOver (p : Description) (g : Game) : Type 0 where
+  pub graph : IsGraph g
+  pub cells : g.cells ≡ cells_of (axes_of p)
+  pub inputs : g.inputs ≡ vectors_of p.inputs
+
+-- the rows of the solution of such a game fit the plant
+abbrev pub ReachSolutionsFit : Type 0
+ReachSolutionsFit = (p : Description) (g : Game) (rows : List (Option Row)) → p.goal ≡ Reach → IsGraphOver p g → IsReachSolution g rows → RowsFit p rows
+
+abbrev pub KeepSolutionsFit : Type 0
+KeepSolutionsFit = (p : Description) (g : Game) (rows : List (Option Row)) → p.goal ≡ Keep → IsGraphOver p g → IsKeepSolution g rows → RowsFit p rows

@@ -1,0 +1,7 @@
+pub mod TableText
+pub mod Tables
+pub mod Choice
+pub mod RowLines
+pub mod Refusals
+pub mod Laws
+pub mod inside

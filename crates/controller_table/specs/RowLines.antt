@@ -1,0 +1,53 @@
+-- Which lines may stand behind a plant's text in a table, and the first that may not.
+use Rattle.std.specs.Prelude.{◌≡◌, ◌⊎◌, ℕ, suc, ◌<◌, ◌≤◌, List, [], ◌∷◌, ◌++◌, length, map}
+use Rattle.std.specs.List.{All, AllPairs, concat}
+use Rattle.grid_quantiser.specs.Axes.{cells_of}
+use Rattle.plant_text.specs.plant.Description.{Description, axes_of}
+use Rattle.controller_table.specs.declared.entry.Entry.{Entry}
+use Rattle.controller_table.specs.TableText.{Version, First, entry_line, count_line, end_line}
+use Rattle.controller_table.specs.Tables.{IsRowOf}
+
+-- A cell of the plant with a row that it may have.
+pub record IsEntryOf (p : Description) (e : Entry) : Type 0 where
+  pub cell : e.cell < cells_of (axes_of p)
+  pub row : IsRowOf p e.row
+
+-- Cells with rows, in strictly rising order.
+pub record AreEntriesOf (p : Description) (entries : List Entry) : Type 0 where
+  pub rising : AllPairs (λ d e. d.cell < e.cell) entries
+  pub each : All (IsEntryOf p) entries
+
+-- lines of rows, as far as they go
+abbrev pub AreRowLines : Version → Description → List (List ℕ) → Type 0
+AreRowLines First p lines = (entries : List Entry) × AreEntriesOf p entries × (lines ≡ map (entry_line p.goal) entries)
+
+-- How many rows follow, and the lines of some of them.
+pub record AreBegun (version : Version) (p : Description) (lines : List (List ℕ)) : Type 0 where
+  pub count : ℕ
+  pub count_bound : count ≤ cells_of (axes_of p)
+  pub rows : List (List ℕ)
+  pub row_lines : AreRowLines version p rows
+  pub so_far : length rows ≤ count
+  pub are : lines ≡ count_line count ∷ rows
+
+-- How many rows follow, all their lines, and the end.
+pub record AreWhole (version : Version) (p : Description) (lines : List (List ℕ)) : Type 0 where
+  pub rows : List (List ℕ)
+  pub row_lines : AreRowLines version p rows
+  pub count_bound : length rows ≤ cells_of (axes_of p)
+  pub are : lines ≡ count_line (length rows) ∷ rows ++ end_line ∷ []
+
+-- lines that may stand behind the plant's text, as far as they go
+abbrev pub MayStand : Version → Description → List (List ℕ) → Type 0
+MayStand version p lines = (lines ≡ []) ⊎ AreBegun version p lines ⊎ AreWhole version p lines
+
+-- The n-th line, from 1, is the first that may not stand there, or that has no line feed, or that isn't there
+-- though the end is still to come.
+pub record IsFirstRefusedBehind (version : Version) (p : Description) (bytes : List ℕ) (n : ℕ) : Type 0 where
+  pub lines : List (List ℕ)
+  pub next : n ≡ suc (length lines)
+  pub stand : MayStand version p lines
+  pub rest : List ℕ
+  pub are : bytes ≡ concat lines ++ rest
+  pub refused : (line behind : List ℕ) → rest ≡ line ++ behind → MayStand version p (lines ++ line ∷ []) → ⊥
+  pub unfinished : rest ≡ [] → AreWhole version p lines → ⊥

@@ -1,0 +1,6 @@
+pub mod Digits
+pub mod Found
+pub mod Reading
+pub mod Left
+pub mod ReadRows
+pub mod ReadPlant

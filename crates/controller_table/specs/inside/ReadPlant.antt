@@ -1,0 +1,12 @@
+-- Why no plant is read behind a table's first line. No public clause names this.
+use Rattle.std.specs.Prelude.{◌≡◌, ℕ, suc, List}
+use Rattle.plant_text.specs.declared.fault.PlantFault.TheVariants as front
+use Rattle.plant_text.specs.reading.CanonicalFronts.{IsFrontRefusedFor}
+use Rattle.controller_table.specs.declared.fault.TableFault.{TableFault}
+use Rattle.controller_table.specs.declared.fault.TableFault.TheVariants as faults
+
+-- a line is one further than behind the first line
+abbrev pub IsPlantRefused : List ℕ → TableFault → Type 0
+IsPlantRefused bytes (faults.Malformed n) = (line : ℕ) × (n ≡ suc line) × IsFrontRefusedFor bytes (front.Malformed line)
+IsPlantRefused bytes (faults.Limit what) = IsFrontRefusedFor bytes (front.Limit what)
+IsPlantRefused bytes faults.Memory = Unit {0}

@@ -1,0 +1,8 @@
+use game_core::Row;
+
+/// A cell with its row.
+#[derive(Clone, Copy, Debug, PartialEq, Eq)]
+pub(crate) struct Entry {
+    pub cell: u32,
+    pub row: Row,
+}

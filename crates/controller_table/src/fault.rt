@@ -1,0 +1,40 @@
+ghost use Rattle.std.specs.Prelude.{◌≡◌};
+ghost use Rattle.controller_table.specs.declared.fault.TableFault.TheVariants as faults;
+
+use plant_text::LimitKind;
+use std::alloc::AllocError;
+
+/// There was no memory left.
+#[derive(Clone, Copy, Debug, PartialEq, Eq)]
+pub struct NoMemory;
+
+impl From<AllocError> for NoMemory {
+    fn from(_refused: AllocError) -> NoMemory {
+        NoMemory
+    }
+}
+
+impl From<plant_text::NoMemory> for NoMemory {
+    fn from(_refused: plant_text::NoMemory) -> NoMemory {
+        NoMemory
+    }
+}
+
+/// Why no table was read.
+#[derive(Clone, Copy, Debug, PartialEq, Eq)]
+pub enum TableFault {
+    /// The first line that doesn't fit behind those before it, counted from 1.
+    Malformed { line: u32 },
+    /// The text or its plant exceeds a limit.
+    Limit { what: LimitKind },
+    /// There was no memory left.
+    Memory,
+}
+
+impl From<game_core::NoMemory> for TableFault {
+    ghost from_gives = { λ _ e. e ≡ faults.Memory };
+
+    fn from(_refused: game_core::NoMemory) -> TableFault {
+        TableFault::Memory
+    }
+}

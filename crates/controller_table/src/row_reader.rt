@@ -1,0 +1,191 @@
+// The lines behind a plant's text.
+
+ghost use Rattle.std.specs.Prelude.{◌≡◌, ◌==◌, ◌^◌, ◌<◌, ◌≤◌, ℕ, List, ◌++◌, length, position, IfOk, IfErr, IfSome, IsTrue, ◌↔◌, Some};
+ghost use Rattle.std.specs.List.{concat};
+ghost use Rattle.game_core.specs.declared.game.Row.{Row};
+ghost use Rattle.grid_quantiser.specs.Axes.{cells_of};
+ghost use Rattle.plant_text.specs.plant.Description.{axes_of};
+ghost use Rattle.plant_text.specs.plant.Limits.{IsWithinLimits};
+ghost use Rattle.controller_table.specs.declared.entry.Entry.{Entry};
+ghost use Rattle.controller_table.specs.TableText.{First, entry_line, count_line, end_line, lines_behind, entries_from};
+ghost use Rattle.controller_table.specs.Tables.{RowsFit};
+ghost use Rattle.controller_table.specs.RowLines.{IsEntryOf};
+ghost use Rattle.controller_table.specs.inside.Found.{Finds};
+ghost use Rattle.controller_table.specs.inside.Reading.{IsLine, IsSpelled, IsSpelledRow, row_words, IsRefusedBehind};
+ghost use Rattle.controller_table.specs.inside.ReadRows.{AreRead, AreRowsRefused};
+
+use crate::entry::Entry;
+use crate::fault::TableFault;
+use crate::front::behind_front;
+use crate::line_text::LineText;
+use crate::numbers::number_in;
+use game_core::{Answer, Row};
+use plant_text::{GoalKind, Plant};
+use std::alloc::Global;
+
+/// The rows whose lines stand behind the text of a plant, and how many there are.
+pub(crate) fn rows_behind(
+    alloc: Global,
+    plant: &Plant,
+    bytes: &[u8],
+) -> Result<(Answer, u32), TableFault>
+    requires { IsWithinLimits plant.now }
+    ensures fit { IfOk result (λ r. RowsFit plant.now r.0) }
+    ensures text { IfOk result (λ r. bytes.now ≡ concat (lines_behind First plant.now.goal r.0)) }
+    ensures count { IfOk result (λ r. r.1 ≡ length (entries_from 0 r.0)) }
+    ensures refused { IfErr result (λ fault. IsRefusedBehind plant.now bytes.now fault) }
+{
+    let cells = plant.grid().cells();
+    let Some((count, rest)) = count_in(bytes, cells) else {
+        return Err(TableFault::Malformed { line: 1 });
+    };
+    let (answer, rest) = rows_in(alloc, plant, count, rest)?;
+    match behind_front(rest, b"end\n") {
+        Some([]) => Ok((answer, count)),
+        Some(_) => Err(TableFault::Malformed { line: count + 3 }),
+        None => Err(TableFault::Malformed { line: count + 2 }),
+    }
+}
+
+/// So many rows, and what stands behind their lines.
+fn rows_in<'a>(
+    alloc: Global,
+    plant: &Plant,
+    count: u32,
+    bytes: &'a [u8],
+) -> Result<(Answer, &'a [u8]), TableFault>
+    requires limits { IsWithinLimits plant.now }
+    requires bound { count ≤ cells_of (axes_of plant.now) }
+    ensures read { IfOk result (λ r. AreRead plant.now bytes.now r.1.now r.0 count) }
+    ensures refused { IfErr result (λ fault. AreRowsRefused plant.now bytes.now count fault) }
+{
+    let mut answer = Answer::blank(alloc, plant.grid().cells())?;
+    let mut rest = bytes;
+    let mut least = 0;
+    for at in 0..count {
+        let Some((entry, behind)) = entry_in(plant, least, rest) else {
+            return Err(TableFault::Malformed { line: at + 2 });
+        };
+        answer.set(entry.cell, Some(entry.row));
+        least = entry.cell + 1;
+        rest = behind;
+    }
+    Ok((answer, rest))
+}
+
+/// The number of rows, which is at most this, and what stands behind its line.
+fn count_in(bytes: &[u8], most: u32) -> Option<(u32, &[u8])>
+    ensures { Finds (λ r. (r.0, r.1.now)) (λ (y : ℕ × List ℕ). (y.0 ≤ most) × (bytes.now ≡ count_line y.0 ++ y.1)) result }
+{
+    let (line, behind) = line_in(bytes)?;
+    let count = spelled_count(line)?;
+    if count <= most {
+        Some((count, behind))
+    } else {
+        None
+    }
+}
+
+/// The row of the plant at the front, of a cell that isn't below the least, and what stands behind its line.
+fn entry_in<'a>(plant: &Plant, least: u32, bytes: &'a [u8]) -> Option<(Entry, &'a [u8])>
+    requires { IsWithinLimits plant.now }
+    ensures { Finds (λ r. (r.0, r.1.now)) (λ (y : Entry × List ℕ). (least ≤ y.0.cell) × IsEntryOf plant.now y.0 × (bytes.now ≡ entry_line plant.now.goal y.0 ++ y.1)) result }
+{
+    let (line, behind) = line_in(bytes)?;
+    let entry = spelled_entry(plant.goal(), line)?;
+    if least <= entry.cell && is_entry_of(plant, entry) {
+        Some((entry, behind))
+    } else {
+        None
+    }
+}
+
+/// The first line with its line feed, and what stands behind it.
+fn line_in(bytes: &[u8]) -> Option<(&[u8], &[u8])>
+    ensures { Finds (λ r. (r.0.now, r.1.now)) (λ (y : List ℕ × List ℕ). IsLine y.0 × (bytes.now ≡ y.0 ++ y.1)) result }
+{
+    let end = line_feed(bytes)?;
+    Some(bytes.split_at(end + 1))
+}
+
+fn line_feed(bytes: &[u8]) -> Option<usize>
+    ensures place { result ≡ position (λ b. b == 10) bytes.now }
+    ensures within { IfSome result (λ n. n < length bytes.now) }
+{
+    bytes.iter().position(|b| *b == b'\n')
+}
+
+fn spelled_count(line: &[u8]) -> Option<u32>
+    ensures { Finds (λ n. n) (λ (n : ℕ). (n < 2 ^ 32) × (line.now ≡ count_line n)) result }
+{
+    let (count, _) = number_in(line.strip_prefix(b"rows ")?)?;
+    if LineText::of_count(count).as_slice() == line {
+        Some(count)
+    } else {
+        None
+    }
+}
+
+fn spelled_entry(goal: GoalKind, line: &[u8]) -> Option<Entry>
+    ensures { Finds (λ e. e) (λ (e : Entry). IsSpelled goal e × (line.now ≡ entry_line goal e)) result }
+{
+    let entry = entry_of(goal, line)?;
+    if LineText::of_entry(goal, entry).as_slice() == line {
+        Some(entry)
+    } else {
+        None
+    }
+}
+
+/// The entry of its own line. Of other lines nothing is said.
+fn entry_of(goal: GoalKind, line: &[u8]) -> Option<Entry>
+    ensures own { (e : Entry) → IsSpelled goal e → line.now ≡ entry_line goal e → result ≡ Some e }
+    ensures spelled { IfSome result (λ e. IsSpelled goal e) }
+{
+    let (cell, rest) = number_in(line)?;
+    let row = row_of(goal, rest)?;
+    Some(Entry { cell, row })
+}
+
+/// The row of its own words. Of other words nothing is said.
+fn row_of(goal: GoalKind, words: &[u8]) -> Option<Row>
+    ensures own { (row : Row) → IsSpelledRow goal row → words.now ≡ row_words goal row → result ≡ Some row }
+    ensures spelled { IfSome result (λ row. IsSpelledRow goal row) }
+{
+    match goal {
+        GoalKind::Reach => ranked_row_of(words),
+        GoalKind::Keep => unranked_row_of(words),
+    }
+}
+
+fn ranked_row_of(words: &[u8]) -> Option<Row>
+    ensures own { (row : Row) → IsSpelledRow GoalKind.Reach row → words.now ≡ row_words GoalKind.Reach row → result ≡ Some row }
+    ensures spelled { IfSome result (λ row. IsSpelledRow GoalKind.Reach row) }
+{
+    let (rank, rest) = number_in(words)?;
+    if rank == 0 {
+        return Some(Row { rank, input: 0 });
+    }
+    let (input, _) = number_in(rest)?;
+    Some(Row { rank, input })
+}
+
+fn unranked_row_of(words: &[u8]) -> Option<Row>
+    ensures own { (row : Row) → IsSpelledRow GoalKind.Keep row → words.now ≡ row_words GoalKind.Keep row → result ≡ Some row }
+    ensures spelled { IfSome result (λ row. IsSpelledRow GoalKind.Keep row) }
+{
+    let (input, _) = number_in(words.strip_prefix(b"- ")?)?;
+    Some(Row { rank: 0, input })
+}
+
+fn is_entry_of(plant: &Plant, entry: Entry) -> bool
+    ensures { IsTrue result ↔ IsEntryOf plant.now entry }
+{
+    let cells = plant.grid().cells();
+    let row = entry.row;
+    let ranked = match plant.goal() {
+        GoalKind::Reach => row.rank < cells && (row.rank > 0 || row.input == 0),
+        GoalKind::Keep => row.rank == 0,
+    };
+    ranked && entry.cell < cells && row.input < plant.vectors()
+}
