@@ -13,3 +13,5 @@ pub mod RefusedRows
 pub mod RefusedPlant
 pub mod ReadTable
 pub mod SolutionsFit
+pub mod OneTable
+pub mod OneRefusal

@@ -2,11 +2,52 @@
 
 ghost use Rattle.plant_text.specs.plant.Limits.{IsWithinLimits};
 ghost use Rattle.controller_table.specs.Tables.{RowsFit};
-ghost use Rattle.controller_table.specs.Laws.{ReachSolutionsFit, KeepSolutionsFit};
+ghost use Rattle.controller_table.specs.Laws.{OneTablePerText, OneChoice, OneRank, OneTableRefusal, TableOrRefused, ReachSolutionsFit, KeepSolutionsFit};
 
 use crate::table::Table;
 use game_core::laws::ranks_are_below_the_cells;
-use plant_text::laws::every_plant_is_within_limits;
+use plant_text::laws::{
+    every_plant_is_within_limits, front_read_or_refused, one_front_refusal, one_plant_at_the_front,
+};
+
+/// No bytes are the table of two plants, or of one plant with other rows.
+pub fn one_table_per_text()
+    ensures { OneTablePerText }
+{
+    one_plant_at_the_front();
+}
+
+/// A table chooses one input at a state.
+pub fn one_choice()
+    ensures { OneChoice }
+{
+    one_table_per_text();
+}
+
+/// A table has one rank at a state.
+pub fn one_rank()
+    ensures { OneRank }
+{
+    one_table_per_text();
+}
+
+/// A text has one reason to be refused as a table.
+pub fn one_table_refusal()
+    ensures { OneTableRefusal }
+{
+    one_plant_at_the_front();
+    one_front_refusal();
+    front_read_or_refused();
+}
+
+/// No table is refused.
+pub fn table_or_refused()
+    ensures { TableOrRefused }
+{
+    one_plant_at_the_front();
+    one_front_refusal();
+    front_read_or_refused();
+}
 
 /// The rows of the reach solution of a game over a plant's cells and input vectors fit the plant.
 pub fn reach_solutions_fit()

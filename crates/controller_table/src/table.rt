@@ -24,7 +24,7 @@ pub struct Table {
 impl Model for Table {
     ghost use Rattle.std.specs.Coded.{codes};
     ghost use Rattle.std.specs.Prelude.{◌≡◌, length};
-    ghost use Rattle.fixed_expr.specs.Tokens.{expression_code};
+    ghost use Rattle.fixed_expr.specs.inside.Postfix.{expression_code};
     ghost use Rattle.controller_table.specs.TableText.{entries_from};
     ghost use Rattle.controller_table.specs.Tables.{TableModel, RowsFit};
 

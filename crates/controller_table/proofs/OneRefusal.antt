@@ -1,0 +1,306 @@
+-- A text has one reason to be refused as a table, and none where it is one.
+use Rattle.std.proofs.Common.{inl, inr, ◌≡◌, ◌⊎◌, ℕ, zero, suc, ◌+◌, ◌<◌, ◌≤◌, List, [], ◌∷◌, ◌++◌, length, length-append, map, take, drop, get_or, Option, refl, sym, ap, subst, ◌∙◌, append_assoc, append-nil, arith}
+use Rattle.std.specs.List.{All, AllPairs, AllByRecursion, concat}
+use Rattle.std.proofs.lemmas.List.{take_all, length-take, take-map, take-append-le, get_or-take}
+use Rattle.std.proofs.lemmas.List.Elements.{All-take}
+use Rattle.std.proofs.Math.Seq.{take-append_seam}
+use Rattle.game_core.specs.declared.game.Row.{Row}
+use Rattle.grid_quantiser.specs.Axes.{cells_of}
+use Rattle.plant_text.specs.declared.fault.LimitKind.{LimitKind}
+use Rattle.plant_text.specs.declared.fault.LimitKind.TheVariants.{PlantText, TableText, Vectors, Cells, Pairs, Edges}
+use Rattle.plant_text.specs.declared.fault.PlantFault.{PlantFault}
+use Rattle.plant_text.specs.declared.fault.PlantFault.TheVariants as front
+use Rattle.plant_text.specs.plant.Description.{Description, axes_of}
+use Rattle.plant_text.specs.plant.Limits.{IsWithinLimits}
+use Rattle.plant_text.specs.writing.CanonicalText.{text_of}
+use Rattle.plant_text.specs.reading.CanonicalFronts.{IsFront, IsFrontRefusedFor}
+use Rattle.plant_text.specs.Laws.{OnePlantAtTheFront, OneFrontRefusal, FrontReadOrRefused}
+use Rattle.controller_table.specs.declared.entry.Entry.{Entry}
+use Rattle.controller_table.specs.declared.fault.TableFault.{TableFault}
+use Rattle.controller_table.specs.declared.fault.TableFault.TheVariants as faults
+use Rattle.controller_table.specs.TableText.{Version, First, entry_line, count_line, end_line, version_line, row_lines, lines_behind, table_text}
+use Rattle.controller_table.specs.Tables.{RowsFit, IsTable}
+use Rattle.controller_table.specs.RowLines.{IsEntryOf, AreEntriesOf, AreRowLines, AreBegun, AreWhole, MayStand, IsFirstRefusedBehind}
+use Rattle.controller_table.specs.Refusals.{IsShortTable, line_count, HasNoVersion, IsPlantRefusedFor, AreRowsRefusedAt, IsFirstRefusedInTable, IsTableRefusedFor, ExceedsTableLimit}
+use Rattle.controller_table.specs.Laws.{OneTableRefusal, TableOrRefused}
+use Rattle.controller_table.specs.inside.Reading.{IsLine}
+use Rattle.controller_table.proofs.Lines.{one_line}
+use Rattle.controller_table.proofs.EntryLines.{count_is_line}
+use Rattle.controller_table.proofs.OneTable.{one_version, whole_lines, row_lines_are_lines, whole_are_lines}
+use Rattle.controller_table.proofs.Standing.{nothing_next}
+
+-- ---- the first of some lines
+
+entries_taken : (p : Description) (n : ℕ) (es : List Entry) → AreEntriesOf p es → AreEntriesOf p (take n es)
+entries_taken p n es are = record { rising = pairs; each = All-take (IsEntryOf p) n es are.each }
+  where
+    pairs : AllPairs (λ (d e : Entry). d.cell < e.cell) (take n es)
+    pairs i j d lt bound =
+        let size = length-take n es in
+        let first : get_or (take n es) i d ≡ get_or es i d = get_or-take n es i d (omega (arith, lt, bound, size)) in
+        let second : get_or (take n es) j d ≡ get_or es j d = get_or-take n es j d (omega (arith, bound, size)) in
+        let above = are.rising i j d lt (omega (arith, bound, size)) in
+        omega (arith, above, ap (λ (e : Entry). e.cell) first, ap (λ (e : Entry). e.cell) second)
+
+rows_taken : (v : Version) (p : Description) (n : ℕ) (lines : List (List ℕ)) → AreRowLines v p lines → AreRowLines v p (take n lines)
+rows_taken First p n lines h = (take n h.0, entries_taken p n h.0 h.1, ap (take n) h.2 ∙ take-map (entry_line p.goal) n h.0)
+
+begun_taken : (v : Version) (p : Description) (n count : ℕ) (rows : List (List ℕ)) → count ≤ cells_of (axes_of p) → length rows ≤ count → AreRowLines v p rows → MayStand v p (take (suc n) (count_line count ∷ rows))
+begun_taken v p n count rows le few h = inr (inl (record {
+  count = count;
+  count_bound = le;
+  rows = take n rows;
+  row_lines = rows_taken v p n rows h;
+  so_far = omega (arith, length-take n rows, few);
+  are = refl;
+}))
+
+le-or-lt : (n m : ℕ) → (n ≤ m) ⊎ (m < n)
+le-or-lt zero m = inl (omega arith)
+le-or-lt (suc n) zero = inr (omega arith)
+le-or-lt (suc n) (suc m) = elim (le-or-lt n m) [ inl le ↦ inl (omega (arith, le)) | inr lt ↦ inr (omega (arith, lt)) ]
+
+whole_taken : (v : Version) (p : Description) (n : ℕ) (rows : List (List ℕ)) → length rows ≤ cells_of (axes_of p) → AreRowLines v p rows → (n ≤ length rows) ⊎ (length rows < n) → MayStand v p (take (suc n) (count_line (length rows) ∷ (rows ++ end_line ∷ [])))
+whole_taken v p n rows le h (inl short) =
+    subst (MayStand v p) (ap (λ (x : List (List ℕ)). count_line (length rows) ∷ x) (sym (take-append-le n rows (end_line ∷ []) short))) (begun_taken v p n (length rows) rows le (omega arith) h)
+whole_taken v p n rows le h (inr long) =
+    let all : take n (rows ++ end_line ∷ []) ≡ rows ++ end_line ∷ [] = take_all n (rows ++ end_line ∷ []) (omega (arith, length-append rows (end_line ∷ []), long)) in
+    subst (MayStand v p) (ap (λ (x : List (List ℕ)). count_line (length rows) ∷ x) (sym all)) (inr (inr (record { rows = rows; row_lines = h; count_bound = le; are = refl })))
+
+stands_taken : (v : Version) (p : Description) (n : ℕ) (lines : List (List ℕ)) → MayStand v p lines → MayStand v p (take n lines)
+stands_taken v p zero lines may = inl refl
+stands_taken v p (suc n) lines may = elim may [
+  | inl none ↦ subst (λ (x : List (List ℕ)). MayStand v p (take (suc n) x)) (sym none) (inl refl)
+  | inr more ↦ elim more [
+    | inl begun ↦ subst (λ (x : List (List ℕ)). MayStand v p (take (suc n) x)) (sym begun.are) (begun_taken v p n begun.count begun.rows begun.count_bound begun.so_far begun.row_lines)
+    | inr whole ↦ subst (λ (x : List (List ℕ)). MayStand v p (take (suc n) x)) (sym whole.are) (whole_taken v p n whole.rows whole.count_bound whole.row_lines (le-or-lt n (length whole.rows)))
+  ]
+]
+
+-- the lines up to one of those that may stand
+pub stands_up_to : (v : Version) (p : Description) (ks : List (List ℕ)) (line : List ℕ) (more : List (List ℕ)) → MayStand v p (ks ++ line ∷ more) → MayStand v p (ks ++ line ∷ [])
+stands_up_to v p ks line more may =
+    let cut : take (length (ks ++ line ∷ [])) (ks ++ line ∷ more) ≡ ks ++ line ∷ [] =
+    ap (take (length (ks ++ line ∷ []))) (sym (append_assoc ks (line ∷ []) more)) ∙ take-append_seam (ks ++ line ∷ []) more in
+    subst (MayStand v p) cut (stands_taken v p (length (ks ++ line ∷ [])) (ks ++ line ∷ more) may)
+
+pub stand_are_lines : (v : Version) (p : Description) (lines : List (List ℕ)) → IsWithinLimits p → MayStand v p lines → AllByRecursion IsLine lines
+stand_are_lines v p lines within may = elim may [
+  | inl none ↦ subst (AllByRecursion IsLine) (sym none) tt
+  | inr more ↦ elim more [
+    | inl begun ↦ (let cells = within.cells in subst (AllByRecursion IsLine) (sym begun.are) (count_is_line begun.count (omega (arith, begun.count_bound, cells)), row_lines_are_lines v p begun.rows within begun.row_lines))
+    | inr whole ↦ whole_are_lines v p lines within whole
+  ]
+]
+
+-- ---- two lists of lines at the front of one text
+
+-- The second list goes on where the first ends.
+pub record GoesOn (ks ls : List (List ℕ)) (s t : List ℕ) : Type 0 where
+  pub line : List ℕ
+  pub more : List (List ℕ)
+  pub longer : ls ≡ ks ++ line ∷ more
+  pub rest : s ≡ line ++ (concat more ++ t)
+
+-- Both are one list.
+pub record AreEven (ks ls : List (List ℕ)) (s t : List ℕ) : Type 0 where
+  pub lines : ks ≡ ls
+  pub rest : s ≡ t
+
+pub compared : (ks ls : List (List ℕ)) (s t : List ℕ) → AllByRecursion IsLine ks → AllByRecursion IsLine ls → concat ks ++ s ≡ concat ls ++ t → AreEven ks ls s t ⊎ GoesOn ks ls s t ⊎ GoesOn ls ks t s
+compared [] [] s t h k e = inl (record { lines = refl; rest = e })
+compared [] (l ∷ ls) s t h k e = inr (inl (record { line = l; more = ls; longer = refl; rest = e ∙ append_assoc l (concat ls) t }))
+compared (l ∷ ks) [] s t h k e = inr (inr (record { line = l; more = ks; longer = refl; rest = sym e ∙ append_assoc l (concat ks) s }))
+compared (x ∷ ks) (y ∷ ls) s t h k e =
+    let same = one_line x y (concat ks ++ s) (concat ls ++ t) h.0 k.0 (sym (append_assoc x (concat ks) s) ∙ e ∙ append_assoc y (concat ls) t) in
+    elim (compared ks ls s t h.1 k.1 same.rest) [
+      | inl even ↦ inl (record { lines = ap (λ (z : List ℕ). z ∷ ks) same.line ∙ ap (λ (z : List (List ℕ)). y ∷ z) even.lines; rest = even.rest })
+      | inr apart ↦ elim apart [
+        | inl on ↦ inr (inl (record { line = on.line; more = on.more; longer = ap (λ (z : List ℕ). z ∷ ls) (sym same.line) ∙ ap (λ (z : List (List ℕ)). x ∷ z) on.longer; rest = on.rest }))
+        | inr on ↦ inr (inr (record { line = on.line; more = on.more; longer = ap (λ (z : List ℕ). z ∷ ks) same.line ∙ ap (λ (z : List (List ℕ)). y ∷ z) on.longer; rest = on.rest }))
+      ]
+    ]
+
+-- ---- the lines behind the plant
+
+-- a refused line isn't passed by lines that may stand
+passes_not : (v : Version) (p : Description) (bytes : List ℕ) (n : ℕ) (lines : List (List ℕ)) (t : List ℕ) (r : IsFirstRefusedBehind v p bytes n) → MayStand v p lines → GoesOn r.lines lines r.rest t → ⊥
+passes_not v p bytes n lines t r may on = r.refused on.line (concat on.more ++ t) on.rest (stands_up_to v p r.lines on.line on.more (subst (MayStand v p) on.longer may))
+
+pub one_line_refused : (v : Version) (p : Description) (bytes : List ℕ) (m n : ℕ) → IsWithinLimits p → IsFirstRefusedBehind v p bytes m → IsFirstRefusedBehind v p bytes n → m ≡ n
+one_line_refused v p bytes m n within r s =
+    elim (compared r.lines s.lines r.rest s.rest (stand_are_lines v p r.lines within r.stand) (stand_are_lines v p s.lines within s.stand) (sym r.are ∙ s.are)) [
+      | inl even ↦ r.next ∙ ap (λ (x : List (List ℕ)). suc (length x)) even.lines ∙ sym s.next
+      | inr apart ↦ elim apart [
+        | inl on ↦ absurd (passes_not v p bytes m s.lines s.rest r s.stand on)
+        | inr on ↦ absurd (passes_not v p bytes n r.lines r.rest s r.stand on)
+      ]
+    ]
+
+pub whole_not_refused : (v : Version) (p : Description) (rows : List (Option Row)) (n : ℕ) → IsWithinLimits p → RowsFit p rows → IsFirstRefusedBehind v p (concat (lines_behind v p.goal rows)) n → ⊥
+whole_not_refused v p rows n within fit r =
+    let whole = whole_lines v p rows fit in
+    let lines = lines_behind v p.goal rows in
+    let stand : MayStand v p lines = inr (inr whole) in
+    elim (compared r.lines lines r.rest [] (stand_are_lines v p r.lines within r.stand) (stand_are_lines v p lines within stand) (sym r.are ∙ sym (append-nil (concat lines)))) [
+      | inl even ↦ r.unfinished even.rest (subst (AreWhole v p) (sym even.lines) whole)
+      | inr apart ↦ elim apart [
+        | inl on ↦ passes_not v p (concat lines) n lines [] r stand on
+        | inr on ↦ nothing_next p within v (length whole.rows) whole.rows on.line on.more whole.count_bound refl
+            (subst (MayStand v p) (on.longer ∙ ap (λ (x : List (List ℕ)). x ++ on.line ∷ on.more) whole.are) r.stand)
+      ]
+    ]
+
+-- ---- the whole text
+
+-- a plant's text stands at the front
+front_at : (p : Description) (rest behind : List ℕ) → IsWithinLimits p → rest ≡ text_of p ++ behind → IsFront rest p (length (text_of p))
+front_at p rest behind within at = record {
+  plant = within.plant;
+  within = omega (arith, ap length at, length-append (text_of p) behind);
+  text = ap (take (length (text_of p))) at ∙ take-append_seam (text_of p) behind;
+}
+
+-- what stands behind the first line
+behind_first : (v w : Version) (bytes rest text : List ℕ) (p : Description) → bytes ≡ version_line v ++ rest → bytes ≡ version_line w ++ text_of p ++ text → rest ≡ text_of p ++ text
+behind_first v w bytes rest text p one two =
+    (one_version v w rest (text_of p ++ text) (sym one ∙ two ∙ append_assoc (version_line w) (text_of p) text)).1
+
+module _ (apart : OnePlantAtTheFront) (one : OneFrontRefusal) (none : FrontReadOrRefused) where
+  one_plant_refusal : (bytes : List ℕ) (f g : PlantFault) → IsPlantRefusedFor bytes f → IsPlantRefusedFor bytes g → f ≡ g
+  one_plant_refusal bytes f g h k =
+      let rest : h.rest ≡ k.rest = (one_version h.version k.version h.rest k.rest (sym h.are ∙ k.are)).1 in
+      one k.rest f g (subst (λ (x : List ℕ). IsFrontRefusedFor x f) rest h.refused) k.refused
+
+  plant_or_rows : (bytes : List ℕ) (f : PlantFault) (n : ℕ) → IsPlantRefusedFor bytes f → AreRowsRefusedAt bytes n → ⊥
+  plant_or_rows bytes f n h k =
+      none h.rest k.plant (length (text_of k.plant)) f (front_at k.plant h.rest k.rest k.limits (behind_first h.version k.version bytes h.rest k.rest k.plant h.are k.are)) k.limits h.refused
+
+  one_row_refusal : (bytes : List ℕ) (m n : ℕ) → AreRowsRefusedAt bytes m → AreRowsRefusedAt bytes n → m ≡ n
+  one_row_refusal bytes m n h k =
+      let behind = one_version h.version k.version (text_of h.plant ++ h.rest) (text_of k.plant ++ k.rest) (sym (h.are ∙ append_assoc (version_line h.version) (text_of h.plant) h.rest) ∙ k.are ∙ append_assoc (version_line k.version) (text_of k.plant) k.rest) in
+      let same = apart h.plant k.plant h.rest k.rest h.limits.plant k.limits.plant behind.1 in
+      let moved : IsFirstRefusedBehind k.version k.plant k.rest h.line =
+      subst (λ (x : List ℕ). IsFirstRefusedBehind k.version k.plant x h.line) same.1
+      (subst (λ (d : Description). IsFirstRefusedBehind k.version d h.rest h.line) same.0
+      (subst (λ (v : Version). IsFirstRefusedBehind v h.plant h.rest h.line) behind.0 h.refused)) in
+      h.number
+      ∙ ap (λ (v : Version). line_count (version_line v ++ text_of h.plant) + h.line) behind.0
+      ∙ ap (λ (d : Description). line_count (version_line k.version ++ text_of d) + h.line) same.0
+      ∙ ap (λ (l : ℕ). line_count (version_line k.version ++ text_of k.plant) + l) (one_line_refused k.version k.plant k.rest h.line k.line k.limits moved k.refused)
+      ∙ sym k.number
+
+  no_first_line : (bytes : List ℕ) (f : PlantFault) → HasNoVersion bytes → IsPlantRefusedFor bytes f → ⊥
+  no_first_line bytes f bare h = bare h.version h.rest h.are
+
+  no_rows_line : (bytes : List ℕ) (n : ℕ) → HasNoVersion bytes → AreRowsRefusedAt bytes n → ⊥
+  no_rows_line bytes n bare h = bare h.version (text_of h.plant ++ h.rest) (h.are ∙ append_assoc (version_line h.version) (text_of h.plant) h.rest)
+
+  same_malformed : (m n : ℕ) → front.Malformed m ≡ front.Malformed n → m ≡ n
+  same_malformed m n e = cc
+
+  one_first_line : (bytes : List ℕ) (m n : ℕ) → IsFirstRefusedInTable bytes m → IsFirstRefusedInTable bytes n → m ≡ n
+  one_first_line bytes m n f g = elim f [
+    | inl bare ↦ elim g [
+      | inl also ↦ bare.0 ∙ sym also.0
+      | inr more ↦ elim more [
+        | inl plant ↦ absurd (no_first_line bytes (front.Malformed plant.0) bare.1 plant.2)
+        | inr rows ↦ absurd (no_rows_line bytes n bare.1 rows)
+      ]
+    ]
+    | inr first ↦ elim first [
+      | inl plant ↦ elim g [
+        | inl bare ↦ absurd (no_first_line bytes (front.Malformed plant.0) bare.1 plant.2)
+        | inr more ↦ elim more [
+          | inl other ↦ plant.1 ∙ ap suc (same_malformed plant.0 other.0 (one_plant_refusal bytes (front.Malformed plant.0) (front.Malformed other.0) plant.2 other.2)) ∙ sym other.1
+          | inr rows ↦ absurd (plant_or_rows bytes (front.Malformed plant.0) n plant.2 rows)
+        ]
+      ]
+      | inr rows ↦ elim g [
+        | inl bare ↦ absurd (no_rows_line bytes m bare.1 rows)
+        | inr more ↦ elim more [
+          | inl plant ↦ absurd (plant_or_rows bytes (front.Malformed plant.0) m plant.2 rows)
+          | inr other ↦ one_row_refusal bytes m n rows other
+        ]
+      ]
+    ]
+  ]
+
+  -- a limit on the plant isn't exceeded where a line is refused
+  line_or_limit : (bytes : List ℕ) (n : ℕ) (what : LimitKind) → IsFirstRefusedInTable bytes n → IsPlantRefusedFor bytes (front.Limit what) → ⊥
+  line_or_limit bytes n what f g = elim f [
+    | inl bare ↦ no_first_line bytes (front.Limit what) bare.1 g
+    | inr first ↦ elim first [
+      | inl plant ↦ (let same = one_plant_refusal bytes (front.Malformed plant.0) (front.Limit what) plant.2 g in cc)
+      | inr rows ↦ plant_or_rows bytes (front.Limit what) n g rows
+    ]
+  ]
+
+  -- the text is too long, or its plant exceeds the limit
+  limit_cases : (bytes : List ℕ) (what : LimitKind) → ExceedsTableLimit bytes what → ((what ≡ TableText) × (IsShortTable bytes → ⊥)) ⊎ (IsShortTable bytes × IsPlantRefusedFor bytes (front.Limit what))
+  limit_cases bytes PlantText h = absurd h
+  limit_cases bytes TableText h = inl (refl, h)
+  limit_cases bytes Vectors h = inr h
+  limit_cases bytes Cells h = inr h
+  limit_cases bytes Pairs h = inr h
+  limit_cases bytes Edges h = absurd h
+
+  same_limit : (bytes : List ℕ) (a b : LimitKind) → ExceedsTableLimit bytes a → ExceedsTableLimit bytes b → a ≡ b
+  same_limit bytes a b h k = elim (limit_cases bytes a h) [
+    | inl long ↦ elim (limit_cases bytes b k) [
+      | inl also ↦ long.0 ∙ sym also.0
+      | inr plant ↦ absurd (long.1 plant.0)
+    ]
+    | inr plant ↦ elim (limit_cases bytes b k) [
+      | inl long ↦ absurd (long.1 plant.0)
+      | inr other ↦ (let same = one_plant_refusal bytes (front.Limit a) (front.Limit b) plant.1 other.1 in cc)
+    ]
+  ]
+
+  line_not_limit : (bytes : List ℕ) (n : ℕ) (what : LimitKind) → IsShortTable bytes → IsFirstRefusedInTable bytes n → ExceedsTableLimit bytes what → ⊥
+  line_not_limit bytes n what short f h = elim (limit_cases bytes what h) [
+    | inl long ↦ long.1 short
+    | inr plant ↦ line_or_limit bytes n what f plant.1
+  ]
+
+  pub one_refusal : OneTableRefusal
+  one_refusal bytes (faults.Malformed m) (faults.Malformed n) f g = ap faults.Malformed (one_first_line bytes m n f.1 g.1)
+  one_refusal bytes (faults.Malformed m) (faults.Limit b) f g = absurd (line_not_limit bytes m b f.0 f.1 g)
+  one_refusal bytes (faults.Malformed m) faults.Memory f g = absurd g
+  one_refusal bytes (faults.Limit a) (faults.Malformed n) f g = absurd (line_not_limit bytes n a g.0 g.1 f)
+  one_refusal bytes (faults.Limit a) (faults.Limit b) f g = ap faults.Limit (same_limit bytes a b f g)
+  one_refusal bytes (faults.Limit a) faults.Memory f g = absurd g
+  one_refusal bytes faults.Memory g f h = absurd f
+
+  -- ---- tables
+
+  table_rest : (bytes : List ℕ) (p : Description) (rows : List (Option Row)) (t : IsTable bytes p rows) → bytes ≡ version_line t.version ++ (text_of p ++ concat (lines_behind t.version p.goal rows))
+  table_rest bytes p rows t = t.text ∙ append_assoc (version_line t.version) (text_of p) (concat (lines_behind t.version p.goal rows))
+
+  not_plant : (bytes : List ℕ) (p : Description) (rows : List (Option Row)) (f : PlantFault) → IsTable bytes p rows → IsPlantRefusedFor bytes f → ⊥
+  not_plant bytes p rows f t h =
+      none h.rest p (length (text_of p)) f (front_at p h.rest (concat (lines_behind t.version p.goal rows)) t.limits (behind_first h.version t.version bytes h.rest (concat (lines_behind t.version p.goal rows)) p h.are t.text)) t.limits h.refused
+
+  not_rows : (bytes : List ℕ) (p : Description) (rows : List (Option Row)) (n : ℕ) → IsTable bytes p rows → AreRowsRefusedAt bytes n → ⊥
+  not_rows bytes p rows n t k =
+      let behind = one_version k.version t.version (text_of k.plant ++ k.rest) (text_of p ++ concat (lines_behind t.version p.goal rows)) (sym (k.are ∙ append_assoc (version_line k.version) (text_of k.plant) k.rest) ∙ table_rest bytes p rows t) in
+      let same = apart k.plant p k.rest (concat (lines_behind t.version p.goal rows)) k.limits.plant t.limits.plant behind.1 in
+      let moved : IsFirstRefusedBehind t.version p (concat (lines_behind t.version p.goal rows)) k.line =
+      subst (λ (x : List ℕ). IsFirstRefusedBehind t.version p x k.line) same.1
+      (subst (λ (d : Description). IsFirstRefusedBehind t.version d k.rest k.line) same.0
+      (subst (λ (v : Version). IsFirstRefusedBehind v k.plant k.rest k.line) behind.0 k.refused)) in
+      whole_not_refused t.version p rows k.line t.limits t.fitting moved
+
+  pub table_or_refused : TableOrRefused
+  table_or_refused bytes p rows (faults.Malformed n) t short f = elim f.1 [
+    | inl bare ↦ bare.1 t.version (text_of p ++ concat (lines_behind t.version p.goal rows)) (table_rest bytes p rows t)
+    | inr first ↦ elim first [
+      | inl plant ↦ not_plant bytes p rows (front.Malformed plant.0) t plant.2
+      | inr refused ↦ not_rows bytes p rows n t refused
+    ]
+  ]
+  table_or_refused bytes p rows (faults.Limit what) t short f = elim (limit_cases bytes what f) [
+    | inl long ↦ long.1 short
+    | inr plant ↦ not_plant bytes p rows (front.Limit what) t plant.1
+  ]
+  table_or_refused bytes p rows faults.Memory t short f = f

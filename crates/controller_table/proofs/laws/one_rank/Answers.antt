@@ -1,0 +1,5 @@
+use Rattle.controller_table.proofs.OneTable as tables
+use Rattle.controller_table.proofs.laws.one_rank.Goals as goal
+
+pub returns : goal.returns
+returns c = tables.one_rank c.one_table_per_text.ensures
