@@ -1,68 +1,49 @@
--- Right rows bring the plant into its target: by induction on the noises, from the refinement step.
-use Rattle.std.proofs.Common.{◌≡◌, ℕ, zero, suc, ◌<◌, ◌≤◌, List, [], ◌∷◌, length, Option, Some, None, refl, arith, inl, inr}
+-- A right table drives its plant: by induction on the noises.
+use Rattle.std.proofs.Common.{◌≡◌, ℕ, zero, suc, ◌≤◌, List, [], ◌∷◌, length, Option, refl, subst, arith, inl, inr}
 use Rattle.std.specs.Prelude.{ℤ}
-use Rattle.std.specs.List.{All, Any, AllByRecursion}
-use Rattle.std.proofs.lemmas.List.{get_or_past}
-use Rattle.std.proofs.lemmas.Bool.{cases_lt}
-use Rattle.std.proofs.lemmas.List.Elements.{recursion_from_All, All-contains}
+use Rattle.std.specs.List.{AllByRecursion}
+use Rattle.std.proofs.lemmas.List.Elements.{recursion_from_All}
 use Rattle.game_core.specs.declared.game.Row.{Row}
-use Rattle.game_core.specs.declared.game.Mark.TheVariants.{Goal, Obstacle}
-use Rattle.game_core.specs.Game.{Game, mark_of, successors_of}
-use Rattle.game_core.specs.Solution.{row_of, HasRowBelow, LeadsToGoals}
-use Rattle.grid_quantiser.specs.Cells.{IsInDomain, cell_of}
-use Rattle.grid_quantiser.specs.Boxes.{IsInBox, Touches, LiesInside}
-use Rattle.plant_text.specs.declared.plant.aims.StateBox.{StateBox}
-use Rattle.plant_text.specs.plant.Description.{Description, axes_of}
+use Rattle.game_core.specs.Game.{Game}
+use Rattle.plant_text.specs.declared.plant.aims.GoalKind.{GoalKind}
+use Rattle.plant_text.specs.declared.plant.aims.GoalKind.TheVariants.{Reach, Keep}
+use Rattle.plant_text.specs.plant.Description.{Description}
 use Rattle.plant_text.specs.plant.Steps.{step_of, IsNoise}
-use Rattle.plant_text.specs.plant.Marks.{IsGoalCell, IsObstacleCell}
-use Rattle.abstraction_table.specs.Abstraction.{IsGameOf}
-use Rattle.plant_refine.specs.Arrives.{LiesInSome, IsClear, HasRowAt, Arrives}
-use Rattle.plant_refine.specs.Refinement.{IsRefinement}
+use Rattle.controller_table.specs.Choice.{Applies, HasRowAt, HasRank}
+use Rattle.controller_table.specs.Laws.{OneTablePerText}
+use Rattle.controller_table.specs.Tables.{IsTable}
+use Rattle.plant_refine.specs.Drives.{Comes, Drives}
+use Rattle.plant_refine.proofs.Leading.{Guides, clear_at, arrived_at, next_row}
 
-pub any_other : (P Q : StateBox → Type 0) (boxes : List StateBox) → ((b : StateBox) → P b → Q b) → Any P boxes → Any Q boxes
-any_other P Q boxes f a = (a.0, a.1, a.2, a.3, f a.1 a.4)
+applies : (goal : GoalKind) (k u : ℕ) → Applies goal (record { rank = suc k; input = u }) u
+applies Reach k u = (omega arith, refl)
+applies Keep k u = refl
 
-module _ (p : Description) (g : Game) (rows : List (Option Row)) (abstraction : IsGameOf p g) (leads : LeadsToGoals g rows) (refined : IsRefinement p g) (one_each : length rows ≡ g.cells) where
-  -- a row stands at a cell alone
-  cell_below : (c : ℕ) (row : Row) → row_of rows c ≡ Some row → c < g.cells
-  cell_below c row is =
-      elim (cases_lt c (length rows)) [
-        | inl lt ↦ omega (arith, lt, one_each)
-        | inr past ↦ absurd (let none : row_of rows c ≡ None = get_or_past rows c None past in cc)
-      ]
+-- the row that the bytes have at a state is that of the table
+pub row_of_table : OneTablePerText → (bytes : List ℕ) (p : Description) (rows : List (Option Row)) (x : List ℤ) (k : ℕ) → IsTable bytes p rows → HasRank bytes x k → (row : Row) × HasRowAt p rows x row × (row.rank ≡ k)
+row_of_table one bytes p rows x k table h =
+    let same : (h.plant ≡ p) × (h.rows ≡ rows) = one bytes h.plant p h.rows rows h.table table in
+    let has : HasRowAt p h.rows x h.row = subst (λ (q : Description). HasRowAt q h.rows x h.row) same.0 h.has in
+    (h.row, subst (λ (r : List (Option Row)). HasRowAt p r x h.row) same.1 has, h.ranked)
 
-  clear_at : (x : List ℤ) (row : Row) → HasRowAt p rows x row → IsClear p x
-  clear_at x row h = (
-    h.0,
-    λ met.
-        let c : ℕ = cell_of (axes_of p) x in
-        let touched : IsObstacleCell p c = any_other (λ b. IsInBox (axes_of p) b.low b.high x) (λ b. Touches (axes_of p) c b.low b.high) p.obstacles (λ b inside. (x, (h.0, refl), inside)) met in
-        let marked : mark_of g c ≡ Obstacle = (abstraction.obstacles c (cell_below c row h.1)).1 touched in
-        let none : row_of rows c ≡ None = leads.clear c marked in
-        let is : row_of rows c ≡ Some row = h.1 in cc,
-  )
-
-  arrived_at : (x : List ℤ) (u : ℕ) → HasRowAt p rows x (record { rank = 0; input = u }) → LiesInSome p p.targets x
-  arrived_at x u h =
-      let c : ℕ = cell_of (axes_of p) x in
-      let marked : mark_of g c ≡ Goal = leads.arrived c u h.1 in
-      let goal : IsGoalCell p c = (abstraction.goals c (cell_below c (record { rank = 0; input = u }) h.1)).0 marked in
-      any_other (λ b. LiesInside (axes_of p) c b.low b.high) (λ b. IsInBox (axes_of p) b.low b.high x) p.targets (λ b all. all x (h.0, refl)) goal.1
-
+module _ {p : Description} {g : Game} {rows : List (Option Row)} (h : Guides p g rows) (bytes : List ℕ) (table : IsTable bytes p rows) where
   -- from a state with a row, under at least so many noises as its rank
-  arrives : (ws : List (List ℤ)) (x : List ℤ) (rank u : ℕ) → HasRowAt p rows x (record { rank = rank; input = u }) → rank ≤ length ws → AllByRecursion (IsNoise p.noises) ws → Arrives p rows x ws
-  arrives [] x zero u h enough noises = (clear_at x (record { rank = 0; input = u }) h, arrived_at x u h)
-  arrives [] x (suc k) u h enough noises = absurd (omega (arith, enough))
-  arrives (w ∷ ws) x zero u h enough noises = (clear_at x (record { rank = 0; input = u }) h, inl (arrived_at x u h))
-  arrives (w ∷ ws) x (suc k) u h enough noises =
-      let c : ℕ = cell_of (axes_of p) x in
-      let lt : c < g.cells = cell_below c (record { rank = suc k; input = u }) h.1 in
-      let down = leads.descends c k u h.1 in
-      let next : List ℤ = step_of p x u w in
-      let inside : IsInDomain (axes_of p) next = refined.inside c u x w lt down.0 (h.0, refl) noises.0 in
-      let lower : HasRowBelow rows (suc k) (cell_of (axes_of p) next) = All-contains (HasRowBelow rows (suc k)) (successors_of g c u) (cell_of (axes_of p) next) down.1 (refined.among c u x w lt down.0 (h.0, refl) noises.0) in
-      let below = lower.below in
-      (clear_at x (record { rank = suc k; input = u }) h, inr (u, (k, h), arrives ws next lower.row.rank lower.row.input (inside, lower.is) (omega (arith, below, enough)) noises.1))
+  comes : (ws : List (List ℤ)) (x : List ℤ) (rank u : ℕ) → HasRowAt p rows x (record { rank = rank; input = u }) → rank ≤ length ws → AllByRecursion (IsNoise p.noises) ws → Comes p bytes x ws
+  comes [] x zero u has enough noises = (clear_at h x (record { rank = 0; input = u }) has, arrived_at h x u has)
+  comes [] x (suc k) u has enough noises = absurd (omega (arith, enough))
+  comes (w ∷ ws) x zero u has enough noises = (clear_at h x (record { rank = 0; input = u }) has, inl (arrived_at h x u has))
+  comes (w ∷ ws) x (suc k) u has enough noises =
+      let next = next_row h x w k u has noises.0 in
+      let below = next.2 in (
+        clear_at h x (record { rank = suc k; input = u }) has,
+        inr (
+          u,
+          record { plant = p; rows = rows; table = table; chosen = (record { rank = suc k; input = u }, has, applies p.goal k u) },
+          comes ws (step_of p x u w) next.0.rank next.0.input next.1 (omega (arith, below, enough)) noises.1,
+        ),
+      )
 
-  pub rows_drive : (x : List ℤ) (row : Row) (ws : List (List ℤ)) → HasRowAt p rows x row → row.rank ≤ length ws → All (IsNoise p.noises) ws → Arrives p rows x ws
-  rows_drive x row ws h enough noises = arrives ws x row.rank row.input h enough (recursion_from_All (IsNoise p.noises) ws noises)
+  pub table_drives : OneTablePerText → Drives p bytes
+  table_drives one x k ws rank len noises =
+      let row = row_of_table one bytes p rows x k table rank in
+      comes ws x row.0.rank row.0.input row.1 (omega (arith, row.2, len)) (recursion_from_All (IsNoise p.noises) ws noises)

@@ -1,32 +1,26 @@
--- What holds of every plant and its game.
-use Rattle.std.specs.Prelude.{◌≤◌, ℤ, List, length, Option}
-use Rattle.std.specs.List.{All}
+-- What holds of every plant, its game and its table.
+use Rattle.std.specs.Prelude.{◌≡◌, ℕ, List, Option}
 use Rattle.game_core.specs.declared.game.Row.{Row}
 use Rattle.game_core.specs.Game.{Game}
 use Rattle.game_core.specs.Keep.{IsKeepSolution}
 use Rattle.game_core.specs.Right.{AreRight}
+use Rattle.plant_text.specs.declared.plant.aims.GoalKind.TheVariants.{Keep}
 use Rattle.plant_text.specs.plant.Description.{Description}
 use Rattle.plant_text.specs.plant.Plants.{IsPlant}
-use Rattle.plant_text.specs.plant.Steps.{IsNoise}
+use Rattle.controller_table.specs.Tables.{IsTable}
 use Rattle.abstraction_table.specs.Abstraction.{IsGameOf}
-use Rattle.plant_refine.specs.Arrives.{HasRowAt, Arrives}
+use Rattle.plant_refine.specs.Drives.{Drives}
 use Rattle.plant_refine.specs.Refinement.{IsRefinement}
-use Rattle.plant_refine.specs.Remains.{Remains}
+use Rattle.plant_refine.specs.Stays.{Stays}
 
 -- a game refines the plant whose game it is
 abbrev pub GamesRefineTheirPlants : Type 0
 GamesRefineTheirPlants = (p : Description) (g : Game) → IsPlant p → IsGameOf p g → IsRefinement p g
 
--- right rows of a plant's game bring the plant into its target: from each state whose cell has a row, under at
--- least as many noises in range as the row's rank
-abbrev pub RightRowsDrivePlants : Type 0
-RightRowsDrivePlants =
-    (p : Description) (g : Game) (rows : List (Option Row)) (x : List ℤ) (row : Row) (ws : List (List ℤ)) → IsPlant p → IsGameOf p g → AreRight g rows →
-    HasRowAt p rows x row → row.rank ≤ length ws → All (IsNoise p.noises) ws → Arrives p rows x ws
+-- a table all of whose cells are right drives its plant
+abbrev pub RightTablesDrivePlants : Type 0
+RightTablesDrivePlants = (bytes : List ℕ) (p : Description) (g : Game) (rows : List (Option Row)) → IsTable bytes p rows → IsGameOf p g → AreRight g rows → Drives p bytes
 
--- the rows of the keep solution of a plant's game keep the plant in cells with rows, and past no obstacle: from each
--- state whose cell has a row, under any noises in range
-abbrev pub KeptRowsKeepPlants : Type 0
-KeptRowsKeepPlants =
-    (p : Description) (g : Game) (rows : List (Option Row)) (x : List ℤ) (row : Row) (ws : List (List ℤ)) → IsPlant p → IsGameOf p g → IsKeepSolution g rows →
-    HasRowAt p rows x row → All (IsNoise p.noises) ws → Remains p rows x ws
+-- a table of the keep solution of a plant's game keeps the plant
+abbrev pub KeptTablesKeepPlants : Type 0
+KeptTablesKeepPlants = (bytes : List ℕ) (p : Description) (g : Game) (rows : List (Option Row)) → p.goal ≡ Keep → IsTable bytes p rows → IsGameOf p g → IsKeepSolution g rows → Stays p bytes

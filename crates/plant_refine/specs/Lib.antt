@@ -1,4 +1,4 @@
 pub mod Refinement
-pub mod Arrives
-pub mod Remains
+pub mod Drives
+pub mod Stays
 pub mod Laws

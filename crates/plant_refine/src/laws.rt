@@ -1,8 +1,9 @@
-//! What holds of every plant and its game.
+//! What holds of every plant, its game and its table.
 
-ghost use Rattle.plant_refine.specs.Laws.{GamesRefineTheirPlants, RightRowsDrivePlants, KeptRowsKeepPlants};
+ghost use Rattle.plant_refine.specs.Laws.{GamesRefineTheirPlants, RightTablesDrivePlants, KeptTablesKeepPlants};
 
-use game_core::laws::{right_rows_are_the_solution, rows_lead_to_goals};
+use controller_table::laws::one_table_per_text;
+use game_core::laws::{right_rows_are_the_solution, rows_lead_to_goals, rows_stand_at_cells};
 use grid_quantiser::laws::every_state_has_a_cell;
 use plant_text::laws::plants_are_sound;
 use successor_box::laws::{enabled_pairs_have_successors, steps_lie_in_the_boxes};
@@ -16,21 +17,25 @@ pub fn games_refine_their_plants()
     enabled_pairs_have_successors();
 }
 
-/// Right rows of a plant's game bring the plant into its target, within as many samples as their ranks
-/// say and past no obstacle. After arrival nothing is said.
-pub fn right_rows_drive_plants()
-    ensures { RightRowsDrivePlants }
+/// A table all of whose cells are right brings its plant into the target, within as many samples as
+/// the ranks say and past no obstacle. After arrival nothing is said.
+pub fn right_tables_drive_plants()
+    ensures { RightTablesDrivePlants }
 {
     games_refine_their_plants();
     right_rows_are_the_solution();
     rows_lead_to_goals();
+    rows_stand_at_cells();
+    one_table_per_text();
 }
 
-/// The rows of the keep solution of a plant's game keep the plant for ever.
-pub fn kept_rows_keep_plants()
-    ensures { KeptRowsKeepPlants }
+/// A table of the keep solution keeps its plant for ever.
+pub fn kept_tables_keep_plants()
+    ensures { KeptTablesKeepPlants }
 {
     plants_are_sound();
     every_state_has_a_cell();
     games_refine_their_plants();
+    rows_stand_at_cells();
+    one_table_per_text();
 }
