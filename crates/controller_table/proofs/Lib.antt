@@ -15,3 +15,5 @@ pub mod ReadTable
 pub mod SolutionsFit
 pub mod OneTable
 pub mod OneRefusal
+pub mod PlantLength
+pub mod ShortTables

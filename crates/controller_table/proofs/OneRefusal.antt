@@ -1,6 +1,6 @@
 -- A text has one reason to be refused as a table, and none where it is one.
-use Rattle.std.proofs.Common.{inl, inr, ◌≡◌, ◌⊎◌, ℕ, zero, suc, ◌+◌, ◌<◌, ◌≤◌, List, [], ◌∷◌, ◌++◌, length, length-append, map, take, drop, get_or, Option, refl, sym, ap, subst, ◌∙◌, append_assoc, append-nil, arith}
-use Rattle.std.specs.List.{All, AllPairs, AllByRecursion, concat}
+use Rattle.std.proofs.Common.{inl, inr, ◌≡◌, ◌⊎◌, ℕ, zero, suc, ◌+◌, ◌<◌, ◌≤◌, List, [], ◌∷◌, ◌++◌, length, length-append, take, get_or, Option, refl, sym, ap, subst, ◌∙◌, append_assoc, append-nil, arith}
+use Rattle.std.specs.List.{AllPairs, AllByRecursion, concat}
 use Rattle.std.proofs.lemmas.List.{take_all, length-take, take-map, take-append-le, get_or-take}
 use Rattle.std.proofs.lemmas.List.Elements.{All-take}
 use Rattle.std.proofs.Math.Seq.{take-append_seam}
@@ -16,13 +16,12 @@ use Rattle.plant_text.specs.writing.CanonicalText.{text_of}
 use Rattle.plant_text.specs.reading.CanonicalFronts.{IsFront, IsFrontRefusedFor}
 use Rattle.plant_text.specs.Laws.{OnePlantAtTheFront, OneFrontRefusal, FrontReadOrRefused}
 use Rattle.controller_table.specs.declared.entry.Entry.{Entry}
-use Rattle.controller_table.specs.declared.fault.TableFault.{TableFault}
 use Rattle.controller_table.specs.declared.fault.TableFault.TheVariants as faults
-use Rattle.controller_table.specs.TableText.{Version, First, entry_line, count_line, end_line, version_line, row_lines, lines_behind, table_text}
+use Rattle.controller_table.specs.TableText.{Version, First, entry_line, count_line, end_line, version_line, lines_behind}
 use Rattle.controller_table.specs.Tables.{RowsFit, IsTable}
-use Rattle.controller_table.specs.RowLines.{IsEntryOf, AreEntriesOf, AreRowLines, AreBegun, AreWhole, MayStand, IsFirstRefusedBehind}
-use Rattle.controller_table.specs.Refusals.{IsShortTable, line_count, HasNoVersion, IsPlantRefusedFor, AreRowsRefusedAt, IsFirstRefusedInTable, IsTableRefusedFor, ExceedsTableLimit}
-use Rattle.controller_table.specs.Laws.{OneTableRefusal, TableOrRefused}
+use Rattle.controller_table.specs.RowLines.{IsEntryOf, AreEntriesOf, AreRowLines, AreWhole, MayStand, IsFirstRefusedBehind}
+use Rattle.controller_table.specs.Refusals.{IsShortTable, line_count, HasNoVersion, IsPlantRefusedFor, AreRowsRefusedAt, IsFirstRefusedInTable, ExceedsTableLimit}
+use Rattle.controller_table.specs.Laws.{OneTableRefusal, TableOrRefused, TablesAreShort}
 use Rattle.controller_table.specs.inside.Reading.{IsLine}
 use Rattle.controller_table.proofs.Lines.{one_line}
 use Rattle.controller_table.proofs.EntryLines.{count_is_line}
@@ -291,16 +290,16 @@ module _ (apart : OnePlantAtTheFront) (one : OneFrontRefusal) (none : FrontReadO
       (subst (λ (v : Version). IsFirstRefusedBehind v k.plant k.rest k.line) behind.0 k.refused)) in
       whole_not_refused t.version p rows k.line t.limits t.fitting moved
 
-  pub table_or_refused : TableOrRefused
-  table_or_refused bytes p rows (faults.Malformed n) t short f = elim f.1 [
+  pub table_or_refused : TablesAreShort → TableOrRefused
+  table_or_refused short bytes p rows (faults.Malformed n) t f = elim f.1 [
     | inl bare ↦ bare.1 t.version (text_of p ++ concat (lines_behind t.version p.goal rows)) (table_rest bytes p rows t)
     | inr first ↦ elim first [
       | inl plant ↦ not_plant bytes p rows (front.Malformed plant.0) t plant.2
       | inr refused ↦ not_rows bytes p rows n t refused
     ]
   ]
-  table_or_refused bytes p rows (faults.Limit what) t short f = elim (limit_cases bytes what f) [
-    | inl long ↦ long.1 short
+  table_or_refused short bytes p rows (faults.Limit what) t f = elim (limit_cases bytes what f) [
+    | inl long ↦ long.1 (short bytes p rows t)
     | inr plant ↦ not_plant bytes p rows (front.Limit what) t plant.1
   ]
-  table_or_refused bytes p rows faults.Memory t short f = f
+  table_or_refused short bytes p rows faults.Memory t f = f

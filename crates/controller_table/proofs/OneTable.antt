@@ -1,9 +1,9 @@
 -- Bytes are the table of one plant and of one list of rows.
-use Rattle.std.proofs.Common.{inl, inr, ◌≡◌, ◌⊎◌, ℕ, suc, ◌+◌, ◌<◌, ◌≤◌, List, [], ◌∷◌, ◌++◌, length, length-append, map, drop, Option, Some, None, refl, sym, ap, subst, ◌∙◌, append_assoc, append-nil, arith}
+use Rattle.std.proofs.Common.{◌≡◌, ℕ, suc, ◌+◌, ◌<◌, ◌≤◌, List, [], ◌∷◌, ◌++◌, length, length-append, map, drop, Option, Some, None, refl, sym, ap, subst, ◌∙◌, append_assoc, arith}
 use Rattle.std.specs.Prelude.{ℤ, IfSome}
-use Rattle.std.specs.List.{All, AllPairs, AllByRecursion, concat}
+use Rattle.std.specs.List.{AllPairs, AllByRecursion, concat}
 use Rattle.std.proofs.lemmas.List.{length-map}
-use Rattle.std.proofs.lemmas.List.Elements.{recursion_from_All, All-from_recursion, All-nil}
+use Rattle.std.proofs.lemmas.List.Elements.{recursion_from_All, All-from_recursion}
 use Rattle.std.proofs.lemmas.List.Kept.{AllPairs-cons}
 use Rattle.game_core.specs.declared.game.Row.{Row}
 use Rattle.game_core.specs.Solution.{row_of}
@@ -16,9 +16,9 @@ use Rattle.plant_text.specs.plant.Limits.{IsWithinLimits}
 use Rattle.plant_text.specs.writing.CanonicalText.{text_of}
 use Rattle.plant_text.specs.Laws.{OnePlantAtTheFront}
 use Rattle.controller_table.specs.declared.entry.Entry.{Entry}
-use Rattle.controller_table.specs.TableText.{Version, First, entries_from, entry_line, count_line, end_line, version_line, row_lines, lines_behind, table_text}
+use Rattle.controller_table.specs.TableText.{Version, First, entries_from, entry_line, count_line, end_line, version_line, row_lines, lines_behind}
 use Rattle.controller_table.specs.Tables.{IsRowOf, RowsFit, IsTable}
-use Rattle.controller_table.specs.Choice.{HasRowAt, Applies, IsChoice, HasRank}
+use Rattle.controller_table.specs.Choice.{HasRowAt, Applies}
 use Rattle.controller_table.specs.RowLines.{IsEntryOf, AreEntriesOf, AreRowLines, AreWhole}
 use Rattle.controller_table.specs.Laws.{OneTablePerText, OneChoice, OneRank}
 use Rattle.controller_table.specs.inside.Reading.{IsLine}
@@ -48,7 +48,7 @@ rising c [] = λ i j d lt bound. absurd (omega (arith, bound))
 rising c (None ∷ rows) = rising (suc c) rows
 rising c (Some row ∷ rows) =
     AllPairs-cons (λ (d e : Entry). d.cell < e.cell) (record { cell = c; row = row }) (entries_from (suc c) rows)
-        (All-from_recursion (λ (e : Entry). c < e.cell) (entries_from (suc c) rows) (above c (suc c) rows (omega arith))) (rising (suc c) rows)
+    (All-from_recursion (λ (e : Entry). c < e.cell) (entries_from (suc c) rows) (above c (suc c) rows (omega arith))) (rising (suc c) rows)
   where
     above : (c d : ℕ) (rows : List (Option Row)) → c < d → AllByRecursion (λ e. c < e.cell) (entries_from d rows)
     above c d [] lt = tt
@@ -61,7 +61,7 @@ fitting_entries p rows fit = record {
   each = All-from_recursion (IsEntryOf p) (entries_from 0 rows) (entries_of p 0 rows (omega (arith, fit.one_each)) (recursion_from_All (λ row. IfSome row (IsRowOf p)) rows fit.each));
 }
 
-few_entries : (c : ℕ) (rows : List (Option Row)) → length (entries_from c rows) ≤ length rows
+pub few_entries : (c : ℕ) (rows : List (Option Row)) → length (entries_from c rows) ≤ length rows
 few_entries c [] = omega arith
 few_entries c (None ∷ rows) = omega (arith, few_entries (suc c) rows)
 few_entries c (Some row ∷ rows) = omega (arith, few_entries (suc c) rows)
@@ -126,6 +126,7 @@ same_entries p (d ∷ es) (f ∷ fs) within h k e =
   where
     first_same : (x y : List ℕ) (xs ys : List (List ℕ)) → x ∷ xs ≡ y ∷ ys → x ≡ y
     first_same x y xs ys e = cc
+
     rest_same : (x y : List ℕ) (xs ys : List (List ℕ)) → x ∷ xs ≡ y ∷ ys → xs ≡ ys
     rest_same x y xs ys e = cc
 
@@ -153,13 +154,13 @@ same_rows c (Some a ∷ rows) (Some b ∷ others) len e =
 rows_told : (v : Version) (p : Description) (rows others : List (Option Row)) → IsWithinLimits p → RowsFit p rows → RowsFit p others → row_lines v p.goal rows ≡ row_lines v p.goal others → rows ≡ others
 rows_told First p rows others within h k e =
     same_rows 0 rows others (h.one_each ∙ sym k.one_each)
-        (same_entries p (entries_from 0 rows) (entries_from 0 others) within (recursion_from_All (IsEntryOf p) (entries_from 0 rows) (fitting_entries p rows h).each) (recursion_from_All (IsEntryOf p) (entries_from 0 others) (fitting_entries p others k).each) e)
+    (same_entries p (entries_from 0 rows) (entries_from 0 others) within (recursion_from_All (IsEntryOf p) (entries_from 0 rows) (fitting_entries p rows h).each) (recursion_from_All (IsEntryOf p) (entries_from 0 others) (fitting_entries p others k).each) e)
 
 behind_told : (v : Version) (p : Description) (rows others : List (Option Row)) → IsWithinLimits p → RowsFit p rows → RowsFit p others → concat (lines_behind v p.goal rows) ≡ concat (lines_behind v p.goal others) → rows ≡ others
 behind_told v p rows others within h k e =
     let lines = same_lines (lines_behind v p.goal rows) (lines_behind v p.goal others)
-        (whole_are_lines v p (lines_behind v p.goal rows) within (whole_lines v p rows h))
-        (whole_are_lines v p (lines_behind v p.goal others) within (whole_lines v p others k)) e in
+    (whole_are_lines v p (lines_behind v p.goal rows) within (whole_lines v p rows h))
+    (whole_are_lines v p (lines_behind v p.goal others) within (whole_lines v p others k)) e in
     rows_told v p rows others within h k (same_front (row_lines v p.goal rows) (row_lines v p.goal others) end_line (tails (count_line (length (row_lines v p.goal rows))) (count_line (length (row_lines v p.goal others))) _ _ lines))
   where
     tails : (x y : List ℕ) (xs ys : List (List ℕ)) → x ∷ xs ≡ y ∷ ys → xs ≡ ys

@@ -24,12 +24,16 @@ OneChoice = (bytes : List ℕ) (x : List ℤ) (u v : ℕ) → IsChoice bytes x u
 abbrev pub OneRank : Type 0
 OneRank = (bytes : List ℕ) (x : List ℤ) (j k : ℕ) → HasRank bytes x j → HasRank bytes x k → j ≡ k
 
--- a text has one reason to be refused, and none where it is a table within the limit on its bytes
+-- a text has one reason to be refused, and none where it is a table
 abbrev pub OneTableRefusal : Type 0
 OneTableRefusal = (bytes : List ℕ) (f g : TableFault) → IsTableRefusedFor bytes f → IsTableRefusedFor bytes g → f ≡ g
 
 abbrev pub TableOrRefused : Type 0
-TableOrRefused = (bytes : List ℕ) (p : Description) (rows : List (Option Row)) (f : TableFault) → IsTable bytes p rows → IsShortTable bytes → IsTableRefusedFor bytes f → ⊥
+TableOrRefused = (bytes : List ℕ) (p : Description) (rows : List (Option Row)) (f : TableFault) → IsTable bytes p rows → IsTableRefusedFor bytes f → ⊥
+
+-- a table's text is within the limit on its bytes
+abbrev pub TablesAreShort : Type 0
+TablesAreShort = (bytes : List ℕ) (p : Description) (rows : List (Option Row)) → IsTable bytes p rows → IsShortTable bytes
 
 -- A game in memory over a plant's cells and input vectors.
 pub record IsGraphOver (p : Description) (g : Game) : Type 0 where

@@ -2,7 +2,7 @@
 
 ghost use Rattle.plant_text.specs.plant.Limits.{IsWithinLimits};
 ghost use Rattle.controller_table.specs.Tables.{RowsFit};
-ghost use Rattle.controller_table.specs.Laws.{OneTablePerText, OneChoice, OneRank, OneTableRefusal, TableOrRefused, ReachSolutionsFit, KeepSolutionsFit};
+ghost use Rattle.controller_table.specs.Laws.{OneTablePerText, OneChoice, OneRank, OneTableRefusal, TableOrRefused, TablesAreShort, ReachSolutionsFit, KeepSolutionsFit};
 
 use crate::table::Table;
 use game_core::laws::ranks_are_below_the_cells;
@@ -40,6 +40,11 @@ pub fn one_table_refusal()
     front_read_or_refused();
 }
 
+/// A table's text has at most as many bytes as are read.
+pub fn tables_are_short()
+    ensures { TablesAreShort }
+{}
+
 /// No table is refused.
 pub fn table_or_refused()
     ensures { TableOrRefused }
@@ -47,6 +52,7 @@ pub fn table_or_refused()
     one_plant_at_the_front();
     one_front_refusal();
     front_read_or_refused();
+    tables_are_short();
 }
 
 /// The rows of the reach solution of a game over a plant's cells and input vectors fit the plant.

@@ -20,8 +20,6 @@ mod table;
 mod writer;
 
 pub use fault::{NoMemory, TableFault};
-pub use game_core::{Answer, Row};
-pub use plant_text::{LimitKind, Plant};
 pub use reader::{TABLE_LIMIT, read_table};
 pub use table::Table;
 pub use writer::TableWriter;

@@ -1,0 +1,5 @@
+use Rattle.controller_table.proofs.ShortTables as short
+use Rattle.controller_table.proofs.laws.tables_are_short.Goals as goal
+
+pub returns : goal.returns
+returns c = short.tables_are_short
