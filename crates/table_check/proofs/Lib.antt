@@ -1,0 +1,4 @@
+pub mod Best
+pub mod Lost
+pub mod Fitting
+pub mod Verdicts

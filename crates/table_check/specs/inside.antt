@@ -1,0 +1,2 @@
+-- What only tests and proofs name.
+pub mod Below

@@ -1,0 +1,116 @@
+ghost use Rattle.std.specs.Prelude.{◌≡◌, ℕ, ◌<◌, ◌≤◌, ◌↔◌, IsTrue};
+ghost use Rattle.grid_quantiser.specs.Axes.{cells_of};
+ghost use Rattle.plant_text.specs.declared.plant.aims.GoalKind.TheVariants.{Reach};
+ghost use Rattle.plant_text.specs.plant.Description.{axes_of, vectors_of};
+ghost use Rattle.game_core.specs.Game.{pair_of, pairs_of, mark_of};
+ghost use Rattle.game_core.specs.Solution.{row_of, HasRowBelow};
+ghost use Rattle.game_core.specs.Right.{IsLost, IsRight, IsRightPlain, IsRightRanked};
+ghost use Rattle.table_check.specs.inside.Below.{LeadsBelow, NoneLeadsBelow};
+
+use controller_table::Table;
+use controller_table::laws::every_table_fits;
+use game_core::{Graph, Mark, Row};
+
+/// A reach table, to be judged cell by cell against a game over its cells and inputs.
+#[derive(Drop)]
+pub(crate) struct Judge<'a, G: Graph> {
+    graph: &'a G,
+    table: &'a Table,
+    ghost ranked: { table.now.plant.goal ≡ Reach },
+    ghost same_cells: { (G.game graph.now).cells ≡ cells_of (axes_of table.now.plant) },
+    ghost same_inputs: { (G.game graph.now).inputs ≡ vectors_of table.now.plant.inputs },
+}
+
+impl<'a, G: Graph> Judge<'a, G> {
+    pub(crate) fn new(graph: &'a G, table: &'a Table) -> Judge<'a, G>
+        requires ranked { table.now.plant.goal ≡ Reach }
+        requires same_cells { (G.game graph.now).cells ≡ cells_of (axes_of table.now.plant) }
+        requires same_inputs { (G.game graph.now).inputs ≡ vectors_of table.now.plant.inputs }
+        ensures graph { result.graph.now ≡ graph.now }
+        ensures table { result.table.now ≡ table.now }
+    {
+        Judge { graph, table }
+    }
+
+    /// Whether a cell's row is right.
+    pub(crate) fn is_right(&self, c: u32) -> bool
+        requires { c < (G.game self.now.graph.now).cells }
+        ensures { IsTrue result ↔ IsRight (G.game self.now.graph.now) self.now.table.now.rows c }
+    {
+        every_table_fits(self.table);
+        let row = self.table.row(c);
+        match self.graph.mark(c) {
+            Mark::Obstacle => row.is_none(),
+            Mark::Goal => row == Some(Row { rank: 0, input: 0 }),
+            Mark::Plain => match row {
+                Some(row) => self.is_best(c, row),
+                None => self.is_lost(c),
+            },
+        }
+    }
+
+    /// Whether the row of a plain cell is right.
+    fn is_best(&self, c: u32, row: Row) -> bool
+        requires cell { c < (G.game self.now.graph.now).cells }
+        requires input { row.input < (G.game self.now.graph.now).inputs }
+        ensures { IsTrue result ↔ IsRightRanked (G.game self.now.graph.now) self.now.table.now.rows c row.rank row.input }
+    {
+        let inputs = self.graph.inputs();
+        row.rank > 0
+            && self.leads_below(c * inputs + row.input, row.rank)
+            && self.none_leads_below(c, 0, row.input, row.rank)
+            && self.none_leads_below(c, row.input, inputs, row.rank - 1)
+    }
+
+    /// Whether a plain cell is right to have no row. No rank is as great as the number of cells.
+    fn is_lost(&self, c: u32) -> bool
+        requires { c < (G.game self.now.graph.now).cells }
+        ensures { IsTrue result ↔ IsLost (G.game self.now.graph.now) self.now.table.now.rows c }
+    {
+        every_table_fits(self.table);
+        self.none_leads_below(c, 0, self.graph.inputs(), self.graph.cells())
+    }
+
+    /// Whether no input of a range leads from a cell to ranks below the bound alone.
+    fn none_leads_below(&self, c: u32, from: u32, to: u32, bound: u32) -> bool
+        requires cell { c < (G.game self.now.graph.now).cells }
+        requires inputs { to ≤ (G.game self.now.graph.now).inputs }
+        ensures { IsTrue result ↔ NoneLeadsBelow (G.game self.now.graph.now) self.now.table.now.rows c from to bound }
+    {
+        let first = c * self.graph.inputs();
+        for input in from..to {
+            if self.leads_below(first + input, bound) {
+                return false;
+            }
+        }
+        true
+    }
+
+    /// Whether a pair has successors, all with rows of ranks below the bound. The corners of a box come first, since
+    /// they mostly tell that it isn't so.
+    fn leads_below(&self, pair: u32, bound: u32) -> bool
+        requires { pair < pairs_of (G.game self.now.graph.now) }
+        ensures { IsTrue result ↔ LeadsBelow (G.game self.now.graph.now) self.now.table.now.rows pair bound }
+    {
+        let fan = self.graph.fan(pair);
+        if fan == 0 || !self.has_row_below(self.graph.successor(pair, fan - 1), bound) {
+            return false;
+        }
+        for at in 0..fan - 1 {
+            if !self.has_row_below(self.graph.successor(pair, at), bound) {
+                return false;
+            }
+        }
+        true
+    }
+
+    fn has_row_below(&self, c: u32, bound: u32) -> bool
+        requires { c < (G.game self.now.graph.now).cells }
+        ensures { IsTrue result ↔ HasRowBelow self.now.table.now.rows bound c }
+    {
+        match self.table.row(c) {
+            Some(row) => row.rank < bound,
+            None => false,
+        }
+    }
+}

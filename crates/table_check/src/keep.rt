@@ -1,0 +1,40 @@
+ghost use Rattle.std.specs.Prelude.{◌≡◌, length, IfOk};
+ghost use Rattle.game_core.specs.Solution.{row_of};
+ghost use Rattle.grid_quantiser.specs.Axes.{cells_of};
+ghost use Rattle.plant_text.specs.declared.plant.aims.GoalKind.TheVariants.{Keep};
+ghost use Rattle.plant_text.specs.plant.Description.{axes_of, vectors_of};
+ghost use Rattle.table_check.specs.Verdicts.{IsVerdict, IsKeepVerdict};
+
+use crate::verdict::Verdict;
+use controller_table::Table;
+use controller_table::laws::every_table_fits;
+use game_core::laws::one_keep_solution;
+use game_core::{Answer, Graph, NoMemory, keep_plain};
+use std::alloc::Global;
+
+/// The verdict on the rows of a keep table, whose game is solved.
+pub fn check_keep<G: Graph>(alloc: Global, g: &G, t: &Table) -> Result<Verdict, NoMemory>
+    requires goal { t.now.plant.goal ≡ Keep }
+    requires cells { (G.game g.now).cells ≡ cells_of (axes_of t.now.plant) }
+    requires inputs { (G.game g.now).inputs ≡ vectors_of t.now.plant.inputs }
+    ensures { IfOk result (IsKeepVerdict (G.game g.now) t.now.rows) }
+{
+    one_keep_solution();
+    every_table_fits(t);
+    let kept = keep_plain(alloc, g)?;
+    Ok(compare(t, &kept))
+}
+
+/// The verdict on rows beside those that they should be.
+fn compare(t: &Table, answer: &Answer) -> Verdict
+    requires table { length t.now.rows ≡ cells_of (axes_of t.now.plant) }
+    requires answer { length answer.now ≡ cells_of (axes_of t.now.plant) }
+    ensures { IsVerdict (t.now.rows ≡ answer.now) (λ c. row_of t.now.rows c ≡ row_of answer.now c) (length answer.now) result }
+{
+    for c in 0..answer.cells() {
+        if t.row(c) != answer.row(c) {
+            return Verdict::Invalid { cell: c };
+        }
+    }
+    Verdict::Valid
+}

@@ -1,0 +1,31 @@
+ghost use Rattle.std.specs.Prelude.{◌≡◌};
+ghost use Rattle.grid_quantiser.specs.Axes.{cells_of};
+ghost use Rattle.plant_text.specs.declared.plant.aims.GoalKind.TheVariants.{Reach};
+ghost use Rattle.plant_text.specs.plant.Description.{axes_of, vectors_of};
+ghost use Rattle.table_check.specs.Verdicts.{IsReachVerdict};
+
+use crate::judge::Judge;
+use crate::verdict::Verdict;
+use controller_table::Table;
+use controller_table::laws::every_table_fits;
+use game_core::Graph;
+use game_core::laws::{right_rows_are_the_solution, solutions_are_right};
+
+/// The verdict on the rows of a reach table, by one look at each pair.
+pub fn check_reach<G: Graph>(g: &G, t: &Table) -> Verdict
+    requires goal { t.now.plant.goal ≡ Reach }
+    requires cells { (G.game g.now).cells ≡ cells_of (axes_of t.now.plant) }
+    requires inputs { (G.game g.now).inputs ≡ vectors_of t.now.plant.inputs }
+    ensures { IsReachVerdict (G.game g.now) t.now.rows result }
+{
+    right_rows_are_the_solution();
+    solutions_are_right();
+    every_table_fits(t);
+    let judge = Judge::new(g, t);
+    for c in 0..g.cells() {
+        if !judge.is_right(c) {
+            return Verdict::Invalid { cell: c };
+        }
+    }
+    Verdict::Valid
+}
