@@ -3,9 +3,8 @@ use Rattle.std.proofs.Common.{inl, inr, ◌≡◌, ℕ, List, Option, Some, None
 use Rattle.std.specs.Prelude.{IfSome}
 use Rattle.synth_run.specs.declared.form.Form.{Form}
 use Rattle.synth_run.specs.declared.outcome.Outcome.{Outcome}
-use Rattle.synth_run.specs.declared.outcome.Outcome.TheVariants.{Done, Usage, Malformed, Overflow, Limit, ReadFault, WriteFault, NoMemory, Unbuilt}
-use Rattle.synth_run.specs.Demands.{PlantTextDemands, Demands}
-use Rattle.synth_run.specs.Headline.{IsTableFor}
+use Rattle.synth_run.specs.declared.outcome.Outcome.TheVariants.{Done, Invalid, Usage, Malformed, Overflow, Limit, ReadFault, WriteFault, NoMemory, Unbuilt}
+use Rattle.synth_run.specs.Demands.{Demands}
 use Rattle.synth_run.specs.Laws.{OneDemandPerText}
 use Rattle.synth_run.specs.Statuses.{status_of, IsTheTexts}
 use Rattle.synth_run.specs.Runs.{IsCompleteAnswer}
@@ -18,12 +17,8 @@ answer_is_complete one form ReadFault (Some bytes) usage read write demanded = a
 answer_is_complete one form WriteFault (Some bytes) usage read write demanded = absurd (write refl)
 answer_is_complete one form NoMemory (Some bytes) usage read write demanded = λ other demands. inr refl
 answer_is_complete one form Done (Some bytes) usage read write demanded = λ other demands. inl (ap status_of (one form bytes Done other (demanded tt) demands))
+answer_is_complete one form (Invalid cell) (Some bytes) usage read write demanded = λ other demands. inl (ap status_of (one form bytes (Invalid cell) other (demanded tt) demands))
 answer_is_complete one form (Malformed line) (Some bytes) usage read write demanded = λ other demands. inl (ap status_of (one form bytes (Malformed line) other (demanded tt) demands))
 answer_is_complete one form (Overflow i u) (Some bytes) usage read write demanded = λ other demands. inl (ap status_of (one form bytes (Overflow i u) other (demanded tt) demands))
 answer_is_complete one form (Limit what) (Some bytes) usage read write demanded = λ other demands. inl (ap status_of (one form bytes (Limit what) other (demanded tt) demands))
 answer_is_complete one form Unbuilt (Some bytes) usage read write demanded = λ other demands. inl (ap status_of (one form bytes Unbuilt other (demanded tt) demands))
-
--- a text that has a table demands to be solved
-pub solved_is_demanded : (told : Option (List ℕ)) (text : List ℕ) → IfSome told (λ bytes. IsTableFor bytes text) → IfSome told (λ bytes. PlantTextDemands bytes Done)
-solved_is_demanded None text h = tt
-solved_is_demanded (Some bytes) text h = inr (h.0, h.1, h.2)

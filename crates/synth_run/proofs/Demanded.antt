@@ -1,22 +1,33 @@
--- A text demands one thing, and who solves it does what it demands.
-use Rattle.std.proofs.Common.{inl, inr, ◌≡◌, ℕ, ◌^◌, ◌<◌, ◌≤◌, List, sym, ap, subst, ◌∙◌, refl, arith}
+-- A text demands one thing.
+use Rattle.std.proofs.Common.{inl, inr, ◌≡◌, ℕ, ◌^◌, ◌<◌, ◌≤◌, List, Option, sym, ap, subst, ◌∙◌, refl, arith}
 use Rattle.std.proofs.lemmas.Bool.{cases_order}
 use Rattle.plant_text.specs.declared.fault.LimitKind.{LimitKind}
 use Rattle.plant_text.specs.declared.fault.LimitKind.TheVariants.{PlantText, TableText, Vectors, Cells, Pairs, Edges}
 use Rattle.plant_text.specs.declared.fault.PlantFault.{PlantFault}
-use Rattle.plant_text.specs.declared.fault.PlantFault.TheVariants as faults
+use Rattle.plant_text.specs.declared.fault.PlantFault.TheVariants as plants
+use Rattle.plant_text.specs.declared.plant.aims.GoalKind.{GoalKind}
 use Rattle.plant_text.specs.declared.plant.aims.GoalKind.TheVariants.{Reach, Keep}
 use Rattle.plant_text.specs.plant.Description.{Description}
 use Rattle.plant_text.specs.plant.Plants.{IsPlant}
 use Rattle.plant_text.specs.reading.Refusals.{IsRefusedFor}
 use Rattle.plant_text.specs.Laws.{OnePlantPerText, OneRefusal, ReadOrRefused}
 use Rattle.successor_box.specs.Deviations.{HasNoOverflow, IsFirstOverflow}
-use Rattle.abstraction_table.specs.Laws.{OneEdgeCount}
-use Rattle.synth_run.specs.declared.form.Form.TheVariants.{Synth}
+use Rattle.game_core.specs.declared.game.Row.{Row}
+use Rattle.game_core.specs.Game.{Game, IsGame}
+use Rattle.game_core.specs.Right.{IsRight, AreRight}
+use Rattle.game_core.specs.Solution.{IsReachSolution}
+use Rattle.abstraction_table.specs.Solution.{Solves, IsSolutionOf}
+use Rattle.abstraction_table.specs.Laws.{OneEdgeCount, OneGamePerPlant}
+use Rattle.controller_table.specs.declared.fault.TableFault.{TableFault}
+use Rattle.controller_table.specs.declared.fault.TableFault.TheVariants as tables
+use Rattle.controller_table.specs.Refusals.{IsTableRefusedFor}
+use Rattle.controller_table.specs.Laws.{OneTablePerText, OneTableRefusal, TableOrRefused}
+use Rattle.table_check.specs.Verdicts.{IsFirstWithout}
+use Rattle.synth_run.specs.declared.form.Form.TheVariants.{Synth, Check}
 use Rattle.synth_run.specs.declared.outcome.Outcome.{Outcome}
-use Rattle.synth_run.specs.declared.outcome.Outcome.TheVariants.{Done, Usage, Malformed, Overflow, Limit, ReadFault, WriteFault, NoMemory, Unbuilt}
-use Rattle.synth_run.specs.Demands.{IsRefused, HasEdges, ExceedsEdges, PlantDemands, PlantTextDemands}
-use Rattle.synth_run.specs.inside.Causes.{of_plant}
+use Rattle.synth_run.specs.declared.outcome.Outcome.TheVariants.{Done, Invalid, Usage, Malformed, Overflow, Limit, ReadFault, WriteFault, NoMemory, Unbuilt}
+use Rattle.synth_run.specs.Demands.{IsRefused, IsSolvable, HasEdges, ExceedsEdges, PlantDemands, PlantTextDemands, IsFirstWrong, TableDemands, IsRefusedTable, TableTextDemands}
+use Rattle.synth_run.specs.inside.Causes.{of_plant, of_table}
 use Rattle.synth_run.specs.Laws.{OneDemandPerText}
 
 not_both_goals : (p : Description) → p.goal ≡ Reach → p.goal ≡ Keep → ⊥
@@ -88,26 +99,31 @@ module _ (count : OneEdgeCount) where
   plant_demands_one p Unbuilt (Overflow i u) plant f g = absurd (not_both_goals p g.0 f)
   plant_demands_one p Unbuilt (Limit what) plant f g = let many = (exceeding p what g).1 in absurd (not_both_goals p many.1.reach f)
   plant_demands_one p Unbuilt Unbuilt plant f g = refl
+  plant_demands_one p (Invalid c) b plant f g = absurd f
   plant_demands_one p Usage b plant f g = absurd f
   plant_demands_one p (Malformed n) b plant f g = absurd f
   plant_demands_one p ReadFault b plant f g = absurd f
   plant_demands_one p WriteFault b plant f g = absurd f
   plant_demands_one p NoMemory b plant f g = absurd f
+  plant_demands_one p Done (Invalid c) plant f g = absurd g
   plant_demands_one p Done Usage plant f g = absurd g
   plant_demands_one p Done (Malformed n) plant f g = absurd g
   plant_demands_one p Done ReadFault plant f g = absurd g
   plant_demands_one p Done WriteFault plant f g = absurd g
   plant_demands_one p Done NoMemory plant f g = absurd g
+  plant_demands_one p (Overflow i u) (Invalid c) plant f g = absurd g
   plant_demands_one p (Overflow i u) Usage plant f g = absurd g
   plant_demands_one p (Overflow i u) (Malformed n) plant f g = absurd g
   plant_demands_one p (Overflow i u) ReadFault plant f g = absurd g
   plant_demands_one p (Overflow i u) WriteFault plant f g = absurd g
   plant_demands_one p (Overflow i u) NoMemory plant f g = absurd g
+  plant_demands_one p (Limit what) (Invalid c) plant f g = absurd g
   plant_demands_one p (Limit what) Usage plant f g = absurd g
   plant_demands_one p (Limit what) (Malformed n) plant f g = absurd g
   plant_demands_one p (Limit what) ReadFault plant f g = absurd g
   plant_demands_one p (Limit what) WriteFault plant f g = absurd g
   plant_demands_one p (Limit what) NoMemory plant f g = absurd g
+  plant_demands_one p Unbuilt (Invalid c) plant f g = absurd g
   plant_demands_one p Unbuilt Usage plant f g = absurd g
   plant_demands_one p Unbuilt (Malformed n) plant f g = absurd g
   plant_demands_one p Unbuilt ReadFault plant f g = absurd g
@@ -122,10 +138,11 @@ record IsFaulty (bytes : List ℕ) (outcome : Outcome) : Type 0 where
 
 faulty : (bytes : List ℕ) (outcome : Outcome) → IsRefused bytes outcome → IsFaulty bytes outcome
 faulty bytes Done h = absurd h
+faulty bytes (Invalid c) h = absurd h
 faulty bytes Usage h = absurd h
-faulty bytes (Malformed line) h = record { fault = faults.Malformed line; refused = h; is = refl }
+faulty bytes (Malformed line) h = record { fault = plants.Malformed line; refused = h; is = refl }
 faulty bytes (Overflow i u) h = absurd h
-faulty bytes (Limit what) h = record { fault = faults.Limit what; refused = h; is = refl }
+faulty bytes (Limit what) h = record { fault = plants.Limit what; refused = h; is = refl }
 faulty bytes ReadFault h = absurd h
 faulty bytes WriteFault h = absurd h
 faulty bytes NoMemory h = absurd h
@@ -144,5 +161,105 @@ one_demand_of_plants plant refusal read count bytes a b f g =
       ]
     ]
 
-pub one_demand : OnePlantPerText → OneRefusal → ReadOrRefused → OneEdgeCount → OneDemandPerText
-one_demand plant refusal read count (Synth workers) bytes a b f g = one_demand_of_plants plant refusal read count bytes a b f g
+-- ---- tables
+
+-- what a table demands: a verdict on its rows, or what refuses its plant
+data TableEnd (p : Description) (rows : List (Option Row)) (outcome : Outcome) : Type 0 where
+  is_valid : outcome ≡ Done → IsSolvable p → IsSolutionOf p rows → TableEnd p rows outcome
+  is_invalid : (cell : ℕ) → outcome ≡ Invalid cell → IsSolvable p → IsFirstWrong p rows cell → TableEnd p rows outcome
+  is_refused : (outcome ≡ Done → ⊥) → PlantDemands p outcome → TableEnd p rows outcome
+
+table_end : (p : Description) (rows : List (Option Row)) (outcome : Outcome) → TableDemands p rows outcome → TableEnd p rows outcome
+table_end p rows Done h = is_valid refl h.0 h.1
+table_end p rows (Invalid cell) h = is_invalid cell refl h.0 h.1
+table_end p rows Usage h = absurd h
+table_end p rows (Malformed line) h = absurd h
+table_end p rows (Overflow i u) h = is_refused (λ e. cc) h
+table_end p rows (Limit what) h = is_refused (λ e. cc) h
+table_end p rows ReadFault h = absurd h
+table_end p rows WriteFault h = absurd h
+table_end p rows NoMemory h = absurd h
+table_end p rows Unbuilt h = is_refused (λ e. cc) h
+
+-- a refused text, by the fault of its reader
+record IsFaultyTable (bytes : List ℕ) (outcome : Outcome) : Type 0 where
+  fault : TableFault
+  refused : IsTableRefusedFor bytes fault
+  is : outcome ≡ of_table fault
+
+faulty_table : (bytes : List ℕ) (outcome : Outcome) → IsRefusedTable bytes outcome → IsFaultyTable bytes outcome
+faulty_table bytes Done h = absurd h
+faulty_table bytes (Invalid c) h = absurd h
+faulty_table bytes Usage h = absurd h
+faulty_table bytes (Malformed line) h = record { fault = tables.Malformed line; refused = h; is = refl }
+faulty_table bytes (Overflow i u) h = absurd h
+faulty_table bytes (Limit what) h = record { fault = tables.Limit what; refused = h; is = refl }
+faulty_table bytes ReadFault h = absurd h
+faulty_table bytes WriteFault h = absurd h
+faulty_table bytes NoMemory h = absurd h
+faulty_table bytes Unbuilt h = absurd h
+
+-- the first of which a fact doesn't hold is one
+one_first : (Fact : ℕ → Type 0) (n b c : ℕ) → IsFirstWithout Fact n b → IsFirstWithout Fact n c → b ≡ c
+one_first Fact n b c f g =
+    elim (cases_order b c) [
+      | inl e ↦ e
+      | inr other ↦ elim other [
+        | inl lt ↦ absurd (f.without (g.before b lt))
+        | inr lt ↦ absurd (g.without (f.before c lt))
+      ]
+    ]
+
+-- What the demands of tables stand on.
+pub record TableLaws : Type 0 where
+  pub edges : OneEdgeCount
+  pub table : OneTablePerText
+  pub refusal : OneTableRefusal
+  pub read : TableOrRefused
+  pub game : OneGamePerPlant
+  pub right : (g : Game) (rows : List (Option Row)) → IsGame g → IsReachSolution g rows → AreRight g rows
+
+one_wrong : TableLaws → (p : Description) (rows : List (Option Row)) (b c : ℕ) → IsPlant p → IsFirstWrong p rows b → IsFirstWrong p rows c → b ≡ c
+one_wrong laws p rows b c plant f g =
+    one_first (IsRight g.game rows) g.game.cells b c (subst (λ (h : Game). IsFirstWithout (IsRight h rows) h.cells b) (laws.game p f.game g.game plant f.abstraction g.abstraction) f.wrong) g.wrong
+
+solution_of_reach : (goal : GoalKind) (g : Game) (rows : List (Option Row)) → goal ≡ Reach → Solves goal g rows → IsReachSolution g rows
+solution_of_reach goal g rows reach h = subst (λ (k : GoalKind). Solves k g rows) reach h
+
+-- the solution has no wrong row
+no_wrong : TableLaws → (p : Description) (rows : List (Option Row)) (c : ℕ) → IsPlant p → p.goal ≡ Reach → IsSolutionOf p rows → IsFirstWrong p rows c → ⊥
+no_wrong laws p rows c plant reach solution wrong =
+    let same : wrong.game ≡ solution.game = laws.game p wrong.game solution.game plant wrong.abstraction solution.abstraction in
+    let first : IsFirstWithout (IsRight solution.game rows) solution.game.cells c = subst (λ (h : Game). IsFirstWithout (IsRight h rows) h.cells c) same wrong.wrong in
+    let right : AreRight solution.game rows = laws.right solution.game rows solution.abstraction.game (solution_of_reach p.goal solution.game rows reach solution.solution) in
+    first.without (right.each c first.inside)
+
+one_table_end : TableLaws → (p : Description) (rows : List (Option Row)) (a b : Outcome) → IsPlant p → TableEnd p rows a → TableEnd p rows b → a ≡ b
+one_table_end laws p rows a b plant (is_valid e s h) (is_valid k t g) = e ∙ sym k
+one_table_end laws p rows a b plant (is_valid e s h) (is_invalid c k t g) = absurd (no_wrong laws p rows c plant s.1.reach h g)
+one_table_end laws p rows a b plant (is_valid e s h) (is_refused k g) = absurd (k (sym (plant_demands_one laws.edges p Done b plant s g)))
+one_table_end laws p rows a b plant (is_invalid c e s h) (is_valid k t g) = absurd (no_wrong laws p rows c plant t.1.reach g h)
+one_table_end laws p rows a b plant (is_invalid c e s h) (is_invalid d k t g) = e ∙ ap Invalid (one_wrong laws p rows c d plant h g) ∙ sym k
+one_table_end laws p rows a b plant (is_invalid c e s h) (is_refused k g) = absurd (k (sym (plant_demands_one laws.edges p Done b plant s g)))
+one_table_end laws p rows a b plant (is_refused e h) (is_valid k t g) = absurd (e (plant_demands_one laws.edges p a Done plant h t))
+one_table_end laws p rows a b plant (is_refused e h) (is_invalid d k t g) = absurd (e (plant_demands_one laws.edges p a Done plant h t))
+one_table_end laws p rows a b plant (is_refused e h) (is_refused k g) = plant_demands_one laws.edges p a b plant h g
+
+one_demand_of_tables : TableLaws → (bytes : List ℕ) (a b : Outcome) → TableTextDemands bytes a → TableTextDemands bytes b → a ≡ b
+one_demand_of_tables laws bytes a b f g =
+    elim f [
+      | inl refused ↦ elim g [
+        | inl other ↦ (let x = faulty_table bytes a refused in let y = faulty_table bytes b other in x.is ∙ ap of_table (laws.refusal bytes x.fault y.fault x.refused y.refused) ∙ sym y.is)
+        | inr table ↦ (let x = faulty_table bytes a refused in absurd (laws.read bytes table.plant table.rows x.fault table.table x.refused))
+      ]
+      | inr table ↦ elim g [
+        | inl other ↦ (let y = faulty_table bytes b other in absurd (laws.read bytes table.plant table.rows y.fault table.table y.refused))
+        | inr also ↦ (let same = laws.table bytes table.plant also.plant table.rows also.rows table.table also.table in one_table_end laws also.plant also.rows a b also.table.limits.plant
+            (table_end also.plant also.rows a (subst (λ (q : Description). TableDemands q also.rows a) same.0 (subst (λ (r : List (Option Row)). TableDemands table.plant r a) same.1 table.demands)))
+            (table_end also.plant also.rows b also.demands))
+      ]
+    ]
+
+pub one_demand : OnePlantPerText → OneRefusal → ReadOrRefused → TableLaws → OneDemandPerText
+one_demand plant refusal read laws (Synth workers) bytes a b f g = one_demand_of_plants plant refusal read laws.edges bytes a b f g
+one_demand plant refusal read laws Check bytes a b f g = one_demand_of_tables laws bytes a b f g

@@ -1,14 +1,11 @@
 pub mod Completeness
 pub mod Demanded
-pub mod Driving
 pub mod demo_lemmas
-pub mod FittingRows
 pub mod Limits
 pub mod MemoryRuns
 pub mod OneTable
 pub mod Reporting
 pub mod SoFar
-pub mod TableRows
 pub mod Tables
 pub mod Words
 pub mod Working

@@ -1,21 +1,42 @@
--- A source that is read to one byte past the limit of texts.
-use Rattle.std.proofs.Common.{inl, inr, ◌≡◌, ℕ, ◌<◌, ◌≤◌, List, length, take, drop, Option, Some, None, subst, ◌∙◌, arith, length-take}
+-- A source that is read to one byte past the limit of its text.
+use Rattle.std.proofs.Common.{inl, inr, ◌≡◌, ℕ, ◌<◌, List, length, take, drop, Option, Some, None, subst, arith, length-take}
 use Rattle.std.specs.Prelude.{IfSome}
 use Rattle.std.proofs.lemmas.Bool.{cases_lt}
 use Rattle.plant_text.specs.declared.fault.LimitKind.{LimitKind}
 use Rattle.plant_text.specs.declared.fault.LimitKind.TheVariants.{PlantText, TableText, Vectors, Cells, Pairs, Edges}
-use Rattle.plant_text.specs.declared.fault.PlantFault.TheVariants as faults
+use Rattle.plant_text.specs.declared.fault.PlantFault.TheVariants as plants
 use Rattle.plant_text.specs.reading.Refusals.{IsShort, IsRefusedFor}
+use Rattle.controller_table.specs.declared.fault.TableFault.TheVariants as tables
+use Rattle.controller_table.specs.Refusals.{IsShortTable, IsTableRefusedFor}
+use Rattle.controller_table.specs.Laws.{TablesAreShort}
+use Rattle.synth_run.specs.declared.form.Form.{Form}
+use Rattle.synth_run.specs.declared.form.Form.TheVariants.{Synth, Check}
 use Rattle.synth_run.specs.declared.outcome.Outcome.{Outcome}
-use Rattle.synth_run.specs.declared.outcome.Outcome.TheVariants.{Done, Usage, Malformed, Overflow, Limit, ReadFault, WriteFault, NoMemory, Unbuilt}
+use Rattle.synth_run.specs.declared.outcome.Outcome.TheVariants.{Done, Invalid, Usage, Malformed, Overflow, Limit, ReadFault, WriteFault, NoMemory, Unbuilt}
 use Rattle.synth_run.specs.inside.Transfers.{ReadUpTo}
-use Rattle.synth_run.specs.Demands.{PlantTextDemands, IsRefused}
-use Rattle.synth_run.specs.Headline.{IsTableFor}
+use Rattle.synth_run.specs.Form.{most_read}
+use Rattle.synth_run.specs.Demands.{IsRefused, IsRefusedTable, Demands}
+use Rattle.synth_run.specs.Headline.{IsAnswer}
 use Rattle.synth_run.proofs.SoFar.{take_all}
 
--- a short front is the whole
-short_is_whole : (bytes : List ℕ) → IsShort (take 65537 bytes) → length bytes ≤ 65537
-short_is_whole bytes short = omega (arith, short, length-take 65537 bytes)
+-- ---- what was read stands for the whole text
+
+-- what holds of the bytes that were read holds of the whole text, where it passes from a front of so many bytes to the
+-- longer text
+pub of_whole : (Holds : List ℕ → Type 0) (most : ℕ) (told after : Option (List ℕ)) (read : List ℕ) → ReadUpTo told after most read → ((bytes : List ℕ) → most < length bytes → Holds (take most bytes) → Holds bytes) → Holds read → IfSome told Holds
+of_whole Holds most None after read up_to longer h = tt
+of_whole Holds most (Some bytes) after read up_to longer h =
+    let front : Holds (take most bytes) = subst Holds up_to.0 h in
+    elim (cases_lt most (length bytes)) [
+      | inl lt ↦ longer bytes lt front
+      | inr le ↦ subst Holds (take_all most bytes le) front
+    ]
+
+pub read_to_the_limit : (most : ℕ) (told after : Option (List ℕ)) (read : List ℕ) → ReadUpTo told after most read → IfSome told (λ bytes. after ≡ Some (drop most bytes))
+read_to_the_limit most None after read up_to = tt
+read_to_the_limit most (Some bytes) after read up_to = up_to.1
+
+-- ---- plant texts
 
 -- a front of a longer text isn't short
 long_front : (bytes : List ℕ) → 65537 < length bytes → IsShort (take 65537 bytes) → ⊥
@@ -23,12 +44,13 @@ long_front bytes lt short = omega (arith, lt, short, length-take 65537 bytes)
 
 refused_of_longer : (bytes : List ℕ) (outcome : Outcome) → 65537 < length bytes → IsRefused (take 65537 bytes) outcome → IsRefused bytes outcome
 refused_of_longer bytes Done lt h = h
+refused_of_longer bytes (Invalid cell) lt h = h
 refused_of_longer bytes Usage lt h = h
 refused_of_longer bytes (Malformed line) lt h = absurd (long_front bytes lt h.0)
 refused_of_longer bytes (Overflow i u) lt h = h
 refused_of_longer bytes (Limit what) lt h = limit what h
   where
-    limit : (what : LimitKind) → IsRefusedFor (take 65537 bytes) (faults.Limit what) → IsRefusedFor bytes (faults.Limit what)
+    limit : (what : LimitKind) → IsRefusedFor (take 65537 bytes) (plants.Limit what) → IsRefusedFor bytes (plants.Limit what)
     limit PlantText h = λ short. omega (arith, lt, short)
     limit TableText h = h
     limit Vectors h = absurd (long_front bytes lt h.0)
@@ -40,33 +62,54 @@ refused_of_longer bytes WriteFault lt h = h
 refused_of_longer bytes NoMemory lt h = h
 refused_of_longer bytes Unbuilt lt h = h
 
-demands_of_longer : (bytes : List ℕ) (outcome : Outcome) → 65537 < length bytes → PlantTextDemands (take 65537 bytes) outcome → PlantTextDemands bytes outcome
-demands_of_longer bytes outcome lt h =
-    elim h [
-      | inl refused ↦ inl (refused_of_longer bytes outcome lt refused)
-      | inr plant ↦ absurd (long_front bytes lt plant.1.short)
-    ]
+-- ---- table texts
 
-demands_of_front : (bytes : List ℕ) (outcome : Outcome) → PlantTextDemands (take 65537 bytes) outcome → PlantTextDemands bytes outcome
-demands_of_front bytes outcome h =
-    elim (cases_lt 65537 (length bytes)) [
-      | inl lt ↦ demands_of_longer bytes outcome lt h
-      | inr le ↦ subst (λ (b : List ℕ). PlantTextDemands b outcome) (take_all 65537 bytes le) h
-    ]
+long_table_front : (bytes : List ℕ) → 67108865 < length bytes → IsShortTable (take 67108865 bytes) → ⊥
+long_table_front bytes lt short = omega (arith, lt, short, length-take 67108865 bytes)
 
--- what the text demands as far as it was read, the whole text demands
-pub demands_of_whole : (told after : Option (List ℕ)) (read : List ℕ) (outcome : Outcome) → ReadUpTo told after 65537 read → PlantTextDemands read outcome → IfSome told (λ bytes. PlantTextDemands bytes outcome)
-demands_of_whole None after read outcome up_to h = tt
-demands_of_whole (Some bytes) after read outcome up_to h = demands_of_front bytes outcome (subst (λ (b : List ℕ). PlantTextDemands b outcome) up_to.0 h)
+refused_table_of_longer : (bytes : List ℕ) (outcome : Outcome) → 67108865 < length bytes → IsRefusedTable (take 67108865 bytes) outcome → IsRefusedTable bytes outcome
+refused_table_of_longer bytes Done lt h = h
+refused_table_of_longer bytes (Invalid cell) lt h = h
+refused_table_of_longer bytes Usage lt h = h
+refused_table_of_longer bytes (Malformed line) lt h = absurd (long_table_front bytes lt h.0)
+refused_table_of_longer bytes (Overflow i u) lt h = h
+refused_table_of_longer bytes (Limit what) lt h = limit what h
+  where
+    limit : (what : LimitKind) → IsTableRefusedFor (take 67108865 bytes) (tables.Limit what) → IsTableRefusedFor bytes (tables.Limit what)
+    limit PlantText h = h
+    limit TableText h = λ short. omega (arith, lt, short)
+    limit Vectors h = absurd (long_table_front bytes lt h.0)
+    limit Cells h = absurd (long_table_front bytes lt h.0)
+    limit Pairs h = absurd (long_table_front bytes lt h.0)
+    limit Edges h = h
+refused_table_of_longer bytes ReadFault lt h = h
+refused_table_of_longer bytes WriteFault lt h = h
+refused_table_of_longer bytes NoMemory lt h = h
+refused_table_of_longer bytes Unbuilt lt h = h
 
--- the table of a text as far as it was read is that of the whole text
-pub table_of_whole : (told after : Option (List ℕ)) (read text : List ℕ) → ReadUpTo told after 65537 read → IsTableFor read text → IfSome told (λ bytes. IsTableFor bytes text)
-table_of_whole None after read text up_to table = tt
-table_of_whole (Some bytes) after read text up_to table =
-    let fits : length bytes ≤ 65537 = short_is_whole bytes (subst IsShort up_to.0 table.1.short) in
-    let whole : read ≡ bytes = up_to.0 ∙ take_all 65537 bytes fits in
-    subst (λ (b : List ℕ). IsTableFor b text) whole table
+-- ---- forms
 
-pub read_to_the_limit : (told after : Option (List ℕ)) (read : List ℕ) → ReadUpTo told after 65537 read → IfSome told (λ bytes. after ≡ Some (drop 65537 bytes))
-read_to_the_limit None after read up_to = tt
-read_to_the_limit (Some bytes) after read up_to = up_to.1
+-- What a form's text demands as far as it is read, and how it is answered, holds of the whole text if it is longer.
+pub record PassesOn (form : Form) : Type 0 where
+  pub demands : (outcome : Outcome) (bytes : List ℕ) → most_read form < length bytes → Demands form (take (most_read form) bytes) outcome → Demands form bytes outcome
+  pub answers : (text bytes : List ℕ) → most_read form < length bytes → IsAnswer form (take (most_read form) bytes) text → IsAnswer form bytes text
+
+pub plants_pass_on : (workers : ℕ) → PassesOn (Synth workers)
+plants_pass_on workers = record {
+  demands = λ outcome bytes lt h.
+      elim h [
+        | inl refused ↦ inl (refused_of_longer bytes outcome lt refused)
+        | inr plant ↦ absurd (long_front bytes lt plant.1.short)
+      ];
+  answers = λ text bytes lt h. absurd (long_front bytes lt h.1.short);
+}
+
+pub tables_pass_on : TablesAreShort → PassesOn Check
+tables_pass_on short = record {
+  demands = λ outcome bytes lt h.
+      elim h [
+        | inl refused ↦ inl (refused_table_of_longer bytes outcome lt refused)
+        | inr table ↦ absurd (long_table_front bytes lt (short (take 67108865 bytes) table.plant table.rows table.table))
+      ];
+  answers = λ text bytes lt h. absurd (long_table_front bytes lt (short (take 67108865 bytes) h.0.plant h.0.rows h.0.table));
+}

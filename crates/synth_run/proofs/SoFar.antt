@@ -75,6 +75,10 @@ written_part sink before text rest w kept some fault no_room = record {
 
 -- ---- writes in pieces
 
+-- what is left of a text begins with what was put into a buffer
+pub piece_cut : (left buffer : List ℕ) (n : ℕ) → take n buffer ≡ take n left → left ≡ take n buffer ++ drop n left
+piece_cut left buffer n same = sym (take-append-drop n left) ∙ ap (λ (x : List ℕ). x ++ drop n left) (sym same)
+
 pub piece_more : (start before after : Option (List ℕ)) (text rest piece more : List ℕ) → WrittenSoFar start before text rest → rest ≡ piece ++ more → Gains before after piece → WrittenSoFar start after text more
 piece_more start before after text rest piece more w cut gains = record {
   front = w.front ++ piece;

@@ -1,56 +1,80 @@
--- What `synth` has worked out from what it read.
+-- What a form has worked out from what it read.
 use Rattle.std.proofs.Common.{◌≡◌, ℕ, List, inl, inr, sym, subst, ◌∙◌}
-use Rattle.std.specs.Prelude.{IfSome}
-use Rattle.synth_run.specs.declared.form.Form.TheVariants.{Synth}
+use Rattle.std.specs.Prelude.{Option, Some, None, IfSome}
+use Rattle.synth_run.specs.declared.form.Form.{Form}
+use Rattle.synth_run.specs.declared.form.Form.TheVariants.{Synth, Check}
 use Rattle.synth_run.specs.declared.outcome.Outcome.{Outcome}
 use Rattle.synth_run.specs.declared.outcome.Outcome.TheVariants.{Done, Usage, ReadFault, WriteFault, NoMemory}
+use Rattle.synth_run.specs.declared.text.Text.{Text}
 use Rattle.synth_run.specs.Devices.{Reading}
+use Rattle.synth_run.specs.inside.Texts.{bytes_of, CanBeWritten}
 use Rattle.synth_run.specs.inside.Transfers.{ReadUpTo}
 use Rattle.synth_run.specs.inside.Working.{IsWorkedOut, IsTurnedDown}
-use Rattle.synth_run.specs.Demands.{PlantTextDemands}
-use Rattle.synth_run.specs.Headline.{IsTableFor}
+use Rattle.synth_run.specs.Form.{given, most_read}
+use Rattle.synth_run.specs.Demands.{Demands}
+use Rattle.synth_run.specs.Headline.{IsAnswer}
 use Rattle.synth_run.specs.Statuses.{IsTheTexts}
-use Rattle.synth_run.proofs.Limits.{demands_of_whole, table_of_whole, read_to_the_limit}
-use Rattle.synth_run.proofs.Completeness.{solved_is_demanded}
+use Rattle.synth_run.proofs.Limits.{PassesOn, of_whole, read_to_the_limit}
 
--- the table of what was read of a source answers `synth`
-pub table_answers : (workers : ℕ) (source : Reading) (read text : List ℕ) → ReadUpTo source.before source.after 65537 read → source.faults_after ≡ source.faults_before → IsTableFor read text → IsWorkedOut (Synth workers) text source
-table_answers workers source read text up_to no_fault table = record {
-  answer = whole;
-  demanded = solved_is_demanded source.before text whole;
-  read = read_to_the_limit source.before source.after read up_to;
-  no_fault = no_fault;
+-- A form's source was read to one byte past the limit of its text, and what the source tells is the text.
+pub record IsReadWhole (form : Form) (source : Reading) (read : List ℕ) : Type 0 where
+  pub told : given form source.before ≡ source.before
+  pub up_to : ReadUpTo source.before source.after (most_read form) read
+  pub no_fault : source.faults_after ≡ source.faults_before
+
+-- a text that has an answer demands it
+answered_is_demanded : (form : Form) (bytes text : List ℕ) → IsAnswer form bytes text → Demands form bytes Done
+answered_is_demanded (Synth workers) bytes text h = inr (h.0, h.1, h.2)
+answered_is_demanded Check bytes text h = inr (record { plant = h.0.plant; rows = h.0.rows; table = h.0.table; demands = (h.0.solvable, h.0.solution) })
+
+if_some_more : (told : Option (List ℕ)) (P Q : List ℕ → Type 0) → ((bytes : List ℕ) → P bytes → Q bytes) → IfSome told P → IfSome told Q
+if_some_more None P Q more h = tt
+if_some_more (Some bytes) P Q more h = more bytes h
+
+-- an answer for what was read is the form's
+pub worked_out : (form : Form) → PassesOn form → (source : Reading) (read : List ℕ) (text : Text) → IsReadWhole form source read → CanBeWritten text → IsAnswer form read (bytes_of text) → IsWorkedOut form text source
+worked_out form passes source read text whole fits answer = record {
+  can_be_written = fits;
+  answer = subst (λ (told : Option (List ℕ)). IfSome told (λ bytes. IsAnswer form bytes (bytes_of text))) (sym whole.told) answers;
+  demanded = subst (λ (told : Option (List ℕ)). IfSome told (λ bytes. Demands form bytes Done)) (sym whole.told)
+      (if_some_more source.before (λ bytes. IsAnswer form bytes (bytes_of text)) (λ bytes. Demands form bytes Done) (λ bytes. answered_is_demanded form bytes (bytes_of text)) answers);
+  read = read_to_the_limit (most_read form) source.before source.after read whole.up_to;
+  no_fault = whole.no_fault;
 }
   where
-    whole : IfSome source.before (λ bytes. IsTableFor bytes text)
-    whole = table_of_whole source.before source.after read text up_to table
+    answers : IfSome source.before (λ bytes. IsAnswer form bytes (bytes_of text))
+    answers = of_whole (λ bytes. IsAnswer form bytes (bytes_of text)) (most_read form) source.before source.after read whole.up_to (passes.answers (bytes_of text)) answer
 
 -- no text demands these
-demands_no_usage : (bytes : List ℕ) → PlantTextDemands bytes Usage → ⊥
-demands_no_usage bytes h = elim h [ inl refused ↦ refused | inr accepted ↦ accepted.2 ]
+demands_no_usage : (form : Form) (bytes : List ℕ) → Demands form bytes Usage → ⊥
+demands_no_usage (Synth workers) bytes h = elim h [ inl refused ↦ refused | inr accepted ↦ accepted.2 ]
+demands_no_usage Check bytes h = elim h [ inl refused ↦ refused | inr table ↦ table.demands ]
 
-demands_no_read_fault : (bytes : List ℕ) → PlantTextDemands bytes ReadFault → ⊥
-demands_no_read_fault bytes h = elim h [ inl refused ↦ refused | inr accepted ↦ accepted.2 ]
+demands_no_read_fault : (form : Form) (bytes : List ℕ) → Demands form bytes ReadFault → ⊥
+demands_no_read_fault (Synth workers) bytes h = elim h [ inl refused ↦ refused | inr accepted ↦ accepted.2 ]
+demands_no_read_fault Check bytes h = elim h [ inl refused ↦ refused | inr table ↦ table.demands ]
 
-demands_no_write_fault : (bytes : List ℕ) → PlantTextDemands bytes WriteFault → ⊥
-demands_no_write_fault bytes h = elim h [ inl refused ↦ refused | inr accepted ↦ accepted.2 ]
+demands_no_write_fault : (form : Form) (bytes : List ℕ) → Demands form bytes WriteFault → ⊥
+demands_no_write_fault (Synth workers) bytes h = elim h [ inl refused ↦ refused | inr accepted ↦ accepted.2 ]
+demands_no_write_fault Check bytes h = elim h [ inl refused ↦ refused | inr table ↦ table.demands ]
 
 -- a device's fault, or want of memory
 not_for_memory : (outcome : Outcome) → IsTheTexts outcome → outcome ≡ NoMemory → ⊥
 not_for_memory outcome texts e = subst IsTheTexts e texts
 
 -- what was read of a source demands this end, or there was no memory
-pub text_turned_down : (workers : ℕ) (outcome : Outcome) (source : Reading) (read : List ℕ) → ReadUpTo source.before source.after 65537 read → source.faults_after ≡ source.faults_before → (outcome ≡ Done → ⊥) → ((outcome ≡ NoMemory → ⊥) → PlantTextDemands read outcome) → IsTurnedDown (Synth workers) outcome source
-text_turned_down workers outcome source read up_to no_fault not_done demands = record {
+pub turned_down : (form : Form) → PassesOn form → (source : Reading) (read : List ℕ) (outcome : Outcome) → IsReadWhole form source read → (outcome ≡ Done → ⊥) → ((outcome ≡ NoMemory → ⊥) → Demands form read outcome) → IsTurnedDown form outcome source
+turned_down form passes source read outcome whole not_done demands = record {
   not_done = not_done;
-  not_usage = λ e. demands_no_usage read (subst (PlantTextDemands read) e (demands (λ m. let clash : NoMemory ≡ Usage = sym m ∙ e in cc)));
-  not_write_fault = λ e. demands_no_write_fault read (subst (PlantTextDemands read) e (demands (λ m. let clash : NoMemory ≡ WriteFault = sym m ∙ e in cc)));
-  demanded = λ texts. demands_of_whole source.before source.after read outcome up_to (demands (not_for_memory outcome texts));
-  read = λ _ _. read_to_the_limit source.before source.after read up_to;
+  not_usage = λ e. demands_no_usage form read (subst (Demands form read) e (demands (λ m. let clash : NoMemory ≡ Usage = sym m ∙ e in cc)));
+  not_write_fault = λ e. demands_no_write_fault form read (subst (Demands form read) e (demands (λ m. let clash : NoMemory ≡ WriteFault = sym m ∙ e in cc)));
+  demanded = λ texts. subst (λ (told : Option (List ℕ)). IfSome told (λ bytes. Demands form bytes outcome)) (sym whole.told)
+      (of_whole (λ bytes. Demands form bytes outcome) (most_read form) source.before source.after read whole.up_to (passes.demands outcome) (demands (not_for_memory outcome texts)));
+  read = λ _ _. read_to_the_limit (most_read form) source.before source.after read whole.up_to;
   fault = λ e. absurd (no_read_fault e);
-  no_fault = λ _. no_fault;
+  no_fault = λ _. whole.no_fault;
   sound = λ _. no_read_fault;
 }
   where
     no_read_fault : outcome ≡ ReadFault → ⊥
-    no_read_fault e = demands_no_read_fault read (subst (PlantTextDemands read) e (demands (λ m. let clash : NoMemory ≡ ReadFault = sym m ∙ e in cc)))
+    no_read_fault e = demands_no_read_fault form read (subst (Demands form read) e (demands (λ m. let clash : NoMemory ≡ ReadFault = sym m ∙ e in cc)))

@@ -1,37 +1,29 @@
 -- What a text demands: to be refused for the first reason that applies, or to be answered.
-use Rattle.std.specs.Prelude.{◌≡◌, ◌⊎◌, ℕ, ◌^◌, ◌<◌, ◌≤◌, List}
+use Rattle.std.specs.Prelude.{◌≡◌, ◌⊎◌, ℕ, ◌^◌, ◌<◌, ◌≤◌, List, Option}
 use Rattle.plant_text.specs.declared.fault.LimitKind.{LimitKind}
 use Rattle.plant_text.specs.declared.fault.LimitKind.TheVariants.{PlantText, TableText, Vectors, Cells, Pairs, Edges}
-use Rattle.plant_text.specs.declared.fault.PlantFault.TheVariants as faults
+use Rattle.plant_text.specs.declared.fault.PlantFault.TheVariants as plants
 use Rattle.plant_text.specs.declared.plant.aims.GoalKind.TheVariants.{Reach, Keep}
 use Rattle.plant_text.specs.plant.Description.{Description}
 use Rattle.plant_text.specs.plant.Limits.{IsWithinLimits}
 use Rattle.plant_text.specs.reading.Grammar.{Spells}
 use Rattle.plant_text.specs.reading.Refusals.{IsShort, IsRefusedFor}
 use Rattle.successor_box.specs.Deviations.{HasNoOverflow, IsFirstOverflow}
-use Rattle.abstraction_table.specs.Abstraction.{AreEdges}
+use Rattle.game_core.specs.declared.game.Row.{Row}
+use Rattle.game_core.specs.Game.{Game}
+use Rattle.game_core.specs.Right.{IsRight}
+use Rattle.abstraction_table.specs.Abstraction.{IsGameOf, AreEdges}
+use Rattle.abstraction_table.specs.Solution.{IsSolutionOf}
+use Rattle.controller_table.specs.declared.fault.TableFault.TheVariants as tables
+use Rattle.controller_table.specs.Tables.{IsTable}
+use Rattle.controller_table.specs.Refusals.{IsTableRefusedFor}
+use Rattle.table_check.specs.Verdicts.{IsFirstWithout}
 use Rattle.synth_run.specs.declared.form.Form.{Form}
-use Rattle.synth_run.specs.declared.form.Form.TheVariants.{Synth}
+use Rattle.synth_run.specs.declared.form.Form.TheVariants.{Synth, Check}
 use Rattle.synth_run.specs.declared.outcome.Outcome.{Outcome}
-use Rattle.synth_run.specs.declared.outcome.Outcome.TheVariants.{Done, Usage, Malformed, Overflow, Limit, ReadFault, WriteFault, NoMemory, Unbuilt}
+use Rattle.synth_run.specs.declared.outcome.Outcome.TheVariants.{Done, Invalid, Usage, Malformed, Overflow, Limit, ReadFault, WriteFault, NoMemory, Unbuilt}
 
--- The bytes spell a plant within the limits on a text, on input vectors, on cells and on pairs.
-pub record IsAccepted (bytes : List ℕ) (p : Description) : Type 0 where
-  pub short : IsShort bytes
-  pub spells : Spells bytes p
-  pub limits : IsWithinLimits p
-
--- the grammar or a limit refuses the bytes
-abbrev pub IsRefused : List ℕ → Outcome → Type 0
-IsRefused bytes Done = ⊥
-IsRefused bytes Usage = ⊥
-IsRefused bytes (Malformed line) = IsRefusedFor bytes (faults.Malformed line)
-IsRefused bytes (Overflow equation input) = ⊥
-IsRefused bytes (Limit what) = IsRefusedFor bytes (faults.Limit what)
-IsRefused bytes ReadFault = ⊥
-IsRefused bytes WriteFault = ⊥
-IsRefused bytes NoMemory = ⊥
-IsRefused bytes Unbuilt = ⊥
+-- ---- a plant within the limits on input vectors, cells and pairs
 
 -- A plant with `goal reach` whose numbers stay in the range, and whose game has so many edges.
 pub record HasEdges (p : Description) (edges : ℕ) : Type 0 where
@@ -52,9 +44,10 @@ ExceedsEdges p Cells = ⊥
 ExceedsEdges p Pairs = ⊥
 ExceedsEdges p Edges = (edges : ℕ) × HasEdges p edges × (2 ^ 25 < edges)
 
--- what a plant within the limits demands
+-- what such a plant demands: to be solved, or to be refused
 abbrev pub PlantDemands : Description → Outcome → Type 0
 PlantDemands p Done = IsSolvable p
+PlantDemands p (Invalid cell) = ⊥
 PlantDemands p Usage = ⊥
 PlantDemands p (Malformed line) = ⊥
 PlantDemands p (Overflow equation input) = (p.goal ≡ Reach) × IsFirstOverflow p equation input
@@ -64,10 +57,79 @@ PlantDemands p WriteFault = ⊥
 PlantDemands p NoMemory = ⊥
 PlantDemands p Unbuilt = p.goal ≡ Keep
 
+-- ---- the text of a plant
+
+-- The bytes spell a plant within the limits on a text, on input vectors, on cells and on pairs.
+pub record IsAccepted (bytes : List ℕ) (p : Description) : Type 0 where
+  pub short : IsShort bytes
+  pub spells : Spells bytes p
+  pub limits : IsWithinLimits p
+
+-- the grammar or a limit refuses the bytes
+abbrev pub IsRefused : List ℕ → Outcome → Type 0
+IsRefused bytes Done = ⊥
+IsRefused bytes (Invalid cell) = ⊥
+IsRefused bytes Usage = ⊥
+IsRefused bytes (Malformed line) = IsRefusedFor bytes (plants.Malformed line)
+IsRefused bytes (Overflow equation input) = ⊥
+IsRefused bytes (Limit what) = IsRefusedFor bytes (plants.Limit what)
+IsRefused bytes ReadFault = ⊥
+IsRefused bytes WriteFault = ⊥
+IsRefused bytes NoMemory = ⊥
+IsRefused bytes Unbuilt = ⊥
+
 -- a plant text is refused, or it spells a plant, which demands it
 abbrev pub PlantTextDemands : List ℕ → Outcome → Type 0
 PlantTextDemands bytes outcome = IsRefused bytes outcome ⊎ ((p : Description) × IsAccepted bytes p × PlantDemands p outcome)
 
+-- ---- the text of a table
+
+-- The cell is the least whose row isn't right in the plant's game.
+pub record IsFirstWrong (p : Description) (rows : List (Option Row)) (cell : ℕ) : Type 0 where
+  pub game : Game
+  pub abstraction : IsGameOf p game
+  pub wrong : IsFirstWithout (IsRight game rows) game.cells cell
+
+-- what a plant within the limits demands with rows: to be refused, or that the rows are told to be its solution or not
+abbrev pub TableDemands : Description → List (Option Row) → Outcome → Type 0
+TableDemands p rows Done = IsSolvable p × IsSolutionOf p rows
+TableDemands p rows (Invalid cell) = IsSolvable p × IsFirstWrong p rows cell
+TableDemands p rows Usage = ⊥
+TableDemands p rows (Malformed line) = ⊥
+TableDemands p rows (Overflow equation input) = PlantDemands p (Overflow equation input)
+TableDemands p rows (Limit what) = PlantDemands p (Limit what)
+TableDemands p rows ReadFault = ⊥
+TableDemands p rows WriteFault = ⊥
+TableDemands p rows NoMemory = ⊥
+TableDemands p rows Unbuilt = PlantDemands p Unbuilt
+
+-- the grammar of tables or a limit refuses the bytes
+abbrev pub IsRefusedTable : List ℕ → Outcome → Type 0
+IsRefusedTable bytes Done = ⊥
+IsRefusedTable bytes (Invalid cell) = ⊥
+IsRefusedTable bytes Usage = ⊥
+IsRefusedTable bytes (Malformed line) = IsTableRefusedFor bytes (tables.Malformed line)
+IsRefusedTable bytes (Overflow equation input) = ⊥
+IsRefusedTable bytes (Limit what) = IsTableRefusedFor bytes (tables.Limit what)
+IsRefusedTable bytes ReadFault = ⊥
+IsRefusedTable bytes WriteFault = ⊥
+IsRefusedTable bytes NoMemory = ⊥
+IsRefusedTable bytes Unbuilt = ⊥
+
+-- A table of a plant within the limits, which demands it.
+pub record IsTableThatDemands (bytes : List ℕ) (outcome : Outcome) : Type 0 where
+  pub plant : Description
+  pub rows : List (Option Row)
+  pub table : IsTable bytes plant rows
+  pub demands : TableDemands plant rows outcome
+
+-- a table text is refused, or it is a table, which demands it
+abbrev pub TableTextDemands : List ℕ → Outcome → Type 0
+TableTextDemands bytes outcome = IsRefusedTable bytes outcome ⊎ IsTableThatDemands bytes outcome
+
+-- ---- the text of a form
+
 -- what the bytes demand of a form
 abbrev pub Demands : Form → List ℕ → Outcome → Type 0
 Demands (Synth workers) bytes outcome = PlantTextDemands bytes outcome
+Demands Check bytes outcome = TableTextDemands bytes outcome

@@ -38,14 +38,14 @@ abbrev pub DemoPlantsHaveFewEdges : Type 0
 DemoPlantsHaveFewEdges = (n m : ℕ) → IsDemoNumber n → AreEdges (demo_plant_of n) m → m ≤ 54000 * n
 
 -- A demo plant is to reach its target, and nothing refuses it.
-pub record IsSolvable (n : ℕ) : Type 0 where
+pub record IsSolvableDemo (n : ℕ) : Type 0 where
   pub goal : (demo_plant_of n).goal ≡ Reach
   pub limits : IsWithinLimits (demo_plant_of n)
   pub no_overflow : HasNoOverflow (demo_plant_of n)
   pub edges : (m : ℕ) → AreEdges (demo_plant_of n) m → 2 ^ 25 < m → ⊥
 
 abbrev pub DemoPlantsAreSolvable : Type 0
-DemoPlantsAreSolvable = (n : ℕ) → IsDemoNumber n → IsSolvable n
+DemoPlantsAreSolvable = (n : ℕ) → IsDemoNumber n → IsSolvableDemo n
 
 -- a demo plant has one line
 abbrev pub OneDemoLine : Type 0

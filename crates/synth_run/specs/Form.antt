@@ -2,11 +2,12 @@
 use Rattle.std.specs.Prelude.{◌≡◌, ℕ, ◌+◌, ◌≤◌, List, [], ◌∷◌, Option, codes}
 use Rattle.std.specs.Fmt.{decimal}
 use Rattle.synth_run.specs.declared.form.Form.{Form}
-use Rattle.synth_run.specs.declared.form.Form.TheVariants.{Synth}
+use Rattle.synth_run.specs.declared.form.Form.TheVariants.{Synth, Check}
 
 -- the words are of a form; so far one worker is all there is
 abbrev pub IsOfForm : List (List ℕ) → Form → Type 0
 IsOfForm words (Synth workers) = (words ≡ codes "synth" ∷ decimal workers ∷ []) × (1 ≤ workers) × (workers ≤ 1)
+IsOfForm words Check = words ≡ codes "check" ∷ []
 
 -- the words are of no form
 abbrev pub AreOfNoForm : List (List ℕ) → Type 0
@@ -15,7 +16,9 @@ AreOfNoForm words = (form : Form) → IsOfForm words form → ⊥
 -- the bytes that a form works on, from what the source tells
 abbrev pub given : Form → Option (List ℕ) → Option (List ℕ)
 given (Synth workers) told = told
+given Check told = told
 
 -- how many bytes a form reads at most: one past the limit of its text
 abbrev pub most_read : Form → ℕ
 most_read (Synth workers) = 65536 + 1
+most_read Check = 67108864 + 1

@@ -1,14 +1,15 @@
 -- What status 0 means: the text that was written is the answer of the form for the bytes on the source.
-use Rattle.std.specs.Prelude.{◌≡◌, ℕ, List, Option}
+use Rattle.std.specs.Prelude.{◌≡◌, ℕ, List, Option, codes}
 use Rattle.game_core.specs.declared.game.Row.{Row}
 use Rattle.plant_text.specs.declared.plant.aims.GoalKind.TheVariants.{Reach}
 use Rattle.plant_text.specs.plant.Description.{Description}
 use Rattle.abstraction_table.specs.Solution.{IsSolutionOf}
+use Rattle.controller_table.specs.TableText.{First, table_text}
+use Rattle.controller_table.specs.Tables.{IsTable}
+use Rattle.plant_refine.specs.Drives.{Drives}
 use Rattle.synth_run.specs.declared.form.Form.{Form}
-use Rattle.synth_run.specs.declared.form.Form.TheVariants.{Synth}
+use Rattle.synth_run.specs.declared.form.Form.TheVariants.{Synth, Check}
 use Rattle.synth_run.specs.Demands.{IsAccepted, IsSolvable}
-use Rattle.synth_run.specs.TableText.{table_text}
-use Rattle.synth_run.specs.Drives.{Drives}
 
 -- The text is the table of the solution of a plant's game: ranks are least depths of winning strategies in
 -- the abstraction, cells without a row have none, and from every state of a ranked cell, under all
@@ -18,13 +19,25 @@ pub record IsTableOf (p : Description) (text : List ℕ) : Type 0 where
   pub reach : p.goal ≡ Reach
   pub rows : List (Option Row)
   pub solution : IsSolutionOf p rows
-  pub text_is : text ≡ table_text p rows
+  pub text_is : text ≡ table_text First p rows
   pub drives : Drives p text
 
 -- the bytes spell a plant that nothing refuses, and the text is its table
 abbrev pub IsTableFor : List ℕ → List ℕ → Type 0
 IsTableFor bytes text = (p : Description) × IsAccepted bytes p × IsSolvable p × IsTableOf p text
 
--- the answer of a form for some bytes: that of `synth` is the plant's one table, whatever the number of workers
+-- The bytes are the table, in any version, of the solution of the plant that they hold, and nothing refuses this
+-- plant: so the table drives it.
+pub record IsValid (bytes : List ℕ) : Type 0 where
+  pub plant : Description
+  pub rows : List (Option Row)
+  pub table : IsTable bytes plant rows
+  pub solvable : IsSolvable plant
+  pub solution : IsSolutionOf plant rows
+  pub drives : Drives plant bytes
+
+-- the answer of a form for some bytes: that of `synth` is the plant's one table, whatever the number of workers, and
+-- that of `check` is `valid` where the bytes are one
 abbrev pub IsAnswer : Form → List ℕ → List ℕ → Type 0
 IsAnswer (Synth workers) bytes text = IsTableFor bytes text
+IsAnswer Check bytes text = IsValid bytes × (text ≡ codes "valid\n")

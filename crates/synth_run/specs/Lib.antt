@@ -2,9 +2,6 @@ pub mod Devices
 pub mod Memory
 pub mod Form
 pub mod Demands
-pub mod TableText
-pub mod Choice
-pub mod Drives
 pub mod Headline
 pub mod Statuses
 pub mod Runs

@@ -4,12 +4,13 @@ use Rattle.std.specs.Fmt.{decimal}
 use Rattle.plant_text.specs.declared.fault.LimitKind.{LimitKind}
 use Rattle.plant_text.specs.declared.fault.LimitKind.TheVariants.{PlantText, TableText, Vectors, Cells, Pairs, Edges}
 use Rattle.synth_run.specs.declared.outcome.Outcome.{Outcome}
-use Rattle.synth_run.specs.declared.outcome.Outcome.TheVariants.{Done, Usage, Malformed, Overflow, Limit, ReadFault, WriteFault, NoMemory, Unbuilt}
+use Rattle.synth_run.specs.declared.outcome.Outcome.TheVariants.{Done, Invalid, Usage, Malformed, Overflow, Limit, ReadFault, WriteFault, NoMemory, Unbuilt}
 use Rattle.synth_run.specs.Devices.{Writing, GainsWhole, GainsPart}
 
 -- the exit status
 abbrev pub status_of : Outcome → ℕ
 status_of Done = 0
+status_of (Invalid cell) = 1
 status_of Usage = 2
 status_of (Malformed line) = 3
 status_of (Overflow equation input) = 4
@@ -30,6 +31,7 @@ limit_words Edges = codes "edges"
 -- the line on the error sink
 abbrev pub line_of : Outcome → List ℕ
 line_of Done = []
+line_of (Invalid cell) = codes "invalid: cell " ++ decimal cell ++ codes "\n"
 line_of Usage = codes "usage\n"
 line_of (Malformed line) = codes "malformed: line " ++ decimal line ++ codes "\n"
 line_of (Overflow equation input) = codes "overflow: equation " ++ decimal equation ++ codes " input " ++ decimal input ++ codes "\n"
@@ -46,6 +48,7 @@ Reports sink line = GainsWhole sink line ⊎ GainsPart sink line
 -- the text alone decides that the run ends so, and not the words, a device or want of memory
 abbrev pub IsTheTexts : Outcome → Type 0
 IsTheTexts Done = Unit {0}
+IsTheTexts (Invalid cell) = Unit {0}
 IsTheTexts Usage = ⊥
 IsTheTexts (Malformed line) = Unit {0}
 IsTheTexts (Overflow equation input) = Unit {0}

@@ -7,6 +7,8 @@ ghost use Rattle.synth_run.specs.declared.form.Form.{Form};
 pub enum Form {
     /// Solve the plant on the source with so many workers.
     Synth { workers: u32 },
+    /// Judge the table on the source.
+    Check,
 }
 
 /// The form that the words are of.
@@ -14,10 +16,22 @@ pub fn form_of(words: &[&str]) -> Option<Form>
     ensures found { IfSome result (IsOfForm (map (λ w. w.now) words.now)) }
     ensures none { IfNone result ((f : Form) → IsOfForm (map (λ w. w.now) words.now) f → ⊥) }
 {
-    if words.len() != 2 {
-        return None;
+    match words.len() {
+        1 => form_of_one(words[0]),
+        2 => form_of_two(words[0], words[1]),
+        _ => None,
     }
-    form_of_two(words[0], words[1])
+}
+
+fn form_of_one(command: &str) -> Option<Form>
+    ensures found { IfSome result (IsOfForm (command.now ∷ [])) }
+    ensures none { IfNone result ((f : Form) → IsOfForm (command.now ∷ []) f → ⊥) }
+{
+    if is_check(command) {
+        Some(Form::Check)
+    } else {
+        None
+    }
 }
 
 fn form_of_two(command: &str, workers: &str) -> Option<Form>
@@ -29,6 +43,12 @@ fn form_of_two(command: &str, workers: &str) -> Option<Form>
     } else {
         None
     }
+}
+
+fn is_check(word: &str) -> bool
+    ensures { IsTrue result ↔ (word.now ≡ codes "check") }
+{
+    word == "check"
 }
 
 fn is_synth(word: &str) -> bool

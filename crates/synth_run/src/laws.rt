@@ -1,31 +1,13 @@
-//! What holds of every table.
+//! What holds of every run.
 
-ghost use Rattle.std.specs.Prelude.{◌≡◌, ℕ, ℤ, List, Option};
-ghost use Rattle.game_core.specs.declared.game.Row.{Row};
-ghost use Rattle.game_core.specs.Game.{Game};
-ghost use Rattle.game_core.specs.Solution.{IsReachSolution};
-ghost use Rattle.plant_text.specs.plant.Description.{Description};
-ghost use Rattle.plant_text.specs.declared.plant.aims.GoalKind.TheVariants.{Reach};
-ghost use Rattle.plant_text.specs.plant.Limits.{IsWithinLimits};
-ghost use Rattle.abstraction_table.specs.Abstraction.{IsGameOf};
-ghost use Rattle.synth_run.specs.Choice.{AreRowsOf, IsChoice};
-ghost use Rattle.synth_run.specs.Laws.{OneTablePerText, OneTableForBytes, OneDemandPerText};
+ghost use Rattle.synth_run.specs.Laws.{OneTableForBytes, OneDemandPerText};
 
 pub mod demo;
 
-use abstraction_table::laws::{one_edge_count, one_solution_per_plant};
-use game_core::laws::ranks_are_below_the_cells;
-use plant_text::laws::{
-    numbers_are_words, one_plant_at_the_front, one_plant_per_text, one_refusal, read_or_refused,
-};
-
-/// No text is the table of two plants, or of one plant with other rows.
-pub fn one_table_per_text()
-    ensures { OneTablePerText }
-{
-    numbers_are_words();
-    one_plant_at_the_front();
-}
+use abstraction_table::laws::{one_edge_count, one_game_per_plant, one_solution_per_plant};
+use controller_table::laws::{one_table_per_text, one_table_refusal, table_or_refused};
+use game_core::laws::solutions_are_right;
+use plant_text::laws::{one_plant_per_text, one_refusal, read_or_refused};
 
 /// Bytes that spell a plant have one table: `synth` has no choice of what to write.
 pub fn one_table_for_bytes()
@@ -35,21 +17,7 @@ pub fn one_table_for_bytes()
     one_solution_per_plant();
 }
 
-/// The bytes of a table choose one input at a state.
-pub fn one_choice()
-    ensures { (bytes : List ℕ) (x : List ℤ) (u v : ℕ) → IsChoice bytes x u → IsChoice bytes x v → u ≡ v }
-{
-    one_table_per_text();
-}
-
-/// The rows of the solution of a plant's game fit the plant.
-pub fn solution_fits()
-    ensures { (p : Description) (g : Game) (rows : List (Option Row)) → IsWithinLimits p → p.goal ≡ Reach → IsGameOf p g → IsReachSolution g rows → AreRowsOf p rows }
-{
-    ranks_are_below_the_cells();
-}
-
-/// A text demands one thing: one refusal, or to be solved.
+/// A text demands one thing: one refusal, or one answer.
 pub fn one_demand_per_text()
     ensures { OneDemandPerText }
 {
@@ -57,4 +25,9 @@ pub fn one_demand_per_text()
     one_refusal();
     read_or_refused();
     one_edge_count();
+    one_table_per_text();
+    one_table_refusal();
+    table_or_refused();
+    one_game_per_plant();
+    solutions_are_right();
 }

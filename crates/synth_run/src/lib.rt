@@ -1,19 +1,22 @@
 //! The top call.
 //!
 //! `run` goes from the words and bytes that it is given to the bytes that it writes: its clauses say
-//! what each status means, and that status 0 of `synth` means the plant's table. Stands on
-//! `plant_text`, `abstraction_table`, `game_core` and the crates below.
+//! what each status means, that status 0 of `synth` means the plant's table, and that status 0 of
+//! `check` means that the bytes are such a table. Stands on `plant_text`, `abstraction_table`,
+//! `game_core`, `controller_table`, `table_check`, `plant_refine` and the crates below.
 #![tactic(auto)]
 
+mod checking;
 mod demo;
 mod devices;
 mod form;
+mod game;
 mod gate;
 pub mod laws;
 mod memory;
 mod outcome;
 mod solving;
-mod table;
+mod text;
 mod top;
 mod transfer;
 

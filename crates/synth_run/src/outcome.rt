@@ -2,12 +2,12 @@ ghost use Rattle.std.specs.Prelude.{◌≡◌};
 ghost use Rattle.synth_run.specs.Devices.{writing};
 ghost use Rattle.synth_run.specs.declared.outcome.Outcome.TheVariants as ends;
 ghost use Rattle.synth_run.specs.Statuses.{status_of, line_of, limit_words, Reports};
-ghost use Rattle.synth_run.specs.inside.Causes.{of_plant, of_slopes, of_build};
+ghost use Rattle.synth_run.specs.inside.Causes.{of_plant, of_table, of_slopes, of_build, of_read};
 
 use crate::devices::Sink;
-use crate::memory::NoMemory;
-use crate::transfer::write_pieces;
+use crate::transfer::{ReadFault, write_pieces};
 use abstraction_table::BuildFault;
+use controller_table::TableFault;
 use itoa::Buffer;
 use plant_text::{LimitKind, PlantFault};
 use successor_box::SlopeFault;
@@ -16,6 +16,8 @@ use successor_box::SlopeFault;
 #[derive(Clone, Copy, Debug, PartialEq, Eq)]
 pub enum Outcome {
     Done,
+    /// The first cell of a table whose row isn't right.
+    Invalid { cell: u32 },
     Usage,
     Malformed { line: u32 },
     Overflow { equation: u32, input: u32 },
@@ -35,6 +37,18 @@ impl From<PlantFault> for Outcome {
             PlantFault::Malformed { line } => Outcome::Malformed { line },
             PlantFault::Limit { what } => Outcome::Limit { what },
             PlantFault::Memory => Outcome::NoMemory,
+        }
+    }
+}
+
+impl From<TableFault> for Outcome {
+    ghost from_gives = { λ fault outcome. outcome ≡ of_table fault };
+
+    fn from(fault: TableFault) -> Outcome {
+        match fault {
+            TableFault::Malformed { line } => Outcome::Malformed { line },
+            TableFault::Limit { what } => Outcome::Limit { what },
+            TableFault::Memory => Outcome::NoMemory,
         }
     }
 }
@@ -71,11 +85,14 @@ impl From<game_core::NoMemory> for Outcome {
     }
 }
 
-impl From<NoMemory> for Outcome {
-    ghost from_gives = { λ _ outcome. outcome ≡ ends.NoMemory };
+impl From<ReadFault> for Outcome {
+    ghost from_gives = { λ fault outcome. outcome ≡ of_read fault };
 
-    fn from(_refused: NoMemory) -> Outcome {
-        Outcome::NoMemory
+    fn from(fault: ReadFault) -> Outcome {
+        match fault {
+            ReadFault::Device => Outcome::ReadFault,
+            ReadFault::Memory => Outcome::NoMemory,
+        }
     }
 }
 
@@ -86,6 +103,7 @@ impl Outcome {
     {
         match self {
             Outcome::Done => 0,
+            Outcome::Invalid { .. } => 1,
             Outcome::Usage => 2,
             Outcome::Malformed { .. } => 3,
             Outcome::Overflow { .. } => 4,
@@ -105,6 +123,10 @@ impl Outcome {
         let mut second = Buffer::new();
         let _ = match self {
             Outcome::Done | Outcome::WriteFault => Ok(()),
+            Outcome::Invalid { cell } => {
+                let cell = first.format(cell).as_bytes();
+                write_pieces(err, &[b"invalid: cell ", cell, b"\n"])
+            }
             Outcome::Usage => write_pieces(err, &[b"usage\n"]),
             Outcome::Malformed { line } => {
                 let line = first.format(line).as_bytes();

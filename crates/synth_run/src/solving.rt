@@ -1,77 +1,55 @@
-// From the bytes of a plant's text to the text of its table.
+// From the bytes of a plant's text to the solution of its game.
 
 ghost use Rattle.std.specs.Prelude.{◌≡◌, ◌≢◌, IfOk, IfErr};
-ghost use Rattle.plant_text.specs.declared.plant.aims.GoalKind.TheVariants.{Reach};
 ghost use Rattle.synth_run.specs.declared.outcome.Outcome.TheVariants.{Done, NoMemory};
-ghost use Rattle.game_core.specs.Game.{IsGraph};
+ghost use Rattle.controller_table.specs.TableText.{First, table_text};
+ghost use Rattle.controller_table.specs.Tables.{RowsFit};
 ghost use Rattle.synth_run.specs.Demands.{PlantTextDemands, PlantDemands, IsSolvable};
 ghost use Rattle.synth_run.specs.Headline.{IsTableOf, IsTableFor};
 
-use crate::laws::{one_table_per_text, solution_fits};
+use crate::game::{game_of, graph_is_within_limits};
 use crate::outcome::Outcome;
-use crate::table::table_text;
-use abstraction_table::build;
-use abstraction_table::laws::games_count_their_edges;
-use game_core::laws::rows_lead_to_goals;
-use game_core::{Graph, solve_plain};
-use plant_refine::laws::games_refine_their_plants;
+use controller_table::laws::reach_solutions_fit;
+use game_core::laws::solutions_are_right;
+use game_core::{Answer, solve_plain};
+use plant_refine::laws::right_tables_drive_plants;
 use plant_text::laws::every_plant_is_within_limits;
-use plant_text::{GoalKind, Plant, read_plant};
+use plant_text::{Plant, read_plant};
 use std::alloc::Global;
 use std::thread::Threads;
-use successor_box::find_slopes;
 
-/// The text of the table of the plant that the bytes spell.
-pub fn table_of<R: Threads + Sync>(rt: &R, alloc: Global, bytes: &[u8]) -> Result<Vec<u8>, Outcome>
-    ensures table { IfOk result (λ text. IsTableFor bytes.now text.items) }
+/// A plant with the solution of its game.
+#[derive(Drop)]
+pub struct Solved {
+    pub plant: Plant,
+    pub answer: Answer,
+}
+
+/// The plant that the bytes spell, with its solution.
+pub fn solve_text<R: Threads + Sync>(rt: &R, alloc: Global, bytes: &[u8]) -> Result<Solved, Outcome>
+    ensures table { IfOk result (λ solved. IsTableFor bytes.now (table_text First solved.plant solved.answer)) }
+    ensures fits { IfOk result (λ solved. RowsFit solved.plant solved.answer) }
     ensures demanded { IfErr result (λ outcome. outcome ≢ NoMemory → PlantTextDemands bytes.now outcome) }
     ensures failed { IfErr result (λ outcome. outcome ≢ Done) }
 {
     let plant = read_plant(alloc, bytes)?;
-    table_of_plant(rt, alloc, &plant)
+    let answer = solve(rt, alloc, &plant)?;
+    Ok(Solved { plant, answer })
 }
 
-/// The text of the table of a plant.
-fn table_of_plant<R: Threads + Sync>(
-    rt: &R,
-    alloc: Global,
-    plant: &Plant,
-) -> Result<Vec<u8>, Outcome>
-    ensures table { IfOk result (λ text. IsSolvable plant.now × IsTableOf plant.now text.items) }
-    ensures demanded { IfErr result (λ outcome. outcome ≢ NoMemory → PlantDemands plant.now outcome) }
-    ensures failed { IfErr result (λ outcome. outcome ≢ Done) }
-{
-    match plant.goal() {
-        GoalKind::Keep => Err(Outcome::Unbuilt),
-        GoalKind::Reach => reach_table_of(rt, alloc, plant),
-    }
-}
-
-/// The text of the table of a plant that is to reach a target.
-fn reach_table_of<R: Threads + Sync>(
-    rt: &R,
-    alloc: Global,
-    plant: &Plant,
-) -> Result<Vec<u8>, Outcome>
-    requires { plant.now.goal ≡ Reach }
-    ensures table { IfOk result (λ text. IsSolvable plant.now × IsTableOf plant.now text.items) }
+/// The solution of a plant that is to reach a target.
+fn solve<R: Threads + Sync>(rt: &R, alloc: Global, plant: &Plant) -> Result<Answer, Outcome>
+    ensures table { IfOk result (λ rows. IsSolvable plant.now × IsTableOf plant.now (table_text First plant.now rows)) }
+    ensures fits { IfOk result (λ rows. RowsFit plant.now rows) }
     ensures demanded { IfErr result (λ outcome. outcome ≢ NoMemory → PlantDemands plant.now outcome) }
     ensures failed { IfErr result (λ outcome. outcome ≢ Done) }
 {
     every_plant_is_within_limits(plant);
-    games_count_their_edges();
-    games_refine_their_plants();
-    rows_lead_to_goals();
-    solution_fits();
-    one_table_per_text();
-    let slopes = find_slopes(alloc, plant)?;
-    let game = build(rt, alloc, plant, &slopes)?;
+    reach_solutions_fit();
+    solutions_are_right();
+    right_tables_drive_plants();
+    let game = game_of(rt, alloc, plant)?;
     graph_is_within_limits(&game);
     let answer = solve_plain(alloc, &game)?;
-    Ok(table_text(alloc, plant, &answer)?)
+    Ok(answer)
 }
-
-/// A graph in memory keeps the limits.
-fn graph_is_within_limits<G: Graph>(_graph: &G)
-    ensures { IsGraph (G.game _graph.now) }
-{}

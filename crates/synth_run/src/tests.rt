@@ -53,6 +53,48 @@ fn writes_the_table_of_the_plant(rt: HostRuntime) -> Result<(), Fail> {
     Ok(())
 }
 
+// `check` on a table in memory.
+fn check_in_memory<R: Threads + Sync>(
+    rt: &R,
+    alloc: Global,
+    bytes: &[u8],
+    out: &mut MemorySink,
+    err: &mut MemorySink,
+) -> Result<u8, Fail> {
+    let bytes = Vec::from_slice(alloc, bytes)?;
+    let mut source = MemorySource::new(bytes, Vec::new(alloc));
+    Ok(run(rt, alloc, &["check"], &mut source, out, err, &Open))
+}
+
+#[test]
+fn table_of_the_solution_is_valid(rt: HostRuntime) -> Result<(), Fail> {
+    let mut out = sink(rt.alloc(), 200, &[])?;
+    let mut err = sink(rt.alloc(), 200, &[])?;
+    let status = check_in_memory(&rt, rt.alloc(), TABLE, &mut out, &mut err)?;
+    assert_eq!(rt; status, 0);
+    assert_eq!(rt; out.got(), b"valid\n".as_slice());
+    assert!(rt; err.got().is_empty());
+    Ok(())
+}
+
+// The plant has seven lines behind that of the version, and five rows follow their number: `end` is line 15.
+#[test]
+fn table_without_its_last_line_is_malformed(rt: HostRuntime) -> Result<(), Fail> {
+    let mut out = sink(rt.alloc(), 200, &[])?;
+    let mut err = sink(rt.alloc(), 200, &[])?;
+    let status = check_in_memory(
+        &rt,
+        rt.alloc(),
+        &TABLE[..TABLE.len() - 4],
+        &mut out,
+        &mut err,
+    )?;
+    assert_eq!(rt; status, 3);
+    assert!(rt; out.got().is_empty());
+    assert_eq!(rt; err.got(), b"malformed: line 15\n".as_slice());
+    Ok(())
+}
+
 // The first call takes the plant whole, the second finds the end, and the third would fail.
 #[test]
 fn nothing_is_read_behind_the_end(rt: HostRuntime) -> Result<(), Fail> {

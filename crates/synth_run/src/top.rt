@@ -5,13 +5,17 @@ ghost use Rattle.synth_run.specs.Runs.{Gives, IsRun, IsRunOf, IsAnswered, IsComp
 ghost use Rattle.synth_run.specs.declared.form.Form.{Form};
 ghost use Rattle.synth_run.specs.inside.Working.{IsWorkedOut, IsTurnedDown};
 
+use crate::checking::check_text;
 use crate::devices::{Sink, Source};
 use crate::form::{Form, form_of};
 use crate::gate::Gate;
 use crate::laws::one_demand_per_text;
 use crate::outcome::Outcome;
-use crate::solving::table_of;
-use crate::transfer::{ReadFault, read_up_to, write_whole};
+use crate::solving::solve_text;
+use crate::text::Text;
+use crate::transfer::{WriteFault, read_up_to};
+use controller_table::TABLE_LIMIT;
+use controller_table::laws::tables_are_short;
 use plant_text::TEXT_LIMIT;
 use std::alloc::Global;
 use std::thread::Threads;
@@ -21,16 +25,27 @@ fn synth<R: Threads + Sync, S: Source>(
     rt: &R,
     alloc: Global,
     source: &mut S,
-) -> Result<Vec<u8>, Outcome>
-    ensures answer { (workers : ℕ) → IfOk result (λ text. IsWorkedOut (Form.Synth workers) text.items (reading S.left S.faults S.is_sound source.old source.new)) }
+) -> Result<Text, Outcome>
+    ensures answer { (workers : ℕ) → IfOk result (λ text. IsWorkedOut (Form.Synth workers) text (reading S.left S.faults S.is_sound source.old source.new)) }
     ensures refusal { (workers : ℕ) → IfErr result (λ outcome. IsTurnedDown (Form.Synth workers) outcome (reading S.left S.faults S.is_sound source.old source.new)) }
 {
-    let bytes = match read_up_to(alloc, source, TEXT_LIMIT + 1) {
-        Ok(bytes) => bytes,
-        Err(ReadFault::Device) => return Err(Outcome::ReadFault),
-        Err(ReadFault::Memory) => return Err(Outcome::NoMemory),
-    };
-    table_of(rt, alloc, &bytes)
+    let bytes = read_up_to(alloc, source, TEXT_LIMIT + 1)?;
+    Ok(Text::Table(solve_text(rt, alloc, &bytes)?))
+}
+
+/// That the table on the source is valid.
+fn check<R: Threads + Sync, S: Source>(
+    rt: &R,
+    alloc: Global,
+    source: &mut S,
+) -> Result<Text, Outcome>
+    ensures answer { IfOk result (λ text. IsWorkedOut Form.Check text (reading S.left S.faults S.is_sound source.old source.new)) }
+    ensures refusal { IfErr result (λ outcome. IsTurnedDown Form.Check outcome (reading S.left S.faults S.is_sound source.old source.new)) }
+{
+    tables_are_short();
+    let bytes = read_up_to(alloc, source, TABLE_LIMIT + 1)?;
+    check_text(rt, alloc, &bytes)?;
+    Ok(Text::Line(b"valid\n"))
 }
 
 /// The text that a form writes.
@@ -39,12 +54,13 @@ fn answer_of<R: Threads + Sync, S: Source>(
     alloc: Global,
     form: Form,
     source: &mut S,
-) -> Result<Vec<u8>, Outcome>
-    ensures answer { IfOk result (λ text. IsWorkedOut form text.items (reading S.left S.faults S.is_sound source.old source.new)) }
+) -> Result<Text, Outcome>
+    ensures answer { IfOk result (λ text. IsWorkedOut form text (reading S.left S.faults S.is_sound source.old source.new)) }
     ensures refusal { IfErr result (λ outcome. IsTurnedDown form outcome (reading S.left S.faults S.is_sound source.old source.new)) }
 {
     match form {
         Form::Synth { .. } => synth(rt, alloc, source),
+        Form::Check => check(rt, alloc, source),
     }
 }
 
@@ -62,9 +78,10 @@ fn carry_out<R: Threads + Sync, S: Source, O: Sink>(
         Ok(text) => text,
         Err(outcome) => return outcome,
     };
-    match write_whole(out, &text) {
+    match text.write(alloc, out) {
         Ok(()) => Outcome::Done,
-        Err(_) => Outcome::WriteFault,
+        Err(WriteFault::Device) => Outcome::WriteFault,
+        Err(WriteFault::Memory) => Outcome::NoMemory,
     }
 }
 
@@ -86,7 +103,7 @@ fn outcome_of<R: Threads + Sync, S: Source, O: Sink>(
 
 /// The top call: does what the words ask for, and answers the exit status.
 ///
-/// 0: the answer was written. 2: the words are of no form. 3: a line of the text is malformed. 4: a number
+/// 0: the answer was written. 1: a row of the table isn't right. 2: the words are of no form. 3: a line of the text is malformed. 4: a number
 /// leaves the range. 5: a limit is exceeded. 6: a read failed. 7: a write failed. 8: there was no memory
 /// left. 9: the plant has `goal keep`, which isn't solved yet.
 pub fn run<R: Threads + Sync, S: Source, O: Sink, E: Sink, G: Gate>(

@@ -5,8 +5,10 @@ ghost use Rattle.std.specs.Prelude.{◌≡◌, ◌≢◌, ◌≤◌, ◌+◌, Ok
 ghost use Rattle.synth_run.specs.Devices.{Rose, Gains, GainsWhole, GainsPart, writing};
 ghost use Rattle.synth_run.specs.inside.Transfers.{ReadUpTo};
 ghost use Rattle.synth_run.specs.declared.transfer.ReadFault.TheVariants.{Memory, Device};
+ghost use Rattle.synth_run.specs.declared.transfer.WriteFault.TheVariants as writes;
 
 use crate::devices::{Failed, Sink, Source};
+use controller_table::NoMemory;
 use std::alloc::{AllocError, Global};
 
 /// Why a source wasn't read.
@@ -29,6 +31,39 @@ impl From<Failed> for ReadFault {
 
     fn from(_e: Failed) -> ReadFault {
         ReadFault::Device
+    }
+}
+
+/// Why a text wasn't written whole.
+#[derive(Clone, Copy, Debug, PartialEq, Eq)]
+pub enum WriteFault {
+    /// A write failed.
+    Device,
+    /// There was no memory left, and nothing was written.
+    Memory,
+}
+
+impl From<AllocError> for WriteFault {
+    ghost from_gives = { λ _ e. e ≡ writes.Memory };
+
+    fn from(_e: AllocError) -> WriteFault {
+        WriteFault::Memory
+    }
+}
+
+impl From<NoMemory> for WriteFault {
+    ghost from_gives = { λ _ e. e ≡ writes.Memory };
+
+    fn from(_e: NoMemory) -> WriteFault {
+        WriteFault::Memory
+    }
+}
+
+impl From<Failed> for WriteFault {
+    ghost from_gives = { λ _ e. e ≡ writes.Device };
+
+    fn from(_e: Failed) -> WriteFault {
+        WriteFault::Device
     }
 }
 

@@ -1,5 +1,5 @@
 -- What a form has worked out from its source before anything is written.
-use Rattle.std.specs.Prelude.{◌≡◌, ◌≢◌, ℕ, List, IfSome, IsTrue}
+use Rattle.std.specs.Prelude.{◌≡◌, ◌≢◌, IfSome, IsTrue}
 use Rattle.synth_run.specs.declared.form.Form.{Form}
 use Rattle.synth_run.specs.declared.outcome.Outcome.{Outcome}
 use Rattle.synth_run.specs.declared.outcome.Outcome.TheVariants.{Done, Usage, ReadFault, WriteFault, NoMemory}
@@ -9,10 +9,13 @@ use Rattle.synth_run.specs.Demands.{Demands}
 use Rattle.synth_run.specs.Headline.{IsAnswer}
 use Rattle.synth_run.specs.Statuses.{IsTheTexts}
 use Rattle.synth_run.specs.Runs.{IsRead}
+use Rattle.synth_run.specs.declared.text.Text.{Text}
+use Rattle.synth_run.specs.inside.Texts.{bytes_of, CanBeWritten}
 
 -- The text of the answer was worked out.
-pub record IsWorkedOut (form : Form) (text : List ℕ) (source : Reading) : Type 0 where
-  pub answer : IfSome (given form source.before) (λ bytes. IsAnswer form bytes text)
+pub record IsWorkedOut (form : Form) (text : Text) (source : Reading) : Type 0 where
+  pub can_be_written : CanBeWritten text
+  pub answer : IfSome (given form source.before) (λ bytes. IsAnswer form bytes (bytes_of text))
   pub demanded : IfSome (given form source.before) (λ bytes. Demands form bytes Done)
   pub read : IsRead form source
   pub no_fault : source.faults_after ≡ source.faults_before

@@ -1,22 +1,30 @@
-use Rattle.std.proofs.Common.{subst, List, ℕ}
+use Rattle.std.proofs.Common.{List, ℕ, refl, subst}
+use Rattle.controller_table.specs.TableText.{First, table_text}
+use Rattle.synth_run.specs.declared.form.Form.TheVariants.{Synth}
+use Rattle.synth_run.specs.declared.text.Text.TheVariants.{Table}
 use Rattle.synth_run.specs.Devices.{reading}
-use Rattle.synth_run.specs.Demands.{PlantTextDemands}
 use Rattle.synth_run.specs.Headline.{IsTableFor}
-use Rattle.synth_run.proofs.Reporting.{if_ok_more, if_err_both}
-use Rattle.synth_run.proofs.Working.{table_answers, text_turned_down}
+use Rattle.synth_run.proofs.Limits.{plants_pass_on}
+use Rattle.synth_run.proofs.Working.{worked_out, turned_down}
+use Rattle.synth_run.proofs.Reporting.{exits}
+use Rattle.synth_run.specs.Demands.{PlantTextDemands}
 use Rattle.synth_run.proofs.top.synth.Goals as goal
 
 pub returns-clause-answer : goal.returns-clause-answer
 returns-clause-answer g c =
-    λ workers. if_ok_more c.table_of.result _ _
-    (λ text table. table_answers workers (reading g.S.Source.left g.S.Source.faults g.S.Source.is_sound c.args.source.now c.read_up_to.new.source) c.in-Ok.bytes.items text.items c.in-Ok.ensures.read (c.in-Ok.ensures.no_fault (λ e. cc))
-    (subst (λ (bytes : List ℕ). IsTableFor bytes text.items) c.deref.ensures.value table))
-    c.table_of.ensures.table
+    let source = reading g.S.Source.left g.S.Source.faults g.S.Source.is_sound c.args.source.now c.read_up_to.new.source in
+    let solved = c.in_ok-solve_text.field-0 in
+    λ workers. worked_out (Synth workers) (plants_pass_on workers) source c.in_ok-bytes.bytes.items (Table solved)
+    (record { told = refl; up_to = c.in_ok-bytes.ensures.read; no_fault = c.in_ok-bytes.ensures.no_fault (λ e. cc) })
+    c.in_ok-solve_text.ensures.fits
+    (subst (λ (bytes : List ℕ). IsTableFor bytes (table_text First solved.plant solved.answer)) c.deref.ensures.value c.in_ok-solve_text.ensures.table)
 
-pub returns-clause-refusal : goal.returns-clause-refusal
-returns-clause-refusal g c =
-    λ workers. if_err_both c.table_of.result _ _ _
-    (λ outcome demands not_done. text_turned_down workers outcome (reading g.S.Source.left g.S.Source.faults g.S.Source.is_sound c.args.source.now c.read_up_to.new.source) c.in-Ok.bytes.items c.in-Ok.ensures.read (c.in-Ok.ensures.no_fault (λ e. cc)) not_done
-    (λ memory. subst (λ (bytes : List ℕ). PlantTextDemands bytes outcome) c.deref.ensures.value (demands memory)))
-    c.table_of.ensures.demanded
-    c.table_of.ensures.failed
+pub returns-in_err-solve_text-clause-refusal : goal.returns-in_err-solve_text-clause-refusal
+returns-in_err-solve_text-clause-refusal g c =
+    let outcome = c.in_err-solve_text.field-0.0 in
+    let source = reading g.S.Source.left g.S.Source.faults g.S.Source.is_sound c.args.source.now c.read_up_to.new.source in
+    λ workers. exits c.from_residual-in_err-solve_text.result outcome _ c.from_residual-in_err-solve_text.ensures.1
+    (turned_down (Synth workers) (plants_pass_on workers) source c.in_ok-bytes.bytes.items outcome
+    (record { told = refl; up_to = c.in_ok-bytes.ensures.read; no_fault = c.in_ok-bytes.ensures.no_fault (λ e. cc) })
+    c.in_err-solve_text.ensures.failed
+    (λ memory. subst (λ (bytes : List ℕ). PlantTextDemands bytes outcome) c.deref.ensures.value (c.in_err-solve_text.ensures.demanded memory)))

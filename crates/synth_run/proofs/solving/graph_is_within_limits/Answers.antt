@@ -1,4 +1,0 @@
-use Rattle.synth_run.proofs.solving.graph_is_within_limits.Goals as goal
-
-pub returns : goal.returns
-returns g c = g.met.G.Graph.lawful c.args._graph.now
