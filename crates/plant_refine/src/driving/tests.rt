@@ -5,9 +5,9 @@ ghost use Rattle.plant_refine.specs.RightRows.{AreRightRowsOf};
 
 use super::*;
 use abstraction_table::{Abstraction, build};
-use controller_table::{Answer, read_table};
+use controller_table::read_table;
 use game_core::laws::solutions_are_right;
-use game_core::solve_plain;
+use game_core::{Answer, solve_plain};
 use plant_text::GoalKind;
 use std::process::Abort;
 use std::test::Fail;
