@@ -23,11 +23,13 @@ use Rattle.controller_table.specs.declared.fault.TableFault.TheVariants as table
 use Rattle.controller_table.specs.Refusals.{IsTableRefusedFor}
 use Rattle.controller_table.specs.Laws.{OneTablePerText, OneTableRefusal, TableOrRefused}
 use Rattle.table_check.specs.Verdicts.{IsFirstWithout}
-use Rattle.synth_run.specs.declared.form.Form.TheVariants.{Synth, Check}
+use Rattle.synth_run.specs.declared.form.Form.TheVariants.{Synth, Check, Demo}
 use Rattle.synth_run.specs.declared.outcome.Outcome.{Outcome}
 use Rattle.synth_run.specs.declared.outcome.Outcome.TheVariants.{Done, Invalid, Usage, Malformed, Overflow, Limit, ReadFault, WriteFault, NoMemory, Unbuilt}
 use Rattle.synth_run.specs.Demands.{IsRefused, IsSolvable, HasEdges, ExceedsEdges, PlantDemands, PlantTextDemands, IsFirstWrong, TableDemands, IsRefusedTable, TableTextDemands}
 use Rattle.synth_run.specs.inside.Causes.{of_plant, of_table}
+use Rattle.synth_run.specs.Demo.{demo_plant_of}
+use Rattle.synth_run.specs.DemoLaws.{IsSolvableDemo}
 use Rattle.synth_run.specs.Laws.{OneDemandPerText}
 
 not_both_goals : (p : Description) → p.goal ≡ Reach → p.goal ≡ Keep → ⊥
@@ -129,6 +131,19 @@ module _ (count : OneEdgeCount) where
   plant_demands_one p Unbuilt ReadFault plant f g = absurd g
   plant_demands_one p Unbuilt WriteFault plant f g = absurd g
   plant_demands_one p Unbuilt NoMemory plant f g = absurd g
+
+-- nothing refuses a demo plant, so that only want of memory keeps it from its line
+pub no_refusal : (n : ℕ) → IsSolvableDemo n → (outcome : Outcome) → (outcome ≡ Done → ⊥) → ((outcome ≡ NoMemory → ⊥) → PlantDemands (demo_plant_of n) outcome) → outcome ≡ NoMemory
+no_refusal n s Done failed h = absurd (failed refl)
+no_refusal n s (Invalid c) failed h = absurd (h (λ e. cc))
+no_refusal n s Usage failed h = absurd (h (λ e. cc))
+no_refusal n s (Malformed line) failed h = absurd (h (λ e. cc))
+no_refusal n s (Overflow i u) failed h = absurd (let f = h (λ e. cc) in fits_or_not (demo_plant_of n) i u s.no_overflow f.1)
+no_refusal n s (Limit what) failed h = absurd (let many = (exceeding (demo_plant_of n) what (h (λ e. cc))).1 in s.edges many.0 many.1.counted many.2)
+no_refusal n s ReadFault failed h = absurd (h (λ e. cc))
+no_refusal n s WriteFault failed h = absurd (h (λ e. cc))
+no_refusal n s NoMemory failed h = refl
+no_refusal n s Unbuilt failed h = absurd (not_both_goals (demo_plant_of n) s.goal (h (λ e. cc)))
 
 -- a refused text, by the fault of its reader
 record IsFaulty (bytes : List ℕ) (outcome : Outcome) : Type 0 where
@@ -263,3 +278,4 @@ one_demand_of_tables laws bytes a b f g =
 pub one_demand : OnePlantPerText → OneRefusal → ReadOrRefused → TableLaws → OneDemandPerText
 one_demand plant refusal read laws (Synth workers) bytes a b f g = one_demand_of_plants plant refusal read laws.edges bytes a b f g
 one_demand plant refusal read laws Check bytes a b f g = one_demand_of_tables laws bytes a b f g
+one_demand plant refusal read laws (Demo n workers) bytes a b f g = f ∙ sym g

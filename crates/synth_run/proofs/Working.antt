@@ -1,8 +1,9 @@
 -- What a form has worked out from what it read.
-use Rattle.std.proofs.Common.{◌≡◌, ℕ, List, inl, inr, sym, subst, ◌∙◌}
+use Rattle.std.proofs.Common.{Bool, refl, drop, ◌≡◌, ℕ, List, inl, inr, sym, subst, ◌∙◌}
 use Rattle.std.specs.Prelude.{Option, Some, None, IfSome}
 use Rattle.synth_run.specs.declared.form.Form.{Form}
-use Rattle.synth_run.specs.declared.form.Form.TheVariants.{Synth, Check}
+use Rattle.synth_run.specs.declared.form.Form.TheVariants.{Synth, Check, Demo}
+use Rattle.synth_run.specs.Demo.{IsDemoLine}
 use Rattle.synth_run.specs.declared.outcome.Outcome.{Outcome}
 use Rattle.synth_run.specs.declared.outcome.Outcome.TheVariants.{Done, Usage, ReadFault, WriteFault, NoMemory}
 use Rattle.synth_run.specs.declared.text.Text.{Text}
@@ -26,6 +27,7 @@ pub record IsReadWhole (form : Form) (source : Reading) (read : List ℕ) : Type
 answered_is_demanded : (form : Form) (bytes text : List ℕ) → IsAnswer form bytes text → Demands form bytes Done
 answered_is_demanded (Synth workers) bytes text h = inr (h.0, h.1, h.2)
 answered_is_demanded Check bytes text h = inr (record { plant = h.0.plant; rows = h.0.rows; table = h.0.table; demands = (h.0.solvable, h.0.solution) })
+answered_is_demanded (Demo n workers) bytes text h = refl
 
 if_some_more : (told : Option (List ℕ)) (P Q : List ℕ → Type 0) → ((bytes : List ℕ) → P bytes → Q bytes) → IfSome told P → IfSome told Q
 if_some_more None P Q more h = tt
@@ -49,14 +51,17 @@ worked_out form passes source read text whole fits answer = record {
 demands_no_usage : (form : Form) (bytes : List ℕ) → Demands form bytes Usage → ⊥
 demands_no_usage (Synth workers) bytes h = elim h [ inl refused ↦ refused | inr accepted ↦ accepted.2 ]
 demands_no_usage Check bytes h = elim h [ inl refused ↦ refused | inr table ↦ table.demands ]
+demands_no_usage (Demo n workers) bytes h = cc
 
 demands_no_read_fault : (form : Form) (bytes : List ℕ) → Demands form bytes ReadFault → ⊥
 demands_no_read_fault (Synth workers) bytes h = elim h [ inl refused ↦ refused | inr accepted ↦ accepted.2 ]
 demands_no_read_fault Check bytes h = elim h [ inl refused ↦ refused | inr table ↦ table.demands ]
+demands_no_read_fault (Demo n workers) bytes h = cc
 
 demands_no_write_fault : (form : Form) (bytes : List ℕ) → Demands form bytes WriteFault → ⊥
 demands_no_write_fault (Synth workers) bytes h = elim h [ inl refused ↦ refused | inr accepted ↦ accepted.2 ]
 demands_no_write_fault Check bytes h = elim h [ inl refused ↦ refused | inr table ↦ table.demands ]
+demands_no_write_fault (Demo n workers) bytes h = cc
 
 -- a device's fault, or want of memory
 not_for_memory : (outcome : Outcome) → IsTheTexts outcome → outcome ≡ NoMemory → ⊥
@@ -78,3 +83,27 @@ turned_down form passes source read outcome whole not_done demands = record {
   where
     no_read_fault : outcome ≡ ReadFault → ⊥
     no_read_fault e = demands_no_read_fault form read (subst (Demands form read) e (demands (λ m. let clash : NoMemory ≡ ReadFault = sym m ∙ e in cc)))
+
+-- ---- demo plants
+
+unread : (told : Option (List ℕ)) → IfSome told (λ bytes. told ≡ Some (drop 0 bytes))
+unread None = tt
+unread (Some bytes) = refl
+
+-- the line of a demo plant is the form's answer, and its source stays as it was
+pub demo_worked_out : (n workers : ℕ) (told : Option (List ℕ)) (faults : ℕ) (sound : Bool) (text : Text) → CanBeWritten text → IsDemoLine n (bytes_of text)
+    → IsWorkedOut (Demo n workers) text (record { before = told; after = told; faults_before = faults; faults_after = faults; is_sound = sound })
+demo_worked_out n workers told faults sound text fits line = record { can_be_written = fits; answer = line; demanded = refl; read = unread told; no_fault = refl }
+
+pub demo_turned_down : (n workers : ℕ) (told : Option (List ℕ)) (faults : ℕ) (sound : Bool) (outcome : Outcome) → outcome ≡ NoMemory
+    → IsTurnedDown (Demo n workers) outcome (record { before = told; after = told; faults_before = faults; faults_after = faults; is_sound = sound })
+demo_turned_down n workers told faults sound outcome memory = record {
+  not_done = λ e. let clash : NoMemory ≡ Done = sym memory ∙ e in cc;
+  not_usage = λ e. let clash : NoMemory ≡ Usage = sym memory ∙ e in cc;
+  not_write_fault = λ e. let clash : NoMemory ≡ WriteFault = sym memory ∙ e in cc;
+  demanded = λ texts. absurd (not_for_memory outcome texts memory);
+  read = λ _ some. absurd (some memory);
+  fault = λ e. absurd (let clash : NoMemory ≡ ReadFault = sym memory ∙ e in cc);
+  no_fault = λ _. refl;
+  sound = λ _ e. let clash : NoMemory ≡ ReadFault = sym memory ∙ e in cc;
+}

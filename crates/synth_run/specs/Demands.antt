@@ -19,7 +19,7 @@ use Rattle.controller_table.specs.Tables.{IsTable}
 use Rattle.controller_table.specs.Refusals.{IsTableRefusedFor}
 use Rattle.table_check.specs.Verdicts.{IsFirstWithout}
 use Rattle.synth_run.specs.declared.form.Form.{Form}
-use Rattle.synth_run.specs.declared.form.Form.TheVariants.{Synth, Check}
+use Rattle.synth_run.specs.declared.form.Form.TheVariants.{Synth, Check, Demo}
 use Rattle.synth_run.specs.declared.outcome.Outcome.{Outcome}
 use Rattle.synth_run.specs.declared.outcome.Outcome.TheVariants.{Done, Invalid, Usage, Malformed, Overflow, Limit, ReadFault, WriteFault, NoMemory, Unbuilt}
 
@@ -129,7 +129,8 @@ TableTextDemands bytes outcome = IsRefusedTable bytes outcome ⊎ IsTableThatDem
 
 -- ---- the text of a form
 
--- what the bytes demand of a form
+-- what the bytes demand of a form: nothing refuses a demo plant
 abbrev pub Demands : Form → List ℕ → Outcome → Type 0
 Demands (Synth workers) bytes outcome = PlantTextDemands bytes outcome
 Demands Check bytes outcome = TableTextDemands bytes outcome
+Demands (Demo number workers) bytes outcome = outcome ≡ Done

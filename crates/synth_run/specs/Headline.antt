@@ -8,7 +8,8 @@ use Rattle.controller_table.specs.TableText.{First, table_text}
 use Rattle.controller_table.specs.Tables.{IsTable}
 use Rattle.plant_refine.specs.Drives.{Drives}
 use Rattle.synth_run.specs.declared.form.Form.{Form}
-use Rattle.synth_run.specs.declared.form.Form.TheVariants.{Synth, Check}
+use Rattle.synth_run.specs.declared.form.Form.TheVariants.{Synth, Check, Demo}
+use Rattle.synth_run.specs.Demo.{IsDemoLine}
 use Rattle.synth_run.specs.Demands.{IsAccepted, IsSolvable}
 
 -- The text is the table of the solution of a plant's game: ranks are least depths of winning strategies in
@@ -37,7 +38,8 @@ pub record IsValid (bytes : List ℕ) : Type 0 where
   pub drives : Drives plant bytes
 
 -- the answer of a form for some bytes: that of `synth` is the plant's one table, whatever the number of workers, and
--- that of `check` is `valid` where the bytes are one
+-- that of `check` is `valid` where the bytes are one, and that of `demo` is the line of the demo plant
 abbrev pub IsAnswer : Form → List ℕ → List ℕ → Type 0
 IsAnswer (Synth workers) bytes text = IsTableFor bytes text
 IsAnswer Check bytes text = IsValid bytes × (text ≡ codes "valid\n")
+IsAnswer (Demo number workers) bytes text = IsDemoLine number text

@@ -5,10 +5,12 @@ ghost use Rattle.std.specs.Fmt.{decimal};
 
 mod line;
 mod plant;
+mod solved;
 
 use itoa::Buffer;
 pub use line::demo_line;
 pub use plant::demo_plant;
+pub(crate) use solved::solved_line;
 use std::alloc::AllocError;
 
 /// A piece and a number.

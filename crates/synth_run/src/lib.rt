@@ -1,9 +1,10 @@
 //! The top call.
 //!
 //! `run` goes from the words and bytes that it is given to the bytes that it writes: its clauses say
-//! what each status means, that status 0 of `synth` means the plant's table, and that status 0 of
-//! `check` means that the bytes are such a table. Stands on `plant_text`, `abstraction_table`,
-//! `game_core`, `controller_table`, `table_check`, `plant_refine` and the crates below.
+//! what each status means, that status 0 of `synth` means the plant's table, that of `check` that the
+//! bytes are such a table, and that of `demo` the demo plant's line. Stands on `plant_text`,
+//! `abstraction_table`, `game_core`, `controller_table`, `table_check`, `plant_refine` and the crates
+//! below.
 #![tactic(auto)]
 
 mod checking;

@@ -5,6 +5,7 @@ ghost use Rattle.synth_run.specs.Statuses.{status_of, line_of, limit_words, Repo
 ghost use Rattle.synth_run.specs.inside.Causes.{of_plant, of_table, of_slopes, of_build, of_read};
 
 use crate::devices::Sink;
+use crate::memory::NoMemory;
 use crate::transfer::{ReadFault, write_pieces};
 use abstraction_table::BuildFault;
 use controller_table::TableFault;
@@ -81,6 +82,14 @@ impl From<game_core::NoMemory> for Outcome {
     ghost from_gives = { λ _ outcome. outcome ≡ ends.NoMemory };
 
     fn from(_refused: game_core::NoMemory) -> Outcome {
+        Outcome::NoMemory
+    }
+}
+
+impl From<NoMemory> for Outcome {
+    ghost from_gives = { λ _ outcome. outcome ≡ ends.NoMemory };
+
+    fn from(_refused: NoMemory) -> Outcome {
         Outcome::NoMemory
     }
 }

@@ -21,6 +21,7 @@ const PIECE: usize = 32_768;
 pub enum Text {
     Table(Solved),
     Line(&'static [u8]),
+    Summary(Vec<u8>),
 }
 
 impl Text {
@@ -33,6 +34,7 @@ impl Text {
         match self {
             Text::Table(solved) => write_table(alloc, solved, out),
             Text::Line(bytes) => Ok(write_whole(out, bytes)?),
+            Text::Summary(text) => Ok(write_whole(out, text)?),
         }
     }
 }

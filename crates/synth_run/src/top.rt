@@ -1,11 +1,15 @@
-ghost use Rattle.std.specs.Prelude.{◌≡◌, ℕ, map, IfSome, IfOk, IfErr};
+ghost use Rattle.std.specs.Prelude.{◌≡◌, ℕ, List, map, IfSome, IfOk, IfErr};
 ghost use Rattle.synth_run.specs.Devices.{Rose, reading, writing};
 ghost use Rattle.synth_run.specs.Form.{IsOfForm, given};
 ghost use Rattle.synth_run.specs.Runs.{Gives, IsRun, IsRunOf, IsAnswered, IsCompleteAnswer};
 ghost use Rattle.synth_run.specs.declared.form.Form.{Form};
+ghost use Rattle.synth_run.specs.declared.outcome.Outcome.TheVariants as ends;
+ghost use Rattle.synth_run.specs.Demo.{IsDemoNumber, IsDemoLine};
+ghost use Rattle.synth_run.specs.inside.Texts.{bytes_of, CanBeWritten};
 ghost use Rattle.synth_run.specs.inside.Working.{IsWorkedOut, IsTurnedDown};
 
 use crate::checking::check_text;
+use crate::demo::solved_line;
 use crate::devices::{Sink, Source};
 use crate::form::{Form, form_of};
 use crate::gate::Gate;
@@ -48,6 +52,16 @@ fn check<R: Threads + Sync, S: Source>(
     Ok(Text::Line(b"valid\n"))
 }
 
+/// The line of a demo plant.
+fn demo<R: Threads + Sync>(rt: &R, alloc: Global, number: u32) -> Result<Text, Outcome>
+    requires { IsDemoNumber number }
+    ensures written { IfOk result (λ text. CanBeWritten text) }
+    ensures line { IfOk result (λ text. IsDemoLine number (bytes_of text)) }
+    ensures memory { IfErr result (λ outcome. outcome ≡ ends.NoMemory) }
+{
+    Ok(Text::Summary(solved_line(rt, alloc, number)?))
+}
+
 /// The text that a form writes.
 fn answer_of<R: Threads + Sync, S: Source>(
     rt: &R,
@@ -55,12 +69,14 @@ fn answer_of<R: Threads + Sync, S: Source>(
     form: Form,
     source: &mut S,
 ) -> Result<Text, Outcome>
+    requires { (words : List (List ℕ)) × IsOfForm words form }
     ensures answer { IfOk result (λ text. IsWorkedOut form text (reading S.left S.faults S.is_sound source.old source.new)) }
     ensures refusal { IfErr result (λ outcome. IsTurnedDown form outcome (reading S.left S.faults S.is_sound source.old source.new)) }
 {
     match form {
         Form::Synth { .. } => synth(rt, alloc, source),
         Form::Check => check(rt, alloc, source),
+        Form::Demo { number, .. } => demo(rt, alloc, number),
     }
 }
 
@@ -72,6 +88,7 @@ fn carry_out<R: Threads + Sync, S: Source, O: Sink>(
     source: &mut S,
     out: &mut O,
 ) -> Outcome
+    requires { (words : List (List ℕ)) × IsOfForm words form }
     ensures { IsRunOf form result (reading S.left S.faults S.is_sound source.old source.new) (writing O.got O.faults O.room out.old out.new) }
 {
     let text = match answer_of(rt, alloc, form, source) {
