@@ -5,7 +5,7 @@ use Rattle.plant_text.specs.declared.plant.aims.GoalKind.TheVariants.{Reach}
 use Rattle.plant_text.specs.plant.Description.{Description}
 use Rattle.abstraction_table.specs.Solution.{IsSolutionOf}
 use Rattle.controller_table.specs.TableText.{First, table_text}
-use Rattle.controller_table.specs.Tables.{IsTable}
+use Rattle.controller_table.specs.Tables.{RowsFit, IsTable}
 use Rattle.plant_refine.specs.Drives.{Drives}
 use Rattle.synth_run.specs.declared.form.Form.{Form}
 use Rattle.synth_run.specs.declared.form.Form.TheVariants.{Synth, Check, Demo}
@@ -20,6 +20,7 @@ pub record IsTableOf (p : Description) (text : List ℕ) : Type 0 where
   pub reach : p.goal ≡ Reach
   pub rows : List (Option Row)
   pub solution : IsSolutionOf p rows
+  pub fitting : RowsFit p rows
   pub text_is : text ≡ table_text First p rows
   pub drives : Drives p text
 

@@ -18,6 +18,7 @@ returns-clause-table g c =
         reach = solvable.1.reach;
         rows = rows;
         solution = is_solution p game rows solvable.1.reach abstraction solution;
+        fitting = fits;
         text_is = refl;
         drives = c.right_tables_drive_plants.ensures (table_text First p rows) p game rows (record { limits = c.every_plant_is_within_limits.ensures; fitting = fits; version = First; text = refl }) abstraction
             (c.solutions_are_right.ensures game rows abstraction.game solution);
