@@ -89,10 +89,11 @@ module _ (g : Game) (a : IsGraph g) (rank : ℕ) (small : rank < 2 ^ 31) (list :
       let w = least_from-range (word_after g accounts c) (1 + suc rank * 4096) (1 + suc rank * 4096 + 4096) (values (all_offers c more)) (omega arith) range (omega arith) in
       let low = w.0 in
       let high = w.1 in
-      let m = least_from (word_after g accounts c) (values (all_offers c more)) in
-      (record { rank = (m - 1) / 4096; input = (m - 1) % 4096 },
-      row_told g (accounts ++ more) c lt ∙ (ap row_in (word_after-more g accounts more c) ∙ row_from_word m (omega arith) (omega arith)),
-      omega arith)
+      let m = least_from (word_after g accounts c) (values (all_offers c more)) in (
+        record { rank = (m - 1) / 4096; input = (m - 1) % 4096 },
+        row_told g (accounts ++ more) c lt ∙ (ap row_in (word_after-more g accounts more c) ∙ row_from_word m (omega arith) (omega arith)),
+        omega arith,
+      )
 
   -- without an offer a word stays
   no_offer : (c : ℕ) → c < g.cells → length (all_offers c more) ≡ 0 → row_of new c ≡ row_of rows c

@@ -72,7 +72,6 @@ module _ (g : Game) (a : IsGraph g) (laws : Laws) (board : BoardModel) (of_game 
     after : IsLawfulFor g (accounts ++ more)
     after = lawful_for g a board of_game (accounts ++ more) lawful
 
-
     pub rows_go_on : IsNext rank (rows_told g accounts) (rows_told g (accounts ++ more))
     rows_go_on = next_rows g a rank low list accounts more laws was round after
 
@@ -88,7 +87,7 @@ module _ (g : Game) (a : IsGraph g) (laws : Laws) (board : BoardModel) (of_game 
     pub next_stand : IsLawfulLog accounts → (next : List ℕ) → next ≡ map (λ place. cell_at place (all_logs (accounts ++ more))) (range_with_len (log_count accounts) (log_count (accounts ++ more) - log_count accounts)) → IsReached g (suc rank) next (accounts ++ more)
     next_stand before next e =
         let many : log_count (accounts ++ more) - log_count accounts ≡ log_count more =
-            (let n = ap length (all_logs-append accounts more) ∙ length-append (all_logs accounts) (all_logs more) in omega arith) in
+        (let n = ap length (all_logs-append accounts more) ∙ length-append (all_logs accounts) (all_logs more) in omega arith) in
         let places = λ (n : ℕ). map (λ place. cell_at place (all_logs (accounts ++ more))) (range_with_len (log_count accounts) n) in
         let same = laws.new_places accounts more before new_log in
         leads_on next (λ c.
@@ -109,23 +108,25 @@ module _ (g : Game) (a : IsGraph g) (laws : Laws) (board : BoardModel) (of_game 
       let rounds : suc rank ≡ new.tally.rounds = (let e = p.rounds in omega arith) in
       let taken = taken_more g a laws rank list accounts (rows_told g all) was.reached next in
       let listed : new.list.items ≡ map (λ place. cell_at place (all_logs all)) (range_with_len (log_count accounts) (log_count all - log_count accounts)) =
-          subst (λ n. new.list.items ≡ map (λ place. cell_at place (all_logs all)) (range_with_len n (log_count all - n))) was.all_listed
-          (subst (λ l. new.list.items ≡ map (λ place. cell_at place (all_logs l)) (range_with_len old.listed (log_count l - old.listed))) p.accounts p.list) in
+      subst (λ n. new.list.items ≡ map (λ place. cell_at place (all_logs all)) (range_with_len n (log_count all - n))) was.all_listed
+      (subst (λ l. new.list.items ≡ map (λ place. cell_at place (all_logs l)) (range_with_len old.listed (log_count l - old.listed))) p.accounts p.list) in
       let reached = next_stand rank low list accounts p.members was.reached p.worked p.swept lawful was.log new.list.items listed in
       let back : all ≡ new.root.accounts = sym p.accounts in
       let progressed : cells_taken g (rows_told g new.root.accounts) new.tally.rounds ≡ cells_taken g (rows_told g accounts) rank + length list =
-          subst (λ l. cells_taken g (rows_told g l) new.tally.rounds ≡ cells_taken g (rows_told g accounts) rank + length list) back
-          (subst (λ k. cells_taken g (rows_told g all) k ≡ cells_taken g (rows_told g accounts) rank + length list) rounds taken) in
-      (record {
-        reached = subst (λ l. IsReached g new.tally.rounds new.list.items l) back (subst (λ k. IsReached g k new.list.items all) rounds reached);
-        full = subst (λ l. IsFull (rows_told g l) new.tally.rounds) back (subst (λ k. IsFull (rows_told g all) k) rounds (full_after g a laws rank list accounts (rows_told g all) was.reached next some'));
-        some_taken = (let n = was.some_taken in omega arith);
-        log = subst IsLawfulLog back (new_log rank low list accounts p.members was.reached p.worked p.swept lawful);
-        all_listed = p.listed;
-        at = p.at;
-        settled = p.settled;
-        tallied = p.tallied;
-        nobody = p.nobody;
-        seats = p.seats;
-        room = p.room;
-      }, omega arith)
+      subst (λ l. cells_taken g (rows_told g l) new.tally.rounds ≡ cells_taken g (rows_told g accounts) rank + length list) back
+      (subst (λ k. cells_taken g (rows_told g all) k ≡ cells_taken g (rows_told g accounts) rank + length list) rounds taken) in (
+        record {
+          reached = subst (λ l. IsReached g new.tally.rounds new.list.items l) back (subst (λ k. IsReached g k new.list.items all) rounds reached);
+          full = subst (λ l. IsFull (rows_told g l) new.tally.rounds) back (subst (λ k. IsFull (rows_told g all) k) rounds (full_after g a laws rank list accounts (rows_told g all) was.reached next some'));
+          some_taken = (let n = was.some_taken in omega arith);
+          log = subst IsLawfulLog back (new_log rank low list accounts p.members was.reached p.worked p.swept lawful);
+          all_listed = p.listed;
+          at = p.at;
+          settled = p.settled;
+          tallied = p.tallied;
+          nobody = p.nobody;
+          seats = p.seats;
+          room = p.room;
+        },
+        omega arith,
+      )

@@ -35,7 +35,7 @@ loop-at-preserved c =
     let at = c.loop-at.at in
     let from = c.loop-at.auto.at in
     let read : c.logged.result ≡ cell_at at logs =
-        subst (λ (r : RootModel). log_count r.accounts < 2 ^ 64 → c.logged.result ≡ cell_at at (all_logs r.accounts)) before.same c.logged.ensures.cell c.requires.few in
+    subst (λ (r : RootModel). log_count r.accounts < 2 ^ 64 → c.logged.result ≡ cell_at at (all_logs r.accounts)) before.same c.logged.ensures.cell c.requires.few in
     record {
       same = c.logged.ensures.same ∙ before.same;
       cells =

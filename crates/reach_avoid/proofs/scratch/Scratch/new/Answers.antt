@@ -10,7 +10,7 @@ invariant_of-result g c =
     let one_mark_each = (g.met.G.Graph.lawful c.args.g.now).game.one_mark_each in
     let cells = c.cells-cells.ensures in
     let words : length c.in_ok-board.board.least ≡ game.cells =
-        ap length (c.in_ok-board.ensures.least ∙ (c.as_slice-2.ensures.value ∙ c.in_ok-least.ensures)) ∙ (length-map game.marks word_at ∙ one_mark_each) in
+    ap length (c.in_ok-board.ensures.least ∙ (c.as_slice-2.ensures.value ∙ c.in_ok-least.ensures)) ∙ (length-map game.marks word_at ∙ one_mark_each) in
     record {
       places = (let e = c.in_ok-board.ensures.places in omega arith);
       unused = record {
