@@ -34,7 +34,8 @@ impl Model for Scratch {
 }
 
 impl Scratch {
-    /// Takes 24 bytes for a pair while the board is made, and 8 then, and about 50 for a cell.
+    /// Takes 8 bytes for a pair, on the board, and 32 for a cell: 16 on the board, 4 on the list and 12 in the answer.
+    /// While the board is made it takes 24 for a pair and 40 for a cell.
     pub fn new<G: Graph>(alloc: Global, g: &G, workers: u32) -> Result<Scratch, NoMemory>
         requires { (1 ≤ workers) × (workers ≤ 64) }
         ensures { IfOk result (IsBoardOf (G.game g.now)) }
