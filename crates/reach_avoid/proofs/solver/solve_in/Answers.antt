@@ -1,4 +1,5 @@
-use Rattle.std.proofs.Common.{◌≡◌, ◌≤◌, Option, None, length, replicate, refl, sym, ◌∙◌, ap, subst, arith, length-replicate, vec_len}
+use Rattle.std.proofs.Common.{◌≡◌, ◌≤◌, Option, None, length, replicate, refl, sym, ◌∙◌, ap, subst, arith}
+use Rattle.std.proofs.lemmas.List.{length-replicate}
 use Rattle.std.specs.Vec.{vec_capacity}
 use Rattle.game_core.specs.declared.game.Row.{Row}
 use Rattle.reach_avoid.specs.Boards.{IsBoardOf}
@@ -18,19 +19,19 @@ gather-requires-clause-room g c =
     omega arith
 
 pub play_all-requires-clause-board : goal.play_all-requires-clause-board
-play_all-requires-clause-board g c = subst (IsBoardOf (g.G.Graph.game c.args.g.now)) (sym c.scratch.view_is) c.requires
+play_all-requires-clause-board g c κs within = subst (IsBoardOf (g.G.Graph.game c.args.g.now)) (sym c.scratch.view_is) c.requires
 
 pub play_all-requires-clause-places : goal.play_all-requires-clause-places
-play_all-requires-clause-places g c =
+play_all-requires-clause-places g c κs within =
     let game = g.G.Graph.game c.args.g.now in
     let of_game : IsBoardOf game c.scratch.inside.board = subst (IsBoardOf game) (sym c.scratch.view_is) c.requires in
     c.scratch.invariant.places ∙ words_of_board game c.known_graph.ensures c.scratch.inside.board of_game
 
 pub play_all-requires-clause-workers : goal.play_all-requires-clause-workers
-play_all-requires-clause-workers g c = (c.scratch.invariant.some_worker, c.scratch.invariant.few_workers)
+play_all-requires-clause-workers g c κs within = (c.scratch.invariant.some_worker, c.scratch.invariant.few_workers)
 
 pub play_all-requires-clause-stands : goal.play_all-requires-clause-stands
-play_all-requires-clause-stands g c =
+play_all-requires-clause-stands g c κs within =
     let game = g.G.Graph.game c.args.g.now in
     let of_game : IsBoardOf game c.scratch.inside.board = subst (IsBoardOf game) (sym c.scratch.view_is) c.requires in
     let words = words_of_board game c.known_graph.ensures c.scratch.inside.board of_game in
