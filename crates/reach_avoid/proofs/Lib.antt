@@ -1,0 +1,13 @@
+pub mod Sums
+pub mod Added
+pub mod Words
+pub mod Ranks
+pub mod Games
+pub mod LeadsOn
+pub mod Begins
+pub mod Settled
+pub mod Working
+pub mod Crews
+pub mod OnBoards
+pub mod Plays
+pub mod Ends
