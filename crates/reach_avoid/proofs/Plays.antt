@@ -13,15 +13,15 @@ use Rattle.frontier_pool.specs.declared.member.Member.{Member}
 use Rattle.game_core.specs.Counts.{times}
 use Rattle.game_core.specs.declared.game.Mark.TheVariants.{Plain}
 use Rattle.game_core.specs.Game.{Game, IsGraph, mark_of, pairs_of, successors_at}
+use Rattle.board_crew.specs.Crew.{offers_in, one_if, account_of, accounts_of, notes_of, IsTalliedBy}
+use Rattle.board_crew.specs.Laws.{claimed, notes_in}
 use Rattle.reach_avoid.specs.declared.rounds.Rounds.{Rounds}
-use Rattle.reach_avoid.specs.declared.worker.Worker.{Worker}
+use Rattle.board_crew.specs.declared.worker.Worker.{Worker}
 use Rattle.reach_avoid.specs.Boards.{word_at, IsBoardOf}
-use Rattle.reach_avoid.specs.Reckoned.{offers_in}
-use Rattle.reach_avoid.specs.inside.Rounds.{Laws, one_if, claimed, rows_told, cells_taken, IsFull, IsLawfulFor, IsReached, IsWork, IsRound, IsNext}
-use Rattle.reach_avoid.specs.inside.Workers.{IsAtWork, account_of, accounts_of, notes_of, HaveWorked, IsTalliedBy}
+use Rattle.reach_avoid.specs.inside.Rounds.{Laws, rows_told, cells_taken, IsFull, IsLawfulFor, IsReached, IsWork, IsRound, IsNext}
+use Rattle.reach_avoid.specs.inside.Workers.{IsAtWork, HaveWorked}
 use Rattle.reach_avoid.specs.inside.Standing.{StandsAt, progress}
 use Rattle.reach_avoid.proofs.OnBoards.{lawful_for}
-use Rattle.reach_avoid.proofs.Sums.{sum_flat, sum_map}
 use Rattle.reach_avoid.proofs.Added.{all_logs-append, logs_added}
 use Rattle.reach_avoid.proofs.LeadsOn.{next_rows, round_leads_on}
 use Rattle.reach_avoid.proofs.Begins.{taken_fits, taken_more, full_after, few_logs}
@@ -59,15 +59,8 @@ module _ (g : Game) (a : IsGraph g) (laws : Laws) (board : BoardModel) (of_game 
         (All-map (IsWork g rank list) (λ (m : Member Worker). account_of m.hand) members
         (All-weaker (λ (m : Member Worker). IsAtWork g board list rank m.hand) (λ (m : Member Worker). IsWork g rank list (account_of m.hand)) (λ m w. w.work) members worked))
 
-    notes_reversed : IsPermutation (notes_of members) (flat_map (λ (a : Account). a.notes) more)
-    notes_reversed = laws.counts.same (notes_of members) (flat_map (λ (a : Account). a.notes) more) (λ n.
-        sum_flat (λ x. one_if (x == n)) (λ (m : Member Worker). (account_of m.hand).notes) members
-        ∙ sym (sum_flat (λ x. one_if (x == n)) (λ (a : Account). a.notes) more
-        ∙ (sum_by-IsPermutation (λ (a : Account). times n a.notes) (accounts_of members) more (IsPermutation-reverse (accounts_of members))
-        ∙ sum_map (λ (a : Account). times n a.notes) (λ (m : Member Worker). account_of m.hand) members)))
-
     round : IsRound g rank list more
-    round = record { each = work_each; swept = IsPermutation-trans (range_with_len 0 (length list)) (notes_of members) (flat_map (λ (a : Account). a.notes) more) swept notes_reversed }
+    round = record { each = work_each; swept = IsPermutation-trans (range_with_len 0 (length list)) (notes_of members) (notes_in more) swept (laws.sums.reversed members) }
 
     after : IsLawfulFor g (accounts ++ more)
     after = lawful_for g a board of_game (accounts ++ more) lawful

@@ -6,9 +6,9 @@ use Rattle.cell_counters.specs.Tokens.{BoardModel, new_root}
 use Rattle.game_core.specs.declared.game.Row.{Row}
 use Rattle.game_core.specs.declared.tally.Tally.{Tally}
 use Rattle.game_core.specs.Game.{Game}
+use Rattle.board_crew.specs.Crew.{IsTalliedBy}
 use Rattle.reach_avoid.specs.declared.rounds.Rounds.{Rounds}
 use Rattle.reach_avoid.specs.inside.Rounds.{rows_told, IsReached, IsFull, cells_taken}
-use Rattle.reach_avoid.specs.inside.Workers.{IsTalliedBy}
 
 abbrev pub no_tally : Tally
 no_tally = record { cuts = 0; offers = 0; rounds = 0 }

@@ -1,6 +1,9 @@
-use Rattle.std.proofs.Common.{◌≡◌, ℕ, ◌+◌, ◌-◌, ◌^◌, ◌<◌, ◌≤◌, All, length, sym, ◌∙◌, ap, subst, arith}
+use Rattle.std.proofs.Common.{◌≡◌, ℕ, ◌+◌, ◌-◌, ◌^◌, ◌<◌, ◌≤◌, ◌×◌, All, length, map, refl, sym, ◌∙◌, ap, subst, arith}
+use Rattle.cell_counters.specs.Tokens.{RootModel}
 use Rattle.reach_avoid.specs.inside.Rounds.{rows_told}
 use Rattle.reach_avoid.proofs.Begins.{list_fits, taken_fits}
+use Rattle.reach_avoid.proofs.Working.{fresh_have_worked}
+use Rattle.reach_avoid.proofs.Plays.{hands_within, Played, few, stands_after}
 use Rattle.reach_avoid.proofs.rounds.Rounds.play.Goals as goal
 
 pub overflow_cast-items : goal.overflow_cast-items
@@ -28,3 +31,6 @@ invariant_of-turn g c =
         within = subst (All (λ s. s < game.cells)) (sym c.as_slice.ensures.value) c.requires.stands.reached.within;
       };
     }
+
+pub deal-requires : goal.deal-requires
+deal-requires g c = let x = c in ?
