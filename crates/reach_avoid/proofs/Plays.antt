@@ -88,6 +88,17 @@ module _ (g : Game) (a : IsGraph g) (laws : Laws) (board : BoardModel) (of_game 
         ∙ (sym (sum_by-IsPermutation (λ x. one_if (x == c)) (places (log_count more)) (map (λ (l : Log). l.cell) (all_logs more)) same)
         ∙ ap (times c) (logs_added g rank list more work_each)))
 
+  low_rank : (workers : ℕ) (old : Rounds) → StandsAt g board workers old → old.tally.rounds < 2 ^ 31
+  low_rank workers old was = let n = was.some_taken in let m = taken_fits g a laws (rows_told g old.root.accounts) old.tally.rounds in let b = a.cells_bound in omega arith
+
+  -- each cell is logged once at most
+  pub few_after : (workers : ℕ) (old : Rounds) (members : List (Member Worker)) (now : List Account) → StandsAt g board workers old → HaveWorked g board old.list.items old.tally.rounds members → IsPermutation (range_with_len 0 (length old.list.items)) (notes_of members)
+      → now ≡ old.root.accounts ++ reverse (accounts_of members) → IsLawful now board.starts board.least → log_count now ≤ g.cells
+  few_after workers old members now was worked swept e lawful =
+      let low = low_rank workers old was in
+      subst (λ l. log_count l ≤ g.cells) (sym e)
+      (few old.tally.rounds low old.list.items old.root.accounts members was.reached worked swept (subst (λ l. IsLawful l board.starts board.least) e lawful))
+
   -- a round leads from one stand to the next, and on
   pub stands_after : (workers : ℕ) (old new : Rounds) → StandsAt g board workers old → 0 < length old.list.items → Played g board workers old new → StandsAt g board workers new × (progress g old < progress g new)
   stands_after workers old new was some' p =
@@ -95,7 +106,7 @@ module _ (g : Game) (a : IsGraph g) (laws : Laws) (board : BoardModel) (of_game 
       let list = old.list.items in
       let accounts = old.root.accounts in
       let all = accounts ++ reverse (accounts_of p.members) in
-      let low : rank < 2 ^ 31 = (let n = was.some_taken in let m = taken_fits g a laws (rows_told g accounts) rank in let b = a.cells_bound in omega arith) in
+      let low = low_rank workers old was in
       let lawful : IsLawful all board.starts board.least = subst (λ l. IsLawful l board.starts board.least) p.accounts p.lawful in
       let next = rows_go_on rank low list accounts p.members was.reached p.worked p.swept lawful in
       let rounds : suc rank ≡ new.tally.rounds = (let e = p.rounds in omega arith) in

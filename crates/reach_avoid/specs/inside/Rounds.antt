@@ -15,7 +15,7 @@ use Rattle.game_core.specs.Game.{Game, mark_of, pairs_of, successors_at}
 use Rattle.game_core.specs.Solution.{row_of}
 use Rattle.game_core.specs.Tally.{all_pairs, rank_by}
 use Rattle.board_crew.specs.Crew.{cuts_in, offers_in, logged_cells, one_if}
-use Rattle.board_crew.specs.Laws.{claimed, counters_of, cut_to, notes_in, SumsTell, NotesAreSwept}
+use Rattle.board_crew.specs.Laws.{claimed, counters_of, cut_to, notes_in, SumsTell}
 use Rattle.reach_avoid.specs.Boards.{word_at}
 use Rattle.reach_avoid.specs.Reckoned.{bid_of, bid_at}
 
@@ -28,7 +28,6 @@ pub record Laws : Type 0 where
   pub new_firsts : NewFirsts
   pub new_places : NewPlaces
   pub sums : SumsTell
-  pub notes : NotesAreSwept
 
 -- the row that a word tells
 abbrev pub row_in : ℕ → Option Row
