@@ -1,5 +1,5 @@
 -- Before the first round, and how the rounds come to an end.
-use Rattle.std.proofs.Common.{inl, inr, ◌≡◌, ℕ, zero, suc, ◌+◌, ◌*◌, ◌/◌, ◌^◌, ◌<◌, ◌≤◌, ◌==◌, ◌&&◌, not, nat_lt, Bool, true, false, cond, List, [], map, filter, length, get_or, All, count_by, sum_by, arith, refl, sym, ◌∙◌, ap}
+use Rattle.std.proofs.Common.{inl, inr, ◌≡◌, ℕ, zero, suc, ◌+◌, ◌*◌, ◌/◌, ◌^◌, ◌<◌, ◌≤◌, ◌==◌, ◌&&◌, not, nat_lt, Bool, true, false, cond, List, [], map, filter, length, get_or, All, count_by, sum_by, arith, refl, sym, ◌∙◌, ap, eq-eqb, ne_eqb}
 use Rattle.std.specs.List.{range_with_len}
 use Rattle.std.proofs.Math.Bool.{and-false}
 use Rattle.std.proofs.lemmas.Bool.{le-ltb}
@@ -18,6 +18,7 @@ use Rattle.game_core.specs.Game.{Game, IsGraph, mark_of, pairs_of, successors_at
 use Rattle.safety_game.specs.Boards.{pairs_at, enabled_at}
 use Rattle.safety_game.specs.inside.Rounds.{Laws, fell_before, gone_in, is_hit, hits_at, AreFalling, first_fallen, cells_gone, IsFull}
 use Rattle.safety_game.proofs.Counting.{count_none, All-range}
+use Rattle.safety_game.proofs.Falls.{falls_by_hits, hits_by_fall}
 use Rattle.safety_game.proofs.Pairs.{few_enabled, few_successors}
 
 one_if_most : (b : Bool) → one_if b ≤ 1
@@ -57,6 +58,14 @@ module _ (g : Game) where
         by_test : (b : Bool) → cond b (times c (range_with_len 0 g.cells)) 0 ≡ one_if b
         by_test true = laws.sums.in_range c 0 g.cells (omega arith) (omega arith)
         by_test false = refl
+
+    -- a cell that is no obstacle falls in round 0 where it has no enabled input
+    pub falls_first : (c : ℕ) → is_obstacle (mark_of g c) ≡ false → (enabled_at g c == 0) ≡ has_fallen g 0 c
+    falls_first c clear = by_test (has_fallen g 0 c) refl
+      where
+        by_test : (b : Bool) → has_fallen g 0 c ≡ b → (enabled_at g c == 0) ≡ b
+        by_test true e = let le = hits_by_fall g laws.sums 0 c clear e in let none = none_hit c in eq-eqb (enabled_at g c) 0 (omega arith)
+        by_test false e = ne_eqb (enabled_at g c) 0 (λ z. absurd (let f = falls_by_hits g 0 c (omega arith) in cc))
 
     -- before any round nothing is cut
     pub begins : AreFalling g 0 (first_fallen g) []

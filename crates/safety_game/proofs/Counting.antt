@@ -102,6 +102,13 @@ range_split f a (suc n) m =
     let rest : sum_by f (range_with_len (a + suc n) m) ≡ sum_by f (range_with_len (a + 1 + n) m) = ap (λ k. sum_by f (range_with_len k m)) {x = a + suc n} {y = a + 1 + n} (omega arith) in
     omega arith
 
+pub count_more : (p : ℕ → Bool) (a n : ℕ) → count_by p (range_with_len a (n + 1)) ≡ count_by p (range_with_len a n) + one_if (p (a + n))
+count_more p a n =
+    let parts = range_split (λ x. one_if (p x)) a n 1 in
+    let last = count-cons p (a + n) [] in
+    let none' : count_by p [] ≡ 0 = refl in
+    omega arith
+
 -- a range that begins later
 pub range_shift : (f : ℕ → ℕ) (n b m : ℕ) → sum_by (λ c. f (n + c)) (range_with_len b m) ≡ sum_by f (range_with_len (n + b) m)
 range_shift f n b zero = refl

@@ -1,5 +1,5 @@
 -- When a cell falls, said by how many of its pairs are hit.
-use Rattle.std.proofs.Common.{inl, inr, ◌≡◌, ◌≢◌, ℕ, zero, suc, ◌+◌, ◌-◌, ◌/◌, ◌<◌, ◌≤◌, ◌==◌, ◌&&◌, ◌||◌, not, nat_lt, Bool, true, false, List, [], ◌∷◌, length, get_or, All, count_by, arith, refl, sym, ◌∙◌, ap, subst, eq-eqb}
+use Rattle.std.proofs.Common.{inl, inr, ◌≡◌, ◌≢◌, ℕ, zero, suc, ◌+◌, ◌-◌, ◌/◌, ◌<◌, ◌≤◌, ◌==◌, ◌&&◌, ◌||◌, not, nat_lt, Bool, true, false, List, [], ◌∷◌, length, get_or, All, count_by, arith, refl, sym, ◌∙◌, ap, subst, ne_eqb}
 use Rattle.std.specs.List.{list_any, range_with_len}
 use Rattle.std.proofs.Math.Bool.{or-true}
 use Rattle.std.proofs.lemmas.Bool.{or_cases, and_parts, and_from, lt-ltb, le-ltb, ltb-true, eqb-true}
@@ -27,7 +27,7 @@ empty_if (suc n) e = absurd (let t = lt-ltb 0 (suc n) (omega arith) in cc)
 
 filled_if : (n : ℕ) → nat_lt 0 n ≡ true → (n == 0) ≡ false
 filled_if zero e = absurd (let t = le-ltb 0 0 (omega arith) in cc)
-filled_if (suc n) e = refl
+filled_if (suc n) e = ne_eqb (suc n) 0 (λ f. absurd (omega arith))
 
 right_of : (a b : Bool) → a ≡ false → (a || b) ≡ true → b ≡ true
 right_of true b e f = absurd (cc)

@@ -5,3 +5,8 @@ pub mod InStep
 pub mod Working
 pub mod Added
 pub mod LeadsOn
+pub mod Begins
+pub mod Settled
+pub mod OnBoards
+pub mod Plays
+pub mod Ends

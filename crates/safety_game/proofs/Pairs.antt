@@ -1,5 +1,5 @@
 -- The pairs of a cell.
-use Rattle.std.proofs.Common.{inl, inr, ◌≡◌, ◌≢◌, ℕ, suc, ◌+◌, ◌*◌, ◌/◌, ◌%◌, ◌^◌, ◌<◌, ◌≤◌, ◌==◌, List, [], length, get_or, All, Contains, sum_by, arith, refl, sym, ◌∙◌, ap, subst, mul_comm}
+use Rattle.std.proofs.Common.{inl, inr, ◌≡◌, ◌≢◌, ℕ, suc, ◌+◌, ◌*◌, ◌/◌, ◌%◌, ◌^◌, ◌<◌, ◌≤◌, ◌==◌, nat_lt, List, [], length, get_or, All, Contains, sum_by, arith, refl, sym, ◌∙◌, ap, subst, mul_comm}
 use Rattle.std.specs.List.{range_with_len}
 use Rattle.std.proofs.lemmas.Bool.{cases_lt}
 use Rattle.std.proofs.lemmas.List.FromFn.{length-range_with_len, get_or-range_with_len}
@@ -34,7 +34,7 @@ module _ (g : Game) where
 
   pub few_enabled : (c : ℕ) → enabled_at g c ≤ g.inputs
   few_enabled c =
-      let le = count_by-le-length _ (pairs_at g c) in
+      let le = count_by-le-length (λ pair. nat_lt 0 (length (successors_at g pair))) (pairs_at g c) in
       let len = length-range_with_len (c * g.inputs) g.inputs in
       omega arith
 

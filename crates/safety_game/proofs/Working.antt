@@ -2,18 +2,19 @@
 use Rattle.std.proofs.Common.{◌≡◌, ℕ, suc, ◌+◌, ◌*◌, ◌/◌, ◌%◌, ◌^◌, ◌<◌, ◌≤◌, ◌==◌, Bool, true, false, cond, List, [], ◌∷◌, ◌++◌, map, length, All, sum_by, arith, refl, sym, ◌∙◌, ap, subst, append_assoc, length-append}
 use Rattle.std.proofs.lemmas.List.{append-nil, length_push}
 use Rattle.std.proofs.lemmas.List.Sums.{sum_by_push}
-use Rattle.board_crew.specs.Crew.{one_if, account_of, logged_cells, IsCounted}
+use Rattle.board_crew.specs.Crew.{one_if, account_of, logged_cells, IsCounted, fresh_worker, IsFresh}
 use Rattle.board_crew.specs.declared.worker.Worker.{Worker}
 use Rattle.board_crew.specs.Laws.{SumsTell, counters_of}
 use Rattle.cell_counters.specs.declared.account.Cut.{Cut}
 use Rattle.cell_counters.specs.declared.account.Account.{Account}
 use Rattle.cell_counters.specs.Tokens.{BoardModel, HandModel, with_note}
+use Rattle.frontier_pool.specs.declared.member.Member.{Member}
 use Rattle.game_core.specs.Counts.{times}
 use Rattle.game_core.specs.Game.{Game, pairs_of}
 use Rattle.safety_game.specs.inside.Rounds.{cuts_for, IsInStep, IsWorkOf, IsWork}
-use Rattle.safety_game.specs.inside.Workers.{IsAtWork, is_blow, Takes, Hits, HitsAfter, Cuts}
+use Rattle.safety_game.specs.inside.Workers.{IsAtWork, HaveWorked, is_blow, Takes, Hits, HitsAfter, Cuts}
 use Rattle.safety_game.proofs.Counting.{elsewhere}
-use Rattle.safety_game.proofs.InStep.{cut, times_counters, one_counter, in_step-append, quiet_in_step, blow_in_step}
+use Rattle.safety_game.proofs.InStep.{cut, times_counters, one_counter, nothing_in_step, in_step-append, quiet_in_step, blow_in_step}
 
 -- what a worker did for one pair
 pub record HasCut (g : Game) (pair : ℕ) (was now : Worker) : Type 0 where
@@ -58,14 +59,14 @@ module _ (g : Game) (sums : SumsTell) (some' : 0 < g.inputs) (pair : ℕ) (lt : 
       let first = cut pair t.left in
       let second = cut (pairs_of g + cell) h.left in
       let taken : (account_of between).cuts ≡ (account_of was).cuts ++ first ∷ [] = ap (λ (w : Worker). (account_of w).cuts) t.taken in
-      let cuts : (account_of now).cuts ≡ (account_of was).cuts ++ (first ∷ []) ++ second ∷ [] =
+      let cuts : (account_of now).cuts ≡ (account_of was).cuts ++ first ∷ second ∷ [] =
           h.cuts ∙ (ap (λ l. l ++ second ∷ []) taken ∙ append_assoc (account_of was).cuts (first ∷ []) (second ∷ [])) in
       let counts : between.cuts ≡ was.cuts = ap (λ (w : Worker). w.cuts) t.taken in
       let more = h.cuts_counted in
       let many = ap length h.cuts ∙ length_push (account_of between).cuts second in
       let many' = ap length taken ∙ length_push (account_of was).cuts first in
       record {
-        more = (first ∷ []) ++ second ∷ [];
+        more = first ∷ second ∷ [];
         logged = cond (h.left == 0) (cell ∷ []) [];
         at = h.at ∙ ap (λ (w : Worker). w.hand.board) t.taken;
         notes = h.notes ∙ ap (λ (w : Worker). (account_of w).notes) t.taken;
@@ -74,7 +75,7 @@ module _ (g : Game) (sums : SumsTell) (some' : 0 < g.inputs) (pair : ℕ) (lt : 
         logs = h.logs ∙ ap (λ (w : Worker). logged_cells (account_of w).logs ++ cond (h.left == 0) (cell ∷ []) []) t.taken;
         in_step = blow_in_step g sums some' pair t.left lt h.left inside (sym t.told);
         once = λ p lp.
-            let both = times_counters p (first ∷ []) (second ∷ []) in
+            let both : times p (counters_of (first ∷ second ∷ [])) ≡ times p (counters_of (first ∷ [])) + times p (counters_of (second ∷ [])) = times_counters p (first ∷ []) (second ∷ []) in
             let a = one_counter p pair t.left in
             let b = one_counter p (pairs_of g + cell) h.left in
             let c = elsewhere (pairs_of g + cell) p (λ e. absurd (omega arith)) in
@@ -89,6 +90,17 @@ module _ (g : Game) (sums : SumsTell) (some' : 0 < g.inputs) (pair : ℕ) (lt : 
       by_blow : (b : Bool) → Takes g pair was c.between b → HitsAfter g (pair / g.inputs) b c.between now → HasCut g pair was now
       by_blow true t h = blow was c.between now t h
       by_blow false t h = quiet was c.between now t h
+
+-- a new worker has done nothing
+fresh_at_work : (g : Game) → SumsTell → (board : BoardModel) (list : List ℕ) → IsAtWork g board list (fresh_worker board)
+fresh_at_work g sums board list = record {
+  at = refl;
+  work = record { cuts = λ pair lt. refl; in_step = nothing_in_step g sums; no_offer = refl };
+  counted = record { cuts = refl; offers = refl };
+}
+
+pub fresh_have_worked : (g : Game) → SumsTell → (board : BoardModel) (list : List ℕ) (members : List (Member Worker)) → All (IsFresh board) members → HaveWorked g board list members
+fresh_have_worked g sums board list members h i d lt = subst (IsAtWork g board list) (sym (h i d lt)) (fresh_at_work g sums board list)
 
 -- a worker that has cut these pairs since it was at work
 pub record IsUnderWay (g : Game) (board : BoardModel) (list : List ℕ) (pairs : List ℕ) (was now : Worker) : Type 0 where

@@ -1,5 +1,6 @@
 // The rounds, one after another.
-ghost use Rattle.std.specs.Prelude.{◌≡◌, ◌<◌, ◌≤◌, length, vec_len, All, IsPermutation};
+ghost use Rattle.std.specs.Prelude.{◌≡◌, ◌<◌, ◌≤◌, All, IsPermutation, vec_len};
+ghost use Rattle.std.specs.Vec.{vec_capacity};
 ghost use Rattle.std.specs.List.{range_with_len};
 ghost use Rattle.board_crew.specs.Crew.{IsFresh, notes_of};
 ghost use Rattle.safety_game.specs.Boards.{IsBoardOf};
@@ -7,6 +8,7 @@ ghost use Rattle.safety_game.specs.inside.Workers.{HaveWorked};
 
 use crate::known::{known_graph, known_laws};
 use crate::turn::Turn;
+use board_crew::laws::notes_are_swept;
 use board_crew::{Worker, deal, list_logged, take_in, work};
 use cell_counters::{Board, Root};
 use frontier_pool::{Gate, Member, hands_for};
@@ -52,34 +54,39 @@ impl Rounds {
         let items = self.list.len() as u32;
         let hands = hands_for(self.tally.rounds, items, workers);
         deal(board, &mut self.root, &mut self.members, hands);
+        let inputs = g.inputs();
+        let pairs = g.cells() * inputs;
         let turn = Turn {
             graph: g,
             board,
             list: self.list.as_slice(),
-            inputs: g.inputs(),
-            pairs: g.cells() * g.inputs(),
+            inputs,
+            pairs,
             items,
         };
-        do_items(rt, alloc, &turn, self.members.as_mut_slice(), gate);
+        do_items(rt, alloc, &turn, &mut self.members, gate);
         take_in(board, &mut self.root, &mut self.members, &mut self.tally);
         self.listed = list_logged(board, &mut self.root, &mut self.list, self.listed);
         self.tally.rounds += 1;
     }
 }
 
-// The workers do all items of the round.
+// New workers do all items of the round.
 fn do_items<R: Threads + Sync, G: Graph + Sync, T: Gate>(
     rt: &R,
     alloc: Global,
     turn: &Turn<'_, G>,
-    members: &mut [Member<Worker>],
+    members: &mut Vec<Member<Worker>>,
     gate: &T,
 )
-    requires members { (0 < length members.old) × (length members.old ≤ 64) }
-    requires fresh { All (IsFresh turn.now.board.now) members.old }
-    ensures worked { HaveWorked (G.game turn.now.graph.now) turn.now.board.now turn.now.list.now members.new }
-    ensures swept { IsPermutation (range_with_len 0 turn.now.items) (notes_of members.new) }
+    requires members { (0 < vec_len members.old) × (vec_len members.old ≤ 64) }
+    requires fresh { All (IsFresh turn.now.board.now) members.old.items }
+    ensures worked { HaveWorked (G.game turn.now.graph.now) turn.now.board.now turn.now.list.now members.new.items }
+    ensures swept { IsPermutation (range_with_len 0 turn.now.items) (notes_of members.new.items) }
+    ensures members { vec_len members.new ≡ vec_len members.old }
+    ensures room { vec_capacity members.new ≡ vec_capacity members.old }
 {
     known_laws();
-    work(rt, alloc, turn, members, gate);
+    notes_are_swept();
+    work(rt, alloc, turn, members.as_mut_slice(), gate);
 }

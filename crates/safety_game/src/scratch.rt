@@ -85,7 +85,9 @@ fn starts<G: Graph>(alloc: Global, g: &G) -> Result<Vec<u64>, NoMemory>
 {
     let mut starts = fans(alloc, g)?;
     let cells = g.cells();
-    starts.try_reserve(cells as usize).map_err(|_| NoMemory)?;
+    if starts.try_reserve_exact(cells as usize).is_err() {
+        return Err(NoMemory);
+    }
     for c in 0..cells {
         starts.push_reserved(count_enabled(g, c));
     }

@@ -2,7 +2,7 @@
 use Rattle.std.specs.Prelude.{◌≡◌, ◌≢◌, ℕ, zero, suc, ◌+◌, ◌-◌, ◌/◌, ◌<◌, ◌≤◌, ◌⊎◌, Bool, true, false, not, ◌&&◌, ◌==◌, nat_lt, cond, List, [], map, filter, length, slice_index, sum_by, count_by, Option, Some, None, All, IsPermutation}
 use Rattle.std.specs.List.{range_with_len}
 use Rattle.board_crew.specs.Crew.{one_if, cuts_in, offers_in, logged_cells}
-use Rattle.board_crew.specs.Laws.{SumsTell, NotesAreSwept, counters_of, cut_to, notes_in}
+use Rattle.board_crew.specs.Laws.{SumsTell, counters_of, cut_to, notes_in}
 use Rattle.cell_counters.specs.declared.account.Cut.{Cut}
 use Rattle.cell_counters.specs.declared.account.Offer.{Offer}
 use Rattle.cell_counters.specs.declared.account.Account.{Account}
@@ -25,7 +25,6 @@ pub record Laws : Type 0 where
   pub new_answers : NewAnswers
   pub new_places : NewPlaces
   pub sums : SumsTell
-  pub notes : NotesAreSwept
 
 -- a cell fell in a round before d
 abbrev pub fell_before : Game → ℕ → ℕ → Bool
