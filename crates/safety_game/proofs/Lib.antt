@@ -1,5 +1,6 @@
 pub mod Counting
 pub mod Pairs
+pub mod Marks
 pub mod Falls
 pub mod InStep
 pub mod Working

@@ -12,6 +12,14 @@ use Rattle.safety_game.specs.Boards.{enabled_at, IsBoardOf}
 use Rattle.safety_game.specs.inside.Rounds.{Laws, IsLawfulFor, is_whole}
 use Rattle.safety_game.proofs.Pairs.{few_enabled, few_successors}
 
+-- how many numbers a board begins with
+pub starts_many : (g : Game) → IsGraph g → (starts : List ℕ) → starts ≡ map length g.successors ++ map (enabled_at g) (range_with_len 0 g.cells) → length starts ≡ pairs_of g + g.cells
+starts_many g a starts e =
+    let all = ap length e ∙ length-append (map length g.successors) (map (enabled_at g) (range_with_len 0 g.cells)) in
+    let pairs = length-map g.successors length ∙ a.game.one_list_each in
+    let cells = length-map-range_with_len (enabled_at g) 0 g.cells in
+    omega arith
+
 module _ (g : Game) (a : IsGraph g) (board : BoardModel) (of_game : IsBoardOf g board) where
   abbrev of_pairs : List ℕ
   of_pairs = map length g.successors
@@ -23,11 +31,7 @@ module _ (g : Game) (a : IsGraph g) (board : BoardModel) (of_game : IsBoardOf g 
   pairs_many = length-map g.successors length ∙ a.game.one_list_each
 
   pub counters_of_board : length board.starts ≡ pairs_of g + g.cells
-  counters_of_board =
-      let all = ap length of_game.counters ∙ length-append of_pairs of_cells in
-      let pairs = pairs_many in
-      let cells = length-map-range_with_len (enabled_at g) 0 g.cells in
-      omega arith
+  counters_of_board = starts_many g a board.starts of_game.counters
 
   -- what the board began with
   pub start_of_pair : (pair : ℕ) → pair < pairs_of g → slice_index board.starts pair ≡ length (successors_at g pair)

@@ -35,7 +35,7 @@ impl Model for Scratch {
 }
 
 impl Scratch {
-    /// Takes 24 bytes for a pair while the board is made, and 8 then, and about 60 for a cell.
+    /// Takes 24 bytes for a pair and 40 for a cell while the board is made, and 8 and 32 then.
     pub fn new<G: Graph>(alloc: Global, g: &G, workers: u32) -> Result<Scratch, NoMemory>
         requires { (1 ≤ workers) × (workers ≤ 64) }
         ensures { IfOk result (IsBoardOf (G.game g.now)) }

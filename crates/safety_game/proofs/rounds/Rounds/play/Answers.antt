@@ -70,6 +70,14 @@ list_logged-self-requires-clause-few g c =
     let most = c.known_graph.ensures.cells_bound in
     omega arith
 
+pub overflow_add-self : goal.overflow_add-self
+overflow_add-self g c =
+    let few = c.requires.stands.some_gone in
+    let most = gone_fits (g.G.Graph.game c.args.g.now) c.args.self.now.tally.rounds in
+    let bound = c.known_graph.ensures.cells_bound in
+    let same = c.take_in.ensures.rounds in
+    omega arith
+
 pub returns : goal.returns
 returns g c =
     let game = g.G.Graph.game c.args.g.now in

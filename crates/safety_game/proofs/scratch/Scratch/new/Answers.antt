@@ -1,6 +1,17 @@
 use Rattle.std.proofs.Common.{◌≡◌, ℕ, ◌+◌, ◌<◌, ◌≤◌, List, None, Option, length, replicate, refl, sym, ◌∙◌, ap, arith}
 use Rattle.game_core.specs.declared.game.Row.{Row}
+use Rattle.safety_game.proofs.OnBoards.{starts_many}
 use Rattle.safety_game.proofs.scratch.Scratch.new.Goals as goal
+
+pub new_board-requires-clause-room : goal.new_board-requires-clause-room
+new_board-requires-clause-room g c =
+    let game = g.G.Graph.game c.args.g.now in
+    let a = g.met.G.Graph.lawful c.args.g.now in
+    let many = starts_many game a c.as_slice.result.now (c.as_slice.ensures.value ∙ c.in_ok-starts.ensures) in
+    let cells = c.cells-cells.ensures in
+    let pairs_bound = a.pairs_bound in
+    let cells_bound = a.cells_bound in
+    omega arith
 
 pub invariant_of-result : goal.invariant_of-result
 invariant_of-result g c =
