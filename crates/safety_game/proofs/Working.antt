@@ -60,7 +60,7 @@ module _ (g : Game) (sums : SumsTell) (some' : 0 < g.inputs) (pair : ℕ) (lt : 
       let second = cut (pairs_of g + cell) h.left in
       let taken : (account_of between).cuts ≡ (account_of was).cuts ++ first ∷ [] = ap (λ (w : Worker). (account_of w).cuts) t.taken in
       let cuts : (account_of now).cuts ≡ (account_of was).cuts ++ first ∷ second ∷ [] =
-          h.cuts ∙ (ap (λ l. l ++ second ∷ []) taken ∙ append_assoc (account_of was).cuts (first ∷ []) (second ∷ [])) in
+      h.cuts ∙ (ap (λ l. l ++ second ∷ []) taken ∙ append_assoc (account_of was).cuts (first ∷ []) (second ∷ [])) in
       let counts : between.cuts ≡ was.cuts = ap (λ (w : Worker). w.cuts) t.taken in
       let more = h.cuts_counted in
       let many = ap length h.cuts ∙ length_push (account_of between).cuts second in

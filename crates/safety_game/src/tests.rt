@@ -1,6 +1,11 @@
 // Games that are solved by hand, by several numbers of workers.
+ghost use Rattle.std.specs.Prelude.{◌≡◌, ◌++◌, map, length};
+ghost use Rattle.std.specs.List.{range_with_len};
 ghost use Rattle.game_core.specs.Game.{IsGraph};
-ghost use Rattle.safety_game.specs.inside.SmallGames.{ring, traps};
+ghost use Rattle.game_core.specs.Tally.{IsKeepTally, all_pairs, unkept_in};
+ghost use Rattle.safety_game.specs.Boards.{enabled_at};
+ghost use Rattle.safety_game.specs.Reckoned.{lost_at};
+ghost use Rattle.safety_game.specs.inside.SmallGames.{ring, traps, traps_rows, traps_tally, traps_starts, traps_cuts};
 
 use crate::{Scratch, Tally, keep, keep_in};
 use frontier_pool::{Gate, Open};
@@ -143,9 +148,17 @@ impl Gate for Meeting {
     }
 }
 
+// What the definitions say of the game with traps is what the table says.
+fn told_of_traps()
+    ensures tally { IsKeepTally traps traps_rows traps_tally }
+    ensures starts { map length traps.successors ++ map (enabled_at traps) (range_with_len 0 6) ≡ traps_starts }
+    ensures cuts { map (unkept_in traps traps_rows) (all_pairs traps) ++ map (lost_at traps traps_rows) (range_with_len 0 6) ≡ traps_cuts }
+{}
+
 // 10 edges lead to cells without a row, and 6 pairs of cells that are no obstacles have one of these.
 #[test]
 fn keeps_the_cells_between_traps(rt: HostRuntime) -> Result<(), Fail> {
+    told_of_traps();
     let alloc = rt.alloc();
     let traps = Traps {};
     let plain = keep_plain(alloc, &traps)?;

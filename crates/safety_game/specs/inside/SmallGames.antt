@@ -1,5 +1,5 @@
 -- Games that are small enough to be solved by hand.
-use Rattle.std.specs.Prelude.{[], ◌∷◌, List, Option, Some, None}
+use Rattle.std.specs.Prelude.{ℕ, [], ◌∷◌, List, Option, Some, None}
 use Rattle.game_core.specs.declared.game.Mark.TheVariants.{Obstacle, Plain}
 use Rattle.game_core.specs.declared.game.Row.{Row}
 use Rattle.game_core.specs.declared.tally.Tally.{Tally}
@@ -20,6 +20,14 @@ traps_rows = Some (record { rank = 0; input = 0 }) ∷ None ∷ None ∷ None �
 
 abbrev pub traps_tally : Tally
 traps_tally = record { cuts = 16; offers = 0; rounds = 3 }
+
+-- with what its counters begin: those of the pairs of each cell, and then those of the cells
+abbrev pub traps_starts : List ℕ
+traps_starts = 1 ∷ 2 ∷ 1 ∷ 0 ∷ 0 ∷ 0 ∷ 1 ∷ 1 ∷ 2 ∷ 2 ∷ 2 ∷ 1 ∷ 2 ∷ 1 ∷ 0 ∷ 2 ∷ 2 ∷ 2 ∷ []
+
+-- how often they are cut
+abbrev pub traps_cuts : List ℕ
+traps_cuts = 0 ∷ 2 ∷ 1 ∷ 0 ∷ 0 ∷ 0 ∷ 1 ∷ 1 ∷ 2 ∷ 2 ∷ 1 ∷ 0 ∷ 1 ∷ 0 ∷ 0 ∷ 2 ∷ 2 ∷ 1 ∷ []
 
 -- two cells with one input, each of which leads to the other
 abbrev pub ring : Game

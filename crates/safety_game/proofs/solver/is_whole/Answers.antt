@@ -1,4 +1,5 @@
 use Rattle.std.proofs.Common.{◌≡◌, ◌+◌, ◌<◌, ◌≤◌, length, arith, sym, ◌∙◌}
+use Rattle.std.proofs.lemmas.Bool.{le-ltb}
 use Rattle.game_core.specs.Game.{successors_at}
 use Rattle.safety_game.proofs.OnBoards.{counters_of_board, left_of_pair, whole_told, none_whole}
 use Rattle.safety_game.proofs.solver.is_whole.Goals as goal
@@ -21,4 +22,4 @@ returns-then-fan-gt0-clause-whole g c =
 pub returns-else-fan-gt0-clause-whole : goal.returns-else-fan-gt0-clause-whole
 returns-else-fan-gt0-clause-whole g c =
     let none : length (successors_at (g.G.Graph.game c.args.g.now) c.args.pair) ≡ 0 = (let e = c.from-fan.ensures in let f = c.fan.ensures in let t = c.if-fan-gt0.false in omega arith) in
-    sym (none_whole (g.G.Graph.game c.args.g.now) c.args.root.now.accounts c.args.pair none)
+    le-ltb 0 c.from-fan.result c.if-fan-gt0.false ∙ sym (none_whole (g.G.Graph.game c.args.g.now) c.args.root.now.accounts c.args.pair none)

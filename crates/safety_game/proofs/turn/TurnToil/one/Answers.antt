@@ -44,7 +44,7 @@ returns-clause-sound g c =
     let pairs = c.sources-sources.result.now in
     let all = take_all c.loop-pair.pair-index pairs c.loop-pair-test.false in
     let each : (pair : ℕ) → pair < pairs_of game → times pair pairs ≡ cuts_for game turn.list.now pair c.args.item =
-        λ pair lt. c.known_laws.ensures.edges game (slice_index turn.list.now c.args.item) pair pairs turn.is_turn.graph.game c.sources-sources.ensures lt in
+    λ pair lt. c.known_laws.ensures.edges game (slice_index turn.list.now c.args.item) pair pairs turn.is_turn.graph.game c.sources-sources.ensures lt in
     comes_back game turn.board.now turn.list.now c.args.worker.now pairs c.args.item c.loop-pair.worker
     (record { hand = c.note.new.hand; cuts = (c.loop-pair.worker.cuts + length pairs) % 2 ^ 64; offers = c.loop-pair.worker.offers })
     each
