@@ -1,4 +1,4 @@
-use Rattle.std.proofs.Common.{◌≡◌, ℕ, zero, suc, ◌<◌, ◌≤◌, Option, Some, None, true, false, refl, arith}
+use Rattle.std.proofs.Common.{◌≡◌, ℕ, zero, suc, ◌<◌, ◌≤◌, Some, None, true, false, refl, arith}
 use Rattle.game_core.specs.declared.game.Row.{Row}
 use Rattle.game_core.specs.Fallen.{has_fallen}
 use Rattle.game_core.specs.Solution.{row_of}

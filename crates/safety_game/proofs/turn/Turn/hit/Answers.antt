@@ -1,4 +1,4 @@
-use Rattle.std.proofs.Common.{◌+◌, ◌<◌, arith}
+use Rattle.std.proofs.Common.{arith}
 use Rattle.safety_game.proofs.OnBoards.{counters_of_board}
 use Rattle.safety_game.proofs.turn.Turn.hit.Goals as goal
 
