@@ -1,8 +1,8 @@
 -- Before the first round, and how the rounds come to an end.
-use Rattle.std.proofs.Common.{inl, inr, ◌≡◌, ◌≢◌, ℕ, zero, suc, ◌+◌, ◌-◌, ◌/◌, ◌^◌, ◌<◌, ◌≤◌, ◌==◌, ◌&&◌, ◌⊎◌, nat_lt, Bool, true, false, cond, List, [], ◌∷◌, ◌++◌, map, filter, length, get_or, All, IsPermutation, Option, Some, None, count_by, sum_by, arith, refl, sym, ◌∙◌, ap, subst, le-ltb, eq-eqb}
+use Rattle.std.proofs.Common.{inl, inr, ◌≡◌, ℕ, suc, ◌+◌, ◌-◌, ◌/◌, ◌<◌, ◌≤◌, ◌==◌, Bool, true, false, cond, List, [], ◌∷◌, map, filter, length, get_or, All, IsPermutation, Option, Some, None, count_by, sum_by, arith, refl, sym, ◌∙◌, ap, subst, le-ltb}
 use Rattle.std.specs.List.{range_with_len}
 use Rattle.std.proofs.lemmas.Bool.{cases_lt, cases_eq, eqb-true}
-use Rattle.std.proofs.lemmas.List.{length-map, nil_from_length}
+use Rattle.std.proofs.lemmas.List.{length-map}
 use Rattle.std.proofs.lemmas.List.Elements.{All-head, All-tail, All-nil, All-map, All-filter, All-weaker, Contains-get_or}
 use Rattle.std.proofs.lemmas.List.FromFn.{length-range_with_len, get_or-range_with_len}
 use Rattle.std.proofs.lemmas.List.Sums.{count_by-le-length, sum_by-le}
@@ -13,18 +13,17 @@ use Rattle.cell_counters.specs.declared.account.Offer.{Offer}
 use Rattle.cell_counters.specs.declared.account.Log.{Log}
 use Rattle.cell_counters.specs.declared.account.Account.{Account}
 use Rattle.cell_counters.specs.Accounts.{all_offers, first_count, all_logs, log_count, IsLawfulLeast}
-use Rattle.game_core.specs.Counts.{times, CountsTell}
+use Rattle.game_core.specs.Counts.{times}
 use Rattle.game_core.specs.declared.game.Mark.{Mark}
 use Rattle.game_core.specs.declared.game.Mark.TheVariants.{Goal, Obstacle, Plain}
 use Rattle.game_core.specs.declared.game.Row.{Row}
 use Rattle.game_core.specs.Game.{Game, IsGraph, mark_of, pairs_of, successors_at}
 use Rattle.game_core.specs.Solution.{row_of}
 use Rattle.game_core.specs.Tally.{all_pairs}
+use Rattle.board_crew.specs.Crew.{offers_in, one_if, logged_cells}
+use Rattle.board_crew.specs.Laws.{claimed}
 use Rattle.reach_avoid.specs.Boards.{word_at}
-use Rattle.reach_avoid.specs.Reckoned.{offers_in, bid_of}
-use Rattle.reach_avoid.specs.inside.Rounds.{Laws, one_if, row_in, word_after, rows_told, below_in, rank_is, taken_in, is_done, bids_done, IsLawfulFor, IsBid, claimed, logged_cells, IsReached, is_goal, goals_of, cells_taken, IsFull, IsNext}
-use Rattle.reach_avoid.proofs.Sums.{sum_alike, sum_added, sum_le, in_range, times_filter, counted}
-use Rattle.reach_avoid.proofs.Added.{claimed_times}
+use Rattle.reach_avoid.specs.inside.Rounds.{Laws, row_in, word_after, rows_told, below_in, rank_is, taken_in, is_done, bids_done, IsLawfulFor, IsBid, IsReached, is_goal, goals_of, cells_taken, IsFull, IsNext}
 use Rattle.reach_avoid.proofs.Words.{row_from_word, no_row_from_word, row_told, word_of_row}
 use Rattle.reach_avoid.proofs.Ranks.{done_parts, below_after}
 use Rattle.reach_avoid.proofs.Games.{few_successors}
@@ -62,10 +61,10 @@ module _ (g : Game) (a : IsGraph g) (laws : Laws) where
   first_row c lt m e = row_told g [] c lt ∙ ap (λ m. row_in (word_at m)) e
 
   first_cells : (c : ℕ) → c < g.cells → times c (goals_of g) ≡ one_if (rank_is 0 (row_of (rows_told g []) c))
-  first_cells c lt = times_filter (λ c. is_goal (mark_of g c)) c (range_with_len 0 g.cells) ∙ by_mark (mark_of g c) refl
+  first_cells c lt = laws.sums.filtered (λ c. is_goal (mark_of g c)) c (range_with_len 0 g.cells) ∙ by_mark (mark_of g c) refl
     where
       by_mark : (m : Mark) → mark_of g c ≡ m → cond (is_goal m) (times c (range_with_len 0 g.cells)) 0 ≡ one_if (rank_is 0 (row_of (rows_told g []) c))
-      by_mark Goal m = in_range c 0 g.cells (omega arith) (omega arith) ∙ sym (ap (λ o. one_if (rank_is 0 o)) (first_row c lt Goal m ∙ row_from_word 1 (omega arith) (omega arith)))
+      by_mark Goal m = laws.sums.in_range c 0 g.cells (omega arith) (omega arith) ∙ sym (ap (λ o. one_if (rank_is 0 o)) (first_row c lt Goal m ∙ row_from_word 1 (omega arith) (omega arith)))
       by_mark Obstacle m = sym (ap (λ o. one_if (rank_is 0 o)) (first_row c lt Obstacle m ∙ no_row_from_word 0 (inl refl)))
       by_mark Plain m = sym (ap (λ o. one_if (rank_is 0 o)) (first_row c lt Plain m ∙ no_row_from_word NONE (inr refl)))
 
@@ -103,7 +102,7 @@ module _ (g : Game) (a : IsGraph g) (laws : Laws) where
   pub cells_of_list : (rank : ℕ) (list : List ℕ) (accounts : List Account) → IsReached g rank list accounts → count_by (λ c. rank_is rank (row_of (rows_told g accounts) c)) (range_with_len 0 g.cells) ≡ length list
   cells_of_list rank list accounts was =
       let in' = All-range g.cells in
-      sym (sum_alike (λ c. times c list) (λ c. one_if (rank_is rank (row_of (rows_told g accounts) c))) (range_with_len 0 g.cells) (λ i d lt. was.cells (get_or (range_with_len 0 g.cells) i d) (in' i d lt)))
+      sym (laws.sums.alike (λ c. times c list) (λ c. one_if (rank_is rank (row_of (rows_told g accounts) c))) (range_with_len 0 g.cells) (λ i d lt. was.cells (get_or (range_with_len 0 g.cells) i d) (in' i d lt)))
       ∙ laws.counts.of_all_below g.cells list was.within
 
   pub list_fits : (rank : ℕ) (list : List ℕ) (accounts : List Account) → IsReached g rank list accounts → length list ≤ g.cells
@@ -123,8 +122,8 @@ module _ (g : Game) (a : IsGraph g) (laws : Laws) where
   taken_more rank list accounts new was next =
       let rows = rows_told g accounts in
       let e = cells_of_list rank list accounts was in
-      let pointwise = sum_alike (λ c. one_if (below_in (suc rank) (row_of new c))) (λ c. one_if (below_in rank (row_of rows c)) + one_if (rank_is rank (row_of rows c))) (range_with_len 0 g.cells) (λ i d lt. below_after g rank rows new next (get_or (range_with_len 0 g.cells) i d)) in
-      let added = sum_added (λ c. one_if (below_in rank (row_of rows c))) (λ c. one_if (rank_is rank (row_of rows c))) (range_with_len 0 g.cells) in
+      let pointwise = laws.sums.alike (λ c. one_if (below_in (suc rank) (row_of new c))) (λ c. one_if (below_in rank (row_of rows c)) + one_if (rank_is rank (row_of rows c))) (range_with_len 0 g.cells) (λ i d lt. below_after laws.sums g rank rows new next (get_or (range_with_len 0 g.cells) i d)) in
+      let added = laws.sums.added (λ c. one_if (below_in rank (row_of rows c))) (λ c. one_if (rank_is rank (row_of rows c))) (range_with_len 0 g.cells) in
       omega arith
 
   -- a list that isn't empty has a cell of its rank
@@ -138,7 +137,7 @@ module _ (g : Game) (a : IsGraph g) (laws : Laws) where
       inr (c, row.0, next.stays c row.0 row.1, ap suc row.2)
     where
       first_counted : (list : List ℕ) → 0 < length list → 0 < times (get_or list 0 0) list
-      first_counted list lt = counted (get_or list 0 0) list (Contains-get_or list 0 0 lt)
+      first_counted list lt = laws.sums.counted (get_or list 0 0) list (Contains-get_or list 0 0 lt)
 
       row_of_rank : (o : Option Row) → 0 < one_if (rank_is rank o) → (row : Row) × (o ≡ Some row) × (row.rank ≡ rank)
       row_of_rank None lt = absurd (omega arith)
@@ -161,7 +160,7 @@ module _ (g : Game) (a : IsGraph g) (laws : Laws) where
       let le = sum_by-le (λ c. times c (claimed (offers_in accounts))) 1 (range_with_len 0 g.cells) (λ i d lt.
       let c = get_or (range_with_len 0 g.cells) i d in
       let one = at_most_one (word_at (mark_of g c)) c (lawful.cells c (in' i d lt)) in
-      let e = claimed_times c accounts in
+      let e = laws.sums.firsts c accounts in
       omega arith) in
       let len = length-range_with_len 0 g.cells in
       omega arith

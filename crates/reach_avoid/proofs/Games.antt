@@ -1,18 +1,18 @@
 -- What a graph's limits say of one pair, and offers within them.
-use Rattle.std.proofs.Common.{◌≡◌, ℕ, suc, ◌+◌, ◌*◌, ◌/◌, ◌%◌, ◌^◌, ◌<◌, ◌≤◌, ◌==◌, List, [], map, filter, length, get_or, All, sum_by, arith, refl, sym, ◌∙◌, ap, subst}
+use Rattle.std.proofs.Common.{◌≡◌, ℕ, ◌+◌, ◌*◌, ◌/◌, ◌%◌, ◌^◌, ◌<◌, ◌≤◌, ◌==◌, List, [], map, length, get_or, All, arith, sym, ◌∙◌, ap, subst}
 use Rattle.std.proofs.lemmas.List.{get_or-map, length-map}
 use Rattle.std.proofs.lemmas.List.Elements.{All-map, All-filter, All-weaker}
 use Rattle.std.proofs.lemmas.List.Sums.{get_or-le-sum_by}
 use Rattle.std.proofs.lemmas.Nat.{div_below}
 use Rattle.cell_counters.specs.declared.account.TheConstants.{NONE}
-use Rattle.cell_counters.specs.declared.account.Cut.{Cut}
 use Rattle.cell_counters.specs.declared.account.Offer.{Offer}
 use Rattle.cell_counters.specs.declared.account.Account.{Account}
 use Rattle.cell_counters.specs.Accounts.{all_offers, values}
 use Rattle.game_core.specs.Game.{Game, IsGraph, pairs_of, successors_at}
-use Rattle.reach_avoid.specs.Reckoned.{offers_in, bid_of, bid_at}
-use Rattle.reach_avoid.specs.inside.Rounds.{last_cuts, IsBid}
-use Rattle.reach_avoid.proofs.Added.{all_offers_is}
+use Rattle.board_crew.specs.Crew.{offers_in}
+use Rattle.board_crew.specs.Laws.{SumsTell}
+use Rattle.reach_avoid.specs.Reckoned.{bid_of, bid_at}
+use Rattle.reach_avoid.specs.inside.Rounds.{IsBid}
 
 -- an offer is what some pair bids at a rank
 pub record IsBidOf (g : Game) (rank : ℕ) (o : Offer) : Type 0 where
@@ -57,10 +57,10 @@ module _ (g : Game) (a : IsGraph g) where
       record { word = omega arith; some = omega arith; less = omega arith }
 
   -- the values of a rank lie together
-  pub values_of_rank : (rank c : ℕ) (accounts : List Account) → All (IsBidOf g rank) (offers_in accounts) → All (λ v. (1 + rank * 4096 ≤ v) × (v < 1 + rank * 4096 + 4096)) (values (all_offers c accounts))
-  values_of_rank rank c accounts h =
+  pub values_of_rank : SumsTell → (rank c : ℕ) (accounts : List Account) → All (IsBidOf g rank) (offers_in accounts) → All (λ v. (1 + rank * 4096 ≤ v) × (v < 1 + rank * 4096 + 4096)) (values (all_offers c accounts))
+  values_of_rank sums rank c accounts h =
       All-map (λ v. (1 + rank * 4096 ≤ v) × (v < 1 + rank * 4096 + 4096)) (λ (o : Offer). o.value) (all_offers c accounts)
-      (subst (λ l. All (λ (o : Offer). (1 + rank * 4096 ≤ o.value) × (o.value < 1 + rank * 4096 + 4096)) l) (sym (all_offers_is c accounts))
+      (subst (λ l. All (λ (o : Offer). (1 + rank * 4096 ≤ o.value) × (o.value < 1 + rank * 4096 + 4096)) l) (sym (sums.offers c accounts))
       (All-filter (λ (o : Offer). o.word == c) (λ (o : Offer). (1 + rank * 4096 ≤ o.value) × (o.value < 1 + rank * 4096 + 4096)) (offers_in accounts)
       (All-weaker (IsBidOf g rank) (λ (o : Offer). (1 + rank * 4096 ≤ o.value) × (o.value < 1 + rank * 4096 + 4096)) (λ o b. in_range o b) (offers_in accounts) h)))
     where
@@ -71,9 +71,9 @@ module _ (g : Game) (a : IsGraph g) where
           let most = a.inputs_bound in
           (omega arith, omega arith)
 
-pub values_valued : (g : Game) (c : ℕ) (accounts : List Account) → All (IsBid g) (offers_in accounts) → All (λ v. (1 ≤ v) × (v < NONE)) (values (all_offers c accounts))
-values_valued g c accounts h =
+pub values_valued : SumsTell → (g : Game) (c : ℕ) (accounts : List Account) → All (IsBid g) (offers_in accounts) → All (λ v. (1 ≤ v) × (v < NONE)) (values (all_offers c accounts))
+values_valued sums g c accounts h =
     All-map (λ v. (1 ≤ v) × (v < NONE)) (λ (o : Offer). o.value) (all_offers c accounts)
-    (subst (λ l. All (λ (o : Offer). (1 ≤ o.value) × (o.value < NONE)) l) (sym (all_offers_is c accounts))
+    (subst (λ l. All (λ (o : Offer). (1 ≤ o.value) × (o.value < NONE)) l) (sym (sums.offers c accounts))
     (All-filter (λ (o : Offer). o.word == c) (λ (o : Offer). (1 ≤ o.value) × (o.value < NONE)) (offers_in accounts)
     (All-weaker (IsBid g) (λ (o : Offer). (1 ≤ o.value) × (o.value < NONE)) (λ o b. (let s = b.some in omega arith, b.less)) (offers_in accounts) h)))

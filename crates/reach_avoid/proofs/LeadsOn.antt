@@ -1,9 +1,9 @@
 -- A round leads on: what stood before it stands after it, at the next rank.
-use Rattle.std.proofs.Common.{inl, inr, ◌≡◌, ◌≢◌, ℕ, zero, suc, ◌+◌, ◌-◌, ◌*◌, ◌/◌, ◌%◌, ◌^◌, ◌<◌, ◌≤◌, ◌==◌, ◌&&◌, ◌⊎◌, nat_lt, Bool, true, false, cond, List, [], ◌∷◌, ◌++◌, map, filter, length, get_or, All, Contains, IsPermutation, Option, Some, None, count_by, sum_by, arith, refl, sym, ◌∙◌, ap, ap₂, subst, le-ltb}
-use Rattle.std.proofs.lemmas.Bool.{cases_lt, cases_eq, ne_eqb, eq-eqb}
+use Rattle.std.proofs.Common.{inl, inr, ◌≡◌, ℕ, suc, ◌+◌, ◌-◌, ◌*◌, ◌/◌, ◌%◌, ◌^◌, ◌<◌, ◌≤◌, ◌==◌, ◌&&◌, ◌⊎◌, nat_lt, Bool, true, false, cond, List, [], ◌∷◌, ◌++◌, map, filter, length, get_or, All, IsPermutation, Option, Some, None, count_by, arith, refl, sym, ◌∙◌, ap, ap₂, subst, le-ltb}
+use Rattle.std.proofs.lemmas.Bool.{cases_lt, ne_eqb, eq-eqb}
 use Rattle.std.proofs.lemmas.List.{map-append, nil_from_length, length-map}
-use Rattle.std.proofs.lemmas.List.Elements.{All-map, All-filter, All-weaker, All-append, All-contains, All-contains_itself, Contains-get_or, filter_passes}
-use Rattle.std.proofs.lemmas.List.Sums.{count_by-le-length}
+use Rattle.std.proofs.lemmas.List.Elements.{All-map, All-filter, All-weaker, All-append, All-contains, Contains-get_or, filter_passes}
+use Rattle.std.proofs.lemmas.List.Sums.{count_by-le-length, sum_by-append}
 use Rattle.std.proofs.lemmas.List.Sorted.{IsPermutation-map, IsPermutation-trans, IsPermutation-append_left}
 use Rattle.cell_counters.specs.declared.account.TheConstants.{NONE}
 use Rattle.cell_counters.specs.declared.account.Cut.{Cut}
@@ -19,12 +19,13 @@ use Rattle.game_core.specs.declared.game.Row.{Row}
 use Rattle.game_core.specs.Game.{Game, IsGraph, mark_of, pairs_of, successors_at}
 use Rattle.game_core.specs.Solution.{row_of, rank_in}
 use Rattle.game_core.specs.Tally.{all_pairs, rank_by}
+use Rattle.board_crew.specs.Crew.{cuts_in, offers_in, one_if, logged_cells}
+use Rattle.board_crew.specs.Laws.{claimed}
 use Rattle.reach_avoid.specs.Boards.{word_at}
-use Rattle.reach_avoid.specs.Reckoned.{cuts_in, offers_in, bid_of, bid_at}
-use Rattle.reach_avoid.specs.inside.Rounds.{Laws, one_if, row_in, least_from, word_after, rows_told, below_in, rank_is, taken_in, is_done, bids_done, IsLawfulFor, IsBid, claimed, logged_cells, IsReached, last_cuts, IsRound, IsNext}
-use Rattle.reach_avoid.proofs.Sums.{sum_alike, times-append, times_none, found, counted, in_range, out_of_range, times_filter}
-use Rattle.reach_avoid.proofs.Added.{all_offers_is, cuts_in-append, offers_in-append, all_logs-append, cut_count-append, last_answered, claimed_times, claimed-append, cuts_added, offers_added, logs_added, cuts_stay_below}
-use Rattle.reach_avoid.proofs.Words.{least_from-le, least_from-keeps, least_from-range, row_from_word, no_row_from_word, IsWordOf, row_told, cell_of_row, word_after-le, word_of_row, word_after-more}
+use Rattle.reach_avoid.specs.Reckoned.{bid_of, bid_at}
+use Rattle.reach_avoid.specs.inside.Rounds.{Laws, row_in, least_from, word_after, rows_told, below_in, rank_is, taken_in, is_done, bids_done, IsLawfulFor, IsBid, IsReached, last_cuts, IsRound, IsNext}
+use Rattle.reach_avoid.proofs.Added.{cuts_in-append, offers_in-append, all_logs-append, cut_count-append, claimed-append, cuts_added, offers_added, logs_added, cuts_stay_below}
+use Rattle.reach_avoid.proofs.Words.{least_from-le, least_from-keeps, least_from-range, row_from_word, no_row_from_word, row_told, cell_of_row, word_after-le, word_of_row, word_after-more}
 use Rattle.reach_avoid.proofs.Ranks.{done_parts, not_done, taken_after, done_stays, rank_by-stays, rank_by-new}
 use Rattle.reach_avoid.proofs.Games.{IsBidOf, successors_within, few_successors, bids_of, bid_valued, values_of_rank, values_valued}
 
@@ -63,7 +64,7 @@ module _ (g : Game) (a : IsGraph g) (rank : ℕ) (small : rank < 2 ^ 31) (list :
       let w = word_of_row g accounts c row e in
       let rank' = w.rank in
       let low = was.highest c row e in
-      let range = values_of_rank g a (suc rank) c more bids in
+      let range = values_of_rank g a laws.sums (suc rank) c more bids in
       let kept = least_from-keeps (word_after g accounts c) (values (all_offers c more)) (λ i d li. let v = range i d li in let v0 = v.0 in omega arith) in
       row_told g (accounts ++ more) c lt ∙ (ap row_in (word_after-more g accounts more c ∙ kept) ∙ (sym (row_told g accounts c lt) ∙ e))
 
@@ -84,7 +85,7 @@ module _ (g : Game) (a : IsGraph g) (rank : ℕ) (small : rank < 2 ^ 31) (list :
   -- a free word falls to a value of the next rank, where there is an offer
   falls : (c : ℕ) → c < g.cells → word_after g accounts c ≡ NONE → 0 < length (all_offers c more) → (row : Row) × (row_of new c ≡ Some row) × (row.rank ≡ suc rank)
   falls c lt free some' =
-      let range = values_of_rank g a (suc rank) c more bids in
+      let range = values_of_rank g a laws.sums (suc rank) c more bids in
       let many = length-map (all_offers c more) (λ (o : Offer). o.value) in
       let w = least_from-range (word_after g accounts c) (1 + suc rank * 4096) (1 + suc rank * 4096 + 4096) (values (all_offers c more)) (omega arith) range (omega arith) in
       let low = w.0 in
@@ -142,15 +143,15 @@ module _ (g : Game) (a : IsGraph g) (rank : ℕ) (small : rank < 2 ^ 31) (list :
   new_cuts : (pair : ℕ) → pair < pairs_of g → cut_count pair more ≡ count_by (λ s. rank_is rank (row_of rows s)) (successors_at g pair)
   new_cuts pair lt =
       let in' = successors_within g a pair lt in
-      cuts_added g rank list laws.counts more r pair lt
-      ∙ sum_alike (λ s. times s list) (λ s. one_if (rank_is rank (row_of rows s))) (successors_at g pair) (λ i d li. was.cells (get_or (successors_at g pair) i d) (in' i d li))
+      cuts_added g rank list laws more r pair lt
+      ∙ laws.sums.alike (λ s. times s list) (λ s. one_if (rank_is rank (row_of rows s))) (successors_at g pair) (λ i d li. was.cells (get_or (successors_at g pair) i d) (in' i d li))
 
   cuts : (pair : ℕ) → pair < pairs_of g → cut_count pair (accounts ++ more) ≡ taken_in g new (suc rank) pair
   cuts pair lt =
       let e = cut_count-append pair accounts more in
       let before = was.cuts pair lt in
       let now = new_cuts pair lt in
-      let after = taken_after g rank rows new next_rows pair in
+      let after = taken_after laws.sums g rank rows new next_rows pair in
       omega arith
 
   -- a pair is used up in this round exactly where it is done now and wasn't before
@@ -163,7 +164,7 @@ module _ (g : Game) (a : IsGraph g) (rank : ℕ) (small : rank < 2 ^ 31) (list :
             let b : one_if (is_done g rows rank pair) ≡ 0 = ap one_if (empty_not_done (length (successors_at g pair)) (taken_in g rows rank pair) e) in
             let n : one_if (is_done g new (suc rank) pair) ≡ 0 = ap one_if (empty_not_done (length (successors_at g pair)) (taken_in g new (suc rank) pair) e) in
             let few = count_by-le-length (λ answer. answer == 0) (all_answers pair more) in
-            let is = last_answered pair more in
+            let is = laws.sums.cuts_to pair 0 more in
             let cut = new_cuts pair lt in
             let most = count_by-le-length (λ s. rank_is rank (row_of rows s)) (successors_at g pair) in
             omega arith
@@ -179,7 +180,7 @@ module _ (g : Game) (a : IsGraph g) (rank : ℕ) (small : rank < 2 ^ 31) (list :
           let first = was.lawful.pairs pair lt in
           let second = lawful.pairs pair lt in
           let law = laws.new_answers accounts more pair fan first.0 second.0 first.1 second.1 (omega arith) (omega arith) 0 some' in
-          let is = last_answered pair more in
+          let is = laws.sums.cuts_to pair 0 more in
           cases b n eb en law before after is most
         where
           cases : (b n : Bool) → is_done g rows rank pair ≡ b → is_done g new (suc rank) pair ≡ n
@@ -192,7 +193,7 @@ module _ (g : Game) (a : IsGraph g) (rank : ℕ) (small : rank < 2 ^ 31) (list :
               → taken_in g new (suc rank) pair ≤ length (successors_at g pair)
               → times pair last + one_if b ≡ one_if n
           cases true true eb en law before after is most = let all = (done_parts g rows rank pair eb).1 in let e = law.1 (omega arith) in omega arith
-          cases true false eb en law before after is most = absurd (let stay = done_stays g rank rows new next_rows pair eb in cc)
+          cases true false eb en law before after is most = absurd (let stay = done_stays laws.sums g rank rows new next_rows pair eb in cc)
           cases false true eb en law before after is most =
               let open' = not_done g rows rank pair eb some' in
               let all = (done_parts g new (suc rank) pair en).1 in
@@ -212,21 +213,21 @@ module _ (g : Game) (a : IsGraph g) (rank : ℕ) (small : rank < 2 ^ 31) (list :
   -- the pairs that are done are those that were, and those that this round used up
   same_times : (n : ℕ) → times n done_now ≡ times n (done_before ++ last)
   same_times n =
-      let both = times-append n done_before last in
-      let now = times_filter (is_done g new (suc rank)) n (all_pairs g) in
-      let before = times_filter (is_done g rows rank) n (all_pairs g) in
+      let both = sum_by-append (λ x. one_if (x == n)) done_before last in
+      let now = laws.sums.filtered (is_done g new (suc rank)) n (all_pairs g) in
+      let before = laws.sums.filtered (is_done g rows rank) n (all_pairs g) in
       elim (cases_lt n (pairs_of g)) [
         | inl lt ↦
-            let one = in_range n 0 (pairs_of g) (omega arith) (omega arith) in
+            let one = laws.sums.in_range n 0 (pairs_of g) (omega arith) (omega arith) in
             let o = once n lt in
             let a = one_of (is_done g new (suc rank) n) (times n (all_pairs g)) one in
             let b = one_of (is_done g rows rank n) (times n (all_pairs g)) one in
             omega arith
         | inr ge ↦
-            let none' = out_of_range n 0 (pairs_of g) (inr (omega arith)) in
+            let none' = laws.sums.out_of_range n 0 (pairs_of g) (inr (omega arith)) in
             let a = none_of (is_done g new (suc rank) n) (times n (all_pairs g)) none' in
             let b = none_of (is_done g rows rank n) (times n (all_pairs g)) none' in
-            let c = times_none n last (λ i d li e. let l = below_pairs i d li in omega arith) in
+            let c = laws.sums.absent n last (λ i d li e. let l = below_pairs i d li in omega arith) in
             omega arith
       ]
     where
@@ -247,16 +248,16 @@ module _ (g : Game) (a : IsGraph g) (rank : ℕ) (small : rank < 2 ^ 31) (list :
   old_bids : map bid_now done_before ≡ map bid_before done_before
   old_bids =
       let passes = filter_passes (is_done g rows rank) (all_pairs g) in
-      map_alike bid_now bid_before done_before (λ i d lt. ap (λ k. bid_at g k (get_or done_before i d)) (rank_by-stays g rank rows new next_rows (get_or done_before i d) (passes i d lt)))
+      map_alike bid_now bid_before done_before (λ i d lt. ap (λ k. bid_at g k (get_or done_before i d)) (rank_by-stays laws.sums g rank rows new next_rows (get_or done_before i d) (passes i d lt)))
 
   new_bids : map bid_now last ≡ map (bid_at g (suc rank)) last
   new_bids =
       map_alike bid_now (bid_at g (suc rank)) last (λ i d lt.
       let pair = get_or last i d in
       let below = below_pairs i d lt in
-      let some' = counted pair last (Contains-get_or last i d lt) in
+      let some' = laws.sums.counted pair last (Contains-get_or last i d lt) in
       let tests = fresh (is_done g rows rank pair) (is_done g new (suc rank) pair) (times pair last) some' (once pair below) in
-      ap (λ k. bid_at g k pair) (rank_by-new g rank rows new next_rows pair tests.0 tests.1))
+      ap (λ k. bid_at g k pair) (rank_by-new laws.sums g rank rows new next_rows pair tests.0 tests.1))
     where
       fresh : (b n : Bool) (k : ℕ) → 0 < k → k + one_if b ≡ one_if n → (b ≡ false) × (n ≡ true)
       fresh true true k lt e = absurd (omega arith)
@@ -288,7 +289,7 @@ module _ (g : Game) (a : IsGraph g) (rank : ℕ) (small : rank < 2 ^ 31) (list :
   claims c lt = by_mark (mark_of g c) refl
     where
       old_values : All (λ v. (1 ≤ v) × (v < NONE)) (values (all_offers c accounts))
-      old_values = values_valued g c accounts was.valued
+      old_values = values_valued laws.sums g c accounts was.valued
 
       plain : mark_of g c ≡ Plain → first_count (all_offers c more) ≡ one_if (rank_is (suc rank) (row_of new c))
       plain m =
@@ -347,10 +348,10 @@ module _ (g : Game) (a : IsGraph g) (rank : ℕ) (small : rank < 2 ^ 31) (list :
         ∙ (ap₂ ◌++◌ was.logs (logs_added g rank list more r.each)
         ∙ sym (ap claimed (offers_in-append accounts more) ∙ claimed-append (offers_in accounts) (offers_in more))));
     highest = highest;
-    cells = λ c lt. same c ∙ (claimed_times c more ∙ claims c lt);
+    cells = λ c lt. same c ∙ (laws.sums.firsts c more ∙ claims c lt);
     within = λ i d lt.
         let c = get_or next i d in
-        let some' = counted c next (Contains-get_or next i d lt) in
+        let some' = laws.sums.counted c next (Contains-get_or next i d lt) in
         let e = same c in
-        All-contains (λ c. c < g.cells) (claimed (offers_in more)) c claimed_within (found c (claimed (offers_in more)) (omega arith));
+        All-contains (λ c. c < g.cells) (claimed (offers_in more)) c claimed_within (laws.sums.found c (claimed (offers_in more)) (omega arith));
   }

@@ -1,4 +1,3 @@
-pub mod Sums
 pub mod Added
 pub mod Words
 pub mod Ranks
@@ -7,7 +6,6 @@ pub mod LeadsOn
 pub mod Begins
 pub mod Settled
 pub mod Working
-pub mod Crews
 pub mod OnBoards
 pub mod Plays
 pub mod Ends

@@ -1,27 +1,25 @@
 -- What a round of workers leaves.
-use Rattle.std.proofs.Common.{◌≡◌, ℕ, suc, ◌+◌, ◌-◌, ◌^◌, ◌<◌, ◌≤◌, ◌==◌, List, [], ◌∷◌, ◌++◌, map, length, reverse, slice_index, All, IsPermutation, sum_by, max, min, zero, ◌/◌, arith, refl, sym, ◌∙◌, ap, subst, length-append, vec_len}
-use Rattle.std.specs.List.{flat_map, range_with_len}
+use Rattle.std.proofs.Common.{◌≡◌, ℕ, suc, ◌+◌, ◌-◌, ◌^◌, ◌<◌, ◌≤◌, ◌==◌, List, [], ◌++◌, map, length, reverse, All, IsPermutation, max, min, zero, ◌/◌, arith, refl, sym, ◌∙◌, ap, subst, length-append}
+use Rattle.std.specs.List.{range_with_len}
 use Rattle.std.specs.Vec.{vec_capacity}
-use Rattle.std.proofs.lemmas.List.{get_or-map, length-map}
 use Rattle.std.proofs.lemmas.List.Elements.{All-map, All-weaker}
 use Rattle.std.proofs.lemmas.List.Sorted.{IsPermutation-reverse, IsPermutation-trans, All-permutation, sum_by-IsPermutation}
 use Rattle.cell_counters.specs.declared.account.Log.{Log}
 use Rattle.cell_counters.specs.declared.account.Account.{Account}
-use Rattle.cell_counters.specs.Accounts.{IsLawfulCounter, IsLawfulLeast, IsLawfulLog, all_logs, log_count, cell_at}
+use Rattle.cell_counters.specs.Accounts.{IsLawfulLog, all_logs, log_count, cell_at}
 use Rattle.cell_counters.specs.Tokens.{BoardModel, IsLawful}
 use Rattle.frontier_pool.specs.declared.member.Member.{Member}
 use Rattle.game_core.specs.Counts.{times}
-use Rattle.game_core.specs.declared.game.Mark.TheVariants.{Plain}
-use Rattle.game_core.specs.Game.{Game, IsGraph, mark_of, pairs_of, successors_at}
+use Rattle.game_core.specs.Game.{Game, IsGraph}
+use Rattle.board_crew.specs.Crew.{offers_in, one_if, account_of, accounts_of, notes_of, IsTalliedBy}
+use Rattle.board_crew.specs.Laws.{claimed, notes_in}
 use Rattle.reach_avoid.specs.declared.rounds.Rounds.{Rounds}
-use Rattle.reach_avoid.specs.declared.worker.Worker.{Worker}
-use Rattle.reach_avoid.specs.Boards.{word_at, IsBoardOf}
-use Rattle.reach_avoid.specs.Reckoned.{offers_in}
-use Rattle.reach_avoid.specs.inside.Rounds.{Laws, one_if, claimed, rows_told, cells_taken, IsFull, IsLawfulFor, IsReached, IsWork, IsRound, IsNext}
-use Rattle.reach_avoid.specs.inside.Workers.{IsAtWork, account_of, accounts_of, notes_of, HaveWorked, IsTalliedBy}
+use Rattle.board_crew.specs.declared.worker.Worker.{Worker}
+use Rattle.reach_avoid.specs.Boards.{IsBoardOf}
+use Rattle.reach_avoid.specs.inside.Rounds.{Laws, rows_told, cells_taken, IsFull, IsLawfulFor, IsReached, IsWork, IsRound, IsNext}
+use Rattle.reach_avoid.specs.inside.Workers.{IsAtWork, HaveWorked}
 use Rattle.reach_avoid.specs.inside.Standing.{StandsAt, progress}
 use Rattle.reach_avoid.proofs.OnBoards.{lawful_for}
-use Rattle.reach_avoid.proofs.Sums.{sum_flat, sum_map}
 use Rattle.reach_avoid.proofs.Added.{all_logs-append, logs_added}
 use Rattle.reach_avoid.proofs.LeadsOn.{next_rows, round_leads_on}
 use Rattle.reach_avoid.proofs.Begins.{taken_fits, taken_more, full_after, few_logs}
@@ -59,15 +57,8 @@ module _ (g : Game) (a : IsGraph g) (laws : Laws) (board : BoardModel) (of_game 
         (All-map (IsWork g rank list) (λ (m : Member Worker). account_of m.hand) members
         (All-weaker (λ (m : Member Worker). IsAtWork g board list rank m.hand) (λ (m : Member Worker). IsWork g rank list (account_of m.hand)) (λ m w. w.work) members worked))
 
-    notes_reversed : IsPermutation (notes_of members) (flat_map (λ (a : Account). a.notes) more)
-    notes_reversed = laws.counts.same (notes_of members) (flat_map (λ (a : Account). a.notes) more) (λ n.
-        sum_flat (λ x. one_if (x == n)) (λ (m : Member Worker). (account_of m.hand).notes) members
-        ∙ sym (sum_flat (λ x. one_if (x == n)) (λ (a : Account). a.notes) more
-        ∙ (sum_by-IsPermutation (λ (a : Account). times n a.notes) (accounts_of members) more (IsPermutation-reverse (accounts_of members))
-        ∙ sum_map (λ (a : Account). times n a.notes) (λ (m : Member Worker). account_of m.hand) members)))
-
     round : IsRound g rank list more
-    round = record { each = work_each; swept = IsPermutation-trans (range_with_len 0 (length list)) (notes_of members) (flat_map (λ (a : Account). a.notes) more) swept notes_reversed }
+    round = record { each = work_each; swept = IsPermutation-trans (range_with_len 0 (length list)) (notes_of members) (notes_in more) swept (laws.sums.reversed members) }
 
     after : IsLawfulFor g (accounts ++ more)
     after = lawful_for g a board of_game (accounts ++ more) lawful
@@ -95,6 +86,17 @@ module _ (g : Game) (a : IsGraph g) (laws : Laws) (board : BoardModel) (of_game 
         ∙ (sym (sum_by-IsPermutation (λ x. one_if (x == c)) (places (log_count more)) (map (λ (l : Log). l.cell) (all_logs more)) same)
         ∙ ap (times c) (logs_added g rank list more work_each)))
 
+  low_rank : (workers : ℕ) (old : Rounds) → StandsAt g board workers old → old.tally.rounds < 2 ^ 31
+  low_rank workers old was = let n = was.some_taken in let m = taken_fits g a laws (rows_told g old.root.accounts) old.tally.rounds in let b = a.cells_bound in omega arith
+
+  -- each cell is logged once at most
+  pub few_after : (workers : ℕ) (old : Rounds) (members : List (Member Worker)) (now : List Account) → StandsAt g board workers old → HaveWorked g board old.list.items old.tally.rounds members → IsPermutation (range_with_len 0 (length old.list.items)) (notes_of members)
+      → now ≡ old.root.accounts ++ reverse (accounts_of members) → IsLawful now board.starts board.least → log_count now ≤ g.cells
+  few_after workers old members now was worked swept e lawful =
+      let low = low_rank workers old was in
+      subst (λ l. log_count l ≤ g.cells) (sym e)
+      (few old.tally.rounds low old.list.items old.root.accounts members was.reached worked swept (subst (λ l. IsLawful l board.starts board.least) e lawful))
+
   -- a round leads from one stand to the next, and on
   pub stands_after : (workers : ℕ) (old new : Rounds) → StandsAt g board workers old → 0 < length old.list.items → Played g board workers old new → StandsAt g board workers new × (progress g old < progress g new)
   stands_after workers old new was some' p =
@@ -102,7 +104,7 @@ module _ (g : Game) (a : IsGraph g) (laws : Laws) (board : BoardModel) (of_game 
       let list = old.list.items in
       let accounts = old.root.accounts in
       let all = accounts ++ reverse (accounts_of p.members) in
-      let low : rank < 2 ^ 31 = (let n = was.some_taken in let m = taken_fits g a laws (rows_told g accounts) rank in let b = a.cells_bound in omega arith) in
+      let low = low_rank workers old was in
       let lawful : IsLawful all board.starts board.least = subst (λ l. IsLawful l board.starts board.least) p.accounts p.lawful in
       let next = rows_go_on rank low list accounts p.members was.reached p.worked p.swept lawful in
       let rounds : suc rank ≡ new.tally.rounds = (let e = p.rounds in omega arith) in

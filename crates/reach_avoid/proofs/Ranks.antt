@@ -1,52 +1,15 @@
 -- What a round does to the ranks of the successors of a pair.
-use Rattle.std.proofs.Common.{inl, inr, ◌≡◌, ◌≢◌, ℕ, zero, suc, ◌+◌, ◌<◌, ◌≤◌, ◌==◌, ◌&&◌, ◌⊎◌, nat_lt, max, Bool, true, false, cond, List, [], ◌∷◌, map, length, get_or, All, Contains, Option, Some, None, count_by, sum_by, arith, refl, sym, ◌∙◌, ap, subst, eq-eqb, ne_eqb}
-use Rattle.std.proofs.lemmas.Bool.{cases_lt, cases_eq, cases_Bool, eqb-true, ltb-true, ltb-false, lt-ltb, le-ltb, and_parts, and_from, and_cases}
+use Rattle.std.proofs.Common.{inl, inr, ◌≡◌, ℕ, suc, ◌+◌, ◌<◌, ◌≤◌, ◌==◌, nat_lt, true, false, List, [], ◌∷◌, length, get_or, All, Option, Some, None, count_by, arith, refl, sym, ◌∙◌, ap, subst, eq-eqb, ne_eqb}
+use Rattle.std.proofs.lemmas.Bool.{cases_lt, cases_eq, eqb-true, ltb-true, ltb-false, lt-ltb, le-ltb, and_parts, and_from}
 use Rattle.std.proofs.lemmas.List.Elements.{All-head, All-tail, All-nil, All-cons}
 use Rattle.std.proofs.lemmas.List.Sums.{count_by-le-length}
 use Rattle.game_core.specs.declared.game.Row.{Row}
 use Rattle.game_core.specs.Game.{Game, successors_at}
 use Rattle.game_core.specs.Solution.{row_of, rank_in, rank_at, greatest, greatest_rank}
 use Rattle.game_core.specs.Tally.{rank_by}
-use Rattle.reach_avoid.specs.inside.Rounds.{one_if, below_in, rank_is, taken_in, is_done, IsNext}
-use Rattle.reach_avoid.proofs.Sums.{count-cons, sum_alike, sum_added}
-
--- a test that passes at each element counts all, and the other way round
-pub every_counts : {X : Type 0} (p : X → Bool) (xs : List X) → All (λ x. p x ≡ true) xs → count_by p xs ≡ length xs
-every_counts p [] h = refl
-every_counts p (x ∷ xs) h =
-    let a = count-cons p x xs in
-    let b : one_if (p x) ≡ 1 = ap one_if (All-head (λ x. p x ≡ true) x xs h) in
-    let rest = every_counts p xs (All-tail (λ x. p x ≡ true) x xs h) in
-    omega arith
-
-pub every_from_count : {X : Type 0} (p : X → Bool) (xs : List X) → count_by p xs ≡ length xs → All (λ x. p x ≡ true) xs
-every_from_count p [] e = All-nil (λ x. p x ≡ true)
-every_from_count p (x ∷ xs) e = by_test (p x) refl (every_from_count p xs)
-  where
-    by_test : (b : Bool) → p x ≡ b → (count_by p xs ≡ length xs → All (λ x. p x ≡ true) xs) → All (λ x. p x ≡ true) (x ∷ xs)
-    by_test true f later =
-        let a = count-cons p x xs in
-        let b : one_if (p x) ≡ 1 = ap one_if f in
-        All-cons (λ x. p x ≡ true) x xs f (later (omega arith))
-    by_test false f later =
-        let a = count-cons p x xs in
-        let b : one_if (p x) ≡ 0 = ap one_if f in
-        let most = count_by-le-length p xs in
-        absurd (omega arith)
-
--- one that fails is found where not all count
-pub one_fails : {X : Type 0} (p : X → Bool) (xs : List X) → count_by p xs < length xs → (x : X) × Contains xs x × (p x ≡ false)
-one_fails p [] lt = absurd (omega arith)
-one_fails {X} p (x ∷ xs) lt = by_test (p x) refl (one_fails p xs)
-  where
-    by_test : (b : Bool) → p x ≡ b → (count_by p xs < length xs → (y : X) × Contains xs y × (p y ≡ false)) → (y : X) × Contains (x ∷ xs) y × (p y ≡ false)
-    by_test false f later = (x, (0, omega arith, refl), f)
-    by_test true f later =
-        let a = count-cons p x xs in
-        let b : one_if (p x) ≡ 1 = ap one_if f in
-        let rest = later (omega arith) in
-        let at = rest.1 in
-        (rest.0, (suc at.0, (let l = at.1 in omega arith), at.2), rest.2)
+use Rattle.board_crew.specs.Crew.{one_if}
+use Rattle.board_crew.specs.Laws.{SumsTell}
+use Rattle.reach_avoid.specs.inside.Rounds.{below_in, rank_is, taken_in, is_done, IsNext}
 
 pub done_parts : (g : Game) (rows : List (Option Row)) (k pair : ℕ) → is_done g rows k pair ≡ true → (0 < length (successors_at g pair)) × (taken_in g rows k pair ≡ length (successors_at g pair))
 done_parts g rows k pair e =
@@ -120,7 +83,7 @@ one_below rank n =
           ]
     ]
 
-module _ (g : Game) (rank : ℕ) (rows new : List (Option Row)) (next : IsNext rank rows new) where
+module _ (sums : SumsTell) (g : Game) (rank : ℕ) (rows new : List (Option Row)) (next : IsNext rank rows new) where
   -- of the ranks of a cell before and after
   pub below_after : (s : ℕ) → one_if (below_in (suc rank) (row_of new s)) ≡ one_if (below_in rank (row_of rows s)) + one_if (rank_is rank (row_of rows s))
   below_after s = by_row (row_of rows s) refl
@@ -136,8 +99,8 @@ module _ (g : Game) (rank : ℕ) (rows new : List (Option Row)) (next : IsNext r
   -- the successors of this rank are taken besides
   pub taken_after : (pair : ℕ) → taken_in g new (suc rank) pair ≡ taken_in g rows rank pair + count_by (λ s. rank_is rank (row_of rows s)) (successors_at g pair)
   taken_after pair =
-      sum_alike (λ s. one_if (below_in (suc rank) (row_of new s))) (λ s. one_if (below_in rank (row_of rows s)) + one_if (rank_is rank (row_of rows s))) (successors_at g pair) (λ i d lt. below_after (get_or (successors_at g pair) i d))
-      ∙ sum_added (λ s. one_if (below_in rank (row_of rows s))) (λ s. one_if (rank_is rank (row_of rows s))) (successors_at g pair)
+      sums.alike (λ s. one_if (below_in (suc rank) (row_of new s))) (λ s. one_if (below_in rank (row_of rows s)) + one_if (rank_is rank (row_of rows s))) (successors_at g pair) (λ i d lt. below_after (get_or (successors_at g pair) i d))
+      ∙ sums.added (λ s. one_if (below_in rank (row_of rows s))) (λ s. one_if (rank_is rank (row_of rows s))) (successors_at g pair)
 
   pub taken_more : (pair : ℕ) → taken_in g rows rank pair ≤ taken_in g new (suc rank) pair
   taken_more pair = let e = taken_after pair in omega arith
@@ -154,7 +117,7 @@ module _ (g : Game) (rank : ℕ) (rows new : List (Option Row)) (next : IsNext r
 
   pub rank_by-stays : (pair : ℕ) → is_done g rows rank pair ≡ true → rank_by g new pair ≡ rank_by g rows pair
   rank_by-stays pair e =
-      let all = every_from_count (λ s. below_in rank (row_of rows s)) (successors_at g pair) (done_parts g rows rank pair e).1 in
+      let all = sums.each_passes (λ s. below_in rank (row_of rows s)) (successors_at g pair) (done_parts g rows rank pair e).1 in
       ap suc (sym (greatest_rank-same rows new (successors_at g pair) (λ i d lt.
       let s = get_or (successors_at g pair) i d in
       let row = row_below rank (row_of rows s) (all i d lt) in
@@ -164,14 +127,14 @@ module _ (g : Game) (rank : ℕ) (rows new : List (Option Row)) (next : IsNext r
   pub rank_by-new : (pair : ℕ) → is_done g rows rank pair ≡ false → is_done g new (suc rank) pair ≡ true → rank_by g new pair ≡ suc rank
   rank_by-new pair before now =
       let is = done_parts g new (suc rank) pair now in
-      let all = every_from_count (λ s. below_in (suc rank) (row_of new s)) (successors_at g pair) is.1 in
+      let all = sums.each_passes (λ s. below_in (suc rank) (row_of new s)) (successors_at g pair) is.1 in
       let most = greatest_rank-le new rank (successors_at g pair) (λ i d lt.
       let s = get_or (successors_at g pair) i d in
       let row = row_below (suc rank) (row_of new s) (all i d lt) in
       let e : rank_at new s ≡ row.0.rank = ap rank_in row.1 in
       let lt' = row.2 in
       omega arith) in
-      let fails = one_fails (λ s. below_in rank (row_of rows s)) (successors_at g pair) (not_done g rows rank pair before is.0) in
+      let fails = sums.one_fails (λ s. below_in rank (row_of rows s)) (successors_at g pair) (not_done g rows rank pair before is.0) in
       let at = fails.1 in
       let s = fails.0 in
       let here : All (λ s. rank_at new s ≤ greatest_rank new (successors_at g pair)) (successors_at g pair) = rank_at-le new (successors_at g pair) in

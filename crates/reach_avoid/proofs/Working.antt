@@ -1,17 +1,20 @@
 -- A worker that does an item of a round.
-use Rattle.std.proofs.Common.{◌≡◌, ℕ, suc, ◌+◌, ◌%◌, ◌^◌, ◌<◌, ◌≤◌, ◌==◌, Bool, true, false, cond, List, [], ◌∷◌, ◌++◌, map, filter, length, All, sum_by, arith, refl, sym, ◌∙◌, ap, subst}
-use Rattle.std.proofs.lemmas.List.{map-append, map_push, append-nil, length_push}
-use Rattle.std.proofs.lemmas.List.Elements.{All-push}
+use Rattle.std.proofs.Common.{◌≡◌, ℕ, suc, ◌+◌, ◌%◌, ◌^◌, ◌<◌, ◌==◌, Bool, true, false, cond, List, [], ◌∷◌, ◌++◌, map, length, All, sum_by, arith, refl, sym, ◌∙◌, ap, subst}
+use Rattle.std.proofs.lemmas.List.{map_push, append-nil, length_push}
+use Rattle.std.proofs.lemmas.List.Elements.{All-nil, All-push}
 use Rattle.std.proofs.lemmas.List.Sums.{sum_by_push}
 use Rattle.cell_counters.specs.Tokens.{BoardModel, with_note}
 use Rattle.cell_counters.specs.declared.account.Cut.{Cut}
 use Rattle.cell_counters.specs.declared.account.Account.{Account}
+use Rattle.frontier_pool.specs.declared.member.Member.{Member}
 use Rattle.game_core.specs.Counts.{times}
 use Rattle.game_core.specs.Game.{Game, pairs_of}
-use Rattle.reach_avoid.specs.declared.worker.Worker.{Worker}
+use Rattle.board_crew.specs.declared.worker.Worker.{Worker}
+use Rattle.board_crew.specs.Crew.{one_if, logged_cells, IsCounted, account_of, fresh_worker, IsFresh}
+use Rattle.board_crew.specs.Laws.{claimed}
 use Rattle.reach_avoid.specs.Reckoned.{bid_of, bid_at}
-use Rattle.reach_avoid.specs.inside.Rounds.{one_if, claimed, logged_cells, last_cuts, cuts_for, IsWorkOf, IsWork}
-use Rattle.reach_avoid.specs.inside.Workers.{IsCounted, IsAtWork, account_of, Cuts}
+use Rattle.reach_avoid.specs.inside.Rounds.{last_cuts, cuts_for, IsWorkOf}
+use Rattle.reach_avoid.specs.inside.Workers.{IsAtWork, Cuts, HaveWorked}
 use Rattle.reach_avoid.proofs.Added.{last_cuts-append}
 
 recount : (g : Game) (rank : ℕ) (f h : ℕ → ℕ) (a : Account) → ((pair : ℕ) → pair < pairs_of g → f pair ≡ h pair) → IsWorkOf g rank f a → IsWorkOf g rank h a
@@ -38,6 +41,17 @@ work_cut g rank pair f was now below c w =
     bids : (b : Bool) → map bid_of (account_of was).offers ++ cond b (bid_at g (suc rank) pair ∷ []) [] ≡ map (bid_at g (suc rank)) (last_cuts (account_of was).cuts ++ map (λ (c : Cut). c.counter) (cond b (record { counter = pair; left = c.left } ∷ []) []))
     bids true = ap (λ l. l ++ bid_at g (suc rank) pair ∷ []) w.offers ∙ sym (map_push (bid_at g (suc rank)) (last_cuts (account_of was).cuts) pair)
     bids false = append-nil (map bid_of (account_of was).offers) ∙ (w.offers ∙ ap (map (bid_at g (suc rank))) (sym (append-nil (last_cuts (account_of was).cuts))))
+
+-- a fresh worker is at work in any round
+fresh_at_work : (g : Game) (board : BoardModel) (list : List ℕ) (rank : ℕ) → IsAtWork g board list rank (fresh_worker board)
+fresh_at_work g board list rank = record {
+  at = refl;
+  work = record { cuts = λ pair lt. refl; no_other_cut = All-nil (λ (c : Cut). c.counter < pairs_of g); offers = refl; logs = refl };
+  counted = record { cuts = refl; offers = refl };
+}
+
+pub fresh_have_worked : (g : Game) (board : BoardModel) (list : List ℕ) (rank : ℕ) (members : List (Member Worker)) → All (IsFresh board) members → HaveWorked g board list rank members
+fresh_have_worked g board list rank members h i d lt = subst (IsAtWork g board list rank) (sym (h i d lt)) (fresh_at_work g board list rank)
 
 -- a worker that has cut these pairs since it was at work
 pub record IsUnderWay (g : Game) (board : BoardModel) (list : List ℕ) (rank : ℕ) (pairs : List ℕ) (was now : Worker) : Type 0 where

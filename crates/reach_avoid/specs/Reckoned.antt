@@ -1,6 +1,5 @@
 -- Which cuts and offers the accounts of a solved reach game hold together.
 use Rattle.std.specs.Prelude.{◌≡◌, ℕ, ◌+◌, ◌*◌, ◌/◌, ◌%◌, ◌<◌, List, map, filter, Option, All, IsPermutation}
-use Rattle.std.specs.List.{flat_map}
 use Rattle.cell_counters.specs.declared.account.Cut.{Cut}
 use Rattle.cell_counters.specs.declared.account.Offer.{Offer}
 use Rattle.cell_counters.specs.declared.account.Account.{Account}
@@ -9,14 +8,7 @@ use Rattle.game_core.specs.declared.game.Row.{Row}
 use Rattle.game_core.specs.Game.{Game, pairs_of}
 use Rattle.game_core.specs.Solution.{IsReachSolution}
 use Rattle.game_core.specs.Tally.{all_pairs, ranked_in, is_resolved, rank_by}
-
--- all cuts in these accounts
-abbrev pub cuts_in : List Account → List Cut
-cuts_in accounts = flat_map (λ (a : Account). a.cuts) accounts
-
--- all offers in these accounts
-abbrev pub offers_in : List Account → List Offer
-offers_in accounts = flat_map (λ (a : Account). a.offers) accounts
+use Rattle.board_crew.specs.Crew.{cuts_in, offers_in}
 
 -- on which word an offer was made, and which value
 abbrev pub bid_of : Offer → ℕ × ℕ

@@ -3,10 +3,9 @@
 //! `solve` gives the reach solution with its tally, the board on which the game was resolved, and the board's root,
 //! whose accounts have exactly the cuts and the offers that the solution asks for. So the steps on the board are bound,
 //! for every number of workers and every interleaving. `solve_in` does the same without a refusal, in a scratch that was
-//! made before. It stands on `game_core`, `cell_counters` and `frontier_pool`.
+//! made before. It stands on `game_core`, `cell_counters`, `frontier_pool` and `board_crew`.
 #![tactic(auto)]
 
-mod crew;
 mod known;
 mod outcome;
 mod rounds;
@@ -15,7 +14,6 @@ mod solver;
 #[cfg(test)]
 mod tests;
 mod turn;
-mod worker;
 
 pub use game_core::{NoMemory, Tally};
 pub use outcome::Solved;

@@ -1,14 +1,15 @@
 // The rounds, one after another.
-ghost use Rattle.std.specs.Prelude.{◌≡◌, ◌-◌, ◌^◌, ◌<◌, ◌≤◌, map, vec_len};
+ghost use Rattle.std.specs.Prelude.{◌≡◌, ◌<◌, ◌≤◌, All, IsPermutation, vec_len};
 ghost use Rattle.std.specs.Vec.{vec_capacity};
 ghost use Rattle.std.specs.List.{range_with_len};
-ghost use Rattle.cell_counters.specs.Accounts.{all_logs, log_count, cell_at};
+ghost use Rattle.board_crew.specs.Crew.{IsFresh, notes_of};
 ghost use Rattle.reach_avoid.specs.Boards.{IsBoardOf};
+ghost use Rattle.reach_avoid.specs.inside.Workers.{IsAtWork, HaveWorked};
 
-use crate::crew::{deal, do_items, take_in};
 use crate::known::{known_graph, known_laws};
 use crate::turn::Turn;
-use crate::worker::Worker;
+use board_crew::laws::notes_are_swept;
+use board_crew::{Worker, deal, list_logged, take_in, work};
 use cell_counters::{Board, Root};
 use frontier_pool::{Gate, Member, hands_for};
 use game_core::{Graph, Tally};
@@ -62,28 +63,28 @@ impl Rounds {
             inputs: g.inputs(),
             items,
         };
-        do_items(rt, alloc, &turn, self.members.as_mut_slice(), gate);
+        do_items(rt, alloc, &turn, &mut self.members, gate);
         take_in(board, &mut self.root, &mut self.members, &mut self.tally);
-        self.listed = next_list(board, &mut self.root, &mut self.list, self.listed);
+        self.listed = list_logged(board, &mut self.root, &mut self.list, self.listed);
         self.tally.rounds += 1;
     }
 }
 
-// Puts on the list what was logged since, and tells how many places of the log were put on a list then.
-fn next_list(board: &Board, root: &mut Root, list: &mut Vec<u32>, listed: u32) -> u32
-    requires root { (root.old.board ≡ board.now) × (root.old.out ≡ 0) }
-    requires places { (log_count root.old.accounts ≤ board.now.places) × (board.now.places ≤ vec_capacity list.old) }
-    requires few { log_count root.old.accounts < 2 ^ 64 }
-    requires listed { listed ≤ log_count root.old.accounts }
-    ensures root { root.new ≡ root.old }
-    ensures listed { result ≡ log_count root.old.accounts }
-    ensures list { list.new.items ≡ map (λ place. cell_at place (all_logs root.old.accounts)) (range_with_len listed (log_count root.old.accounts - listed)) }
-    ensures room { vec_capacity list.new ≡ vec_capacity list.old }
+// New workers do all items of the round.
+fn do_items<R: Threads + Sync, G: Graph + Sync, T: Gate>(
+    rt: &R,
+    alloc: Global,
+    turn: &Turn<'_, G>,
+    members: &mut Vec<Member<Worker>>,
+    gate: &T,
+)
+    requires members { (0 < vec_len members.old) × (vec_len members.old ≤ 64) }
+    requires fresh { All (IsFresh turn.now.board.now) members.old.items }
+    ensures worked { HaveWorked (G.game turn.now.graph.now) turn.now.board.now turn.now.list.now turn.now.rank members.new.items }
+    ensures swept { IsPermutation (range_with_len 0 turn.now.items) (notes_of members.new.items) }
+    ensures members { vec_len members.new ≡ vec_len members.old }
+    ensures room { vec_capacity members.new ≡ vec_capacity members.old }
 {
-    let filled = board.log_len(root);
-    list.clear();
-    for at in listed..filled {
-        list.push_reserved(board.logged(root, at));
-    }
-    filled
+    notes_are_swept();
+    work(rt, alloc, turn, members.as_mut_slice(), gate);
 }

@@ -1,10 +1,10 @@
 // All memory of a solver, taken before it solves.
-ghost use Rattle.std.specs.Prelude.{◌≡◌, ◌+◌, ◌^◌, ◌<◌, ◌≤◌, [], map, length, IfOk};
-ghost use Rattle.std.specs.Vec.{vec_capacity};
+ghost use Rattle.std.specs.Prelude.{◌≡◌, ◌+◌, ◌^◌, ◌<◌, ◌≤◌, map, length, IfOk};
 ghost use Rattle.cell_counters.specs.Tokens.{new_root};
 ghost use Rattle.reach_avoid.specs.Boards.{IsBoardOf, word_at};
 
 use crate::rounds::Rounds;
+use board_crew::{fans, room_for};
 use cell_counters::{Board, NONE, Root};
 use game_core::{Answer, Graph, Mark, NoMemory, Tally};
 use std::alloc::Global;
@@ -83,26 +83,6 @@ fn new_board(
     ensures root { IfOk result (λ made. made.1 ≡ new_root made.0) }
 {
     Board::with_log(alloc, starts, least, places).map_err(|_| NoMemory)
-}
-
-// An empty vector with room for so many elements.
-fn room_for<T>(alloc: Global, count: u32) -> Result<Vec<T>, NoMemory>
-    ensures empty { IfOk result (λ v. v.items ≡ []) }
-    ensures room { IfOk result (λ v. vec_capacity v ≡ count) }
-{
-    Vec::with_capacity(alloc, count as usize).map_err(|_| NoMemory)
-}
-
-// How many successors each pair has.
-fn fans<G: Graph>(alloc: Global, g: &G) -> Result<Vec<u64>, NoMemory>
-    ensures { IfOk result (λ v. v.items ≡ map length (G.game g.now).successors) }
-{
-    let pairs = g.cells() * g.inputs();
-    let mut fans = vec![in alloc; 0; pairs as usize].map_err(|_| NoMemory)?;
-    for pair in 0..pairs {
-        fans[pair as usize] = u64::from(g.fan(pair));
-    }
-    Ok(fans)
 }
 
 // The least words, before anything is offered.

@@ -3,7 +3,7 @@ ghost use Rattle.std.specs.Prelude.{◌≡◌, ◌<◌};
 ghost use Rattle.game_core.specs.Game.{pairs_of};
 ghost use Rattle.reach_avoid.specs.inside.Workers.{IsTurn, IsAtWork, Bids, Cuts};
 
-use crate::worker::Worker;
+use board_crew::Worker;
 use cell_counters::Board;
 use frontier_pool::Toil;
 use game_core::Graph;

@@ -1,10 +1,9 @@
 -- What stands between the rounds of a reach game, and what a round adds.
-use Rattle.std.specs.Prelude.{◌≡◌, ℕ, suc, ◌+◌, ◌-◌, ◌*◌, ◌/◌, ◌%◌, ◌<◌, ◌≤◌, ◌⊎◌, min, Bool, true, false, ◌&&◌, ◌||◌, ◌==◌, nat_lt, if◌then◌else◌, cond, List, [], ◌∷◌, ◌++◌, map, filter, length, slice_index, sum_by, count_by, Option, Some, None, All, IsPermutation}
-use Rattle.std.specs.List.{flat_map, range_with_len}
+use Rattle.std.specs.Prelude.{◌≡◌, ℕ, suc, ◌-◌, ◌/◌, ◌%◌, ◌<◌, ◌≤◌, ◌⊎◌, min, Bool, true, false, ◌&&◌, ◌||◌, ◌==◌, nat_lt, if◌then◌else◌, List, [], ◌∷◌, map, filter, length, slice_index, sum_by, count_by, Option, Some, None, All, IsPermutation}
+use Rattle.std.specs.List.{range_with_len}
 use Rattle.cell_counters.specs.declared.account.TheConstants.{NONE}
 use Rattle.cell_counters.specs.declared.account.Cut.{Cut}
 use Rattle.cell_counters.specs.declared.account.Offer.{Offer}
-use Rattle.cell_counters.specs.declared.account.Log.{Log}
 use Rattle.cell_counters.specs.declared.account.Account.{Account}
 use Rattle.cell_counters.specs.Accounts.{IsLawfulCounter, IsLawfulLeast, cut_count, all_offers, values, all_logs}
 use Rattle.cell_counters.specs.Laws.{NothingDone, NewAnswers, NewFirsts, NewPlaces}
@@ -15,8 +14,10 @@ use Rattle.game_core.specs.Counts.{times, CountsTell, EdgesFromBothEnds}
 use Rattle.game_core.specs.Game.{Game, mark_of, pairs_of, successors_at}
 use Rattle.game_core.specs.Solution.{row_of}
 use Rattle.game_core.specs.Tally.{all_pairs, rank_by}
+use Rattle.board_crew.specs.Crew.{cuts_in, offers_in, logged_cells, one_if}
+use Rattle.board_crew.specs.Laws.{claimed, counters_of, cut_to, notes_in, SumsTell}
 use Rattle.reach_avoid.specs.Boards.{word_at}
-use Rattle.reach_avoid.specs.Reckoned.{cuts_in, offers_in, bid_of, bid_at}
+use Rattle.reach_avoid.specs.Reckoned.{bid_of, bid_at}
 
 -- the laws of the crates below on which the rounds rest
 pub record Laws : Type 0 where
@@ -26,9 +27,7 @@ pub record Laws : Type 0 where
   pub new_answers : NewAnswers
   pub new_firsts : NewFirsts
   pub new_places : NewPlaces
-
-abbrev pub one_if : Bool → ℕ
-one_if b = cond b 1 0
+  pub sums : SumsTell
 
 -- the row that a word tells
 abbrev pub row_in : ℕ → Option Row
@@ -80,14 +79,6 @@ pub record IsBid (g : Game) (o : Offer) : Type 0 where
   pub some : 0 < o.value
   pub less : o.value < NONE
 
--- the cells whose offers were first
-abbrev pub claimed : List Offer → List ℕ
-claimed offers = map (λ (o : Offer). o.word) (filter (λ (o : Offer). o.first) offers)
-
--- the cells that were logged
-abbrev pub logged_cells : List Log → List ℕ
-logged_cells logs = map (λ (l : Log). l.cell) logs
-
 -- before the round of a rank: all cells of lesser ranks are taken, and those of this rank are on the list
 pub record IsReached (g : Game) (rank : ℕ) (list : List ℕ) (accounts : List Account) : Type 0 where
   pub lawful : IsLawfulFor g accounts
@@ -119,7 +110,7 @@ IsFull rows rank = (rank ≡ 0) ⊎ ((c : ℕ) × (row : Row) × (row_of rows c 
 
 -- the counters that these cuts used up
 abbrev pub last_cuts : List Cut → List ℕ
-last_cuts cuts = map (λ (c : Cut). c.counter) (filter (λ (c : Cut). c.left == 0) cuts)
+last_cuts cuts = cut_to 0 cuts
 
 -- how often a pair is cut for an item of the list
 abbrev pub cuts_for : Game → List ℕ → ℕ → ℕ → ℕ
@@ -127,7 +118,7 @@ cuts_for g list pair item = times (slice_index list item) (successors_at g pair)
 
 -- a hand in the round of a rank, with so many cuts of each pair
 pub record IsWorkOf (g : Game) (rank : ℕ) (count : ℕ → ℕ) (a : Account) : Type 0 where
-  pub cuts : (pair : ℕ) → pair < pairs_of g → times pair (map (λ (c : Cut). c.counter) a.cuts) ≡ count pair
+  pub cuts : (pair : ℕ) → pair < pairs_of g → times pair (counters_of a.cuts) ≡ count pair
   pub no_other_cut : All (λ (c : Cut). c.counter < pairs_of g) a.cuts
   pub offers : map bid_of a.offers ≡ map (bid_at g (suc rank)) (last_cuts a.cuts)
   pub logs : logged_cells a.logs ≡ claimed a.offers
@@ -139,7 +130,7 @@ IsWork g rank list a = IsWorkOf g rank (λ pair. sum_by (cuts_for g list pair) a
 -- all that the hands of a round did
 pub record IsRound (g : Game) (rank : ℕ) (list : List ℕ) (more : List Account) : Type 0 where
   pub each : All (IsWork g rank list) more
-  pub swept : IsPermutation (range_with_len 0 (length list)) (flat_map (λ (a : Account). a.notes) more)
+  pub swept : IsPermutation (range_with_len 0 (length list)) (notes_in more)
 
 -- a row stays as it is, and one that comes has the next rank
 pub record IsNext (rank : ℕ) (rows new : List (Option Row)) : Type 0 where

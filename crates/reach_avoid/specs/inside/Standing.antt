@@ -1,14 +1,14 @@
 -- What stands between two rounds, and in a scratch that wasn't used yet.
-use Rattle.std.specs.Prelude.{◌≡◌, ℕ, ◌<◌, ◌≤◌, List, [], length, replicate, Option, None, vec_len}
+use Rattle.std.specs.Prelude.{◌≡◌, ℕ, ◌≤◌, List, [], length, replicate, Option, None}
 use Rattle.std.specs.Vec.{vec_capacity}
 use Rattle.cell_counters.specs.Accounts.{IsLawfulLog, log_count}
 use Rattle.cell_counters.specs.Tokens.{BoardModel, new_root}
 use Rattle.game_core.specs.declared.game.Row.{Row}
 use Rattle.game_core.specs.declared.tally.Tally.{Tally}
 use Rattle.game_core.specs.Game.{Game}
+use Rattle.board_crew.specs.Crew.{IsTalliedBy}
 use Rattle.reach_avoid.specs.declared.rounds.Rounds.{Rounds}
 use Rattle.reach_avoid.specs.inside.Rounds.{rows_told, IsReached, IsFull, cells_taken}
-use Rattle.reach_avoid.specs.inside.Workers.{IsTalliedBy}
 
 abbrev pub no_tally : Tally
 no_tally = record { cuts = 0; offers = 0; rounds = 0 }
