@@ -1,7 +1,6 @@
 -- The first stand, and what the last one gives.
-use Rattle.std.proofs.Common.{inl, ◌≡◌, ℕ, ◌%◌, ◌^◌, ◌<◌, ◌≤◌, ◌-◌, List, [], length, Option, Some, arith, refl, sym, ◌∙◌, ap, subst, vec_len}
+use Rattle.std.proofs.Common.{inl, ◌≡◌, ℕ, ◌^◌, ◌<◌, ◌≤◌, ◌-◌, List, [], Option, Some, arith, refl, sym, ◌∙◌, ap, subst}
 use Rattle.std.specs.Vec.{vec_capacity}
-use Rattle.cell_counters.specs.declared.account.Account.{Account}
 use Rattle.cell_counters.specs.Accounts.{IsLawfulLog, log_count}
 use Rattle.cell_counters.specs.Tokens.{BoardModel, RootModel, new_root}
 use Rattle.game_core.specs.declared.game.Row.{Row}
@@ -16,7 +15,7 @@ use Rattle.reach_avoid.specs.declared.rounds.Rounds.{Rounds}
 use Rattle.reach_avoid.specs.Boards.{IsBoardOf}
 use Rattle.reach_avoid.specs.Reckoned.{IsReckoned}
 use Rattle.reach_avoid.specs.Solved.{IsSolved}
-use Rattle.reach_avoid.specs.inside.Rounds.{Laws, rows_told, goals_of, cells_taken, IsFull, IsReached}
+use Rattle.reach_avoid.specs.inside.Rounds.{Laws, rows_told, goals_of, IsReached}
 use Rattle.reach_avoid.specs.inside.Standing.{no_tally, StandsAt, progress}
 use Rattle.reach_avoid.proofs.Begins.{begins, taken_fits}
 use Rattle.reach_avoid.proofs.Settled.{right, reckoned, cuts_count, offers_count, few_cuts, few_offers, rounds_count}

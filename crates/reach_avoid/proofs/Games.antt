@@ -1,11 +1,10 @@
 -- What a graph's limits say of one pair, and offers within them.
-use Rattle.std.proofs.Common.{◌≡◌, ℕ, suc, ◌+◌, ◌*◌, ◌/◌, ◌%◌, ◌^◌, ◌<◌, ◌≤◌, ◌==◌, List, [], map, filter, length, get_or, All, sum_by, arith, refl, sym, ◌∙◌, ap, subst}
+use Rattle.std.proofs.Common.{◌≡◌, ℕ, ◌+◌, ◌*◌, ◌/◌, ◌%◌, ◌^◌, ◌<◌, ◌≤◌, ◌==◌, List, [], map, length, get_or, All, arith, sym, ◌∙◌, ap, subst}
 use Rattle.std.proofs.lemmas.List.{get_or-map, length-map}
 use Rattle.std.proofs.lemmas.List.Elements.{All-map, All-filter, All-weaker}
 use Rattle.std.proofs.lemmas.List.Sums.{get_or-le-sum_by}
 use Rattle.std.proofs.lemmas.Nat.{div_below}
 use Rattle.cell_counters.specs.declared.account.TheConstants.{NONE}
-use Rattle.cell_counters.specs.declared.account.Cut.{Cut}
 use Rattle.cell_counters.specs.declared.account.Offer.{Offer}
 use Rattle.cell_counters.specs.declared.account.Account.{Account}
 use Rattle.cell_counters.specs.Accounts.{all_offers, values}
@@ -13,7 +12,7 @@ use Rattle.game_core.specs.Game.{Game, IsGraph, pairs_of, successors_at}
 use Rattle.board_crew.specs.Crew.{offers_in}
 use Rattle.board_crew.specs.Laws.{SumsTell}
 use Rattle.reach_avoid.specs.Reckoned.{bid_of, bid_at}
-use Rattle.reach_avoid.specs.inside.Rounds.{last_cuts, IsBid}
+use Rattle.reach_avoid.specs.inside.Rounds.{IsBid}
 
 -- an offer is what some pair bids at a rank
 pub record IsBidOf (g : Game) (rank : ℕ) (o : Offer) : Type 0 where

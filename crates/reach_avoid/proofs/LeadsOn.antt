@@ -1,8 +1,8 @@
 -- A round leads on: what stood before it stands after it, at the next rank.
-use Rattle.std.proofs.Common.{inl, inr, ◌≡◌, ◌≢◌, ℕ, zero, suc, ◌+◌, ◌-◌, ◌*◌, ◌/◌, ◌%◌, ◌^◌, ◌<◌, ◌≤◌, ◌==◌, ◌&&◌, ◌⊎◌, nat_lt, Bool, true, false, cond, List, [], ◌∷◌, ◌++◌, map, filter, length, get_or, All, Contains, IsPermutation, Option, Some, None, count_by, sum_by, arith, refl, sym, ◌∙◌, ap, ap₂, subst, le-ltb}
-use Rattle.std.proofs.lemmas.Bool.{cases_lt, cases_eq, ne_eqb, eq-eqb}
+use Rattle.std.proofs.Common.{inl, inr, ◌≡◌, ℕ, suc, ◌+◌, ◌-◌, ◌*◌, ◌/◌, ◌%◌, ◌^◌, ◌<◌, ◌≤◌, ◌==◌, ◌&&◌, ◌⊎◌, nat_lt, Bool, true, false, cond, List, [], ◌∷◌, ◌++◌, map, filter, length, get_or, All, IsPermutation, Option, Some, None, count_by, arith, refl, sym, ◌∙◌, ap, ap₂, subst, le-ltb}
+use Rattle.std.proofs.lemmas.Bool.{cases_lt, ne_eqb, eq-eqb}
 use Rattle.std.proofs.lemmas.List.{map-append, nil_from_length, length-map}
-use Rattle.std.proofs.lemmas.List.Elements.{All-map, All-filter, All-weaker, All-append, All-contains, All-contains_itself, Contains-get_or, filter_passes}
+use Rattle.std.proofs.lemmas.List.Elements.{All-map, All-filter, All-weaker, All-append, All-contains, Contains-get_or, filter_passes}
 use Rattle.std.proofs.lemmas.List.Sums.{count_by-le-length, sum_by-append}
 use Rattle.std.proofs.lemmas.List.Sorted.{IsPermutation-map, IsPermutation-trans, IsPermutation-append_left}
 use Rattle.cell_counters.specs.declared.account.TheConstants.{NONE}
@@ -25,7 +25,7 @@ use Rattle.reach_avoid.specs.Boards.{word_at}
 use Rattle.reach_avoid.specs.Reckoned.{bid_of, bid_at}
 use Rattle.reach_avoid.specs.inside.Rounds.{Laws, row_in, least_from, word_after, rows_told, below_in, rank_is, taken_in, is_done, bids_done, IsLawfulFor, IsBid, IsReached, last_cuts, IsRound, IsNext}
 use Rattle.reach_avoid.proofs.Added.{cuts_in-append, offers_in-append, all_logs-append, cut_count-append, claimed-append, cuts_added, offers_added, logs_added, cuts_stay_below}
-use Rattle.reach_avoid.proofs.Words.{least_from-le, least_from-keeps, least_from-range, row_from_word, no_row_from_word, IsWordOf, row_told, cell_of_row, word_after-le, word_of_row, word_after-more}
+use Rattle.reach_avoid.proofs.Words.{least_from-le, least_from-keeps, least_from-range, row_from_word, no_row_from_word, row_told, cell_of_row, word_after-le, word_of_row, word_after-more}
 use Rattle.reach_avoid.proofs.Ranks.{done_parts, not_done, taken_after, done_stays, rank_by-stays, rank_by-new}
 use Rattle.reach_avoid.proofs.Games.{IsBidOf, successors_within, few_successors, bids_of, bid_valued, values_of_rank, values_valued}
 

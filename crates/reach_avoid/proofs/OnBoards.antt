@@ -1,5 +1,5 @@
 -- What a board of a game tells: its numbers are the game's, and a word tells a row.
-use Rattle.std.proofs.Common.{◌≡◌, ℕ, ◌<◌, List, [], map, length, slice_index, arith, sym, ◌∙◌, ap, subst}
+use Rattle.std.proofs.Common.{◌≡◌, ℕ, ◌<◌, List, [], length, slice_index, arith, ◌∙◌, ap, subst}
 use Rattle.std.proofs.lemmas.List.{get_or-map, length-map}
 use Rattle.cell_counters.specs.declared.account.Account.{Account}
 use Rattle.cell_counters.specs.Accounts.{IsLawfulCounter, IsLawfulLeast, all_offers, values}

@@ -1,23 +1,21 @@
 -- What a round of workers leaves.
-use Rattle.std.proofs.Common.{◌≡◌, ℕ, suc, ◌+◌, ◌-◌, ◌^◌, ◌<◌, ◌≤◌, ◌==◌, List, [], ◌∷◌, ◌++◌, map, length, reverse, slice_index, All, IsPermutation, sum_by, max, min, zero, ◌/◌, arith, refl, sym, ◌∙◌, ap, subst, length-append, vec_len}
-use Rattle.std.specs.List.{flat_map, range_with_len}
+use Rattle.std.proofs.Common.{◌≡◌, ℕ, suc, ◌+◌, ◌-◌, ◌^◌, ◌<◌, ◌≤◌, ◌==◌, List, [], ◌++◌, map, length, reverse, All, IsPermutation, max, min, zero, ◌/◌, arith, refl, sym, ◌∙◌, ap, subst, length-append}
+use Rattle.std.specs.List.{range_with_len}
 use Rattle.std.specs.Vec.{vec_capacity}
-use Rattle.std.proofs.lemmas.List.{get_or-map, length-map}
 use Rattle.std.proofs.lemmas.List.Elements.{All-map, All-weaker}
 use Rattle.std.proofs.lemmas.List.Sorted.{IsPermutation-reverse, IsPermutation-trans, All-permutation, sum_by-IsPermutation}
 use Rattle.cell_counters.specs.declared.account.Log.{Log}
 use Rattle.cell_counters.specs.declared.account.Account.{Account}
-use Rattle.cell_counters.specs.Accounts.{IsLawfulCounter, IsLawfulLeast, IsLawfulLog, all_logs, log_count, cell_at}
+use Rattle.cell_counters.specs.Accounts.{IsLawfulLog, all_logs, log_count, cell_at}
 use Rattle.cell_counters.specs.Tokens.{BoardModel, IsLawful}
 use Rattle.frontier_pool.specs.declared.member.Member.{Member}
 use Rattle.game_core.specs.Counts.{times}
-use Rattle.game_core.specs.declared.game.Mark.TheVariants.{Plain}
-use Rattle.game_core.specs.Game.{Game, IsGraph, mark_of, pairs_of, successors_at}
+use Rattle.game_core.specs.Game.{Game, IsGraph}
 use Rattle.board_crew.specs.Crew.{offers_in, one_if, account_of, accounts_of, notes_of, IsTalliedBy}
 use Rattle.board_crew.specs.Laws.{claimed, notes_in}
 use Rattle.reach_avoid.specs.declared.rounds.Rounds.{Rounds}
 use Rattle.board_crew.specs.declared.worker.Worker.{Worker}
-use Rattle.reach_avoid.specs.Boards.{word_at, IsBoardOf}
+use Rattle.reach_avoid.specs.Boards.{IsBoardOf}
 use Rattle.reach_avoid.specs.inside.Rounds.{Laws, rows_told, cells_taken, IsFull, IsLawfulFor, IsReached, IsWork, IsRound, IsNext}
 use Rattle.reach_avoid.specs.inside.Workers.{IsAtWork, HaveWorked}
 use Rattle.reach_avoid.specs.inside.Standing.{StandsAt, progress}

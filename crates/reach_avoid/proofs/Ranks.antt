@@ -1,6 +1,6 @@
 -- What a round does to the ranks of the successors of a pair.
-use Rattle.std.proofs.Common.{inl, inr, ◌≡◌, ◌≢◌, ℕ, zero, suc, ◌+◌, ◌<◌, ◌≤◌, ◌==◌, ◌&&◌, ◌⊎◌, nat_lt, max, Bool, true, false, cond, List, [], ◌∷◌, map, length, get_or, All, Contains, Option, Some, None, count_by, sum_by, arith, refl, sym, ◌∙◌, ap, subst, eq-eqb, ne_eqb}
-use Rattle.std.proofs.lemmas.Bool.{cases_lt, cases_eq, cases_Bool, eqb-true, ltb-true, ltb-false, lt-ltb, le-ltb, and_parts, and_from, and_cases}
+use Rattle.std.proofs.Common.{inl, inr, ◌≡◌, ℕ, suc, ◌+◌, ◌<◌, ◌≤◌, ◌==◌, nat_lt, true, false, List, [], ◌∷◌, length, get_or, All, Option, Some, None, count_by, arith, refl, sym, ◌∙◌, ap, subst, eq-eqb, ne_eqb}
+use Rattle.std.proofs.lemmas.Bool.{cases_lt, cases_eq, eqb-true, ltb-true, ltb-false, lt-ltb, le-ltb, and_parts, and_from}
 use Rattle.std.proofs.lemmas.List.Elements.{All-head, All-tail, All-nil, All-cons}
 use Rattle.std.proofs.lemmas.List.Sums.{count_by-le-length}
 use Rattle.game_core.specs.declared.game.Row.{Row}

@@ -1,9 +1,9 @@
 -- After the last round: the rows are right, the accounts are reckoned, and the tally counts them.
-use Rattle.std.proofs.Common.{inl, inr, ◌≡◌, ◌≢◌, ℕ, zero, suc, ◌+◌, ◌-◌, ◌*◌, ◌/◌, ◌%◌, ◌^◌, ◌<◌, ◌≤◌, ◌==◌, ◌&&◌, ◌⊎◌, nat_lt, Bool, true, false, cond, List, [], ◌∷◌, ◌++◌, map, filter, length, get_or, All, Contains, IsPermutation, Option, Some, None, is_some, count_by, sum_by, arith, refl, sym, ◌∙◌, ap, subst, eq-eqb, lt-ltb}
+use Rattle.std.proofs.Common.{inl, inr, ◌≡◌, ◌≢◌, ℕ, zero, suc, ◌+◌, ◌*◌, ◌/◌, ◌%◌, ◌^◌, ◌<◌, ◌≤◌, ◌==◌, ◌&&◌, nat_lt, Bool, true, false, cond, List, [], ◌∷◌, map, filter, length, get_or, All, Contains, IsPermutation, Option, Some, None, is_some, count_by, sum_by, arith, refl, sym, ◌∙◌, ap, subst, eq-eqb, lt-ltb}
 use Rattle.std.specs.List.{range_with_len}
 use Rattle.std.proofs.lemmas.Bool.{cases_lt, cases_eq, eqb-true, ltb-true, and_parts, and_from}
 use Rattle.std.proofs.lemmas.List.{length-map, get_or-map, get_or_default}
-use Rattle.std.proofs.lemmas.List.Elements.{All-head, All-tail, All-nil, All-map, All-filter, All-weaker, All-contains, All-contains_itself, Contains-get_or, filter_passes, filter_agree}
+use Rattle.std.proofs.lemmas.List.Elements.{All-head, All-map, All-filter, All-contains, All-contains_itself, Contains-get_or, filter_passes, filter_agree}
 use Rattle.std.proofs.lemmas.List.FromFn.{length-range_with_len, length-map-range_with_len}
 use Rattle.std.proofs.lemmas.List.Sums.{count_by-le-length, length-filter}
 use Rattle.std.proofs.lemmas.List.Sorted.{IsPermutation-sym, Contains-permutation, length_permutation}
@@ -12,23 +12,23 @@ use Rattle.cell_counters.specs.declared.account.TheConstants.{NONE}
 use Rattle.cell_counters.specs.declared.account.Cut.{Cut}
 use Rattle.cell_counters.specs.declared.account.Offer.{Offer}
 use Rattle.cell_counters.specs.declared.account.Account.{Account}
-use Rattle.cell_counters.specs.Accounts.{cut_count, all_offers, values}
-use Rattle.game_core.specs.Counts.{times, CountsTell}
+use Rattle.cell_counters.specs.Accounts.{all_offers, values}
+use Rattle.game_core.specs.Counts.{times}
 use Rattle.game_core.specs.declared.game.Mark.{Mark}
 use Rattle.game_core.specs.declared.game.Mark.TheVariants.{Goal, Obstacle, Plain}
 use Rattle.game_core.specs.declared.game.Row.{Row}
-use Rattle.game_core.specs.Game.{Game, IsGraph, IsEnabled, mark_of, pair_of, pairs_of, successors_at, successors_of}
-use Rattle.game_core.specs.Solution.{row_of, rank_in, rank_at, greatest, greatest_rank, HasRow, HasRowBelow}
-use Rattle.game_core.specs.Right.{LeadsDownTo, IsBestInput, IsLost, IsRightRanked, IsRightPlain, IsRightAt, AreRight}
+use Rattle.game_core.specs.Game.{Game, IsGraph, mark_of, pair_of, pairs_of, successors_at, successors_of}
+use Rattle.game_core.specs.Solution.{row_of, rank_in, rank_at, greatest, greatest_rank, HasRow}
+use Rattle.game_core.specs.Right.{IsBestInput, IsLost, IsRightRanked, IsRightPlain, IsRightAt, AreRight}
 use Rattle.game_core.specs.Tally.{all_pairs, ranked_in, is_resolved, rank_by, rounds_to}
 use Rattle.board_crew.specs.Crew.{cuts_in, offers_in, one_if}
 use Rattle.board_crew.specs.Laws.{SumsTell}
 use Rattle.reach_avoid.specs.Boards.{word_at}
 use Rattle.reach_avoid.specs.Reckoned.{bid_of, bid_at, IsReckonedBy}
-use Rattle.reach_avoid.specs.inside.Rounds.{Laws, row_in, least_from, word_after, rows_told, below_in, rank_is, taken_in, is_done, IsBid, IsReached, IsFull}
-use Rattle.reach_avoid.proofs.Words.{least_from-le, least_from-lower, least_from-among, least_from-keeps, row_from_word, no_row_from_word, row_told, row_past, cell_of_row, word_after-le, word_of_row}
+use Rattle.reach_avoid.specs.inside.Rounds.{Laws, row_in, least_from, word_after, rows_told, below_in, rank_is, taken_in, is_done, IsReached, IsFull}
+use Rattle.reach_avoid.proofs.Words.{least_from-le, least_from-lower, least_from-among, least_from-keeps, row_from_word, no_row_from_word, row_told, cell_of_row, word_of_row}
 use Rattle.reach_avoid.proofs.Ranks.{greatest_of, greatest_rank-le}
-use Rattle.reach_avoid.proofs.Games.{few_successors, cell_of_pair, input_of_pair, values_valued}
+use Rattle.reach_avoid.proofs.Games.{input_of_pair, values_valued}
 use Rattle.reach_avoid.proofs.Begins.{All-range}
 
 -- elements of maps and filters

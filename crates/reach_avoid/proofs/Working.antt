@@ -1,6 +1,6 @@
 -- A worker that does an item of a round.
-use Rattle.std.proofs.Common.{◌≡◌, ℕ, suc, ◌+◌, ◌%◌, ◌^◌, ◌<◌, ◌≤◌, ◌==◌, Bool, true, false, cond, List, [], ◌∷◌, ◌++◌, map, filter, length, All, sum_by, arith, refl, sym, ◌∙◌, ap, subst}
-use Rattle.std.proofs.lemmas.List.{map-append, map_push, append-nil, length_push}
+use Rattle.std.proofs.Common.{◌≡◌, ℕ, suc, ◌+◌, ◌%◌, ◌^◌, ◌<◌, ◌==◌, Bool, true, false, cond, List, [], ◌∷◌, ◌++◌, map, length, All, sum_by, arith, refl, sym, ◌∙◌, ap, subst}
+use Rattle.std.proofs.lemmas.List.{map_push, append-nil, length_push}
 use Rattle.std.proofs.lemmas.List.Elements.{All-nil, All-push}
 use Rattle.std.proofs.lemmas.List.Sums.{sum_by_push}
 use Rattle.cell_counters.specs.Tokens.{BoardModel, with_note}
@@ -13,7 +13,7 @@ use Rattle.board_crew.specs.declared.worker.Worker.{Worker}
 use Rattle.board_crew.specs.Crew.{one_if, logged_cells, IsCounted, account_of, fresh_worker, IsFresh}
 use Rattle.board_crew.specs.Laws.{claimed}
 use Rattle.reach_avoid.specs.Reckoned.{bid_of, bid_at}
-use Rattle.reach_avoid.specs.inside.Rounds.{last_cuts, cuts_for, IsWorkOf, IsWork}
+use Rattle.reach_avoid.specs.inside.Rounds.{last_cuts, cuts_for, IsWorkOf}
 use Rattle.reach_avoid.specs.inside.Workers.{IsAtWork, Cuts, HaveWorked}
 use Rattle.reach_avoid.proofs.Added.{last_cuts-append}
 

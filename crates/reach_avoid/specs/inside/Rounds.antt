@@ -1,5 +1,5 @@
 -- What stands between the rounds of a reach game, and what a round adds.
-use Rattle.std.specs.Prelude.{◌≡◌, ℕ, suc, ◌+◌, ◌-◌, ◌*◌, ◌/◌, ◌%◌, ◌<◌, ◌≤◌, ◌⊎◌, min, Bool, true, false, ◌&&◌, ◌||◌, ◌==◌, nat_lt, if◌then◌else◌, cond, List, [], ◌∷◌, ◌++◌, map, filter, length, slice_index, sum_by, count_by, Option, Some, None, All, IsPermutation}
+use Rattle.std.specs.Prelude.{◌≡◌, ℕ, suc, ◌-◌, ◌/◌, ◌%◌, ◌<◌, ◌≤◌, ◌⊎◌, min, Bool, true, false, ◌&&◌, ◌||◌, ◌==◌, nat_lt, if◌then◌else◌, List, [], ◌∷◌, map, filter, length, slice_index, sum_by, count_by, Option, Some, None, All, IsPermutation}
 use Rattle.std.specs.List.{range_with_len}
 use Rattle.cell_counters.specs.declared.account.TheConstants.{NONE}
 use Rattle.cell_counters.specs.declared.account.Cut.{Cut}

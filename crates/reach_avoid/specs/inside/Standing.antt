@@ -1,5 +1,5 @@
 -- What stands between two rounds, and in a scratch that wasn't used yet.
-use Rattle.std.specs.Prelude.{◌≡◌, ℕ, ◌<◌, ◌≤◌, List, [], length, replicate, Option, None, vec_len}
+use Rattle.std.specs.Prelude.{◌≡◌, ℕ, ◌≤◌, List, [], length, replicate, Option, None}
 use Rattle.std.specs.Vec.{vec_capacity}
 use Rattle.cell_counters.specs.Accounts.{IsLawfulLog, log_count}
 use Rattle.cell_counters.specs.Tokens.{BoardModel, new_root}

@@ -1,5 +1,5 @@
 -- A worker during a round.
-use Rattle.std.specs.Prelude.{◌≡◌, ℕ, suc, ◌+◌, ◌%◌, ◌^◌, ◌<◌, ◌≤◌, ◌==◌, cond, List, [], ◌∷◌, ◌++◌, map, length, All}
+use Rattle.std.specs.Prelude.{◌≡◌, ℕ, suc, ◌%◌, ◌^◌, ◌<◌, ◌≤◌, ◌==◌, cond, List, [], ◌∷◌, ◌++◌, map, length, All}
 use Rattle.cell_counters.specs.Tokens.{BoardModel}
 use Rattle.frontier_pool.specs.declared.member.Member.{Member}
 use Rattle.game_core.specs.Game.{Game, IsGraph}

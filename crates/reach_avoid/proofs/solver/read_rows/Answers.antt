@@ -1,11 +1,10 @@
-use Rattle.std.proofs.Common.{◌≡◌, ℕ, ◌+◌, ◌<◌, ◌≤◌, List, map, length, slice_index, get_or, set, Option, Some, None, sym, ◌∙◌, ap, subst, arith, refl, length-set, below_more, get_or-set_same, get_or-set_other}
-use Rattle.std.specs.List.{range_with_len}
+use Rattle.std.proofs.Common.{◌≡◌, ℕ, ◌+◌, ◌<◌, List, length, slice_index, set, Option, None, sym, ◌∙◌, ap, subst, arith, refl, length-set, below_more, get_or-set_same, get_or-set_other}
 use Rattle.std.proofs.lemmas.List.FromFn.{fill_by_all}
 use Rattle.cell_counters.specs.Accounts.{IsLawfulLeast}
 use Rattle.cell_counters.specs.Tokens.{RootModel}
 use Rattle.game_core.specs.declared.game.Row.{Row}
 use Rattle.game_core.specs.Solution.{row_of}
-use Rattle.reach_avoid.specs.inside.Rounds.{row_in, word_after, rows_told}
+use Rattle.reach_avoid.specs.inside.Rounds.{row_in, word_after}
 use Rattle.reach_avoid.proofs.OnBoards.{words_of_board, word_read}
 use Rattle.reach_avoid.proofs.Words.{row_told}
 use Rattle.reach_avoid.proofs.solver.read_rows.Goals as goal

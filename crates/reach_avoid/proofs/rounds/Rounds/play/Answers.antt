@@ -1,4 +1,4 @@
-use Rattle.std.proofs.Common.{◌≡◌, ℕ, ◌+◌, ◌-◌, ◌^◌, ◌<◌, ◌≤◌, ◌++◌, All, IsPermutation, length, map, reverse, refl, sym, ◌∙◌, ap, subst, arith}
+use Rattle.std.proofs.Common.{◌≡◌, ◌+◌, ◌-◌, ◌<◌, ◌++◌, All, IsPermutation, map, reverse, sym, ◌∙◌, ap, subst, arith}
 use Rattle.std.specs.List.{range_with_len}
 use Rattle.cell_counters.specs.Accounts.{all_logs, log_count, cell_at}
 use Rattle.cell_counters.specs.Tokens.{RootModel, IsLawful}
@@ -57,11 +57,12 @@ list_logged-self-requires-clause-places g c =
     let game = g.G.Graph.game c.args.g.now in
     let old = c.args.self.now in
     let members = c.do_items.new.members.items in
+    let before : c.deal.new.root.accounts ≡ old.root.accounts = ap (λ (r : RootModel). r.accounts) c.deal.ensures.root in
     let few = few_after game c.known_graph.ensures c.known_laws.ensures c.args.board.now c.requires.board c.args.workers old members c.take_in.new.root.accounts c.requires.stands
-        (subst (λ l. HaveWorked game c.args.board.now l old.tally.rounds members) c.as_slice.ensures.value c.do_items.ensures.worked)
-        (subst (λ n. IsPermutation (range_with_len 0 n) (notes_of members)) (omega (arith, c.len-items.ensures, old.list.ok.0)) c.do_items.ensures.swept)
-        (c.take_in.ensures.accounts ∙ ap (λ (r : RootModel). r.accounts ++ reverse (accounts_of members)) c.deal.ensures.root)
-        c.take_in.ensures.lawful in
+    (subst (λ l. HaveWorked game c.args.board.now l old.tally.rounds members) c.as_slice.ensures.value c.do_items.ensures.worked)
+    (subst (λ n. IsPermutation (range_with_len 0 n) (notes_of members)) (omega (arith, c.len-items.ensures, old.list.ok.0)) c.do_items.ensures.swept)
+    (c.take_in.ensures.accounts ∙ ap (λ l. l ++ reverse (accounts_of members)) before)
+    c.take_in.ensures.lawful in
     let places = c.requires.places in
     let room = c.requires.stands.room in
     (omega arith, omega arith)
@@ -91,8 +92,8 @@ returns g c =
     let before : c.deal.new.root.accounts ≡ old.root.accounts = ap (λ (r : RootModel). r.accounts) c.deal.ensures.root in
     let after : c.take_in.new.root.accounts ≡ root.accounts = ap (λ (r : RootModel). r.accounts) (sym c.list_logged-self.ensures.root) in
     let tallied : IsTalliedBy root.accounts tally =
-        subst (λ l. IsTalliedBy l tally) after
-        (c.take_in.ensures.tally (λ k d lt. (c.do_items.ensures.worked k d lt).counted) (subst (λ l. IsTalliedBy l old.tally) (sym before) c.requires.stands.tallied)) in
+    subst (λ l. IsTalliedBy l tally) after
+    (c.take_in.ensures.tally (λ k d lt. (c.do_items.ensures.worked k d lt).counted) (subst (λ l. IsTalliedBy l old.tally) (sym before) c.requires.stands.tallied)) in
     let played : Played game board c.args.workers old new = record {
       members = members;
       worked = subst (λ l. HaveWorked game board l old.tally.rounds members) c.as_slice.ensures.value c.do_items.ensures.worked;

@@ -1,6 +1,5 @@
-use Rattle.std.proofs.Common.{◌≡◌, ℕ, ◌+◌, ◌<◌, ◌≤◌, List, None, Option, length, map, replicate, refl, sym, ◌∙◌, ap, arith}
+use Rattle.std.proofs.Common.{◌≡◌, ℕ, None, length, replicate, refl, sym, ◌∙◌, ap, arith}
 use Rattle.std.proofs.lemmas.List.{length-map}
-use Rattle.game_core.specs.declared.game.Row.{Row}
 use Rattle.reach_avoid.specs.Boards.{word_at}
 use Rattle.reach_avoid.proofs.scratch.Scratch.new.Goals as goal
 
