@@ -1,15 +1,13 @@
 -- The first stand, and what the last one gives.
-use Rattle.std.proofs.Common.{inl, ◌≡◌, ℕ, ◌+◌, ◌-◌, ◌%◌, ◌^◌, ◌<◌, ◌≤◌, List, [], length, Option, arith, refl, sym, ◌∙◌, ap, subst, vec_len}
+use Rattle.std.proofs.Common.{inl, ◌≡◌, ℕ, ◌-◌, ◌<◌, ◌≤◌, List, [], length, Option, arith, refl, sym, ◌∙◌, ap, subst}
 use Rattle.std.specs.Vec.{vec_capacity}
 use Rattle.board_crew.specs.Crew.{offers_in, IsTalliedBy}
-use Rattle.cell_counters.specs.declared.account.Offer.{Offer}
-use Rattle.cell_counters.specs.declared.account.Account.{Account}
-use Rattle.cell_counters.specs.Accounts.{IsLawfulLog, log_count, cut_count}
+use Rattle.cell_counters.specs.Accounts.{IsLawfulLog, log_count}
 use Rattle.cell_counters.specs.Tokens.{BoardModel, RootModel, new_root}
 use Rattle.game_core.specs.declared.game.Row.{Row}
 use Rattle.game_core.specs.declared.tally.Tally.{Tally}
 use Rattle.game_core.specs.Fallen.{AreSettled}
-use Rattle.game_core.specs.Game.{Game, IsGame, IsGraph, pairs_of, successors_at}
+use Rattle.game_core.specs.Game.{Game, IsGame, IsGraph}
 use Rattle.game_core.specs.Keep.{IsKeepSolution}
 use Rattle.game_core.specs.Tally.{IsKeepTally}
 use Rattle.safety_game.specs.declared.outcome.Kept.{Kept}
@@ -17,7 +15,7 @@ use Rattle.safety_game.specs.declared.rounds.Rounds.{Rounds}
 use Rattle.safety_game.specs.Boards.{IsBoardOf}
 use Rattle.safety_game.specs.Reckoned.{IsReckoned}
 use Rattle.safety_game.specs.Kept.{IsKeptBy}
-use Rattle.safety_game.specs.inside.Rounds.{Laws, AreFalling, first_fallen, cells_gone, IsFull, AreFewCuts, AreRowsTold}
+use Rattle.safety_game.specs.inside.Rounds.{Laws, AreFalling, first_fallen, AreFewCuts, AreRowsTold}
 use Rattle.safety_game.specs.inside.Standing.{no_tally, StandsAt, progress}
 use Rattle.safety_game.proofs.Begins.{begins, gone_fits}
 use Rattle.safety_game.proofs.Falls.{gone_few}

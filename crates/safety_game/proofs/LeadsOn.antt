@@ -1,23 +1,22 @@
 -- A round leads on: what stood before it stands after it, one round later.
-use Rattle.std.proofs.Common.{inl, inr, ◌≡◌, ◌≢◌, ℕ, zero, suc, ◌+◌, ◌-◌, ◌*◌, ◌/◌, ◌^◌, ◌<◌, ◌≤◌, ◌==◌, ◌&&◌, not, nat_lt, Bool, true, false, cond, List, [], ◌∷◌, ◌++◌, length, get_or, All, Contains, count_by, sum_by, arith, refl, sym, ◌∙◌, ap, ap₂, subst}
+use Rattle.std.proofs.Common.{inl, inr, ◌≡◌, ℕ, suc, ◌+◌, ◌-◌, ◌/◌, ◌<◌, ◌≤◌, ◌==◌, ◌&&◌, not, nat_lt, Bool, true, false, cond, List, ◌++◌, length, get_or, All, sum_by, arith, refl, sym, ◌∙◌, ap, ap₂, subst}
 use Rattle.std.proofs.lemmas.Bool.{cases_lt, cases_Bool, lt-ltb, le-ltb}
-use Rattle.std.proofs.lemmas.List.{nil_from_length}
 use Rattle.std.proofs.lemmas.List.Elements.{All-append, All-map, All-contains, Contains-get_or}
 use Rattle.std.proofs.lemmas.List.Sums.{count_by-le-length}
-use Rattle.board_crew.specs.Crew.{one_if, cuts_in, offers_in, logged_cells}
-use Rattle.board_crew.specs.Laws.{counters_of, cut_to}
+use Rattle.board_crew.specs.Crew.{one_if, cuts_in, logged_cells}
+use Rattle.board_crew.specs.Laws.{counters_of}
 use Rattle.cell_counters.specs.declared.account.Cut.{Cut}
 use Rattle.cell_counters.specs.declared.account.Account.{Account}
 use Rattle.cell_counters.specs.Accounts.{all_answers, cut_count, all_logs}
 use Rattle.cell_counters.specs.Laws.{answered}
 use Rattle.game_core.specs.Counts.{times}
 use Rattle.game_core.specs.Fallen.{is_obstacle, has_fallen}
-use Rattle.game_core.specs.Game.{Game, IsGraph, mark_of, pair_of, pairs_of, successors_at}
+use Rattle.game_core.specs.Game.{Game, IsGraph, mark_of, pairs_of, successors_at}
 use Rattle.safety_game.specs.Boards.{pairs_at, enabled_at}
 use Rattle.safety_game.specs.inside.Rounds.{Laws, fell_before, gone_in, is_hit, hits_at, IsLawfulFor, AreFalling, firsts_in, hits_in, IsInStep, IsRound}
 use Rattle.safety_game.proofs.Counting.{times-append}
 use Rattle.safety_game.proofs.Pairs.{cell_of, pairs_below, All-pairs_at, few_enabled, successors_within, few_successors}
-use Rattle.safety_game.proofs.Falls.{fell_stays, gone_grows, gone_few, hits_grow, hits_few, falls_by_hits, hits_by_fall, obstacle_falls, obstacle_unhit}
+use Rattle.safety_game.proofs.Falls.{fell_stays, gone_few, hits_few, falls_by_hits, hits_by_fall, obstacle_falls, obstacle_unhit}
 use Rattle.safety_game.proofs.Added.{cuts_in-append, offers_in-append, logged_cells-append, cut_count-append, none_offered, round_in_step, cuts_added}
 
 answered_few : (counter v : ℕ) (accounts : List Account) → answered counter v accounts ≤ cut_count counter accounts

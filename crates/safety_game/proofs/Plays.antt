@@ -1,5 +1,5 @@
 -- What a round of workers leaves.
-use Rattle.std.proofs.Common.{◌≡◌, ℕ, zero, suc, ◌+◌, ◌-◌, ◌/◌, ◌^◌, ◌<◌, ◌≤◌, ◌==◌, min, max, List, [], ◌++◌, map, length, reverse, All, IsPermutation, arith, refl, sym, ◌∙◌, ap, subst, length-append, vec_len}
+use Rattle.std.proofs.Common.{◌≡◌, ℕ, zero, suc, ◌+◌, ◌-◌, ◌/◌, ◌<◌, ◌≤◌, ◌==◌, min, max, List, [], ◌++◌, map, length, reverse, All, IsPermutation, arith, refl, sym, ◌∙◌, ap, subst, length-append}
 use Rattle.std.specs.List.{range_with_len}
 use Rattle.std.specs.Vec.{vec_capacity}
 use Rattle.std.proofs.lemmas.List.Elements.{All-map, All-weaker}

@@ -1,7 +1,7 @@
 -- After the last round: the rows are settled, the accounts are reckoned, and the tally counts them.
-use Rattle.std.proofs.Common.{inl, inr, ◌≡◌, ◌≢◌, ℕ, zero, suc, ◌+◌, ◌-◌, ◌*◌, ◌/◌, ◌^◌, ◌<◌, ◌≤◌, ◌==◌, ◌&&◌, ◌⊎◌, not, nat_lt, Bool, true, false, List, [], ◌∷◌, map, length, get_or, All, Option, Some, None, is_some, count_by, sum_by, arith, refl, sym, ◌∙◌, ap, subst, eq-eqb}
+use Rattle.std.proofs.Common.{inl, inr, ◌≡◌, ◌≢◌, ℕ, zero, suc, ◌+◌, ◌*◌, ◌/◌, ◌^◌, ◌<◌, ◌≤◌, ◌==◌, ◌&&◌, not, nat_lt, true, false, List, [], ◌∷◌, length, get_or, Option, Some, None, is_some, count_by, sum_by, arith, refl, sym, ◌∙◌, ap, subst, eq-eqb}
 use Rattle.std.specs.List.{range_with_len}
-use Rattle.std.proofs.lemmas.Bool.{cases_lt, cases_Bool, lt-ltb, le-ltb, ltb-true, eqb-true, and_parts, and_from}
+use Rattle.std.proofs.lemmas.Bool.{cases_lt, cases_Bool, lt-ltb, ltb-true, eqb-true, and_parts, and_from}
 use Rattle.std.proofs.lemmas.List.{length-map}
 use Rattle.std.proofs.lemmas.List.Elements.{All-map}
 use Rattle.std.proofs.lemmas.List.FromFn.{length-range_with_len}
@@ -15,11 +15,11 @@ use Rattle.game_core.specs.Counts.{times}
 use Rattle.game_core.specs.declared.game.Mark.{Mark}
 use Rattle.game_core.specs.declared.game.Mark.TheVariants.{Goal, Obstacle, Plain}
 use Rattle.game_core.specs.declared.game.Row.{Row}
-use Rattle.game_core.specs.Fallen.{is_obstacle, has_fallen, IsHeldBy, IsSettled, AreSettled, LeadsToRows}
+use Rattle.game_core.specs.Fallen.{is_obstacle, has_fallen, IsSettled, AreSettled, LeadsToRows}
 use Rattle.game_core.specs.Game.{Game, IsGraph, mark_of, pair_of, pairs_of, successors_at, successors_of}
 use Rattle.game_core.specs.Solution.{row_of, HasRow}
 use Rattle.game_core.specs.Tally.{all_pairs, unkept_in, is_lost, FellBefore}
-use Rattle.safety_game.specs.Boards.{pairs_at, enabled_at}
+use Rattle.safety_game.specs.Boards.{pairs_at}
 use Rattle.safety_game.specs.Reckoned.{lost_at, IsReckonedBy}
 use Rattle.safety_game.specs.inside.Rounds.{Laws, fell_before, gone_in, is_hit, hits_at, AreFalling, IsFull, is_whole, IsRowTold, AreRowsTold}
 use Rattle.safety_game.proofs.Counting.{one_if_le, one_if_same, count_none, none_from_count, alike_from_counts, All-range, range_split, range_shift, range_rows}

@@ -1,8 +1,8 @@
 -- A worker that does an item of a round.
-use Rattle.std.proofs.Common.{◌≡◌, ℕ, suc, ◌+◌, ◌*◌, ◌/◌, ◌%◌, ◌^◌, ◌<◌, ◌≤◌, ◌==◌, Bool, true, false, cond, List, [], ◌∷◌, ◌++◌, map, length, All, sum_by, arith, refl, sym, ◌∙◌, ap, subst, append_assoc, length-append}
+use Rattle.std.proofs.Common.{◌≡◌, ℕ, ◌+◌, ◌/◌, ◌%◌, ◌^◌, ◌<◌, ◌==◌, Bool, true, false, cond, List, [], ◌∷◌, ◌++◌, length, All, sum_by, arith, refl, sym, ◌∙◌, ap, subst, append_assoc}
 use Rattle.std.proofs.lemmas.List.{append-nil, length_push}
 use Rattle.std.proofs.lemmas.List.Sums.{sum_by_push}
-use Rattle.board_crew.specs.Crew.{one_if, account_of, logged_cells, IsCounted, fresh_worker, IsFresh}
+use Rattle.board_crew.specs.Crew.{one_if, account_of, logged_cells, fresh_worker, IsFresh}
 use Rattle.board_crew.specs.declared.worker.Worker.{Worker}
 use Rattle.board_crew.specs.Laws.{SumsTell, counters_of}
 use Rattle.cell_counters.specs.declared.account.Cut.{Cut}
@@ -11,8 +11,8 @@ use Rattle.cell_counters.specs.Tokens.{BoardModel, HandModel, with_note}
 use Rattle.frontier_pool.specs.declared.member.Member.{Member}
 use Rattle.game_core.specs.Counts.{times}
 use Rattle.game_core.specs.Game.{Game, pairs_of}
-use Rattle.safety_game.specs.inside.Rounds.{cuts_for, IsInStep, IsWorkOf, IsWork}
-use Rattle.safety_game.specs.inside.Workers.{IsAtWork, HaveWorked, is_blow, Takes, Hits, HitsAfter, Cuts}
+use Rattle.safety_game.specs.inside.Rounds.{cuts_for, IsInStep, IsWorkOf}
+use Rattle.safety_game.specs.inside.Workers.{IsAtWork, HaveWorked, Takes, HitsAfter, Cuts}
 use Rattle.safety_game.proofs.Counting.{elsewhere}
 use Rattle.safety_game.proofs.InStep.{cut, times_counters, one_counter, nothing_in_step, in_step-append, quiet_in_step, blow_in_step}
 

@@ -1,10 +1,9 @@
 -- What stands between the rounds of a keep game, and what a round adds.
-use Rattle.std.specs.Prelude.{◌≡◌, ◌≢◌, ℕ, zero, suc, ◌+◌, ◌-◌, ◌/◌, ◌<◌, ◌≤◌, ◌⊎◌, Bool, true, false, not, ◌&&◌, ◌==◌, nat_lt, cond, List, [], map, filter, length, slice_index, sum_by, count_by, Option, Some, None, All, IsPermutation}
+use Rattle.std.specs.Prelude.{◌≡◌, ◌≢◌, ℕ, zero, suc, ◌+◌, ◌-◌, ◌/◌, ◌<◌, ◌≤◌, ◌⊎◌, Bool, true, false, not, ◌&&◌, ◌==◌, nat_lt, cond, List, [], filter, length, slice_index, sum_by, count_by, Option, Some, None, All, IsPermutation}
 use Rattle.std.specs.List.{range_with_len}
 use Rattle.board_crew.specs.Crew.{one_if, cuts_in, offers_in, logged_cells}
 use Rattle.board_crew.specs.Laws.{SumsTell, counters_of, cut_to, notes_in}
 use Rattle.cell_counters.specs.declared.account.Cut.{Cut}
-use Rattle.cell_counters.specs.declared.account.Offer.{Offer}
 use Rattle.cell_counters.specs.declared.account.Account.{Account}
 use Rattle.cell_counters.specs.Accounts.{IsLawfulCounter, cut_count, all_logs}
 use Rattle.cell_counters.specs.Laws.{CountsDown, NothingDone, NewAnswers, NewPlaces}

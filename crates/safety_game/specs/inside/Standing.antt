@@ -1,5 +1,5 @@
 -- What stands between two rounds, and in a scratch that wasn't used yet.
-use Rattle.std.specs.Prelude.{◌≡◌, ℕ, ◌-◌, ◌<◌, ◌≤◌, List, [], length, replicate, Option, None, vec_len}
+use Rattle.std.specs.Prelude.{◌≡◌, ℕ, ◌≤◌, List, [], replicate, Option, None}
 use Rattle.std.specs.Vec.{vec_capacity}
 use Rattle.board_crew.specs.Crew.{IsTalliedBy}
 use Rattle.cell_counters.specs.Accounts.{IsLawfulLog, log_count}

@@ -2,7 +2,6 @@
 use Rattle.std.specs.Prelude.{◌≡◌, ℕ, ◌+◌, ◌-◌, ◌%◌, ◌^◌, ◌/◌, ◌<◌, ◌==◌, Bool, true, false, not, ◌&&◌, cond, List, [], ◌∷◌, ◌++◌, length, All}
 use Rattle.board_crew.specs.Crew.{account_of, logged_cells, IsCounted}
 use Rattle.board_crew.specs.declared.worker.Worker.{Worker}
-use Rattle.cell_counters.specs.declared.account.Cut.{Cut}
 use Rattle.cell_counters.specs.Tokens.{BoardModel, with_cut}
 use Rattle.frontier_pool.specs.declared.member.Member.{Member}
 use Rattle.game_core.specs.Fallen.{is_obstacle}

@@ -1,8 +1,6 @@
-use Rattle.std.proofs.Common.{◌≡◌, ℕ, ◌++◌, List, [], length, take, drop, All, IsPermutation, sym, ◌∙◌, ap, subst, arith, take_all}
+use Rattle.std.proofs.Common.{◌≡◌, ℕ, ◌++◌, List, length, take, drop, All, IsPermutation, sym, ◌∙◌, subst, arith, take_all}
 use Rattle.std.specs.List.{range_with_len}
 use Rattle.std.proofs.lemmas.List.{take-append-le}
-use Rattle.frontier_pool.specs.declared.member.Member.{Member}
-use Rattle.board_crew.specs.declared.worker.Worker.{Worker}
 use Rattle.board_crew.specs.Crew.{IsFresh, notes_of}
 use Rattle.safety_game.specs.inside.Workers.{HaveWorked}
 use Rattle.safety_game.proofs.Working.{fresh_have_worked}

@@ -1,5 +1,3 @@
-use Rattle.std.proofs.Common.{length, arith}
-use Rattle.std.proofs.lemmas.List.{nil_from_length}
 use Rattle.safety_game.proofs.Ends.{nearer}
 use Rattle.safety_game.proofs.solver.play_all.Goals as goal
 

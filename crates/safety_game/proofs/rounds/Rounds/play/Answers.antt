@@ -1,10 +1,9 @@
-use Rattle.std.proofs.Common.{◌≡◌, ℕ, ◌+◌, ◌-◌, ◌*◌, ◌^◌, ◌<◌, ◌≤◌, ◌++◌, All, IsPermutation, length, map, reverse, refl, sym, ◌∙◌, ap, ap₂, subst, arith}
+use Rattle.std.proofs.Common.{◌≡◌, ◌+◌, ◌-◌, ◌*◌, ◌<◌, ◌++◌, All, IsPermutation, map, reverse, sym, ◌∙◌, ap, ap₂, subst, arith}
 use Rattle.std.specs.List.{range_with_len}
 use Rattle.cell_counters.specs.Accounts.{all_logs, log_count, cell_at}
 use Rattle.cell_counters.specs.Tokens.{RootModel, IsLawful}
 use Rattle.board_crew.specs.Crew.{IsTalliedBy, accounts_of, notes_of}
 use Rattle.safety_game.specs.declared.rounds.Rounds.{Rounds}
-use Rattle.game_core.specs.Game.{pairs_of}
 use Rattle.safety_game.specs.inside.Workers.{HaveWorked}
 use Rattle.safety_game.proofs.Begins.{list_fits, gone_fits}
 use Rattle.safety_game.proofs.Plays.{hands_within, Played, few_after, stands_after}

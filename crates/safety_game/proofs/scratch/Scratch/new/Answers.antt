@@ -1,5 +1,4 @@
-use Rattle.std.proofs.Common.{◌≡◌, ℕ, ◌+◌, ◌<◌, ◌≤◌, List, None, Option, length, replicate, refl, sym, ◌∙◌, ap, arith}
-use Rattle.game_core.specs.declared.game.Row.{Row}
+use Rattle.std.proofs.Common.{ℕ, None, replicate, refl, sym, ◌∙◌, ap, arith}
 use Rattle.safety_game.proofs.OnBoards.{starts_many}
 use Rattle.safety_game.proofs.scratch.Scratch.new.Goals as goal
 

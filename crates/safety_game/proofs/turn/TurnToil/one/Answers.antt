@@ -1,8 +1,8 @@
-use Rattle.std.proofs.Common.{◌≡◌, ℕ, ◌+◌, ◌/◌, ◌%◌, ◌^◌, ◌<◌, ◌∷◌, [], ◌++◌, take, length, get_or, slice_index, refl, sym, subst, arith}
+use Rattle.std.proofs.Common.{◌≡◌, ℕ, ◌+◌, ◌%◌, ◌^◌, ◌<◌, take, length, get_or, slice_index, refl, sym, subst, arith}
 use Rattle.std.proofs.lemmas.List.{take_more, take_all}
 use Rattle.std.proofs.lemmas.List.Elements.{Contains-get_or}
 use Rattle.game_core.specs.Counts.{times}
-use Rattle.game_core.specs.Game.{pairs_of, successors_at}
+use Rattle.game_core.specs.Game.{pairs_of}
 use Rattle.safety_game.specs.inside.Rounds.{cuts_for}
 use Rattle.safety_game.proofs.Pairs.{cell_below}
 use Rattle.safety_game.proofs.Working.{IsUnderWay, sets_out, goes_on, comes_back}
