@@ -4,7 +4,7 @@ use Rattle.std.specs.Fmt.{decimal}
 use Rattle.plant_text.specs.declared.fault.LimitKind.{LimitKind}
 use Rattle.plant_text.specs.declared.fault.LimitKind.TheVariants.{PlantText, TableText, Vectors, Cells, Pairs, Edges}
 use Rattle.synth_run.specs.declared.outcome.Outcome.{Outcome}
-use Rattle.synth_run.specs.declared.outcome.Outcome.TheVariants.{Done, Invalid, Usage, Malformed, Overflow, Limit, ReadFault, WriteFault, NoMemory, Unbuilt}
+use Rattle.synth_run.specs.declared.outcome.Outcome.TheVariants.{Done, Invalid, Usage, Malformed, Overflow, Limit, ReadFault, WriteFault, NoMemory}
 use Rattle.synth_run.specs.Devices.{Writing, GainsWhole, GainsPart}
 
 -- the exit status
@@ -18,7 +18,6 @@ status_of (Limit what) = 5
 status_of ReadFault = 6
 status_of WriteFault = 7
 status_of NoMemory = 8
-status_of Unbuilt = 9
 
 abbrev pub limit_words : LimitKind → List ℕ
 limit_words PlantText = codes "plant text"
@@ -39,7 +38,6 @@ line_of (Limit what) = codes "limit: " ++ limit_words what ++ codes "\n"
 line_of ReadFault = codes "read fault\n"
 line_of WriteFault = []
 line_of NoMemory = codes "no memory\n"
-line_of Unbuilt = codes "unbuilt: goal\n"
 
 -- a line was appended whole and no fault was counted, or one was, and a part of the line was appended
 abbrev pub Reports : Writing → List ℕ → Type 0
@@ -56,4 +54,3 @@ IsTheTexts (Limit what) = Unit {0}
 IsTheTexts ReadFault = ⊥
 IsTheTexts WriteFault = ⊥
 IsTheTexts NoMemory = ⊥
-IsTheTexts Unbuilt = Unit {0}
