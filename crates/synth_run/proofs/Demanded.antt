@@ -25,15 +25,12 @@ use Rattle.controller_table.specs.Laws.{OneTablePerText, OneTableRefusal, TableO
 use Rattle.table_check.specs.Verdicts.{IsFirstWithout}
 use Rattle.synth_run.specs.declared.form.Form.TheVariants.{Synth, Check, Demo}
 use Rattle.synth_run.specs.declared.outcome.Outcome.{Outcome}
-use Rattle.synth_run.specs.declared.outcome.Outcome.TheVariants.{Done, Invalid, Usage, Malformed, Overflow, Limit, ReadFault, WriteFault, NoMemory, Unbuilt}
-use Rattle.synth_run.specs.Demands.{IsRefused, IsSolvable, HasEdges, ExceedsEdges, PlantDemands, PlantTextDemands, IsFirstWrong, TableDemands, IsRefusedTable, TableTextDemands}
+use Rattle.synth_run.specs.declared.outcome.Outcome.TheVariants.{Done, Invalid, Usage, Malformed, Overflow, Limit, ReadFault, WriteFault, NoMemory}
+use Rattle.synth_run.specs.Demands.{IsRefused, IsSolvable, HasEdges, ExceedsEdges, PlantDemands, PlantTextDemands, IsRightFor, IsFirstWrong, TableDemands, IsRefusedTable, TableTextDemands}
 use Rattle.synth_run.specs.inside.Causes.{of_plant, of_table}
 use Rattle.synth_run.specs.Demo.{demo_plant_of}
 use Rattle.synth_run.specs.DemoLaws.{IsSolvableDemo}
 use Rattle.synth_run.specs.Laws.{OneDemandPerText}
-
-not_both_goals : (p : Description) → p.goal ≡ Reach → p.goal ≡ Keep → ⊥
-not_both_goals p reach keep = cc
 
 -- no earlier equation or input overflows than the first
 no_earlier : (p : Description) (i u j v : ℕ) → IsFirstOverflow p i u → IsFirstOverflow p j v → j < i → ⊥
@@ -86,21 +83,14 @@ module _ (count : OneEdgeCount) where
 
   plant_demands_one : (p : Description) (a b : Outcome) → IsPlant p → PlantDemands p a → PlantDemands p b → a ≡ b
   plant_demands_one p Done Done plant f g = refl
-  plant_demands_one p Done (Overflow i u) plant f g = absurd (fits_or_not p i u f.1.fits g.1)
+  plant_demands_one p Done (Overflow i u) plant f g = absurd (fits_or_not p i u f.1.fits g)
   plant_demands_one p Done (Limit what) plant f g = let many = (exceeding p what g).1 in absurd (few_or_many p f.0 many.0 plant f.1 many.1 f.2 many.2)
-  plant_demands_one p Done Unbuilt plant f g = absurd (not_both_goals p f.1.reach g)
-  plant_demands_one p (Overflow i u) Done plant f g = absurd (fits_or_not p i u g.1.fits f.1)
-  plant_demands_one p (Overflow i u) (Overflow j v) plant f g = same_overflow p i u j v f.1 g.1
-  plant_demands_one p (Overflow i u) (Limit what) plant f g = let many = (exceeding p what g).1 in absurd (fits_or_not p i u many.1.fits f.1)
-  plant_demands_one p (Overflow i u) Unbuilt plant f g = absurd (not_both_goals p f.0 g)
+  plant_demands_one p (Overflow i u) Done plant f g = absurd (fits_or_not p i u g.1.fits f)
+  plant_demands_one p (Overflow i u) (Overflow j v) plant f g = same_overflow p i u j v f g
+  plant_demands_one p (Overflow i u) (Limit what) plant f g = let many = (exceeding p what g).1 in absurd (fits_or_not p i u many.1.fits f)
   plant_demands_one p (Limit what) Done plant f g = let many = (exceeding p what f).1 in absurd (few_or_many p g.0 many.0 plant g.1 many.1 g.2 many.2)
-  plant_demands_one p (Limit what) (Overflow i u) plant f g = let many = (exceeding p what f).1 in absurd (fits_or_not p i u many.1.fits g.1)
+  plant_demands_one p (Limit what) (Overflow i u) plant f g = let many = (exceeding p what f).1 in absurd (fits_or_not p i u many.1.fits g)
   plant_demands_one p (Limit what) (Limit other) plant f g = ap Limit ((exceeding p what f).0 ∙ sym (exceeding p other g).0)
-  plant_demands_one p (Limit what) Unbuilt plant f g = let many = (exceeding p what f).1 in absurd (not_both_goals p many.1.reach g)
-  plant_demands_one p Unbuilt Done plant f g = absurd (not_both_goals p g.1.reach f)
-  plant_demands_one p Unbuilt (Overflow i u) plant f g = absurd (not_both_goals p g.0 f)
-  plant_demands_one p Unbuilt (Limit what) plant f g = let many = (exceeding p what g).1 in absurd (not_both_goals p many.1.reach f)
-  plant_demands_one p Unbuilt Unbuilt plant f g = refl
   plant_demands_one p (Invalid c) b plant f g = absurd f
   plant_demands_one p Usage b plant f g = absurd f
   plant_demands_one p (Malformed n) b plant f g = absurd f
@@ -125,12 +115,6 @@ module _ (count : OneEdgeCount) where
   plant_demands_one p (Limit what) ReadFault plant f g = absurd g
   plant_demands_one p (Limit what) WriteFault plant f g = absurd g
   plant_demands_one p (Limit what) NoMemory plant f g = absurd g
-  plant_demands_one p Unbuilt (Invalid c) plant f g = absurd g
-  plant_demands_one p Unbuilt Usage plant f g = absurd g
-  plant_demands_one p Unbuilt (Malformed n) plant f g = absurd g
-  plant_demands_one p Unbuilt ReadFault plant f g = absurd g
-  plant_demands_one p Unbuilt WriteFault plant f g = absurd g
-  plant_demands_one p Unbuilt NoMemory plant f g = absurd g
 
 -- nothing refuses a demo plant, so that only want of memory keeps it from its line
 pub no_refusal : (n : ℕ) → IsSolvableDemo n → (outcome : Outcome) → (outcome ≡ Done → ⊥) → ((outcome ≡ NoMemory → ⊥) → PlantDemands (demo_plant_of n) outcome) → outcome ≡ NoMemory
@@ -138,12 +122,11 @@ no_refusal n s Done failed h = absurd (failed refl)
 no_refusal n s (Invalid c) failed h = absurd (h (λ e. cc))
 no_refusal n s Usage failed h = absurd (h (λ e. cc))
 no_refusal n s (Malformed line) failed h = absurd (h (λ e. cc))
-no_refusal n s (Overflow i u) failed h = absurd (let f = h (λ e. cc) in fits_or_not (demo_plant_of n) i u s.no_overflow f.1)
+no_refusal n s (Overflow i u) failed h = absurd (fits_or_not (demo_plant_of n) i u s.no_overflow (h (λ e. cc)))
 no_refusal n s (Limit what) failed h = absurd (let many = (exceeding (demo_plant_of n) what (h (λ e. cc))).1 in s.edges many.0 many.1.counted many.2)
 no_refusal n s ReadFault failed h = absurd (h (λ e. cc))
 no_refusal n s WriteFault failed h = absurd (h (λ e. cc))
 no_refusal n s NoMemory failed h = refl
-no_refusal n s Unbuilt failed h = absurd (not_both_goals (demo_plant_of n) s.goal (h (λ e. cc)))
 
 -- a refused text, by the fault of its reader
 record IsFaulty (bytes : List ℕ) (outcome : Outcome) : Type 0 where
@@ -161,7 +144,6 @@ faulty bytes (Limit what) h = record { fault = plants.Limit what; refused = h; i
 faulty bytes ReadFault h = absurd h
 faulty bytes WriteFault h = absurd h
 faulty bytes NoMemory h = absurd h
-faulty bytes Unbuilt h = absurd h
 
 one_demand_of_plants : OnePlantPerText → OneRefusal → ReadOrRefused → OneEdgeCount → (bytes : List ℕ) (a b : Outcome) → PlantTextDemands bytes a → PlantTextDemands bytes b → a ≡ b
 one_demand_of_plants plant refusal read count bytes a b f g =
@@ -194,7 +176,6 @@ table_end p rows (Limit what) h = is_refused (λ e. cc) h
 table_end p rows ReadFault h = absurd h
 table_end p rows WriteFault h = absurd h
 table_end p rows NoMemory h = absurd h
-table_end p rows Unbuilt h = is_refused (λ e. cc) h
 
 -- a refused text, by the fault of its reader
 record IsFaultyTable (bytes : List ℕ) (outcome : Outcome) : Type 0 where
@@ -212,7 +193,6 @@ faulty_table bytes (Limit what) h = record { fault = tables.Limit what; refused 
 faulty_table bytes ReadFault h = absurd h
 faulty_table bytes WriteFault h = absurd h
 faulty_table bytes NoMemory h = absurd h
-faulty_table bytes Unbuilt h = absurd h
 
 -- the first of which a fact doesn't hold is one
 one_first : (Fact : ℕ → Type 0) (n b c : ℕ) → IsFirstWithout Fact n b → IsFirstWithout Fact n c → b ≡ c
@@ -236,24 +216,27 @@ pub record TableLaws : Type 0 where
 
 one_wrong : TableLaws → (p : Description) (rows : List (Option Row)) (b c : ℕ) → IsPlant p → IsFirstWrong p rows b → IsFirstWrong p rows c → b ≡ c
 one_wrong laws p rows b c plant f g =
-    one_first (IsRight g.game rows) g.game.cells b c (subst (λ (h : Game). IsFirstWithout (IsRight h rows) h.cells b) (laws.game p f.game g.game plant f.abstraction g.abstraction) f.wrong) g.wrong
+    one_first (IsRightFor p.goal g.game rows) g.game.cells b c
+    (subst (λ (h : Game). IsFirstWithout (IsRightFor p.goal h rows) h.cells b) (laws.game p f.game g.game plant f.abstraction g.abstraction) f.wrong)
+    g.wrong
 
-solution_of_reach : (goal : GoalKind) (g : Game) (rows : List (Option Row)) → goal ≡ Reach → Solves goal g rows → IsReachSolution g rows
-solution_of_reach goal g rows reach h = subst (λ (k : GoalKind). Solves k g rows) reach h
+-- each row of a solution is right for its goal
+each_right : TableLaws → (goal : GoalKind) (g : Game) (rows : List (Option Row)) (c : ℕ) → IsGame g → Solves goal g rows → c < g.cells → IsRightFor goal g rows c
+each_right laws Reach g rows c game solution lt = (laws.right g rows game solution).each c lt
+each_right laws Keep g rows c game solution lt = (rows, solution, refl)
 
 -- the solution has no wrong row
-no_wrong : TableLaws → (p : Description) (rows : List (Option Row)) (c : ℕ) → IsPlant p → p.goal ≡ Reach → IsSolutionOf p rows → IsFirstWrong p rows c → ⊥
-no_wrong laws p rows c plant reach solution wrong =
+no_wrong : TableLaws → (p : Description) (rows : List (Option Row)) (c : ℕ) → IsPlant p → IsSolutionOf p rows → IsFirstWrong p rows c → ⊥
+no_wrong laws p rows c plant solution wrong =
     let same : wrong.game ≡ solution.game = laws.game p wrong.game solution.game plant wrong.abstraction solution.abstraction in
-    let first : IsFirstWithout (IsRight solution.game rows) solution.game.cells c = subst (λ (h : Game). IsFirstWithout (IsRight h rows) h.cells c) same wrong.wrong in
-    let right : AreRight solution.game rows = laws.right solution.game rows solution.abstraction.game (solution_of_reach p.goal solution.game rows reach solution.solution) in
-    first.without (right.each c first.inside)
+    let first : IsFirstWithout (IsRightFor p.goal solution.game rows) solution.game.cells c = subst (λ (h : Game). IsFirstWithout (IsRightFor p.goal h rows) h.cells c) same wrong.wrong in
+    first.without (each_right laws p.goal solution.game rows c solution.abstraction.game solution.solution first.inside)
 
 one_table_end : TableLaws → (p : Description) (rows : List (Option Row)) (a b : Outcome) → IsPlant p → TableEnd p rows a → TableEnd p rows b → a ≡ b
 one_table_end laws p rows a b plant (is_valid e s h) (is_valid k t g) = e ∙ sym k
-one_table_end laws p rows a b plant (is_valid e s h) (is_invalid c k t g) = absurd (no_wrong laws p rows c plant s.1.reach h g)
+one_table_end laws p rows a b plant (is_valid e s h) (is_invalid c k t g) = absurd (no_wrong laws p rows c plant h g)
 one_table_end laws p rows a b plant (is_valid e s h) (is_refused k g) = absurd (k (sym (plant_demands_one laws.edges p Done b plant s g)))
-one_table_end laws p rows a b plant (is_invalid c e s h) (is_valid k t g) = absurd (no_wrong laws p rows c plant t.1.reach g h)
+one_table_end laws p rows a b plant (is_invalid c e s h) (is_valid k t g) = absurd (no_wrong laws p rows c plant g h)
 one_table_end laws p rows a b plant (is_invalid c e s h) (is_invalid d k t g) = e ∙ ap Invalid (one_wrong laws p rows c d plant h g) ∙ sym k
 one_table_end laws p rows a b plant (is_invalid c e s h) (is_refused k g) = absurd (k (sym (plant_demands_one laws.edges p Done b plant s g)))
 one_table_end laws p rows a b plant (is_refused e h) (is_valid k t g) = absurd (e (plant_demands_one laws.edges p a Done plant h t))

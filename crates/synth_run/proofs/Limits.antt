@@ -12,7 +12,7 @@ use Rattle.controller_table.specs.Laws.{TablesAreShort}
 use Rattle.synth_run.specs.declared.form.Form.{Form}
 use Rattle.synth_run.specs.declared.form.Form.TheVariants.{Synth, Check}
 use Rattle.synth_run.specs.declared.outcome.Outcome.{Outcome}
-use Rattle.synth_run.specs.declared.outcome.Outcome.TheVariants.{Done, Invalid, Usage, Malformed, Overflow, Limit, ReadFault, WriteFault, NoMemory, Unbuilt}
+use Rattle.synth_run.specs.declared.outcome.Outcome.TheVariants.{Done, Invalid, Usage, Malformed, Overflow, Limit, ReadFault, WriteFault, NoMemory}
 use Rattle.synth_run.specs.inside.Transfers.{ReadUpTo}
 use Rattle.synth_run.specs.Form.{most_read}
 use Rattle.synth_run.specs.Demands.{IsRefused, IsRefusedTable, Demands}
@@ -60,7 +60,6 @@ refused_of_longer bytes (Limit what) lt h = limit what h
 refused_of_longer bytes ReadFault lt h = h
 refused_of_longer bytes WriteFault lt h = h
 refused_of_longer bytes NoMemory lt h = h
-refused_of_longer bytes Unbuilt lt h = h
 
 -- ---- table texts
 
@@ -85,7 +84,6 @@ refused_table_of_longer bytes (Limit what) lt h = limit what h
 refused_table_of_longer bytes ReadFault lt h = h
 refused_table_of_longer bytes WriteFault lt h = h
 refused_table_of_longer bytes NoMemory lt h = h
-refused_table_of_longer bytes Unbuilt lt h = h
 
 -- ---- forms
 

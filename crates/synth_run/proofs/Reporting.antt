@@ -17,9 +17,9 @@ pub if_err_both : {A E : Type 0} (r : Result A E) (P Q R : E → Type 0) → ((e
 if_err_both (Ok x) P Q R both p q = tt
 if_err_both (Err e) P Q R both p q = both e p q
 
-pub on_ok_three : {A E : Type 0} (r : Result A E) (P Q R S : Type 0) → (P → Q → R → S) → OnOk r P → OnOk r Q → OnOk r R → OnOk r S
-on_ok_three (Ok x) P Q R S more p q r = more p q r
-on_ok_three (Err e) P Q R S more p q r = tt
+pub on_ok_both : {A E : Type 0} (r : Result A E) (P Q R : Type 0) → (P → Q → R) → OnOk r P → OnOk r Q → OnOk r R
+on_ok_both (Ok x) P Q R both p q = both p q
+on_ok_both (Err e) P Q R both p q = tt
 
 -- a refusal that is passed on
 pub exits : {A E : Type 0} (r : Result A E) (e : E) (P : E → Type 0) → IsErrAnd r (λ x. x ≡ e) → P e → IfErr r P

@@ -26,8 +26,6 @@ pub enum Outcome {
     ReadFault,
     WriteFault,
     NoMemory,
-    /// The plant is to be kept off its obstacles, which isn't solved yet.
-    Unbuilt,
 }
 
 impl From<PlantFault> for Outcome {
@@ -120,7 +118,6 @@ impl Outcome {
             Outcome::ReadFault => 6,
             Outcome::WriteFault => 7,
             Outcome::NoMemory => 8,
-            Outcome::Unbuilt => 9,
         }
     }
 
@@ -152,7 +149,6 @@ impl Outcome {
             Outcome::Limit { what } => write_pieces(err, &[b"limit: ", words_of(what), b"\n"]),
             Outcome::ReadFault => write_pieces(err, &[b"read fault\n"]),
             Outcome::NoMemory => write_pieces(err, &[b"no memory\n"]),
-            Outcome::Unbuilt => write_pieces(err, &[b"unbuilt: goal\n"]),
         };
     }
 }

@@ -122,7 +122,7 @@ fn outcome_of<R: Threads + Sync, S: Source, O: Sink>(
 ///
 /// 0: the answer was written. 1: a row of the table isn't right. 2: the words are of no form. 3: a line of the text is malformed. 4: a number
 /// leaves the range. 5: a limit is exceeded. 6: a read failed. 7: a write failed. 8: there was no memory
-/// left. 9: the plant has `goal keep`, which isn't solved yet.
+/// left.
 pub fn run<R: Threads + Sync, S: Source, O: Sink, E: Sink, G: Gate>(
     rt: &R,
     alloc: Global,

@@ -13,6 +13,3 @@ returns-in-Invalid g c = rw c.in-Invalid.is (reports_by c.write_pieces.result _ 
 
 pub returns-in-ReadFault : goal.returns-in-ReadFault
 returns-in-ReadFault g c = rw c.in-ReadFault.is (reports_by c.write_pieces-in-ReadFault.result _ _ _ refl c.write_pieces-in-ReadFault.ensures.whole c.write_pieces-in-ReadFault.ensures.part)
-
-pub returns-in-Unbuilt : goal.returns-in-Unbuilt
-returns-in-Unbuilt g c = rw c.in-Unbuilt.is (reports_by c.write_pieces-in-Unbuilt.result _ _ _ refl c.write_pieces-in-Unbuilt.ensures.whole c.write_pieces-in-Unbuilt.ensures.part)
