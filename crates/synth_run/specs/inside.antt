@@ -1,4 +1,6 @@
 pub mod Causes
+pub mod Spelling
+pub mod StoredStart
 pub mod Texts
 pub mod Transfers
 pub mod Working
