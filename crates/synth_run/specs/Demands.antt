@@ -1,5 +1,5 @@
 -- What a text demands: to be refused for the first reason that applies, or to be answered.
-use Rattle.std.specs.Prelude.{◌≡◌, ◌⊎◌, ℕ, ◌^◌, ◌<◌, ◌≤◌, List, Option}
+use Rattle.std.specs.Prelude.{◌≡◌, ◌⊎◌, ℕ, ◌^◌, ◌<◌, ◌≤◌, ℤ, List, Option}
 use Rattle.plant_text.specs.declared.fault.LimitKind.{LimitKind}
 use Rattle.plant_text.specs.declared.fault.LimitKind.TheVariants.{PlantText, TableText, Vectors, Cells, Pairs, Edges}
 use Rattle.plant_text.specs.declared.fault.PlantFault.TheVariants as plants
@@ -19,10 +19,11 @@ use Rattle.controller_table.specs.declared.fault.TableFault.TheVariants as table
 use Rattle.controller_table.specs.Tables.{IsTable}
 use Rattle.controller_table.specs.Refusals.{IsTableRefusedFor}
 use Rattle.table_check.specs.Verdicts.{IsFirstWithout, HasItsKeepRow}
+use Rattle.synth_run.specs.Traces.{TraceDemands}
 use Rattle.synth_run.specs.declared.form.Form.{Form}
-use Rattle.synth_run.specs.declared.form.Form.TheVariants.{Synth, Check, Demo}
+use Rattle.synth_run.specs.declared.form.Form.TheVariants.{Synth, Check, Sim, Demo}
 use Rattle.synth_run.specs.declared.outcome.Outcome.{Outcome}
-use Rattle.synth_run.specs.declared.outcome.Outcome.TheVariants.{Done, Invalid, Usage, Malformed, Overflow, Limit, ReadFault, WriteFault, NoMemory}
+use Rattle.synth_run.specs.declared.outcome.Outcome.TheVariants.{Done, Invalid, NoRow, Usage, Malformed, Overflow, Limit, ReadFault, WriteFault, NoMemory}
 
 -- ---- a plant within the limits on input vectors, cells and pairs
 
@@ -48,6 +49,7 @@ ExceedsEdges p Edges = (edges : ℕ) × HasEdges p edges × (2 ^ 25 < edges)
 abbrev pub PlantDemands : Description → Outcome → Type 0
 PlantDemands p Done = IsSolvable p
 PlantDemands p (Invalid cell) = ⊥
+PlantDemands p NoRow = ⊥
 PlantDemands p Usage = ⊥
 PlantDemands p (Malformed line) = ⊥
 PlantDemands p (Overflow equation input) = IsFirstOverflow p equation input
@@ -68,6 +70,7 @@ pub record IsAccepted (bytes : List ℕ) (p : Description) : Type 0 where
 abbrev pub IsRefused : List ℕ → Outcome → Type 0
 IsRefused bytes Done = ⊥
 IsRefused bytes (Invalid cell) = ⊥
+IsRefused bytes NoRow = ⊥
 IsRefused bytes Usage = ⊥
 IsRefused bytes (Malformed line) = IsRefusedFor bytes (plants.Malformed line)
 IsRefused bytes (Overflow equation input) = ⊥
@@ -98,6 +101,7 @@ pub record IsFirstWrong (p : Description) (rows : List (Option Row)) (cell : ℕ
 abbrev pub TableDemands : Description → List (Option Row) → Outcome → Type 0
 TableDemands p rows Done = IsSolvable p × IsSolutionOf p rows
 TableDemands p rows (Invalid cell) = IsSolvable p × IsFirstWrong p rows cell
+TableDemands p rows NoRow = ⊥
 TableDemands p rows Usage = ⊥
 TableDemands p rows (Malformed line) = ⊥
 TableDemands p rows (Overflow equation input) = PlantDemands p (Overflow equation input)
@@ -110,6 +114,7 @@ TableDemands p rows NoMemory = ⊥
 abbrev pub IsRefusedTable : List ℕ → Outcome → Type 0
 IsRefusedTable bytes Done = ⊥
 IsRefusedTable bytes (Invalid cell) = ⊥
+IsRefusedTable bytes NoRow = ⊥
 IsRefusedTable bytes Usage = ⊥
 IsRefusedTable bytes (Malformed line) = IsTableRefusedFor bytes (tables.Malformed line)
 IsRefusedTable bytes (Overflow equation input) = ⊥
@@ -118,16 +123,22 @@ IsRefusedTable bytes ReadFault = ⊥
 IsRefusedTable bytes WriteFault = ⊥
 IsRefusedTable bytes NoMemory = ⊥
 
--- A table of a plant within the limits, which demands it.
-pub record IsTableThatDemands (bytes : List ℕ) (outcome : Outcome) : Type 0 where
+-- A table of a plant within the limits, and what its plant and rows demand.
+pub record IsTableThatDemands (Demanded : Description → List (Option Row) → Type 0) (bytes : List ℕ) : Type 0 where
   pub plant : Description
   pub rows : List (Option Row)
   pub table : IsTable bytes plant rows
-  pub demands : TableDemands plant rows outcome
+  pub demands : Demanded plant rows
 
 -- a table text is refused, or it is a table, which demands it
 abbrev pub TableTextDemands : List ℕ → Outcome → Type 0
-TableTextDemands bytes outcome = IsRefusedTable bytes outcome ⊎ IsTableThatDemands bytes outcome
+TableTextDemands bytes outcome = IsRefusedTable bytes outcome ⊎ IsTableThatDemands (λ p rows. TableDemands p rows outcome) bytes
+
+-- ---- the text of a table that is to drive its plant from a start
+
+-- a table text is refused, or it is a table, which demands it for a start
+abbrev pub TraceTextDemands : List ℤ → List ℕ → Outcome → Type 0
+TraceTextDemands start bytes outcome = IsRefusedTable bytes outcome ⊎ IsTableThatDemands (λ p rows. TraceDemands p rows start outcome) bytes
 
 -- ---- the text of a form
 
@@ -135,4 +146,5 @@ TableTextDemands bytes outcome = IsRefusedTable bytes outcome ⊎ IsTableThatDem
 abbrev pub Demands : Form → List ℕ → Outcome → Type 0
 Demands (Synth workers) bytes outcome = PlantTextDemands bytes outcome
 Demands Check bytes outcome = TableTextDemands bytes outcome
+Demands (Sim samples seed start) bytes outcome = TraceTextDemands start bytes outcome
 Demands (Demo number workers) bytes outcome = outcome ≡ Done

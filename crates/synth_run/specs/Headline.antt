@@ -7,9 +7,10 @@ use Rattle.controller_table.specs.TableText.{First, table_text}
 use Rattle.controller_table.specs.Tables.{RowsFit, IsTable}
 use Rattle.plant_refine.specs.Controls.{Controls}
 use Rattle.synth_run.specs.declared.form.Form.{Form}
-use Rattle.synth_run.specs.declared.form.Form.TheVariants.{Synth, Check, Demo}
+use Rattle.synth_run.specs.declared.form.Form.TheVariants.{Synth, Check, Sim, Demo}
 use Rattle.synth_run.specs.Demo.{IsDemoLine}
 use Rattle.synth_run.specs.Demands.{IsAccepted, IsSolvable}
+use Rattle.synth_run.specs.Traces.{IsTraceFor}
 
 -- The text is the table of the solution of a plant's game.
 -- With `goal reach`: ranks are least depths of winning strategies in the abstraction, cells without a row have none,
@@ -38,9 +39,11 @@ pub record IsValid (bytes : List ℕ) : Type 0 where
   pub solution : IsSolutionOf plant rows
   pub controls : Controls plant bytes
 
--- the answer of a form for some bytes: that of `synth` is the plant's one table, whatever the number of workers, and
--- that of `check` is `valid` where the bytes are one, and that of `demo` is the line of the demo plant
+-- the answer of a form for some bytes: that of `synth` is the plant's one table, whatever the number of workers, that of
+-- `check` is `valid` where the bytes are one, that of `sim` is a trace of the table that the bytes are, and that of
+-- `demo` is the line of the demo plant
 abbrev pub IsAnswer : Form → List ℕ → List ℕ → Type 0
 IsAnswer (Synth workers) bytes text = IsTableFor bytes text
 IsAnswer Check bytes text = IsValid bytes × (text ≡ codes "valid\n")
+IsAnswer (Sim samples seed start) bytes text = IsTraceFor bytes samples seed start text
 IsAnswer (Demo number workers) bytes text = IsDemoLine number text

@@ -19,6 +19,8 @@ pub enum Outcome {
     Done,
     /// The first cell of a table whose row isn't right.
     Invalid { cell: u32 },
+    /// A trace would begin where the table has no row.
+    NoRow,
     Usage,
     Malformed { line: u32 },
     Overflow { equation: u32, input: u32 },
@@ -110,7 +112,7 @@ impl Outcome {
     {
         match self {
             Outcome::Done => 0,
-            Outcome::Invalid { .. } => 1,
+            Outcome::Invalid { .. } | Outcome::NoRow => 1,
             Outcome::Usage => 2,
             Outcome::Malformed { .. } => 3,
             Outcome::Overflow { .. } => 4,
@@ -133,6 +135,7 @@ impl Outcome {
                 let cell = first.format(cell).as_bytes();
                 write_pieces(err, &[b"invalid: cell ", cell, b"\n"])
             }
+            Outcome::NoRow => write_pieces(err, &[b"no row\n"]),
             Outcome::Usage => write_pieces(err, &[b"usage\n"]),
             Outcome::Malformed { line } => {
                 let line = first.format(line).as_bytes();
