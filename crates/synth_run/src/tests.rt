@@ -161,3 +161,32 @@ fn write_that_fails_leaves_the_front_of_the_table(rt: HostRuntime) -> Result<(),
     assert!(rt; err.got().is_empty());
     Ok(())
 }
+
+const KEPT_PLANT: &[u8] =
+    b"plant 1\nstate x 0 14 3\ninput u -3 3\nnext x = x + u\ngoal keep\nend\n";
+
+const KEPT_TABLE: &[u8] =
+    b"table 1\nplant 1\nstate x 0 14 3\ninput u -3 3\nnext x = x + u\ngoal keep\nend\nrows 5\n0 - 1\n1 - 0\n2 - 0\n3 - 0\n4 - 0\nend\n";
+
+// The least input leads to the left, and at cell 0 out of the domain.
+#[test]
+fn writes_the_table_of_a_plant_to_be_kept(rt: HostRuntime) -> Result<(), Fail> {
+    let mut out = sink(rt.alloc(), 200, &[])?;
+    let mut err = sink(rt.alloc(), 200, &[])?;
+    let words = ["synth", "1"];
+    let status = on_a_table(&rt, rt.alloc(), &words, KEPT_PLANT, &mut out, &mut err)?;
+    assert_eq!(rt; status, 0);
+    assert_eq!(rt; out.got(), KEPT_TABLE);
+    assert!(rt; err.got().is_empty());
+    Ok(())
+}
+
+#[test]
+fn table_of_kept_cells_is_valid(rt: HostRuntime) -> Result<(), Fail> {
+    let mut out = sink(rt.alloc(), 200, &[])?;
+    let mut err = sink(rt.alloc(), 200, &[])?;
+    let status = on_a_table(&rt, rt.alloc(), &["check"], KEPT_TABLE, &mut out, &mut err)?;
+    assert_eq!(rt; status, 0);
+    assert_eq!(rt; out.got(), b"valid\n".as_slice());
+    Ok(())
+}
