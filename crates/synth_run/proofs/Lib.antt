@@ -7,6 +7,8 @@ pub mod MemoryRuns
 pub mod OneTable
 pub mod Reporting
 pub mod SoFar
+pub mod Spellings
+pub mod Starts
 pub mod Tables
 pub mod Words
 pub mod Working
