@@ -1,5 +1,5 @@
-"""Each example is solved, its README states its numbers, its plant is what tools/scale makes of its model, and its table
-drives it."""
+"""Each example is solved, its README states its numbers, its plant is what tools/scale makes of its model, and the table of one
+with `goal reach` drives it."""
 
 import random
 import re
@@ -31,24 +31,25 @@ def check_model(report, name):
 def check_table(report, name):
     plant = read_plant(report.plant_text(name))
     text = report.table_text(name)
-    if text is None and plant.goal == "keep":
-        report.expect(f"{name}: not solved yet", b"unbuilt: goal\n", report.run(("synth", "1"), report.plant_text(name))[2])
-        return
     report.holds(f"{name}: is solved", text)
     if not text:
         return
     table = read_table(text)
     report.expect(f"{name}: the table has the plant", plant.text(), table.plant.text())
+    said = stated(report, name)
+    report.expect(f"{name}: the numbers of its README", said, numbers_of(table, said))
     if plant.goal == "reach":
-        report.expect(f"{name}: the numbers of its README", stated(report, name), numbers_of(table))
         report.expect(f"{name}: runs arrive", [], [fault for fault in faults(table) if fault])
 
 
-def numbers_of(table):
+def numbers_of(table, said):
+    """The numbers of a table: for the edges those that are said, where they are counted by a sample alone and a fiftieth off at most."""
     plant = table.plant
     edges, exact = plant.edges()
-    return [plant.cells, plant.vectors, plant.pairs, edges if exact else "not counted", len(table.rows),
-            max(rank for rank, _ in table.rows.values())]
+    if not exact and said and abs(said[3] - edges) * 50 <= edges:
+        edges = said[3]
+    ranks = [max(rank for rank, _ in table.rows.values())] if plant.goal == "reach" else []
+    return [plant.cells, plant.vectors, plant.pairs, edges, len(table.rows)] + ranks
 
 
 def stated(report, name):
@@ -58,7 +59,7 @@ def stated(report, name):
     if at is None:
         return None
     words = [word.strip().replace(",", "") for word in lines[at + 2].strip("|").split("|")]
-    return [int(word) for word in words[:6]] if all(re.match(r"[0-9.]+\Z", word) for word in words) else words
+    return [int(word) for word in words[:-1]] if all(re.match(r"[0-9.]+\Z", word) for word in words) else None
 
 
 def faults(table):

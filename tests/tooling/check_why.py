@@ -33,6 +33,23 @@ rows 3
 end
 """
 
+# A table by hand that keeps: from the first cell a step to the right is one that does, and a step of two cells meets the obstacle.
+KEPT = b"""table 1
+plant 1
+state x 0 14 3
+input u -3 3 6
+next x = x + u
+obstacle 6 8
+goal keep
+end
+rows 4
+0 - 1
+1 - 0
+3 - 1
+4 - 0
+end
+"""
+
 COMPLAINTS = [
     (["0", "0"], 2, "a state of this plant has 1 numbers (x), here are 2"),
     (["15"], 1, "x = 15 is outside 0 to 14"),
@@ -60,6 +77,15 @@ def check(report):
         "  wins within 3 samples"], output.splitlines())
     _, output, _ = report.tool("why", "-", "0", "--input", "2", data=HAND.replace(b"rows 3\n2 2 1\n", b"rows 2\n"))
     report.expect("why of a row less", "  stopped: it may lead to cells without a row: cell 2 (x 6 to 8)", output.splitlines()[-1])
+    _, output, _ = report.tool("why", "-", "0", data=KEPT)
+    report.expect("why of a kept cell", [
+        "cell 0 (x 0 to 2): its row: kept, apply input 1 (u = 3)",
+        "input 0 (u = -3)", "  deviation: x 1", "  successor box: x -3 to -1",
+        "  stopped: the box leaves the domain in x (-3 is below 0)",
+        "input 1 (u = 3)", "  deviation: x 1", "  successor box: x 3 to 5", "  successors: 1",
+        "  keeps: each successor is kept",
+        "input 2 (u = 6)", "  deviation: x 1", "  successor box: x 6 to 8", "  successors: 1",
+        "  stopped: it may meet an obstacle: cell 2 (x 6 to 8)"], output.splitlines())
     for words, wanted, said in COMPLAINTS:
         status, output, error = report.tool("why", "-", *words, data=HAND)
         report.expect(f"why {words}", (wanted, ""), (status, output))

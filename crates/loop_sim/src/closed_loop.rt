@@ -38,7 +38,7 @@ pub(crate) enum Stage {
 }
 
 /// The row of the cell in which a state lies.
-pub(crate) fn row_at(t: &Table, x: &Point) -> Option<Row>
+pub fn row_at(t: &Table, x: &Point) -> Option<Row>
     ensures { result ≡ row_at t.now.plant t.now.rows x.now }
 {
     let cell = t.plant().grid().cell_of(x)?;

@@ -14,6 +14,7 @@ mod noise;
 mod sim;
 mod trace_writer;
 
+pub use closed_loop::row_at;
 pub use line::SimLine;
 pub use sim::Sim;
 pub use trace_writer::TraceWriter;

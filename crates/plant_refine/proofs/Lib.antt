@@ -9,4 +9,5 @@ pub mod Arriving
 pub mod Refining
 pub mod RightTables
 pub mod KeptTables
+pub mod SolutionTables
 pub mod Noises

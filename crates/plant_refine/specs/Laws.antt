@@ -9,6 +9,8 @@ use Rattle.plant_text.specs.plant.Description.{Description}
 use Rattle.plant_text.specs.plant.Plants.{IsPlant}
 use Rattle.controller_table.specs.Tables.{IsTable}
 use Rattle.abstraction_table.specs.Abstraction.{IsGameOf}
+use Rattle.abstraction_table.specs.Solution.{IsSolutionOf}
+use Rattle.plant_refine.specs.Controls.{Controls}
 use Rattle.plant_refine.specs.Drives.{Drives}
 use Rattle.plant_refine.specs.Refinement.{IsRefinement}
 use Rattle.plant_refine.specs.Stays.{Stays}
@@ -24,3 +26,7 @@ RightTablesDrivePlants = (bytes : List ℕ) (p : Description) (g : Game) (rows :
 -- a table of the keep solution of a plant's game keeps the plant
 abbrev pub KeptTablesKeepPlants : Type 0
 KeptTablesKeepPlants = (bytes : List ℕ) (p : Description) (g : Game) (rows : List (Option Row)) → p.goal ≡ Keep → IsTable bytes p rows → IsGameOf p g → IsKeepSolution g rows → Stays p bytes
+
+-- a table of a plant's solution controls the plant, by its goal
+abbrev pub SolutionTablesControlPlants : Type 0
+SolutionTablesControlPlants = (bytes : List ℕ) (p : Description) (rows : List (Option Row)) → IsTable bytes p rows → IsSolutionOf p rows → Controls p bytes

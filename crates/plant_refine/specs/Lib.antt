@@ -1,6 +1,7 @@
 pub mod Refinement
 pub mod Drives
 pub mod Stays
+pub mod Controls
 pub mod RightRows
 pub mod Runs
 pub mod Laws

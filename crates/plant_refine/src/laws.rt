@@ -1,9 +1,11 @@
 //! What holds of every plant, its game and its table.
 
-ghost use Rattle.plant_refine.specs.Laws.{GamesRefineTheirPlants, RightTablesDrivePlants, KeptTablesKeepPlants};
+ghost use Rattle.plant_refine.specs.Laws.{GamesRefineTheirPlants, RightTablesDrivePlants, KeptTablesKeepPlants, SolutionTablesControlPlants};
 
 use controller_table::laws::one_table_per_text;
-use game_core::laws::{right_rows_are_the_solution, rows_lead_to_goals, rows_stand_at_cells};
+use game_core::laws::{
+    right_rows_are_the_solution, rows_lead_to_goals, rows_stand_at_cells, solutions_are_right,
+};
 use grid_quantiser::laws::every_state_has_a_cell;
 use plant_text::laws::plants_are_sound;
 use successor_box::laws::{enabled_pairs_have_successors, steps_lie_in_the_boxes};
@@ -38,4 +40,14 @@ pub fn kept_tables_keep_plants()
     games_refine_their_plants();
     rows_stand_at_cells();
     one_table_per_text();
+}
+
+/// A table of the solution of its plant does what the plant's goal asks for: it drives the plant into a target, or
+/// keeps it for ever.
+pub fn solution_tables_control_plants()
+    ensures { SolutionTablesControlPlants }
+{
+    solutions_are_right();
+    right_tables_drive_plants();
+    kept_tables_keep_plants();
 }

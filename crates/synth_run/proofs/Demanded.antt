@@ -1,5 +1,6 @@
 -- A text demands one thing.
-use Rattle.std.proofs.Common.{inl, inr, ◌≡◌, ℕ, ◌^◌, ◌<◌, ◌≤◌, List, Option, sym, ap, subst, ◌∙◌, refl, arith}
+use Rattle.std.proofs.Common.{inl, inr, ◌≡◌, ℕ, ◌^◌, ◌<◌, ◌≤◌, List, Option, Some, None, sym, ap, subst, ◌∙◌, refl, arith}
+use Rattle.std.specs.Prelude.{◌⊎◌, ℤ}
 use Rattle.std.proofs.lemmas.Bool.{cases_order}
 use Rattle.plant_text.specs.declared.fault.LimitKind.{LimitKind}
 use Rattle.plant_text.specs.declared.fault.LimitKind.TheVariants.{PlantText, TableText, Vectors, Cells, Pairs, Edges}
@@ -23,17 +24,15 @@ use Rattle.controller_table.specs.declared.fault.TableFault.TheVariants as table
 use Rattle.controller_table.specs.Refusals.{IsTableRefusedFor}
 use Rattle.controller_table.specs.Laws.{OneTablePerText, OneTableRefusal, TableOrRefused}
 use Rattle.table_check.specs.Verdicts.{IsFirstWithout}
-use Rattle.synth_run.specs.declared.form.Form.TheVariants.{Synth, Check, Demo}
+use Rattle.synth_run.specs.declared.form.Form.TheVariants.{Synth, Check, Sim, Demo}
 use Rattle.synth_run.specs.declared.outcome.Outcome.{Outcome}
-use Rattle.synth_run.specs.declared.outcome.Outcome.TheVariants.{Done, Invalid, Usage, Malformed, Overflow, Limit, ReadFault, WriteFault, NoMemory, Unbuilt}
-use Rattle.synth_run.specs.Demands.{IsRefused, IsSolvable, HasEdges, ExceedsEdges, PlantDemands, PlantTextDemands, IsFirstWrong, TableDemands, IsRefusedTable, TableTextDemands}
+use Rattle.synth_run.specs.declared.outcome.Outcome.TheVariants.{Done, Invalid, NoRow, Usage, Malformed, Overflow, Limit, ReadFault, WriteFault, NoMemory}
+use Rattle.synth_run.specs.Demands.{IsRefused, IsSolvable, HasEdges, ExceedsEdges, PlantDemands, PlantTextDemands, IsRightFor, IsFirstWrong, TableDemands, IsRefusedTable, IsTableThatDemands}
+use Rattle.synth_run.specs.Traces.{HasRowFor, HasNoRowFor, TraceDemands}
 use Rattle.synth_run.specs.inside.Causes.{of_plant, of_table}
 use Rattle.synth_run.specs.Demo.{demo_plant_of}
 use Rattle.synth_run.specs.DemoLaws.{IsSolvableDemo}
 use Rattle.synth_run.specs.Laws.{OneDemandPerText}
-
-not_both_goals : (p : Description) → p.goal ≡ Reach → p.goal ≡ Keep → ⊥
-not_both_goals p reach keep = cc
 
 -- no earlier equation or input overflows than the first
 no_earlier : (p : Description) (i u j v : ℕ) → IsFirstOverflow p i u → IsFirstOverflow p j v → j < i → ⊥
@@ -86,64 +85,55 @@ module _ (count : OneEdgeCount) where
 
   plant_demands_one : (p : Description) (a b : Outcome) → IsPlant p → PlantDemands p a → PlantDemands p b → a ≡ b
   plant_demands_one p Done Done plant f g = refl
-  plant_demands_one p Done (Overflow i u) plant f g = absurd (fits_or_not p i u f.1.fits g.1)
+  plant_demands_one p Done (Overflow i u) plant f g = absurd (fits_or_not p i u f.1.fits g)
   plant_demands_one p Done (Limit what) plant f g = let many = (exceeding p what g).1 in absurd (few_or_many p f.0 many.0 plant f.1 many.1 f.2 many.2)
-  plant_demands_one p Done Unbuilt plant f g = absurd (not_both_goals p f.1.reach g)
-  plant_demands_one p (Overflow i u) Done plant f g = absurd (fits_or_not p i u g.1.fits f.1)
-  plant_demands_one p (Overflow i u) (Overflow j v) plant f g = same_overflow p i u j v f.1 g.1
-  plant_demands_one p (Overflow i u) (Limit what) plant f g = let many = (exceeding p what g).1 in absurd (fits_or_not p i u many.1.fits f.1)
-  plant_demands_one p (Overflow i u) Unbuilt plant f g = absurd (not_both_goals p f.0 g)
+  plant_demands_one p (Overflow i u) Done plant f g = absurd (fits_or_not p i u g.1.fits f)
+  plant_demands_one p (Overflow i u) (Overflow j v) plant f g = same_overflow p i u j v f g
+  plant_demands_one p (Overflow i u) (Limit what) plant f g = let many = (exceeding p what g).1 in absurd (fits_or_not p i u many.1.fits f)
   plant_demands_one p (Limit what) Done plant f g = let many = (exceeding p what f).1 in absurd (few_or_many p g.0 many.0 plant g.1 many.1 g.2 many.2)
-  plant_demands_one p (Limit what) (Overflow i u) plant f g = let many = (exceeding p what f).1 in absurd (fits_or_not p i u many.1.fits g.1)
+  plant_demands_one p (Limit what) (Overflow i u) plant f g = let many = (exceeding p what f).1 in absurd (fits_or_not p i u many.1.fits g)
   plant_demands_one p (Limit what) (Limit other) plant f g = ap Limit ((exceeding p what f).0 ∙ sym (exceeding p other g).0)
-  plant_demands_one p (Limit what) Unbuilt plant f g = let many = (exceeding p what f).1 in absurd (not_both_goals p many.1.reach g)
-  plant_demands_one p Unbuilt Done plant f g = absurd (not_both_goals p g.1.reach f)
-  plant_demands_one p Unbuilt (Overflow i u) plant f g = absurd (not_both_goals p g.0 f)
-  plant_demands_one p Unbuilt (Limit what) plant f g = let many = (exceeding p what g).1 in absurd (not_both_goals p many.1.reach f)
-  plant_demands_one p Unbuilt Unbuilt plant f g = refl
   plant_demands_one p (Invalid c) b plant f g = absurd f
+  plant_demands_one p NoRow b plant f g = absurd f
   plant_demands_one p Usage b plant f g = absurd f
   plant_demands_one p (Malformed n) b plant f g = absurd f
   plant_demands_one p ReadFault b plant f g = absurd f
   plant_demands_one p WriteFault b plant f g = absurd f
   plant_demands_one p NoMemory b plant f g = absurd f
   plant_demands_one p Done (Invalid c) plant f g = absurd g
+  plant_demands_one p Done NoRow plant f g = absurd g
   plant_demands_one p Done Usage plant f g = absurd g
   plant_demands_one p Done (Malformed n) plant f g = absurd g
   plant_demands_one p Done ReadFault plant f g = absurd g
   plant_demands_one p Done WriteFault plant f g = absurd g
   plant_demands_one p Done NoMemory plant f g = absurd g
   plant_demands_one p (Overflow i u) (Invalid c) plant f g = absurd g
+  plant_demands_one p (Overflow i u) NoRow plant f g = absurd g
   plant_demands_one p (Overflow i u) Usage plant f g = absurd g
   plant_demands_one p (Overflow i u) (Malformed n) plant f g = absurd g
   plant_demands_one p (Overflow i u) ReadFault plant f g = absurd g
   plant_demands_one p (Overflow i u) WriteFault plant f g = absurd g
   plant_demands_one p (Overflow i u) NoMemory plant f g = absurd g
   plant_demands_one p (Limit what) (Invalid c) plant f g = absurd g
+  plant_demands_one p (Limit what) NoRow plant f g = absurd g
   plant_demands_one p (Limit what) Usage plant f g = absurd g
   plant_demands_one p (Limit what) (Malformed n) plant f g = absurd g
   plant_demands_one p (Limit what) ReadFault plant f g = absurd g
   plant_demands_one p (Limit what) WriteFault plant f g = absurd g
   plant_demands_one p (Limit what) NoMemory plant f g = absurd g
-  plant_demands_one p Unbuilt (Invalid c) plant f g = absurd g
-  plant_demands_one p Unbuilt Usage plant f g = absurd g
-  plant_demands_one p Unbuilt (Malformed n) plant f g = absurd g
-  plant_demands_one p Unbuilt ReadFault plant f g = absurd g
-  plant_demands_one p Unbuilt WriteFault plant f g = absurd g
-  plant_demands_one p Unbuilt NoMemory plant f g = absurd g
 
 -- nothing refuses a demo plant, so that only want of memory keeps it from its line
 pub no_refusal : (n : ℕ) → IsSolvableDemo n → (outcome : Outcome) → (outcome ≡ Done → ⊥) → ((outcome ≡ NoMemory → ⊥) → PlantDemands (demo_plant_of n) outcome) → outcome ≡ NoMemory
 no_refusal n s Done failed h = absurd (failed refl)
 no_refusal n s (Invalid c) failed h = absurd (h (λ e. cc))
+no_refusal n s NoRow failed h = absurd (h (λ e. cc))
 no_refusal n s Usage failed h = absurd (h (λ e. cc))
 no_refusal n s (Malformed line) failed h = absurd (h (λ e. cc))
-no_refusal n s (Overflow i u) failed h = absurd (let f = h (λ e. cc) in fits_or_not (demo_plant_of n) i u s.no_overflow f.1)
+no_refusal n s (Overflow i u) failed h = absurd (fits_or_not (demo_plant_of n) i u s.no_overflow (h (λ e. cc)))
 no_refusal n s (Limit what) failed h = absurd (let many = (exceeding (demo_plant_of n) what (h (λ e. cc))).1 in s.edges many.0 many.1.counted many.2)
 no_refusal n s ReadFault failed h = absurd (h (λ e. cc))
 no_refusal n s WriteFault failed h = absurd (h (λ e. cc))
 no_refusal n s NoMemory failed h = refl
-no_refusal n s Unbuilt failed h = absurd (not_both_goals (demo_plant_of n) s.goal (h (λ e. cc)))
 
 -- a refused text, by the fault of its reader
 record IsFaulty (bytes : List ℕ) (outcome : Outcome) : Type 0 where
@@ -154,6 +144,7 @@ record IsFaulty (bytes : List ℕ) (outcome : Outcome) : Type 0 where
 faulty : (bytes : List ℕ) (outcome : Outcome) → IsRefused bytes outcome → IsFaulty bytes outcome
 faulty bytes Done h = absurd h
 faulty bytes (Invalid c) h = absurd h
+faulty bytes NoRow h = absurd h
 faulty bytes Usage h = absurd h
 faulty bytes (Malformed line) h = record { fault = plants.Malformed line; refused = h; is = refl }
 faulty bytes (Overflow i u) h = absurd h
@@ -161,7 +152,6 @@ faulty bytes (Limit what) h = record { fault = plants.Limit what; refused = h; i
 faulty bytes ReadFault h = absurd h
 faulty bytes WriteFault h = absurd h
 faulty bytes NoMemory h = absurd h
-faulty bytes Unbuilt h = absurd h
 
 one_demand_of_plants : OnePlantPerText → OneRefusal → ReadOrRefused → OneEdgeCount → (bytes : List ℕ) (a b : Outcome) → PlantTextDemands bytes a → PlantTextDemands bytes b → a ≡ b
 one_demand_of_plants plant refusal read count bytes a b f g =
@@ -187,6 +177,7 @@ data TableEnd (p : Description) (rows : List (Option Row)) (outcome : Outcome) :
 table_end : (p : Description) (rows : List (Option Row)) (outcome : Outcome) → TableDemands p rows outcome → TableEnd p rows outcome
 table_end p rows Done h = is_valid refl h.0 h.1
 table_end p rows (Invalid cell) h = is_invalid cell refl h.0 h.1
+table_end p rows NoRow h = absurd h
 table_end p rows Usage h = absurd h
 table_end p rows (Malformed line) h = absurd h
 table_end p rows (Overflow i u) h = is_refused (λ e. cc) h
@@ -194,7 +185,6 @@ table_end p rows (Limit what) h = is_refused (λ e. cc) h
 table_end p rows ReadFault h = absurd h
 table_end p rows WriteFault h = absurd h
 table_end p rows NoMemory h = absurd h
-table_end p rows Unbuilt h = is_refused (λ e. cc) h
 
 -- a refused text, by the fault of its reader
 record IsFaultyTable (bytes : List ℕ) (outcome : Outcome) : Type 0 where
@@ -205,6 +195,7 @@ record IsFaultyTable (bytes : List ℕ) (outcome : Outcome) : Type 0 where
 faulty_table : (bytes : List ℕ) (outcome : Outcome) → IsRefusedTable bytes outcome → IsFaultyTable bytes outcome
 faulty_table bytes Done h = absurd h
 faulty_table bytes (Invalid c) h = absurd h
+faulty_table bytes NoRow h = absurd h
 faulty_table bytes Usage h = absurd h
 faulty_table bytes (Malformed line) h = record { fault = tables.Malformed line; refused = h; is = refl }
 faulty_table bytes (Overflow i u) h = absurd h
@@ -212,7 +203,6 @@ faulty_table bytes (Limit what) h = record { fault = tables.Limit what; refused 
 faulty_table bytes ReadFault h = absurd h
 faulty_table bytes WriteFault h = absurd h
 faulty_table bytes NoMemory h = absurd h
-faulty_table bytes Unbuilt h = absurd h
 
 -- the first of which a fact doesn't hold is one
 one_first : (Fact : ℕ → Type 0) (n b c : ℕ) → IsFirstWithout Fact n b → IsFirstWithout Fact n c → b ≡ c
@@ -236,32 +226,38 @@ pub record TableLaws : Type 0 where
 
 one_wrong : TableLaws → (p : Description) (rows : List (Option Row)) (b c : ℕ) → IsPlant p → IsFirstWrong p rows b → IsFirstWrong p rows c → b ≡ c
 one_wrong laws p rows b c plant f g =
-    one_first (IsRight g.game rows) g.game.cells b c (subst (λ (h : Game). IsFirstWithout (IsRight h rows) h.cells b) (laws.game p f.game g.game plant f.abstraction g.abstraction) f.wrong) g.wrong
+    one_first (IsRightFor p.goal g.game rows) g.game.cells b c
+    (subst (λ (h : Game). IsFirstWithout (IsRightFor p.goal h rows) h.cells b) (laws.game p f.game g.game plant f.abstraction g.abstraction) f.wrong)
+    g.wrong
 
-solution_of_reach : (goal : GoalKind) (g : Game) (rows : List (Option Row)) → goal ≡ Reach → Solves goal g rows → IsReachSolution g rows
-solution_of_reach goal g rows reach h = subst (λ (k : GoalKind). Solves k g rows) reach h
+-- each row of a solution is right for its goal
+each_right : TableLaws → (goal : GoalKind) (g : Game) (rows : List (Option Row)) (c : ℕ) → IsGame g → Solves goal g rows → c < g.cells → IsRightFor goal g rows c
+each_right laws Reach g rows c game solution lt = (laws.right g rows game solution).each c lt
+each_right laws Keep g rows c game solution lt = (rows, solution, refl)
 
 -- the solution has no wrong row
-no_wrong : TableLaws → (p : Description) (rows : List (Option Row)) (c : ℕ) → IsPlant p → p.goal ≡ Reach → IsSolutionOf p rows → IsFirstWrong p rows c → ⊥
-no_wrong laws p rows c plant reach solution wrong =
+no_wrong : TableLaws → (p : Description) (rows : List (Option Row)) (c : ℕ) → IsPlant p → IsSolutionOf p rows → IsFirstWrong p rows c → ⊥
+no_wrong laws p rows c plant solution wrong =
     let same : wrong.game ≡ solution.game = laws.game p wrong.game solution.game plant wrong.abstraction solution.abstraction in
-    let first : IsFirstWithout (IsRight solution.game rows) solution.game.cells c = subst (λ (h : Game). IsFirstWithout (IsRight h rows) h.cells c) same wrong.wrong in
-    let right : AreRight solution.game rows = laws.right solution.game rows solution.abstraction.game (solution_of_reach p.goal solution.game rows reach solution.solution) in
-    first.without (right.each c first.inside)
+    let first : IsFirstWithout (IsRightFor p.goal solution.game rows) solution.game.cells c = subst (λ (h : Game). IsFirstWithout (IsRightFor p.goal h rows) h.cells c) same wrong.wrong in
+    first.without (each_right laws p.goal solution.game rows c solution.abstraction.game solution.solution first.inside)
 
 one_table_end : TableLaws → (p : Description) (rows : List (Option Row)) (a b : Outcome) → IsPlant p → TableEnd p rows a → TableEnd p rows b → a ≡ b
 one_table_end laws p rows a b plant (is_valid e s h) (is_valid k t g) = e ∙ sym k
-one_table_end laws p rows a b plant (is_valid e s h) (is_invalid c k t g) = absurd (no_wrong laws p rows c plant s.1.reach h g)
+one_table_end laws p rows a b plant (is_valid e s h) (is_invalid c k t g) = absurd (no_wrong laws p rows c plant h g)
 one_table_end laws p rows a b plant (is_valid e s h) (is_refused k g) = absurd (k (sym (plant_demands_one laws.edges p Done b plant s g)))
-one_table_end laws p rows a b plant (is_invalid c e s h) (is_valid k t g) = absurd (no_wrong laws p rows c plant t.1.reach g h)
+one_table_end laws p rows a b plant (is_invalid c e s h) (is_valid k t g) = absurd (no_wrong laws p rows c plant g h)
 one_table_end laws p rows a b plant (is_invalid c e s h) (is_invalid d k t g) = e ∙ ap Invalid (one_wrong laws p rows c d plant h g) ∙ sym k
 one_table_end laws p rows a b plant (is_invalid c e s h) (is_refused k g) = absurd (k (sym (plant_demands_one laws.edges p Done b plant s g)))
 one_table_end laws p rows a b plant (is_refused e h) (is_valid k t g) = absurd (e (plant_demands_one laws.edges p a Done plant h t))
 one_table_end laws p rows a b plant (is_refused e h) (is_invalid d k t g) = absurd (e (plant_demands_one laws.edges p a Done plant h t))
 one_table_end laws p rows a b plant (is_refused e h) (is_refused k g) = plant_demands_one laws.edges p a b plant h g
 
-one_demand_of_tables : TableLaws → (bytes : List ℕ) (a b : Outcome) → TableTextDemands bytes a → TableTextDemands bytes b → a ≡ b
-one_demand_of_tables laws bytes a b f g =
+-- tables demand one thing where their plants and rows do
+one_demand_of_tables : TableLaws → (Demanded : Description → List (Option Row) → Outcome → Type 0)
+    → ((p : Description) (rows : List (Option Row)) (a b : Outcome) → IsPlant p → Demanded p rows a → Demanded p rows b → a ≡ b)
+    → (bytes : List ℕ) (a b : Outcome) → IsRefusedTable bytes a ⊎ IsTableThatDemands (λ p rows. Demanded p rows a) bytes → IsRefusedTable bytes b ⊎ IsTableThatDemands (λ p rows. Demanded p rows b) bytes → a ≡ b
+one_demand_of_tables laws Demanded one bytes a b f g =
     elim f [
       | inl refused ↦ elim g [
         | inl other ↦ (let x = faulty_table bytes a refused in let y = faulty_table bytes b other in x.is ∙ ap of_table (laws.refusal bytes x.fault y.fault x.refused y.refused) ∙ sym y.is)
@@ -269,13 +265,56 @@ one_demand_of_tables laws bytes a b f g =
       ]
       | inr table ↦ elim g [
         | inl other ↦ (let y = faulty_table bytes b other in absurd (laws.read bytes table.plant table.rows y.fault table.table y.refused))
-        | inr also ↦ (let same = laws.table bytes table.plant also.plant table.rows also.rows table.table also.table in one_table_end laws also.plant also.rows a b also.table.limits.plant
-            (table_end also.plant also.rows a (subst (λ (q : Description). TableDemands q also.rows a) same.0 (subst (λ (r : List (Option Row)). TableDemands table.plant r a) same.1 table.demands)))
-            (table_end also.plant also.rows b also.demands))
+        | inr also ↦ (let same = laws.table bytes table.plant also.plant table.rows also.rows table.table also.table in one also.plant also.rows a b also.table.limits.plant
+            (subst (λ (q : Description). Demanded q also.rows a) same.0 (subst (λ (r : List (Option Row)). Demanded table.plant r a) same.1 table.demands))
+            also.demands)
       ]
     ]
 
+-- ---- traces
+
+-- what a table demands for a start: a trace, or that there is no row for it, or what refuses its plant
+data TraceEnd (p : Description) (rows : List (Option Row)) (start : List ℤ) (outcome : Outcome) : Type 0 where
+  is_driven : outcome ≡ Done → HasNoOverflow p → HasRowFor p rows start → TraceEnd p rows start outcome
+  has_no_row : outcome ≡ NoRow → HasNoOverflow p → HasNoRowFor p rows start → TraceEnd p rows start outcome
+  overflows : (i u : ℕ) → outcome ≡ Overflow i u → IsFirstOverflow p i u → TraceEnd p rows start outcome
+
+trace_end : (p : Description) (rows : List (Option Row)) (start : List ℤ) (outcome : Outcome) → TraceDemands p rows start outcome → TraceEnd p rows start outcome
+trace_end p rows start Done h = is_driven refl h.0 h.1
+trace_end p rows start (Invalid cell) h = absurd h
+trace_end p rows start NoRow h = has_no_row refl h.0 h.1
+trace_end p rows start Usage h = absurd h
+trace_end p rows start (Malformed line) h = absurd h
+trace_end p rows start (Overflow i u) h = overflows i u refl h
+trace_end p rows start (Limit what) h = absurd h
+trace_end p rows start ReadFault h = absurd h
+trace_end p rows start WriteFault h = absurd h
+trace_end p rows start NoMemory h = absurd h
+
+row_or_none : (p : Description) (rows : List (Option Row)) (start : List ℤ) → HasRowFor p rows start → HasNoRowFor p rows start → ⊥
+row_or_none p rows start row none =
+    elim none [
+      | inl others ↦ others row.one_each
+      | inr past ↦ (let clash : Some row.row ≡ None = sym row.has ∙ past in cc)
+    ]
+
+one_trace_end : (p : Description) (rows : List (Option Row)) (start : List ℤ) (a b : Outcome) → TraceEnd p rows start a → TraceEnd p rows start b → a ≡ b
+one_trace_end p rows start a b (is_driven e fits row) (is_driven k others also) = e ∙ sym k
+one_trace_end p rows start a b (is_driven e fits row) (has_no_row k others none) = absurd (row_or_none p rows start row none)
+one_trace_end p rows start a b (is_driven e fits row) (overflows i u k first) = absurd (fits_or_not p i u fits first)
+one_trace_end p rows start a b (has_no_row e fits none) (is_driven k others row) = absurd (row_or_none p rows start row none)
+one_trace_end p rows start a b (has_no_row e fits none) (has_no_row k others also) = e ∙ sym k
+one_trace_end p rows start a b (has_no_row e fits none) (overflows i u k first) = absurd (fits_or_not p i u fits first)
+one_trace_end p rows start a b (overflows i u e first) (is_driven k fits row) = absurd (fits_or_not p i u fits first)
+one_trace_end p rows start a b (overflows i u e first) (has_no_row k fits none) = absurd (fits_or_not p i u fits first)
+one_trace_end p rows start a b (overflows i u e first) (overflows j v k other) = e ∙ same_overflow p i u j v first other ∙ sym k
+
+-- ---- forms
+
 pub one_demand : OnePlantPerText → OneRefusal → ReadOrRefused → TableLaws → OneDemandPerText
 one_demand plant refusal read laws (Synth workers) bytes a b f g = one_demand_of_plants plant refusal read laws.edges bytes a b f g
-one_demand plant refusal read laws Check bytes a b f g = one_demand_of_tables laws bytes a b f g
+one_demand plant refusal read laws Check bytes a b f g =
+    one_demand_of_tables laws TableDemands (λ p rows c d well h k. one_table_end laws p rows c d well (table_end p rows c h) (table_end p rows d k)) bytes a b f g
+one_demand plant refusal read laws (Sim samples seed start) bytes a b f g =
+    one_demand_of_tables laws (λ p rows outcome. TraceDemands p rows start outcome) (λ p rows c d well h k. one_trace_end p rows start c d (trace_end p rows start c h) (trace_end p rows start d k)) bytes a b f g
 one_demand plant refusal read laws (Demo n workers) bytes a b f g = f ∙ sym g

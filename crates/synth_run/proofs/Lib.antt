@@ -6,7 +6,10 @@ pub mod Limits
 pub mod MemoryRuns
 pub mod OneTable
 pub mod Reporting
+pub mod Simulations
 pub mod SoFar
+pub mod Spellings
+pub mod Starts
 pub mod Tables
 pub mod Words
 pub mod Working

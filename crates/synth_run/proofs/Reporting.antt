@@ -1,6 +1,6 @@
 -- What is reported, and clauses on one side of an answer.
 use Rattle.std.proofs.Common.{inl, inr, ◌≡◌, ℕ, List, Result, Ok, Err, sym, subst}
-use Rattle.std.specs.Prelude.{IfOk, IfErr, OnOk, OnErr}
+use Rattle.std.specs.Prelude.{Option, Some, None, IfNone, IfOk, IfErr, OnOk, OnErr}
 use Rattle.std.specs.Result.{IsErrAnd}
 use Rattle.synth_run.specs.Devices.{Writing, GainsWhole, GainsPart}
 use Rattle.synth_run.specs.Statuses.{Reports}
@@ -17,9 +17,13 @@ pub if_err_both : {A E : Type 0} (r : Result A E) (P Q R : E → Type 0) → ((e
 if_err_both (Ok x) P Q R both p q = tt
 if_err_both (Err e) P Q R both p q = both e p q
 
-pub on_ok_three : {A E : Type 0} (r : Result A E) (P Q R S : Type 0) → (P → Q → R → S) → OnOk r P → OnOk r Q → OnOk r R → OnOk r S
-on_ok_three (Ok x) P Q R S more p q r = more p q r
-on_ok_three (Err e) P Q R S more p q r = tt
+pub where_none : {A : Type 0} (r : Option A) (P : Type 0) → P → IfNone r P
+where_none (Some x) P h = tt
+where_none None P h = h
+
+pub on_ok_both : {A E : Type 0} (r : Result A E) (P Q R : Type 0) → (P → Q → R) → OnOk r P → OnOk r Q → OnOk r R
+on_ok_both (Ok x) P Q R both p q = both p q
+on_ok_both (Err e) P Q R both p q = tt
 
 -- a refusal that is passed on
 pub exits : {A E : Type 0} (r : Result A E) (e : E) (P : E → Type 0) → IsErrAnd r (λ x. x ≡ e) → P e → IfErr r P

@@ -1,8 +1,9 @@
 -- What a text demands: to be refused for the first reason that applies, or to be answered.
-use Rattle.std.specs.Prelude.{◌≡◌, ◌⊎◌, ℕ, ◌^◌, ◌<◌, ◌≤◌, List, Option}
+use Rattle.std.specs.Prelude.{◌≡◌, ◌⊎◌, ℕ, ◌^◌, ◌<◌, ◌≤◌, ℤ, List, Option}
 use Rattle.plant_text.specs.declared.fault.LimitKind.{LimitKind}
 use Rattle.plant_text.specs.declared.fault.LimitKind.TheVariants.{PlantText, TableText, Vectors, Cells, Pairs, Edges}
 use Rattle.plant_text.specs.declared.fault.PlantFault.TheVariants as plants
+use Rattle.plant_text.specs.declared.plant.aims.GoalKind.{GoalKind}
 use Rattle.plant_text.specs.declared.plant.aims.GoalKind.TheVariants.{Reach, Keep}
 use Rattle.plant_text.specs.plant.Description.{Description}
 use Rattle.plant_text.specs.plant.Limits.{IsWithinLimits}
@@ -17,21 +18,21 @@ use Rattle.abstraction_table.specs.Solution.{IsSolutionOf}
 use Rattle.controller_table.specs.declared.fault.TableFault.TheVariants as tables
 use Rattle.controller_table.specs.Tables.{IsTable}
 use Rattle.controller_table.specs.Refusals.{IsTableRefusedFor}
-use Rattle.table_check.specs.Verdicts.{IsFirstWithout}
+use Rattle.table_check.specs.Verdicts.{IsFirstWithout, HasItsKeepRow}
+use Rattle.synth_run.specs.Traces.{TraceDemands}
 use Rattle.synth_run.specs.declared.form.Form.{Form}
-use Rattle.synth_run.specs.declared.form.Form.TheVariants.{Synth, Check, Demo}
+use Rattle.synth_run.specs.declared.form.Form.TheVariants.{Synth, Check, Sim, Demo}
 use Rattle.synth_run.specs.declared.outcome.Outcome.{Outcome}
-use Rattle.synth_run.specs.declared.outcome.Outcome.TheVariants.{Done, Invalid, Usage, Malformed, Overflow, Limit, ReadFault, WriteFault, NoMemory, Unbuilt}
+use Rattle.synth_run.specs.declared.outcome.Outcome.TheVariants.{Done, Invalid, NoRow, Usage, Malformed, Overflow, Limit, ReadFault, WriteFault, NoMemory}
 
 -- ---- a plant within the limits on input vectors, cells and pairs
 
--- A plant with `goal reach` whose numbers stay in the range, and whose game has so many edges.
+-- A plant whose numbers stay in the range, and whose game has so many edges.
 pub record HasEdges (p : Description) (edges : ℕ) : Type 0 where
-  pub reach : p.goal ≡ Reach
   pub fits : HasNoOverflow p
   pub counted : AreEdges p edges
 
--- A plant that nothing refuses: with `goal reach`, numbers that stay in the range, and no more edges than the limit.
+-- A plant that nothing refuses: its numbers stay in the range, and it has no more edges than the limit.
 abbrev pub IsSolvable : Description → Type 0
 IsSolvable p = (edges : ℕ) × HasEdges p edges × (edges ≤ 2 ^ 25)
 
@@ -48,14 +49,14 @@ ExceedsEdges p Edges = (edges : ℕ) × HasEdges p edges × (2 ^ 25 < edges)
 abbrev pub PlantDemands : Description → Outcome → Type 0
 PlantDemands p Done = IsSolvable p
 PlantDemands p (Invalid cell) = ⊥
+PlantDemands p NoRow = ⊥
 PlantDemands p Usage = ⊥
 PlantDemands p (Malformed line) = ⊥
-PlantDemands p (Overflow equation input) = (p.goal ≡ Reach) × IsFirstOverflow p equation input
+PlantDemands p (Overflow equation input) = IsFirstOverflow p equation input
 PlantDemands p (Limit what) = ExceedsEdges p what
 PlantDemands p ReadFault = ⊥
 PlantDemands p WriteFault = ⊥
 PlantDemands p NoMemory = ⊥
-PlantDemands p Unbuilt = p.goal ≡ Keep
 
 -- ---- the text of a plant
 
@@ -69,6 +70,7 @@ pub record IsAccepted (bytes : List ℕ) (p : Description) : Type 0 where
 abbrev pub IsRefused : List ℕ → Outcome → Type 0
 IsRefused bytes Done = ⊥
 IsRefused bytes (Invalid cell) = ⊥
+IsRefused bytes NoRow = ⊥
 IsRefused bytes Usage = ⊥
 IsRefused bytes (Malformed line) = IsRefusedFor bytes (plants.Malformed line)
 IsRefused bytes (Overflow equation input) = ⊥
@@ -76,7 +78,6 @@ IsRefused bytes (Limit what) = IsRefusedFor bytes (plants.Limit what)
 IsRefused bytes ReadFault = ⊥
 IsRefused bytes WriteFault = ⊥
 IsRefused bytes NoMemory = ⊥
-IsRefused bytes Unbuilt = ⊥
 
 -- a plant text is refused, or it spells a plant, which demands it
 abbrev pub PlantTextDemands : List ℕ → Outcome → Type 0
@@ -84,16 +85,23 @@ PlantTextDemands bytes outcome = IsRefused bytes outcome ⊎ ((p : Description) 
 
 -- ---- the text of a table
 
+-- a cell's row is right for a goal: to reach a target, beside the rows of its successors; to be kept, as that of the
+-- keep solution
+abbrev pub IsRightFor : GoalKind → Game → List (Option Row) → ℕ → Type 0
+IsRightFor Reach g rows c = IsRight g rows c
+IsRightFor Keep g rows c = HasItsKeepRow g rows c
+
 -- The cell is the least whose row isn't right in the plant's game.
 pub record IsFirstWrong (p : Description) (rows : List (Option Row)) (cell : ℕ) : Type 0 where
   pub game : Game
   pub abstraction : IsGameOf p game
-  pub wrong : IsFirstWithout (IsRight game rows) game.cells cell
+  pub wrong : IsFirstWithout (IsRightFor p.goal game rows) game.cells cell
 
 -- what a plant within the limits demands with rows: to be refused, or that the rows are told to be its solution or not
 abbrev pub TableDemands : Description → List (Option Row) → Outcome → Type 0
 TableDemands p rows Done = IsSolvable p × IsSolutionOf p rows
 TableDemands p rows (Invalid cell) = IsSolvable p × IsFirstWrong p rows cell
+TableDemands p rows NoRow = ⊥
 TableDemands p rows Usage = ⊥
 TableDemands p rows (Malformed line) = ⊥
 TableDemands p rows (Overflow equation input) = PlantDemands p (Overflow equation input)
@@ -101,12 +109,12 @@ TableDemands p rows (Limit what) = PlantDemands p (Limit what)
 TableDemands p rows ReadFault = ⊥
 TableDemands p rows WriteFault = ⊥
 TableDemands p rows NoMemory = ⊥
-TableDemands p rows Unbuilt = PlantDemands p Unbuilt
 
 -- the grammar of tables or a limit refuses the bytes
 abbrev pub IsRefusedTable : List ℕ → Outcome → Type 0
 IsRefusedTable bytes Done = ⊥
 IsRefusedTable bytes (Invalid cell) = ⊥
+IsRefusedTable bytes NoRow = ⊥
 IsRefusedTable bytes Usage = ⊥
 IsRefusedTable bytes (Malformed line) = IsTableRefusedFor bytes (tables.Malformed line)
 IsRefusedTable bytes (Overflow equation input) = ⊥
@@ -114,18 +122,23 @@ IsRefusedTable bytes (Limit what) = IsTableRefusedFor bytes (tables.Limit what)
 IsRefusedTable bytes ReadFault = ⊥
 IsRefusedTable bytes WriteFault = ⊥
 IsRefusedTable bytes NoMemory = ⊥
-IsRefusedTable bytes Unbuilt = ⊥
 
--- A table of a plant within the limits, which demands it.
-pub record IsTableThatDemands (bytes : List ℕ) (outcome : Outcome) : Type 0 where
+-- A table of a plant within the limits, and what its plant and rows demand.
+pub record IsTableThatDemands (Demanded : Description → List (Option Row) → Type 0) (bytes : List ℕ) : Type 0 where
   pub plant : Description
   pub rows : List (Option Row)
   pub table : IsTable bytes plant rows
-  pub demands : TableDemands plant rows outcome
+  pub demands : Demanded plant rows
 
 -- a table text is refused, or it is a table, which demands it
 abbrev pub TableTextDemands : List ℕ → Outcome → Type 0
-TableTextDemands bytes outcome = IsRefusedTable bytes outcome ⊎ IsTableThatDemands bytes outcome
+TableTextDemands bytes outcome = IsRefusedTable bytes outcome ⊎ IsTableThatDemands (λ p rows. TableDemands p rows outcome) bytes
+
+-- ---- the text of a table that is to drive its plant from a start
+
+-- a table text is refused, or it is a table, which demands it for a start
+abbrev pub TraceTextDemands : List ℤ → List ℕ → Outcome → Type 0
+TraceTextDemands start bytes outcome = IsRefusedTable bytes outcome ⊎ IsTableThatDemands (λ p rows. TraceDemands p rows start outcome) bytes
 
 -- ---- the text of a form
 
@@ -133,4 +146,5 @@ TableTextDemands bytes outcome = IsRefusedTable bytes outcome ⊎ IsTableThatDem
 abbrev pub Demands : Form → List ℕ → Outcome → Type 0
 Demands (Synth workers) bytes outcome = PlantTextDemands bytes outcome
 Demands Check bytes outcome = TableTextDemands bytes outcome
+Demands (Sim samples seed start) bytes outcome = TraceTextDemands start bytes outcome
 Demands (Demo number workers) bytes outcome = outcome ≡ Done

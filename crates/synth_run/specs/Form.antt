@@ -1,14 +1,24 @@
 -- The forms of the command line. Each word is a case of `Form`, and a case of each definition here.
-use Rattle.std.specs.Prelude.{◌≡◌, ℕ, ◌+◌, ◌≤◌, List, [], ◌∷◌, Option, Some, codes}
-use Rattle.std.specs.Fmt.{decimal}
+use Rattle.std.specs.Prelude.{◌≡◌, ℕ, ◌+◌, ◌^◌, ◌<◌, ◌≤◌, ℤ, List, [], ◌∷◌, length, map, Option, Some, codes}
+use Rattle.std.specs.List.{All}
+use Rattle.std.specs.Fmt.{decimal, signed_decimal}
+use Rattle.plant_text.specs.words.Numbers.{IsLiteral}
 use Rattle.synth_run.specs.declared.form.Form.{Form}
-use Rattle.synth_run.specs.declared.form.Form.TheVariants.{Synth, Check, Demo}
+use Rattle.synth_run.specs.declared.form.Form.TheVariants.{Synth, Check, Sim, Demo}
 use Rattle.synth_run.specs.Demo.{IsDemoNumber}
+
+-- The numbers of a state, as they are given for any plant: one to six of at most 18 digits.
+pub record AreStateNumbers (numbers : List ℤ) : Type 0 where
+  pub some : 1 ≤ length numbers
+  pub most : length numbers ≤ 6
+  pub each : All IsLiteral numbers
 
 -- the words are of a form; so far one worker is all there is
 abbrev pub IsOfForm : List (List ℕ) → Form → Type 0
 IsOfForm words (Synth workers) = (words ≡ codes "synth" ∷ decimal workers ∷ []) × (1 ≤ workers) × (workers ≤ 1)
 IsOfForm words Check = words ≡ codes "check" ∷ []
+IsOfForm words (Sim samples seed start) =
+    (words ≡ codes "sim" ∷ decimal samples ∷ decimal seed ∷ map signed_decimal start) × (samples ≤ 1000000) × (seed < 2 ^ 64) × AreStateNumbers start
 IsOfForm words (Demo number workers) = (words ≡ codes "demo" ∷ decimal number ∷ decimal workers ∷ []) × IsDemoNumber number × (1 ≤ workers) × (workers ≤ 1)
 
 -- the words are of no form
@@ -19,10 +29,12 @@ AreOfNoForm words = (form : Form) → IsOfForm words form → ⊥
 abbrev pub given : Form → Option (List ℕ) → Option (List ℕ)
 given (Synth workers) told = told
 given Check told = told
+given (Sim samples seed start) told = told
 given (Demo number workers) told = Some []
 
 -- how many bytes a form reads at most: one past the limit of its text, or none
 abbrev pub most_read : Form → ℕ
 most_read (Synth workers) = 65536 + 1
 most_read Check = 67108864 + 1
+most_read (Sim samples seed start) = 67108864 + 1
 most_read (Demo number workers) = 0

@@ -1,46 +1,49 @@
 -- What status 0 means: the text that was written is the answer of the form for the bytes on the source.
 use Rattle.std.specs.Prelude.{◌≡◌, ℕ, List, Option, codes}
 use Rattle.game_core.specs.declared.game.Row.{Row}
-use Rattle.plant_text.specs.declared.plant.aims.GoalKind.TheVariants.{Reach}
 use Rattle.plant_text.specs.plant.Description.{Description}
 use Rattle.abstraction_table.specs.Solution.{IsSolutionOf}
 use Rattle.controller_table.specs.TableText.{First, table_text}
 use Rattle.controller_table.specs.Tables.{RowsFit, IsTable}
-use Rattle.plant_refine.specs.Drives.{Drives}
+use Rattle.plant_refine.specs.Controls.{Controls}
 use Rattle.synth_run.specs.declared.form.Form.{Form}
-use Rattle.synth_run.specs.declared.form.Form.TheVariants.{Synth, Check, Demo}
+use Rattle.synth_run.specs.declared.form.Form.TheVariants.{Synth, Check, Sim, Demo}
 use Rattle.synth_run.specs.Demo.{IsDemoLine}
 use Rattle.synth_run.specs.Demands.{IsAccepted, IsSolvable}
+use Rattle.synth_run.specs.Traces.{IsTraceFor}
 
--- The text is the table of the solution of a plant's game: ranks are least depths of winning strategies in
--- the abstraction, cells without a row have none, and from every state of a ranked cell, under all
--- disturbances in range, the table read back brings the plant into the target within rank samples, meeting
--- no obstacle at any sample.
+-- The text is the table of the solution of a plant's game.
+-- With `goal reach`: ranks are least depths of winning strategies in the abstraction, cells without a row have none,
+-- and from every state of a ranked cell, under all disturbances in range, the table read back brings the plant into the
+-- target within rank samples, meeting no obstacle at any sample.
+-- With `goal keep`: a cell has a row exactly where it is kept; from every state of a cell with a row, under all
+-- disturbances in range and for every length of run, the table read back keeps the plant in the domain, off every obstacle.
 pub record IsTableOf (p : Description) (text : List ℕ) : Type 0 where
-  pub reach : p.goal ≡ Reach
   pub rows : List (Option Row)
   pub solution : IsSolutionOf p rows
   pub fitting : RowsFit p rows
   pub text_is : text ≡ table_text First p rows
-  pub drives : Drives p text
+  pub controls : Controls p text
 
 -- the bytes spell a plant that nothing refuses, and the text is its table
 abbrev pub IsTableFor : List ℕ → List ℕ → Type 0
 IsTableFor bytes text = (p : Description) × IsAccepted bytes p × IsSolvable p × IsTableOf p text
 
 -- The bytes are the table, in any version, of the solution of the plant that they hold, and nothing refuses this
--- plant: so the table drives it.
+-- plant: so the table controls it, by the plant's goal.
 pub record IsValid (bytes : List ℕ) : Type 0 where
   pub plant : Description
   pub rows : List (Option Row)
   pub table : IsTable bytes plant rows
   pub solvable : IsSolvable plant
   pub solution : IsSolutionOf plant rows
-  pub drives : Drives plant bytes
+  pub controls : Controls plant bytes
 
--- the answer of a form for some bytes: that of `synth` is the plant's one table, whatever the number of workers, and
--- that of `check` is `valid` where the bytes are one, and that of `demo` is the line of the demo plant
+-- the answer of a form for some bytes: that of `synth` is the plant's one table, whatever the number of workers, that of
+-- `check` is `valid` where the bytes are one, that of `sim` is a trace of the table that the bytes are, and that of
+-- `demo` is the line of the demo plant
 abbrev pub IsAnswer : Form → List ℕ → List ℕ → Type 0
 IsAnswer (Synth workers) bytes text = IsTableFor bytes text
 IsAnswer Check bytes text = IsValid bytes × (text ≡ codes "valid\n")
+IsAnswer (Sim samples seed start) bytes text = IsTraceFor bytes samples seed start text
 IsAnswer (Demo number workers) bytes text = IsDemoLine number text

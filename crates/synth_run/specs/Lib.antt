@@ -1,6 +1,7 @@
 pub mod Devices
 pub mod Memory
 pub mod Form
+pub mod Traces
 pub mod Demands
 pub mod Headline
 pub mod Statuses

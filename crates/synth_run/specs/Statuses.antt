@@ -4,13 +4,14 @@ use Rattle.std.specs.Fmt.{decimal}
 use Rattle.plant_text.specs.declared.fault.LimitKind.{LimitKind}
 use Rattle.plant_text.specs.declared.fault.LimitKind.TheVariants.{PlantText, TableText, Vectors, Cells, Pairs, Edges}
 use Rattle.synth_run.specs.declared.outcome.Outcome.{Outcome}
-use Rattle.synth_run.specs.declared.outcome.Outcome.TheVariants.{Done, Invalid, Usage, Malformed, Overflow, Limit, ReadFault, WriteFault, NoMemory, Unbuilt}
+use Rattle.synth_run.specs.declared.outcome.Outcome.TheVariants.{Done, Invalid, NoRow, Usage, Malformed, Overflow, Limit, ReadFault, WriteFault, NoMemory}
 use Rattle.synth_run.specs.Devices.{Writing, GainsWhole, GainsPart}
 
 -- the exit status
 abbrev pub status_of : Outcome → ℕ
 status_of Done = 0
 status_of (Invalid cell) = 1
+status_of NoRow = 1
 status_of Usage = 2
 status_of (Malformed line) = 3
 status_of (Overflow equation input) = 4
@@ -18,7 +19,6 @@ status_of (Limit what) = 5
 status_of ReadFault = 6
 status_of WriteFault = 7
 status_of NoMemory = 8
-status_of Unbuilt = 9
 
 abbrev pub limit_words : LimitKind → List ℕ
 limit_words PlantText = codes "plant text"
@@ -32,6 +32,7 @@ limit_words Edges = codes "edges"
 abbrev pub line_of : Outcome → List ℕ
 line_of Done = []
 line_of (Invalid cell) = codes "invalid: cell " ++ decimal cell ++ codes "\n"
+line_of NoRow = codes "no row\n"
 line_of Usage = codes "usage\n"
 line_of (Malformed line) = codes "malformed: line " ++ decimal line ++ codes "\n"
 line_of (Overflow equation input) = codes "overflow: equation " ++ decimal equation ++ codes " input " ++ decimal input ++ codes "\n"
@@ -39,7 +40,6 @@ line_of (Limit what) = codes "limit: " ++ limit_words what ++ codes "\n"
 line_of ReadFault = codes "read fault\n"
 line_of WriteFault = []
 line_of NoMemory = codes "no memory\n"
-line_of Unbuilt = codes "unbuilt: goal\n"
 
 -- a line was appended whole and no fault was counted, or one was, and a part of the line was appended
 abbrev pub Reports : Writing → List ℕ → Type 0
@@ -49,6 +49,7 @@ Reports sink line = GainsWhole sink line ⊎ GainsPart sink line
 abbrev pub IsTheTexts : Outcome → Type 0
 IsTheTexts Done = Unit {0}
 IsTheTexts (Invalid cell) = Unit {0}
+IsTheTexts NoRow = Unit {0}
 IsTheTexts Usage = ⊥
 IsTheTexts (Malformed line) = Unit {0}
 IsTheTexts (Overflow equation input) = Unit {0}
@@ -56,4 +57,3 @@ IsTheTexts (Limit what) = Unit {0}
 IsTheTexts ReadFault = ⊥
 IsTheTexts WriteFault = ⊥
 IsTheTexts NoMemory = ⊥
-IsTheTexts Unbuilt = Unit {0}

@@ -1,4 +1,7 @@
 pub mod Causes
+pub mod Judging
+pub mod Spelling
+pub mod StoredStart
 pub mod Texts
 pub mod Transfers
 pub mod Working

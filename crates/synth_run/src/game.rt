@@ -1,8 +1,7 @@
 // The game of a plant, or what the plant demands in its place.
 
-ghost use Rattle.std.specs.Prelude.{◌≡◌, ◌≢◌, IfOk, IfErr};
+ghost use Rattle.std.specs.Prelude.{◌≢◌, IfOk, IfErr};
 ghost use Rattle.game_core.specs.Game.{IsGraph};
-ghost use Rattle.plant_text.specs.declared.plant.aims.GoalKind.TheVariants.{Reach};
 ghost use Rattle.abstraction_table.specs.Abstraction.{IsGameOf};
 ghost use Rattle.abstraction_table.specs.Table.{game_of};
 ghost use Rattle.synth_run.specs.declared.outcome.Outcome.TheVariants.{Done, NoMemory};
@@ -12,34 +11,17 @@ use crate::outcome::Outcome;
 use abstraction_table::laws::games_count_their_edges;
 use abstraction_table::{Abstraction, build};
 use game_core::Graph;
-use plant_text::{GoalKind, Plant};
+use plant_text::Plant;
 use std::alloc::Global;
 use std::thread::Threads;
 use successor_box::find_slopes;
 
-/// The game of a plant that is to reach a target.
+/// The game of a plant.
 pub fn game_of<R: Threads + Sync>(
     rt: &R,
     alloc: Global,
     plant: &Plant,
 ) -> Result<Abstraction, Outcome>
-    ensures game { IfOk result (λ game. IsGameOf plant.now (game_of game)) }
-    ensures solvable { IfOk result (λ _. IsSolvable plant.now) }
-    ensures demanded { IfErr result (λ outcome. outcome ≢ NoMemory → PlantDemands plant.now outcome) }
-    ensures failed { IfErr result (λ outcome. outcome ≢ Done) }
-{
-    match plant.goal() {
-        GoalKind::Keep => Err(Outcome::Unbuilt),
-        GoalKind::Reach => reach_game_of(rt, alloc, plant),
-    }
-}
-
-fn reach_game_of<R: Threads + Sync>(
-    rt: &R,
-    alloc: Global,
-    plant: &Plant,
-) -> Result<Abstraction, Outcome>
-    requires { plant.now.goal ≡ Reach }
     ensures game { IfOk result (λ game. IsGameOf plant.now (game_of game)) }
     ensures solvable { IfOk result (λ _. IsSolvable plant.now) }
     ensures demanded { IfErr result (λ outcome. outcome ≢ NoMemory → PlantDemands plant.now outcome) }

@@ -2,9 +2,9 @@
 //!
 //! `run` goes from the words and bytes that it is given to the bytes that it writes: its clauses say
 //! what each status means, that status 0 of `synth` means the plant's table, that of `check` that the
-//! bytes are such a table, and that of `demo` the demo plant's line. Stands on `plant_text`,
-//! `abstraction_table`, `game_core`, `controller_table`, `table_check`, `plant_refine` and the crates
-//! below.
+//! bytes are such a table, that of `sim` a trace of the table, and that of `demo` the demo plant's line.
+//! Stands on `plant_text`, `abstraction_table`, `game_core`, `controller_table`, `table_check`,
+//! `loop_sim`, `plant_refine` and the crates below.
 #![tactic(auto)]
 
 mod checking;
@@ -16,7 +16,9 @@ mod gate;
 pub mod laws;
 mod memory;
 mod outcome;
+mod simulating;
 mod solving;
+mod start;
 mod text;
 mod top;
 mod transfer;

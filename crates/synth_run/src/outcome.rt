@@ -19,6 +19,8 @@ pub enum Outcome {
     Done,
     /// The first cell of a table whose row isn't right.
     Invalid { cell: u32 },
+    /// A trace would begin where the table has no row.
+    NoRow,
     Usage,
     Malformed { line: u32 },
     Overflow { equation: u32, input: u32 },
@@ -26,8 +28,6 @@ pub enum Outcome {
     ReadFault,
     WriteFault,
     NoMemory,
-    /// The plant is to be kept off its obstacles, which isn't solved yet.
-    Unbuilt,
 }
 
 impl From<PlantFault> for Outcome {
@@ -112,7 +112,7 @@ impl Outcome {
     {
         match self {
             Outcome::Done => 0,
-            Outcome::Invalid { .. } => 1,
+            Outcome::Invalid { .. } | Outcome::NoRow => 1,
             Outcome::Usage => 2,
             Outcome::Malformed { .. } => 3,
             Outcome::Overflow { .. } => 4,
@@ -120,7 +120,6 @@ impl Outcome {
             Outcome::ReadFault => 6,
             Outcome::WriteFault => 7,
             Outcome::NoMemory => 8,
-            Outcome::Unbuilt => 9,
         }
     }
 
@@ -136,6 +135,7 @@ impl Outcome {
                 let cell = first.format(cell).as_bytes();
                 write_pieces(err, &[b"invalid: cell ", cell, b"\n"])
             }
+            Outcome::NoRow => write_pieces(err, &[b"no row\n"]),
             Outcome::Usage => write_pieces(err, &[b"usage\n"]),
             Outcome::Malformed { line } => {
                 let line = first.format(line).as_bytes();
@@ -152,7 +152,6 @@ impl Outcome {
             Outcome::Limit { what } => write_pieces(err, &[b"limit: ", words_of(what), b"\n"]),
             Outcome::ReadFault => write_pieces(err, &[b"read fault\n"]),
             Outcome::NoMemory => write_pieces(err, &[b"no memory\n"]),
-            Outcome::Unbuilt => write_pieces(err, &[b"unbuilt: goal\n"]),
         };
     }
 }

@@ -53,24 +53,25 @@ fn writes_the_table_of_the_plant(rt: HostRuntime) -> Result<(), Fail> {
     Ok(())
 }
 
-// `check` on a table in memory.
-fn check_in_memory<R: Threads + Sync>(
+// A word with its own words on a table in memory.
+fn on_a_table<R: Threads + Sync>(
     rt: &R,
     alloc: Global,
-    bytes: &[u8],
+    words: &[&str],
+    table: &[u8],
     out: &mut MemorySink,
     err: &mut MemorySink,
 ) -> Result<u8, Fail> {
-    let bytes = Vec::from_slice(alloc, bytes)?;
+    let bytes = Vec::from_slice(alloc, table)?;
     let mut source = MemorySource::new(bytes, Vec::new(alloc));
-    Ok(run(rt, alloc, &["check"], &mut source, out, err, &Open))
+    Ok(run(rt, alloc, words, &mut source, out, err, &Open))
 }
 
 #[test]
 fn table_of_the_solution_is_valid(rt: HostRuntime) -> Result<(), Fail> {
     let mut out = sink(rt.alloc(), 200, &[])?;
     let mut err = sink(rt.alloc(), 200, &[])?;
-    let status = check_in_memory(&rt, rt.alloc(), TABLE, &mut out, &mut err)?;
+    let status = on_a_table(&rt, rt.alloc(), &["check"], TABLE, &mut out, &mut err)?;
     assert_eq!(rt; status, 0);
     assert_eq!(rt; out.got(), b"valid\n".as_slice());
     assert!(rt; err.got().is_empty());
@@ -82,9 +83,10 @@ fn table_of_the_solution_is_valid(rt: HostRuntime) -> Result<(), Fail> {
 fn table_without_its_last_line_is_malformed(rt: HostRuntime) -> Result<(), Fail> {
     let mut out = sink(rt.alloc(), 200, &[])?;
     let mut err = sink(rt.alloc(), 200, &[])?;
-    let status = check_in_memory(
+    let status = on_a_table(
         &rt,
         rt.alloc(),
+        &["check"],
         &TABLE[..TABLE.len() - 4],
         &mut out,
         &mut err,
@@ -92,6 +94,33 @@ fn table_without_its_last_line_is_malformed(rt: HostRuntime) -> Result<(), Fail>
     assert_eq!(rt; status, 3);
     assert!(rt; out.got().is_empty());
     assert_eq!(rt; err.got(), b"malformed: line 15\n".as_slice());
+    Ok(())
+}
+
+// From place 1 the row of cell 0 applies input 1, which is 3, and so on to the places 12 to 14.
+#[test]
+fn table_drives_its_plant_from_a_start(rt: HostRuntime) -> Result<(), Fail> {
+    let mut out = sink(rt.alloc(), 7, &[])?;
+    let mut err = sink(rt.alloc(), 7, &[])?;
+    let words = ["sim", "10", "0", "1"];
+    let status = on_a_table(&rt, rt.alloc(), &words, TABLE, &mut out, &mut err)?;
+    assert_eq!(rt; status, 0);
+    let trace = b"trace 1\n0 1 4 1\n1 4 3 1\n2 7 2 1\n3 10 1 1\n4 13 0 -\narrived 4\n";
+    assert_eq!(rt; out.got(), trace.as_slice());
+    assert!(rt; err.got().is_empty());
+    Ok(())
+}
+
+// One state is given two numbers.
+#[test]
+fn start_of_another_plant_has_no_row(rt: HostRuntime) -> Result<(), Fail> {
+    let mut out = sink(rt.alloc(), 200, &[])?;
+    let mut err = sink(rt.alloc(), 200, &[])?;
+    let words = ["sim", "10", "0", "1", "0"];
+    let status = on_a_table(&rt, rt.alloc(), &words, TABLE, &mut out, &mut err)?;
+    assert_eq!(rt; status, 1);
+    assert!(rt; out.got().is_empty());
+    assert_eq!(rt; err.got(), b"no row\n".as_slice());
     Ok(())
 }
 
@@ -130,5 +159,34 @@ fn write_that_fails_leaves_the_front_of_the_table(rt: HostRuntime) -> Result<(),
     assert_eq!(rt; status, 7);
     assert_eq!(rt; out.got(), &TABLE[..39]);
     assert!(rt; err.got().is_empty());
+    Ok(())
+}
+
+const KEPT_PLANT: &[u8] =
+    b"plant 1\nstate x 0 14 3\ninput u -3 3\nnext x = x + u\ngoal keep\nend\n";
+
+const KEPT_TABLE: &[u8] =
+    b"table 1\nplant 1\nstate x 0 14 3\ninput u -3 3\nnext x = x + u\ngoal keep\nend\nrows 5\n0 - 1\n1 - 0\n2 - 0\n3 - 0\n4 - 0\nend\n";
+
+// The least input leads to the left, and at cell 0 out of the domain.
+#[test]
+fn writes_the_table_of_a_plant_to_be_kept(rt: HostRuntime) -> Result<(), Fail> {
+    let mut out = sink(rt.alloc(), 200, &[])?;
+    let mut err = sink(rt.alloc(), 200, &[])?;
+    let words = ["synth", "1"];
+    let status = on_a_table(&rt, rt.alloc(), &words, KEPT_PLANT, &mut out, &mut err)?;
+    assert_eq!(rt; status, 0);
+    assert_eq!(rt; out.got(), KEPT_TABLE);
+    assert!(rt; err.got().is_empty());
+    Ok(())
+}
+
+#[test]
+fn table_of_kept_cells_is_valid(rt: HostRuntime) -> Result<(), Fail> {
+    let mut out = sink(rt.alloc(), 200, &[])?;
+    let mut err = sink(rt.alloc(), 200, &[])?;
+    let status = on_a_table(&rt, rt.alloc(), &["check"], KEPT_TABLE, &mut out, &mut err)?;
+    assert_eq!(rt; status, 0);
+    assert_eq!(rt; out.got(), b"valid\n".as_slice());
     Ok(())
 }

@@ -8,9 +8,11 @@ ghost use Rattle.synth_run.specs.inside.Texts.{bytes_of, CanBeWritten};
 ghost use Rattle.synth_run.specs.inside.Transfers.{StopsBy};
 
 use crate::devices::{Failed, Sink};
+use crate::simulating::Simulation;
 use crate::solving::Solved;
 use crate::transfer::{WriteFault, write_whole};
 use controller_table::TableWriter;
+use loop_sim::TraceWriter;
 use std::alloc::{AllocError, Global};
 
 /// How many bytes are written at once.
@@ -21,6 +23,7 @@ const PIECE: usize = 32_768;
 pub enum Text {
     Table(Solved),
     Line(&'static [u8]),
+    Trace(Simulation),
     Summary(Vec<u8>),
 }
 
@@ -34,6 +37,7 @@ impl Text {
         match self {
             Text::Table(solved) => write_table(alloc, solved, out),
             Text::Line(bytes) => Ok(write_whole(out, bytes)?),
+            Text::Trace(simulation) => write_buffered(alloc, out, &mut simulation.writer()),
             Text::Summary(text) => Ok(write_whole(out, text)?),
         }
     }
@@ -45,8 +49,20 @@ fn write_table<O: Sink>(alloc: Global, solved: &Solved, out: &mut O) -> Result<(
     ensures stopped { IfErr result (λ fault. StopsBy fault (writing O.got O.faults O.room out.old out.new) (table_text First solved.now.plant solved.now.answer)) }
 {
     let mut writer = TableWriter::new(alloc, &solved.plant, &solved.answer)?;
+    write_buffered(alloc, out, &mut writer)
+}
+
+/// Writes all that is left of a text, through one buffer.
+fn write_buffered<O: Sink, T: Pieces>(
+    alloc: Global,
+    out: &mut O,
+    text: &mut T,
+) -> Result<(), WriteFault>
+    ensures whole { OnOk result (GainsWhole (writing O.got O.faults O.room out.old out.new) (T.left text.old)) }
+    ensures stopped { IfErr result (λ fault. StopsBy fault (writing O.got O.faults O.room out.old out.new) (T.left text.old)) }
+{
     let mut buffer = zeros(alloc, PIECE)?;
-    write_through(out, &mut writer, &mut buffer)?;
+    write_through(out, text, &mut buffer)?;
     Ok(())
 }
 
@@ -74,6 +90,14 @@ impl Pieces for TableWriter<'_> {
 
     fn next_piece(&mut self, buf: &mut [u8]) -> usize {
         TableWriter::next_piece(self, buf)
+    }
+}
+
+impl Pieces for TraceWriter<'_> {
+    ghost left = { λ w. w };
+
+    fn next_piece(&mut self, buf: &mut [u8]) -> usize {
+        TraceWriter::next_piece(self, buf)
     }
 }
 

@@ -1,4 +1,4 @@
-ghost use Rattle.std.specs.Prelude.{◌≡◌, ℕ, List, map, IfSome, IfOk, IfErr};
+ghost use Rattle.std.specs.Prelude.{◌≡◌, ℕ, ◌≤◌, List, map, IfSome, IfOk, IfErr};
 ghost use Rattle.synth_run.specs.Devices.{Rose, reading, writing};
 ghost use Rattle.synth_run.specs.Form.{IsOfForm, given};
 ghost use Rattle.synth_run.specs.Runs.{Gives, IsRun, IsRunOf, IsAnswered, IsCompleteAnswer};
@@ -15,7 +15,9 @@ use crate::form::{Form, form_of};
 use crate::gate::Gate;
 use crate::laws::one_demand_per_text;
 use crate::outcome::Outcome;
+use crate::simulating::simulate_text;
 use crate::solving::solve_text;
+use crate::start::Start;
 use crate::text::Text;
 use crate::transfer::{WriteFault, read_up_to};
 use controller_table::TABLE_LIMIT;
@@ -52,6 +54,24 @@ fn check<R: Threads + Sync, S: Source>(
     Ok(Text::Line(b"valid\n"))
 }
 
+/// The trace of the table on the source.
+fn sim<S: Source>(
+    alloc: Global,
+    source: &mut S,
+    samples: u32,
+    seed: u64,
+    start: &Start,
+) -> Result<Text, Outcome>
+    requires { samples ≤ 1000000 }
+    ensures answer { IfOk result (λ text. IsWorkedOut (Form.Sim samples seed start.now) text (reading S.left S.faults S.is_sound source.old source.new)) }
+    ensures refusal { IfErr result (λ outcome. IsTurnedDown (Form.Sim samples seed start.now) outcome (reading S.left S.faults S.is_sound source.old source.new)) }
+{
+    tables_are_short();
+    let table = read_up_to(alloc, source, TABLE_LIMIT + 1)?;
+    let simulation = simulate_text(alloc, &table, samples, seed, start)?;
+    Ok(Text::Trace(simulation))
+}
+
 /// The line of a demo plant.
 fn demo<R: Threads + Sync>(rt: &R, alloc: Global, number: u32) -> Result<Text, Outcome>
     requires { IsDemoNumber number }
@@ -76,6 +96,11 @@ fn answer_of<R: Threads + Sync, S: Source>(
     match form {
         Form::Synth { .. } => synth(rt, alloc, source),
         Form::Check => check(rt, alloc, source),
+        Form::Sim {
+            samples,
+            seed,
+            start,
+        } => sim(alloc, source, samples, seed, &start),
         Form::Demo { number, .. } => demo(rt, alloc, number),
     }
 }
@@ -120,9 +145,9 @@ fn outcome_of<R: Threads + Sync, S: Source, O: Sink>(
 
 /// The top call: does what the words ask for, and answers the exit status.
 ///
-/// 0: the answer was written. 1: a row of the table isn't right. 2: the words are of no form. 3: a line of the text is malformed. 4: a number
-/// leaves the range. 5: a limit is exceeded. 6: a read failed. 7: a write failed. 8: there was no memory
-/// left. 9: the plant has `goal keep`, which isn't solved yet.
+/// 0: the answer was written. 1: a row of the table isn't right, or there is none where a trace would begin. 2: the words are of no form.
+/// 3: a line of the text is malformed. 4: a number leaves the range. 5: a limit is exceeded. 6: a read failed. 7: a write failed. 8: there
+/// was no memory left.
 pub fn run<R: Threads + Sync, S: Source, O: Sink, E: Sink, G: Gate>(
     rt: &R,
     alloc: Global,

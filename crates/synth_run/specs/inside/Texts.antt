@@ -1,17 +1,37 @@
 -- The bytes of what a form writes.
-use Rattle.std.specs.Prelude.{ℕ, List}
+use Rattle.std.specs.Prelude.{◌≡◌, ℕ, ◌≤◌, List, Some}
+use Rattle.game_core.specs.declared.game.Row.{Row}
+use Rattle.successor_box.specs.Deviations.{HasNoOverflow, deviations_of}
 use Rattle.controller_table.specs.TableText.{First, table_text}
 use Rattle.controller_table.specs.Tables.{RowsFit}
+use Rattle.loop_sim.specs.Trace.{row_at}
+use Rattle.loop_sim.specs.TraceText.{trace_text}
+use Rattle.synth_run.specs.declared.simulating.Simulation.{Simulation}
 use Rattle.synth_run.specs.declared.text.Text.{Text}
-use Rattle.synth_run.specs.declared.text.Text.TheVariants.{Table, Line, Summary}
+use Rattle.synth_run.specs.declared.text.Text.TheVariants.{Table, Line, Trace, Summary}
+
+-- the trace of a simulation
+abbrev pub trace_of : Simulation → List ℕ
+trace_of s = trace_text s.table.plant s.table.rows s.start s.seed s.samples
+
+-- A simulation that is ready to be written: its slopes are those of its plant, which has no overflow, and there is a
+-- row where it begins.
+pub record IsReady (s : Simulation) : Type 0 where
+  pub slopes : s.slopes ≡ deviations_of s.table.plant
+  pub fits : HasNoOverflow s.table.plant
+  pub samples : s.samples ≤ 1000000
+  pub row : Row
+  pub begins : row_at s.table.plant s.table.rows s.start ≡ Some row
 
 abbrev pub bytes_of : Text → List ℕ
 bytes_of (Table solved) = table_text First solved.plant solved.answer
 bytes_of (Line bytes) = bytes.now
+bytes_of (Trace simulation) = trace_of simulation
 bytes_of (Summary text) = text.items
 
 -- a table's rows fit its plant
 abbrev pub CanBeWritten : Text → Type 0
 CanBeWritten (Table solved) = RowsFit solved.plant solved.answer
 CanBeWritten (Line bytes) = Unit {0}
+CanBeWritten (Trace simulation) = IsReady simulation
 CanBeWritten (Summary text) = Unit {0}

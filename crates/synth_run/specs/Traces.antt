@@ -1,0 +1,45 @@
+-- What a table demands of a start, and what is written of the plant that it drives from there.
+use Rattle.std.specs.Prelude.{◌≡◌, ◌≢◌, ◌⊎◌, ℕ, ℤ, List, length, Option, Some, None}
+use Rattle.grid_quantiser.specs.Cells.{point_of}
+use Rattle.plant_text.specs.plant.Description.{Description}
+use Rattle.successor_box.specs.Deviations.{HasNoOverflow, IsFirstOverflow}
+use Rattle.game_core.specs.declared.game.Row.{Row}
+use Rattle.controller_table.specs.Tables.{IsTable}
+use Rattle.loop_sim.specs.Trace.{row_at}
+use Rattle.loop_sim.specs.TraceText.{trace_text}
+use Rattle.synth_run.specs.declared.outcome.Outcome.{Outcome}
+use Rattle.synth_run.specs.declared.outcome.Outcome.TheVariants.{Done, Invalid, NoRow, Usage, Malformed, Overflow, Limit, ReadFault, WriteFault, NoMemory}
+
+-- The numbers are as many as the plant's states, and as a state they lie in a cell with a row.
+pub record HasRowFor (p : Description) (rows : List (Option Row)) (start : List ℤ) : Type 0 where
+  pub one_each : length start ≡ length p.states
+  pub row : Row
+  pub has : row_at p rows (point_of start) ≡ Some row
+
+-- they aren't as many, or as a state they lie outside the domain or in a cell without a row
+abbrev pub HasNoRowFor : Description → List (Option Row) → List ℤ → Type 0
+HasNoRowFor p rows start = (length start ≢ length p.states) ⊎ (row_at p rows (point_of start) ≡ None)
+
+-- what a plant within the limits demands with rows, whatever its goal and however many edges it has: to be refused, or
+-- to be driven from the start, or to be told that there is no row for it
+abbrev pub TraceDemands : Description → List (Option Row) → List ℤ → Outcome → Type 0
+TraceDemands p rows start Done = HasNoOverflow p × HasRowFor p rows start
+TraceDemands p rows start (Invalid cell) = ⊥
+TraceDemands p rows start NoRow = HasNoOverflow p × HasNoRowFor p rows start
+TraceDemands p rows start Usage = ⊥
+TraceDemands p rows start (Malformed line) = ⊥
+TraceDemands p rows start (Overflow equation input) = IsFirstOverflow p equation input
+TraceDemands p rows start (Limit what) = ⊥
+TraceDemands p rows start ReadFault = ⊥
+TraceDemands p rows start WriteFault = ⊥
+TraceDemands p rows start NoMemory = ⊥
+
+-- The text is the trace, from the start, of the plant under the rows of the table that the bytes are, under noises that
+-- the seed decides, with at most so many samples behind the first.
+pub record IsTraceFor (bytes : List ℕ) (samples seed : ℕ) (start : List ℤ) (text : List ℕ) : Type 0 where
+  pub plant : Description
+  pub rows : List (Option Row)
+  pub table : IsTable bytes plant rows
+  pub fits : HasNoOverflow plant
+  pub begins : HasRowFor plant rows start
+  pub text_is : text ≡ trace_text plant rows (point_of start) seed samples

@@ -1,0 +1,13 @@
+-- What a checker says of the rows of a table, by its plant's goal.
+use Rattle.std.specs.Prelude.{List, Option}
+use Rattle.game_core.specs.declared.game.Row.{Row}
+use Rattle.game_core.specs.Game.{Game}
+use Rattle.plant_text.specs.declared.plant.aims.GoalKind.{GoalKind}
+use Rattle.abstraction_table.specs.Solution.{Solves}
+use Rattle.table_check.specs.declared.verdict.Verdict.{Verdict}
+use Rattle.table_check.specs.Verdicts.{IsVerdict}
+use Rattle.synth_run.specs.Demands.{IsRightFor}
+
+-- the verdict on rows for a goal: valid exactly for the solution, else the first cell that isn't right
+abbrev pub IsVerdictFor : GoalKind → Game → List (Option Row) → Verdict → Type 0
+IsVerdictFor goal g rows verdict = IsVerdict (Solves goal g rows) (IsRightFor goal g rows) g.cells verdict
