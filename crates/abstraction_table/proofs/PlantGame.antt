@@ -6,6 +6,7 @@ use Rattle.std.proofs.lemmas.Option.{IfSome_then}
 use Rattle.std.proofs.lemmas.List.{length-map, get_or_default}
 use Rattle.std.proofs.lemmas.List.Elements.{All-map, All-weaker}
 use Rattle.std.proofs.lemmas.List.Folds.{fold-map}
+use Rattle.grid_quantiser.specs.declared.axis.Axis.{Axis}
 use Rattle.grid_quantiser.specs.declared.boxes.CellBox.{CellBox}
 use Rattle.grid_quantiser.specs.Axes.{AreAxes, cells_of}
 use Rattle.grid_quantiser.specs.Laws.{BoxesHaveCells}
@@ -19,8 +20,8 @@ use Rattle.successor_box.specs.Laws.{BoxesHoldTheSuccessors}
 use Rattle.abstraction_table.specs.Abstraction.{IsGameOf, pairs_of, pair_of, box_at, AreBoxesOf, AreEdges}
 use Rattle.abstraction_table.specs.BoxGame.{box_game}
 use Rattle.abstraction_table.specs.inside.Marks.{AreMarksOf}
-use Rattle.abstraction_table.specs.inside.Memory.{HoldsGame}
-use Rattle.abstraction_table.specs.inside.Sources.{IsBox, AreSourceBands}
+use Rattle.abstraction_table.specs.inside.Memory.{HoldsBoxes}
+use Rattle.abstraction_table.specs.inside.Sources.{IsBox}
 use Rattle.abstraction_table.specs.inside.Tallies.{edges_of}
 use Rattle.abstraction_table.proofs.EdgeCounts.{pair_split}
 use Rattle.abstraction_table.proofs.LeadingPairs.{successors_are}
@@ -31,6 +32,10 @@ pub record Laws : Type 0 where
   pub sound : PlantsAreSound
   pub cells : BoxesHaveCells
   pub successors : BoxesHoldTheSuccessors
+
+-- the lists of all boxes' cells have as many cells as the boxes
+pub total : (axes : List Axis) (boxes : List (Option CellBox)) → sum_by length (map (cells_in axes) boxes) ≡ edges_of axes boxes
+total axes boxes = fold-map (λ (n : ℕ) (xs : List ℕ). n + length xs) (cells_in axes) 0 boxes
 
 module _ (p : Description) (limits : IsWithinLimits p) (boxes : List (Option CellBox)) (boxes_of : AreBoxesOf p boxes) where
   -- each box is that of a pair
@@ -55,16 +60,13 @@ module _ (p : Description) (limits : IsWithinLimits p) (boxes : List (Option Cel
     one_list_each : length lists ≡ pairs_of p
     one_list_each = length-map boxes (cells_in (axes_of p)) ∙ boxes_of.one_each
 
-    total : sum_by length lists ≡ edges_of (axes_of p) boxes
-    total = fold-map (λ (n : ℕ) (xs : List ℕ). n + length xs) (cells_in (axes_of p)) 0 boxes
-
     lists_are : (c u : ℕ) → c < cells_of (axes_of p) → u < vectors_of p.inputs → AreSuccessors p c u (get_or lists (pair_of p c u) [])
     lists_are c u cell input =
         subst (AreSuccessors p c u) (sym (successors_are (axes_of p) (vectors_of p.inputs) [] boxes (pair_of p c u))) (laws.successors p c u (box_at boxes (pair_of p c u)) (boxes_of.each c u cell input))
 
     -- the cells of all boxes are the plant's edges
     pub are_edges : (n : ℕ) → n ≡ edges_of (axes_of p) boxes → AreEdges p n
-    are_edges n is = record { lists = lists; one_each = one_list_each; each = lists_are; total = is ∙ sym total }
+    are_edges n is = record { lists = lists; one_each = one_list_each; each = lists_are; total = is ∙ sym (total (axes_of p) boxes) }
 
     module _ (marks : List Mark) (marks_of : AreMarksOf p marks) where
       abbrev game : Game
@@ -97,8 +99,8 @@ module _ (p : Description) (limits : IsWithinLimits p) (boxes : List (Option Cel
           some_input = some_input;
           inputs_bound = limits.vectors;
           pairs_bound = limits.pairs;
-          edges_bound = omega (arith, total, few);
+          edges_bound = omega (arith, total (axes_of p) boxes, few);
         }
 
-        pub in_memory : (size : ℕ) (bands : List (List (List ℕ))) → AreSourceBands (axes_of p) boxes size bands → HoldsGame (axes_of p) (vectors_of p.inputs) marks boxes size bands
-        in_memory size bands sources = record { graph = is_graph; ordered = ordered; sources = sources }
+        pub in_memory : HoldsBoxes (axes_of p) (vectors_of p.inputs) marks boxes
+        in_memory = record { graph = is_graph; ordered = ordered }

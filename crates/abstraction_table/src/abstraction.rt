@@ -1,20 +1,17 @@
-ghost use Rattle.abstraction_table.specs.inside.Memory.{HoldsGame};
+ghost use Rattle.abstraction_table.specs.inside.Sources.{AreSourceBands};
 ghost use Rattle.abstraction_table.specs.inside.Props.{box_props};
 
+use crate::outlook::Outlook;
 use crate::sources::Sources;
-use game_core::{Graph, Mark};
-use grid_quantiser::{CellBox, Grid};
+use game_core::{Forward, Graph, Mark};
+use grid_quantiser::CellBox;
 
-/// The game of a plant. A pair's successors are the cells of its box, in rising order; they are not
-/// listed in memory.
+/// The game of a plant, from both ends of its edges.
 #[derive(Drop)]
 pub struct Abstraction {
-    pub(crate) grid: Grid,
-    pub(crate) inputs: u32,
-    pub(crate) marks: Vec<Mark>,
-    pub(crate) boxes: Vec<Option<CellBox>>,
+    pub(crate) ahead: Outlook,
     pub(crate) sources: Sources,
-    ghost in_memory: { HoldsGame grid inputs marks.items boxes.items sources.size sources.bands.items } by { Prim.hlevel box_props },
+    ghost in_memory: { AreSourceBands ahead.grid ahead.boxes.items sources.size sources.bands.items } by { Prim.hlevel box_props },
 }
 
 impl Abstraction {
@@ -28,7 +25,7 @@ impl Abstraction {
         requires { pair < pairs_of (game_of self.now) }
         ensures { result ≡ box_at (boxes_of self.now) pair }
     {
-        self.boxes[pair as usize]
+        self.ahead.boxes(pair)
     }
 }
 
@@ -38,34 +35,28 @@ impl Graph for Abstraction {
     ghost game = { game_of };
 
     fn cells(&self) -> u32 {
-        self.grid.cells()
+        self.ahead.cells()
     }
 
     fn inputs(&self) -> u32 {
-        self.inputs
+        self.ahead.inputs()
     }
 
     fn mark(&self, c: u32) -> Mark {
-        self.marks[c as usize]
+        self.ahead.mark(c)
     }
 
     fn fan(&self, pair: u32) -> u32 {
-        match self.boxes(pair) {
-            Some(b) => self.grid.box_count(b) as u32,
-            None => 0,
-        }
+        self.ahead.fan(pair)
     }
 
     fn successor(&self, pair: u32, at: u32) -> u32 {
-        match self.boxes(pair) {
-            Some(b) => self.grid.nth_of(b, u64::from(at)),
-            None => unreachable!(),
-        }
+        self.ahead.successor(pair, at)
     }
 
     fn sources(&self, c: u32) -> &[u32] {
         self.sources.row(c)
     }
 
-    ghost lawful = { λ g. g.in_memory.graph };
+    ghost lawful = { λ g. g.ahead.in_memory.graph };
 }

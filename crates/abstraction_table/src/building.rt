@@ -3,13 +3,14 @@ ghost use Rattle.std.specs.Prelude.{◌≡◌, IfOk, IfErr};
 ghost use Rattle.successor_box.specs.Deviations.{HasNoOverflow, deviations_of};
 ghost use Rattle.abstraction_table.specs.Abstraction.{IsGameOf, AreBoxesOf};
 ghost use Rattle.abstraction_table.specs.Faults.{IsFaultOf};
-ghost use Rattle.abstraction_table.specs.Table.{game_of, boxes_of};
+ghost use Rattle.abstraction_table.specs.Table.{game_of, boxes_of, game_ahead, boxes_ahead};
 
 use crate::abstraction::Abstraction;
 use crate::boxes::find_boxes;
 use crate::edges::count_edges;
 use crate::fault::BuildFault;
 use crate::marks::find_marks;
+use crate::outlook::Outlook;
 use crate::sources::find_sources;
 use grid_quantiser::laws::{cells_of_a_box, every_grid_is_within_the_limit};
 use plant_text::Plant;
@@ -22,18 +23,18 @@ use successor_box::laws::boxes_hold_the_successors;
 /// The most edges of an abstraction.
 const EDGES_LIMIT: u64 = 1 << 25;
 
-/// The abstraction of a plant, by several threads. The number of edges is known before any edge is
-/// kept.
-pub fn build<R: Threads + Sync>(
+/// The game of a plant as it is seen ahead, by several threads. The number of edges is known before
+/// any edge is kept.
+pub fn survey<R: Threads + Sync>(
     rt: &R,
     alloc: Global,
     p: &Plant,
     s: &Slopes,
-) -> Result<Abstraction, BuildFault>
+) -> Result<Outlook, BuildFault>
     requires slopes { s.now ≡ deviations_of p.now }
     requires fits { HasNoOverflow p.now }
-    ensures game { IfOk result (λ a. IsGameOf p.now (game_of a)) }
-    ensures boxes { IfOk result (λ a. AreBoxesOf p.now (boxes_of a)) }
+    ensures game { IfOk result (λ o. IsGameOf p.now (game_ahead o)) }
+    ensures boxes { IfOk result (λ o. AreBoxesOf p.now (boxes_ahead o)) }
     ensures fault { IfErr result (IsFaultOf p.now) }
 {
     every_plant_is_within_limits(p);
@@ -48,12 +49,28 @@ pub fn build<R: Threads + Sync>(
         return Err(BuildFault::TooManyEdges { edges });
     }
     let marks = find_marks(rt, alloc, p)?;
-    let sources = find_sources(rt, alloc, &grid, &boxes)?;
-    Ok(Abstraction {
+    Ok(Outlook {
         grid,
         inputs: p.vectors(),
         marks,
         boxes,
-        sources,
     })
+}
+
+/// The abstraction of a plant, by several threads.
+pub fn build<R: Threads + Sync>(
+    rt: &R,
+    alloc: Global,
+    p: &Plant,
+    s: &Slopes,
+) -> Result<Abstraction, BuildFault>
+    requires slopes { s.now ≡ deviations_of p.now }
+    requires fits { HasNoOverflow p.now }
+    ensures game { IfOk result (λ a. IsGameOf p.now (game_of a)) }
+    ensures boxes { IfOk result (λ a. AreBoxesOf p.now (boxes_of a)) }
+    ensures fault { IfErr result (IsFaultOf p.now) }
+{
+    let ahead = survey(rt, alloc, p, s)?;
+    let sources = find_sources(rt, alloc, &ahead.grid, &ahead.boxes)?;
+    Ok(Abstraction { ahead, sources })
 }

@@ -51,3 +51,59 @@ pub trait Graph {
 
     ghost lawful: { (g : Self) → IsGraph (game g) };
 }
+
+/// What may come next in a game in memory: its cells ahead, and not those from which one comes. A pair
+/// of a cell and an input has the number `cell * inputs + input`.
+pub trait Forward {
+    ghost game: { Self → Game };
+
+    fn cells(&self) -> u32
+        ensures { result ≡ (game self.now).cells };
+
+    fn inputs(&self) -> u32
+        ensures { result ≡ (game self.now).inputs };
+
+    fn mark(&self, c: u32) -> Mark
+        requires { c < (game self.now).cells }
+        ensures { result ≡ mark_of (game self.now) c };
+
+    /// How many successors a pair has: 0 exactly where its input isn't enabled.
+    fn fan(&self, pair: u32) -> u32
+        requires { pair < pairs_of (game self.now) }
+        ensures { result ≡ length (successors_at (game self.now) pair) };
+
+    /// The successors of a pair, in rising order.
+    fn successor(&self, pair: u32, at: u32) -> u32
+        requires pair { pair < pairs_of (game self.now) }
+        requires at { at < length (successors_at (game self.now) pair) }
+        ensures { result ≡ slice_index (successors_at (game self.now) pair) at };
+
+    ghost lawful: { (g : Self) → IsGraph (game g) };
+}
+
+/// Every graph can be asked what comes next.
+impl<G: Graph> Forward for G {
+    ghost game = { G.game };
+
+    fn cells(&self) -> u32 {
+        Graph::cells(self)
+    }
+
+    fn inputs(&self) -> u32 {
+        Graph::inputs(self)
+    }
+
+    fn mark(&self, c: u32) -> Mark {
+        Graph::mark(self, c)
+    }
+
+    fn fan(&self, pair: u32) -> u32 {
+        Graph::fan(self, pair)
+    }
+
+    fn successor(&self, pair: u32, at: u32) -> u32 {
+        Graph::successor(self, pair, at)
+    }
+
+    ghost lawful = { G.lawful };
+}

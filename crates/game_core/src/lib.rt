@@ -17,7 +17,7 @@ mod search;
 mod tally;
 
 pub use answer::{Answer, NoMemory};
-pub use game::{Graph, Mark, Row};
+pub use game::{Forward, Graph, Mark, Row};
 pub use plain::{keep_plain, solve_plain};
 pub use remark::Remark;
 pub use tally::Tally;

@@ -6,10 +6,9 @@ use Rattle.grid_quantiser.specs.declared.boxes.CellBox.{CellBox}
 use Rattle.game_core.specs.declared.game.Mark.{Mark}
 use Rattle.game_core.specs.Game.{IsGraph}
 use Rattle.abstraction_table.specs.BoxGame.{box_game}
-use Rattle.abstraction_table.specs.inside.Sources.{IsBox, AreSourceBands}
+use Rattle.abstraction_table.specs.inside.Sources.{IsBox}
 
--- Marks and boxes are a game within the limits, and the bands hold the pairs that lead to each cell.
-pub record HoldsGame (axes : List Axis) (inputs : ℕ) (marks : List Mark) (boxes : List (Option CellBox)) (size : ℕ) (bands : List (List (List ℕ))) : Type 0 where
+-- Marks and boxes are a game within the limits, and the corners of each box are in order.
+pub record HoldsBoxes (axes : List Axis) (inputs : ℕ) (marks : List Mark) (boxes : List (Option CellBox)) : Type 0 where
   pub graph : IsGraph (box_game axes inputs marks boxes)
   pub ordered : All (IsBox axes) boxes
-  pub sources : AreSourceBands axes boxes size bands

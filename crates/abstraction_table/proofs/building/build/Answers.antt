@@ -1,38 +1,19 @@
-use Rattle.std.proofs.Common.{◌^◌, ◌≤◌, arith}
-use Rattle.abstraction_table.specs.inside.Tallies.{edges_of}
-use Rattle.grid_quantiser.specs.Axes.{cells_of}
-use Rattle.plant_text.specs.plant.Description.{axes_of, vectors_of}
-use Rattle.abstraction_table.proofs.PlantGame.{Laws, ordered, are_edges, in_memory, is_game_of}
+use Rattle.std.proofs.Common.{length, ap, arith}
+use Rattle.std.proofs.lemmas.List.{length-map}
+use Rattle.successor_box.specs.Boxes.{cells_in}
+use Rattle.abstraction_table.proofs.PlantGame.{total}
 use Rattle.abstraction_table.proofs.building.build.Goals as goal
 
-pub count_edges-edges-requires-clause-ordered : goal.count_edges-edges-requires-clause-ordered
-count_edges-edges-requires-clause-ordered g c = λ κs within.
-    rw (c.grid.ensures, c.deref.ensures.value) (ordered c.args.p.now c.every_plant_is_within_limits.ensures c.in_ok-boxes.boxes.items c.in_ok-boxes.ensures)
-
 pub find_sources-requires-clause-ordered : goal.find_sources-requires-clause-ordered
-find_sources-requires-clause-ordered g c = λ κs within.
-    rw (c.grid.ensures, c.deref-2.ensures.value) (ordered c.args.p.now c.every_plant_is_within_limits.ensures c.in_ok-boxes.boxes.items c.in_ok-boxes.ensures)
+find_sources-requires-clause-ordered g c = λ κs within. rw c.deref.ensures.value c.in_ok-ahead.ahead.in_memory.ordered
 
-pub returns-then-edges-gt-EDGES_LIMIT-clause-fault : goal.returns-then-edges-gt-EDGES_LIMIT-clause-fault
-returns-then-edges-gt-EDGES_LIMIT-clause-fault g c =
-    let laws : Laws = record { sound = c.plants_are_sound.ensures; cells = c.cells_of_a_box.ensures; successors = c.boxes_hold_the_successors.ensures } in
-    let counted = rw (c.grid.ensures, c.deref.ensures.value) at c.count_edges-edges.ensures in
-    (are_edges c.args.p.now c.every_plant_is_within_limits.ensures c.in_ok-boxes.boxes.items c.in_ok-boxes.ensures laws c.count_edges-edges.result counted, c.if-edges-gt-EDGES_LIMIT.true)
+pub find_sources-requires-clause-pairs : goal.find_sources-requires-clause-pairs
+find_sources-requires-clause-pairs g c = λ κs within.
+    let o = c.in_ok-ahead.ahead in
+    let graph = o.in_memory.graph in
+    omega (arith, ap length c.deref.ensures.value, length-map o.boxes.items (cells_in o.grid), graph.game.one_list_each, graph.pairs_bound)
 
-pub invariant_of-result : goal.invariant_of-result
-invariant_of-result g c =
-    let laws : Laws = record { sound = c.plants_are_sound.ensures; cells = c.cells_of_a_box.ensures; successors = c.boxes_hold_the_successors.ensures } in
-    let counted = rw (c.grid.ensures, c.deref.ensures.value) at c.count_edges-edges.ensures in
-    let few : edges_of (axes_of c.args.p.now) c.in_ok-boxes.boxes.items ≤ 2 ^ 25 = omega (arith, counted, c.if-edges-gt-EDGES_LIMIT.false) in
-    let some_cell : 1 ≤ cells_of (axes_of c.args.p.now) = rw c.grid.ensures at c.every_grid_is_within_the_limit.ensures.some in
-    let some_input : 1 ≤ vectors_of c.args.p.now.inputs = omega (arith, c.vectors.ensures.some, c.vectors.ensures.count) in
-    record {
-      in_memory = rw (c.grid.ensures, c.vectors.ensures.count)
-          (in_memory c.args.p.now c.every_plant_is_within_limits.ensures c.in_ok-boxes.boxes.items c.in_ok-boxes.ensures laws c.in_ok-marks.marks.items c.in_ok-marks.ensures some_cell some_input few c.in_ok-sources.sources.size c.in_ok-sources.sources.bands.items (rw (c.grid.ensures, c.deref-2.ensures.value) at c.in_ok-sources.ensures));
-    }
-
-pub returns-clause-game : goal.returns-clause-game
-returns-clause-game g c =
-    let laws : Laws = record { sound = c.plants_are_sound.ensures; cells = c.cells_of_a_box.ensures; successors = c.boxes_hold_the_successors.ensures } in
-    rw (c.grid.ensures, c.vectors.ensures.count)
-    (is_game_of c.args.p.now c.every_plant_is_within_limits.ensures c.in_ok-boxes.boxes.items c.in_ok-boxes.ensures laws c.in_ok-marks.marks.items c.in_ok-marks.ensures)
+pub find_sources-requires-clause-edges : goal.find_sources-requires-clause-edges
+find_sources-requires-clause-edges g c = λ κs within.
+    let o = c.in_ok-ahead.ahead in
+    rw c.deref.ensures.value (omega (arith, total o.grid o.boxes.items, o.in_memory.graph.edges_bound))

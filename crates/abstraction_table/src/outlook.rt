@@ -1,0 +1,65 @@
+ghost use Rattle.abstraction_table.specs.inside.Memory.{HoldsBoxes};
+ghost use Rattle.abstraction_table.specs.inside.Props.{box_props};
+
+use game_core::{Forward, Mark};
+use grid_quantiser::{CellBox, Grid};
+
+/// The game of a plant as it is seen ahead. A pair's successors are the cells of its box, in rising
+/// order; they are not listed in memory.
+#[derive(Drop)]
+pub struct Outlook {
+    pub(crate) grid: Grid,
+    pub(crate) inputs: u32,
+    pub(crate) marks: Vec<Mark>,
+    pub(crate) boxes: Vec<Option<CellBox>>,
+    ghost in_memory: { HoldsBoxes grid inputs marks.items boxes.items } by { Prim.hlevel box_props },
+}
+
+impl Outlook {
+    ghost use Rattle.std.specs.Prelude.{◌≡◌, ◌<◌};
+    ghost use Rattle.game_core.specs.Game.{pairs_of};
+    ghost use Rattle.abstraction_table.specs.Abstraction.{box_at};
+    ghost use Rattle.abstraction_table.specs.Table.{game_ahead, boxes_ahead};
+
+    /// The box of a pair: None where its input isn't enabled.
+    pub fn boxes(&self, pair: u32) -> Option<CellBox>
+        requires { pair < pairs_of (game_ahead self.now) }
+        ensures { result ≡ box_at (boxes_ahead self.now) pair }
+    {
+        self.boxes[pair as usize]
+    }
+}
+
+impl Forward for Outlook {
+    ghost use Rattle.abstraction_table.specs.Table.{game_ahead};
+
+    ghost game = { game_ahead };
+
+    fn cells(&self) -> u32 {
+        self.grid.cells()
+    }
+
+    fn inputs(&self) -> u32 {
+        self.inputs
+    }
+
+    fn mark(&self, c: u32) -> Mark {
+        self.marks[c as usize]
+    }
+
+    fn fan(&self, pair: u32) -> u32 {
+        match self.boxes(pair) {
+            Some(b) => self.grid.box_count(b) as u32,
+            None => 0,
+        }
+    }
+
+    fn successor(&self, pair: u32, at: u32) -> u32 {
+        match self.boxes(pair) {
+            Some(b) => self.grid.nth_of(b, u64::from(at)),
+            None => unreachable!(),
+        }
+    }
+
+    ghost lawful = { λ o. o.in_memory.graph };
+}
