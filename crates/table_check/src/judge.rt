@@ -9,11 +9,11 @@ ghost use Rattle.table_check.specs.inside.Below.{LeadsBelow, NoneLeadsBelow};
 
 use controller_table::Table;
 use controller_table::laws::every_table_fits;
-use game_core::{Graph, Mark, Row};
+use game_core::{Forward, Mark, Row};
 
 /// A reach table, to be judged cell by cell against a game over its cells and inputs.
 #[derive(Drop)]
-pub(crate) struct Judge<'a, G: Graph> {
+pub(crate) struct Judge<'a, G: Forward> {
     graph: &'a G,
     table: &'a Table,
     ghost ranked: { table.now.plant.goal ≡ Reach },
@@ -21,7 +21,7 @@ pub(crate) struct Judge<'a, G: Graph> {
     ghost same_inputs: { (G.game graph.now).inputs ≡ vectors_of table.now.plant.inputs },
 }
 
-impl<'a, G: Graph> Judge<'a, G> {
+impl<'a, G: Forward> Judge<'a, G> {
     pub(crate) fn new(graph: &'a G, table: &'a Table) -> Judge<'a, G>
         requires ranked { table.now.plant.goal ≡ Reach }
         requires same_cells { (G.game graph.now).cells ≡ cells_of (axes_of table.now.plant) }

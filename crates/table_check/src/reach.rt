@@ -8,11 +8,11 @@ use crate::judge::Judge;
 use crate::verdict::Verdict;
 use controller_table::Table;
 use controller_table::laws::every_table_fits;
-use game_core::Graph;
+use game_core::Forward;
 use game_core::laws::{right_rows_are_the_solution, solutions_are_right};
 
 /// The verdict on the rows of a reach table, by the rows of each cell's successors alone.
-pub fn check_reach<G: Graph>(g: &G, t: &Table) -> Verdict
+pub fn check_reach<G: Forward>(g: &G, t: &Table) -> Verdict
     requires goal { t.now.plant.goal ≡ Reach }
     requires cells { (G.game g.now).cells ≡ cells_of (axes_of t.now.plant) }
     requires inputs { (G.game g.now).inputs ≡ vectors_of t.now.plant.inputs }

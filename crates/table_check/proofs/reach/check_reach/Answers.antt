@@ -6,7 +6,7 @@ use Rattle.table_check.proofs.reach.check_reach.Goals as goal
 
 pub loop-c-preserved : goal.loop-c-preserved
 loop-c-preserved g c =
-    let game = g.G.Graph.game in
+    let game = g.G.Forward.game in
     let judge = c.new-judge.result in
     let right = c.is_right.ensures.0 c.if-not-is_right.false in
     below_more (IsRight (game c.args.g.now) c.args.t.now.rows) c.loop-c.c c.loop-c.invariant
@@ -14,10 +14,10 @@ loop-c-preserved g c =
 
 pub returns : goal.returns
 returns g c =
-    let game = g.G.Graph.game c.args.g.now in
+    let game = g.G.Forward.game c.args.g.now in
     let rows = c.args.t.now.rows in
     let count = c.cells-c-end.ensures in
     let done = c.loop-c-test.false in
     let each : (b : ℕ) → b < game.cells → IsRight game rows b = λ b lt. c.loop-c.invariant b (omega arith) in
     let are : AreRight game rows = record { one_each = c.every_table_fits.ensures.rows.one_each ∙ sym c.requires.cells; each = each } in
-    valid_verdict (IsReachSolution game rows) (IsRight game rows) game.cells (c.right_rows_are_the_solution.ensures game rows (g.met.G.Graph.lawful c.args.g.now).game are) each
+    valid_verdict (IsReachSolution game rows) (IsRight game rows) game.cells (c.right_rows_are_the_solution.ensures game rows (g.met.G.Forward.lawful c.args.g.now).game are) each

@@ -11,7 +11,7 @@ apart b holds fails = false≢true (sym fails ∙ holds)
 pub returns-then-none_leads_below : goal.returns-then-none_leads_below
 returns-then-none_leads_below g c =
     let judge = c.args.self.now in
-    let game = g.G.Graph.game judge.graph.now in
+    let game = g.G.Forward.game judge.graph.now in
     let rows = judge.table.now.rows in
     let row = c.args.row in
     let inputs = c.inputs-inputs.result in
@@ -36,7 +36,7 @@ returns-then-none_leads_below g c =
 pub returns-else-none_leads_below : goal.returns-else-none_leads_below
 returns-else-none_leads_below g c =
     let judge = c.args.self.now in
-    let game = g.G.Graph.game judge.graph.now in
+    let game = g.G.Forward.game judge.graph.now in
     let rows = judge.table.now.rows in
     let row = c.args.row in
     let inputs = c.inputs-inputs.result in

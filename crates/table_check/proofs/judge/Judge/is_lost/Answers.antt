@@ -12,7 +12,7 @@ pub returns : goal.returns
 returns g c =
     let judge = c.args.self.now in
     let t = judge.table.now in
-    let game = g.G.Graph.game judge.graph.now in
+    let game = g.G.Forward.game judge.graph.now in
     let cells = c.cells.result in
     let same : cells ≡ cells_of (axes_of t.plant) = c.cells.ensures ∙ judge.same_cells in
     let bound : (s : ℕ) (row : Row) → row_of t.rows s ≡ Some row → row.rank < cells = λ s row e. subst (λ n. row.rank < n) (sym same) (rank_fits t.plant t.rows c.every_table_fits.ensures.rows judge.ranked s row e) in
