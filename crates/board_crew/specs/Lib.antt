@@ -1,0 +1,3 @@
+pub mod Crew
+pub mod Laws
+pub mod inside

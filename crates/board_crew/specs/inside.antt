@@ -1,0 +1,2 @@
+-- what only tests name
+pub mod SmallGames

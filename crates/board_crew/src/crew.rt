@@ -1,0 +1,80 @@
+// The workers of a round: how they are made, do the items, and are taken in.
+ghost use Rattle.std.specs.Prelude.{◌≡◌, ◌+◌, ◌<◌, ◌≤◌, [], ◌++◌, length, map, reverse, All, vec_len};
+ghost use Rattle.std.specs.Vec.{vec_capacity};
+ghost use Rattle.cell_counters.specs.Tokens.{IsLawful};
+ghost use Rattle.frontier_pool.specs.Sweeps.{Sweeps, IsIdle};
+ghost use Rattle.board_crew.specs.Crew.{IsCounted, IsFresh, accounts_of, IsTalliedBy};
+
+use crate::worker::Worker;
+use cell_counters::{Board, Root};
+use frontier_pool::{Gate, Member, Toil, one_by_one, sweep};
+use game_core::Tally;
+use std::alloc::Global;
+use std::thread::Threads;
+
+/// Makes so many workers with new hands.
+pub fn deal(board: &Board, root: &mut Root, members: &mut Vec<Member<Worker>>, count: u32)
+    requires root { root.old.board ≡ board.now }
+    requires hands { root.old.out + count ≤ 64 }
+    requires none { members.old.items ≡ [] }
+    requires room { count ≤ vec_capacity members.old }
+    ensures root { root.new ≡ record root.old { out = root.old.out + count } }
+    ensures members { vec_len members.new ≡ count }
+    ensures fresh { All (IsFresh board.now) members.new.items }
+    ensures room { vec_capacity members.new ≡ vec_capacity members.old }
+{
+    for _worker in 0..count {
+        let worker = Worker {
+            hand: board.hand(root),
+            cuts: 0,
+            offers: 0,
+        };
+        members.push_reserved(Member::new(worker));
+    }
+}
+
+/// The members do all items of a toil, each with exactly one of their hands, once, after the gate.
+///
+/// One member does them in rising order, and takes no memory. More work beside one another as in a sweep.
+pub fn work<R: Threads + Sync, T: Toil, G: Gate>(
+    rt: &R,
+    alloc: Global,
+    toil: &T,
+    members: &mut [Member<T::Hand>],
+    gate: &G,
+)
+    requires members { (0 < length members.old) × (length members.old ≤ 64) }
+    requires sound { All (λ m. T.sound toil.now m.hand) members.old }
+    ensures swept { Sweeps (map (λ m. T.done m.hand) members.old) (map (λ m. T.done m.hand) members.new) (T.count toil.now) }
+    ensures sound { All (λ m. T.sound toil.now m.hand) members.new }
+    ensures idle { All IsIdle members.old → All IsIdle members.new }
+{
+    let items = toil.items();
+    if members.len() == 1 {
+        let first = &mut members[0];
+        one_by_one(toil, &mut first.hand, items, gate);
+    } else {
+        sweep(rt, alloc, toil, members, items, gate);
+    }
+}
+
+/// Takes all hands in, the last member's first, and adds up what the workers counted.
+pub fn take_in(board: &Board, root: &mut Root, members: &mut Vec<Member<Worker>>, tally: &mut Tally)
+    requires root { (root.old.board ≡ board.now) × (root.old.out ≡ vec_len members.old) }
+    requires some { 0 < vec_len members.old }
+    requires members { All (λ m. m.hand.hand.board ≡ board.now) members.old.items }
+    ensures root { (root.new.board ≡ board.now) × (root.new.out ≡ 0) }
+    ensures accounts { root.new.accounts ≡ root.old.accounts ++ reverse (accounts_of members.old.items) }
+    ensures lawful { IsLawful root.new.accounts board.now.starts board.now.least }
+    ensures members { members.new.items ≡ [] }
+    ensures room { vec_capacity members.new ≡ vec_capacity members.old }
+    ensures rounds { tally.new.rounds ≡ tally.old.rounds }
+    ensures tally { All (λ m. IsCounted m.hand) members.old.items → IsTalliedBy root.old.accounts tally.old → IsTalliedBy root.new.accounts tally.new }
+{
+    while let Some(member) = members.pop() {
+        let Worker { hand, cuts, offers } = member.into_hand();
+        board.take_in(root, hand);
+        tally.cuts = tally.cuts.wrapping_add(cuts);
+        tally.offers = tally.offers.wrapping_add(offers);
+    }
+}

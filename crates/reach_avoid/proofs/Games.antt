@@ -1,0 +1,79 @@
+-- What a graph's limits say of one pair, and offers within them.
+use Rattle.std.proofs.Common.{◌≡◌, ℕ, ◌+◌, ◌*◌, ◌/◌, ◌%◌, ◌^◌, ◌<◌, ◌≤◌, ◌==◌, List, [], map, length, get_or, All, arith, sym, ◌∙◌, ap, subst}
+use Rattle.std.proofs.lemmas.List.{get_or-map, length-map}
+use Rattle.std.proofs.lemmas.List.Elements.{All-map, All-filter, All-weaker}
+use Rattle.std.proofs.lemmas.List.Sums.{get_or-le-sum_by}
+use Rattle.std.proofs.lemmas.Nat.{div_below}
+use Rattle.cell_counters.specs.declared.account.TheConstants.{NONE}
+use Rattle.cell_counters.specs.declared.account.Offer.{Offer}
+use Rattle.cell_counters.specs.declared.account.Account.{Account}
+use Rattle.cell_counters.specs.Accounts.{all_offers, values}
+use Rattle.game_core.specs.Game.{Game, IsGraph, pairs_of, successors_at}
+use Rattle.board_crew.specs.Crew.{offers_in}
+use Rattle.board_crew.specs.Laws.{SumsTell}
+use Rattle.reach_avoid.specs.Reckoned.{bid_of, bid_at}
+use Rattle.reach_avoid.specs.inside.Rounds.{IsBid}
+
+-- an offer is what some pair bids at a rank
+pub record IsBidOf (g : Game) (rank : ℕ) (o : Offer) : Type 0 where
+  pub pair : ℕ
+  pub below : pair < pairs_of g
+  pub word : o.word ≡ pair / g.inputs
+  pub value : o.value ≡ 1 + rank * 4096 + pair % g.inputs
+
+module _ (g : Game) (a : IsGraph g) where
+  pub successors_within : (pair : ℕ) → pair < pairs_of g → All (λ s. s < g.cells) (successors_at g pair)
+  successors_within pair lt = let n = a.game.one_list_each in a.game.within pair [] (omega arith)
+
+  pub few_successors : (pair : ℕ) → pair < pairs_of g → length (successors_at g pair) ≤ 2 ^ 25
+  few_successors pair lt =
+      let n = a.game.one_list_each in
+      let le = get_or-le-sum_by length g.successors pair [] (omega arith) in
+      let most = a.edges_bound in
+      omega arith
+
+  pub cell_of_pair : (pair : ℕ) → pair < pairs_of g → pair / g.inputs < g.cells
+  cell_of_pair pair lt = let some' = a.some_input in div_below pair g.inputs g.cells (omega arith) lt
+
+  pub input_of_pair : (pair : ℕ) → pair % g.inputs < g.inputs
+  input_of_pair pair = let some' = a.some_input in omega arith
+
+  -- what pairs bid at a rank are bids, one after another
+  pub bids_of : (rank : ℕ) (offers : List Offer) (pairs : List ℕ) → All (λ pair. pair < pairs_of g) pairs → map bid_of offers ≡ map (bid_at g rank) pairs → All (IsBidOf g rank) offers
+  bids_of rank offers pairs below same i d lt =
+      let o = get_or offers i d in
+      let many : length offers ≡ length pairs = sym (length-map offers bid_of) ∙ (ap length same ∙ length-map pairs (bid_at g rank)) in
+      let at : bid_of o ≡ bid_at g rank (get_or pairs i 0) =
+      sym (get_or-map bid_of offers i d (0, 0) lt) ∙ (ap (λ l. get_or l i (0, 0)) same ∙ get_or-map (bid_at g rank) pairs i 0 (0, 0) (omega arith)) in
+      record { pair = get_or pairs i 0; below = below i 0 (omega arith); word = ap (λ p. p.0) at; value = ap (λ p. p.1) at }
+
+  pub bid_valued : (rank : ℕ) → rank < 2 ^ 32 → (o : Offer) → IsBidOf g rank o → IsBid g o
+  bid_valued rank small o b =
+      let word = b.word in
+      let value = b.value in
+      let cell = cell_of_pair b.pair b.below in
+      let input = input_of_pair b.pair in
+      let most = a.inputs_bound in
+      record { word = omega arith; some = omega arith; less = omega arith }
+
+  -- the values of a rank lie together
+  pub values_of_rank : SumsTell → (rank c : ℕ) (accounts : List Account) → All (IsBidOf g rank) (offers_in accounts) → All (λ v. (1 + rank * 4096 ≤ v) × (v < 1 + rank * 4096 + 4096)) (values (all_offers c accounts))
+  values_of_rank sums rank c accounts h =
+      All-map (λ v. (1 + rank * 4096 ≤ v) × (v < 1 + rank * 4096 + 4096)) (λ (o : Offer). o.value) (all_offers c accounts)
+      (subst (λ l. All (λ (o : Offer). (1 + rank * 4096 ≤ o.value) × (o.value < 1 + rank * 4096 + 4096)) l) (sym (sums.offers c accounts))
+      (All-filter (λ (o : Offer). o.word == c) (λ (o : Offer). (1 + rank * 4096 ≤ o.value) × (o.value < 1 + rank * 4096 + 4096)) (offers_in accounts)
+      (All-weaker (IsBidOf g rank) (λ (o : Offer). (1 + rank * 4096 ≤ o.value) × (o.value < 1 + rank * 4096 + 4096)) (λ o b. in_range o b) (offers_in accounts) h)))
+    where
+      in_range : (o : Offer) → IsBidOf g rank o → (1 + rank * 4096 ≤ o.value) × (o.value < 1 + rank * 4096 + 4096)
+      in_range o b =
+          let value = b.value in
+          let input = input_of_pair b.pair in
+          let most = a.inputs_bound in
+          (omega arith, omega arith)
+
+pub values_valued : SumsTell → (g : Game) (c : ℕ) (accounts : List Account) → All (IsBid g) (offers_in accounts) → All (λ v. (1 ≤ v) × (v < NONE)) (values (all_offers c accounts))
+values_valued sums g c accounts h =
+    All-map (λ v. (1 ≤ v) × (v < NONE)) (λ (o : Offer). o.value) (all_offers c accounts)
+    (subst (λ l. All (λ (o : Offer). (1 ≤ o.value) × (o.value < NONE)) l) (sym (sums.offers c accounts))
+    (All-filter (λ (o : Offer). o.word == c) (λ (o : Offer). (1 ≤ o.value) × (o.value < NONE)) (offers_in accounts)
+    (All-weaker (IsBid g) (λ (o : Offer). (1 ≤ o.value) × (o.value < NONE)) (λ o b. (let s = b.some in omega arith, b.less)) (offers_in accounts) h)))

@@ -1,0 +1,11 @@
+pub mod Added
+pub mod Words
+pub mod Ranks
+pub mod Games
+pub mod LeadsOn
+pub mod Begins
+pub mod Settled
+pub mod Working
+pub mod OnBoards
+pub mod Plays
+pub mod Ends

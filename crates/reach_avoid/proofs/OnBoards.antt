@@ -1,0 +1,40 @@
+-- What a board of a game tells: its numbers are the game's, and a word tells a row.
+use Rattle.std.proofs.Common.{◌≡◌, ℕ, ◌<◌, List, [], length, slice_index, arith, ◌∙◌, ap, subst}
+use Rattle.std.proofs.lemmas.List.{get_or-map, length-map}
+use Rattle.cell_counters.specs.declared.account.Account.{Account}
+use Rattle.cell_counters.specs.Accounts.{IsLawfulCounter, IsLawfulLeast, all_offers, values}
+use Rattle.cell_counters.specs.Tokens.{BoardModel, IsLawful}
+use Rattle.game_core.specs.declared.game.Mark.TheVariants.{Plain}
+use Rattle.game_core.specs.Game.{Game, IsGraph, mark_of, pairs_of, successors_at}
+use Rattle.reach_avoid.specs.Boards.{word_at, IsBoardOf}
+use Rattle.reach_avoid.specs.inside.Rounds.{least_from, word_after, IsLawfulFor}
+use Rattle.reach_avoid.proofs.Words.{least_told}
+
+module _ (g : Game) (a : IsGraph g) (board : BoardModel) (of_game : IsBoardOf g board) where
+  -- what the board began with
+  pub start_of_pair : (pair : ℕ) → pair < pairs_of g → slice_index board.starts pair ≡ length (successors_at g pair)
+  start_of_pair pair lt =
+      let n = a.game.one_list_each in
+      ap (λ l. slice_index l pair) of_game.counters ∙ get_or-map length g.successors pair [] 0 (omega arith)
+
+  pub start_of_cell : (c : ℕ) → c < g.cells → slice_index board.least c ≡ word_at (mark_of g c)
+  start_of_cell c lt =
+      let n = a.game.one_mark_each in
+      ap (λ l. slice_index l c) of_game.words ∙ get_or-map word_at g.marks c Plain 0 (omega arith)
+
+  pub words_of_board : length board.least ≡ g.cells
+  words_of_board = ap length of_game.words ∙ (length-map g.marks word_at ∙ a.game.one_mark_each)
+
+  pub lawful_for : (accounts : List Account) → IsLawful accounts board.starts board.least → IsLawfulFor g accounts
+  lawful_for accounts h =
+      let starts : length board.starts ≡ pairs_of g = ap length of_game.counters ∙ (length-map g.successors length ∙ a.game.one_list_each) in
+      let least = words_of_board in
+      record {
+        pairs = λ pair lt. subst (λ n. (now : ℕ) × IsLawfulCounter accounts pair n now) (start_of_pair pair lt) (h.counters pair (omega arith));
+        cells = λ c lt. subst (λ n. (now : ℕ) × IsLawfulLeast accounts c n now) (start_of_cell c lt) (h.words c (omega arith));
+      }
+
+  -- a word that is read is the least of what was offered
+  pub word_read : (accounts : List Account) (c n : ℕ) → c < g.cells → IsLawfulLeast accounts c (slice_index board.least c) n → n ≡ word_after g accounts c
+  word_read accounts c n lt h =
+      subst (λ start. n ≡ least_from start (values (all_offers c accounts))) (start_of_cell c lt) (least_told (slice_index board.least c) n (values (all_offers c accounts)) h.least)

@@ -1,0 +1,108 @@
+// All memory of a solver, taken before it solves.
+ghost use Rattle.std.specs.Prelude.{◌≡◌, ◌+◌, ◌^◌, ◌<◌, ◌≤◌, map, length, IfOk};
+ghost use Rattle.cell_counters.specs.Tokens.{new_root};
+ghost use Rattle.reach_avoid.specs.Boards.{IsBoardOf, word_at};
+
+use crate::rounds::Rounds;
+use board_crew::{fans, room_for};
+use cell_counters::{Board, NONE, Root};
+use game_core::{Answer, Graph, Mark, NoMemory, Tally};
+use std::alloc::Global;
+use std::marker::Model;
+
+/// The memory in which a graph is solved by so many workers.
+///
+/// To a contract it is the board of its game, on which nothing is done yet.
+#[derive(Drop)]
+pub struct Scratch {
+    pub(crate) board: Board,
+    pub(crate) rounds: Rounds,
+    // No row yet.
+    pub(crate) answer: Answer,
+    pub(crate) workers: u32,
+}
+
+impl Model for Scratch {
+    ghost use Rattle.cell_counters.specs.Tokens.{BoardModel};
+    ghost use Rattle.reach_avoid.specs.inside.Standing.{IsScratch};
+
+    ghost Value = { BoardModel };
+
+    ghost view = { λ s. s.board };
+
+    ghost invariant = { λ s. IsScratch s.board s.workers s.rounds s.answer };
+}
+
+impl Scratch {
+    /// Takes 8 bytes for a pair, on the board, and 32 for a cell: 16 on the board, 4 on the list and 12 in the answer.
+    /// While the board is made it takes 24 for a pair and 40 for a cell.
+    pub fn new<G: Graph>(alloc: Global, g: &G, workers: u32) -> Result<Scratch, NoMemory>
+        requires { (1 ≤ workers) × (workers ≤ 64) }
+        ensures { IfOk result (IsBoardOf (G.game g.now)) }
+    {
+        let starts = fans(alloc, g)?;
+        let least = first_words(alloc, g)?;
+        let cells = g.cells();
+        let (board, root) = new_board(alloc, starts.as_slice(), least.as_slice(), cells)?;
+        let members = room_for(alloc, workers)?;
+        let list = room_for(alloc, cells)?;
+        let answer = Answer::blank(alloc, cells)?;
+        let tally = Tally {
+            cuts: 0,
+            offers: 0,
+            rounds: 0,
+        };
+        let rounds = Rounds {
+            root,
+            members,
+            list,
+            listed: 0,
+            tally,
+        };
+        Ok(Scratch {
+            board,
+            rounds,
+            answer,
+            workers,
+        })
+    }
+}
+
+// A board with these numbers, and a log of so many places.
+fn new_board(
+    alloc: Global,
+    starts: &[u64],
+    least: &[u64],
+    places: u32,
+) -> Result<(Board, Root), NoMemory>
+    requires some { 0 < places }
+    requires room { length starts.now + length least.now + places < 2 ^ 32 }
+    ensures starts { IfOk result (λ made. made.0.starts ≡ starts.now) }
+    ensures least { IfOk result (λ made. made.0.least ≡ least.now) }
+    ensures places { IfOk result (λ made. made.0.places ≡ places) }
+    ensures root { IfOk result (λ made. made.1 ≡ new_root made.0) }
+{
+    Board::with_log(alloc, starts, least, places).map_err(|_| NoMemory)
+}
+
+// The least words, before anything is offered.
+fn first_words<G: Graph>(alloc: Global, g: &G) -> Result<Vec<u64>, NoMemory>
+    ensures { IfOk result (λ v. v.items ≡ map word_at (G.game g.now).marks) }
+{
+    let cells = g.cells();
+    let mut words = vec![in alloc; 0; cells as usize].map_err(|_| NoMemory)?;
+    for c in 0..cells {
+        words[c as usize] = first_word(g.mark(c));
+    }
+    Ok(words)
+}
+
+fn first_word(mark: Mark) -> u64
+    ensures { result ≡ word_at mark }
+{
+    match mark {
+        Mark::Goal => 1,
+        Mark::Obstacle => 0,
+        Mark::Plain => NONE,
+    }
+}
