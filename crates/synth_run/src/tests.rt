@@ -38,7 +38,8 @@ fn status_in_memory<R: Threads + Sync>(
 ) -> u8
     ensures { source.old.fails ≡ [] → source.old.faults ≡ 0 → out.old.fails ≡ [] → out.old.faults ≡ 0 → ((text : List ℕ) → IsTableFor source.old.left text → length out.old.got + length text ≤ out.old.room) → IsCompleteAnswer (Synth 1) result source.old.left }
 {
-    run(rt, alloc, &["synth", "1"], source, out, err, &Open)
+    let words = ["synth", "1"];
+    run(rt, alloc, &words, source, out, err, &Open, &mut None)
 }
 
 #[test]
@@ -64,7 +65,8 @@ fn on_a_table<R: Threads + Sync>(
 ) -> Result<u8, Fail> {
     let bytes = Vec::from_slice(alloc, table)?;
     let mut source = MemorySource::new(bytes, Vec::new(alloc));
-    Ok(run(rt, alloc, words, &mut source, out, err, &Open))
+    let status = run(rt, alloc, words, &mut source, out, err, &Open, &mut None);
+    Ok(status)
 }
 
 #[test]
