@@ -2,11 +2,14 @@ pub mod Completeness
 pub mod Demanded
 pub mod demo_lemmas
 pub mod Giving
+pub mod Leaving
 pub mod Limits
 pub mod MemoryRuns
 pub mod OneTable
 pub mod Reporting
 pub mod SoFar
+pub mod Spellings
+pub mod Starts
 pub mod Tables
 pub mod Words
 pub mod Working

@@ -1,4 +1,4 @@
-ghost use Rattle.std.specs.Prelude.{◌≡◌, ℕ, ◌≤◌, List, map, Some, IfSome, IfOk, IfErr};
+ghost use Rattle.std.specs.Prelude.{◌≡◌, ℕ, ◌≤◌, List, map, None, IfSome, IfOk, IfErr};
 ghost use Rattle.synth_run.specs.Devices.{Rose, reading, writing};
 ghost use Rattle.synth_run.specs.Form.{AreWorkers, IsOfForm, given};
 ghost use Rattle.synth_run.specs.Played.{LeavesTheGameOf};
@@ -36,10 +36,11 @@ struct Work {
     played: Option<(Board, Root)>,
 }
 
-impl From<Text> for Work {
-    ghost from_gives = { λ text work. work ≡ record { text = text; played = None } };
-
-    fn from(text: Text) -> Work {
+impl Work {
+    /// A text for which no game was solved.
+    fn of_text(text: Text) -> Work
+        ensures { result ≡ record { text = text; played = None } }
+    {
         Work { text, played: None }
     }
 }
@@ -135,12 +136,12 @@ fn work_of<R: Threads + Sync, S: Source, G: Gate>(
 {
     match form {
         Form::Synth { workers } => synth(rt, alloc, source, workers, gate),
-        Form::Check => Ok(Work::from(check(rt, alloc, source)?)),
+        Form::Check => Ok(Work::of_text(check(rt, alloc, source)?)),
         Form::Sim {
             samples,
             seed,
             start,
-        } => Ok(Work::from(sim(alloc, source, samples, seed, &start)?)),
+        } => Ok(Work::of_text(sim(alloc, source, samples, seed, &start)?)),
         Form::Demo { number, workers } => demo(rt, alloc, number, workers, gate),
     }
 }

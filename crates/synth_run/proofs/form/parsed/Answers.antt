@@ -1,5 +1,5 @@
 use Rattle.std.proofs.Common.{◌∙◌}
-use Rattle.synth_run.proofs.Words.{parsed_number}
+use Rattle.synth_run.proofs.Spellings.{parsed_number}
 use Rattle.synth_run.proofs.form.parsed.Goals as goal
 
 pub returns : goal.returns
