@@ -18,9 +18,6 @@ def check(report):
     compiler = shutil.which("cc") or shutil.which("gcc") or shutil.which("clang")
     if compiler is None:
         print("skipped: there is no C compiler, so control.c isn't tried")
-    has_sim = report.run(("sim", "1", "0", "1"), report.table_text("line"))[0] != 2
-    if not has_sim:
-        print("skipped: the program doesn't have `sim` yet, so no trace is compared")
     for name in NAMES:
         text = report.table_text(name)
         table = read_table(text)
@@ -30,8 +27,7 @@ def check(report):
         states = random_states(table.plant)
         for language, answer in zip(("Python", "C"), answers):
             report.expect(f"{name}: {language} by the table", expected(table, states), answer(states))
-        if has_sim:
-            check_traces(report, name, text, table, answers)
+        check_traces(report, name, text, table, answers)
 
 
 def random_states(plant):

@@ -3,7 +3,7 @@ use Rattle.std.proofs.Common.{inl, inr, ◌≡◌, ℕ, List, Option, Some, None
 use Rattle.std.specs.Prelude.{IfSome}
 use Rattle.synth_run.specs.declared.form.Form.{Form}
 use Rattle.synth_run.specs.declared.outcome.Outcome.{Outcome}
-use Rattle.synth_run.specs.declared.outcome.Outcome.TheVariants.{Done, Invalid, Usage, Malformed, Overflow, Limit, ReadFault, WriteFault, NoMemory}
+use Rattle.synth_run.specs.declared.outcome.Outcome.TheVariants.{Done, Invalid, NoRow, Usage, Malformed, Overflow, Limit, ReadFault, WriteFault, NoMemory}
 use Rattle.synth_run.specs.Demands.{Demands}
 use Rattle.synth_run.specs.Laws.{OneDemandPerText}
 use Rattle.synth_run.specs.Statuses.{status_of, IsTheTexts}
@@ -18,6 +18,7 @@ answer_is_complete one form WriteFault (Some bytes) usage read write demanded = 
 answer_is_complete one form NoMemory (Some bytes) usage read write demanded = λ other demands. inr refl
 answer_is_complete one form Done (Some bytes) usage read write demanded = λ other demands. inl (ap status_of (one form bytes Done other (demanded tt) demands))
 answer_is_complete one form (Invalid cell) (Some bytes) usage read write demanded = λ other demands. inl (ap status_of (one form bytes (Invalid cell) other (demanded tt) demands))
+answer_is_complete one form NoRow (Some bytes) usage read write demanded = λ other demands. inl (ap status_of (one form bytes NoRow other (demanded tt) demands))
 answer_is_complete one form (Malformed line) (Some bytes) usage read write demanded = λ other demands. inl (ap status_of (one form bytes (Malformed line) other (demanded tt) demands))
 answer_is_complete one form (Overflow i u) (Some bytes) usage read write demanded = λ other demands. inl (ap status_of (one form bytes (Overflow i u) other (demanded tt) demands))
 answer_is_complete one form (Limit what) (Some bytes) usage read write demanded = λ other demands. inl (ap status_of (one form bytes (Limit what) other (demanded tt) demands))

@@ -1,5 +1,6 @@
 -- A text demands one thing.
-use Rattle.std.proofs.Common.{inl, inr, ◌≡◌, ℕ, ◌^◌, ◌<◌, ◌≤◌, List, Option, sym, ap, subst, ◌∙◌, refl, arith}
+use Rattle.std.proofs.Common.{inl, inr, ◌≡◌, ℕ, ◌^◌, ◌<◌, ◌≤◌, List, Option, Some, None, sym, ap, subst, ◌∙◌, refl, arith}
+use Rattle.std.specs.Prelude.{◌⊎◌, ℤ}
 use Rattle.std.proofs.lemmas.Bool.{cases_order}
 use Rattle.plant_text.specs.declared.fault.LimitKind.{LimitKind}
 use Rattle.plant_text.specs.declared.fault.LimitKind.TheVariants.{PlantText, TableText, Vectors, Cells, Pairs, Edges}
@@ -23,10 +24,11 @@ use Rattle.controller_table.specs.declared.fault.TableFault.TheVariants as table
 use Rattle.controller_table.specs.Refusals.{IsTableRefusedFor}
 use Rattle.controller_table.specs.Laws.{OneTablePerText, OneTableRefusal, TableOrRefused}
 use Rattle.table_check.specs.Verdicts.{IsFirstWithout}
-use Rattle.synth_run.specs.declared.form.Form.TheVariants.{Synth, Check, Demo}
+use Rattle.synth_run.specs.declared.form.Form.TheVariants.{Synth, Check, Sim, Demo}
 use Rattle.synth_run.specs.declared.outcome.Outcome.{Outcome}
-use Rattle.synth_run.specs.declared.outcome.Outcome.TheVariants.{Done, Invalid, Usage, Malformed, Overflow, Limit, ReadFault, WriteFault, NoMemory}
-use Rattle.synth_run.specs.Demands.{IsRefused, IsSolvable, HasEdges, ExceedsEdges, PlantDemands, PlantTextDemands, IsRightFor, IsFirstWrong, TableDemands, IsRefusedTable, TableTextDemands}
+use Rattle.synth_run.specs.declared.outcome.Outcome.TheVariants.{Done, Invalid, NoRow, Usage, Malformed, Overflow, Limit, ReadFault, WriteFault, NoMemory}
+use Rattle.synth_run.specs.Demands.{IsRefused, IsSolvable, HasEdges, ExceedsEdges, PlantDemands, PlantTextDemands, IsRightFor, IsFirstWrong, TableDemands, IsRefusedTable, IsTableThatDemands}
+use Rattle.synth_run.specs.Traces.{HasRowFor, HasNoRowFor, TraceDemands}
 use Rattle.synth_run.specs.inside.Causes.{of_plant, of_table}
 use Rattle.synth_run.specs.Demo.{demo_plant_of}
 use Rattle.synth_run.specs.DemoLaws.{IsSolvableDemo}
@@ -92,24 +94,28 @@ module _ (count : OneEdgeCount) where
   plant_demands_one p (Limit what) (Overflow i u) plant f g = let many = (exceeding p what f).1 in absurd (fits_or_not p i u many.1.fits g)
   plant_demands_one p (Limit what) (Limit other) plant f g = ap Limit ((exceeding p what f).0 ∙ sym (exceeding p other g).0)
   plant_demands_one p (Invalid c) b plant f g = absurd f
+  plant_demands_one p NoRow b plant f g = absurd f
   plant_demands_one p Usage b plant f g = absurd f
   plant_demands_one p (Malformed n) b plant f g = absurd f
   plant_demands_one p ReadFault b plant f g = absurd f
   plant_demands_one p WriteFault b plant f g = absurd f
   plant_demands_one p NoMemory b plant f g = absurd f
   plant_demands_one p Done (Invalid c) plant f g = absurd g
+  plant_demands_one p Done NoRow plant f g = absurd g
   plant_demands_one p Done Usage plant f g = absurd g
   plant_demands_one p Done (Malformed n) plant f g = absurd g
   plant_demands_one p Done ReadFault plant f g = absurd g
   plant_demands_one p Done WriteFault plant f g = absurd g
   plant_demands_one p Done NoMemory plant f g = absurd g
   plant_demands_one p (Overflow i u) (Invalid c) plant f g = absurd g
+  plant_demands_one p (Overflow i u) NoRow plant f g = absurd g
   plant_demands_one p (Overflow i u) Usage plant f g = absurd g
   plant_demands_one p (Overflow i u) (Malformed n) plant f g = absurd g
   plant_demands_one p (Overflow i u) ReadFault plant f g = absurd g
   plant_demands_one p (Overflow i u) WriteFault plant f g = absurd g
   plant_demands_one p (Overflow i u) NoMemory plant f g = absurd g
   plant_demands_one p (Limit what) (Invalid c) plant f g = absurd g
+  plant_demands_one p (Limit what) NoRow plant f g = absurd g
   plant_demands_one p (Limit what) Usage plant f g = absurd g
   plant_demands_one p (Limit what) (Malformed n) plant f g = absurd g
   plant_demands_one p (Limit what) ReadFault plant f g = absurd g
@@ -120,6 +126,7 @@ module _ (count : OneEdgeCount) where
 pub no_refusal : (n : ℕ) → IsSolvableDemo n → (outcome : Outcome) → (outcome ≡ Done → ⊥) → ((outcome ≡ NoMemory → ⊥) → PlantDemands (demo_plant_of n) outcome) → outcome ≡ NoMemory
 no_refusal n s Done failed h = absurd (failed refl)
 no_refusal n s (Invalid c) failed h = absurd (h (λ e. cc))
+no_refusal n s NoRow failed h = absurd (h (λ e. cc))
 no_refusal n s Usage failed h = absurd (h (λ e. cc))
 no_refusal n s (Malformed line) failed h = absurd (h (λ e. cc))
 no_refusal n s (Overflow i u) failed h = absurd (fits_or_not (demo_plant_of n) i u s.no_overflow (h (λ e. cc)))
@@ -137,6 +144,7 @@ record IsFaulty (bytes : List ℕ) (outcome : Outcome) : Type 0 where
 faulty : (bytes : List ℕ) (outcome : Outcome) → IsRefused bytes outcome → IsFaulty bytes outcome
 faulty bytes Done h = absurd h
 faulty bytes (Invalid c) h = absurd h
+faulty bytes NoRow h = absurd h
 faulty bytes Usage h = absurd h
 faulty bytes (Malformed line) h = record { fault = plants.Malformed line; refused = h; is = refl }
 faulty bytes (Overflow i u) h = absurd h
@@ -169,6 +177,7 @@ data TableEnd (p : Description) (rows : List (Option Row)) (outcome : Outcome) :
 table_end : (p : Description) (rows : List (Option Row)) (outcome : Outcome) → TableDemands p rows outcome → TableEnd p rows outcome
 table_end p rows Done h = is_valid refl h.0 h.1
 table_end p rows (Invalid cell) h = is_invalid cell refl h.0 h.1
+table_end p rows NoRow h = absurd h
 table_end p rows Usage h = absurd h
 table_end p rows (Malformed line) h = absurd h
 table_end p rows (Overflow i u) h = is_refused (λ e. cc) h
@@ -186,6 +195,7 @@ record IsFaultyTable (bytes : List ℕ) (outcome : Outcome) : Type 0 where
 faulty_table : (bytes : List ℕ) (outcome : Outcome) → IsRefusedTable bytes outcome → IsFaultyTable bytes outcome
 faulty_table bytes Done h = absurd h
 faulty_table bytes (Invalid c) h = absurd h
+faulty_table bytes NoRow h = absurd h
 faulty_table bytes Usage h = absurd h
 faulty_table bytes (Malformed line) h = record { fault = tables.Malformed line; refused = h; is = refl }
 faulty_table bytes (Overflow i u) h = absurd h
@@ -243,8 +253,11 @@ one_table_end laws p rows a b plant (is_refused e h) (is_valid k t g) = absurd (
 one_table_end laws p rows a b plant (is_refused e h) (is_invalid d k t g) = absurd (e (plant_demands_one laws.edges p a Done plant h t))
 one_table_end laws p rows a b plant (is_refused e h) (is_refused k g) = plant_demands_one laws.edges p a b plant h g
 
-one_demand_of_tables : TableLaws → (bytes : List ℕ) (a b : Outcome) → TableTextDemands bytes a → TableTextDemands bytes b → a ≡ b
-one_demand_of_tables laws bytes a b f g =
+-- tables demand one thing where their plants and rows do
+one_demand_of_tables : TableLaws → (Demanded : Description → List (Option Row) → Outcome → Type 0)
+    → ((p : Description) (rows : List (Option Row)) (a b : Outcome) → IsPlant p → Demanded p rows a → Demanded p rows b → a ≡ b)
+    → (bytes : List ℕ) (a b : Outcome) → IsRefusedTable bytes a ⊎ IsTableThatDemands (λ p rows. Demanded p rows a) bytes → IsRefusedTable bytes b ⊎ IsTableThatDemands (λ p rows. Demanded p rows b) bytes → a ≡ b
+one_demand_of_tables laws Demanded one bytes a b f g =
     elim f [
       | inl refused ↦ elim g [
         | inl other ↦ (let x = faulty_table bytes a refused in let y = faulty_table bytes b other in x.is ∙ ap of_table (laws.refusal bytes x.fault y.fault x.refused y.refused) ∙ sym y.is)
@@ -252,13 +265,56 @@ one_demand_of_tables laws bytes a b f g =
       ]
       | inr table ↦ elim g [
         | inl other ↦ (let y = faulty_table bytes b other in absurd (laws.read bytes table.plant table.rows y.fault table.table y.refused))
-        | inr also ↦ (let same = laws.table bytes table.plant also.plant table.rows also.rows table.table also.table in one_table_end laws also.plant also.rows a b also.table.limits.plant
-            (table_end also.plant also.rows a (subst (λ (q : Description). TableDemands q also.rows a) same.0 (subst (λ (r : List (Option Row)). TableDemands table.plant r a) same.1 table.demands)))
-            (table_end also.plant also.rows b also.demands))
+        | inr also ↦ (let same = laws.table bytes table.plant also.plant table.rows also.rows table.table also.table in one also.plant also.rows a b also.table.limits.plant
+            (subst (λ (q : Description). Demanded q also.rows a) same.0 (subst (λ (r : List (Option Row)). Demanded table.plant r a) same.1 table.demands))
+            also.demands)
       ]
     ]
 
+-- ---- traces
+
+-- what a table demands for a start: a trace, or that there is no row for it, or what refuses its plant
+data TraceEnd (p : Description) (rows : List (Option Row)) (start : List ℤ) (outcome : Outcome) : Type 0 where
+  is_driven : outcome ≡ Done → HasNoOverflow p → HasRowFor p rows start → TraceEnd p rows start outcome
+  has_no_row : outcome ≡ NoRow → HasNoOverflow p → HasNoRowFor p rows start → TraceEnd p rows start outcome
+  overflows : (i u : ℕ) → outcome ≡ Overflow i u → IsFirstOverflow p i u → TraceEnd p rows start outcome
+
+trace_end : (p : Description) (rows : List (Option Row)) (start : List ℤ) (outcome : Outcome) → TraceDemands p rows start outcome → TraceEnd p rows start outcome
+trace_end p rows start Done h = is_driven refl h.0 h.1
+trace_end p rows start (Invalid cell) h = absurd h
+trace_end p rows start NoRow h = has_no_row refl h.0 h.1
+trace_end p rows start Usage h = absurd h
+trace_end p rows start (Malformed line) h = absurd h
+trace_end p rows start (Overflow i u) h = overflows i u refl h
+trace_end p rows start (Limit what) h = absurd h
+trace_end p rows start ReadFault h = absurd h
+trace_end p rows start WriteFault h = absurd h
+trace_end p rows start NoMemory h = absurd h
+
+row_or_none : (p : Description) (rows : List (Option Row)) (start : List ℤ) → HasRowFor p rows start → HasNoRowFor p rows start → ⊥
+row_or_none p rows start row none =
+    elim none [
+      | inl others ↦ others row.one_each
+      | inr past ↦ (let clash : Some row.row ≡ None = sym row.has ∙ past in cc)
+    ]
+
+one_trace_end : (p : Description) (rows : List (Option Row)) (start : List ℤ) (a b : Outcome) → TraceEnd p rows start a → TraceEnd p rows start b → a ≡ b
+one_trace_end p rows start a b (is_driven e fits row) (is_driven k others also) = e ∙ sym k
+one_trace_end p rows start a b (is_driven e fits row) (has_no_row k others none) = absurd (row_or_none p rows start row none)
+one_trace_end p rows start a b (is_driven e fits row) (overflows i u k first) = absurd (fits_or_not p i u fits first)
+one_trace_end p rows start a b (has_no_row e fits none) (is_driven k others row) = absurd (row_or_none p rows start row none)
+one_trace_end p rows start a b (has_no_row e fits none) (has_no_row k others also) = e ∙ sym k
+one_trace_end p rows start a b (has_no_row e fits none) (overflows i u k first) = absurd (fits_or_not p i u fits first)
+one_trace_end p rows start a b (overflows i u e first) (is_driven k fits row) = absurd (fits_or_not p i u fits first)
+one_trace_end p rows start a b (overflows i u e first) (has_no_row k fits none) = absurd (fits_or_not p i u fits first)
+one_trace_end p rows start a b (overflows i u e first) (overflows j v k other) = e ∙ same_overflow p i u j v first other ∙ sym k
+
+-- ---- forms
+
 pub one_demand : OnePlantPerText → OneRefusal → ReadOrRefused → TableLaws → OneDemandPerText
 one_demand plant refusal read laws (Synth workers) bytes a b f g = one_demand_of_plants plant refusal read laws.edges bytes a b f g
-one_demand plant refusal read laws Check bytes a b f g = one_demand_of_tables laws bytes a b f g
+one_demand plant refusal read laws Check bytes a b f g =
+    one_demand_of_tables laws TableDemands (λ p rows c d well h k. one_table_end laws p rows c d well (table_end p rows c h) (table_end p rows d k)) bytes a b f g
+one_demand plant refusal read laws (Sim samples seed start) bytes a b f g =
+    one_demand_of_tables laws (λ p rows outcome. TraceDemands p rows start outcome) (λ p rows c d well h k. one_trace_end p rows start c d (trace_end p rows start c h) (trace_end p rows start d k)) bytes a b f g
 one_demand plant refusal read laws (Demo n workers) bytes a b f g = f ∙ sym g

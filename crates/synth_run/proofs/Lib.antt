@@ -7,6 +7,7 @@ pub mod Limits
 pub mod MemoryRuns
 pub mod OneTable
 pub mod Reporting
+pub mod Simulations
 pub mod SoFar
 pub mod Spellings
 pub mod Starts

@@ -1,18 +1,21 @@
 -- A source that is read to one byte past the limit of its text.
 use Rattle.std.proofs.Common.{inl, inr, ◌≡◌, ℕ, ◌<◌, List, length, take, drop, Option, Some, None, subst, arith, length-take}
-use Rattle.std.specs.Prelude.{IfSome}
+use Rattle.std.specs.Prelude.{ℤ, IfSome}
 use Rattle.std.proofs.lemmas.Bool.{cases_lt}
 use Rattle.plant_text.specs.declared.fault.LimitKind.{LimitKind}
 use Rattle.plant_text.specs.declared.fault.LimitKind.TheVariants.{PlantText, TableText, Vectors, Cells, Pairs, Edges}
 use Rattle.plant_text.specs.declared.fault.PlantFault.TheVariants as plants
 use Rattle.plant_text.specs.reading.Refusals.{IsShort, IsRefusedFor}
+use Rattle.game_core.specs.declared.game.Row.{Row}
+use Rattle.plant_text.specs.plant.Description.{Description}
 use Rattle.controller_table.specs.declared.fault.TableFault.TheVariants as tables
+use Rattle.controller_table.specs.Tables.{IsTable}
 use Rattle.controller_table.specs.Refusals.{IsShortTable, IsTableRefusedFor}
 use Rattle.controller_table.specs.Laws.{TablesAreShort}
 use Rattle.synth_run.specs.declared.form.Form.{Form}
-use Rattle.synth_run.specs.declared.form.Form.TheVariants.{Synth, Check}
+use Rattle.synth_run.specs.declared.form.Form.TheVariants.{Synth, Check, Sim}
 use Rattle.synth_run.specs.declared.outcome.Outcome.{Outcome}
-use Rattle.synth_run.specs.declared.outcome.Outcome.TheVariants.{Done, Invalid, Usage, Malformed, Overflow, Limit, ReadFault, WriteFault, NoMemory}
+use Rattle.synth_run.specs.declared.outcome.Outcome.TheVariants.{Done, Invalid, NoRow, Usage, Malformed, Overflow, Limit, ReadFault, WriteFault, NoMemory}
 use Rattle.synth_run.specs.inside.Transfers.{ReadUpTo}
 use Rattle.synth_run.specs.Form.{most_read}
 use Rattle.synth_run.specs.Demands.{IsRefused, IsRefusedTable, Demands}
@@ -45,6 +48,7 @@ long_front bytes lt short = omega (arith, lt, short, length-take 65537 bytes)
 refused_of_longer : (bytes : List ℕ) (outcome : Outcome) → 65537 < length bytes → IsRefused (take 65537 bytes) outcome → IsRefused bytes outcome
 refused_of_longer bytes Done lt h = h
 refused_of_longer bytes (Invalid cell) lt h = h
+refused_of_longer bytes NoRow lt h = h
 refused_of_longer bytes Usage lt h = h
 refused_of_longer bytes (Malformed line) lt h = absurd (long_front bytes lt h.0)
 refused_of_longer bytes (Overflow i u) lt h = h
@@ -69,6 +73,7 @@ long_table_front bytes lt short = omega (arith, lt, short, length-take 67108865 
 refused_table_of_longer : (bytes : List ℕ) (outcome : Outcome) → 67108865 < length bytes → IsRefusedTable (take 67108865 bytes) outcome → IsRefusedTable bytes outcome
 refused_table_of_longer bytes Done lt h = h
 refused_table_of_longer bytes (Invalid cell) lt h = h
+refused_table_of_longer bytes NoRow lt h = h
 refused_table_of_longer bytes Usage lt h = h
 refused_table_of_longer bytes (Malformed line) lt h = absurd (long_table_front bytes lt h.0)
 refused_table_of_longer bytes (Overflow i u) lt h = h
@@ -102,12 +107,25 @@ plants_pass_on workers = record {
   answers = λ text bytes lt h. absurd (long_front bytes lt h.1.short);
 }
 
+no_table_front : TablesAreShort → (bytes : List ℕ) (p : Description) (rows : List (Option Row)) → 67108865 < length bytes → IsTable (take 67108865 bytes) p rows → ⊥
+no_table_front short bytes p rows lt table = long_table_front bytes lt (short (take 67108865 bytes) p rows table)
+
 pub tables_pass_on : TablesAreShort → PassesOn Check
 tables_pass_on short = record {
   demands = λ outcome bytes lt h.
       elim h [
         | inl refused ↦ inl (refused_table_of_longer bytes outcome lt refused)
-        | inr table ↦ absurd (long_table_front bytes lt (short (take 67108865 bytes) table.plant table.rows table.table))
+        | inr table ↦ absurd (no_table_front short bytes table.plant table.rows lt table.table)
       ];
-  answers = λ text bytes lt h. absurd (long_table_front bytes lt (short (take 67108865 bytes) h.0.plant h.0.rows h.0.table));
+  answers = λ text bytes lt h. absurd (no_table_front short bytes h.0.plant h.0.rows lt h.0.table);
+}
+
+pub traces_pass_on : TablesAreShort → (samples seed : ℕ) (start : List ℤ) → PassesOn (Sim samples seed start)
+traces_pass_on short samples seed start = record {
+  demands = λ outcome bytes lt h.
+      elim h [
+        | inl refused ↦ inl (refused_table_of_longer bytes outcome lt refused)
+        | inr table ↦ absurd (no_table_front short bytes table.plant table.rows lt table.table)
+      ];
+  answers = λ text bytes lt h. absurd (no_table_front short bytes h.plant h.rows lt h.table);
 }

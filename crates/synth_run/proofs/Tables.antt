@@ -1,5 +1,5 @@
 -- The facts that make a table, and those that judge one.
-use Rattle.std.proofs.Common.{inl, ◌≡◌, ℕ, List, Option, refl, sym, subst, length}
+use Rattle.std.proofs.Common.{◌≡◌, ℕ, List, Option, refl, sym, subst, length}
 use Rattle.std.specs.Prelude.{sum_by}
 use Rattle.game_core.specs.declared.game.Row.{Row}
 use Rattle.game_core.specs.Game.{Game, IsGraph}
@@ -17,7 +17,7 @@ use Rattle.controller_table.specs.Refusals.{IsTableRefusedFor}
 use Rattle.controller_table.specs.Tables.{RowsFit}
 use Rattle.synth_run.specs.declared.outcome.Outcome.TheVariants.{NoMemory}
 use Rattle.synth_run.specs.inside.Causes.{of_table}
-use Rattle.synth_run.specs.Demands.{IsSolvable, TableTextDemands}
+use Rattle.synth_run.specs.Demands.{IsSolvable, IsRefusedTable}
 
 -- a plant with a graph in memory
 pub is_solvable : GamesCountTheirEdges → (p : Description) (g : Game) → HasNoOverflow p → IsGameOf p g → IsGraph g → IsSolvable p
@@ -34,7 +34,7 @@ module _ (reach : ReachSolutionsFit) (keep : KeepSolutionsFit) where
   solution_fits p g rows Keep same graph solution = keep p g rows (sym same) graph solution
 
 -- what a reader of tables refuses is refused
-pub refused_by_fault : (bytes : List ℕ) (fault : TableFault) → ((fault ≡ tables.Memory → ⊥) → IsTableRefusedFor bytes fault) → (of_table fault ≡ NoMemory → ⊥) → TableTextDemands bytes (of_table fault)
-refused_by_fault bytes (tables.Malformed line) refused some = inl (refused (λ e. cc))
-refused_by_fault bytes (tables.Limit what) refused some = inl (refused (λ e. cc))
+pub refused_by_fault : (bytes : List ℕ) (fault : TableFault) → ((fault ≡ tables.Memory → ⊥) → IsTableRefusedFor bytes fault) → (of_table fault ≡ NoMemory → ⊥) → IsRefusedTable bytes (of_table fault)
+refused_by_fault bytes (tables.Malformed line) refused some = refused (λ e. cc)
+refused_by_fault bytes (tables.Limit what) refused some = refused (λ e. cc)
 refused_by_fault bytes tables.Memory refused some = absurd (some refl)

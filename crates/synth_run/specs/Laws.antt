@@ -1,9 +1,10 @@
 -- What holds of every run.
-use Rattle.std.specs.Prelude.{◌≡◌, ℕ, List}
+use Rattle.std.specs.Prelude.{◌≡◌, ℕ, ℤ, List}
 use Rattle.synth_run.specs.declared.form.Form.{Form}
 use Rattle.synth_run.specs.declared.outcome.Outcome.{Outcome}
 use Rattle.synth_run.specs.Demands.{Demands}
 use Rattle.synth_run.specs.Headline.{IsTableFor}
+use Rattle.synth_run.specs.Traces.{IsTraceFor}
 
 -- a text demands one thing of a form
 abbrev pub OneDemandPerText : Type 0
@@ -12,3 +13,7 @@ OneDemandPerText = (form : Form) (bytes : List ℕ) (a b : Outcome) → Demands 
 -- bytes have one table
 abbrev pub OneTableForBytes : Type 0
 OneTableForBytes = (bytes a b : List ℕ) → IsTableFor bytes a → IsTableFor bytes b → a ≡ b
+
+-- bytes have one trace, from a start under the noises of a seed
+abbrev pub OneTraceForBytes : Type 0
+OneTraceForBytes = (bytes : List ℕ) (samples seed : ℕ) (start : List ℤ) (a b : List ℕ) → IsTraceFor bytes samples seed start a → IsTraceFor bytes samples seed start b → a ≡ b

@@ -1,6 +1,6 @@
 //! What holds of every run.
 
-ghost use Rattle.synth_run.specs.Laws.{OneTableForBytes, OneDemandPerText};
+ghost use Rattle.synth_run.specs.Laws.{OneTableForBytes, OneTraceForBytes, OneDemandPerText};
 
 pub mod demo;
 
@@ -15,6 +15,13 @@ pub fn one_table_for_bytes()
 {
     one_plant_per_text();
     one_solution_per_plant();
+}
+
+/// A table has one trace, from a start under the noises of a seed: `sim` has no choice of what to write.
+pub fn one_trace_for_bytes()
+    ensures { OneTraceForBytes }
+{
+    one_table_per_text();
 }
 
 /// A text demands one thing: one refusal, or one answer.

@@ -1,3 +1,4 @@
+use Rattle.std.proofs.Common.{inl}
 use Rattle.synth_run.proofs.Reporting.{on_ok_both, exits}
 use Rattle.synth_run.proofs.Tables.{refused_by_fault}
 use Rattle.synth_run.specs.inside.Causes.{of_table}
@@ -22,4 +23,4 @@ returns-clause-valid g c =
 
 pub returns-in_err-table-clause-demanded : goal.returns-in_err-table-clause-demanded
 returns-in_err-table-clause-demanded g c =
-    exits c.from_residual.result (of_table c.in_err-table.field-0.0) _ c.from_residual.ensures.1 (refused_by_fault c.args.bytes.now c.in_err-table.field-0.0 c.in_err-table.ensures.refused)
+    exits c.from_residual.result (of_table c.in_err-table.field-0.0) _ c.from_residual.ensures.1 (λ some. inl (refused_by_fault c.args.bytes.now c.in_err-table.field-0.0 c.in_err-table.ensures.refused some))

@@ -11,5 +11,8 @@ returns-in-Overflow g c = rw c.in-Overflow.is (reports_by c.write_pieces-in-Over
 pub returns-in-Invalid : goal.returns-in-Invalid
 returns-in-Invalid g c = rw c.in-Invalid.is (reports_by c.write_pieces.result _ _ _ (rw (c.as_bytes-cell.ensures.value, c.format.ensures.text) (simp (append_assoc, append-nil))) c.write_pieces.ensures.whole c.write_pieces.ensures.part)
 
+pub returns-in-NoRow : goal.returns-in-NoRow
+returns-in-NoRow g c = rw c.in-NoRow.is (reports_by c.write_pieces-in-NoRow.result _ _ _ refl c.write_pieces-in-NoRow.ensures.whole c.write_pieces-in-NoRow.ensures.part)
+
 pub returns-in-ReadFault : goal.returns-in-ReadFault
 returns-in-ReadFault g c = rw c.in-ReadFault.is (reports_by c.write_pieces-in-ReadFault.result _ _ _ refl c.write_pieces-in-ReadFault.ensures.whole c.write_pieces-in-ReadFault.ensures.part)
