@@ -1,0 +1,133 @@
+-- How many numbers pass a test, and sums over ranges in parts.
+use Rattle.std.proofs.Common.{◌≡◌, ◌≢◌, ℕ, zero, suc, ◌+◌, ◌*◌, ◌<◌, ◌≤◌, ◌==◌, ◌||◌, nat_lt, Bool, true, false, List, [], ◌∷◌, ◌++◌, All, count_by, sum_by, arith, refl, sym, ◌∙◌, ap, eq-eqb, ne_eqb}
+use Rattle.std.specs.List.{list_any, range_with_len}
+use Rattle.std.proofs.Math.Nat.{suc-mul}
+use Rattle.std.proofs.lemmas.Bool.{lt-ltb}
+use Rattle.std.proofs.lemmas.List.Elements.{All-nil, All-cons}
+use Rattle.std.proofs.lemmas.List.FromFn.{length-range_with_len, get_or-range_with_len}
+use Rattle.std.proofs.lemmas.List.Sums.{sum_by-cons, sum_by-append, sum_by-le, sum_by-le-sum_by}
+use Rattle.game_core.specs.Counts.{times}
+use Rattle.board_crew.specs.Crew.{one_if}
+
+pub count-cons : (p : ℕ → Bool) (x : ℕ) (xs : List ℕ) → count_by p (x ∷ xs) ≡ one_if (p x) + count_by p xs
+count-cons p x xs = sum_by-cons (λ y. one_if (p y)) x xs
+
+pub sum_zeros : (f : ℕ → ℕ) (xs : List ℕ) → All (λ x. f x ≡ 0) xs → sum_by f xs ≡ 0
+sum_zeros f xs h = let le = sum_by-le f 0 xs (λ i d lt. let e = h i d lt in omega arith) in omega arith
+
+-- a test that fails at each element counts none, and the other way round
+pub count_none : (p : ℕ → Bool) (xs : List ℕ) → All (λ x. p x ≡ false) xs → count_by p xs ≡ 0
+count_none p xs h = sum_zeros (λ x. one_if (p x)) xs (λ i d lt. ap one_if (h i d lt))
+
+test_fails : (b : Bool) (n : ℕ) → one_if b + n ≡ 0 → b ≡ false
+test_fails true n e = absurd (omega arith)
+test_fails false n e = refl
+
+pub none_from_count : (p : ℕ → Bool) (xs : List ℕ) → count_by p xs ≡ 0 → All (λ x. p x ≡ false) xs
+none_from_count p [] e = All-nil (λ x. p x ≡ false)
+none_from_count p (x ∷ xs) e =
+    let a = count-cons p x xs in
+    All-cons (λ y. p y ≡ false) x xs (test_fails (p x) (count_by p xs) (omega arith)) (none_from_count p xs (omega arith))
+
+-- a test that passes wherever another does, and no more often, passes alike
+pub one_if_le : (a b : Bool) → (a ≡ true → b ≡ true) → one_if a ≤ one_if b
+one_if_le true b h = let e : one_if b ≡ 1 = ap one_if (h refl) in omega arith
+one_if_le false b h = omega arith
+
+pub one_if_same : (a b : Bool) → one_if a ≡ one_if b → a ≡ b
+one_if_same true true e = refl
+one_if_same true false e = absurd (omega arith)
+one_if_same false true e = absurd (omega arith)
+one_if_same false false e = refl
+
+pub alike_from_counts : (p q : ℕ → Bool) → ((x : ℕ) → p x ≡ true → q x ≡ true) → (xs : List ℕ) → count_by q xs ≤ count_by p xs → All (λ x. p x ≡ q x) xs
+alike_from_counts p q more [] le = All-nil (λ x. p x ≡ q x)
+alike_from_counts p q more (x ∷ xs) le =
+    let a = count-cons p x xs in
+    let b = count-cons q x xs in
+    let here = one_if_le (p x) (q x) (more x) in
+    let rest : count_by p xs ≤ count_by q xs = sum_by-le-sum_by (λ x. one_if (p x)) (λ x. one_if (q x)) xs (λ x. one_if_le (p x) (q x) (more x)) in
+    All-cons (λ x. p x ≡ q x) x xs (one_if_same (p x) (q x) (omega arith)) (alike_from_counts p q more xs (omega arith))
+
+-- some element passes exactly where the count isn't 0
+pub any_counts : (p : ℕ → Bool) (xs : List ℕ) → list_any p xs ≡ nat_lt 0 (count_by p xs)
+any_counts p [] = refl
+any_counts p (x ∷ xs) = by_test (p x) refl (any_counts p xs)
+  where
+    by_test : (b : Bool) → p x ≡ b → list_any p xs ≡ nat_lt 0 (count_by p xs) → (b || list_any p xs) ≡ nat_lt 0 (count_by p (x ∷ xs))
+    by_test true f later =
+        let a = count-cons p x xs in
+        let b : one_if (p x) ≡ 1 = ap one_if f in
+        sym (lt-ltb 0 (count_by p (x ∷ xs)) (omega arith))
+    by_test false f later =
+        let a = count-cons p x xs in
+        let b : one_if (p x) ≡ 0 = ap one_if f in
+        later ∙ ap (nat_lt 0) {x = count_by p xs} {y = count_by p (x ∷ xs)} (omega arith)
+
+-- how often a number stands in a list
+pub times-append : (n : ℕ) (xs ys : List ℕ) → times n (xs ++ ys) ≡ times n xs + times n ys
+times-append n xs ys = sum_by-append (λ x. one_if (x == n)) xs ys
+
+pub times_single : (n x : ℕ) → times n (x ∷ []) ≡ one_if (x == n)
+times_single n x =
+    let a = count-cons (λ x. x == n) x [] in
+    let z : times n [] ≡ 0 = refl in
+    omega arith
+
+pub here : (x n : ℕ) → x ≡ n → one_if (x == n) ≡ 1
+here x n e = ap one_if (eq-eqb x n e)
+
+pub elsewhere : (x n : ℕ) → x ≢ n → one_if (x == n) ≡ 0
+elsewhere x n ne = ap one_if (ne_eqb x n ne)
+
+-- what holds of all numbers of a range, and of each below its end
+pub All-range : (n : ℕ) → All (λ i. i < n) (range_with_len 0 n)
+All-range n i d lt =
+    let len = length-range_with_len 0 n in
+    let at = get_or-range_with_len 0 n i d (omega arith) in
+    omega arith
+
+-- a sum over a range in two parts
+pub range_split : (f : ℕ → ℕ) (a n m : ℕ) → sum_by f (range_with_len a (n + m)) ≡ sum_by f (range_with_len a n) + sum_by f (range_with_len (a + n) m)
+range_split f a zero m =
+    let all : sum_by f (range_with_len a (zero + m)) ≡ sum_by f (range_with_len a m) = ap (λ k. sum_by f (range_with_len a k)) {x = zero + m} {y = m} (omega arith) in
+    let rest : sum_by f (range_with_len (a + zero) m) ≡ sum_by f (range_with_len a m) = ap (λ k. sum_by f (range_with_len k m)) {x = a + zero} {y = a} (omega arith) in
+    let none' : sum_by f (range_with_len a zero) ≡ 0 = refl in
+    omega arith
+range_split f a (suc n) m =
+    let all : sum_by f (range_with_len a (suc n + m)) ≡ sum_by f (range_with_len a (suc (n + m))) = ap (λ k. sum_by f (range_with_len a k)) {x = suc n + m} {y = suc (n + m)} (omega arith) in
+    let long = sum_by-cons f a (range_with_len (a + 1) (n + m)) in
+    let short = sum_by-cons f a (range_with_len (a + 1) n) in
+    let parts = range_split f (a + 1) n m in
+    let rest : sum_by f (range_with_len (a + suc n) m) ≡ sum_by f (range_with_len (a + 1 + n) m) = ap (λ k. sum_by f (range_with_len k m)) {x = a + suc n} {y = a + 1 + n} (omega arith) in
+    omega arith
+
+pub count_more : (p : ℕ → Bool) (a n : ℕ) → count_by p (range_with_len a (n + 1)) ≡ count_by p (range_with_len a n) + one_if (p (a + n))
+count_more p a n =
+    let parts = range_split (λ x. one_if (p x)) a n 1 in
+    let last = count-cons p (a + n) [] in
+    let none' : count_by p [] ≡ 0 = refl in
+    omega arith
+
+-- a range that begins later
+pub range_shift : (f : ℕ → ℕ) (n b m : ℕ) → sum_by (λ c. f (n + c)) (range_with_len b m) ≡ sum_by f (range_with_len (n + b) m)
+range_shift f n b zero = refl
+range_shift f n b (suc m) =
+    let first = sum_by-cons (λ c. f (n + c)) b (range_with_len (b + 1) m) in
+    let second = sum_by-cons f (n + b) (range_with_len (n + b + 1) m) in
+    let rest = range_shift f n (b + 1) m in
+    let same : sum_by f (range_with_len (n + (b + 1)) m) ≡ sum_by f (range_with_len (n + b + 1) m) = ap (λ k. sum_by f (range_with_len k m)) {x = n + (b + 1)} {y = n + b + 1} (omega arith) in
+    omega arith
+
+-- a sum over ranges of one length, one behind the other
+pub range_rows : (f : ℕ → ℕ) (k b n : ℕ) → sum_by (λ c. sum_by f (range_with_len (c * k) k)) (range_with_len b n) ≡ sum_by f (range_with_len (b * k) (n * k))
+range_rows f k b zero = let z : sum_by f (range_with_len (b * k) (zero * k)) ≡ sum_by f (range_with_len (b * k) 0) = ap (λ m. sum_by f (range_with_len (b * k) m)) {x = zero * k} {y = 0} (omega arith) in sym z
+range_rows f k b (suc n) =
+    let first = sum_by-cons (λ c. sum_by f (range_with_len (c * k) k)) b (range_with_len (b + 1) n) in
+    let rest = range_rows f k (b + 1) n in
+    let next = suc-mul b k in
+    let many = suc-mul n k in
+    let from : sum_by f (range_with_len ((b + 1) * k) (n * k)) ≡ sum_by f (range_with_len (b * k + k) (n * k)) = ap (λ m. sum_by f (range_with_len m (n * k))) {x = (b + 1) * k} {y = b * k + k} (ap (λ m. m * k) {x = b + 1} {y = suc b} (omega arith) ∙ next) in
+    let all : sum_by f (range_with_len (b * k) (suc n * k)) ≡ sum_by f (range_with_len (b * k) (k + n * k)) = ap (λ m. sum_by f (range_with_len (b * k) m)) {x = suc n * k} {y = k + n * k} (omega arith) in
+    let parts = range_split f (b * k) k (n * k) in
+    omega arith

@@ -1,0 +1,13 @@
+pub mod Counting
+pub mod Pairs
+pub mod Marks
+pub mod Falls
+pub mod InStep
+pub mod Working
+pub mod Added
+pub mod LeadsOn
+pub mod Begins
+pub mod Settled
+pub mod OnBoards
+pub mod Plays
+pub mod Ends

@@ -1,0 +1,89 @@
+-- What a board of a game tells: its numbers are the game's.
+use Rattle.std.proofs.Common.{inl, inr, ◌≡◌, ℕ, ◌+◌, ◌-◌, ◌<◌, ◌≤◌, ◌==◌, ◌&&◌, nat_lt, true, false, eq-eqb, ne_eqb, List, [], ◌++◌, map, length, slice_index, arith, refl, sym, ◌∙◌, ap, subst}
+use Rattle.std.specs.List.{range_with_len}
+use Rattle.std.proofs.lemmas.Bool.{cases_eq, lt-ltb, le-ltb}
+use Rattle.std.proofs.lemmas.List.{get_or-append-add, get_or_append_left, get_or-map, length-map, length-append}
+use Rattle.std.proofs.lemmas.List.FromFn.{length-map-range_with_len, get_or-map-range_with_len}
+use Rattle.cell_counters.specs.declared.account.Account.{Account}
+use Rattle.cell_counters.specs.Accounts.{IsLawfulCounter, cut_count}
+use Rattle.cell_counters.specs.Tokens.{BoardModel, RootModel, IsLawful, new_root}
+use Rattle.game_core.specs.Game.{Game, IsGraph, pairs_of, successors_at}
+use Rattle.safety_game.specs.Boards.{enabled_at, IsBoardOf}
+use Rattle.safety_game.specs.inside.Rounds.{Laws, IsLawfulFor, is_whole}
+use Rattle.safety_game.proofs.Pairs.{few_enabled, few_successors}
+
+-- how many numbers a board begins with
+pub starts_many : (g : Game) → IsGraph g → (starts : List ℕ) → starts ≡ map length g.successors ++ map (enabled_at g) (range_with_len 0 g.cells) → length starts ≡ pairs_of g + g.cells
+starts_many g a starts e =
+    let all = ap length e ∙ length-append (map length g.successors) (map (enabled_at g) (range_with_len 0 g.cells)) in
+    let pairs = length-map g.successors length ∙ a.game.one_list_each in
+    let cells = length-map-range_with_len (enabled_at g) 0 g.cells in
+    omega arith
+
+module _ (g : Game) (a : IsGraph g) (board : BoardModel) (of_game : IsBoardOf g board) where
+  abbrev of_pairs : List ℕ
+  of_pairs = map length g.successors
+
+  abbrev of_cells : List ℕ
+  of_cells = map (enabled_at g) (range_with_len 0 g.cells)
+
+  pairs_many : length of_pairs ≡ pairs_of g
+  pairs_many = length-map g.successors length ∙ a.game.one_list_each
+
+  pub counters_of_board : length board.starts ≡ pairs_of g + g.cells
+  counters_of_board = starts_many g a board.starts of_game.counters
+
+  -- what the board began with
+  pub start_of_pair : (pair : ℕ) → pair < pairs_of g → slice_index board.starts pair ≡ length (successors_at g pair)
+  start_of_pair pair lt =
+      let n = a.game.one_list_each in
+      let pairs = pairs_many in
+      ap (λ l. slice_index l pair) of_game.counters
+      ∙ (get_or_append_left of_pairs of_cells 0 pair (omega arith) ∙ get_or-map length g.successors pair [] 0 (omega arith))
+
+  pub start_of_cell : (c : ℕ) → c < g.cells → slice_index board.starts (pairs_of g + c) ≡ enabled_at g c
+  start_of_cell c lt =
+      ap (λ l. slice_index l (pairs_of g + c)) of_game.counters
+      ∙ (ap (λ n. slice_index (of_pairs ++ of_cells) (n + c)) (sym pairs_many)
+      ∙ (get_or-append-add of_pairs of_cells c 0 ∙ get_or-map-range_with_len (enabled_at g) 0 g.cells c c 0 lt (omega arith)))
+
+  pub lawful_for : (accounts : List Account) → IsLawful accounts board.starts board.least → IsLawfulFor g accounts
+  lawful_for accounts h =
+      let many = counters_of_board in
+      record {
+        pairs = λ pair lt. subst (λ n. (now : ℕ) × IsLawfulCounter accounts pair n now) (start_of_pair pair lt) (h.counters pair (omega arith));
+        cells = λ c lt. subst (λ n. (now : ℕ) × IsLawfulCounter accounts (pairs_of g + c) n now) (start_of_cell c lt) (h.counters (pairs_of g + c) (omega arith));
+      }
+
+  -- what is left of a cell while nothing is done, and of a pair
+  pub left_at_first : Laws → (root : RootModel) → root ≡ new_root board → (c n : ℕ) → c < g.cells → IsLawfulCounter root.accounts (pairs_of g + c) (slice_index board.starts (pairs_of g + c)) n → n ≡ enabled_at g c
+  left_at_first laws root is c n lt h =
+      let few = few_enabled g c in
+      let most = a.inputs_bound in
+      let lawful : IsLawfulCounter [] (pairs_of g + c) (enabled_at g c) n =
+      subst (λ start. IsLawfulCounter [] (pairs_of g + c) start n) (start_of_cell c lt)
+      (subst (λ (r : RootModel). IsLawfulCounter r.accounts (pairs_of g + c) (slice_index board.starts (pairs_of g + c)) n) is h) in
+      let none : cut_count (pairs_of g + c) [] ≡ 0 = refl in
+      let left = (laws.counts_down [] (pairs_of g + c) (enabled_at g c) n lawful (omega arith) (omega arith)).0 in
+      omega arith
+
+  pub left_of_pair : Laws → (accounts : List Account) (pair n : ℕ) → pair < pairs_of g → cut_count pair accounts ≤ length (successors_at g pair) → IsLawfulCounter accounts pair (slice_index board.starts pair) n → n ≡ length (successors_at g pair) - cut_count pair accounts
+  left_of_pair laws accounts pair n lt few h =
+      let most = few_successors g a pair lt in
+      (laws.counts_down accounts pair (length (successors_at g pair)) n (subst (λ start. IsLawfulCounter accounts pair start n) (start_of_pair pair lt) h) (omega arith) few).0
+
+-- a pair is whole where as much is left as it began with
+pub whole_told : (g : Game) (accounts : List Account) (pair fan left : ℕ) → fan ≡ length (successors_at g pair) → cut_count pair accounts ≤ length (successors_at g pair) → left ≡ length (successors_at g pair) - cut_count pair accounts → 0 < fan → (left == fan) ≡ is_whole g accounts pair
+whole_told g accounts pair fan left e few is some' =
+    let enabled : nat_lt 0 (length (successors_at g pair)) ≡ true = lt-ltb 0 (length (successors_at g pair)) (omega arith) in
+    same ∙ sym (ap (λ b. b && (cut_count pair accounts == 0)) enabled)
+  where
+    same : (left == fan) ≡ (cut_count pair accounts == 0)
+    same =
+        elim (cases_eq (cut_count pair accounts) 0) [
+          | inl none ↦ eq-eqb left fan (omega arith) ∙ sym (eq-eqb (cut_count pair accounts) 0 none)
+          | inr ne ↦ ne_eqb left fan (λ f. absurd (ne (omega arith))) ∙ sym (ne_eqb (cut_count pair accounts) 0 ne)
+        ]
+
+pub none_whole : (g : Game) (accounts : List Account) (pair : ℕ) → length (successors_at g pair) ≡ 0 → is_whole g accounts pair ≡ false
+none_whole g accounts pair e = ap (λ b. b && (cut_count pair accounts == 0)) (le-ltb 0 (length (successors_at g pair)) (omega arith))

@@ -1,0 +1,4 @@
+pub mod Boards
+pub mod Reckoned
+pub mod Kept
+pub mod inside

@@ -1,0 +1,5 @@
+-- what only private clauses, tests and proofs name
+pub mod Rounds
+pub mod Workers
+pub mod Standing
+pub mod SmallGames

@@ -1,0 +1,110 @@
+// All memory of a solver, taken before it solves.
+ghost use Rattle.std.specs.Prelude.{◌≡◌, ◌+◌, ◌*◌, ◌^◌, ◌<◌, ◌≤◌, [], ◌++◌, map, length, IfOk};
+ghost use Rattle.std.specs.List.{range_with_len};
+ghost use Rattle.cell_counters.specs.Tokens.{new_root};
+ghost use Rattle.safety_game.specs.Boards.{IsBoardOf, enabled_at};
+
+use crate::rounds::Rounds;
+use board_crew::{fans, room_for};
+use cell_counters::{Board, Root};
+use game_core::{Answer, Graph, NoMemory, Tally};
+use std::alloc::Global;
+use std::marker::Model;
+
+/// The memory in which a graph is solved by so many workers.
+///
+/// To a contract it is the board of its game, on which nothing is done yet.
+#[derive(Drop)]
+pub struct Scratch {
+    pub(crate) board: Board,
+    pub(crate) rounds: Rounds,
+    // No row yet.
+    pub(crate) answer: Answer,
+    pub(crate) workers: u32,
+}
+
+impl Model for Scratch {
+    ghost use Rattle.cell_counters.specs.Tokens.{BoardModel};
+    ghost use Rattle.safety_game.specs.inside.Standing.{IsScratch};
+
+    ghost Value = { BoardModel };
+
+    ghost view = { λ s. s.board };
+
+    ghost invariant = { λ s. IsScratch s.board s.workers s.rounds s.answer };
+}
+
+impl Scratch {
+    /// Takes 24 bytes for a pair and 40 for a cell while the board is made, and 8 and 32 then.
+    pub fn new<G: Graph>(alloc: Global, g: &G, workers: u32) -> Result<Scratch, NoMemory>
+        requires { (1 ≤ workers) × (workers ≤ 64) }
+        ensures { IfOk result (IsBoardOf (G.game g.now)) }
+    {
+        let starts = starts(alloc, g)?;
+        let cells = g.cells();
+        let (board, root) = new_board(alloc, starts.as_slice(), cells)?;
+        let members = room_for(alloc, workers)?;
+        let list = room_for(alloc, cells)?;
+        let answer = Answer::blank(alloc, cells)?;
+        let tally = Tally {
+            cuts: 0,
+            offers: 0,
+            rounds: 0,
+        };
+        let rounds = Rounds {
+            root,
+            members,
+            list,
+            listed: 0,
+            tally,
+        };
+        Ok(Scratch {
+            board,
+            rounds,
+            answer,
+            workers,
+        })
+    }
+}
+
+// A board with these counters, no least word, and a log of so many places.
+fn new_board(alloc: Global, starts: &[u64], places: u32) -> Result<(Board, Root), NoMemory>
+    requires some { 0 < places }
+    requires room { length starts.now + places < 2 ^ 32 }
+    ensures starts { IfOk result (λ made. made.0.starts ≡ starts.now) }
+    ensures least { IfOk result (λ made. made.0.least ≡ []) }
+    ensures places { IfOk result (λ made. made.0.places ≡ places) }
+    ensures root { IfOk result (λ made. made.1 ≡ new_root made.0) }
+{
+    Board::with_log(alloc, starts, &[], places).map_err(|_| NoMemory)
+}
+
+// The numbers with which the counters begin: for each pair its successors, then for each cell its enabled inputs.
+fn starts<G: Graph>(alloc: Global, g: &G) -> Result<Vec<u64>, NoMemory>
+    ensures { IfOk result (λ v. v.items ≡ map length (G.game g.now).successors ++ map (enabled_at (G.game g.now)) (range_with_len 0 (G.game g.now).cells)) }
+{
+    let mut starts = fans(alloc, g)?;
+    let cells = g.cells();
+    if starts.try_reserve_exact(cells as usize).is_err() {
+        return Err(NoMemory);
+    }
+    for c in 0..cells {
+        starts.push_reserved(count_enabled(g, c));
+    }
+    Ok(starts)
+}
+
+// How many inputs of a cell are enabled.
+fn count_enabled<G: Graph>(g: &G, c: u32) -> u64
+    requires { c < (G.game g.now).cells }
+    ensures { result ≡ enabled_at (G.game g.now) c }
+{
+    let first = c * g.inputs();
+    let mut count = 0;
+    for input in 0..g.inputs() {
+        if g.fan(first + input) > 0 {
+            count += 1;
+        }
+    }
+    count
+}
