@@ -7,22 +7,24 @@ use Rattle.plant_text.specs.declared.plant.aims.GoalKind.{GoalKind}
 use Rattle.plant_text.specs.declared.plant.aims.GoalKind.TheVariants.{Reach, Keep}
 use Rattle.plant_text.specs.plant.Description.{Description}
 use Rattle.abstraction_table.specs.Abstraction.{IsGameOf}
-use Rattle.reach_avoid.specs.Boards.{IsBoardOf}
-use Rattle.reach_avoid.specs.Reckoned.{IsReckoned}
+use Rattle.reach_avoid.specs.Boards.{IsBoardOf as IsReachBoardOf}
+use Rattle.reach_avoid.specs.Reckoned.{IsReckoned as IsReachReckoned}
+use Rattle.safety_game.specs.Boards.{IsBoardOf as IsKeepBoardOf}
+use Rattle.safety_game.specs.Reckoned.{IsReckoned as IsKeepReckoned}
 use Rattle.synth_run.specs.declared.form.Form.{Form}
 use Rattle.synth_run.specs.declared.form.Form.TheVariants.{Synth, Check, Sim, Demo}
 use Rattle.synth_run.specs.Demands.{IsAccepted}
 use Rattle.synth_run.specs.Demo.{demo_plant_of}
 
--- the numbers of a board are those with which a game is begun, by the goal kind; of plants to be kept nothing is said so far
+-- a board began with the numbers of a game, by the goal kind
 abbrev pub IsBoardFor : GoalKind → Game → BoardModel → Type 0
-IsBoardFor Reach g board = IsBoardOf g board
-IsBoardFor Keep g board = Unit {0}
+IsBoardFor Reach g board = IsReachBoardOf g board
+IsBoardFor Keep g board = IsKeepBoardOf g board
 
--- the accounts have exactly the steps that the solution of a game asks for, by the goal kind; likewise
+-- the accounts have exactly the steps that a game's solution asks for, by the goal kind
 abbrev pub IsReckonedFor : GoalKind → Game → List Account → Type 0
-IsReckonedFor Reach g accounts = IsReckoned g accounts
-IsReckonedFor Keep g accounts = Unit {0}
+IsReckonedFor Reach g accounts = IsReachReckoned g accounts
+IsReckonedFor Keep g accounts = IsKeepReckoned g accounts
 
 -- The board on which a plant's game was resolved, with its root: no hand is out, and the accounts have exactly the steps
 -- that the solution asks for.

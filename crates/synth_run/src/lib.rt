@@ -31,3 +31,5 @@ pub use top::run;
 
 #[cfg(test)]
 mod tests;
+#[cfg(test)]
+mod worker_tests;

@@ -6,9 +6,8 @@ ghost use Rattle.synth_run.specs.inside.Resolving.{IsResolved};
 
 use cell_counters::{Board, Root};
 use frontier_pool::Gate;
-use game_core::{Answer, Graph, NoMemory, keep_plain};
+use game_core::{Answer, Graph, NoMemory};
 use plant_text::GoalKind;
-use reach_avoid::solve;
 use std::alloc::Global;
 use std::thread::Threads;
 
@@ -33,12 +32,12 @@ pub fn resolve<R: Threads + Sync, G: Graph + Sync, T: Gate>(
     ensures { IfOk result (IsResolved goal (G.game game.now)) }
 {
     match goal {
-        GoalKind::Reach => reach(rt, alloc, game, workers, gate),
-        GoalKind::Keep => keep(alloc, game),
+        GoalKind::Reach => resolve_to_reach(rt, alloc, game, workers, gate),
+        GoalKind::Keep => resolve_to_keep(rt, alloc, game, workers, gate),
     }
 }
 
-fn reach<R: Threads + Sync, G: Graph + Sync, T: Gate>(
+fn resolve_to_reach<R: Threads + Sync, G: Graph + Sync, T: Gate>(
     rt: &R,
     alloc: Global,
     game: &G,
@@ -48,7 +47,7 @@ fn reach<R: Threads + Sync, G: Graph + Sync, T: Gate>(
     requires { AreWorkers workers }
     ensures { IfOk result (IsResolved GoalKind.Reach (G.game game.now)) }
 {
-    let solved = solve(rt, alloc, game, workers, gate)?;
+    let solved = reach_avoid::solve(rt, alloc, game, workers, gate)?;
     Ok(Resolved {
         answer: solved.answer,
         board: solved.board,
@@ -56,15 +55,20 @@ fn reach<R: Threads + Sync, G: Graph + Sync, T: Gate>(
     })
 }
 
-// So far without workers: nothing is done on the board.
-fn keep<G: Graph>(alloc: Global, game: &G) -> Result<Resolved, NoMemory>
+fn resolve_to_keep<R: Threads + Sync, G: Graph + Sync, T: Gate>(
+    rt: &R,
+    alloc: Global,
+    game: &G,
+    workers: u32,
+    gate: &T,
+) -> Result<Resolved, NoMemory>
+    requires { AreWorkers workers }
     ensures { IfOk result (IsResolved GoalKind.Keep (G.game game.now)) }
 {
-    let answer = keep_plain(alloc, game)?;
-    let (board, root) = Board::new(alloc, &[0], &[]).map_err(|_| NoMemory)?;
+    let kept = safety_game::keep(rt, alloc, game, workers, gate)?;
     Ok(Resolved {
-        answer,
-        board,
-        root,
+        answer: kept.answer,
+        board: kept.board,
+        root: kept.root,
     })
 }
