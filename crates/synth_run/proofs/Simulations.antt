@@ -1,5 +1,5 @@
 -- The facts that make a trace, and those that keep one from being made.
-use Rattle.std.proofs.Common.{inl, inr, ◌≡◌, ◌≤◌, ℕ, List, length, Option, Some, None, refl, sym, ◌∙◌, ap}
+use Rattle.std.proofs.Common.{inr, ◌≡◌, List, length, Option, Some, None, refl, sym}
 use Rattle.std.specs.Prelude.{ℤ, IfSome, IfNone}
 use Rattle.game_core.specs.declared.game.Row.{Row}
 use Rattle.grid_quantiser.specs.Cells.{point_of}

@@ -1,13 +1,13 @@
 -- Words that spell the numbers of a state.
-use Rattle.std.proofs.Common.{Bor, ◌≡◌, ℕ, ◌+◌, ◌^◌, ◌<◌, ◌≤◌, List, [], ◌∷◌, ◌++◌, length, take, map, get_or, Some, refl, sym, ap, subst, ◌∙◌, arith}
-use Rattle.std.specs.Prelude.{ℤ, pos, negsuc, Result, nat_abs, FitsSigned}
+use Rattle.std.proofs.Common.{Bor, ◌≡◌, ℕ, ◌+◌, ◌^◌, ◌<◌, ◌≤◌, List, [], ◌∷◌, ◌++◌, length, take, map, get_or, Some, refl, sym, ap, ◌∙◌, arith}
+use Rattle.std.specs.Prelude.{ℤ, pos, negsuc, Result}
 use Rattle.std.specs.Int.{w64}
 use Rattle.std.specs.Int.Signed.{mag}
 use Rattle.std.specs.Result.{result_ok}
 use Rattle.std.specs.Str.Parse.{ParsesUnsigned, ParsesSigned}
 use Rattle.std.specs.List.{All}
 use Rattle.std.specs.Fmt.{decimal, signed_decimal}
-use Rattle.std.proofs.lemmas.Fmt.{decimal_injective, signed_decimal_injective, parse-decimal, parse-signed_decimal}
+use Rattle.std.proofs.lemmas.Fmt.{signed_decimal_injective, parse-decimal, parse-signed_decimal}
 use Rattle.std.proofs.lemmas.Int.{fits_signed_from_abs}
 use Rattle.std.proofs.lemmas.List.{length-map, get_or-map, map-append, map_more, length-take-le}
 use Rattle.std.proofs.lemmas.List.Elements.{All-head, All-tail, All-push, All-nil, All-get_or}

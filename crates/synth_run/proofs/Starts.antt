@@ -1,5 +1,5 @@
 -- A start with one more number.
-use Rattle.std.proofs.Common.{◌≡◌, ℕ, suc, ◌+◌, ◌-◌, ◌<◌, ◌≤◌, List, [], ◌∷◌, ◌++◌, length, take, set, replicate, sym, ap, ◌∙◌, append_assoc, length-append, arith}
+use Rattle.std.proofs.Common.{◌≡◌, ℕ, suc, ◌+◌, ◌-◌, ◌<◌, List, [], ◌∷◌, ◌++◌, length, take, set, replicate, sym, ap, ◌∙◌, append_assoc, length-append, arith}
 use Rattle.std.specs.Prelude.{ℤ, pos}
 use Rattle.std.proofs.lemmas.List.{take_more_set, set_at, length_push, length-replicate}
 use Rattle.grid_quantiser.specs.Cells.{point_of}
@@ -33,7 +33,9 @@ stored_more six count n s lt = record {
   where
     xs : List ℤ
     xs = take count six
+
     left : replicate (6 - length xs) (pos 0) ≡ pos 0 ∷ replicate (6 - (count + 1)) (pos 0)
     left = let one : 6 - length xs ≡ suc (6 - (count + 1)) = omega (arith, s.count_is, lt) in ap (λ (k : ℕ). replicate k (pos 0)) one
+
     more : count + 1 ≡ length (xs ++ n ∷ [])
     more = ap (λ (k : ℕ). k + 1) s.count_is ∙ sym (length_push xs n)

@@ -21,7 +21,7 @@ pub enum Form {
     },
     /// Judge the table on the source.
     Check,
-    /// Drive the plant of the table on the source from a start, with at most so many samples behind it.
+    /// Drive the plant of the table on the source from a start, for at most so many samples, under the noises of a seed.
     Sim {
         samples: u32,
         seed: u64,

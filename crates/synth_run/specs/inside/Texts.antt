@@ -1,5 +1,5 @@
 -- The bytes of what a form writes.
-use Rattle.std.specs.Prelude.{◌≡◌, ℕ, ◌≤◌, ℤ, List, Some}
+use Rattle.std.specs.Prelude.{◌≡◌, ℕ, ◌≤◌, List, Some}
 use Rattle.game_core.specs.declared.game.Row.{Row}
 use Rattle.successor_box.specs.Deviations.{HasNoOverflow, deviations_of}
 use Rattle.controller_table.specs.TableText.{First, table_text}

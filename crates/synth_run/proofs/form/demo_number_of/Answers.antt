@@ -1,4 +1,4 @@
-use Rattle.std.proofs.Common.{◌≡◌, ◌∙◌, ap}
+use Rattle.std.proofs.Common.{◌∙◌, ap}
 use Rattle.std.specs.Fmt.{decimal}
 use Rattle.synth_run.proofs.Words.{not_zero}
 use Rattle.synth_run.proofs.form.demo_number_of.Goals as goal

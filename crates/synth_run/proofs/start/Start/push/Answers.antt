@@ -1,4 +1,4 @@
-use Rattle.std.proofs.Common.{◌≡◌, ◌<◌, ◌++◌, ◌∷◌, [], ℤ, List, ap, ◌∙◌, length, arith}
+use Rattle.std.proofs.Common.{◌++◌, ◌∷◌, [], ℤ, List, ap, ◌∙◌}
 use Rattle.std.specs.Int.{w128}
 use Rattle.std.proofs.lemmas.Int.{to_z-of_z}
 use Rattle.synth_run.proofs.Starts.{has_room, pushed, stored_more}
