@@ -13,7 +13,7 @@ use Rattle.synth_run.specs.Headline.{IsTableFor}
 use Rattle.synth_run.specs.Runs.{IsRunOf, IsCutOff}
 
 pub synth_alone : IsOfForm (codes "synth" ∷ codes "1" ∷ []) (Synth 1)
-synth_alone = (rw (decimal_digit 1 (omega arith)) refl, omega arith, omega arith)
+synth_alone = (rw (decimal_digit 1 (omega arith)) refl, (omega arith, omega arith))
 
 -- a count that stands at 0 didn't rise
 stands : (before after : ℕ) → after ≡ before → before ≡ 0 → Rose before after → ⊥

@@ -39,7 +39,7 @@ not_sim : (words : List (List ℕ)) (samples seed : ℕ) (start : List ℤ) → 
 not_sim words samples seed start few h = let some = h.3.some in omega (arith, few, ap length h.0, length-map start signed_decimal, some)
 
 pub one_form : (words : List (List ℕ)) (f g : Form) → IsOfForm words f → IsOfForm words g → f ≡ g
-one_form words (Synth m) (Synth n) h k = ap Synth (decimal_injective m n (omega (arith, h.2)) (omega (arith, k.2)) (second (sym h.0 ∙ k.0)))
+one_form words (Synth m) (Synth n) h k = ap Synth (decimal_injective m n (omega (arith, h.1.1)) (omega (arith, k.1.1)) (second (sym h.0 ∙ k.0)))
 one_form words (Synth m) Check h k = absurd (one_or_two (sym k ∙ h.0))
 one_form words Check (Synth n) h k = absurd (one_or_two (sym h ∙ k.0))
 one_form words Check Check h k = refl
@@ -60,7 +60,7 @@ one_form words (Sim m s xs) (Sim n r ys) h k =
     ∙ ap (λ (zs : List ℤ). Sim n r zs) (one_spelling xs ys h.3.each k.3.each same.2)
 one_form words (Demo m v) (Demo n w) h k =
     let same = third (sym h.0 ∙ k.0) in
-    ap (λ (x : ℕ). Demo x v) (decimal_injective m n (omega (arith, h.1.1)) (omega (arith, k.1.1)) same.1) ∙ ap (λ (x : ℕ). Demo n x) (decimal_injective v w (omega (arith, h.3)) (omega (arith, k.3)) same.2)
+    ap (λ (x : ℕ). Demo x v) (decimal_injective m n (omega (arith, h.1.1)) (omega (arith, k.1.1)) same.1) ∙ ap (λ (x : ℕ). Demo n x) (decimal_injective v w (omega (arith, h.2.1)) (omega (arith, k.2.1)) same.2)
 
 -- ---- numbers of workers and of demo plants
 
