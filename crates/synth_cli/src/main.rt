@@ -36,6 +36,7 @@ fn main(rt: HostRuntime) -> ExitCode {
         &mut out,
         &mut err,
         &Open,
+        &mut None,
     ))
 }
 

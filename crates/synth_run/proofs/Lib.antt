@@ -2,6 +2,7 @@ pub mod Completeness
 pub mod Demanded
 pub mod demo_lemmas
 pub mod Giving
+pub mod Leaving
 pub mod Limits
 pub mod MemoryRuns
 pub mod OneTable

@@ -42,7 +42,7 @@ read_to_the_limit most (Some bytes) after read up_to = up_to.1
 -- ---- plant texts
 
 -- a front of a longer text isn't short
-long_front : (bytes : List ℕ) → 65537 < length bytes → IsShort (take 65537 bytes) → ⊥
+pub long_front : (bytes : List ℕ) → 65537 < length bytes → IsShort (take 65537 bytes) → ⊥
 long_front bytes lt short = omega (arith, lt, short, length-take 65537 bytes)
 
 refused_of_longer : (bytes : List ℕ) (outcome : Outcome) → 65537 < length bytes → IsRefused (take 65537 bytes) outcome → IsRefused bytes outcome

@@ -1,6 +1,7 @@
 -- The premises of completeness, met by devices in memory.
 use Rattle.std.proofs.Common.{inl, inr, ◌≡◌, ℕ, ◌-◌, ◌≤◌, List, [], length, refl, sym, subst, arith}
 use Rattle.std.specs.Prelude.{Option, Some, IfSome, IsTrue, codes, ◌∷◌}
+use Rattle.cell_counters.specs.Tokens.{BoardModel, RootModel}
 use Rattle.std.proofs.lemmas.Fmt.{decimal_digit}
 use Rattle.synth_run.specs.declared.form.Form.TheVariants.{Synth}
 use Rattle.synth_run.specs.declared.outcome.Outcome.{Outcome}
@@ -12,7 +13,7 @@ use Rattle.synth_run.specs.Headline.{IsTableFor}
 use Rattle.synth_run.specs.Runs.{IsRunOf, IsCutOff}
 
 pub synth_alone : IsOfForm (codes "synth" ∷ codes "1" ∷ []) (Synth 1)
-synth_alone = (rw (decimal_digit 1 (omega arith)) refl, omega arith, omega arith)
+synth_alone = (rw (decimal_digit 1 (omega arith)) refl, (omega arith, omega arith))
 
 -- a count that stands at 0 didn't rise
 stands : (before after : ℕ) → after ≡ before → before ≡ 0 → Rose before after → ⊥
@@ -24,11 +25,11 @@ sound_by_none fails none = subst (λ (f : List ℕ). IsTrue (is_none_listed f)) 
 pub room_by_none : (fails : List ℕ) (room : ℕ) (got : List ℕ) → fails ≡ [] → room_of fails room got ≡ room - length got
 room_by_none fails room got none = subst (λ (f : List ℕ). room_of f room got ≡ room - length got) (sym none) refl
 
-pub no_read_fault : (outcome : Outcome) (source : Reading) (out : Writing) → IsRunOf (Synth 1) outcome source out → IsTrue source.is_sound → source.faults_before ≡ 0 → Rose source.faults_before source.faults_after → ⊥
-no_read_fault outcome source out gives sound zero = stands source.faults_before source.faults_after (gives.no_read_fault (gives.sound_source sound)) zero
+pub no_read_fault : (outcome : Outcome) (source : Reading) (out : Writing) (played : Option (BoardModel × RootModel)) → IsRunOf (Synth 1) outcome source out played → IsTrue source.is_sound → source.faults_before ≡ 0 → Rose source.faults_before source.faults_after → ⊥
+no_read_fault outcome source out played gives sound zero = stands source.faults_before source.faults_after (gives.no_read_fault (gives.sound_source sound)) zero
 
-pub no_write_fault : (outcome : Outcome) (source : Reading) (out : Writing) (bytes : List ℕ) → IsRunOf (Synth 1) outcome source out → source.before ≡ Some bytes → ((text : List ℕ) → IsTableFor bytes text → length text ≤ out.room) → out.faults_before ≡ 0 → Rose out.faults_before out.faults_after → ⊥
-no_write_fault outcome source out bytes gives told room zero = stands out.faults_before out.faults_after (gives.no_write_fault whole) zero
+pub no_write_fault : (outcome : Outcome) (source : Reading) (out : Writing) (played : Option (BoardModel × RootModel)) (bytes : List ℕ) → IsRunOf (Synth 1) outcome source out played → source.before ≡ Some bytes → ((text : List ℕ) → IsTableFor bytes text → length text ≤ out.room) → out.faults_before ≡ 0 → Rose out.faults_before out.faults_after → ⊥
+no_write_fault outcome source out played bytes gives told room zero = stands out.faults_before out.faults_after (gives.no_write_fault whole) zero
   where
     whole : outcome ≡ WriteFault → ⊥
     whole e =

@@ -2,12 +2,12 @@
 use Rattle.std.proofs.Common.{◌≡◌, ℕ, ◌^◌, ◌<◌, ◌≤◌, List, [], ◌∷◌, length, refl, ap, sym, ◌∙◌, arith}
 use Rattle.std.specs.Prelude.{codes, ℤ}
 use Rattle.std.specs.Fmt.{decimal, signed_decimal}
-use Rattle.std.proofs.lemmas.Fmt.{decimal_digit, decimal_injective}
+use Rattle.std.proofs.lemmas.Fmt.{decimal_injective}
 use Rattle.std.proofs.lemmas.List.{length-map}
 use Rattle.synth_run.specs.declared.form.Form.{Form}
 use Rattle.synth_run.specs.declared.form.Form.TheVariants.{Synth, Check, Sim, Demo}
 use Rattle.synth_run.specs.Demo.{IsDemoNumber}
-use Rattle.synth_run.specs.Form.{IsOfForm}
+use Rattle.synth_run.specs.Form.{AreWorkers, IsOfForm}
 use Rattle.synth_run.specs.inside.Spelling.{Spell}
 use Rattle.synth_run.proofs.Spellings.{one_spelling, as_many}
 
@@ -39,7 +39,7 @@ not_sim : (words : List (List ℕ)) (samples seed : ℕ) (start : List ℤ) → 
 not_sim words samples seed start few h = let some = h.3.some in omega (arith, few, ap length h.0, length-map start signed_decimal, some)
 
 pub one_form : (words : List (List ℕ)) (f g : Form) → IsOfForm words f → IsOfForm words g → f ≡ g
-one_form words (Synth m) (Synth n) h k = ap Synth (decimal_injective m n (omega (arith, h.2)) (omega (arith, k.2)) (second (sym h.0 ∙ k.0)))
+one_form words (Synth m) (Synth n) h k = ap Synth (decimal_injective m n (omega (arith, h.1.1)) (omega (arith, k.1.1)) (second (sym h.0 ∙ k.0)))
 one_form words (Synth m) Check h k = absurd (one_or_two (sym k ∙ h.0))
 one_form words Check (Synth n) h k = absurd (one_or_two (sym h ∙ k.0))
 one_form words Check Check h k = refl
@@ -60,42 +60,36 @@ one_form words (Sim m s xs) (Sim n r ys) h k =
     ∙ ap (λ (zs : List ℤ). Sim n r zs) (one_spelling xs ys h.3.each k.3.each same.2)
 one_form words (Demo m v) (Demo n w) h k =
     let same = third (sym h.0 ∙ k.0) in
-    ap (λ (x : ℕ). Demo x v) (decimal_injective m n (omega (arith, h.1.1)) (omega (arith, k.1.1)) same.1) ∙ ap (λ (x : ℕ). Demo n x) (decimal_injective v w (omega (arith, h.3)) (omega (arith, k.3)) same.2)
+    ap (λ (x : ℕ). Demo x v) (decimal_injective m n (omega (arith, h.1.1)) (omega (arith, k.1.1)) same.1) ∙ ap (λ (x : ℕ). Demo n x) (decimal_injective v w (omega (arith, h.2.1)) (omega (arith, k.2.1)) same.2)
+
+-- ---- numbers of workers and of demo plants
+
+-- 0 is the number of no demo plant, and no number of workers
+pub not_zero : (word : List ℕ) → word ≡ decimal 0 → (n : ℕ) → 1 ≤ n → n ≤ 500 → word ≡ decimal n → ⊥
+not_zero word zero n some few is = let same : n ≡ 0 = decimal_injective n 0 (omega (arith, few)) (omega arith) (sym is ∙ zero) in omega (arith, same, some)
 
 -- ---- the forms of two words
 
-one_spelled : decimal 1 ≡ codes "1"
-one_spelled = decimal_digit 1 (omega arith)
+pub is_form : (command workers : List ℕ) (n : ℕ) → command ≡ codes "synth" → AreWorkers n → workers ≡ decimal n → IsOfForm (command ∷ workers ∷ []) (Synth n)
+is_form command workers n c few w = (rw (c, w) refl, few)
 
-pub is_form : (command workers : List ℕ) → command ≡ codes "synth" → workers ≡ codes "1" → IsOfForm (command ∷ workers ∷ []) (Synth 1)
-is_form command workers c w = (rw (c, w, one_spelled) refl, omega arith, omega arith)
-
-pub no_form : (command workers : List ℕ) → (command ≡ codes "synth" → workers ≡ codes "1" → ⊥) → (f : Form) → IsOfForm (command ∷ workers ∷ []) f → ⊥
-no_form command workers other (Synth n) h =
-    let one : n ≡ 1 = omega (arith, h.1, h.2) in
-    other (first h.0) (second h.0 ∙ ap decimal one ∙ one_spelled)
+pub no_form : (command workers : List ℕ) → (command ≡ codes "synth" → (n : ℕ) → AreWorkers n → workers ≡ decimal n → ⊥) → (f : Form) → IsOfForm (command ∷ workers ∷ []) f → ⊥
+no_form command workers other (Synth n) h = other (first h.0) n h.1 (second h.0)
 no_form command workers other Check h = one_or_two (sym h)
 no_form command workers other (Sim samples seed start) h = not_sim (command ∷ workers ∷ []) samples seed start (omega arith) h
 no_form command workers other (Demo n w) h = two_or_three h.0
 
 -- ---- the forms of three words
 
-pub is_demo_form : (command number workers : List ℕ) (n : ℕ) → IsDemoNumber n → command ≡ codes "demo" → number ≡ decimal n → workers ≡ codes "1" → IsOfForm (command ∷ number ∷ workers ∷ []) (Demo n 1)
-is_demo_form command number workers n bounds c d w = (rw (c, d, w, one_spelled) refl, bounds, omega arith, omega arith)
+pub is_demo_form : (command number workers : List ℕ) (n w : ℕ) → command ≡ codes "demo" → IsDemoNumber n → number ≡ decimal n → AreWorkers w → workers ≡ decimal w → IsOfForm (command ∷ number ∷ workers ∷ []) (Demo n w)
+is_demo_form command number workers n w c bounds d few e = (rw (c, d, e) refl, bounds, few)
 
--- a form of three words is `demo`, with the number of a demo plant and one worker
-pub no_demo_form : (command number workers : List ℕ) → ((n : ℕ) → IsDemoNumber n → command ≡ codes "demo" → number ≡ decimal n → workers ≡ codes "1" → ⊥) → (f : Form) → IsOfForm (command ∷ number ∷ workers ∷ []) f → ⊥
+-- a form of three words is `demo`, with the number of a demo plant and a number of workers
+pub no_demo_form : (command number workers : List ℕ) → (command ≡ codes "demo" → (n : ℕ) → IsDemoNumber n → number ≡ decimal n → (w : ℕ) → AreWorkers w → workers ≡ decimal w → ⊥) → (f : Form) → IsOfForm (command ∷ number ∷ workers ∷ []) f → ⊥
 no_demo_form command number workers other (Synth n) h = two_or_three (sym h.0)
 no_demo_form command number workers other Check h = one_or_three (sym h)
-no_demo_form command number workers other (Demo n w) h =
-    let same = third h.0 in
-    let one : w ≡ 1 = omega (arith, h.2, h.3) in
-    other n h.1 same.0 same.1 (same.2 ∙ ap decimal one ∙ one_spelled)
+no_demo_form command number workers other (Demo n w) h = let same = third h.0 in other same.0 n h.1 same.1 w h.2 same.2
 no_demo_form command number workers other (Sim samples seed start) h = not_sim (command ∷ number ∷ workers ∷ []) samples seed start (omega arith) h
-
--- a demo plant's number is not another's
-pub not_zero : (word : List ℕ) → word ≡ decimal 0 → (n : ℕ) → IsDemoNumber n → word ≡ decimal n → ⊥
-not_zero word zero n bounds is = let same : n ≡ 0 = decimal_injective n 0 (omega (arith, bounds.1)) (omega arith) (sym is ∙ zero) in omega (arith, same, bounds.0)
 
 -- ---- the forms of four words and more
 

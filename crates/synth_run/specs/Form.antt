@@ -13,13 +13,17 @@ pub record AreStateNumbers (numbers : List ℤ) : Type 0 where
   pub most : length numbers ≤ 6
   pub each : All IsLiteral numbers
 
--- the words are of a form; so far one worker is all there is
+-- how many workers may resolve a game
+abbrev pub AreWorkers : ℕ → Type 0
+AreWorkers workers = (1 ≤ workers) × (workers ≤ 64)
+
+-- the words are of a form
 abbrev pub IsOfForm : List (List ℕ) → Form → Type 0
-IsOfForm words (Synth workers) = (words ≡ codes "synth" ∷ decimal workers ∷ []) × (1 ≤ workers) × (workers ≤ 1)
+IsOfForm words (Synth workers) = (words ≡ codes "synth" ∷ decimal workers ∷ []) × AreWorkers workers
 IsOfForm words Check = words ≡ codes "check" ∷ []
 IsOfForm words (Sim samples seed start) =
     (words ≡ codes "sim" ∷ decimal samples ∷ decimal seed ∷ map signed_decimal start) × (samples ≤ 1000000) × (seed < 2 ^ 64) × AreStateNumbers start
-IsOfForm words (Demo number workers) = (words ≡ codes "demo" ∷ decimal number ∷ decimal workers ∷ []) × IsDemoNumber number × (1 ≤ workers) × (workers ≤ 1)
+IsOfForm words (Demo number workers) = (words ≡ codes "demo" ∷ decimal number ∷ decimal workers ∷ []) × IsDemoNumber number × AreWorkers workers
 
 -- the words are of no form
 abbrev pub AreOfNoForm : List (List ℕ) → Type 0

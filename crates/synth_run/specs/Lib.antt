@@ -4,6 +4,7 @@ pub mod Form
 pub mod Traces
 pub mod Demands
 pub mod Headline
+pub mod Played
 pub mod Statuses
 pub mod Runs
 pub mod Laws

@@ -1,5 +1,6 @@
 -- What a run of some words gives.
-use Rattle.std.specs.Prelude.{◌≡◌, ◌≢◌, ◌⊎◌, ◌↔◌, ℕ, List, drop, Some, IfSome, IsTrue}
+use Rattle.std.specs.Prelude.{◌≡◌, ◌≢◌, ◌⊎◌, ◌↔◌, ℕ, List, drop, Option, Some, None, IfSome, IsTrue}
+use Rattle.cell_counters.specs.Tokens.{BoardModel, RootModel}
 use Rattle.synth_run.specs.declared.form.Form.{Form}
 use Rattle.synth_run.specs.declared.outcome.Outcome.{Outcome}
 use Rattle.synth_run.specs.declared.outcome.Outcome.TheVariants.{Done, Usage, ReadFault, WriteFault, NoMemory}
@@ -7,6 +8,7 @@ use Rattle.synth_run.specs.Devices.{Rose, Reading, Writing, GainsWhole, GainsPar
 use Rattle.synth_run.specs.Form.{IsOfForm, AreOfNoForm, given, most_read}
 use Rattle.synth_run.specs.Demands.{Demands}
 use Rattle.synth_run.specs.Headline.{IsAnswer}
+use Rattle.synth_run.specs.Played.{IsPlayed, SolvesNothing}
 use Rattle.synth_run.specs.Statuses.{status_of, line_of, IsTheTexts, Reports}
 
 -- the answer of a form for some bytes was written whole
@@ -22,12 +24,16 @@ abbrev pub IsRead : Form → Reading → Type 0
 IsRead form source = IfSome source.before (λ bytes. source.after ≡ Some (drop (most_read form) bytes))
 
 -- What a run of a form gives, by how it ends.
-pub record IsRunOf (form : Form) (outcome : Outcome) (source : Reading) (out : Writing) : Type 0 where
+pub record IsRunOf (form : Form) (outcome : Outcome) (source : Reading) (out : Writing) (played : Option (BoardModel × RootModel)) : Type 0 where
   pub not_usage : outcome ≢ Usage
   -- what was written
   pub answered : outcome ≡ Done → IfSome (given form source.before) (λ bytes. IsAnswered form bytes out)
   pub cut_off : outcome ≡ WriteFault → IfSome (given form source.before) (λ bytes. IsCutOff form bytes out)
   pub nothing_written : outcome ≢ Done → outcome ≢ WriteFault → out.after ≡ out.before
+  -- what is left of the game that was solved
+  pub leaves : outcome ≡ Done → IfSome (given form source.before) (λ bytes. IsPlayed form bytes played)
+  pub leaves_nothing : outcome ≢ Done → played ≡ None
+  pub solves_nothing : SolvesNothing form played
   -- what was read, and that a refusal is the one that the text demands
   pub read : outcome ≢ ReadFault → outcome ≢ NoMemory → IsRead form source
   pub demanded : IsTheTexts outcome → IfSome (given form source.before) (λ bytes. Demands form bytes outcome)
@@ -46,17 +52,18 @@ pub record AreUnused (source : Reading) (out : Writing) : Type 0 where
   pub no_write_fault : out.faults_after ≡ out.faults_before
 
 -- What a run of some words gives: what their form does, or `usage` where they are of no form.
-pub record Gives (words : List (List ℕ)) (outcome : Outcome) (source : Reading) (out : Writing) : Type 0 where
+pub record Gives (words : List (List ℕ)) (outcome : Outcome) (source : Reading) (out : Writing) (played : Option (BoardModel × RootModel)) : Type 0 where
   pub usage : (outcome ≡ Usage) ↔ AreOfNoForm words
   pub unused : outcome ≡ Usage → AreUnused source out
-  pub of_form : (form : Form) → IsOfForm words form → IsRunOf form outcome source out
+  pub unplayed : outcome ≡ Usage → played ≡ None
+  pub of_form : (form : Form) → IsOfForm words form → IsRunOf form outcome source out played
 
 -- A run of some words ends with a status: that of an outcome whose line is reported.
-pub record IsRun (words : List (List ℕ)) (status : ℕ) (source : Reading) (out err : Writing) : Type 0 where
+pub record IsRun (words : List (List ℕ)) (status : ℕ) (source : Reading) (out err : Writing) (played : Option (BoardModel × RootModel)) : Type 0 where
   pub outcome : Outcome
   pub status_is : status ≡ status_of outcome
   pub reported : Reports err (line_of outcome)
-  pub gives : Gives words outcome source out
+  pub gives : Gives words outcome source out played
 
 -- whatever a text demands of a form is answered, unless there is no memory
 abbrev pub IsCompleteAnswer : Form → ℕ → List ℕ → Type 0

@@ -1,5 +1,6 @@
 pub mod Causes
 pub mod Judging
+pub mod Resolving
 pub mod Spelling
 pub mod StoredStart
 pub mod Texts

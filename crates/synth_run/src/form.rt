@@ -2,7 +2,7 @@ ghost use Rattle.std.specs.Prelude.{◌≡◌, ◌↔◌, ◌^◌, ◌<◌, ◌�
 ghost use Rattle.std.specs.Fmt.{decimal, signed_decimal};
 ghost use Rattle.plant_text.specs.words.Numbers.{IsLiteral};
 ghost use Rattle.synth_run.specs.Demo.{IsDemoNumber};
-ghost use Rattle.synth_run.specs.Form.{IsOfForm};
+ghost use Rattle.synth_run.specs.Form.{AreWorkers, IsOfForm};
 ghost use Rattle.synth_run.specs.inside.Spelling.{Spell};
 ghost use Rattle.synth_run.specs.declared.form.Form.{Form};
 
@@ -63,8 +63,9 @@ fn form_of_two(command: &str, workers: &str) -> Option<Form>
     ensures found { IfSome result (IsOfForm (command.now ∷ workers.now ∷ [])) }
     ensures none { IfNone result ((f : Form) → IsOfForm (command.now ∷ workers.now ∷ []) f → ⊥) }
 {
-    if is_synth(command) && is_one(workers) {
-        Some(Form::Synth { workers: 1 })
+    let workers = workers_of(workers)?;
+    if is_synth(command) {
+        Some(Form::Synth { workers })
     } else {
         None
     }
@@ -75,8 +76,9 @@ fn form_of_three(command: &str, number: &str, workers: &str) -> Option<Form>
     ensures none { IfNone result ((f : Form) → IsOfForm (command.now ∷ number.now ∷ workers.now ∷ []) f → ⊥) }
 {
     let number = demo_number_of(number)?;
-    if is_demo(command) && is_one(workers) {
-        Some(Form::Demo { number, workers: 1 })
+    let workers = workers_of(workers)?;
+    if is_demo(command) {
+        Some(Form::Demo { number, workers })
     } else {
         None
     }
@@ -99,6 +101,17 @@ fn form_of_more(command: &str, samples: &str, seed: &str, numbers: &[&str]) -> O
         })
     } else {
         None
+    }
+}
+
+/// How many workers a word asks for.
+fn workers_of(word: &str) -> Option<u32>
+    ensures found { IfSome result (λ n. AreWorkers n × (word.now ≡ decimal n)) }
+    ensures none { IfNone result ((n : ℕ) → AreWorkers n → word.now ≡ decimal n → ⊥) }
+{
+    match number_of(word, 64)? {
+        0 => None,
+        workers => Some(workers as u32),
     }
 }
 
@@ -196,10 +209,4 @@ fn is_synth(word: &str) -> bool
     ensures { IsTrue result ↔ (word.now ≡ codes "synth") }
 {
     word == "synth"
-}
-
-fn is_one(word: &str) -> bool
-    ensures { IsTrue result ↔ (word.now ≡ codes "1") }
-{
-    word == "1"
 }

@@ -3,7 +3,7 @@
 //! `run` goes from the words and bytes that it is given to the bytes that it writes: its clauses say
 //! what each status means, that status 0 of `synth` means the plant's table, that of `check` that the
 //! bytes are such a table, that of `sim` a trace of the table, and that of `demo` the demo plant's line.
-//! Stands on `plant_text`, `abstraction_table`, `game_core`, `controller_table`, `table_check`,
+//! Stands on `plant_text`, `abstraction_table`, `reach_avoid`, `controller_table`, `table_check`,
 //! `loop_sim`, `plant_refine` and the crates below.
 #![tactic(auto)]
 
@@ -12,10 +12,10 @@ mod demo;
 mod devices;
 mod form;
 mod game;
-mod gate;
 pub mod laws;
 mod memory;
 mod outcome;
+mod resolving;
 mod simulating;
 mod solving;
 mod start;
@@ -25,9 +25,11 @@ mod transfer;
 
 pub use demo::{demo_line, demo_plant};
 pub use devices::{Failed, Sink, Source};
-pub use gate::{Gate, Open};
+pub use frontier_pool::{Gate, Open};
 pub use memory::{MemorySink, MemorySource, NoMemory};
 pub use top::run;
 
 #[cfg(test)]
 mod tests;
+#[cfg(test)]
+mod worker_tests;

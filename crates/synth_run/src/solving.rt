@@ -1,20 +1,25 @@
 // From the bytes of a plant's text to the solution of its game.
 
-ghost use Rattle.std.specs.Prelude.{◌≡◌, ◌≢◌, IfOk, IfErr};
+ghost use Rattle.std.specs.Prelude.{◌≡◌, ◌≢◌, Some, IfOk, IfErr};
+ghost use Rattle.synth_run.specs.declared.form.Form.{Form};
 ghost use Rattle.synth_run.specs.declared.outcome.Outcome.TheVariants as ends;
-ghost use Rattle.abstraction_table.specs.Solution.{Solves};
 ghost use Rattle.controller_table.specs.TableText.{First, table_text};
 ghost use Rattle.controller_table.specs.Tables.{RowsFit};
 ghost use Rattle.synth_run.specs.Demands.{PlantTextDemands, PlantDemands, IsSolvable};
+ghost use Rattle.synth_run.specs.Form.{AreWorkers};
 ghost use Rattle.synth_run.specs.Headline.{IsTableOf, IsTableFor};
+ghost use Rattle.synth_run.specs.Played.{IsPlayed, IsResolvedOn};
 
 use crate::game::{game_of, graph_is_within_limits};
 use crate::outcome::Outcome;
+use crate::resolving::{Resolved, resolve};
+use cell_counters::{Board, Root};
 use controller_table::laws::{keep_solutions_fit, reach_solutions_fit};
-use game_core::{Answer, Graph, NoMemory, keep_plain, solve_plain};
+use frontier_pool::Gate;
+use game_core::Answer;
 use plant_refine::laws::solution_tables_control_plants;
 use plant_text::laws::every_plant_is_within_limits;
-use plant_text::{GoalKind, Plant, read_plant};
+use plant_text::{Plant, read_plant};
 use std::alloc::Global;
 use std::thread::Threads;
 
@@ -25,22 +30,42 @@ pub struct Solved {
     pub answer: Answer,
 }
 
-/// The plant that the bytes spell, with its solution.
-pub fn solve_text<R: Threads + Sync>(rt: &R, alloc: Global, bytes: &[u8]) -> Result<Solved, Outcome>
-    ensures table { IfOk result (λ solved. IsTableFor bytes.now (table_text First solved.plant solved.answer)) }
-    ensures fits { IfOk result (λ solved. RowsFit solved.plant solved.answer) }
+/// The plant that the bytes spell, with its solution; and the board on which its game was resolved, with its root.
+pub fn solve_text<R: Threads + Sync, T: Gate>(
+    rt: &R,
+    alloc: Global,
+    bytes: &[u8],
+    workers: u32,
+    gate: &T,
+) -> Result<(Solved, (Board, Root)), Outcome>
+    requires { AreWorkers workers }
+    ensures table { IfOk result (λ made. IsTableFor bytes.now (table_text First made.0.plant made.0.answer)) }
+    ensures fits { IfOk result (λ made. RowsFit made.0.plant made.0.answer) }
+    ensures played { IfOk result (λ made. IsPlayed (Form.Synth workers) bytes.now (Some made.1)) }
     ensures demanded { IfErr result (λ outcome. outcome ≢ ends.NoMemory → PlantTextDemands bytes.now outcome) }
     ensures failed { IfErr result (λ outcome. outcome ≢ ends.Done) }
 {
     let plant = read_plant(alloc, bytes)?;
-    let answer = solve(rt, alloc, &plant)?;
-    Ok(Solved { plant, answer })
+    let Resolved {
+        answer,
+        board,
+        root,
+    } = solve(rt, alloc, &plant, workers, gate)?;
+    Ok((Solved { plant, answer }, (board, root)))
 }
 
-/// The solution of a plant.
-fn solve<R: Threads + Sync>(rt: &R, alloc: Global, plant: &Plant) -> Result<Answer, Outcome>
-    ensures table { IfOk result (λ rows. IsSolvable plant.now × IsTableOf plant.now (table_text First plant.now rows)) }
-    ensures fits { IfOk result (λ rows. RowsFit plant.now rows) }
+/// The solution of a plant, with the board on which its game was resolved and the board's root.
+fn solve<R: Threads + Sync, T: Gate>(
+    rt: &R,
+    alloc: Global,
+    plant: &Plant,
+    workers: u32,
+    gate: &T,
+) -> Result<Resolved, Outcome>
+    requires { AreWorkers workers }
+    ensures table { IfOk result (λ resolved. IsSolvable plant.now × IsTableOf plant.now (table_text First plant.now resolved.answer)) }
+    ensures fits { IfOk result (λ resolved. RowsFit plant.now resolved.answer) }
+    ensures played { IfOk result (λ resolved. IsResolvedOn plant.now resolved.board resolved.root) }
     ensures demanded { IfErr result (λ outcome. outcome ≢ ends.NoMemory → PlantDemands plant.now outcome) }
     ensures failed { IfErr result (λ outcome. outcome ≢ ends.Done) }
 {
@@ -50,16 +75,6 @@ fn solve<R: Threads + Sync>(rt: &R, alloc: Global, plant: &Plant) -> Result<Answ
     solution_tables_control_plants();
     let game = game_of(rt, alloc, plant)?;
     graph_is_within_limits(&game);
-    let answer = solve_for(alloc, plant.goal(), &game)?;
-    Ok(answer)
-}
-
-/// The solution of a game for a goal.
-fn solve_for<G: Graph>(alloc: Global, goal: GoalKind, game: &G) -> Result<Answer, NoMemory>
-    ensures { IfOk result (Solves goal (G.game game.now)) }
-{
-    match goal {
-        GoalKind::Reach => solve_plain(alloc, game),
-        GoalKind::Keep => keep_plain(alloc, game),
-    }
+    let resolved = resolve(rt, alloc, plant.goal(), &game, workers, gate)?;
+    Ok(resolved)
 }

@@ -11,10 +11,10 @@ use std::test::Fail;
 use std::thread::Threads;
 
 // The places 0 to 14 in cells of three, moved by three to either side, to be brought to 12 to 14.
-const PLANT: &[u8] =
+pub(crate) const PLANT: &[u8] =
     b"plant 1\nstate x 0 14 3\ninput u -3 3\nnext x = x + u\ntarget 12 14\ngoal reach\nend\n";
 
-const TABLE: &[u8] =
+pub(crate) const TABLE: &[u8] =
     b"table 1\nplant 1\nstate x 0 14 3\ninput u -3 3\nnext x = x + u\ntarget 12 14\ngoal reach\nend\nrows 5\n0 4 1\n1 3 1\n2 2 1\n3 1 1\n4 0 -\nend\n";
 
 fn source(alloc: Global, fails: &[u64]) -> Result<MemorySource, Fail> {
@@ -38,7 +38,8 @@ fn status_in_memory<R: Threads + Sync>(
 ) -> u8
     ensures { source.old.fails ≡ [] → source.old.faults ≡ 0 → out.old.fails ≡ [] → out.old.faults ≡ 0 → ((text : List ℕ) → IsTableFor source.old.left text → length out.old.got + length text ≤ out.old.room) → IsCompleteAnswer (Synth 1) result source.old.left }
 {
-    run(rt, alloc, &["synth", "1"], source, out, err, &Open)
+    let words = ["synth", "1"];
+    run(rt, alloc, &words, source, out, err, &Open, &mut None)
 }
 
 #[test]
@@ -64,7 +65,8 @@ fn on_a_table<R: Threads + Sync>(
 ) -> Result<u8, Fail> {
     let bytes = Vec::from_slice(alloc, table)?;
     let mut source = MemorySource::new(bytes, Vec::new(alloc));
-    Ok(run(rt, alloc, words, &mut source, out, err, &Open))
+    let status = run(rt, alloc, words, &mut source, out, err, &Open, &mut None);
+    Ok(status)
 }
 
 #[test]

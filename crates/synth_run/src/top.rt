@@ -1,10 +1,12 @@
-ghost use Rattle.std.specs.Prelude.{◌≡◌, ℕ, ◌≤◌, List, map, IfSome, IfOk, IfErr};
+ghost use Rattle.std.specs.Prelude.{◌≡◌, ℕ, ◌≤◌, List, map, None, IfSome, IfOk, IfErr};
 ghost use Rattle.synth_run.specs.Devices.{Rose, reading, writing};
-ghost use Rattle.synth_run.specs.Form.{IsOfForm, given};
+ghost use Rattle.synth_run.specs.Form.{AreWorkers, IsOfForm, given};
+ghost use Rattle.synth_run.specs.Played.{LeavesTheGameOf};
 ghost use Rattle.synth_run.specs.Runs.{Gives, IsRun, IsRunOf, IsAnswered, IsCompleteAnswer};
 ghost use Rattle.synth_run.specs.declared.form.Form.{Form};
 ghost use Rattle.synth_run.specs.declared.outcome.Outcome.TheVariants as ends;
-ghost use Rattle.synth_run.specs.Demo.{IsDemoNumber, IsDemoLine};
+ghost use Rattle.synth_run.specs.Demo.{IsDemoNumber, IsDemoLine, demo_plant_of};
+ghost use Rattle.synth_run.specs.inside.Resolving.{IsToBeLeft};
 ghost use Rattle.synth_run.specs.inside.Texts.{bytes_of, CanBeWritten};
 ghost use Rattle.synth_run.specs.inside.Working.{IsWorkedOut, IsTurnedDown};
 
@@ -12,7 +14,6 @@ use crate::checking::check_text;
 use crate::demo::solved_line;
 use crate::devices::{Sink, Source};
 use crate::form::{Form, form_of};
-use crate::gate::Gate;
 use crate::laws::one_demand_per_text;
 use crate::outcome::Outcome;
 use crate::simulating::simulate_text;
@@ -20,23 +21,49 @@ use crate::solving::solve_text;
 use crate::start::Start;
 use crate::text::Text;
 use crate::transfer::{WriteFault, read_up_to};
+use cell_counters::{Board, Root};
 use controller_table::TABLE_LIMIT;
 use controller_table::laws::tables_are_short;
+use frontier_pool::Gate;
 use plant_text::TEXT_LIMIT;
 use std::alloc::Global;
 use std::thread::Threads;
 
-/// The table of the plant on the source, for any number of workers.
-fn synth<R: Threads + Sync, S: Source>(
+/// What a form has worked out: its text, and the board and the root of the game that it solved.
+#[derive(Drop)]
+struct Work {
+    text: Text,
+    played: Option<(Board, Root)>,
+}
+
+impl Work {
+    /// A text for which no game was solved.
+    fn of_text(text: Text) -> Work
+        ensures { result ≡ record { text = text; played = None } }
+    {
+        Work { text, played: None }
+    }
+}
+
+/// The table of the plant on the source.
+fn synth<R: Threads + Sync, S: Source, G: Gate>(
     rt: &R,
     alloc: Global,
     source: &mut S,
-) -> Result<Text, Outcome>
-    ensures answer { (workers : ℕ) → IfOk result (λ text. IsWorkedOut (Form.Synth workers) text (reading S.left S.faults S.is_sound source.old source.new)) }
-    ensures refusal { (workers : ℕ) → IfErr result (λ outcome. IsTurnedDown (Form.Synth workers) outcome (reading S.left S.faults S.is_sound source.old source.new)) }
+    workers: u32,
+    gate: &G,
+) -> Result<Work, Outcome>
+    requires { AreWorkers workers }
+    ensures answer { IfOk result (λ work. IsWorkedOut (Form.Synth workers) work.text (reading S.left S.faults S.is_sound source.old source.new)) }
+    ensures played { IfOk result (λ work. IsToBeLeft (Form.Synth workers) work.played (reading S.left S.faults S.is_sound source.old source.new)) }
+    ensures refusal { IfErr result (λ outcome. IsTurnedDown (Form.Synth workers) outcome (reading S.left S.faults S.is_sound source.old source.new)) }
 {
     let bytes = read_up_to(alloc, source, TEXT_LIMIT + 1)?;
-    Ok(Text::Table(solve_text(rt, alloc, &bytes)?))
+    let (solved, played) = solve_text(rt, alloc, &bytes, workers, gate)?;
+    Ok(Work {
+        text: Text::Table(solved),
+        played: Some(played),
+    })
 }
 
 /// That the table on the source is valid.
@@ -73,73 +100,89 @@ fn sim<S: Source>(
 }
 
 /// The line of a demo plant.
-fn demo<R: Threads + Sync>(rt: &R, alloc: Global, number: u32) -> Result<Text, Outcome>
-    requires { IsDemoNumber number }
-    ensures written { IfOk result (λ text. CanBeWritten text) }
-    ensures line { IfOk result (λ text. IsDemoLine number (bytes_of text)) }
+fn demo<R: Threads + Sync, G: Gate>(
+    rt: &R,
+    alloc: Global,
+    number: u32,
+    workers: u32,
+    gate: &G,
+) -> Result<Work, Outcome>
+    requires number { IsDemoNumber number }
+    requires workers { AreWorkers workers }
+    ensures written { IfOk result (λ work. CanBeWritten work.text) }
+    ensures line { IfOk result (λ work. IsDemoLine number (bytes_of work.text)) }
+    ensures played { IfOk result (λ work. LeavesTheGameOf (demo_plant_of number) work.played) }
     ensures memory { IfErr result (λ outcome. outcome ≡ ends.NoMemory) }
 {
-    Ok(Text::Summary(solved_line(rt, alloc, number)?))
+    let (line, played) = solved_line(rt, alloc, number, workers, gate)?;
+    Ok(Work {
+        text: Text::Summary(line),
+        played: Some(played),
+    })
 }
 
-/// The text that a form writes.
-fn answer_of<R: Threads + Sync, S: Source>(
+/// What a form writes, and the game that it leaves.
+fn work_of<R: Threads + Sync, S: Source, G: Gate>(
     rt: &R,
     alloc: Global,
     form: Form,
     source: &mut S,
-) -> Result<Text, Outcome>
+    gate: &G,
+) -> Result<Work, Outcome>
     requires { (words : List (List ℕ)) × IsOfForm words form }
-    ensures answer { IfOk result (λ text. IsWorkedOut form text (reading S.left S.faults S.is_sound source.old source.new)) }
+    ensures answer { IfOk result (λ work. IsWorkedOut form work.text (reading S.left S.faults S.is_sound source.old source.new)) }
+    ensures played { IfOk result (λ work. IsToBeLeft form work.played (reading S.left S.faults S.is_sound source.old source.new)) }
     ensures refusal { IfErr result (λ outcome. IsTurnedDown form outcome (reading S.left S.faults S.is_sound source.old source.new)) }
 {
     match form {
-        Form::Synth { .. } => synth(rt, alloc, source),
-        Form::Check => check(rt, alloc, source),
+        Form::Synth { workers } => synth(rt, alloc, source, workers, gate),
+        Form::Check => Ok(Work::of_text(check(rt, alloc, source)?)),
         Form::Sim {
             samples,
             seed,
             start,
-        } => sim(alloc, source, samples, seed, &start),
-        Form::Demo { number, .. } => demo(rt, alloc, number),
+        } => Ok(Work::of_text(sim(alloc, source, samples, seed, &start)?)),
+        Form::Demo { number, workers } => demo(rt, alloc, number, workers, gate),
     }
 }
 
-/// Works the answer of a form out, and writes it.
-fn carry_out<R: Threads + Sync, S: Source, O: Sink>(
+/// Works the answer of a form out, and writes it. The game is left only where the whole answer was written.
+fn carry_out<R: Threads + Sync, S: Source, O: Sink, G: Gate>(
     rt: &R,
     alloc: Global,
     form: Form,
     source: &mut S,
     out: &mut O,
-) -> Outcome
+    gate: &G,
+) -> (Outcome, Option<(Board, Root)>)
     requires { (words : List (List ℕ)) × IsOfForm words form }
-    ensures { IsRunOf form result (reading S.left S.faults S.is_sound source.old source.new) (writing O.got O.faults O.room out.old out.new) }
+    ensures { IsRunOf form result.0 (reading S.left S.faults S.is_sound source.old source.new) (writing O.got O.faults O.room out.old out.new) result.1 }
 {
-    let text = match answer_of(rt, alloc, form, source) {
-        Ok(text) => text,
-        Err(outcome) => return outcome,
+    let Work { text, played } = match work_of(rt, alloc, form, source, gate) {
+        Ok(work) => work,
+        Err(outcome) => return (outcome, None),
     };
     match text.write(alloc, out) {
-        Ok(()) => Outcome::Done,
-        Err(WriteFault::Device) => Outcome::WriteFault,
-        Err(WriteFault::Memory) => Outcome::NoMemory,
+        Ok(()) => (Outcome::Done, played),
+        Err(WriteFault::Device) => (Outcome::WriteFault, None),
+        Err(WriteFault::Memory) => (Outcome::NoMemory, None),
     }
 }
 
 /// Does what the words ask for.
-fn outcome_of<R: Threads + Sync, S: Source, O: Sink>(
+fn outcome_of<R: Threads + Sync, S: Source, O: Sink, G: Gate>(
     rt: &R,
     alloc: Global,
     words: &[&str],
     source: &mut S,
     out: &mut O,
-) -> Outcome
-    ensures { Gives (map (λ w. w.now) words.now) result (reading S.left S.faults S.is_sound source.old source.new) (writing O.got O.faults O.room out.old out.new) }
+    gate: &G,
+) -> (Outcome, Option<(Board, Root)>)
+    ensures { Gives (map (λ w. w.now) words.now) result.0 (reading S.left S.faults S.is_sound source.old source.new) (writing O.got O.faults O.room out.old out.new) result.1 }
 {
     match form_of(words) {
-        Some(form) => carry_out(rt, alloc, form, source, out),
-        None => Outcome::Usage,
+        Some(form) => carry_out(rt, alloc, form, source, out, gate),
+        None => (Outcome::Usage, None),
     }
 }
 
@@ -148,6 +191,9 @@ fn outcome_of<R: Threads + Sync, S: Source, O: Sink>(
 /// 0: the answer was written. 1: a row of the table isn't right, or there is none where a trace would begin. 2: the words are of no form.
 /// 3: a line of the text is malformed. 4: a number leaves the range. 5: a limit is exceeded. 6: a read failed. 7: a write failed. 8: there
 /// was no memory left.
+///
+/// The gate is passed before each item of each round of the game's workers. At status 0 of `synth` and `demo`, `played`
+/// holds the board on which they resolved the game, with its root; at every other end it is None.
 pub fn run<R: Threads + Sync, S: Source, O: Sink, E: Sink, G: Gate>(
     rt: &R,
     alloc: Global,
@@ -155,19 +201,21 @@ pub fn run<R: Threads + Sync, S: Source, O: Sink, E: Sink, G: Gate>(
     source: &mut S,
     out: &mut O,
     err: &mut E,
-    _gate: &G,
+    gate: &G,
+    played: &mut Option<(Board, Root)>,
 ) -> u8
     // The headline: status 0 means that the answer was written whole, that of `synth` being the plant's one table.
     ensures solved { (form : Form) → IsOfForm (map (λ w. w.now) words.now) form → result ≡ 0 → IfSome (given form (S.left source.old)) (λ bytes. IsAnswered form bytes (writing O.got O.faults O.room out.old out.new)) }
 
-    // Every status: what was read, written and reported, and which fault or refusal it tells.
-    ensures gives { IsRun (map (λ w. w.now) words.now) result (reading S.left S.faults S.is_sound source.old source.new) (writing O.got O.faults O.room out.old out.new) (writing E.got E.faults E.room err.old err.new) }
+    // Every status: what was read, written and reported, which fault or refusal it tells, and what is left of the game.
+    ensures gives { IsRun (map (λ w. w.now) words.now) result (reading S.left S.faults S.is_sound source.old source.new) (writing O.got O.faults O.room out.old out.new) (writing E.got E.faults E.room err.old err.new) played.new }
 
     // Where no device fails, only want of memory keeps a text from what it demands.
     ensures complete { (form : Form) → IsOfForm (map (λ w. w.now) words.now) form → (Rose (S.faults source.old) (S.faults source.new) → ⊥) → (Rose (O.faults out.old) (O.faults out.new) → ⊥) → IfSome (given form (S.left source.old)) (IsCompleteAnswer form result) }
 {
     one_demand_per_text();
-    let outcome = outcome_of(rt, alloc, words, source, out);
+    let (outcome, resolved) = outcome_of(rt, alloc, words, source, out, gate);
+    *played = resolved;
     outcome.report(err);
     outcome.status()
 }

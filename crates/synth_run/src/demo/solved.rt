@@ -1,27 +1,44 @@
 // The line of a demo plant, from its number.
 
 ghost use Rattle.std.specs.Prelude.{◌≡◌, IfOk, IfErr};
-ghost use Rattle.synth_run.specs.Demo.{IsDemoNumber, IsDemoLine};
+ghost use Rattle.synth_run.specs.Demo.{IsDemoNumber, IsDemoLine, demo_plant_of};
+ghost use Rattle.synth_run.specs.Form.{AreWorkers};
+ghost use Rattle.synth_run.specs.Played.{IsResolvedOn};
 ghost use Rattle.synth_run.specs.declared.outcome.Outcome.TheVariants.{NoMemory};
 
 use crate::demo::{demo_line, demo_plant};
 use crate::game::game_of;
 use crate::laws::demo::demo_plants_are_solvable;
 use crate::outcome::Outcome;
-use game_core::solve_plain;
+use crate::resolving::{Resolved, resolve};
+use cell_counters::{Board, Root};
+use frontier_pool::Gate;
+use plant_text::GoalKind;
 use std::alloc::Global;
 use std::thread::Threads;
 
-/// The line of the n-th demo plant, which nothing refuses.
-pub fn solved_line<R: Threads + Sync>(rt: &R, alloc: Global, n: u32) -> Result<Vec<u8>, Outcome>
-    requires { IsDemoNumber n }
-    ensures line { IfOk result (λ text. IsDemoLine n text.items) }
+/// The line of the n-th demo plant, which nothing refuses; and the board on which its game was resolved, with its root.
+pub fn solved_line<R: Threads + Sync, T: Gate>(
+    rt: &R,
+    alloc: Global,
+    n: u32,
+    workers: u32,
+    gate: &T,
+) -> Result<(Vec<u8>, (Board, Root)), Outcome>
+    requires number { IsDemoNumber n }
+    requires workers { AreWorkers workers }
+    ensures line { IfOk result (λ made. IsDemoLine n made.0.items) }
+    ensures played { IfOk result (λ made. IsResolvedOn (demo_plant_of n) made.1.0 made.1.1) }
     ensures memory { IfErr result (λ outcome. outcome ≡ NoMemory) }
 {
     demo_plants_are_solvable();
     let plant = demo_plant(alloc, n)?;
     let game = game_of(rt, alloc, &plant)?;
-    let answer = solve_plain(alloc, &game)?;
+    let Resolved {
+        answer,
+        board,
+        root,
+    } = resolve(rt, alloc, GoalKind::Reach, &game, workers, gate)?;
     let line = demo_line(alloc, n, &game, &answer)?;
-    Ok(line)
+    Ok((line, (board, root)))
 }

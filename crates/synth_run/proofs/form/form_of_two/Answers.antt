@@ -1,14 +1,13 @@
 use Rattle.std.proofs.Common.{◌≡◌, true}
+use Rattle.synth_run.proofs.Reporting.{where_none}
 use Rattle.synth_run.proofs.Words.{is_form, no_form}
 use Rattle.synth_run.proofs.form.form_of_two.Goals as goal
-use Rattle.synth_run.proofs.form.form_of_two.Goals.{else-is_synth-via-then-is_synth+else-is_one, else-is_synth-via-else-is_synth}
 
-pub returns-then-is_one-clause-found : goal.returns-then-is_one-clause-found
-returns-then-is_one-clause-found c = is_form c.args.command.now c.args.workers.now (c.is_synth.ensures.0 c.if-is_synth.true) (c.is_one.ensures.0 c.if-is_one.true)
+pub returns-then-is_synth-clause-found : goal.returns-then-is_synth-clause-found
+returns-then-is_synth-clause-found c = is_form c.args.command.now c.args.workers.now c.in_ok-workers.workers (c.is_synth.ensures.0 c.if-is_synth.true) c.in_ok-workers.ensures.found.0 c.in_ok-workers.ensures.found.1
 
 pub returns-else-is_synth-clause-none : goal.returns-else-is_synth-clause-none
-returns-else-is_synth-clause-none c =
-    elim c.else-is_synth.branch [
-      | else-is_synth-via-then-is_synth+else-is_one w ↦ no_form c.args.command.now c.args.workers.now (λ a b. let yes : w.is_one.result ≡ true = w.is_one.ensures.1 b in cc)
-      | else-is_synth-via-else-is_synth w ↦ no_form c.args.command.now c.args.workers.now (λ a b. let yes : c.is_synth.result ≡ true = c.is_synth.ensures.1 a in cc)
-    ]
+returns-else-is_synth-clause-none c = no_form c.args.command.now c.args.workers.now (λ a n few w. let yes : c.is_synth.result ≡ true = c.is_synth.ensures.1 a in cc)
+
+pub returns-in_err-workers-clause-none : goal.returns-in_err-workers-clause-none
+returns-in_err-workers-clause-none c = where_none c.from_residual.result _ (no_form c.args.command.now c.args.workers.now (λ a n few w. c.in_err-workers.ensures.none n few w))

@@ -9,8 +9,8 @@ returns g c =
     let whole = c.run.ensures.gives in
     let one = whole.gives.of_form (Synth 1) synth_alone in
     c.run.ensures.complete (Synth 1) synth_alone
-    (no_read_fault whole.outcome _ _ one (sound_by_none c.args.source.now.fails fails) zero)
-    (no_write_fault whole.outcome _ _ c.args.source.now.left one refl
+    (no_read_fault whole.outcome _ _ _ one (sound_by_none c.args.source.now.fails fails) zero)
+    (no_write_fault whole.outcome _ _ _ c.args.source.now.left one refl
     (λ text table.
     let fits = room text table in
     let some : length text ≤ c.args.out.now.room - length c.args.out.now.got = omega (arith, fits) in

@@ -11,7 +11,7 @@ pub returns-in_err-game-clause-memory : goal.returns-in_err-game-clause-memory
 returns-in_err-game-clause-memory g c =
     let outcome = c.in_err-game.field-0.0 in
     exits c.from_residual-in_err-game.result outcome _ c.from_residual-in_err-game.ensures.1
-    (no_refusal c.args.n (c.demo_plants_are_solvable.ensures c.args.n c.requires) outcome c.in_err-game.ensures.failed
+    (no_refusal c.args.n (c.demo_plants_are_solvable.ensures c.args.n c.requires.number) outcome c.in_err-game.ensures.failed
     (λ some. subst (λ (p : Description). PlantDemands p outcome) c.in_ok-plant.ensures (c.in_err-game.ensures.demanded some)))
 
 pub demo_line-requires-clause-game : goal.demo_line-requires-clause-game

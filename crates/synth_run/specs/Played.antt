@@ -1,0 +1,55 @@
+-- What a run leaves of the game that it solved: the board on which its workers resolved it, and the board's root.
+use Rattle.std.specs.Prelude.{◌≡◌, ℕ, List, Option, Some, None}
+use Rattle.cell_counters.specs.declared.account.Account.{Account}
+use Rattle.cell_counters.specs.Tokens.{BoardModel, RootModel}
+use Rattle.game_core.specs.Game.{Game}
+use Rattle.plant_text.specs.declared.plant.aims.GoalKind.{GoalKind}
+use Rattle.plant_text.specs.declared.plant.aims.GoalKind.TheVariants.{Reach, Keep}
+use Rattle.plant_text.specs.plant.Description.{Description}
+use Rattle.abstraction_table.specs.Abstraction.{IsGameOf}
+use Rattle.reach_avoid.specs.Boards.{IsBoardOf as IsReachBoardOf}
+use Rattle.reach_avoid.specs.Reckoned.{IsReckoned as IsReachReckoned}
+use Rattle.safety_game.specs.Boards.{IsBoardOf as IsKeepBoardOf}
+use Rattle.safety_game.specs.Reckoned.{IsReckoned as IsKeepReckoned}
+use Rattle.synth_run.specs.declared.form.Form.{Form}
+use Rattle.synth_run.specs.declared.form.Form.TheVariants.{Synth, Check, Sim, Demo}
+use Rattle.synth_run.specs.Demands.{IsAccepted}
+use Rattle.synth_run.specs.Demo.{demo_plant_of}
+
+-- a board began with the numbers of a game, by the goal kind
+abbrev pub IsBoardFor : GoalKind → Game → BoardModel → Type 0
+IsBoardFor Reach g board = IsReachBoardOf g board
+IsBoardFor Keep g board = IsKeepBoardOf g board
+
+-- the accounts have exactly the steps that a game's solution asks for, by the goal kind
+abbrev pub IsReckonedFor : GoalKind → Game → List Account → Type 0
+IsReckonedFor Reach g accounts = IsReachReckoned g accounts
+IsReckonedFor Keep g accounts = IsKeepReckoned g accounts
+
+-- The board on which a plant's game was resolved, with its root: no hand is out, and the accounts have exactly the steps
+-- that the solution asks for.
+pub record IsResolvedOn (p : Description) (board : BoardModel) (root : RootModel) : Type 0 where
+  pub game : Game
+  pub abstraction : IsGameOf p game
+  pub of_game : IsBoardFor p.goal game board
+  pub at : root.board ≡ board
+  pub settled : root.out ≡ 0
+  pub reckoned : IsReckonedFor p.goal game root.accounts
+
+-- a board and its root are left, on which the plant's game was resolved
+abbrev pub LeavesTheGameOf : Description → Option (BoardModel × RootModel) → Type 0
+LeavesTheGameOf p played = (board : BoardModel) × (root : RootModel) × (played ≡ Some (board, root)) × IsResolvedOn p board root
+
+-- what a form leaves that was done for some bytes: `synth` and `demo` the game of their plant, `check` and `sim` nothing
+abbrev pub IsPlayed : Form → List ℕ → Option (BoardModel × RootModel) → Type 0
+IsPlayed (Synth workers) bytes played = (p : Description) × IsAccepted bytes p × LeavesTheGameOf p played
+IsPlayed Check bytes played = played ≡ None
+IsPlayed (Sim samples seed start) bytes played = played ≡ None
+IsPlayed (Demo number workers) bytes played = LeavesTheGameOf (demo_plant_of number) played
+
+-- `check` and `sim` solve no game, whatever their source tells
+abbrev pub SolvesNothing : Form → Option (BoardModel × RootModel) → Type 0
+SolvesNothing (Synth workers) played = Unit {0}
+SolvesNothing Check played = played ≡ None
+SolvesNothing (Sim samples seed start) played = played ≡ None
+SolvesNothing (Demo number workers) played = Unit {0}
