@@ -8,7 +8,7 @@ ghost use Rattle.plant_refine.specs.Drives.{Drives};
 ghost use Rattle.synth_run.specs.Demands.{TableTextDemands, TableDemands, IsSolvable};
 ghost use Rattle.synth_run.specs.Headline.{IsValid};
 
-use crate::game::game_of;
+use crate::game::outlook_of;
 use crate::outcome::Outcome;
 use controller_table::{Table, read_table};
 use game_core::laws::solutions_are_right;
@@ -37,7 +37,7 @@ fn check_table<R: Threads + Sync>(rt: &R, alloc: Global, table: &Table) -> Resul
 {
     solutions_are_right();
     right_tables_drive_plants();
-    let game = game_of(rt, alloc, table.plant())?;
+    let game = outlook_of(rt, alloc, table.plant())?;
     match check_reach(&game, table) {
         Verdict::Valid => Ok(()),
         Verdict::Invalid { cell } => Err(Outcome::Invalid { cell }),

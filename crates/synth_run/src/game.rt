@@ -4,14 +4,14 @@ ghost use Rattle.std.specs.Prelude.{◌≡◌, ◌≢◌, IfOk, IfErr};
 ghost use Rattle.game_core.specs.Game.{IsGraph};
 ghost use Rattle.plant_text.specs.declared.plant.aims.GoalKind.TheVariants.{Reach};
 ghost use Rattle.abstraction_table.specs.Abstraction.{IsGameOf};
-ghost use Rattle.abstraction_table.specs.Table.{game_of};
+ghost use Rattle.abstraction_table.specs.Table.{game_of, game_ahead};
 ghost use Rattle.synth_run.specs.declared.outcome.Outcome.TheVariants.{Done, NoMemory};
 ghost use Rattle.synth_run.specs.Demands.{PlantDemands, IsSolvable};
 
 use crate::outcome::Outcome;
 use abstraction_table::laws::games_count_their_edges;
-use abstraction_table::{Abstraction, build};
-use game_core::Graph;
+use abstraction_table::{Abstraction, Outlook, build, survey};
+use game_core::Forward;
 use plant_text::{GoalKind, Plant};
 use std::alloc::Global;
 use std::thread::Threads;
@@ -52,7 +52,42 @@ fn reach_game_of<R: Threads + Sync>(
     Ok(game)
 }
 
+/// The game of a plant that is to reach a target, as it is seen ahead.
+pub fn outlook_of<R: Threads + Sync>(
+    rt: &R,
+    alloc: Global,
+    plant: &Plant,
+) -> Result<Outlook, Outcome>
+    ensures game { IfOk result (λ game. IsGameOf plant.now (game_ahead game)) }
+    ensures solvable { IfOk result (λ _. IsSolvable plant.now) }
+    ensures demanded { IfErr result (λ outcome. outcome ≢ NoMemory → PlantDemands plant.now outcome) }
+    ensures failed { IfErr result (λ outcome. outcome ≢ Done) }
+{
+    match plant.goal() {
+        GoalKind::Keep => Err(Outcome::Unbuilt),
+        GoalKind::Reach => reach_outlook_of(rt, alloc, plant),
+    }
+}
+
+fn reach_outlook_of<R: Threads + Sync>(
+    rt: &R,
+    alloc: Global,
+    plant: &Plant,
+) -> Result<Outlook, Outcome>
+    requires { plant.now.goal ≡ Reach }
+    ensures game { IfOk result (λ game. IsGameOf plant.now (game_ahead game)) }
+    ensures solvable { IfOk result (λ _. IsSolvable plant.now) }
+    ensures demanded { IfErr result (λ outcome. outcome ≢ NoMemory → PlantDemands plant.now outcome) }
+    ensures failed { IfErr result (λ outcome. outcome ≢ Done) }
+{
+    games_count_their_edges();
+    let slopes = find_slopes(alloc, plant)?;
+    let game = survey(rt, alloc, plant, &slopes)?;
+    graph_is_within_limits(&game);
+    Ok(game)
+}
+
 /// A graph in memory keeps the limits.
-pub fn graph_is_within_limits<G: Graph>(_graph: &G)
+pub fn graph_is_within_limits<G: Forward>(_graph: &G)
     ensures { IsGraph (G.game _graph.now) }
 {}
