@@ -1,22 +1,21 @@
 // From the bytes of a table's text to the verdict on its rows.
 
-ghost use Rattle.std.specs.Prelude.{◌≢◌, IfOk, IfErr, OnOk};
+ghost use Rattle.std.specs.Prelude.{◌≡◌, ◌≢◌, IfOk, IfErr, OnOk};
 ghost use Rattle.synth_run.specs.declared.outcome.Outcome.TheVariants as ends;
-ghost use Rattle.abstraction_table.specs.Abstraction.{IsGameOf};
+ghost use Rattle.plant_text.specs.declared.plant.aims.GoalKind.TheVariants.{Reach, Keep};
 ghost use Rattle.abstraction_table.specs.Solution.{IsSolutionOf};
 ghost use Rattle.synth_run.specs.Demands.{TableTextDemands, TableDemands, IsSolvable};
 ghost use Rattle.synth_run.specs.Headline.{IsValid};
-ghost use Rattle.synth_run.specs.inside.Judging.{IsVerdictFor};
+ghost use Rattle.synth_run.specs.inside.Judging.{IsJudged};
 
-use crate::game::game_of;
+use crate::game::{game_of, outlook_of};
 use crate::outcome::Outcome;
 use controller_table::{Table, read_table};
-use game_core::Graph;
 use plant_refine::laws::solution_tables_control_plants;
 use plant_text::GoalKind;
 use std::alloc::Global;
 use std::thread::Threads;
-use table_check::{NoMemory, Verdict, check_keep, check_reach};
+use table_check::{Verdict, check_keep, check_reach};
 
 /// Checks that the bytes are the table of their plant.
 pub fn check_text<R: Threads + Sync>(rt: &R, alloc: Global, bytes: &[u8]) -> Result<(), Outcome>
@@ -36,8 +35,7 @@ fn check_table<R: Threads + Sync>(rt: &R, alloc: Global, table: &Table) -> Resul
     ensures demanded { IfErr result (λ outcome. outcome ≢ ends.NoMemory → TableDemands table.now.plant table.now.rows outcome) }
     ensures failed { IfErr result (λ outcome. outcome ≢ ends.Done) }
 {
-    let game = game_of(rt, alloc, table.plant())?;
-    let verdict = verdict_on(alloc, &game, table)?;
+    let verdict = verdict_on(rt, alloc, table)?;
     match verdict {
         Verdict::Valid => Ok(()),
         Verdict::Invalid { cell } => Err(Outcome::Invalid { cell }),
@@ -45,12 +43,47 @@ fn check_table<R: Threads + Sync>(rt: &R, alloc: Global, table: &Table) -> Resul
 }
 
 /// The verdict on the rows of a table, for its plant's goal.
-fn verdict_on<G: Graph>(alloc: Global, game: &G, table: &Table) -> Result<Verdict, NoMemory>
-    requires { IsGameOf table.now.plant (G.game game.now) }
-    ensures { IfOk result (IsVerdictFor table.now.plant.goal (G.game game.now) table.now.rows) }
+fn verdict_on<R: Threads + Sync>(rt: &R, alloc: Global, table: &Table) -> Result<Verdict, Outcome>
+    ensures solvable { IfOk result (λ _. IsSolvable table.now.plant) }
+    ensures verdict { IfOk result (IsJudged table.now.plant table.now.rows) }
+    ensures demanded { IfErr result (λ outcome. outcome ≢ ends.NoMemory → TableDemands table.now.plant table.now.rows outcome) }
+    ensures failed { IfErr result (λ outcome. outcome ≢ ends.Done) }
 {
     match table.plant().goal() {
-        GoalKind::Reach => Ok(check_reach(game, table)),
-        GoalKind::Keep => check_keep(alloc, game, table),
+        GoalKind::Reach => reach_verdict(rt, alloc, table),
+        GoalKind::Keep => keep_verdict(rt, alloc, table),
     }
+}
+
+/// The verdict on a table by which its plant is to reach a target. It looks ahead alone.
+fn reach_verdict<R: Threads + Sync>(
+    rt: &R,
+    alloc: Global,
+    table: &Table,
+) -> Result<Verdict, Outcome>
+    requires { table.now.plant.goal ≡ Reach }
+    ensures solvable { IfOk result (λ _. IsSolvable table.now.plant) }
+    ensures verdict { IfOk result (IsJudged table.now.plant table.now.rows) }
+    ensures demanded { IfErr result (λ outcome. outcome ≢ ends.NoMemory → TableDemands table.now.plant table.now.rows outcome) }
+    ensures failed { IfErr result (λ outcome. outcome ≢ ends.Done) }
+{
+    let game = outlook_of(rt, alloc, table.plant())?;
+    Ok(check_reach(&game, table))
+}
+
+/// The verdict on a table by which its plant is to be kept.
+fn keep_verdict<R: Threads + Sync>(
+    rt: &R,
+    alloc: Global,
+    table: &Table,
+) -> Result<Verdict, Outcome>
+    requires { table.now.plant.goal ≡ Keep }
+    ensures solvable { IfOk result (λ _. IsSolvable table.now.plant) }
+    ensures verdict { IfOk result (IsJudged table.now.plant table.now.rows) }
+    ensures demanded { IfErr result (λ outcome. outcome ≢ ends.NoMemory → TableDemands table.now.plant table.now.rows outcome) }
+    ensures failed { IfErr result (λ outcome. outcome ≢ ends.Done) }
+{
+    let game = game_of(rt, alloc, table.plant())?;
+    let verdict = check_keep(alloc, &game, table)?;
+    Ok(verdict)
 }

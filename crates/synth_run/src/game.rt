@@ -3,14 +3,14 @@
 ghost use Rattle.std.specs.Prelude.{◌≢◌, IfOk, IfErr};
 ghost use Rattle.game_core.specs.Game.{IsGraph};
 ghost use Rattle.abstraction_table.specs.Abstraction.{IsGameOf};
-ghost use Rattle.abstraction_table.specs.Table.{game_of};
+ghost use Rattle.abstraction_table.specs.Table.{game_of, game_ahead};
 ghost use Rattle.synth_run.specs.declared.outcome.Outcome.TheVariants.{Done, NoMemory};
 ghost use Rattle.synth_run.specs.Demands.{PlantDemands, IsSolvable};
 
 use crate::outcome::Outcome;
 use abstraction_table::laws::games_count_their_edges;
-use abstraction_table::{Abstraction, build};
-use game_core::Graph;
+use abstraction_table::{Abstraction, Outlook, build, survey};
+use game_core::Forward;
 use plant_text::Plant;
 use std::alloc::Global;
 use std::thread::Threads;
@@ -34,7 +34,25 @@ pub fn game_of<R: Threads + Sync>(
     Ok(game)
 }
 
+/// The game of a plant as it is seen ahead, without its reversed edges.
+pub fn outlook_of<R: Threads + Sync>(
+    rt: &R,
+    alloc: Global,
+    plant: &Plant,
+) -> Result<Outlook, Outcome>
+    ensures game { IfOk result (λ game. IsGameOf plant.now (game_ahead game)) }
+    ensures solvable { IfOk result (λ _. IsSolvable plant.now) }
+    ensures demanded { IfErr result (λ outcome. outcome ≢ NoMemory → PlantDemands plant.now outcome) }
+    ensures failed { IfErr result (λ outcome. outcome ≢ Done) }
+{
+    games_count_their_edges();
+    let slopes = find_slopes(alloc, plant)?;
+    let game = survey(rt, alloc, plant, &slopes)?;
+    graph_is_within_limits(&game);
+    Ok(game)
+}
+
 /// A graph in memory keeps the limits.
-pub fn graph_is_within_limits<G: Graph>(_graph: &G)
+pub fn graph_is_within_limits<G: Forward>(_graph: &G)
     ensures { IsGraph (G.game _graph.now) }
 {}

@@ -3,6 +3,8 @@ use Rattle.std.specs.Prelude.{List, Option}
 use Rattle.game_core.specs.declared.game.Row.{Row}
 use Rattle.game_core.specs.Game.{Game}
 use Rattle.plant_text.specs.declared.plant.aims.GoalKind.{GoalKind}
+use Rattle.plant_text.specs.plant.Description.{Description}
+use Rattle.abstraction_table.specs.Abstraction.{IsGameOf}
 use Rattle.abstraction_table.specs.Solution.{Solves}
 use Rattle.table_check.specs.declared.verdict.Verdict.{Verdict}
 use Rattle.table_check.specs.Verdicts.{IsVerdict}
@@ -11,3 +13,9 @@ use Rattle.synth_run.specs.Demands.{IsRightFor}
 -- the verdict on rows for a goal: valid exactly for the solution, else the first cell that isn't right
 abbrev pub IsVerdictFor : GoalKind → Game → List (Option Row) → Verdict → Type 0
 IsVerdictFor goal g rows verdict = IsVerdict (Solves goal g rows) (IsRightFor goal g rows) g.cells verdict
+
+-- The verdict on rows for a plant, in its game.
+pub record IsJudged (p : Description) (rows : List (Option Row)) (verdict : Verdict) : Type 0 where
+  pub game : Game
+  pub abstraction : IsGameOf p game
+  pub judged : IsVerdictFor p.goal game rows verdict

@@ -1,0 +1,20 @@
+use Rattle.std.proofs.Common.{sym, subst}
+use Rattle.plant_text.specs.declared.plant.aims.GoalKind.{GoalKind}
+use Rattle.plant_text.specs.plant.Description.{Description}
+use Rattle.abstraction_table.specs.Abstraction.{IsGameOf}
+use Rattle.abstraction_table.specs.Table.{game_ahead}
+use Rattle.synth_run.specs.Demands.{IsSolvable}
+use Rattle.synth_run.specs.inside.Judging.{IsVerdictFor}
+use Rattle.synth_run.proofs.checking.reach_verdict.Goals as goal
+
+pub returns-clause-solvable : goal.returns-clause-solvable
+returns-clause-solvable g c = subst IsSolvable c.plant.ensures c.in_ok-game.ensures.solvable
+
+pub returns-clause-verdict : goal.returns-clause-verdict
+returns-clause-verdict g c =
+    let game = game_ahead c.in_ok-game.game in
+    record {
+      game = game;
+      abstraction = subst (λ (q : Description). IsGameOf q game) c.plant.ensures c.in_ok-game.ensures.game;
+      judged = subst (λ (kind : GoalKind). IsVerdictFor kind game c.args.table.now.rows c.check_reach.result) (sym c.requires) c.check_reach.ensures;
+    }
