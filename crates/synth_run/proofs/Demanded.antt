@@ -15,7 +15,7 @@ use Rattle.plant_text.specs.Laws.{OnePlantPerText, OneRefusal, ReadOrRefused}
 use Rattle.successor_box.specs.Deviations.{HasNoOverflow, IsFirstOverflow}
 use Rattle.game_core.specs.declared.game.Row.{Row}
 use Rattle.game_core.specs.Game.{Game, IsGame}
-use Rattle.game_core.specs.Right.{IsRight, AreRight}
+use Rattle.game_core.specs.Right.{AreRight}
 use Rattle.game_core.specs.Solution.{IsReachSolution}
 use Rattle.abstraction_table.specs.Solution.{Solves, IsSolutionOf}
 use Rattle.abstraction_table.specs.Laws.{OneEdgeCount, OneGamePerPlant}
