@@ -1,3 +1,4 @@
+pub mod BoardsLeft
 pub mod Completeness
 pub mod Demanded
 pub mod demo_lemmas

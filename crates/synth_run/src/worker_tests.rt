@@ -160,8 +160,12 @@ fn each_number_of_workers_writes_the_table_and_leaves_its_board(
     rt: HostRuntime,
 ) -> Result<(), Fail> {
     let alloc = rt.alloc();
-    let plant = read_plant(alloc, PLANT).map_err(|_| "no plant")?;
-    let game = game_of(&rt, alloc, &plant).map_err(|_| "no game")?;
+    let Ok(plant) = read_plant(alloc, PLANT) else {
+        return Err("no plant".into());
+    };
+    let Ok(game) = game_of(&rt, alloc, &plant) else {
+        return Err("no game".into());
+    };
     for workers in [1, 2, 7, 64] {
         assert!(rt; 1 <= workers && workers <= 64);
         let (board, mut root) = board_of(&rt, alloc, PLANT, &plant, workers, TABLE)?;
