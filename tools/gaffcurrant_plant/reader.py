@@ -101,7 +101,7 @@ def name_of(word, taken):
     return word
 
 
-class _Draft:
+class Draft:
     """The plant as far as the lines before spell it."""
 
     def __init__(self):
@@ -278,6 +278,10 @@ class _Draft:
             raise Wrong("`end` stands alone in its line" + comment_in(rest))
         self.ended = True
 
+    def made(self):
+        """The plant, once all lines were read."""
+        return Plant(self.states, self.inputs, self.noises, self.equations, self.targets, self.obstacles, self.goal)
+
 
 def comment_in(words):
     return "; a comment needs a line of its own" if any(word.startswith(("#", "//")) for word in words) else ""
@@ -295,7 +299,7 @@ def read_plant(data):
 
 def read_lines(lines):
     """The plant that whole lines spell, limits aside, or raises Refused for the first line that doesn't fit."""
-    draft = _Draft()
+    draft = Draft()
     for number, line in enumerate(lines, 1):
         if is_passed_over(line):
             continue
@@ -307,4 +311,4 @@ def read_lines(lines):
         due = draft.said(draft.due())
         raise Refused(f"malformed: line {len(lines) + 1}", f"the text ends before its `end` line; {due} is due",
                       len(lines) + 1)
-    return Plant(draft.states, draft.inputs, draft.noises, draft.equations, draft.targets, draft.obstacles, draft.goal)
+    return draft.made()

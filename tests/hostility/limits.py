@@ -1,0 +1,44 @@
+"""Texts of exactly a limit's length, and one byte past it. Each limit of a plant has a case in tests/cases."""
+
+from .oracle import TABLE_LIMIT, ended, synth
+from .program import CHECK, PLANT, SIM, SYNTH, TABLE, WORKERS, differs
+
+PLANT_LIMIT = 65536
+TOO_LONG = ended(5, line=b"limit: table text\n")
+
+
+def filled(front, byte, length):
+    return front + byte * (length - len(front))
+
+
+def cases(program):
+    for form in (SYNTH[0], WORKERS[0]):
+        for byte in (b" ", b"\n", b"#", b"x", b"\0"):
+            for length in (PLANT_LIMIT - 1, PLANT_LIMIT, PLANT_LIMIT + 1, 2 * PLANT_LIMIT):
+                text = filled(PLANT, byte, length)
+                yield f"{form.name} of {length} bytes {byte[0]:02x}", judge(program, form, text, synth(text))
+    for form in (CHECK[0], SIM[0]):
+        for front, byte, line in ((b"", b" ", 1), (TABLE, b" ", 16), (TABLE, b"\n", 16), (TABLE[:-4], b"0", 15)):
+            malformed = ended(3, line=f"malformed: line {line}\n".encode())
+            for length in (TABLE_LIMIT - 1, TABLE_LIMIT, TABLE_LIMIT + 1):
+                want = malformed if length <= TABLE_LIMIT else TOO_LONG
+                what = f"{form.name} of {len(front)} bytes of a table, then {byte[0]:02x} up to {length}"
+                yield what, long_text(program, form, (front, byte, length), want)
+
+
+def judge(program, form, text, want):
+    def judged():
+        program.has(form)
+        return differs(want, program.end(form.words, text))
+
+    return judged
+
+
+def long_text(program, form, parts, want):
+    """Texts of 64 MiB are made when they are needed, one for each processor at a time."""
+
+    def judged():
+        program.has(form)
+        return differs(want, program.end(form.words, filled(*parts)))
+
+    return judged

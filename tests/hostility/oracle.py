@@ -1,0 +1,258 @@
+"""What the program has to answer to a text, by a few lines that know nothing of it: they read the grammar of
+docs/FORMATS.md (plants by the reader of tools/), and solve games by rounds over all cells."""
+
+import re
+
+from gaffcurrant_plant.expression import text_of
+from gaffcurrant_plant.loop import noises
+from gaffcurrant_plant.plant import EDGES
+from gaffcurrant_plant.reader import Draft, Refused, Wrong, read_plant, words_of
+
+TABLE_LIMIT = 67108864
+STATUS = {"malformed": 3, "overflow": 4, "limit": 5}
+DECIMAL = re.compile(rb"(0|[1-9][0-9]*)\Z")
+
+
+def ended(status, output=b"", line=b""):
+    return status, output, line
+
+
+def refused(refusal):
+    """How a run ends whose text is refused."""
+    return ended(STATUS[refusal.answer.split(":")[0]], line=refusal.answer.encode() + b"\n")
+
+
+# ---- games
+
+
+class Game:
+    """The cells of a plant with the successors of each input, none where it isn't enabled."""
+
+    def __init__(self, plant):
+        self.plant = plant
+        self.fans = [[plant.successors(cell, vector) for vector in range(plant.vectors)] for cell in range(plant.cells)]
+        self.obstacles = {cell for cell in range(plant.cells) if plant.is_obstacle(cell)}
+        self.goals = {cell for cell in range(plant.cells) if plant.is_goal(cell)}
+
+    def first_into(self, cell, cells):
+        """The least input that is enabled and leads into these cells alone, or None."""
+        for vector, fan in enumerate(self.fans[cell]):
+            if fan and all(successor in cells for successor in fan):
+                return vector
+        return None
+
+    def solution(self):
+        return self.reached() if self.plant.goal == "reach" else self.kept()
+
+    def reached(self):
+        """For each cell that can be won its rank and input: round by round from the goals."""
+        rows = {cell: (0, None) for cell in self.goals}
+        rank = 0
+        while True:
+            rank += 1
+            found = {cell: self.first_into(cell, rows) for cell in range(self.plant.cells)
+                     if cell not in rows and cell not in self.obstacles}
+            found = {cell: (rank, vector) for cell, vector in found.items() if vector is not None}
+            if not found:
+                return rows
+            rows.update(found)
+
+    def kept(self):
+        """For each cell that can be kept its input: cells without one fall away until none does."""
+        kept = set(range(self.plant.cells)) - self.obstacles
+        while True:
+            left = {cell for cell in kept if self.first_into(cell, kept) is not None}
+            if left == kept:
+                return {cell: (None, self.first_into(cell, kept)) for cell in kept}
+            kept = left
+
+    def is_right(self, cell, rows):
+        """Whether the row of a cell, or that it has none, is what the rows of its successors ask for."""
+        row = rows.get(cell)
+        if cell in self.obstacles:
+            return row is None
+        if cell in self.goals:
+            return row == (0, None)
+        offers = [(max(rows[successor][0] for successor in fan) + 1, vector) for vector, fan in enumerate(self.fans[cell])
+                  if fan and all(successor in rows for successor in fan)]
+        return row == (min(offers) if offers else None)
+
+    def first_wrong(self, rows):
+        """The first cell whose row isn't right, or None."""
+        if self.plant.goal == "keep":
+            want = self.kept()
+            return next((cell for cell in range(self.plant.cells) if rows.get(cell) != want.get(cell)), None)
+        return next((cell for cell in range(self.plant.cells) if not self.is_right(cell, rows)), None)
+
+
+def check_edges(plant):
+    if plant.edges()[0] > EDGES:
+        raise Refused("limit: edges", "")
+
+
+# ---- tables
+
+
+def number_word(number):
+    return "-" if number is None else str(number)
+
+
+def row_text(cell, row):
+    rank, vector = row
+    return f"{cell} {number_word(rank)} {number_word(vector)}"
+
+
+def table_text(plant, rows):
+    lines = [row_text(cell, rows[cell]) for cell in sorted(rows)]
+    return f"table 1\n{plant.text()}rows {len(rows)}\n{''.join(line + chr(10) for line in lines)}end\n".encode()
+
+
+class TableReader:
+    """Reads a table line by line: what a line has to be rests on those before it."""
+
+    def __init__(self, data):
+        *self.lines, self.rest = data.split(b"\n")
+        self.at = 0
+
+    def refuse(self):
+        raise Refused(f"malformed: line {self.at + 1}", "")
+
+    def line(self):
+        """The next line; one without a line feed, and an end that comes too early, are refused."""
+        if self.at == len(self.lines):
+            self.refuse()
+        self.at += 1
+        return self.lines[self.at - 1]
+
+    def again(self):
+        """Refuses the line that was read last."""
+        self.at -= 1
+        self.refuse()
+
+    def read(self):
+        """The plant and the rows."""
+        if self.line() != b"table 1":
+            self.again()
+        plant = self.plant()
+        plant.check_limits(Refused)
+        rows = self.rows(plant)
+        if self.line() != b"end":
+            self.again()
+        if self.at < len(self.lines) or self.rest:
+            self.refuse()
+        return plant, rows
+
+    def plant(self):
+        draft = Draft()
+        while not draft.ended:
+            line = self.line().decode("latin-1")
+            words = words_of(line)
+            if not words or words[0] == "target" and draft.obstacles:
+                self.again()
+            try:
+                draft.read(line)
+            except Wrong:
+                self.again()
+            if words[0] == "next":
+                words[3:] = [text_of(draft.equations[-1], draft.names())]
+            if line != " ".join(words):
+                self.again()
+        return draft.made()
+
+    def count(self, most, word):
+        """A number that is at most `most`."""
+        if not DECIMAL.match(word) or int(word) > most:
+            self.again()
+        return int(word)
+
+    def rows(self, plant):
+        first, _, number = self.line().partition(b" ")
+        if first != b"rows":
+            self.again()
+        rows, before = {}, -1
+        for _ in range(self.count(plant.cells, number)):
+            words = self.line().split(b" ")
+            if len(words) != 3:
+                self.again()
+            cell = self.count(plant.cells - 1, words[0])
+            if cell <= before:
+                self.again()
+            rows[cell] = self.row(plant, *words[1:])
+            before = cell
+        return rows
+
+    def row(self, plant, rank, vector):
+        if plant.goal == "keep":
+            if rank != b"-":
+                self.again()
+            return None, self.count(plant.vectors - 1, vector)
+        rank = self.count(plant.cells - 1, rank)
+        if rank > 0:
+            return rank, self.count(plant.vectors - 1, vector)
+        if vector != b"-":
+            self.again()
+        return 0, None
+
+
+def read_table(data):
+    if len(data) > TABLE_LIMIT:
+        raise Refused("limit: table text", "")
+    return TableReader(data).read()
+
+
+# ---- the words of the program
+
+
+def synth(data):
+    try:
+        plant = read_plant(data)
+        check_edges(plant)
+    except Refused as refusal:
+        return refused(refusal)
+    return ended(0, table_text(plant, Game(plant).solution()))
+
+
+def check(data):
+    try:
+        plant, rows = read_table(data)
+        plant.check_overflow(Refused)
+        check_edges(plant)
+    except Refused as refusal:
+        return refused(refusal)
+    wrong = Game(plant).first_wrong(rows)
+    return ended(0, b"valid\n") if wrong is None else ended(1, line=f"invalid: cell {wrong}\n".encode())
+
+
+def sim(steps, seed, *start):
+    """What `sim` with these words answers to a table."""
+
+    def answer(data):
+        try:
+            plant, rows = read_table(data)
+            plant.check_overflow(Refused)
+        except Refused as refusal:
+            return refused(refusal)
+        if len(start) != len(plant.states) or plant.cell_of(start) not in rows:
+            return ended(1, line=b"no row\n")
+        return ended(0, "".join(line + "\n" for line in trace(plant, rows, steps, seed, start)).encode())
+
+    return answer
+
+
+def trace(plant, rows, steps, seed, state):
+    yield "trace 1"
+    for time, noise in enumerate(noises(plant, seed)):
+        said = " ".join(map(str, [time, *state]))
+        row = rows.get(plant.cell_of(state))
+        if row is None:
+            yield f"lost {said}"
+            return
+        rank, vector = row
+        yield f"{said} {number_word(rank)} {number_word(vector)}"
+        if rank == 0:
+            yield f"arrived {time}"
+            return
+        if time == steps:
+            yield f"stopped {time}"
+            return
+        state = plant.step(state, plant.vector(vector), noise)
