@@ -84,7 +84,16 @@ fn corridor_table<R: Threads + Sync, G: Gate>(
     let mut out = MemorySink::new(alloc, 200, 200, Vec::new(alloc))?;
     let mut err = MemorySink::new(alloc, 200, 200, Vec::new(alloc))?;
     let words = ["synth", workers];
-    run(rt, alloc, &words, &mut source, &mut out, &mut err, gate, &mut None);
+    run(
+        rt,
+        alloc,
+        &words,
+        &mut source,
+        &mut out,
+        &mut err,
+        gate,
+        &mut None,
+    );
     Ok(out)
 }
 
@@ -127,7 +136,16 @@ fn board_of<R: Abort + Threads + Sync>(
     let mut played = None;
     let mut number = Buffer::new();
     let words = ["synth", number.format(workers)];
-    let status = run(rt, alloc, &words, &mut source, &mut out, &mut err, &Open, &mut played);
+    let status = run(
+        rt,
+        alloc,
+        &words,
+        &mut source,
+        &mut out,
+        &mut err,
+        &Open,
+        &mut played,
+    );
     assert!(rt; status == 0);
     assert_eq!(rt; out.got(), table);
     match played {
