@@ -8,5 +8,6 @@ pub mod OneTable
 pub mod Reporting
 pub mod SoFar
 pub mod Tables
+pub mod Taking
 pub mod Words
 pub mod Working
