@@ -23,7 +23,8 @@ PAGE = 4096
 
 def cases(program):
     for form in FORMS:
-        for name, judge in (("to a full device", full), ("with its reader gone", gone), ("to a file opened for reading", unwritable)):
+        for name, judge in (("to a full device", full), ("with its reader gone", gone),
+                            ("to a file opened for reading", unwritable)):
             yield f"{form.name} {name}", judge(program, form)
         yield f"{form.name} one byte at a time", slowly(program, form)
     for form in SYNTH + WORKERS + CHECK + SIM:
@@ -198,7 +199,8 @@ def small(program):
         finally:
             os.close(reader)
         want = LONG.want()[1]
-        return differs((7, b""), (status, error)) or (None if want.startswith(got) and got != want else "no part of the table")
+        is_part = want.startswith(got) and got != want
+        return differs((7, b""), (status, error)) or (None if is_part else "no part of the table was written")
 
     return judge
 
@@ -224,7 +226,8 @@ def endless(program, form, byte):
         finally:
             os.close(reader)
             os.close(writer)
-        return differs(want, (process.returncode, output, error)) or (None if taken == most else f"{taken} bytes were taken, and not {most}")
+        wrong = differs(want, (process.returncode, output, error))
+        return wrong or (None if taken == most else f"{taken} bytes were taken, and not {most}")
 
     return judge
 

@@ -1,25 +1,27 @@
-"""What costs most, beside what is ordinary: for each byte of a text that is read, and for each edge of a game.
+"""What costs most, beside what is ordinary: for each byte of a text that is read, for each cell, pair and edge of a
+game, and for each node of an equation at each pair.
 
-The time is that of all processors together, the least of some runs, without what an empty run takes. A line of the
-table says what was measured; a case fails where a text costs more than so many times an ordinary one of the same run."""
+The time is that of all processors together, the least of some runs, without what an empty run takes. A line says what
+was measured; a case fails where a text costs more than so many times an ordinary one of the same run."""
 
 import os
 import subprocess
 import tempfile
+
+from gaffcurrant_plant.expression import walk
+from gaffcurrant_plant.reader import read_plant
 
 from .oracle import TABLE_LIMIT, row_text
 from .program import CART, CHECK, SYNTH, WORKERS
 
 FEW = 8
 EVEN = 1.3
-# An equation of 253 nodes has some hundred times the nodes of a short one.
-DEEP = 500
 HEAD = b"plant 1\nstate x 0 14 3\ninput u -3 3\n"
 TAIL = b"next x = x + u\ntarget 12 14\ngoal reach\nen"
 
 
 def spent(program, words, text, runs):
-    """The least processor time of some runs, in seconds, and the line or the first byte that came."""
+    """The least processor time of some runs, in seconds, and the line on the error."""
     least = float("inf")
     with tempfile.TemporaryFile() as source, open(os.devnull, "wb") as nowhere:
         source.write(text)
@@ -31,7 +33,7 @@ def spent(program, words, text, runs):
             _, status, usage = os.wait4(process.pid, 0)
             process.returncode = os.waitstatus_to_exitcode(status)
             least = min(least, usage.ru_utime + usage.ru_stime)
-    return least, process.returncode, line.decode().strip()
+    return least, line.decode().strip()
 
 
 class Table:
@@ -41,17 +43,20 @@ class Table:
         self.program, self.form, self.what, self.runs = program, form, what, runs
         self.empty = self.ordinary = None
 
-    def measure(self, name, text, units, most=FEW):
+    def measure(self, name, text, units_of, most=FEW):
         def judge():
             self.program.has(self.form)
             if self.empty is None:
                 self.empty = spent(self.program, self.form.words, b"", 20)[0]
-            time, status, line = spent(self.program, self.form.words, text(), self.runs)
+            given = text()
+            units = units_of(given)
+            time, line = spent(self.program, self.form.words, given, self.runs)
             each = max(time - self.empty, 0) / units
             if self.ordinary is None:
                 self.ordinary = each
             ratio = each / self.ordinary
-            print(f"    {name:58} {status} {line:22} {units:10} {self.what} {time:8.3f} s {each * 1e9:8.1f} ns {ratio:6.2f}")
+            print(f"    {name:56} {line or 'answered':22} {units:10} {self.what} {time:8.3f} s {each * 1e9:8.1f} ns {ratio:6.2f}",
+                  flush=True)
             return f"{ratio:.1f} times as dear as an ordinary one" if ratio > most else None
 
         return f"{self.form.name}: {name}", judge
@@ -145,7 +150,8 @@ def table(cells, rows, last, front=b""):
 
 def table_texts():
     million = 2 ** 20
-    yield "1 MB of rows, cut at the end", FEW, lambda: table(million, 60000, b"en")
+    yield "1 MB of rows, cut at the end", FEW, lambda: table(72000, 72000, b"en")
+    yield "1 MB of rows of 2^20 cells", FEW, lambda: table(million, 60000, b"en")
     yield "18 MB of rows, cut at the end", EVEN, lambda: table(million, million, b"en")
     yield "18 MB of rows, then lines up to 60 MB", EVEN, lambda: table(million, million, b"0 1 0\n" * 7000000)
     yield "60 MB that are no table", EVEN, lambda: b"table 2\n" + b"0 1 0\n" * 10000000
@@ -185,7 +191,11 @@ def tree(leaf, join, nodes):
     return of(0, leaves)
 
 
-SIX = [(name, b"0 15 1") for name in (b"a", b"b", b"c", b"d", b"e")] + [(b"f", b"0 0 1")]
+def six(places):
+    """Six states with so many places each, but for the last, which has one."""
+    return [(name, b"0 %d 1" % (places - 1)) for name in STAY[:5]] + [(b"f", b"0 0 1")]
+
+
 STAY = [b"a", b"b", b"c", b"d", b"e", b"f"]
 
 
@@ -203,45 +213,66 @@ def quotients():
 
 
 def plants():
-    """A name, the plant, and how many edges or, where there are more of them, pairs it has."""
+    """A name, the plant, and how many edges it has."""
     boxes_64 = [b"target" + b" 0 15" * 5 + b" 1 1"] * 64 + [b"obstacle" + b" 0 15" * 5 + b" 1 1"] * 64
     million = 2 ** 20
+    line = [(b"x", b"0 1048575 1")]
+    last = [b"target 1048575 1048575"]
+    ones = [b"u " + b" ".join(b"%d" % k for k in range(64)), b"v " + b" ".join(b"%d" % (64 * k) for k in range(64))]
+    noisy = [b"a + w", b"b + w", b"c + w"] + STAY[3:]
     yield "demo plant of 50: 60,000 cells", cart(50), 30000 * 50 - 807
     yield "demo plant of 400: 480,000 cells", cart(400), 30000 * 400 - 807
-    yield "a chain of 2^20 cells, one a rank", plant([(b"x", b"0 1048575 1")], [], [b"x + 1"], [b"target 1048575 1048575"]), million
-    yield "2^20 cells, all goals", plant([(b"x", b"0 1048575 1")], [], [b"x"], [b"target 0 1048575"]), million
-    yield "2^22 pairs, one successor each", plant([(b"x", b"0 1048575 1")], [b"u 0 1 2 3"], [b"x + u"], [b"target 1048575 1048575"]), 4 * million
-    yield "4,096 vectors, 1,024 cells", plant([(b"x", b"0 1023 1")], [b"u " + b" ".join(b"%d" % k for k in range(64)),
-          b"v " + b" ".join(b"%d" % (64 * k) for k in range(64))], [b"x - x + (u + v) / 4"], [b"target 1023 1023"]), 4 * million
-    yield "widest boxes: 2^25 edges of 5,793 cells", plant([(b"x", b"0 5792 1")], [], [b"w"], noises=[b"w 0 5790"]), 5793 * 5791
-    yield "19 million edges of 2^20 cells in six states", plant(SIX, [], [b"a + w", b"b + w", b"c + w"] + STAY[3:], noises=[b"w 0 1"]), 42 ** 3 * 256
-    yield "2^20 cells in six states", plant(SIX, [], STAY), million
-    yield "64 targets and 64 obstacles over them", plant(SIX, [], STAY, boxes_64), million
-    yield "2^22 pairs in six states", plant(SIX, [b"u 0 0 0 0"], STAY), 4 * million
+    yield "a chain of 2^20 cells, one a rank", plant(line, [], [b"x + 1"], last), million
+    yield "2^20 cells, all goals", plant(line, [], [b"x"], [b"target 0 1048575"]), million
+    yield "2^22 pairs, one successor each", plant(line, [b"u 0 1 2 3"], [b"x + u"], last), 4 * million
+    yield "4,096 vectors, 1,024 cells", plant([(b"x", b"0 1023 1")], ones, [b"x - x + (u + v) / 4"]), 4 * million
+    yield "widest boxes: 2^25 edges of 5,793 cells", plant([(b"x", b"0 5792 1")], [], [b"w"], (), [b"w 0 5790"]), 5793 * 5791
+    yield "19 million edges of 2^20 cells in six states", plant(six(16), [], noisy, (), [b"w 0 1"]), 42 ** 3 * 256
+    yield "2^20 cells in six states", plant(six(16), [], STAY), million
+    yield "64 targets and 64 obstacles over them", plant(six(16), [], STAY, boxes_64), million
+    yield "2^22 pairs in six states", plant(six(16), [b"u 0 0 0 0"], STAY), 4 * million
 
 
 def dear_plants():
-    yield "2^22 pairs, six short equations", plant(SIX, [b"u 0 0 0 0"], [b"min(%s, %s + u)" % (one, one) for one in STAY]), 2 ** 22
+    """Plants of 131,072 pairs, each of which six equations tell apart."""
+    def of(equations):
+        return plant(six(8), [b"u 0 0 0 0"], equations)
+
+    yield "short equations", of([b"min(%s, %s + u)" % (one, one) for one in STAY])
     for name, join in (("sums", lambda a, b: b"(%s + %s)" % (a, b)), ("minimums", lambda a, b: b"min(%s, %s)" % (a, b)),
                        ("products", lambda a, b: b"(%s * %s)" % (a, b) if len(a) < 20 else b"min(%s, %s)" % (a, b))):
-        yield f"2^22 pairs, six equations of 253 nodes: {name}", plant(SIX, [b"u 0 0 0 0"], [b"min(0, %s)" % mixed(join)] * 6), 2 ** 22
-    yield "2^22 pairs, six equations of 220 nodes: quotients", plant(SIX, [b"u 0 0 0 0"], [b"min(0, %s)" % quotients()] * 6), 2 ** 22
+        yield f"equations of 255 nodes, {name}", of([b"min(0, %s)" % mixed(join)] * 6)
+    yield "equations of 220 nodes, quotients past 64 bits", of([b"min(0, %s)" % quotients()] * 6)
+
+
+def cells_pairs_and_edges(edges):
+    def units(text):
+        plant = read_plant(text)
+        return plant.cells + plant.pairs + edges
+
+    return units
+
+
+def nodes_of_pairs(text):
+    plant = read_plant(text)
+    return plant.pairs * sum(1 for equation in plant.equations for _ in walk(equation))
 
 
 def cases(program):
     texts = Table(program, SYNTH[0], "bytes", 20)
     for name, text in plant_texts():
-        yield texts.measure(name, lambda text=text: text, len(text))
+        yield texts.measure(name, lambda text=text: text, len)
     tables = Table(program, CHECK[0], "bytes", 3)
     for name, most, text in table_texts():
-        yield tables.measure(name, text, len(text()), most)
+        yield tables.measure(name, text, len, most)
     for form in (SYNTH[0], WORKERS[2]):
-        games = Table(program, form, "edges", 1)
-        for name, text, units in plants():
-            yield games.measure(name, lambda text=text: text, units)
-    checks = Table(program, CHECK[0], "edges", 1)
-    for name, text, units in plants():
-        yield checks.measure(name, lambda text=text: program.end(SYNTH[0].words, text)[1], units)
-    deep = Table(program, SYNTH[0], "pairs", 1)
-    for name, text, units in dear_plants():
-        yield deep.measure(name, lambda text=text: text, units, DEEP)
+        games = Table(program, form, "cells, pairs, edges", 1)
+        for name, text, edges in plants():
+            yield games.measure(name, lambda text=text: text, cells_pairs_and_edges(edges))
+    checks = Table(program, CHECK[0], "cells, pairs, edges", 1)
+    for name, text, edges in plants():
+        units = cells_pairs_and_edges(edges)(text)
+        yield checks.measure(name, lambda text=text: program.end(SYNTH[0].words, text)[1], lambda _, units=units: units)
+    deep = Table(program, SYNTH[0], "nodes", 1)
+    for name, text in dear_plants():
+        yield deep.measure(name, lambda text=text: text, nodes_of_pairs)

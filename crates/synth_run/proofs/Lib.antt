@@ -13,5 +13,6 @@ pub mod SoFar
 pub mod Spellings
 pub mod Starts
 pub mod Tables
+pub mod Taking
 pub mod Words
 pub mod Working

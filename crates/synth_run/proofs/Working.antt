@@ -1,5 +1,5 @@
 -- What a form has worked out from what it read.
-use Rattle.std.proofs.Common.{Bool, refl, drop, ◌≡◌, ℕ, List, inl, inr, sym, subst, ◌∙◌}
+use Rattle.std.proofs.Common.{Bool, refl, drop, ◌≡◌, ℕ, List, inl, inr, sym, subst, ◌∙◌, arith}
 use Rattle.std.specs.Prelude.{Option, Some, None, IfSome}
 use Rattle.synth_run.specs.declared.form.Form.{Form}
 use Rattle.synth_run.specs.declared.form.Form.TheVariants.{Synth, Check, Sim, Demo}
@@ -7,7 +7,7 @@ use Rattle.synth_run.specs.Demo.{IsDemoLine}
 use Rattle.synth_run.specs.declared.outcome.Outcome.{Outcome}
 use Rattle.synth_run.specs.declared.outcome.Outcome.TheVariants.{Done, Usage, ReadFault, WriteFault, NoMemory}
 use Rattle.synth_run.specs.declared.text.Text.{Text}
-use Rattle.synth_run.specs.Devices.{Reading}
+use Rattle.synth_run.specs.Devices.{Reading, TakesAtMost}
 use Rattle.synth_run.specs.inside.Texts.{bytes_of, CanBeWritten}
 use Rattle.synth_run.specs.inside.Transfers.{ReadUpTo}
 use Rattle.synth_run.specs.inside.Working.{IsWorkedOut, IsTurnedDown}
@@ -30,6 +30,11 @@ answered_is_demanded Check bytes text h = inr (record { plant = h.0.plant; rows 
 answered_is_demanded (Sim samples seed start) bytes text h = inr (record { plant = h.plant; rows = h.rows; table = h.table; demands = (h.fits, h.begins) })
 answered_is_demanded (Demo n workers) bytes text h = refl
 
+-- what was read to a limit never went past it
+within_limit : (most : ℕ) (told after : Option (List ℕ)) (read : List ℕ) → ReadUpTo told after most read → TakesAtMost told after most
+within_limit most None after read up_to = tt
+within_limit most (Some bytes) after read up_to = (most, omega arith, up_to.1)
+
 if_some_more : (told : Option (List ℕ)) (P Q : List ℕ → Type 0) → ((bytes : List ℕ) → P bytes → Q bytes) → IfSome told P → IfSome told Q
 if_some_more None P Q more h = tt
 if_some_more (Some bytes) P Q more h = more bytes h
@@ -42,6 +47,7 @@ worked_out form passes source read text whole fits answer = record {
   demanded = subst (λ (told : Option (List ℕ)). IfSome told (λ bytes. Demands form bytes Done)) (sym whole.told)
       (if_some_more source.before (λ bytes. IsAnswer form bytes (bytes_of text)) (λ bytes. Demands form bytes Done) (λ bytes. answered_is_demanded form bytes (bytes_of text)) answers);
   read = read_to_the_limit (most_read form) source.before source.after read whole.up_to;
+  never_past = within_limit (most_read form) source.before source.after read whole.up_to;
   no_fault = whole.no_fault;
 }
   where
@@ -80,6 +86,7 @@ turned_down form passes source read outcome whole not_done demands = record {
   demanded = λ texts. subst (λ (told : Option (List ℕ)). IfSome told (λ bytes. Demands form bytes outcome)) (sym whole.told)
       (of_whole (λ bytes. Demands form bytes outcome) (most_read form) source.before source.after read whole.up_to (passes.demands outcome) (demands (not_for_memory outcome texts)));
   read = λ _ _. read_to_the_limit (most_read form) source.before source.after read whole.up_to;
+  never_past = within_limit (most_read form) source.before source.after read whole.up_to;
   fault = λ e. absurd (no_read_fault e);
   no_fault = λ _. whole.no_fault;
   sound = λ _. no_read_fault;
@@ -94,10 +101,14 @@ unread : (told : Option (List ℕ)) → IfSome told (λ bytes. told ≡ Some (dr
 unread None = tt
 unread (Some bytes) = refl
 
+none_taken : (told : Option (List ℕ)) → TakesAtMost told told 0
+none_taken None = tt
+none_taken (Some bytes) = (0, omega arith, refl)
+
 -- the line of a demo plant is the form's answer, and its source stays as it was
 pub demo_worked_out : (n workers : ℕ) (told : Option (List ℕ)) (faults : ℕ) (sound : Bool) (text : Text) → CanBeWritten text → IsDemoLine n (bytes_of text)
     → IsWorkedOut (Demo n workers) text (record { before = told; after = told; faults_before = faults; faults_after = faults; is_sound = sound })
-demo_worked_out n workers told faults sound text fits line = record { can_be_written = fits; answer = line; demanded = refl; read = unread told; no_fault = refl }
+demo_worked_out n workers told faults sound text fits line = record { can_be_written = fits; answer = line; demanded = refl; read = unread told; never_past = none_taken told; no_fault = refl }
 
 pub demo_turned_down : (n workers : ℕ) (told : Option (List ℕ)) (faults : ℕ) (sound : Bool) (outcome : Outcome) → outcome ≡ NoMemory
     → IsTurnedDown (Demo n workers) outcome (record { before = told; after = told; faults_before = faults; faults_after = faults; is_sound = sound })
@@ -107,6 +118,7 @@ demo_turned_down n workers told faults sound outcome memory = record {
   not_write_fault = λ e. let clash : NoMemory ≡ WriteFault = sym memory ∙ e in cc;
   demanded = λ texts. absurd (not_for_memory outcome texts memory);
   read = λ _ some. absurd (some memory);
+  never_past = none_taken told;
   fault = λ e. absurd (let clash : NoMemory ≡ ReadFault = sym memory ∙ e in cc);
   no_fault = λ _. refl;
   sound = λ _ e. let clash : NoMemory ≡ ReadFault = sym memory ∙ e in cc;

@@ -10,6 +10,11 @@ abbrev pub Takes : Option (List ℕ) → Option (List ℕ) → ℕ → List ℕ 
 Takes None after n buffer = Unit {0}
 Takes (Some bytes) after n buffer = (n ≤ length bytes) × (after ≡ Some (drop n bytes)) × (take n buffer ≡ take n bytes)
 
+-- no more than so many bytes were taken of what is left, from its front
+abbrev pub TakesAtMost : Option (List ℕ) → Option (List ℕ) → ℕ → Type 0
+TakesAtMost None after most = Unit {0}
+TakesAtMost (Some bytes) after most = (count : ℕ) × (count ≤ most) × (after ≡ Some (drop count bytes))
+
 -- a piece was appended to what a sink has
 abbrev pub Gains : Option (List ℕ) → Option (List ℕ) → List ℕ → Type 0
 Gains None after piece = Unit {0}

@@ -1,10 +1,10 @@
 -- What a run of some words gives.
-use Rattle.std.specs.Prelude.{◌≡◌, ◌≢◌, ◌⊎◌, ◌↔◌, ℕ, List, drop, Option, Some, None, IfSome, IsTrue}
+use Rattle.std.specs.Prelude.{◌≡◌, ◌≢◌, ◌⊎◌, ◌↔◌, ℕ, List, [], drop, Option, Some, None, IfSome, IsTrue}
 use Rattle.cell_counters.specs.Tokens.{BoardModel, RootModel}
 use Rattle.synth_run.specs.declared.form.Form.{Form}
 use Rattle.synth_run.specs.declared.outcome.Outcome.{Outcome}
 use Rattle.synth_run.specs.declared.outcome.Outcome.TheVariants.{Done, Usage, ReadFault, WriteFault, NoMemory}
-use Rattle.synth_run.specs.Devices.{Rose, Reading, Writing, GainsWhole, GainsPart}
+use Rattle.synth_run.specs.Devices.{Rose, Reading, Writing, GainsWhole, GainsPart, TakesAtMost}
 use Rattle.synth_run.specs.Form.{IsOfForm, AreOfNoForm, given, most_read}
 use Rattle.synth_run.specs.Demands.{Demands}
 use Rattle.synth_run.specs.Headline.{IsAnswer}
@@ -36,6 +36,7 @@ pub record IsRunOf (form : Form) (outcome : Outcome) (source : Reading) (out : W
   pub solves_nothing : SolvesNothing form played
   -- what was read, and that a refusal is the one that the text demands
   pub read : outcome ≢ ReadFault → outcome ≢ NoMemory → IsRead form source
+  pub never_past : TakesAtMost source.before source.after (most_read form)
   pub demanded : IsTheTexts outcome → IfSome (given form source.before) (λ bytes. Demands form bytes outcome)
   -- a device is told to have failed where its count rose, and its count stands everywhere else
   pub read_fault : outcome ≡ ReadFault → Rose source.faults_before source.faults_after
@@ -63,6 +64,7 @@ pub record IsRun (words : List (List ℕ)) (status : ℕ) (source : Reading) (ou
   pub outcome : Outcome
   pub status_is : status ≡ status_of outcome
   pub reported : Reports err (line_of outcome)
+  pub silent : line_of outcome ≡ [] → GainsWhole err []
   pub gives : Gives words outcome source out played
 
 -- whatever a text demands of a form is answered, unless there is no memory

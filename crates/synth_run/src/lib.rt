@@ -26,9 +26,11 @@ mod transfer;
 pub use demo::{demo_line, demo_plant};
 pub use devices::{Failed, Sink, Source};
 pub use frontier_pool::{Gate, Open};
-pub use memory::{MemorySink, MemorySource, NoMemory};
+pub use memory::{CleanSource, CountSink, MemorySink, MemorySource, NoMemory};
 pub use top::run;
 
+#[cfg(test)]
+mod device_tests;
 #[cfg(test)]
 mod tests;
 #[cfg(test)]

@@ -1,6 +1,6 @@
 // Devices in memory.
 
-ghost use Rattle.std.specs.Prelude.{◌≡◌, ◌<◌, ◌≤◌, ◌+◌, ◌↔◌, ◌⊎◌, [], Some, Ok, length, take, min, max, IsTrue, IsOk, IfOk, IfSome, IsErr, OnOk, OnErr};
+ghost use Rattle.std.specs.Prelude.{◌≡◌, ◌<◌, ◌≤◌, ◌+◌, ◌-◌, ◌^◌, ◌↔◌, ◌⊎◌, [], true, Some, None, Ok, length, take, min, max, IsTrue, IsOk, IfOk, IfSome, IsErr, OnOk, OnErr};
 ghost use Rattle.std.specs.Io.KnownBytes.{Keeps};
 ghost use Rattle.std.specs.List.{Contains};
 ghost use Rattle.synth_run.specs.Devices.{Rose, Takes, Gains};
@@ -26,25 +26,62 @@ impl From<plant_text::NoMemory> for NoMemory {
     }
 }
 
+/// A source over bytes in memory, of which no call fails. Seen as the bytes that are left.
+#[derive(Drop)]
+pub struct CleanSource {
+    bytes: Vec<u8>,
+    at: usize,
+}
+
+impl Model for CleanSource {
+    ghost use Rattle.std.specs.Prelude.{ℕ, List, length, drop, ◌≤◌};
+
+    ghost Value = { List ℕ };
+
+    ghost view = { λ s. drop s.at s.bytes.items };
+
+    ghost invariant = { λ s. s.at ≤ length s.bytes.items };
+}
+
+impl CleanSource {
+    pub fn new(bytes: Vec<u8>) -> CleanSource
+        ensures { result ≡ bytes.items }
+    {
+        CleanSource { bytes, at: 0 }
+    }
+}
+
+impl Source for CleanSource {
+    ghost left = { λ s. Some s };
+
+    ghost faults = { λ _. 0 };
+
+    ghost is_sound = { λ _. true };
+
+    fn read(&mut self, buf: &mut [u8]) -> Result<usize, Failed> {
+        let left = &self.bytes[self.at..];
+        let n = left.len().min(buf.len());
+        buf[..n].copy_from_slice(&left[..n]);
+        self.at += n;
+        Ok(n)
+    }
+}
+
 /// A source over bytes in memory, of which chosen calls fail.
 #[derive(Drop)]
 pub struct MemorySource {
-    bytes: Vec<u8>,
-    at: usize,
+    source: CleanSource,
     calls: u64,
     fails: Vec<u64>,
     faults: u64,
 }
 
 impl Model for MemorySource {
-    ghost use Rattle.std.specs.Prelude.{length, drop, ◌≤◌};
     ghost use Rattle.synth_run.specs.Memory.{MemoryLeft};
 
     ghost Value = { MemoryLeft };
 
-    ghost view = { λ s. record { left = drop s.at s.bytes.items; calls = s.calls; fails = s.fails.items; faults = s.faults } };
-
-    ghost invariant = { λ s. s.at ≤ length s.bytes.items };
+    ghost view = { λ s. record { left = s.source; calls = s.calls; fails = s.fails.items; faults = s.faults } };
 }
 
 impl MemorySource {
@@ -53,8 +90,7 @@ impl MemorySource {
         ensures { result ≡ record { left = bytes.items; calls = 0; fails = fails.items; faults = 0 } }
     {
         MemorySource {
-            bytes,
-            at: 0,
+            source: CleanSource::new(bytes),
             calls: 0,
             fails,
             faults: 0,
@@ -89,11 +125,7 @@ impl Source for MemorySource {
             self.faults = self.faults.saturating_add(1);
             return Err(Failed);
         }
-        let left = &self.bytes[self.at..];
-        let n = left.len().min(buf.len());
-        buf[..n].copy_from_slice(&left[..n]);
-        self.at += n;
-        Ok(n)
+        self.source.read(buf)
     }
 }
 
@@ -184,5 +216,53 @@ impl Sink for MemorySink {
             Ok(()) => Ok(n),
             Err(_) => unreachable!(),
         }
+    }
+}
+
+/// A sink that keeps nothing but how many bytes it took, and of which no call fails. Seen as that number.
+#[derive(Drop)]
+pub struct CountSink {
+    count: u64,
+}
+
+impl Model for CountSink {
+    ghost use Rattle.std.specs.Prelude.{ℕ};
+
+    ghost Value = { ℕ };
+
+    ghost view = { λ s. s.count };
+}
+
+impl CountSink {
+    pub fn new() -> CountSink
+        ensures { result ≡ 0 }
+    {
+        CountSink { count: 0 }
+    }
+
+    /// How many bytes were taken, up to the greatest number of 64 bits.
+    pub fn count(&self) -> u64
+        ensures { result ≡ self.now }
+    {
+        self.count
+    }
+
+    fn add(&mut self, piece: &[u8])
+        ensures { self.new ≡ min (self.old + length piece.now) (2 ^ 64 - 1) }
+    {
+        self.count = self.count.saturating_add(piece.len() as u64);
+    }
+}
+
+impl Sink for CountSink {
+    ghost got = { λ _. None };
+
+    ghost faults = { λ _. 0 };
+
+    ghost room = { λ _. 2 ^ 64 - 1 };
+
+    fn write(&mut self, piece: &[u8]) -> Result<usize, Failed> {
+        self.add(piece);
+        Ok(piece.len())
     }
 }

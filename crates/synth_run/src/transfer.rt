@@ -2,7 +2,7 @@
 
 ghost use Rattle.std.specs.List.{flat_map};
 ghost use Rattle.std.specs.Prelude.{◌≡◌, ◌≢◌, ◌≤◌, ◌+◌, Ok, IfOk, OnOk, OnErr, IsTrue, IsOk, Err, length};
-ghost use Rattle.synth_run.specs.Devices.{Rose, Gains, GainsWhole, GainsPart, writing};
+ghost use Rattle.synth_run.specs.Devices.{Rose, TakesAtMost, Gains, GainsWhole, GainsPart, writing};
 ghost use Rattle.synth_run.specs.inside.Transfers.{ReadUpTo};
 ghost use Rattle.synth_run.specs.declared.transfer.ReadFault.TheVariants.{Memory, Device};
 ghost use Rattle.synth_run.specs.declared.transfer.WriteFault.TheVariants as writes;
@@ -74,6 +74,7 @@ pub fn read_up_to<S: Source>(
     most: usize,
 ) -> Result<Vec<u8>, ReadFault>
     ensures read { IfOk result (λ bytes. ReadUpTo (S.left source.old) (S.left source.new) most bytes.items) }
+    ensures never_past { TakesAtMost (S.left source.old) (S.left source.new) most }
     ensures fault { result ≡ Err ReadFault.Device → Rose (S.faults source.old) (S.faults source.new) }
     ensures no_fault { result ≢ Err ReadFault.Device → S.faults source.new ≡ S.faults source.old }
     ensures sound { IsTrue (S.is_sound source.old) → result ≢ Err ReadFault.Device }

@@ -3,8 +3,8 @@ use Rattle.std.specs.Prelude.{◌≡◌, ◌≢◌, IfSome, IsTrue}
 use Rattle.synth_run.specs.declared.form.Form.{Form}
 use Rattle.synth_run.specs.declared.outcome.Outcome.{Outcome}
 use Rattle.synth_run.specs.declared.outcome.Outcome.TheVariants.{Done, Usage, ReadFault, WriteFault, NoMemory}
-use Rattle.synth_run.specs.Devices.{Rose, Reading}
-use Rattle.synth_run.specs.Form.{given}
+use Rattle.synth_run.specs.Devices.{Rose, Reading, TakesAtMost}
+use Rattle.synth_run.specs.Form.{given, most_read}
 use Rattle.synth_run.specs.Demands.{Demands}
 use Rattle.synth_run.specs.Headline.{IsAnswer}
 use Rattle.synth_run.specs.Statuses.{IsTheTexts}
@@ -18,6 +18,7 @@ pub record IsWorkedOut (form : Form) (text : Text) (source : Reading) : Type 0 w
   pub answer : IfSome (given form source.before) (λ bytes. IsAnswer form bytes (bytes_of text))
   pub demanded : IfSome (given form source.before) (λ bytes. Demands form bytes Done)
   pub read : IsRead form source
+  pub never_past : TakesAtMost source.before source.after (most_read form)
   pub no_fault : source.faults_after ≡ source.faults_before
 
 -- There is no answer, and the run is to end so.
@@ -27,6 +28,7 @@ pub record IsTurnedDown (form : Form) (outcome : Outcome) (source : Reading) : T
   pub not_write_fault : outcome ≢ WriteFault
   pub demanded : IsTheTexts outcome → IfSome (given form source.before) (λ bytes. Demands form bytes outcome)
   pub read : outcome ≢ ReadFault → outcome ≢ NoMemory → IsRead form source
+  pub never_past : TakesAtMost source.before source.after (most_read form)
   pub fault : outcome ≡ ReadFault → Rose source.faults_before source.faults_after
   pub no_fault : outcome ≢ ReadFault → source.faults_after ≡ source.faults_before
   pub sound : IsTrue source.is_sound → outcome ≢ ReadFault
