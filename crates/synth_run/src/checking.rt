@@ -72,11 +72,7 @@ fn reach_verdict<R: Threads + Sync>(
 }
 
 /// The verdict on a table by which its plant is to be kept.
-fn keep_verdict<R: Threads + Sync>(
-    rt: &R,
-    alloc: Global,
-    table: &Table,
-) -> Result<Verdict, Outcome>
+fn keep_verdict<R: Threads + Sync>(rt: &R, alloc: Global, table: &Table) -> Result<Verdict, Outcome>
     requires { table.now.plant.goal ≡ Keep }
     ensures solvable { IfOk result (λ _. IsSolvable table.now.plant) }
     ensures verdict { IfOk result (IsJudged table.now.plant table.now.rows) }

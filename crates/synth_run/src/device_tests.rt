@@ -28,7 +28,8 @@ fn status_of_clean<R: Threads + Sync>(
 ) -> u8
     ensures { (form : Form) → IsOfForm (map (λ w. w.now) words.now) form → IfSome (given form (Some source.old)) (IsCompleteAnswer form result) }
 {
-    run(rt, alloc, words, source, out, err, &Open)
+    let mut played = None;
+    run(rt, alloc, words, source, out, err, &Open, &mut played)
 }
 
 // The line on the error sink for the front of a text.
@@ -42,7 +43,17 @@ fn line_for<R: Threads + Sync>(
     let mut source = CleanSource::new(Vec::from_slice(alloc, text)?);
     let mut out = CountSink::new();
     let mut err = MemorySink::new(alloc, room, 200, Vec::new(alloc))?;
-    run(rt, alloc, words, &mut source, &mut out, &mut err, &Open);
+    let mut played = None;
+    run(
+        rt,
+        alloc,
+        words,
+        &mut source,
+        &mut out,
+        &mut err,
+        &Open,
+        &mut played,
+    );
     Ok(err)
 }
 
@@ -121,6 +132,7 @@ fn table_without_room_is_cut(rt: HostRuntime) -> Result<(), Fail> {
         let mut source = CleanSource::new(Vec::from_slice(rt.alloc(), PLANT)?);
         let mut out = MemorySink::new(rt.alloc(), room, 1, Vec::new(rt.alloc()))?;
         let mut err = CountSink::new();
+        let mut played = None;
         let status = run(
             &rt,
             rt.alloc(),
@@ -129,6 +141,7 @@ fn table_without_room_is_cut(rt: HostRuntime) -> Result<(), Fail> {
             &mut out,
             &mut err,
             &Open,
+            &mut played,
         );
         assert_eq!(rt;
             status,
@@ -147,6 +160,7 @@ fn first_read_that_fails_is_a_read_fault(rt: HostRuntime) -> Result<(), Fail> {
     let mut source = MemorySource::new(Vec::from_slice(rt.alloc(), PLANT)?, fails);
     let mut out = CountSink::new();
     let mut err = CountSink::new();
+    let mut played = None;
     let status = run(
         &rt,
         rt.alloc(),
@@ -155,6 +169,7 @@ fn first_read_that_fails_is_a_read_fault(rt: HostRuntime) -> Result<(), Fail> {
         &mut out,
         &mut err,
         &Open,
+        &mut played,
     );
     assert_eq!(rt; status, 6);
     assert_eq!(rt; out.count(), 0);
