@@ -1,10 +1,5 @@
 // The top call on damaged texts and failing devices in memory.
 
-ghost use Rattle.std.specs.Prelude.{◌≡◌, ℕ, List, Some, map, IfSome};
-ghost use Rattle.synth_run.specs.declared.form.Form.{Form};
-ghost use Rattle.synth_run.specs.Form.{IsOfForm, given};
-ghost use Rattle.synth_run.specs.Runs.{IsCompleteAnswer};
-
 use super::*;
 use std::alloc::Global;
 use std::test::Fail;
@@ -16,21 +11,6 @@ const PLANT: &[u8] =
 
 const TABLE: &[u8] =
     b"table 1\nplant 1\nstate x 0 14 3\ninput u -3 3\nnext x = x + u\ntarget 12 14\ngoal reach\nend\nrows 5\n0 4 1\n1 3 1\n2 2 1\n3 1 1\n4 0 -\nend\n";
-
-// Devices that can't fail: whatever the words and the bytes demand is answered, unless there is no memory.
-fn status_of_clean<R: Threads + Sync>(
-    rt: &R,
-    alloc: Global,
-    words: &[&str],
-    source: &mut CleanSource,
-    out: &mut CountSink,
-    err: &mut CountSink,
-) -> u8
-    ensures { (form : Form) → IsOfForm (map (λ w. w.now) words.now) form → IfSome (given form (Some source.old)) (IsCompleteAnswer form result) }
-{
-    let mut played = None;
-    run(rt, alloc, words, source, out, err, &Open, &mut played)
-}
 
 // The line on the error sink for the front of a text.
 fn line_for<R: Threads + Sync>(
@@ -62,13 +42,16 @@ fn clean_devices_take_the_whole_table(rt: HostRuntime) -> Result<(), Fail> {
     let mut source = CleanSource::new(Vec::from_slice(rt.alloc(), PLANT)?);
     let mut out = CountSink::new();
     let mut err = CountSink::new();
-    let status = status_of_clean(
+    let mut played = None;
+    let status = run(
         &rt,
         rt.alloc(),
         &["synth", "1"],
         &mut source,
         &mut out,
         &mut err,
+        &Open,
+        &mut played,
     );
     assert_eq!(rt; status, 0);
     assert_eq!(rt; out.count(), 128);
