@@ -9,4 +9,7 @@ pub mod SourceBands
 pub mod LeadingPairs
 pub mod SourceSteps
 pub mod PlantGame
+pub mod DigitMoves
+pub mod PairDigits
+pub mod EquationDigits
 pub mod SideTables

@@ -1,13 +1,23 @@
 -- Tables of the sides of all boxes.
-use Rattle.std.proofs.Common.{◌≡◌, ℕ, ◌+◌, ◌*◌, ◌/◌, ◌%◌, ◌<◌, ◌-◌, List, [], ◌∷◌, ◌++◌, None, length, get_or, sym, ap, subst, subst₂, ◌∙◌, arith, inl, inr}
+use Rattle.std.proofs.Common.{◌≡◌, ℕ, ◌+◌, ◌*◌, ◌/◌, ◌%◌, ◌^◌, ◌<◌, ◌≤◌, ◌-◌, List, [], ◌∷◌, ◌++◌, All, None, length, get_or, refl, sym, ap, subst, ◌∙◌, arith, inl, inr}
+use Rattle.std.specs.Prelude.{sum_by}
 use Rattle.std.proofs.lemmas.Bool.{cases_lt}
 use Rattle.std.proofs.lemmas.List.{get_or_append_left, get_or-append_right}
-use Rattle.std.proofs.lemmas.Nat.{mod_below, div-mul-add, mod-mul-add, mul-add-lt}
-use Rattle.std.proofs.Math.Nat.{mul_comm}
-use Rattle.plant_text.specs.plant.Description.{Description}
-use Rattle.successor_box.specs.Sides.{IsSideAt, RestsOn}
+use Rattle.std.proofs.lemmas.List.Elements.{All-head, All-tail}
+use Rattle.std.proofs.lemmas.List.Sums.{sum_by-cons}
+use Rattle.std.proofs.lemmas.Nat.{mod_below}
+use Rattle.grid_quantiser.specs.Axes.{cells_of}
+use Rattle.plant_text.specs.plant.Description.{Description, axes_of, vectors_of}
+use Rattle.plant_text.specs.plant.Plants.{IsPlant}
+use Rattle.plant_text.specs.plant.Soundness.{IsSound}
+use Rattle.successor_box.specs.Sides.{IsSideAt, place_in}
+use Rattle.successor_box.specs.Laws.{SidesRestOnPlaces}
+use Rattle.abstraction_table.specs.declared.digits.Digit.{Digit}
 use Rattle.abstraction_table.specs.declared.sides.SideTable.{SideTable}
-use Rattle.abstraction_table.specs.inside.Sides.{place_of, HoldsSidesAlong}
+use Rattle.abstraction_table.specs.Abstraction.{pairs_of, pair_of}
+use Rattle.abstraction_table.specs.inside.Digits.{place_at, pair_at, IsDigitOf, AreDigitsFrom}
+use Rattle.abstraction_table.specs.inside.Sides.{ArePlacesOf, first_in, first_of, side_in, HasPlaceFor, HoldsSidesAlong, IsSideFor}
+use Rattle.abstraction_table.proofs.EquationDigits.{place_below, few_places, cell_below, alike, place_is}
 
 -- one table more
 pub tables_more : (p : Description) (tables : List SideTable) (n : ℕ) (t : SideTable) → length tables ≡ n → ((i : ℕ) (d : SideTable) → i < n → HoldsSidesAlong p i (get_or tables i d)) → HoldsSidesAlong p n t → (i : ℕ) (d : SideTable) → i < n + 1 → HoldsSidesAlong p i (get_or (tables ++ t ∷ []) i d)
@@ -22,15 +32,43 @@ tables_more p tables n t long each here i d lt =
     ]
 
 -- what was found for each place is a table of all sides
-pub table_of : (p : Description) (i : ℕ) (t : SideTable) → RestsOn p i t.cells t.inputs → length t.sides.items ≡ t.cells * t.inputs →
-    ((place : ℕ) → place < t.cells * t.inputs → IsSideAt p (place / t.inputs) (place % t.inputs) i (get_or t.sides.items place None)) → HoldsSidesAlong p i t
-table_of p i t rests long each = record {
-  place = λ c u cell input. record { some_cell = rests.some_cell; some_input = rests.some_input; within = omega (arith, below c u, long) };
-  side = λ c u cell input.
-      let last : u % t.inputs < t.inputs = mod_below u t.inputs rests.some_input in
-      rests.same c u (get_or t.sides.items (place_of t c u) None) cell input
-      (subst₂ (λ (a b : ℕ). IsSideAt p a b i (get_or t.sides.items (place_of t c u) None)) (div-mul-add (c % t.cells) t.inputs (u % t.inputs) last) (mod-mul-add (c % t.cells) t.inputs (u % t.inputs) last) (each (place_of t c u) (below c u)));
-}
+module _ (rest : SidesRestOnPlaces) (p : Description) (plant : IsPlant p) (sound : IsSound p) (limit : pairs_of p ≤ 2 ^ 22) (i : ℕ) (lt : i < length p.equations) (t : SideTable) (places : ℕ) (are : AreDigitsFrom p i 0 t.digits.items places)
+    (inputs_long : length t.inputs.items ≡ vectors_of p.inputs) (inputs_are : (u : ℕ) → u < vectors_of p.inputs → get_or t.inputs.items u 0 ≡ place_at t.digits.items u)
+    (sides_long : length t.sides.items ≡ places) (sides_are : (place : ℕ) → place < places → IsSideFor p i t.digits.items place (get_or t.sides.items place None)) where
+  place_of_pair : (c u : ℕ) → u < vectors_of p.inputs → first_of p t c + get_or t.inputs.items u 0 ≡ place_at t.digits.items (pair_of p c u)
+  place_of_pair c u input = ap (λ (n : ℕ). first_of p t c + n) (inputs_are u input) ∙ sym (place_is p plant sound i t.digits.items places are c u input)
+
+  has_place : (c u : ℕ) → u < vectors_of p.inputs → HasPlaceFor t (first_of p t c) u
+  has_place c u input = record {
+    input = omega (arith, input, inputs_long);
+    within = omega (arith, place_of_pair c u input, place_below p plant sound i t.digits.items places are (pair_of p c u), sides_long);
+  }
+
+  side_of_pair : (c u : ℕ) → c < cells_of (axes_of p) → u < vectors_of p.inputs → IsSideAt p c u i (side_in t (first_of p t c) u)
+  side_of_pair c u cell input =
+      let v : ℕ = vectors_of p.inputs in
+      let some : 0 < v = omega (arith, input) in
+      let place : ℕ = place_at t.digits.items (pair_of p c u) in
+      let pair : ℕ = pair_at t.digits.items place in
+      let found = sides_are place (place_below p plant sound i t.digits.items places are (pair_of p c u)) in
+      subst (λ (n : ℕ). IsSideAt p c u i (get_or t.sides.items n None)) (sym (place_of_pair c u input))
+      (rest p i c u (pair / v) (pair % v) (get_or t.sides.items place None) sound lt cell input (cell_below p plant sound i t.digits.items places are some place) (mod_below pair v some)
+      (alike p plant sound i t.digits.items places are c u input) found)
+
+  pub table_of : HoldsSidesAlong p i t
+  table_of = record {
+    digits = are.each;
+    few = omega (arith, limit, sides_long, few_places p plant sound i t.digits.items places are);
+    place = λ c u cell input. has_place c u input;
+    side = side_of_pair;
+  }
+
+-- what the places of a cell bring is what the cell brings
+pub first_is : (p : Description) (t : SideTable) (c : ℕ) (places : List ℕ) → All (IsDigitOf p) t.digits.items → ArePlacesOf p c places → first_in t places ≡ first_of p t c
+first_is p t c places each are = same_sums t.digits.items each
   where
-    below : (c u : ℕ) → place_of t c u < t.cells * t.inputs
-    below c u = omega (arith, mul-add-lt (c % t.cells) t.inputs (u % t.inputs) t.cells (mod_below c t.cells rests.some_cell) (mod_below u t.inputs rests.some_input), mul_comm t.inputs t.cells)
+    same_sums : (ds : List Digit) → All (IsDigitOf p) ds → sum_by (λ (d : Digit). get_or places d.variable 0 * d.in_table) ds ≡ sum_by (λ (d : Digit). place_in p c 0 d.variable * d.in_table) ds
+    same_sums [] each = refl
+    same_sums (d ∷ ds) each =
+        let here : get_or places d.variable 0 * d.in_table ≡ place_in p c 0 d.variable * d.in_table = ap (λ (n : ℕ). n * d.in_table) (are d.variable (All-head (IsDigitOf p) d ds each).variable) in
+        omega (arith, sum_by-cons (λ (d : Digit). get_or places d.variable 0 * d.in_table) d ds, sum_by-cons (λ (d : Digit). place_in p c 0 d.variable * d.in_table) d ds, here, same_sums ds (All-tail (IsDigitOf p) d ds each))

@@ -1,4 +1,5 @@
 -- What only private clauses and proofs name.
+pub mod Digits
 pub mod Marks
 pub mod Memory
 pub mod Props

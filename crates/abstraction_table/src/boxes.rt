@@ -5,7 +5,7 @@ ghost use Rattle.plant_text.specs.plant.Description.{axes_of, vectors_of};
 ghost use Rattle.successor_box.specs.Boxes.{IsBoxOf};
 ghost use Rattle.successor_box.specs.Deviations.{HasNoOverflow, deviations_of};
 ghost use Rattle.abstraction_table.specs.Abstraction.{AreBoxesOf};
-ghost use Rattle.abstraction_table.specs.inside.Sides.{HoldSides};
+ghost use Rattle.abstraction_table.specs.inside.Sides.{ArePlacesOf, AreFirstsOf, HoldSides};
 
 use crate::sides::{SideTable, find_tables};
 use grid_quantiser::CellBox;
@@ -61,23 +61,54 @@ fn boxes_of_cell(p: &Plant, tables: &[SideTable], c: u32, boxes: &mut [Option<Ce
     ensures long { length boxes.new ≡ length boxes.old }
     ensures each { (u : ℕ) → u < length boxes.old → IsBoxOf p.now c u (slice_index_or boxes.new u None) }
 {
+    let firsts = firsts_of(p, tables, c);
     for input in 0..p.vectors() {
-        boxes[input as usize] = box_at(p, tables, c, input);
+        boxes[input as usize] = box_at(p, tables, &firsts, input);
     }
 }
 
-/// The box of a pair.
+/// The box of a cell that brings so much to each table, under an input.
 #[inline]
-fn box_at(p: &Plant, tables: &[SideTable], c: u32, input: u32) -> Option<CellBox>
+fn box_at(p: &Plant, tables: &[SideTable], firsts: &[u32; 6], input: u32) -> Option<CellBox>
     requires tables { HoldSides p.now tables.now }
-    requires cell { c < cells_of (axes_of p.now) }
+    requires cell { (c : ℕ) × (c < cells_of (axes_of p.now)) × AreFirstsOf p.now tables.now c firsts.now }
     requires input { input < vectors_of p.now.inputs }
-    ensures { IsBoxOf p.now c input result }
+    ensures { (c : ℕ) → c < cells_of (axes_of p.now) → AreFirstsOf p.now tables.now c firsts.now → IsBoxOf p.now c input result }
 {
     every_plant_is_within_limits(p);
     let mut sides = [None; 6];
     for state in 0..tables.len() {
-        sides[state] = tables[state].side(c, input);
+        sides[state] = tables[state].side(firsts[state], input);
     }
     box_of_sides(p, &sides)
+}
+
+/// What a cell brings to the places of its sides, table by table.
+#[inline]
+fn firsts_of(p: &Plant, tables: &[SideTable], c: u32) -> [u32; 6]
+    requires tables { HoldSides p.now tables.now }
+    requires cell { c < cells_of (axes_of p.now) }
+    ensures { AreFirstsOf p.now tables.now c result }
+{
+    every_plant_is_within_limits(p);
+    let places = places_of(p, c);
+    let mut firsts = [0; 6];
+    for state in 0..tables.len() {
+        firsts[state] = tables[state].first(&places);
+    }
+    firsts
+}
+
+/// The places of a cell along the axes, and 0 for each input variable.
+#[inline]
+fn places_of(p: &Plant, c: u32) -> [u32; 9]
+    ensures { ArePlacesOf p.now c result }
+{
+    every_plant_is_within_limits(p);
+    let along = p.grid().places(c);
+    let mut places = [0; 9];
+    for state in 0..p.states() {
+        places[state as usize] = along[state as usize];
+    }
+    places
 }

@@ -11,6 +11,7 @@ mod abstraction;
 mod band;
 mod boxes;
 mod building;
+mod digits;
 mod edges;
 mod fault;
 mod filling;

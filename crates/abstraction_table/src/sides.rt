@@ -1,37 +1,53 @@
 //! The sides of all boxes, state by state.
 ghost use Rattle.std.specs.Prelude.{◌≡◌, ℕ, ◌+◌, ◌*◌, ◌/◌, ◌%◌, ◌^◌, ◌≤◌, ◌<◌, length, slice_index_or, None, IfOk};
+ghost use Rattle.std.specs.List.{All};
 ghost use Rattle.grid_quantiser.specs.Axes.{cells_of};
 ghost use Rattle.plant_text.specs.plant.Description.{axes_of, vectors_of};
-ghost use Rattle.successor_box.specs.Sides.{IsSideAt, RestsOn};
 ghost use Rattle.successor_box.specs.Deviations.{HasNoOverflow, deviations_of};
-ghost use Rattle.abstraction_table.specs.inside.Sides.{side_in, HasPlaceFor, HoldsSidesAlong, HoldSides};
+ghost use Rattle.abstraction_table.specs.inside.Digits.{AreDigitsFrom, place_at};
+ghost use Rattle.abstraction_table.specs.inside.Sides.{first_in, side_in, HasPlaceFor, HoldsSidesAlong, HoldSides, IsSideFor};
 
+use crate::digits::{Digit, Digits, find_digits, pair_of, place_of};
 use grid_quantiser::Side;
 use plant_text::Plant;
-use plant_text::laws::every_plant_is_within_limits;
+use plant_text::laws::{every_plant_is_within_limits, plants_are_sound};
 use rayon::prelude::*;
 use std::alloc::{AllocError, Global};
 use std::thread::Threads;
-use successor_box::{Slopes, find_support, side};
+use successor_box::laws::sides_rest_on_places;
+use successor_box::{Slopes, side};
 
-/// The sides along the axis of a state: those of the first `cells` cells and `inputs` inputs, on which
-/// those of all pairs rest.
+/// The sides along the axis of a state: one for each combination of the places in the variables of the
+/// state's equation, since those of all pairs rest on these.
 #[derive(Drop)]
 pub(crate) struct SideTable {
-    pub(crate) cells: u32,
-    pub(crate) inputs: u32,
+    pub(crate) digits: Vec<Digit>,
+    pub(crate) inputs: Vec<u32>,
     pub(crate) sides: Vec<Option<Side>>,
 }
 
 impl SideTable {
-    /// The side of the box of a pair.
+    /// What the places of a cell bring to the place of its sides.
     #[inline]
-    pub(crate) fn side(&self, c: u32, input: u32) -> Option<Side>
-        requires { HasPlaceFor self.now c input }
-        ensures { result ≡ side_in self.now c input }
+    pub(crate) fn first(&self, places: &[u32; 9]) -> u32
+        requires variables { All (λ d. d.variable < 9) self.now.digits.items }
+        requires fits { first_in self.now places.now < 2 ^ 32 }
+        ensures { result ≡ first_in self.now places.now }
     {
-        let first = (c % self.cells) as usize * self.inputs as usize;
-        self.sides[first + (input % self.inputs) as usize]
+        let mut first = 0;
+        for d in &self.digits {
+            first += places[d.variable as usize] * d.in_table;
+        }
+        first
+    }
+
+    /// The side of the box of a cell that brings `first`, under an input.
+    #[inline]
+    pub(crate) fn side(&self, first: u32, input: u32) -> Option<Side>
+        requires { HasPlaceFor self.now first input }
+        ensures { result ≡ side_in self.now first input }
+    {
+        self.sides[first as usize + self.inputs[input as usize] as usize]
     }
 }
 
@@ -68,9 +84,58 @@ fn find_table<R: Threads + Sync>(
     ensures { IfOk result (λ table. HoldsSidesAlong p.now state table) }
 {
     every_plant_is_within_limits(p);
-    let support = find_support(p, s, state);
-    let (cells, inputs) = (support.cells, support.inputs);
-    let mut sides = vec![in alloc; None; (cells * inputs) as usize]?;
+    plants_are_sound();
+    sides_rest_on_places();
+    let digits = find_digits(alloc, p, state)?;
+    let inputs = find_inputs(alloc, p, state, &digits)?;
+    let sides = find_sides(rt, alloc, p, s, state, &digits)?;
+    Ok(SideTable {
+        digits: digits.each,
+        inputs,
+        sides,
+    })
+}
+
+/// What each input brings to the place of a side.
+fn find_inputs(
+    alloc: Global,
+    p: &Plant,
+    state: u32,
+    digits: &Digits,
+) -> Result<Vec<u32>, AllocError>
+    requires { AreDigitsFrom p.now state 0 digits.now.each.items digits.now.places }
+    ensures long { IfOk result (λ inputs. length inputs.items ≡ vectors_of p.now.inputs) }
+    ensures each { IfOk result (λ inputs. (u : ℕ) → u < vectors_of p.now.inputs → slice_index_or inputs.items u 0 ≡ place_at digits.now.each.items u) }
+{
+    every_plant_is_within_limits(p);
+    plants_are_sound();
+    let vectors = p.vectors();
+    let mut inputs = Vec::with_capacity(alloc, vectors as usize)?;
+    for input in 0..vectors {
+        inputs.push(place_of(&digits.each, input))?;
+    }
+    Ok(inputs)
+}
+
+/// The sides along the axis of one state, one for each place.
+fn find_sides<R: Threads + Sync>(
+    rt: &R,
+    alloc: Global,
+    p: &Plant,
+    s: &Slopes,
+    state: u32,
+    digits: &Digits,
+) -> Result<Vec<Option<Side>>, AllocError>
+    requires slopes { s.now ≡ deviations_of p.now }
+    requires fits { HasNoOverflow p.now }
+    requires state { state < length p.now.equations }
+    requires digits { AreDigitsFrom p.now state 0 digits.now.each.items digits.now.places }
+    ensures long { IfOk result (λ sides. length sides.items ≡ digits.now.places) }
+    ensures each { IfOk result (λ sides. (place : ℕ) → place < digits.now.places → IsSideFor p.now state digits.now.each.items place (slice_index_or sides.items place None)) }
+{
+    every_plant_is_within_limits(p);
+    plants_are_sound();
+    let mut sides = vec![in alloc; None; digits.places as usize]?;
     par_for_each_mut(
         rt,
         &mut sides,
@@ -78,19 +143,29 @@ fn find_table<R: Threads + Sync>(
             requires slopes { s.now ≡ deviations_of p.now }
             requires fits { HasNoOverflow p.now }
             requires state { state < length p.now.equations }
-            requires some_input { 0 < inputs }
-            requires cell { place / inputs < cells_of (axes_of p.now) }
-            requires input { place % inputs < vectors_of p.now.inputs }
-            requires place { place < 2 ^ 32 }
-            ensures { IsSideAt p.entry.now (place / inputs) (place % inputs) state found.exit.now }
+            requires digits { AreDigitsFrom p.now state 0 digits.now.each.items digits.now.places }
+            requires place { place < digits.now.places }
+            requires limit { place < 2 ^ 32 }
+            ensures { IsSideFor p.entry.now state digits.entry.now.each.items place found.exit.now }
         {
-            let place = place as u32;
-            *found = side(p, s, place / inputs, place % inputs, state);
+            *found = side_at(p, s, state, digits, place as u32);
         },
     );
-    Ok(SideTable {
-        cells,
-        inputs,
-        sides,
-    })
+    Ok(sides)
+}
+
+/// The side of the pair that has the digits of a place.
+fn side_at(p: &Plant, s: &Slopes, state: u32, digits: &Digits, place: u32) -> Option<Side>
+    requires slopes { s.now ≡ deviations_of p.now }
+    requires fits { HasNoOverflow p.now }
+    requires state { state < length p.now.equations }
+    requires digits { AreDigitsFrom p.now state 0 digits.now.each.items digits.now.places }
+    requires place { place < digits.now.places }
+    ensures { IsSideFor p.now state digits.now.each.items place result }
+{
+    every_plant_is_within_limits(p);
+    plants_are_sound();
+    let pair = pair_of(&digits.each, place);
+    let inputs = p.vectors();
+    side(p, s, pair / inputs, pair % inputs, state)
 }

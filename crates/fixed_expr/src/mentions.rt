@@ -5,19 +5,19 @@ ghost use Rattle.fixed_expr.specs.Mentions.{mentions};
 use crate::expr::Expr;
 
 impl Expr {
-    /// Whether a variable from `from` up to `to` stands in the expression.
-    pub fn mentions(&self, from: u32, to: u32) -> bool
-        ensures { result ≡ mentions (expression_of self.now) from to }
+    /// Whether a variable stands in the expression.
+    pub fn mentions(&self, variable: u32) -> bool
+        ensures { result ≡ mentions (expression_of self.now) variable }
     {
         match self {
             Expr::Num(_) => false,
-            Expr::Var(i) => from <= *i && *i < to,
-            Expr::Neg(a) | Expr::Div(a, _) | Expr::Abs(a) => a.mentions(from, to),
+            Expr::Var(i) => *i == variable,
+            Expr::Neg(a) | Expr::Div(a, _) | Expr::Abs(a) => a.mentions(variable),
             Expr::Add(a, b)
             | Expr::Sub(a, b)
             | Expr::Mul(a, b)
             | Expr::Min(a, b)
-            | Expr::Max(a, b) => a.mentions(from, to) || b.mentions(from, to),
+            | Expr::Max(a, b) => a.mentions(variable) || b.mentions(variable),
         }
     }
 }
@@ -36,10 +36,10 @@ mod tests {
             Box::new(alloc, Expr::Var(4))?,
         );
         let sum = Expr::Add(Box::new(alloc, Expr::Var(1))?, Box::new(alloc, product)?);
-        assert!(rt; sum.mentions(0, 2));
-        assert!(rt; !sum.mentions(2, 4));
-        assert!(rt; sum.mentions(4, 5));
-        assert!(rt; !sum.mentions(5, 15));
+        assert!(rt; sum.mentions(1));
+        assert!(rt; sum.mentions(4));
+        assert!(rt; !sum.mentions(0));
+        assert!(rt; !sum.mentions(3));
         Ok(())
     }
 }

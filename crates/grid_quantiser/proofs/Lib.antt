@@ -16,4 +16,5 @@ pub mod Turning
 pub mod RunSteps
 pub mod BoxRuns
 pub mod WheelsMade
-pub mod LaterPlaces
+pub mod OwnPlaces
+pub mod AxisCounts

@@ -1,10 +1,11 @@
 -- What holds of every grid's cells.
-use Rattle.std.specs.Prelude.{◌≡◌, ℕ, ◌-◌, ◌%◌, ◌<◌, ◌≤◌, ◌↔◌, ℤ, pos, ◌+ℤ◌, ◌≤ℤ◌, List, [], ◌∷◌, drop, length, slice_index_or}
+use Rattle.std.specs.Prelude.{◌≡◌, ℕ, ◌-◌, ◌<◌, ◌≤◌, ◌↔◌, ℤ, pos, ◌+ℤ◌, ◌-ℤ◌, ◌≤ℤ◌, List, [], ◌∷◌, map, length, slice_index_or}
 use Rattle.std.specs.List.{All}
 use Rattle.std.specs.List.Sorted.{IsStrictlyIncreasing}
 use Rattle.grid_quantiser.specs.declared.axis.Axis.{Axis}
-use Rattle.grid_quantiser.specs.Axes.{cells_of, AreAxes}
+use Rattle.grid_quantiser.specs.Axes.{end_of, no_axis, cells_of, AreAxes}
 use Rattle.grid_quantiser.specs.Cells.{IsInDomain, cell_of, IsPointOf, low_of, radius_of, centre_of, high_of}
+use Rattle.grid_quantiser.specs.Places.{place_along, middle_of}
 use Rattle.grid_quantiser.specs.Boxes.{IsInBox, IsCellBox, cells_between}
 
 -- in each state the two are at most the radius of the axis apart
@@ -23,18 +24,23 @@ CellsAreBoxes =
 abbrev pub DomainIsBox : Type 0
 DomainIsBox = (axes : List Axis) (xs : List ℤ) → AreAxes axes → IsInDomain axes xs ↔ IsInBox axes (low_of axes 0) (high_of axes (cells_of axes - 1)) xs
 
+-- the first cell begins with the least numbers of the axes, and the last ends right before the ends of the axes
+abbrev pub DomainHasEnds : Type 0
+DomainHasEnds =
+    (axes : List Axis) → AreAxes axes →
+    (low_of axes 0 ≡ map (λ (a : Axis). a.lo) axes) × (high_of axes (cells_of axes - 1) ≡ map (λ (a : Axis). end_of a -ℤ pos 1) axes)
+
 -- the centre of a cell is a point of it, and near to every point of it
 abbrev pub CentresAreNear : Type 0
 CentresAreNear =
     (axes : List Axis) (c : ℕ) → AreAxes axes → c < cells_of axes →
     IsPointOf axes c (centre_of axes c) × ((xs : List ℤ) → IsPointOf axes c xs → AreStatesNear axes (centre_of axes c) xs)
 
--- the centre in a state rests on the places in that state and the later ones alone: the cell may be counted
--- among the cells of the states from k on
-abbrev pub CentresRestOnLaterPlaces : Type 0
-CentresRestOnLaterPlaces =
-    (axes : List Axis) (c k i : ℕ) → AreAxes axes → c < cells_of axes → k ≤ i → i < length axes →
-    slice_index_or (centre_of axes (c % cells_of (drop k axes))) i (pos 0) ≡ slice_index_or (centre_of axes c) i (pos 0)
+-- the centre of a cell in a state rests on the cell's place along that axis alone
+abbrev pub CentresRestOnTheirPlaces : Type 0
+CentresRestOnTheirPlaces =
+    (axes : List Axis) (c i : ℕ) → AreAxes axes → c < cells_of axes → i < length axes →
+    slice_index_or (centre_of axes c) i (pos 0) ≡ middle_of (slice_index_or axes i no_axis) (place_along axes i c)
 
 -- each state in the domain has one of the cells
 abbrev pub StatesHaveCells : Type 0

@@ -1,5 +1,6 @@
 pub mod Axes
 pub mod Cells
+pub mod Places
 pub mod Boxes
 pub mod Runs
 pub mod Sides

@@ -2,7 +2,7 @@
 
 ghost use Rattle.std.specs.Prelude.{◌^◌, ◌≤◌};
 ghost use Rattle.grid_quantiser.specs.Axes.{cells_of, AreAxes};
-ghost use Rattle.grid_quantiser.specs.Laws.{CellsAreBoxes, DomainIsBox, CentresAreNear, StatesHaveCells, BoxesHaveCells, CellsLieBetweenCorners, CentresRestOnLaterPlaces};
+ghost use Rattle.grid_quantiser.specs.Laws.{CellsAreBoxes, DomainIsBox, DomainHasEnds, CentresAreNear, StatesHaveCells, BoxesHaveCells, CellsLieBetweenCorners, CentresRestOnTheirPlaces};
 
 use crate::grid::Grid;
 
@@ -21,6 +21,11 @@ pub fn domain_of_the_cells()
     ensures { DomainIsBox }
 {}
 
+/// The first cell begins with the least numbers of the axes, and the last ends right before their ends.
+pub fn ends_of_the_domain()
+    ensures { DomainHasEnds }
+{}
+
 /// Each state in the domain has a cell.
 pub fn every_state_has_a_cell()
     ensures { StatesHaveCells }
@@ -36,9 +41,9 @@ pub fn cells_lie_between_corners()
     ensures { CellsLieBetweenCorners }
 {}
 
-/// The centre of a cell in a state rests on its places in that state and the later ones alone.
-pub fn centres_rest_on_later_places()
-    ensures { CentresRestOnLaterPlaces }
+/// The centre of a cell in a state rests on the cell's place along that axis alone.
+pub fn centres_rest_on_their_places()
+    ensures { CentresRestOnTheirPlaces }
 {}
 
 /// Every `Grid` has axes and a cell, and is within the limit on cells.

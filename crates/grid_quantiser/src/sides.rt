@@ -1,6 +1,7 @@
-ghost use Rattle.std.specs.Prelude.{◌≡◌, ◌<◌, ◌≤◌, ◌↔◌, ℤ, List, drop, length, slice_index_or, IsSome, IfSome};
-ghost use Rattle.grid_quantiser.specs.Axes.{no_axis, cells_of};
+ghost use Rattle.std.specs.Prelude.{◌≡◌, ◌<◌, ◌↔◌, ℕ, ℤ, List, length, slice_index, slice_index_or, IsSome, IfSome};
+ghost use Rattle.grid_quantiser.specs.Axes.{no_axis};
 ghost use Rattle.grid_quantiser.specs.Boxes.{IsBoxInDomain, AreCornersMeeting};
+ghost use Rattle.grid_quantiser.specs.Places.{place_along};
 ghost use Rattle.grid_quantiser.specs.Sides.{IsSideOf, AreSidesOf};
 
 use crate::boxes::CellBox;
@@ -48,18 +49,27 @@ impl Grid {
         })
     }
 
-    /// How many cells the states from an axis on would have alone.
-    pub fn cells_from(&self, axis: u32) -> u32
-        requires { axis ≤ length self.now }
-        ensures count { result ≡ cells_of (drop axis self.now) }
-        ensures some { 1 ≤ result }
-        ensures limit { result ≤ cells_of self.now }
+    /// How many places an axis has.
+    #[inline]
+    pub fn count(&self, axis: u32) -> u32
+        requires { axis < length self.now }
+        ensures { result ≡ (slice_index_or self.now axis no_axis).count }
+    {
+        self.axes()[axis as usize].count as u32
+    }
+
+    /// The place of a cell along each axis. Past the last axis it is 0.
+    #[inline]
+    pub fn places(&self, c: u32) -> [u32; 6]
+        ensures { (i : ℕ) → i < length self.now → slice_index result i ≡ place_along self.now i c }
     {
         let axes = self.axes();
-        let mut cells: u64 = 1;
-        for i in (axis as usize..axes.len()).rev() {
-            cells *= axes[i].count;
+        let mut places = [0; 6];
+        let mut rest = u64::from(c);
+        for i in (0..axes.len()).rev() {
+            places[i] = (rest % axes[i].count) as u32;
+            rest /= axes[i].count;
         }
-        cells as u32
+        places
     }
 }

@@ -174,7 +174,13 @@ fn sides_of_two_states(rt: HostRuntime) {
     assert_eq!(rt; grid.side(0, 35, 41), Some(Side { first: 3, last: 4 }));
     assert_eq!(rt; grid.side(1, -6, -5), Some(Side { first: 0, last: 1 }));
     assert_eq!(rt; grid.side(0, 35, 60), None);
-    assert_eq!(rt; grid.cells_from(0), 24);
-    assert_eq!(rt; grid.cells_from(1), 4);
-    assert_eq!(rt; grid.cells_from(2), 1);
+}
+
+#[test]
+fn places_of_a_cell(rt: HostRuntime) {
+    let grid = grid_of(&rt, &PLANE);
+    assert_eq!(rt; grid.count(0), 6);
+    assert_eq!(rt; grid.count(1), 4);
+    // 23 is 5 * 4 + 3.
+    assert_eq!(rt; grid.places(23), [5, 3, 0, 0, 0, 0]);
 }

@@ -2,3 +2,4 @@ pub mod Integers
 pub mod Holding
 pub mod Ranging
 pub mod Corners
+pub mod Resting

@@ -1,7 +1,8 @@
 -- What holds of every expression's span.
-use Rattle.std.specs.Prelude.{ℤ, List, length, All}
+use Rattle.std.specs.Prelude.{◌≡◌, ℤ, pos, List, length, All}
 use Rattle.fixed_expr.specs.Range.{IsInRange}
 use Rattle.fixed_expr.specs.Expression.{Expression}
+use Rattle.fixed_expr.specs.Mentions.{AreSameIn}
 use Rattle.fixed_expr.specs.Value.{IsWellFormed, value_of, StaysInRange}
 use Rattle.interval_eval.specs.declared.interval.Interval.{Interval}
 use Rattle.interval_eval.specs.Span.{IsInterval, IsIn, AreIn, EndsFit, span_of, SpanStaysInRange}
@@ -23,3 +24,7 @@ NumbersLieInRange = (i : Interval) (x : ℤ) → EndsFit i → IsIn i x → IsIn
 abbrev pub ValuesStayInRange : Type 0
 ValuesStayInRange =
     (e : Expression) (area : List Interval) (values : List ℤ) → IsWellFormed e (length area) → AreIn area values → SpanStaysInRange e area → StaysInRange e values
+
+-- the span of an expression rests on the ranges of the variables that stand in it alone
+abbrev pub SpansRestOnVariables : Type 0
+SpansRestOnVariables = (e : Expression) (area other : List Interval) → AreSameIn (record { lo = pos 0; hi = pos 0 }) e area other → span_of e area ≡ span_of e other

@@ -1,6 +1,6 @@
 //! What holds of every expression's span.
 
-ghost use Rattle.interval_eval.specs.Laws.{ValuesLieInSpans, SpansAreIntervals, NumbersLieInRange, ValuesStayInRange};
+ghost use Rattle.interval_eval.specs.Laws.{ValuesLieInSpans, SpansAreIntervals, NumbersLieInRange, ValuesStayInRange, SpansRestOnVariables};
 
 /// Where each variable has a value in its range, the value of the expression lies in its span.
 pub fn values_lie_in_the_span()
@@ -20,4 +20,9 @@ pub fn numbers_of_an_interval_lie_in_the_range()
 /// Where the spans of all nodes stay in the range, so do their values.
 pub fn values_stay_in_the_range()
     ensures { ValuesStayInRange }
+{}
+
+/// The span of an expression rests on the ranges of the variables that stand in it alone.
+pub fn spans_rest_on_variables()
+    ensures { SpansRestOnVariables }
 {}

@@ -2,6 +2,7 @@
 pub mod Boxes
 pub mod Description
 pub mod Equations
+pub mod InputPlaces
 pub mod Limits
 pub mod Marks
 pub mod Plants

@@ -2,6 +2,7 @@
 
 ghost use Rattle.plant_text.specs.Laws.{OnePlantPerText, OnePlantAtTheFront, SpelledPlantsArePlants, OneRefusal, ReadOrRefused, CanonicalTextsSpell, CanonicalTextsReadBack, NumbersAreWords, OneFront, OneFrontRefusal, FrontReadOrRefused};
 ghost use Rattle.plant_text.specs.plant.Soundness.{PlantsAreSound, VectorsHaveOneEach};
+ghost use Rattle.plant_text.specs.plant.InputPlaces.{InputsRestOnTheirPlaces};
 ghost use Rattle.plant_text.specs.plant.Limits.{IsWithinLimits};
 
 use crate::plant::Plant;
@@ -54,6 +55,11 @@ pub fn plants_are_sound()
 /// An input vector has one number for each input variable.
 pub fn vectors_have_one_each()
     ensures { VectorsHaveOneEach }
+{}
+
+/// The value of a variable in an input vector rests on its place among the variable's values alone.
+pub fn inputs_rest_on_their_places()
+    ensures { InputsRestOnTheirPlaces }
 {}
 
 /// Every `Plant` is within the limits.

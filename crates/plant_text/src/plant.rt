@@ -6,6 +6,7 @@ ghost use Rattle.fixed_expr.specs.Expression.{expression_of};
 ghost use Rattle.grid_quantiser.specs.Axes.{cells_of};
 ghost use Rattle.plant_text.specs.declared.plant.variables.NoiseVariable.{NoiseVariable};
 ghost use Rattle.plant_text.specs.plant.Description.{axes_of, names_of, vectors_of, vector_of};
+ghost use Rattle.plant_text.specs.plant.InputPlaces.{value_count};
 ghost use Rattle.plant_text.specs.plant.Plants.{IsPlant};
 ghost use Rattle.plant_text.specs.plant.Limits.{IsWithinLimits, Exceeds};
 ghost use Rattle.plant_text.specs.plant.Marks.{IsGoalCell, IsObstacleCell};
@@ -150,6 +151,14 @@ impl Plant {
         ensures { slice_get self.now.equations i ≡ Some (expression_of result.now) }
     {
         &self.equations[i as usize]
+    }
+
+    /// How many values an input variable has.
+    pub fn input_values(&self, variable: u32) -> u32
+        requires { variable < length self.now.inputs }
+        ensures { result ≡ value_count self.now.inputs variable }
+    {
+        self.inputs[variable as usize].values.len() as u32
     }
 
     /// The value of an input variable in an input vector.

@@ -9,4 +9,4 @@ pub mod Centres
 pub mod DeviationRows
 pub mod SideEnds
 pub mod Ranges
-pub mod Supports
+pub mod AlikePairs

@@ -1,17 +1,17 @@
 -- The ranges and the radii of a plant's variables, one by one.
-use Rattle.std.proofs.Common.{◌≡◌, ℕ, zero, suc, ◌+◌, ◌-◌, ◌*◌, ◌/◌, ◌%◌, ◌^◌, ◌<◌, ◌≤◌, List, [], ◌∷◌, ◌++◌, Some, All, length, map, get_or, refl, sym, ap, ap₂, subst, ◌∙◌, arith}
-use Rattle.std.specs.Prelude.{ℤ, pos, nat_abs, ◌+ℤ◌, ◌-ℤ◌, ◌*ℤ◌, ◌≤ℤ◌, slice_get}
+use Rattle.std.proofs.Common.{◌≡◌, ℕ, zero, suc, ◌+◌, ◌-◌, ◌^◌, ◌<◌, ◌≤◌, List, [], ◌∷◌, ◌++◌, Some, All, length, map, get_or, refl, sym, ap, ap₂, subst, ◌∙◌, arith}
+use Rattle.std.specs.Prelude.{ℤ, pos, nat_abs, ◌+ℤ◌, ◌-ℤ◌, ◌≤ℤ◌, slice_get}
 use Rattle.std.specs.Option.{option_map}
 use Rattle.std.proofs.lemmas.Int.{ints}
-use Rattle.std.proofs.lemmas.Nat.{div-mul-add, mod-mul-add, mul-le}
 use Rattle.std.proofs.lemmas.Option.{none-some, same_Some}
 use Rattle.std.proofs.lemmas.List.{length-append, length-map, get_or-map, get_or_append_left, get_or-append_right}
 use Rattle.std.proofs.lemmas.List.Elements.{All-head, All-tail}
 use Rattle.fixed_expr.specs.Quotient.{floor_div}
 use Rattle.interval_eval.specs.declared.interval.Interval.{Interval}
 use Rattle.grid_quantiser.specs.declared.axis.Axis.{Axis}
-use Rattle.grid_quantiser.specs.Axes.{IsAxis, no_axis, cells_of}
+use Rattle.grid_quantiser.specs.Axes.{end_of, no_axis, cells_of}
 use Rattle.grid_quantiser.specs.Cells.{low_of, high_of, radius_of, point_of}
+use Rattle.grid_quantiser.specs.Laws.{DomainHasEnds}
 use Rattle.plant_text.specs.declared.plant.variables.StateVariable.{StateVariable}
 use Rattle.plant_text.specs.declared.plant.variables.NoiseVariable.{NoiseVariable}
 use Rattle.plant_text.specs.plant.Variables.{IsNoiseVariable}
@@ -21,57 +21,19 @@ use Rattle.successor_box.specs.Boxes.{noise_centre, area_of, radii_of}
 use Rattle.successor_box.specs.inside.Area.{variables_of}
 use Rattle.successor_box.proofs.CellValues.{vector_count}
 
--- ---- the least and the greatest point of the domain
+-- ---- the least and the greatest number of each state
 
-product_zero : (width lo : ℤ) → lo +ℤ (width *ℤ pos 0) ≡ lo
-product_zero width lo = omega (arith, ints)
+lows : (states : List StateVariable) → map (λ (a : Axis). a.lo) (map axis_of states) ≡ map (λ (s : StateVariable). s.low) states
+lows [] = refl
+lows (s ∷ states) = ap (λ (xs : List ℤ). s.low ∷ xs) (lows states)
 
-some_cells : (axes : List Axis) → All IsAxis axes → 1 ≤ cells_of axes
-some_cells [] each = omega arith
-some_cells (a ∷ axes) each = mul-le 1 1 a.count (cells_of axes) (All-head IsAxis a axes each).some_cell (some_cells axes (All-tail IsAxis a axes each))
+before_end : (end high : ℤ) → end ≡ high +ℤ pos 1 → end -ℤ pos 1 ≡ high
+before_end end high is = omega (arith, ints, is)
 
-pub lows : (states : List StateVariable) → All IsAxis (map axis_of states) → low_of (map axis_of states) 0 ≡ map (λ (s : StateVariable). s.low) states
-lows [] each = refl
-lows (s ∷ states) each =
-    let rest = All-tail IsAxis (axis_of s) (map axis_of states) each in
-    let some = some_cells (map axis_of states) rest in
-    let place : 0 / cells_of (map axis_of states) ≡ 0 = omega (arith, some) in
-    let left : 0 % cells_of (map axis_of states) ≡ 0 = omega (arith, some) in
-    ap₂ (λ (x : ℤ) (xs : List ℤ). x ∷ xs) (ap (λ (n : ℕ). s.low +ℤ (s.width *ℤ pos n)) place ∙ product_zero s.width s.low) (ap (low_of (map axis_of states)) left ∙ lows states rest)
-
-one_less : (k m n : ℕ) → k + 1 ≡ n → n * m ≡ k * m + m
-one_less k m n is = ap (λ (i : ℕ). i * m) (sym is) ∙ grind arith
-
-last : (n m : ℕ) → 1 ≤ n → 1 ≤ m → n * m - 1 ≡ (n - 1) * m + (m - 1)
-last n m some_n some_m = omega (arith, some_m, one_less (n - 1) m n (omega (arith, some_n)))
-
--- the greatest number of the last place is the state's greatest number
-last_number : (lo width high : ℤ) (w n m : ℕ) → width ≡ pos w → m + 1 ≡ n → lo +ℤ (width *ℤ pos n) ≡ high +ℤ pos 1 → (lo +ℤ (width *ℤ pos m)) +ℤ (width -ℤ pos 1) ≡ high
-last_number lo width high w n m width-is next end = by_product (width *ℤ pos n) (width *ℤ pos m) (rw (width-is, ← next) (product w m)) end
-  where
-    product : (w m : ℕ) → pos w *ℤ pos (m + 1) ≡ (pos w *ℤ pos m) +ℤ pos w
-    product w m = omega (arith, ints)
-
-    by_product : (x y : ℤ) → x ≡ y +ℤ width → lo +ℤ x ≡ high +ℤ pos 1 → (lo +ℤ y) +ℤ (width -ℤ pos 1) ≡ high
-    by_product x y e h = omega (arith, ints, e, h)
-
-positive : (z : ℤ) → pos 1 ≤ℤ z → z ≡ pos (nat_abs z)
-positive z some = omega (arith, ints, some)
-
-pub highs : (states : List StateVariable) → All IsAxis (map axis_of states) → All IsFilledByCells states → high_of (map axis_of states) (cells_of (map axis_of states) - 1) ≡ map (λ (s : StateVariable). s.high) states
-highs [] each whole = refl
-highs (s ∷ states) each whole =
-    let a : Axis = axis_of s in
-    let axes : List Axis = map axis_of states in
-    let here = All-head IsAxis a axes each in
-    let rest = All-tail IsAxis a axes each in
-    let some = some_cells axes rest in
-    let split : cells_of (a ∷ axes) - 1 ≡ (a.count - 1) * cells_of axes + (cells_of axes - 1) = last a.count (cells_of axes) here.some_cell some in
-    let place : (cells_of (a ∷ axes) - 1) / cells_of axes ≡ a.count - 1 = ap (λ (n : ℕ). n / cells_of axes) split ∙ div-mul-add (a.count - 1) (cells_of axes) (cells_of axes - 1) (omega (arith, some)) in
-    let left : (cells_of (a ∷ axes) - 1) % cells_of axes ≡ cells_of axes - 1 = ap (λ (n : ℕ). n % cells_of axes) split ∙ mod-mul-add (a.count - 1) (cells_of axes) (cells_of axes - 1) (omega (arith, some)) in
-    ap₂ (λ (x : ℤ) (xs : List ℤ). x ∷ xs)
-    (ap (λ (n : ℕ). (a.lo +ℤ (a.width *ℤ pos n)) +ℤ (a.width -ℤ pos 1)) place ∙ last_number a.lo a.width s.high (nat_abs a.width) a.count (a.count - 1) (positive a.width here.some_width) (omega (arith, here.some_cell)) (All-head IsFilledByCells s states whole))
-    (ap (high_of axes) left ∙ highs states rest (All-tail IsFilledByCells s states whole))
+highs : (states : List StateVariable) → All IsFilledByCells states → map (λ (a : Axis). end_of a -ℤ pos 1) (map axis_of states) ≡ map (λ (s : StateVariable). s.high) states
+highs [] whole = refl
+highs (s ∷ states) whole =
+    ap₂ (λ (x : ℤ) (xs : List ℤ). x ∷ xs) (before_end (end_of (axis_of s)) s.high (All-head IsFilledByCells s states whole)) (highs states (All-tail IsFilledByCells s states whole))
 
 -- ---- one variable
 
@@ -146,11 +108,12 @@ module _ (p : Description) (u : ℕ) where
   inputs_count = length-map (vector_of p.inputs u) _ ∙ vector_count p.inputs u
 
   -- the range of a state
-  pub state_range : IsSound p → (k : ℕ) (d : Interval) → k < length p.states →
+  pub state_range : DomainHasEnds → IsSound p → (k : ℕ) (d : Interval) → k < length p.states →
       ◌≡◌ {A = Interval} (record { lo = get_or (point_of (low_of (axes_of p) 0)) k (pos 0); hi = get_or (point_of (high_of (axes_of p) (cells_of (axes_of p) - 1))) k (pos 0) }) (get_or (area_of p u) k d)
-  state_range sound k d lt =
-      let low = lows p.states sound.axes.each in
-      let high = highs p.states sound.axes.each sound.whole in
+  state_range ends sound k d lt =
+      let domain = ends (axes_of p) sound.axes in
+      let low : low_of (axes_of p) 0 ≡ map (λ (s : StateVariable). s.low) p.states = domain.0 ∙ lows p.states in
+      let high : high_of (axes_of p) (cells_of (axes_of p) - 1) ≡ map (λ (s : StateVariable). s.high) p.states = domain.1 ∙ highs p.states sound.whole in
       let at_low : get_or (point_of (low_of (axes_of p) 0)) k (pos 0) ≡ get_or (map (λ (s : StateVariable). s.low) p.states) k (pos 0) =
       ap (λ (xs : List ℤ). get_or (point_of xs) k (pos 0)) low ∙ get_or_append_left (map (λ (s : StateVariable). s.low) p.states) _ (pos 0) k (omega (arith, lt, length-map p.states (λ (s : StateVariable). s.low))) in
       let at_high : get_or (point_of (high_of (axes_of p) (cells_of (axes_of p) - 1))) k (pos 0) ≡ get_or (map (λ (s : StateVariable). s.high) p.states) k (pos 0) =

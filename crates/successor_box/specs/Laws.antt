@@ -2,6 +2,7 @@
 use Rattle.std.specs.Prelude.{◌≡◌, ℕ, ◌<◌, ◌≤◌, ◌↔◌, ℤ, List, [], length, Option}
 use Rattle.std.specs.List.{Contains}
 use Rattle.grid_quantiser.specs.declared.boxes.CellBox.{CellBox}
+use Rattle.grid_quantiser.specs.declared.sides.Side.{Side}
 use Rattle.grid_quantiser.specs.Axes.{cells_of}
 use Rattle.grid_quantiser.specs.Cells.{IsInDomain, IsPointOf, cell_of, point_of}
 use Rattle.plant_text.specs.plant.Description.{Description, axes_of, vectors_of}
@@ -9,6 +10,7 @@ use Rattle.plant_text.specs.plant.Steps.{IsNoise, step_of, StepStaysInRange}
 use Rattle.plant_text.specs.plant.Soundness.{IsSound}
 use Rattle.successor_box.specs.Boxes.{IsEnabledAt, AreSuccessors, IsBoxOf, cells_in}
 use Rattle.successor_box.specs.Deviations.{HasNoOverflow}
+use Rattle.successor_box.specs.Sides.{IsSideAt, AreAlikeIn}
 
 -- a step from a point of a cell, under an enabled input and a noise in range, lies in the domain, and its cell
 -- is a successor
@@ -35,3 +37,10 @@ abbrev pub PointsLieWithTheirStates : Type 0
 PointsLieWithTheirStates =
     (p : Description) (xs : List ℤ) → length p.states ≤ length xs →
     (IsInDomain (axes_of p) (point_of xs) ↔ IsInDomain (axes_of p) xs) × (cell_of (axes_of p) (point_of xs) ≡ cell_of (axes_of p) xs)
+
+-- the side along a state's axis rests on the pair's places in the variables of the state's equation alone
+abbrev pub SidesRestOnPlaces : Type 0
+SidesRestOnPlaces =
+    (p : Description) (i c u d v : ℕ) (side : Option Side) → IsSound p → i < length p.equations →
+    c < cells_of (axes_of p) → u < vectors_of p.inputs → d < cells_of (axes_of p) → v < vectors_of p.inputs →
+    AreAlikeIn p i c u d v → IsSideAt p d v i side → IsSideAt p c u i side

@@ -1,9 +1,13 @@
 -- The successor box of a pair, state by state.
-use Rattle.std.specs.Prelude.{ℕ, ◌%◌, ◌<◌, ◌≤◌, pos, List, length, slice_index_or, Option, None}
+use Rattle.std.specs.Prelude.{◌≡◌, ℕ, ◌+◌, ◌-◌, ◌<◌, pos, List, length, slice_index_or, Option, None, IsTrue, if◌then◌else◌, nat_lt}
+use Rattle.fixed_expr.specs.Mentions.{mentions}
 use Rattle.grid_quantiser.specs.declared.sides.Side.{Side}
-use Rattle.grid_quantiser.specs.Axes.{no_axis, cells_of}
+use Rattle.grid_quantiser.specs.Axes.{no_axis}
+use Rattle.grid_quantiser.specs.Places.{place_along}
 use Rattle.grid_quantiser.specs.Sides.{IsSideOf}
-use Rattle.plant_text.specs.plant.Description.{Description, axes_of, vectors_of}
+use Rattle.plant_text.specs.plant.Description.{Description, axes_of}
+use Rattle.plant_text.specs.plant.InputPlaces.{input_place}
+use Rattle.plant_text.specs.plant.Steps.{equation_at}
 use Rattle.successor_box.specs.Boxes.{low_corner, high_corner}
 
 -- the side of the successor box of a cell, under an input, along the axis of a state
@@ -14,11 +18,11 @@ IsSideAt p c u i side = IsSideOf (slice_index_or (axes_of p) i no_axis) (slice_i
 abbrev pub AreSidesAt : Description → ℕ → ℕ → List (Option Side) → Type 0
 AreSidesAt p c u sides = (i : ℕ) → i < length p.equations → IsSideAt p c u i (slice_index_or sides i None)
 
--- The sides along a state's axis are found for the first so many cells and inputs: that of another pair is the side
--- of what is left of its cell and its input by these numbers.
-pub record RestsOn (p : Description) (i cells inputs : ℕ) : Type 0 where
-  pub some_cell : 1 ≤ cells
-  pub cells_bound : cells ≤ cells_of (axes_of p)
-  pub some_input : 1 ≤ inputs
-  pub inputs_bound : inputs ≤ vectors_of p.inputs
-  pub same : (c u : ℕ) (side : Option Side) → c < cells_of (axes_of p) → u < vectors_of p.inputs → IsSideAt p (c % cells) (u % inputs) i side → IsSideAt p c u i side
+-- the place of a cell and an input in a variable: along the axis of a state, or among the values of an input variable
+abbrev pub place_in : Description → ℕ → ℕ → ℕ → ℕ
+place_in p c u k = if nat_lt k (length p.states) then place_along (axes_of p) k c else input_place p.inputs (k - length p.states) u
+
+-- two pairs have the same places in the states and the input variables of an equation
+abbrev pub AreAlikeIn : Description → ℕ → ℕ → ℕ → ℕ → ℕ → Type 0
+AreAlikeIn p i c u d v =
+    (k : ℕ) → k < length p.states + length p.inputs → IsTrue (mentions (equation_at p i) k) → place_in p c u k ≡ place_in p d v k

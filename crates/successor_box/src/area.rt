@@ -9,6 +9,7 @@ ghost use Rattle.successor_box.specs.inside.Area.{AreRanges, AreRadii, no_range,
 
 use crate::noise::noise_radius;
 use grid_quantiser::Point;
+use grid_quantiser::laws::ends_of_the_domain;
 use interval_eval::Interval;
 use plant_text::Plant;
 use plant_text::laws::{every_plant_is_within_limits, plants_are_sound};
@@ -55,6 +56,7 @@ fn range(p: &Plant, low: &Point, high: &Point, input: u32, k: u32) -> Interval
 {
     every_plant_is_within_limits(p);
     plants_are_sound();
+    ends_of_the_domain();
     let states = p.states();
     let inputs = p.input_variables();
     if k < states {

@@ -1,10 +1,12 @@
 //! What holds of every sound plant's successor boxes.
 
-ghost use Rattle.successor_box.specs.Laws.{StepsLieInTheBoxes, StepsStayInRange, BoxesHoldTheSuccessors, EnabledPairsHaveSuccessors, PointsLieWithTheirStates};
+ghost use Rattle.successor_box.specs.Laws.{StepsLieInTheBoxes, StepsStayInRange, BoxesHoldTheSuccessors, EnabledPairsHaveSuccessors, PointsLieWithTheirStates, SidesRestOnPlaces};
 
-use grid_quantiser::laws::centre_is_near;
-use growth_bound::laws::values_move_by_at_most_the_deviation;
+use fixed_expr::laws::values_rest_on_variables;
+use grid_quantiser::laws::{centre_is_near, centres_rest_on_their_places};
+use growth_bound::laws::{deviations_rest_on_variables, values_move_by_at_most_the_deviation};
 use interval_eval::laws::values_stay_in_the_range;
+use plant_text::laws::inputs_rest_on_their_places;
 
 /// Every step from a cell, under an enabled input and a noise in range, leads into a successor.
 pub fn steps_lie_in_the_boxes()
@@ -35,3 +37,14 @@ pub fn enabled_pairs_have_successors()
 pub fn points_lie_with_their_states()
     ensures { PointsLieWithTheirStates }
 {}
+
+/// The side of a pair along a state's axis rests on its places in the variables of the state's equation
+/// alone: pairs that are alike in these have one side.
+pub fn sides_rest_on_places()
+    ensures { SidesRestOnPlaces }
+{
+    values_rest_on_variables();
+    deviations_rest_on_variables();
+    centres_rest_on_their_places();
+    inputs_rest_on_their_places();
+}

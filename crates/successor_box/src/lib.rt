@@ -12,10 +12,8 @@ pub mod laws;
 mod noise;
 mod sides;
 mod slopes;
-mod support;
 
 pub use boxes::{box_of_sides, successors};
 pub use fault::SlopeFault;
 pub use sides::side;
 pub use slopes::{Slopes, find_slopes};
-pub use support::{Support, find_support};

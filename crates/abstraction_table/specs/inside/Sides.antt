@@ -1,31 +1,51 @@
 -- The sides of all boxes, in one table for each state.
-use Rattle.std.specs.Prelude.{◌≡◌, ℕ, ◌+◌, ◌*◌, ◌%◌, ◌<◌, List, length, slice_index_or, Option, None}
+use Rattle.std.specs.Prelude.{◌≡◌, ℕ, ◌+◌, ◌*◌, ◌/◌, ◌%◌, ◌^◌, ◌<◌, ◌≤◌, List, length, slice_index, slice_index_or, sum_by, Option, None}
+use Rattle.std.specs.List.{All}
 use Rattle.grid_quantiser.specs.declared.sides.Side.{Side}
 use Rattle.grid_quantiser.specs.Axes.{cells_of}
 use Rattle.plant_text.specs.plant.Description.{Description, axes_of, vectors_of}
-use Rattle.successor_box.specs.Sides.{IsSideAt}
+use Rattle.successor_box.specs.Sides.{IsSideAt, place_in}
+use Rattle.abstraction_table.specs.declared.digits.Digit.{Digit}
 use Rattle.abstraction_table.specs.declared.sides.SideTable.{SideTable}
+use Rattle.abstraction_table.specs.inside.Digits.{IsDigitOf, pair_at}
 
--- where a table holds the side of a pair
-abbrev pub place_of : SideTable → ℕ → ℕ → ℕ
-place_of t c u = c % t.cells * t.inputs + u % t.inputs
+-- the places of a cell in the states, and of the first input
+abbrev pub ArePlacesOf : Description → ℕ → List ℕ → Type 0
+ArePlacesOf p c places = (k : ℕ) → k < length p.states + length p.inputs → slice_index places k ≡ place_in p c 0 k
 
--- the side that a table holds for a pair
+-- what places bring to the place of a side
+abbrev pub first_in : SideTable → List ℕ → ℕ
+first_in t places = sum_by (λ (d : Digit). slice_index places d.variable * d.in_table) t.digits.items
+
+-- what a cell brings
+abbrev pub first_of : Description → SideTable → ℕ → ℕ
+first_of p t c = sum_by (λ (d : Digit). place_in p c 0 d.variable * d.in_table) t.digits.items
+
+-- the side that a table holds where a cell brings so much, under an input
 abbrev pub side_in : SideTable → ℕ → ℕ → Option Side
-side_in t c u = slice_index_or t.sides.items (place_of t c u) None
+side_in t first u = slice_index_or t.sides.items (first + slice_index t.inputs.items u) None
 
 -- A table has a place for the side of a pair.
-pub record HasPlaceFor (t : SideTable) (c u : ℕ) : Type 0 where
-  pub some_cell : 0 < t.cells
-  pub some_input : 0 < t.inputs
-  pub within : place_of t c u < length t.sides.items
+pub record HasPlaceFor (t : SideTable) (first u : ℕ) : Type 0 where
+  pub input : u < length t.inputs.items
+  pub within : first + slice_index t.inputs.items u < length t.sides.items
 
 -- A table holds the sides of all pairs along the axis of a state.
 pub record HoldsSidesAlong (p : Description) (i : ℕ) (t : SideTable) : Type 0 where
-  pub place : (c u : ℕ) → c < cells_of (axes_of p) → u < vectors_of p.inputs → HasPlaceFor t c u
-  pub side : (c u : ℕ) → c < cells_of (axes_of p) → u < vectors_of p.inputs → IsSideAt p c u i (side_in t c u)
+  pub digits : All (IsDigitOf p) t.digits.items
+  pub few : length t.sides.items ≤ 2 ^ 22
+  pub place : (c u : ℕ) → c < cells_of (axes_of p) → u < vectors_of p.inputs → HasPlaceFor t (first_of p t c) u
+  pub side : (c u : ℕ) → c < cells_of (axes_of p) → u < vectors_of p.inputs → IsSideAt p c u i (side_in t (first_of p t c) u)
 
 -- Tables hold the sides of all pairs along all axes.
 pub record HoldSides (p : Description) (tables : List SideTable) : Type 0 where
   pub one_each : length tables ≡ length p.equations
   pub each : (i : ℕ) (d : SideTable) → i < length p.equations → HoldsSidesAlong p i (slice_index_or tables i d)
+
+-- what a cell brings to each table
+abbrev pub AreFirstsOf : Description → List SideTable → ℕ → List ℕ → Type 0
+AreFirstsOf p tables c firsts = (i : ℕ) (d : SideTable) → i < length tables → slice_index firsts i ≡ first_of p (slice_index_or tables i d) c
+
+-- the side of the pair that has the digits of a place
+abbrev pub IsSideFor : Description → ℕ → List Digit → ℕ → Option Side → Type 0
+IsSideFor p i digits place side = IsSideAt p (pair_at digits place / vectors_of p.inputs) (pair_at digits place % vectors_of p.inputs) i side

@@ -1,4 +1,5 @@
 pub mod Axes
+pub mod InputPlaces
 pub mod InputVectors
 pub mod Limits
 pub mod NamePlaces

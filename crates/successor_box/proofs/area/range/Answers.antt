@@ -13,7 +13,7 @@ returns-then-k-states c =
     let low : FitsSigned w128 (get_or c.args.low.now c.args.k (pos 0)) = search rules in
     let high : FitsSigned w128 (get_or c.args.high.now c.args.k (pos 0)) = search rules in
     rw (to_z-of_z w128 (get_or c.args.low.now c.args.k (pos 0)) low, to_z-of_z w128 (get_or c.args.high.now c.args.k (pos 0)) high, c.requires.low, c.requires.high)
-    (state_range p c.args.input sound c.args.k no_range (omega arith))
+    (state_range p c.args.input c.ends_of_the_domain.ensures sound c.args.k no_range (omega arith))
 
 pub returns-then-k-states-2 : goal.returns-then-k-states-2
 returns-then-k-states-2 c =

@@ -3,15 +3,8 @@ use Rattle.std.specs.Int.{w128}
 use Rattle.std.proofs.lemmas.Int.{to_z-of_z}
 use Rattle.grid_quantiser.specs.declared.axis.Axis.{Axis}
 use Rattle.grid_quantiser.specs.Axes.{AreAxes, no_axis, cells_of}
-use Rattle.grid_quantiser.proofs.WheelsMade.{count_limit}
+use Rattle.grid_quantiser.proofs.AxisCounts.{few_places}
 use Rattle.grid_quantiser.proofs.grid.Grid.side.Goals as goal
-
--- the places of an axis are few
-few_places : (axes given : List Axis) (i : ℕ) → axes ≡ given → AreAxes axes → cells_of axes ≤ 2 ^ 20 → i < length given → (get_or axes i no_axis).count ≤ 2 ^ 20
-few_places axes given i same grid limit within =
-    let below : i < length axes = subst (λ (l : List Axis). i < length l) (sym same) within in
-    let here : i + 1 - 1 ≡ i = omega arith in
-    omega (arith, count_limit axes (i + 1) grid.each (omega arith) (omega (arith, below)), ap (λ (k : ℕ). (get_or axes k no_axis).count) here, limit)
 
 pub overflow_cast-first : goal.overflow_cast-first
 overflow_cast-first c =

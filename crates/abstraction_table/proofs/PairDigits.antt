@@ -1,0 +1,167 @@
+-- The digits of a pair are its places.
+use Rattle.std.proofs.Common.{◌≡◌, ◌⊎◌, ℕ, zero, suc, ◌+◌, ◌-◌, ◌*◌, ◌/◌, ◌%◌, ◌<◌, ◌≤◌, List, [], ◌∷◌, ◌++◌, All, length, map, drop, get_or, refl, sym, ap, ap₂, ◌∙◌, arith, inl, inr}
+use Rattle.std.proofs.Math.Nat.{mul_assoc, mul_comm, div-div-eq-div-mul, zero-div, zero-mod}
+use Rattle.std.proofs.Math.Seq.{drop-append-add}
+use Rattle.std.proofs.lemmas.Bool.{cases_lt, cond_below, cond_above}
+use Rattle.std.proofs.lemmas.Nat.{div-mul-add, mul-le}
+use Rattle.std.proofs.lemmas.List.{length-append, length-map, get_or-map, get_or_append_left, get_or-append_right, drop-append-le, drop-map, drop_more}
+use Rattle.std.proofs.lemmas.List.Elements.{All-head, All-tail, All-append, All-map, All-weaker, All-drop, All-get_or}
+use Rattle.grid_quantiser.specs.declared.axis.Axis.{Axis}
+use Rattle.grid_quantiser.specs.Axes.{IsAxis, no_axis, cells_of}
+use Rattle.grid_quantiser.specs.Places.{place_along}
+use Rattle.plant_text.specs.declared.plant.variables.InputVariable.{InputVariable}
+use Rattle.plant_text.specs.plant.Description.{Description, axis_of, axes_of, vectors_of}
+use Rattle.plant_text.specs.plant.InputPlaces.{value_count, input_place}
+use Rattle.plant_text.specs.plant.Plants.{IsPlant}
+use Rattle.plant_text.specs.plant.Soundness.{IsSound}
+use Rattle.plant_text.specs.plant.Variables.{IsInputVariable}
+use Rattle.successor_box.specs.Sides.{place_in}
+use Rattle.abstraction_table.specs.Abstraction.{pairs_of}
+use Rattle.abstraction_table.specs.inside.Digits.{counts_of, combinations}
+use Rattle.abstraction_table.proofs.DigitMoves.{lower_digit}
+
+-- ---- how many numbers digits make
+
+combinations-append : (xs ys : List ℕ) → combinations (xs ++ ys) ≡ combinations xs * combinations ys
+combinations-append [] ys = omega arith
+combinations-append (x ∷ xs) ys = ap (λ (k : ℕ). x * k) (combinations-append xs ys) ∙ sym (mul_assoc x (combinations xs) (combinations ys))
+
+of_axes : (axes : List Axis) → combinations (map (λ (a : Axis). a.count) axes) ≡ cells_of axes
+of_axes [] = refl
+of_axes (a ∷ axes) = ap (λ (k : ℕ). a.count * k) (of_axes axes)
+
+of_inputs : (inputs : List InputVariable) → combinations (map (λ (i : InputVariable). length i.values) inputs) ≡ vectors_of inputs
+of_inputs [] = refl
+of_inputs (i ∷ inputs) = ap (λ (k : ℕ). length i.values * k) (of_inputs inputs)
+
+pub some_combinations : (ns : List ℕ) → All (λ n. 1 ≤ n) ns → 1 ≤ combinations ns
+some_combinations [] each = omega arith
+some_combinations (n ∷ ns) each = mul-le 1 1 n (combinations ns) (All-head (λ (n : ℕ). 1 ≤ n) n ns each) (some_combinations ns (All-tail (λ (n : ℕ). 1 ≤ n) n ns each))
+
+pub fewer : (k : ℕ) (ns : List ℕ) → All (λ n. 1 ≤ n) ns → combinations (drop k ns) ≤ combinations ns
+fewer zero ns each = omega arith
+fewer (suc k) [] each = omega arith
+fewer (suc k) (n ∷ ns) each =
+    omega (arith, fewer k ns (All-tail (λ (n : ℕ). 1 ≤ n) n ns each), mul-le 1 (combinations ns) n (combinations ns) (All-head (λ (n : ℕ). 1 ≤ n) n ns each) (omega arith))
+
+-- a digit and the later ones divide the whole
+factor : (ns : List ℕ) (j : ℕ) → j < length ns → (g : ℕ) × (combinations ns ≡ g * (get_or ns j 0 * combinations (drop (j + 1) ns)))
+factor [] j lt = absurd (omega (arith, lt))
+factor (n ∷ ns) zero lt = (1, omega arith)
+factor (n ∷ ns) (suc j) lt =
+    let f = factor ns j (omega (arith, lt)) in
+    let next : suc j + 1 ≡ suc (j + 1) = omega arith in (
+      n * f.0,
+      ap (λ (k : ℕ). n * k) f.1
+          ∙ sym (mul_assoc n f.0 (get_or ns j 0 * combinations (drop (j + 1) ns)))
+          ∙ ap (λ (k : ℕ). n * f.0 * (get_or ns j 0 * combinations (drop k (n ∷ ns)))) (sym next),
+    )
+
+-- ---- the counts of a plant
+
+module _ (p : Description) where
+  abbrev counts_along : List ℕ
+  counts_along = map (λ (a : Axis). a.count) (axes_of p)
+
+  abbrev value_counts : List ℕ
+  value_counts = map (λ (i : InputVariable). length i.values) p.inputs
+
+  along_long : length counts_along ≡ length p.states
+  along_long = length-map (axes_of p) (λ (a : Axis). a.count) ∙ length-map p.states axis_of
+
+  -- one of them
+  pub count_along : (k : ℕ) → k < length p.states → get_or (counts_of p) k 0 ≡ (get_or (axes_of p) k no_axis).count
+  count_along k state =
+      get_or_append_left counts_along value_counts 0 k (omega (arith, state, along_long)) ∙ get_or-map (λ (a : Axis). a.count) (axes_of p) k no_axis 0 (omega (arith, state, length-map p.states axis_of))
+
+  pub count_among : (k : ℕ) → length p.states ≤ k → get_or (counts_of p) k 0 ≡ value_count p.inputs (k - length p.states)
+  count_among k past = get_or-append_right counts_along value_counts (length p.states) k 0 along_long past
+
+  pub counts_long : length (counts_of p) ≡ length p.states + length p.inputs
+  counts_long = omega (arith, length-append counts_along value_counts, along_long, length-map p.inputs (λ (i : InputVariable). length i.values))
+
+  pub all_combinations : combinations (counts_of p) ≡ pairs_of p
+  all_combinations = combinations-append counts_along value_counts ∙ ap₂ (λ (m n : ℕ). m * n) (of_axes (axes_of p)) (of_inputs p.inputs)
+
+  pub some_counts : IsPlant p → IsSound p → All (λ n. 1 ≤ n) (counts_of p)
+  some_counts plant sound =
+      All-append (λ (n : ℕ). 1 ≤ n) counts_along value_counts
+      (All-map (λ (n : ℕ). 1 ≤ n) (λ (a : Axis). a.count) (axes_of p) (All-weaker IsAxis (λ (a : Axis). 1 ≤ a.count) (λ a h. h.some_cell) (axes_of p) sound.axes.each))
+      (All-map (λ (n : ℕ). 1 ≤ n) (λ (i : InputVariable). length i.values) p.inputs (All-weaker IsInputVariable (λ (i : InputVariable). 1 ≤ length i.values) (λ i h. h.some_value) p.inputs plant.inputs))
+
+  pub some_vectors : IsPlant p → 1 ≤ vectors_of p.inputs
+  some_vectors plant =
+      let each = All-map (λ (n : ℕ). 1 ≤ n) (λ (i : InputVariable). length i.values) p.inputs (All-weaker IsInputVariable (λ (i : InputVariable). 1 ≤ length i.values) (λ i h. h.some_value) p.inputs plant.inputs) in
+      omega (arith, of_inputs p.inputs, some_combinations value_counts each)
+
+  pub next_combinations : (k : ℕ) → k < length p.states + length p.inputs → combinations (drop k (counts_of p)) ≡ get_or (counts_of p) k 0 * combinations (drop (k + 1) (counts_of p))
+  next_combinations k lt = ap combinations (drop_more (counts_of p) k 0 (omega (arith, lt, counts_long)))
+
+  -- a place by its kind
+  pub state_place : (c u k : ℕ) → k < length p.states → place_along (axes_of p) k c ≡ place_in p c u k
+  state_place c u k state = cond_below k (length p.states) (place_along (axes_of p) k c) (input_place p.inputs (k - length p.states) u) state
+
+  pub among_place : (c u k : ℕ) → length p.states ≤ k → input_place p.inputs (k - length p.states) u ≡ place_in p c u k
+  among_place c u k past = cond_above k (length p.states) (place_along (axes_of p) k c) (input_place p.inputs (k - length p.states) u) (input_place p.inputs (k - length p.states) u) past refl
+
+  module _ (plant : IsPlant p) (sound : IsSound p) (c u k : ℕ) (input : u < vectors_of p.inputs) (lt : k < length p.states + length p.inputs) where
+    abbrev pair : ℕ
+    pair = c * vectors_of p.inputs + u
+
+    -- of a state
+    state_digit : k < length p.states → pair / combinations (drop (k + 1) (counts_of p)) % get_or (counts_of p) k 0 ≡ place_in p c u k
+    state_digit state =
+        let axes = axes_of p in
+        let v : ℕ = vectors_of p.inputs in
+        let d : ℕ = cells_of (drop (k + 1) axes) in
+        let here : k < length counts_along = omega (arith, state, along_long) in
+        let later : combinations (drop (k + 1) (counts_of p)) ≡ v * d =
+        ap combinations (drop-append-le (k + 1) counts_along value_counts (omega (arith, here)))
+        ∙ combinations-append (drop (k + 1) counts_along) value_counts
+        ∙ ap₂ (λ (m n : ℕ). m * n) (ap combinations (drop-map (λ (a : Axis). a.count) (k + 1) axes) ∙ of_axes (drop (k + 1) axes)) (of_inputs p.inputs)
+        ∙ mul_comm d v
+        in
+        ap₂ (λ (t m : ℕ). pair / t % m) later (count_along k state)
+        ∙ ap (λ (n : ℕ). n % (get_or axes k no_axis).count) (sym (div-div-eq-div-mul pair v d) ∙ ap (λ (n : ℕ). n / d) (div-mul-add c v u input))
+        ∙ state_place c u k state
+
+    -- of an input variable
+    input_digit : length p.states ≤ k → pair / combinations (drop (k + 1) (counts_of p)) % get_or (counts_of p) k 0 ≡ place_in p c u k
+    input_digit past =
+        let j : ℕ = k - length p.states in
+        let m : ℕ = value_count p.inputs j in
+        let l : ℕ = vectors_of (drop (j + 1) p.inputs) in
+        let within : j < length value_counts = omega (arith, past, lt, length-map p.inputs (λ (i : InputVariable). length i.values)) in
+        let at : k + 1 ≡ length counts_along + (j + 1) = omega (arith, past, along_long) in
+        let of_later : combinations (drop (j + 1) value_counts) ≡ l = ap combinations (drop-map (λ (i : InputVariable). length i.values) (j + 1) p.inputs) ∙ of_inputs (drop (j + 1) p.inputs) in
+        let later : combinations (drop (k + 1) (counts_of p)) ≡ l = ap (λ (i : ℕ). combinations (drop i (counts_of p))) at ∙ ap combinations (drop-append-add counts_along value_counts (j + 1)) ∙ of_later in
+        let f = factor value_counts j within in
+        let whole : vectors_of p.inputs ≡ f.0 * (m * l) = sym (of_inputs p.inputs) ∙ f.1 ∙ ap (λ (n : ℕ). f.0 * (m * n)) of_later in
+        let some = some_counts plant sound in
+        let some_m : 0 < m = omega (arith, count_among k past, All-get_or (λ (n : ℕ). 1 ≤ n) (counts_of p) k 0 (omega (arith, lt, counts_long)) some) in
+        let some_l : 0 < l = omega (arith, later, some_combinations (drop (k + 1) (counts_of p)) (All-drop (λ (n : ℕ). 1 ≤ n) (k + 1) (counts_of p) some)) in
+        ap₂ (λ (t n : ℕ). pair / t % n) later (count_among k past)
+        ∙ ap (λ (v : ℕ). (c * v + u) / l % m) whole
+        ∙ lower_digit c f.0 m l u some_m some_l
+        ∙ among_place c u k past
+
+    pub pair_digit : pair / combinations (drop (k + 1) (counts_of p)) % get_or (counts_of p) k 0 ≡ place_in p c u k
+    pair_digit = elim (cases_lt k (length p.states)) [ inl state ↦ state_digit state | inr past ↦ input_digit past ]
+
+  no_place_along : (k : ℕ) → place_along (axes_of p) k 0 ≡ 0
+  no_place_along k = ap (λ (i : ℕ). i % (get_or (axes_of p) k no_axis).count) (zero-div (cells_of (drop (k + 1) (axes_of p)))) ∙ zero-mod (get_or (axes_of p) k no_axis).count
+
+  no_place_among : (j : ℕ) → input_place p.inputs j 0 ≡ 0
+  no_place_among j = ap (λ (i : ℕ). i % value_count p.inputs j) (zero-div (vectors_of (drop (j + 1) p.inputs))) ∙ zero-mod (value_count p.inputs j)
+
+  -- the first input brings nothing
+  pub no_input_place : (c k : ℕ) → length p.states ≤ k → 0 ≡ place_in p c 0 k
+  no_input_place c k past = sym (no_place_among (k - length p.states)) ∙ among_place c 0 k past
+
+  -- the places of a pair are those of its cell and those of its input
+  pub place_parts : (c u k : ℕ) → place_in p c u k ≡ place_in p c 0 k + place_in p 0 u k
+  place_parts c u k =
+      elim (cases_lt k (length p.states)) [
+        | inl state ↦ omega (arith, state_place c u k state, state_place c 0 k state, state_place 0 u k state, no_place_along k)
+        | inr past ↦ omega (arith, among_place c u k past, among_place c 0 k past, among_place 0 u k past, no_place_among (k - length p.states))
+      ]

@@ -1,0 +1,57 @@
+-- Pairs of a cell and an input as numbers of digits, one for each state and each input variable.
+use Rattle.std.specs.Prelude.{◌≡◌, ℕ, ◌+◌, ◌*◌, ◌/◌, ◌%◌, ◌<◌, ◌≤◌, List, [], ◌∷◌, ◌++◌, map, drop, length, slice_index_or, sum_by, IsTrue}
+use Rattle.std.specs.List.{All}
+use Rattle.fixed_expr.specs.Mentions.{mentions}
+use Rattle.grid_quantiser.specs.declared.axis.Axis.{Axis}
+use Rattle.plant_text.specs.declared.plant.variables.InputVariable.{InputVariable}
+use Rattle.plant_text.specs.plant.Description.{Description, axes_of}
+use Rattle.plant_text.specs.plant.Steps.{equation_at}
+use Rattle.abstraction_table.specs.declared.digits.Digit.{Digit}
+
+-- how many places each state and each input variable has
+abbrev pub counts_of : Description → List ℕ
+counts_of p = map (λ (a : Axis). a.count) (axes_of p) ++ map (λ (i : InputVariable). length i.values) p.inputs
+
+-- how many numbers digits make
+abbrev pub combinations : List ℕ → ℕ
+combinations [] = 1
+combinations (n ∷ counts) = n * combinations counts
+
+-- the digits of a number at other weights: `from` and `to` say what one place of a digit counts
+abbrev pub moved : (Digit → ℕ) → (Digit → ℕ) → List Digit → ℕ → ℕ
+moved from to digits n = sum_by (λ (d : Digit). n / from d % d.count * to d) digits
+
+-- the place in a table of the side of a pair
+abbrev pub place_at : List Digit → ℕ → ℕ
+place_at digits pair = moved (λ (d : Digit). d.in_pair) (λ (d : Digit). d.in_table) digits pair
+
+-- the pair that has the digits of a place, and 0 in the other variables
+abbrev pub pair_at : List Digit → ℕ → ℕ
+pair_at digits place = moved (λ (d : Digit). d.in_table) (λ (d : Digit). d.in_pair) digits place
+
+-- Each digit of a number is found again where it was moved to, and the number there is below a bound.
+pub record Moves (from to : Digit → ℕ) (digits : List Digit) (bound : ℕ) : Type 0 where
+  pub below : (n : ℕ) → moved from to digits n < bound
+  pub graded : All (λ (d : Digit). (g : ℕ) × (bound ≡ g * (d.count * to d))) digits
+  pub each : (n : ℕ) → All (λ (d : Digit). moved from to digits n / to d % d.count ≡ n / from d % d.count) digits
+
+-- A digit is that of a state or an input variable, and its place in a pair's number is counted by the later ones.
+pub record IsDigitOf (p : Description) (d : Digit) : Type 0 where
+  pub variable : d.variable < length p.states + length p.inputs
+  pub count : d.count ≡ slice_index_or (counts_of p) d.variable 0
+  pub some : 1 ≤ d.count
+  pub in_pair : d.in_pair ≡ combinations (drop (d.variable + 1) (counts_of p))
+  pub some_place : 1 ≤ d.in_table
+
+-- a variable has a digit
+abbrev pub HasDigit : List Digit → ℕ → Type 0
+HasDigit digits k = (j : ℕ) × (j < length digits) × ((d : Digit) → (slice_index_or digits j d).variable ≡ k)
+
+-- The digits of an equation from a variable on, and how many places they make.
+pub record AreDigitsFrom (p : Description) (i from : ℕ) (digits : List Digit) (places : ℕ) : Type 0 where
+  pub each : All (IsDigitOf p) digits
+  pub all : (k : ℕ) → from ≤ k → k < length p.states + length p.inputs → IsTrue (mentions (equation_at p i) k) → HasDigit digits k
+  pub packed : Moves (λ (d : Digit). d.in_pair) (λ (d : Digit). d.in_table) digits places
+  pub spread : Moves (λ (d : Digit). d.in_table) (λ (d : Digit). d.in_pair) digits (combinations (drop from (counts_of p)))
+  pub some : 1 ≤ places
+  pub few : places ≤ combinations (drop from (counts_of p))

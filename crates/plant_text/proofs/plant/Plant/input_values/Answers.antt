@@ -1,0 +1,12 @@
+use Rattle.std.proofs.Common.{◌≡◌, length, get_or, sym, ap, ◌∙◌, arith}
+use Rattle.std.proofs.lemmas.List.Elements.{All-get_or}
+use Rattle.plant_text.specs.declared.plant.variables.InputVariable.{InputVariable}
+use Rattle.plant_text.specs.plant.Variables.{IsInputVariable}
+use Rattle.plant_text.proofs.lemmas.plant.InputPlaces.{count_is}
+use Rattle.plant_text.proofs.plant.Plant.input_values.Goals as goal
+
+pub returns : goal.returns
+returns c =
+    let i : InputVariable = c.index.result.now in
+    rw (← c.self.view_is)
+    (c.len.ensures ∙ sym (count_is c.self.inside.inputs.items c.args.variable i (rw (← c.self.view_is) at c.requires) ∙ ap (λ (j : InputVariable). length j.values) (sym c.index.ensures)))

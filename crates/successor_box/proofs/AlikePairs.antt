@@ -1,0 +1,154 @@
+-- The side of a pair along a state's axis rests on its places in the variables of the state's equation.
+use Rattle.std.proofs.Common.{◌≡◌, ◌⊎◌, ℕ, ◌+◌, ◌-◌, ◌<◌, ◌≤◌, true, ltb, cond, List, [], ◌∷◌, ◌++◌, map, length, take, get_or, refl, sym, ap, ap₂, subst₂, ◌∙◌, arith, inl, inr}
+use Rattle.std.specs.Prelude.{ℤ, pos, ◌+ℤ◌, ◌-ℤ◌, Option}
+use Rattle.std.proofs.lemmas.Bool.{cases_lt, cond_below, cond_above}
+use Rattle.std.proofs.lemmas.List.{length-map, get_or-take, length-take-le}
+use Rattle.fixed_expr.specs.Expression.{Expression}
+use Rattle.fixed_expr.specs.Mentions.{mentions, AreSameIn, ValuesRestOnVariables}
+use Rattle.fixed_expr.specs.Value.{value_of}
+use Rattle.interval_eval.specs.declared.interval.Interval.{Interval}
+use Rattle.growth_bound.specs.Laws.{DeviationsRestOnVariables}
+use Rattle.grid_quantiser.specs.declared.sides.Side.{Side}
+use Rattle.grid_quantiser.specs.Axes.{no_axis, cells_of}
+use Rattle.grid_quantiser.specs.Cells.{centre_of, radius_of}
+use Rattle.grid_quantiser.specs.Places.{place_along, middle_of}
+use Rattle.grid_quantiser.specs.Sides.{IsSideOf}
+use Rattle.grid_quantiser.specs.Laws.{CentresRestOnTheirPlaces}
+use Rattle.plant_text.specs.declared.plant.variables.StateVariable.{StateVariable}
+use Rattle.plant_text.specs.declared.plant.variables.NoiseVariable.{NoiseVariable}
+use Rattle.plant_text.specs.plant.Description.{Description, axis_of, axes_of, vectors_of, vector_of}
+use Rattle.plant_text.specs.plant.InputPlaces.{input_place, InputsRestOnTheirPlaces}
+use Rattle.plant_text.specs.plant.Soundness.{IsSound}
+use Rattle.plant_text.specs.plant.Steps.{equation_at}
+use Rattle.successor_box.specs.Boxes.{noise_centre, area_of, radii_of, deviation_at, central_values, low_corner, high_corner}
+use Rattle.successor_box.specs.Sides.{IsSideAt, place_in, AreAlikeIn}
+use Rattle.successor_box.specs.inside.Area.{no_range}
+use Rattle.successor_box.proofs.CellValues.{vector_count}
+use Rattle.successor_box.proofs.Centres.{centre_count}
+use Rattle.successor_box.proofs.Ranges.{in_first, in_second, in_third, input_range}
+use Rattle.successor_box.proofs.SideEnds.{low_is, high_is}
+
+-- inputs have no radius
+same_zeros : (xs ys : List ℤ) → length xs ≡ length ys → map (λ _. pos 0) xs ≡ map (λ _. pos 0) ys
+same_zeros [] [] long = refl
+same_zeros [] (y ∷ ys) long = absurd (omega (arith, long))
+same_zeros (x ∷ xs) [] long = absurd (omega (arith, long))
+same_zeros (x ∷ xs) (y ∷ ys) long = ap (λ (zs : List ℤ). pos 0 ∷ zs) (same_zeros xs ys (omega (arith, long)))
+
+same_radii : (p : Description) (u v : ℕ) → radii_of p v ≡ radii_of p u
+same_radii p u v =
+    ap (λ (zs : List ℤ). map radius_of (axes_of p) ++ zs ++ map (λ (w : NoiseVariable). w.high -ℤ noise_centre w) p.noises)
+    (same_zeros (vector_of p.inputs v) (vector_of p.inputs u) (vector_count p.inputs v ∙ sym (vector_count p.inputs u)))
+
+-- ---- one central value
+
+module _ (p : Description) where
+  abbrev states : ℕ
+  states = length p.states
+
+  abbrev centre : ℕ → List ℤ
+  centre c = take states (centre_of (axes_of p) c)
+
+  abbrev noises : List ℤ
+  noises = take (length p.noises) (map noise_centre p.noises)
+
+  centre_long : (c : ℕ) → length (centre c) ≡ states
+  centre_long c = length-take-le states (centre_of (axes_of p) c) (omega (arith, centre_count (axes_of p) c, length-map p.states axis_of))
+
+  central_state : (c u k : ℕ) → k < states → get_or (central_values p c u) k (pos 0) ≡ get_or (centre_of (axes_of p) c) k (pos 0)
+  central_state c u k lt =
+      in_first (centre c) (vector_of p.inputs u) noises k (pos 0) (omega (arith, lt, centre_long c))
+      ∙ get_or-take states (centre_of (axes_of p) c) k (pos 0) lt
+
+  central_input : (c u k : ℕ) → states ≤ k → k < states + length p.inputs → get_or (central_values p c u) k (pos 0) ≡ get_or (vector_of p.inputs u) (k - states) (pos 0)
+  central_input c u k past lt = in_second (centre c) (vector_of p.inputs u) noises k (pos 0) states (centre_long c) past (omega (arith, lt, vector_count p.inputs u))
+
+  central_noise : (c u k : ℕ) → states + length p.inputs ≤ k → get_or (central_values p c u) k (pos 0) ≡ get_or noises (k - states - length p.inputs) (pos 0)
+  central_noise c u k past = in_third (centre c) (vector_of p.inputs u) noises k (pos 0) states (length p.inputs) (centre_long c) (vector_count p.inputs u) past
+
+-- ---- two pairs
+
+module _ (p : Description) (c u d v k : ℕ) where
+  abbrev ranges : ℕ → List Interval
+  ranges w = map (λ z. record { lo = z; hi = z }) (vector_of p.inputs w)
+
+  abbrev state_ranges : List Interval
+  state_ranges = map (λ (s : StateVariable). record { lo = s.low; hi = s.high }) p.states
+
+  abbrev noise_ranges : List Interval
+  noise_ranges = map (λ (w : NoiseVariable). record { lo = w.low; hi = w.high }) p.noises
+
+  ranges_count : (w : ℕ) → length (ranges w) ≡ length p.inputs
+  ranges_count w = length-map (vector_of p.inputs w) _ ∙ vector_count p.inputs w
+
+  states_count : length state_ranges ≡ length p.states
+  states_count = length-map p.states _
+
+  -- a variable that has the same central value has the same range
+  same_range : get_or (central_values p d v) k (pos 0) ≡ get_or (central_values p c u) k (pos 0) → get_or (area_of p v) k no_range ≡ get_or (area_of p u) k no_range
+  same_range same =
+      elim (cases_lt k (length p.states)) [
+        | inl state ↦
+            let lt : k < length state_ranges = omega (arith, state, states_count) in
+            in_first state_ranges (ranges v) noise_ranges k no_range lt ∙ sym (in_first state_ranges (ranges u) noise_ranges k no_range lt)
+        | inr past ↦ later past (cases_lt k (length p.states + length p.inputs))
+      ]
+    where
+      later : length p.states ≤ k → (k < length p.states + length p.inputs) ⊎ (length p.states + length p.inputs ≤ k) → get_or (area_of p v) k no_range ≡ get_or (area_of p u) k no_range
+      later past (inl input) =
+          let value : get_or (vector_of p.inputs v) (k - length p.states) (pos 0) ≡ get_or (vector_of p.inputs u) (k - length p.states) (pos 0) =
+          sym (central_input p d v k past input) ∙ same ∙ central_input p c u k past input in
+          sym (input_range p v k no_range past input) ∙ ap (λ (z : ℤ). record { lo = z; hi = z }) value ∙ input_range p u k no_range past input
+      later past (inr noise) =
+          in_third state_ranges (ranges v) noise_ranges k no_range (length p.states) (length p.inputs) states_count (ranges_count v) noise
+          ∙ sym (in_third state_ranges (ranges u) noise_ranges k no_range (length p.states) (length p.inputs) states_count (ranges_count u) noise)
+
+  -- the same place brings the same central value
+  module _ (centres : CentresRestOnTheirPlaces) (inputs : InputsRestOnTheirPlaces) (sound : IsSound p) (cell : c < cells_of (axes_of p)) (input : u < vectors_of p.inputs) (other_cell : d < cells_of (axes_of p)) (other_input : v < vectors_of p.inputs) where
+    same_state : k < length p.states → place_in p c u k ≡ place_in p d v k → get_or (central_values p d v) k (pos 0) ≡ get_or (central_values p c u) k (pos 0)
+    same_state lt alike =
+        let axes = axes_of p in
+        let within : k < length axes = omega (arith, lt, length-map p.states axis_of) in
+        let place : place_along axes k d ≡ place_along axes k c =
+        cond_below k (length p.states) (place_along axes k d) (input_place p.inputs (k - length p.states) v) lt ∙ sym alike ∙ sym (cond_below k (length p.states) (place_along axes k c) (input_place p.inputs (k - length p.states) u) lt) in
+        central_state p d v k lt
+        ∙ centres axes d k sound.axes other_cell within
+        ∙ ap (middle_of (get_or axes k no_axis)) place
+        ∙ sym (centres axes c k sound.axes cell within)
+        ∙ sym (central_state p c u k lt)
+
+    same_input : length p.states ≤ k → k < length p.states + length p.inputs → place_in p c u k ≡ place_in p d v k → get_or (central_values p d v) k (pos 0) ≡ get_or (central_values p c u) k (pos 0)
+    same_input past lt alike =
+        let j : ℕ = k - length p.states in
+        let place : input_place p.inputs j v ≡ input_place p.inputs j u =
+        cond_above k (length p.states) (place_along (axes_of p) k d) (input_place p.inputs j v) (input_place p.inputs j v) past refl ∙ sym alike ∙ sym (cond_above k (length p.states) (place_along (axes_of p) k c) (input_place p.inputs j u) (input_place p.inputs j u) past refl) in
+        central_input p d v k past lt
+        ∙ inputs p.inputs j v u (omega (arith, past, lt)) other_input input place
+        ∙ sym (central_input p c u k past lt)
+
+    same_value : (k < length p.states + length p.inputs → place_in p c u k ≡ place_in p d v k) → get_or (central_values p d v) k (pos 0) ≡ get_or (central_values p c u) k (pos 0)
+    same_value alike =
+        elim (cases_lt k (length p.states)) [
+          | inl state ↦ same_state state (alike (omega (arith, state)))
+          | inr past ↦ later past (cases_lt k (length p.states + length p.inputs))
+        ]
+      where
+        later : length p.states ≤ k → (k < length p.states + length p.inputs) ⊎ (length p.states + length p.inputs ≤ k) → get_or (central_values p d v) k (pos 0) ≡ get_or (central_values p c u) k (pos 0)
+        later past (inl here) = same_input past here (alike here)
+        later past (inr noise) = central_noise p d v k noise ∙ sym (central_noise p c u k noise)
+
+-- a side rests on the value and the deviation alone
+same_side : (p : Description) (i c u d v : ℕ) (side : Option Side) → i < length p.equations → value_of (equation_at p i) (central_values p d v) ≡ value_of (equation_at p i) (central_values p c u) → deviation_at p v (equation_at p i) ≡ deviation_at p u (equation_at p i) → IsSideAt p d v i side → IsSideAt p c u i side
+same_side p i c u d v side lt value deviation is =
+    let low : get_or (low_corner p d v) i (pos 0) ≡ get_or (low_corner p c u) i (pos 0) = low_is p d v i lt ∙ ap₂ (λ (x y : ℤ). x -ℤ y) value deviation ∙ sym (low_is p c u i lt) in
+    let high : get_or (high_corner p d v) i (pos 0) ≡ get_or (high_corner p c u) i (pos 0) = high_is p d v i lt ∙ ap₂ (λ (x y : ℤ). x +ℤ y) value deviation ∙ sym (high_is p c u i lt) in
+    subst₂ (λ (x y : ℤ). IsSideOf (get_or (axes_of p) i no_axis) x y side) low high is
+
+pub alike_side : ValuesRestOnVariables → DeviationsRestOnVariables → CentresRestOnTheirPlaces → InputsRestOnTheirPlaces → (p : Description) (i c u d v : ℕ) (side : Option Side) → IsSound p → i < length p.equations
+    → c < cells_of (axes_of p) → u < vectors_of p.inputs → d < cells_of (axes_of p) → v < vectors_of p.inputs → AreAlikeIn p i c u d v → IsSideAt p d v i side → IsSideAt p c u i side
+alike_side values deviations centres inputs p i c u d v side sound lt cell input other_cell other_input alike is =
+    let e : Expression = equation_at p i in
+    let same : AreSameIn (pos 0) e (central_values p d v) (central_values p c u) = λ k stands. same_value p c u d v k centres inputs sound cell input other_cell other_input (λ here. alike k here stands) in
+    let ranges : AreSameIn no_range e (area_of p v) (area_of p u) = λ k stands. same_range p c u d v k (same k stands) in
+    let radii : AreSameIn (pos 0) e (radii_of p v) (radii_of p u) = λ k stands. ap (λ (rs : List ℤ). get_or rs k (pos 0)) (same_radii p u v) in
+    same_side p i c u d v side lt (values e (central_values p d v) (central_values p c u) same) (ap pos (deviations e (area_of p v) (area_of p u) (radii_of p v) (radii_of p u) ranges radii)) is
