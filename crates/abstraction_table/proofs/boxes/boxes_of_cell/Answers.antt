@@ -1,0 +1,23 @@
+use Rattle.std.proofs.Common.{◌<◌, ◌≢◌, None, ◌∙◌, length, set, get_or, get_or-set_other, get_or-set_same, below_more, sym, subst, ℕ, arith}
+use Rattle.std.proofs.lemmas.List.{length-set}
+use Rattle.successor_box.specs.Boxes.{IsBoxOf}
+use Rattle.abstraction_table.proofs.boxes.boxes_of_cell.Goals as goal
+
+pub box_at-requires-clause-cell : goal.box_at-requires-clause-cell
+box_at-requires-clause-cell c = (c.args.c, c.requires.cell, c.firsts_of-firsts.ensures)
+
+pub loop-input-preserved : goal.loop-input-preserved
+loop-input-preserved c =
+    let p = c.args.p.now in
+    let cell : ℕ = c.args.c in
+    let input : ℕ = c.loop-input.input in
+    let so_far = c.loop-input.invariant in
+    let boxes = c.loop-input.boxes in
+    let b = c.box_at.result in
+    let short : input < length boxes = omega arith in
+    record {
+      long = length-set boxes input b ∙ so_far.long;
+      each = below_more (λ (u : ℕ). IsBoxOf p cell u (get_or (set boxes input b) u None)) input
+          (λ u before. let other : u ≢ input = omega (arith, before) in subst (IsBoxOf p cell u) (sym (get_or-set_other boxes input u b None other)) (so_far.each u before))
+          (subst (IsBoxOf p cell input) (sym (get_or-set_same boxes input b None short)) (c.box_at.ensures cell c.requires.cell c.firsts_of-firsts.ensures));
+    }
