@@ -1,14 +1,14 @@
 -- The centre in a state rests on the place in that state.
 use Rattle.std.proofs.Common.{◌≡◌, ℕ, zero, suc, ◌+◌, ◌*◌, ◌/◌, ◌%◌, ◌<◌, ◌≤◌, arith, ap, sym, ◌∙◌, List, [], ◌∷◌, length, drop, get_or}
-use Rattle.std.specs.Prelude.{pos, ◌+ℤ◌, ◌*ℤ◌}
+use Rattle.std.specs.Prelude.{pos}
 use Rattle.std.specs.List.{All}
 use Rattle.std.proofs.Math.Nat.{mod-eq_of_lt}
 use Rattle.std.proofs.lemmas.Nat.{div_below, mod_below}
 use Rattle.std.proofs.lemmas.List.{drop_more}
-use Rattle.std.proofs.lemmas.List.Elements.{All-head, All-tail, All-drop, All-get_or}
+use Rattle.std.proofs.lemmas.List.Elements.{All-tail, All-drop, All-get_or}
 use Rattle.grid_quantiser.specs.declared.axis.Axis.{Axis}
 use Rattle.grid_quantiser.specs.Axes.{IsAxis, no_axis, cells_of}
-use Rattle.grid_quantiser.specs.Cells.{radius_of, centre_of}
+use Rattle.grid_quantiser.specs.Cells.{centre_of}
 use Rattle.grid_quantiser.specs.Places.{place_along, middle_of}
 use Rattle.grid_quantiser.proofs.General.{div-mod, mod-mod}
 use Rattle.grid_quantiser.proofs.Suffixes.{some_cells}

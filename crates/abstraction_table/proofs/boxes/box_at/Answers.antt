@@ -1,6 +1,5 @@
-use Rattle.std.proofs.Common.{◌<◌, ◌≢◌, ◌≡◌, ℕ, Option, None, ◌∙◌, length, set, get_or, get_or-set_other, get_or-set_same, below_more, ap, sym, subst, arith}
+use Rattle.std.proofs.Common.{◌<◌, ◌≢◌, ◌≡◌, ℕ, None, ◌∙◌, length, set, get_or, get_or-set_other, get_or-set_same, below_more, ap, sym, subst, arith}
 use Rattle.std.proofs.lemmas.List.{length-set}
-use Rattle.grid_quantiser.specs.declared.sides.Side.{Side}
 use Rattle.successor_box.specs.Sides.{IsSideAt}
 use Rattle.abstraction_table.specs.declared.sides.SideTable.{SideTable}
 use Rattle.abstraction_table.specs.inside.Sides.{first_of, side_in, HasPlaceFor, HoldsSidesAlong}

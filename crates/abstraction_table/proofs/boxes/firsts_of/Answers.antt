@@ -1,10 +1,10 @@
-use Rattle.std.proofs.Common.{◌≡◌, ◌≢◌, ◌<◌, ◌^◌, ℕ, All, ◌∙◌, length, set, get_or, get_or-set_other, get_or-set_same, below_more, refl, ap, sym, subst, arith}
+use Rattle.std.proofs.Common.{◌≡◌, ◌≢◌, ◌<◌, ℕ, ◌∙◌, length, set, get_or, get_or-set_other, get_or-set_same, below_more, ap, sym, subst, arith}
 use Rattle.std.proofs.lemmas.List.{length-set, get_or_default}
 use Rattle.std.proofs.lemmas.List.Elements.{All-weaker}
 use Rattle.abstraction_table.specs.declared.digits.Digit.{Digit}
 use Rattle.abstraction_table.specs.declared.sides.SideTable.{SideTable}
 use Rattle.abstraction_table.specs.inside.Digits.{IsDigitOf}
-use Rattle.abstraction_table.specs.inside.Sides.{first_in, first_of, HoldsSidesAlong}
+use Rattle.abstraction_table.specs.inside.Sides.{first_of, HoldsSidesAlong}
 use Rattle.abstraction_table.proofs.PairDigits.{some_vectors}
 use Rattle.abstraction_table.proofs.SideTables.{first_is}
 use Rattle.abstraction_table.proofs.boxes.firsts_of.Goals as goal

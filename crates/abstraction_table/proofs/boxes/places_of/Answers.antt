@@ -1,4 +1,4 @@
-use Rattle.std.proofs.Common.{◌≡◌, ◌≢◌, ◌<◌, ◌≤◌, ℕ, List, ◌∙◌, length, replicate, get_or, get_or-set_other, get_or-set_same, below_more, refl, ap, sym, subst, arith, inl, inr}
+use Rattle.std.proofs.Common.{◌≡◌, ◌≢◌, ◌<◌, ℕ, List, ◌∙◌, length, replicate, get_or, get_or-set_other, get_or-set_same, below_more, refl, ap, arith, inl, inr}
 use Rattle.std.proofs.lemmas.Bool.{cases_lt}
 use Rattle.std.proofs.lemmas.List.{length-set, length-map, get_or-replicate, get_or_past}
 use Rattle.grid_quantiser.specs.declared.axis.Axis.{Axis}

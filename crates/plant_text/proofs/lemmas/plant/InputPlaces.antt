@@ -1,5 +1,5 @@
 -- The value of a variable in an input vector, by its place.
-use Rattle.std.proofs.Common.{◌≡◌, ℕ, ◌+◌, ◌/◌, ◌%◌, ◌<◌, List, [], length, map, get_or, drop, sym, ap, ◌∙◌, add-one}
+use Rattle.std.proofs.Common.{◌≡◌, ℕ, ◌/◌, ◌%◌, ◌<◌, List, [], length, get_or, drop, sym, ap, ◌∙◌, add-one}
 use Rattle.std.specs.Prelude.{pos}
 use Rattle.std.proofs.lemmas.List.{get_or-map}
 use Rattle.plant_text.specs.declared.plant.variables.InputVariable.{InputVariable}

@@ -2,7 +2,7 @@ use Rattle.std.proofs.Common.{◌≡◌, ◌≢◌, ℕ, ◌+◌, ◌-◌, ◌/�
 use Rattle.std.proofs.lemmas.Bool.{cases_lt}
 use Rattle.std.proofs.lemmas.List.{length-set}
 use Rattle.grid_quantiser.specs.declared.axis.Axis.{Axis}
-use Rattle.grid_quantiser.specs.Axes.{IsAxis, no_axis, cells_of}
+use Rattle.grid_quantiser.specs.Axes.{cells_of}
 use Rattle.grid_quantiser.specs.Places.{place_along}
 use Rattle.grid_quantiser.proofs.Suffixes.{next_axis, rest_none, div_step}
 use Rattle.grid_quantiser.proofs.grid.Grid.places.Goals as goal

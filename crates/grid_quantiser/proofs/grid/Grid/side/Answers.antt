@@ -1,8 +1,6 @@
-use Rattle.std.proofs.Common.{◌≡◌, ℕ, ◌-◌, ◌+◌, ◌^◌, ◌<◌, ◌≤◌, List, length, get_or, ap, refl, sym, subst, arith, rules, FitsSigned}
+use Rattle.std.proofs.Common.{refl, arith, rules, FitsSigned}
 use Rattle.std.specs.Int.{w128}
 use Rattle.std.proofs.lemmas.Int.{to_z-of_z}
-use Rattle.grid_quantiser.specs.declared.axis.Axis.{Axis}
-use Rattle.grid_quantiser.specs.Axes.{AreAxes, no_axis, cells_of}
 use Rattle.grid_quantiser.proofs.AxisCounts.{few_places}
 use Rattle.grid_quantiser.proofs.grid.Grid.side.Goals as goal
 

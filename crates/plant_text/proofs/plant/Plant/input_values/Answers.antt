@@ -1,7 +1,5 @@
-use Rattle.std.proofs.Common.{◌≡◌, length, get_or, sym, ap, ◌∙◌, arith}
-use Rattle.std.proofs.lemmas.List.Elements.{All-get_or}
+use Rattle.std.proofs.Common.{length, sym, ap, ◌∙◌}
 use Rattle.plant_text.specs.declared.plant.variables.InputVariable.{InputVariable}
-use Rattle.plant_text.specs.plant.Variables.{IsInputVariable}
 use Rattle.plant_text.proofs.lemmas.plant.InputPlaces.{count_is}
 use Rattle.plant_text.proofs.plant.Plant.input_values.Goals as goal
 
