@@ -4,7 +4,7 @@ use Rattle.std.specs.List.{All, flat_map}
 use Rattle.std.proofs.lemmas.List.{append-nil, map-append, take_more_set, drop_more}
 use Rattle.std.proofs.lemmas.List.Elements.{All-head, All-tail, All-append, All-drop, All-weaker}
 use Rattle.std.proofs.lemmas.Nat.{div-add-mod', mod_below}
-use Rattle.std.proofs.Math.Nat.{add-mul, zero-mul, mod-eq_of_lt, le-mul_of_pos_right}
+use Rattle.std.proofs.Math.Nat.{add-mul, zero-mul, mul_comm, mod-eq_of_lt, le-mul_of_pos_right}
 use Rattle.std.proofs.Math.Seq.{drop-length}
 use Rattle.grid_quantiser.specs.declared.axis.Axis.{Axis}
 use Rattle.grid_quantiser.specs.declared.runs.Wheel.{Wheel}
@@ -12,7 +12,7 @@ use Rattle.grid_quantiser.specs.Axes.{IsAxis, AreAxes, no_axis, cells_of}
 use Rattle.grid_quantiser.specs.Boxes.{IsCellBox, cells_between}
 use Rattle.grid_quantiser.specs.inside.RunFields.{stepped, whole_turn, starts_left, runs_from, AreWheels, AreRuns}
 use Rattle.grid_quantiser.proofs.General.{blocks, turns_of_turns, one_each, difference_parts, quotients_ordered}
-use Rattle.grid_quantiser.proofs.BoxCells.{corners_below, box_whole, IsCellBox-drop, box_next, places_ordered}
+use Rattle.grid_quantiser.proofs.BoxCells.{part_between, corners_below, box_whole, IsCellBox-drop, box_next, places_ordered, length_step}
 use Rattle.grid_quantiser.proofs.BoxRuns.{side_of, starts_of, in_runs, starts_below, box_ordered}
 use Rattle.grid_quantiser.proofs.Suffixes.{next_axis, some_cells, some_later, cells_limit, drop_step, place_step, later_step}
 use Rattle.grid_quantiser.proofs.Turning.{starts_head}
@@ -95,7 +95,7 @@ more_starts wheels a b axes f l steps so_far is order =
 
 -- ---- one step of the loop, from the axes from i on to those from i - 1 on
 
-module _ (axes : List Axis) (i f l : ℕ) (each : All IsAxis axes) (some : 0 < i) (within : i ≤ length axes) (more : i < length axes) (order : f ≤ l) (box : IsCellBox axes (f % cells_of axes) (l % cells_of axes)) where
+module _ (axes : List Axis) (i f l : ℕ) (each : All IsAxis axes) (some : 0 < i) (within : i ≤ length axes) (order : f ≤ l) (box : IsCellBox axes (f % cells_of axes) (l % cells_of axes)) where
   abbrev inner : ℕ
   inner = cells_of (drop i axes)
 
@@ -125,9 +125,18 @@ module _ (axes : List Axis) (i f l : ℕ) (each : All IsAxis axes) (some : 0 < i
       ∙ ap (λ (d : ℕ). d / inner) (difference_parts f l whole some_whole (quotients_ordered f l whole some_whole order) wholes).1
       ∙ (difference_parts (f % whole) (l % whole) inner some_inner places inner_rests).0
 
-  pub starts_here : (wheels : List Wheel) (steps : ℕ) → steps ≡ (l - f) / inner % (next_axis axes i).count → full_starts wheels (f % inner) ≡ starts_of (drop i axes) (f % inner) (l % inner) →
+  -- the number of cells with one more state
+  pub cells_here : (cells steps rest : ℕ) → cells ≡ length (part_between axes i f l) → rest ≡ (l - f) / inner → steps ≡ rest % (next_axis axes i).count →
+      cells * (steps + 1) ≡ length (part_between axes (i - 1) f l)
+  cells_here cells steps rest so_far left is =
+      let side : steps ≡ l / inner % (next_axis axes i).count - f / inner % (next_axis axes i).count =
+      omega (arith, is ∙ ap (λ r. r % (next_axis axes i).count) left ∙ steps_here, place_step axes i each some within f, place_step axes i each some within l)
+      in
+      rw (so_far, side) (mul_comm _ _ ∙ sym (length_step axes i f l each some within box))
+
+  pub starts_here : (more : i < length axes) → (wheels : List Wheel) (steps : ℕ) → steps ≡ (l - f) / inner % (next_axis axes i).count → full_starts wheels (f % inner) ≡ starts_of (drop i axes) (f % inner) (l % inner) →
       full_starts (wheels ++ record { stride = inner; steps = steps; left = steps } ∷ []) (f % whole) ≡ starts_of (drop (i - 1) axes) (f % whole) (l % whole)
-  starts_here wheels steps is so_far =
+  starts_here more wheels steps is so_far =
       let b : Axis = get_or axes i no_axis in
       let opened : drop i axes ≡ b ∷ drop (i + 1) axes = drop_more axes i no_axis more in
       let same : steps ≡ l % whole / inner - f % whole / inner = is ∙ steps_here in

@@ -6,6 +6,7 @@ ghost use Rattle.grid_quantiser.specs.Boxes.{IsAtMost, IsBoxInDomain, Touches, L
 use crate::axis::Axis;
 use crate::cells::cell_in;
 use crate::grid::{Grid, Point};
+use crate::runs::split;
 
 /// A box of cells of a grid, by the numbers of its lowest and its highest corner.
 #[derive(Clone, Copy, Debug, PartialEq, Eq)]
@@ -30,6 +31,7 @@ impl Grid {
     }
 
     /// How many cells are in a box.
+    #[inline]
     pub fn box_count(&self, b: CellBox) -> u64
         requires { IsCellBox self.now b.first b.last }
         ensures count { result ≡ length (cells_between self.now b.first b.last) }
@@ -37,16 +39,15 @@ impl Grid {
         ensures limit { result ≤ cells_of self.now }
     {
         let axes = self.axes();
-        let mut first = u64::from(b.first);
-        let mut last = u64::from(b.last);
-        let mut count: u64 = 1;
+        let mut rest = b.last - b.first;
+        let mut cells: u64 = 1;
         for i in (0..axes.len()).rev() {
-            let n = axes[i].count;
-            count *= last % n - first % n + 1;
-            first /= n;
-            last /= n;
+            let count = axes[i].count as u32;
+            let (quotient, steps) = split(rest, count);
+            cells *= u64::from(steps) + 1;
+            rest = quotient;
         }
-        count
+        cells
     }
 
     /// Whether a cell is in a box.

@@ -97,7 +97,7 @@ impl Runs {
 
 /// A quotient and what is left. The sides of most boxes are so small that no division is made.
 #[inline]
-fn split(n: u32, by: u32) -> (u32, u32)
+pub(crate) fn split(n: u32, by: u32) -> (u32, u32)
     requires { 0 < by }
     ensures quotient { result.0 ≡ n / by }
     ensures left { result.1 ≡ n % by }

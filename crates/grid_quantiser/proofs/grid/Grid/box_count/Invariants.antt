@@ -1,11 +1,10 @@
-use Rattle.std.proofs.Common.{◌≡◌, ◌/◌, drop, length}
+use Rattle.std.proofs.Common.{◌≡◌, ◌-◌, ◌/◌, drop, length}
 use Rattle.grid_quantiser.specs.Axes.{cells_of}
 use Rattle.grid_quantiser.proofs.BoxCells.{part_between}
 use Rattle.grid_quantiser.proofs.grid.Grid.box_count.Given as goal
 
 abbrev pub invariant-loop-i : goal.invariant-loop-i
 invariant-loop-i l = record {
-  first : l.first ≡ l.fn.b.first / cells_of (drop l.i l.axes);
-  last : l.last ≡ l.fn.b.last / cells_of (drop l.i l.axes);
-  count : l.count ≡ length (part_between l.axes l.i l.fn.b.first l.fn.b.last);
+  rest : l.rest ≡ (l.fn.b.last - l.fn.b.first) / cells_of (drop l.i l.axes);
+  cells : l.cells ≡ length (part_between l.axes l.i l.fn.b.first l.fn.b.last);
 }

@@ -70,7 +70,7 @@ loop-i-preserved c =
     record {
       five = length-set c.loop-i.wheels _ w ∙ so_far.five;
       fresh = rw place (fresh_more (take (turning - i) c.loop-i.wheels) w so_far.fresh refl);
-      starts = rw (place, so_far.stride) (starts_here axes i f l each some (omega arith) (omega arith) k.order k.box (take (turning - i) c.loop-i.wheels) steps is so_far.starts);
+      starts = rw (place, so_far.stride) (starts_here axes i f l each some (omega arith) k.order k.box (omega arith) (take (turning - i) c.loop-i.wheels) steps is so_far.starts);
       stride = ap (λ r. r * count) so_far.stride ∙ mul_comm n count ∙ sym (cells_step axes i each some (omega arith));
       rest = split.ensures.quotient ∙ ap (λ r. r / count) so_far.rest ∙ div_step axes i each some (omega arith) (l - f);
     }
