@@ -18,3 +18,4 @@ pub mod BoxRuns
 pub mod WheelsMade
 pub mod OwnPlaces
 pub mod AxisCounts
+pub mod BoxShapes

@@ -1,5 +1,5 @@
 -- What holds of every grid's cells.
-use Rattle.std.specs.Prelude.{◌≡◌, ℕ, ◌-◌, ◌<◌, ◌≤◌, ◌↔◌, ℤ, pos, ◌+ℤ◌, ◌-ℤ◌, ◌≤ℤ◌, List, [], ◌∷◌, map, length, slice_index_or}
+use Rattle.std.specs.Prelude.{◌≡◌, ℕ, ◌+◌, ◌-◌, ◌<◌, ◌≤◌, ◌↔◌, ℤ, pos, ◌+ℤ◌, ◌-ℤ◌, ◌≤ℤ◌, List, [], ◌∷◌, map, length, slice_index_or}
 use Rattle.std.specs.List.{All}
 use Rattle.std.specs.List.Sorted.{IsStrictlyIncreasing}
 use Rattle.grid_quantiser.specs.declared.axis.Axis.{Axis}
@@ -59,3 +59,9 @@ BoxesHaveCells = (axes : List Axis) (first last : ℕ) → AreAxes axes → IsCe
 -- the cells between the corners of a box lie there also by their numbers
 abbrev pub CellsLieBetweenCorners : Type 0
 CellsLieBetweenCorners = (axes : List Axis) (first last : ℕ) → AreAxes axes → IsCellBox axes first last → All (λ c. (first ≤ c) × (c ≤ last)) (cells_between axes first last)
+
+-- a box is its shape, the box of as many places in each state from the first cell on, moved by its own first cell
+abbrev pub BoxesAreMovedShapes : Type 0
+BoxesAreMovedShapes =
+    (axes : List Axis) (first last : ℕ) → AreAxes axes → IsCellBox axes first last →
+    IsCellBox axes 0 (last - first) × (cells_between axes first last ≡ map (λ c. first + c) (cells_between axes 0 (last - first)))

@@ -2,7 +2,7 @@
 
 ghost use Rattle.std.specs.Prelude.{◌^◌, ◌≤◌};
 ghost use Rattle.grid_quantiser.specs.Axes.{cells_of, AreAxes};
-ghost use Rattle.grid_quantiser.specs.Laws.{CellsAreBoxes, DomainIsBox, DomainHasEnds, CentresAreNear, StatesHaveCells, BoxesHaveCells, CellsLieBetweenCorners, CentresRestOnTheirPlaces};
+ghost use Rattle.grid_quantiser.specs.Laws.{CellsAreBoxes, DomainIsBox, DomainHasEnds, CentresAreNear, StatesHaveCells, BoxesHaveCells, CellsLieBetweenCorners, BoxesAreMovedShapes, CentresRestOnTheirPlaces};
 
 use crate::grid::Grid;
 
@@ -39,6 +39,11 @@ pub fn cells_of_a_box()
 /// The cells between the corners of a box lie there also by their numbers.
 pub fn cells_lie_between_corners()
     ensures { CellsLieBetweenCorners }
+{}
+
+/// A box is its shape, moved by its first cell.
+pub fn boxes_are_moved_shapes()
+    ensures { BoxesAreMovedShapes }
 {}
 
 /// The centre of a cell in a state rests on the cell's place along that axis alone.
