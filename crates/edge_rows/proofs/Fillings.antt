@@ -1,11 +1,13 @@
 -- What a filling's fields are after each step.
-use Rattle.std.proofs.Common.{◌≡◌, ℕ, ◌+◌, ◌-◌, ◌<◌, ◌^◌, [], length, get_or, set, Some, None, refl, sym, ap, subst, ◌∙◌, arith}
+use Rattle.std.proofs.Common.{◌≡◌, ℕ, ◌+◌, ◌-◌, ◌<◌, ◌≤◌, ◌^◌, List, [], length, take, drop, get_or, set, Some, None, refl, sym, ap, subst, ◌∙◌, arith}
 use Rattle.std.proofs.lemmas.List.{get_or_default}
-use Rattle.edge_rows.specs.Rows.{Filling, appended, HasRoom}
+use Rattle.edge_rows.specs.Rows.{Filling, appended, changed_run, appended_run, HasRoom, HaveRoom}
 use Rattle.edge_rows.specs.inside.Layout.{gaps, rows_between}
+use Rattle.edge_rows.specs.inside.Runs.{AreFree, written}
 use Rattle.edge_rows.specs.inside.FillFields.{filling_of, IsFilledAs, IsFilling}
 use Rattle.edge_rows.specs.declared.fill.RowFill.TheInside.{Inside}
-use Rattle.edge_rows.proofs.Laid.{end_of, length-ends, length-laid, end_at, gaps-starts, read_back, end_within, end_free, laid-put, ends-put, fits-put, written-put, some_left}
+use Rattle.edge_rows.proofs.Laid.{end_of, length-ends, length-laid, end_at, gaps-starts, read_back, end_within, end_free, laid-put, ends-put, fits-put, written-put, written-le, some_left}
+use Rattle.edge_rows.proofs.RunsLaid.{IsRunPut, run_put}
 
 module _ (g : Inside) (f : Filling) (l : IsFilledAs g f) where
   pub shown : filling_of g ≡ f
@@ -56,3 +58,35 @@ module _ (g : Inside) (ok : IsFilling g) (f : Filling) (is : filling_of g ≡ f)
           ends = ends ∙ (λ i. set (had.ends i) r (next i)) ∙ ends-put 0 f.rows f.lengths r v had.within.fits room.0;
           left = omega (arith, left, left_more, had.left, written-put f.rows r v room.0);
         }
+
+-- a filling f, and rows of it that have room
+module _ (g : Inside) (ok : IsFilling g) (f : Filling) (is : filling_of g ≡ f) (r n v : ℕ) (within : r + n ≤ length f.rows) (room : HaveRoom f r n) where
+  stored : IsFilledAs g f
+  stored = subst (IsFilledAs g) is ok
+
+  run : IsRunPut f.rows f.lengths r n v
+  run = run_put f.rows f.lengths r n v stored.within.fits within (λ c from to. (room c from to).1)
+
+  pub run_listed : r + n ≤ length g.ends.items
+  run_listed = omega (arith, within, ap length stored.ends, length-ends 0 f.rows f.lengths stored.within.fits)
+
+  pub run_free : (ends : List ℕ) (count : ℕ) → ends ≡ g.ends.items → count ≡ n → AreFree g.block (take count (drop r ends)) v
+  run_free ends count same is =
+      rw (same, is, stored.places, stored.ends) run.free
+
+  pub block_small : length g.block < 2 ^ 32
+  block_small = omega (arith, ap length stored.places, length-laid f.rows f.lengths stored.within.fits, stored.within.small.1)
+
+  pub run_left : n ≤ g.left
+  run_left = omega (arith, stored.left, run.count, written-le (appended_run f.rows r n v) f.lengths run.fits)
+
+  pub run_lies : (h : Inside) → h.block ≡ written g.block (take n (drop r g.ends.items)) v → h.starts.items ≡ g.starts.items → h.ends.items ≡ changed_run (λ end. end + 1) g.ends.items r n → h.left ≡ g.left - n
+      → IsFilledAs h (record { rows = appended_run f.rows r n v; lengths = f.lengths })
+  run_lies h block starts ends left =
+      record {
+        within = record { fits = run.fits; small = stored.within.small };
+        places = block ∙ (λ i. written (stored.places i) (take n (drop r (stored.ends i))) v) ∙ run.places;
+        starts = starts ∙ stored.starts;
+        ends = ends ∙ (λ i. changed_run (λ end. end + 1) (stored.ends i) r n) ∙ run.ends;
+        left = omega (arith, left, run_left, stored.left, run.count);
+      }

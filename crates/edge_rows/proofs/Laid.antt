@@ -186,7 +186,7 @@ written-put (xs ∷ rows) (suc r) v lt =
 
 -- a filling with nothing left
 
-written-le : (rows : List (List ℕ)) (ns : List ℕ) → Fits rows ns → sum (map length rows) ≤ sum ns
+pub written-le : (rows : List (List ℕ)) (ns : List ℕ) → Fits rows ns → sum (map length rows) ≤ sum ns
 written-le [] [] f = omega arith
 written-le [] (n ∷ ns) f = absurd f
 written-le (xs ∷ rows) [] f = absurd f

@@ -4,3 +4,4 @@ pub mod Laid
 pub mod Memory
 pub mod ReadRows
 pub mod Sharing
+pub mod RunsLaid

@@ -1,7 +1,8 @@
 //! `RowFill`: rows of fixed lengths that are filled one number at a time, in any order of rows.
-ghost use Rattle.std.specs.Prelude.{◌≡◌, ◌^◌, ◌≤◌, length, map, sum, IfOk};
-ghost use Rattle.edge_rows.specs.Rows.{appended, unfilled, HasRoom, places_left};
+ghost use Rattle.std.specs.Prelude.{◌≡◌, ◌+◌, ◌^◌, ◌<◌, ◌≤◌, length, map, sum, IfOk};
+ghost use Rattle.edge_rows.specs.Rows.{appended, appended_run, unfilled, HasRoom, HaveRoom, places_left};
 ghost use Rattle.edge_rows.specs.inside.Layout.{starts_from};
+ghost use Rattle.edge_rows.specs.inside.Runs.{AreFree, written};
 
 use crate::block::Block;
 use crate::rows::Rows;
@@ -57,6 +58,19 @@ fn starts_of(alloc: Global, lengths: &[u32]) -> Result<Vec<u32>, AllocError>
     Ok(starts)
 }
 
+// Writes a value at each of these places, and goes on to the place behind each.
+fn write_each(block: &mut Block, ends: &mut [u32], value: u32)
+    requires free { AreFree block.old ends.old value }
+    requires small { length block.old < 2 ^ 32 }
+    ensures block { block.new ≡ written block.old ends.old value }
+    ensures ends { ends.new ≡ map (λ end. end + 1) ends.old }
+{
+    for end in ends {
+        block.write(*end as usize, value);
+        *end += 1;
+    }
+}
+
 impl RowFill {
     /// Rows of these lengths with nothing written. The block is not cleared.
     pub fn new(alloc: Global, lengths: &[u32]) -> Result<RowFill, NoMemory>
@@ -89,6 +103,20 @@ impl RowFill {
         self.block.write(end as usize, value);
         self.ends[row] = end + 1;
         self.left -= 1;
+    }
+
+    /// Writes the next place of each of `count` rows from `first` on. Whether there are such rows is
+    /// tested once for all of them.
+    pub fn put_run(&mut self, first: u32, count: u32, value: u32)
+        requires within { first + count ≤ length self.old.rows }
+        requires room { HaveRoom self.old first count }
+        ensures rows { self.new.rows ≡ appended_run self.old.rows first count value }
+        ensures lengths { self.new.lengths ≡ self.old.lengths }
+    {
+        let from = first as usize;
+        let to = from + count as usize;
+        write_each(&mut self.block, &mut self.ends[from..to], value);
+        self.left -= u64::from(count);
     }
 
     /// How many places are not yet written.

@@ -21,6 +21,21 @@ fn rows_are_read_as_they_were_filled(rt: HostRuntime) -> Result<(), Fail> {
     Ok(())
 }
 
+#[test]
+fn a_run_puts_one_value_in_each_of_its_rows(rt: HostRuntime) -> Result<(), Fail> {
+    let mut fill = RowFill::new(rt.alloc(), &[1, 2, 2, 0])?;
+    fill.put_run(0, 3, 7);
+    fill.put_run(3, 0, 8);
+    fill.put_run(1, 2, 9);
+    assert_eq!(rt; fill.left(), 0);
+    let rows = fill.finish();
+    assert_eq!(rt; rows.row(0), [7].as_slice());
+    assert_eq!(rt; rows.row(1), [7, 9].as_slice());
+    assert_eq!(rt; rows.row(2), [7, 9].as_slice());
+    assert_eq!(rt; rows.row(3), [].as_slice());
+    Ok(())
+}
+
 fn filled_as_far_as(alloc: Global, puts: u64) -> Result<RowFill, Fail> {
     let mut fill = RowFill::new(alloc, &[2, 0, 1])?;
     if puts == 0 {
