@@ -18,3 +18,5 @@ pub mod BoxRuns
 pub mod WheelsMade
 pub mod OwnPlaces
 pub mod AxisCounts
+pub mod ShareNumbers
+pub mod ShareCells
