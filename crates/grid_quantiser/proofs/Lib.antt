@@ -19,3 +19,5 @@ pub mod WheelsMade
 pub mod OwnPlaces
 pub mod AxisCounts
 pub mod BoxShapes
+pub mod ShareNumbers
+pub mod ShareCells

@@ -1,8 +1,9 @@
 -- Boxes of states, and the cells that meet them.
-use Rattle.std.specs.Prelude.{◌≡◌, ℕ, suc, ◌+◌, ◌-◌, ◌*◌, ◌/◌, ◌%◌, ◌<◌, ◌≤◌, ◌↔◌, ℤ, ◌≤ℤ◌, List, [], ◌∷◌, map}
+use Rattle.std.specs.Prelude.{◌≡◌, ℕ, suc, ◌+◌, ◌-◌, ◌*◌, ◌/◌, ◌%◌, ◌<◌, ◌≤◌, ◌↔◌, ℤ, ◌≤ℤ◌, List, [], ◌∷◌, map, Option, IsSome, IfSome}
 use Rattle.std.specs.List.{Contains, flat_map, range_with_len}
 use Rattle.std.specs.List.Sorted.{IsStrictlyIncreasing}
 use Rattle.grid_quantiser.specs.declared.axis.Axis.{Axis}
+use Rattle.grid_quantiser.specs.declared.boxes.CellBox.{CellBox}
 use Rattle.grid_quantiser.specs.Axes.{cells_of}
 use Rattle.grid_quantiser.specs.Cells.{IsInDomain, cell_of, IsPointOf}
 
@@ -56,3 +57,9 @@ pub record AreCornersMeeting (axes : List Axis) (lo hi : List ℤ) (first last :
   pub last_below : last < cells_of axes
   pub ordered : IsCellBox axes first last
   pub cells : AreCellsMeeting axes lo hi (cells_between axes first last)
+
+-- The box of the cells with a property, where some cell has it.
+pub record IsBoxOf (axes : List Axis) (Has : ℕ → Type 0) (found : Option CellBox) : Type 0 where
+  pub some : IsSome found ↔ ((c : ℕ) × Has c)
+  pub corners : IfSome found (λ b. IsCellBox axes b.first b.last)
+  pub exactly : IfSome found (λ b. (c : ℕ) → Contains (cells_between axes b.first b.last) c ↔ Has c)
