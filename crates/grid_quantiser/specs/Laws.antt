@@ -60,8 +60,13 @@ BoxesHaveCells = (axes : List Axis) (first last : ℕ) → AreAxes axes → IsCe
 abbrev pub CellsLieBetweenCorners : Type 0
 CellsLieBetweenCorners = (axes : List Axis) (first last : ℕ) → AreAxes axes → IsCellBox axes first last → All (λ c. (first ≤ c) × (c ≤ last)) (cells_between axes first last)
 
--- a box is its shape, the box of as many places in each state from the first cell on, moved by its own first cell
+-- What a box is to its shape, the box of as many places in each state from the first cell on: it is the shape moved by
+-- its own first cell.
+pub record IsMovedShape (axes : List Axis) (first last : ℕ) : Type 0 where
+  pub ordered : first ≤ last
+  pub shape : IsCellBox axes 0 (last - first)
+  pub cells : cells_between axes first last ≡ map (λ c. first + c) (cells_between axes 0 (last - first))
+
+-- each box is its shape, moved
 abbrev pub BoxesAreMovedShapes : Type 0
-BoxesAreMovedShapes =
-    (axes : List Axis) (first last : ℕ) → AreAxes axes → IsCellBox axes first last →
-    IsCellBox axes 0 (last - first) × (cells_between axes first last ≡ map (λ c. first + c) (cells_between axes 0 (last - first)))
+BoxesAreMovedShapes = (axes : List Axis) (first last : ℕ) → AreAxes axes → IsCellBox axes first last → IsMovedShape axes first last
