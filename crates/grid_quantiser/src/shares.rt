@@ -1,6 +1,6 @@
 ghost use Rattle.std.specs.Prelude.{◌<◌, ◌^◌, ◌≤◌};
 ghost use Rattle.grid_quantiser.specs.Axes.{cells_of, AreAxes};
-ghost use Rattle.grid_quantiser.specs.Boxes.{IsAtMost, Touches, LiesInside, IsBoxOf};
+ghost use Rattle.grid_quantiser.specs.Boxes.{Touches, LiesInside, IsBoxOf};
 ghost use Rattle.grid_quantiser.specs.inside.Shares.{HasShare};
 
 use crate::axis::{Axis, Share};
@@ -10,7 +10,6 @@ use crate::grid::{Grid, Point};
 impl Grid {
     /// The cells that touch the box from `lo` to `hi`, which may stick out of the domain.
     pub fn touching(&self, lo: &Point, hi: &Point) -> Option<CellBox>
-        requires { IsAtMost self.now lo.now hi.now }
         ensures { IsBoxOf self.now (λ c. Touches self.now c lo.now hi.now) result }
     {
         cells_with(self.axes(), lo, hi, Share::Part)

@@ -15,4 +15,4 @@ returns c =
     let found = c.cells_with.result in
     let each = subst (λ (axes : List Axis). All IsAxis axes) c.axes.ensures.same c.axes.ensures.axes.each in
     let box = subst (λ (axes : List Axis). IsBoxOf axes (λ k. (k < cells_of axes) × HasShare Part axes lo hi k) found) c.axes.ensures.same c.cells_with.ensures in
-    box_of_touching c.args.self.now lo hi found each c.requires box
+    box_of_touching c.args.self.now lo hi found each box
