@@ -13,7 +13,7 @@ use Rattle.grid_quantiser.specs.declared.axis.Share.TheVariants.{Part, Whole}
 use Rattle.grid_quantiser.specs.declared.boxes.CellBox.{CellBox}
 use Rattle.grid_quantiser.specs.Axes.{IsAxis, no_axis, cells_of}
 use Rattle.grid_quantiser.specs.Cells.{low_of, high_of}
-use Rattle.grid_quantiser.specs.Boxes.{IsAtMost, Touches, LiesInside, IsCellBox, cells_between, IsBoxOf}
+use Rattle.grid_quantiser.specs.Boxes.{IsAtMost, Touches, LiesInside, IsCellBox, cells_between, IsBoxWith}
 use Rattle.grid_quantiser.specs.inside.Shares.{HasShareIn, ArePlacesIn, HasShare}
 use Rattle.grid_quantiser.proofs.Suffixes.{next_axis, some_cells, drop_step}
 use Rattle.grid_quantiser.proofs.Domain.{numbers_step, cell_below}
@@ -83,7 +83,7 @@ share_along share (a ∷ axes) (x ∷ lo) (y ∷ hi) c (suc i) each below has wi
 -- where an axis has no place with a share, no cell has one in each state
 pub no_box : (share : Share) (axes : List Axis) (lo hi : List ℤ) (i : ℕ) → All IsAxis axes → i < length axes →
     (((p : ℕ) × (p < (get_or axes i no_axis).count) × HasShareIn share (get_or axes i no_axis) (get_or lo i (pos 0)) (get_or hi i (pos 0)) p) → ⊥) →
-    IsBoxOf axes (λ c. (c < cells_of axes) × HasShare share axes lo hi c) None
+    IsBoxWith axes (λ c. (c < cells_of axes) × HasShare share axes lo hi c) None
 no_box share axes lo hi i each within none = record {
   some = (λ some. absurd (false≢true some), λ has. absurd (none (share_along share axes lo hi has.0 i each has.1.0 has.1.1 within)));
   corners = tt;
@@ -98,7 +98,7 @@ first_between [] f l box = tt
 first_between (a ∷ axes) f l box = (omega arith, box.0, first_between axes (f % cells_of axes) (l % cells_of axes) box.2)
 
 pub box_of_corners : (share : Share) (axes : List Axis) (lo hi : List ℤ) (b : CellBox) → All IsAxis axes → AreCornersOf share axes lo hi b.first b.last →
-    IsBoxOf axes (λ c. (c < cells_of axes) × HasShare share axes lo hi c) (Some b)
+    IsBoxWith axes (λ c. (c < cells_of axes) × HasShare share axes lo hi c) (Some b)
 box_of_corners share axes lo hi b each corners =
     let f : ℕ = b.first in
     let l : ℕ = b.last in
@@ -145,7 +145,7 @@ whole_from_ends (a ∷ axes) (x ∷ lo) [] c first last = absurd last
 whole_from_ends (a ∷ axes) (x ∷ lo) (y ∷ hi) c first last = ((first.0, last.0), whole_from_ends axes lo hi (c % cells_of axes) first.1 last.1)
 
 -- a box of the cells with a property is that of the cells with a like property
-pub same_box : (axes : List Axis) (P Q : ℕ → Type 0) (found : Option CellBox) → ((c : ℕ) → P c ↔ Q c) → IsBoxOf axes P found → IsBoxOf axes Q found
+pub same_box : (axes : List Axis) (P Q : ℕ → Type 0) (found : Option CellBox) → ((c : ℕ) → P c ↔ Q c) → IsBoxWith axes P found → IsBoxWith axes Q found
 same_box axes P Q None same box = record {
   some = (λ some. let it = box.some.0 some in (it.0, (same it.0).0 it.1), λ it. box.some.1 (it.0, (same it.0).1 it.1));
   corners = tt;
@@ -158,7 +158,7 @@ same_box axes P Q (Some b) same box = record {
 }
 
 module _ (axes : List Axis) (lo hi : List ℤ) (found : Option CellBox) (each : All IsAxis axes) where
-  pub box_of_touching : IsBoxOf axes (λ c. (c < cells_of axes) × HasShare Part axes lo hi c) found → IsBoxOf axes (λ c. Touches axes c lo hi) found
+  pub box_of_touching : IsBoxWith axes (λ c. (c < cells_of axes) × HasShare Part axes lo hi c) found → IsBoxWith axes (λ c. Touches axes c lo hi) found
   box_of_touching box = same_box axes (λ c. (c < cells_of axes) × HasShare Part axes lo hi c) (λ c. Touches axes c lo hi) found
       (λ c. (
         λ (is : (c < cells_of axes) × HasShare Part axes lo hi c).
@@ -170,7 +170,7 @@ module _ (axes : List Axis) (lo hi : List ℤ) (found : Option CellBox) (each : 
       ))
       box
 
-  pub box_of_inside : IsBoxOf axes (λ c. (c < cells_of axes) × HasShare Whole axes lo hi c) found → IsBoxOf axes (λ c. (c < cells_of axes) × LiesInside axes c lo hi) found
+  pub box_of_inside : IsBoxWith axes (λ c. (c < cells_of axes) × HasShare Whole axes lo hi c) found → IsBoxWith axes (λ c. (c < cells_of axes) × LiesInside axes c lo hi) found
   box_of_inside box = same_box axes (λ c. (c < cells_of axes) × HasShare Whole axes lo hi c) (λ c. (c < cells_of axes) × LiesInside axes c lo hi) found
       (λ c. (
         λ (is : (c < cells_of axes) × HasShare Whole axes lo hi c).
