@@ -13,10 +13,11 @@ use Rattle.grid_quantiser.specs.declared.axis.Share.TheVariants.{Part, Whole}
 use Rattle.grid_quantiser.specs.declared.boxes.CellBox.{CellBox}
 use Rattle.grid_quantiser.specs.Axes.{IsAxis, no_axis, cells_of}
 use Rattle.grid_quantiser.specs.Cells.{low_of, high_of}
-use Rattle.grid_quantiser.specs.Boxes.{IsAtMost, Touches, LiesInside, IsCellBox, cells_between, IsBoxOf}
+use Rattle.grid_quantiser.specs.Boxes.{IsAtMost, Touches, LiesInside, IsCellBox, cells_between, IsBoxWith}
 use Rattle.grid_quantiser.specs.inside.Shares.{HasShareIn, ArePlacesIn, HasShare}
 use Rattle.grid_quantiser.proofs.Suffixes.{next_axis, some_cells, drop_step}
 use Rattle.grid_quantiser.proofs.Domain.{numbers_step, cell_below}
+use Rattle.grid_quantiser.proofs.AtMost.{IsAtMost-trans}
 use Rattle.grid_quantiser.proofs.CellPoints.{ends_from_touches, touches_from_ends, ends_from_inside, inside_from_ends}
 use Rattle.grid_quantiser.proofs.BoxCells.{between_below}
 use Rattle.grid_quantiser.proofs.BetweenCells.{IsBetween, between_from_contains, contains_from_between}
@@ -82,7 +83,7 @@ share_along share (a ∷ axes) (x ∷ lo) (y ∷ hi) c (suc i) each below has wi
 -- where an axis has no place with a share, no cell has one in each state
 pub no_box : (share : Share) (axes : List Axis) (lo hi : List ℤ) (i : ℕ) → All IsAxis axes → i < length axes →
     (((p : ℕ) × (p < (get_or axes i no_axis).count) × HasShareIn share (get_or axes i no_axis) (get_or lo i (pos 0)) (get_or hi i (pos 0)) p) → ⊥) →
-    IsBoxOf axes (λ c. (c < cells_of axes) × HasShare share axes lo hi c) None
+    IsBoxWith axes (λ c. (c < cells_of axes) × HasShare share axes lo hi c) None
 no_box share axes lo hi i each within none = record {
   some = (λ some. absurd (false≢true some), λ has. absurd (none (share_along share axes lo hi has.0 i each has.1.0 has.1.1 within)));
   corners = tt;
@@ -97,7 +98,7 @@ first_between [] f l box = tt
 first_between (a ∷ axes) f l box = (omega arith, box.0, first_between axes (f % cells_of axes) (l % cells_of axes) box.2)
 
 pub box_of_corners : (share : Share) (axes : List Axis) (lo hi : List ℤ) (b : CellBox) → All IsAxis axes → AreCornersOf share axes lo hi b.first b.last →
-    IsBoxOf axes (λ c. (c < cells_of axes) × HasShare share axes lo hi c) (Some b)
+    IsBoxWith axes (λ c. (c < cells_of axes) × HasShare share axes lo hi c) (Some b)
 box_of_corners share axes lo hi b each corners =
     let f : ℕ = b.first in
     let l : ℕ = b.last in
@@ -116,18 +117,19 @@ box_of_corners share axes lo hi b each corners =
 
 -- ---- cells that touch a box, and cells that lie in it
 
-ends_from_part : (axes : List Axis) (lo hi : List ℤ) (c : ℕ) → HasShare Part axes lo hi c → IsAtMost axes lo (high_of axes c) × IsAtMost axes (low_of axes c) hi
-ends_from_part [] lo hi c has = (tt, tt)
+ends_from_part : (axes : List Axis) (lo hi : List ℤ) (c : ℕ) → HasShare Part axes lo hi c → IsAtMost axes lo hi × IsAtMost axes lo (high_of axes c) × IsAtMost axes (low_of axes c) hi
+ends_from_part [] lo hi c has = (tt, tt, tt)
 ends_from_part (a ∷ axes) [] hi c has = absurd has
 ends_from_part (a ∷ axes) (x ∷ lo) [] c has = absurd has
 ends_from_part (a ∷ axes) (x ∷ lo) (y ∷ hi) c has =
-    let later = ends_from_part axes lo hi (c % cells_of axes) has.1 in ((has.0.0, later.0), (has.0.1, later.1))
+    let later = ends_from_part axes lo hi (c % cells_of axes) has.1 in ((has.0.0, later.0), (has.0.1, later.1), (has.0.2, later.2))
 
-part_from_ends : (axes : List Axis) (lo hi : List ℤ) (c : ℕ) → IsAtMost axes lo (high_of axes c) → IsAtMost axes (low_of axes c) hi → HasShare Part axes lo hi c
-part_from_ends [] lo hi c first last = tt
-part_from_ends (a ∷ axes) [] hi c first last = absurd first
-part_from_ends (a ∷ axes) (x ∷ lo) [] c first last = absurd last
-part_from_ends (a ∷ axes) (x ∷ lo) (y ∷ hi) c first last = ((first.0, last.0), part_from_ends axes lo hi (c % cells_of axes) first.1 last.1)
+part_from_ends : (axes : List Axis) (lo hi : List ℤ) (c : ℕ) → IsAtMost axes lo hi → IsAtMost axes lo (high_of axes c) → IsAtMost axes (low_of axes c) hi → HasShare Part axes lo hi c
+part_from_ends [] lo hi c ordered first last = tt
+part_from_ends (a ∷ axes) [] hi c ordered first last = absurd first
+part_from_ends (a ∷ axes) (x ∷ lo) [] c ordered first last = absurd last
+part_from_ends (a ∷ axes) (x ∷ lo) (y ∷ hi) c ordered first last =
+    ((ordered.0, first.0, last.0), part_from_ends axes lo hi (c % cells_of axes) ordered.1 first.1 last.1)
 
 ends_from_whole : (axes : List Axis) (lo hi : List ℤ) (c : ℕ) → HasShare Whole axes lo hi c → IsAtMost axes lo (low_of axes c) × IsAtMost axes (high_of axes c) hi
 ends_from_whole [] lo hi c has = (tt, tt)
@@ -143,7 +145,7 @@ whole_from_ends (a ∷ axes) (x ∷ lo) [] c first last = absurd last
 whole_from_ends (a ∷ axes) (x ∷ lo) (y ∷ hi) c first last = ((first.0, last.0), whole_from_ends axes lo hi (c % cells_of axes) first.1 last.1)
 
 -- a box of the cells with a property is that of the cells with a like property
-pub same_box : (axes : List Axis) (P Q : ℕ → Type 0) (found : Option CellBox) → ((c : ℕ) → P c ↔ Q c) → IsBoxOf axes P found → IsBoxOf axes Q found
+pub same_box : (axes : List Axis) (P Q : ℕ → Type 0) (found : Option CellBox) → ((c : ℕ) → P c ↔ Q c) → IsBoxWith axes P found → IsBoxWith axes Q found
 same_box axes P Q None same box = record {
   some = (λ some. let it = box.some.0 some in (it.0, (same it.0).0 it.1), λ it. box.some.1 (it.0, (same it.0).1 it.1));
   corners = tt;
@@ -156,19 +158,19 @@ same_box axes P Q (Some b) same box = record {
 }
 
 module _ (axes : List Axis) (lo hi : List ℤ) (found : Option CellBox) (each : All IsAxis axes) where
-  pub box_of_touching : IsAtMost axes lo hi → IsBoxOf axes (λ c. (c < cells_of axes) × HasShare Part axes lo hi c) found → IsBoxOf axes (λ c. Touches axes c lo hi) found
-  box_of_touching ordered box = same_box axes (λ c. (c < cells_of axes) × HasShare Part axes lo hi c) (λ c. Touches axes c lo hi) found
+  pub box_of_touching : IsBoxWith axes (λ c. (c < cells_of axes) × HasShare Part axes lo hi c) found → IsBoxWith axes (λ c. Touches axes c lo hi) found
+  box_of_touching box = same_box axes (λ c. (c < cells_of axes) × HasShare Part axes lo hi c) (λ c. Touches axes c lo hi) found
       (λ c. (
         λ (is : (c < cells_of axes) × HasShare Part axes lo hi c).
-            let ends = ends_from_part axes lo hi c is.1 in touches_from_ends axes c lo hi each is.0 ordered ends.0 ends.1,
+            let ends = ends_from_part axes lo hi c is.1 in touches_from_ends axes c lo hi each is.0 ends.0 ends.1 ends.2,
         λ (touch : Touches axes c lo hi).
             let ends = ends_from_touches axes c lo hi each touch in
             let below : c < cells_of axes = omega (arith, cell_below axes touch.0 each touch.1.0, touch.1.1) in
-            (below, part_from_ends axes lo hi c ends.0 ends.1),
+            (below, part_from_ends axes lo hi c (IsAtMost-trans axes lo touch.0 hi touch.2.0 touch.2.1) ends.0 ends.1),
       ))
       box
 
-  pub box_of_inside : IsBoxOf axes (λ c. (c < cells_of axes) × HasShare Whole axes lo hi c) found → IsBoxOf axes (λ c. (c < cells_of axes) × LiesInside axes c lo hi) found
+  pub box_of_inside : IsBoxWith axes (λ c. (c < cells_of axes) × HasShare Whole axes lo hi c) found → IsBoxWith axes (λ c. (c < cells_of axes) × LiesInside axes c lo hi) found
   box_of_inside box = same_box axes (λ c. (c < cells_of axes) × HasShare Whole axes lo hi c) (λ c. (c < cells_of axes) × LiesInside axes c lo hi) found
       (λ c. (
         λ (is : (c < cells_of axes) × HasShare Whole axes lo hi c).

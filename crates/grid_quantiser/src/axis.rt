@@ -91,7 +91,7 @@ impl Axis {
             Share::Part => (before / width, up_to.div_ceil(width)),
             Share::Whole => (before.div_ceil(width), up_to / width),
         };
-        if first < end {
+        if low <= high && first < end {
             Some((first, end - 1))
         } else {
             None

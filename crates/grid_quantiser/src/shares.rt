@@ -1,6 +1,6 @@
 ghost use Rattle.std.specs.Prelude.{◌<◌, ◌^◌, ◌≤◌};
 ghost use Rattle.grid_quantiser.specs.Axes.{cells_of, AreAxes};
-ghost use Rattle.grid_quantiser.specs.Boxes.{IsAtMost, Touches, LiesInside, IsBoxOf};
+ghost use Rattle.grid_quantiser.specs.Boxes.{Touches, LiesInside, IsBoxWith};
 ghost use Rattle.grid_quantiser.specs.inside.Shares.{HasShare};
 
 use crate::axis::{Axis, Share};
@@ -10,8 +10,7 @@ use crate::grid::{Grid, Point};
 impl Grid {
     /// The cells that touch the box from `lo` to `hi`, which may stick out of the domain.
     pub fn touching(&self, lo: &Point, hi: &Point) -> Option<CellBox>
-        requires { IsAtMost self.now lo.now hi.now }
-        ensures { IsBoxOf self.now (λ c. Touches self.now c lo.now hi.now) result }
+        ensures { IsBoxWith self.now (λ c. Touches self.now c lo.now hi.now) result }
     {
         cells_with(self.axes(), lo, hi, Share::Part)
     }
@@ -19,7 +18,7 @@ impl Grid {
     /// The cells that lie with all their points in the box from `lo` to `hi`, which may stick out of
     /// the domain.
     pub fn within(&self, lo: &Point, hi: &Point) -> Option<CellBox>
-        ensures { IsBoxOf self.now (λ c. (c < cells_of self.now) × LiesInside self.now c lo.now hi.now) result }
+        ensures { IsBoxWith self.now (λ c. (c < cells_of self.now) × LiesInside self.now c lo.now hi.now) result }
     {
         cells_with(self.axes(), lo, hi, Share::Whole)
     }
@@ -29,7 +28,7 @@ impl Grid {
 fn cells_with(axes: &[Axis], lo: &Point, hi: &Point, share: Share) -> Option<CellBox>
     requires axes { AreAxes axes.now }
     requires limit { cells_of axes.now ≤ 2 ^ 20 }
-    ensures { IsBoxOf axes.now (λ c. (c < cells_of axes.now) × HasShare share axes.now lo.now hi.now c) result }
+    ensures { IsBoxWith axes.now (λ c. (c < cells_of axes.now) × HasShare share axes.now lo.now hi.now c) result }
 {
     let mut first: u64 = 0;
     let mut last: u64 = 0;

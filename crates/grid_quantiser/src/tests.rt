@@ -201,9 +201,10 @@ fn boxes_on_a_row(rt: HostRuntime) {
         (-7, 4, cells(0, 1), cells(0, 0)),
         (4, 99, cells(1, 4), cells(2, 4)),
         (-7, 99, cells(0, 4), cells(0, 4)),
-        // Outside.
+        // Outside, and empty.
         (-7, -1, None, None),
         (15, 99, None, None),
+        (5, 4, None, None),
     ] {
         let lo = on_row(low);
         let hi = on_row(high);
