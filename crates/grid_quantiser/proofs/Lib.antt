@@ -17,4 +17,5 @@ pub mod RunSteps
 pub mod BoxRuns
 pub mod WheelsMade
 pub mod OwnPlaces
+pub mod ProlongedAxes
 pub mod AxisCounts
