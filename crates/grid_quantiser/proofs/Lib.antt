@@ -17,6 +17,7 @@ pub mod RunSteps
 pub mod BoxRuns
 pub mod WheelsMade
 pub mod OwnPlaces
+pub mod ProlongedAxes
 pub mod AxisCounts
 pub mod BoxShapes
 pub mod ShareNumbers

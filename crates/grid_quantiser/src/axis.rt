@@ -1,4 +1,4 @@
-ghost use Rattle.std.specs.Prelude.{◌≡◌, ◌<◌, ◌≤◌, ◌↔◌, ℕ, ℤ, pos, ◌+ℤ◌, ◌*ℤ◌, ◌≤ℤ◌, ◌<ℤ◌, IsSome, IfSome};
+ghost use Rattle.std.specs.Prelude.{◌≡◌, ◌+◌, ◌<◌, ◌≤◌, ◌↔◌, ℕ, ℤ, pos, ◌+ℤ◌, ◌*ℤ◌, ◌≤ℤ◌, ◌<ℤ◌, IsSome, IfSome};
 
 /// One state of a grid: `count` cells of `width` numbers each, from `lo` on.
 #[derive(Clone, Copy, Debug, PartialEq, Eq)]
@@ -26,7 +26,7 @@ pub(crate) enum Share {
 impl Axis {
     ghost use Rattle.grid_quantiser.specs.Axes.{IsAxis, end_of};
     ghost use Rattle.grid_quantiser.specs.Cells.{radius_of, place_of};
-    ghost use Rattle.grid_quantiser.specs.Sides.{IsOnAxis};
+    ghost use Rattle.grid_quantiser.specs.Sides.{IsOnAxis, prolonged};
     ghost use Rattle.grid_quantiser.specs.inside.Spots.{number_of};
     ghost use Rattle.grid_quantiser.specs.inside.Shares.{HasShareIn, ArePlacesIn};
 
@@ -61,6 +61,21 @@ impl Axis {
             return None;
         }
         Some((x - self.lo) as u64 / self.width as u64)
+    }
+
+    /// The place of a number on the axis prolonged by its own length below.
+    #[inline]
+    pub(crate) fn prolonged_place(&self, x: i128) -> Option<u64>
+        requires { IsAxis self.now }
+        ensures inside { IsSome result ↔ IsOnAxis (prolonged self.now) x }
+        ensures place { IfSome result (λ place. place ≡ place_of (prolonged self.now) x) }
+        ensures below { IfSome result (λ place. place < self.now.count + self.now.count) }
+    {
+        if x < self.lo {
+            let length = self.start(self.count) - self.lo;
+            return self.place(x + length);
+        }
+        Some(self.count + self.place(x)?)
     }
 
     /// A number of a place.

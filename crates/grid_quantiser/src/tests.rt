@@ -177,6 +177,28 @@ fn sides_of_two_states(rt: HostRuntime) {
 }
 
 #[test]
+fn sides_that_move(rt: HostRuntime) {
+    let grid = grid_of(&rt, &PLANE);
+    // -5 and 3 stand at the places 5 and 6 from -60 on, 5 and 13 at 0 and 1 from 0 on; -61 is before
+    // the first place from -60 on.
+    let side = grid.prolonged_side(0, -5, 3);
+    assert_eq!(rt; side, Some(Side { first: 5, last: 6 }));
+    assert_eq!(rt; grid.prolonged_side(0, -61, 3), None);
+    assert_eq!(rt;
+        grid.moved_side(0, side, 1),
+        Some(Side { first: 0, last: 1 })
+    );
+    assert_eq!(rt; grid.moved_side(0, side, 0), None);
+    // 55 and 63, ten further on than 45 and 53, are the last place and one past it.
+    let side = grid.prolonged_side(0, 45, 53);
+    assert_eq!(rt;
+        grid.moved_side(0, side, 0),
+        Some(Side { first: 4, last: 5 })
+    );
+    assert_eq!(rt; grid.moved_side(0, side, 1), None);
+}
+
+#[test]
 fn places_of_a_cell(rt: HostRuntime) {
     let grid = grid_of(&rt, &PLANE);
     assert_eq!(rt; grid.count(0), 6);
