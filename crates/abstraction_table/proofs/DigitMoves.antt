@@ -42,7 +42,7 @@ module _ (from to : Digit → ℕ) where
 
   -- one digit more, above the others
   module _ (digits : List Digit) (bound : ℕ) (d : Digit) (some : 0 < d.count) (top : to d ≡ bound) (positive : All (λ (e : Digit). (0 < e.count) × (0 < to e)) digits) (moves : Moves from to digits bound) where
-    sum_is : (n : ℕ) → moved from to (digits ++ d ∷ []) n ≡ n / from d % d.count * bound + moved from to digits n
+    pub sum_is : (n : ℕ) → moved from to (digits ++ d ∷ []) n ≡ n / from d % d.count * bound + moved from to digits n
     sum_is n =
         sum_by_push (λ (e : Digit). n / from e % e.count * to e) digits d
         ∙ ap (λ (k : ℕ). moved from to digits n + n / from d % d.count * k) top

@@ -1,25 +1,26 @@
 -- The digits of an equation, one by one from the last variable on, and what they say of pairs.
-use Rattle.std.proofs.Common.{◌≡◌, ℕ, ◌+◌, ◌*◌, ◌/◌, ◌%◌, ◌^◌, ◌<◌, ◌≤◌, false, List, [], ◌∷◌, ◌++◌, All, length, drop, get_or, sym, ap, ap₂, subst, ◌∙◌, arith, inl, inr}
+use Rattle.std.proofs.Common.{◌≡◌, ◌⊎◌, ℕ, ◌+◌, ◌*◌, ◌/◌, ◌%◌, ◌^◌, ◌<◌, ◌≤◌, true, false, not, ◌&&◌, eqb, List, [], ◌∷◌, ◌++◌, All, length, drop, get_or, sym, ap, ap₂, subst, ◌∙◌, arith, inl, inr}
 use Rattle.std.specs.Prelude.{IsTrue, sum_by}
-use Rattle.std.proofs.Math.Nat.{mul_comm, add-mul}
+use Rattle.std.proofs.Math.Nat.{mul_comm, add-mul, div-eq_of_lt, zero-mod}
 use Rattle.std.proofs.Math.Seq.{get_or-append_seam}
-use Rattle.std.proofs.lemmas.Bool.{cases_lt, both_ways}
+use Rattle.std.proofs.lemmas.Bool.{cases_lt, cases_Bool, both_ways, not-true, and_parts, and_from, eq-eqb, cond-true, cond-false}
 use Rattle.std.proofs.lemmas.Nat.{mul-le, div_below, mod_below, div-add-mod'}
 use Rattle.std.proofs.lemmas.List.{length-append, get_or_append_left, drop_all}
 use Rattle.std.proofs.lemmas.List.Elements.{All-get_or, All-head, All-tail, All-drop, All-push, All-weaker}
 use Rattle.std.proofs.lemmas.List.Sums.{sum_by-cons}
 use Rattle.fixed_expr.specs.Mentions.{mentions}
 use Rattle.grid_quantiser.specs.Axes.{cells_of}
+use Rattle.grid_quantiser.specs.Places.{place_along}
 use Rattle.plant_text.specs.plant.Description.{Description, axes_of, vectors_of}
 use Rattle.plant_text.specs.plant.Plants.{IsPlant}
 use Rattle.plant_text.specs.plant.Soundness.{IsSound}
 use Rattle.plant_text.specs.plant.Steps.{equation_at}
-use Rattle.successor_box.specs.Sides.{place_in, AreAlikeIn}
+use Rattle.successor_box.specs.Sides.{place_in, moves_along, moved_by, rests_on, AreAlikeIn}
 use Rattle.abstraction_table.specs.declared.digits.Digit.{Digit}
 use Rattle.abstraction_table.specs.Abstraction.{pairs_of, pair_of}
 use Rattle.abstraction_table.specs.inside.Digits.{counts_of, combinations, place_at, pair_at, Moves, IsDigitOf, HasDigit, AreDigitsFrom}
-use Rattle.abstraction_table.proofs.DigitMoves.{moves_none, moves_wider, moves_more}
-use Rattle.abstraction_table.proofs.PairDigits.{some_combinations, fewer, counts_long, all_combinations, some_counts, next_combinations, pair_digit, place_parts}
+use Rattle.abstraction_table.proofs.DigitMoves.{lower_digit, moves_none, moves_wider, moves_more, sum_is}
+use Rattle.abstraction_table.proofs.PairDigits.{some_combinations, factor_from, state_place, fewer, counts_long, all_combinations, some_counts, next_combinations, pair_digit, place_parts}
 
 abbrev in_pair : Digit → ℕ
 in_pair d = d.in_pair
@@ -29,6 +30,10 @@ in_table d = d.in_table
 
 abbrev IsSome : ℕ → Type 0
 IsSome n = 1 ≤ n
+
+-- a number below a digit's weight has none there
+small_digit : (s t m : ℕ) → s < t → s / t % m ≡ 0
+small_digit s t m lt = ap (λ (n : ℕ). n % m) (div-eq_of_lt lt) ∙ zero-mod m
 
 module _ (p : Description) (plant : IsPlant p) (sound : IsSound p) (i : ℕ) where
   abbrev variables : ℕ
@@ -54,6 +59,7 @@ module _ (p : Description) (plant : IsPlant p) (sound : IsSound p) (i : ℕ) whe
   digits_none = record {
     each = λ k d lt. absurd (omega (arith, lt));
     all = λ k past within. absurd (omega (arith, past, within));
+    first = λ moves past place. small_digit 0 (from (i + 1)) (get_or (counts_of p) i 0) (some_from (i + 1));
     packed = moves_none in_pair in_table;
     spread = subst (Moves in_table in_pair []) (sym none_from) (moves_none in_table in_pair);
     some = omega arith;
@@ -77,28 +83,39 @@ module _ (p : Description) (plant : IsPlant p) (sound : IsSound p) (i : ℕ) whe
     next : from k ≡ count * from (k + 1)
     next = next_combinations p k lt
 
-    -- it doesn't stand in the equation
-    pub digits_same : mentions (equation_at p i) k ≡ false → AreDigitsFrom p i k digits places
+    -- no side rests on it
+    pub digits_same : rests_on p i k ≡ false → AreDigitsFrom p i k digits places
     digits_same none = record {
       each = so_far.each;
       all = all;
+      first = first;
       packed = so_far.packed;
       spread = subst (Moves in_table in_pair digits) (sym next) (moves_wider in_table in_pair digits (from (k + 1)) count some_count so_far.spread);
       some = so_far.some;
       few = omega (arith, so_far.few, next, mul-le 1 (from (k + 1)) count (from (k + 1)) some_count (omega arith));
     }
       where
-        all : (j : ℕ) → k ≤ j → j < variables → IsTrue (mentions (equation_at p i) j) → HasDigit digits j
+        all : (j : ℕ) → k ≤ j → j < variables → IsTrue (rests_on p i j) → HasDigit digits j
         all j past within stands =
             elim (cases_lt k j) [
               | inl later ↦ so_far.all j (omega (arith, later)) within stands
               | inr here ↦
                   let at : j ≡ k = omega (arith, past, here) in
-                  absurd (both_ways (mentions (equation_at p i) k) none (ap (mentions (equation_at p i)) (sym at) ∙ stands))
+                  absurd (both_ways (rests_on p i k) none (ap (rests_on p i) (sym at) ∙ stands))
             ]
 
-    -- it stands in the equation
-    module _ (d : Digit) (variable : d.variable ≡ k) (count_is : d.count ≡ count) (pair_is : d.in_pair ≡ from (k + 1)) (table_is : d.in_table ≡ places) where
+        -- the state itself is below the digits so far, and so has the first place
+        first : IsTrue (moves_along p i) → k ≤ i → (place : ℕ) → pair_at digits place / from (i + 1) % get_or (counts_of p) i 0 ≡ 0
+        first moves past place =
+            elim (cases_lt k i) [
+              | inl later ↦ so_far.first moves (omega (arith, later)) place
+              | inr here ↦
+                  let at : k + 1 ≡ i + 1 = omega (arith, past, here) in
+                  small_digit (pair_at digits place) (from (i + 1)) (get_or (counts_of p) i 0) (omega (arith, so_far.spread.below place, ap from at))
+            ]
+
+    -- sides rest on it
+    module _ (rests : rests_on p i k ≡ true) (state : i < variables) (d : Digit) (variable : d.variable ≡ k) (count_is : d.count ≡ count) (pair_is : d.in_pair ≡ from (k + 1)) (table_is : d.in_table ≡ places) where
       is_digit : IsDigitOf p d
       is_digit = record {
         variable = omega (arith, lt, variable);
@@ -117,11 +134,34 @@ module _ (p : Description) (plant : IsPlant p) (sound : IsSound p) (i : ℕ) whe
       added : HasDigit (digits ++ d ∷ []) k
       added = (length digits, omega (arith, length-append digits (d ∷ [])), λ z. ap (λ (e : Digit). e.variable) (get_or-append_seam digits d [] z) ∙ variable)
 
-      all_more : (j : ℕ) → k ≤ j → j < variables → IsTrue (mentions (equation_at p i) j) → HasDigit (digits ++ d ∷ []) j
+      all_more : (j : ℕ) → k ≤ j → j < variables → IsTrue (rests_on p i j) → HasDigit (digits ++ d ∷ []) j
       all_more j past within stands =
           elim (cases_lt k j) [
             | inl later ↦ kept j (so_far.all j (omega (arith, later)) within stands)
             | inr here ↦ let at : k ≡ j = omega (arith, past, here) in subst (HasDigit (digits ++ d ∷ [])) at added
+          ]
+
+      -- it isn't the state itself where the sides move with that
+      other : IsTrue (moves_along p i) → k ≡ i → ⊥
+      other moves is =
+          let apart = not-true (moves_along p i && eqb k i) (and_parts (mentions (equation_at p i) k) (not (moves_along p i && eqb k i)) rests).1 in
+          both_ways (moves_along p i && eqb k i) apart (and_from (moves_along p i) (eqb k i) moves (eq-eqb k i is))
+
+      first_more : IsTrue (moves_along p i) → k ≤ i → (place : ℕ) → pair_at (digits ++ d ∷ []) place / from (i + 1) % get_or (counts_of p) i 0 ≡ 0
+      first_more moves past place =
+          elim (cases_lt k i) [
+            | inl later ↦
+                let c : ℕ = get_or (counts_of p) i 0 in
+                let t : ℕ = from (i + 1) in
+                let q : ℕ = place / in_table d % d.count in
+                let s : ℕ = pair_at digits place in
+                let within : i < length (counts_of p) = omega (arith, state, counts_long p) in
+                let f = factor_from (counts_of p) (k + 1) i (omega (arith, later)) within in
+                let some_c : 0 < c = All-get_or IsSome (counts_of p) i 0 within (some_counts p plant sound) in
+                ap (λ (n : ℕ). n / t % c) (sum_is in_table in_pair digits (from (k + 1)) d some_here pair_is (pair_weights digits so_far.each) so_far.spread place ∙ ap (λ (n : ℕ). q * n + s) f.1)
+                ∙ lower_digit q f.0 c t s some_c (some_from (i + 1))
+                ∙ so_far.first moves (omega (arith, later)) place
+            | inr here ↦ absurd (other moves (omega (arith, past, here)))
           ]
 
       packed_is : d.count * places ≡ places * count
@@ -134,6 +174,7 @@ module _ (p : Description) (plant : IsPlant p) (sound : IsSound p) (i : ℕ) whe
       digits_more = record {
         each = All-push (IsDigitOf p) digits d so_far.each is_digit;
         all = all_more;
+        first = first_more;
         packed = subst (Moves in_pair in_table (digits ++ d ∷ [])) packed_is (moves_more in_pair in_table digits places d some_here table_is (table_weights digits so_far.each) so_far.packed);
         spread = subst (Moves in_table in_pair (digits ++ d ∷ [])) spread_is (moves_more in_table in_pair digits (from (k + 1)) d some_here pair_is (pair_weights digits so_far.each) so_far.spread);
         some = mul-le 1 1 places count so_far.some some_count;
@@ -156,6 +197,24 @@ module _ (p : Description) (plant : IsPlant p) (sound : IsSound p) (i : ℕ) whe
 
     pub cell_below : 1 ≤ vectors → (place : ℕ) → pair_at digits place / vectors < cells_of (axes_of p)
     cell_below some place = div_below (pair_at digits place) vectors (cells_of (axes_of p)) some (pair_below place)
+
+    -- the pair of a place is at the first place of the state itself, where the sides move with that
+    pub first_place : i < length p.states → 1 ≤ vectors → (place : ℕ) → moved_by p i (pair_at digits place / vectors) ≡ 0
+    first_place state some place = at (cases_Bool (moves_along p i))
+      where
+        pair : ℕ
+        pair = pair_at digits place
+
+        own : IsTrue (moves_along p i) → place_along (axes_of p) i (pair / vectors) ≡ 0
+        own moves =
+            state_place p (pair / vectors) (pair % vectors) i state
+            ∙ sym (pair_digit p plant sound (pair / vectors) (pair % vectors) i (mod_below pair vectors some) (omega (arith, state)))
+            ∙ ap (λ (n : ℕ). n / from (i + 1) % get_or (counts_of p) i 0) (div-add-mod' pair vectors)
+            ∙ are.first moves (omega arith) place
+
+        at : (moves_along p i ≡ true) ⊎ (moves_along p i ≡ false) → moved_by p i (pair / vectors) ≡ 0
+        at (inl moves) = cond-true (moves_along p i) (place_along (axes_of p) i (pair / vectors)) 0 moves ∙ own moves
+        at (inr fixed) = cond-false (moves_along p i) (place_along (axes_of p) i (pair / vectors)) 0 fixed
 
     -- the pair of a place is alike to each that has the place
     module _ (c u : ℕ) (input : u < vectors) where

@@ -4,7 +4,7 @@ use Rattle.std.proofs.Math.Nat.{mul_assoc, mul_comm, div-div-eq-div-mul, zero-di
 use Rattle.std.proofs.Math.Seq.{drop-append-add}
 use Rattle.std.proofs.lemmas.Bool.{cases_lt, cond_below, cond_above}
 use Rattle.std.proofs.lemmas.Nat.{div-mul-add, mul-le}
-use Rattle.std.proofs.lemmas.List.{length-append, length-map, get_or-map, get_or_append_left, get_or-append_right, drop-append-le, drop-map, drop_more}
+use Rattle.std.proofs.lemmas.List.{length-append, length-drop, get_or-drop, drop-drop, length-map, get_or-map, get_or_append_left, get_or-append_right, drop-append-le, drop-map, drop_more}
 use Rattle.std.proofs.lemmas.List.Elements.{All-head, All-tail, All-append, All-map, All-weaker, All-drop, All-get_or}
 use Rattle.grid_quantiser.specs.declared.axis.Axis.{Axis}
 use Rattle.grid_quantiser.specs.Axes.{IsAxis, no_axis, cells_of}
@@ -56,6 +56,16 @@ factor (n ∷ ns) (suc j) lt =
           ∙ sym (mul_assoc n f.0 (get_or ns j 0 * combinations (drop (j + 1) ns)))
           ∙ ap (λ (k : ℕ). n * f.0 * (get_or ns j 0 * combinations (drop k (n ∷ ns)))) (sym next),
     )
+
+-- so do those from one digit on
+pub factor_from : (ns : List ℕ) (m j : ℕ) → m ≤ j → j < length ns → (g : ℕ) × (combinations (drop m ns) ≡ g * (get_or ns j 0 * combinations (drop (j + 1) ns)))
+factor_from ns m j le lt =
+    let f = factor (drop m ns) (j - m) (omega (arith, le, lt, length-drop m ns)) in
+    let there : m + (j - m) ≡ j = omega (arith, le) in
+    let next : m + (j - m + 1) ≡ j + 1 = omega (arith, le) in
+    let count : get_or (drop m ns) (j - m) 0 ≡ get_or ns j 0 = get_or-drop m ns (j - m) 0 ∙ ap (λ (i : ℕ). get_or ns i 0) there in
+    let later : drop (j - m + 1) (drop m ns) ≡ drop (j + 1) ns = drop-drop (j - m + 1) m ns ∙ ap (λ (i : ℕ). drop i ns) next in
+    (f.0, f.1 ∙ ap₂ (λ (c : ℕ) (l : List ℕ). f.0 * (c * combinations l)) count later)
 
 -- ---- the counts of a plant
 

@@ -1,16 +1,17 @@
 -- Tables of the sides of all boxes.
-use Rattle.std.proofs.Common.{◌≡◌, ℕ, ◌+◌, ◌*◌, ◌/◌, ◌%◌, ◌^◌, ◌<◌, ◌≤◌, ◌-◌, List, [], ◌∷◌, ◌++◌, All, None, length, get_or, refl, sym, ap, subst, ◌∙◌, arith, inl, inr}
+use Rattle.std.proofs.Common.{◌≡◌, ℕ, ◌+◌, ◌*◌, ◌/◌, ◌%◌, ◌^◌, ◌<◌, ◌≤◌, ◌-◌, List, [], ◌∷◌, ◌++◌, All, None, drop, length, get_or, refl, sym, ap, subst, ◌∙◌, arith, inl, inr}
 use Rattle.std.specs.Prelude.{sum_by}
-use Rattle.std.proofs.lemmas.Bool.{cases_lt}
-use Rattle.std.proofs.lemmas.List.{get_or_append_left, get_or-append_right}
-use Rattle.std.proofs.lemmas.List.Elements.{All-head, All-tail}
+use Rattle.std.proofs.lemmas.Bool.{cases_lt, cond_both}
+use Rattle.std.proofs.lemmas.List.{length-map, get_or_append_left, get_or-append_right}
+use Rattle.std.proofs.lemmas.List.Elements.{All-get_or, All-head, All-tail}
 use Rattle.std.proofs.lemmas.List.Sums.{sum_by-cons}
 use Rattle.std.proofs.lemmas.Nat.{mod_below}
-use Rattle.grid_quantiser.specs.Axes.{cells_of}
-use Rattle.plant_text.specs.plant.Description.{Description, axes_of, vectors_of}
+use Rattle.grid_quantiser.specs.Axes.{IsAxis, no_axis, cells_of}
+use Rattle.grid_quantiser.specs.Places.{place_along}
+use Rattle.plant_text.specs.plant.Description.{Description, axis_of, axes_of, vectors_of}
 use Rattle.plant_text.specs.plant.Plants.{IsPlant}
 use Rattle.plant_text.specs.plant.Soundness.{IsSound}
-use Rattle.successor_box.specs.Sides.{IsSideAt, place_in}
+use Rattle.successor_box.specs.Sides.{place_in, moves_along, moved_by, IsSideBeforeAt}
 use Rattle.successor_box.specs.Laws.{SidesRestOnPlaces}
 use Rattle.abstraction_table.specs.declared.digits.Digit.{Digit}
 use Rattle.abstraction_table.specs.declared.sides.SideTable.{SideTable}
@@ -34,7 +35,7 @@ tables_more p tables n t long each here i d lt =
 -- what was found for each place is a table of all sides
 module _ (rest : SidesRestOnPlaces) (p : Description) (plant : IsPlant p) (sound : IsSound p) (limit : pairs_of p ≤ 2 ^ 22) (i : ℕ) (lt : i < length p.equations) (t : SideTable) (places : ℕ) (are : AreDigitsFrom p i 0 t.digits.items places)
     (inputs_long : length t.inputs.items ≡ vectors_of p.inputs) (inputs_are : (u : ℕ) → u < vectors_of p.inputs → get_or t.inputs.items u 0 ≡ place_at t.digits.items u)
-    (sides_long : length t.sides.items ≡ places) (sides_are : (place : ℕ) → place < places → IsSideFor p i t.digits.items place (get_or t.sides.items place None)) where
+    (moves : t.moves ≡ moves_along p i) (sides_long : length t.sides.items ≡ places) (sides_are : (place : ℕ) → place < places → IsSideFor p i t.digits.items place (get_or t.sides.items place None)) where
   place_of_pair : (c u : ℕ) → u < vectors_of p.inputs → first_of p t c + get_or t.inputs.items u 0 ≡ place_at t.digits.items (pair_of p c u)
   place_of_pair c u input = ap (λ (n : ℕ). first_of p t c + n) (inputs_are u input) ∙ sym (place_is p plant sound i t.digits.items places are c u input)
 
@@ -44,14 +45,14 @@ module _ (rest : SidesRestOnPlaces) (p : Description) (plant : IsPlant p) (sound
     within = omega (arith, place_of_pair c u input, place_below p plant sound i t.digits.items places are (pair_of p c u), sides_long);
   }
 
-  side_of_pair : (c u : ℕ) → c < cells_of (axes_of p) → u < vectors_of p.inputs → IsSideAt p c u i (side_in t (first_of p t c) u)
+  side_of_pair : (c u : ℕ) → c < cells_of (axes_of p) → u < vectors_of p.inputs → IsSideBeforeAt p c u i (moved_by p i c) (side_in t (first_of p t c) u)
   side_of_pair c u cell input =
       let v : ℕ = vectors_of p.inputs in
       let some : 0 < v = omega (arith, input) in
       let place : ℕ = place_at t.digits.items (pair_of p c u) in
       let pair : ℕ = pair_at t.digits.items place in
       let found = sides_are place (place_below p plant sound i t.digits.items places are (pair_of p c u)) in
-      subst (λ (n : ℕ). IsSideAt p c u i (get_or t.sides.items n None)) (sym (place_of_pair c u input))
+      subst (λ (n : ℕ). IsSideBeforeAt p c u i (moved_by p i c) (get_or t.sides.items n None)) (sym (place_of_pair c u input))
       (rest p i c u (pair / v) (pair % v) (get_or t.sides.items place None) sound lt cell input (cell_below p plant sound i t.digits.items places are some place) (mod_below pair v some)
       (alike p plant sound i t.digits.items places are c u input) found)
 
@@ -59,9 +60,18 @@ module _ (rest : SidesRestOnPlaces) (p : Description) (plant : IsPlant p) (sound
   table_of = record {
     digits = are.each;
     few = omega (arith, limit, sides_long, few_places p plant sound i t.digits.items places are);
+    moves = moves;
     place = λ c u cell input. has_place c u input;
     side = side_of_pair;
   }
+
+-- a cell moves a side along by less than the axis is long
+pub moved_below : (p : Description) → IsSound p → (i c : ℕ) → i < length p.equations → moved_by p i c < (get_or (axes_of p) i no_axis).count
+moved_below p sound i c lt =
+    let count : ℕ = (get_or (axes_of p) i no_axis).count in
+    let within : i < length (axes_of p) = omega (arith, lt, sound.one_each, length-map p.states axis_of) in
+    let some : 0 < count = (All-get_or IsAxis (axes_of p) i no_axis within sound.axes.each).some_cell in
+    cond_both (moves_along p i) (place_along (axes_of p) i c) 0 (λ (n : ℕ). n < count) (λ moves. mod_below (c / cells_of (drop (i + 1) (axes_of p))) count some) (λ fixed. some)
 
 -- what the places of a cell bring is what the cell brings
 pub first_is : (p : Description) (t : SideTable) (c : ℕ) (places : List ℕ) → All (IsDigitOf p) t.digits.items → ArePlacesOf p c places → first_in t places ≡ first_of p t c

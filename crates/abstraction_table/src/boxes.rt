@@ -5,16 +5,16 @@ ghost use Rattle.plant_text.specs.plant.Description.{axes_of, vectors_of};
 ghost use Rattle.successor_box.specs.Boxes.{IsBoxOf};
 ghost use Rattle.successor_box.specs.Deviations.{HasNoOverflow, deviations_of};
 ghost use Rattle.abstraction_table.specs.Abstraction.{AreBoxesOf};
-ghost use Rattle.abstraction_table.specs.inside.Sides.{ArePlacesOf, AreFirstsOf, HoldSides};
+ghost use Rattle.abstraction_table.specs.inside.Sides.{ArePlacesOf, AreSharesOf, HoldSides};
 
 use crate::sides::{SideTable, find_tables};
 use grid_quantiser::CellBox;
 use plant_text::Plant;
-use plant_text::laws::every_plant_is_within_limits;
+use plant_text::laws::{every_plant_is_within_limits, plants_are_sound};
 use rayon::prelude::*;
 use std::alloc::{AllocError, Global};
 use std::thread::Threads;
-use successor_box::{Slopes, box_of_sides};
+use successor_box::{Slopes, box_of_sides, moved_side};
 
 /// The box of each pair of a cell and an input. The sides along each axis are found first, once for
 /// all pairs that share one.
@@ -53,6 +53,13 @@ pub(crate) fn find_boxes<R: Threads + Sync>(
     Ok(boxes)
 }
 
+/// What a cell brings to each table: to the place of its sides, and how many places it moves them.
+#[derive(Drop)]
+struct Shares {
+    firsts: [u32; 6],
+    moves: [u32; 6],
+}
+
 /// The boxes of a cell, one for each input.
 fn boxes_of_cell(p: &Plant, tables: &[SideTable], c: u32, boxes: &mut [Option<CellBox>])
     requires tables { HoldSides p.now tables.now }
@@ -61,42 +68,47 @@ fn boxes_of_cell(p: &Plant, tables: &[SideTable], c: u32, boxes: &mut [Option<Ce
     ensures long { length boxes.new ≡ length boxes.old }
     ensures each { (u : ℕ) → u < length boxes.old → IsBoxOf p.now c u (slice_index_or boxes.new u None) }
 {
-    let firsts = firsts_of(p, tables, c);
+    let shares = shares_of(p, tables, c);
     for input in 0..p.vectors() {
-        boxes[input as usize] = box_at(p, tables, &firsts, input);
+        boxes[input as usize] = box_at(p, tables, &shares, input);
     }
 }
 
 /// The box of a cell that brings so much to each table, under an input.
 #[inline]
-fn box_at(p: &Plant, tables: &[SideTable], firsts: &[u32; 6], input: u32) -> Option<CellBox>
+fn box_at(p: &Plant, tables: &[SideTable], shares: &Shares, input: u32) -> Option<CellBox>
     requires tables { HoldSides p.now tables.now }
-    requires cell { (c : ℕ) × (c < cells_of (axes_of p.now)) × AreFirstsOf p.now tables.now c firsts.now }
+    requires cell { (c : ℕ) × (c < cells_of (axes_of p.now)) × AreSharesOf p.now tables.now c shares.now }
     requires input { input < vectors_of p.now.inputs }
-    ensures { (c : ℕ) → c < cells_of (axes_of p.now) → AreFirstsOf p.now tables.now c firsts.now → IsBoxOf p.now c input result }
+    ensures { (c : ℕ) → c < cells_of (axes_of p.now) → AreSharesOf p.now tables.now c shares.now → IsBoxOf p.now c input result }
 {
     every_plant_is_within_limits(p);
+    plants_are_sound();
     let mut sides = [None; 6];
     for state in 0..tables.len() {
-        sides[state] = tables[state].side(firsts[state], input);
+        let side = tables[state].side(shares.firsts[state], input);
+        sides[state] = moved_side(p, state as u32, side, shares.moves[state]);
     }
     box_of_sides(p, &sides)
 }
 
-/// What a cell brings to the places of its sides, table by table.
+/// What a cell brings to the tables.
 #[inline]
-fn firsts_of(p: &Plant, tables: &[SideTable], c: u32) -> [u32; 6]
+fn shares_of(p: &Plant, tables: &[SideTable], c: u32) -> Shares
     requires tables { HoldSides p.now tables.now }
     requires cell { c < cells_of (axes_of p.now) }
-    ensures { AreFirstsOf p.now tables.now c result }
+    ensures { AreSharesOf p.now tables.now c result }
 {
     every_plant_is_within_limits(p);
+    plants_are_sound();
     let places = places_of(p, c);
     let mut firsts = [0; 6];
+    let mut moves = [0; 6];
     for state in 0..tables.len() {
         firsts[state] = tables[state].first(&places);
+        moves[state] = tables[state].moved_by(places[state]);
     }
-    firsts
+    Shares { firsts, moves }
 }
 
 /// The places of a cell along the axes, and 0 for each input variable.

@@ -1,6 +1,7 @@
 //! The digits of a pair on which the sides along a state's axis rest.
 ghost use Rattle.std.specs.Prelude.{◌≡◌, ◌+◌, ◌^◌, ◌<◌, length, slice_index, IfOk};
 ghost use Rattle.std.specs.List.{All};
+ghost use Rattle.successor_box.specs.Sides.{rests_on};
 ghost use Rattle.abstraction_table.specs.inside.Digits.{AreDigitsFrom, IsDigitOf, counts_of, pair_at, place_at};
 
 use plant_text::Plant;
@@ -24,20 +25,19 @@ pub(crate) struct Digits {
     pub(crate) places: u32,
 }
 
-/// The digits of a state's equation: one for each variable in it but the noises, the last one first.
+/// The digits of a state's equation: one for each variable in it on which sides rest, the last one first.
 pub(crate) fn find_digits(alloc: Global, p: &Plant, state: u32) -> Result<Digits, AllocError>
     requires { state < length p.now.equations }
     ensures { IfOk result (λ digits. AreDigitsFrom p.now state 0 digits.each.items digits.places) }
 {
     every_plant_is_within_limits(p);
     plants_are_sound();
-    let equation = p.equation(state);
     let mut each = Vec::new(alloc);
     let mut in_pair = 1;
     let mut in_table = 1;
     for variable in (0..p.states() + p.input_variables()).rev() {
         let count = count_of(p, variable);
-        if equation.mentions(variable) {
+        if has_digit(p, state, variable) {
             each.push(Digit {
                 variable,
                 count,
@@ -52,6 +52,16 @@ pub(crate) fn find_digits(alloc: Global, p: &Plant, state: u32) -> Result<Digits
         each,
         places: in_table,
     })
+}
+
+/// Whether the sides along a state's axis rest on a variable: it stands in the state's equation, and isn't
+/// the state itself where the sides only move with that.
+fn has_digit(p: &Plant, state: u32, variable: u32) -> bool
+    requires { state < length p.now.equations }
+    ensures { result ≡ rests_on p.now state variable }
+{
+    let equation = p.equation(state);
+    equation.mentions(variable) && !(equation.moves_with(state) && variable == state)
 }
 
 /// How many places a state has, or how many values an input variable.

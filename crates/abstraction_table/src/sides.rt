@@ -1,5 +1,5 @@
 //! The sides of all boxes, state by state.
-ghost use Rattle.std.specs.Prelude.{◌≡◌, ℕ, ◌+◌, ◌*◌, ◌/◌, ◌%◌, ◌^◌, ◌≤◌, ◌<◌, length, slice_index_or, None, IfOk};
+ghost use Rattle.std.specs.Prelude.{◌≡◌, ℕ, ◌+◌, ◌*◌, ◌/◌, ◌%◌, ◌^◌, ◌≤◌, ◌<◌, length, slice_index_or, None, if◌then◌else◌, IfOk};
 ghost use Rattle.std.specs.List.{All};
 ghost use Rattle.grid_quantiser.specs.Axes.{cells_of};
 ghost use Rattle.plant_text.specs.plant.Description.{axes_of, vectors_of};
@@ -15,15 +15,17 @@ use rayon::prelude::*;
 use std::alloc::{AllocError, Global};
 use std::thread::Threads;
 use successor_box::laws::sides_rest_on_places;
-use successor_box::{Slopes, side};
+use successor_box::{Slopes, prolonged_side};
 
 /// The sides along the axis of a state: one for each combination of the places in the variables of the
-/// state's equation, since those of all pairs rest on these.
+/// state's equation, since those of all pairs rest on these. Where the equation moves with the state itself,
+/// the sides are those at its first place, and move with the cell's own.
 #[derive(Drop)]
 pub(crate) struct SideTable {
     pub(crate) digits: Vec<Digit>,
     pub(crate) inputs: Vec<u32>,
     pub(crate) sides: Vec<Option<Side>>,
+    pub(crate) moves: bool,
 }
 
 impl SideTable {
@@ -39,6 +41,14 @@ impl SideTable {
             first += places[d.variable as usize] * d.in_table;
         }
         first
+    }
+
+    /// How many places a cell moves the sides, by its own place along the axis.
+    #[inline]
+    pub(crate) fn moved_by(&self, place: u32) -> u32
+        ensures { result ≡ (if self.now.moves then place else 0) }
+    {
+        if self.moves { place } else { 0 }
     }
 
     /// The side of the box of a cell that brings `first`, under an input.
@@ -93,6 +103,7 @@ fn find_table<R: Threads + Sync>(
         digits: digits.each,
         inputs,
         sides,
+        moves: p.equation(state).moves_with(state),
     })
 }
 
@@ -154,7 +165,7 @@ fn find_sides<R: Threads + Sync>(
     Ok(sides)
 }
 
-/// The side of the pair that has the digits of a place.
+/// The side of the pair that has the digits of a place, from which the others' are moved.
 fn side_at(p: &Plant, s: &Slopes, state: u32, digits: &Digits, place: u32) -> Option<Side>
     requires slopes { s.now ≡ deviations_of p.now }
     requires fits { HasNoOverflow p.now }
@@ -167,5 +178,5 @@ fn side_at(p: &Plant, s: &Slopes, state: u32, digits: &Digits, place: u32) -> Op
     plants_are_sound();
     let pair = pair_of(&digits.each, place);
     let inputs = p.vectors();
-    side(p, s, pair / inputs, pair % inputs, state)
+    prolonged_side(p, s, pair / inputs, pair % inputs, state)
 }

@@ -78,6 +78,34 @@ fn plane(rt: HostRuntime) -> Result<(), Fail> {
     Ok(())
 }
 
+/// Six by three cells of one point. The box of (x, y) is the point (x + y, u - y): its side along the first axis
+/// moves with x, and the one along the second doesn't move with y.
+const SWING: &[u8] =
+    b"plant 1\nstate x 0 5 1\nstate y -1 1 1\ninput u 0 1\nnext x = x + y\nnext y = u - y\ngoal keep\nend\n";
+
+#[test]
+fn swing(rt: HostRuntime) -> Result<(), Fail> {
+    let plant = read_plant(rt.alloc(), SWING)?;
+    let slopes = find_slopes(rt.alloc(), &plant)?;
+    let game = build(&rt, rt.alloc(), &plant, &slopes)?;
+    // (2, 1) is cell 2 * 3 + 2. Under 0 it goes to (3, -1), and under 1 to (3, 0).
+    assert_eq!(rt; game.boxes(16), Some(CellBox { first: 9, last: 9 }));
+    assert_eq!(rt;
+        game.boxes(17),
+        Some(CellBox {
+            first: 10,
+            last: 10
+        })
+    );
+    // (1, -1) is cell 3. Under 0 it goes to (0, 1), and under 1 to (0, 2), outside.
+    assert_eq!(rt; game.boxes(6), Some(CellBox { first: 2, last: 2 }));
+    assert_eq!(rt; game.boxes(7), None);
+    // (0, -1) goes to -1 along x, and (5, 1) to 6.
+    assert_eq!(rt; game.boxes(0), None);
+    assert_eq!(rt; game.boxes(34), None);
+    Ok(())
+}
+
 // How many successors all pairs have.
 fn edges(game: &Abstraction) -> u32 {
     let mut edges: u32 = 0;

@@ -4,7 +4,8 @@ use Rattle.std.specs.List.{All}
 use Rattle.grid_quantiser.specs.declared.sides.Side.{Side}
 use Rattle.grid_quantiser.specs.Axes.{cells_of}
 use Rattle.plant_text.specs.plant.Description.{Description, axes_of, vectors_of}
-use Rattle.successor_box.specs.Sides.{IsSideAt, place_in}
+use Rattle.successor_box.specs.Sides.{place_in, moves_along, moved_by, IsSideBeforeAt}
+use Rattle.abstraction_table.specs.declared.boxes.Shares.{Shares}
 use Rattle.abstraction_table.specs.declared.digits.Digit.{Digit}
 use Rattle.abstraction_table.specs.declared.sides.SideTable.{SideTable}
 use Rattle.abstraction_table.specs.inside.Digits.{IsDigitOf, pair_at}
@@ -30,22 +31,25 @@ pub record HasPlaceFor (t : SideTable) (first u : ℕ) : Type 0 where
   pub input : u < length t.inputs.items
   pub within : first + slice_index t.inputs.items u < length t.sides.items
 
--- A table holds the sides of all pairs along the axis of a state.
+-- A table holds the sides of all pairs along the axis of a state, as many places before as their cells move them.
 pub record HoldsSidesAlong (p : Description) (i : ℕ) (t : SideTable) : Type 0 where
   pub digits : All (IsDigitOf p) t.digits.items
   pub few : length t.sides.items ≤ 2 ^ 22
+  pub moves : t.moves ≡ moves_along p i
   pub place : (c u : ℕ) → c < cells_of (axes_of p) → u < vectors_of p.inputs → HasPlaceFor t (first_of p t c) u
-  pub side : (c u : ℕ) → c < cells_of (axes_of p) → u < vectors_of p.inputs → IsSideAt p c u i (side_in t (first_of p t c) u)
+  pub side : (c u : ℕ) → c < cells_of (axes_of p) → u < vectors_of p.inputs → IsSideBeforeAt p c u i (moved_by p i c) (side_in t (first_of p t c) u)
 
 -- Tables hold the sides of all pairs along all axes.
 pub record HoldSides (p : Description) (tables : List SideTable) : Type 0 where
   pub one_each : length tables ≡ length p.equations
   pub each : (i : ℕ) (d : SideTable) → i < length p.equations → HoldsSidesAlong p i (slice_index_or tables i d)
 
--- what a cell brings to each table
-abbrev pub AreFirstsOf : Description → List SideTable → ℕ → List ℕ → Type 0
-AreFirstsOf p tables c firsts = (i : ℕ) (d : SideTable) → i < length tables → slice_index firsts i ≡ first_of p (slice_index_or tables i d) c
+-- What a cell brings to each table.
+pub record AreSharesOf (p : Description) (tables : List SideTable) (c : ℕ) (shares : Shares) : Type 0 where
+  pub firsts : (i : ℕ) (d : SideTable) → i < length tables → slice_index shares.firsts i ≡ first_of p (slice_index_or tables i d) c
+  pub moves : (i : ℕ) → i < length tables → slice_index shares.moves i ≡ moved_by p i c
 
--- the side of the pair that has the digits of a place
+-- the side of the pair that has the digits of a place, as many places before as its cell moves it
 abbrev pub IsSideFor : Description → ℕ → List Digit → ℕ → Option Side → Type 0
-IsSideFor p i digits place side = IsSideAt p (pair_at digits place / vectors_of p.inputs) (pair_at digits place % vectors_of p.inputs) i side
+IsSideFor p i digits place side =
+    IsSideBeforeAt p (pair_at digits place / vectors_of p.inputs) (pair_at digits place % vectors_of p.inputs) i (moved_by p i (pair_at digits place / vectors_of p.inputs)) side

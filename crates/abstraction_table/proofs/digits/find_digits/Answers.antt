@@ -1,17 +1,12 @@
 use Rattle.std.proofs.Common.{◌≡◌, ◌<◌, ◌≤◌, ◌+◌, ◌-◌, ◌*◌, ℕ, List, [], ◌∷◌, ◌++◌, length, drop, get_or, refl, sym, ap, ap₂, subst, subst₂, ◌∙◌, arith}
-use Rattle.std.specs.Prelude.{pos}
 use Rattle.std.specs.Global.{Vec}
 use Rattle.std.proofs.Math.Nat.{mul_comm}
-use Rattle.std.proofs.lemmas.Option.{get_or_from_slice_get}
-use Rattle.fixed_expr.specs.Expression.{Expression, Number, expression_of}
-use Rattle.fixed_expr.specs.Mentions.{mentions}
-use Rattle.plant_text.specs.plant.Steps.{equation_at}
 use Rattle.abstraction_table.specs.declared.digits.Digit.{Digit}
 use Rattle.abstraction_table.specs.inside.Digits.{counts_of, combinations, AreDigitsFrom}
 use Rattle.abstraction_table.proofs.PairDigits.{next_combinations}
 use Rattle.abstraction_table.proofs.EquationDigits.{none_from, digits_none, few_more, digits_same, digits_more}
 use Rattle.abstraction_table.proofs.digits.find_digits.Goals as goal
-use Rattle.abstraction_table.proofs.digits.find_digits.Goals.{then-mentions+in_ok-push, else-mentions}
+use Rattle.abstraction_table.proofs.digits.find_digits.Goals.{then-has_digit+in_ok-push, else-has_digit}
 
 pub loop-variable-init : goal.loop-variable-init
 loop-variable-init c =
@@ -62,20 +57,19 @@ loop-variable-preserved c =
     let lt : k < length p.states + length p.inputs = omega (arith, c.loop-variable-test.true, c.loop-variable.auto.variable, c.states.ensures, c.input_variables.ensures) in
     let so_far = subst (λ (n : ℕ). AreDigitsFrom p i n digits places) back c.loop-variable.invariant.so_far in
     let weight : c.loop-variable.in_pair ≡ combinations (drop (k + 1) (counts_of p)) = c.loop-variable.invariant.pairs ∙ ap (λ (n : ℕ). combinations (drop n (counts_of p))) back in
-    let equation-is : equation_at p i ≡ expression_of c.equation-equation.result.now = get_or_from_slice_get p.equations i (expression_of c.equation-equation.result.now) (Number (pos 0)) c.equation-equation.ensures in
-    let mention : mentions (equation_at p i) k ≡ c.mentions.result = ap (λ (e : Expression). mentions e k) equation-is ∙ sym c.mentions.ensures in
+    let state : i < length p.states + length p.inputs = omega (arith, c.requires, sound.one_each) in
     let d : Digit = record { variable = k; count = c.count_of-count.result; in_pair = c.loop-variable.in_pair; in_table = places } in
     record {
       pairs = ap₂ (λ (m n : ℕ). m * n) weight c.count_of-count.ensures ∙ mul_comm (combinations (drop (k + 1) (counts_of p))) (get_or (counts_of p) k 0) ∙ sym (next_combinations p k lt);
-      so_far = elim c.if-mentions.branch [
-            | then-mentions+in_ok-push w ↦
-                let items : c.if-mentions.each.items ≡ digits ++ d ∷ [] = ap (λ (each : Vec Digit). each.items) w.each-is ∙ w.in_ok-push.ensures.items in
-                let table : c.if-mentions.in_table ≡ places * get_or (counts_of p) k 0 = w.in_table-is ∙ ap (λ (n : ℕ). places * n) c.count_of-count.ensures in
-                subst₂ (λ (ds : List Digit) (n : ℕ). AreDigitsFrom p i k ds n) (sym items) (sym table) (digits_more p plant sound i k places digits lt so_far d refl c.count_of-count.ensures weight refl)
-            | else-mentions w ↦
-                let items : c.if-mentions.each.items ≡ digits = ap (λ (each : Vec Digit). each.items) w.each-is in
-                subst₂ (λ (ds : List Digit) (n : ℕ). AreDigitsFrom p i k ds n) (sym items) (sym w.in_table-is) (digits_same p plant sound i k places digits lt so_far (mention ∙ w.if-mentions.false))
-          ];
+      so_far = elim c.if-has_digit.branch [
+        | then-has_digit+in_ok-push w ↦
+            let items : c.if-has_digit.each.items ≡ digits ++ d ∷ [] = ap (λ (each : Vec Digit). each.items) w.each-is ∙ w.in_ok-push.ensures.items in
+            let table : c.if-has_digit.in_table ≡ places * get_or (counts_of p) k 0 = w.in_table-is ∙ ap (λ (n : ℕ). places * n) c.count_of-count.ensures in
+            subst₂ (λ (ds : List Digit) (n : ℕ). AreDigitsFrom p i k ds n) (sym items) (sym table) (digits_more p plant sound i k places digits lt so_far (sym c.has_digit.ensures ∙ w.if-has_digit.true) state d refl c.count_of-count.ensures weight refl)
+        | else-has_digit w ↦
+            let items : c.if-has_digit.each.items ≡ digits = ap (λ (each : Vec Digit). each.items) w.each-is in
+            subst₂ (λ (ds : List Digit) (n : ℕ). AreDigitsFrom p i k ds n) (sym items) (sym w.in_table-is) (digits_same p plant sound i k places digits lt so_far (sym c.has_digit.ensures ∙ w.if-has_digit.false))
+      ];
     }
 
 pub returns : goal.returns
