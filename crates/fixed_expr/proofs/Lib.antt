@@ -1,2 +1,3 @@
 pub mod Narrowness
 pub mod Values
+pub mod MovingValues

@@ -10,6 +10,7 @@ mod evaluate;
 mod expr;
 pub mod laws;
 mod mentions;
+mod moves;
 mod narrow;
 mod wide;
 

@@ -17,5 +17,8 @@ pub mod RunSteps
 pub mod BoxRuns
 pub mod WheelsMade
 pub mod OwnPlaces
+pub mod ProlongedAxes
 pub mod AxisCounts
 pub mod BoxShapes
+pub mod ShareNumbers
+pub mod ShareCells

@@ -2,3 +2,4 @@ pub mod Storage
 pub mod Restored
 pub mod Spots
 pub mod RunFields
+pub mod Shares

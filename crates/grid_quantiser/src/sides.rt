@@ -1,8 +1,8 @@
-ghost use Rattle.std.specs.Prelude.{◌≡◌, ◌<◌, ◌↔◌, ℕ, ℤ, List, length, slice_index, slice_index_or, IsSome, IfSome};
+ghost use Rattle.std.specs.Prelude.{◌≡◌, ◌<◌, ◌↔◌, ℕ, ℤ, ◌≤ℤ◌, List, length, slice_index, slice_index_or, IsSome, IfSome};
 ghost use Rattle.grid_quantiser.specs.Axes.{no_axis};
 ghost use Rattle.grid_quantiser.specs.Boxes.{IsBoxInDomain, AreCornersMeeting};
 ghost use Rattle.grid_quantiser.specs.Places.{place_along};
-ghost use Rattle.grid_quantiser.specs.Sides.{IsSideOf, AreSidesOf};
+ghost use Rattle.grid_quantiser.specs.Sides.{IsSideOf, prolonged, IsSideBefore, AreSidesOf};
 
 use crate::boxes::CellBox;
 use crate::grid::Grid;
@@ -25,6 +25,41 @@ impl Grid {
         let first = axis.place(low)? as u32;
         let last = axis.place(high)? as u32;
         Some(Side { first, last })
+    }
+
+    /// The places of the numbers from `low` to `high` on an axis prolonged by its own length below, from
+    /// which `moved_side` goes on: None where one of the two is outside of that too.
+    #[inline]
+    pub fn prolonged_side(&self, axis: u32, low: i128, high: i128) -> Option<Side>
+        requires { axis < length self.now }
+        ensures { IsSideOf (prolonged (slice_index_or self.now axis no_axis)) low high result }
+    {
+        let axis = self.axes()[axis as usize];
+        let first = axis.prolonged_place(low)? as u32;
+        let last = axis.prolonged_place(high)? as u32;
+        Some(Side { first, last })
+    }
+
+    /// The side on an axis of what lies so many places after what has this side on the prolonged axis:
+    /// None where one of its ends is outside. It is the side that `side` gives, without a division.
+    #[inline]
+    pub fn moved_side(&self, axis: u32, side: Option<Side>, places: u32) -> Option<Side>
+        requires axis { axis < length self.now }
+        requires places { places < (slice_index_or self.now axis no_axis).count }
+        requires side { (low : ℤ) × (high : ℤ) × (low ≤ℤ high) × IsSideBefore (slice_index_or self.now axis no_axis) places low high side }
+        ensures { (low high : ℤ) → low ≤ℤ high → IsSideBefore (slice_index_or self.now axis no_axis) places low high side → IsSideOf (slice_index_or self.now axis no_axis) low high result }
+    {
+        let count = self.axes()[axis as usize].count as u32;
+        let side = side?;
+        let first = side.first + places;
+        let last = side.last + places;
+        if first < count || 2 * count <= last {
+            return None;
+        }
+        Some(Side {
+            first: first - count,
+            last: last - count,
+        })
     }
 
     /// The box with these sides, one for each state: None where one is missing. It is the box that

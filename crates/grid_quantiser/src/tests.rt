@@ -177,10 +177,85 @@ fn sides_of_two_states(rt: HostRuntime) {
 }
 
 #[test]
+fn sides_that_move(rt: HostRuntime) {
+    let grid = grid_of(&rt, &PLANE);
+    // -5 and 3 stand at the places 5 and 6 from -60 on, 5 and 13 at 0 and 1 from 0 on; -61 is before
+    // the first place from -60 on.
+    let side = grid.prolonged_side(0, -5, 3);
+    assert_eq!(rt; side, Some(Side { first: 5, last: 6 }));
+    assert_eq!(rt; grid.prolonged_side(0, -61, 3), None);
+    assert_eq!(rt;
+        grid.moved_side(0, side, 1),
+        Some(Side { first: 0, last: 1 })
+    );
+    assert_eq!(rt; grid.moved_side(0, side, 0), None);
+    // 55 and 63, ten further on than 45 and 53, are the last place and one past it.
+    let side = grid.prolonged_side(0, 45, 53);
+    assert_eq!(rt;
+        grid.moved_side(0, side, 0),
+        Some(Side { first: 4, last: 5 })
+    );
+    assert_eq!(rt; grid.moved_side(0, side, 1), None);
+}
+
+#[test]
 fn places_of_a_cell(rt: HostRuntime) {
     let grid = grid_of(&rt, &PLANE);
     assert_eq!(rt; grid.count(0), 6);
     assert_eq!(rt; grid.count(1), 4);
     // 23 is 5 * 4 + 3.
     assert_eq!(rt; grid.places(23), [5, 3, 0, 0, 0, 0]);
+}
+
+fn cells(first: u32, last: u32) -> Option<CellBox> {
+    Some(CellBox { first, last })
+}
+
+#[test]
+fn boxes_on_a_row(rt: HostRuntime) {
+    let grid = grid_of(&rt, &ROW);
+    for (low, high, touching, within) in [
+        // A part of a cell, a whole cell, and parts of two.
+        (4, 4, cells(1, 1), None),
+        (3, 5, cells(1, 1), cells(1, 1)),
+        (4, 7, cells(1, 2), None),
+        // Out of the domain below, above and on both sides.
+        (-7, 4, cells(0, 1), cells(0, 0)),
+        (4, 99, cells(1, 4), cells(2, 4)),
+        (-7, 99, cells(0, 4), cells(0, 4)),
+        // Outside, and empty.
+        (-7, -1, None, None),
+        (15, 99, None, None),
+        (5, 4, None, None),
+    ] {
+        let lo = on_row(low);
+        let hi = on_row(high);
+        assert_eq!(rt; grid.touching(&lo, &hi), touching, "from {low} to {high}");
+        assert_eq!(rt; grid.within(&lo, &hi), within, "from {low} to {high}");
+    }
+}
+
+#[test]
+fn boxes_of_single_numbers(rt: HostRuntime) {
+    // The numbers -2 to 1.
+    let axis = Axis {
+        lo: -2,
+        width: 1,
+        count: 4,
+    };
+    let grid = grid_of(&rt, &[axis]);
+    let lo = on_row(-1);
+    assert_eq!(rt; grid.touching(&lo, &on_row(0)), cells(1, 2));
+    assert_eq!(rt; grid.within(&lo, &on_row(0)), cells(1, 2));
+    assert_eq!(rt; grid.within(&lo, &on_row(i128::MAX)), cells(1, 3));
+}
+
+#[test]
+fn boxes_on_a_plane(rt: HostRuntime) {
+    let grid = grid_of(&rt, &PLANE);
+    let lo = [35, i128::MIN, 0, 0, 0, 0];
+    let hi = [99, -5, 0, 0, 0, 0];
+    // The box touches the places 3 to 5 by 0 and 1, and holds 4 and 5 by 0.
+    assert_eq!(rt; grid.touching(&lo, &hi), cells(12, 21));
+    assert_eq!(rt; grid.within(&lo, &hi), cells(16, 20));
 }
