@@ -1,5 +1,5 @@
 -- One more shape whose runs are listed, and the boxes that have it.
-use Rattle.std.proofs.Common.{◌≡◌, ◌≢◌, ℕ, zero, suc, ◌+◌, ◌-◌, ◌*◌, ◌/◌, ◌%◌, ◌<◌, ◌≤◌, List, [], ◌∷◌, ◌++◌, All, map, length, take, drop, get_or, set, Option, Some, None, refl, sym, ap, subst, ◌∙◌, arith}
+use Rattle.std.proofs.Common.{◌≡◌, ◌≢◌, ℕ, zero, suc, ◌+◌, ◌-◌, ◌*◌, ◌/◌, ◌%◌, ◌^◌, ◌<◌, ◌≤◌, List, [], ◌∷◌, ◌++◌, All, map, length, take, drop, get_or, set, Option, Some, None, refl, sym, ap, subst, ◌∙◌, arith}
 use Rattle.std.specs.Prelude.{IfSome}
 use Rattle.std.specs.List.{range_with_len}
 use Rattle.std.proofs.lemmas.List.Sums.{sum_by_more}
@@ -10,16 +10,16 @@ use Rattle.grid_quantiser.specs.declared.axis.Axis.{Axis}
 use Rattle.grid_quantiser.specs.declared.boxes.CellBox.{CellBox}
 use Rattle.grid_quantiser.specs.Axes.{cells_of, AreAxes}
 use Rattle.grid_quantiser.specs.Boxes.{IsCellBox, cells_between}
-use Rattle.grid_quantiser.specs.Laws.{IsMovedShape, BoxesAreMovedShapes}
+use Rattle.grid_quantiser.specs.Laws.{IsMovedShape, BoxesAreMovedShapes, BoxesHaveCells}
 use Rattle.successor_box.specs.Boxes.{cells_in}
 use Rattle.abstraction_table.specs.declared.shapes.Run.{Run}
 use Rattle.abstraction_table.specs.declared.shapes.Span.{Span}
 use Rattle.abstraction_table.specs.declared.shapes.Shapes.{Shapes}
-use Rattle.abstraction_table.specs.inside.Shapes.{cells_from, span_at, runs_at, IsListed, HasRunsAt, HasRunsOf, HaveRuns, AreSound, KeepsRuns, ListsRuns}
+use Rattle.abstraction_table.specs.inside.Shapes.{cells_from, EndsBy, span_at, runs_at, IsListed, HasRunsAt, HasRunsOf, HaveRuns, AreSound, KeepsRuns, ListsRuns}
 use Rattle.abstraction_table.specs.inside.Sources.{IsBox}
 use Rattle.abstraction_table.specs.inside.Tallies.{edges_of}
 use Rattle.abstraction_table.proofs.Tallying.{by_cell}
-use Rattle.abstraction_table.proofs.ShapeRuns.{HasCell}
+use Rattle.abstraction_table.proofs.ShapeRuns.{runs_end}
 
 -- the last corner of a box is a cell
 pub last_below : (axes : List Axis) (f l : ℕ) → 1 ≤ length axes → 1 ≤ cells_of axes → IsCellBox axes f l → l < cells_of axes
@@ -156,3 +156,12 @@ runs_found axes s (Some b) laws grid ordered has = box_runs axes s b (laws axes 
 pub shapes_all : (axes : List Axis) (boxes : List (Option CellBox)) (n : ℕ) (s : Shapes) → length boxes ≤ n → BoxesAreMovedShapes → AreAxes axes → All (IsBox axes) boxes → ShapesSoFar axes boxes n s → HaveRuns axes s boxes
 shapes_all axes boxes n s whole laws grid ordered h = λ k d lt.
     rw (get_or_default boxes k d None lt) (runs_found axes s (get_or boxes k None) laws grid (ordered k None lt) (h.has k (omega (arith, lt, whole))))
+
+-- the runs of a box end by the limit on cells
+pub box_runs_end : BoxesHaveCells → (axes : List Axis) (s : Shapes) (o : Option CellBox) (b : CellBox) → o ≡ Some b → AreAxes axes → cells_of axes ≤ 2 ^ 20 → IsBox axes o → IfSome o (HasRunsOf axes s) →
+    (runs : List Run) → runs ≡ runs_at s (b.last - b.first) → All (EndsBy (2 ^ 20) b.first) runs
+box_runs_end laws axes s o b is grid limit ordered has runs same =
+    let h : HasRunsOf axes s b = subst (λ (o : Option CellBox). IfSome o (HasRunsOf axes s)) is has in
+    let cells = laws axes b.first b.last grid (subst (IsBox axes) is ordered) in
+    let below : All (λ c. c < 2 ^ 20) (cells_between axes b.first b.last) = λ k d lt. omega (arith, cells.within k d lt, limit) in
+    rw same (runs_end (2 ^ 20) b.first (runs_at s (b.last - b.first)) h.some (subst (All (λ c. c < 2 ^ 20)) h.cells below))

@@ -1,14 +1,18 @@
 -- Runs of cells that are listed, and the boxes that have their shape.
 use Rattle.std.proofs.Common.{◌≡◌, ℕ, zero, suc, ◌+◌, ◌-◌, ◌<◌, ◌≤◌, List, [], ◌∷◌, ◌++◌, All, map, length, take, drop, get_or, refl, sym, ap, subst, ◌∙◌, arith, append_assoc, append-nil}
 use Rattle.std.specs.List.{range_with_len}
-use Rattle.std.proofs.lemmas.List.{length-append, map-append}
+use Rattle.std.proofs.lemmas.List.{length-append, take_more, take-append-drop}
 use Rattle.std.proofs.lemmas.List.Concat.{flat_map-append}
 use Rattle.std.proofs.lemmas.List.Elements.{All-cons}
-use Rattle.std.proofs.lemmas.List.FromFn.{length-range_with_len}
+use Rattle.std.proofs.lemmas.List.FromFn.{length-range_with_len, get_or-range_with_len}
 use Rattle.rayon.proofs.ListFacts.{All-parts}
 use Rattle.grid_quantiser.specs.Runs.{BeginsWithRun}
 use Rattle.abstraction_table.specs.declared.shapes.Run.{Run}
-use Rattle.abstraction_table.specs.inside.Shapes.{cells_from, ListsRuns}
+use Rattle.abstraction_table.specs.inside.Shapes.{cells_from, EndsBy, ListsRuns}
+
+-- what stands past the last run
+abbrev pub no_run : Run
+no_run = record { start = 0; len = 0 }
 
 abbrev pub HasCell : Run → Type 0
 HasCell r = 1 ≤ r.len
@@ -65,3 +69,33 @@ listed_all before now cells left h none = record {
   parts = h.parts ∙ ap (λ xs. cells_from 0 h.more ++ xs) none ∙ append-nil (cells_from 0 h.more);
   few = omega (arith, h.few);
 }
+
+-- ---- runs that are gone through
+
+module _ (first : ℕ) (runs : List Run) (k : ℕ) (d : Run) (below : k < length runs) where
+  abbrev here : List ℕ
+  here = range_with_len (first + (get_or runs k d).start) (get_or runs k d).len
+
+  pub one_run_more : cells_from first (take (k + 1) runs) ≡ cells_from first (take k runs) ++ here
+  one_run_more =
+      ap (cells_from first) (take_more runs k d below)
+      ∙ cells-append first (take k runs) (get_or runs k d ∷ [])
+      ∙ ap (λ xs. cells_from first (take k runs) ++ xs) (append-nil here)
+
+  pub runs_split : cells_from first runs ≡ (cells_from first (take k runs) ++ here) ++ cells_from first (drop (k + 1) runs)
+  runs_split =
+      ap (cells_from first) (sym (take-append-drop (k + 1) runs))
+      ∙ cells-append first (take (k + 1) runs) (drop (k + 1) runs)
+      ∙ ap (λ xs. xs ++ cells_from first (drop (k + 1) runs)) one_run_more
+
+-- where all cells of runs lie below a bound, the runs end by it
+pub runs_end : (bound first : ℕ) (runs : List Run) → All HasCell runs → All (λ c. c < bound) (cells_from first runs) → All (EndsBy bound first) runs
+runs_end bound first runs some below = λ k d lt.
+    let r : Run = get_or runs k d in
+    let cells : List ℕ = range_with_len (first + r.start) r.len in
+    let parts = subst (All (λ c. c < bound)) (runs_split first runs k d lt) below in
+    let so_far = (All-parts (λ c. c < bound) (cells_from first (take k runs) ++ cells) (cells_from first (drop (k + 1) runs)) parts).0 in
+    let these = (All-parts (λ c. c < bound) (cells_from first (take k runs)) cells so_far).1 in
+    let full : 1 ≤ r.len = some k d lt in
+    let last : r.len - 1 < r.len = omega (arith, full) in
+    omega (arith, full, these (r.len - 1) 0 (omega (arith, last, length-range_with_len (first + r.start) r.len)), get_or-range_with_len (first + r.start) r.len (r.len - 1) 0 last)

@@ -12,6 +12,10 @@ use Rattle.abstraction_table.specs.declared.shapes.Shapes.{Shapes}
 abbrev pub cells_from : ℕ → List Run → List ℕ
 cells_from first runs = flat_map (λ (r : Run). range_with_len (first + r.start) r.len) runs
 
+-- the cells of a run, counted from a first cell, end by a bound
+abbrev pub EndsBy : ℕ → ℕ → Run → Type 0
+EndsBy bound first r = first + r.start + r.len ≤ bound
+
 -- where the runs of a shape stand
 abbrev pub span_at : Shapes → ℕ → Span
 span_at s extent = slice_index_or s.spans.items extent (record { from = 0; to = 0 })

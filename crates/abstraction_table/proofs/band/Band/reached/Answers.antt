@@ -5,8 +5,8 @@ use Rattle.successor_box.specs.Boxes.{cells_in}
 use Rattle.abstraction_table.specs.inside.Sources.{IsBox}
 use Rattle.abstraction_table.specs.inside.Tallies.{places_in}
 use Rattle.abstraction_table.proofs.BandPlaces.{places-none}
-use Rattle.abstraction_table.proofs.band.Band.runs.Goals as goal
-use Rattle.abstraction_table.proofs.band.Band.runs.Goals.{then-b-self-via-then-b-self, then-b-self-via-else-b-self+then-self-b}
+use Rattle.abstraction_table.proofs.band.Band.reached.Goals as goal
+use Rattle.abstraction_table.proofs.band.Band.reached.Goals.{then-b-self-via-then-b-self, then-b-self-via-else-b-self+then-self-b}
 
 pub returns-then-b-self-clause-none : goal.returns-then-b-self-clause-none
 returns-then-b-self-clause-none c =
