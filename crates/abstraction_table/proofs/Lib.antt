@@ -13,3 +13,5 @@ pub mod DigitMoves
 pub mod PairDigits
 pub mod EquationDigits
 pub mod SideTables
+pub mod Marking
+pub mod PlantMarks
