@@ -8,6 +8,8 @@ pub mod BandPlaces
 pub mod SourceBands
 pub mod LeadingPairs
 pub mod SourceSteps
+pub mod ShapeRuns
+pub mod ListedShapes
 pub mod PlantGame
 pub mod DigitMoves
 pub mod PairDigits

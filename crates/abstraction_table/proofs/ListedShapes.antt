@@ -1,11 +1,11 @@
 -- One more shape whose runs are listed, and the boxes that have it.
-use Rattle.std.proofs.Common.{◌≡◌, ◌≢◌, ℕ, zero, suc, ◌+◌, ◌-◌, ◌*◌, ◌/◌, ◌%◌, ◌^◌, ◌<◌, ◌≤◌, List, [], ◌∷◌, ◌++◌, All, map, length, take, drop, get_or, set, Option, Some, None, refl, sym, ap, subst, ◌∙◌, arith}
+use Rattle.std.proofs.Common.{◌≡◌, ◌≢◌, ℕ, zero, suc, ◌+◌, ◌-◌, ◌*◌, ◌^◌, ◌<◌, ◌≤◌, List, [], ◌∷◌, ◌++◌, All, map, length, take, drop, get_or, set, Option, Some, None, refl, sym, ap, subst, ◌∙◌, arith}
 use Rattle.std.specs.Prelude.{IfSome}
 use Rattle.std.specs.List.{range_with_len}
 use Rattle.std.proofs.lemmas.List.Sums.{sum_by_more}
 use Rattle.std.proofs.lemmas.List.{length-append, map-append, get_or_default, get_or-set_same, get_or-set_other, length-set, take_all, take-append-le, drop-append-le, length-drop}
 use Rattle.std.proofs.Math.Seq.{drop-append_seam}
-use Rattle.std.proofs.Math.Nat.{div-lt_iff_lt-mul, zero-mul, mul-zero}
+use Rattle.std.proofs.Math.Nat.{div-lt_iff_lt-mul, mul-zero}
 use Rattle.grid_quantiser.specs.declared.axis.Axis.{Axis}
 use Rattle.grid_quantiser.specs.declared.boxes.CellBox.{CellBox}
 use Rattle.grid_quantiser.specs.Axes.{cells_of, AreAxes}
@@ -15,7 +15,7 @@ use Rattle.successor_box.specs.Boxes.{cells_in}
 use Rattle.abstraction_table.specs.declared.shapes.Run.{Run}
 use Rattle.abstraction_table.specs.declared.shapes.Span.{Span}
 use Rattle.abstraction_table.specs.declared.shapes.Shapes.{Shapes}
-use Rattle.abstraction_table.specs.inside.Shapes.{cells_from, EndsBy, span_at, runs_at, IsListed, HasRunsAt, HasRunsOf, HaveRuns, AreSound, KeepsRuns, ListsRuns}
+use Rattle.abstraction_table.specs.inside.Shapes.{cells_from, EndsBy, span_at, runs_at, HasRunsAt, HasRunsOf, HaveRuns, AreSound, KeepsRuns, ListsRuns}
 use Rattle.abstraction_table.specs.inside.Sources.{IsBox}
 use Rattle.abstraction_table.specs.inside.Tallies.{edges_of}
 use Rattle.abstraction_table.proofs.Tallying.{by_cell}

@@ -107,7 +107,14 @@ fn count_box(grid: &Grid, shapes: &Shapes, b: Option<CellBox>, band: Band, count
 
 /// Puts a pair at each place of its box in a band.
 #[inline]
-fn put_box(grid: &Grid, shapes: &Shapes, b: Option<CellBox>, band: Band, pair: u32, fill: &mut RowFill)
+fn put_box(
+    grid: &Grid,
+    shapes: &Shapes,
+    b: Option<CellBox>,
+    band: Band,
+    pair: u32,
+    fill: &mut RowFill,
+)
     requires ordered { IsBox grid.now b }
     requires runs { IfSome b (HasRunsOf grid.now shapes.now) }
     requires within { band.from + band.len ≤ cells_of grid.now }

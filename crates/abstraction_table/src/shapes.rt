@@ -7,7 +7,9 @@ ghost use Rattle.abstraction_table.specs.inside.Shapes.{IsListed, runs_at, HasRu
 ghost use Rattle.abstraction_table.specs.inside.Sources.{IsBox};
 ghost use Rattle.abstraction_table.specs.inside.Tallies.{edges_of};
 
-use grid_quantiser::laws::{boxes_are_moved_shapes, cells_of_a_box, every_grid_is_within_the_limit};
+use grid_quantiser::laws::{
+    boxes_are_moved_shapes, cells_of_a_box, every_grid_is_within_the_limit,
+};
 use grid_quantiser::{CellBox, Grid, Runs};
 use std::alloc::{AllocError, Global};
 

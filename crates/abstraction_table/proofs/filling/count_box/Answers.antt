@@ -1,4 +1,3 @@
-use Rattle.std.proofs.Common.{◌∙◌}
 use Rattle.abstraction_table.proofs.ListedShapes.{box_runs_end}
 use Rattle.abstraction_table.proofs.filling.count_box.Goals as goal
 
