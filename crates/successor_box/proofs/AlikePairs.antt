@@ -1,18 +1,21 @@
 -- The side of a pair along a state's axis rests on its places in the variables of the state's equation.
-use Rattle.std.proofs.Common.{◌≡◌, ◌⊎◌, ℕ, ◌+◌, ◌-◌, ◌<◌, ◌≤◌, List, [], ◌∷◌, ◌++◌, map, length, take, get_or, refl, sym, ap, ap₂, subst₂, ◌∙◌, arith, inl, inr}
-use Rattle.std.specs.Prelude.{ℤ, pos, ◌+ℤ◌, ◌-ℤ◌, Option}
-use Rattle.std.proofs.lemmas.Bool.{cases_lt, cond_below, cond_above}
+use Rattle.std.proofs.Common.{◌≡◌, ◌⊎◌, ℕ, ◌+◌, ◌-◌, ◌<◌, ◌≤◌, List, [], ◌∷◌, ◌++◌, map, length, take, get_or, true, false, not, ◌&&◌, eqb, refl, sym, ap, subst₂, ◌∙◌, arith, inl, inr}
+use Rattle.std.specs.Prelude.{ℤ, pos, ◌-ℤ◌, ◌*ℤ◌, Option}
+use Rattle.std.proofs.lemmas.Bool.{cases_lt, cases_Bool, both_ways, and_from, and_left, and_right, not_from_false, ne_eqb, cond_below, cond_above, cond-true, cond-false}
+use Rattle.std.proofs.lemmas.Int.{ints}
 use Rattle.std.proofs.lemmas.List.{length-map, get_or-take, length-take-le}
 use Rattle.fixed_expr.specs.Expression.{Expression}
-use Rattle.fixed_expr.specs.Mentions.{AreSameIn, ValuesRestOnVariables}
+use Rattle.fixed_expr.specs.Mentions.{mentions, AreSameIn, ValuesRestOnVariables}
+use Rattle.fixed_expr.specs.Moves.{AreSameBut, ValuesMoveWithVariables}
 use Rattle.fixed_expr.specs.Value.{value_of}
 use Rattle.interval_eval.specs.declared.interval.Interval.{Interval}
 use Rattle.growth_bound.specs.Laws.{DeviationsRestOnVariables}
+use Rattle.grid_quantiser.specs.declared.axis.Axis.{Axis}
 use Rattle.grid_quantiser.specs.declared.sides.Side.{Side}
 use Rattle.grid_quantiser.specs.Axes.{no_axis, cells_of}
 use Rattle.grid_quantiser.specs.Cells.{centre_of, radius_of}
 use Rattle.grid_quantiser.specs.Places.{place_along, middle_of}
-use Rattle.grid_quantiser.specs.Sides.{IsSideOf}
+use Rattle.grid_quantiser.specs.Sides.{IsSideOf, prolonged}
 use Rattle.grid_quantiser.specs.Laws.{CentresRestOnTheirPlaces}
 use Rattle.plant_text.specs.declared.plant.variables.StateVariable.{StateVariable}
 use Rattle.plant_text.specs.declared.plant.variables.NoiseVariable.{NoiseVariable}
@@ -21,7 +24,7 @@ use Rattle.plant_text.specs.plant.InputPlaces.{input_place, InputsRestOnTheirPla
 use Rattle.plant_text.specs.plant.Soundness.{IsSound}
 use Rattle.plant_text.specs.plant.Steps.{equation_at}
 use Rattle.successor_box.specs.Boxes.{noise_centre, area_of, radii_of, deviation_at, central_values, low_corner, high_corner}
-use Rattle.successor_box.specs.Sides.{IsSideAt, place_in, AreAlikeIn}
+use Rattle.successor_box.specs.Sides.{place_in, moves_along, moved_by, IsSideBeforeAt, rests_on, AreAlikeIn}
 use Rattle.successor_box.specs.inside.Area.{no_range}
 use Rattle.successor_box.proofs.CellValues.{vector_count}
 use Rattle.successor_box.proofs.Centres.{centre_count}
@@ -84,8 +87,8 @@ module _ (p : Description) (c u d v k : ℕ) where
   states_count : length state_ranges ≡ length p.states
   states_count = length-map p.states _
 
-  -- a variable that has the same central value has the same range
-  same_range : get_or (central_values p d v) k (pos 0) ≡ get_or (central_values p c u) k (pos 0) → get_or (area_of p v) k no_range ≡ get_or (area_of p u) k no_range
+  -- a state has its range, and another variable that has the same central value has the same range
+  same_range : (length p.states ≤ k → get_or (central_values p d v) k (pos 0) ≡ get_or (central_values p c u) k (pos 0)) → get_or (area_of p v) k no_range ≡ get_or (area_of p u) k no_range
   same_range same =
       elim (cases_lt k (length p.states)) [
         | inl state ↦
@@ -97,7 +100,7 @@ module _ (p : Description) (c u d v k : ℕ) where
       later : length p.states ≤ k → (k < length p.states + length p.inputs) ⊎ (length p.states + length p.inputs ≤ k) → get_or (area_of p v) k no_range ≡ get_or (area_of p u) k no_range
       later past (inl input) =
           let value : get_or (vector_of p.inputs v) (k - length p.states) (pos 0) ≡ get_or (vector_of p.inputs u) (k - length p.states) (pos 0) =
-          sym (central_input p d v k past input) ∙ same ∙ central_input p c u k past input in
+          sym (central_input p d v k past input) ∙ same past ∙ central_input p c u k past input in
           sym (input_range p v k no_range past input) ∙ ap (λ (z : ℤ). record { lo = z; hi = z }) value ∙ input_range p u k no_range past input
       later past (inr noise) =
           in_third state_ranges (ranges v) noise_ranges k no_range (length p.states) (length p.inputs) states_count (ranges_count v) noise
@@ -137,18 +140,62 @@ module _ (p : Description) (c u d v k : ℕ) where
         later past (inl here) = same_input past here (alike here)
         later past (inr noise) = central_noise p d v k noise ∙ sym (central_noise p c u k noise)
 
--- a side rests on the value and the deviation alone
-same_side : (p : Description) (i c u d v : ℕ) (side : Option Side) → i < length p.equations → value_of (equation_at p i) (central_values p d v) ≡ value_of (equation_at p i) (central_values p c u) → deviation_at p v (equation_at p i) ≡ deviation_at p u (equation_at p i) → IsSideAt p d v i side → IsSideAt p c u i side
-same_side p i c u d v side lt value deviation is =
-    let low : get_or (low_corner p d v) i (pos 0) ≡ get_or (low_corner p c u) i (pos 0) = low_is p d v i lt ∙ ap₂ (λ (x y : ℤ). x -ℤ y) value deviation ∙ sym (low_is p c u i lt) in
-    let high : get_or (high_corner p d v) i (pos 0) ≡ get_or (high_corner p c u) i (pos 0) = high_is p d v i lt ∙ ap₂ (λ (x y : ℤ). x +ℤ y) value deviation ∙ sym (high_is p c u i lt) in
-    subst₂ (λ (x y : ℤ). IsSideOf (get_or (axes_of p) i no_axis) x y side) low high is
+-- ---- one side
 
-pub alike_side : ValuesRestOnVariables → DeviationsRestOnVariables → CentresRestOnTheirPlaces → InputsRestOnTheirPlaces → (p : Description) (i c u d v : ℕ) (side : Option Side) → IsSound p → i < length p.equations
-    → c < cells_of (axes_of p) → u < vectors_of p.inputs → d < cells_of (axes_of p) → v < vectors_of p.inputs → AreAlikeIn p i c u d v → IsSideAt p d v i side → IsSideAt p c u i side
-alike_side values deviations centres inputs p i c u d v side sound lt cell input other_cell other_input alike is =
-    let e : Expression = equation_at p i in
-    let same : AreSameIn (pos 0) e (central_values p d v) (central_values p c u) = λ k stands. same_value p c u d v k centres inputs sound cell input other_cell other_input (λ here. alike k here stands) in
-    let ranges : AreSameIn no_range e (area_of p v) (area_of p u) = λ k stands. same_range p c u d v k (same k stands) in
-    let radii : AreSameIn (pos 0) e (radii_of p v) (radii_of p u) = λ k stands. ap (λ (rs : List ℤ). get_or rs k (pos 0)) (same_radii p u v) in
-    same_side p i c u d v side lt (values e (central_values p d v) (central_values p c u) same) (ap pos (deviations e (area_of p v) (area_of p u) (radii_of p v) (radii_of p u) ranges radii)) is
+-- a variable that stands in the equation, and isn't a state that moves the side
+rests : (p : Description) (i k : ℕ) → mentions (equation_at p i) k ≡ true → (moves_along p i ≡ true → k ≡ i → ⊥) → rests_on p i k ≡ true
+rests p i k stands other = and_from (mentions (equation_at p i) k) (not (moves_along p i && eqb k i)) stands (not_from_false (moves_along p i && eqb k i) (apart (cases_Bool (moves_along p i))))
+  where
+    apart : (moves_along p i ≡ true) ⊎ (moves_along p i ≡ false) → (moves_along p i && eqb k i) ≡ false
+    apart (inl moves) = and_right (moves_along p i) (eqb k i) (ne_eqb k i (other moves))
+    apart (inr fixed) = and_left (moves_along p i) (eqb k i) fixed
+
+module _ (values : ValuesRestOnVariables) (moving : ValuesMoveWithVariables) (deviations : DeviationsRestOnVariables) (centres : CentresRestOnTheirPlaces) (inputs : InputsRestOnTheirPlaces) (p : Description) (i c u d v : ℕ) (sound : IsSound p) (lt : i < length p.equations)
+    (cell : c < cells_of (axes_of p)) (input : u < vectors_of p.inputs) (other_cell : d < cells_of (axes_of p)) (other_input : v < vectors_of p.inputs) (alike : AreAlikeIn p i c u d v) where
+  abbrev e : Expression
+  e = equation_at p i
+
+  abbrev axis : Axis
+  axis = get_or (axes_of p) i no_axis
+
+  state_lt : i < length p.states
+  state_lt = omega (arith, lt, sound.one_each)
+
+  same : (k : ℕ) → mentions e k ≡ true → (moves_along p i ≡ true → k ≡ i → ⊥) → get_or (central_values p d v) k (pos 0) ≡ get_or (central_values p c u) k (pos 0)
+  same k stands other = same_value p c u d v k centres inputs sound cell input other_cell other_input (λ here. alike k here (rests p i k stands other))
+
+  same_deviation : deviation_at p v e ≡ deviation_at p u e
+  same_deviation =
+      let ranges : AreSameIn no_range e (area_of p v) (area_of p u) = λ k stands. same_range p c u d v k (λ past. same k stands (λ moves is. omega (arith, past, is, state_lt))) in
+      let radii : AreSameIn (pos 0) e (radii_of p v) (radii_of p u) = λ k stands. ap (λ (rs : List ℤ). get_or rs k (pos 0)) (same_radii p u v) in
+      ap pos (deviations e (area_of p v) (area_of p u) (radii_of p v) (radii_of p u) ranges radii)
+
+  -- the state's own value is the middle of its place
+  own_value : (b w : ℕ) → b < cells_of (axes_of p) → get_or (central_values p b w) i (pos 0) ≡ middle_of axis (place_along (axes_of p) i b)
+  own_value b w within = central_state p b w i state_lt ∙ centres (axes_of p) b i sound.axes within (omega (arith, state_lt, length-map p.states axis_of))
+
+  -- the value of the equation so many places before
+  abbrev value_before : ℕ → ℕ → ℤ
+  value_before b w = value_of e (central_values p b w) -ℤ (axis.width *ℤ pos (moved_by p i b))
+
+  same_before : (moves_along p i ≡ true) ⊎ (moves_along p i ≡ false) → value_before d v ≡ value_before c u
+  same_before (inl moves) =
+      let but : AreSameBut i e (central_values p d v) (central_values p c u) = λ k other stands. same k stands (λ m is. other is) in
+      let apart = moving e i (central_values p d v) (central_values p c u) moves but in
+      let here : moved_by p i c ≡ place_along (axes_of p) i c = cond-true (moves_along p i) (place_along (axes_of p) i c) 0 moves in
+      let there : moved_by p i d ≡ place_along (axes_of p) i d = cond-true (moves_along p i) (place_along (axes_of p) i d) 0 moves in
+      rw (here, there) (omega (arith, ints, apart, own_value c u cell, own_value d v other_cell))
+  same_before (inr fixed) =
+      let value : value_of e (central_values p d v) ≡ value_of e (central_values p c u) = values e (central_values p d v) (central_values p c u) (λ k stands. same k stands (λ m is. both_ways (moves_along p i) fixed m)) in
+      let here : moved_by p i c ≡ 0 = cond-false (moves_along p i) (place_along (axes_of p) i c) 0 fixed in
+      let there : moved_by p i d ≡ 0 = cond-false (moves_along p i) (place_along (axes_of p) i d) 0 fixed in
+      rw (here, there) (ap (λ (x : ℤ). x -ℤ (axis.width *ℤ pos 0)) value)
+
+  pub alike_side : (side : Option Side) → IsSideBeforeAt p d v i (moved_by p i d) side → IsSideBeforeAt p c u i (moved_by p i c) side
+  alike_side side is =
+      let value = same_before (cases_Bool (moves_along p i)) in
+      let low : get_or (low_corner p d v) i (pos 0) -ℤ (axis.width *ℤ pos (moved_by p i d)) ≡ get_or (low_corner p c u) i (pos 0) -ℤ (axis.width *ℤ pos (moved_by p i c)) =
+      omega (arith, ints, value, same_deviation, low_is p c u i lt, low_is p d v i lt) in
+      let high : get_or (high_corner p d v) i (pos 0) -ℤ (axis.width *ℤ pos (moved_by p i d)) ≡ get_or (high_corner p c u) i (pos 0) -ℤ (axis.width *ℤ pos (moved_by p i c)) =
+      omega (arith, ints, value, same_deviation, high_is p c u i lt, high_is p d v i lt) in
+      subst₂ (λ (x y : ℤ). IsSideOf (prolonged axis) x y side) low high is

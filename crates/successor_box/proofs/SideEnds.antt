@@ -1,6 +1,6 @@
 -- The ends of a successor box along the axis of a state.
-use Rattle.std.proofs.Common.{◌≡◌, ℕ, ◌^◌, ◌<◌, List, [], All, length, get_or, sym, ap, ap₂, subst, ◌∙◌, arith}
-use Rattle.std.specs.Prelude.{ℤ, pos, nat_abs, ◌+ℤ◌, ◌-ℤ◌, FitsSigned}
+use Rattle.std.proofs.Common.{◌≡◌, ℕ, ◌^◌, ◌<◌, List, [], All, length, get_or, sym, ap, ap₂, subst, subst₂, ◌∙◌, Option, arith}
+use Rattle.std.specs.Prelude.{ℤ, pos, nat_abs, ◌+ℤ◌, ◌-ℤ◌, ◌*ℤ◌, ◌≤ℤ◌, FitsSigned}
 use Rattle.std.specs.Int.{w128}
 use Rattle.std.proofs.lemmas.Int.{ints}
 use Rattle.std.proofs.lemmas.List.{get_or-map}
@@ -8,7 +8,10 @@ use Rattle.fixed_expr.specs.Range.{IsInRange}
 use Rattle.fixed_expr.specs.Expression.{Number}
 use Rattle.fixed_expr.specs.Value.{value_of}
 use Rattle.interval_eval.specs.Laws.{NumbersLieInRange, ValuesLieInSpans}
+use Rattle.grid_quantiser.specs.declared.axis.Axis.{Axis}
+use Rattle.grid_quantiser.specs.declared.sides.Side.{Side}
 use Rattle.grid_quantiser.specs.Axes.{cells_of}
+use Rattle.grid_quantiser.specs.Sides.{IsSideOf, prolonged, IsSideBefore}
 use Rattle.grid_quantiser.specs.Laws.{CentresAreNear}
 use Rattle.plant_text.specs.plant.Description.{Description, axes_of, vectors_of}
 use Rattle.plant_text.specs.plant.Variables.{IsNoiseVariable}
@@ -25,6 +28,15 @@ low_is p c u i lt = get_or-map (λ e. value_of e (central_values p c u) -ℤ dev
 
 pub high_is : (p : Description) (c u i : ℕ) → i < length p.equations → get_or (high_corner p c u) i (pos 0) ≡ value_of (equation_at p i) (central_values p c u) +ℤ deviation_at p u (equation_at p i)
 high_is p c u i lt = get_or-map (λ e. value_of e (central_values p c u) +ℤ deviation_at p u e) p.equations i (Number (pos 0)) (pos 0) lt
+
+pub ends_ordered : (p : Description) (c u i : ℕ) → i < length p.equations → get_or (low_corner p c u) i (pos 0) ≤ℤ get_or (high_corner p c u) i (pos 0)
+ends_ordered p c u i lt = omega (arith, ints, low_is p c u i lt, high_is p c u i lt)
+
+-- a side that isn't moved
+pub unmoved : (a : Axis) (low high : ℤ) (side : Option Side) → IsSideOf (prolonged a) low high side → IsSideBefore a 0 low high side
+unmoved a low high side is =
+    let same : (x : ℤ) → x ≡ x -ℤ (a.width *ℤ pos 0) = λ x. omega (arith, ints) in
+    subst₂ (λ (x y : ℤ). IsSideOf (prolonged a) x y side) (same low) (same high) is
 
 -- a number of the centre's step, less and plus the deviation, is a number of the corners, and fits
 pub record AreSideEnds (p : Description) (c u i : ℕ) (value deviation : ℤ) : Type 0 where

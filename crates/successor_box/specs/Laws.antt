@@ -10,7 +10,7 @@ use Rattle.plant_text.specs.plant.Steps.{IsNoise, step_of, StepStaysInRange}
 use Rattle.plant_text.specs.plant.Soundness.{IsSound}
 use Rattle.successor_box.specs.Boxes.{IsEnabledAt, AreSuccessors, IsBoxOf, cells_in}
 use Rattle.successor_box.specs.Deviations.{HasNoOverflow}
-use Rattle.successor_box.specs.Sides.{IsSideAt, AreAlikeIn}
+use Rattle.successor_box.specs.Sides.{moved_by, IsSideBeforeAt, AreAlikeIn}
 
 -- a step from a point of a cell, under an enabled input and a noise in range, lies in the domain, and its cell
 -- is a successor
@@ -38,9 +38,10 @@ PointsLieWithTheirStates =
     (p : Description) (xs : List ℤ) → length p.states ≤ length xs →
     (IsInDomain (axes_of p) (point_of xs) ↔ IsInDomain (axes_of p) xs) × (cell_of (axes_of p) (point_of xs) ≡ cell_of (axes_of p) xs)
 
--- the side along a state's axis rests on the pair's places in the variables of the state's equation alone
+-- the side along a state's axis, as many places before as its cell moves it, rests on the pair's places in the
+-- variables of the state's equation alone, but for the state itself where it moves with that
 abbrev pub SidesRestOnPlaces : Type 0
 SidesRestOnPlaces =
     (p : Description) (i c u d v : ℕ) (side : Option Side) → IsSound p → i < length p.equations →
     c < cells_of (axes_of p) → u < vectors_of p.inputs → d < cells_of (axes_of p) → v < vectors_of p.inputs →
-    AreAlikeIn p i c u d v → IsSideAt p d v i side → IsSideAt p c u i side
+    AreAlikeIn p i c u d v → IsSideBeforeAt p d v i (moved_by p i d) side → IsSideBeforeAt p c u i (moved_by p i c) side

@@ -1,10 +1,11 @@
 -- The successor box of a pair, state by state.
-use Rattle.std.specs.Prelude.{◌≡◌, ℕ, ◌+◌, ◌-◌, ◌<◌, pos, List, length, slice_index_or, Option, None, IsTrue, if◌then◌else◌, nat_lt}
+use Rattle.std.specs.Prelude.{◌≡◌, ℕ, ◌+◌, ◌-◌, ◌<◌, pos, Bool, not, ◌&&◌, ◌==◌, List, length, slice_index_or, Option, None, IsTrue, if◌then◌else◌, nat_lt}
 use Rattle.fixed_expr.specs.Mentions.{mentions}
+use Rattle.fixed_expr.specs.Moves.{moves_with}
 use Rattle.grid_quantiser.specs.declared.sides.Side.{Side}
 use Rattle.grid_quantiser.specs.Axes.{no_axis}
 use Rattle.grid_quantiser.specs.Places.{place_along}
-use Rattle.grid_quantiser.specs.Sides.{IsSideOf}
+use Rattle.grid_quantiser.specs.Sides.{IsSideOf, IsSideBefore}
 use Rattle.plant_text.specs.plant.Description.{Description, axes_of}
 use Rattle.plant_text.specs.plant.InputPlaces.{input_place}
 use Rattle.plant_text.specs.plant.Steps.{equation_at}
@@ -22,7 +23,23 @@ AreSidesAt p c u sides = (i : ℕ) → i < length p.equations → IsSideAt p c u
 abbrev pub place_in : Description → ℕ → ℕ → ℕ → ℕ
 place_in p c u k = if nat_lt k (length p.states) then place_along (axes_of p) k c else input_place p.inputs (k - length p.states) u
 
--- two pairs have the same places in the states and the input variables of an equation
+-- the sides along an axis move with the cell's own place there: the state's equation moves with the state
+abbrev pub moves_along : Description → ℕ → Bool
+moves_along p i = moves_with (equation_at p i) i
+
+-- how many places a cell moves a side along
+abbrev pub moved_by : Description → ℕ → ℕ → ℕ
+moved_by p i c = if moves_along p i then place_along (axes_of p) i c else 0
+
+-- the side of the successor box along an axis, were the box so many places before, on the prolonged axis
+abbrev pub IsSideBeforeAt : Description → ℕ → ℕ → ℕ → ℕ → Option Side → Type 0
+IsSideBeforeAt p c u i places side =
+    IsSideBefore (slice_index_or (axes_of p) i no_axis) places (slice_index_or (low_corner p c u) i (pos 0)) (slice_index_or (high_corner p c u) i (pos 0)) side
+
+-- a side rests on a variable that stands in the state's equation, but for the state itself where the side moves with it
+abbrev pub rests_on : Description → ℕ → ℕ → Bool
+rests_on p i k = mentions (equation_at p i) k && not (moves_along p i && k == i)
+
+-- two pairs have the same places in the states and the input variables on which a side rests
 abbrev pub AreAlikeIn : Description → ℕ → ℕ → ℕ → ℕ → ℕ → Type 0
-AreAlikeIn p i c u d v =
-    (k : ℕ) → k < length p.states + length p.inputs → IsTrue (mentions (equation_at p i) k) → place_in p c u k ≡ place_in p d v k
+AreAlikeIn p i c u d v = (k : ℕ) → k < length p.states + length p.inputs → IsTrue (rests_on p i k) → place_in p c u k ≡ place_in p d v k

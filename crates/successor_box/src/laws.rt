@@ -2,7 +2,7 @@
 
 ghost use Rattle.successor_box.specs.Laws.{StepsLieInTheBoxes, StepsStayInRange, BoxesHoldTheSuccessors, EnabledPairsHaveSuccessors, PointsLieWithTheirStates, SidesRestOnPlaces};
 
-use fixed_expr::laws::values_rest_on_variables;
+use fixed_expr::laws::{values_move_with_variables, values_rest_on_variables};
 use grid_quantiser::laws::{centre_is_near, centres_rest_on_their_places};
 use growth_bound::laws::{deviations_rest_on_variables, values_move_by_at_most_the_deviation};
 use interval_eval::laws::values_stay_in_the_range;
@@ -39,11 +39,13 @@ pub fn points_lie_with_their_states()
 {}
 
 /// The side of a pair along a state's axis rests on its places in the variables of the state's equation
-/// alone: pairs that are alike in these have one side.
+/// alone: pairs that are alike in these have one side. Where the equation moves with the state itself, the
+/// side rests on the others, and moves with the pair's place along the axis.
 pub fn sides_rest_on_places()
     ensures { SidesRestOnPlaces }
 {
     values_rest_on_variables();
+    values_move_with_variables();
     deviations_rest_on_variables();
     centres_rest_on_their_places();
     inputs_rest_on_their_places();

@@ -15,5 +15,5 @@ mod slopes;
 
 pub use boxes::{box_of_sides, successors};
 pub use fault::SlopeFault;
-pub use sides::side;
+pub use sides::{moved_side, prolonged_side};
 pub use slopes::{Slopes, find_slopes};
