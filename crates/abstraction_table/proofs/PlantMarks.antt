@@ -1,5 +1,5 @@
 -- The marks that the targets and the obstacles of a plant give, box by box.
-use Rattle.std.proofs.Common.{◌≡◌, ◌⊎◌, ◌↔◌, ℕ, ◌+◌, ◌<◌, ◌≤◌, arith, refl, sym, ap, subst, ◌∙◌, List, [], length, replicate, get_or, Some, slice_get, inl, inr}
+use Rattle.std.proofs.Common.{◌≡◌, ◌⊎◌, ℕ, ◌+◌, ◌<◌, arith, sym, ap, subst, ◌∙◌, List, [], length, replicate, get_or, Some, slice_get, inl, inr}
 use Rattle.std.specs.List.{Any}
 use Rattle.std.proofs.lemmas.Bool.{cases_lt}
 use Rattle.std.proofs.lemmas.List.{get_or_default, get_or-replicate, length-replicate}
@@ -10,7 +10,7 @@ use Rattle.game_core.specs.declared.game.Mark.TheVariants.{Goal, Obstacle, Plain
 use Rattle.plant_text.specs.declared.plant.aims.StateBox.{StateBox}
 use Rattle.plant_text.specs.plant.Description.{Description, axes_of}
 use Rattle.plant_text.specs.plant.Marks.{IsObstacleCell}
-use Rattle.abstraction_table.specs.inside.Marks.{LiesInTarget, IsMarkAt, AreMarked, AreMarksOf}
+use Rattle.abstraction_table.specs.inside.Marks.{LiesInTarget, AreMarked, AreMarksOf}
 use Rattle.abstraction_table.proofs.Marking.{marked_likewise, none_marked, more_marked}
 
 abbrev pub no_box : StateBox

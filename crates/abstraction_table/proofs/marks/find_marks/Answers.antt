@@ -5,7 +5,7 @@ use Rattle.game_core.specs.declared.game.Mark.{Mark}
 use Rattle.game_core.specs.declared.game.Mark.TheVariants.{Goal, Obstacle, Plain}
 use Rattle.plant_text.specs.plant.Description.{axes_of}
 use Rattle.plant_text.specs.plant.Marks.{IsObstacleCell}
-use Rattle.abstraction_table.specs.inside.Marks.{LiesInTarget, AreMarked, AreMarksOf}
+use Rattle.abstraction_table.specs.inside.Marks.{LiesInTarget, AreMarked}
 use Rattle.abstraction_table.proofs.PlantMarks.{both_marked}
 use Rattle.abstraction_table.proofs.marks.find_marks.Goals as goal
 

@@ -34,8 +34,7 @@ loop-first-preserved c =
     let below = run_within so_far.0 c.args.cells c.loop-first.cells c.next_run.new.self first len before marks mark so_far.1 so_far.2 c.requires c.in-Some.ensures.run in
     let part : first + len - first ≡ len = omega arith in
     let long : length (take (first + len - first) (drop first marks)) ≡ first + len - first = omega (arith, below, length-take (first + len - first) (drop first marks), length-drop first marks) in
-    let filled = c.fill.ensures.after (λ y same. search rules) in
-    (
+    let filled = c.fill.ensures.after (λ y same. search rules) in (
       so_far.0 ++ run,
       run_done c.args.cells so_far.0 c.loop-first.cells c.next_run.new.self first len so_far.1 c.in-Some.ensures.run,
       cells_marked mark so_far.0 run before marks _ so_far.2 (run_filled mark marks c.fill.new.self first len (first + len - first) below part (filled ∙ ap (λ n. replicate n mark) long)),
