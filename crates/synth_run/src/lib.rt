@@ -34,4 +34,6 @@ mod device_tests;
 #[cfg(test)]
 mod tests;
 #[cfg(test)]
+mod trial;
+#[cfg(test)]
 mod worker_tests;
