@@ -5,7 +5,7 @@ pub mod Pieces
 pub mod Lines
 pub mod Cuts
 pub mod EntryLines
-pub mod InFront
+pub mod LinesRead
 pub mod Fitting
 pub mod MoreEntries
 pub mod Standing
