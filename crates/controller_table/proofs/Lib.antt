@@ -1,7 +1,6 @@
 pub mod Digits
 pub mod Entries
 pub mod Text
-pub mod Pieces
 pub mod Lines
 pub mod Cuts
 pub mod EntryLines
