@@ -24,6 +24,4 @@ returns c = record {
   cuts_to = accounts.cuts_to_are;
   offers = accounts.offers_are;
   firsts = accounts.firsts_are;
-  by_notes = accounts.cuts_by_notes;
-  reversed = accounts.notes_reversed c.counts_tell.ensures;
 }
