@@ -13,8 +13,8 @@ use Rattle.cell_counters.specs.Accounts.{answers, all_answers, cut_count, offers
 use Rattle.cell_counters.specs.Laws.{answered}
 use Rattle.cell_counters.specs.Tokens.{HandModel}
 use Rattle.frontier_pool.specs.declared.member.Member.{Member}
-use Rattle.game_core.specs.Counts.{times, CountsTell}
-use Rattle.board_crew.specs.Crew.{one_if, accounts_of, notes_of, cuts_in, offers_in}
+use Rattle.game_core.specs.Counts.{one_if, times, CountsTell}
+use Rattle.board_crew.specs.Crew.{accounts_of, notes_of, cuts_in, offers_in}
 use Rattle.board_crew.specs.Laws.{counters_of, lefts_of, cut_to, claimed}
 use Rattle.board_crew.proofs.Sums.{sum_map, count_map, count_both, sum_flat, sum_alike}
 

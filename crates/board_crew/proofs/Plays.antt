@@ -11,16 +11,15 @@ use Rattle.cell_counters.specs.Accounts.{IsLawfulLog, all_logs, log_count, cell_
 use Rattle.cell_counters.specs.Laws.{NewPlaces}
 use Rattle.cell_counters.specs.Tokens.{BoardModel, HandModel, IsLawful}
 use Rattle.frontier_pool.specs.declared.member.Member.{Member}
-use Rattle.game_core.specs.Counts.{times, CountsTell}
+use Rattle.game_core.specs.Counts.{one_if, times, CountsTell}
 use Rattle.game_core.specs.Game.{Game, successors_at}
-use Rattle.board_crew.specs.Crew.{one_if, accounts_of, notes_of, logged_cells, IsTalliedBy}
+use Rattle.board_crew.specs.Crew.{accounts_of, notes_of, logged_cells, IsTalliedBy}
 use Rattle.board_crew.specs.declared.rounds.Rounds.{Rounds}
 use Rattle.board_crew.specs.Laws.{counters_of}
 use Rattle.board_crew.specs.Rules.{IsRound, LeadsOn}
 use Rattle.board_crew.specs.inside.Workers.{cuts_for, IsAtWork, HaveWorked}
 use Rattle.board_crew.specs.inside.Standing.{StandsAt, to_go}
 use Rattle.board_crew.proofs.Accounts.{notes_in, cuts_by_notes, notes_reversed, all_logs-append}
-use Rattle.board_crew.proofs.Sums.{sum_places}
 
 -- the places that were filled since
 abbrev pub cells_since : ℕ → List Account → List ℕ
@@ -61,7 +60,7 @@ module _ (g : Game) (fits : BoardModel → Type 0) (keeps : ℕ → Account → 
       cuts = λ pair lt.
           cuts_by_notes pair (cuts_for g list pair) more (of_each (λ (a : Account). times pair (counters_of a.cuts) ≡ sum_by (cuts_for g list pair) a.notes) (λ h w. w.cuts pair lt))
           ∙ (sum_by-IsPermutation (cuts_for g list pair) (range_with_len 0 (length list)) (notes_in more) (IsPermutation-trans (range_with_len 0 (length list)) (notes_of members) (notes_in more) swept (notes_reversed tell members))
-          ∙ (sum_places (λ c. times c (successors_at g pair)) 0 list ∙ tell.from_both_sides list (successors_at g pair)));
+          ∙ (tell.places (λ c. times c (successors_at g pair)) list ∙ tell.from_both_sides list (successors_at g pair)));
     }
 
     leads_to : (next : List ℕ) → ((c : ℕ) → times c next ≡ times c (logged_cells (all_logs more))) → stands (suc d) next (accounts ++ more)

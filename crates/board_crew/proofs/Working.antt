@@ -4,9 +4,9 @@ use Rattle.std.proofs.lemmas.List.Sums.{sum_by_push}
 use Rattle.cell_counters.specs.declared.account.Account.{Account}
 use Rattle.cell_counters.specs.Tokens.{BoardModel, HandModel, blank, with_note}
 use Rattle.frontier_pool.specs.declared.member.Member.{Member}
-use Rattle.game_core.specs.Counts.{times}
+use Rattle.game_core.specs.Counts.{one_if, times}
 use Rattle.game_core.specs.Game.{Game, pairs_of}
-use Rattle.board_crew.specs.Crew.{one_if, IsFresh}
+use Rattle.board_crew.specs.Crew.{IsFresh}
 use Rattle.board_crew.specs.Laws.{counters_of}
 use Rattle.board_crew.specs.Rules.{CutsOnce}
 use Rattle.board_crew.specs.inside.Workers.{cuts_for, IsAtWork, HaveWorked}

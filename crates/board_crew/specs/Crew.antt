@@ -1,5 +1,5 @@
 -- The workers at a board, and all that their accounts hold together.
-use Rattle.std.specs.Prelude.{◌≡◌, ℕ, ◌%◌, ◌^◌, Bool, cond, List, map, length}
+use Rattle.std.specs.Prelude.{◌≡◌, ℕ, ◌%◌, ◌^◌, List, map, length}
 use Rattle.std.specs.List.{flat_map}
 use Rattle.cell_counters.specs.declared.account.Cut.{Cut}
 use Rattle.cell_counters.specs.declared.account.Offer.{Offer}
@@ -36,7 +36,3 @@ accounts_of members = map (λ (m : Member HandModel). m.hand.account) members
 
 abbrev pub notes_of : List (Member HandModel) → List ℕ
 notes_of members = flat_map (λ (m : Member HandModel). m.hand.account.notes) members
-
--- 1 where a test holds, else 0
-abbrev pub one_if : Bool → ℕ
-one_if b = cond b 1 0

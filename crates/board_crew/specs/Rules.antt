@@ -3,9 +3,9 @@ use Rattle.std.specs.Prelude.{◌≡◌, ℕ, suc, ◌+◌, ◌<◌, ◌≤◌, 
 use Rattle.cell_counters.specs.declared.account.Account.{Account}
 use Rattle.cell_counters.specs.Accounts.{cut_count, all_logs, log_count}
 use Rattle.cell_counters.specs.Tokens.{BoardModel, HandModel, IsLawful, blank, with_note}
-use Rattle.game_core.specs.Counts.{times}
+use Rattle.game_core.specs.Counts.{times, one_if}
 use Rattle.game_core.specs.Game.{Game, IsGraph, pairs_of, successors_at}
-use Rattle.board_crew.specs.Crew.{logged_cells, one_if}
+use Rattle.board_crew.specs.Crew.{logged_cells}
 use Rattle.board_crew.specs.Laws.{counters_of}
 
 -- of so many pairs a hand has cut this one once, and no other; it has noted nothing

@@ -1,7 +1,7 @@
-//! What accounts and sums tell, for the proofs of solvers. Each call does nothing, and ensures its law.
-ghost use Rattle.board_crew.specs.Laws.{SumsTell};
+//! What accounts tell, for the proofs of solvers. The call does nothing, and ensures its law.
+ghost use Rattle.board_crew.specs.Laws.{AccountsTell};
 
-/// What sums and counts over lists of numbers tell, and what accounts hold together.
-pub fn sums_tell()
-    ensures { SumsTell }
+/// What is said of one counter or word, said of all that accounts hold together.
+pub fn accounts_tell()
+    ensures { AccountsTell }
 {}

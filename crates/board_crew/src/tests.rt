@@ -9,6 +9,7 @@ use crate::room::room_for;
 use crate::{Rounds, Rule, Worker, fans};
 use cell_counters::{Board, NONE, Root};
 use frontier_pool::Open;
+use game_core::laws::counts_tell;
 use game_core::{Graph, Mark, Tally};
 use std::alloc::Global;
 use std::test::Fail;
@@ -101,7 +102,9 @@ impl Rule for Fork {
         worker.cut(board, pair);
     }
 
-    fn leads_on(&self) {}
+    fn leads_on(&self) {
+        counts_tell();
+    }
 }
 
 // Cell 0 cuts pairs 0 and 2, and cell 1 pairs 0 and 3. Tells what is left of each pair, and the cuts and rounds.
