@@ -6,11 +6,11 @@ use Rattle.std.proofs.lemmas.List.Concat.{flat_map-append}
 use Rattle.std.proofs.lemmas.List.Elements.{All-head, All-tail, All-weaker}
 use Rattle.std.proofs.lemmas.List.Sorted.{sum_by-IsPermutation}
 use Rattle.board_crew.specs.Crew.{cuts_in, offers_in, logged_cells}
-use Rattle.board_crew.specs.Laws.{SumsTell, counters_of, notes_in}
+use Rattle.game_core.specs.Counts.{CountsTell, times}
+use Rattle.board_crew.specs.Laws.{counters_of, notes_in}
 use Rattle.cell_counters.specs.declared.account.Log.{Log}
 use Rattle.cell_counters.specs.declared.account.Account.{Account}
 use Rattle.cell_counters.specs.Accounts.{answers, all_answers, cut_count, all_logs}
-use Rattle.game_core.specs.Counts.{times, CountsTell}
 use Rattle.game_core.specs.Game.{Game, pairs_of, successors_at}
 use Rattle.safety_game.specs.inside.Rounds.{cuts_for, IsInStep, IsWork, IsRound}
 use Rattle.safety_game.proofs.InStep.{all_in_step}
@@ -30,7 +30,7 @@ logged_cells-append xs ys = ap logged_cells (all_logs-append xs ys) ∙ map-appe
 pub cut_count-append : (counter : ℕ) (xs ys : List Account) → cut_count counter (xs ++ ys) ≡ cut_count counter xs + cut_count counter ys
 cut_count-append counter xs ys = ap length (flat_map-append (answers counter) xs ys) ∙ length-append (all_answers counter xs) (all_answers counter ys)
 
-module _ (g : Game) (list : List ℕ) (sums : SumsTell) where
+module _ (g : Game) (list : List ℕ) (sums : CountsTell) where
   pub none_offered : (more : List Account) → All (IsWork g list) more → offers_in more ≡ []
   none_offered [] h = refl
   none_offered (a ∷ more) h = ap₂ ◌++◌ (All-head (IsWork g list) a more h).no_offer (none_offered more (All-tail (IsWork g list) a more h))

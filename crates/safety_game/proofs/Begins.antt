@@ -7,12 +7,12 @@ use Rattle.std.proofs.lemmas.List.{length-map}
 use Rattle.std.proofs.lemmas.List.Elements.{All-nil, All-filter, Contains-get_or}
 use Rattle.std.proofs.lemmas.List.FromFn.{length-range_with_len}
 use Rattle.std.proofs.lemmas.List.Sums.{count_by-le-length, sum_by-le}
-use Rattle.board_crew.specs.Crew.{one_if, logged_cells}
+use Rattle.board_crew.specs.Crew.{logged_cells}
+use Rattle.game_core.specs.Counts.{one_if, times}
 use Rattle.cell_counters.specs.declared.account.Cut.{Cut}
 use Rattle.cell_counters.specs.declared.account.Log.{Log}
 use Rattle.cell_counters.specs.declared.account.Account.{Account}
 use Rattle.cell_counters.specs.Accounts.{all_logs, log_count}
-use Rattle.game_core.specs.Counts.{times}
 use Rattle.game_core.specs.Fallen.{is_obstacle, has_fallen}
 use Rattle.game_core.specs.Game.{Game, IsGraph, mark_of, pairs_of, successors_at}
 use Rattle.safety_game.specs.Boards.{pairs_at, enabled_at}
@@ -53,10 +53,10 @@ module _ (g : Game) where
   module _ (a : IsGraph g) (laws : Laws) where
     -- the list of the first round
     first_cells : (c : ℕ) → c < g.cells → times c (first_fallen g) ≡ one_if (has_fallen g 0 c)
-    first_cells c lt = laws.sums.filtered (has_fallen g 0) c (range_with_len 0 g.cells) ∙ by_test (has_fallen g 0 c)
+    first_cells c lt = laws.counts.filtered (has_fallen g 0) c (range_with_len 0 g.cells) ∙ by_test (has_fallen g 0 c)
       where
         by_test : (b : Bool) → cond b (times c (range_with_len 0 g.cells)) 0 ≡ one_if b
-        by_test true = laws.sums.in_range c 0 g.cells (omega arith) (omega arith)
+        by_test true = laws.counts.in_range c 0 g.cells (omega arith) (omega arith)
         by_test false = refl
 
     -- a cell that is no obstacle falls in round 0 where it has no enabled input
@@ -64,7 +64,7 @@ module _ (g : Game) where
     falls_first c clear = by_test (has_fallen g 0 c) refl
       where
         by_test : (b : Bool) → has_fallen g 0 c ≡ b → (enabled_at g c == 0) ≡ b
-        by_test true e = let le = hits_by_fall g laws.sums 0 c clear e in let none = none_hit c in eq-eqb (enabled_at g c) 0 (omega arith)
+        by_test true e = let le = hits_by_fall g laws.counts 0 c clear e in let none = none_hit c in eq-eqb (enabled_at g c) 0 (omega arith)
         by_test false e = ne_eqb (enabled_at g c) 0 (λ z. absurd (let f = falls_by_hits g 0 c (omega arith) in cc))
 
     -- before any round nothing is cut
@@ -90,8 +90,8 @@ module _ (g : Game) where
       gone_more =
           let in' = All-range g.cells in
           let all = laws.counts.of_all_below g.cells list was.within in
-          let both = laws.sums.added (λ c. times c list) (λ c. one_if (fell_before g d c)) (range_with_len 0 g.cells) in
-          let alike = laws.sums.alike (λ c. times c list + one_if (fell_before g d c)) (λ c. one_if (fell_before g (suc d) c)) (range_with_len 0 g.cells) (λ i e li. was.cells (get_or (range_with_len 0 g.cells) i e) (in' i e li)) in
+          let both = laws.counts.added (λ c. times c list) (λ c. one_if (fell_before g d c)) (range_with_len 0 g.cells) in
+          let alike = laws.counts.alike (λ c. times c list + one_if (fell_before g d c)) (λ c. one_if (fell_before g (suc d) c)) (range_with_len 0 g.cells) (λ i e li. was.cells (get_or (range_with_len 0 g.cells) i e) (in' i e li)) in
           omega arith
 
       pub list_fits : length list ≤ g.cells
@@ -102,7 +102,7 @@ module _ (g : Game) where
       full_after some' =
           let c = get_or list 0 0 in
           let lt = was.within 0 0 some' in
-          let tests = fresh (fell_before g d c) (has_fallen g d c) (times c list) (laws.sums.counted c list (Contains-get_or list 0 0 some')) (was.cells c lt) in
+          let tests = fresh (fell_before g d c) (has_fallen g d c) (times c list) (laws.counts.counted c list (Contains-get_or list 0 0 some')) (was.cells c lt) in
           inr (d, c, refl, lt, tests.1, tests.0)
 
       -- each cell is logged at most once

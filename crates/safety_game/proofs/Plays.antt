@@ -4,14 +4,14 @@ use Rattle.std.specs.List.{range_with_len}
 use Rattle.std.specs.Vec.{vec_capacity}
 use Rattle.std.proofs.lemmas.List.Elements.{All-map, All-weaker}
 use Rattle.std.proofs.lemmas.List.Sorted.{IsPermutation-reverse, IsPermutation-trans, All-permutation, sum_by-IsPermutation}
-use Rattle.board_crew.specs.Crew.{one_if, account_of, accounts_of, notes_of, logged_cells, IsTalliedBy}
+use Rattle.board_crew.specs.Crew.{account_of, accounts_of, notes_of, logged_cells, IsTalliedBy}
+use Rattle.game_core.specs.Counts.{one_if, times}
 use Rattle.board_crew.specs.declared.worker.Worker.{Worker}
 use Rattle.board_crew.specs.Laws.{notes_in}
 use Rattle.cell_counters.specs.declared.account.Account.{Account}
 use Rattle.cell_counters.specs.Accounts.{IsLawfulLog, all_logs, log_count, cell_at}
 use Rattle.cell_counters.specs.Tokens.{BoardModel, IsLawful}
 use Rattle.frontier_pool.specs.declared.member.Member.{Member}
-use Rattle.game_core.specs.Counts.{times}
 use Rattle.game_core.specs.Game.{Game, IsGraph}
 use Rattle.safety_game.specs.declared.rounds.Rounds.{Rounds}
 use Rattle.safety_game.specs.Boards.{IsBoardOf}
@@ -57,7 +57,7 @@ module _ (g : Game) (a : IsGraph g) (laws : Laws) (board : BoardModel) (of_game 
         (All-weaker (λ (m : Member Worker). IsAtWork g board list m.hand) (λ (m : Member Worker). IsWork g list (account_of m.hand)) (λ m w. w.work) members worked))
 
     round : IsRound g list more
-    round = record { each = work_each; swept = IsPermutation-trans (range_with_len 0 (length list)) (notes_of members) (notes_in more) swept (laws.sums.reversed members) }
+    round = record { each = work_each; swept = IsPermutation-trans (range_with_len 0 (length list)) (notes_of members) (notes_in more) swept (laws.counts.reversed members) }
 
     after : IsLawfulFor g (accounts ++ more)
     after = lawful_for g a board of_game (accounts ++ more) lawful

@@ -2,14 +2,14 @@
 use Rattle.std.proofs.Common.{◌≡◌, ℕ, ◌+◌, ◌/◌, ◌%◌, ◌^◌, ◌<◌, ◌==◌, Bool, true, false, cond, List, [], ◌∷◌, ◌++◌, length, All, sum_by, arith, refl, sym, ◌∙◌, ap, subst, append_assoc}
 use Rattle.std.proofs.lemmas.List.{append-nil, length_push}
 use Rattle.std.proofs.lemmas.List.Sums.{sum_by_push}
-use Rattle.board_crew.specs.Crew.{one_if, account_of, logged_cells, fresh_worker, IsFresh}
+use Rattle.board_crew.specs.Crew.{account_of, logged_cells, fresh_worker, IsFresh}
+use Rattle.game_core.specs.Counts.{one_if, CountsTell, times}
 use Rattle.board_crew.specs.declared.worker.Worker.{Worker}
-use Rattle.board_crew.specs.Laws.{SumsTell, counters_of}
+use Rattle.board_crew.specs.Laws.{counters_of}
 use Rattle.cell_counters.specs.declared.account.Cut.{Cut}
 use Rattle.cell_counters.specs.declared.account.Account.{Account}
 use Rattle.cell_counters.specs.Tokens.{BoardModel, HandModel, with_note}
 use Rattle.frontier_pool.specs.declared.member.Member.{Member}
-use Rattle.game_core.specs.Counts.{times}
 use Rattle.game_core.specs.Game.{Game, pairs_of}
 use Rattle.safety_game.specs.inside.Rounds.{cuts_for, IsInStep, IsWorkOf}
 use Rattle.safety_game.specs.inside.Workers.{IsAtWork, HaveWorked, Takes, HitsAfter, Cuts}
@@ -30,7 +30,7 @@ pub record HasCut (g : Game) (pair : ℕ) (was now : Worker) : Type 0 where
   pub cuts_counted : (k : ℕ) → (was.cuts + k) % 2 ^ 64 ≡ length (account_of was).cuts % 2 ^ 64 → (now.cuts + (k + 1)) % 2 ^ 64 ≡ length (account_of now).cuts % 2 ^ 64
   pub offers_counted : now.offers ≡ was.offers
 
-module _ (g : Game) (sums : SumsTell) (some' : 0 < g.inputs) (pair : ℕ) (lt : pair < pairs_of g) (inside : pair / g.inputs < g.cells) where
+module _ (g : Game) (sums : CountsTell) (some' : 0 < g.inputs) (pair : ℕ) (lt : pair < pairs_of g) (inside : pair / g.inputs < g.cells) where
   -- no blow
   quiet : (was between now : Worker) → Takes g pair was between false → HitsAfter g (pair / g.inputs) false between now → HasCut g pair was now
   quiet was between now t same =
@@ -92,14 +92,14 @@ module _ (g : Game) (sums : SumsTell) (some' : 0 < g.inputs) (pair : ℕ) (lt : 
       by_blow false t h = quiet was c.between now t h
 
 -- a new worker has done nothing
-fresh_at_work : (g : Game) → SumsTell → (board : BoardModel) (list : List ℕ) → IsAtWork g board list (fresh_worker board)
+fresh_at_work : (g : Game) → CountsTell → (board : BoardModel) (list : List ℕ) → IsAtWork g board list (fresh_worker board)
 fresh_at_work g sums board list = record {
   at = refl;
   work = record { cuts = λ pair lt. refl; in_step = nothing_in_step g sums; no_offer = refl };
   counted = record { cuts = refl; offers = refl };
 }
 
-pub fresh_have_worked : (g : Game) → SumsTell → (board : BoardModel) (list : List ℕ) (members : List (Member Worker)) → All (IsFresh board) members → HaveWorked g board list members
+pub fresh_have_worked : (g : Game) → CountsTell → (board : BoardModel) (list : List ℕ) (members : List (Member Worker)) → All (IsFresh board) members → HaveWorked g board list members
 fresh_have_worked g sums board list members h i d lt = subst (IsAtWork g board list) (sym (h i d lt)) (fresh_at_work g sums board list)
 
 -- a worker that has cut these pairs since it was at work
@@ -124,7 +124,7 @@ module _ (g : Game) (board : BoardModel) (list : List ℕ) (was : Worker) where
     offers_counted = h.counted.offers;
   }
 
-  pub goes_on : SumsTell → 0 < g.inputs → (pairs : List ℕ) (pair : ℕ) (now next : Worker) → pair < pairs_of g → pair / g.inputs < g.cells → IsUnderWay g board list pairs was now → Cuts g pair now next → IsUnderWay g board list (pairs ++ pair ∷ []) was next
+  pub goes_on : CountsTell → 0 < g.inputs → (pairs : List ℕ) (pair : ℕ) (now next : Worker) → pair < pairs_of g → pair / g.inputs < g.cells → IsUnderWay g board list pairs was now → Cuts g pair now next → IsUnderWay g board list (pairs ++ pair ∷ []) was next
   goes_on sums some' pairs pair now next below inside h c =
       let one = has_cut g sums some' pair below inside now next c in
       let w = h.work in

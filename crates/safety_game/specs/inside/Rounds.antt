@@ -1,15 +1,15 @@
 -- What stands between the rounds of a keep game, and what a round adds.
 use Rattle.std.specs.Prelude.{◌≡◌, ◌≢◌, ℕ, zero, suc, ◌+◌, ◌-◌, ◌/◌, ◌<◌, ◌≤◌, ◌⊎◌, Bool, true, false, not, ◌&&◌, ◌==◌, nat_lt, cond, List, [], filter, length, slice_index, sum_by, count_by, Option, Some, None, All, IsPermutation}
 use Rattle.std.specs.List.{range_with_len}
-use Rattle.board_crew.specs.Crew.{one_if, cuts_in, offers_in, logged_cells}
-use Rattle.board_crew.specs.Laws.{SumsTell, counters_of, cut_to, notes_in}
+use Rattle.board_crew.specs.Crew.{cuts_in, offers_in, logged_cells}
+use Rattle.game_core.specs.Counts.{one_if, times, CountsTell, EdgesFromBothEnds}
+use Rattle.board_crew.specs.Laws.{AccountsTell, counters_of, cut_to, notes_in}
 use Rattle.cell_counters.specs.declared.account.Cut.{Cut}
 use Rattle.cell_counters.specs.declared.account.Account.{Account}
 use Rattle.cell_counters.specs.Accounts.{IsLawfulCounter, cut_count, all_logs}
 use Rattle.cell_counters.specs.Laws.{CountsDown, NothingDone, NewAnswers, NewPlaces}
 use Rattle.game_core.specs.declared.game.Mark.TheVariants.{Obstacle}
 use Rattle.game_core.specs.declared.game.Row.{Row}
-use Rattle.game_core.specs.Counts.{times, CountsTell, EdgesFromBothEnds}
 use Rattle.game_core.specs.Fallen.{is_obstacle, has_fallen}
 use Rattle.game_core.specs.Game.{Game, mark_of, pair_of, pairs_of, successors_at}
 use Rattle.game_core.specs.Solution.{row_of}
@@ -23,7 +23,7 @@ pub record Laws : Type 0 where
   pub counts_down : CountsDown
   pub new_answers : NewAnswers
   pub new_places : NewPlaces
-  pub sums : SumsTell
+  pub accounts : AccountsTell
 
 -- a cell fell in a round before d
 abbrev pub fell_before : Game → ℕ → ℕ → Bool
