@@ -3,6 +3,7 @@ use Rattle.std.proofs.Common.{inl, inr, ◌≡◌, ℕ, suc, ◌+◌, ◌-◌, �
 use Rattle.std.proofs.lemmas.Bool.{cases_lt, cases_Bool, lt-ltb, le-ltb}
 use Rattle.std.proofs.lemmas.List.Elements.{All-append, All-map, All-contains, Contains-get_or}
 use Rattle.std.proofs.lemmas.List.Sums.{count_by-le-length}
+use Rattle.board_crew.specs.Rules.{IsRound}
 use Rattle.board_crew.specs.Crew.{cuts_in, logged_cells}
 use Rattle.game_core.specs.Counts.{one_if, times}
 use Rattle.board_crew.specs.Laws.{counters_of}
@@ -13,24 +14,24 @@ use Rattle.cell_counters.specs.Laws.{answered}
 use Rattle.game_core.specs.Fallen.{is_obstacle, has_fallen}
 use Rattle.game_core.specs.Game.{Game, IsGraph, mark_of, pairs_of, successors_at}
 use Rattle.safety_game.specs.Boards.{pairs_at, enabled_at}
-use Rattle.safety_game.specs.inside.Rounds.{Laws, fell_before, gone_in, is_hit, hits_at, IsLawfulFor, AreFalling, firsts_in, hits_in, IsInStep, IsRound}
+use Rattle.safety_game.specs.inside.Rounds.{Laws, fell_before, gone_in, is_hit, hits_at, IsLawfulFor, AreFalling, firsts_in, hits_in, IsInStep, IsKept}
 use Rattle.safety_game.proofs.Counting.{times-append}
 use Rattle.safety_game.proofs.Pairs.{cell_of, pairs_below, All-pairs_at, few_enabled, successors_within, few_successors}
 use Rattle.safety_game.proofs.Falls.{fell_stays, gone_few, hits_few, falls_by_hits, hits_by_fall, obstacle_falls, obstacle_unhit}
-use Rattle.safety_game.proofs.Added.{cuts_in-append, offers_in-append, logged_cells-append, cut_count-append, none_offered, round_in_step, cuts_added}
+use Rattle.safety_game.proofs.Added.{cuts_in-append, offers_in-append, logged_cells-append, cut_count-append, none_offered, round_in_step}
 
 answered_few : (counter v : ℕ) (accounts : List Account) → answered counter v accounts ≤ cut_count counter accounts
 answered_few counter v accounts = count_by-le-length (λ answer. answer == v) (all_answers counter accounts)
 
-module _ (g : Game) (a : IsGraph g) (d : ℕ) (list : List ℕ) (accounts more : List Account) (laws : Laws) (was : AreFalling g d list accounts) (r : IsRound g list more) (lawful : IsLawfulFor g (accounts ++ more)) where
+module _ (g : Game) (a : IsGraph g) (d : ℕ) (list : List ℕ) (accounts more : List Account) (laws : Laws) (was : AreFalling g d list accounts) (r : IsRound g (IsKept g) list more) (lawful : IsLawfulFor g (accounts ++ more)) where
   in_step : IsInStep g (cuts_in more) (logged_cells (all_logs more))
-  in_step = round_in_step g list laws.counts more r.each
+  in_step = round_in_step g laws.counts more r.each
 
   -- the cuts of pairs
   new_cuts : (pair : ℕ) → pair < pairs_of g → cut_count pair more + gone_in g d pair ≡ gone_in g (suc d) pair
   new_cuts pair lt =
       let below = successors_within g a pair lt in
-      let added = cuts_added g list laws.counts laws.counts more r pair lt in
+      let added = r.cuts pair lt in
       let both = laws.counts.added (λ s. times s list) (λ s. one_if (fell_before g d s)) (successors_at g pair) in
       let alike = laws.counts.alike (λ s. times s list + one_if (fell_before g d s)) (λ s. one_if (fell_before g (suc d) s)) (successors_at g pair) (λ i e li. was.cells (get_or (successors_at g pair) i e) (below i e li)) in
       omega arith
@@ -200,7 +201,7 @@ module _ (g : Game) (a : IsGraph g) (d : ℕ) (list : List ℕ) (accounts more :
     cuts = cuts;
     cell_cuts = cell_cuts;
     no_other_cut = subst (λ l. All (λ (c : Cut). c.counter < pairs_of g + g.cells) l) (sym (cuts_in-append accounts more)) (All-append (λ (c : Cut). c.counter < pairs_of g + g.cells) (cuts_in accounts) (cuts_in more) was.no_other_cut in_step.no_other_cut);
-    no_offer = offers_in-append accounts more ∙ ap₂ ◌++◌ was.no_offer (none_offered g list laws.counts more r.each);
+    no_offer = offers_in-append accounts more ∙ ap₂ ◌++◌ was.no_offer (none_offered g laws.counts more r.each);
     came = λ c lt.
         let both = ap (times c) (logged_cells-append accounts more) ∙ times-append c (logged_cells (all_logs accounts)) (logged_cells (all_logs more)) in
         let before = was.came c lt in

@@ -7,11 +7,10 @@ ghost use Rattle.game_core.specs.Game.{pairs_of};
 ghost use Rattle.safety_game.specs.Boards.{IsBoardOf};
 ghost use Rattle.safety_game.specs.Kept.{IsKeptBy};
 ghost use Rattle.safety_game.specs.inside.Rounds.{first_fallen, is_whole, IsRowTold, AreRowsTold, AreFewCuts};
-ghost use Rattle.safety_game.specs.inside.Standing.{StandsAt};
 
 use crate::known::{known_graph, known_laws};
 use crate::outcome::Kept;
-use crate::rounds::Rounds;
+use crate::rule::Keep;
 use crate::scratch::Scratch;
 use cell_counters::{Board, Root};
 use frontier_pool::Gate;
@@ -56,7 +55,13 @@ pub fn keep_in<R: Threads + Sync, G: Graph + Sync, T: Gate>(
         workers,
     } = scratch;
     gather(g, &board, &mut rounds.root, &mut rounds.list);
-    play_all(rt, alloc, g, &board, workers, &mut rounds, gate);
+    let inputs = g.inputs();
+    let rule = Keep {
+        graph: g,
+        inputs,
+        pairs: g.cells() * inputs,
+    };
+    rounds.play_all(rt, alloc, &board, &rule, workers, gate);
     read_rows(g, &board, &mut rounds.root, &mut answer);
     Kept {
         answer,
@@ -74,6 +79,7 @@ fn gather<G: Graph>(g: &G, board: &Board, root: &mut Root, list: &mut Vec<u32>)
     requires room { (G.game g.now).cells ≤ vec_capacity list.old }
     ensures root { root.new ≡ root.old }
     ensures list { list.new.items ≡ first_fallen (G.game g.now) }
+    ensures few { vec_len list.new ≤ (G.game g.now).cells }
     ensures room { vec_capacity list.new ≡ vec_capacity list.old }
 {
     for c in 0..g.cells() {
@@ -105,29 +111,6 @@ fn add_if(list: &mut Vec<u32>, c: u32, falls: bool)
 {
     if falls {
         list.push_reserved(c);
-    }
-}
-
-// Does rounds until a list is empty.
-fn play_all<R: Threads + Sync, G: Graph + Sync, T: Gate>(
-    rt: &R,
-    alloc: Global,
-    g: &G,
-    board: &Board,
-    workers: u32,
-    rounds: &mut Rounds,
-    gate: &T,
-)
-    requires board { IsBoardOf (G.game g.now) board.now }
-    requires workers { (1 ≤ workers) × (workers ≤ 64) }
-    requires stands { StandsAt (G.game g.now) board.now workers rounds.old }
-    ensures stands { StandsAt (G.game g.now) board.now workers rounds.new }
-    ensures ended { rounds.new.list.items ≡ [] }
-{
-    known_graph(g);
-    known_laws();
-    'rounds: while !rounds.list.is_empty() {
-        rounds.play(rt, alloc, g, board, workers, gate);
     }
 }
 
