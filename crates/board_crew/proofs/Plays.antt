@@ -1,5 +1,5 @@
 -- What a round of workers leaves.
-use Rattle.std.proofs.Common.{◌≡◌, ℕ, suc, ◌+◌, ◌-◌, ◌<◌, ◌≤◌, ◌==◌, List, [], ◌++◌, map, length, reverse, sum_by, All, IsPermutation, arith, refl, sym, ◌∙◌, ap, ap₂, subst, length-append}
+use Rattle.std.proofs.Common.{◌≡◌, ℕ, suc, ◌+◌, ◌-◌, ◌<◌, ◌≤◌, ◌==◌, Bool, List, [], ◌++◌, map, length, reverse, sum_by, All, IsPermutation, arith, refl, sym, ◌∙◌, ap, ap₂, subst, length-append}
 use Rattle.std.specs.List.{range_with_len}
 use Rattle.std.specs.Vec.{vec_capacity}
 use Rattle.std.proofs.lemmas.List.{length-map}
@@ -42,7 +42,7 @@ pub record Played (g : Game) (fits : BoardModel → Type 0) (keeps : Account →
   pub seats : workers ≤ vec_capacity new.members
   pub room : g.cells ≤ vec_capacity new.list
 
-module _ (g : Game) (fits : BoardModel → Type 0) (keeps : ℕ → Account → Type 0) (stands : ℕ → List ℕ → List Account → Type 0) (tell : CountsTell) (places : NewPlaces) (leads : LeadsOn g fits keeps stands) (board : BoardModel) (fit : fits board) where
+module _ (g : Game) (fits : BoardModel → Type 0) (first : ℕ → Bool) (keeps : ℕ → Account → Type 0) (stands : ℕ → List ℕ → List Account → Type 0) (tell : CountsTell) (places : NewPlaces) (leads : LeadsOn g fits first keeps stands) (board : BoardModel) (fit : fits board) where
   module _ (d : ℕ) (list : List ℕ) (accounts : List Account) (members : List (Member HandModel)) (early : d ≤ g.cells) (some' : 0 < length list) (was : stands d list accounts) (worked : HaveWorked g fits (keeps d) board list members) (swept : IsPermutation (range_with_len 0 (length list)) (notes_of members)) (lawful : IsLawful (accounts ++ reverse (accounts_of members)) board.starts board.least) where
     abbrev more : List Account
     more = reverse (accounts_of members)

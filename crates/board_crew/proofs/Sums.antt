@@ -58,4 +58,3 @@ and_comm false false = refl
 -- two filters, one behind the other, in either order
 pub count_both : {X : Type 0} (p q : X → Bool) (xs : List X) → count_by p (filter q xs) ≡ count_by q (filter p xs)
 count_both p q xs = count_filter p q xs ∙ (count_alike (λ x. q x && p x) (λ x. p x && q x) xs (λ i d lt. and_comm (q (get_or xs i d)) (p (get_or xs i d))) ∙ sym (count_filter q p xs))
-

@@ -14,6 +14,7 @@ pub record IsUnused (root : RootModel) (cells workers : ℕ) (r : Rounds) : Type
   pub root_is : r.root ≡ root
   pub nobody : r.members.items ≡ []
   pub seats : workers ≤ vec_capacity r.members
+  pub empty : r.list.items ≡ []
   pub room : cells ≤ vec_capacity r.list
   pub unlisted : r.listed ≡ 0
   pub untallied : r.tally ≡ no_tally

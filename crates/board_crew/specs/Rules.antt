@@ -1,5 +1,6 @@
 -- What a rule owes the rounds that are played by it.
-use Rattle.std.specs.Prelude.{◌≡◌, ℕ, suc, ◌+◌, ◌<◌, ◌≤◌, ◌==◌, List, ◌++◌, length, sum_by, All}
+use Rattle.std.specs.Prelude.{◌≡◌, ℕ, suc, ◌+◌, ◌<◌, ◌≤◌, ◌==◌, Bool, List, [], ◌++◌, filter, length, sum_by, All}
+use Rattle.std.specs.List.{range_with_len}
 use Rattle.cell_counters.specs.declared.account.Account.{Account}
 use Rattle.cell_counters.specs.Accounts.{cut_count, all_logs, log_count}
 use Rattle.cell_counters.specs.Tokens.{BoardModel, HandModel, IsLawful, blank, with_note}
@@ -19,12 +20,14 @@ pub record IsRound (g : Game) (keeps : Account → Type 0) (list : List ℕ) (mo
   pub each : All keeps more
   pub cuts : (pair : ℕ) → pair < pairs_of g → cut_count pair more ≡ sum_by (λ s. times s list) (successors_at g pair)
 
--- what stands before a round stands before the next one, whose list is what the round logged
-pub record LeadsOn (g : Game) (fits : BoardModel → Type 0) (keeps : ℕ → Account → Type 0) (stands : ℕ → List ℕ → List Account → Type 0) : Type 0 where
+-- what a rule says of the first list stands before each round, whose list is what the round before logged
+pub record LeadsOn (g : Game) (fits : BoardModel → Type 0) (first : ℕ → Bool) (keeps : ℕ → Account → Type 0) (stands : ℕ → List ℕ → List Account → Type 0) : Type 0 where
   pub graph : IsGraph g
   -- who has done nothing keeps the rule, and who notes an item
   pub fresh : (d : ℕ) → keeps d blank
   pub noted : (d : ℕ) (a : Account) (item : ℕ) → keeps d a → keeps d (with_note a item)
+  -- the first list
+  pub begins : stands 0 (filter first (range_with_len 0 g.cells)) []
   -- a list has cells, and no more were logged than there are
   pub within : (d : ℕ) (list : List ℕ) (accounts : List Account) → stands d list accounts → All (λ c. c < g.cells) list
   pub few : (d : ℕ) (list : List ℕ) (accounts : List Account) → stands d list accounts → log_count accounts ≤ g.cells

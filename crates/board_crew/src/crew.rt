@@ -55,7 +55,12 @@ pub(crate) fn work<R: Threads + Sync, T: Toil, G: Gate>(
 }
 
 // Takes all hands in, the last member's first, and adds up what the workers counted.
-pub(crate) fn take_in(board: &Board, root: &mut Root, members: &mut Vec<Member<Worker>>, tally: &mut Tally)
+pub(crate) fn take_in(
+    board: &Board,
+    root: &mut Root,
+    members: &mut Vec<Member<Worker>>,
+    tally: &mut Tally,
+)
     requires root { (root.old.board ≡ board.now) × (root.old.out ≡ vec_len members.old) }
     requires some { 0 < vec_len members.old }
     requires members { All (λ m. m.hand.board ≡ board.now) members.old.items }

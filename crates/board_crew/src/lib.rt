@@ -7,6 +7,7 @@
 #![tactic(auto)]
 
 mod crew;
+mod first;
 pub mod laws;
 mod logged;
 mod room;

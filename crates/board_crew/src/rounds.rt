@@ -9,6 +9,7 @@ ghost use Rattle.board_crew.specs.inside.Standing.{StandsAt, to_go};
 ghost use Rattle.board_crew.specs.inside.Workers.{HaveWorked};
 
 use crate::crew::{deal, take_in, work};
+use crate::first::gather;
 use crate::logged::list_logged;
 use crate::room::room_for;
 use crate::rule::Rule;
@@ -38,10 +39,9 @@ pub struct Rounds {
 }
 
 impl Rounds {
-    /// Before the first round. The list is empty, and has room for all cells.
+    /// Before the first round.
     pub fn new(alloc: Global, root: Root, cells: u32, workers: u32) -> Result<Rounds, NoMemory>
-        ensures unused { IfOk result (IsUnused root cells workers) }
-        ensures empty { IfOk result (λ r. r.list.items ≡ []) }
+        ensures { IfOk result (IsUnused root cells workers) }
     {
         let members = room_for(alloc, workers)?;
         let list = room_for(alloc, cells)?;
@@ -59,7 +59,7 @@ impl Rounds {
         })
     }
 
-    /// Does rounds until a list is empty: first one with the list as it is, then one with what each round logged.
+    /// Does rounds until a list is empty: one with the list that the rule begins with, then one with what each round logged.
     ///
     /// In a round each cell of the list is done by exactly one worker, after the gate, and then all hands are taken in.
     pub fn play_all<R: Threads + Sync, L: Rule, T: Gate>(
@@ -75,13 +75,12 @@ impl Rounds {
         requires places { board.now.places ≡ (L.game rule.now).cells }
         requires workers { (1 ≤ workers) × (workers ≤ 64) }
         requires unused { IsUnused (new_root board.now) (L.game rule.now).cells workers self.old }
-        requires few { length self.old.list.items ≤ (L.game rule.now).cells }
-        requires stands { L.stands rule.now 0 self.old.list.items [] }
         ensures over { IsOver board.now (L.game rule.now).cells self.new }
         ensures stands { L.stands rule.now self.new.tally.rounds [] self.new.root.accounts }
     {
         rule.leads_on();
         nothing_done();
+        gather(board, &mut self.root, &mut self.list, rule);
         'rounds: while !self.list.is_empty() {
             self.play(rt, alloc, board, rule, workers, gate);
         }

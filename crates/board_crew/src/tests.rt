@@ -1,5 +1,5 @@
 // Rounds at small boards. The values are those that any order of the steps gives.
-ghost use Rattle.std.specs.Prelude.{◌≡◌, ◌<◌, ◌≤◌, [], map, length, All};
+ghost use Rattle.std.specs.Prelude.{◌≡◌, ◌<◌, ◌≤◌, true, [], map, length, All};
 ghost use Rattle.cell_counters.specs.Accounts.{all_logs};
 ghost use Rattle.game_core.specs.Game.{IsGraph};
 ghost use Rattle.board_crew.specs.inside.SmallGames.{fork};
@@ -90,12 +90,22 @@ impl Rule for Fork {
 
     ghost fits = { λ _ board. board.starts ≡ map length fork.successors };
 
+    ghost first = { λ _ _. true };
+
     ghost keeps = { λ _ _ a. a.logs ≡ [] };
 
     ghost stands = { λ _ _ list accounts. All (λ c. c < 2) list × (all_logs accounts ≡ []) };
 
+    fn cells(&self) -> u32 {
+        2
+    }
+
     fn sources(&self, c: u32) -> &[u32] {
         Graph::sources(self, c)
+    }
+
+    fn is_first(&self, _board: &Board, _root: &mut Root, _c: u32) -> bool {
+        true
     }
 
     fn cut(&self, board: &Board, worker: &mut Worker, _round: u32, pair: u32) {
@@ -108,14 +118,16 @@ impl Rule for Fork {
 }
 
 // Cell 0 cuts pairs 0 and 2, and cell 1 pairs 0 and 3. Tells what is left of each pair, and the cuts and rounds.
-fn cut_all<R: Threads + Sync>(rt: &R, alloc: Global, workers: u32) -> Result<([u64; 4], Tally), Fail>
+fn cut_all<R: Threads + Sync>(
+    rt: &R,
+    alloc: Global,
+    workers: u32,
+) -> Result<([u64; 4], Tally), Fail>
     requires { (1 ≤ workers) × (workers ≤ 64) }
 {
     let fork = Fork {};
     let (board, root) = Board::with_log(alloc, fans(alloc, &fork)?.as_slice(), &[], 2)?;
     let mut rounds = Rounds::new(alloc, root, 2, workers)?;
-    rounds.list.push_reserved(0);
-    rounds.list.push_reserved(1);
     rounds.play_all(rt, alloc, &board, &fork, workers, &Open);
     let root = &mut rounds.root;
     let left = [

@@ -1,5 +1,5 @@
 -- The first stand, and what the last one gives.
-use Rattle.std.proofs.Common.{inl, ◌≡◌, ℕ, ◌^◌, ◌<◌, List, [], Option, Some, arith, refl, sym, ◌∙◌, ap, subst}
+use Rattle.std.proofs.Common.{◌≡◌, ℕ, ◌^◌, ◌<◌, List, [], Option, Some, arith, sym, ◌∙◌, ap, subst}
 use Rattle.cell_counters.specs.Tokens.{BoardModel, RootModel}
 use Rattle.game_core.specs.declared.game.Row.{Row}
 use Rattle.game_core.specs.Game.{Game, IsGame, IsGraph}
@@ -12,16 +12,11 @@ use Rattle.reach_avoid.specs.declared.outcome.Solved.{Solved}
 use Rattle.reach_avoid.specs.Boards.{IsBoardOf}
 use Rattle.reach_avoid.specs.Reckoned.{IsReckoned}
 use Rattle.reach_avoid.specs.Solved.{IsSolved}
-use Rattle.reach_avoid.specs.inside.Rounds.{Laws, rows_told, goals_of}
+use Rattle.reach_avoid.specs.inside.Rounds.{Laws, rows_told}
 use Rattle.reach_avoid.specs.inside.Standing.{StandsAt}
-use Rattle.reach_avoid.proofs.Begins.{begins}
 use Rattle.reach_avoid.proofs.Settled.{right, reckoned, cuts_count, offers_count, few_cuts, few_offers, rounds_count}
 
 module _ (g : Game) (a : IsGraph g) (laws : Laws) (board : BoardModel) where
-  -- the goals are on the list, and nothing is done
-  pub stands_first : StandsAt g 0 (goals_of g) []
-  stands_first = record { reached = begins g a laws; full = inl refl }
-
   -- ranks are small
   pub low_ranks : (r : Rounds) → IsOver board g.cells r → StandsAt g r.tally.rounds [] r.root.accounts → (c : ℕ) (row : Row) → row_of (rows_told g r.root.accounts) c ≡ Some row → row.rank < 2 ^ 32
   low_ranks r over s c row e =

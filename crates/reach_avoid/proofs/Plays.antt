@@ -1,21 +1,21 @@
 -- Each round of the rule leads on to the next.
-use Rattle.std.proofs.Common.{◌≡◌, ℕ, suc, ◌^◌, ◌<◌, ◌≤◌, List, ◌++◌, length, arith, refl, ◌∙◌, ap}
+use Rattle.std.proofs.Common.{inl, ◌≡◌, ℕ, suc, ◌^◌, ◌<◌, ◌≤◌, List, ◌++◌, length, arith, refl, ◌∙◌, ap}
 use Rattle.std.proofs.lemmas.List.Elements.{All-nil}
 use Rattle.cell_counters.specs.declared.account.Cut.{Cut}
 use Rattle.cell_counters.specs.declared.account.Account.{Account}
 use Rattle.cell_counters.specs.Accounts.{all_logs}
 use Rattle.cell_counters.specs.Tokens.{BoardModel, IsLawful}
 use Rattle.game_core.specs.Counts.{times}
-use Rattle.game_core.specs.Game.{Game, IsGraph, pairs_of}
+use Rattle.game_core.specs.Game.{Game, IsGraph, pairs_of, mark_of}
 use Rattle.board_crew.specs.Crew.{logged_cells}
 use Rattle.board_crew.specs.Rules.{IsRound, LeadsOn}
 use Rattle.reach_avoid.specs.Boards.{IsBoardOf}
-use Rattle.reach_avoid.specs.inside.Rounds.{Laws, rows_told, IsKept, IsLawfulFor}
+use Rattle.reach_avoid.specs.inside.Rounds.{Laws, rows_told, IsKept, IsLawfulFor, is_goal}
 use Rattle.reach_avoid.specs.inside.Standing.{StandsAt}
 use Rattle.reach_avoid.proofs.OnBoards.{lawful_for}
 use Rattle.reach_avoid.proofs.Added.{logs_added}
 use Rattle.reach_avoid.proofs.LeadsOn.{next_rows, round_leads_on}
-use Rattle.reach_avoid.proofs.Begins.{full_after, few_logs}
+use Rattle.reach_avoid.proofs.Begins.{begins, full_after, few_logs}
 
 module _ (g : Game) (a : IsGraph g) (laws : Laws) where
   next_stand : (board : BoardModel) (rank : ℕ) (list next : List ℕ) (accounts more : List Account) → IsBoardOf g board → rank ≤ g.cells → 0 < length list → StandsAt g rank list accounts → IsRound g (IsKept g rank) list more
@@ -28,11 +28,12 @@ module _ (g : Game) (a : IsGraph g) (laws : Laws) where
         full = full_after g a laws rank list accounts (rows_told g (accounts ++ more)) was.reached (next_rows g a rank low list accounts more laws was.reached round after) some';
       }
 
-  pub leads_on : LeadsOn g (IsBoardOf g) (IsKept g) (StandsAt g)
+  pub leads_on : LeadsOn g (IsBoardOf g) (λ c. is_goal (mark_of g c)) (IsKept g) (StandsAt g)
   leads_on = record {
     graph = a;
     fresh = λ rank. record { no_other_cut = All-nil (λ (c : Cut). c.counter < pairs_of g); offers = refl; logs = refl };
     noted = λ rank account item h. record { no_other_cut = h.no_other_cut; offers = h.offers; logs = h.logs };
+    begins = record { reached = begins g a laws; full = inl refl };
     within = λ rank list accounts h. h.reached.within;
     few = λ rank list accounts h. few_logs g a laws accounts h.reached.lawful h.reached.valued h.reached.logs;
     next = next_stand;

@@ -2,12 +2,13 @@
 ghost use Rattle.std.specs.Prelude.{◌≡◌, ◌^◌, ◌<◌, ◌≤◌};
 ghost use Rattle.game_core.specs.Game.{IsGraph, pairs_of};
 ghost use Rattle.reach_avoid.specs.Boards.{IsBoardOf};
+ghost use Rattle.reach_avoid.specs.inside.Rounds.{is_goal};
 ghost use Rattle.reach_avoid.specs.inside.Workers.{Bids, Cuts};
 
 use crate::known::known_laws;
 use board_crew::{Rule, Worker};
-use cell_counters::Board;
-use game_core::Graph;
+use cell_counters::{Board, Root};
+use game_core::{Graph, Mark};
 
 // A round is of the cells of one rank.
 #[derive(Drop)]
@@ -19,6 +20,7 @@ pub(crate) struct Reach<'a, G: Graph> {
 }
 
 impl<G: Graph + Sync> Rule for Reach<'_, G> {
+    ghost use Rattle.game_core.specs.Game.{mark_of};
     ghost use Rattle.reach_avoid.specs.inside.Rounds.{IsKept};
     ghost use Rattle.reach_avoid.specs.inside.Standing.{StandsAt};
 
@@ -26,12 +28,22 @@ impl<G: Graph + Sync> Rule for Reach<'_, G> {
 
     ghost fits = { λ rule. IsBoardOf (G.game rule.graph.now) };
 
+    ghost first = { λ rule c. is_goal (mark_of (G.game rule.graph.now) c) };
+
     ghost keeps = { λ rule. IsKept (G.game rule.graph.now) };
 
     ghost stands = { λ rule. StandsAt (G.game rule.graph.now) };
 
+    fn cells(&self) -> u32 {
+        self.graph.cells()
+    }
+
     fn sources(&self, c: u32) -> &[u32] {
         self.graph.sources(c)
+    }
+
+    fn is_first(&self, _board: &Board, _root: &mut Root, c: u32) -> bool {
+        is_goal(self.graph.mark(c))
     }
 
     fn cut(&self, board: &Board, worker: &mut Worker, round: u32, pair: u32) {
@@ -71,5 +83,14 @@ impl<G: Graph> Reach<'_, G> {
             // Each cell is logged once at most, so there is a place for it.
             let _ = worker.log(board, cell);
         }
+    }
+}
+
+fn is_goal(mark: Mark) -> bool
+    ensures { result ≡ is_goal mark }
+{
+    match mark {
+        Mark::Goal => true,
+        Mark::Obstacle | Mark::Plain => false,
     }
 }

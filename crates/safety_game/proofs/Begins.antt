@@ -59,7 +59,7 @@ module _ (g : Game) where
       where
         by_test : (b : Bool) → has_fallen g 0 c ≡ b → (enabled_at g c == 0) ≡ b
         by_test true e = let le = hits_by_fall g laws.counts 0 c clear e in let none = none_hit c in eq-eqb (enabled_at g c) 0 (omega arith)
-        by_test false e = ne_eqb (enabled_at g c) 0 (λ z. absurd (let f = falls_by_hits g 0 c (omega arith) in cc))
+        by_test false e = ne_eqb (enabled_at g c) 0 (λ z. absurd (let f = falls_by_hits g laws.counts 0 c (omega arith) in cc))
 
     -- before any round nothing is cut
     pub begins : AreFalling g 0 (first_fallen g) []

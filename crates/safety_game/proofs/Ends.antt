@@ -1,5 +1,5 @@
 -- The first stand, and what the last one gives.
-use Rattle.std.proofs.Common.{inl, ◌≡◌, List, [], length, Option, arith, refl, sym, ◌∙◌, ap, subst}
+use Rattle.std.proofs.Common.{◌≡◌, List, [], length, Option, arith, sym, ◌∙◌, ap, subst}
 use Rattle.board_crew.specs.declared.rounds.Rounds.{Rounds}
 use Rattle.board_crew.specs.Crew.{offers_in}
 use Rattle.board_crew.specs.Rounds.{IsOver}
@@ -13,17 +13,12 @@ use Rattle.safety_game.specs.declared.outcome.Kept.{Kept}
 use Rattle.safety_game.specs.Boards.{IsBoardOf}
 use Rattle.safety_game.specs.Reckoned.{IsReckoned}
 use Rattle.safety_game.specs.Kept.{IsKeptBy}
-use Rattle.safety_game.specs.inside.Rounds.{Laws, first_fallen, AreFewCuts, AreRowsTold}
+use Rattle.safety_game.specs.inside.Rounds.{Laws, AreFewCuts, AreRowsTold}
 use Rattle.safety_game.specs.inside.Standing.{StandsAt}
-use Rattle.safety_game.proofs.Begins.{begins}
 use Rattle.safety_game.proofs.Falls.{gone_few}
 use Rattle.safety_game.proofs.Settled.{settled, reckoned, cuts_count, few_cuts, all_fell, no_sooner}
 
 module _ (g : Game) (a : IsGraph g) (laws : Laws) (board : BoardModel) where
-  -- the cells that fall in round 0 are on the list, and nothing is done
-  pub stands_first : StandsAt g 0 (first_fallen g) []
-  stands_first = record { falling = begins g a laws; full = inl refl }
-
   -- no pair is cut too often
   pub few_each : (r : Rounds) → StandsAt g r.tally.rounds [] r.root.accounts → AreFewCuts g r.root.accounts
   few_each r s pair lt =

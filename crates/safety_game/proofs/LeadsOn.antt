@@ -141,8 +141,8 @@ module _ (g : Game) (a : IsGraph g) (d : ℕ) (list : List ℕ) (accounts more :
         | inr clear ↦
             elim (cases_lt 0 (enabled_at g c)) [
               | inr none' ↦
-                  let b : one_if (has_fallen g d c) ≡ 1 = ap one_if (falls_by_hits g d c (omega arith)) in
-                  let n : one_if (has_fallen g (suc d) c) ≡ 1 = ap one_if (falls_by_hits g (suc d) c (omega arith)) in
+                  let b : one_if (has_fallen g d c) ≡ 1 = ap one_if (falls_by_hits g laws.counts d c (omega arith)) in
+                  let n : one_if (has_fallen g (suc d) c) ≡ 1 = ap one_if (falls_by_hits g laws.counts (suc d) c (omega arith)) in
                   omega arith
               | inl some' ↦ let e = by_tests clear some' (has_fallen g d c) (has_fallen g (suc d) c) refl refl in omega arith
             ]
@@ -173,12 +173,12 @@ module _ (g : Game) (a : IsGraph g) (d : ℕ) (list : List ℕ) (accounts more :
               let all = hits_by_fall g laws.counts (suc d) c clear en in
               elim (cases_lt (hits_at g d c) (enabled_at g c)) [
                 | inl less ↦ let e = law.0 (omega arith) (omega arith) in omega arith
-                | inr full ↦ absurd (let f = falls_by_hits g d c full in cc)
+                | inr full ↦ absurd (let f = falls_by_hits g laws.counts d c full in cc)
               ]
           cases false false eb en law before after =
               elim (cases_lt (hits_at g (suc d) c) (enabled_at g c)) [
                 | inl less ↦ let e = law.2 (omega arith) in omega arith
-                | inr full ↦ absurd (let f = falls_by_hits g (suc d) c full in cc)
+                | inr full ↦ absurd (let f = falls_by_hits g laws.counts (suc d) c full in cc)
               ]
 
   -- the cells that are logged are cells

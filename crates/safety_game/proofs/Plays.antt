@@ -1,9 +1,10 @@
 -- Each round of the rule leads on to the next.
-use Rattle.std.proofs.Common.{◌≡◌, ℕ, suc, ◌<◌, ◌≤◌, List, ◌++◌, length, refl}
+use Rattle.std.proofs.Common.{inl, ◌≡◌, ℕ, suc, ◌<◌, ◌≤◌, List, ◌++◌, length, refl}
 use Rattle.cell_counters.specs.declared.account.Account.{Account}
 use Rattle.cell_counters.specs.Accounts.{all_logs}
 use Rattle.cell_counters.specs.Tokens.{BoardModel, IsLawful}
 use Rattle.game_core.specs.Counts.{times}
+use Rattle.game_core.specs.Fallen.{has_fallen}
 use Rattle.game_core.specs.Game.{Game, IsGraph}
 use Rattle.board_crew.specs.Crew.{logged_cells}
 use Rattle.board_crew.specs.Rules.{IsRound, LeadsOn}
@@ -13,7 +14,7 @@ use Rattle.safety_game.specs.inside.Standing.{StandsAt}
 use Rattle.safety_game.proofs.OnBoards.{lawful_for}
 use Rattle.safety_game.proofs.InStep.{nothing_in_step}
 use Rattle.safety_game.proofs.LeadsOn.{round_leads_on}
-use Rattle.safety_game.proofs.Begins.{full_after, few_logs}
+use Rattle.safety_game.proofs.Begins.{begins, full_after, few_logs}
 
 module _ (g : Game) (a : IsGraph g) (laws : Laws) where
   next_stand : (board : BoardModel) (d : ℕ) (list next : List ℕ) (accounts more : List Account) → IsBoardOf g board → d ≤ g.cells → 0 < length list → StandsAt g d list accounts → IsRound g (IsKept g) list more
@@ -23,11 +24,12 @@ module _ (g : Game) (a : IsGraph g) (laws : Laws) where
     full = full_after g a laws d list accounts was.falling some';
   }
 
-  pub leads_on : LeadsOn g (IsBoardOf g) (λ d. IsKept g) (StandsAt g)
+  pub leads_on : LeadsOn g (IsBoardOf g) (has_fallen g 0) (λ d. IsKept g) (StandsAt g)
   leads_on = record {
     graph = a;
     fresh = λ d. record { in_step = nothing_in_step g laws.counts; no_offer = refl };
     noted = λ d account item h. record { in_step = h.in_step; no_offer = h.no_offer };
+    begins = record { falling = begins g a laws; full = inl refl };
     within = λ d list accounts h. h.falling.within;
     few = λ d list accounts h. few_logs g a laws d list accounts h.falling;
     next = next_stand;

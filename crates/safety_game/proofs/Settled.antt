@@ -22,7 +22,7 @@ use Rattle.game_core.specs.Tally.{all_pairs, unkept_in, is_lost, FellBefore}
 use Rattle.safety_game.specs.Boards.{pairs_at}
 use Rattle.safety_game.specs.Reckoned.{lost_at, IsReckonedBy}
 use Rattle.safety_game.specs.inside.Rounds.{Laws, fell_before, gone_in, is_hit, hits_at, AreFalling, IsFull, is_whole, IsRowTold, AreRowsTold}
-use Rattle.safety_game.proofs.Counting.{one_if_le, one_if_same, count_none, none_from_count, alike_from_counts, All-range, range_split, range_shift, range_rows}
+use Rattle.safety_game.proofs.Counting.{one_if_le, one_if_same, count_none, All-range, range_split, range_shift, range_rows}
 use Rattle.safety_game.proofs.Pairs.{cell_of, pair_below, pairs_below, All-pairs_at, All-at_input, successors_within}
 use Rattle.safety_game.proofs.Falls.{is_enabled, touched_enabled, fell_later, falls_by_hits, hits_by_fall, obstacle_falls}
 
@@ -82,7 +82,7 @@ module _ (g : Game) (a : IsGraph g) (d : ℕ) (accounts : List Account) (laws : 
       elim (cases_Bool (is_obstacle (mark_of g c))) [
         | inl blocked ↦ obstacle_falls g d c blocked
         | inr clear ↦
-            falls_by_hits g d c (laws.counts.lesser (λ pair. one_if (is_enabled g pair)) (λ pair. one_if (is_hit g d pair)) (pairs_at g c)
+            falls_by_hits g laws.counts d c (laws.counts.lesser (λ pair. one_if (is_enabled g pair)) (λ pair. one_if (is_hit g d pair)) (pairs_at g c)
             (All-pairs_at g (λ pair. one_if (is_enabled g pair) ≤ one_if (is_hit g d pair)) c (λ u lu.
             one_if_le (is_enabled g (pair_of g c u)) (is_hit g d (pair_of g c u)) (hit_if c u lt lu clear (none u lu)))))
       ]
@@ -95,7 +95,7 @@ module _ (g : Game) (a : IsGraph g) (d : ℕ) (accounts : List Account) (laws : 
         | inl fell ↦
             let pair = pair_of g c row.input in
             let all = hits_by_fall g laws.counts d c (clear_if (mark_of g c) is.0) fell in
-            let alike = alike_from_counts (is_hit g d) (is_enabled g) (touched_enabled g (fell_before g d)) (pairs_at g c) all in
+            let alike = laws.counts.pass_alike (is_hit g d) (is_enabled g) (touched_enabled g (fell_before g d)) (pairs_at g c) all in
             let here : is_hit g d pair ≡ is_enabled g pair = All-at_input g (λ pair. is_hit g d pair ≡ is_enabled g pair) c alike row.input is.2 in
             let parts = whole_parts pair (pair_below g c row.input lt is.2) is.3 in
             let enabled : is_enabled g pair ≡ true = lt-ltb 0 (length (successors_at g pair)) parts.0 in
@@ -125,7 +125,7 @@ module _ (g : Game) (a : IsGraph g) (d : ℕ) (accounts : List Account) (laws : 
       let lp = pair_below g c u lt lu in
       let parts = whole_parts pair lp e in
       let below = successors_within g a pair lp in
-      let none = none_from_count (fell_before g d) (successors_at g pair) parts.1 in
+      let none = laws.counts.none_passes (fell_before g d) (successors_at g pair) parts.1 in
       ((lu, filled (successors_of g c u) parts.0), λ i e' li. has_row (get_or (successors_at g pair) i e') (below i e' li) (none i e' li))
 
   leads_whole : (c u : ℕ) → c < g.cells → LeadsToRows g rows c u → is_whole g accounts (pair_of g c u) ≡ true

@@ -6,7 +6,7 @@ ghost use Rattle.safety_game.specs.inside.Workers.{Takes, Hits, Cuts};
 
 use crate::known::known_laws;
 use board_crew::{Rule, Worker};
-use cell_counters::Board;
+use cell_counters::{Board, Root};
 use game_core::{Graph, Mark};
 
 // A round is of the cells that fall in it.
@@ -21,6 +21,7 @@ pub(crate) struct Keep<'a, G: Graph> {
 }
 
 impl<G: Graph + Sync> Rule for Keep<'_, G> {
+    ghost use Rattle.game_core.specs.Fallen.{has_fallen};
     ghost use Rattle.safety_game.specs.inside.Rounds.{IsKept};
     ghost use Rattle.safety_game.specs.inside.Standing.{StandsAt};
 
@@ -28,12 +29,24 @@ impl<G: Graph + Sync> Rule for Keep<'_, G> {
 
     ghost fits = { λ rule. IsBoardOf (G.game rule.graph.now) };
 
+    ghost first = { λ rule. has_fallen (G.game rule.graph.now) 0 };
+
     ghost keeps = { λ rule _. IsKept (G.game rule.graph.now) };
 
     ghost stands = { λ rule. StandsAt (G.game rule.graph.now) };
 
+    fn cells(&self) -> u32 {
+        self.graph.cells()
+    }
+
     fn sources(&self, c: u32) -> &[u32] {
         self.graph.sources(c)
+    }
+
+    fn is_first(&self, board: &Board, root: &mut Root, c: u32) -> bool {
+        known_laws();
+        let enabled = board.left(root, self.pairs + c);
+        self.graph.mark(c) == Mark::Obstacle || enabled == 0
     }
 
     fn cut(&self, board: &Board, worker: &mut Worker, _round: u32, pair: u32) {

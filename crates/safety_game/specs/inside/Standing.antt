@@ -1,5 +1,5 @@
 -- What stands before each round, and in a scratch that wasn't used yet.
-use Rattle.std.specs.Prelude.{◌≡◌, ℕ, ◌≤◌, List, [], replicate, Option, None}
+use Rattle.std.specs.Prelude.{◌≡◌, ℕ, ◌≤◌, List, replicate, Option, None}
 use Rattle.cell_counters.specs.declared.account.Account.{Account}
 use Rattle.cell_counters.specs.Tokens.{BoardModel, new_root}
 use Rattle.game_core.specs.declared.game.Row.{Row}
@@ -16,7 +16,6 @@ pub record StandsAt (g : Game) (d : ℕ) (list : List ℕ) (accounts : List Acco
 -- what a scratch keeps
 pub record IsScratch (board : BoardModel) (count : ℕ) (r : Rounds) (answer : List (Option Row)) : Type 0 where
   pub unused : IsUnused (new_root board) board.places count r
-  pub empty : r.list.items ≡ []
   pub blank : answer ≡ replicate board.places None
   pub some_worker : 1 ≤ count
   pub few_workers : count ≤ 64

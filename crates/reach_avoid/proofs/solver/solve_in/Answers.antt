@@ -1,12 +1,12 @@
-use Rattle.std.proofs.Common.{◌≡◌, [], Option, None, length, refl, sym, ◌∙◌, ap, subst, arith}
+use Rattle.std.proofs.Common.{◌≡◌, Option, None, length, refl, sym, ◌∙◌, ap, subst}
 use Rattle.std.proofs.lemmas.List.{length-replicate}
-use Rattle.cell_counters.specs.Tokens.{BoardModel}
+use Rattle.cell_counters.specs.Tokens.{BoardModel, new_root}
 use Rattle.game_core.specs.declared.game.Row.{Row}
 use Rattle.game_core.specs.Game.{Game, IsGraph}
+use Rattle.board_crew.specs.Rounds.{IsUnused}
 use Rattle.reach_avoid.specs.Boards.{IsBoardOf}
-use Rattle.reach_avoid.specs.inside.Standing.{StandsAt}
 use Rattle.reach_avoid.proofs.OnBoards.{words_of_board}
-use Rattle.reach_avoid.proofs.Ends.{stands_first, low_ranks, solved}
+use Rattle.reach_avoid.proofs.Ends.{low_ranks, solved}
 use Rattle.reach_avoid.proofs.solver.solve_in.Goals as goal
 
 -- the board in a scratch is the one that its callers see
@@ -17,15 +17,6 @@ of_inside game inside seen same h = subst (IsBoardOf game) (sym same) h
 places_inside : (game : Game) → IsGraph game → (inside seen : BoardModel) → inside.places ≡ length inside.least → inside ≡ seen → IsBoardOf game seen → inside.places ≡ game.cells
 places_inside game a inside seen places same h = places ∙ words_of_board game a inside (of_inside game inside seen same h)
 
-pub gather-requires-clause-none : goal.gather-requires-clause-none
-gather-requires-clause-none g c = c.scratch.invariant.empty
-
-pub gather-requires-clause-room : goal.gather-requires-clause-room
-gather-requires-clause-room g c =
-    let places = places_inside (g.G.Graph.game c.args.g.now) c.known_graph.ensures c.scratch.inside.board c.args.scratch c.scratch.invariant.places c.scratch.view_is c.requires in
-    let room = c.scratch.invariant.unused.room in
-    omega arith
-
 pub play_all-requires-clause-board : goal.play_all-requires-clause-board
 play_all-requires-clause-board g c κs within = of_inside (g.G.Graph.game c.args.g.now) c.scratch.inside.board c.args.scratch c.scratch.view_is c.requires
 
@@ -34,24 +25,9 @@ play_all-requires-clause-places g c κs within = places_inside (g.G.Graph.game c
 
 pub play_all-requires-clause-unused : goal.play_all-requires-clause-unused
 play_all-requires-clause-unused g c κs within =
-    let unused = c.scratch.invariant.unused in
-    let places = places_inside (g.G.Graph.game c.args.g.now) c.known_graph.ensures c.scratch.inside.board c.args.scratch c.scratch.invariant.places c.scratch.view_is c.requires in
-    record {
-      root_is = unused.root_is;
-      nobody = unused.nobody;
-      seats = unused.seats;
-      room = (let e = c.gather.ensures.room in let r = unused.room in omega arith);
-      unlisted = unused.unlisted;
-      untallied = unused.untallied;
-    }
-
-pub play_all-requires-clause-few : goal.play_all-requires-clause-few
-play_all-requires-clause-few g c κs within = (let e = c.gather.ensures.few in omega (arith, c.gather.new.list.ok.0))
-
-pub play_all-requires-clause-stands : goal.play_all-requires-clause-stands
-play_all-requires-clause-stands g c κs within =
-    let game = g.G.Graph.game c.args.g.now in
-    subst (λ l. StandsAt game 0 l []) (sym c.gather.ensures.goals) (stands_first game c.known_graph.ensures c.known_laws.ensures c.scratch.inside.board)
+    subst (λ n. IsUnused (new_root c.scratch.inside.board) n c.scratch.inside.workers c.scratch.inside.rounds)
+    (places_inside (g.G.Graph.game c.args.g.now) c.known_graph.ensures c.scratch.inside.board c.args.scratch c.scratch.invariant.places c.scratch.view_is c.requires)
+    c.scratch.invariant.unused
 
 pub read_rows-requires-clause-board : goal.read_rows-requires-clause-board
 read_rows-requires-clause-board g c = of_inside (g.G.Graph.game c.args.g.now) c.scratch.inside.board c.args.scratch c.scratch.view_is c.requires

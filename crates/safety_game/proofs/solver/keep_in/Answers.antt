@@ -1,27 +1,11 @@
-use Rattle.std.proofs.Common.{[], Option, None, length, refl, sym, ◌∙◌, ap, subst, arith}
+use Rattle.std.proofs.Common.{Option, None, length, refl, sym, ◌∙◌, ap, subst}
 use Rattle.std.proofs.lemmas.List.{length-replicate}
 use Rattle.game_core.specs.declared.game.Row.{Row}
+use Rattle.cell_counters.specs.Tokens.{new_root}
+use Rattle.board_crew.specs.Rounds.{IsUnused}
 use Rattle.safety_game.specs.Boards.{IsBoardOf}
-use Rattle.safety_game.specs.inside.Standing.{StandsAt}
-use Rattle.safety_game.proofs.Ends.{stands_first, few_each, solved}
+use Rattle.safety_game.proofs.Ends.{few_each, solved}
 use Rattle.safety_game.proofs.solver.keep_in.Goals as goal
-
-pub gather-requires-clause-board : goal.gather-requires-clause-board
-gather-requires-clause-board g c = subst (IsBoardOf (g.G.Graph.game c.args.g.now)) (sym c.scratch.view_is) c.requires
-
-pub gather-requires-clause-root : goal.gather-requires-clause-root
-gather-requires-clause-root g c = c.scratch.invariant.unused.root_is
-
-pub gather-requires-clause-none : goal.gather-requires-clause-none
-gather-requires-clause-none g c = c.scratch.invariant.empty
-
-pub gather-requires-clause-room : goal.gather-requires-clause-room
-gather-requires-clause-room g c =
-    let game = g.G.Graph.game c.args.g.now in
-    let of_game : IsBoardOf game c.scratch.inside.board = subst (IsBoardOf game) (sym c.scratch.view_is) c.requires in
-    let places = of_game.log in
-    let room = c.scratch.invariant.unused.room in
-    omega arith
 
 pub play_all-requires-clause-board : goal.play_all-requires-clause-board
 play_all-requires-clause-board g c κs within = subst (IsBoardOf (g.G.Graph.game c.args.g.now)) (sym c.scratch.view_is) c.requires
@@ -36,24 +20,7 @@ pub play_all-requires-clause-unused : goal.play_all-requires-clause-unused
 play_all-requires-clause-unused g c κs within =
     let game = g.G.Graph.game c.args.g.now in
     let of_game : IsBoardOf game c.scratch.inside.board = subst (IsBoardOf game) (sym c.scratch.view_is) c.requires in
-    let places = of_game.log in
-    let unused = c.scratch.invariant.unused in
-    record {
-      root_is = c.gather.ensures.root ∙ unused.root_is;
-      nobody = unused.nobody;
-      seats = unused.seats;
-      room = (let e = c.gather.ensures.room in let r = unused.room in omega arith);
-      unlisted = unused.unlisted;
-      untallied = unused.untallied;
-    }
-
-pub play_all-requires-clause-few : goal.play_all-requires-clause-few
-play_all-requires-clause-few g c κs within = (let e = c.gather.ensures.few in omega (arith, c.gather.new.list.ok.0))
-
-pub play_all-requires-clause-stands : goal.play_all-requires-clause-stands
-play_all-requires-clause-stands g c κs within =
-    let game = g.G.Graph.game c.args.g.now in
-    subst (λ l. StandsAt game 0 l []) (sym c.gather.ensures.list) (stands_first game c.known_graph.ensures c.known_laws.ensures c.scratch.inside.board)
+    subst (λ n. IsUnused (new_root c.scratch.inside.board) n c.scratch.inside.workers c.scratch.inside.rounds) of_game.log c.scratch.invariant.unused
 
 pub read_rows-requires-clause-board : goal.read_rows-requires-clause-board
 read_rows-requires-clause-board g c = subst (IsBoardOf (g.G.Graph.game c.args.g.now)) (sym c.scratch.view_is) c.requires

@@ -25,6 +25,7 @@ returns c = record {
   graph = c.args.self.now.is_graph;
   fresh = λ d. refl;
   noted = λ d a item h. h;
+  begins = (λ i d lt. ?, refl);
   within = λ d list accounts h. h.0;
   few = λ d list accounts h. let e = ap length h.1 in omega arith;
   next = λ board d list next accounts more fit early some' was round lawful same.

@@ -19,8 +19,7 @@ invariant_of-result g c =
     let rounds = c.in_ok-rounds.rounds in
     let places : c.cells-cells.result ≡ board.places = sym c.in_ok-board.ensures.places in
     record {
-      unused = subst (λ root. IsUnused root board.places c.args.workers rounds) c.in_ok-board.ensures.root (subst (λ n. IsUnused c.in_ok-board.root n c.args.workers rounds) places c.in_ok-rounds.ensures.unused);
-      empty = c.in_ok-rounds.ensures.empty;
+      unused = subst (λ root. IsUnused root board.places c.args.workers rounds) c.in_ok-board.ensures.root (subst (λ n. IsUnused c.in_ok-board.root n c.args.workers rounds) places c.in_ok-rounds.ensures);
       blank = c.in_ok-answer.ensures ∙ ap (λ (n : ℕ). replicate n None) places;
       some_worker = c.requires.0;
       few_workers = c.requires.1;
