@@ -8,8 +8,12 @@ pub mod BandPlaces
 pub mod SourceBands
 pub mod LeadingPairs
 pub mod SourceSteps
+pub mod ShapeRuns
+pub mod ListedShapes
 pub mod PlantGame
 pub mod DigitMoves
 pub mod PairDigits
 pub mod EquationDigits
 pub mod SideTables
+pub mod Marking
+pub mod PlantMarks

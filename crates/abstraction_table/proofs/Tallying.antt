@@ -1,14 +1,16 @@
 -- One more cell, or some more, that is counted or that a pair is put at.
-use Rattle.std.proofs.Common.{◌≡◌, ◌≢◌, ℕ, zero, suc, ◌+◌, ◌-◌, ◌^◌, ◌<◌, ◌≤◌, Bool, true, false, ◌==◌, cond, List, [], ◌∷◌, ◌++◌, All, length, replicate, get_or, set, refl, sym, ap, subst, ◌∙◌, arith, append_assoc, append-nil}
+use Rattle.std.proofs.Common.{◌≡◌, ◌≢◌, ℕ, zero, suc, ◌+◌, ◌-◌, ◌^◌, ◌<◌, ◌≤◌, Bool, true, false, ◌==◌, cond, List, [], ◌∷◌, ◌++◌, All, length, map, replicate, take, drop, get_or, set, refl, sym, ap, subst, ◌∙◌, arith, append_assoc, append-nil}
 use Rattle.std.specs.List.{range_with_len}
 use Rattle.std.proofs.lemmas.Bool.{false_from_ne_true, false≢true}
 use Rattle.std.proofs.lemmas.Bool.Decides.{Decides-eqb}
-use Rattle.std.proofs.lemmas.List.{length-append, length-replicate, length-set, get_or-set_same, get_or-set_other, replicate-append-replicate}
+use Rattle.std.proofs.lemmas.List.{drop_more, drop-set-lt, take_more_set, length-append, length-replicate, length-set, length-take, length-drop, get_or_default, get_or-take, get_or-drop, get_or-set_same, get_or-set_other, replicate-append-replicate}
+use Rattle.std.proofs.lemmas.List.Elements.{All-tail}
 use Rattle.std.proofs.lemmas.List.FromFn.{length-range_with_len, get_or-range_with_len}
 use Rattle.std.proofs.lemmas.List.Sums.{sum_by-append, sum_by_push, sum_by-set}
 use Rattle.rayon.proofs.ListFacts.{All-parts}
 use Rattle.grid_quantiser.specs.Runs.{BeginsWithRun}
-use Rattle.edge_rows.specs.Rows.{Filling, row_at, appended, HasRoom}
+use Rattle.edge_rows.specs.Rows.{Filling, row_at, appended, changed_run, appended_run, HaveRoom}
+use Rattle.edge_rows.proofs.RunsLaid.{run_none, run_more}
 use Rattle.abstraction_table.specs.inside.Tallies.{times, AreCounted, ArePut, HasRoomFor}
 
 -- a number is a cell or another
@@ -46,20 +48,11 @@ range-append a (suc m) n =
     ∙ ap (λ (x : ℕ). (a ∷ range_with_len (a + 1) m) ++ range_with_len x n) (let e : a + 1 + m ≡ a + suc m = omega arith in e)
 
 -- the cells before one, it, and those behind it
-pub range_split : (a m i : ℕ) → a ≤ i → i < a + m → range_with_len a m ≡ range_with_len a (i - a) ++ i ∷ range_with_len (i + 1) (a + m - (i + 1))
+range_split : (a m i : ℕ) → a ≤ i → i < a + m → range_with_len a m ≡ range_with_len a (i - a) ++ i ∷ range_with_len (i + 1) (a + m - (i + 1))
 range_split a m i low high =
     ap (range_with_len a) (let e : m ≡ i - a + suc (a + m - (i + 1)) = omega arith in e)
     ∙ range-append a (i - a) (suc (a + m - (i + 1)))
     ∙ ap (λ (x : ℕ). range_with_len a (i - a) ++ x ∷ range_with_len (x + 1) (a + m - (i + 1))) (let e : a + (i - a) ≡ i = omega arith in e)
-
-pub range_more : (a i : ℕ) → a ≤ i → range_with_len a (i + 1 - a) ≡ range_with_len a (i - a) ++ i ∷ []
-range_more a i low =
-    ap (range_with_len a) (let e : i + 1 - a ≡ i - a + suc 0 = omega arith in e)
-    ∙ range-append a (i - a) (suc 0)
-    ∙ ap (λ (x : ℕ). range_with_len a (i - a) ++ x ∷ []) (let e : a + (i - a) ≡ i = omega arith in e)
-
-pub range_none : (a : ℕ) → range_with_len a (a - a) ≡ []
-range_none a = ap (range_with_len a) (let e : a - a ≡ 0 = omega arith in e)
 
 -- ---- counts
 
@@ -81,10 +74,6 @@ counted_more before counts after cells more h g = record {
   each = λ c. omega (arith, g.each c, h.each c, times-append c cells more);
   total = omega (arith, g.total, h.total, length-append cells more);
 }
-
--- the next cell's count has room
-pub count_fits : (before counts done later : List ℕ) (x : ℕ) → AreCounted before counts done → ((c : ℕ) → get_or before c 0 + times c (done ++ x ∷ later) < 2 ^ 32) → get_or counts x 0 + 1 < 2 ^ 32
-count_fits before counts done later x h room = omega (arith, h.each x, room x, times_later x done later)
 
 pub run_fits : (before counts done run later : List ℕ) → AreCounted before counts done → ((c : ℕ) → get_or before c 0 + times c ((done ++ run) ++ later) < 2 ^ 32) → (c : ℕ) → get_or counts c 0 + times c run < 2 ^ 32
 run_fits before counts done run later h room c = omega (arith, h.each c, room c, times-append c (done ++ run) later, times-append c done run)
@@ -131,12 +120,66 @@ room_left pair before now done run later h room = λ c below.
     let within : c < length before.rows = omega (arith, below, h.long) in
     rw h.lengths (omega (arith, put_length pair before now done c h within, room c within, times-append c (done ++ run) later, times-append c done run))
 
--- there is a place for the next cell
-pub room_here : (pair : ℕ) (before now : Filling) (done later : List ℕ) (x : ℕ) → ArePut pair before now done → HasRoomFor before (done ++ x ∷ later) → x < length before.rows → HasRoom now x
-room_here pair before now done later x h room within =
-    (rw h.long within, rw h.lengths (omega (arith, put_length pair before now done x h within, room x within, times_later x done later)))
-
 -- ---- runs
+
+-- one is added to each count of a run
+pub counted_run : (counts : List ℕ) (r n : ℕ) → r + n ≤ length counts → AreCounted counts (changed_run (λ count. count + 1) counts r n) (range_with_len r n)
+counted_run counts r zero within = subst (λ after. AreCounted counts after []) (sym (run_none (λ count. count + 1) counts r)) (counted_none counts)
+counted_run counts r (suc n) within =
+    let at : r < length counts = omega (arith, within) in
+    let one : List ℕ = set counts r (get_or counts r 0 + 1) in
+    let long : r + 1 + n ≤ length one = omega (arith, within, length-set counts r (get_or counts r 0 + 1)) in
+    subst (λ after. AreCounted counts after (range_with_len r (suc n))) (sym (run_more (λ count. count + 1) 0 counts r n at))
+    (counted_more counts one (changed_run (λ count. count + 1) one (r + 1) n) (r ∷ []) (range_with_len (r + 1) n) (counted_one counts counts [] r (counted_none counts) at) (counted_run one (r + 1) n long))
+
+-- one is added to the next count
+pub one_added : (before items : List ℕ) (i : ℕ) → i < length items → map (λ count. count + 1) before ≡ take i items ++ map (λ count. count + 1) (drop i items) →
+    map (λ count. count + 1) before ≡ take (i + 1) (set items i (get_or items i 0 + 1)) ++ map (λ count. count + 1) (drop (i + 1) (set items i (get_or items i 0 + 1)))
+one_added before items i lt h =
+    let next : ℕ = get_or items i 0 + 1 in
+    h
+    ∙ ap (λ xs. take i items ++ map (λ count. count + 1) xs) (drop_more items i 0 lt)
+    ∙ sym (append_assoc (take i items) (next ∷ []) (map (λ count. count + 1) (drop (i + 1) items)))
+    ∙ ap (λ xs. xs ++ map (λ count. count + 1) (drop (i + 1) items)) (sym (take_more_set items i next lt))
+    ∙ ap (λ xs. take (i + 1) (set items i next) ++ map (λ count. count + 1) xs) (sym (drop-set-lt (i + 1) items i next (omega arith)))
+
+pub others_fit : (bound : ℕ) (items : List ℕ) (i : ℕ) → i < length items → All (λ count. count + 1 < bound) (drop i items) → All (λ count. count + 1 < bound) (drop (i + 1) (set items i (get_or items i 0 + 1)))
+others_fit bound items i lt room =
+    rw (drop-set-lt (i + 1) items i (get_or items i 0 + 1) (omega arith))
+    (All-tail (λ count. count + 1 < bound) (get_or items i 0) (drop (i + 1) items) (subst (All (λ count. count + 1 < bound)) (drop_more items i 0 lt) room))
+
+-- a cell of a run comes at least once
+in_run : (c r n : ℕ) → r ≤ c → c < r + n → 1 ≤ times c (range_with_len r n)
+in_run c r n low high =
+    rw (range_split r n c low high) (omega (arith, times_later c (range_with_len r (c - r)) (range_with_len (c + 1) (r + n - (c + 1)))))
+
+-- there is room for one more in each count of a run
+pub run_counts_fit : (bound : ℕ) (counts : List ℕ) (r n k : ℕ) → k ≡ n → r + n ≤ length counts → ((c : ℕ) → get_or counts c 0 + times c (range_with_len r n) < bound) → All (λ count. count + 1 < bound) (take k (drop r counts))
+run_counts_fit bound counts r n k same within room = λ i d lt.
+    let below : i < n = omega (arith, lt, same, length-take k (drop r counts), length-drop r counts, within) in
+    let is : get_or (take k (drop r counts)) i d ≡ get_or counts (r + i) 0 =
+    get_or-take k (drop r counts) i d (omega (arith, below, same)) ∙ get_or-drop r counts i d ∙ get_or_default counts (r + i) d 0 (omega (arith, below, within))
+    in
+    omega (arith, is, room (r + i), in_run (r + i) r n (omega arith) (omega (arith, below)))
+
+-- a pair is put in each row of a run
+pub put_run : (pair : ℕ) (before after : Filling) (r n : ℕ) → r + n ≤ length before.rows → after.rows ≡ appended_run before.rows r n pair → after.lengths ≡ before.lengths → ArePut pair before after (range_with_len r n)
+put_run pair before after r zero within rows lengths =
+    let same = rows ∙ run_none (λ row. row ++ pair ∷ []) before.rows r in
+    record { long = ap length same; lengths = lengths; each = λ c below. ap (λ (rs : List (List ℕ)). row_at rs c) same ∙ sym (append-nil (row_at before.rows c)) }
+put_run pair before after r (suc n) within rows lengths =
+    let at : r < length before.rows = omega (arith, within) in
+    let one : Filling = record { rows = appended before.rows r pair; lengths = before.lengths } in
+    let long : r + 1 + n ≤ length one.rows = omega (arith, within, length-set before.rows r (row_at before.rows r ++ pair ∷ [])) in
+    put_more pair before one after (r ∷ []) (range_with_len (r + 1) n) (put_one pair before before one [] r (put_none pair before) at refl refl)
+    (put_run pair one after (r + 1) n long (rows ∙ run_more (λ row. row ++ pair ∷ []) [] before.rows r n at) lengths)
+
+-- the rows of a run have room
+pub run_has_room : (f : Filling) (r n : ℕ) → r + n ≤ length f.rows → HasRoomFor f (range_with_len r n) → HaveRoom f r n
+run_has_room f r n within room = λ c low high.
+    let below : c < length f.rows = omega (arith, within, high) in (below, omega (arith, room c below, in_run c r n low high))
+
+-- ---- runs that are gone through one by one
 
 -- the cells of the next run lie where all cells do
 pub run_below : (n : ℕ) (done cells later : List ℕ) (first len : ℕ) → All (λ c. c < n) (done ++ cells) → BeginsWithRun cells later first len → first + len ≤ n

@@ -3,6 +3,7 @@ pub mod Digits
 pub mod Marks
 pub mod Memory
 pub mod Props
+pub mod Shapes
 pub mod Sides
 pub mod Sources
 pub mod Tallies

@@ -1,5 +1,5 @@
 //! Bands of cells.
-ghost use Rattle.std.specs.Prelude.{◌≡◌, ◌+◌, ◌^◌, ◌<◌, ◌≤◌, [], IfSome, IfNone};
+ghost use Rattle.std.specs.Prelude.{◌≡◌, ◌+◌, ◌^◌, ◌<◌, ◌≤◌, [], Some, IfSome, IfNone};
 ghost use Rattle.std.specs.List.{range_with_len};
 ghost use Rattle.grid_quantiser.specs.Axes.{cells_of};
 ghost use Rattle.successor_box.specs.Boxes.{cells_in};
@@ -7,7 +7,7 @@ ghost use Rattle.abstraction_table.specs.inside.Sources.{IsBox};
 ghost use Rattle.abstraction_table.specs.inside.Tallies.{places_in};
 
 use grid_quantiser::laws::{cells_lie_between_corners, every_grid_is_within_the_limit};
-use grid_quantiser::{CellBox, Grid, Runs};
+use grid_quantiser::{CellBox, Grid};
 
 /// Cells that follow one another. The first of them has the place 0.
 #[derive(Clone, Copy)]
@@ -17,12 +17,12 @@ pub(crate) struct Band {
 }
 
 impl Band {
-    /// The runs of a box, unless its corners show that it has no cell here.
+    /// A box, unless its corners show that it has no cell here.
     #[inline]
-    pub(crate) fn runs(&self, grid: &Grid, b: Option<CellBox>) -> Option<Runs>
+    pub(crate) fn reached(&self, grid: &Grid, b: Option<CellBox>) -> Option<CellBox>
         requires ordered { IsBox grid.now b }
         requires within { self.now.from + self.now.len ≤ cells_of grid.now }
-        ensures runs { IfSome result (λ cells. cells ≡ cells_in grid.now b) }
+        ensures same { IfSome result (λ reached. b ≡ Some reached) }
         ensures none { IfNone result (places_in self.now.from self.now.len (cells_in grid.now b) ≡ []) }
     {
         cells_lie_between_corners();
@@ -31,7 +31,7 @@ impl Band {
         if b.last < self.from || self.from + self.len <= b.first {
             return None;
         }
-        Some(grid.runs(b))
+        Some(b)
     }
 
     /// The places that a run of cells has here: the first, and how many.

@@ -5,7 +5,7 @@ ghost use Rattle.plant_text.specs.plant.Description.{axes_of, vectors_of};
 ghost use Rattle.successor_box.specs.Boxes.{IsBoxOf};
 ghost use Rattle.successor_box.specs.Deviations.{HasNoOverflow, deviations_of};
 ghost use Rattle.abstraction_table.specs.Abstraction.{AreBoxesOf};
-ghost use Rattle.abstraction_table.specs.inside.Sides.{ArePlacesOf, AreSharesOf, HoldSides};
+ghost use Rattle.abstraction_table.specs.inside.Sides.{ArePlacesOf, AreOffsetsOf, HoldSides};
 
 use crate::sides::{SideTable, find_tables};
 use grid_quantiser::CellBox;
@@ -55,7 +55,7 @@ pub(crate) fn find_boxes<R: Threads + Sync>(
 
 /// What a cell brings to each table: to the place of its sides, and how many places it moves them.
 #[derive(Drop)]
-struct Shares {
+struct Offsets {
     firsts: [u32; 6],
     moves: [u32; 6],
 }
@@ -68,36 +68,36 @@ fn boxes_of_cell(p: &Plant, tables: &[SideTable], c: u32, boxes: &mut [Option<Ce
     ensures long { length boxes.new ≡ length boxes.old }
     ensures each { (u : ℕ) → u < length boxes.old → IsBoxOf p.now c u (slice_index_or boxes.new u None) }
 {
-    let shares = shares_of(p, tables, c);
+    let offsets = offsets_of(p, tables, c);
     for input in 0..p.vectors() {
-        boxes[input as usize] = box_at(p, tables, &shares, input);
+        boxes[input as usize] = box_at(p, tables, &offsets, input);
     }
 }
 
 /// The box of a cell that brings so much to each table, under an input.
 #[inline]
-fn box_at(p: &Plant, tables: &[SideTable], shares: &Shares, input: u32) -> Option<CellBox>
+fn box_at(p: &Plant, tables: &[SideTable], offsets: &Offsets, input: u32) -> Option<CellBox>
     requires tables { HoldSides p.now tables.now }
-    requires cell { (c : ℕ) × (c < cells_of (axes_of p.now)) × AreSharesOf p.now tables.now c shares.now }
+    requires cell { (c : ℕ) × (c < cells_of (axes_of p.now)) × AreOffsetsOf p.now tables.now c offsets.now }
     requires input { input < vectors_of p.now.inputs }
-    ensures { (c : ℕ) → c < cells_of (axes_of p.now) → AreSharesOf p.now tables.now c shares.now → IsBoxOf p.now c input result }
+    ensures { (c : ℕ) → c < cells_of (axes_of p.now) → AreOffsetsOf p.now tables.now c offsets.now → IsBoxOf p.now c input result }
 {
     every_plant_is_within_limits(p);
     plants_are_sound();
     let mut sides = [None; 6];
     for state in 0..tables.len() {
-        let side = tables[state].side(shares.firsts[state], input);
-        sides[state] = moved_side(p, state as u32, side, shares.moves[state]);
+        let side = tables[state].side(offsets.firsts[state], input);
+        sides[state] = moved_side(p, state as u32, side, offsets.moves[state]);
     }
     box_of_sides(p, &sides)
 }
 
 /// What a cell brings to the tables.
 #[inline]
-fn shares_of(p: &Plant, tables: &[SideTable], c: u32) -> Shares
+fn offsets_of(p: &Plant, tables: &[SideTable], c: u32) -> Offsets
     requires tables { HoldSides p.now tables.now }
     requires cell { c < cells_of (axes_of p.now) }
-    ensures { AreSharesOf p.now tables.now c result }
+    ensures { AreOffsetsOf p.now tables.now c result }
 {
     every_plant_is_within_limits(p);
     plants_are_sound();
@@ -108,7 +108,7 @@ fn shares_of(p: &Plant, tables: &[SideTable], c: u32) -> Shares
         firsts[state] = tables[state].first(&places);
         moves[state] = tables[state].moved_by(places[state]);
     }
-    Shares { firsts, moves }
+    Offsets { firsts, moves }
 }
 
 /// The places of a cell along the axes, and 0 for each input variable.

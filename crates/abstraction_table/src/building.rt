@@ -48,7 +48,7 @@ pub fn survey<R: Threads + Sync>(
     if edges > EDGES_LIMIT {
         return Err(BuildFault::TooManyEdges { edges });
     }
-    let marks = find_marks(rt, alloc, p)?;
+    let marks = find_marks(alloc, p)?;
     Ok(Outlook {
         grid,
         inputs: p.vectors(),

@@ -1,36 +1,40 @@
 //! The pairs that lead to each cell of a band.
-ghost use Rattle.std.specs.Prelude.{◌≡◌, ◌+◌, ◌^◌, ◌<◌, ◌≤◌, ℕ, length, slice_index, sum, IfOk};
+ghost use Rattle.std.specs.Prelude.{◌≡◌, ◌+◌, ◌^◌, ◌<◌, ◌≤◌, ℕ, map, length, slice_index, sum, IfOk, IfSome};
 ghost use Rattle.std.specs.List.{All, range_with_len};
 ghost use Rattle.grid_quantiser.specs.Axes.{cells_of};
 ghost use Rattle.edge_rows.specs.Rows.{unfilled};
 ghost use Rattle.successor_box.specs.Boxes.{cells_in};
+ghost use Rattle.abstraction_table.specs.inside.Shapes.{cells_from, EndsBy, HasRunsOf, HaveRuns};
 ghost use Rattle.abstraction_table.specs.inside.Sources.{IsBox, AreBandRows};
 ghost use Rattle.abstraction_table.specs.inside.Tallies.{times, places_in, AreCounted, ArePut, HasRoomFor, edges_of, AreCountsAmong};
 
 use crate::band::Band;
+use crate::shapes::{Run, Shapes};
 use edge_rows::laws::full_rows_leave_no_place;
 use edge_rows::{NoMemory, RowFill, Rows};
 use grid_quantiser::laws::{cells_of_a_box, every_grid_is_within_the_limit};
-use grid_quantiser::{CellBox, Grid, Runs};
+use grid_quantiser::{CellBox, Grid};
 use std::alloc::{AllocError, Global};
 
 /// The pairs that lead to each cell of a band, in rising order.
 pub(crate) fn fill_band(
     alloc: Global,
     grid: &Grid,
+    shapes: &Shapes,
     boxes: &[Option<CellBox>],
     band: Band,
 ) -> Result<Rows, NoMemory>
     requires ordered { All (IsBox grid.now) boxes.now }
+    requires runs { HaveRuns grid.now shapes.now boxes.now }
     requires pairs { length boxes.now ≤ 2 ^ 22 }
     requires edges { edges_of grid.now boxes.now ≤ 2 ^ 25 }
     requires within { band.from + band.len ≤ cells_of grid.now }
     ensures { IfOk result (λ rows. AreBandRows grid.now boxes.now band.from band.len rows) }
 {
     every_grid_is_within_the_limit(grid);
-    let counts = count_sources(alloc, grid, boxes, band)?;
+    let counts = count_sources(alloc, grid, shapes, boxes, band)?;
     let mut fill = RowFill::new(alloc, &counts)?;
-    put_sources(grid, boxes, band, &mut fill);
+    put_sources(grid, shapes, boxes, band, &mut fill);
     full_rows_leave_no_place(&fill);
     Ok(fill.finish())
 }
@@ -39,10 +43,12 @@ pub(crate) fn fill_band(
 fn count_sources(
     alloc: Global,
     grid: &Grid,
+    shapes: &Shapes,
     boxes: &[Option<CellBox>],
     band: Band,
 ) -> Result<Vec<u32>, AllocError>
     requires ordered { All (IsBox grid.now) boxes.now }
+    requires runs { HaveRuns grid.now shapes.now boxes.now }
     requires pairs { length boxes.now ≤ 2 ^ 22 }
     requires edges { edges_of grid.now boxes.now ≤ 2 ^ 25 }
     requires within { band.from + band.len ≤ cells_of grid.now }
@@ -53,14 +59,21 @@ fn count_sources(
     every_grid_is_within_the_limit(grid);
     let mut counts = vec![in alloc; 0; band.len as usize]?;
     for b in boxes {
-        count_box(grid, *b, band, &mut counts);
+        count_box(grid, shapes, *b, band, &mut counts);
     }
     Ok(counts)
 }
 
 /// Puts each pair, in rising order, at the places of its box in a band.
-fn put_sources(grid: &Grid, boxes: &[Option<CellBox>], band: Band, fill: &mut RowFill)
+fn put_sources(
+    grid: &Grid,
+    shapes: &Shapes,
+    boxes: &[Option<CellBox>],
+    band: Band,
+    fill: &mut RowFill,
+)
     requires ordered { All (IsBox grid.now) boxes.now }
+    requires runs { HaveRuns grid.now shapes.now boxes.now }
     requires pairs { length boxes.now ≤ 2 ^ 22 }
     requires within { band.from + band.len ≤ cells_of grid.now }
     requires empty { fill.old.rows ≡ unfilled fill.old.lengths }
@@ -71,14 +84,15 @@ fn put_sources(grid: &Grid, boxes: &[Option<CellBox>], band: Band, fill: &mut Ro
     cells_of_a_box();
     every_grid_is_within_the_limit(grid);
     for pair in 0..boxes.len() {
-        put_box(grid, boxes[pair], band, pair as u32, fill);
+        put_box(grid, shapes, boxes[pair], band, pair as u32, fill);
     }
 }
 
 /// Adds one to the count of each place of a box in a band.
 #[inline]
-fn count_box(grid: &Grid, b: Option<CellBox>, band: Band, counts: &mut [u32])
+fn count_box(grid: &Grid, shapes: &Shapes, b: Option<CellBox>, band: Band, counts: &mut [u32])
     requires ordered { IsBox grid.now b }
+    requires runs { IfSome b (HasRunsOf grid.now shapes.now) }
     requires within { band.from + band.len ≤ cells_of grid.now }
     requires one_each { length counts.old ≡ band.len }
     requires room { (i : ℕ) → slice_index counts.old i + times i (places_in band.from band.len (cells_in grid.now b)) < 2 ^ 32 }
@@ -86,15 +100,23 @@ fn count_box(grid: &Grid, b: Option<CellBox>, band: Band, counts: &mut [u32])
 {
     cells_of_a_box();
     every_grid_is_within_the_limit(grid);
-    if let Some(cells) = band.runs(grid, b) {
-        count_cells(cells, band, counts);
+    if let Some(b) = band.reached(grid, b) {
+        count_runs(b.first, shapes.runs_of(b), band, counts);
     }
 }
 
 /// Puts a pair at each place of its box in a band.
 #[inline]
-fn put_box(grid: &Grid, b: Option<CellBox>, band: Band, pair: u32, fill: &mut RowFill)
+fn put_box(
+    grid: &Grid,
+    shapes: &Shapes,
+    b: Option<CellBox>,
+    band: Band,
+    pair: u32,
+    fill: &mut RowFill,
+)
     requires ordered { IsBox grid.now b }
+    requires runs { IfSome b (HasRunsOf grid.now shapes.now) }
     requires within { band.from + band.len ≤ cells_of grid.now }
     requires one_each { length fill.old.rows ≡ band.len }
     requires room { HasRoomFor fill.old (places_in band.from band.len (cells_in grid.now b)) }
@@ -102,61 +124,60 @@ fn put_box(grid: &Grid, b: Option<CellBox>, band: Band, pair: u32, fill: &mut Ro
 {
     cells_of_a_box();
     every_grid_is_within_the_limit(grid);
-    if let Some(cells) = band.runs(grid, b) {
-        put_cells(cells, band, pair, fill);
+    if let Some(b) = band.reached(grid, b) {
+        put_runs(b.first, shapes.runs_of(b), band, pair, fill);
     }
 }
 
-/// Adds one to the count of each place of these cells in a band.
-fn count_cells(mut cells: Runs, band: Band, counts: &mut [u32])
-    requires within { All (λ c. c < 2 ^ 20) cells }
+/// Adds one to the count of each place of the cells of runs in a band.
+#[inline]
+fn count_runs(first: u32, runs: &[Run], band: Band, counts: &mut [u32])
+    requires within { All (EndsBy (2 ^ 20) first) runs.now }
     requires limit { band.from + band.len ≤ 2 ^ 20 }
     requires one_each { length counts.old ≡ band.len }
-    requires room { (i : ℕ) → slice_index counts.old i + times i (places_in band.from band.len cells) < 2 ^ 32 }
-    ensures { AreCounted counts.old counts.new (places_in band.from band.len cells) }
+    requires room { (i : ℕ) → slice_index counts.old i + times i (places_in band.from band.len (cells_from first runs.now)) < 2 ^ 32 }
+    ensures { AreCounted counts.old counts.new (places_in band.from band.len (cells_from first runs.now)) }
 {
-    while let Some((first, len)) = cells.next_run() {
-        let (place, count) = band.clip(first, len);
-        count_run(place, count, counts);
+    for run in runs {
+        let (place, len) = band.clip(first + run.start, run.len);
+        count_run(place, len, counts);
     }
 }
 
-/// The same for places that follow one another.
+/// Puts a pair at each place of the cells of runs in a band.
+#[inline]
+fn put_runs(first: u32, runs: &[Run], band: Band, pair: u32, fill: &mut RowFill)
+    requires within { All (EndsBy (2 ^ 20) first) runs.now }
+    requires limit { band.from + band.len ≤ 2 ^ 20 }
+    requires one_each { length fill.old.rows ≡ band.len }
+    requires room { HasRoomFor fill.old (places_in band.from band.len (cells_from first runs.now)) }
+    ensures { ArePut pair fill.old fill.new (places_in band.from band.len (cells_from first runs.now)) }
+{
+    for run in runs {
+        let (place, len) = band.clip(first + run.start, run.len);
+        fill.put_run(place, len, pair);
+    }
+}
+
+/// Adds one to the count of each of these places.
 #[inline]
 fn count_run(first: u32, len: u32, counts: &mut [u32])
     requires within { first + len ≤ length counts.old }
-    requires limit { length counts.old < 2 ^ 32 }
     requires room { (i : ℕ) → slice_index counts.old i + times i (range_with_len first len) < 2 ^ 32 }
     ensures { AreCounted counts.old counts.new (range_with_len first len) }
 {
-    for c in first..first + len {
-        counts[c as usize] += 1;
-    }
+    let from = first as usize;
+    let to = from + len as usize;
+    add_one(&mut counts[from..to]);
 }
 
-/// Puts a pair at each place of these cells in a band.
-fn put_cells(mut cells: Runs, band: Band, pair: u32, fill: &mut RowFill)
-    requires within { All (λ c. c < 2 ^ 20) cells }
-    requires limit { band.from + band.len ≤ 2 ^ 20 }
-    requires one_each { length fill.old.rows ≡ band.len }
-    requires room { HasRoomFor fill.old (places_in band.from band.len cells) }
-    ensures { ArePut pair fill.old fill.new (places_in band.from band.len cells) }
-{
-    while let Some((first, len)) = cells.next_run() {
-        let (place, count) = band.clip(first, len);
-        put_run(place, count, pair, fill);
-    }
-}
-
-/// The same for places that follow one another.
+/// Adds one to each count.
 #[inline]
-fn put_run(first: u32, len: u32, pair: u32, fill: &mut RowFill)
-    requires within { first + len ≤ length fill.old.rows }
-    requires rows { length fill.old.rows < 2 ^ 32 }
-    requires room { HasRoomFor fill.old (range_with_len first len) }
-    ensures { ArePut pair fill.old fill.new (range_with_len first len) }
+fn add_one(counts: &mut [u32])
+    requires { All (λ count. count + 1 < 2 ^ 32) counts.old }
+    ensures { counts.new ≡ map (λ count. count + 1) counts.old }
 {
-    for c in first..first + len {
-        fill.put(c, pair);
+    for count in counts {
+        *count += 1;
     }
 }

@@ -1,47 +1,74 @@
 //! The marks of all cells.
-ghost use Rattle.std.specs.Prelude.{◌≡◌, ◌^◌, ◌<◌, IfOk};
+ghost use Rattle.std.specs.Prelude.{◌≡◌, ◌<◌, length, IfOk};
+ghost use Rattle.std.specs.List.{All, Contains};
 ghost use Rattle.grid_quantiser.specs.Axes.{cells_of};
+ghost use Rattle.game_core.specs.declared.game.Mark.TheVariants.{Goal, Obstacle};
 ghost use Rattle.plant_text.specs.plant.Description.{axes_of};
-ghost use Rattle.abstraction_table.specs.inside.Marks.{IsMarkAt, AreMarksOf};
+ghost use Rattle.plant_text.specs.plant.Marks.{IsObstacleCell};
+ghost use Rattle.successor_box.specs.Boxes.{cells_in};
+ghost use Rattle.abstraction_table.specs.inside.Marks.{LiesInTarget, AreMarked, AreMarksOf};
+ghost use Rattle.abstraction_table.specs.inside.Sources.{IsBox};
 
 use game_core::Mark;
+use grid_quantiser::laws::{cells_of_a_box, every_grid_is_within_the_limit};
+use grid_quantiser::{CellBox, Grid, Runs};
 use plant_text::Plant;
-use rayon::prelude::*;
 use std::alloc::{AllocError, Global};
-use std::thread::Threads;
 
-/// The mark of each cell.
-pub(crate) fn find_marks<R: Threads + Sync>(
-    rt: &R,
-    alloc: Global,
-    p: &Plant,
-) -> Result<Vec<Mark>, AllocError>
+/// The mark of each cell. The obstacles come last, since a cell that touches one is no goal.
+pub(crate) fn find_marks(alloc: Global, p: &Plant) -> Result<Vec<Mark>, AllocError>
     ensures { IfOk result (λ marks. AreMarksOf p.now marks.items) }
 {
-    let cells = p.grid().cells() as usize;
-    let mut marks = vec![in alloc; Mark::Plain; cells]?;
-    par_for_each_mut(
-        rt,
-        &mut marks,
-        |c: usize, mark: &mut Mark|
-            requires cell { c < cells_of (axes_of p.now) }
-            requires limit { c < 2 ^ 32 }
-            ensures { IsMarkAt p.entry.now c mark.exit.now }
-        { *mark = mark_of(p, c as u32) },
-    );
+    let mut marks = vec![in alloc; Mark::Plain; p.grid().cells() as usize]?;
+    mark_targets(p, &mut marks);
+    mark_obstacles(p, &mut marks);
     Ok(marks)
 }
 
-/// The mark of a cell.
-fn mark_of(p: &Plant, c: u32) -> Mark
-    requires { c < cells_of (axes_of p.now) }
-    ensures { IsMarkAt p.now c result }
+/// Makes goals of the cells that lie in a target.
+fn mark_targets(p: &Plant, marks: &mut [Mark])
+    requires { length marks.old ≡ cells_of (axes_of p.now) }
+    ensures { AreMarked Goal (LiesInTarget p.now) marks.old marks.new }
 {
-    if p.obstacle_cell(c) {
-        Mark::Obstacle
-    } else if p.goal_cell(c) {
-        Mark::Goal
-    } else {
-        Mark::Plain
+    let grid = p.grid();
+    for k in 0..p.targets() {
+        let (lo, hi) = p.target(k);
+        mark_box(grid, grid.within(&lo, &hi), Mark::Goal, marks);
+    }
+}
+
+/// Makes obstacles of the cells that touch one.
+fn mark_obstacles(p: &Plant, marks: &mut [Mark])
+    requires { length marks.old ≡ cells_of (axes_of p.now) }
+    ensures { AreMarked Obstacle (IsObstacleCell p.now) marks.old marks.new }
+{
+    let grid = p.grid();
+    for k in 0..p.obstacles() {
+        let (lo, hi) = p.obstacle(k);
+        mark_box(grid, grid.touching(&lo, &hi), Mark::Obstacle, marks);
+    }
+}
+
+/// Gives the cells of a box a mark.
+fn mark_box(grid: &Grid, b: Option<CellBox>, mark: Mark, marks: &mut [Mark])
+    requires ordered { IsBox grid.now b }
+    requires one_each { length marks.old ≡ cells_of grid.now }
+    ensures { AreMarked mark (Contains (cells_in grid.now b)) marks.old marks.new }
+{
+    cells_of_a_box();
+    every_grid_is_within_the_limit(grid);
+    if let Some(b) = b {
+        mark_cells(grid.runs(b), mark, marks);
+    }
+}
+
+/// Gives cells a mark, run by run.
+fn mark_cells(mut cells: Runs, mark: Mark, marks: &mut [Mark])
+    requires { All (λ c. c < length marks.old) cells }
+    ensures { AreMarked mark (Contains cells) marks.old marks.new }
+{
+    while let Some((first, len)) = cells.next_run() {
+        let first = first as usize;
+        marks[first..first + len as usize].fill(mark);
     }
 }

@@ -3,11 +3,13 @@ ghost use Rattle.std.specs.Prelude.{◌≡◌, ℕ, ◌-◌, ◌*◌, ◌/◌, �
 ghost use Rattle.std.specs.List.{All};
 ghost use Rattle.grid_quantiser.specs.Axes.{cells_of};
 ghost use Rattle.edge_rows.specs.Rows.{row_at};
+ghost use Rattle.abstraction_table.specs.inside.Shapes.{HaveRuns};
 ghost use Rattle.abstraction_table.specs.inside.Sources.{IsBox, AreBandRows, AreSourceBands, band_of};
 ghost use Rattle.abstraction_table.specs.inside.Tallies.{edges_of};
 
 use crate::band::Band;
 use crate::filling::fill_band;
+use crate::shapes::find_shapes;
 use edge_rows::{NoMemory, Rows};
 use grid_quantiser::laws::every_grid_is_within_the_limit;
 use grid_quantiser::{CellBox, Grid};
@@ -18,6 +20,10 @@ use std::thread::Threads;
 
 /// The most bands: each goes over all boxes.
 const BANDS_LIMIT: usize = 32;
+
+/// So many pairs for each band at least: to start a thread takes as long as to go over some thousands
+/// of them, and of bands of fewer pairs one alone is sooner filled.
+const PAIRS_FOR_A_BAND: usize = 10_000;
 
 /// The pairs that lead to each cell, in bands of `size` cells, the last with what is left.
 #[derive(Drop)]
@@ -51,14 +57,17 @@ pub(crate) fn find_sources<R: Threads + Sync>(
     ensures { IfOk result (λ s. AreSourceBands grid.now boxes.now s.size s.bands.items) }
 {
     every_grid_is_within_the_limit(grid);
+    let shapes = find_shapes(alloc, grid, boxes)?;
+    let shapes = &shapes;
     let cells = grid.cells();
-    let size = band_size(rt, cells);
+    let size = band_size(rt, cells, boxes.len());
     let bands = (0..cells.div_ceil(size))
         .into_par_iter()
         .with_min_len(1)
         .map(
             |k: u32| -> Result<Rows, NoMemory>
                 requires ordered { All (IsBox grid.now) boxes.now }
+                requires runs { HaveRuns grid.now shapes.now boxes.now }
                 requires pairs { length boxes.now ≤ 2 ^ 22 }
                 requires edges { edges_of grid.now boxes.now ≤ 2 ^ 25 }
                 requires cells { cells ≡ cells_of grid.now }
@@ -70,6 +79,7 @@ pub(crate) fn find_sources<R: Threads + Sync>(
                 fill_band(
                     alloc,
                     grid,
+                    shapes,
                     boxes,
                     Band {
                         from,
@@ -82,10 +92,11 @@ pub(crate) fn find_sources<R: Threads + Sync>(
     Ok(Sources { size, bands })
 }
 
-/// How many cells a band has. There is a band for each processor.
-fn band_size<R: Threads>(rt: &R, cells: u32) -> u32
+/// How many cells a band has. There is a band for each processor, unless there are few pairs.
+fn band_size<R: Threads>(rt: &R, cells: u32, pairs: usize) -> u32
     ensures some { 1 ≤ result }
 {
-    let bands = current_num_threads(rt).min(BANDS_LIMIT) as u32;
+    let most = BANDS_LIMIT.min(pairs / PAIRS_FOR_A_BAND).max(1);
+    let bands = current_num_threads(rt).min(most) as u32;
     cells.div_ceil(bands).max(1)
 }

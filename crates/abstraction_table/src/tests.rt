@@ -106,6 +106,22 @@ fn swing(rt: HostRuntime) -> Result<(), Fail> {
     Ok(())
 }
 
+/// Each of 30,000 cells leads to itself alone. So many pairs are filled in several bands, where there
+/// are as many processors.
+const STILL: &[u8] = b"plant 1\nstate x 0 29999 1\nnext x = x\ngoal reach\nend\n";
+
+#[test]
+fn bands_meet(rt: HostRuntime) -> Result<(), Fail> {
+    let plant = read_plant(rt.alloc(), STILL)?;
+    let slopes = find_slopes(rt.alloc(), &plant)?;
+    let game = build(&rt, rt.alloc(), &plant, &slopes)?;
+    assert_eq!(rt; game.cells(), 30_000);
+    for c in 0..30_000 {
+        assert_eq!(rt; game.sources(c), [c].as_slice());
+    }
+    Ok(())
+}
+
 // How many successors all pairs have.
 fn edges(game: &Abstraction) -> u32 {
     let mut edges: u32 = 0;

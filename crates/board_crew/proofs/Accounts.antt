@@ -1,5 +1,6 @@
 -- What accounts hold together, said of one counter or word and of all.
 use Rattle.std.proofs.Common.{◌≡◌, ℕ, ◌==◌, List, [], ◌∷◌, ◌++◌, filter, length, get_or, reverse, All, IsPermutation, count_by, sum_by, refl, sym, ◌∙◌, ap}
+use Rattle.std.specs.List.{flat_map}
 use Rattle.std.proofs.lemmas.List.{map-append, length-map}
 use Rattle.std.proofs.lemmas.List.Concat.{flat_map-append}
 use Rattle.std.proofs.lemmas.List.Elements.{filter-append}
@@ -8,13 +9,13 @@ use Rattle.std.proofs.lemmas.List.Sums.{length-filter}
 use Rattle.cell_counters.specs.declared.account.Cut.{Cut}
 use Rattle.cell_counters.specs.declared.account.Offer.{Offer}
 use Rattle.cell_counters.specs.declared.account.Account.{Account}
-use Rattle.cell_counters.specs.Accounts.{answers, all_answers, cut_count, offers_on, all_offers, first_count}
+use Rattle.cell_counters.specs.Accounts.{answers, all_answers, cut_count, offers_on, all_offers, first_count, all_logs}
 use Rattle.cell_counters.specs.Laws.{answered}
+use Rattle.cell_counters.specs.Tokens.{HandModel}
 use Rattle.frontier_pool.specs.declared.member.Member.{Member}
-use Rattle.game_core.specs.Counts.{times, CountsTell}
-use Rattle.board_crew.specs.declared.worker.Worker.{Worker}
-use Rattle.board_crew.specs.Crew.{one_if, account_of, accounts_of, notes_of, cuts_in, offers_in}
-use Rattle.board_crew.specs.Laws.{counters_of, lefts_of, cut_to, claimed, notes_in}
+use Rattle.game_core.specs.Counts.{one_if, times, CountsTell}
+use Rattle.board_crew.specs.Crew.{accounts_of, notes_of, cuts_in, offers_in}
+use Rattle.board_crew.specs.Laws.{counters_of, lefts_of, cut_to, claimed}
 use Rattle.board_crew.proofs.Sums.{sum_map, count_map, count_both, sum_flat, sum_alike}
 
 pub answers_are : (counter : ℕ) (accounts : List Account) → all_answers counter accounts ≡ lefts_of (filter (λ (c : Cut). c.counter == counter) (cuts_in accounts))
@@ -58,6 +59,10 @@ cuts_in_parts counter accounts =
     ∙ sum_alike (λ (a : Account). count_by (λ (c : Cut). c.counter == counter) a.cuts) (λ (a : Account). times counter (counters_of a.cuts)) accounts
     (λ i d lt. sym (count_map (λ n. n == counter) (λ (c : Cut). c.counter) (get_or accounts i d).cuts)))
 
+-- all that these accounts noted
+abbrev pub notes_in : List Account → List ℕ
+notes_in accounts = flat_map (λ (a : Account). a.notes) accounts
+
 pub cuts_by_notes : (counter : ℕ) (f : ℕ → ℕ) (accounts : List Account) → All (λ (a : Account). times counter (counters_of a.cuts) ≡ sum_by f a.notes) accounts → cut_count counter accounts ≡ sum_by f (notes_in accounts)
 cuts_by_notes counter f accounts each =
     cuts_are counter accounts
@@ -65,17 +70,20 @@ cuts_by_notes counter f accounts each =
     ∙ (sum_alike (λ (a : Account). times counter (counters_of a.cuts)) (λ (a : Account). sum_by f a.notes) accounts each
     ∙ sym (sum_flat f (λ (a : Account). a.notes) accounts)))
 
-pub notes_reversed : CountsTell → (members : List (Member Worker)) → IsPermutation (notes_of members) (notes_in (reverse (accounts_of members)))
+pub notes_reversed : CountsTell → (members : List (Member HandModel)) → IsPermutation (notes_of members) (notes_in (reverse (accounts_of members)))
 notes_reversed tell members =
     let more = reverse (accounts_of members) in
     tell.same (notes_of members) (notes_in more) (λ n.
-    sum_flat (λ x. one_if (x == n)) (λ (m : Member Worker). (account_of m.hand).notes) members
+    sum_flat (λ x. one_if (x == n)) (λ (m : Member HandModel). m.hand.account.notes) members
     ∙ sym (sum_flat (λ x. one_if (x == n)) (λ (a : Account). a.notes) more
     ∙ (sum_by-IsPermutation (λ (a : Account). times n a.notes) (accounts_of members) more (IsPermutation-reverse (accounts_of members))
-    ∙ sum_map (λ (a : Account). times n a.notes) (λ (m : Member Worker). account_of m.hand) members)))
+    ∙ sum_map (λ (a : Account). times n a.notes) (λ (m : Member HandModel). m.hand.account) members)))
 
 pub cuts_in-append : (xs ys : List Account) → cuts_in (xs ++ ys) ≡ cuts_in xs ++ cuts_in ys
 cuts_in-append xs ys = flat_map-append (λ (a : Account). a.cuts) xs ys
 
 pub offers_in-append : (xs ys : List Account) → offers_in (xs ++ ys) ≡ offers_in xs ++ offers_in ys
 offers_in-append xs ys = flat_map-append (λ (a : Account). a.offers) xs ys
+
+pub all_logs-append : (xs ys : List Account) → all_logs (xs ++ ys) ≡ all_logs xs ++ all_logs ys
+all_logs-append xs ys = flat_map-append (λ (a : Account). a.logs) xs ys

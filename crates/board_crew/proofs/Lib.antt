@@ -1,3 +1,5 @@
 pub mod Sums
 pub mod Accounts
 pub mod Crews
+pub mod Working
+pub mod Plays

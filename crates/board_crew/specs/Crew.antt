@@ -1,14 +1,13 @@
 -- The workers at a board, and all that their accounts hold together.
-use Rattle.std.specs.Prelude.{◌≡◌, ℕ, ◌%◌, ◌^◌, Bool, cond, List, map, length}
+use Rattle.std.specs.Prelude.{◌≡◌, ℕ, ◌%◌, ◌^◌, List, map, length}
 use Rattle.std.specs.List.{flat_map}
 use Rattle.cell_counters.specs.declared.account.Cut.{Cut}
 use Rattle.cell_counters.specs.declared.account.Offer.{Offer}
 use Rattle.cell_counters.specs.declared.account.Log.{Log}
 use Rattle.cell_counters.specs.declared.account.Account.{Account}
-use Rattle.cell_counters.specs.Tokens.{BoardModel, fresh_hand}
+use Rattle.cell_counters.specs.Tokens.{BoardModel, HandModel, fresh_hand}
 use Rattle.frontier_pool.specs.declared.member.Member.{Member}
 use Rattle.game_core.specs.declared.tally.Tally.{Tally}
-use Rattle.board_crew.specs.declared.worker.Worker.{Worker}
 
 -- all cuts in these accounts
 abbrev pub cuts_in : List Account → List Cut
@@ -27,29 +26,13 @@ pub record IsTalliedBy (accounts : List Account) (tally : Tally) : Type 0 where
   pub cuts : tally.cuts ≡ length (cuts_in accounts) % 2 ^ 64
   pub offers : tally.offers ≡ length (offers_in accounts) % 2 ^ 64
 
--- the account of a worker
-abbrev pub account_of : Worker → Account
-account_of w = w.hand.account
-
--- a worker's counts are those of its account, modulo 2^64
-pub record IsCounted (w : Worker) : Type 0 where
-  pub cuts : w.cuts ≡ length (account_of w).cuts % 2 ^ 64
-  pub offers : w.offers ≡ length (account_of w).offers % 2 ^ 64
-
 -- a worker that has done nothing
-abbrev pub fresh_worker : BoardModel → Worker
-fresh_worker board = record { hand = fresh_hand board; cuts = 0; offers = 0 }
-
-abbrev pub IsFresh : BoardModel → Member Worker → Type 0
-IsFresh board m = m.hand ≡ fresh_worker board
+abbrev pub IsFresh : BoardModel → Member HandModel → Type 0
+IsFresh board m = m.hand ≡ fresh_hand board
 
 -- the accounts of some members, and all that they noted
-abbrev pub accounts_of : List (Member Worker) → List Account
-accounts_of members = map (λ (m : Member Worker). account_of m.hand) members
+abbrev pub accounts_of : List (Member HandModel) → List Account
+accounts_of members = map (λ (m : Member HandModel). m.hand.account) members
 
-abbrev pub notes_of : List (Member Worker) → List ℕ
-notes_of members = flat_map (λ (m : Member Worker). (account_of m.hand).notes) members
-
--- 1 where a test holds, else 0
-abbrev pub one_if : Bool → ℕ
-one_if b = cond b 1 0
+abbrev pub notes_of : List (Member HandModel) → List ℕ
+notes_of members = flat_map (λ (m : Member HandModel). m.hand.account.notes) members

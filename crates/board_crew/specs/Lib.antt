@@ -1,3 +1,5 @@
 pub mod Crew
 pub mod Laws
+pub mod Rules
+pub mod Rounds
 pub mod inside

@@ -1,2 +1,4 @@
--- what only tests name
+-- what only private clauses, tests and proofs name
+pub mod Workers
+pub mod Standing
 pub mod SmallGames

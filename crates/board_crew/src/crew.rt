@@ -3,7 +3,7 @@ ghost use Rattle.std.specs.Prelude.{◌≡◌, ◌+◌, ◌<◌, ◌≤◌, [], 
 ghost use Rattle.std.specs.Vec.{vec_capacity};
 ghost use Rattle.cell_counters.specs.Tokens.{IsLawful};
 ghost use Rattle.frontier_pool.specs.Sweeps.{Sweeps, IsIdle};
-ghost use Rattle.board_crew.specs.Crew.{IsCounted, IsFresh, accounts_of, IsTalliedBy};
+ghost use Rattle.board_crew.specs.Crew.{IsFresh, accounts_of, IsTalliedBy};
 
 use crate::worker::Worker;
 use cell_counters::{Board, Root};
@@ -12,8 +12,8 @@ use game_core::Tally;
 use std::alloc::Global;
 use std::thread::Threads;
 
-/// Makes so many workers with new hands.
-pub fn deal(board: &Board, root: &mut Root, members: &mut Vec<Member<Worker>>, count: u32)
+// Makes so many workers with new hands.
+pub(crate) fn deal(board: &Board, root: &mut Root, members: &mut Vec<Member<Worker>>, count: u32)
     requires root { root.old.board ≡ board.now }
     requires hands { root.old.out + count ≤ 64 }
     requires none { members.old.items ≡ [] }
@@ -24,19 +24,15 @@ pub fn deal(board: &Board, root: &mut Root, members: &mut Vec<Member<Worker>>, c
     ensures room { vec_capacity members.new ≡ vec_capacity members.old }
 {
     for _worker in 0..count {
-        let worker = Worker {
-            hand: board.hand(root),
-            cuts: 0,
-            offers: 0,
-        };
+        let worker = Worker::new(board.hand(root));
         members.push_reserved(Member::new(worker));
     }
 }
 
-/// The members do all items of a toil, each with exactly one of their hands, once, after the gate.
-///
-/// One member does them in rising order, and takes no memory. More work beside one another as in a sweep.
-pub fn work<R: Threads + Sync, T: Toil, G: Gate>(
+// The members do all items of a toil, each with exactly one of their hands, once, after the gate.
+//
+// One member does them in rising order, and takes no memory. More work beside one another as in a sweep.
+pub(crate) fn work<R: Threads + Sync, T: Toil, G: Gate>(
     rt: &R,
     alloc: Global,
     toil: &T,
@@ -58,18 +54,23 @@ pub fn work<R: Threads + Sync, T: Toil, G: Gate>(
     }
 }
 
-/// Takes all hands in, the last member's first, and adds up what the workers counted.
-pub fn take_in(board: &Board, root: &mut Root, members: &mut Vec<Member<Worker>>, tally: &mut Tally)
+// Takes all hands in, the last member's first, and adds up what the workers counted.
+pub(crate) fn take_in(
+    board: &Board,
+    root: &mut Root,
+    members: &mut Vec<Member<Worker>>,
+    tally: &mut Tally,
+)
     requires root { (root.old.board ≡ board.now) × (root.old.out ≡ vec_len members.old) }
     requires some { 0 < vec_len members.old }
-    requires members { All (λ m. m.hand.hand.board ≡ board.now) members.old.items }
+    requires members { All (λ m. m.hand.board ≡ board.now) members.old.items }
     ensures root { (root.new.board ≡ board.now) × (root.new.out ≡ 0) }
     ensures accounts { root.new.accounts ≡ root.old.accounts ++ reverse (accounts_of members.old.items) }
     ensures lawful { IsLawful root.new.accounts board.now.starts board.now.least }
     ensures members { members.new.items ≡ [] }
     ensures room { vec_capacity members.new ≡ vec_capacity members.old }
     ensures rounds { tally.new.rounds ≡ tally.old.rounds }
-    ensures tally { All (λ m. IsCounted m.hand) members.old.items → IsTalliedBy root.old.accounts tally.old → IsTalliedBy root.new.accounts tally.new }
+    ensures tally { IsTalliedBy root.old.accounts tally.old → IsTalliedBy root.new.accounts tally.new }
 {
     while let Some(member) = members.pop() {
         let Worker { hand, cuts, offers } = member.into_hand();

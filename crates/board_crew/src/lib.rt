@@ -1,20 +1,24 @@
-//! Workers at a board: hands that are dealt for a round, do its items, and are taken in.
+//! Rounds of workers at a board, by the rule of a game.
 //!
-//! `deal` makes workers with new hands, `work` has each item of a toil done by exactly one of them, and `take_in` takes
-//! every hand in and adds up what the workers counted, so that a tally stays the count of the root's accounts.
-//! `list_logged` then lists the cells that were logged since. Beside them stand the takings of memory that solvers share.
+//! `Rounds` begins with a list of cells. In each round workers with new hands cut the pairs that lead to the cells of the
+//! list, each cell by exactly one of them, and do what the `Rule` adds; all hands are taken in, and what they logged is the
+//! next list. `play_all` goes on until a list is empty, and then what the rule says of such a list stands.
 //! It stands on `game_core`, `cell_counters` and `frontier_pool`, and knows no rule of a game.
 #![tactic(auto)]
 
 mod crew;
+mod first;
 pub mod laws;
 mod logged;
 mod room;
+mod rounds;
+mod rule;
 #[cfg(test)]
 mod tests;
+mod turn;
 mod worker;
 
-pub use crew::{deal, take_in, work};
-pub use logged::list_logged;
-pub use room::{fans, room_for};
+pub use room::fans;
+pub use rounds::Rounds;
+pub use rule::Rule;
 pub use worker::Worker;

@@ -5,8 +5,8 @@ ghost use Rattle.std.specs.Vec.{vec_capacity};
 use game_core::{Graph, NoMemory};
 use std::alloc::Global;
 
-/// An empty vector with room for so many elements.
-pub fn room_for<T>(alloc: Global, count: u32) -> Result<Vec<T>, NoMemory>
+// An empty vector with room for so many elements.
+pub(crate) fn room_for<T>(alloc: Global, count: u32) -> Result<Vec<T>, NoMemory>
     ensures empty { IfOk result (λ v. v.items ≡ []) }
     ensures room { IfOk result (λ v. vec_capacity v ≡ count) }
 {

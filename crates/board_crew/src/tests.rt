@@ -1,96 +1,19 @@
-// Workers that cut, bid and log at a small board. The values are those that any order of the steps gives.
-ghost use Rattle.std.specs.Prelude.{◌≡◌, ◌<◌, ◌≤◌, [], length};
-ghost use Rattle.std.specs.Vec.{vec_capacity};
+// Rounds at small boards. The values are those that any order of the steps gives.
+ghost use Rattle.std.specs.Prelude.{◌≡◌, ◌<◌, ◌≤◌, true, [], map, length, All};
+ghost use Rattle.cell_counters.specs.Accounts.{all_logs};
 ghost use Rattle.game_core.specs.Game.{IsGraph};
-ghost use Rattle.board_crew.specs.Crew.{IsCounted};
 ghost use Rattle.board_crew.specs.inside.SmallGames.{fork};
 
-use crate::{Worker, deal, fans, list_logged, room_for, take_in, work};
+use crate::logged::list_logged;
+use crate::room::room_for;
+use crate::{Rounds, Rule, Worker, fans};
 use cell_counters::{Board, NONE, Root};
-use frontier_pool::{Member, Open, Toil};
+use frontier_pool::Open;
+use game_core::laws::counts_tell;
 use game_core::{Graph, Mark, Tally};
 use std::alloc::Global;
 use std::test::Fail;
 use std::thread::Threads;
-
-// Each item cuts counter 0, and offers its number and 5 more on word 0.
-#[derive(Drop)]
-struct Bidding<'a> {
-    board: &'a Board,
-    items: u32,
-    ghost counter: { 0 < length board.now.starts },
-    ghost word: { 0 < length board.now.least },
-}
-
-impl Toil for Bidding<'_> {
-    type Hand = Worker;
-
-    ghost done = { λ worker. worker.hand.account.notes };
-
-    ghost sound = { λ toil worker. (worker.hand.board ≡ toil.board.now) × IsCounted worker };
-
-    ghost count = { λ toil. toil.items };
-
-    fn items(&self) -> u32 {
-        self.items
-    }
-
-    fn one(&self, worker: &mut Worker, item: u32) {
-        self.board.cut(&mut worker.hand, 0);
-        worker.cuts = worker.cuts.wrapping_add(1);
-        self.board.offer(&mut worker.hand, 0, u64::from(item) + 5);
-        worker.offers = worker.offers.wrapping_add(1);
-        self.board.note(&mut worker.hand, item);
-    }
-}
-
-// Deals so many workers, and has them do 100 items.
-fn bid_all<R: Threads + Sync>(
-    rt: &R,
-    alloc: Global,
-    board: &Board,
-    root: &mut Root,
-    members: &mut Vec<Member<Worker>>,
-    tally: &mut Tally,
-    count: u32,
-)
-    requires board { (0 < length board.now.starts) × (0 < length board.now.least) }
-    requires root { (root.old.board ≡ board.now) × (root.old.out ≡ 0) }
-    requires members { (members.old.items ≡ []) × (vec_capacity members.old ≡ 7) }
-    requires count { (0 < count) × (count ≤ 7) }
-    ensures root { (root.new.board ≡ board.now) × (root.new.out ≡ 0) }
-    ensures members { (members.new.items ≡ []) × (vec_capacity members.new ≡ 7) }
-{
-    deal(board, root, members, count);
-    let toil = Bidding { board, items: 100 };
-    work(rt, alloc, &toil, members.as_mut_slice(), &Open);
-    take_in(board, root, members, tally);
-}
-
-// Of 1000, three rounds of 100 items leave 700, and the least bid is that of item 0.
-#[test]
-fn workers_share_items_and_are_taken_in(rt: HostRuntime) -> Result<(), Fail> {
-    let alloc = rt.alloc();
-    let (board, mut root) = Board::new(alloc, &[1000], &[NONE])?;
-    let mut members = room_for(alloc, 7)?;
-    let mut tally = Tally {
-        cuts: 0,
-        offers: 0,
-        rounds: 4,
-    };
-    bid_all(&rt, alloc, &board, &mut root, &mut members, &mut tally, 1);
-    bid_all(&rt, alloc, &board, &mut root, &mut members, &mut tally, 2);
-    bid_all(&rt, alloc, &board, &mut root, &mut members, &mut tally, 7);
-    assert_eq!(rt; board.left(&mut root, 0), 700);
-    assert_eq!(rt; board.read(&mut root, 0), 5);
-    let counted = Tally {
-        cuts: 300,
-        offers: 300,
-        rounds: 4,
-    };
-    assert_eq!(rt; tally, counted);
-    Ok(())
-}
 
 // A second list has the cells that were logged after the first.
 #[test]
@@ -159,6 +82,92 @@ impl Graph for Fork {
     }
 
     ghost lawful = { λ g. g.is_graph };
+}
+
+// Cuts, and logs nothing, so that there is one round.
+impl Rule for Fork {
+    ghost game = { λ _. fork };
+
+    ghost fits = { λ _ board. board.starts ≡ map length fork.successors };
+
+    ghost first = { λ _ _. true };
+
+    ghost keeps = { λ _ _ a. a.logs ≡ [] };
+
+    ghost stands = { λ _ _ list accounts. All (λ c. c < 2) list × (all_logs accounts ≡ []) };
+
+    fn cells(&self) -> u32 {
+        2
+    }
+
+    fn sources(&self, c: u32) -> &[u32] {
+        Graph::sources(self, c)
+    }
+
+    fn is_first(&self, _board: &Board, _root: &mut Root, _c: u32) -> bool {
+        true
+    }
+
+    fn cut(&self, board: &Board, worker: &mut Worker, _round: u32, pair: u32) {
+        worker.cut(board, pair);
+    }
+
+    fn leads_on(&self) {
+        counts_tell();
+    }
+}
+
+// Cell 0 cuts pairs 0 and 2, and cell 1 pairs 0 and 3. Tells what is left of each pair, and the cuts and rounds.
+fn cut_all<R: Threads + Sync>(
+    rt: &R,
+    alloc: Global,
+    workers: u32,
+) -> Result<([u64; 4], Tally), Fail>
+    requires { (1 ≤ workers) × (workers ≤ 64) }
+{
+    let fork = Fork {};
+    let (board, root) = Board::with_log(alloc, fans(alloc, &fork)?.as_slice(), &[], 2)?;
+    let mut rounds = Rounds::new(alloc, root, 2, workers)?;
+    rounds.play_all(rt, alloc, &board, &fork, workers, &Open);
+    let root = &mut rounds.root;
+    let left = [
+        board.left(root, 0),
+        board.left(root, 1),
+        board.left(root, 2),
+        board.left(root, 3),
+    ];
+    Ok((left, rounds.tally))
+}
+
+// One worker, and two that work beside one another.
+#[test]
+fn each_cell_cuts_its_pairs_once(rt: HostRuntime) -> Result<(), Fail> {
+    for workers in [1, 64] {
+        let (left, tally) = cut_all(&rt, rt.alloc(), workers)?;
+        assert_eq!(rt; left, [0, 0, 0, 0]);
+        let counted = Tally {
+            cuts: 4,
+            offers: 0,
+            rounds: 1,
+        };
+        assert_eq!(rt; tally, counted);
+    }
+    Ok(())
+}
+
+// A worker does at the board what it is asked, and counts its cuts and offers.
+#[test]
+fn worker_counts_what_it_does(rt: HostRuntime) -> Result<(), Fail> {
+    let alloc = rt.alloc();
+    let (board, mut root) = Board::with_log(alloc, &[5], &[NONE], 1)?;
+    let mut worker = Worker::new(board.hand(&mut root));
+    assert_eq!(rt; worker.cut(&board, 0), 4);
+    assert_eq!(rt; worker.cut(&board, 0), 3);
+    assert!(rt; worker.offer(&board, 0, 9));
+    assert!(rt; worker.log(&board, 8));
+    assert_eq!(rt; worker.cuts, 2);
+    assert_eq!(rt; worker.offers, 1);
+    Ok(())
 }
 
 #[test]

@@ -9,7 +9,7 @@ pub record AreOneCut (v w : List ℕ) (a b : ℕ) (s t : List ℕ) : Type 0 wher
   pub stop : a ≡ b
   pub rest : s ≡ t
 
-not_both : (b : Bool) → b ≡ true → b ≡ false → ⊥
+pub not_both : (b : Bool) → b ≡ true → b ≡ false → ⊥
 not_both b y n = cc
 
 pub one_cut : (p : ℕ → Bool) (v w : List ℕ) (a b : ℕ) (s t : List ℕ) → list_all p v ≡ true → list_all p w ≡ true → p a ≡ false → p b ≡ false → v ++ a ∷ s ≡ w ++ b ∷ t → AreOneCut v w a b s t

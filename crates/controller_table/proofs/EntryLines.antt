@@ -13,9 +13,9 @@ use Rattle.plant_text.specs.declared.plant.aims.GoalKind.TheVariants.{Reach, Kee
 use Rattle.plant_text.specs.words.Separators.{is_separator, is_word}
 use Rattle.controller_table.specs.declared.entry.Entry.{Entry}
 use Rattle.controller_table.specs.TableText.{rank_word, input_word, entry_line, count_line, end_line}
-use Rattle.controller_table.specs.inside.Reading.{IsLine, IsSpelled, IsSpelledRow, TellsAll, row_words}
+use Rattle.controller_table.specs.inside.Reading.{IsSpelled, IsSpelledRow, TellsAll, row_words}
 use Rattle.controller_table.proofs.Cuts.{one_cut}
-use Rattle.controller_table.proofs.Lines.{no_feed}
+use Rattle.controller_table.proofs.Lines.{IsLine, no_feed}
 
 -- ---- words
 
@@ -58,15 +58,15 @@ input_is_word Keep row s = decimal_word row.input (omega (arith, s.input))
 
 -- ---- lines
 
+spaced : (a b i behind : List ℕ) → ((a ++ (32 ∷ (b ++ (32 ∷ i)))) ++ (10 ∷ [])) ++ behind ≡ a ++ 32 ∷ (b ++ 32 ∷ (i ++ 10 ∷ behind))
+spaced a b i behind = simp append_assoc
+
 -- an entry's line, its words apart
-abbrev pub words_line : GoalKind → Entry → List ℕ
-words_line goal e = decimal e.cell ++ 32 ∷ row_words goal e.row
+pub entry_words : (goal : GoalKind) (e : Entry) (behind : List ℕ) → entry_line goal e ++ behind ≡ decimal e.cell ++ 32 ∷ row_words goal e.row behind
+entry_words goal e behind = spaced (decimal e.cell) (rank_word goal e.row) (input_word goal e.row) behind
 
-spaced : (a b i : List ℕ) → ((a ++ (32 ∷ (b ++ (32 ∷ i)))) ++ (10 ∷ [])) ≡ a ++ 32 ∷ (b ++ 32 ∷ (i ++ 10 ∷ []))
-spaced a b i = simp append_assoc
-
-pub entry_words : (goal : GoalKind) (e : Entry) → entry_line goal e ≡ words_line goal e
-entry_words goal e = spaced (decimal e.cell) (rank_word goal e.row) (input_word goal e.row)
+pub count_words : (n : ℕ) (behind : List ℕ) → count_line n ++ behind ≡ codes "rows " ++ (decimal n ++ 10 ∷ behind)
+count_words n behind = ap (λ (x : List ℕ). codes "rows " ++ x) (append_assoc (decimal n) (10 ∷ []) behind)
 
 pub count_is_line : (n : ℕ) → n < 2 ^ 64 → IsLine (count_line n)
 count_is_line n lt = record { front = codes "rows " ++ decimal n; no_other = word_no_feed (decimal n) (decimal_word n lt); are = refl }
@@ -115,12 +115,19 @@ same_row goal a b s t ranks inputs =
     let input : a.input ≡ b.input = same_input goal b.rank a.input b.input s.input t.input tells t.tells moved in
     ap (λ (k : ℕ). record { rank = k; input = a.input }) rank ∙ ap (λ (u : ℕ). record { rank = b.rank; input = u }) input
 
+one_of_parts : (a b : Entry) → a.cell ≡ b.cell → a.row ≡ b.row → a ≡ b
+one_of_parts a b cell row = ap (λ (n : ℕ). record { cell = n; row = a.row }) cell ∙ ap (λ (r : Row). record { cell = b.cell; row = r }) row
+
+-- lines at the front of the same bytes
+pub one_entry : (goal : GoalKind) (a b : Entry) (s t : List ℕ) → IsSpelled goal a → IsSpelled goal b → entry_line goal a ++ s ≡ entry_line goal b ++ t → a ≡ b
+one_entry goal a b s t h k e =
+    let whole : decimal a.cell ++ 32 ∷ row_words goal a.row s ≡ decimal b.cell ++ 32 ∷ row_words goal b.row t = sym (entry_words goal a s) ∙ e ∙ entry_words goal b t in
+    let x = one_cut is_inner (decimal a.cell) (decimal b.cell) 32 32 (row_words goal a.row s) (row_words goal b.row t) (decimal_word a.cell (omega (arith, h.cell))) (decimal_word b.cell (omega (arith, k.cell))) refl refl whole in
+    let y = one_cut is_inner (rank_word goal a.row) (rank_word goal b.row) 32 32 (input_word goal a.row ++ 10 ∷ s) (input_word goal b.row ++ 10 ∷ t) (rank_is_word goal a.row h.row) (rank_is_word goal b.row k.row) refl refl x.rest in
+    let z = one_cut is_inner (input_word goal a.row) (input_word goal b.row) 10 10 s t (input_is_word goal a.row h.row) (input_is_word goal b.row k.row) refl refl y.rest in
+    let cell : a.cell ≡ b.cell = decimal_injective a.cell b.cell (omega (arith, h.cell)) (omega (arith, k.cell)) x.front in
+    let row : a.row ≡ b.row = same_row goal a.row b.row h.row k.row y.front z.front in
+    one_of_parts a b cell row
+
 pub entry_same : (goal : GoalKind) (a b : Entry) → IsSpelled goal a → IsSpelled goal b → entry_line goal a ≡ entry_line goal b → a ≡ b
-entry_same goal a b s t e =
-    let whole = sym (entry_words goal a) ∙ e ∙ entry_words goal b in
-    let x = one_cut is_inner (decimal a.cell) (decimal b.cell) 32 32 (row_words goal a.row) (row_words goal b.row) (decimal_word a.cell (omega (arith, s.cell))) (decimal_word b.cell (omega (arith, t.cell))) refl refl whole in
-    let y = one_cut is_inner (rank_word goal a.row) (rank_word goal b.row) 32 32 (input_word goal a.row ++ 10 ∷ []) (input_word goal b.row ++ 10 ∷ []) (rank_is_word goal a.row s.row) (rank_is_word goal b.row t.row) refl refl x.rest in
-    let z = one_cut is_inner (input_word goal a.row) (input_word goal b.row) 10 10 [] [] (input_is_word goal a.row s.row) (input_is_word goal b.row t.row) refl refl y.rest in
-    let cell : a.cell ≡ b.cell = decimal_injective a.cell b.cell (omega (arith, s.cell)) (omega (arith, t.cell)) x.front in
-    let row : a.row ≡ b.row = same_row goal a.row b.row s.row t.row y.front z.front in
-    ap (λ (k : ℕ). record { cell = k; row = a.row }) cell ∙ ap (λ (r : Row). record { cell = b.cell; row = r }) row
+entry_same goal a b h k e = one_entry goal a b [] [] h k (ap (λ (x : List ℕ). x ++ []) e)

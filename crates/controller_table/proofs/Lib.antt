@@ -1,11 +1,10 @@
 pub mod Digits
 pub mod Entries
 pub mod Text
-pub mod Pieces
 pub mod Lines
 pub mod Cuts
 pub mod EntryLines
-pub mod InFront
+pub mod LinesRead
 pub mod Fitting
 pub mod MoreEntries
 pub mod Standing

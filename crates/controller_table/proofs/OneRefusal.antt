@@ -22,8 +22,7 @@ use Rattle.controller_table.specs.Tables.{RowsFit, IsTable}
 use Rattle.controller_table.specs.RowLines.{IsEntryOf, AreEntriesOf, AreRowLines, AreWhole, MayStand, IsFirstRefusedBehind}
 use Rattle.controller_table.specs.Refusals.{IsShortTable, line_count, HasNoVersion, IsPlantRefusedFor, AreRowsRefusedAt, IsFirstRefusedInTable, ExceedsTableLimit}
 use Rattle.controller_table.specs.Laws.{OneTableRefusal, TableOrRefused, TablesAreShort}
-use Rattle.controller_table.specs.inside.Reading.{IsLine}
-use Rattle.controller_table.proofs.Lines.{one_line}
+use Rattle.controller_table.proofs.Lines.{IsLine, one_line}
 use Rattle.controller_table.proofs.EntryLines.{count_is_line}
 use Rattle.controller_table.proofs.OneTable.{one_version, whole_lines, row_lines_are_lines, whole_are_lines}
 use Rattle.controller_table.proofs.Standing.{nothing_next}

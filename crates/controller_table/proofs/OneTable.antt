@@ -21,8 +21,7 @@ use Rattle.controller_table.specs.Tables.{IsRowOf, RowsFit, IsTable}
 use Rattle.controller_table.specs.Choice.{HasRowAt, Applies}
 use Rattle.controller_table.specs.RowLines.{IsEntryOf, AreEntriesOf, AreRowLines, AreWhole}
 use Rattle.controller_table.specs.Laws.{OneTablePerText, OneChoice, OneRank}
-use Rattle.controller_table.specs.inside.Reading.{IsLine}
-use Rattle.controller_table.proofs.Lines.{one_line}
+use Rattle.controller_table.proofs.Lines.{IsLine, one_line}
 use Rattle.controller_table.proofs.EntryLines.{count_is_line, end_is_line, entry_is_line, entry_same}
 use Rattle.controller_table.proofs.Fitting.{spelled_entry}
 

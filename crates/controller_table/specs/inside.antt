@@ -1,4 +1,4 @@
-pub mod Digits
+pub mod Numbers
 pub mod Found
 pub mod Reading
 pub mod Left

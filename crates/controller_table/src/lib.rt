@@ -2,8 +2,8 @@
 //!
 //! The layer above hands in a plant and one optional row for each of its cells, and gets the table's
 //! text piece by piece; or it hands in bytes and gets the one table that they are, or learns why they
-//! are none. A `Table` is seen as its plant and its rows. Stands on `plant_text`, `grid_quantiser`,
-//! `game_core` and `itoa`.
+//! are none. A `Table` is seen as its plant and its rows. Stands on `text_pieces`, `plant_text`,
+//! `grid_quantiser`, `game_core` and `itoa`.
 #![tactic(auto)]
 
 mod entry;

@@ -1,4 +1,4 @@
-ghost use Rattle.std.specs.Prelude.{◌≡◌, ◌<◌, ◌≤◌, [], ◌++◌, length, take, drop, min, map};
+ghost use Rattle.std.specs.Prelude.{◌≡◌, ◌++◌, map};
 ghost use Rattle.std.specs.List.{concat};
 ghost use Rattle.controller_table.specs.TableText.{entries_from, entry_line, end_line};
 
@@ -7,6 +7,7 @@ use crate::rows_left::RowsLeft;
 use game_core::Answer;
 use plant_text::GoalKind;
 use std::marker::Model;
+use text_pieces::{Pieces, copy_front};
 
 /// The line that is being written, and those behind it. Seen as the bytes that are still to come.
 #[derive(Drop)]
@@ -33,16 +34,12 @@ impl<'a> LinesLeft<'a> {
             rows: RowsLeft::new(goal, answer),
         }
     }
+}
 
-    /// Copies some of the next bytes, at least one where there is one.
-    pub(crate) fn copy_some(&mut self, buf: &mut [u8]) -> usize
-        requires { 0 < length buf.old }
-        ensures some { result ≡ 0 → self.old ≡ [] }
-        ensures within { result ≤ length self.old }
-        ensures bound { result ≤ length buf.old }
-        ensures copied { buf.new ≡ take result self.old ++ drop result buf.old }
-        ensures left { self.new ≡ drop result self.old }
-    {
+impl Pieces for LinesLeft<'_> {
+    ghost left = { λ l. l };
+
+    fn copy_some(&mut self, buf: &mut [u8]) -> usize {
         if self.line.as_slice().is_empty() {
             let Some(line) = self.rows.next_line() else {
                 return 0;
@@ -53,14 +50,4 @@ impl<'a> LinesLeft<'a> {
         self.line.advance(count);
         count
     }
-}
-
-/// Copies as many bytes as fit.
-pub(crate) fn copy_front(from: &[u8], to: &mut [u8]) -> usize
-    ensures count { result ≡ min (length from.now) (length to.old) }
-    ensures copied { to.new ≡ take result from.now ++ drop result to.old }
-{
-    let count = from.len().min(to.len());
-    to[..count].copy_from_slice(&from[..count]);
-    count
 }

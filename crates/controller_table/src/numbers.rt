@@ -1,44 +1,44 @@
 // Numbers in lines.
 
-ghost use Rattle.std.specs.Prelude.{◌≡◌, ℕ, ◌^◌, ◌<◌, List, ◌∷◌, ◌++◌, length, position, not, false, IfSome};
-ghost use Rattle.std.specs.Option.{IsSomeAnd};
-ghost use Rattle.std.specs.List.{fold};
-ghost use Rattle.std.specs.Fmt.{decimal};
+ghost use Rattle.std.specs.Prelude.{◌≡◌, ◌⊎◌, ℕ, ◌+◌, ◌*◌, ◌^◌, ◌<◌, ◌≤◌, List, false, MatchOption};
 ghost use Rattle.plant_text.specs.words.Names.{is_digit};
-ghost use Rattle.controller_table.specs.inside.Digits.{with_digit};
+ghost use Rattle.controller_table.specs.inside.Found.{Finds};
+ghost use Rattle.controller_table.specs.inside.Numbers.{IsNumberTo};
 
-/// The number at the front of a line, and what stands behind the byte that ends it. None where only digits
-/// follow. Of other spellings than a number's own nothing is said.
-pub(crate) fn number_in(bytes: &[u8]) -> Option<(u32, &[u8])>
-    ensures { (n stop : ℕ) (behind : List ℕ) → n < 2 ^ 32 → is_digit stop ≡ false → bytes.now ≡ decimal n ++ stop ∷ behind → IsSomeAnd result (λ r. (r.0 ≡ n) × (r.1.now ≡ behind)) }
+/// The number that is spelled up to this byte, which is no digit, and what stands behind that byte.
+pub(crate) fn number_to(bytes: &[u8], stop: u8) -> Option<(u32, &[u8])>
+    requires { is_digit stop ≡ false }
+    ensures { Finds (λ r. (r.0, r.1.now)) (IsNumberTo stop bytes.now) result }
 {
-    let end = digits_end(bytes)?;
-    Some((value_of(&bytes[..end]), &bytes[end + 1..]))
+    let (first, mut rest) = bytes.split_first()?;
+    let mut value = digit_of(*first)?;
+    loop {
+        let (next, behind) = rest.split_first()?;
+        if *next == stop {
+            return Some((value, behind));
+        }
+        let digit = digit_of(*next)?;
+        value = with_digit(value, digit)?;
+        rest = behind;
+    }
 }
 
-fn digits_end(bytes: &[u8]) -> Option<usize>
-    ensures place { result ≡ position (λ b. not (is_digit b)) bytes.now }
-    ensures within { IfSome result (λ n. n < length bytes.now) }
+fn digit_of(byte: u8) -> Option<u32>
+    ensures { MatchOption result (is_digit byte ≡ false) (λ d. (d < 10) × (byte ≡ 48 + d)) }
 {
-    bytes.iter().position(|b| !is_digit(*b))
+    match byte {
+        b'0'..=b'9' => Some(u32::from(byte - b'0')),
+        _ => None,
+    }
 }
 
-fn is_digit(b: u8) -> bool
-    ensures { result ≡ is_digit b }
+/// The number with one more digit, unless zero would have another digit behind it or 32 bits are too few.
+fn with_digit(value: u32, digit: u32) -> Option<u32>
+    requires { digit < 10 }
+    ensures { MatchOption result ((value ≡ 0) ⊎ (2 ^ 32 ≤ value * 10 + digit)) (λ n. (0 < value) × (n ≡ value * 10 + digit)) }
 {
-    b.is_ascii_digit()
-}
-
-fn value_of(digits: &[u8]) -> u32
-    ensures { result ≡ fold with_digit 0 digits.now }
-{
-    digits.iter().fold(0, |value, b| with_digit(value, *b))
-}
-
-fn with_digit(value: u32, digit: u8) -> u32
-    ensures { result ≡ with_digit value digit }
-{
-    value
-        .wrapping_mul(10)
-        .wrapping_add(u32::from(digit.wrapping_sub(b'0')))
+    if value == 0 {
+        return None;
+    }
+    value.checked_mul(10)?.checked_add(digit)
 }

@@ -1,6 +1,6 @@
 // The lines behind a plant's text.
 
-ghost use Rattle.std.specs.Prelude.{◌≡◌, ◌==◌, ◌^◌, ◌<◌, ◌≤◌, ℕ, List, ◌++◌, length, position, IfOk, IfErr, IfSome, IsTrue, ◌↔◌, Some};
+ghost use Rattle.std.specs.Prelude.{◌≡◌, ◌≤◌, ℕ, List, ◌++◌, length, IfOk, IfErr, IsTrue, ◌↔◌};
 ghost use Rattle.std.specs.List.{concat};
 ghost use Rattle.game_core.specs.declared.game.Row.{Row};
 ghost use Rattle.grid_quantiser.specs.Axes.{cells_of};
@@ -11,14 +11,13 @@ ghost use Rattle.controller_table.specs.TableText.{First, entry_line, count_line
 ghost use Rattle.controller_table.specs.Tables.{RowsFit};
 ghost use Rattle.controller_table.specs.RowLines.{IsEntryOf};
 ghost use Rattle.controller_table.specs.inside.Found.{Finds};
-ghost use Rattle.controller_table.specs.inside.Reading.{IsLine, IsSpelled, IsSpelledRow, row_words, IsRefusedBehind};
+ghost use Rattle.controller_table.specs.inside.Reading.{IsEntryAt, IsRowAt, IsRefusedBehind};
 ghost use Rattle.controller_table.specs.inside.ReadRows.{AreRead, AreRowsRefused};
 
 use crate::entry::Entry;
 use crate::fault::TableFault;
 use crate::front::behind_front;
-use crate::line_text::LineText;
-use crate::numbers::number_in;
+use crate::numbers::number_to;
 use game_core::{Answer, Row};
 use plant_text::{GoalKind, Plant};
 use std::alloc::Global;
@@ -77,8 +76,8 @@ fn rows_in<'a>(
 fn count_in(bytes: &[u8], most: u32) -> Option<(u32, &[u8])>
     ensures { Finds (λ r. (r.0, r.1.now)) (λ (y : ℕ × List ℕ). (y.0 ≤ most) × (bytes.now ≡ count_line y.0 ++ y.1)) result }
 {
-    let (line, behind) = line_in(bytes)?;
-    let count = spelled_count(line)?;
+    let number = behind_front(bytes, b"rows ")?;
+    let (count, behind) = number_to(number, b'\n')?;
     if count <= most {
         Some((count, behind))
     } else {
@@ -91,8 +90,7 @@ fn entry_in<'a>(plant: &Plant, least: u32, bytes: &'a [u8]) -> Option<(Entry, &'
     requires { IsWithinLimits plant.now }
     ensures { Finds (λ r. (r.0, r.1.now)) (λ (y : Entry × List ℕ). (least ≤ y.0.cell) × IsEntryOf plant.now y.0 × (bytes.now ≡ entry_line plant.now.goal y.0 ++ y.1)) result }
 {
-    let (line, behind) = line_in(bytes)?;
-    let entry = spelled_entry(plant.goal(), line)?;
+    let (entry, behind) = entry_at(plant.goal(), bytes)?;
     if least <= entry.cell && is_entry_of(plant, entry) {
         Some((entry, behind))
     } else {
@@ -100,82 +98,43 @@ fn entry_in<'a>(plant: &Plant, least: u32, bytes: &'a [u8]) -> Option<(Entry, &'
     }
 }
 
-/// The first line with its line feed, and what stands behind it.
-fn line_in(bytes: &[u8]) -> Option<(&[u8], &[u8])>
-    ensures { Finds (λ r. (r.0.now, r.1.now)) (λ (y : List ℕ × List ℕ). IsLine y.0 × (bytes.now ≡ y.0 ++ y.1)) result }
+/// The entry whose line stands at the front, and what stands behind it.
+fn entry_at(goal: GoalKind, bytes: &[u8]) -> Option<(Entry, &[u8])>
+    ensures { Finds (λ r. (r.0, r.1.now)) (IsEntryAt goal bytes.now) result }
 {
-    let end = line_feed(bytes)?;
-    Some(bytes.split_at(end + 1))
+    let (cell, words) = number_to(bytes, b' ')?;
+    let (row, behind) = row_at(goal, words)?;
+    Some((Entry { cell, row }, behind))
 }
 
-fn line_feed(bytes: &[u8]) -> Option<usize>
-    ensures place { result ≡ position (λ b. b == 10) bytes.now }
-    ensures within { IfSome result (λ n. n < length bytes.now) }
-{
-    bytes.iter().position(|b| *b == b'\n')
-}
-
-fn spelled_count(line: &[u8]) -> Option<u32>
-    ensures { Finds (λ n. n) (λ (n : ℕ). (n < 2 ^ 32) × (line.now ≡ count_line n)) result }
-{
-    let (count, _) = number_in(line.strip_prefix(b"rows ")?)?;
-    if LineText::of_count(count).as_slice() == line {
-        Some(count)
-    } else {
-        None
-    }
-}
-
-fn spelled_entry(goal: GoalKind, line: &[u8]) -> Option<Entry>
-    ensures { Finds (λ e. e) (λ (e : Entry). IsSpelled goal e × (line.now ≡ entry_line goal e)) result }
-{
-    let entry = entry_of(goal, line)?;
-    if LineText::of_entry(goal, entry).as_slice() == line {
-        Some(entry)
-    } else {
-        None
-    }
-}
-
-/// The entry of its own line. Of other lines nothing is said.
-fn entry_of(goal: GoalKind, line: &[u8]) -> Option<Entry>
-    ensures own { (e : Entry) → IsSpelled goal e → line.now ≡ entry_line goal e → result ≡ Some e }
-    ensures spelled { IfSome result (λ e. IsSpelled goal e) }
-{
-    let (cell, rest) = number_in(line)?;
-    let row = row_of(goal, rest)?;
-    Some(Entry { cell, row })
-}
-
-/// The row of its own words. Of other words nothing is said.
-fn row_of(goal: GoalKind, words: &[u8]) -> Option<Row>
-    ensures own { (row : Row) → IsSpelledRow goal row → words.now ≡ row_words goal row → result ≡ Some row }
-    ensures spelled { IfSome result (λ row. IsSpelledRow goal row) }
+/// The row whose words stand at the front, and what stands behind their line.
+fn row_at(goal: GoalKind, words: &[u8]) -> Option<(Row, &[u8])>
+    ensures { Finds (λ r. (r.0, r.1.now)) (IsRowAt goal words.now) result }
 {
     match goal {
-        GoalKind::Reach => ranked_row_of(words),
-        GoalKind::Keep => unranked_row_of(words),
+        GoalKind::Reach => ranked_row_at(words),
+        GoalKind::Keep => unranked_row_at(words),
     }
 }
 
-fn ranked_row_of(words: &[u8]) -> Option<Row>
-    ensures own { (row : Row) → IsSpelledRow GoalKind.Reach row → words.now ≡ row_words GoalKind.Reach row → result ≡ Some row }
-    ensures spelled { IfSome result (λ row. IsSpelledRow GoalKind.Reach row) }
+fn ranked_row_at(words: &[u8]) -> Option<(Row, &[u8])>
+    ensures { Finds (λ r. (r.0, r.1.now)) (IsRowAt GoalKind.Reach words.now) result }
 {
-    let (rank, rest) = number_in(words)?;
+    let (rank, word) = number_to(words, b' ')?;
     if rank == 0 {
-        return Some(Row { rank, input: 0 });
+        let behind = behind_front(word, b"-\n")?;
+        return Some((Row { rank, input: 0 }, behind));
     }
-    let (input, _) = number_in(rest)?;
-    Some(Row { rank, input })
+    let (input, behind) = number_to(word, b'\n')?;
+    Some((Row { rank, input }, behind))
 }
 
-fn unranked_row_of(words: &[u8]) -> Option<Row>
-    ensures own { (row : Row) → IsSpelledRow GoalKind.Keep row → words.now ≡ row_words GoalKind.Keep row → result ≡ Some row }
-    ensures spelled { IfSome result (λ row. IsSpelledRow GoalKind.Keep row) }
+fn unranked_row_at(words: &[u8]) -> Option<(Row, &[u8])>
+    ensures { Finds (λ r. (r.0, r.1.now)) (IsRowAt GoalKind.Keep words.now) result }
 {
-    let (input, _) = number_in(words.strip_prefix(b"- ")?)?;
-    Some(Row { rank: 0, input })
+    let word = behind_front(words, b"- ")?;
+    let (input, behind) = number_to(word, b'\n')?;
+    Some((Row { rank: 0, input }, behind))
 }
 
 fn is_entry_of(plant: &Plant, entry: Entry) -> bool

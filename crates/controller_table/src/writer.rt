@@ -1,16 +1,17 @@
-ghost use Rattle.std.specs.Prelude.{◌≡◌, ◌<◌, ◌≤◌, [], ◌++◌, length, take, drop, min, IfOk};
+ghost use Rattle.std.specs.Prelude.{◌≡◌, ◌<◌, ◌++◌, length, take, drop, min, IfOk};
 ghost use Rattle.controller_table.specs.TableText.{First, table_text, count_line, version_line};
 ghost use Rattle.controller_table.specs.Tables.{RowsFit};
 ghost use Rattle.plant_text.specs.writing.CanonicalText.{text_of};
 
 use crate::fault::NoMemory;
 use crate::line_text::LineText;
-use crate::lines_left::{LinesLeft, copy_front};
+use crate::lines_left::LinesLeft;
 use crate::rows_left::count_rows;
 use game_core::Answer;
 use plant_text::{Plant, write_plant};
 use std::alloc::Global;
 use std::marker::Model;
+use text_pieces::{Pieces, copy_front};
 
 /// Writes the text of a table piece by piece. Seen as the bytes that are still to come.
 #[derive(Drop)]
@@ -53,26 +54,14 @@ impl<'a> TableWriter<'a> {
         ensures piece { take result buf.new ≡ take result self.old }
         ensures left { self.new ≡ drop result self.old }
     {
-        let mut filled = 0;
-        while filled < buf.len() {
-            let count = self.copy_some(&mut buf[filled..]);
-            if count == 0 {
-                break;
-            }
-            filled += count;
-        }
-        filled
+        Pieces::next_piece(self, buf)
     }
+}
 
-    /// Copies some of the next bytes, at least one where there is one.
-    fn copy_some(&mut self, buf: &mut [u8]) -> usize
-        requires { 0 < length buf.old }
-        ensures bound { result ≤ length buf.old }
-        ensures some { result ≡ 0 → self.old ≡ [] }
-        ensures copied { buf.new ≡ take result self.old ++ drop result buf.old }
-        ensures left { self.new ≡ drop result self.old }
-        ensures within { result ≤ length self.old }
-    {
+impl Pieces for TableWriter<'_> {
+    ghost left = { λ w. w };
+
+    fn copy_some(&mut self, buf: &mut [u8]) -> usize {
         if self.at < self.front.len() {
             let count = copy_front(&self.front[self.at..], buf);
             self.at += count;

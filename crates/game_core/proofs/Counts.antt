@@ -1,12 +1,10 @@
 -- Sums over lists, and how many elements pass a test.
-use Rattle.std.proofs.Common.{◌≤◌, ◌&&◌, ◌||◌, subst, ◌≡◌, ◌≢◌, ℕ, zero, suc, ◌+◌, ◌<◌, Bool, true, false, cond, List, [], ◌∷◌, length, get_or, All, AllPairs, count_by, sum_by, arith, refl, sym, ◌∙◌, ap}
+use Rattle.std.proofs.Common.{◌≤◌, ◌&&◌, ◌||◌, subst, ◌≡◌, ◌≢◌, ℕ, zero, suc, ◌+◌, ◌<◌, Bool, true, false, List, [], ◌∷◌, map, length, get_or, All, AllPairs, Contains, count_by, sum_by, arith, refl, sym, ◌∙◌, ap}
 use Rattle.std.proofs.lemmas.List.Elements.{All-head, All-tail, All-nil, All-cons}
 use Rattle.std.specs.List.{Any, list_any, list_all, range_with_len}
-use Rattle.std.proofs.lemmas.List.FromFn.{length-range_with_len, get_or-range_with_len}
-use Rattle.std.proofs.lemmas.List.Sums.{sum_by-cons, sum_by-le-sum_by}
-
-abbrev pub one_if : Bool → ℕ
-one_if b = cond b 1 0
+use Rattle.std.proofs.lemmas.List.FromFn.{length-range_with_len, get_or-range_with_len, fill_by_all}
+use Rattle.std.proofs.lemmas.List.Sums.{sum_by-cons, sum_by-le-sum_by, count_by-le-length}
+use Rattle.game_core.specs.Counts.{one_if}
 
 -- one element more
 pub count-cons : {X : Type 0} (p : X → Bool) (x : X) (xs : List X) → count_by p (x ∷ xs) ≡ one_if (p x) + count_by p xs
@@ -47,6 +45,29 @@ sum_added f h (x ∷ xs) =
     let rest = sum_added f h xs in
     omega arith
 
+pub sum_le : {X : Type 0} (f h : X → ℕ) (xs : List X) → All (λ x. f x ≤ h x) xs → sum_by f xs ≤ sum_by h xs
+sum_le f h [] e = omega arith
+sum_le f h (x ∷ xs) e =
+    let a = sum_by-cons f x xs in
+    let b = sum_by-cons h x xs in
+    let first = All-head (λ x. f x ≤ h x) x xs e in
+    let rest = sum_le f h xs (All-tail (λ x. f x ≤ h x) x xs e) in
+    omega arith
+
+pub sum_map : {X Y : Type 0} (f : Y → ℕ) (h : X → Y) (xs : List X) → sum_by f (map h xs) ≡ sum_by (λ x. f (h x)) xs
+sum_map f h [] = refl
+sum_map f h (x ∷ xs) =
+    let a = sum_by-cons f (h x) (map h xs) in
+    let b = sum_by-cons (λ x. f (h x)) x xs in
+    let rest = sum_map f h xs in
+    omega arith
+
+-- a sum over the places of a list
+pub sum_places : {X : Type 0} (f : X → ℕ) (d : X) (xs : List X) → sum_by (λ i. f (get_or xs i d)) (range_with_len 0 (length xs)) ≡ sum_by f xs
+sum_places f d xs =
+    let all = fill_by_all (λ i. get_or xs i d) xs (length xs) d refl (λ k lt. refl) in
+    sym (sum_map f (λ i. get_or xs i d) (range_with_len 0 (length xs))) ∙ ap (sum_by f) (sym all)
+
 -- tests that agree on the elements count alike
 pub count_same : {X : Type 0} (p q : X → Bool) (xs : List X) → All (λ x. p x ≡ q x) xs → count_by p xs ≡ count_by q xs
 count_same p q xs h = sum_alike (λ x. one_if (p x)) (λ x. one_if (q x)) xs (λ i d lt. ap one_if (h i d lt))
@@ -65,6 +86,44 @@ none_from_count p [] e = All-nil (λ x. p x ≡ false)
 none_from_count p (x ∷ xs) e =
     let a = count-cons p x xs in
     All-cons (λ y. p y ≡ false) x xs (test_fails (p x) (count_by p xs) (omega arith)) (none_from_count p xs (omega arith))
+
+-- a test that passes at each element counts all, and the other way round
+pub all_pass : {X : Type 0} (p : X → Bool) (xs : List X) → All (λ x. p x ≡ true) xs → count_by p xs ≡ length xs
+all_pass p [] h = refl
+all_pass p (x ∷ xs) h =
+    let a = count-cons p x xs in
+    let b : one_if (p x) ≡ 1 = ap one_if (All-head (λ x. p x ≡ true) x xs h) in
+    let rest = all_pass p xs (All-tail (λ x. p x ≡ true) x xs h) in
+    omega arith
+
+pub each_passes : {X : Type 0} (p : X → Bool) (xs : List X) → count_by p xs ≡ length xs → All (λ x. p x ≡ true) xs
+each_passes p [] e = All-nil (λ x. p x ≡ true)
+each_passes p (x ∷ xs) e = by_test (p x) refl (each_passes p xs)
+  where
+    by_test : (b : Bool) → p x ≡ b → (count_by p xs ≡ length xs → All (λ x. p x ≡ true) xs) → All (λ x. p x ≡ true) (x ∷ xs)
+    by_test true f later =
+        let a = count-cons p x xs in
+        let b : one_if (p x) ≡ 1 = ap one_if f in
+        All-cons (λ x. p x ≡ true) x xs f (later (omega arith))
+    by_test false f later =
+        let a = count-cons p x xs in
+        let b : one_if (p x) ≡ 0 = ap one_if f in
+        let most = count_by-le-length p xs in
+        absurd (omega arith)
+
+-- one that fails is found where not all count
+pub one_fails : {X : Type 0} (p : X → Bool) (xs : List X) → count_by p xs < length xs → (x : X) × Contains xs x × (p x ≡ false)
+one_fails p [] lt = absurd (omega arith)
+one_fails {X} p (x ∷ xs) lt = by_test (p x) refl (one_fails p xs)
+  where
+    by_test : (b : Bool) → p x ≡ b → (count_by p xs < length xs → (y : X) × Contains xs y × (p y ≡ false)) → (y : X) × Contains (x ∷ xs) y × (p y ≡ false)
+    by_test false f later = (x, (0, omega arith, refl), f)
+    by_test true f later =
+        let a = count-cons p x xs in
+        let b : one_if (p x) ≡ 1 = ap one_if f in
+        let rest = later (omega arith) in
+        let at = rest.1 in
+        (rest.0, (suc at.0, (let l = at.1 in omega arith), at.2), rest.2)
 
 -- a test that also fails at one element counts one less
 pub count_less : (p q : ℕ → Bool) (c : ℕ) → p c ≡ true → q c ≡ false → ((x : ℕ) → x ≢ c → q x ≡ p x) → (xs : List ℕ) (k : ℕ) → AllPairs (λ a b. a ≢ b) xs → k < length xs → get_or xs k c ≡ c → suc (count_by q xs) ≡ count_by p xs

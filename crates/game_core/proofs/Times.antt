@@ -1,5 +1,5 @@
 -- How often numbers stand in lists.
-use Rattle.std.proofs.Common.{eqb, true, inl, inr, ◌⊎◌, ◌≡◌, ◌≢◌, ℕ, zero, suc, ◌+◌, ◌<◌, ◌≤◌, ◌==◌, List, [], ◌∷◌, length, get_or, All, AllPairs, Contains, sum_by, arith, refl, sym, ◌∙◌, ap, eq-eqb}
+use Rattle.std.proofs.Common.{eqb, Bool, true, false, cond, filter, inl, inr, ◌⊎◌, ◌≡◌, ◌≢◌, ℕ, zero, suc, ◌+◌, ◌<◌, ◌≤◌, ◌==◌, List, [], ◌∷◌, length, get_or, All, AllPairs, Contains, sum_by, arith, refl, sym, ◌∙◌, ap, eq-eqb}
 use Rattle.std.specs.List.{range_with_len, remove, AllByRecursion, list_any}
 use Rattle.std.specs.List.Sorted.{IsPermutation, IsStrictlyIncreasing}
 use Rattle.std.proofs.lemmas.Bool.{cases_lt, cases_eq, ne_eqb, or_cases, eqb-true}
@@ -10,9 +10,9 @@ use Rattle.std.proofs.lemmas.List.Elements.{All-head, All-tail, recursion_from_A
 use Rattle.std.proofs.lemmas.List.Kept.{AllPairs-from_increasing}
 use Rattle.std.proofs.lemmas.List.Sorted.{IsPermutation-refl, IsPermutation-sym, IsPermutation-cons, IsPermutation-trans, IsPermutation-remove, sum_by-IsPermutation}
 use Rattle.std.proofs.lemmas.List.Sums.{sum_by-cons}
-use Rattle.game_core.specs.Counts.{times, CountsTell, EdgesFromBothEnds}
+use Rattle.game_core.specs.Counts.{times, one_if, CountsTell, EdgesFromBothEnds}
 use Rattle.game_core.specs.Game.{successors_at}
-use Rattle.game_core.proofs.Counts.{one_if, count-cons, sum_alike, sum_added, sum_ones, sum_zeros}
+use Rattle.game_core.proofs.Counts.{count-cons, sum_alike, sum_added, sum_le, sum_ones, sum_zeros, sum_places, all_pass, none_from_count, each_passes, one_fails, alike_from_counts}
 use Rattle.game_core.proofs.Edges.{successors_apart}
 
 -- one element more counts where it is the number
@@ -45,6 +45,19 @@ found n (x ∷ xs) lt =
           let rest = found n xs (omega arith) in
           (suc rest.0, (let l = rest.1 in omega arith), rest.2)
     ]
+
+pub counted : (n : ℕ) (xs : List ℕ) → Contains xs n → 0 < times n xs
+counted n [] has = absurd (let lt = has.1 in omega arith)
+counted n (x ∷ xs) has =
+    let a = times-cons n x xs in
+    elim (cases_eq x n) [
+      | inl e ↦ let b = here x n e in omega arith
+      | inr ne ↦ let rest = counted n xs (later ne has) in omega arith
+    ]
+  where
+    later : x ≢ n → Contains (x ∷ xs) n → Contains xs n
+    later ne (zero, lt, e) = absurd (ne e)
+    later ne (suc k, lt, e) = (k, omega arith, e)
 
 -- where the elements differ, one that stands there stands there once
 pub times_once : (n : ℕ) (xs : List ℕ) → AllPairs (λ a b. a ≢ b) xs → Contains xs n → times n xs ≡ 1
@@ -109,6 +122,31 @@ in_range i a (suc n) le lt =
       | inr ne ↦ let b = elsewhere a i ne in let rest = in_range i (a + 1) n (omega arith) (omega arith) in omega arith
     ]
 
+-- a filter keeps all of a number that passes, and none of another
+pub times_filter : (p : ℕ → Bool) (n : ℕ) (xs : List ℕ) → times n (filter p xs) ≡ cond (p n) (times n xs) 0
+times_filter p n [] = none (p n)
+  where
+    none : (b : Bool) → ◌≡◌ {A = ℕ} 0 (cond b 0 0)
+    none true = refl
+    none false = refl
+times_filter p n (x ∷ xs) =
+    elim (cases_eq x n) [
+      | inl e ↦ same (p x) (p n) (ap p e) e (times_filter p n xs)
+      | inr ne ↦ other (p x) (p n) ne (times_filter p n xs)
+    ]
+  where
+    same : (b d : Bool) → b ≡ d → x ≡ n → times n (filter p xs) ≡ cond d (times n xs) 0 → times n (cond b (x ∷ filter p xs) (filter p xs)) ≡ cond d (times n (x ∷ xs)) 0
+    same true true e is rest = let a = times-cons n x (filter p xs) in let b = times-cons n x xs in omega arith
+    same true false e is rest = absurd (cc)
+    same false true e is rest = absurd (cc)
+    same false false e is rest = rest
+
+    other : (b d : Bool) → x ≢ n → times n (filter p xs) ≡ cond d (times n xs) 0 → times n (cond b (x ∷ filter p xs) (filter p xs)) ≡ cond d (times n (x ∷ xs)) 0
+    other true true ne rest = let a = times-cons n x (filter p xs) in let b = times-cons n x xs in let z = elsewhere x n ne in omega arith
+    other true false ne rest = let a = times-cons n x (filter p xs) in let z = elsewhere x n ne in omega arith
+    other false true ne rest = let b = times-cons n x xs in let z = elsewhere x n ne in omega arith
+    other false false ne rest = rest
+
 pub each_once : (n : ℕ) (xs : List ℕ) → All (λ x. x < n) xs → ((i : ℕ) → i < n → times i xs ≡ 1) → IsPermutation (range_with_len 0 n) xs
 each_once n xs within once = same (range_with_len 0 n) xs (λ i.
     elim (cases_lt i n) [
@@ -142,7 +180,28 @@ of_all_below n xs within =
     ∙ sum_ones (λ x. times x (range_with_len 0 n)) xs (λ i d lt. in_range (get_or xs i d) 0 n (omega arith) (let l = within i d lt in omega arith))
 
 pub counts_tell : CountsTell
-counts_tell = record { same = same; each_once = each_once; from_both_sides = from_both_sides; of_all_below = of_all_below }
+counts_tell = record {
+  same = same;
+  each_once = each_once;
+  from_both_sides = from_both_sides;
+  of_all_below = of_all_below;
+  alike = sum_alike;
+  added = sum_added;
+  lesser = sum_le;
+  places = λ f xs. sum_places f 0 xs;
+  places_of_lists = λ f xss. sum_places f [] xss;
+  all_pass = all_pass;
+  none_passes = none_from_count;
+  each_passes = each_passes;
+  one_fails = one_fails;
+  pass_alike = alike_from_counts;
+  absent = times_none;
+  found = found;
+  counted = counted;
+  in_range = in_range;
+  out_of_range = out_of_range;
+  filtered = times_filter;
+}
 
 pub edges_from_both_ends : EdgesFromBothEnds
 edges_from_both_ends g c pair pairs a h lt =

@@ -53,7 +53,7 @@ pub fn solutions_are_right()
     ensures { (g : Game) (rows : List (Option Row)) → IsGame g → IsReachSolution g rows → AreRight g rows }
 {}
 
-/// How often each number stands in lists tells the lists up to their order, and how sums over two lists meet.
+/// What sums over lists of numbers tell, and how often numbers stand there.
 pub fn counts_tell()
     ensures { CountsTell }
 {}

@@ -11,8 +11,8 @@ use Rattle.grid_quantiser.specs.declared.runs.Wheel.{Wheel}
 use Rattle.grid_quantiser.specs.Axes.{IsAxis, AreAxes, no_axis, cells_of}
 use Rattle.grid_quantiser.specs.Boxes.{IsCellBox, cells_between}
 use Rattle.grid_quantiser.specs.inside.RunFields.{stepped, whole_turn, starts_left, runs_from, AreWheels, AreRuns}
-use Rattle.grid_quantiser.proofs.General.{blocks, turns_of_turns, one_each, difference_parts, quotients_ordered}
-use Rattle.grid_quantiser.proofs.BoxCells.{part_between, corners_below, box_whole, IsCellBox-drop, box_next, places_ordered, length_step}
+use Rattle.grid_quantiser.proofs.General.{blocks, turns_of_turns, one_each, difference_parts, quotients_ordered, div-div}
+use Rattle.grid_quantiser.proofs.BoxCells.{part_between, corners_below, box_whole, IsCellBox-drop, box_next, places_ordered, length_step, nth_step}
 use Rattle.grid_quantiser.proofs.BoxRuns.{side_of, starts_of, in_runs, starts_below, box_ordered}
 use Rattle.grid_quantiser.proofs.Suffixes.{next_axis, some_cells, some_later, cells_limit, drop_step, place_step, later_step}
 use Rattle.grid_quantiser.proofs.Turning.{starts_head}
@@ -125,14 +125,32 @@ module _ (axes : List Axis) (i f l : ℕ) (each : All IsAxis axes) (some : 0 < i
       ∙ ap (λ (d : ℕ). d / inner) (difference_parts f l whole some_whole (quotients_ordered f l whole some_whole order) wholes).1
       ∙ (difference_parts (f % whole) (l % whole) inner some_inner places inner_rests).0
 
-  -- the number of cells with one more state
-  pub cells_here : (cells steps rest : ℕ) → cells ≡ length (part_between axes i f l) → rest ≡ (l - f) / inner → steps ≡ rest % (next_axis axes i).count →
-      cells * (steps + 1) ≡ length (part_between axes (i - 1) f l)
-  cells_here cells steps rest so_far left is =
-      let side : steps ≡ l / inner % (next_axis axes i).count - f / inner % (next_axis axes i).count =
-      omega (arith, is ∙ ap (λ r. r % (next_axis axes i).count) left ∙ steps_here, place_step axes i each some within f, place_step axes i each some within l)
-      in
-      rw (so_far, side) (mul_comm _ _ ∙ sym (length_step axes i f l each some within box))
+  module _ (steps rest : ℕ) (left : rest ≡ (l - f) / inner) (is : steps ≡ rest % (next_axis axes i).count) where
+    abbrev place : ℕ → ℕ
+    place c = c / inner % (next_axis axes i).count
+
+    side : steps ≡ place l - place f
+    side = omega (arith, is ∙ ap (λ r. r % (next_axis axes i).count) left ∙ steps_here, place_step axes i each some within f, place_step axes i each some within l)
+
+    -- the number of cells with one more state
+    pub cells_here : (cells : ℕ) → cells ≡ length (part_between axes i f l) → cells * (steps + 1) ≡ length (part_between axes (i - 1) f l)
+    cells_here cells so_far = rw (so_far, side) (mul_comm _ _ ∙ sym (length_step axes i f l each some within box))
+
+    -- which of the cells comes, in the outer states
+    pub turns_here : (j turns : ℕ) → turns ≡ j / length (part_between axes i f l) → turns / (steps + 1) ≡ j / length (part_between axes (i - 1) f l)
+    turns_here j turns so_far =
+        rw (so_far, side) (div-div j (place l - place f + 1) (length (part_between axes i f l)) ∙ ap (λ n. j / n) (sym (length_step axes i f l each some within box)))
+
+    -- the cell that comes, with one more state
+    pub nth_here : (j turns cell : ℕ) → turns ≡ j / length (part_between axes i f l) → cell + f % inner ≡ f + get_or (part_between axes i f l) (j % length (part_between axes i f l)) 0 →
+        cell + turns % (steps + 1) * inner + f % whole ≡ f + get_or (part_between axes (i - 1) f l) (j % length (part_between axes (i - 1) f l)) 0
+    nth_here j turns cell so_far here =
+        let moved : turns % (steps + 1) ≡ j / length (part_between axes i f l) % (place l - place f + 1) = rw (so_far, side) refl in
+        let first : f % whole ≡ place f * inner + f % inner =
+        sym (div-add-mod' (f % whole) inner) ∙ ap (λ p. p * inner + f % whole % inner) (sym (place_step axes i each some within f)) ∙ ap (λ r. place f * inner + r) (later_step axes i each some within f)
+        in
+        let next = nth_step axes i f l each some within box j in
+        omega (arith, here, first, next, ap (λ p. p * inner) moved, add-mul (place f) (j / length (part_between axes i f l) % (place l - place f + 1)) inner)
 
   pub starts_here : (more : i < length axes) → (wheels : List Wheel) (steps : ℕ) → steps ≡ (l - f) / inner % (next_axis axes i).count → full_starts wheels (f % inner) ≡ starts_of (drop i axes) (f % inner) (l % inner) →
       full_starts (wheels ++ record { stride = inner; steps = steps; left = steps } ∷ []) (f % whole) ≡ starts_of (drop (i - 1) axes) (f % whole) (l % whole)
@@ -197,6 +215,19 @@ corners axes given f l same grid limit box =
     let here : IsCellBox axes f l = subst (λ (a : List Axis). IsCellBox a f l) (sym same) box in
     let below = corners_below axes f l grid.each grid.some_state here in
     record { grid = grid; limit = limit; ordered = here; low = below.0; high = below.1; order = box_ordered axes f l grid.each below.0 below.1 here; box = box_whole axes f l grid.each grid.some_state here }
+
+-- the cell that comes, once all states are gone through
+pub nth_whole : (axes : List Axis) (f l j cell i : ℕ) → AreCorners axes f l → i ≡ 0 → j < length (cells_between axes f l) →
+    cell + f % cells_of (drop i axes) ≡ f + get_or (part_between axes i f l) (j % length (part_between axes i f l)) 0 → cell ≡ get_or (cells_between axes f l) j 0
+nth_whole axes f l j cell i c done within so_far =
+    let P : ℕ → Type 0 = λ m. cell + f % cells_of (drop m axes) ≡ f + get_or (part_between axes m f l) (j % length (part_between axes m f l)) 0 in
+    let at_end : P 0 = subst P done so_far in
+    let first : f % cells_of axes ≡ f = mod-eq_of_lt c.low in
+    let cells : part_between axes 0 f l ≡ cells_between axes f l = ap (λ (k : ℕ). cells_between axes k (l % cells_of axes)) first ∙ ap (λ (k : ℕ). cells_between axes f k) (mod-eq_of_lt c.high) in
+    let nth : get_or (part_between axes 0 f l) (j % length (part_between axes 0 f l)) 0 ≡ get_or (cells_between axes f l) j 0 =
+    ap (λ (xs : List ℕ). get_or xs (j % length xs) 0) cells ∙ ap (λ (n : ℕ). get_or (cells_between axes f l) n 0) (mod-eq_of_lt within)
+    in
+    omega (arith, at_end, first, nth)
 
 -- the counts are few
 pub count_limit : (axes : List Axis) (i : ℕ) → All IsAxis axes → 0 < i → i ≤ length axes → (next_axis axes i).count ≤ cells_of axes

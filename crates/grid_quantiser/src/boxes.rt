@@ -73,6 +73,7 @@ impl Grid {
     }
 
     /// The cell of a number from 0 among those of a box.
+    #[inline]
     pub fn nth_of(&self, b: CellBox, i: u64) -> u32
         requires ordered { IsCellBox self.now b.first b.last }
         requires within { i < length (cells_between self.now b.first b.last) }
@@ -80,21 +81,20 @@ impl Grid {
         ensures below { result < cells_of self.now }
     {
         let axes = self.axes();
-        let mut first = u64::from(b.first);
-        let mut last = u64::from(b.last);
-        let mut left = i;
-        let mut cell: u64 = 0;
-        let mut stride: u64 = 1;
+        let mut rest = b.last - b.first;
+        let mut left = i as u32;
+        let mut cell = b.first;
+        let mut stride: u32 = 1;
         for k in (0..axes.len()).rev() {
-            let n = axes[k].count;
-            let side = last % n - first % n + 1;
-            cell += (first % n + left % side) * stride;
-            stride *= n;
-            left /= side;
-            first /= n;
-            last /= n;
+            let count = axes[k].count as u32;
+            let (quotient, steps) = split(rest, count);
+            let (turns, place) = split(left, steps + 1);
+            cell += place * stride;
+            stride *= count;
+            left = turns;
+            rest = quotient;
         }
-        cell as u32
+        cell
     }
 
     /// Whether all points of a cell lie in the box from `lo` to `hi`.

@@ -2,6 +2,5 @@ pub mod Rows
 pub mod Draws
 pub mod Padding
 pub mod Lines
-pub mod Pieces
 pub mod Ends
 pub mod Steps

@@ -2,7 +2,7 @@
 //!
 //! The layer above hands in a table and a state, and gets the plant's trace under the table's inputs
 //! and drawn noises: its lines one by one from a `Sim`, or its text piece by piece from a
-//! `TraceWriter`. Either is seen as what is still to come. Stands on `controller_table`,
+//! `TraceWriter`. Either is seen as what is still to come. Stands on `text_pieces`, `controller_table`,
 //! `successor_box` and the crates below.
 #![tactic(auto)]
 

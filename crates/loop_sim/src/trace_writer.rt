@@ -1,4 +1,4 @@
-ghost use Rattle.std.specs.Prelude.{◌≡◌, ◌<◌, ◌≤◌, [], ◌++◌, length, take, drop, min, SomeIff};
+ghost use Rattle.std.specs.Prelude.{◌≡◌, ◌<◌, ◌≤◌, length, take, drop, min, SomeIff};
 ghost use Rattle.game_core.specs.declared.game.Row.{Row};
 ghost use Rattle.controller_table.specs.Choice.{HasRowAt};
 ghost use Rattle.successor_box.specs.Deviations.{HasNoOverflow, deviations_of};
@@ -10,6 +10,7 @@ use controller_table::Table;
 use grid_quantiser::Point;
 use std::marker::Model;
 use successor_box::Slopes;
+use text_pieces::{Pieces, copy_front};
 
 /// Writes the text of a trace piece by piece. Seen as the bytes that are still to come.
 #[derive(Drop)]
@@ -64,26 +65,14 @@ impl<'a> TraceWriter<'a> {
         ensures piece { take result buf.new ≡ take result self.old }
         ensures left { self.new ≡ drop result self.old }
     {
-        let mut filled = 0;
-        while filled < buf.len() {
-            let count = self.copy_some(&mut buf[filled..]);
-            if count == 0 {
-                break;
-            }
-            filled += count;
-        }
-        filled
+        Pieces::next_piece(self, buf)
     }
+}
 
-    /// Copies some of the next bytes, at least one where there is one.
-    fn copy_some(&mut self, buf: &mut [u8]) -> usize
-        requires { 0 < length buf.old }
-        ensures bound { result ≤ length buf.old }
-        ensures some { result ≡ 0 → self.old ≡ [] }
-        ensures copied { buf.new ≡ take result self.old ++ drop result buf.old }
-        ensures left { self.new ≡ drop result self.old }
-        ensures within { result ≤ length self.old }
-    {
+impl Pieces for TraceWriter<'_> {
+    ghost left = { λ w. w };
+
+    fn copy_some(&mut self, buf: &mut [u8]) -> usize {
         if self.at == self.line.as_slice().len() {
             let Some(line) = self.sim.next() else {
                 return 0;
@@ -95,14 +84,4 @@ impl<'a> TraceWriter<'a> {
         self.at += count;
         count
     }
-}
-
-/// Copies as many bytes as fit.
-fn copy_front(from: &[u8], to: &mut [u8]) -> usize
-    ensures count { result ≡ min (length from.now) (length to.old) }
-    ensures copied { to.new ≡ take result from.now ++ drop result to.old }
-{
-    let count = from.len().min(to.len());
-    to[..count].copy_from_slice(&from[..count]);
-    count
 }

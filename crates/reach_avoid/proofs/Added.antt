@@ -1,21 +1,18 @@
 -- What the accounts of a round add to those before.
-use Rattle.std.proofs.Common.{◌≡◌, ℕ, suc, ◌+◌, ◌<◌, ◌==◌, List, [], ◌∷◌, ◌++◌, map, filter, length, All, sum_by, refl, sym, ◌∙◌, ap, ap₂, length-append}
-use Rattle.std.specs.List.{range_with_len}
+use Rattle.std.proofs.Common.{◌≡◌, ℕ, suc, ◌+◌, ◌<◌, ◌==◌, List, [], ◌∷◌, ◌++◌, map, filter, length, All, refl, sym, ◌∙◌, ap, ap₂, length-append}
 use Rattle.std.proofs.lemmas.List.{map-append}
 use Rattle.std.proofs.lemmas.List.Concat.{flat_map-append}
 use Rattle.std.proofs.lemmas.List.Elements.{All-nil, All-append, All-head, All-tail, filter-append}
-use Rattle.std.proofs.lemmas.List.Sorted.{sum_by-IsPermutation}
 use Rattle.cell_counters.specs.declared.account.Cut.{Cut}
 use Rattle.cell_counters.specs.declared.account.Offer.{Offer}
 use Rattle.cell_counters.specs.declared.account.Log.{Log}
 use Rattle.cell_counters.specs.declared.account.Account.{Account}
 use Rattle.cell_counters.specs.Accounts.{answers, all_answers, cut_count, all_logs}
-use Rattle.game_core.specs.Counts.{times}
-use Rattle.game_core.specs.Game.{Game, pairs_of, successors_at}
+use Rattle.game_core.specs.Game.{Game, pairs_of}
 use Rattle.board_crew.specs.Crew.{cuts_in, offers_in, logged_cells}
-use Rattle.board_crew.specs.Laws.{claimed, counters_of, notes_in}
+use Rattle.board_crew.specs.Laws.{claimed, counters_of}
 use Rattle.reach_avoid.specs.Reckoned.{bid_of, bid_at}
-use Rattle.reach_avoid.specs.inside.Rounds.{Laws, last_cuts, cuts_for, IsWork, IsRound}
+use Rattle.reach_avoid.specs.inside.Rounds.{last_cuts, IsKept}
 
 -- all of two lists of accounts
 pub cuts_in-append : (xs ys : List Account) → cuts_in (xs ++ ys) ≡ cuts_in xs ++ cuts_in ys
@@ -40,32 +37,25 @@ claimed-append xs ys =
     let first = λ (o : Offer). o.first in
     ap (map (λ (o : Offer). o.word)) (filter-append first xs ys) ∙ map-append (λ (o : Offer). o.word) (filter first xs) (filter first ys)
 
-module _ (g : Game) (rank : ℕ) (list : List ℕ) where
-  -- a pair is cut once for each successor on the list
-  pub cuts_added : Laws → (more : List Account) → IsRound g rank list more → (pair : ℕ) → pair < pairs_of g → cut_count pair more ≡ sum_by (λ s. times s list) (successors_at g pair)
-  cuts_added laws more r pair lt =
-      laws.sums.by_notes pair (cuts_for g list pair) more (λ i d li. (r.each i d li).cuts pair lt)
-      ∙ (sum_by-IsPermutation (cuts_for g list pair) (range_with_len 0 (length list)) (notes_in more) r.swept
-      ∙ (laws.sums.places (λ c. times c (successors_at g pair)) list ∙ laws.counts.from_both_sides list (successors_at g pair)))
-
+module _ (g : Game) (rank : ℕ) where
   -- a pair bids with the cut that uses it up
-  pub offers_added : (more : List Account) → All (IsWork g rank list) more → map bid_of (offers_in more) ≡ map (bid_at g (suc rank)) (last_cuts (cuts_in more))
+  pub offers_added : (more : List Account) → All (IsKept g rank) more → map bid_of (offers_in more) ≡ map (bid_at g (suc rank)) (last_cuts (cuts_in more))
   offers_added [] h = refl
   offers_added (a ∷ more) h =
       map-append bid_of a.offers (offers_in more)
-      ∙ (ap₂ ◌++◌ (All-head (IsWork g rank list) a more h).offers (offers_added more (All-tail (IsWork g rank list) a more h))
+      ∙ (ap₂ ◌++◌ (All-head (IsKept g rank) a more h).offers (offers_added more (All-tail (IsKept g rank) a more h))
       ∙ sym (ap (map (bid_at g (suc rank))) (last_cuts-append a.cuts (cuts_in more)) ∙ map-append (bid_at g (suc rank)) (last_cuts a.cuts) (last_cuts (cuts_in more))))
 
   -- the cells that are logged are those whose offers are first
-  pub logs_added : (more : List Account) → All (IsWork g rank list) more → logged_cells (all_logs more) ≡ claimed (offers_in more)
+  pub logs_added : (more : List Account) → All (IsKept g rank) more → logged_cells (all_logs more) ≡ claimed (offers_in more)
   logs_added [] h = refl
   logs_added (a ∷ more) h =
       map-append (λ (l : Log). l.cell) a.logs (all_logs more)
-      ∙ (ap₂ ◌++◌ (All-head (IsWork g rank list) a more h).logs (logs_added more (All-tail (IsWork g rank list) a more h))
+      ∙ (ap₂ ◌++◌ (All-head (IsKept g rank) a more h).logs (logs_added more (All-tail (IsKept g rank) a more h))
       ∙ sym (claimed-append a.offers (offers_in more)))
 
-  pub cuts_stay_below : (more : List Account) → All (IsWork g rank list) more → All (λ (c : Cut). c.counter < pairs_of g) (cuts_in more)
+  pub cuts_stay_below : (more : List Account) → All (IsKept g rank) more → All (λ (c : Cut). c.counter < pairs_of g) (cuts_in more)
   cuts_stay_below [] h = All-nil (λ (c : Cut). c.counter < pairs_of g)
   cuts_stay_below (a ∷ more) h =
       All-append (λ (c : Cut). c.counter < pairs_of g) a.cuts (cuts_in more)
-      (All-head (IsWork g rank list) a more h).no_other_cut (cuts_stay_below more (All-tail (IsWork g rank list) a more h))
+      (All-head (IsKept g rank) a more h).no_other_cut (cuts_stay_below more (All-tail (IsKept g rank) a more h))

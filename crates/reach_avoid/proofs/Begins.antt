@@ -1,5 +1,5 @@
 -- Before the first round, and how the rounds come to an end.
-use Rattle.std.proofs.Common.{inl, inr, ◌≡◌, ℕ, suc, ◌+◌, ◌-◌, ◌/◌, ◌<◌, ◌≤◌, ◌==◌, Bool, true, false, cond, List, [], ◌∷◌, map, filter, length, get_or, All, IsPermutation, Option, Some, None, count_by, sum_by, arith, refl, sym, ◌∙◌, ap, subst, le-ltb}
+use Rattle.std.proofs.Common.{inl, inr, ◌≡◌, ℕ, suc, ◌-◌, ◌/◌, ◌<◌, ◌≤◌, ◌==◌, Bool, true, false, cond, List, [], ◌∷◌, map, filter, length, get_or, All, IsPermutation, Option, Some, None, sum_by, arith, refl, sym, ◌∙◌, ap, subst, le-ltb}
 use Rattle.std.specs.List.{range_with_len}
 use Rattle.std.proofs.lemmas.Bool.{cases_lt, cases_eq, eqb-true}
 use Rattle.std.proofs.lemmas.List.{length-map}
@@ -13,19 +13,19 @@ use Rattle.cell_counters.specs.declared.account.Offer.{Offer}
 use Rattle.cell_counters.specs.declared.account.Log.{Log}
 use Rattle.cell_counters.specs.declared.account.Account.{Account}
 use Rattle.cell_counters.specs.Accounts.{all_offers, first_count, all_logs, log_count, IsLawfulLeast}
-use Rattle.game_core.specs.Counts.{times}
+use Rattle.game_core.specs.Counts.{times, one_if}
 use Rattle.game_core.specs.declared.game.Mark.{Mark}
 use Rattle.game_core.specs.declared.game.Mark.TheVariants.{Goal, Obstacle, Plain}
 use Rattle.game_core.specs.declared.game.Row.{Row}
 use Rattle.game_core.specs.Game.{Game, IsGraph, mark_of, pairs_of, successors_at}
 use Rattle.game_core.specs.Solution.{row_of}
 use Rattle.game_core.specs.Tally.{all_pairs}
-use Rattle.board_crew.specs.Crew.{offers_in, one_if, logged_cells}
+use Rattle.board_crew.specs.Crew.{offers_in, logged_cells}
 use Rattle.board_crew.specs.Laws.{claimed}
 use Rattle.reach_avoid.specs.Boards.{word_at}
-use Rattle.reach_avoid.specs.inside.Rounds.{Laws, row_in, word_after, rows_told, below_in, rank_is, taken_in, is_done, bids_done, IsLawfulFor, IsBid, IsReached, is_goal, goals_of, cells_taken, IsFull, IsNext}
+use Rattle.reach_avoid.specs.inside.Rounds.{Laws, row_in, word_after, rows_told, below_in, rank_is, taken_in, is_done, bids_done, IsLawfulFor, IsBid, IsReached, is_goal, goals_of, IsFull, IsNext}
 use Rattle.reach_avoid.proofs.Words.{row_from_word, no_row_from_word, row_told, word_of_row}
-use Rattle.reach_avoid.proofs.Ranks.{done_parts, below_after}
+use Rattle.reach_avoid.proofs.Ranks.{done_parts}
 use Rattle.reach_avoid.proofs.Games.{few_successors}
 
 -- a number of a range
@@ -61,10 +61,10 @@ module _ (g : Game) (a : IsGraph g) (laws : Laws) where
   first_row c lt m e = row_told g [] c lt ∙ ap (λ m. row_in (word_at m)) e
 
   first_cells : (c : ℕ) → c < g.cells → times c (goals_of g) ≡ one_if (rank_is 0 (row_of (rows_told g []) c))
-  first_cells c lt = laws.sums.filtered (λ c. is_goal (mark_of g c)) c (range_with_len 0 g.cells) ∙ by_mark (mark_of g c) refl
+  first_cells c lt = laws.counts.filtered (λ c. is_goal (mark_of g c)) c (range_with_len 0 g.cells) ∙ by_mark (mark_of g c) refl
     where
       by_mark : (m : Mark) → mark_of g c ≡ m → cond (is_goal m) (times c (range_with_len 0 g.cells)) 0 ≡ one_if (rank_is 0 (row_of (rows_told g []) c))
-      by_mark Goal m = laws.sums.in_range c 0 g.cells (omega arith) (omega arith) ∙ sym (ap (λ o. one_if (rank_is 0 o)) (first_row c lt Goal m ∙ row_from_word 1 (omega arith) (omega arith)))
+      by_mark Goal m = laws.counts.in_range c 0 g.cells (omega arith) (omega arith) ∙ sym (ap (λ o. one_if (rank_is 0 o)) (first_row c lt Goal m ∙ row_from_word 1 (omega arith) (omega arith)))
       by_mark Obstacle m = sym (ap (λ o. one_if (rank_is 0 o)) (first_row c lt Obstacle m ∙ no_row_from_word 0 (inl refl)))
       by_mark Plain m = sym (ap (λ o. one_if (rank_is 0 o)) (first_row c lt Plain m ∙ no_row_from_word NONE (inr refl)))
 
@@ -98,34 +98,6 @@ module _ (g : Game) (a : IsGraph g) (laws : Laws) where
     within = All-filter (λ c. is_goal (mark_of g c)) (λ c. c < g.cells) (range_with_len 0 g.cells) (All-range g.cells);
   }
 
-  -- a round takes the cells of its list
-  pub cells_of_list : (rank : ℕ) (list : List ℕ) (accounts : List Account) → IsReached g rank list accounts → count_by (λ c. rank_is rank (row_of (rows_told g accounts) c)) (range_with_len 0 g.cells) ≡ length list
-  cells_of_list rank list accounts was =
-      let in' = All-range g.cells in
-      sym (laws.sums.alike (λ c. times c list) (λ c. one_if (rank_is rank (row_of (rows_told g accounts) c))) (range_with_len 0 g.cells) (λ i d lt. was.cells (get_or (range_with_len 0 g.cells) i d) (in' i d lt)))
-      ∙ laws.counts.of_all_below g.cells list was.within
-
-  pub list_fits : (rank : ℕ) (list : List ℕ) (accounts : List Account) → IsReached g rank list accounts → length list ≤ g.cells
-  list_fits rank list accounts was =
-      let e = cells_of_list rank list accounts was in
-      let le = count_by-le-length (λ c. rank_is rank (row_of (rows_told g accounts) c)) (range_with_len 0 g.cells) in
-      let len = length-range_with_len 0 g.cells in
-      omega arith
-
-  pub taken_fits : (rows : List (Option Row)) (k : ℕ) → cells_taken g rows k ≤ g.cells
-  taken_fits rows k =
-      let le = count_by-le-length (λ c. below_in k (row_of rows c)) (range_with_len 0 g.cells) in
-      let len = length-range_with_len 0 g.cells in
-      omega arith
-
-  pub taken_more : (rank : ℕ) (list : List ℕ) (accounts : List Account) (new : List (Option Row)) → IsReached g rank list accounts → IsNext rank (rows_told g accounts) new → cells_taken g new (suc rank) ≡ cells_taken g (rows_told g accounts) rank + length list
-  taken_more rank list accounts new was next =
-      let rows = rows_told g accounts in
-      let e = cells_of_list rank list accounts was in
-      let pointwise = laws.sums.alike (λ c. one_if (below_in (suc rank) (row_of new c))) (λ c. one_if (below_in rank (row_of rows c)) + one_if (rank_is rank (row_of rows c))) (range_with_len 0 g.cells) (λ i d lt. below_after laws.sums g rank rows new next (get_or (range_with_len 0 g.cells) i d)) in
-      let added = laws.sums.added (λ c. one_if (below_in rank (row_of rows c))) (λ c. one_if (rank_is rank (row_of rows c))) (range_with_len 0 g.cells) in
-      omega arith
-
   -- a list that isn't empty has a cell of its rank
   pub full_after : (rank : ℕ) (list : List ℕ) (accounts : List Account) (new : List (Option Row)) → IsReached g rank list accounts → IsNext rank (rows_told g accounts) new → 0 < length list → IsFull new (suc rank)
   full_after rank list accounts new was next some' =
@@ -137,7 +109,7 @@ module _ (g : Game) (a : IsGraph g) (laws : Laws) where
       inr (c, row.0, next.stays c row.0 row.1, ap suc row.2)
     where
       first_counted : (list : List ℕ) → 0 < length list → 0 < times (get_or list 0 0) list
-      first_counted list lt = laws.sums.counted (get_or list 0 0) list (Contains-get_or list 0 0 lt)
+      first_counted list lt = laws.counts.counted (get_or list 0 0) list (Contains-get_or list 0 0 lt)
 
       row_of_rank : (o : Option Row) → 0 < one_if (rank_is rank o) → (row : Row) × (o ≡ Some row) × (row.rank ≡ rank)
       row_of_rank None lt = absurd (omega arith)
@@ -160,7 +132,7 @@ module _ (g : Game) (a : IsGraph g) (laws : Laws) where
       let le = sum_by-le (λ c. times c (claimed (offers_in accounts))) 1 (range_with_len 0 g.cells) (λ i d lt.
       let c = get_or (range_with_len 0 g.cells) i d in
       let one = at_most_one (word_at (mark_of g c)) c (lawful.cells c (in' i d lt)) in
-      let e = laws.sums.firsts c accounts in
+      let e = laws.accounts.firsts c accounts in
       omega arith) in
       let len = length-range_with_len 0 g.cells in
       omega arith

@@ -7,8 +7,7 @@ use Rattle.game_core.specs.declared.game.Row.{Row}
 use Rattle.game_core.specs.Game.{Game, successors_at}
 use Rattle.game_core.specs.Solution.{row_of, rank_in, rank_at, greatest, greatest_rank}
 use Rattle.game_core.specs.Tally.{rank_by}
-use Rattle.board_crew.specs.Crew.{one_if}
-use Rattle.board_crew.specs.Laws.{SumsTell}
+use Rattle.game_core.specs.Counts.{one_if, CountsTell}
 use Rattle.reach_avoid.specs.inside.Rounds.{below_in, rank_is, taken_in, is_done, IsNext}
 
 pub done_parts : (g : Game) (rows : List (Option Row)) (k pair : ℕ) → is_done g rows k pair ≡ true → (0 < length (successors_at g pair)) × (taken_in g rows k pair ≡ length (successors_at g pair))
@@ -83,7 +82,7 @@ one_below rank n =
           ]
     ]
 
-module _ (sums : SumsTell) (g : Game) (rank : ℕ) (rows new : List (Option Row)) (next : IsNext rank rows new) where
+module _ (sums : CountsTell) (g : Game) (rank : ℕ) (rows new : List (Option Row)) (next : IsNext rank rows new) where
   -- of the ranks of a cell before and after
   pub below_after : (s : ℕ) → one_if (below_in (suc rank) (row_of new s)) ≡ one_if (below_in rank (row_of rows s)) + one_if (rank_is rank (row_of rows s))
   below_after s = by_row (row_of rows s) refl

@@ -2,7 +2,7 @@
 ghost use Rattle.game_core.specs.Game.{IsGraph};
 ghost use Rattle.reach_avoid.specs.inside.Rounds.{Laws};
 
-use board_crew::laws::sums_tell;
+use board_crew::laws::accounts_tell;
 use cell_counters::laws::{new_answers, new_firsts, new_places, nothing_done};
 use game_core::Graph;
 use game_core::laws::{counts_tell, edges_from_both_ends};
@@ -24,5 +24,5 @@ pub(crate) fn known_laws()
     new_answers();
     new_firsts();
     new_places();
-    sums_tell();
+    accounts_tell();
 }

@@ -8,12 +8,11 @@
 
 mod known;
 mod outcome;
-mod rounds;
+mod rule;
 mod scratch;
 mod solver;
 #[cfg(test)]
 mod tests;
-mod turn;
 
 pub use game_core::{NoMemory, Tally};
 pub use outcome::Solved;

@@ -3,10 +3,9 @@ ghost use Rattle.std.specs.Prelude.{◌≡◌, ◌+◌, ◌^◌, ◌<◌, ◌≤
 ghost use Rattle.cell_counters.specs.Tokens.{new_root};
 ghost use Rattle.reach_avoid.specs.Boards.{IsBoardOf, word_at};
 
-use crate::rounds::Rounds;
-use board_crew::{fans, room_for};
+use board_crew::{Rounds, fans};
 use cell_counters::{Board, NONE, Root};
-use game_core::{Answer, Graph, Mark, NoMemory, Tally};
+use game_core::{Answer, Graph, Mark, NoMemory};
 use std::alloc::Global;
 use std::marker::Model;
 
@@ -44,21 +43,8 @@ impl Scratch {
         let least = first_words(alloc, g)?;
         let cells = g.cells();
         let (board, root) = new_board(alloc, starts.as_slice(), least.as_slice(), cells)?;
-        let members = room_for(alloc, workers)?;
-        let list = room_for(alloc, cells)?;
+        let rounds = Rounds::new(alloc, root, cells, workers)?;
         let answer = Answer::blank(alloc, cells)?;
-        let tally = Tally {
-            cuts: 0,
-            offers: 0,
-            rounds: 0,
-        };
-        let rounds = Rounds {
-            root,
-            members,
-            list,
-            listed: 0,
-            tally,
-        };
         Ok(Scratch {
             board,
             rounds,

@@ -1,21 +1,19 @@
 // The solver.
-ghost use Rattle.std.specs.Prelude.{◌≡◌, ℕ, ◌+◌, ◌^◌, ◌<◌, ◌≤◌, [], ◌∷◌, ◌++◌, cond, length, Some, IfOk, vec_len};
-ghost use Rattle.std.specs.Vec.{vec_capacity};
+ghost use Rattle.std.specs.Prelude.{◌≡◌, ℕ, ◌^◌, ◌<◌, ◌≤◌, length, Some, IfOk};
 ghost use Rattle.game_core.specs.declared.game.Row.{Row};
 ghost use Rattle.game_core.specs.Solution.{row_of};
 ghost use Rattle.reach_avoid.specs.Boards.{IsBoardOf};
 ghost use Rattle.reach_avoid.specs.Solved.{IsSolved};
-ghost use Rattle.reach_avoid.specs.inside.Rounds.{is_goal, goals_of, rows_told, row_in};
-ghost use Rattle.reach_avoid.specs.inside.Standing.{StandsAt};
+ghost use Rattle.reach_avoid.specs.inside.Rounds.{rows_told, row_in};
 
 use crate::known::{known_graph, known_laws};
 use crate::outcome::Solved;
-use crate::rounds::Rounds;
+use crate::rule::Reach;
 use crate::scratch::Scratch;
 use cell_counters::{Board, NONE, Root};
 use frontier_pool::Gate;
 use game_core::laws::right_rows_are_the_solution;
-use game_core::{Answer, Graph, Mark, NoMemory, Row};
+use game_core::{Answer, Graph, NoMemory, Row};
 use std::alloc::Global;
 use std::thread::Threads;
 
@@ -54,63 +52,17 @@ pub fn solve_in<R: Threads + Sync, G: Graph + Sync, T: Gate>(
         mut answer,
         workers,
     } = scratch;
-    gather(g, &mut rounds.list);
-    play_all(rt, alloc, g, &board, workers, &mut rounds, gate);
+    let rule = Reach {
+        graph: g,
+        inputs: g.inputs(),
+    };
+    rounds.play_all(rt, alloc, &board, &rule, workers, gate);
     read_rows(g, &board, &mut rounds.root, &mut answer);
     Solved {
         answer,
         tally: rounds.tally,
         board,
         root: rounds.root,
-    }
-}
-
-// Puts the goals on the list of the first round.
-fn gather<G: Graph>(g: &G, list: &mut Vec<u32>)
-    requires none { list.old.items ≡ [] }
-    requires room { (G.game g.now).cells ≤ vec_capacity list.old }
-    ensures goals { list.new.items ≡ goals_of (G.game g.now) }
-    ensures room { vec_capacity list.new ≡ vec_capacity list.old }
-{
-    for c in 0..g.cells() {
-        add_goal(list, c, g.mark(c));
-    }
-}
-
-// Puts a goal on the list, and no other cell.
-fn add_goal(list: &mut Vec<u32>, c: u32, mark: Mark)
-    requires { vec_len list.old < vec_capacity list.old }
-    ensures items { list.new.items ≡ list.old.items ++ cond (is_goal mark) (c ∷ []) [] }
-    ensures len { vec_len list.new ≤ vec_len list.old + 1 }
-    ensures room { vec_capacity list.new ≡ vec_capacity list.old }
-{
-    match mark {
-        Mark::Goal => list.push_reserved(c),
-        Mark::Obstacle | Mark::Plain => {}
-    }
-}
-
-// Does rounds until a list is empty.
-fn play_all<R: Threads + Sync, G: Graph + Sync, T: Gate>(
-    rt: &R,
-    alloc: Global,
-    g: &G,
-    board: &Board,
-    workers: u32,
-    rounds: &mut Rounds,
-    gate: &T,
-)
-    requires board { IsBoardOf (G.game g.now) board.now }
-    requires places { board.now.places ≡ (G.game g.now).cells }
-    requires workers { (1 ≤ workers) × (workers ≤ 64) }
-    requires stands { StandsAt (G.game g.now) board.now workers rounds.old }
-    ensures stands { StandsAt (G.game g.now) board.now workers rounds.new }
-    ensures ended { rounds.new.list.items ≡ [] }
-{
-    known_graph(g);
-    known_laws();
-    'rounds: while !rounds.list.is_empty() {
-        rounds.play(rt, alloc, g, board, workers, gate);
     }
 }
 

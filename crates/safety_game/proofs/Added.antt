@@ -1,18 +1,15 @@
 -- What the accounts of a round add to those before.
-use Rattle.std.proofs.Common.{◌≡◌, ℕ, ◌+◌, ◌<◌, List, [], ◌∷◌, ◌++◌, length, All, sum_by, refl, ◌∙◌, ap, ap₂, length-append}
-use Rattle.std.specs.List.{range_with_len}
+use Rattle.std.proofs.Common.{◌≡◌, ℕ, ◌+◌, List, [], ◌∷◌, ◌++◌, length, All, refl, ◌∙◌, ap, ap₂, length-append}
 use Rattle.std.proofs.lemmas.List.{map-append}
 use Rattle.std.proofs.lemmas.List.Concat.{flat_map-append}
 use Rattle.std.proofs.lemmas.List.Elements.{All-head, All-tail, All-weaker}
-use Rattle.std.proofs.lemmas.List.Sorted.{sum_by-IsPermutation}
 use Rattle.board_crew.specs.Crew.{cuts_in, offers_in, logged_cells}
-use Rattle.board_crew.specs.Laws.{SumsTell, counters_of, notes_in}
+use Rattle.game_core.specs.Counts.{CountsTell}
 use Rattle.cell_counters.specs.declared.account.Log.{Log}
 use Rattle.cell_counters.specs.declared.account.Account.{Account}
 use Rattle.cell_counters.specs.Accounts.{answers, all_answers, cut_count, all_logs}
-use Rattle.game_core.specs.Counts.{times, CountsTell}
-use Rattle.game_core.specs.Game.{Game, pairs_of, successors_at}
-use Rattle.safety_game.specs.inside.Rounds.{cuts_for, IsInStep, IsWork, IsRound}
+use Rattle.game_core.specs.Game.{Game}
+use Rattle.safety_game.specs.inside.Rounds.{IsInStep, IsKept}
 use Rattle.safety_game.proofs.InStep.{all_in_step}
 
 pub cuts_in-append : (xs ys : List Account) → cuts_in (xs ++ ys) ≡ cuts_in xs ++ cuts_in ys
@@ -30,17 +27,10 @@ logged_cells-append xs ys = ap logged_cells (all_logs-append xs ys) ∙ map-appe
 pub cut_count-append : (counter : ℕ) (xs ys : List Account) → cut_count counter (xs ++ ys) ≡ cut_count counter xs + cut_count counter ys
 cut_count-append counter xs ys = ap length (flat_map-append (answers counter) xs ys) ∙ length-append (all_answers counter xs) (all_answers counter ys)
 
-module _ (g : Game) (list : List ℕ) (sums : SumsTell) where
-  pub none_offered : (more : List Account) → All (IsWork g list) more → offers_in more ≡ []
+module _ (g : Game) (tell : CountsTell) where
+  pub none_offered : (more : List Account) → All (IsKept g) more → offers_in more ≡ []
   none_offered [] h = refl
-  none_offered (a ∷ more) h = ap₂ ◌++◌ (All-head (IsWork g list) a more h).no_offer (none_offered more (All-tail (IsWork g list) a more h))
+  none_offered (a ∷ more) h = ap₂ ◌++◌ (All-head (IsKept g) a more h).no_offer (none_offered more (All-tail (IsKept g) a more h))
 
-  pub round_in_step : (more : List Account) → All (IsWork g list) more → IsInStep g (cuts_in more) (logged_cells (all_logs more))
-  round_in_step more h = all_in_step g sums more (All-weaker (IsWork g list) (λ (a : Account). IsInStep g a.cuts (logged_cells a.logs)) (λ a w. w.in_step) more h)
-
-  -- a pair is cut once for each of its successors on the list
-  pub cuts_added : CountsTell → (more : List Account) → IsRound g list more → (pair : ℕ) → pair < pairs_of g → cut_count pair more ≡ sum_by (λ s. times s list) (successors_at g pair)
-  cuts_added tell more r pair lt =
-      sums.by_notes pair (cuts_for g list pair) more (All-weaker (IsWork g list) (λ (a : Account). times pair (counters_of a.cuts) ≡ sum_by (cuts_for g list pair) a.notes) (λ a w. w.cuts pair lt) more r.each)
-      ∙ (sum_by-IsPermutation (cuts_for g list pair) (range_with_len 0 (length list)) (notes_in more) r.swept
-      ∙ (sums.places (λ c. times c (successors_at g pair)) list ∙ tell.from_both_sides list (successors_at g pair)))
+  pub round_in_step : (more : List Account) → All (IsKept g) more → IsInStep g (cuts_in more) (logged_cells (all_logs more))
+  round_in_step more h = all_in_step g tell more (All-weaker (IsKept g) (λ (a : Account). IsInStep g a.cuts (logged_cells a.logs)) (λ a w. w.in_step) more h)

@@ -6,17 +6,17 @@ use Rattle.std.proofs.lemmas.Bool.{le-ltb}
 use Rattle.std.proofs.lemmas.List.{length-map}
 use Rattle.std.proofs.lemmas.List.Elements.{All-nil, All-filter, Contains-get_or}
 use Rattle.std.proofs.lemmas.List.FromFn.{length-range_with_len}
-use Rattle.std.proofs.lemmas.List.Sums.{count_by-le-length, sum_by-le}
-use Rattle.board_crew.specs.Crew.{one_if, logged_cells}
+use Rattle.std.proofs.lemmas.List.Sums.{sum_by-le}
+use Rattle.board_crew.specs.Crew.{logged_cells}
+use Rattle.game_core.specs.Counts.{one_if, times}
 use Rattle.cell_counters.specs.declared.account.Cut.{Cut}
 use Rattle.cell_counters.specs.declared.account.Log.{Log}
 use Rattle.cell_counters.specs.declared.account.Account.{Account}
 use Rattle.cell_counters.specs.Accounts.{all_logs, log_count}
-use Rattle.game_core.specs.Counts.{times}
 use Rattle.game_core.specs.Fallen.{is_obstacle, has_fallen}
 use Rattle.game_core.specs.Game.{Game, IsGraph, mark_of, pairs_of, successors_at}
 use Rattle.safety_game.specs.Boards.{pairs_at, enabled_at}
-use Rattle.safety_game.specs.inside.Rounds.{Laws, fell_before, gone_in, is_hit, hits_at, AreFalling, first_fallen, cells_gone, IsFull}
+use Rattle.safety_game.specs.inside.Rounds.{Laws, fell_before, gone_in, is_hit, hits_at, AreFalling, first_fallen, IsFull}
 use Rattle.safety_game.proofs.Counting.{count_none, All-range}
 use Rattle.safety_game.proofs.Falls.{falls_by_hits, hits_by_fall}
 use Rattle.safety_game.proofs.Pairs.{few_enabled, few_successors}
@@ -44,19 +44,13 @@ module _ (g : Game) where
           let e = none_gone pair in
           ap (λ b. not (is_obstacle (mark_of g (pair / g.inputs))) && b) (le-ltb 0 (gone_in g 0 pair) (omega arith)) ∙ and-false (not (is_obstacle (mark_of g (pair / g.inputs))))
 
-  pub gone_fits : (d : ℕ) → cells_gone g d ≤ g.cells
-  gone_fits d =
-      let le = count_by-le-length (fell_before g d) (range_with_len 0 g.cells) in
-      let len = length-range_with_len 0 g.cells in
-      omega arith
-
   module _ (a : IsGraph g) (laws : Laws) where
     -- the list of the first round
     first_cells : (c : ℕ) → c < g.cells → times c (first_fallen g) ≡ one_if (has_fallen g 0 c)
-    first_cells c lt = laws.sums.filtered (has_fallen g 0) c (range_with_len 0 g.cells) ∙ by_test (has_fallen g 0 c)
+    first_cells c lt = laws.counts.filtered (has_fallen g 0) c (range_with_len 0 g.cells) ∙ by_test (has_fallen g 0 c)
       where
         by_test : (b : Bool) → cond b (times c (range_with_len 0 g.cells)) 0 ≡ one_if b
-        by_test true = laws.sums.in_range c 0 g.cells (omega arith) (omega arith)
+        by_test true = laws.counts.in_range c 0 g.cells (omega arith) (omega arith)
         by_test false = refl
 
     -- a cell that is no obstacle falls in round 0 where it has no enabled input
@@ -64,8 +58,8 @@ module _ (g : Game) where
     falls_first c clear = by_test (has_fallen g 0 c) refl
       where
         by_test : (b : Bool) → has_fallen g 0 c ≡ b → (enabled_at g c == 0) ≡ b
-        by_test true e = let le = hits_by_fall g laws.sums 0 c clear e in let none = none_hit c in eq-eqb (enabled_at g c) 0 (omega arith)
-        by_test false e = ne_eqb (enabled_at g c) 0 (λ z. absurd (let f = falls_by_hits g 0 c (omega arith) in cc))
+        by_test true e = let le = hits_by_fall g laws.counts 0 c clear e in let none = none_hit c in eq-eqb (enabled_at g c) 0 (omega arith)
+        by_test false e = ne_eqb (enabled_at g c) 0 (λ z. absurd (let f = falls_by_hits g laws.counts 0 c (omega arith) in cc))
 
     -- before any round nothing is cut
     pub begins : AreFalling g 0 (first_fallen g) []
@@ -85,24 +79,12 @@ module _ (g : Game) where
     }
 
     module _ (d : ℕ) (list : List ℕ) (accounts : List Account) (was : AreFalling g d list accounts) where
-      -- a round takes the cells of its list
-      pub gone_more : cells_gone g (suc d) ≡ cells_gone g d + length list
-      gone_more =
-          let in' = All-range g.cells in
-          let all = laws.counts.of_all_below g.cells list was.within in
-          let both = laws.sums.added (λ c. times c list) (λ c. one_if (fell_before g d c)) (range_with_len 0 g.cells) in
-          let alike = laws.sums.alike (λ c. times c list + one_if (fell_before g d c)) (λ c. one_if (fell_before g (suc d) c)) (range_with_len 0 g.cells) (λ i e li. was.cells (get_or (range_with_len 0 g.cells) i e) (in' i e li)) in
-          omega arith
-
-      pub list_fits : length list ≤ g.cells
-      list_fits = let e = gone_more in let most = gone_fits (suc d) in omega arith
-
       -- a list that isn't empty has a cell that falls in its round
       pub full_after : 0 < length list → IsFull g (suc d)
       full_after some' =
           let c = get_or list 0 0 in
           let lt = was.within 0 0 some' in
-          let tests = fresh (fell_before g d c) (has_fallen g d c) (times c list) (laws.sums.counted c list (Contains-get_or list 0 0 some')) (was.cells c lt) in
+          let tests = fresh (fell_before g d c) (has_fallen g d c) (times c list) (laws.counts.counted c list (Contains-get_or list 0 0 some')) (was.cells c lt) in
           inr (d, c, refl, lt, tests.1, tests.0)
 
       -- each cell is logged at most once

@@ -3,11 +3,9 @@ use Rattle.std.proofs.Common.{◌≡◌, ◌≢◌, ℕ, zero, suc, ◌+◌, ◌
 use Rattle.std.specs.List.{list_any, range_with_len}
 use Rattle.std.proofs.Math.Nat.{suc-mul}
 use Rattle.std.proofs.lemmas.Bool.{lt-ltb}
-use Rattle.std.proofs.lemmas.List.Elements.{All-nil, All-cons}
 use Rattle.std.proofs.lemmas.List.FromFn.{length-range_with_len, get_or-range_with_len}
-use Rattle.std.proofs.lemmas.List.Sums.{sum_by-cons, sum_by-append, sum_by-le, sum_by-le-sum_by}
-use Rattle.game_core.specs.Counts.{times}
-use Rattle.board_crew.specs.Crew.{one_if}
+use Rattle.std.proofs.lemmas.List.Sums.{sum_by-cons, sum_by-append, sum_by-le}
+use Rattle.game_core.specs.Counts.{times, one_if}
 
 pub count-cons : (p : ℕ → Bool) (x : ℕ) (xs : List ℕ) → count_by p (x ∷ xs) ≡ one_if (p x) + count_by p xs
 count-cons p x xs = sum_by-cons (λ y. one_if (p y)) x xs
@@ -15,19 +13,9 @@ count-cons p x xs = sum_by-cons (λ y. one_if (p y)) x xs
 pub sum_zeros : (f : ℕ → ℕ) (xs : List ℕ) → All (λ x. f x ≡ 0) xs → sum_by f xs ≡ 0
 sum_zeros f xs h = let le = sum_by-le f 0 xs (λ i d lt. let e = h i d lt in omega arith) in omega arith
 
--- a test that fails at each element counts none, and the other way round
+-- a test that fails at each element counts none
 pub count_none : (p : ℕ → Bool) (xs : List ℕ) → All (λ x. p x ≡ false) xs → count_by p xs ≡ 0
 count_none p xs h = sum_zeros (λ x. one_if (p x)) xs (λ i d lt. ap one_if (h i d lt))
-
-test_fails : (b : Bool) (n : ℕ) → one_if b + n ≡ 0 → b ≡ false
-test_fails true n e = absurd (omega arith)
-test_fails false n e = refl
-
-pub none_from_count : (p : ℕ → Bool) (xs : List ℕ) → count_by p xs ≡ 0 → All (λ x. p x ≡ false) xs
-none_from_count p [] e = All-nil (λ x. p x ≡ false)
-none_from_count p (x ∷ xs) e =
-    let a = count-cons p x xs in
-    All-cons (λ y. p y ≡ false) x xs (test_fails (p x) (count_by p xs) (omega arith)) (none_from_count p xs (omega arith))
 
 -- a test that passes wherever another does, and no more often, passes alike
 pub one_if_le : (a b : Bool) → (a ≡ true → b ≡ true) → one_if a ≤ one_if b
@@ -39,15 +27,6 @@ one_if_same true true e = refl
 one_if_same true false e = absurd (omega arith)
 one_if_same false true e = absurd (omega arith)
 one_if_same false false e = refl
-
-pub alike_from_counts : (p q : ℕ → Bool) → ((x : ℕ) → p x ≡ true → q x ≡ true) → (xs : List ℕ) → count_by q xs ≤ count_by p xs → All (λ x. p x ≡ q x) xs
-alike_from_counts p q more [] le = All-nil (λ x. p x ≡ q x)
-alike_from_counts p q more (x ∷ xs) le =
-    let a = count-cons p x xs in
-    let b = count-cons q x xs in
-    let here = one_if_le (p x) (q x) (more x) in
-    let rest : count_by p xs ≤ count_by q xs = sum_by-le-sum_by (λ x. one_if (p x)) (λ x. one_if (q x)) xs (λ x. one_if_le (p x) (q x) (more x)) in
-    All-cons (λ x. p x ≡ q x) x xs (one_if_same (p x) (q x) (omega arith)) (alike_from_counts p q more xs (omega arith))
 
 -- some element passes exactly where the count isn't 0
 pub any_counts : (p : ℕ → Bool) (xs : List ℕ) → list_any p xs ≡ nat_lt 0 (count_by p xs)

@@ -3,13 +3,13 @@ use Rattle.std.proofs.Common.{inl, inr, ◌≡◌, ◌≢◌, ℕ, ◌+◌, ◌-
 use Rattle.std.proofs.lemmas.Bool.{cases_eq}
 use Rattle.std.proofs.lemmas.List.{map-append}
 use Rattle.std.proofs.lemmas.List.Elements.{All-nil, All-cons, All-append, All-head, All-tail, filter-append}
-use Rattle.board_crew.specs.Crew.{one_if, cuts_in, logged_cells}
-use Rattle.board_crew.specs.Laws.{SumsTell, counters_of, cut_to}
+use Rattle.board_crew.specs.Crew.{cuts_in, logged_cells}
+use Rattle.game_core.specs.Counts.{one_if, CountsTell, times}
+use Rattle.board_crew.specs.Laws.{counters_of, cut_to}
 use Rattle.cell_counters.specs.declared.account.Cut.{Cut}
 use Rattle.cell_counters.specs.declared.account.Log.{Log}
 use Rattle.cell_counters.specs.declared.account.Account.{Account}
 use Rattle.cell_counters.specs.Accounts.{all_logs}
-use Rattle.game_core.specs.Counts.{times}
 use Rattle.game_core.specs.Fallen.{is_obstacle}
 use Rattle.game_core.specs.Game.{Game, mark_of, pairs_of, successors_at}
 use Rattle.safety_game.specs.Boards.{pairs_at}
@@ -50,7 +50,7 @@ other_cut_to n v counter left ne = one_cut_to n v counter left ∙ (ap (λ m. co
     none true = refl
     none false = refl
 
-module _ (g : Game) (sums : SumsTell) where
+module _ (g : Game) (sums : CountsTell) where
   pub hits-append : (xs ys : List Cut) (c : ℕ) → hits_in g (xs ++ ys) c ≡ hits_in g xs c + hits_in g ys c
   hits-append xs ys c = by_mark (is_obstacle (mark_of g c))
     where
@@ -106,7 +106,7 @@ module _ (g : Game) (sums : SumsTell) where
       (all_in_step more (All-tail (λ (a : Account). IsInStep g a.cuts (logged_cells a.logs)) a more h)))
 
 -- the cut of one pair, and of its cell after a blow
-module _ (g : Game) (sums : SumsTell) (some' : 0 < g.inputs) (pair left : ℕ) (lt : pair < pairs_of g) where
+module _ (g : Game) (sums : CountsTell) (some' : 0 < g.inputs) (pair left : ℕ) (lt : pair < pairs_of g) where
   abbrev is_first : Bool
   is_first = left == length (successors_at g pair) - 1
 

@@ -5,8 +5,7 @@ use Rattle.std.proofs.lemmas.Bool.{cases_lt}
 use Rattle.std.proofs.lemmas.List.FromFn.{length-range_with_len, get_or-range_with_len}
 use Rattle.std.proofs.lemmas.List.Sums.{get_or-le-sum_by, count_by-le-length}
 use Rattle.std.proofs.lemmas.Nat.{div-mul-add, div-add-mod', div_below, mod_below, mul-add-lt}
-use Rattle.board_crew.specs.Laws.{SumsTell}
-use Rattle.game_core.specs.Counts.{times}
+use Rattle.game_core.specs.Counts.{CountsTell, times}
 use Rattle.game_core.specs.Game.{Game, IsGraph, pair_of, pairs_of, successors_at}
 use Rattle.safety_game.specs.Boards.{pairs_at, enabled_at}
 
@@ -39,7 +38,7 @@ module _ (g : Game) where
       omega arith
 
   -- a pair is among those of its cell, once, and of no other
-  module _ (sums : SumsTell) (some' : 0 < g.inputs) where
+  module _ (sums : CountsTell) (some' : 0 < g.inputs) where
     in_parts : (pair a r : ℕ) → a + r ≡ pair → r < g.inputs → times pair (range_with_len a g.inputs) ≡ 1
     in_parts pair a r e lt = sums.in_range pair a g.inputs (omega arith) (omega arith)
 

@@ -1,17 +1,13 @@
 // The solver.
-ghost use Rattle.std.specs.Prelude.{◌≡◌, ◌+◌, ◌<◌, ◌≤◌, [], ◌∷◌, ◌++◌, cond, length, IfOk, vec_len};
-ghost use Rattle.std.specs.Vec.{vec_capacity};
-ghost use Rattle.cell_counters.specs.Tokens.{new_root};
-ghost use Rattle.game_core.specs.Fallen.{has_fallen};
+ghost use Rattle.std.specs.Prelude.{◌≡◌, ◌<◌, ◌≤◌, length, IfOk};
 ghost use Rattle.game_core.specs.Game.{pairs_of};
 ghost use Rattle.safety_game.specs.Boards.{IsBoardOf};
 ghost use Rattle.safety_game.specs.Kept.{IsKeptBy};
-ghost use Rattle.safety_game.specs.inside.Rounds.{first_fallen, is_whole, IsRowTold, AreRowsTold, AreFewCuts};
-ghost use Rattle.safety_game.specs.inside.Standing.{StandsAt};
+ghost use Rattle.safety_game.specs.inside.Rounds.{is_whole, IsRowTold, AreRowsTold, AreFewCuts};
 
 use crate::known::{known_graph, known_laws};
 use crate::outcome::Kept;
-use crate::rounds::Rounds;
+use crate::rule::Keep;
 use crate::scratch::Scratch;
 use cell_counters::{Board, Root};
 use frontier_pool::Gate;
@@ -55,79 +51,19 @@ pub fn keep_in<R: Threads + Sync, G: Graph + Sync, T: Gate>(
         mut answer,
         workers,
     } = scratch;
-    gather(g, &board, &mut rounds.root, &mut rounds.list);
-    play_all(rt, alloc, g, &board, workers, &mut rounds, gate);
+    let inputs = g.inputs();
+    let rule = Keep {
+        graph: g,
+        inputs,
+        pairs: g.cells() * inputs,
+    };
+    rounds.play_all(rt, alloc, &board, &rule, workers, gate);
     read_rows(g, &board, &mut rounds.root, &mut answer);
     Kept {
         answer,
         tally: rounds.tally,
         board,
         root: rounds.root,
-    }
-}
-
-// Puts the cells on the list that fall in round 0.
-fn gather<G: Graph>(g: &G, board: &Board, root: &mut Root, list: &mut Vec<u32>)
-    requires board { IsBoardOf (G.game g.now) board.now }
-    requires root { root.old ≡ new_root board.now }
-    requires none { list.old.items ≡ [] }
-    requires room { (G.game g.now).cells ≤ vec_capacity list.old }
-    ensures root { root.new ≡ root.old }
-    ensures list { list.new.items ≡ first_fallen (G.game g.now) }
-    ensures room { vec_capacity list.new ≡ vec_capacity list.old }
-{
-    for c in 0..g.cells() {
-        let falls = falls_at_once(g, board, root, c);
-        add_if(list, c, falls);
-    }
-}
-
-// Whether a cell is an obstacle or has no enabled input. Nothing was cut yet.
-fn falls_at_once<G: Graph>(g: &G, board: &Board, root: &mut Root, c: u32) -> bool
-    requires board { IsBoardOf (G.game g.now) board.now }
-    requires root { root.old ≡ new_root board.now }
-    requires cell { c < (G.game g.now).cells }
-    ensures root { root.new ≡ root.old }
-    ensures falls { result ≡ has_fallen (G.game g.now) 0 c }
-{
-    known_graph(g);
-    known_laws();
-    let enabled = board.left(root, g.cells() * g.inputs() + c);
-    g.mark(c) == Mark::Obstacle || enabled == 0
-}
-
-// Puts a cell on the list where it falls.
-fn add_if(list: &mut Vec<u32>, c: u32, falls: bool)
-    requires { vec_len list.old < vec_capacity list.old }
-    ensures items { list.new.items ≡ list.old.items ++ cond falls (c ∷ []) [] }
-    ensures len { vec_len list.new ≤ vec_len list.old + 1 }
-    ensures room { vec_capacity list.new ≡ vec_capacity list.old }
-{
-    if falls {
-        list.push_reserved(c);
-    }
-}
-
-// Does rounds until a list is empty.
-fn play_all<R: Threads + Sync, G: Graph + Sync, T: Gate>(
-    rt: &R,
-    alloc: Global,
-    g: &G,
-    board: &Board,
-    workers: u32,
-    rounds: &mut Rounds,
-    gate: &T,
-)
-    requires board { IsBoardOf (G.game g.now) board.now }
-    requires workers { (1 ≤ workers) × (workers ≤ 64) }
-    requires stands { StandsAt (G.game g.now) board.now workers rounds.old }
-    ensures stands { StandsAt (G.game g.now) board.now workers rounds.new }
-    ensures ended { rounds.new.list.items ≡ [] }
-{
-    known_graph(g);
-    known_laws();
-    'rounds: while !rounds.list.is_empty() {
-        rounds.play(rt, alloc, g, board, workers, gate);
     }
 }
 

@@ -4,7 +4,6 @@ use Rattle.std.specs.Prelude.{◌⊎◌, ℤ}
 use Rattle.std.proofs.lemmas.Bool.{cases_order}
 use Rattle.plant_text.specs.declared.fault.LimitKind.{LimitKind}
 use Rattle.plant_text.specs.declared.fault.LimitKind.TheVariants.{PlantText, TableText, Vectors, Cells, Pairs, Edges}
-use Rattle.plant_text.specs.declared.fault.PlantFault.{PlantFault}
 use Rattle.plant_text.specs.declared.fault.PlantFault.TheVariants as plants
 use Rattle.plant_text.specs.declared.plant.aims.GoalKind.{GoalKind}
 use Rattle.plant_text.specs.declared.plant.aims.GoalKind.TheVariants.{Reach, Keep}
@@ -19,7 +18,6 @@ use Rattle.game_core.specs.Right.{AreRight}
 use Rattle.game_core.specs.Solution.{IsReachSolution}
 use Rattle.abstraction_table.specs.Solution.{Solves, IsSolutionOf}
 use Rattle.abstraction_table.specs.Laws.{OneEdgeCount, OneGamePerPlant}
-use Rattle.controller_table.specs.declared.fault.TableFault.{TableFault}
 use Rattle.controller_table.specs.declared.fault.TableFault.TheVariants as tables
 use Rattle.controller_table.specs.Refusals.{IsTableRefusedFor}
 use Rattle.controller_table.specs.Laws.{OneTablePerText, OneTableRefusal, TableOrRefused}
@@ -27,7 +25,7 @@ use Rattle.table_check.specs.Verdicts.{IsFirstWithout}
 use Rattle.synth_run.specs.declared.form.Form.TheVariants.{Synth, Check, Sim, Demo}
 use Rattle.synth_run.specs.declared.outcome.Outcome.{Outcome}
 use Rattle.synth_run.specs.declared.outcome.Outcome.TheVariants.{Done, Invalid, NoRow, Usage, Malformed, Overflow, Limit, ReadFault, WriteFault, NoMemory}
-use Rattle.synth_run.specs.Demands.{IsRefused, IsSolvable, HasEdges, ExceedsEdges, PlantDemands, PlantTextDemands, IsRightFor, IsFirstWrong, TableDemands, IsRefusedTable, IsTableThatDemands}
+use Rattle.synth_run.specs.Demands.{IsRefusal, IsRefused, IsSolvable, HasEdges, ExceedsEdges, PlantDemands, PlantTextDemands, IsRightFor, IsFirstWrong, TableDemands, IsRefusedTable, IsTableThatDemands}
 use Rattle.synth_run.specs.Traces.{HasRowFor, HasNoRowFor, TraceDemands}
 use Rattle.synth_run.specs.inside.Causes.{of_plant, of_table}
 use Rattle.synth_run.specs.Demo.{demo_plant_of}
@@ -135,33 +133,42 @@ no_refusal n s ReadFault failed h = absurd (h (λ e. cc))
 no_refusal n s WriteFault failed h = absurd (h (λ e. cc))
 no_refusal n s NoMemory failed h = refl
 
--- a refused text, by the fault of its reader
-record IsFaulty (bytes : List ℕ) (outcome : Outcome) : Type 0 where
-  fault : PlantFault
-  refused : IsRefusedFor bytes fault
-  is : outcome ≡ of_plant fault
+-- A refused text, by the fault of its reader.
+record IsFaulty {Fault : Type 0} (Refused : Fault → Type 0) (told : Fault → Outcome) (outcome : Outcome) : Type 0 where
+  fault : Fault
+  refused : Refused fault
+  is : outcome ≡ told fault
 
-faulty : (bytes : List ℕ) (outcome : Outcome) → IsRefused bytes outcome → IsFaulty bytes outcome
-faulty bytes Done h = absurd h
-faulty bytes (Invalid c) h = absurd h
-faulty bytes NoRow h = absurd h
-faulty bytes Usage h = absurd h
-faulty bytes (Malformed line) h = record { fault = plants.Malformed line; refused = h; is = refl }
-faulty bytes (Overflow i u) h = absurd h
-faulty bytes (Limit what) h = record { fault = plants.Limit what; refused = h; is = refl }
-faulty bytes ReadFault h = absurd h
-faulty bytes WriteFault h = absurd h
-faulty bytes NoMemory h = absurd h
+faulty : {Fault : Type 0} (Refused : Fault → Type 0) (told : Fault → Outcome) (malformed : ℕ → Fault) (limit : LimitKind → Fault)
+    → ((line : ℕ) → Malformed line ≡ told (malformed line)) → ((what : LimitKind) → Limit what ≡ told (limit what))
+    → (outcome : Outcome) → IsRefusal (λ line. Refused (malformed line)) (λ what. Refused (limit what)) outcome → IsFaulty Refused told outcome
+faulty Refused told malformed limit line what Done h = absurd h
+faulty Refused told malformed limit line what (Invalid c) h = absurd h
+faulty Refused told malformed limit line what NoRow h = absurd h
+faulty Refused told malformed limit line what Usage h = absurd h
+faulty Refused told malformed limit line what (Malformed n) h = record { fault = malformed n; refused = h; is = line n }
+faulty Refused told malformed limit line what (Overflow i u) h = absurd h
+faulty Refused told malformed limit line what (Limit kind) h = record { fault = limit kind; refused = h; is = what kind }
+faulty Refused told malformed limit line what ReadFault h = absurd h
+faulty Refused told malformed limit line what WriteFault h = absurd h
+faulty Refused told malformed limit line what NoMemory h = absurd h
+
+-- two refusals of a text are one, where its reader has one fault
+one_fault : {Fault : Type 0} (Refused : Fault → Type 0) (told : Fault → Outcome) (a b : Outcome) → ((f g : Fault) → Refused f → Refused g → f ≡ g) → IsFaulty Refused told a → IsFaulty Refused told b → a ≡ b
+one_fault Refused told a b one f g = f.is ∙ ap told (one f.fault g.fault f.refused g.refused) ∙ sym g.is
+
+faulty_plant : (bytes : List ℕ) (outcome : Outcome) → IsRefused bytes outcome → IsFaulty (IsRefusedFor bytes) of_plant outcome
+faulty_plant bytes outcome h = faulty (IsRefusedFor bytes) of_plant (λ line. plants.Malformed line) (λ what. plants.Limit what) (λ line. refl) (λ what. refl) outcome h
 
 one_demand_of_plants : OnePlantPerText → OneRefusal → ReadOrRefused → OneEdgeCount → (bytes : List ℕ) (a b : Outcome) → PlantTextDemands bytes a → PlantTextDemands bytes b → a ≡ b
 one_demand_of_plants plant refusal read count bytes a b f g =
     elim f [
       | inl refused ↦ elim g [
-        | inl other ↦ (let x = faulty bytes a refused in let y = faulty bytes b other in x.is ∙ ap of_plant (refusal bytes x.fault y.fault x.refused y.refused) ∙ sym y.is)
-        | inr accepted ↦ (let x = faulty bytes a refused in absurd (read bytes accepted.0 x.fault accepted.1.spells accepted.1.short accepted.1.limits x.refused))
+        | inl other ↦ one_fault (IsRefusedFor bytes) of_plant a b (refusal bytes) (faulty_plant bytes a refused) (faulty_plant bytes b other)
+        | inr accepted ↦ (let x = faulty_plant bytes a refused in absurd (read bytes accepted.0 x.fault accepted.1.spells accepted.1.short accepted.1.limits x.refused))
       ]
       | inr accepted ↦ elim g [
-        | inl other ↦ (let y = faulty bytes b other in absurd (read bytes accepted.0 y.fault accepted.1.spells accepted.1.short accepted.1.limits y.refused))
+        | inl other ↦ (let y = faulty_plant bytes b other in absurd (read bytes accepted.0 y.fault accepted.1.spells accepted.1.short accepted.1.limits y.refused))
         | inr also ↦ (let same : accepted.0 ≡ also.0 = plant bytes accepted.0 also.0 accepted.1.spells also.1.spells in plant_demands_one count also.0 a b also.1.limits.plant (subst (λ (p : Description). PlantDemands p a) same accepted.2) also.2)
       ]
     ]
@@ -186,23 +193,8 @@ table_end p rows ReadFault h = absurd h
 table_end p rows WriteFault h = absurd h
 table_end p rows NoMemory h = absurd h
 
--- a refused text, by the fault of its reader
-record IsFaultyTable (bytes : List ℕ) (outcome : Outcome) : Type 0 where
-  fault : TableFault
-  refused : IsTableRefusedFor bytes fault
-  is : outcome ≡ of_table fault
-
-faulty_table : (bytes : List ℕ) (outcome : Outcome) → IsRefusedTable bytes outcome → IsFaultyTable bytes outcome
-faulty_table bytes Done h = absurd h
-faulty_table bytes (Invalid c) h = absurd h
-faulty_table bytes NoRow h = absurd h
-faulty_table bytes Usage h = absurd h
-faulty_table bytes (Malformed line) h = record { fault = tables.Malformed line; refused = h; is = refl }
-faulty_table bytes (Overflow i u) h = absurd h
-faulty_table bytes (Limit what) h = record { fault = tables.Limit what; refused = h; is = refl }
-faulty_table bytes ReadFault h = absurd h
-faulty_table bytes WriteFault h = absurd h
-faulty_table bytes NoMemory h = absurd h
+faulty_table : (bytes : List ℕ) (outcome : Outcome) → IsRefusedTable bytes outcome → IsFaulty (IsTableRefusedFor bytes) of_table outcome
+faulty_table bytes outcome h = faulty (IsTableRefusedFor bytes) of_table (λ line. tables.Malformed line) (λ what. tables.Limit what) (λ line. refl) (λ what. refl) outcome h
 
 -- the first of which a fact doesn't hold is one
 one_first : (Fact : ℕ → Type 0) (n b c : ℕ) → IsFirstWithout Fact n b → IsFirstWithout Fact n c → b ≡ c
@@ -260,7 +252,7 @@ one_demand_of_tables : TableLaws → (Demanded : Description → List (Option Ro
 one_demand_of_tables laws Demanded one bytes a b f g =
     elim f [
       | inl refused ↦ elim g [
-        | inl other ↦ (let x = faulty_table bytes a refused in let y = faulty_table bytes b other in x.is ∙ ap of_table (laws.refusal bytes x.fault y.fault x.refused y.refused) ∙ sym y.is)
+        | inl other ↦ one_fault (IsTableRefusedFor bytes) of_table a b (laws.refusal bytes) (faulty_table bytes a refused) (faulty_table bytes b other)
         | inr table ↦ (let x = faulty_table bytes a refused in absurd (laws.read bytes table.plant table.rows x.fault table.table x.refused))
       ]
       | inr table ↦ elim g [

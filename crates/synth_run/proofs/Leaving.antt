@@ -1,7 +1,6 @@
 -- What a form leaves of the game that it solved.
-use Rattle.std.proofs.Common.{◌≡◌, ℕ, ◌<◌, List, length, take, refl, sym, subst}
+use Rattle.std.proofs.Common.{◌≡◌, ℕ, ◌<◌, List, length, take, refl, subst}
 use Rattle.std.specs.Prelude.{ℤ, Option, Some, None, IfSome}
-use Rattle.cell_counters.specs.declared.account.Account.{Account}
 use Rattle.cell_counters.specs.Tokens.{BoardModel, RootModel}
 use Rattle.game_core.specs.Game.{Game}
 use Rattle.plant_text.specs.declared.plant.aims.GoalKind.{GoalKind}

@@ -18,7 +18,7 @@ use Rattle.synth_run.specs.declared.outcome.Outcome.{Outcome}
 use Rattle.synth_run.specs.declared.outcome.Outcome.TheVariants.{Done, Invalid, NoRow, Usage, Malformed, Overflow, Limit, ReadFault, WriteFault, NoMemory}
 use Rattle.synth_run.specs.inside.Transfers.{ReadUpTo}
 use Rattle.synth_run.specs.Form.{most_read}
-use Rattle.synth_run.specs.Demands.{IsRefused, IsRefusedTable, Demands}
+use Rattle.synth_run.specs.Demands.{IsRefusal, IsRefused, IsRefusedTable, Demands}
 use Rattle.synth_run.specs.Headline.{IsAnswer}
 use Rattle.synth_run.proofs.SoFar.{take_all}
 
@@ -39,20 +39,27 @@ pub read_to_the_limit : (most : ℕ) (told after : Option (List ℕ)) (read : Li
 read_to_the_limit most None after read up_to = tt
 read_to_the_limit most (Some bytes) after read up_to = up_to.1
 
--- ---- plant texts
+-- ---- refusals
+
+-- a refusal of one text is one of another, where its line or its limit is
+passes : (m n : ℕ → Type 0) (b c : LimitKind → Type 0) → ((line : ℕ) → m line → n line) → ((what : LimitKind) → b what → c what) → (outcome : Outcome) → IsRefusal m b outcome → IsRefusal n c outcome
+passes m n b c line limit Done h = h
+passes m n b c line limit (Invalid cell) h = h
+passes m n b c line limit NoRow h = h
+passes m n b c line limit Usage h = h
+passes m n b c line limit (Malformed l) h = line l h
+passes m n b c line limit (Overflow i u) h = h
+passes m n b c line limit (Limit what) h = limit what h
+passes m n b c line limit ReadFault h = h
+passes m n b c line limit WriteFault h = h
+passes m n b c line limit NoMemory h = h
 
 -- a front of a longer text isn't short
 pub long_front : (bytes : List ℕ) → 65537 < length bytes → IsShort (take 65537 bytes) → ⊥
 long_front bytes lt short = omega (arith, lt, short, length-take 65537 bytes)
 
 refused_of_longer : (bytes : List ℕ) (outcome : Outcome) → 65537 < length bytes → IsRefused (take 65537 bytes) outcome → IsRefused bytes outcome
-refused_of_longer bytes Done lt h = h
-refused_of_longer bytes (Invalid cell) lt h = h
-refused_of_longer bytes NoRow lt h = h
-refused_of_longer bytes Usage lt h = h
-refused_of_longer bytes (Malformed line) lt h = absurd (long_front bytes lt h.0)
-refused_of_longer bytes (Overflow i u) lt h = h
-refused_of_longer bytes (Limit what) lt h = limit what h
+refused_of_longer bytes outcome lt h = passes _ _ _ _ (λ line h. absurd (long_front bytes lt h.0)) limit outcome h
   where
     limit : (what : LimitKind) → IsRefusedFor (take 65537 bytes) (plants.Limit what) → IsRefusedFor bytes (plants.Limit what)
     limit PlantText h = λ short. omega (arith, lt, short)
@@ -61,23 +68,12 @@ refused_of_longer bytes (Limit what) lt h = limit what h
     limit Cells h = absurd (long_front bytes lt h.0)
     limit Pairs h = absurd (long_front bytes lt h.0)
     limit Edges h = h
-refused_of_longer bytes ReadFault lt h = h
-refused_of_longer bytes WriteFault lt h = h
-refused_of_longer bytes NoMemory lt h = h
-
--- ---- table texts
 
 long_table_front : (bytes : List ℕ) → 67108865 < length bytes → IsShortTable (take 67108865 bytes) → ⊥
 long_table_front bytes lt short = omega (arith, lt, short, length-take 67108865 bytes)
 
 refused_table_of_longer : (bytes : List ℕ) (outcome : Outcome) → 67108865 < length bytes → IsRefusedTable (take 67108865 bytes) outcome → IsRefusedTable bytes outcome
-refused_table_of_longer bytes Done lt h = h
-refused_table_of_longer bytes (Invalid cell) lt h = h
-refused_table_of_longer bytes NoRow lt h = h
-refused_table_of_longer bytes Usage lt h = h
-refused_table_of_longer bytes (Malformed line) lt h = absurd (long_table_front bytes lt h.0)
-refused_table_of_longer bytes (Overflow i u) lt h = h
-refused_table_of_longer bytes (Limit what) lt h = limit what h
+refused_table_of_longer bytes outcome lt h = passes _ _ _ _ (λ line h. absurd (long_table_front bytes lt h.0)) limit outcome h
   where
     limit : (what : LimitKind) → IsTableRefusedFor (take 67108865 bytes) (tables.Limit what) → IsTableRefusedFor bytes (tables.Limit what)
     limit PlantText h = h
@@ -86,9 +82,6 @@ refused_table_of_longer bytes (Limit what) lt h = limit what h
     limit Cells h = absurd (long_table_front bytes lt h.0)
     limit Pairs h = absurd (long_table_front bytes lt h.0)
     limit Edges h = h
-refused_table_of_longer bytes ReadFault lt h = h
-refused_table_of_longer bytes WriteFault lt h = h
-refused_table_of_longer bytes NoMemory lt h = h
 
 -- ---- forms
 

@@ -58,6 +58,21 @@ PlantDemands p ReadFault = ⊥
 PlantDemands p WriteFault = ⊥
 PlantDemands p NoMemory = ⊥
 
+-- ---- the refusal of a text
+
+-- an outcome tells why a text is refused: for a line that is malformed, or for a limit
+abbrev pub IsRefusal : (ℕ → Type 0) → (LimitKind → Type 0) → Outcome → Type 0
+IsRefusal malformed beyond Done = ⊥
+IsRefusal malformed beyond (Invalid cell) = ⊥
+IsRefusal malformed beyond NoRow = ⊥
+IsRefusal malformed beyond Usage = ⊥
+IsRefusal malformed beyond (Malformed line) = malformed line
+IsRefusal malformed beyond (Overflow equation input) = ⊥
+IsRefusal malformed beyond (Limit what) = beyond what
+IsRefusal malformed beyond ReadFault = ⊥
+IsRefusal malformed beyond WriteFault = ⊥
+IsRefusal malformed beyond NoMemory = ⊥
+
 -- ---- the text of a plant
 
 -- The bytes spell a plant within the limits on a text, on input vectors, on cells and on pairs.
@@ -68,16 +83,7 @@ pub record IsAccepted (bytes : List ℕ) (p : Description) : Type 0 where
 
 -- the grammar or a limit refuses the bytes
 abbrev pub IsRefused : List ℕ → Outcome → Type 0
-IsRefused bytes Done = ⊥
-IsRefused bytes (Invalid cell) = ⊥
-IsRefused bytes NoRow = ⊥
-IsRefused bytes Usage = ⊥
-IsRefused bytes (Malformed line) = IsRefusedFor bytes (plants.Malformed line)
-IsRefused bytes (Overflow equation input) = ⊥
-IsRefused bytes (Limit what) = IsRefusedFor bytes (plants.Limit what)
-IsRefused bytes ReadFault = ⊥
-IsRefused bytes WriteFault = ⊥
-IsRefused bytes NoMemory = ⊥
+IsRefused bytes outcome = IsRefusal (λ line. IsRefusedFor bytes (plants.Malformed line)) (λ what. IsRefusedFor bytes (plants.Limit what)) outcome
 
 -- a plant text is refused, or it spells a plant, which demands it
 abbrev pub PlantTextDemands : List ℕ → Outcome → Type 0
@@ -112,16 +118,7 @@ TableDemands p rows NoMemory = ⊥
 
 -- the grammar of tables or a limit refuses the bytes
 abbrev pub IsRefusedTable : List ℕ → Outcome → Type 0
-IsRefusedTable bytes Done = ⊥
-IsRefusedTable bytes (Invalid cell) = ⊥
-IsRefusedTable bytes NoRow = ⊥
-IsRefusedTable bytes Usage = ⊥
-IsRefusedTable bytes (Malformed line) = IsTableRefusedFor bytes (tables.Malformed line)
-IsRefusedTable bytes (Overflow equation input) = ⊥
-IsRefusedTable bytes (Limit what) = IsTableRefusedFor bytes (tables.Limit what)
-IsRefusedTable bytes ReadFault = ⊥
-IsRefusedTable bytes WriteFault = ⊥
-IsRefusedTable bytes NoMemory = ⊥
+IsRefusedTable bytes outcome = IsRefusal (λ line. IsTableRefusedFor bytes (tables.Malformed line)) (λ what. IsTableRefusedFor bytes (tables.Limit what)) outcome
 
 -- A table of a plant within the limits, and what its plant and rows demand.
 pub record IsTableThatDemands (Demanded : Description → List (Option Row) → Type 0) (bytes : List ℕ) : Type 0 where

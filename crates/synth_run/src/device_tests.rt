@@ -1,40 +1,31 @@
-// The top call on damaged texts and failing devices in memory.
+// The top call on damaged texts and failing devices.
 
-use super::*;
+ghost use Rattle.std.specs.Prelude.{◌≡◌, ℕ, List, Some, map, IfSome};
+ghost use Rattle.synth_run.specs.declared.form.Form.{Form};
+ghost use Rattle.synth_run.specs.Form.{IsOfForm, given};
+ghost use Rattle.synth_run.specs.Runs.{IsCompleteAnswer};
+
+use crate::trial::{CLEAN, Case, Devices, PLANT, TABLE, try_case};
+use crate::{CleanSource, CountSink, Open, run};
+use cell_counters::{Board, Root};
 use std::alloc::Global;
+use std::process::Abort;
 use std::test::Fail;
 use std::thread::Threads;
 
-// The places 0 to 14 in cells of three, moved by three to either side, to be brought to 12 to 14.
-const PLANT: &[u8] =
-    b"plant 1\nstate x 0 14 3\ninput u -3 3\nnext x = x + u\ntarget 12 14\ngoal reach\nend\n";
-
-const TABLE: &[u8] =
-    b"table 1\nplant 1\nstate x 0 14 3\ninput u -3 3\nnext x = x + u\ntarget 12 14\ngoal reach\nend\nrows 5\n0 4 1\n1 3 1\n2 2 1\n3 1 1\n4 0 -\nend\n";
-
-// The line on the error sink for the front of a text.
-fn line_for<R: Threads + Sync>(
+// Devices that can't fail: whatever the words and the bytes demand is answered, unless there is no memory.
+fn status_of_clean<R: Threads + Sync>(
     rt: &R,
     alloc: Global,
     words: &[&str],
-    text: &[u8],
-    room: usize,
-) -> Result<MemorySink, Fail> {
-    let mut source = CleanSource::new(Vec::from_slice(alloc, text)?);
-    let mut out = CountSink::new();
-    let mut err = MemorySink::new(alloc, room, 200, Vec::new(alloc))?;
-    let mut played = None;
-    run(
-        rt,
-        alloc,
-        words,
-        &mut source,
-        &mut out,
-        &mut err,
-        &Open,
-        &mut played,
-    );
-    Ok(err)
+    source: &mut CleanSource,
+    out: &mut CountSink,
+    err: &mut CountSink,
+    played: &mut Option<(Board, Root)>,
+) -> u8
+    ensures { (form : Form) → IsOfForm (map (λ w. w.now) words.now) form → IfSome (given form (Some source.old)) (IsCompleteAnswer form result) }
+{
+    run(rt, alloc, words, source, out, err, &Open, played)
 }
 
 #[test]
@@ -42,120 +33,153 @@ fn clean_devices_take_the_whole_table(rt: HostRuntime) -> Result<(), Fail> {
     let mut source = CleanSource::new(Vec::from_slice(rt.alloc(), PLANT)?);
     let mut out = CountSink::new();
     let mut err = CountSink::new();
+    let words = ["synth", "1"];
     let mut played = None;
-    let status = run(
+    let status = status_of_clean(
         &rt,
         rt.alloc(),
-        &["synth", "1"],
+        &words,
         &mut source,
         &mut out,
         &mut err,
-        &Open,
         &mut played,
     );
-    assert_eq!(rt; status, 0);
-    assert_eq!(rt; out.count(), 128);
-    assert_eq!(rt; err.count(), 0);
+    assert_eq!(rt; (status, out.count(), err.count()), (0, 128, 0));
     Ok(())
 }
+
+// Where a text is cut, and the line that is malformed then.
+type Cut = (usize, &'static [u8]);
 
 // The lines begin at the bytes 0, 8, 23, 36, 51, 64 and 75. Of those that are cut, `next x = x` is whole, and `target 12 1`
 // is turned round.
-#[test]
-fn cut_plants_are_malformed_at_the_cut(rt: HostRuntime) -> Result<(), Fail> {
-    for (bytes, line) in [
-        (0, "malformed: line 1\n"),
-        (7, "malformed: line 2\n"),
-        (8, "malformed: line 2\n"),
-        (20, "malformed: line 2\n"),
-        (22, "malformed: line 3\n"),
-        (46, "malformed: line 5\n"),
-        (49, "malformed: line 4\n"),
-        (62, "malformed: line 5\n"),
-        (63, "malformed: line 6\n"),
-        (68, "malformed: line 6\n"),
-        (74, "malformed: line 7\n"),
-        (78, ""),
-        (79, ""),
-    ] {
-        let err = line_for(&rt, rt.alloc(), &["synth", "1"], &PLANT[..bytes], 200)?;
-        assert_eq!(rt; err.got(), line.as_bytes(), "at {bytes}");
+const CUTS_OF_PLANT: [Cut; 11] = [
+    (0, b"malformed: line 1\n"),
+    (7, b"malformed: line 2\n"),
+    (8, b"malformed: line 2\n"),
+    (20, b"malformed: line 2\n"),
+    (22, b"malformed: line 3\n"),
+    (46, b"malformed: line 5\n"),
+    (49, b"malformed: line 4\n"),
+    (62, b"malformed: line 5\n"),
+    (63, b"malformed: line 6\n"),
+    (68, b"malformed: line 6\n"),
+    (74, b"malformed: line 7\n"),
+];
+
+// The plant has seven lines behind that of the version, and five rows follow their number: `end` is line 15.
+const CUTS_OF_TABLE: [Cut; 6] = [
+    (0, b"malformed: line 1\n"),
+    (7, b"malformed: line 1\n"),
+    (8, b"malformed: line 2\n"),
+    (94, b"malformed: line 10\n"),
+    (124, b"malformed: line 15\n"),
+    (127, b"malformed: line 15\n"),
+];
+
+fn try_cuts<R: Abort + Threads + Sync>(
+    rt: &R,
+    alloc: Global,
+    words: &[&str],
+    text: &[u8],
+    cuts: &[Cut],
+) -> Result<(), Fail> {
+    for &(bytes, line) in cuts {
+        let case = Case {
+            what: "a cut text is malformed at the cut",
+            words,
+            text: text.get(..bytes).ok_or("a cut past the end")?,
+            status: 3,
+            out: b"",
+            err: line,
+        };
+        try_case(rt, alloc, &case, &CLEAN)?;
     }
     Ok(())
 }
 
 #[test]
-fn cut_tables_are_malformed_at_the_cut(rt: HostRuntime) -> Result<(), Fail> {
-    for (bytes, line) in [
-        (0, "malformed: line 1\n"),
-        (7, "malformed: line 1\n"),
-        (8, "malformed: line 2\n"),
-        (94, "malformed: line 10\n"),
-        (124, "malformed: line 15\n"),
-        (127, "malformed: line 15\n"),
-        (128, ""),
-    ] {
-        let err = line_for(&rt, rt.alloc(), &["check"], &TABLE[..bytes], 200)?;
-        assert_eq!(rt; err.got(), line.as_bytes(), "at {bytes}");
-    }
-    Ok(())
+fn cut_texts_are_malformed_at_the_cut(rt: HostRuntime) -> Result<(), Fail> {
+    try_cuts(&rt, rt.alloc(), &["synth", "1"], PLANT, &CUTS_OF_PLANT)?;
+    try_cuts(&rt, rt.alloc(), &["check"], TABLE, &CUTS_OF_TABLE)
 }
 
 #[test]
 fn line_without_room_is_cut(rt: HostRuntime) -> Result<(), Fail> {
-    let err = line_for(&rt, rt.alloc(), &["synth", "1"], b"", 5)?;
-    assert_eq!(rt; err.got(), b"malfo".as_slice());
+    let case = Case {
+        what: "a line without room is cut",
+        words: &["synth", "1"],
+        text: b"",
+        status: 3,
+        out: b"",
+        err: b"malfo",
+    };
+    let devices = Devices {
+        room_for_line: 5,
+        ..CLEAN
+    };
+    try_case(&rt, rt.alloc(), &case, &devices)
+}
+
+// `synth 1` of the plant on failing devices.
+fn try_plant<R: Abort + Threads + Sync>(
+    rt: &R,
+    alloc: Global,
+    devices: &Devices,
+    status: u8,
+    written: usize,
+    err: &[u8],
+) -> Result<(), Fail> {
+    let case = Case {
+        what: "the front of the table is written",
+        words: &["synth", "1"],
+        text: PLANT,
+        status,
+        out: TABLE.get(..written).ok_or("past the end of the table")?,
+        err,
+    };
+    try_case(rt, alloc, &case, devices)
+}
+
+// A call takes the plant whole, and the next finds the end: nothing is read behind it.
+#[test]
+fn read_that_fails_is_a_read_fault(rt: HostRuntime) -> Result<(), Fail> {
+    for (call, status, written, err) in [
+        (1, 6, 0, b"read fault\n".as_slice()),
+        (2, 6, 0, b"read fault\n"),
+        (3, 0, 128, b""),
+    ] {
+        let devices = Devices {
+            failing_reads: &[call],
+            ..CLEAN
+        };
+        try_plant(&rt, rt.alloc(), &devices, status, written, err)?;
+    }
     Ok(())
+}
+
+// One byte for each of 39 calls: the bytes end in `input u `.
+#[test]
+fn write_that_fails_leaves_the_front_of_the_table(rt: HostRuntime) -> Result<(), Fail> {
+    let devices = Devices {
+        at_once: 1,
+        failing_writes: &[40],
+        ..CLEAN
+    };
+    try_plant(&rt, rt.alloc(), &devices, 7, 39, b"")
 }
 
 // One byte a call, into room for fewer bytes than the table has: the front of it that fits.
 #[test]
 fn table_without_room_is_cut(rt: HostRuntime) -> Result<(), Fail> {
     for room in 0..TABLE.len() + 1 {
-        let mut source = CleanSource::new(Vec::from_slice(rt.alloc(), PLANT)?);
-        let mut out = MemorySink::new(rt.alloc(), room, 1, Vec::new(rt.alloc()))?;
-        let mut err = CountSink::new();
-        let mut played = None;
-        let status = run(
-            &rt,
-            rt.alloc(),
-            &["synth", "1"],
-            &mut source,
-            &mut out,
-            &mut err,
-            &Open,
-            &mut played,
-        );
-        assert_eq!(rt;
-            status,
-            if room < TABLE.len() { 7 } else { 0 },
-            "with {room}"
-        );
-        assert_eq!(rt; out.got(), &TABLE[..room], "with {room}");
-        assert_eq!(rt; err.count(), 0, "with {room}");
+        let devices = Devices {
+            at_once: 1,
+            room,
+            ..CLEAN
+        };
+        let status = if room < TABLE.len() { 7 } else { 0 };
+        try_plant(&rt, rt.alloc(), &devices, status, room, b"")?;
     }
-    Ok(())
-}
-
-#[test]
-fn first_read_that_fails_is_a_read_fault(rt: HostRuntime) -> Result<(), Fail> {
-    let fails = Vec::from_slice(rt.alloc(), &[1])?;
-    let mut source = MemorySource::new(Vec::from_slice(rt.alloc(), PLANT)?, fails);
-    let mut out = CountSink::new();
-    let mut err = CountSink::new();
-    let mut played = None;
-    let status = run(
-        &rt,
-        rt.alloc(),
-        &["synth", "1"],
-        &mut source,
-        &mut out,
-        &mut err,
-        &Open,
-        &mut played,
-    );
-    assert_eq!(rt; status, 6);
-    assert_eq!(rt; out.count(), 0);
-    assert_eq!(rt; err.count(), 11);
     Ok(())
 }

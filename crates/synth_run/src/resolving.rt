@@ -19,7 +19,10 @@ pub struct Resolved {
     pub root: Root,
 }
 
-/// Resolves a game for a goal by 1 to 64 workers. All memory is taken before the first round.
+/// Resolves a game for a goal by 1 to 64 workers.
+///
+/// What is asked for before the first round may be refused. A round of several hands asks for more: where there is none,
+/// one hand does the round, and nothing is refused.
 pub fn resolve<R: Threads + Sync, G: Graph + Sync, T: Gate>(
     rt: &R,
     alloc: Global,
@@ -32,43 +35,21 @@ pub fn resolve<R: Threads + Sync, G: Graph + Sync, T: Gate>(
     ensures { IfOk result (IsResolved goal (G.game game.now)) }
 {
     match goal {
-        GoalKind::Reach => resolve_to_reach(rt, alloc, game, workers, gate),
-        GoalKind::Keep => resolve_to_keep(rt, alloc, game, workers, gate),
+        GoalKind::Reach => {
+            let solved = reach_avoid::solve(rt, alloc, game, workers, gate)?;
+            Ok(Resolved {
+                answer: solved.answer,
+                board: solved.board,
+                root: solved.root,
+            })
+        }
+        GoalKind::Keep => {
+            let kept = safety_game::keep(rt, alloc, game, workers, gate)?;
+            Ok(Resolved {
+                answer: kept.answer,
+                board: kept.board,
+                root: kept.root,
+            })
+        }
     }
-}
-
-fn resolve_to_reach<R: Threads + Sync, G: Graph + Sync, T: Gate>(
-    rt: &R,
-    alloc: Global,
-    game: &G,
-    workers: u32,
-    gate: &T,
-) -> Result<Resolved, NoMemory>
-    requires { AreWorkers workers }
-    ensures { IfOk result (IsResolved GoalKind.Reach (G.game game.now)) }
-{
-    let solved = reach_avoid::solve(rt, alloc, game, workers, gate)?;
-    Ok(Resolved {
-        answer: solved.answer,
-        board: solved.board,
-        root: solved.root,
-    })
-}
-
-fn resolve_to_keep<R: Threads + Sync, G: Graph + Sync, T: Gate>(
-    rt: &R,
-    alloc: Global,
-    game: &G,
-    workers: u32,
-    gate: &T,
-) -> Result<Resolved, NoMemory>
-    requires { AreWorkers workers }
-    ensures { IfOk result (IsResolved GoalKind.Keep (G.game game.now)) }
-{
-    let kept = safety_game::keep(rt, alloc, game, workers, gate)?;
-    Ok(Resolved {
-        answer: kept.answer,
-        board: kept.board,
-        root: kept.root,
-    })
 }

@@ -1,6 +1,6 @@
 // What a form writes, and how it is written.
 
-ghost use Rattle.std.specs.Prelude.{◌≡◌, ℕ, ◌<◌, List, length, take, drop, min, IfOk, OnOk, OnErr, IfErr};
+ghost use Rattle.std.specs.Prelude.{◌≡◌, ◌<◌, length, IfOk, OnOk, OnErr, IfErr};
 ghost use Rattle.controller_table.specs.TableText.{First, table_text};
 ghost use Rattle.controller_table.specs.Tables.{RowsFit};
 ghost use Rattle.synth_run.specs.Devices.{GainsWhole, GainsPart, writing};
@@ -12,8 +12,8 @@ use crate::simulating::Simulation;
 use crate::solving::Solved;
 use crate::transfer::{WriteFault, write_whole};
 use controller_table::TableWriter;
-use loop_sim::TraceWriter;
 use std::alloc::{AllocError, Global};
+use text_pieces::Pieces;
 
 /// How many bytes are written at once.
 const PIECE: usize = 32_768;
@@ -71,34 +71,6 @@ fn zeros(alloc: Global, size: usize) -> Result<Vec<u8>, AllocError>
     ensures { IfOk result (λ zeros. length zeros.items ≡ size) }
 {
     vec![in alloc; 0; size]
-}
-
-/// A text that comes in pieces. Seen as the bytes that are still to come.
-trait Pieces {
-    ghost left: { Self → List ℕ };
-
-    /// Puts the next bytes into the buffer, as many as there is room for, and answers how many.
-    fn next_piece(&mut self, buf: &mut [u8]) -> usize
-        requires { 0 < length buf.old }
-        ensures count { result ≡ min (length buf.old) (length (left self.old)) }
-        ensures piece { take result buf.new ≡ take result (left self.old) }
-        ensures rest { left self.new ≡ drop result (left self.old) };
-}
-
-impl Pieces for TableWriter<'_> {
-    ghost left = { λ w. w };
-
-    fn next_piece(&mut self, buf: &mut [u8]) -> usize {
-        TableWriter::next_piece(self, buf)
-    }
-}
-
-impl Pieces for TraceWriter<'_> {
-    ghost left = { λ w. w };
-
-    fn next_piece(&mut self, buf: &mut [u8]) -> usize {
-        TraceWriter::next_piece(self, buf)
-    }
 }
 
 /// Writes all that is left of a text through a buffer; a failed write ends it.

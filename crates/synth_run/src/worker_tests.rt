@@ -7,7 +7,7 @@ ghost use Rattle.synth_run.specs.Form.{AreWorkers};
 ghost use Rattle.synth_run.specs.Played.{IsResolvedOn};
 
 use crate::game::game_of;
-use crate::tests::{PLANT, TABLE};
+use crate::trial::{CLEAN, PLANT, TABLE, run_on};
 use crate::{Gate, MemorySink, MemorySource, Open, run};
 use abstraction_table::laws::one_game_per_plant;
 use cell_counters::{Board, Root};
@@ -73,46 +73,16 @@ impl Gate for Meeting {
     }
 }
 
-// What `synth W` of the corridor writes, past a gate.
-fn corridor_table<R: Threads + Sync, G: Gate>(
-    rt: &R,
-    alloc: Global,
-    workers: &str,
-    gate: &G,
-) -> Result<MemorySink, Fail> {
-    let mut source = MemorySource::new(Vec::from_slice(alloc, CORRIDOR)?, Vec::new(alloc));
-    let mut out = MemorySink::new(alloc, 200, 200, Vec::new(alloc))?;
-    let mut err = MemorySink::new(alloc, 200, 200, Vec::new(alloc))?;
-    let words = ["synth", workers];
-    run(
-        rt,
-        alloc,
-        &words,
-        &mut source,
-        &mut out,
-        &mut err,
-        gate,
-        &mut None,
-    );
-    Ok(out)
-}
-
+// One worker comes to the second goal only after it has waited at the first.
 #[test]
-fn two_workers_meet_in_a_round(rt: HostRuntime) -> Result<(), Fail> {
-    let gate = Meeting::of(100_000_000);
-    let out = corridor_table(&rt, rt.alloc(), "2", &gate)?;
-    assert!(rt; gate.met());
-    assert_eq!(rt; out.got(), CORRIDOR_TABLE);
-    Ok(())
-}
-
-// The second goal comes to the gate only after the first was let go.
-#[test]
-fn one_worker_uses_up_the_turns(rt: HostRuntime) -> Result<(), Fail> {
-    let gate = Meeting::of(10);
-    let out = corridor_table(&rt, rt.alloc(), "1", &gate)?;
-    assert!(rt; !gate.met());
-    assert_eq!(rt; out.got(), CORRIDOR_TABLE);
+fn two_workers_meet_in_a_round_and_one_waits_in_vain(rt: HostRuntime) -> Result<(), Fail> {
+    for (workers, turns, met) in [("2", 100_000_000, true), ("1", 10, false)] {
+        let gate = Meeting::of(turns);
+        let words = ["synth", workers];
+        let tried = run_on(&rt, rt.alloc(), &words, CORRIDOR, &CLEAN, &gate)?;
+        assert!(rt; gate.met() == met, "by {workers}");
+        assert_eq!(rt; tried.out.got(), CORRIDOR_TABLE, "by {workers}");
+    }
     Ok(())
 }
 

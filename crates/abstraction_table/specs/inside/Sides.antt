@@ -5,7 +5,7 @@ use Rattle.grid_quantiser.specs.declared.sides.Side.{Side}
 use Rattle.grid_quantiser.specs.Axes.{cells_of}
 use Rattle.plant_text.specs.plant.Description.{Description, axes_of, vectors_of}
 use Rattle.successor_box.specs.Sides.{place_in, moves_along, moved_by, IsSideBeforeAt}
-use Rattle.abstraction_table.specs.declared.boxes.Shares.{Shares}
+use Rattle.abstraction_table.specs.declared.boxes.Offsets.{Offsets}
 use Rattle.abstraction_table.specs.declared.digits.Digit.{Digit}
 use Rattle.abstraction_table.specs.declared.sides.SideTable.{SideTable}
 use Rattle.abstraction_table.specs.inside.Digits.{IsDigitOf, pair_at}
@@ -45,9 +45,9 @@ pub record HoldSides (p : Description) (tables : List SideTable) : Type 0 where
   pub each : (i : ℕ) (d : SideTable) → i < length p.equations → HoldsSidesAlong p i (slice_index_or tables i d)
 
 -- What a cell brings to each table.
-pub record AreSharesOf (p : Description) (tables : List SideTable) (c : ℕ) (shares : Shares) : Type 0 where
-  pub firsts : (i : ℕ) (d : SideTable) → i < length tables → slice_index shares.firsts i ≡ first_of p (slice_index_or tables i d) c
-  pub moves : (i : ℕ) → i < length tables → slice_index shares.moves i ≡ moved_by p i c
+pub record AreOffsetsOf (p : Description) (tables : List SideTable) (c : ℕ) (offsets : Offsets) : Type 0 where
+  pub firsts : (i : ℕ) (d : SideTable) → i < length tables → slice_index offsets.firsts i ≡ first_of p (slice_index_or tables i d) c
+  pub moves : (i : ℕ) → i < length tables → slice_index offsets.moves i ≡ moved_by p i c
 
 -- the side of the pair that has the digits of a place, as many places before as its cell moves it
 abbrev pub IsSideFor : Description → ℕ → List Digit → ℕ → Option Side → Type 0

@@ -118,6 +118,33 @@ fn refuses_other_lines(rt: HostRuntime) -> Result<(), Fail> {
     Ok(())
 }
 
+#[test]
+fn refuses_other_spellings(rt: HostRuntime) -> Result<(), Fail> {
+    // `4 0 -` and `4 1 1` are rows, spelled otherwise here; 4,294,967,300 and 12,884,901,892 are 4 in 32 bits
+    let rows: [&[u8]; 13] = [
+        b"04 0 -\n",
+        b"+4 0 -\n",
+        b" 4 0 -\n",
+        b"4  0 -\n",
+        b"4 00 -\n",
+        b"4 0 - \n",
+        b"4 0 -\r\n",
+        b"4 0 -",
+        b"4 0\n-\n",
+        b"4 1 01\n",
+        b"4 1 1 \n",
+        b"4294967300 0 -\n",
+        b"12884901892 0 -\n",
+    ];
+    for row in rows {
+        let text = [PLANT, b"rows 1\n", row].concat(rt.alloc())?;
+        assert_eq!(rt; refused_line(rt.alloc(), &text), Some(10), "{row:?}");
+    }
+    let wide = [PLANT, b"rows 4294967297\n4 0 -\nend\n"].concat(rt.alloc())?;
+    assert_eq!(rt; refused_line(rt.alloc(), &wide), Some(9));
+    Ok(())
+}
+
 /// The limit that is exceeded.
 fn exceeded(alloc: Global, bytes: &[u8]) -> Option<LimitKind> {
     match read_table(alloc, bytes) {

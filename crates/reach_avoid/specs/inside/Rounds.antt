@@ -1,5 +1,5 @@
 -- What stands between the rounds of a reach game, and what a round adds.
-use Rattle.std.specs.Prelude.{◌≡◌, ℕ, suc, ◌-◌, ◌/◌, ◌%◌, ◌<◌, ◌≤◌, ◌⊎◌, min, Bool, true, false, ◌&&◌, ◌||◌, ◌==◌, nat_lt, if◌then◌else◌, List, [], ◌∷◌, map, filter, length, slice_index, sum_by, count_by, Option, Some, None, All, IsPermutation}
+use Rattle.std.specs.Prelude.{◌≡◌, ℕ, suc, ◌-◌, ◌/◌, ◌%◌, ◌<◌, ◌≤◌, ◌⊎◌, min, Bool, true, false, ◌&&◌, ◌||◌, ◌==◌, nat_lt, if◌then◌else◌, List, [], ◌∷◌, map, filter, length, count_by, Option, Some, None, All, IsPermutation}
 use Rattle.std.specs.List.{range_with_len}
 use Rattle.cell_counters.specs.declared.account.TheConstants.{NONE}
 use Rattle.cell_counters.specs.declared.account.Cut.{Cut}
@@ -10,12 +10,12 @@ use Rattle.cell_counters.specs.Laws.{NothingDone, NewAnswers, NewFirsts, NewPlac
 use Rattle.game_core.specs.declared.game.Mark.{Mark}
 use Rattle.game_core.specs.declared.game.Mark.TheVariants.{Goal, Obstacle, Plain}
 use Rattle.game_core.specs.declared.game.Row.{Row}
-use Rattle.game_core.specs.Counts.{times, CountsTell, EdgesFromBothEnds}
+use Rattle.game_core.specs.Counts.{times, CountsTell, EdgesFromBothEnds, one_if}
 use Rattle.game_core.specs.Game.{Game, mark_of, pairs_of, successors_at}
 use Rattle.game_core.specs.Solution.{row_of}
 use Rattle.game_core.specs.Tally.{all_pairs, rank_by}
-use Rattle.board_crew.specs.Crew.{cuts_in, offers_in, logged_cells, one_if}
-use Rattle.board_crew.specs.Laws.{claimed, counters_of, cut_to, notes_in, SumsTell}
+use Rattle.board_crew.specs.Crew.{cuts_in, offers_in, logged_cells}
+use Rattle.board_crew.specs.Laws.{claimed, cut_to, AccountsTell}
 use Rattle.reach_avoid.specs.Boards.{word_at}
 use Rattle.reach_avoid.specs.Reckoned.{bid_of, bid_at}
 
@@ -27,7 +27,7 @@ pub record Laws : Type 0 where
   pub new_answers : NewAnswers
   pub new_firsts : NewFirsts
   pub new_places : NewPlaces
-  pub sums : SumsTell
+  pub accounts : AccountsTell
 
 -- the row that a word tells
 abbrev pub row_in : ℕ → Option Row
@@ -100,10 +100,6 @@ is_goal Plain = false
 abbrev pub goals_of : Game → List ℕ
 goals_of g = filter (λ c. is_goal (mark_of g c)) (range_with_len 0 g.cells)
 
--- how many cells have a rank below k
-abbrev pub cells_taken : Game → List (Option Row) → ℕ → ℕ
-cells_taken g rows k = count_by (λ c. below_in k (row_of rows c)) (range_with_len 0 g.cells)
-
 -- a cell has the rank before this one, where there is one before
 abbrev pub IsFull : List (Option Row) → ℕ → Type 0
 IsFull rows rank = (rank ≡ 0) ⊎ ((c : ℕ) × (row : Row) × (row_of rows c ≡ Some row) × (suc row.rank ≡ rank))
@@ -112,25 +108,11 @@ IsFull rows rank = (rank ≡ 0) ⊎ ((c : ℕ) × (row : Row) × (row_of rows c 
 abbrev pub last_cuts : List Cut → List ℕ
 last_cuts cuts = cut_to 0 cuts
 
--- how often a pair is cut for an item of the list
-abbrev pub cuts_for : Game → List ℕ → ℕ → ℕ → ℕ
-cuts_for g list pair item = times (slice_index list item) (successors_at g pair)
-
--- a hand in the round of a rank, with so many cuts of each pair
-pub record IsWorkOf (g : Game) (rank : ℕ) (count : ℕ → ℕ) (a : Account) : Type 0 where
-  pub cuts : (pair : ℕ) → pair < pairs_of g → times pair (counters_of a.cuts) ≡ count pair
+-- what the account of a worker keeps in the round of a rank: each cut that used up a pair bid, and each cell that was first bid on was logged
+pub record IsKept (g : Game) (rank : ℕ) (a : Account) : Type 0 where
   pub no_other_cut : All (λ (c : Cut). c.counter < pairs_of g) a.cuts
   pub offers : map bid_of a.offers ≡ map (bid_at g (suc rank)) (last_cuts a.cuts)
   pub logs : logged_cells a.logs ≡ claimed a.offers
-
--- a hand in the round of a rank, which did the items that it noted
-abbrev pub IsWork : Game → ℕ → List ℕ → Account → Type 0
-IsWork g rank list a = IsWorkOf g rank (λ pair. sum_by (cuts_for g list pair) a.notes) a
-
--- all that the hands of a round did
-pub record IsRound (g : Game) (rank : ℕ) (list : List ℕ) (more : List Account) : Type 0 where
-  pub each : All (IsWork g rank list) more
-  pub swept : IsPermutation (range_with_len 0 (length list)) (notes_in more)
 
 -- a row stays as it is, and one that comes has the next rank
 pub record IsNext (rank : ℕ) (rows new : List (Option Row)) : Type 0 where

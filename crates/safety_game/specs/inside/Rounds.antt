@@ -1,15 +1,15 @@
 -- What stands between the rounds of a keep game, and what a round adds.
-use Rattle.std.specs.Prelude.{◌≡◌, ◌≢◌, ℕ, zero, suc, ◌+◌, ◌-◌, ◌/◌, ◌<◌, ◌≤◌, ◌⊎◌, Bool, true, false, not, ◌&&◌, ◌==◌, nat_lt, cond, List, [], filter, length, slice_index, sum_by, count_by, Option, Some, None, All, IsPermutation}
+use Rattle.std.specs.Prelude.{◌≡◌, ◌≢◌, ℕ, zero, suc, ◌+◌, ◌-◌, ◌/◌, ◌<◌, ◌≤◌, ◌⊎◌, Bool, true, false, not, ◌&&◌, ◌==◌, nat_lt, cond, List, [], filter, length, sum_by, count_by, Option, Some, None, All}
 use Rattle.std.specs.List.{range_with_len}
-use Rattle.board_crew.specs.Crew.{one_if, cuts_in, offers_in, logged_cells}
-use Rattle.board_crew.specs.Laws.{SumsTell, counters_of, cut_to, notes_in}
+use Rattle.board_crew.specs.Crew.{cuts_in, offers_in, logged_cells}
+use Rattle.game_core.specs.Counts.{one_if, times, CountsTell, EdgesFromBothEnds}
+use Rattle.board_crew.specs.Laws.{AccountsTell, counters_of, cut_to}
 use Rattle.cell_counters.specs.declared.account.Cut.{Cut}
 use Rattle.cell_counters.specs.declared.account.Account.{Account}
 use Rattle.cell_counters.specs.Accounts.{IsLawfulCounter, cut_count, all_logs}
 use Rattle.cell_counters.specs.Laws.{CountsDown, NothingDone, NewAnswers, NewPlaces}
 use Rattle.game_core.specs.declared.game.Mark.TheVariants.{Obstacle}
 use Rattle.game_core.specs.declared.game.Row.{Row}
-use Rattle.game_core.specs.Counts.{times, CountsTell, EdgesFromBothEnds}
 use Rattle.game_core.specs.Fallen.{is_obstacle, has_fallen}
 use Rattle.game_core.specs.Game.{Game, mark_of, pair_of, pairs_of, successors_at}
 use Rattle.game_core.specs.Solution.{row_of}
@@ -23,7 +23,7 @@ pub record Laws : Type 0 where
   pub counts_down : CountsDown
   pub new_answers : NewAnswers
   pub new_places : NewPlaces
-  pub sums : SumsTell
+  pub accounts : AccountsTell
 
 -- a cell fell in a round before d
 abbrev pub fell_before : Game → ℕ → ℕ → Bool
@@ -64,17 +64,9 @@ pub record AreFalling (g : Game) (d : ℕ) (list : List ℕ) (accounts : List Ac
 abbrev pub first_fallen : Game → List ℕ
 first_fallen g = filter (has_fallen g 0) (range_with_len 0 g.cells)
 
--- how many cells fell in a round before d
-abbrev pub cells_gone : Game → ℕ → ℕ
-cells_gone g d = count_by (fell_before g d) (range_with_len 0 g.cells)
-
 -- a cell fell in the round before this one, and not before that, where there is one before
 abbrev pub IsFull : Game → ℕ → Type 0
 IsFull g d = (d ≡ 0) ⊎ ((k c : ℕ) × (d ≡ suc k) × (c < g.cells) × (has_fallen g k c ≡ true) × (fell_before g k c ≡ false))
-
--- how often a pair is cut for an item of the list
-abbrev pub cuts_for : Game → List ℕ → ℕ → ℕ → ℕ
-cuts_for g list pair item = times (slice_index list item) (successors_at g pair)
 
 -- how many of these cuts were the first of a pair
 abbrev pub firsts_in : Game → List Cut → ℕ → ℕ
@@ -90,20 +82,10 @@ pub record IsInStep (g : Game) (cuts : List Cut) (logged : List ℕ) : Type 0 wh
   pub logs : (c : ℕ) → times c logged ≡ times (pairs_of g + c) (cut_to 0 cuts)
   pub no_other_cut : All (λ (c : Cut). c.counter < pairs_of g + g.cells) cuts
 
--- a hand in a round, with so many cuts of each pair
-pub record IsWorkOf (g : Game) (count : ℕ → ℕ) (a : Account) : Type 0 where
-  pub cuts : (pair : ℕ) → pair < pairs_of g → times pair (counters_of a.cuts) ≡ count pair
+-- what the account of a worker keeps in each round
+pub record IsKept (g : Game) (a : Account) : Type 0 where
   pub in_step : IsInStep g a.cuts (logged_cells a.logs)
   pub no_offer : a.offers ≡ []
-
--- a hand in a round, which did the items that it noted
-abbrev pub IsWork : Game → List ℕ → Account → Type 0
-IsWork g list a = IsWorkOf g (λ pair. sum_by (cuts_for g list pair) a.notes) a
-
--- all that the hands of a round did
-pub record IsRound (g : Game) (list : List ℕ) (more : List Account) : Type 0 where
-  pub each : All (IsWork g list) more
-  pub swept : IsPermutation (range_with_len 0 (length list)) (notes_in more)
 
 -- a pair is enabled, and was never cut
 abbrev pub is_whole : Game → List Account → ℕ → Bool

@@ -1,5 +1,5 @@
 -- What is worked out of a game by workers at a board.
-use Rattle.std.specs.Prelude.{◌≡◌, ℕ, List, Option, IfSome}
+use Rattle.std.specs.Prelude.{◌≡◌, Option, IfSome}
 use Rattle.cell_counters.specs.Tokens.{BoardModel, RootModel}
 use Rattle.game_core.specs.Game.{Game}
 use Rattle.plant_text.specs.declared.plant.aims.GoalKind.{GoalKind}

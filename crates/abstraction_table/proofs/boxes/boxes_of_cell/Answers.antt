@@ -4,7 +4,7 @@ use Rattle.successor_box.specs.Boxes.{IsBoxOf}
 use Rattle.abstraction_table.proofs.boxes.boxes_of_cell.Goals as goal
 
 pub box_at-requires-clause-cell : goal.box_at-requires-clause-cell
-box_at-requires-clause-cell c = (c.args.c, c.requires.cell, c.shares_of-shares.ensures)
+box_at-requires-clause-cell c = (c.args.c, c.requires.cell, c.offsets_of-offsets.ensures)
 
 pub loop-input-preserved : goal.loop-input-preserved
 loop-input-preserved c =
@@ -19,5 +19,5 @@ loop-input-preserved c =
       long = length-set boxes input b ∙ so_far.long;
       each = below_more (λ (u : ℕ). IsBoxOf p cell u (get_or (set boxes input b) u None)) input
           (λ u before. let other : u ≢ input = omega (arith, before) in subst (IsBoxOf p cell u) (sym (get_or-set_other boxes input u b None other)) (so_far.each u before))
-          (subst (IsBoxOf p cell input) (sym (get_or-set_same boxes input b None short)) (c.box_at.ensures cell c.requires.cell c.shares_of-shares.ensures));
+          (subst (IsBoxOf p cell input) (sym (get_or-set_same boxes input b None short)) (c.box_at.ensures cell c.requires.cell c.offsets_of-offsets.ensures));
     }

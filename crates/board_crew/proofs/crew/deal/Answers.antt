@@ -1,6 +1,6 @@
 use Rattle.std.proofs.Common.{ℕ, ◌+◌, All, length, refl, sym, ◌∙◌, ap, subst, arith}
 use Rattle.std.proofs.lemmas.List.Elements.{All-nil, All-push}
-use Rattle.cell_counters.specs.Tokens.{RootModel, HandModel, hand_out}
+use Rattle.cell_counters.specs.Tokens.{RootModel, hand_out}
 use Rattle.board_crew.specs.Crew.{IsFresh}
 use Rattle.board_crew.proofs.crew.deal.Goals as goal
 
@@ -28,8 +28,7 @@ loop-worker-preserved c =
       many = (let e = c.push_reserved.ensures.len in omega arith);
       fresh =
           subst (All (IsFresh c.args.board.now)) (sym c.push_reserved.ensures.items)
-          (All-push (IsFresh c.args.board.now) c.loop-worker.members.items c.new.result before.fresh
-          (c.new.ensures.hand ∙ ap (λ (h : HandModel). record { hand = h; cuts = 0; offers = 0 }) c.hand.ensures.hand));
+          (All-push (IsFresh c.args.board.now) c.loop-worker.members.items c.new.result before.fresh (c.new.ensures.hand ∙ (c.new-worker.ensures ∙ c.hand.ensures.hand)));
       room = c.push_reserved.ensures.capacity ∙ before.room;
     }
 

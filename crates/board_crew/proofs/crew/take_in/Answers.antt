@@ -1,12 +1,10 @@
 use Rattle.std.proofs.Common.{◌≡◌, ◌+◌, ◌-◌, ◌%◌, ◌^◌, ◌++◌, ◌∷◌, [], List, Some, reverse, refl, sym, ◌∙◌, ap, subst, arith}
 use Rattle.std.proofs.lemmas.List.{append-nil, nil_from_length}
 use Rattle.std.proofs.lemmas.List.Elements.{All-pop}
-use Rattle.cell_counters.specs.Tokens.{RootModel}
+use Rattle.cell_counters.specs.Tokens.{HandModel, RootModel}
 use Rattle.cell_counters.specs.declared.account.Account.{Account}
-use Rattle.frontier_pool.specs.declared.member.Member.{Member}
 use Rattle.game_core.specs.declared.tally.Tally.{Tally}
-use Rattle.board_crew.specs.declared.worker.Worker.{Worker}
-use Rattle.board_crew.specs.Crew.{IsCounted, IsTalliedBy, account_of, accounts_of}
+use Rattle.board_crew.specs.Crew.{IsTalliedBy, accounts_of}
 use Rattle.board_crew.proofs.Crews.{IsOfBoard, taken_step, tally_step}
 use Rattle.board_crew.proofs.crew.take_in.Goals as goal
 
@@ -19,24 +17,24 @@ loop-member-init c = record {
   lawful = λ e. absurd (let some' = c.requires.some in omega arith);
   room = refl;
   rounds = refl;
-  tally = λ counted tallied. (counted, tallied);
+  tally = λ tallied. tallied;
 }
 
 pub take_in-requires-clause-hand : goal.take_in-requires-clause-hand
 take_in-requires-clause-hand c =
     let rest = All-pop (IsOfBoard c.args.board.now) c.loop-member.members.items c.pop.new.self.items (Some c.in-Some.member) c.in-Some.ensures.items c.loop-member.invariant.members in
-    ap (λ (w : Worker). w.hand.board) c.into_hand-hand.ensures ∙ rest.1
+    ap (λ (h : HandModel). h.board) (c.hand.view_is ∙ c.into_hand.ensures) ∙ rest.1
 
 pub loop-member-preserved : goal.loop-member-preserved
 loop-member-preserved c =
     let before = c.loop-member.invariant in
     let m = c.in-Some.member in
-    let worker = c.into_hand-hand.result in
+    let worker = c.hand.inside in
     let a = worker.hand.account in
     let left = c.pop.new.self.items in
     let root = c.take_in.new.root in
     let all : root.accounts ≡ c.loop-member.root.accounts ++ a ∷ [] = ap (λ (r : RootModel). r.accounts) c.take_in.ensures.root in
-    let same : a ≡ account_of m.hand = ap account_of c.into_hand-hand.ensures in
+    let same : a ≡ m.hand.account = ap (λ (h : HandModel). h.account) (c.hand.view_is ∙ c.into_hand.ensures) in
     let out : root.out ≡ c.loop-member.root.out - 1 = ap (λ (r : RootModel). r.out) c.take_in.ensures.root in
     let many = c.in-Some.ensures.cases in
     let was = before.out in
@@ -50,12 +48,10 @@ loop-member-preserved c =
       lawful = λ e. c.take_in.ensures.lawful (omega arith);
       room = c.in-Some.ensures.capacity ∙ before.room;
       rounds = before.rounds;
-      tally = λ counted tallied.
-          let old = before.tally counted tallied in
-          let rest = All-pop (λ (m : Member Worker). IsCounted m.hand) c.loop-member.members.items left (Some m) c.in-Some.ensures.items old.0 in
+      tally = λ tallied.
           let was = c.loop-member.tally in
           let now : Tally = record was { cuts = (was.cuts + worker.cuts) % 2 ^ 64; offers = (was.offers + worker.offers) % 2 ^ 64 } in
-          (rest.0, subst (λ l. IsTalliedBy l now) (sym all) (tally_step c.loop-member.root.accounts worker a was now refl (subst IsCounted (sym c.into_hand-hand.ensures) rest.1) old.1 refl refl));
+          subst (λ l. IsTalliedBy l now) (sym all) (tally_step c.loop-member.root.accounts a worker.cuts worker.offers was now c.hand.invariant (before.tally tallied) refl refl);
     }
 
 pub returns-clause-root : goal.returns-clause-root
@@ -76,4 +72,4 @@ pub returns-clause-room : goal.returns-clause-room
 returns-clause-room c = c.in_default.ensures.capacity ∙ c.loop-member.invariant.room
 
 pub returns-clause-tally : goal.returns-clause-tally
-returns-clause-tally c = λ counted tallied. (c.loop-member.invariant.tally counted tallied).1
+returns-clause-tally c = c.loop-member.invariant.tally

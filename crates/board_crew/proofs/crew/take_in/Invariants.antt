@@ -1,8 +1,8 @@
 use Rattle.std.proofs.Common.{◌≡◌, ◌++◌, reverse, All, vec_len}
 use Rattle.std.specs.Vec.{vec_capacity}
 use Rattle.cell_counters.specs.Tokens.{IsLawful}
-use Rattle.board_crew.specs.Crew.{accounts_of}
-use Rattle.board_crew.proofs.Crews.{IsOfBoard, TalliesOn}
+use Rattle.board_crew.specs.Crew.{IsTalliedBy, accounts_of}
+use Rattle.board_crew.proofs.Crews.{IsOfBoard}
 use Rattle.board_crew.proofs.crew.take_in.Given as goal
 
 abbrev pub invariant-loop-member : goal.invariant-loop-member
@@ -14,7 +14,7 @@ invariant-loop-member l = record {
   lawful : vec_len l.members ≡ 0 → IsLawful l.root.accounts l.board.starts l.board.least;
   room : vec_capacity l.members ≡ vec_capacity l.initial.members;
   rounds : l.tally.rounds ≡ l.initial.tally.rounds;
-  tally : TalliesOn l.initial.members.items l.initial.root.accounts l.initial.tally l.members.items l.root.accounts l.tally;
+  tally : IsTalliedBy l.initial.root.accounts l.initial.tally → IsTalliedBy l.root.accounts l.tally;
 }
 
 abbrev pub decreases-loop-member : goal.decreases-loop-member

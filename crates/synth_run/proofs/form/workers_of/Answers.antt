@@ -1,4 +1,4 @@
-use Rattle.std.proofs.Common.{◌≡◌, ◌≤◌, ◌∙◌, ap, arith}
+use Rattle.std.proofs.Common.{◌∙◌, ap, arith}
 use Rattle.std.specs.Fmt.{decimal}
 use Rattle.synth_run.proofs.Words.{not_zero}
 use Rattle.synth_run.proofs.form.workers_of.Goals as goal

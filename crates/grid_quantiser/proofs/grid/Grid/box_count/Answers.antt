@@ -20,7 +20,7 @@ overflow_mul-cells c =
     let axes = c.axes-axes.result.now in
     let i = c.loop-i.i in
     let k = corners axes c.args.self.now c.args.b.first c.args.b.last c.axes-axes.ensures.same c.axes-axes.ensures.axes c.axes-axes.ensures.limit c.requires in
-    let more = cells_here axes c.loop-i.i c.args.b.first c.args.b.last k.grid.each c.loop-i-test.true c.loop-i.auto.i k.order k.box c.loop-i.cells _ c.loop-i.rest c.loop-i.invariant.cells c.loop-i.invariant.rest (c.from.ensures ∙ c.split-quotient.ensures.left) in
+    let more = cells_here axes c.loop-i.i c.args.b.first c.args.b.last k.grid.each c.loop-i-test.true c.loop-i.auto.i k.order k.box _ c.loop-i.rest c.loop-i.invariant.rest (c.from.ensures ∙ c.split-quotient.ensures.left) c.loop-i.cells c.loop-i.invariant.cells in
     let next = box_next axes i c.args.b.first c.args.b.last k.grid.each c.loop-i-test.true c.loop-i.auto.i k.box in
     omega (arith, more, between_limit (drop (i - 1) axes) (c.args.b.first % cells_of (drop (i - 1) axes)) (c.args.b.last % cells_of (drop (i - 1) axes)) next, cells_of-drop (i - 1) axes c.axes-axes.ensures.axes.each, c.axes-axes.ensures.limit)
 
@@ -31,7 +31,7 @@ loop-i-preserved c =
     record {
       rest = c.split-quotient.ensures.quotient ∙ ap (λ k. k / (next_axis axes c.loop-i.i).count) c.loop-i.invariant.rest
           ∙ div_step axes c.loop-i.i c.axes-axes.ensures.axes.each c.loop-i-test.true c.loop-i.auto.i (c.args.b.last - c.args.b.first);
-      cells = cells_here axes c.loop-i.i c.args.b.first c.args.b.last k.grid.each c.loop-i-test.true c.loop-i.auto.i k.order k.box c.loop-i.cells _ c.loop-i.rest c.loop-i.invariant.cells c.loop-i.invariant.rest (c.from.ensures ∙ c.split-quotient.ensures.left);
+      cells = cells_here axes c.loop-i.i c.args.b.first c.args.b.last k.grid.each c.loop-i-test.true c.loop-i.auto.i k.order k.box _ c.loop-i.rest c.loop-i.invariant.rest (c.from.ensures ∙ c.split-quotient.ensures.left) c.loop-i.cells c.loop-i.invariant.cells;
     }
 
 pub returns-clause-count : goal.returns-clause-count

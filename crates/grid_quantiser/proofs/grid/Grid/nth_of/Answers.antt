@@ -1,45 +1,64 @@
 use Rattle.std.proofs.Common.{◌≡◌, ◌+◌, ◌-◌, ◌*◌, ◌/◌, ◌%◌, ◌<◌, arith, ap, sym, subst, ◌∙◌, List, length, drop, get_or}
-use Rattle.std.proofs.Math.Nat.{mul_comm, add_comm, mod-eq_of_lt}
-use Rattle.std.proofs.lemmas.Nat.{mod_below}
 use Rattle.std.specs.List.{All}
+use Rattle.std.proofs.Math.Nat.{mul_comm}
+use Rattle.std.proofs.lemmas.Nat.{mod_below}
 use Rattle.std.proofs.lemmas.List.Elements.{All-drop}
 use Rattle.grid_quantiser.specs.declared.axis.Axis.{Axis}
 use Rattle.grid_quantiser.specs.Axes.{IsAxis, cells_of}
 use Rattle.grid_quantiser.specs.Boxes.{IsCellBox, cells_between}
-use Rattle.grid_quantiser.proofs.General.{div-div}
-use Rattle.grid_quantiser.proofs.Suffixes.{next_axis, div_step, cells_of-drop, cells_step, cells_limit}
-use Rattle.grid_quantiser.proofs.BoxCells.{part_between, corners_below, box_whole, between_some, between_below, box_next, places_ordered, length_step, nth_step}
+use Rattle.grid_quantiser.proofs.Suffixes.{next_axis, some_step, div_step, cells_of-drop, cells_step, cells_limit}
+use Rattle.grid_quantiser.proofs.BoxCells.{between_some, between_below, between_limit, box_next}
+use Rattle.grid_quantiser.proofs.WheelsMade.{corners, count_limit, turns_here, nth_here, nth_whole}
 use Rattle.grid_quantiser.proofs.grid.Grid.nth_of.Goals as goal
 
-box : (c : goal.In-loop-k) → IsCellBox c.axes-axes.result.now (c.args.b.first % cells_of c.axes-axes.result.now) (c.args.b.last % cells_of c.axes-axes.result.now)
-box c =
-    let given = subst (λ (axes : List Axis). IsCellBox axes c.args.b.first c.args.b.last) (sym c.axes-axes.ensures.same) c.requires.ordered in
-    box_whole c.axes-axes.result.now c.args.b.first c.args.b.last c.axes-axes.ensures.axes.each c.axes-axes.ensures.axes.some_state given
-
-pub overflow_sub-side : goal.overflow_sub-side
-overflow_sub-side c =
-    rw (c.loop-k.invariant.first, c.loop-k.invariant.last)
-    (places_ordered c.axes-axes.result.now c.loop-k.k c.args.b.first c.args.b.last c.axes-axes.ensures.axes.each c.loop-k-test.true c.loop-k.auto.k (box c))
-
--- the cell with one more state
-more : (c : goal.In-loop-k) →
-    c.loop-k.cell + (c.loop-k.first % (next_axis c.axes-axes.result.now c.loop-k.k).count + c.loop-k.left % (c.loop-k.last % (next_axis c.axes-axes.result.now c.loop-k.k).count - c.loop-k.first % (next_axis c.axes-axes.result.now c.loop-k.k).count + 1)) * c.loop-k.stride
-    ≡ get_or (part_between c.axes-axes.result.now (c.loop-k.k - 1) c.args.b.first c.args.b.last)
-    (c.args.i % length (part_between c.axes-axes.result.now (c.loop-k.k - 1) c.args.b.first c.args.b.last)) 0
-more c =
-    rw (c.loop-k.invariant.first, c.loop-k.invariant.last, c.loop-k.invariant.left, c.loop-k.invariant.cell, c.loop-k.invariant.stride)
-    (add_comm _ _ ∙ sym (nth_step c.axes-axes.result.now c.loop-k.k c.args.b.first c.args.b.last c.axes-axes.ensures.axes.each c.loop-k-test.true c.loop-k.auto.k (box c) c.args.i))
-
-pub overflow_add-cell-in-loop-k : goal.overflow_add-cell-in-loop-k
-overflow_add-cell-in-loop-k c =
+pub overflow_sub-rest : goal.overflow_sub-rest
+overflow_sub-rest c =
     let axes = c.axes-axes.result.now in
-    let j = c.loop-k.k - 1 in
-    let f = c.args.b.first % cells_of (drop j axes) in
-    let l = c.args.b.last % cells_of (drop j axes) in
-    let next : IsCellBox (drop j axes) f l = box_next axes c.loop-k.k c.args.b.first c.args.b.last c.axes-axes.ensures.axes.each c.loop-k-test.true c.loop-k.auto.k (box c) in
-    let later : All IsAxis (drop j axes) = All-drop IsAxis j axes c.axes-axes.ensures.axes.each in
-    let within = mod_below c.args.i (length (cells_between (drop j axes) f l)) (between_some (drop j axes) f l next) in
-    omega (arith, more c, between_below (drop j axes) f l (c.args.i % length (cells_between (drop j axes) f l)) later next within, cells_of-drop j axes c.axes-axes.ensures.axes.each, c.axes-axes.ensures.limit)
+    let f = c.args.b.first in
+    let l = c.args.b.last in
+    (corners axes c.args.self.now f l c.axes-axes.ensures.same c.axes-axes.ensures.axes c.axes-axes.ensures.limit c.requires.ordered).order
+
+pub overflow_cast-left : goal.overflow_cast-left
+overflow_cast-left c =
+    omega (arith, c.requires.within, between_limit c.args.self.now c.args.b.first c.args.b.last c.requires.ordered, ap cells_of c.axes-axes.ensures.same, c.axes-axes.ensures.limit)
+
+pub overflow_cast-count : goal.overflow_cast-count
+overflow_cast-count c =
+    omega (arith, count_limit c.axes-axes.result.now c.loop-k.k c.axes-axes.ensures.axes.each c.loop-k-test.true c.loop-k.auto.k, c.axes-axes.ensures.limit)
+
+pub overflow_add-steps : goal.overflow_add-steps
+overflow_add-steps c =
+    let axes = c.axes-axes.result.now in
+    let each = c.axes-axes.ensures.axes.each in
+    omega (
+      arith,
+      c.split-quotient.ensures.left,
+      mod_below c.loop-k.rest (next_axis axes c.loop-k.k).count (some_step axes c.loop-k.k each c.loop-k-test.true c.loop-k.auto.k),
+      count_limit axes c.loop-k.k each c.loop-k-test.true c.loop-k.auto.k,
+      c.axes-axes.ensures.limit,
+    )
+
+pub overflow_add-cell : goal.overflow_add-cell
+overflow_add-cell c =
+    let axes = c.axes-axes.result.now in
+    let f = c.args.b.first in
+    let l = c.args.b.last in
+    let corner = corners axes c.args.self.now f l c.axes-axes.ensures.same c.axes-axes.ensures.axes c.axes-axes.ensures.limit c.requires.ordered in
+    let k = c.loop-k.k in
+    let each = corner.grid.each in
+    let some = c.loop-k-test.true in
+    let within = c.loop-k.auto.k in
+    let so_far = c.loop-k.invariant in
+    let nth = nth_here axes k f l each some within corner.order corner.box c.split-quotient.result.1 c.loop-k.rest so_far.rest c.split-quotient.ensures.left c.args.i c.loop-k.left c.loop-k.cell so_far.left so_far.cell in
+    let product : c.split-turns.result.1 * c.loop-k.stride ≡ c.loop-k.left % (c.split-quotient.result.1 + 1) * cells_of (drop k axes) =
+    ap (λ p. p * c.loop-k.stride) c.split-turns.ensures.left ∙ ap (λ n. c.loop-k.left % (c.split-quotient.result.1 + 1) * n) so_far.stride
+    in
+    let first = f % cells_of (drop (k - 1) axes) in
+    let last = l % cells_of (drop (k - 1) axes) in
+    let next : IsCellBox (drop (k - 1) axes) first last = box_next axes k f l each some within corner.box in
+    let inside = mod_below c.args.i (length (cells_between (drop (k - 1) axes) first last)) (between_some (drop (k - 1) axes) first last next) in
+    let later : All IsAxis (drop (k - 1) axes) = All-drop IsAxis (k - 1) axes each in
+    omega (arith, nth, product, between_below (drop (k - 1) axes) first last _ later next inside, cells_of-drop (k - 1) axes each, corner.limit, corner.low)
 
 pub overflow_mul-stride : goal.overflow_mul-stride
 overflow_mul-stride c =
@@ -51,51 +70,42 @@ overflow_mul-stride c =
 pub loop-k-preserved : goal.loop-k-preserved
 loop-k-preserved c =
     let axes = c.axes-axes.result.now in
+    let f = c.args.b.first in
+    let l = c.args.b.last in
+    let corner = corners axes c.args.self.now f l c.axes-axes.ensures.same c.axes-axes.ensures.axes c.axes-axes.ensures.limit c.requires.ordered in
     let k = c.loop-k.k in
+    let each = corner.grid.each in
+    let some = c.loop-k-test.true in
+    let within = c.loop-k.auto.k in
+    let so_far = c.loop-k.invariant in
     let count = (next_axis axes k).count in
-    let n = cells_of (drop k axes) in
-    let side = c.args.b.last / n % count - c.args.b.first / n % count + 1 in
+    let nth = nth_here axes k f l each some within corner.order corner.box c.split-quotient.result.1 c.loop-k.rest so_far.rest c.split-quotient.ensures.left c.args.i c.loop-k.left c.loop-k.cell so_far.left so_far.cell in
+    let product : c.split-turns.result.1 * c.loop-k.stride ≡ c.loop-k.left % (c.split-quotient.result.1 + 1) * cells_of (drop k axes) =
+    ap (λ p. p * c.loop-k.stride) c.split-turns.ensures.left ∙ ap (λ n. c.loop-k.left % (c.split-quotient.result.1 + 1) * n) so_far.stride
+    in
     record {
-      first = ap (λ v. v / count) c.loop-k.invariant.first
-          ∙ div_step axes k c.axes-axes.ensures.axes.each c.loop-k-test.true c.loop-k.auto.k c.args.b.first;
-      last = ap (λ v. v / count) c.loop-k.invariant.last
-          ∙ div_step axes k c.axes-axes.ensures.axes.each c.loop-k-test.true c.loop-k.auto.k c.args.b.last;
-      stride = ap (λ v. v * count) c.loop-k.invariant.stride
-          ∙ mul_comm n count
-          ∙ sym (cells_step axes k c.axes-axes.ensures.axes.each c.loop-k-test.true c.loop-k.auto.k);
-      left = rw (c.loop-k.invariant.first, c.loop-k.invariant.last, c.loop-k.invariant.left)
-          (div-div c.args.i side (length (cells_between (drop k axes) (c.args.b.first % n) (c.args.b.last % n)))
-          ∙ ap (λ v. c.args.i / v) (sym (length_step axes k c.args.b.first c.args.b.last c.axes-axes.ensures.axes.each c.loop-k-test.true c.loop-k.auto.k (box c))));
-      cell = more c;
+      rest = c.split-quotient.ensures.quotient ∙ ap (λ r. r / count) so_far.rest ∙ div_step axes k each some within (l - f);
+      stride = ap (λ r. r * count) so_far.stride ∙ mul_comm (cells_of (drop k axes)) count ∙ sym (cells_step axes k each some within);
+      left = c.split-turns.ensures.quotient ∙ turns_here axes k f l each some within corner.order corner.box c.split-quotient.result.1 c.loop-k.rest so_far.rest c.split-quotient.ensures.left c.args.i c.loop-k.left so_far.left;
+      cell = ap (λ p. c.loop-k.cell + p + f % cells_of (drop (k - 1) axes)) product ∙ nth;
     }
 
--- what the loop has at its end
-whole : (c : goal.After-loop-k) → c.loop-k.cell ≡ get_or (cells_between c.axes-axes.result.now c.args.b.first c.args.b.last) c.args.i 0
-whole c =
-    let axes = c.axes-axes.result.now in
-    let done : c.loop-k.k ≡ 0 = omega arith in
-    let given = subst (λ (axes : List Axis). IsCellBox axes c.args.b.first c.args.b.last) (sym c.axes-axes.ensures.same) c.requires.ordered in
-    let below = corners_below axes c.args.b.first c.args.b.last c.axes-axes.ensures.axes.each c.axes-axes.ensures.axes.some_state given in
-    let within = subst (λ (axes : List Axis). c.args.i < length (cells_between axes c.args.b.first c.args.b.last)) (sym c.axes-axes.ensures.same) c.requires.within in
-    c.loop-k.invariant.cell
-    ∙ ap (λ k. get_or (part_between axes k c.args.b.first c.args.b.last)
-    (c.args.i % length (part_between axes k c.args.b.first c.args.b.last)) 0) done
-    ∙ ap (λ f. get_or (cells_between axes f (c.args.b.last % cells_of axes)) (c.args.i % length (cells_between axes f (c.args.b.last % cells_of axes))) 0) (mod-eq_of_lt below.0)
-    ∙ ap (λ l. get_or (cells_between axes c.args.b.first l) (c.args.i % length (cells_between axes c.args.b.first l)) 0) (mod-eq_of_lt below.1)
-    ∙ ap (λ i. get_or (cells_between axes c.args.b.first c.args.b.last) i 0) (mod-eq_of_lt within)
-
-whole_below : (c : goal.After-loop-k) → c.loop-k.cell < cells_of c.axes-axes.result.now
-whole_below c =
-    let axes = c.axes-axes.result.now in
-    let given = subst (λ (axes : List Axis). IsCellBox axes c.args.b.first c.args.b.last) (sym c.axes-axes.ensures.same) c.requires.ordered in
-    let within = subst (λ (axes : List Axis). c.args.i < length (cells_between axes c.args.b.first c.args.b.last)) (sym c.axes-axes.ensures.same) c.requires.within in
-    rw (whole c) (between_below axes c.args.b.first c.args.b.last c.args.i c.axes-axes.ensures.axes.each given within)
-
-pub overflow_cast-result : goal.overflow_cast-result
-overflow_cast-result c = omega (arith, whole_below c, c.axes-axes.ensures.limit)
-
 pub returns-clause-nth : goal.returns-clause-nth
-returns-clause-nth c = whole c ∙ ap (λ axes. get_or (cells_between axes c.args.b.first c.args.b.last) c.args.i 0) c.axes-axes.ensures.same
+returns-clause-nth c =
+    let axes = c.axes-axes.result.now in
+    let f = c.args.b.first in
+    let l = c.args.b.last in
+    let corner = corners axes c.args.self.now f l c.axes-axes.ensures.same c.axes-axes.ensures.axes c.axes-axes.ensures.limit c.requires.ordered in
+    let inside = subst (λ (axes : List Axis). c.args.i < length (cells_between axes f l)) (sym c.axes-axes.ensures.same) c.requires.within in
+    nth_whole axes f l c.args.i c.loop-k.cell c.loop-k.k corner (omega arith) inside c.loop-k.invariant.cell ∙ ap (λ axes. get_or (cells_between axes f l) c.args.i 0) c.axes-axes.ensures.same
 
 pub returns-clause-below : goal.returns-clause-below
-returns-clause-below c = rw c.axes-axes.ensures.same at (whole_below c)
+returns-clause-below c =
+    let axes = c.axes-axes.result.now in
+    let f = c.args.b.first in
+    let l = c.args.b.last in
+    let corner = corners axes c.args.self.now f l c.axes-axes.ensures.same c.axes-axes.ensures.axes c.axes-axes.ensures.limit c.requires.ordered in
+    let inside = subst (λ (axes : List Axis). c.args.i < length (cells_between axes f l)) (sym c.axes-axes.ensures.same) c.requires.within in
+    let nth = nth_whole axes f l c.args.i c.loop-k.cell c.loop-k.k corner (omega arith) inside c.loop-k.invariant.cell in
+    let cells = ap cells_of c.axes-axes.ensures.same in
+    omega (arith, nth, cells, between_below axes f l c.args.i corner.grid.each corner.ordered inside)

@@ -1,4 +1,5 @@
-use Rattle.std.proofs.Common.{ℕ, None, replicate, refl, sym, ◌∙◌, ap, arith}
+use Rattle.std.proofs.Common.{◌≡◌, ℕ, None, replicate, sym, ◌∙◌, ap, subst, arith}
+use Rattle.board_crew.specs.Rounds.{IsUnused}
 use Rattle.safety_game.proofs.OnBoards.{starts_many}
 use Rattle.safety_game.proofs.scratch.Scratch.new.Goals as goal
 
@@ -14,20 +15,12 @@ new_board-requires-clause-room g c =
 
 pub invariant_of-result : goal.invariant_of-result
 invariant_of-result g c =
-    let game = g.G.Graph.game c.args.g.now in
-    let cells = c.cells-cells.ensures in
-    let places = c.in_ok-board.ensures.places in
+    let board = c.in_ok-board.board in
+    let rounds = c.in_ok-rounds.rounds in
+    let places : c.cells-cells.result ≡ board.places = sym c.in_ok-board.ensures.places in
     record {
-      unused = record {
-        root = c.in_ok-board.ensures.root;
-        nobody = c.in_ok-members.ensures.empty;
-        seats = (let e = c.in_ok-members.ensures.room in omega arith);
-        empty = c.in_ok-list.ensures.empty;
-        room = (let e = c.in_ok-list.ensures.room in omega arith);
-        unlisted = refl;
-        untallied = refl;
-      };
-      blank = c.in_ok-answer.ensures ∙ ap (λ (n : ℕ). replicate n None) (sym places);
+      unused = subst (λ root. IsUnused root board.places c.args.workers rounds) c.in_ok-board.ensures.root (subst (λ n. IsUnused c.in_ok-board.root n c.args.workers rounds) places c.in_ok-rounds.ensures);
+      blank = c.in_ok-answer.ensures ∙ ap (λ (n : ℕ). replicate n None) places;
       some_worker = c.requires.0;
       few_workers = c.requires.1;
     }

@@ -1,0 +1,167 @@
+-- One more shape whose runs are listed, and the boxes that have it.
+use Rattle.std.proofs.Common.{◌≡◌, ◌≢◌, ℕ, zero, suc, ◌+◌, ◌-◌, ◌*◌, ◌^◌, ◌<◌, ◌≤◌, List, [], ◌∷◌, ◌++◌, All, map, length, take, drop, get_or, set, Option, Some, None, refl, sym, ap, subst, ◌∙◌, arith}
+use Rattle.std.specs.Prelude.{IfSome}
+use Rattle.std.specs.List.{range_with_len}
+use Rattle.std.proofs.lemmas.List.Sums.{sum_by_more}
+use Rattle.std.proofs.lemmas.List.{length-append, map-append, get_or_default, get_or-set_same, get_or-set_other, length-set, take_all, take-append-le, drop-append-le, length-drop}
+use Rattle.std.proofs.Math.Seq.{drop-append_seam}
+use Rattle.std.proofs.Math.Nat.{div-lt_iff_lt-mul, mul-zero}
+use Rattle.grid_quantiser.specs.declared.axis.Axis.{Axis}
+use Rattle.grid_quantiser.specs.declared.boxes.CellBox.{CellBox}
+use Rattle.grid_quantiser.specs.Axes.{cells_of, AreAxes}
+use Rattle.grid_quantiser.specs.Boxes.{IsCellBox, cells_between}
+use Rattle.grid_quantiser.specs.Laws.{IsMovedShape, BoxesAreMovedShapes, BoxesHaveCells}
+use Rattle.successor_box.specs.Boxes.{cells_in}
+use Rattle.abstraction_table.specs.declared.shapes.Run.{Run}
+use Rattle.abstraction_table.specs.declared.shapes.Span.{Span}
+use Rattle.abstraction_table.specs.declared.shapes.Shapes.{Shapes}
+use Rattle.abstraction_table.specs.inside.Shapes.{cells_from, EndsBy, span_at, runs_at, HasRunsAt, HasRunsOf, HaveRuns, AreSound, KeepsRuns, ListsRuns}
+use Rattle.abstraction_table.specs.inside.Sources.{IsBox}
+use Rattle.abstraction_table.specs.inside.Tallies.{edges_of}
+use Rattle.abstraction_table.proofs.Tallying.{by_cell}
+use Rattle.abstraction_table.proofs.ShapeRuns.{runs_end}
+
+-- the last corner of a box is a cell
+pub last_below : (axes : List Axis) (f l : ℕ) → 1 ≤ length axes → 1 ≤ cells_of axes → IsCellBox axes f l → l < cells_of axes
+last_below [] f l some cells box = absurd (omega (arith, some))
+last_below (a ∷ axes) f l some cells box = by_cell (cells_of axes) 0
+    (λ none. let no : a.count * cells_of axes ≡ 0 = ap (λ (n : ℕ). a.count * n) none ∙ mul-zero a.count in absurd (omega (arith, no, cells)))
+    (λ other. let positive : 0 < cells_of axes = omega (arith, other) in (div-lt_iff_lt-mul positive).0 box.1)
+
+-- ---- runs that are moved
+
+moved_range : (k s n : ℕ) → map (λ c. k + c) (range_with_len s n) ≡ range_with_len (k + s) n
+moved_range k s zero = refl
+moved_range k s (suc n) = ap (λ xs. (k + s) ∷ xs) (moved_range k (s + 1) n ∙ ap (λ m. range_with_len m n) (let e : k + (s + 1) ≡ k + s + 1 = omega arith in e))
+
+moved_cells : (first : ℕ) (runs : List Run) → map (λ c. first + c) (cells_from 0 runs) ≡ cells_from first runs
+moved_cells first [] = refl
+moved_cells first (r ∷ runs) =
+    map-append (λ c. first + c) (range_with_len (0 + r.start) r.len) (cells_from 0 runs)
+    ∙ ap (λ xs. xs ++ map (λ c. first + c) (cells_from 0 runs)) (moved_range first (0 + r.start) r.len ∙ ap (λ s. range_with_len s r.len) (let e : first + (0 + r.start) ≡ first + r.start = omega arith in e))
+    ∙ ap (λ xs. range_with_len (first + r.start) r.len ++ xs) (moved_cells first runs)
+
+-- the runs of the shape of a box are its own
+pub box_runs : (axes : List Axis) (s : Shapes) (b : CellBox) → IsMovedShape axes b.first b.last → HasRunsAt axes s (b.last - b.first) → HasRunsOf axes s b
+box_runs axes s b moved h = record {
+  ordered = moved.ordered;
+  listed = h.listed;
+  some = h.some;
+  cells = moved.cells ∙ ap (map (λ c. b.first + c)) h.cells ∙ moved_cells b.first (runs_at s (b.last - b.first));
+}
+
+-- ---- one more shape
+
+pub kept_all : (axes : List Axis) (s : Shapes) → AreSound axes s → KeepsRuns axes s s
+kept_all axes s sound = record { sound = sound; kept = λ extent h. h }
+
+-- runs that are put behind others change none of them
+behind_slice : (from to : ℕ) (xs more : List Run) → from ≤ to → to ≤ length xs → take (to - from) (drop from (xs ++ more)) ≡ take (to - from) (drop from xs)
+behind_slice from to xs more forward inside =
+    ap (take (to - from)) (drop-append-le from xs more (omega (arith, forward, inside)))
+    ∙ take-append-le (to - from) (drop from xs) more (omega (arith, length-drop from xs, inside, forward))
+
+new_slice : (xs more : List Run) → take (length (xs ++ more) - length xs) (drop (length xs) (xs ++ more)) ≡ more
+new_slice xs more =
+    ap (take (length (xs ++ more) - length xs)) (drop-append_seam xs more) ∙ take_all (length (xs ++ more) - length xs) more (omega (arith, length-append xs more))
+
+module _ (axes : List Axis) (before after : Shapes) (extent : ℕ) (within : extent < length before.spans.items)
+    (spans : after.spans.items ≡ set before.spans.items extent (record { from = length before.runs.items; to = length after.runs.items }))
+    (lists : ListsRuns before.runs.items after.runs.items (cells_between axes 0 extent)) where
+  abbrev here : Span
+  here = record { from = length before.runs.items; to = length after.runs.items }
+
+  span_here : span_at after extent ≡ here
+  span_here = ap (λ xs. get_or xs extent (record { from = 0; to = 0 })) spans ∙ get_or-set_same before.spans.items extent here (record { from = 0; to = 0 }) within
+
+  runs_here : runs_at after extent ≡ lists.more
+  runs_here =
+      ap (λ (s : Span). take (s.to - s.from) (drop s.from after.runs.items)) span_here
+      ∙ ap (λ xs. take (length xs - length before.runs.items) (drop (length before.runs.items) xs)) lists.behind
+      ∙ new_slice before.runs.items lists.more
+
+  long : length before.runs.items ≤ length after.runs.items
+  long = omega (arith, ap length lists.behind, length-append before.runs.items lists.more)
+
+  pub has_here : HasRunsAt axes after extent
+  has_here = record {
+    listed = record {
+      within = omega (arith, within, ap length spans, length-set before.spans.items extent here);
+      forward = rw span_here long;
+      inside = rw span_here (omega arith);
+    };
+    some = rw runs_here lists.some;
+    cells = lists.parts ∙ ap (cells_from 0) (sym runs_here);
+  }
+
+  span_other : (k : ℕ) → k ≢ extent → span_at after k ≡ span_at before k
+  span_other k other = ap (λ xs. get_or xs k (record { from = 0; to = 0 })) spans ∙ get_or-set_other before.spans.items extent k here (record { from = 0; to = 0 }) other
+
+  kept_other : (k : ℕ) → k ≢ extent → HasRunsAt axes before k → HasRunsAt axes after k
+  kept_other k other h =
+      let same : runs_at after k ≡ runs_at before k =
+      ap (λ (s : Span). take (s.to - s.from) (drop s.from after.runs.items)) (span_other k other)
+      ∙ ap (λ xs. take ((span_at before k).to - (span_at before k).from) (drop (span_at before k).from xs)) lists.behind
+      ∙ behind_slice (span_at before k).from (span_at before k).to before.runs.items lists.more h.listed.forward h.listed.inside
+      in
+      record {
+        listed = record {
+          within = omega (arith, h.listed.within, ap length spans, length-set before.spans.items extent here);
+          forward = rw (span_other k other) h.listed.forward;
+          inside = rw (span_other k other) (omega (arith, h.listed.inside, long));
+        };
+        some = rw same h.some;
+        cells = h.cells ∙ ap (cells_from 0) (sym same);
+      }
+
+  pub keeps : AreSound axes before → KeepsRuns axes before after
+  keeps sound = record {
+    sound = λ k some. by_cell k extent
+        (λ same. subst (HasRunsAt axes after) (sym same) has_here)
+        (λ other. kept_other k other (sound k (rw (span_other k other) at some)));
+    kept = λ k h. by_cell k extent (λ same. subst (HasRunsAt axes after) (sym same) has_here) (λ other. kept_other k other h);
+  }
+
+-- ---- the shapes that a loop over the boxes has listed
+
+pub record ShapesSoFar (axes : List Axis) (boxes : List (Option CellBox)) (n : ℕ) (s : Shapes) : Type 0 where
+  pub distances : length s.spans.items ≡ cells_of axes
+  pub sound : AreSound axes s
+  pub has : (k : ℕ) → k < n → IfSome (get_or boxes k None) (λ (b : CellBox). HasRunsAt axes s (b.last - b.first))
+  pub few : length s.runs.items ≤ edges_of axes (take n boxes)
+
+still : (axes : List Axis) (before after : Shapes) (o : Option CellBox) → KeepsRuns axes before after →
+    IfSome o (λ (b : CellBox). HasRunsAt axes before (b.last - b.first)) → IfSome o (λ (b : CellBox). HasRunsAt axes after (b.last - b.first))
+still axes before after None keeps has = tt
+still axes before after (Some b) keeps has = keeps.kept (b.last - b.first) has
+
+pub shapes_more : (axes : List Axis) (boxes : List (Option CellBox)) (n : ℕ) (before after : Shapes) → n < length boxes → ShapesSoFar axes boxes n before →
+    length after.spans.items ≡ length before.spans.items → KeepsRuns axes before after →
+    IfSome (get_or boxes n None) (λ (b : CellBox). HasRunsAt axes after (b.last - b.first)) →
+    length after.runs.items ≤ length before.runs.items + length (cells_in axes (get_or boxes n None)) → ShapesSoFar axes boxes (n + 1) after
+shapes_more axes boxes n before after below h distances keeps listed few = record {
+  distances = distances ∙ h.distances;
+  sound = keeps.sound;
+  has = λ k lt. by_cell k n
+      (λ same. subst (λ (j : ℕ). IfSome (get_or boxes j None) (λ (b : CellBox). HasRunsAt axes after (b.last - b.first))) (sym same) listed)
+      (λ other. still axes before after (get_or boxes k None) keeps (h.has k (omega (arith, lt, other))));
+  few = omega (arith, few, h.few, sum_by_more (λ b. length (cells_in axes b)) boxes n None below);
+}
+
+runs_found : (axes : List Axis) (s : Shapes) (o : Option CellBox) → BoxesAreMovedShapes → AreAxes axes → IsBox axes o →
+    IfSome o (λ (b : CellBox). HasRunsAt axes s (b.last - b.first)) → IfSome o (HasRunsOf axes s)
+runs_found axes s None laws grid ordered has = tt
+runs_found axes s (Some b) laws grid ordered has = box_runs axes s b (laws axes b.first b.last grid ordered) has
+
+pub shapes_all : (axes : List Axis) (boxes : List (Option CellBox)) (n : ℕ) (s : Shapes) → length boxes ≤ n → BoxesAreMovedShapes → AreAxes axes → All (IsBox axes) boxes → ShapesSoFar axes boxes n s → HaveRuns axes s boxes
+shapes_all axes boxes n s whole laws grid ordered h = λ k d lt.
+    rw (get_or_default boxes k d None lt) (runs_found axes s (get_or boxes k None) laws grid (ordered k None lt) (h.has k (omega (arith, lt, whole))))
+
+-- the runs of a box end by the limit on cells
+pub box_runs_end : BoxesHaveCells → (axes : List Axis) (s : Shapes) (o : Option CellBox) (b : CellBox) → o ≡ Some b → AreAxes axes → cells_of axes ≤ 2 ^ 20 → IsBox axes o → IfSome o (HasRunsOf axes s) →
+    (runs : List Run) → runs ≡ runs_at s (b.last - b.first) → All (EndsBy (2 ^ 20) b.first) runs
+box_runs_end laws axes s o b is grid limit ordered has runs same =
+    let h : HasRunsOf axes s b = subst (λ (o : Option CellBox). IfSome o (HasRunsOf axes s)) is has in
+    let cells = laws axes b.first b.last grid (subst (IsBox axes) is ordered) in
+    let below : All (λ c. c < 2 ^ 20) (cells_between axes b.first b.last) = λ k d lt. omega (arith, cells.within k d lt, limit) in
+    rw same (runs_end (2 ^ 20) b.first (runs_at s (b.last - b.first)) h.some (subst (All (λ c. c < 2 ^ 20)) h.cells below))

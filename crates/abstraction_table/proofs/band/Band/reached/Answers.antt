@@ -1,0 +1,25 @@
+use Rattle.std.proofs.Common.{◌≡◌, ◌+◌, ◌<◌, ◌≤◌, ◌⊎◌, [], Option, subst, sym, arith, inl, inr}
+use Rattle.grid_quantiser.specs.declared.boxes.CellBox.{CellBox}
+use Rattle.grid_quantiser.specs.Boxes.{IsCellBox, cells_between}
+use Rattle.successor_box.specs.Boxes.{cells_in}
+use Rattle.abstraction_table.specs.inside.Sources.{IsBox}
+use Rattle.abstraction_table.specs.inside.Tallies.{places_in}
+use Rattle.abstraction_table.proofs.BandPlaces.{places-none}
+use Rattle.abstraction_table.proofs.band.Band.reached.Goals as goal
+use Rattle.abstraction_table.proofs.band.Band.reached.Goals.{then-b-self-via-then-b-self, then-b-self-via-else-b-self+then-self-b}
+
+pub returns-then-b-self-clause-none : goal.returns-then-b-self-clause-none
+returns-then-b-self-clause-none c =
+    let band = c.args.self.now in
+    let b = c.in_ok-b.b in
+    let axes = c.args.grid.now in
+    let apart : (b.last < band.from) ⊎ (band.from + band.len ≤ b.first) =
+    elim c.then-b-self.branch [ then-b-self-via-then-b-self w ↦ inl w.if-b-self.true | then-b-self-via-else-b-self+then-self-b w ↦ inr w.if-self-b.true ]
+    in
+    let box : IsCellBox axes b.first b.last = subst (IsBox axes) c.in_ok-b.was c.requires.ordered in
+    let all = c.cells_lie_between_corners.ensures axes b.first b.last c.every_grid_is_within_the_limit.ensures.axes box in
+    let none = places-none band.from band.len (cells_between axes b.first b.last) (λ k d lt low high.
+    let between = all k d lt in
+    elim apart [ inl before ↦ omega (arith, before, between.1, low) | inr behind ↦ omega (arith, behind, between.0, high) ])
+    in
+    subst (λ (o : Option CellBox). places_in band.from band.len (cells_in axes o) ≡ []) (sym c.in_ok-b.was) none

@@ -1,0 +1,12 @@
+use Rattle.std.proofs.Common.{List, sym, subst}
+use Rattle.abstraction_table.specs.declared.shapes.Run.{Run}
+use Rattle.abstraction_table.proofs.ShapeRuns.{ListsSoFar, listed_more}
+use Rattle.abstraction_table.proofs.shapes.list_runs.Goals as goal
+
+pub loop-start-preserved : goal.loop-start-preserved
+loop-start-preserved c =
+    let left = c.loop-start.cells in
+    let later = c.next_run.new.self in
+    let run : Run = record { start = c.in-Some.start; len = c.in-Some.len } in
+    subst (λ (now : List Run). ListsSoFar c.args.runs.now.items now c.args.cells later) (sym c.in_ok-push.ensures.items)
+    (listed_more c.args.runs.now.items c.loop-start.runs.items c.args.cells left later run c.loop-start.invariant c.in-Some.ensures.run)

@@ -1,0 +1,33 @@
+use Rattle.std.proofs.Common.{◌≡◌, [], refl, sym, ◌∙◌, ap, subst, arith}
+use Rattle.cell_counters.specs.Accounts.{IsLawfulLog, log_count}
+use Rattle.cell_counters.specs.Tokens.{RootModel}
+use Rattle.game_core.specs.declared.tally.Tally.{Tally}
+use Rattle.board_crew.specs.Crew.{IsTalliedBy}
+use Rattle.board_crew.specs.Rounds.{no_tally}
+use Rattle.board_crew.proofs.rounds.Rounds.play_all.Goals as goal
+
+pub rounds-init : goal.rounds-init
+rounds-init g c =
+    let stands = g.L.Rule.stands c.args.rule.now in
+    let old = c.args.self.now in
+    let root = c.gather.new.root in
+    let list = c.gather.new.list in
+    let unused = c.requires.unused in
+    let is_new = c.gather.ensures.root ∙ unused.root_is in
+    let accounts : [] ≡ root.accounts = sym (ap (λ (r : RootModel). r.accounts) is_new) in
+    let rounds : 0 ≡ old.tally.rounds = sym (ap (λ (t : Tally). t.rounds) unused.untallied) in
+    let none_tallied : IsTalliedBy [] no_tally = record { cuts = refl; offers = refl } in
+    record {
+      by_rule = subst (stands old.tally.rounds list.items) accounts (subst (λ d. stands d list.items []) rounds (subst (λ l. stands 0 l []) (sym c.gather.ensures.list) c.leads_on.ensures.begins));
+      log = subst IsLawfulLog accounts c.nothing_done.ensures.2;
+      all_listed = unused.unlisted ∙ ap log_count accounts;
+      at = ap (λ (r : RootModel). r.board) is_new;
+      settled = ap (λ (r : RootModel). r.out) is_new;
+      tallied = subst (IsTalliedBy root.accounts) (sym unused.untallied) (subst (λ l. IsTalliedBy l no_tally) accounts none_tallied);
+      nobody = unused.nobody;
+      seats = unused.seats;
+      room = (let e = c.gather.ensures.room in let r = unused.room in omega arith);
+      few = (let e = c.gather.ensures.few in omega (arith, list.ok.0));
+      early = λ found. omega arith;
+      in_time = omega arith;
+    }

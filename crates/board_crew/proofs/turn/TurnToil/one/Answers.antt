@@ -1,0 +1,49 @@
+use Rattle.std.proofs.Common.{◌≡◌, ℕ, ◌<◌, take, get_or, slice_index, sym, subst, arith}
+use Rattle.std.proofs.lemmas.List.{take_more, take_all}
+use Rattle.std.proofs.lemmas.List.Elements.{Contains-get_or}
+use Rattle.game_core.specs.Counts.{times}
+use Rattle.game_core.specs.Game.{pairs_of}
+use Rattle.board_crew.specs.inside.Workers.{cuts_for}
+use Rattle.board_crew.proofs.Working.{IsUnderWay, sets_out, goes_on, comes_back}
+use Rattle.board_crew.proofs.turn.TurnToil.one.Goals as goal
+
+pub cut-requires-clause-pair : goal.cut-requires-clause-pair
+cut-requires-clause-pair g c =
+    let pairs = c.sources-sources.result.now in
+    ((c.sources-sources.ensures.exactly (get_or pairs c.loop-pair.pair-index 0)).0 (Contains-get_or pairs c.loop-pair.pair-index 0 c.loop-pair-test.true)).0
+
+pub cut-requires-clause-enabled : goal.cut-requires-clause-enabled
+cut-requires-clause-enabled g c =
+    let pairs = c.sources-sources.result.now in
+    let has = ((c.sources-sources.ensures.exactly (get_or pairs c.loop-pair.pair-index 0)).0 (Contains-get_or pairs c.loop-pair.pair-index 0 c.loop-pair-test.true)).1 in
+    let lt = has.1 in
+    omega arith
+
+pub loop-pair-init : goal.loop-pair-init
+loop-pair-init g c =
+    let turn = c.args.self.now in
+    sets_out (g.L.Rule.game turn.rule.now) (g.L.Rule.fits turn.rule.now) (g.L.Rule.keeps turn.rule.now turn.round) turn.board.now turn.list.now c.args.worker.now c.requires.sound
+
+pub loop-pair-preserved : goal.loop-pair-preserved
+loop-pair-preserved g c =
+    let turn = c.args.self.now in
+    let game = g.L.Rule.game turn.rule.now in
+    let keeps = g.L.Rule.keeps turn.rule.now turn.round in
+    let pairs = c.sources-sources.result.now in
+    let i = c.loop-pair.pair-index in
+    subst (λ l. IsUnderWay game keeps turn.board.now turn.list.now l c.args.worker.now c.cut.new.worker) (sym (take_more pairs i 0 c.loop-pair-test.true))
+    (goes_on game (g.L.Rule.fits turn.rule.now) keeps turn.board.now turn.list.now c.args.worker.now (take i pairs) (get_or pairs i 0) c.loop-pair.worker c.cut.new.worker c.loop-pair.invariant c.cut.ensures.once c.cut.ensures.keeps)
+
+pub returns-clause-sound : goal.returns-clause-sound
+returns-clause-sound g c =
+    let turn = c.args.self.now in
+    let game = g.L.Rule.game turn.rule.now in
+    let keeps = g.L.Rule.keeps turn.rule.now turn.round in
+    let pairs = c.sources-sources.result.now in
+    let all = take_all c.loop-pair.pair-index pairs c.loop-pair-test.false in
+    let each : (pair : ℕ) → pair < pairs_of game → times pair pairs ≡ cuts_for game turn.list.now pair c.args.item =
+    λ pair lt. c.edges_from_both_ends.ensures game (slice_index turn.list.now c.args.item) pair pairs c.leads_on.ensures.graph.game c.sources-sources.ensures lt in
+    comes_back game (g.L.Rule.fits turn.rule.now) keeps turn.board.now turn.list.now c.args.worker.now c.requires.sound.of_game pairs c.args.item c.loop-pair.worker c.note.new.self
+    (c.leads_on.ensures.noted turn.round) each
+    (subst (λ l. IsUnderWay game keeps turn.board.now turn.list.now l c.args.worker.now c.loop-pair.worker) all c.loop-pair.invariant)
+    c.note.ensures

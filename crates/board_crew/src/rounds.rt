@@ -1,0 +1,146 @@
+// The rounds, one after another.
+ghost use Rattle.std.specs.Prelude.{◌≡◌, ◌<◌, ◌≤◌, [], All, IsPermutation, IfOk, length, vec_len};
+ghost use Rattle.std.specs.Vec.{vec_capacity};
+ghost use Rattle.std.specs.List.{range_with_len};
+ghost use Rattle.cell_counters.specs.Tokens.{new_root};
+ghost use Rattle.board_crew.specs.Crew.{IsFresh, notes_of};
+ghost use Rattle.board_crew.specs.Rounds.{IsUnused, IsOver};
+ghost use Rattle.board_crew.specs.inside.Standing.{StandsAt, to_go};
+ghost use Rattle.board_crew.specs.inside.Workers.{HaveWorked};
+
+use crate::crew::{deal, take_in, work};
+use crate::first::gather;
+use crate::logged::list_logged;
+use crate::room::room_for;
+use crate::rule::Rule;
+use crate::turn::Turn;
+use crate::worker::Worker;
+use cell_counters::laws::{new_places, nothing_done};
+use cell_counters::{Board, Root};
+use frontier_pool::laws::new_hands_share;
+use frontier_pool::{Gate, Member, hands_for};
+use game_core::laws::counts_tell;
+use game_core::{NoMemory, Tally};
+use std::alloc::Global;
+use std::thread::Threads;
+
+/// The rounds of a game on a board, and the memory that they take.
+#[derive(Drop)]
+pub struct Rounds {
+    pub root: Root,
+    /// Empty between rounds, with room for all workers.
+    pub members: Vec<Member<Worker>>,
+    /// The cells of the next round, with room for all cells.
+    pub list: Vec<u32>,
+    /// How many places of the log were put on a list.
+    pub listed: u32,
+    /// The cuts and offers so far modulo 2^64, and the rounds.
+    pub tally: Tally,
+}
+
+impl Rounds {
+    /// Before the first round.
+    pub fn new(alloc: Global, root: Root, cells: u32, workers: u32) -> Result<Rounds, NoMemory>
+        ensures { IfOk result (IsUnused root cells workers) }
+    {
+        let members = room_for(alloc, workers)?;
+        let list = room_for(alloc, cells)?;
+        let tally = Tally {
+            cuts: 0,
+            offers: 0,
+            rounds: 0,
+        };
+        Ok(Rounds {
+            root,
+            members,
+            list,
+            listed: 0,
+            tally,
+        })
+    }
+
+    /// Does rounds until a list is empty: one with the list that the rule begins with, then one with what each round logged.
+    ///
+    /// In a round each cell of the list is done by exactly one worker, after the gate, and then all hands are taken in.
+    pub fn play_all<R: Threads + Sync, L: Rule, T: Gate>(
+        &mut self,
+        rt: &R,
+        alloc: Global,
+        board: &Board,
+        rule: &L,
+        workers: u32,
+        gate: &T,
+    )
+        requires board { L.fits rule.now board.now }
+        requires places { board.now.places ≡ (L.game rule.now).cells }
+        requires workers { (1 ≤ workers) × (workers ≤ 64) }
+        requires unused { IsUnused (new_root board.now) (L.game rule.now).cells workers self.old }
+        ensures over { IsOver board.now (L.game rule.now).cells self.new }
+        ensures stands { L.stands rule.now self.new.tally.rounds [] self.new.root.accounts }
+    {
+        rule.leads_on();
+        nothing_done();
+        gather(board, &mut self.root, &mut self.list, rule);
+        'rounds: while !self.list.is_empty() {
+            self.play(rt, alloc, board, rule, workers, gate);
+        }
+    }
+
+    // Does one round.
+    fn play<R: Threads + Sync, L: Rule, T: Gate>(
+        &mut self,
+        rt: &R,
+        alloc: Global,
+        board: &Board,
+        rule: &L,
+        workers: u32,
+        gate: &T,
+    )
+        requires board { L.fits rule.now board.now }
+        requires places { board.now.places ≡ (L.game rule.now).cells }
+        requires workers { (1 ≤ workers) × (workers ≤ 64) }
+        requires stands { StandsAt (L.stands rule.now) board.now (L.game rule.now).cells workers self.old }
+        requires some { 0 < vec_len self.old.list }
+        ensures stands { StandsAt (L.stands rule.now) board.now (L.game rule.now).cells workers self.new }
+        ensures nearer { to_go (L.game rule.now).cells self.new < to_go (L.game rule.now).cells self.old }
+    {
+        rule.leads_on();
+        counts_tell();
+        new_places();
+        let items = self.list.len() as u32;
+        let hands = hands_for(self.tally.rounds, items, workers);
+        deal(board, &mut self.root, &mut self.members, hands);
+        let turn = Turn {
+            rule,
+            board,
+            list: self.list.as_slice(),
+            round: self.tally.rounds,
+            items,
+        };
+        do_items(rt, alloc, &turn, &mut self.members, gate);
+        take_in(board, &mut self.root, &mut self.members, &mut self.tally);
+        self.listed = list_logged(board, &mut self.root, &mut self.list, self.listed);
+        self.tally.rounds += 1;
+    }
+}
+
+// New workers do all items of the round.
+fn do_items<R: Threads + Sync, L: Rule, T: Gate>(
+    rt: &R,
+    alloc: Global,
+    turn: &Turn<'_, L>,
+    members: &mut Vec<Member<Worker>>,
+    gate: &T,
+)
+    requires members { (0 < vec_len members.old) × (vec_len members.old ≤ 64) }
+    requires board { L.fits turn.now.rule.now turn.now.board.now }
+    requires fresh { All (IsFresh turn.now.board.now) members.old.items }
+    ensures worked { HaveWorked (L.game turn.now.rule.now) (L.fits turn.now.rule.now) (L.keeps turn.now.rule.now turn.now.round) turn.now.board.now turn.now.list.now members.new.items }
+    ensures swept { IsPermutation (range_with_len 0 turn.now.items) (notes_of members.new.items) }
+    ensures members { vec_len members.new ≡ vec_len members.old }
+    ensures room { vec_capacity members.new ≡ vec_capacity members.old }
+{
+    turn.rule.leads_on();
+    new_hands_share();
+    work(rt, alloc, turn, members.as_mut_slice(), gate);
+}

@@ -1,0 +1,44 @@
+// The work of one round: each cell of the list cuts the pairs that lead to it.
+ghost use Rattle.std.specs.Prelude.{◌≡◌, ◌<◌};
+ghost use Rattle.board_crew.specs.inside.Workers.{IsTurn, IsAtWork};
+
+use crate::rule::Rule;
+use crate::worker::Worker;
+use cell_counters::Board;
+use frontier_pool::Toil;
+use game_core::laws::edges_from_both_ends;
+
+// A round, as its workers see it. An item is a place of the list.
+#[derive(Drop)]
+pub(crate) struct Turn<'a, L: Rule> {
+    pub(crate) rule: &'a L,
+    pub(crate) board: &'a Board,
+    pub(crate) list: &'a [u32],
+    pub(crate) round: u32,
+    pub(crate) items: u32,
+    pub(crate) ghost is_turn: { IsTurn (L.game rule.now) list.now round items },
+}
+
+impl<L: Rule> Toil for Turn<'_, L> {
+    type Hand = Worker;
+
+    ghost done = { λ worker. worker.account.notes };
+
+    ghost sound = { λ turn worker. IsAtWork (L.game turn.rule.now) (L.fits turn.rule.now) (L.keeps turn.rule.now turn.round) turn.board.now turn.list.now worker };
+
+    ghost count = { λ turn. turn.items };
+
+    fn items(&self) -> u32 {
+        self.items
+    }
+
+    fn one(&self, worker: &mut Worker, item: u32) {
+        self.rule.leads_on();
+        edges_from_both_ends();
+        let sources = self.rule.sources(self.list[item as usize]);
+        for pair in sources {
+            self.rule.cut(self.board, worker, self.round, *pair);
+        }
+        worker.note(self.board, item);
+    }
+}

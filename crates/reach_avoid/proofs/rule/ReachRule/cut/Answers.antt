@@ -1,0 +1,12 @@
+use Rattle.reach_avoid.proofs.Working.{cuts_once, still_kept}
+use Rattle.reach_avoid.proofs.rule.ReachRule.cut.Goals as goal
+
+pub returns-clause-once : goal.returns-clause-once
+returns-clause-once g c =
+    let rule = c.args.self.now in
+    cuts_once (g.G.Graph.game rule.graph.now) c.args.round c.args.pair c.args.worker.now c.cut_and_bid.new.worker c.cut_and_bid.ensures
+
+pub returns-clause-keeps : goal.returns-clause-keeps
+returns-clause-keeps g c =
+    let rule = c.args.self.now in
+    still_kept (g.G.Graph.game rule.graph.now) c.args.round c.args.pair c.args.worker.now c.cut_and_bid.new.worker c.cut_and_bid.ensures c.requires.pair

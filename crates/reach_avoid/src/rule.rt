@@ -1,0 +1,96 @@
+// The rule of a reach game: the cut that leaves nothing of a pair bids on the pair's cell.
+ghost use Rattle.std.specs.Prelude.{◌≡◌, ◌^◌, ◌<◌, ◌≤◌};
+ghost use Rattle.game_core.specs.Game.{IsGraph, pairs_of};
+ghost use Rattle.reach_avoid.specs.Boards.{IsBoardOf};
+ghost use Rattle.reach_avoid.specs.inside.Rounds.{is_goal};
+ghost use Rattle.reach_avoid.specs.inside.Workers.{Bids, Cuts};
+
+use crate::known::known_laws;
+use board_crew::{Rule, Worker};
+use cell_counters::{Board, Root};
+use game_core::{Graph, Mark};
+
+// A round is of the cells of one rank.
+#[derive(Drop)]
+pub(crate) struct Reach<'a, G: Graph> {
+    pub(crate) graph: &'a G,
+    pub(crate) inputs: u32,
+    pub(crate) ghost is_graph: { IsGraph (G.game graph.now) },
+    pub(crate) ghost inputs_are: { inputs ≡ (G.game graph.now).inputs },
+}
+
+impl<G: Graph + Sync> Rule for Reach<'_, G> {
+    ghost use Rattle.game_core.specs.Game.{mark_of};
+    ghost use Rattle.reach_avoid.specs.inside.Rounds.{IsKept};
+    ghost use Rattle.reach_avoid.specs.inside.Standing.{StandsAt};
+
+    ghost game = { λ rule. G.game rule.graph.now };
+
+    ghost fits = { λ rule. IsBoardOf (G.game rule.graph.now) };
+
+    ghost first = { λ rule c. is_goal (mark_of (G.game rule.graph.now) c) };
+
+    ghost keeps = { λ rule. IsKept (G.game rule.graph.now) };
+
+    ghost stands = { λ rule. StandsAt (G.game rule.graph.now) };
+
+    fn cells(&self) -> u32 {
+        self.graph.cells()
+    }
+
+    fn sources(&self, c: u32) -> &[u32] {
+        self.graph.sources(c)
+    }
+
+    fn is_first(&self, _board: &Board, _root: &mut Root, c: u32) -> bool {
+        is_goal(self.graph.mark(c))
+    }
+
+    fn cut(&self, board: &Board, worker: &mut Worker, round: u32, pair: u32) {
+        self.cut_and_bid(board, worker, round, pair);
+    }
+
+    fn leads_on(&self) {
+        known_laws();
+    }
+}
+
+impl<G: Graph> Reach<'_, G> {
+    // Cuts a pair. The cut that leaves nothing bids on the pair's cell.
+    fn cut_and_bid(&self, board: &Board, worker: &mut Worker, rank: u32, pair: u32)
+        requires board { IsBoardOf (G.game self.now.graph.now) board.now }
+        requires worker { worker.old.board ≡ board.now }
+        requires low { rank ≤ 2 ^ 20 }
+        requires pair { pair < pairs_of (G.game self.now.graph.now) }
+        ensures { Cuts (G.game self.now.graph.now) rank pair worker.old worker.new }
+    {
+        if worker.cut(board, pair) == 0 {
+            self.bid(board, worker, rank, pair);
+        }
+    }
+
+    // Offers the next rank and the pair's input to its cell, and logs the cell where nobody had offered it anything.
+    fn bid(&self, board: &Board, worker: &mut Worker, rank: u32, pair: u32)
+        requires board { IsBoardOf (G.game self.now.graph.now) board.now }
+        requires worker { worker.old.board ≡ board.now }
+        requires low { rank ≤ 2 ^ 20 }
+        requires pair { pair < pairs_of (G.game self.now.graph.now) }
+        ensures { Bids (G.game self.now.graph.now) rank pair worker.old worker.new }
+    {
+        let cell = pair / self.inputs;
+        let value = 1 + u64::from(rank + 1) * 4096 + u64::from(pair % self.inputs);
+        if worker.offer(board, cell, value) {
+            // Each cell is logged once at most, so there is a place for it.
+            let _ = worker.log(board, cell);
+        }
+    }
+}
+
+fn is_goal(mark: Mark) -> bool
+    ensures { result ≡ is_goal mark }
+{
+    match mark {
+        Mark::Goal => true,
+        Mark::Obstacle | Mark::Plain => false,
+    }
+}

@@ -1,0 +1,100 @@
+// The rule of a keep game: the first cut of a pair cuts the pair's cell too.
+ghost use Rattle.std.specs.Prelude.{◌≡◌, ◌<◌, length};
+ghost use Rattle.game_core.specs.Game.{IsGraph, pairs_of, successors_at};
+ghost use Rattle.safety_game.specs.Boards.{IsBoardOf};
+ghost use Rattle.safety_game.specs.inside.Workers.{Takes, Hits, Cuts};
+
+use crate::known::known_laws;
+use board_crew::{Rule, Worker};
+use cell_counters::{Board, Root};
+use game_core::{Graph, Mark};
+
+// A round is of the cells that fall in it.
+#[derive(Drop)]
+pub(crate) struct Keep<'a, G: Graph> {
+    pub(crate) graph: &'a G,
+    pub(crate) inputs: u32,
+    pub(crate) pairs: u32,
+    pub(crate) ghost is_graph: { IsGraph (G.game graph.now) },
+    pub(crate) ghost inputs_are: { inputs ≡ (G.game graph.now).inputs },
+    pub(crate) ghost pairs_are: { pairs ≡ pairs_of (G.game graph.now) },
+}
+
+impl<G: Graph + Sync> Rule for Keep<'_, G> {
+    ghost use Rattle.game_core.specs.Fallen.{has_fallen};
+    ghost use Rattle.safety_game.specs.inside.Rounds.{IsKept};
+    ghost use Rattle.safety_game.specs.inside.Standing.{StandsAt};
+
+    ghost game = { λ rule. G.game rule.graph.now };
+
+    ghost fits = { λ rule. IsBoardOf (G.game rule.graph.now) };
+
+    ghost first = { λ rule. has_fallen (G.game rule.graph.now) 0 };
+
+    ghost keeps = { λ rule _. IsKept (G.game rule.graph.now) };
+
+    ghost stands = { λ rule. StandsAt (G.game rule.graph.now) };
+
+    fn cells(&self) -> u32 {
+        self.graph.cells()
+    }
+
+    fn sources(&self, c: u32) -> &[u32] {
+        self.graph.sources(c)
+    }
+
+    fn is_first(&self, board: &Board, root: &mut Root, c: u32) -> bool {
+        known_laws();
+        let enabled = board.left(root, self.pairs + c);
+        self.graph.mark(c) == Mark::Obstacle || enabled == 0
+    }
+
+    fn cut(&self, board: &Board, worker: &mut Worker, _round: u32, pair: u32) {
+        known_laws();
+        self.cut_and_hit(board, worker, pair);
+    }
+
+    fn leads_on(&self) {
+        known_laws();
+    }
+}
+
+impl<G: Graph> Keep<'_, G> {
+    // Cuts a pair, and then its cell where that was a blow to it.
+    fn cut_and_hit(&self, board: &Board, worker: &mut Worker, pair: u32)
+        requires board { IsBoardOf (G.game self.now.graph.now) board.now }
+        requires worker { worker.old.board ≡ board.now }
+        requires pair { pair < pairs_of (G.game self.now.graph.now) }
+        requires enabled { 0 < length (successors_at (G.game self.now.graph.now) pair) }
+        ensures { Cuts (G.game self.now.graph.now) pair worker.old worker.new }
+    {
+        if self.take(board, worker, pair) {
+            self.hit(board, worker, pair / self.inputs);
+        }
+    }
+
+    // Cuts a pair, and tells whether that was a blow to its cell: the pair's first cut, and the cell no obstacle.
+    fn take(&self, board: &Board, worker: &mut Worker, pair: u32) -> bool
+        requires board { IsBoardOf (G.game self.now.graph.now) board.now }
+        requires worker { worker.old.board ≡ board.now }
+        requires pair { pair < pairs_of (G.game self.now.graph.now) }
+        requires enabled { 0 < length (successors_at (G.game self.now.graph.now) pair) }
+        ensures { Takes (G.game self.now.graph.now) pair worker.old worker.new result }
+    {
+        let first = u64::from(self.graph.fan(pair)) - 1;
+        worker.cut(board, pair) == first && self.graph.mark(pair / self.inputs) != Mark::Obstacle
+    }
+
+    // Cuts a cell, and logs it where nothing was left: it falls in the next round.
+    fn hit(&self, board: &Board, worker: &mut Worker, cell: u32)
+        requires board { IsBoardOf (G.game self.now.graph.now) board.now }
+        requires worker { worker.old.board ≡ board.now }
+        requires cell { cell < (G.game self.now.graph.now).cells }
+        ensures { Hits (G.game self.now.graph.now) cell worker.old worker.new }
+    {
+        if worker.cut(board, self.pairs + cell) == 0 {
+            // Each cell is logged once at most, so there is a place for it.
+            let _ = worker.log(board, cell);
+        }
+    }
+}
