@@ -1,5 +1,5 @@
 use Rattle.std.proofs.Common.{◌≡◌, ℕ, ◌<◌, List, [], ◌∷◌, ◌++◌, length, get_or, All, arith, refl, ◌∙◌, ap, ap₂}
-use Rattle.std.proofs.lemmas.List.Elements.{All-head, All-tail, Contains-get_or}
+use Rattle.std.proofs.lemmas.List.Elements.{All-nil, All-cons, All-head, All-tail, Contains-get_or}
 use Rattle.cell_counters.specs.declared.account.Log.{Log}
 use Rattle.cell_counters.specs.declared.account.Account.{Account}
 use Rattle.cell_counters.specs.Accounts.{all_logs}
@@ -25,7 +25,7 @@ returns c = record {
   graph = c.args.self.now.is_graph;
   fresh = λ d. refl;
   noted = λ d a item h. h;
-  begins = (λ i d lt. ?, refl);
+  begins = (All-cons (λ c. c < 2) 0 (1 ∷ []) (omega arith) (All-cons (λ c. c < 2) 1 [] (omega arith) (All-nil (λ c. c < 2))), refl);
   within = λ d list accounts h. h.0;
   few = λ d list accounts h. let e = ap length h.1 in omega arith;
   next = λ board d list next accounts more fit early some' was round lawful same.
