@@ -1,8 +1,9 @@
 //! Rounds of workers at a board, by the rule of a game.
 //!
-//! `Rounds` begins with a list of cells. In each round workers with new hands cut the pairs that lead to the cells of the
-//! list, each cell by exactly one of them, and do what the `Rule` adds; all hands are taken in, and what they logged is the
-//! next list. `play_all` goes on until a list is empty, and then what the rule says of such a list stands.
+//! `Rounds` begins with the list of cells that the `Rule` wants. In each round workers with new hands cut the pairs that
+//! lead to the cells of the list, each cell by exactly one of them, and do what the rule adds. Then all hands are taken
+//! in, and what they logged is the next list. `play_all` goes on until a list is empty, and what the rule says of such a
+//! list stands then.
 //! It stands on `game_core`, `cell_counters` and `frontier_pool`, and knows no rule of a game.
 #![tactic(auto)]
 
@@ -18,7 +19,6 @@ mod tests;
 mod turn;
 mod worker;
 
-pub use room::fans;
 pub use rounds::Rounds;
 pub use rule::Rule;
 pub use worker::Worker;

@@ -4,8 +4,8 @@ use cell_counters::{Board, Root};
 
 /// The rule of a game that is solved on a board in rounds.
 ///
-/// Each round has a list of cells, the first one those that the rule wants there. A worker cuts the counter of each pair that leads to a cell of the list, and the rule
-/// says what else it does then. What it logs is the next list.
+/// Each round has a list of cells, the first one those that the rule wants there. A worker cuts the counter of each pair
+/// that leads to a cell of the list, and the rule says what else it does then. What is logged is the next list.
 pub trait Rule: Sync {
     ghost use Rattle.std.specs.Prelude.{◌≡◌, ℕ, ◌^◌, ◌<◌, ◌≤◌, Bool, List, length};
     ghost use Rattle.cell_counters.specs.declared.account.Account.{Account};

@@ -6,11 +6,11 @@ ghost use Rattle.board_crew.specs.inside.SmallGames.{fork};
 
 use crate::logged::list_logged;
 use crate::room::room_for;
-use crate::{Rounds, Rule, Worker, fans};
+use crate::{Rounds, Rule, Worker};
 use cell_counters::{Board, NONE, Root};
 use frontier_pool::Open;
 use game_core::laws::counts_tell;
-use game_core::{Graph, Mark, Tally};
+use game_core::{Graph, Mark, Tally, fans};
 use std::alloc::Global;
 use std::test::Fail;
 use std::thread::Threads;
@@ -167,12 +167,5 @@ fn worker_counts_what_it_does(rt: HostRuntime) -> Result<(), Fail> {
     assert!(rt; worker.log(&board, 8));
     assert_eq!(rt; worker.cuts, 2);
     assert_eq!(rt; worker.offers, 1);
-    Ok(())
-}
-
-#[test]
-fn each_pair_has_its_fan(rt: HostRuntime) -> Result<(), Fail> {
-    let fans = fans(rt.alloc(), &Fork {})?;
-    assert_eq!(rt; fans.as_slice(), [2, 0, 1, 1].as_slice());
     Ok(())
 }

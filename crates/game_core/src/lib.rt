@@ -9,6 +9,7 @@
 
 mod answer;
 mod falling;
+mod fan_counts;
 mod game;
 pub mod laws;
 mod plain;
@@ -17,6 +18,7 @@ mod search;
 mod tally;
 
 pub use answer::{Answer, NoMemory};
+pub use fan_counts::fans;
 pub use game::{Forward, Graph, Mark, Row};
 pub use plain::{keep_plain, solve_plain};
 pub use remark::Remark;

@@ -1,9 +1,10 @@
-ghost use Rattle.std.specs.Prelude.{◌≡◌, ◌+◌, ◌*◌, ◌<◌, None, map, length, slice_index, IfOk};
+ghost use Rattle.std.specs.Prelude.{◌≡◌, ◌+◌, ◌*◌, ◌<◌, None, length, slice_index, IfOk};
 ghost use Rattle.game_core.specs.Game.{pairs_of};
 ghost use Rattle.game_core.specs.Solution.{row_of, rank_at};
 ghost use Rattle.game_core.specs.inside.Search.{begun, settled, offered, resolved, after_cut, IsGathered, IsSearched};
 
 use crate::answer::{Answer, NoMemory};
+use crate::fan_counts::fans;
 use crate::game::{Graph, Mark, Row};
 use std::alloc::Global;
 use std::marker::Model;
@@ -12,7 +13,7 @@ use std::marker::Model;
 #[derive(Drop)]
 pub(crate) struct Search {
     /// For each pair, how many of its successors are still to be taken.
-    left: Vec<u32>,
+    left: Vec<u64>,
     answer: Answer,
     /// The first `found` are the cells with a row, in the order of their ranks.
     order: Vec<u32>,
@@ -28,18 +29,6 @@ impl Model for Search {
     ghost view = { λ s. record { left = s.left.items; rows = s.answer; queue = take s.found s.order.items } };
 
     ghost invariant = { λ s. HasRoom s.answer s.order.items s.found };
-}
-
-/// How many successors each pair has.
-fn fans<G: Graph>(alloc: Global, g: &G) -> Result<Vec<u32>, NoMemory>
-    ensures { IfOk result (λ v. v.items ≡ map length (G.game g.now).successors) }
-{
-    let pairs = g.cells() * g.inputs();
-    let mut fans = vec![in alloc; 0; pairs as usize].map_err(|_| NoMemory)?;
-    for pair in 0..pairs {
-        fans[pair as usize] = g.fan(pair);
-    }
-    Ok(fans)
 }
 
 impl Search {

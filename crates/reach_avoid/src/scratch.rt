@@ -3,9 +3,9 @@ ghost use Rattle.std.specs.Prelude.{◌≡◌, ◌+◌, ◌^◌, ◌<◌, ◌≤
 ghost use Rattle.cell_counters.specs.Tokens.{new_root};
 ghost use Rattle.reach_avoid.specs.Boards.{IsBoardOf, word_at};
 
-use board_crew::{Rounds, fans};
+use board_crew::Rounds;
 use cell_counters::{Board, NONE, Root};
-use game_core::{Answer, Graph, Mark, NoMemory};
+use game_core::{Answer, Graph, Mark, NoMemory, fans};
 use std::alloc::Global;
 use std::marker::Model;
 

@@ -4,9 +4,9 @@ ghost use Rattle.std.specs.List.{range_with_len};
 ghost use Rattle.cell_counters.specs.Tokens.{new_root};
 ghost use Rattle.safety_game.specs.Boards.{IsBoardOf, enabled_at};
 
-use board_crew::{Rounds, fans};
+use board_crew::Rounds;
 use cell_counters::{Board, Root};
-use game_core::{Answer, Graph, NoMemory};
+use game_core::{Answer, Graph, NoMemory, fans};
 use std::alloc::Global;
 use std::marker::Model;
 

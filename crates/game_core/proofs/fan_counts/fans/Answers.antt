@@ -1,7 +1,7 @@
 use Rattle.std.proofs.Common.{◌≡◌, ℕ, ◌+◌, ◌*◌, ◌<◌, List, [], ◌∷◌, ◌++◌, length, map, get_or, set, take, arith, sym, ap₂, ◌∙◌, length-set, take_all}
 use Rattle.std.proofs.lemmas.List.{take_more, take_more_set, get_or-map, length-map}
 use Rattle.game_core.specs.Game.{pairs_of}
-use Rattle.board_crew.proofs.room.fans.Goals as goal
+use Rattle.game_core.proofs.fan_counts.fans.Goals as goal
 
 -- one fan more
 one_more : (xss : List (List ℕ)) (fans : List ℕ) (i n : ℕ) → i < length fans → i < length xss → n ≡ length (get_or xss i []) → take i fans ≡ take i (map length xss) → take (i + 1) (set fans i n) ≡ take (i + 1) (map length xss)

@@ -1,6 +1,6 @@
 use Rattle.std.proofs.Common.{◌≡◌, length, map, take}
 use Rattle.game_core.specs.Game.{pairs_of}
-use Rattle.game_core.proofs.search.fans.Given as goal
+use Rattle.game_core.proofs.fan_counts.fans.Given as goal
 
 -- the fans so far
 abbrev pub invariant-loop-pair : goal.invariant-loop-pair

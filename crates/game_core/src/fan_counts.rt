@@ -1,0 +1,18 @@
+// With what the counters of pairs begin.
+ghost use Rattle.std.specs.Prelude.{◌≡◌, map, length, IfOk};
+
+use crate::answer::NoMemory;
+use crate::game::Graph;
+use std::alloc::Global;
+
+/// How many successors each pair of a graph has: the numbers with which its counters begin.
+pub fn fans<G: Graph>(alloc: Global, g: &G) -> Result<Vec<u64>, NoMemory>
+    ensures { IfOk result (λ v. v.items ≡ map length (G.game g.now).successors) }
+{
+    let pairs = g.cells() * g.inputs();
+    let mut fans = vec![in alloc; 0; pairs as usize].map_err(|_| NoMemory)?;
+    for pair in 0..pairs {
+        fans[pair as usize] = u64::from(g.fan(pair));
+    }
+    Ok(fans)
+}
