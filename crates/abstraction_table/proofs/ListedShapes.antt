@@ -10,15 +10,16 @@ use Rattle.grid_quantiser.specs.declared.axis.Axis.{Axis}
 use Rattle.grid_quantiser.specs.declared.boxes.CellBox.{CellBox}
 use Rattle.grid_quantiser.specs.Axes.{cells_of, AreAxes}
 use Rattle.grid_quantiser.specs.Boxes.{IsCellBox, cells_between}
-use Rattle.grid_quantiser.specs.Laws.{IsMovedShape, BoxesAreMovedShapes, BoxesHaveCells}
+use Rattle.grid_quantiser.specs.Laws.{IsMovedShape, BoxesAreMovedShapes, BoxesHaveCells, CellsLieBetweenCorners}
 use Rattle.successor_box.specs.Boxes.{cells_in}
 use Rattle.abstraction_table.specs.declared.shapes.Run.{Run}
 use Rattle.abstraction_table.specs.declared.shapes.Span.{Span}
 use Rattle.abstraction_table.specs.declared.shapes.Shapes.{Shapes}
 use Rattle.abstraction_table.specs.inside.Shapes.{cells_from, EndsBy, span_at, runs_at, HasRunsAt, HasRunsOf, HaveRuns, AreSound, KeepsRuns, ListsRuns}
 use Rattle.abstraction_table.specs.inside.Sources.{IsBox}
-use Rattle.abstraction_table.specs.inside.Tallies.{edges_of}
+use Rattle.abstraction_table.specs.inside.Tallies.{places_in, edges_of}
 use Rattle.abstraction_table.proofs.Tallying.{by_cell}
+use Rattle.abstraction_table.proofs.BandPlaces.{places-append, run_inside}
 use Rattle.abstraction_table.proofs.ShapeRuns.{runs_end}
 
 -- the last corner of a box is a cell
@@ -165,3 +166,32 @@ box_runs_end laws axes s o b is grid limit ordered has runs same =
     let cells = laws axes b.first b.last grid (subst (IsBox axes) is ordered) in
     let below : All (λ c. c < 2 ^ 20) (cells_between axes b.first b.last) = λ k d lt. omega (arith, cells.within k d lt, limit) in
     rw same (runs_end (2 ^ 20) b.first (runs_at s (b.last - b.first)) h.some (subst (All (λ c. c < 2 ^ 20)) h.cells below))
+
+-- ---- boxes whose cells all lie in a band
+
+module _ (from len first : ℕ) (low : from ≤ first) where
+  places_inside : (runs : List Run) → All (EndsBy (from + len) first) runs → places_in from len (cells_from first runs) ≡ cells_from (first - from) runs
+  places_inside [] ends = refl
+  places_inside (r ∷ runs) ends =
+      let here : first + r.start + r.len ≤ from + len = ends 0 r (omega arith) in
+      let place : first + r.start - from ≡ first - from + r.start = omega (arith, low) in
+      places-append from len (range_with_len (first + r.start) r.len) (cells_from first runs)
+      ∙ ap (λ xs. xs ++ places_in from len (cells_from first runs)) (run_inside from len (first + r.start) r.len (omega (arith, low)) here ∙ ap (λ s. range_with_len s r.len) place)
+      ∙ ap (λ xs. range_with_len (first - from + r.start) r.len ++ xs) (places_inside runs (λ k d lt. ends (suc k) d (omega (arith, lt))))
+
+-- The places of a box in a band are its runs, from the place of its first cell on.
+pub record IsInside (axes : List Axis) (o : Option CellBox) (from len first : ℕ) (runs : List Run) : Type 0 where
+  pub ends : All (EndsBy len (first - from)) runs
+  pub places : places_in from len (cells_in axes o) ≡ cells_from (first - from) runs
+
+pub box_inside : CellsLieBetweenCorners → (axes : List Axis) (s : Shapes) (o : Option CellBox) (b : CellBox) → o ≡ Some b → AreAxes axes → IsBox axes o → IfSome o (HasRunsOf axes s) →
+    (from len : ℕ) → (from ≤ b.first) × (b.last < from + len) → (runs : List Run) → runs ≡ runs_at s (b.last - b.first) → IsInside axes o from len b.first runs
+box_inside laws axes s o b is grid ordered has from len held runs same =
+    let h : HasRunsOf axes s b = subst (λ (o : Option CellBox). IfSome o (HasRunsOf axes s)) is has in
+    let cells = laws axes b.first b.last grid (subst (IsBox axes) is ordered) in
+    let below : All (λ c. c < from + len) (cells_between axes b.first b.last) = λ k d lt. omega (arith, (cells k d lt).1, held.1) in
+    let ends = runs_end (from + len) b.first (runs_at s (b.last - b.first)) h.some (subst (All (λ c. c < from + len)) h.cells below) in
+    rw (same, is) (record {
+      ends = λ k d lt. omega (arith, ends k d lt, held.0);
+      places = ap (places_in from len) h.cells ∙ places_inside from len b.first held.0 (runs_at s (b.last - b.first)) ends;
+    })

@@ -1,5 +1,5 @@
 //! Bands of cells.
-ghost use Rattle.std.specs.Prelude.{◌≡◌, ◌+◌, ◌^◌, ◌<◌, ◌≤◌, [], Some, IfSome, IfNone};
+ghost use Rattle.std.specs.Prelude.{◌≡◌, ◌+◌, ◌^◌, ◌<◌, ◌≤◌, ◌↔◌, [], Some, IsTrue, IfSome, IfNone};
 ghost use Rattle.std.specs.List.{range_with_len};
 ghost use Rattle.grid_quantiser.specs.Axes.{cells_of};
 ghost use Rattle.successor_box.specs.Boxes.{cells_in};
@@ -32,6 +32,15 @@ impl Band {
             return None;
         }
         Some(b)
+    }
+
+    /// Whether the corners of a box show that all its cells are here.
+    #[inline]
+    pub(crate) fn holds(&self, b: CellBox) -> bool
+        requires { self.now.from + self.now.len < 2 ^ 32 }
+        ensures { IsTrue result ↔ ((self.now.from ≤ b.first) × (b.last < self.now.from + self.now.len)) }
+    {
+        self.from <= b.first && b.last < self.from + self.len
     }
 
     /// The places that a run of cells has here: the first, and how many.

@@ -12,7 +12,9 @@ use crate::band::Band;
 use crate::shapes::{Run, Shapes};
 use edge_rows::laws::full_rows_leave_no_place;
 use edge_rows::{NoMemory, RowFill, Rows};
-use grid_quantiser::laws::{cells_of_a_box, every_grid_is_within_the_limit};
+use grid_quantiser::laws::{
+    cells_lie_between_corners, cells_of_a_box, every_grid_is_within_the_limit,
+};
 use grid_quantiser::{CellBox, Grid};
 use std::alloc::{AllocError, Global};
 
@@ -99,9 +101,15 @@ fn count_box(grid: &Grid, shapes: &Shapes, b: Option<CellBox>, band: Band, count
     ensures { AreCounted counts.old counts.new (places_in band.from band.len (cells_in grid.now b)) }
 {
     cells_of_a_box();
+    cells_lie_between_corners();
     every_grid_is_within_the_limit(grid);
     if let Some(b) = band.reached(grid, b) {
-        count_runs(b.first, shapes.runs_of(b), band, counts);
+        let runs = shapes.runs_of(b);
+        if band.holds(b) {
+            count_inside(b.first - band.from, runs, counts);
+        } else {
+            count_runs(b.first, runs, band, counts);
+        }
     }
 }
 
@@ -123,9 +131,41 @@ fn put_box(
     ensures { ArePut pair fill.old fill.new (places_in band.from band.len (cells_in grid.now b)) }
 {
     cells_of_a_box();
+    cells_lie_between_corners();
     every_grid_is_within_the_limit(grid);
     if let Some(b) = band.reached(grid, b) {
-        put_runs(b.first, shapes.runs_of(b), band, pair, fill);
+        let runs = shapes.runs_of(b);
+        if band.holds(b) {
+            put_inside(b.first - band.from, runs, pair, fill);
+        } else {
+            put_runs(b.first, runs, band, pair, fill);
+        }
+    }
+}
+
+/// Adds one to the count of each place of runs that begin at a place.
+#[inline]
+fn count_inside(first: u32, runs: &[Run], counts: &mut [u32])
+    requires within { All (EndsBy (length counts.old) first) runs.now }
+    requires few { length counts.old < 2 ^ 32 }
+    requires room { (i : ℕ) → slice_index counts.old i + times i (cells_from first runs.now) < 2 ^ 32 }
+    ensures { AreCounted counts.old counts.new (cells_from first runs.now) }
+{
+    for run in runs {
+        count_run(first + run.start, run.len, counts);
+    }
+}
+
+/// Puts a pair at each place of runs that begin at a place.
+#[inline]
+fn put_inside(first: u32, runs: &[Run], pair: u32, fill: &mut RowFill)
+    requires within { All (EndsBy (length fill.old.rows) first) runs.now }
+    requires few { length fill.old.rows < 2 ^ 32 }
+    requires room { HasRoomFor fill.old (cells_from first runs.now) }
+    ensures { ArePut pair fill.old fill.new (cells_from first runs.now) }
+{
+    for run in runs {
+        fill.put_run(first + run.start, run.len, pair);
     }
 }
 
