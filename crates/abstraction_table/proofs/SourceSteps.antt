@@ -2,7 +2,7 @@
 use Rattle.std.proofs.Common.{◌≡◌, ℕ, ◌+◌, ◌^◌, ◌<◌, ◌≤◌, ◌==◌, List, ◌++◌, All, length, take, replicate, get_or, sum, Option, Some, None, sym, ap, ◌∙◌, arith, inl, inr}
 use Rattle.std.specs.List.Sorted.{IsStrictlyIncreasing}
 use Rattle.std.proofs.lemmas.Bool.{cases_lt}
-use Rattle.std.proofs.lemmas.List.{get_or_past}
+use Rattle.std.proofs.lemmas.List.{get_or_past, get_or_default}
 use Rattle.std.proofs.lemmas.List.Elements.{All-weaker}
 use Rattle.std.proofs.lemmas.List.Sums.{sum_by_more, sum_by_more_le, get_or-le-sum_by, count_by-le-length, sum_by-le}
 use Rattle.grid_quantiser.specs.declared.axis.Axis.{Axis}
@@ -20,6 +20,10 @@ use Rattle.abstraction_table.proofs.LeadingPairs.{sources_more, count_more, coun
 pub box_cells : BoxesHaveCells → (axes : List Axis) (b : Option CellBox) → AreAxes axes → IsBox axes b → AreRisingCells axes (cells_in axes b)
 box_cells cells axes None grid box = record { rising = λ k lt. absurd (omega (arith, lt)); within = λ k d lt. absurd (omega (arith, lt)); few = omega arith }
 box_cells cells axes (Some b) grid box = cells axes b.first b.last grid box
+
+-- a box that is read is the one that is kept there
+pub kept_box : (boxes : List (Option CellBox)) (k : ℕ) (read kept : Option CellBox) → read ≡ kept → kept ≡ get_or boxes k kept → k < length boxes → read ≡ get_or boxes k None
+kept_box boxes k read kept same is below = same ∙ is ∙ get_or_default boxes k kept None below
 
 -- The counts of a band that a loop over the boxes has made.
 pub record CountsSoFar (axes : List Axis) (boxes : List (Option CellBox)) (from len n : ℕ) (counts : List ℕ) : Type 0 where

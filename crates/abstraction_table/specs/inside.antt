@@ -2,6 +2,7 @@
 pub mod Digits
 pub mod Marks
 pub mod Memory
+pub mod Packed
 pub mod Props
 pub mod Shapes
 pub mod Sides

@@ -7,8 +7,10 @@ ghost use Rattle.successor_box.specs.Deviations.{HasNoOverflow, deviations_of};
 ghost use Rattle.abstraction_table.specs.Abstraction.{AreBoxesOf};
 ghost use Rattle.abstraction_table.specs.inside.Sides.{ArePlacesOf, AreOffsetsOf, HoldSides};
 
+use crate::pair_box::PairBox;
 use crate::sides::{SideTable, find_tables};
 use grid_quantiser::CellBox;
+use grid_quantiser::laws::{boxes_are_moved_shapes, every_grid_is_within_the_limit};
 use plant_text::Plant;
 use plant_text::laws::{every_plant_is_within_limits, plants_are_sound};
 use rayon::prelude::*;
@@ -23,7 +25,7 @@ pub(crate) fn find_boxes<R: Threads + Sync>(
     alloc: Global,
     p: &Plant,
     s: &Slopes,
-) -> Result<Vec<Option<CellBox>>, AllocError>
+) -> Result<Vec<PairBox>, AllocError>
     requires slopes { s.now ≡ deviations_of p.now }
     requires fits { HasNoOverflow p.now }
     ensures { IfOk result (λ boxes. AreBoxesOf p.now boxes.items) }
@@ -33,12 +35,12 @@ pub(crate) fn find_boxes<R: Threads + Sync>(
     let tables = tables.as_slice();
     let inputs = p.vectors() as usize;
     let pairs = p.grid().cells() as usize * inputs;
-    let mut boxes = vec![in alloc; None; pairs]?;
+    let mut boxes = vec![in alloc; PairBox::new(None); pairs]?;
     par_chunks_mut_for_each(
         rt,
         &mut boxes,
         inputs,
-        |at: usize, boxes: &mut [Option<CellBox>]|
+        |at: usize, boxes: &mut [PairBox]|
             requires tables { HoldSides p.now tables.now }
             requires inputs { inputs ≡ vectors_of p.now.inputs }
             requires some_input { 0 < inputs }
@@ -61,16 +63,18 @@ struct Offsets {
 }
 
 /// The boxes of a cell, one for each input.
-fn boxes_of_cell(p: &Plant, tables: &[SideTable], c: u32, boxes: &mut [Option<CellBox>])
+fn boxes_of_cell(p: &Plant, tables: &[SideTable], c: u32, boxes: &mut [PairBox])
     requires tables { HoldSides p.now tables.now }
     requires cell { c < cells_of (axes_of p.now) }
     requires one_each { length boxes.old ≡ vectors_of p.now.inputs }
     ensures long { length boxes.new ≡ length boxes.old }
     ensures each { (u : ℕ) → u < length boxes.old → IsBoxOf p.now c u (slice_index_or boxes.new u None) }
 {
+    boxes_are_moved_shapes();
+    every_grid_is_within_the_limit(p.grid());
     let offsets = offsets_of(p, tables, c);
     for input in 0..p.vectors() {
-        boxes[input as usize] = box_at(p, tables, &offsets, input);
+        boxes[input as usize] = PairBox::new(box_at(p, tables, &offsets, input));
     }
 }
 

@@ -5,13 +5,14 @@ ghost use Rattle.successor_box.specs.Boxes.{cells_in};
 ghost use Rattle.abstraction_table.specs.inside.Sources.{IsBox};
 ghost use Rattle.abstraction_table.specs.inside.Tallies.{edges_of};
 
+use crate::pair_box::PairBox;
 use grid_quantiser::laws::{cells_of_a_box, every_grid_is_within_the_limit};
 use grid_quantiser::{CellBox, Grid};
 use rayon::prelude::*;
 use std::thread::Threads;
 
 /// How many cells all boxes have together.
-pub(crate) fn count_edges<R: Threads + Sync>(rt: &R, grid: &Grid, boxes: &[Option<CellBox>]) -> u64
+pub(crate) fn count_edges<R: Threads + Sync>(rt: &R, grid: &Grid, boxes: &[PairBox]) -> u64
     requires ordered { All (IsBox grid.now) boxes.now }
     requires limit { length boxes.now ≤ 2 ^ 22 }
     ensures { result ≡ edges_of grid.now boxes.now }
@@ -21,10 +22,10 @@ pub(crate) fn count_edges<R: Threads + Sync>(rt: &R, grid: &Grid, boxes: &[Optio
     boxes
         .par_iter()
         .map(
-            |b: &Option<CellBox>| -> u64
+            |b: &PairBox| -> u64
                 requires { IsBox grid.now b.now }
                 ensures { result ≡ length (cells_in grid.entry.now b.now) }
-            { box_size(grid, *b) },
+            { box_size(grid, b.get()) },
         )
         .sum(rt)
 }

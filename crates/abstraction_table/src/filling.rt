@@ -9,6 +9,7 @@ ghost use Rattle.abstraction_table.specs.inside.Sources.{IsBox, AreBandRows};
 ghost use Rattle.abstraction_table.specs.inside.Tallies.{times, places_in, AreCounted, ArePut, HasRoomFor, edges_of, AreCountsAmong};
 
 use crate::band::Band;
+use crate::pair_box::PairBox;
 use crate::shapes::{Run, Shapes};
 use edge_rows::laws::full_rows_leave_no_place;
 use edge_rows::{NoMemory, RowFill, Rows};
@@ -23,7 +24,7 @@ pub(crate) fn fill_band(
     alloc: Global,
     grid: &Grid,
     shapes: &Shapes,
-    boxes: &[Option<CellBox>],
+    boxes: &[PairBox],
     band: Band,
 ) -> Result<Rows, NoMemory>
     requires ordered { All (IsBox grid.now) boxes.now }
@@ -46,7 +47,7 @@ fn count_sources(
     alloc: Global,
     grid: &Grid,
     shapes: &Shapes,
-    boxes: &[Option<CellBox>],
+    boxes: &[PairBox],
     band: Band,
 ) -> Result<Vec<u32>, AllocError>
     requires ordered { All (IsBox grid.now) boxes.now }
@@ -61,19 +62,13 @@ fn count_sources(
     every_grid_is_within_the_limit(grid);
     let mut counts = vec![in alloc; 0; band.len as usize]?;
     for b in boxes {
-        count_box(grid, shapes, *b, band, &mut counts);
+        count_box(grid, shapes, b.get(), band, &mut counts);
     }
     Ok(counts)
 }
 
 /// Puts each pair, in rising order, at the places of its box in a band.
-fn put_sources(
-    grid: &Grid,
-    shapes: &Shapes,
-    boxes: &[Option<CellBox>],
-    band: Band,
-    fill: &mut RowFill,
-)
+fn put_sources(grid: &Grid, shapes: &Shapes, boxes: &[PairBox], band: Band, fill: &mut RowFill)
     requires ordered { All (IsBox grid.now) boxes.now }
     requires runs { HaveRuns grid.now shapes.now boxes.now }
     requires pairs { length boxes.now ≤ 2 ^ 22 }
@@ -86,7 +81,7 @@ fn put_sources(
     cells_of_a_box();
     every_grid_is_within_the_limit(grid);
     for pair in 0..boxes.len() {
-        put_box(grid, shapes, boxes[pair], band, pair as u32, fill);
+        put_box(grid, shapes, boxes[pair].get(), band, pair as u32, fill);
     }
 }
 

@@ -18,6 +18,7 @@ mod filling;
 pub mod laws;
 mod marks;
 mod outlook;
+mod pair_box;
 mod shapes;
 mod sides;
 mod sources;

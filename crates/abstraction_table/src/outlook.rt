@@ -1,6 +1,7 @@
 ghost use Rattle.abstraction_table.specs.inside.Memory.{HoldsBoxes};
 ghost use Rattle.abstraction_table.specs.inside.Props.{box_props};
 
+use crate::pair_box::PairBox;
 use game_core::{Forward, Mark};
 use grid_quantiser::{CellBox, Grid};
 
@@ -11,7 +12,7 @@ pub struct Outlook {
     pub(crate) grid: Grid,
     pub(crate) inputs: u32,
     pub(crate) marks: Vec<Mark>,
-    pub(crate) boxes: Vec<Option<CellBox>>,
+    pub(crate) boxes: Vec<PairBox>,
     ghost in_memory: { HoldsBoxes grid inputs marks.items boxes.items } by { Prim.hlevel box_props },
 }
 
@@ -26,7 +27,7 @@ impl Outlook {
         requires { pair < pairs_of (game_ahead self.now) }
         ensures { result ≡ box_at (boxes_ahead self.now) pair }
     {
-        self.boxes[pair as usize]
+        self.boxes[pair as usize].get()
     }
 }
 

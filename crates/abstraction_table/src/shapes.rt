@@ -7,6 +7,7 @@ ghost use Rattle.abstraction_table.specs.inside.Shapes.{IsListed, runs_at, HasRu
 ghost use Rattle.abstraction_table.specs.inside.Sources.{IsBox};
 ghost use Rattle.abstraction_table.specs.inside.Tallies.{edges_of};
 
+use crate::pair_box::PairBox;
 use grid_quantiser::laws::{
     boxes_are_moved_shapes, cells_of_a_box, every_grid_is_within_the_limit,
 };
@@ -86,7 +87,7 @@ impl Shapes {
 pub(crate) fn find_shapes(
     alloc: Global,
     grid: &Grid,
-    boxes: &[Option<CellBox>],
+    boxes: &[PairBox],
 ) -> Result<Shapes, AllocError>
     requires ordered { All (IsBox grid.now) boxes.now }
     requires edges { edges_of grid.now boxes.now ≤ 2 ^ 25 }
@@ -99,7 +100,7 @@ pub(crate) fn find_shapes(
         runs: Vec::new(alloc),
     };
     for b in boxes {
-        shapes.list(grid, *b)?;
+        shapes.list(grid, b.get())?;
     }
     Ok(shapes)
 }

@@ -9,10 +9,11 @@ ghost use Rattle.abstraction_table.specs.inside.Tallies.{edges_of};
 
 use crate::band::Band;
 use crate::filling::fill_band;
+use crate::pair_box::PairBox;
 use crate::shapes::find_shapes;
 use edge_rows::{NoMemory, Rows};
+use grid_quantiser::Grid;
 use grid_quantiser::laws::every_grid_is_within_the_limit;
-use grid_quantiser::{CellBox, Grid};
 use rayon::current_num_threads;
 use rayon::prelude::*;
 use std::alloc::Global;
@@ -49,7 +50,7 @@ pub(crate) fn find_sources<R: Threads + Sync>(
     rt: &R,
     alloc: Global,
     grid: &Grid,
-    boxes: &[Option<CellBox>],
+    boxes: &[PairBox],
 ) -> Result<Sources, NoMemory>
     requires ordered { All (IsBox grid.now) boxes.now }
     requires pairs { length boxes.now ≤ 2 ^ 22 }
