@@ -88,6 +88,8 @@ fn swing(rt: HostRuntime) -> Result<(), Fail> {
     let plant = read_plant(rt.alloc(), SWING)?;
     let slopes = find_slopes(rt.alloc(), &plant)?;
     let game = build(&rt, rt.alloc(), &plant, &slopes)?;
+    assert_eq!(rt; game.cells(), 18);
+    assert_eq!(rt; game.inputs(), 2);
     // (2, 1) is cell 2 * 3 + 2. Under 0 it goes to (3, -1), and under 1 to (3, 0).
     assert_eq!(rt; game.boxes(16), Some(CellBox { first: 9, last: 9 }));
     assert_eq!(rt;
