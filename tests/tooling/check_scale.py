@@ -15,13 +15,13 @@ SCALED = [
     # by 0 up to 1.5; so below 2: the noise is 0 to 1. In v the quotient by 2 is exact, and the noise 0.
     (HEAD + "next x = x + 0.5*v + 0.125*u\nnext v = v + 0.5*u\ntarget 8 9 -0.2 0.2\ngoal reach\n",
      ["state x 0 998 9", "state v -121 121 9", "input u -100 -60 0 20 100", "noise r_x 0 1",
-      "next x = (8 * x + 4 * v + u) / 8 + r_x", "next v = (2 * v + u) / 2", "target 800 899 -20 19"]),
+      "next x = x + (4 * v + u) / 8 + r_x", "next v = v + u / 2", "target 800 899 -20 19"]),
     # The same as a linear system, with 0.02 of disturbance on v: 2 units to each side, and below one more by quantising.
     (HEAD + "A 1 0.5\nA 0 1\nB 0.125\nB 0.5\nw 0 0\nw -0.02 0.02\ntarget 8 9 -0.2 0.2\ngoal reach\n",
-     ["noise r_x 0 1", "noise r_v -2 2", "next x = (8 * x + 4 * v + u) / 8 + r_x", "next v = (2 * v + u) / 2 + r_v"]),
+     ["noise r_x 0 1", "noise r_v -2 2", "next x = x + (4 * v + u) / 8 + r_x", "next v = v + u / 2 + r_v"]),
     # The same from the differential equation.
     (HEAD + "sample 0.5\nA 0 1\nA 0 0\nB 0\nB 1\nw 0 0\nw -0.02 0.02\ntarget 8 9 -0.2 0.2\ngoal reach\n",
-     ["noise r_x 0 1", "noise r_v -2 2", "next x = (8 * x + 4 * v + u) / 8 + r_x", "next v = (2 * v + u) / 2 + r_v"]),
+     ["noise r_x 0 1", "noise r_v -2 2", "next x = x + (4 * v + u) / 8 + r_x", "next v = v + u / 2 + r_v"]),
     # exp(-0.1) is 0.904837, 1 - exp(-0.1) is 0.095163.
     ("denominator 1000000\nsample 0.1\nstate x 0 10 0.1 0.001\ninput u 1 0 10\nA -1\nB 1\ntarget 5 6\ngoal reach\n",
      ["next x = (904837 * x + 95162582 * u) / 1000000 + r_x"]),
@@ -33,6 +33,11 @@ SCALED = [
     # obstacle outside.
     ("state x 0 1 0.1 0.01\ninput m 1 0 1\nnext x = (1 - m)*0.5*x + m*0.25*x\ntarget 0.115 0.2\nobstacle 0.115 0.2\n"
      "goal reach\n", ["next x = x * (2 - m) / 4 + r_x", "target 12 19", "obstacle 11 19"]),
+    # Behind another term a quotient doesn't begin with a minus: x - v / 2 would round v / 2 down, and -v / 2 up.
+    (HEAD + "next x = x - 0.5*v\nnext v = v + 0.5*u\ntarget 8 9 -0.2 0.2\ngoal reach\n",
+     ["next x = x + (-v) / 2 + r_x", "next v = v + u / 2"]),
+    # A state that stands in another term too stays in the quotient with it.
+    ("state x 0 10 0.1 0.01\nnext x = x - x*x/10\ngoal keep\n", ["next x = (1000 * x - x * x) / 1000 + r_x"]),
     # -x turns the quantising round: the real value lies up to one below.
     ("state x -5 5 1 1\nnext x = -x\ngoal keep\n", ["noise r_x -1 0", "next x = -x + r_x"]),
 ]
