@@ -20,7 +20,7 @@ pub record IsRound (g : Game) (keeps : Account → Type 0) (list : List ℕ) (mo
   pub each : All keeps more
   pub cuts : (pair : ℕ) → pair < pairs_of g → cut_count pair more ≡ sum_by (λ s. times s list) (successors_at g pair)
 
--- what a rule says of the first list stands before each round, whose list is what the round before logged
+-- what a rule says stands before the first round, with the list that it chooses, and leads from each round to the next, with the list that the round logged
 pub record LeadsOn (g : Game) (fits : BoardModel → Type 0) (first : ℕ → Bool) (keeps : ℕ → Account → Type 0) (stands : ℕ → List ℕ → List Account → Type 0) : Type 0 where
   pub graph : IsGraph g
   -- who has done nothing keeps the rule, and who notes an item

@@ -45,7 +45,7 @@ pub trait Rule: Sync {
         ensures root { root.new ≡ root.old }
         ensures first { result ≡ first self.now c };
 
-    /// Cuts a pair that leads to a cell of the list, and does what follows from the cut.
+    /// Cuts an enabled pair, and does what follows from the cut. The rounds cut pairs that lead to cells of the list.
     fn cut(&self, board: &Board, worker: &mut Worker, round: u32, pair: u32)
         requires board { fits self.now board.now }
         requires worker { worker.old.board ≡ board.now }

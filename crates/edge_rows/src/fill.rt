@@ -1,4 +1,4 @@
-//! `RowFill`: rows of fixed lengths that are filled one number at a time, in any order of rows.
+//! `RowFill`: rows of fixed lengths, each filled from its front on, in any order of rows.
 ghost use Rattle.std.specs.Prelude.{◌≡◌, ◌+◌, ◌^◌, ◌<◌, ◌≤◌, length, map, sum, IfOk};
 ghost use Rattle.edge_rows.specs.Rows.{appended, appended_run, unfilled, HasRoom, HaveRoom, places_left};
 ghost use Rattle.edge_rows.specs.inside.Layout.{starts_from};

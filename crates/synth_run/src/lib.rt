@@ -3,8 +3,8 @@
 //! `run` goes from the words and bytes that it is given to the bytes that it writes: its clauses say
 //! what each status means, that status 0 of `synth` means the plant's table, that of `check` that the
 //! bytes are such a table, that of `sim` a trace of the table, and that of `demo` the demo plant's line.
-//! Stands on `text_pieces`, `plant_text`, `abstraction_table`, `reach_avoid`, `controller_table`,
-//! `table_check`, `loop_sim`, `plant_refine` and the crates below.
+//! Stands on `text_pieces`, `plant_text`, `abstraction_table`, `reach_avoid`, `safety_game`,
+//! `controller_table`, `table_check`, `loop_sim`, `plant_refine` and the crates below.
 #![tactic(auto)]
 
 mod checking;
