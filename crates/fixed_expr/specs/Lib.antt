@@ -2,6 +2,8 @@ pub mod Range
 pub mod Quotient
 pub mod Expression
 pub mod Value
+pub mod Narrow
+pub mod Rows
 pub mod Mentions
 pub mod Moves
 pub mod inside

@@ -1,2 +1,2 @@
-pub mod Narrow
 pub mod Postfix
+pub mod Places

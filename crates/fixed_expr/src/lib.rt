@@ -8,11 +8,15 @@
 pub mod arithmetic;
 mod evaluate;
 mod expr;
+mod lanes;
 pub mod laws;
 mod mentions;
 mod moves;
 mod narrow;
+mod rows;
 mod wide;
 
 pub use evaluate::eval;
 pub use expr::Expr;
+pub use lanes::LANES;
+pub use rows::eval_rows;

@@ -3,7 +3,7 @@
 ghost use Rattle.std.specs.Prelude.{length, SomeIff};
 ghost use Rattle.fixed_expr.specs.Expression.{expression_of};
 ghost use Rattle.fixed_expr.specs.Value.{IsWellFormed, value_of};
-ghost use Rattle.fixed_expr.specs.inside.Narrow.{IsNarrow, StaysNarrow};
+ghost use Rattle.fixed_expr.specs.Narrow.{IsNarrow, StaysNarrow};
 
 use crate::expr::Expr;
 
@@ -27,7 +27,7 @@ pub(crate) fn eval_narrow(e: &Expr, values: &[i128]) -> Option<i64>
 }
 
 /// The number itself: None where it leaves 64 bits.
-fn narrow(z: i128) -> Option<i64>
+pub(crate) fn narrow(z: i128) -> Option<i64>
     ensures { SomeIff result (IsNarrow z) z }
 {
     i64::try_from(z).ok()

@@ -1,0 +1,7 @@
+use Rattle.std.proofs.Common.{◌≡◌, length}
+use Rattle.std.specs.Prelude.{neg_ℤ}
+use Rattle.fixed_expr.specs.inside.Places.{at, AreDone}
+use Rattle.fixed_expr.proofs.lanes.negate.Given as goal
+
+abbrev pub invariant-lanes : goal.invariant-lanes
+invariant-lanes l = (length l.found ≡ 32) × AreDone l.k l.initial.found l.found (λ k. neg_ℤ (at l.initial.found k))

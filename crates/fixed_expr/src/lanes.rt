@@ -1,0 +1,90 @@
+// Operations on the numbers in many lanes, with None where a result leaves 64 bits.
+
+ghost use Rattle.std.specs.Prelude.{neg_ℤ, ◌+ℤ◌, ◌-ℤ◌, ◌*ℤ◌, ◌≤ℤ◌, pos, nat_abs};
+ghost use Rattle.std.specs.Int.{int_min, int_max};
+ghost use Rattle.fixed_expr.specs.Quotient.{floor_div};
+ghost use Rattle.fixed_expr.specs.inside.Places.{at, AnswersPlaces, HoldsNarrow};
+
+/// How many rows are evaluated at once.
+pub const LANES: usize = 32;
+
+pub(crate) fn copy_to(found: &mut [i64; LANES], column: &[i64; LANES])
+    ensures { HoldsNarrow found.new (λ k. at column.now k) }
+{
+    'lanes: for k in 0..LANES {
+        found[k] = column[k];
+    }
+}
+
+pub(crate) fn add_to(found: &mut [i64; LANES], other: &[i64; LANES]) -> Option<()>
+    ensures { AnswersPlaces result found.new (λ k. at found.old k +ℤ at other.now k) }
+{
+    'lanes: for k in 0..LANES {
+        found[k] = found[k].checked_add(other[k])?;
+    }
+    Some(())
+}
+
+pub(crate) fn subtract_from(found: &mut [i64; LANES], other: &[i64; LANES]) -> Option<()>
+    ensures { AnswersPlaces result found.new (λ k. at found.old k -ℤ at other.now k) }
+{
+    'lanes: for k in 0..LANES {
+        found[k] = found[k].checked_sub(other[k])?;
+    }
+    Some(())
+}
+
+pub(crate) fn multiply_by(found: &mut [i64; LANES], other: &[i64; LANES]) -> Option<()>
+    ensures { AnswersPlaces result found.new (λ k. at found.old k *ℤ at other.now k) }
+{
+    'lanes: for k in 0..LANES {
+        found[k] = found[k].checked_mul(other[k])?;
+    }
+    Some(())
+}
+
+/// The lesser of the two, in each lane.
+pub(crate) fn lower_to(found: &mut [i64; LANES], other: &[i64; LANES])
+    ensures { HoldsNarrow found.new (λ k. int_min (at found.old k) (at other.now k)) }
+{
+    'lanes: for k in 0..LANES {
+        found[k] = found[k].min(other[k]);
+    }
+}
+
+/// The greater of the two, in each lane.
+pub(crate) fn raise_to(found: &mut [i64; LANES], other: &[i64; LANES])
+    ensures { HoldsNarrow found.new (λ k. int_max (at found.old k) (at other.now k)) }
+{
+    'lanes: for k in 0..LANES {
+        found[k] = found[k].max(other[k]);
+    }
+}
+
+pub(crate) fn negate(found: &mut [i64; LANES]) -> Option<()>
+    ensures { AnswersPlaces result found.new (λ k. neg_ℤ (at found.old k)) }
+{
+    'lanes: for k in 0..LANES {
+        found[k] = found[k].checked_neg()?;
+    }
+    Some(())
+}
+
+pub(crate) fn make_absolute(found: &mut [i64; LANES]) -> Option<()>
+    ensures { AnswersPlaces result found.new (λ k. pos (nat_abs (at found.old k))) }
+{
+    'lanes: for k in 0..LANES {
+        found[k] = found[k].checked_abs()?;
+    }
+    Some(())
+}
+
+/// Rounds down, where `/` rounds towards 0.
+pub(crate) fn divide_by(found: &mut [i64; LANES], divisor: i64)
+    requires { pos 1 ≤ℤ divisor }
+    ensures { HoldsNarrow found.new (λ k. floor_div (at found.old k) divisor) }
+{
+    'lanes: for k in 0..LANES {
+        found[k] = found[k].div_euclid(divisor);
+    }
+}
