@@ -1,5 +1,5 @@
 // A board, the root of its owner, and the hands of its callers.
-ghost use Rattle.std.specs.Prelude.{◌≡◌, ◌≢◌, ℕ, ◌+◌, ◌^◌, ◌<◌, ◌≤◌, ◌==◌, false, IsTrue, length, slice_index, IfOk, Any};
+ghost use Rattle.std.specs.Prelude.{◌≡◌, ◌≢◌, ◌+◌, ◌^◌, ◌<◌, ◌≤◌, ◌==◌, false, ◌++◌, length, take, drop, replicate, slice_index, IfOk, Any, vec_len};
 ghost use Rattle.cell_counters.specs.Accounts.{IsLawfulCounter, IsLawfulLeast, IsLawfulLog, log_count, all_logs, cell_at};
 ghost use Rattle.cell_counters.specs.Tokens.{fresh_hand, with_cut, with_offer, with_note, new_root, hand_out, taken_in, IsLawful, Logs, filled};
 
@@ -107,7 +107,7 @@ impl Board {
         Board::with_log(alloc, starts, least, 0)
     }
 
-    /// The same with a log of so many places. Each number and each place takes 8 bytes, and as much again while the board is made.
+    /// The same with a log of so many places.
     pub fn with_log(
         alloc: Global,
         starts: &[u64],
@@ -121,19 +121,37 @@ impl Board {
         ensures places { IfOk result (λ made. made.0.places ≡ places) }
         ensures root { IfOk result (λ made. made.1 ≡ new_root made.0) }
     {
-        let counters = starts.len();
-        let tail = counters + least.len();
-        let all = tail + 1 + places as usize;
-        let mut words = Vec::with_capacity(alloc, all)?;
-        words.extend_from_slice(starts)?;
+        let mut words = starts.to_vec(alloc)?;
         words.extend_from_slice(least)?;
+        Board::of_words(alloc, words, starts.len() as u32, places)
+    }
+
+    /// The same of numbers that stand in one vector, those of the counters first. It takes 8 bytes for each number and each
+    /// place, beside the vector, which grows by the places and is given back.
+    pub fn of_words(
+        alloc: Global,
+        words: Vec<u64>,
+        counters: u32,
+        places: u32,
+    ) -> Result<(Board, Root), NoMemory>
+        requires some { 0 < vec_len words + places }
+        requires room { vec_len words + places < 2 ^ 32 }
+        requires counters { counters ≤ vec_len words }
+        ensures starts { IfOk result (λ made. made.0.starts ≡ take counters words.items) }
+        ensures least { IfOk result (λ made. made.0.least ≡ drop counters words.items) }
+        ensures places { IfOk result (λ made. made.0.places ≡ places) }
+        ensures root { IfOk result (λ made. made.1 ≡ new_root made.0) }
+    {
+        let counters = counters as usize;
+        let tail = words.len();
         let beginning = Beginning {
             words: Snapshot::of(&words),
             counters,
             places,
         };
-        words.resize(all, 0)?;
-        let (table, seat) = Table::of_words(alloc, words.as_slice(), &beginning)?;
+        let all = with_zeros(words, 1 + places as usize)?;
+        let all = all.as_slice();
+        let (table, seat) = Table::of_words(alloc, all, &beginning)?;
         let board = Board {
             table,
             counters,
@@ -294,4 +312,13 @@ impl Board {
         let at = self.counters + word as usize;
         shared.load::<Looking>(&mut root.seat, at)
     }
+}
+
+// Numbers with so many zeros behind them.
+fn with_zeros(mut words: Vec<u64>, zeros: usize) -> Result<Vec<u64>, AllocError>
+    requires { vec_len words + zeros < 2 ^ 64 }
+    ensures { IfOk result (λ all. all.items ≡ words.items ++ replicate zeros 0) }
+{
+    words.resize(words.len() + zeros, 0)?;
+    Ok(words)
 }

@@ -66,8 +66,9 @@ fn write_each(block: &mut Block, ends: &mut [u32], value: u32)
     ensures ends { ends.new ≡ map (λ end. end + 1) ends.old }
 {
     for end in ends {
-        block.write(*end as usize, value);
-        *end += 1;
+        let place = *end;
+        block.write(place as usize, value);
+        *end = place + 1;
     }
 }
 

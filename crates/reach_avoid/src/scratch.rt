@@ -1,5 +1,5 @@
 // All memory of a solver, taken before it solves.
-ghost use Rattle.std.specs.Prelude.{◌≡◌, ◌+◌, ◌^◌, ◌<◌, ◌≤◌, map, length, IfOk};
+ghost use Rattle.std.specs.Prelude.{◌≡◌, ◌+◌, ◌^◌, ◌<◌, ◌≤◌, ◌++◌, map, length, take, drop, IfOk, vec_len};
 ghost use Rattle.cell_counters.specs.Tokens.{new_root};
 ghost use Rattle.reach_avoid.specs.Boards.{IsBoardOf, word_at};
 
@@ -34,15 +34,14 @@ impl Model for Scratch {
 
 impl Scratch {
     /// Takes 8 bytes for a pair, on the board, and 32 for a cell: 16 on the board, 4 on the list and 12 in the answer.
-    /// While the board is made it takes 24 for a pair and 40 for a cell.
+    /// While the board is made it takes 16 for a pair and 32 for a cell.
     pub fn new<G: Graph>(alloc: Global, g: &G, workers: u32) -> Result<Scratch, NoMemory>
         requires { (1 ≤ workers) × (workers ≤ 64) }
         ensures { IfOk result (IsBoardOf (G.game g.now)) }
     {
-        let starts = fans(alloc, g)?;
-        let least = first_words(alloc, g)?;
+        let words = first_words(alloc, g)?;
         let cells = g.cells();
-        let (board, root) = new_board(alloc, starts.as_slice(), least.as_slice(), cells)?;
+        let (board, root) = new_board(alloc, words, cells * g.inputs(), cells)?;
         let rounds = Rounds::new(alloc, root, cells, workers)?;
         let answer = Answer::blank(alloc, cells)?;
         Ok(Scratch {
@@ -54,31 +53,35 @@ impl Scratch {
     }
 }
 
-// A board with these numbers, and a log of so many places.
+// A board with these numbers, so many of them counters, and a log of so many places.
 fn new_board(
     alloc: Global,
-    starts: &[u64],
-    least: &[u64],
+    words: Vec<u64>,
+    counters: u32,
     places: u32,
 ) -> Result<(Board, Root), NoMemory>
     requires some { 0 < places }
-    requires room { length starts.now + length least.now + places < 2 ^ 32 }
-    ensures starts { IfOk result (λ made. made.0.starts ≡ starts.now) }
-    ensures least { IfOk result (λ made. made.0.least ≡ least.now) }
+    requires room { vec_len words + places < 2 ^ 32 }
+    requires counters { counters ≤ vec_len words }
+    ensures starts { IfOk result (λ made. made.0.starts ≡ take counters words.items) }
+    ensures least { IfOk result (λ made. made.0.least ≡ drop counters words.items) }
     ensures places { IfOk result (λ made. made.0.places ≡ places) }
     ensures root { IfOk result (λ made. made.1 ≡ new_root made.0) }
 {
-    Board::with_log(alloc, starts, least, places).map_err(|_| NoMemory)
+    Board::of_words(alloc, words, counters, places).map_err(|_| NoMemory)
 }
 
-// The least words, before anything is offered.
+// The numbers with which the board begins: the counters' of the pairs, then the least words' of the cells.
 fn first_words<G: Graph>(alloc: Global, g: &G) -> Result<Vec<u64>, NoMemory>
-    ensures { IfOk result (λ v. v.items ≡ map word_at (G.game g.now).marks) }
+    ensures { IfOk result (λ v. v.items ≡ map length (G.game g.now).successors ++ map word_at (G.game g.now).marks) }
 {
+    let mut words = fans(alloc, g)?;
     let cells = g.cells();
-    let mut words = vec![in alloc; 0; cells as usize].map_err(|_| NoMemory)?;
+    if words.try_reserve_exact(cells as usize).is_err() {
+        return Err(NoMemory);
+    }
     for c in 0..cells {
-        words[c as usize] = first_word(g.mark(c));
+        words.push_reserved(first_word(g.mark(c)));
     }
     Ok(words)
 }

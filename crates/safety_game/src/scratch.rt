@@ -1,5 +1,5 @@
 // All memory of a solver, taken before it solves.
-ghost use Rattle.std.specs.Prelude.{◌≡◌, ◌+◌, ◌*◌, ◌^◌, ◌<◌, ◌≤◌, [], ◌++◌, map, length, IfOk};
+ghost use Rattle.std.specs.Prelude.{◌≡◌, ◌+◌, ◌*◌, ◌^◌, ◌<◌, ◌≤◌, [], ◌++◌, map, length, IfOk, vec_len};
 ghost use Rattle.std.specs.List.{range_with_len};
 ghost use Rattle.cell_counters.specs.Tokens.{new_root};
 ghost use Rattle.safety_game.specs.Boards.{IsBoardOf, enabled_at};
@@ -34,14 +34,14 @@ impl Model for Scratch {
 }
 
 impl Scratch {
-    /// Takes 24 bytes for a pair and 40 for a cell while the board is made, and 8 and 32 then.
+    /// Takes 16 bytes for a pair and 32 for a cell while the board is made, and 8 and 32 then.
     pub fn new<G: Graph>(alloc: Global, g: &G, workers: u32) -> Result<Scratch, NoMemory>
         requires { (1 ≤ workers) × (workers ≤ 64) }
         ensures { IfOk result (IsBoardOf (G.game g.now)) }
     {
         let starts = starts(alloc, g)?;
         let cells = g.cells();
-        let (board, root) = new_board(alloc, starts.as_slice(), cells)?;
+        let (board, root) = new_board(alloc, starts, cells)?;
         let rounds = Rounds::new(alloc, root, cells, workers)?;
         let answer = Answer::blank(alloc, cells)?;
         Ok(Scratch {
@@ -54,15 +54,16 @@ impl Scratch {
 }
 
 // A board with these counters, no least word, and a log of so many places.
-fn new_board(alloc: Global, starts: &[u64], places: u32) -> Result<(Board, Root), NoMemory>
+fn new_board(alloc: Global, starts: Vec<u64>, places: u32) -> Result<(Board, Root), NoMemory>
     requires some { 0 < places }
-    requires room { length starts.now + places < 2 ^ 32 }
-    ensures starts { IfOk result (λ made. made.0.starts ≡ starts.now) }
+    requires room { vec_len starts + places < 2 ^ 32 }
+    ensures starts { IfOk result (λ made. made.0.starts ≡ starts.items) }
     ensures least { IfOk result (λ made. made.0.least ≡ []) }
     ensures places { IfOk result (λ made. made.0.places ≡ places) }
     ensures root { IfOk result (λ made. made.1 ≡ new_root made.0) }
 {
-    Board::with_log(alloc, starts, &[], places).map_err(|_| NoMemory)
+    let counters = starts.len() as u32;
+    Board::of_words(alloc, starts, counters, places).map_err(|_| NoMemory)
 }
 
 // The numbers with which the counters begin: for each pair its successors, then for each cell its enabled inputs.

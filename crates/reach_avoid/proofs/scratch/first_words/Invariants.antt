@@ -1,4 +1,6 @@
-use Rattle.std.proofs.Common.{◌≡◌, ℕ, ◌<◌, length, get_or}
+use Rattle.std.proofs.Common.{◌≡◌, ℕ, ◌+◌, ◌≤◌, ◌++◌, length, map, vec_len}
+use Rattle.std.specs.List.{range_with_len}
+use Rattle.std.specs.Vec.{vec_capacity}
 use Rattle.game_core.specs.Game.{mark_of}
 use Rattle.reach_avoid.specs.Boards.{word_at}
 use Rattle.reach_avoid.proofs.scratch.first_words.Given as goal
@@ -8,6 +10,7 @@ abbrev pub invariant-loop-c : goal.invariant-loop-c
 invariant-loop-c g l =
     let game = g.G.Graph.game l.g in
     record {
-      one_each : length l.words.items ≡ game.cells;
-      so_far : (k : ℕ) → k < l.c → get_or l.words.items k 0 ≡ word_at (mark_of game k);
+      so_far : l.words.items ≡ map length game.successors ++ map (λ c. word_at (mark_of game c)) (range_with_len 0 l.c);
+      many : vec_len l.words ≡ length game.successors + l.c;
+      room : length game.successors + game.cells ≤ vec_capacity l.words;
     }

@@ -1,18 +1,64 @@
-use Rattle.std.proofs.Common.{◌≡◌, ℕ, None, length, replicate, sym, ◌∙◌, ap, subst, arith}
+use Rattle.std.proofs.Common.{◌≡◌, ℕ, ◌+◌, ◌*◌, ◌≤◌, List, None, ◌++◌, length, map, replicate, take, drop, vec_len, sym, ◌∙◌, ap, ap₂, subst, arith, length-append}
+use Rattle.std.proofs.Math.Seq.{take-append_seam, drop-append_seam}
 use Rattle.std.proofs.lemmas.List.{length-map}
 use Rattle.board_crew.specs.Rounds.{IsUnused}
-use Rattle.reach_avoid.specs.Boards.{word_at}
+use Rattle.game_core.specs.Game.{Game, IsGraph, pairs_of}
+use Rattle.reach_avoid.specs.Boards.{word_at, IsBoardOf}
 use Rattle.reach_avoid.proofs.scratch.Scratch.new.Goals as goal
+
+-- the counters' numbers, and behind them the words'
+abbrev numbers : Game → List ℕ
+numbers g = map length g.successors ++ map word_at g.marks
+
+-- how many there are
+many : (g : Game) → IsGraph g → (items : List ℕ) → items ≡ numbers g → length items ≡ pairs_of g + g.cells
+many g a items is =
+    let all = ap length is ∙ length-append (map length g.successors) (map word_at g.marks) in
+    let pairs = length-map g.successors length ∙ a.game.one_list_each in
+    let cells = length-map g.marks word_at ∙ a.game.one_mark_each in
+    omega arith
+
+pub new_board-requires-clause-room : goal.new_board-requires-clause-room
+new_board-requires-clause-room g c =
+    let game = g.G.Graph.game c.args.g.now in
+    let a = g.met.G.Graph.lawful c.args.g.now in
+    let counted = many game a c.in_ok-words.words.items c.in_ok-words.ensures in
+    let len = c.in_ok-words.words.ok.0 in
+    let cells = c.cells-cells.ensures in
+    let pairs_bound = a.pairs_bound in
+    let cells_bound = a.cells_bound in
+    omega arith
+
+pub new_board-requires-clause-counters : goal.new_board-requires-clause-counters
+new_board-requires-clause-counters g c =
+    let game = g.G.Graph.game c.args.g.now in
+    let counted = many game (g.met.G.Graph.lawful c.args.g.now) c.in_ok-words.words.items c.in_ok-words.ensures in
+    let len = c.in_ok-words.words.ok.0 in
+    let pairs : c.cells-cells.result * c.inputs.result ≡ pairs_of game = ap₂ (λ (n m : ℕ). n * m) c.cells-cells.ensures c.inputs.ensures in
+    omega arith
+
+pub returns : goal.returns
+returns g c =
+    let game = g.G.Graph.game c.args.g.now in
+    let a = g.met.G.Graph.lawful c.args.g.now in
+    let of_pairs : List ℕ = map length game.successors in
+    let of_cells : List ℕ = map word_at game.marks in
+    let counters : c.cells-cells.result * c.inputs.result ≡ length of_pairs =
+    ap₂ (λ (n m : ℕ). n * m) c.cells-cells.ensures c.inputs.ensures ∙ sym (length-map game.successors length ∙ a.game.one_list_each) in
+    record {
+      counters = c.in_ok-board.ensures.starts ∙ ap₂ (λ (n : ℕ) (l : List ℕ). take n l) counters c.in_ok-words.ensures ∙ take-append_seam of_pairs of_cells;
+      words = c.in_ok-board.ensures.least ∙ ap₂ (λ (n : ℕ) (l : List ℕ). drop n l) counters c.in_ok-words.ensures ∙ drop-append_seam of_pairs of_cells;
+    }
 
 pub invariant_of-result : goal.invariant_of-result
 invariant_of-result g c =
     let game = g.G.Graph.game c.args.g.now in
+    let a = g.met.G.Graph.lawful c.args.g.now in
     let board = c.in_ok-board.board in
     let rounds = c.in_ok-rounds.rounds in
-    let one_mark_each = (g.met.G.Graph.lawful c.args.g.now).game.one_mark_each in
+    let is_of = returns g c in
+    let words : length board.least ≡ game.cells = ap length is_of.words ∙ length-map game.marks word_at ∙ a.game.one_mark_each in
     let cells = c.cells-cells.ensures in
-    let words : length board.least ≡ game.cells =
-    ap length (c.in_ok-board.ensures.least ∙ (c.as_slice-2.ensures.value ∙ c.in_ok-least.ensures)) ∙ (length-map game.marks word_at ∙ one_mark_each) in
     let places : c.cells-cells.result ≡ board.places = sym c.in_ok-board.ensures.places in
     record {
       places = omega arith;

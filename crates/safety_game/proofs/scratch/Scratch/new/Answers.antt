@@ -7,7 +7,8 @@ pub new_board-requires-clause-room : goal.new_board-requires-clause-room
 new_board-requires-clause-room g c =
     let game = g.G.Graph.game c.args.g.now in
     let a = g.met.G.Graph.lawful c.args.g.now in
-    let many = starts_many game a c.as_slice.result.now (c.as_slice.ensures.value ∙ c.in_ok-starts.ensures) in
+    let many = starts_many game a c.in_ok-starts.starts.items c.in_ok-starts.ensures in
+    let len = c.in_ok-starts.starts.ok.0 in
     let cells = c.cells-cells.ensures in
     let pairs_bound = a.pairs_bound in
     let cells_bound = a.cells_bound in
