@@ -1,14 +1,15 @@
 -- The places in a band of the cells that lie in it.
 use Rattle.std.proofs.Common.{◌≡◌, ℕ, zero, suc, ◌+◌, ◌-◌, ◌<◌, ◌≤◌, Bool, true, false, ◌==◌, ◌&&◌, leb, ltb, cond, List, [], ◌∷◌, ◌++◌, All, length, map, get_or, refl, sym, ap, subst, ◌∙◌, arith, inl, inr, append-nil}
 use Rattle.std.specs.List.{filter, range_with_len}
-use Rattle.std.proofs.lemmas.Bool.{cases_lt, le-leb, lt-leb, lt-ltb, le-ltb, and_from, and_left, and_right, ne_eqb}
-use Rattle.std.proofs.lemmas.Bool.Decides.{Decides-eqb}
+use Rattle.std.proofs.lemmas.Bool.{cases_lt, le-leb, lt-leb, lt-ltb, le-ltb, and_from, and_left, and_right, eq-eqb, ne_eqb}
 use Rattle.std.proofs.lemmas.List.{map-append}
 use Rattle.std.proofs.lemmas.List.Elements.{All-cons, All-head, All-tail, filter-append}
 use Rattle.std.proofs.lemmas.List.FromFn.{length-range_with_len, get_or-range_with_len}
 use Rattle.std.proofs.lemmas.List.Sums.{sum_by-cons}
-use Rattle.abstraction_table.specs.inside.Tallies.{times, places_in}
-use Rattle.abstraction_table.proofs.Tallying.{by_cell, range-append}
+use Rattle.rayon.specs.Shown.{run-append}
+use Rattle.game_core.specs.Counts.{times}
+use Rattle.abstraction_table.specs.inside.Tallies.{places_in}
+use Rattle.abstraction_table.proofs.Tallying.{by_cell}
 
 module _ (from len : ℕ) where
   abbrev lies_here : ℕ → Bool
@@ -34,12 +35,6 @@ module _ (from len : ℕ) where
   pub places-append : (xs ys : List ℕ) → places_in from len (xs ++ ys) ≡ places_in from len xs ++ places_in from len ys
   places-append xs ys = ap (map (λ c. c - from)) (filter-append lies_here xs ys) ∙ map-append (λ c. c - from) (filter lies_here xs) (filter lies_here ys)
 
-  pub places-done : (all done run later : List ℕ) → all ≡ (done ++ run) ++ later → places_in from len all ≡ (places_in from len done ++ places_in from len run) ++ places_in from len later
-  places-done all done run later parts =
-      ap (places_in from len) parts
-      ∙ places-append (done ++ run) later
-      ∙ ap (λ (cells : List ℕ). cells ++ places_in from len later) (places-append done run)
-
   -- a cell of the band has its place as often as it stands among cells
   pub places-times : (i : ℕ) (cells : List ℕ) → i < len → times i (places_in from len cells) ≡ times (from + i) cells
   places-times i [] below = refl
@@ -47,25 +42,25 @@ module _ (from len : ℕ) where
       by_band c
       (λ low high here.
       ap (times i) (kept c cells here)
-      ∙ sum_by-cons (λ x. cond (i == x) 1 0) (c - from) (places_in from len cells)
-      ∙ ap (λ (n : ℕ). cond (i == (c - from)) 1 0 + n) (places-times i cells below)
+      ∙ sum_by-cons (λ x. cond (x == i) 1 0) (c - from) (places_in from len cells)
+      ∙ ap (λ (n : ℕ). cond (c - from == i) 1 0 + n) (places-times i cells below)
       ∙ ap (λ (b : Bool). cond b 1 0 + times (from + i) cells) (same_test c low)
-      ∙ sym (sum_by-cons (λ x. cond (from + i == x) 1 0) c cells))
+      ∙ sym (sum_by-cons (λ x. cond (x == from + i) 1 0) c cells))
       (λ outside here.
       ap (times i) (dropped c cells here)
       ∙ places-times i cells below
       ∙ (let none : times (from + i) cells ≡ 0 + times (from + i) cells = omega arith in none)
       ∙ ap (λ (b : Bool). cond b 1 0 + times (from + i) cells) (sym (other_test c outside))
-      ∙ sym (sum_by-cons (λ x. cond (from + i == x) 1 0) c cells))
+      ∙ sym (sum_by-cons (λ x. cond (x == from + i) 1 0) c cells))
     where
-      same_test : (c : ℕ) → from ≤ c → (i == (c - from)) ≡ (from + i == c)
+      same_test : (c : ℕ) → from ≤ c → (c - from == i) ≡ (c == from + i)
       same_test c low =
-          by_cell i (c - from)
-          (λ same. (Decides-eqb i (c - from)).1 same ∙ sym ((Decides-eqb (from + i) c).1 (omega (arith, same, low))))
-          (λ other. ne_eqb i (c - from) other ∙ sym (ne_eqb (from + i) c (λ same. other (omega (arith, same)))))
+          by_cell (c - from) i
+          (λ same. eq-eqb (c - from) i same ∙ sym (eq-eqb c (from + i) (omega (arith, same, low))))
+          (λ other. ne_eqb (c - from) i other ∙ sym (ne_eqb c (from + i) (λ same. other (omega (arith, same)))))
 
-      other_test : (c : ℕ) → (from ≤ c → c < from + len → ⊥) → (from + i == c) ≡ false
-      other_test c outside = ne_eqb (from + i) c (λ same. outside (omega (arith, same)) (omega (arith, same, below)))
+      other_test : (c : ℕ) → (from ≤ c → c < from + len → ⊥) → (c == from + i) ≡ false
+      other_test c outside = ne_eqb c (from + i) (λ same. outside (omega (arith, same)) (omega (arith, same, below)))
 
   pub places-within : (cells : List ℕ) → All (λ i. i < len) (places_in from len cells)
   places-within [] = λ k d lt. absurd (omega (arith, lt))
@@ -110,12 +105,12 @@ module _ (from len : ℕ) where
       places_in from len (range_with_len a n) ≡ range_with_len (low - from) (high - low)
   run_clipped a n low high first order last low_in high_in before behind =
       ap (λ (m : ℕ). places_in from len (range_with_len a m)) (let e : n ≡ low - a + (high - low + (a + n - high)) = omega (arith, first, order, last) in e)
-      ∙ ap (places_in from len) (range-append a (low - a) (high - low + (a + n - high)))
+      ∙ ap (places_in from len) (sym (run-append a (low - a) (high - low + (a + n - high))))
       ∙ places-append (range_with_len a (low - a)) (range_with_len (a + (low - a)) (high - low + (a + n - high)))
       ∙ ap (λ (cells : List ℕ). cells ++ places_in from len (range_with_len (a + (low - a)) (high - low + (a + n - high))))
       (run_outside a (low - a) (λ c from_a to_low inside past. omega (arith, inside, before c from_a (omega (arith, to_low, first)))))
       ∙ ap (λ (x : ℕ). places_in from len (range_with_len x (high - low + (a + n - high)))) (let e : a + (low - a) ≡ low = omega (arith, first) in e)
-      ∙ ap (places_in from len) (range-append low (high - low) (a + n - high))
+      ∙ ap (places_in from len) (sym (run-append low (high - low) (a + n - high)))
       ∙ places-append (range_with_len low (high - low)) (range_with_len (low + (high - low)) (a + n - high))
       ∙ ap (λ (cells : List ℕ). cells ++ places_in from len (range_with_len (low + (high - low)) (a + n - high)))
       (run_inside low (high - low) low_in (omega (arith, order, high_in)))

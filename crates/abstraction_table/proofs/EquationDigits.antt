@@ -1,9 +1,9 @@
 -- The digits of an equation, one by one from the last variable on, and what they say of pairs.
-use Rattle.std.proofs.Common.{◌≡◌, ◌⊎◌, ℕ, ◌+◌, ◌*◌, ◌/◌, ◌%◌, ◌^◌, ◌<◌, ◌≤◌, true, false, not, ◌&&◌, eqb, List, [], ◌∷◌, ◌++◌, All, length, drop, get_or, sym, ap, ap₂, subst, ◌∙◌, arith, inl, inr}
-use Rattle.std.specs.Prelude.{IsTrue, sum_by}
+use Rattle.std.proofs.Common.{◌≡◌, ◌⊎◌, ℕ, ◌+◌, ◌*◌, ◌/◌, ◌%◌, ◌^◌, ◌<◌, ◌≤◌, true, false, not, ◌&&◌, eqb, List, [], ◌∷◌, ◌++◌, All, length, drop, get_or, refl, sym, ap, ap₂, subst, ◌∙◌, arith, inl, inr}
+use Rattle.std.specs.Prelude.{IsTrue, IsFalse, sum_by}
 use Rattle.std.proofs.Math.Nat.{mul_comm, add-mul, div-eq_of_lt, zero-mod}
 use Rattle.std.proofs.Math.Seq.{get_or-append_seam}
-use Rattle.std.proofs.lemmas.Bool.{cases_lt, cases_Bool, both_ways, not-true, and_parts, and_from, eq-eqb, cond-true, cond-false}
+use Rattle.std.proofs.lemmas.Bool.{cases_lt, cases_Bool, both_ways, and_right, and_from, eq-eqb, cond-true, cond-false}
 use Rattle.std.proofs.lemmas.Nat.{mul-le, div_below, mod_below, div-add-mod'}
 use Rattle.std.proofs.lemmas.List.{length-append, get_or_append_left, drop_all}
 use Rattle.std.proofs.lemmas.List.Elements.{All-get_or, All-head, All-tail, All-drop, All-push, All-weaker}
@@ -59,7 +59,7 @@ module _ (p : Description) (plant : IsPlant p) (sound : IsSound p) (i : ℕ) whe
   digits_none = record {
     each = λ k d lt. absurd (omega (arith, lt));
     all = λ k past within. absurd (omega (arith, past, within));
-    first = λ moves past place. small_digit 0 (from (i + 1)) (get_or (counts_of p) i 0) (some_from (i + 1));
+    others = λ k past within free place. small_digit 0 (from (k + 1)) (get_or (counts_of p) k 0) (some_from (k + 1));
     packed = moves_none in_pair in_table;
     spread = subst (Moves in_table in_pair []) (sym none_from) (moves_none in_table in_pair);
     some = omega arith;
@@ -88,7 +88,7 @@ module _ (p : Description) (plant : IsPlant p) (sound : IsSound p) (i : ℕ) whe
     digits_same none = record {
       each = so_far.each;
       all = all;
-      first = first;
+      others = others;
       packed = so_far.packed;
       spread = subst (Moves in_table in_pair digits) (sym next) (moves_wider in_table in_pair digits (from (k + 1)) count some_count so_far.spread);
       some = so_far.some;
@@ -104,18 +104,18 @@ module _ (p : Description) (plant : IsPlant p) (sound : IsSound p) (i : ℕ) whe
                   absurd (both_ways (rests_on p i k) none (ap (rests_on p i) (sym at) ∙ stands))
             ]
 
-        -- the state itself is below the digits so far, and so has the first place
-        first : IsTrue (moves_along p i) → k ≤ i → (place : ℕ) → pair_at digits place / from (i + 1) % get_or (counts_of p) i 0 ≡ 0
-        first moves past place =
-            elim (cases_lt k i) [
-              | inl later ↦ so_far.first moves (omega (arith, later)) place
+        -- it is below the digits so far, and so has the first place
+        others : (j : ℕ) → k ≤ j → j < variables → IsFalse (rests_on p i j) → (place : ℕ) → pair_at digits place / from (j + 1) % get_or (counts_of p) j 0 ≡ 0
+        others j past within free place =
+            elim (cases_lt k j) [
+              | inl later ↦ so_far.others j (omega (arith, later)) within free place
               | inr here ↦
-                  let at : k + 1 ≡ i + 1 = omega (arith, past, here) in
-                  small_digit (pair_at digits place) (from (i + 1)) (get_or (counts_of p) i 0) (omega (arith, so_far.spread.below place, ap from at))
+                  let at : k + 1 ≡ j + 1 = omega (arith, past, here) in
+                  small_digit (pair_at digits place) (from (j + 1)) (get_or (counts_of p) j 0) (omega (arith, so_far.spread.below place, ap from at))
             ]
 
     -- sides rest on it
-    module _ (rests : rests_on p i k ≡ true) (state : i < variables) (d : Digit) (variable : d.variable ≡ k) (count_is : d.count ≡ count) (pair_is : d.in_pair ≡ from (k + 1)) (table_is : d.in_table ≡ places) where
+    module _ (rests : rests_on p i k ≡ true) (d : Digit) (variable : d.variable ≡ k) (count_is : d.count ≡ count) (pair_is : d.in_pair ≡ from (k + 1)) (table_is : d.in_table ≡ places) where
       is_digit : IsDigitOf p d
       is_digit = record {
         variable = omega (arith, lt, variable);
@@ -141,27 +141,23 @@ module _ (p : Description) (plant : IsPlant p) (sound : IsSound p) (i : ℕ) whe
             | inr here ↦ let at : k ≡ j = omega (arith, past, here) in subst (HasDigit (digits ++ d ∷ [])) at added
           ]
 
-      -- it isn't the state itself where the sides move with that
-      other : IsTrue (moves_along p i) → k ≡ i → ⊥
-      other moves is =
-          let apart = not-true (moves_along p i && eqb k i) (and_parts (mentions (equation_at p i) k) (not (moves_along p i && eqb k i)) rests).1 in
-          both_ways (moves_along p i && eqb k i) apart (and_from (moves_along p i) (eqb k i) moves (eq-eqb k i is))
-
-      first_more : IsTrue (moves_along p i) → k ≤ i → (place : ℕ) → pair_at (digits ++ d ∷ []) place / from (i + 1) % get_or (counts_of p) i 0 ≡ 0
-      first_more moves past place =
-          elim (cases_lt k i) [
+      others_more : (j : ℕ) → k ≤ j → j < variables → IsFalse (rests_on p i j) → (place : ℕ) → pair_at (digits ++ d ∷ []) place / from (j + 1) % get_or (counts_of p) j 0 ≡ 0
+      others_more j past within free place =
+          elim (cases_lt k j) [
             | inl later ↦
-                let c : ℕ = get_or (counts_of p) i 0 in
-                let t : ℕ = from (i + 1) in
+                let c : ℕ = get_or (counts_of p) j 0 in
+                let t : ℕ = from (j + 1) in
                 let q : ℕ = place / in_table d % d.count in
                 let s : ℕ = pair_at digits place in
-                let within : i < length (counts_of p) = omega (arith, state, counts_long p) in
-                let f = factor_from (counts_of p) (k + 1) i (omega (arith, later)) within in
-                let some_c : 0 < c = All-get_or IsSome (counts_of p) i 0 within (some_counts p plant sound) in
+                let known : j < length (counts_of p) = omega (arith, within, counts_long p) in
+                let f = factor_from (counts_of p) (k + 1) j (omega (arith, later)) known in
+                let some_c : 0 < c = All-get_or IsSome (counts_of p) j 0 known (some_counts p plant sound) in
                 ap (λ (n : ℕ). n / t % c) (sum_is in_table in_pair digits (from (k + 1)) d some_here pair_is (pair_weights digits so_far.each) so_far.spread place ∙ ap (λ (n : ℕ). q * n + s) f.1)
-                ∙ lower_digit q f.0 c t s some_c (some_from (i + 1))
-                ∙ so_far.first moves (omega (arith, later)) place
-            | inr here ↦ absurd (other moves (omega (arith, past, here)))
+                ∙ lower_digit q f.0 c t s some_c (some_from (j + 1))
+                ∙ so_far.others j (omega (arith, later)) within free place
+            | inr here ↦
+                let at : k ≡ j = omega (arith, past, here) in
+                absurd (both_ways (rests_on p i k) (ap (rests_on p i) at ∙ free) rests)
           ]
 
       packed_is : d.count * places ≡ places * count
@@ -174,7 +170,7 @@ module _ (p : Description) (plant : IsPlant p) (sound : IsSound p) (i : ℕ) whe
       digits_more = record {
         each = All-push (IsDigitOf p) digits d so_far.each is_digit;
         all = all_more;
-        first = first_more;
+        others = others_more;
         packed = subst (Moves in_pair in_table (digits ++ d ∷ [])) packed_is (moves_more in_pair in_table digits places d some_here table_is (table_weights digits so_far.each) so_far.packed);
         spread = subst (Moves in_table in_pair (digits ++ d ∷ [])) spread_is (moves_more in_table in_pair digits (from (k + 1)) d some_here pair_is (pair_weights digits so_far.each) so_far.spread);
         some = mul-le 1 1 places count so_far.some some_count;
@@ -210,11 +206,35 @@ module _ (p : Description) (plant : IsPlant p) (sound : IsSound p) (i : ℕ) whe
             state_place p (pair / vectors) (pair % vectors) i state
             ∙ sym (pair_digit p plant sound (pair / vectors) (pair % vectors) i (mod_below pair vectors some) (omega (arith, state)))
             ∙ ap (λ (n : ℕ). n / from (i + 1) % get_or (counts_of p) i 0) (div-add-mod' pair vectors)
-            ∙ are.first moves (omega arith) place
+            ∙ are.others i (omega arith) (omega (arith, state)) free place
+          where
+            free : rests_on p i i ≡ false
+            free = and_right (mentions (equation_at p i) i) (not (moves_along p i && eqb i i)) (ap not (and_from (moves_along p i) (eqb i i) moves (eq-eqb i i refl)))
 
         at : (moves_along p i ≡ true) ⊎ (moves_along p i ≡ false) → moved_by p i (pair / vectors) ≡ 0
         at (inl moves) = cond-true (moves_along p i) (place_along (axes_of p) i (pair / vectors)) 0 moves ∙ own moves
         at (inr fixed) = cond-false (moves_along p i) (place_along (axes_of p) i (pair / vectors)) 0 fixed
+
+    -- the places of the pair of a place: its digits, and 0 in the other variables
+    module _ (some : 1 ≤ vectors) (place k : ℕ) (within : k < variables) where
+      abbrev own : ℕ
+      own = pair_at digits place
+
+      own_digit : own / from (k + 1) % get_or (counts_of p) k 0 ≡ place_in p (own / vectors) (own % vectors) k
+      own_digit =
+          ap (λ (n : ℕ). n / from (k + 1) % get_or (counts_of p) k 0) (sym (div-add-mod' own vectors))
+          ∙ pair_digit p plant sound (own / vectors) (own % vectors) k (mod_below own vectors some) within
+
+      pub digit_place : (j : ℕ) (d : Digit) → j < length digits → (get_or digits j d).variable ≡ k → place / (get_or digits j d).in_table % (get_or digits j d).count ≡ place_in p (own / vectors) (own % vectors) k
+      digit_place j d lt at =
+          let e : Digit = get_or digits j d in
+          let is = are.each j d lt in
+          let pair-is : e.in_pair ≡ from (k + 1) = is.in_pair ∙ ap (λ (n : ℕ). from (n + 1)) at in
+          let count-is : e.count ≡ get_or (counts_of p) k 0 = is.count ∙ ap (λ (n : ℕ). get_or (counts_of p) n 0) at in
+          sym (are.spread.each place j d lt) ∙ ap₂ (λ (t m : ℕ). own / t % m) pair-is count-is ∙ own_digit
+
+      pub free_place : IsFalse (rests_on p i k) → 0 ≡ place_in p (own / vectors) (own % vectors) k
+      free_place free = sym (are.others k (omega arith) within free place) ∙ own_digit
 
     -- the pair of a place is alike to each that has the place
     module _ (c u : ℕ) (input : u < vectors) where

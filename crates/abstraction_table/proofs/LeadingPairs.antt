@@ -4,7 +4,7 @@ use Rattle.std.specs.Prelude.{◌↔◌}
 use Rattle.std.specs.Cmp.{nat_eq_equiv}
 use Rattle.std.specs.List.{list_any, filter, range_with_len}
 use Rattle.std.specs.List.Sorted.{IsStrictlyIncreasing}
-use Rattle.std.proofs.lemmas.Bool.{cases_lt, false_from_ne_true}
+use Rattle.std.proofs.lemmas.Bool.{cases_lt, eq-eqb, ne_eqb, false_from_ne_true}
 use Rattle.std.proofs.lemmas.Bool.Decides.{Decides-eqb}
 use Rattle.std.proofs.lemmas.List.Elements.{Contains-append_left, Contains-append_right, Contains-append_cases, filter-append}
 use Rattle.std.proofs.lemmas.List.FromFn.{length-range_with_len, get_or-range_with_len}
@@ -12,15 +12,16 @@ use Rattle.std.proofs.lemmas.List.Kept.{IsStrictlyIncreasing-filter, AllPairs-fr
 use Rattle.std.proofs.lemmas.List.Sums.{sum_by-cons}
 use Rattle.std.proofs.lemmas.List.{get_or-map, length-map, length-append, length-replicate, get_or_past}
 use Rattle.std.proofs.lemmas.Map.Views.{list_any-from_Contains, Contains-from_any}
+use Rattle.rayon.specs.Shown.{run-append}
 use Rattle.grid_quantiser.specs.declared.axis.Axis.{Axis}
 use Rattle.grid_quantiser.specs.declared.boxes.CellBox.{CellBox}
 use Rattle.game_core.specs.declared.game.Mark.{Mark}
+use Rattle.game_core.specs.Counts.{times}
 use Rattle.game_core.specs.Game.{AreSources, pairs_of, successors_at}
 use Rattle.successor_box.specs.Boxes.{cells_in}
 use Rattle.abstraction_table.specs.BoxGame.{box_game}
 use Rattle.abstraction_table.specs.inside.Sources.{leads_to, sources_among}
-use Rattle.abstraction_table.specs.inside.Tallies.{times}
-use Rattle.abstraction_table.proofs.Tallying.{range-append}
+use Rattle.abstraction_table.proofs.Tallying.{by_cell}
 
 -- whether a list of cells has a cell
 pub has_any : (c : ℕ) (cells : List ℕ) → (list_any (◌==◌ c) cells ≡ true) ↔ Contains cells c
@@ -29,7 +30,7 @@ has_any c cells = ((λ e. Contains-from_any (λ x y same. (Decides-eqb x y).0 sa
 -- one number more
 kept_more : (p : ℕ → Bool) (n : ℕ) → filter p (range_with_len 0 (n + 1)) ≡ filter p (range_with_len 0 n) ++ cond (p n) (n ∷ []) []
 kept_more p n =
-    ap (filter p) (range-append 0 n 1 ∙ ap (λ (m : ℕ). range_with_len 0 n ++ m ∷ []) (let e : 0 + n ≡ n = omega arith in e))
+    ap (filter p) (sym (run-append 0 n 1) ∙ ap (λ (m : ℕ). range_with_len 0 n ++ m ∷ []) (let e : 0 + n ≡ n = omega arith in e))
     ∙ filter-append p (range_with_len 0 n) (n ∷ [])
 
 -- a filter over a range keeps the numbers that pass
@@ -92,17 +93,18 @@ once b = cond b 1 0
 times_once : (c : ℕ) (cells : List ℕ) → AllPairs (λ x y. x < y) cells → times c cells ≡ cond (list_any (◌==◌ c) cells) 1 0
 times_once c [] rising = refl
 times_once c (x ∷ cells) rising =
-    sum_by-cons (λ y. cond (c == y) 1 0) x cells ∙ at_head (times_once c cells (λ i j d lt within. rising (suc i) (suc j) d (omega (arith, lt)) (omega (arith, within)))) (c == x) refl
+    sum_by-cons (λ y. cond (y == c) 1 0) x cells ∙ at_head (times_once c cells (λ i j d lt within. rising (suc i) (suc j) d (omega (arith, lt)) (omega (arith, within))))
   where
     none : c ≡ x → list_any (◌==◌ c) cells ≡ false
     none same = false_from_ne_true (list_any (◌==◌ c) cells) (λ e.
         let has = (has_any c cells).0 e in
         absurd (omega (arith, rising 0 (suc has.0) c (omega arith) (omega (arith, has.1)), has.2, same)))
 
-    at_head : times c cells ≡ cond (list_any (◌==◌ c) cells) 1 0 → (b : Bool) → (c == x) ≡ b → cond b 1 0 + times c cells ≡ cond (b || list_any (◌==◌ c) cells) 1 0
-    at_head later true e =
-        let nothing : times c cells ≡ 0 = later ∙ ap (λ (a : Bool). once a) (none ((Decides-eqb c x).0 e)) in omega (arith, nothing)
-    at_head later false e = (let s : 0 + times c cells ≡ times c cells = omega arith in s) ∙ later
+    at_head : times c cells ≡ once (list_any (◌==◌ c) cells) → once (x == c) + times c cells ≡ once ((c == x) || list_any (◌==◌ c) cells)
+    at_head later =
+        by_cell c x
+        (λ same. rw (eq-eqb x c (sym same), eq-eqb c x same) (omega (arith, later ∙ ap once (none same))))
+        (λ other. rw (ne_eqb x c (λ same. other (sym same)), ne_eqb c x other) (omega (arith, later)))
 
 module _ (axes : List Axis) (boxes : List (Option CellBox)) (c k : ℕ) (rising : IsStrictlyIncreasing (cells_in axes (get_or boxes k None))) where
   abbrev cells : List ℕ
@@ -128,6 +130,6 @@ count_rises axes boxes c k n le =
     let p = leads_to axes boxes c in
     let whole : k + (n - k) ≡ n = omega (arith, le) in
     let parts : filter p (range_with_len 0 n) ≡ filter p (range_with_len 0 k) ++ filter p (range_with_len (0 + k) (n - k)) =
-    ap (λ (m : ℕ). filter p (range_with_len 0 m)) (sym whole) ∙ ap (filter p) (range-append 0 k (n - k)) ∙ filter-append p (range_with_len 0 k) (range_with_len (0 + k) (n - k))
+    ap (λ (m : ℕ). filter p (range_with_len 0 m)) (sym whole) ∙ ap (filter p) (sym (run-append 0 k (n - k))) ∙ filter-append p (range_with_len 0 k) (range_with_len (0 + k) (n - k))
     in
     omega (arith, ap length parts, length-append (filter p (range_with_len 0 k)) (filter p (range_with_len (0 + k) (n - k))))

@@ -1,6 +1,7 @@
 pub mod Mapped
 pub mod PairBoxes
 pub mod EdgeCounts
+pub mod CountedFans
 pub mod OneGame
 pub mod OneSolution
 pub mod Tallying
@@ -12,8 +13,13 @@ pub mod ShapeRuns
 pub mod ListedShapes
 pub mod PlantGame
 pub mod DigitMoves
+pub mod NextDigits
 pub mod PairDigits
 pub mod EquationDigits
 pub mod SideTables
 pub mod Marking
 pub mod PlantMarks
+mod RowCells
+mod Parts
+mod RowBoxes
+mod CellRows

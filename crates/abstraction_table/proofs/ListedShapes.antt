@@ -1,33 +1,27 @@
 -- One more shape whose runs are listed, and the boxes that have it.
-use Rattle.std.proofs.Common.{◌≡◌, ◌≢◌, ℕ, zero, suc, ◌+◌, ◌-◌, ◌*◌, ◌^◌, ◌<◌, ◌≤◌, List, [], ◌∷◌, ◌++◌, All, map, length, take, drop, get_or, set, Option, Some, None, refl, sym, ap, subst, ◌∙◌, arith}
+use Rattle.std.proofs.Common.{◌≡◌, ◌≢◌, ℕ, zero, suc, ◌+◌, ◌-◌, ◌^◌, ◌<◌, ◌≤◌, List, [], ◌∷◌, ◌++◌, All, map, length, take, drop, get_or, set, sum, Option, Some, None, refl, sym, ap, subst, ◌∙◌, arith, inl, inr}
 use Rattle.std.specs.Prelude.{IfSome}
 use Rattle.std.specs.List.{range_with_len}
+use Rattle.std.proofs.lemmas.Bool.{cases_lt}
 use Rattle.std.proofs.lemmas.List.Sums.{sum_by_more}
-use Rattle.std.proofs.lemmas.List.{length-append, map-append, get_or_default, get_or-set_same, get_or-set_other, length-set, take_all, take-append-le, drop-append-le, length-drop}
+use Rattle.std.proofs.lemmas.List.{length-append, map-append, get_or_past, get_or_default, get_or-set_same, get_or-set_other, length-set, take_all, take-append-drop, take-append-le, drop-append-le, length-drop}
 use Rattle.std.proofs.Math.Seq.{drop-append_seam}
-use Rattle.std.proofs.Math.Nat.{div-lt_iff_lt-mul, mul-zero}
 use Rattle.grid_quantiser.specs.declared.axis.Axis.{Axis}
 use Rattle.grid_quantiser.specs.declared.boxes.CellBox.{CellBox}
 use Rattle.grid_quantiser.specs.Axes.{cells_of, AreAxes}
-use Rattle.grid_quantiser.specs.Boxes.{IsCellBox, cells_between}
+use Rattle.grid_quantiser.specs.Boxes.{cells_between}
 use Rattle.grid_quantiser.specs.Laws.{IsMovedShape, BoxesAreMovedShapes, BoxesHaveCells, CellsLieBetweenCorners}
 use Rattle.successor_box.specs.Boxes.{cells_in}
 use Rattle.abstraction_table.specs.declared.shapes.Run.{Run}
 use Rattle.abstraction_table.specs.declared.shapes.Span.{Span}
 use Rattle.abstraction_table.specs.declared.shapes.Shapes.{Shapes}
-use Rattle.abstraction_table.specs.inside.Shapes.{cells_from, EndsBy, span_at, runs_at, HasRunsAt, HasRunsOf, HaveRuns, AreSound, KeepsRuns, ListsRuns}
+use Rattle.abstraction_table.specs.inside.Fans.{FanIsKnown, AreFansOf}
+use Rattle.abstraction_table.specs.inside.Shapes.{cells_from, EndsBy, span_at, runs_at, HasRunsAt, HasRunsOf, HaveRuns, HaveRunsAt, KeepsRuns, ListsRuns}
 use Rattle.abstraction_table.specs.inside.Sources.{IsBox}
-use Rattle.abstraction_table.specs.inside.Tallies.{places_in, edges_of}
+use Rattle.abstraction_table.specs.inside.Tallies.{places_in}
 use Rattle.abstraction_table.proofs.Tallying.{by_cell}
 use Rattle.abstraction_table.proofs.BandPlaces.{places-append, run_inside}
-use Rattle.abstraction_table.proofs.ShapeRuns.{runs_end}
-
--- the last corner of a box is a cell
-pub last_below : (axes : List Axis) (f l : ℕ) → 1 ≤ length axes → 1 ≤ cells_of axes → IsCellBox axes f l → l < cells_of axes
-last_below [] f l some cells box = absurd (omega (arith, some))
-last_below (a ∷ axes) f l some cells box = by_cell (cells_of axes) 0
-    (λ none. let no : a.count * cells_of axes ≡ 0 = ap (λ (n : ℕ). a.count * n) none ∙ mul-zero a.count in absurd (omega (arith, no, cells)))
-    (λ other. let positive : 0 < cells_of axes = omega (arith, other) in (div-lt_iff_lt-mul positive).0 box.1)
+use Rattle.abstraction_table.proofs.ShapeRuns.{cells-append, one_run_more, runs_end}
 
 -- ---- runs that are moved
 
@@ -52,9 +46,6 @@ box_runs axes s b moved h = record {
 }
 
 -- ---- one more shape
-
-pub kept_all : (axes : List Axis) (s : Shapes) → AreSound axes s → KeepsRuns axes s s
-kept_all axes s sound = record { sound = sound; kept = λ extent h. h }
 
 -- runs that are put behind others change none of them
 behind_slice : (from to : ℕ) (xs more : List Run) → from ≤ to → to ≤ length xs → take (to - from) (drop from (xs ++ more)) ≡ take (to - from) (drop from xs)
@@ -115,48 +106,48 @@ module _ (axes : List Axis) (before after : Shapes) (extent : ℕ) (within : ext
         cells = h.cells ∙ ap (cells_from 0) (sym same);
       }
 
-  pub keeps : AreSound axes before → KeepsRuns axes before after
-  keeps sound = record {
-    sound = λ k some. by_cell k extent
-        (λ same. subst (HasRunsAt axes after) (sym same) has_here)
-        (λ other. kept_other k other (sound k (rw (span_other k other) at some)));
-    kept = λ k h. by_cell k extent (λ same. subst (HasRunsAt axes after) (sym same) has_here) (λ other. kept_other k other h);
-  }
+  pub keeps : KeepsRuns axes before after
+  keeps k h = by_cell k extent (λ same. subst (HasRunsAt axes after) (sym same) has_here) (λ other. kept_other k other h)
 
--- ---- the shapes that a loop over the boxes has listed
+-- ---- the shapes that a loop over the distances has listed
 
-pub record ShapesSoFar (axes : List Axis) (boxes : List (Option CellBox)) (n : ℕ) (s : Shapes) : Type 0 where
+pub record ShapesSoFar (axes : List Axis) (fans : List ℕ) (n : ℕ) (s : Shapes) : Type 0 where
   pub distances : length s.spans.items ≡ cells_of axes
-  pub sound : AreSound axes s
-  pub has : (k : ℕ) → k < n → IfSome (get_or boxes k None) (λ (b : CellBox). HasRunsAt axes s (b.last - b.first))
-  pub few : length s.runs.items ≤ edges_of axes (take n boxes)
+  pub has : (k : ℕ) → k < n → 1 ≤ get_or fans k 0 → HasRunsAt axes s k
+  pub few : length s.runs.items ≤ sum (take n fans)
 
-still : (axes : List Axis) (before after : Shapes) (o : Option CellBox) → KeepsRuns axes before after →
-    IfSome o (λ (b : CellBox). HasRunsAt axes before (b.last - b.first)) → IfSome o (λ (b : CellBox). HasRunsAt axes after (b.last - b.first))
-still axes before after None keeps has = tt
-still axes before after (Some b) keeps has = keeps.kept (b.last - b.first) has
-
-pub shapes_more : (axes : List Axis) (boxes : List (Option CellBox)) (n : ℕ) (before after : Shapes) → n < length boxes → ShapesSoFar axes boxes n before →
-    length after.spans.items ≡ length before.spans.items → KeepsRuns axes before after →
-    IfSome (get_or boxes n None) (λ (b : CellBox). HasRunsAt axes after (b.last - b.first)) →
-    length after.runs.items ≤ length before.runs.items + length (cells_in axes (get_or boxes n None)) → ShapesSoFar axes boxes (n + 1) after
-shapes_more axes boxes n before after below h distances keeps listed few = record {
+pub shapes_more : (axes : List Axis) (fans : List ℕ) (n cells : ℕ) (before after : Shapes) → n < length fans → ShapesSoFar axes fans n before →
+    length after.spans.items ≡ length before.spans.items → KeepsRuns axes before after → HasRunsAt axes after n →
+    cells ≡ get_or fans n 0 → length after.runs.items ≤ length before.runs.items + cells → ShapesSoFar axes fans (n + 1) after
+shapes_more axes fans n cells before after below h distances keep listed count few = record {
   distances = distances ∙ h.distances;
-  sound = keeps.sound;
-  has = λ k lt. by_cell k n
-      (λ same. subst (λ (j : ℕ). IfSome (get_or boxes j None) (λ (b : CellBox). HasRunsAt axes after (b.last - b.first))) (sym same) listed)
-      (λ other. still axes before after (get_or boxes k None) keeps (h.has k (omega (arith, lt, other))));
-  few = omega (arith, few, h.few, sum_by_more (λ b. length (cells_in axes b)) boxes n None below);
+  has = λ k lt some. by_cell k n
+      (λ same. subst (HasRunsAt axes after) (sym same) listed)
+      (λ other. keep k (h.has k (omega (arith, lt, other)) some));
+  few = omega (arith, few, h.few, count, sum_by_more (λ m. m) fans n 0 below);
 }
 
-runs_found : (axes : List Axis) (s : Shapes) (o : Option CellBox) → BoxesAreMovedShapes → AreAxes axes → IsBox axes o →
-    IfSome o (λ (b : CellBox). HasRunsAt axes s (b.last - b.first)) → IfSome o (HasRunsOf axes s)
-runs_found axes s None laws grid ordered has = tt
-runs_found axes s (Some b) laws grid ordered has = box_runs axes s b (laws axes b.first b.last grid ordered) has
+-- a distance for which nothing is counted is passed over
+pub shapes_past : (axes : List Axis) (fans : List ℕ) (n : ℕ) (s : Shapes) → n < length fans → get_or fans n 0 ≡ 0 → ShapesSoFar axes fans n s → ShapesSoFar axes fans (n + 1) s
+shapes_past axes fans n s below none h = record {
+  distances = h.distances;
+  has = λ k lt some. by_cell k n
+      (λ same. absurd (omega (arith, ap (λ (j : ℕ). get_or fans j 0) same, none, some)))
+      (λ other. h.has k (omega (arith, lt, other)) some);
+  few = omega (arith, h.few, sum_by_more (λ m. m) fans n 0 below);
+}
 
-pub shapes_all : (axes : List Axis) (boxes : List (Option CellBox)) (n : ℕ) (s : Shapes) → length boxes ≤ n → BoxesAreMovedShapes → AreAxes axes → All (IsBox axes) boxes → ShapesSoFar axes boxes n s → HaveRuns axes s boxes
-shapes_all axes boxes n s whole laws grid ordered h = λ k d lt.
-    rw (get_or_default boxes k d None lt) (runs_found axes s (get_or boxes k None) laws grid (ordered k None lt) (h.has k (omega (arith, lt, whole))))
+pub shapes_all : (axes : List Axis) (fans : List ℕ) (n : ℕ) (s : Shapes) → length fans ≤ n → ShapesSoFar axes fans n s → HaveRunsAt axes s fans
+shapes_all axes fans n s whole h k some =
+    elim (cases_lt k (length fans)) [ inl below ↦ h.has k (omega (arith, below, whole)) some | inr past ↦ absurd (omega (arith, get_or_past fans k 0 past, some)) ]
+
+runs_found : (axes : List Axis) (s : Shapes) (fans : List ℕ) (o : Option CellBox) → BoxesAreMovedShapes → AreAxes axes → IsBox axes o → HaveRunsAt axes s fans → FanIsKnown axes fans o → IfSome o (HasRunsOf axes s)
+runs_found axes s fans None laws grid ordered has known = tt
+runs_found axes s fans (Some b) laws grid ordered has known = box_runs axes s b (laws axes b.first b.last grid ordered) (has (b.last - b.first) known.some)
+
+-- where the runs of all shapes that are counted are listed, each box has its own
+pub have_runs : (axes : List Axis) (s : Shapes) (boxes : List (Option CellBox)) (fans : List ℕ) → BoxesAreMovedShapes → AreAxes axes → All (IsBox axes) boxes → HaveRunsAt axes s fans → AreFansOf axes boxes fans → HaveRuns axes s boxes
+have_runs axes s boxes fans laws grid ordered has counted = λ k d lt. runs_found axes s fans (get_or boxes k d) laws grid (ordered k d lt) has (counted.each k d lt)
 
 -- the runs of a box end by the limit on cells
 pub box_runs_end : BoxesHaveCells → (axes : List Axis) (s : Shapes) (o : Option CellBox) (b : CellBox) → o ≡ Some b → AreAxes axes → cells_of axes ≤ 2 ^ 20 → IsBox axes o → IfSome o (HasRunsOf axes s) →
@@ -166,6 +157,28 @@ box_runs_end laws axes s o b is grid limit ordered has runs same =
     let cells = laws axes b.first b.last grid (subst (IsBox axes) is ordered) in
     let below : All (λ c. c < 2 ^ 20) (cells_between axes b.first b.last) = λ k d lt. omega (arith, cells.within k d lt, limit) in
     rw same (runs_end (2 ^ 20) b.first (runs_at s (b.last - b.first)) h.some (subst (All (λ c. c < 2 ^ 20)) h.cells below))
+
+-- ---- runs that are cut to a band
+
+module _ (from len first : ℕ) (runs : List Run) (k : ℕ) (d : Run) (below : k < length runs) (place n : ℕ) (cut : places_in from len (range_with_len (first + (get_or runs k d).start) (get_or runs k d).len) ≡ range_with_len place n) where
+  abbrev done : List ℕ
+  done = places_in from len (cells_from first (take k runs))
+
+  abbrev later : List ℕ
+  later = places_in from len (cells_from first (drop (k + 1) runs))
+
+  pub one_cut_more : places_in from len (cells_from first (take (k + 1) runs)) ≡ done ++ range_with_len place n
+  one_cut_more =
+      ap (places_in from len) (one_run_more first runs k d below)
+      ∙ places-append from len (cells_from first (take k runs)) (range_with_len (first + (get_or runs k d).start) (get_or runs k d).len)
+      ∙ ap (λ xs. done ++ xs) cut
+
+  pub cuts_split : places_in from len (cells_from first runs) ≡ (done ++ range_with_len place n) ++ later
+  cuts_split =
+      ap (λ rs. places_in from len (cells_from first rs)) (sym (take-append-drop (k + 1) runs))
+      ∙ ap (places_in from len) (cells-append first (take (k + 1) runs) (drop (k + 1) runs))
+      ∙ places-append from len (cells_from first (take (k + 1) runs)) (cells_from first (drop (k + 1) runs))
+      ∙ ap (λ xs. xs ++ later) one_cut_more
 
 -- ---- boxes whose cells all lie in a band
 

@@ -1,39 +1,63 @@
 -- The boxes of the pairs, pair by pair.
-use Rattle.std.proofs.Common.{◌≡◌, ℕ, ◌+◌, ◌*◌, ◌/◌, ◌<◌, ◌≤◌, List, Option, Some, None, length, drop, get_or, sym, ap, subst₂, ◌∙◌, arith}
-use Rattle.std.specs.Prelude.{IfSome}
+use Rattle.std.proofs.Common.{◌≡◌, ℕ, ◌+◌, ◌-◌, ◌*◌, ◌/◌, ◌%◌, ◌<◌, ◌≤◌, List, Option, None, length, min, drop, get_or, sym, ap, subst, subst₂, ◌∙◌, arith, inl, inr}
 use Rattle.std.specs.Fork.{slice_chunk}
-use Rattle.std.proofs.lemmas.List.{get_or-take, get_or-drop}
-use Rattle.std.proofs.lemmas.Nat.{div-mul-add, mul-add-lt}
-use Rattle.std.proofs.Math.Nat.{mul_comm}
+use Rattle.std.proofs.Math.Nat.{mul_comm, mul_assoc, add-mul, div-add-mod'}
+use Rattle.std.proofs.lemmas.Bool.{cases_lt}
+use Rattle.std.proofs.lemmas.List.{length-take, length-drop, get_or-take, get_or-drop}
+use Rattle.std.proofs.lemmas.Nat.{div-mul-add, mul-add-lt, mod_below, mul-le}
 use Rattle.grid_quantiser.specs.declared.boxes.CellBox.{CellBox}
-use Rattle.grid_quantiser.specs.Axes.{cells_of, AreAxes}
-use Rattle.grid_quantiser.specs.Laws.{BoxesAreMovedShapes}
+use Rattle.grid_quantiser.specs.Axes.{cells_of}
 use Rattle.plant_text.specs.plant.Description.{Description, axes_of, vectors_of}
 use Rattle.successor_box.specs.Boxes.{IsBoxOf}
 use Rattle.abstraction_table.specs.Abstraction.{pairs_of, pair_of, AreBoxesOf}
+use Rattle.abstraction_table.specs.inside.Rows.{AreBoxesFrom}
+use Rattle.abstraction_table.proofs.RowBoxes.{later_cell}
+use Rattle.abstraction_table.proofs.CellRows.{span, cell_before}
 
 -- the number of a pair is below the number of pairs
 pub pair_below : (p : Description) (c u : ℕ) → c < cells_of (axes_of p) → u < vectors_of p.inputs → pair_of p c u < pairs_of p
 pair_below p c u cell input =
     omega (arith, mul-add-lt c (vectors_of p.inputs) u (cells_of (axes_of p)) cell input, mul_comm (vectors_of p.inputs) (cells_of (axes_of p)))
 
--- the boxes of each cell, one behind another, are those of all pairs
-pub are_boxes : (p : Description) (boxes : List (Option CellBox)) → length boxes ≡ pairs_of p →
-    ((c : ℕ) → c * vectors_of p.inputs < length boxes → (u : ℕ) → u < vectors_of p.inputs → IsBoxOf p (c * vectors_of p.inputs / vectors_of p.inputs) u (get_or (slice_chunk boxes (vectors_of p.inputs) c) u None)) →
+-- boxes from the first cell on are those of all pairs
+pub all_boxes : (p : Description) (boxes : List (Option CellBox)) → length boxes ≡ pairs_of p → AreBoxesFrom p 0 boxes → AreBoxesOf p boxes
+all_boxes p boxes long found = record { one_each = long; each = λ c u cell input. let from : 0 + c ≡ c = omega arith in subst (λ (a : ℕ). IsBoxOf p a u (get_or boxes (pair_of p c u) None)) from (found c u input (omega (arith, pair_below p c u cell input, long))) }
+
+-- the boxes of so many cells, one chunk behind another, are those of all pairs
+pub are_boxes : (p : Description) (boxes : List (Option CellBox)) (m : ℕ) → 1 ≤ m → length boxes ≡ pairs_of p →
+    ((n : ℕ) → n * (m * vectors_of p.inputs) < length boxes → AreBoxesFrom p (n * (m * vectors_of p.inputs) / vectors_of p.inputs) (slice_chunk boxes (m * vectors_of p.inputs) n)) →
     AreBoxesOf p boxes
-are_boxes p boxes long by_cell = record {
+are_boxes p boxes m some long by_chunk = record {
   one_each = long;
   each = λ c u cell input.
-      let n = vectors_of p.inputs in
-      let some : 0 < n = omega (arith, input) in
-      let from : c * n + 0 ≡ c * n = omega arith in
-      let quotient : c * n / n ≡ c = ap (λ (m : ℕ). m / n) (sym from) ∙ div-mul-add c n 0 some in
-      let begins : c * n < length boxes = omega (arith, pair_below p c u cell input, long) in
-      let there : get_or (slice_chunk boxes n c) u None ≡ get_or boxes (c * n + u) None = get_or-take n (drop (c * n) boxes) u None input ∙ get_or-drop (c * n) boxes u None in
-      subst₂ (λ (a : ℕ) (b : Option CellBox). IsBoxOf p a u b) quotient there (by_cell c begins u input);
+      let v : ℕ = vectors_of p.inputs in
+      let some_input : 0 < v = omega (arith, input) in
+      let n : ℕ = c / m in
+      let k : ℕ = c % m in
+      let below : k < m = mod_below c m some in
+      let parts : n * m + k ≡ c = div-add-mod' c m in
+      let begins : n * (m * v) ≡ n * m * v = sym (mul_assoc n m v) in
+      let quotient : n * (m * v) / v ≡ n * m = ap (λ (i : ℕ). i / v) (begins ∙ (let e : n * m * v ≡ n * m * v + 0 = omega arith in e)) ∙ div-mul-add (n * m) v 0 some_input in
+      let place : n * (m * v) + (k * v + u) ≡ c * v + u = omega (arith, begins, add-mul (n * m) k v, ap (λ (i : ℕ). i * v) parts) in
+      let within : c * v + u < length boxes = omega (arith, pair_below p c u cell input, long) in
+      let short : k * v + u < m * v = omega (arith, later_cell k m v below, input) in
+      let inside : k * v + u < length (slice_chunk boxes (m * v) n) = omega (arith, length-take (m * v) (drop (n * (m * v)) boxes), length-drop (n * (m * v)) boxes, place, within, short) in
+      let there : get_or (slice_chunk boxes (m * v) n) (k * v + u) None ≡ get_or boxes (c * v + u) None =
+      get_or-take (m * v) (drop (n * (m * v)) boxes) (k * v + u) None short ∙ get_or-drop (n * (m * v)) boxes (k * v + u) None ∙ ap (λ (i : ℕ). get_or boxes i None) place
+      in
+      subst₂ (λ (a : ℕ) (b : Option CellBox). IsBoxOf p a u b) (ap (λ (i : ℕ). i + k) quotient ∙ parts) there (by_chunk n (omega (arith, place, within)) k u input inside);
 }
 
--- the first cell of a box is no greater than its last
-pub ordered_box : BoxesAreMovedShapes → (p : Description) (c u : ℕ) (o : Option CellBox) → AreAxes (axes_of p) → IsBoxOf p c u o → IfSome o (λ (b : CellBox). b.first ≤ b.last)
-ordered_box laws p c u None grid box = tt
-ordered_box laws p c u (Some b) grid box = (laws (axes_of p) b.first b.last grid box.corners.ordered).ordered
+-- a chunk is the boxes of whole cells
+pub chunk_cells : (start len m v cells : ℕ) → 0 < v → 0 < m → 0 < len → start % (m * v) ≡ 0 → len ≡ min (m * v) (cells * v - start) → start + len ≤ cells * v → (n : ℕ) × (len ≡ n * v) × (start / v + n ≤ cells)
+chunk_cells start len m v cells some_input some nonempty multiple len-is bound =
+    let first : ℕ = start / (m * v) * m in
+    let begins : start ≡ first * v = omega (arith, div-add-mod' start (m * v), multiple, mul_assoc (start / (m * v)) m v) in
+    let quotient : start / v ≡ first = ap (λ (i : ℕ). i / v) (begins ∙ (let e : first * v ≡ first * v + 0 = omega arith in e)) ∙ div-mul-add first v 0 some_input in
+    let earlier : first < cells = cell_before first cells v 0 (omega (arith, begins, bound, nonempty)) in
+    let rest : cells * v - first * v ≡ (cells - first) * v = span first cells v earlier in
+    elim (cases_lt (first + m) cells) [
+      | inl full ↦ (m, omega (arith, len-is, begins, rest, mul-le m v (cells - first) v (omega (arith, full)) (omega arith)), omega (arith, quotient, full))
+      | inr short ↦
+          (cells - first, omega (arith, len-is, begins, rest, mul-le (cells - first) v m v (omega (arith, short)) (omega arith)), omega (arith, quotient, earlier))
+    ]

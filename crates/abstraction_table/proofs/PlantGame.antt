@@ -19,6 +19,7 @@ use Rattle.successor_box.specs.Boxes.{AreSuccessors, IsBoxOf, cells_in}
 use Rattle.successor_box.specs.Laws.{BoxesHoldTheSuccessors}
 use Rattle.abstraction_table.specs.Abstraction.{IsGameOf, pairs_of, pair_of, box_at, AreBoxesOf, AreEdges}
 use Rattle.abstraction_table.specs.BoxGame.{box_game}
+use Rattle.abstraction_table.specs.inside.Fans.{AreFansOf}
 use Rattle.abstraction_table.specs.inside.Marks.{AreMarksOf}
 use Rattle.abstraction_table.specs.inside.Memory.{HoldsBoxes}
 use Rattle.abstraction_table.specs.inside.Sources.{IsBox}
@@ -102,5 +103,5 @@ module _ (p : Description) (limits : IsWithinLimits p) (boxes : List (Option Cel
           edges_bound = omega (arith, total (axes_of p) boxes, few);
         }
 
-        pub in_memory : HoldsBoxes (axes_of p) (vectors_of p.inputs) marks boxes
-        in_memory = record { graph = is_graph; ordered = ordered }
+        pub in_memory : (fans : List ℕ) → AreFansOf (axes_of p) boxes fans → HoldsBoxes (axes_of p) (vectors_of p.inputs) marks boxes fans
+        in_memory fans counted = record { graph = is_graph; ordered = ordered; counted = counted }

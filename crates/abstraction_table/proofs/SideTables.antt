@@ -1,6 +1,6 @@
 -- Tables of the sides of all boxes.
-use Rattle.std.proofs.Common.{◌≡◌, ℕ, ◌+◌, ◌*◌, ◌/◌, ◌%◌, ◌^◌, ◌<◌, ◌≤◌, ◌-◌, List, [], ◌∷◌, ◌++◌, All, None, drop, length, get_or, refl, sym, ap, subst, ◌∙◌, arith, inl, inr}
-use Rattle.std.specs.Prelude.{sum_by}
+use Rattle.std.proofs.Common.{◌≡◌, ℕ, ◌+◌, ◌*◌, ◌/◌, ◌%◌, ◌^◌, ◌<◌, ◌≤◌, ◌-◌, List, [], ◌∷◌, ◌++◌, All, None, drop, length, get_or, Bool, refl, sym, ap, ap₂, subst, ◌∙◌, arith, inl, inr}
+use Rattle.std.specs.Prelude.{sum_by, if◌then◌else◌}
 use Rattle.std.proofs.lemmas.Bool.{cases_lt, cond_both}
 use Rattle.std.proofs.lemmas.List.{length-map, get_or_append_left, get_or-append_right}
 use Rattle.std.proofs.lemmas.List.Elements.{All-get_or, All-head, All-tail}
@@ -17,7 +17,8 @@ use Rattle.abstraction_table.specs.declared.digits.Digit.{Digit}
 use Rattle.abstraction_table.specs.declared.sides.SideTable.{SideTable}
 use Rattle.abstraction_table.specs.Abstraction.{pairs_of, pair_of}
 use Rattle.abstraction_table.specs.inside.Digits.{place_at, pair_at, IsDigitOf, AreDigitsFrom}
-use Rattle.abstraction_table.specs.inside.Sides.{ArePlacesOf, first_in, first_of, side_in, HasPlaceFor, HoldsSidesAlong, IsSideFor}
+use Rattle.abstraction_table.specs.inside.Sides.{ArePlacesOf, first_in, first_of, side_in, HasPlaceFor, BringAs, HoldsSidesAlong, IsSideFor}
+use Rattle.abstraction_table.proofs.PairDigits.{state_place}
 use Rattle.abstraction_table.proofs.EquationDigits.{place_below, few_places, cell_below, alike, place_is}
 
 -- one table more
@@ -82,3 +83,14 @@ first_is p t c places each are = same_sums t.digits.items each
     same_sums (d ∷ ds) each =
         let here : get_or places d.variable 0 * d.in_table ≡ place_in p c 0 d.variable * d.in_table = ap (λ (n : ℕ). n * d.in_table) (are d.variable (All-head (IsDigitOf p) d ds each).variable) in
         omega (arith, sum_by-cons (λ (d : Digit). get_or places d.variable 0 * d.in_table) d ds, sum_by-cons (λ (d : Digit). place_in p c 0 d.variable * d.in_table) d ds, here, same_sums ds (All-tail (IsDigitOf p) d ds each))
+
+-- a cell's places bring to each table what the cell does
+pub brings : (p : Description) → IsSound p → (i : ℕ) (t : SideTable) (c : ℕ) (places : List ℕ) → i < length p.equations → HoldsSidesAlong p i t → c < cells_of (axes_of p) → ArePlacesOf p c places → BringAs p i t places c
+brings p sound i t c places lt held cell are =
+    let state : i < length p.states = omega (arith, lt, sound.one_each) in
+    let here : get_or places i 0 ≡ place_along (axes_of p) i c = are i (omega (arith, state)) ∙ sym (state_place p c 0 i state) in
+    record {
+      cell = cell;
+      first = first_is p t c places held.digits are;
+      moves = ap₂ (λ (b : Bool) (n : ℕ). if b then n else 0) held.moves here;
+    }

@@ -9,10 +9,11 @@ use Rattle.grid_quantiser.specs.declared.axis.Axis.{Axis}
 use Rattle.grid_quantiser.specs.declared.boxes.CellBox.{CellBox}
 use Rattle.grid_quantiser.specs.Axes.{cells_of, AreAxes}
 use Rattle.grid_quantiser.specs.Laws.{AreRisingCells, BoxesHaveCells}
+use Rattle.game_core.specs.Counts.{times}
 use Rattle.edge_rows.specs.Rows.{Filling, row_at}
 use Rattle.successor_box.specs.Boxes.{cells_in}
 use Rattle.abstraction_table.specs.inside.Sources.{IsBox, sources_among}
-use Rattle.abstraction_table.specs.inside.Tallies.{times, AreCounted, ArePut, HasRoomFor, places_in, edges_of, AreCountsAmong}
+use Rattle.abstraction_table.specs.inside.Tallies.{AreCounted, CountsFit, ArePut, HasRoomFor, places_in, edges_of, AreCountsAmong}
 use Rattle.abstraction_table.proofs.BandPlaces.{places-times, places-length}
 use Rattle.abstraction_table.proofs.LeadingPairs.{sources_more, count_more, count_rises}
 
@@ -55,9 +56,9 @@ module _ (laws : BoxesHaveCells) (axes : List Axis) (boxes : List (Option CellBo
     abbrev places : List ℕ
     places = places_in from len cells
 
-    pub count_room : (counts : List ℕ) → CountsSoFar axes boxes from len k counts → edges_of axes boxes ≤ 2 ^ 25 → (i : ℕ) → get_or counts i 0 + times i places < 2 ^ 32
-    count_room counts h few i =
-        omega (arith, count_within counts i, h.total, count_by-le-length (λ x. i == x) places, places-length from len cells, sum_by_more_le (λ b. length (cells_in axes b)) boxes k None below, few)
+    pub count_room : (counts : List ℕ) → CountsSoFar axes boxes from len k counts → edges_of axes boxes ≤ 2 ^ 25 → CountsFit counts places
+    count_room counts h few = λ i.
+        omega (arith, count_within counts i, h.total, count_by-le-length (λ x. x == i) places, places-length from len cells, sum_by_more_le (λ b. length (cells_in axes b)) boxes k None below, few)
 
     pub counts_more : (counts after : List ℕ) → CountsSoFar axes boxes from len k counts → AreCounted counts after places → CountsSoFar axes boxes from len (k + 1) after
     counts_more counts after h more = record {

@@ -1,36 +1,33 @@
 -- One more cell, or some more, that is counted or that a pair is put at.
-use Rattle.std.proofs.Common.{◌≡◌, ◌≢◌, ℕ, zero, suc, ◌+◌, ◌-◌, ◌^◌, ◌<◌, ◌≤◌, Bool, true, false, ◌==◌, cond, List, [], ◌∷◌, ◌++◌, All, length, map, replicate, take, drop, get_or, set, refl, sym, ap, subst, ◌∙◌, arith, append_assoc, append-nil}
+use Rattle.std.proofs.Common.{◌≡◌, ◌≢◌, ℕ, zero, suc, ◌+◌, ◌-◌, ◌<◌, ◌≤◌, Bool, ◌==◌, cond, List, [], ◌∷◌, ◌++◌, All, length, map, replicate, take, drop, get_or, set, refl, sym, ap, subst, subst₂, ◌∙◌, arith, inl, inr, append_assoc, append-nil}
 use Rattle.std.specs.List.{range_with_len}
-use Rattle.std.proofs.lemmas.Bool.{false_from_ne_true, false≢true}
-use Rattle.std.proofs.lemmas.Bool.Decides.{Decides-eqb}
-use Rattle.std.proofs.lemmas.List.{drop_more, drop-set-lt, take_more_set, length-append, length-replicate, length-set, length-take, length-drop, get_or_default, get_or-take, get_or-drop, get_or-set_same, get_or-set_other, replicate-append-replicate}
+use Rattle.std.proofs.lemmas.Bool.{cases_eq, eq-eqb, ne_eqb}
+use Rattle.std.proofs.lemmas.List.{drop_more, drop-set-lt, take-append-drop, take_more_set, length-append, length-replicate, length-set, length-take, length-take-le, length-drop, get_or_default, get_or-append_right, get_or-take, get_or-drop, get_or-set_same, get_or-set_other, replicate-append-replicate, set-append_right}
+use Rattle.std.proofs.lemmas.List.Edits.{map_over_more}
 use Rattle.std.proofs.lemmas.List.Elements.{All-tail}
 use Rattle.std.proofs.lemmas.List.FromFn.{length-range_with_len, get_or-range_with_len}
 use Rattle.std.proofs.lemmas.List.Sums.{sum_by-append, sum_by_push, sum_by-set}
 use Rattle.rayon.proofs.ListFacts.{All-parts}
+use Rattle.rayon.specs.Shown.{run-append}
+use Rattle.game_core.specs.Counts.{times}
 use Rattle.grid_quantiser.specs.Runs.{BeginsWithRun}
 use Rattle.edge_rows.specs.Rows.{Filling, row_at, appended, changed_run, appended_run, HaveRoom}
-use Rattle.edge_rows.proofs.RunsLaid.{run_none, run_more}
-use Rattle.abstraction_table.specs.inside.Tallies.{times, AreCounted, ArePut, HasRoomFor}
+use Rattle.abstraction_table.specs.inside.Tallies.{AreCounted, CountsFit, ArePut, HasRoomFor}
 
 -- a number is a cell or another
 pub by_cell : {P : Type 0} (c x : ℕ) → (c ≡ x → P) → (c ≢ x → P) → P
-by_cell {P} c x same other = decide (c == x) refl
-  where
-    decide : (b : Bool) → (c == x) ≡ b → P
-    decide true e = same ((Decides-eqb c x).0 e)
-    decide false e = other (λ is. false≢true (sym e ∙ (Decides-eqb c x).1 is))
+by_cell c x same other = elim (cases_eq c x) [ inl is ↦ same is | inr apart ↦ other apart ]
 
 pub times-append : (c : ℕ) (xs ys : List ℕ) → times c (xs ++ ys) ≡ times c xs + times c ys
-times-append c xs ys = sum_by-append (λ x. cond (c == x) 1 0) xs ys
+times-append c xs ys = sum_by-append (λ x. cond (x == c) 1 0) xs ys
 
 times_same : (c x : ℕ) (xs : List ℕ) → c ≡ x → times c (xs ++ x ∷ []) ≡ times c xs + 1
-times_same c x xs same = sum_by_push (λ y. cond (c == y) 1 0) xs x ∙ ap (λ (b : Bool). times c xs + cond b 1 0) ((Decides-eqb c x).1 same)
+times_same c x xs same = sum_by_push (λ y. cond (y == c) 1 0) xs x ∙ ap (λ (b : Bool). times c xs + cond b 1 0) (eq-eqb x c (sym same))
 
 times_other : (c x : ℕ) (xs : List ℕ) → c ≢ x → times c (xs ++ x ∷ []) ≡ times c xs
 times_other c x xs other =
-    sum_by_push (λ y. cond (c == y) 1 0) xs x
-    ∙ ap (λ (b : Bool). times c xs + cond b 1 0) (false_from_ne_true (c == x) (λ e. other ((Decides-eqb c x).0 e)))
+    sum_by_push (λ y. cond (y == c) 1 0) xs x
+    ∙ ap (λ (b : Bool). times c xs + cond b 1 0) (ne_eqb x c (λ same. other (sym same)))
     ∙ (let e : times c xs + 0 ≡ times c xs = omega arith in e)
 
 -- a cell that comes later is counted once more
@@ -39,19 +36,17 @@ times_later x done later =
     let e : done ++ x ∷ later ≡ (done ++ x ∷ []) ++ later = sym (append_assoc done (x ∷ []) later) in
     rw e (omega (arith, times-append x (done ++ x ∷ []) later, times_same x x done refl))
 
--- ranges
-pub range-append : (a m n : ℕ) → range_with_len a (m + n) ≡ range_with_len a m ++ range_with_len (a + m) n
-range-append a zero n = ap (range_with_len a) (let e : 0 + n ≡ n = omega arith in e) ∙ ap (λ (x : ℕ). range_with_len x n) (let e : a ≡ a + 0 = omega arith in e)
-range-append a (suc m) n =
-    ap (range_with_len a) (let e : suc m + n ≡ suc (m + n) = omega arith in e)
-    ∙ ap (λ (xs : List ℕ). a ∷ xs) (range-append (a + 1) m n)
-    ∙ ap (λ (x : ℕ). (a ∷ range_with_len (a + 1) m) ++ range_with_len x n) (let e : a + 1 + m ≡ a + suc m = omega arith in e)
+-- ---- ranges
+
+-- one number more
+range_longer : (a n : ℕ) → range_with_len a n ++ (a + n) ∷ [] ≡ range_with_len a (suc n)
+range_longer a n = run-append a n 1 ∙ ap (range_with_len a) (let e : n + 1 ≡ suc n = omega arith in e)
 
 -- the cells before one, it, and those behind it
 range_split : (a m i : ℕ) → a ≤ i → i < a + m → range_with_len a m ≡ range_with_len a (i - a) ++ i ∷ range_with_len (i + 1) (a + m - (i + 1))
 range_split a m i low high =
     ap (range_with_len a) (let e : m ≡ i - a + suc (a + m - (i + 1)) = omega arith in e)
-    ∙ range-append a (i - a) (suc (a + m - (i + 1)))
+    ∙ sym (run-append a (i - a) (suc (a + m - (i + 1))))
     ∙ ap (λ (x : ℕ). range_with_len a (i - a) ++ x ∷ range_with_len (x + 1) (a + m - (i + 1))) (let e : a + (i - a) ≡ i = omega arith in e)
 
 -- ---- counts
@@ -75,13 +70,10 @@ counted_more before counts after cells more h g = record {
   total = omega (arith, g.total, h.total, length-append cells more);
 }
 
-pub run_fits : (before counts done run later : List ℕ) → AreCounted before counts done → ((c : ℕ) → get_or before c 0 + times c ((done ++ run) ++ later) < 2 ^ 32) → (c : ℕ) → get_or counts c 0 + times c run < 2 ^ 32
-run_fits before counts done run later h room c = omega (arith, h.each c, room c, times-append c (done ++ run) later, times-append c done run)
+pub run_fits : (before counts done run later : List ℕ) → AreCounted before counts done → CountsFit before ((done ++ run) ++ later) → CountsFit counts run
+run_fits before counts done run later h room = λ c. omega (arith, h.each c, room c, times-append c (done ++ run) later, times-append c done run)
 
 -- ---- rows
-
-pub put_none : (pair : ℕ) (f : Filling) → ArePut pair f f []
-put_none pair f = record { long = refl; lengths = refl; each = λ c within. sym (append-nil (row_at f.rows c)) }
 
 pub put_one : (pair : ℕ) (before now after : Filling) (cells : List ℕ) (x : ℕ) → ArePut pair before now cells → x < length before.rows →
     after.rows ≡ appended now.rows x pair → after.lengths ≡ now.lengths → ArePut pair before after (cells ++ x ∷ [])
@@ -122,15 +114,30 @@ room_left pair before now done run later h room = λ c below.
 
 -- ---- runs
 
+-- one item more is changed, the next behind the run
+changed_longer : {X : Type 0} (change : X → X) (xs : List X) (r n : ℕ) (x : X) → r + n < length xs → x ≡ get_or (changed_run change xs r n) (r + n) x → set (changed_run change xs r n) (r + n) (change x) ≡ changed_run change xs r (suc n)
+changed_longer {X} change xs r n x below is =
+    let front : List X = take r xs in
+    let back : List X = drop r xs in
+    let now : List X = map change (take n back) ++ drop n back in
+    let long : length front ≡ r = length-take-le r xs (omega (arith, below)) in
+    let at : r + n - r ≡ n = omega arith in
+    let next : n + 1 ≡ suc n = omega arith in
+    let here : x ≡ get_or now n x = is ∙ get_or-append_right front now r (r + n) x long (omega arith) ∙ ap (λ (i : ℕ). get_or now i x) at in
+    set-append_right front now r (r + n) (change x) long (omega arith)
+    ∙ ap (λ (i : ℕ). front ++ set now i (change x)) at
+    ∙ ap (λ (ys : List X). front ++ ys) (map_over_more change back now n x (omega (arith, below, length-drop r xs)) refl here)
+    ∙ ap (changed_run change xs r) next
+
 -- one is added to each count of a run
 pub counted_run : (counts : List ℕ) (r n : ℕ) → r + n ≤ length counts → AreCounted counts (changed_run (λ count. count + 1) counts r n) (range_with_len r n)
-counted_run counts r zero within = subst (λ after. AreCounted counts after []) (sym (run_none (λ count. count + 1) counts r)) (counted_none counts)
+counted_run counts r zero within = subst (λ after. AreCounted counts after []) (sym (take-append-drop r counts)) (counted_none counts)
 counted_run counts r (suc n) within =
-    let at : r < length counts = omega (arith, within) in
-    let one : List ℕ = set counts r (get_or counts r 0 + 1) in
-    let long : r + 1 + n ≤ length one = omega (arith, within, length-set counts r (get_or counts r 0 + 1)) in
-    subst (λ after. AreCounted counts after (range_with_len r (suc n))) (sym (run_more (λ count. count + 1) 0 counts r n at))
-    (counted_more counts one (changed_run (λ count. count + 1) one (r + 1) n) (r ∷ []) (range_with_len (r + 1) n) (counted_one counts counts [] r (counted_none counts) at) (counted_run one (r + 1) n long))
+    let now : List ℕ = changed_run (λ count. count + 1) counts r n in
+    let so_far = counted_run counts r n (omega (arith, within)) in
+    let here : r + n < length now = omega (arith, within, so_far.long) in
+    let longer = changed_longer (λ count. count + 1) counts r n (get_or now (r + n) 0) (omega (arith, within)) (get_or_default now (r + n) 0 (get_or now (r + n) 0) here) in
+    subst₂ (AreCounted counts) longer (range_longer r n) (counted_one counts now (range_with_len r n) (r + n) so_far here)
 
 -- one is added to the next count
 pub one_added : (before items : List ℕ) (i : ℕ) → i < length items → map (λ count. count + 1) before ≡ take i items ++ map (λ count. count + 1) (drop i items) →
@@ -165,14 +172,14 @@ run_counts_fit bound counts r n k same within room = λ i d lt.
 -- a pair is put in each row of a run
 pub put_run : (pair : ℕ) (before after : Filling) (r n : ℕ) → r + n ≤ length before.rows → after.rows ≡ appended_run before.rows r n pair → after.lengths ≡ before.lengths → ArePut pair before after (range_with_len r n)
 put_run pair before after r zero within rows lengths =
-    let same = rows ∙ run_none (λ row. row ++ pair ∷ []) before.rows r in
+    let same = rows ∙ take-append-drop r before.rows in
     record { long = ap length same; lengths = lengths; each = λ c below. ap (λ (rs : List (List ℕ)). row_at rs c) same ∙ sym (append-nil (row_at before.rows c)) }
 put_run pair before after r (suc n) within rows lengths =
-    let at : r < length before.rows = omega (arith, within) in
-    let one : Filling = record { rows = appended before.rows r pair; lengths = before.lengths } in
-    let long : r + 1 + n ≤ length one.rows = omega (arith, within, length-set before.rows r (row_at before.rows r ++ pair ∷ [])) in
-    put_more pair before one after (r ∷ []) (range_with_len (r + 1) n) (put_one pair before before one [] r (put_none pair before) at refl refl)
-    (put_run pair one after (r + 1) n long (rows ∙ run_more (λ row. row ++ pair ∷ []) [] before.rows r n at) lengths)
+    let now : Filling = record { rows = appended_run before.rows r n pair; lengths = before.lengths } in
+    let so_far = put_run pair before now r n (omega (arith, within)) refl refl in
+    let row : List ℕ = row_at now.rows (r + n) in
+    let longer = changed_longer (λ row. row ++ pair ∷ []) before.rows r n row (omega (arith, within)) (get_or_default now.rows (r + n) [] row (omega (arith, within, so_far.long))) in
+    subst (ArePut pair before after) (range_longer r n) (put_one pair before now after (range_with_len r n) (r + n) so_far (omega (arith, within)) (rows ∙ sym longer) lengths)
 
 -- the rows of a run have room
 pub run_has_room : (f : Filling) (r n : ℕ) → r + n ≤ length f.rows → HasRoomFor f (range_with_len r n) → HaveRoom f r n

@@ -1,9 +1,11 @@
 -- What only private clauses and proofs name.
 pub mod Digits
+pub mod Fans
 pub mod Marks
 pub mod Memory
 pub mod Packed
 pub mod Props
+pub mod Rows
 pub mod Shapes
 pub mod Sides
 pub mod Sources

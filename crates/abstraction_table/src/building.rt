@@ -7,7 +7,7 @@ ghost use Rattle.abstraction_table.specs.Table.{game_of, boxes_of, game_ahead, b
 
 use crate::abstraction::Abstraction;
 use crate::boxes::find_boxes;
-use crate::edges::count_edges;
+use crate::fans::find_fans;
 use crate::fault::BuildFault;
 use crate::marks::find_marks;
 use crate::outlook::Outlook;
@@ -23,8 +23,8 @@ use successor_box::laws::boxes_hold_the_successors;
 /// The most edges of an abstraction.
 const EDGES_LIMIT: u64 = 1 << 25;
 
-/// The game of a plant as it is seen ahead, by several threads. The number of edges is known before
-/// any edge is kept.
+/// The game of a plant as it is seen ahead. The number of edges is known before any edge is kept.
+/// What can be done side by side is handed to `rayon`.
 pub fn survey<R: Threads + Sync>(
     rt: &R,
     alloc: Global,
@@ -44,7 +44,8 @@ pub fn survey<R: Threads + Sync>(
     let grid = *p.grid();
     every_grid_is_within_the_limit(&grid);
     let boxes = find_boxes(rt, alloc, p, s)?;
-    let edges = count_edges(rt, &grid, &boxes);
+    let fans = find_fans(alloc, &grid, &boxes)?;
+    let edges = fans.edges;
     if edges > EDGES_LIMIT {
         return Err(BuildFault::TooManyEdges { edges });
     }
@@ -54,10 +55,11 @@ pub fn survey<R: Threads + Sync>(
         inputs: p.vectors(),
         marks,
         boxes,
+        fans,
     })
 }
 
-/// The abstraction of a plant, by several threads.
+/// The abstraction of a plant. What can be done side by side is handed to `rayon`.
 pub fn build<R: Threads + Sync>(
     rt: &R,
     alloc: Global,
@@ -71,6 +73,6 @@ pub fn build<R: Threads + Sync>(
     ensures fault { IfErr result (IsFaultOf p.now) }
 {
     let ahead = survey(rt, alloc, p, s)?;
-    let sources = find_sources(rt, alloc, &ahead.grid, &ahead.boxes)?;
+    let sources = find_sources(rt, alloc, &ahead.grid, &ahead.boxes, &ahead.fans)?;
     Ok(Abstraction { ahead, sources })
 }

@@ -2,7 +2,7 @@
 ghost use Rattle.std.specs.Prelude.{◌≡◌, ◌+◌, ◌^◌, ◌<◌, length, slice_index, IfOk};
 ghost use Rattle.std.specs.List.{All};
 ghost use Rattle.successor_box.specs.Sides.{rests_on};
-ghost use Rattle.abstraction_table.specs.inside.Digits.{AreDigitsFrom, IsDigitOf, counts_of, pair_at, place_at};
+ghost use Rattle.abstraction_table.specs.inside.Digits.{AreDigitsFrom, counts_of, place_at};
 
 use plant_text::Plant;
 use plant_text::laws::{every_plant_is_within_limits, plants_are_sound};
@@ -88,17 +88,4 @@ pub(crate) fn place_of(digits: &[Digit], pair: u32) -> u32
         place += pair / d.in_pair % d.count * d.in_table;
     }
     place
-}
-
-/// The pair with the digits of a place, and 0 in the other variables.
-pub(crate) fn pair_of(digits: &[Digit], place: u32) -> u32
-    requires counted { All (λ d. (0 < d.count) × (0 < d.in_table)) digits.now }
-    requires fits { pair_at digits.now place < 2 ^ 32 }
-    ensures { result ≡ pair_at digits.now place }
-{
-    let mut pair = 0;
-    for d in digits {
-        pair += place / d.in_table % d.count * d.in_pair;
-    }
-    pair
 }

@@ -1,12 +1,12 @@
 //! The pairs that lead to each cell of a band.
-ghost use Rattle.std.specs.Prelude.{◌≡◌, ◌+◌, ◌^◌, ◌<◌, ◌≤◌, ℕ, map, length, slice_index, sum, IfOk, IfSome};
+ghost use Rattle.std.specs.Prelude.{◌≡◌, ◌+◌, ◌^◌, ◌<◌, ◌≤◌, map, length, sum, IfOk, IfSome};
 ghost use Rattle.std.specs.List.{All, range_with_len};
 ghost use Rattle.grid_quantiser.specs.Axes.{cells_of};
 ghost use Rattle.edge_rows.specs.Rows.{unfilled};
 ghost use Rattle.successor_box.specs.Boxes.{cells_in};
 ghost use Rattle.abstraction_table.specs.inside.Shapes.{cells_from, EndsBy, HasRunsOf, HaveRuns};
 ghost use Rattle.abstraction_table.specs.inside.Sources.{IsBox, AreBandRows};
-ghost use Rattle.abstraction_table.specs.inside.Tallies.{times, places_in, AreCounted, ArePut, HasRoomFor, edges_of, AreCountsAmong};
+ghost use Rattle.abstraction_table.specs.inside.Tallies.{places_in, AreCounted, CountsFit, ArePut, HasRoomFor, edges_of, AreCountsAmong};
 
 use crate::band::Band;
 use crate::pair_box::PairBox;
@@ -92,7 +92,7 @@ fn count_box(grid: &Grid, shapes: &Shapes, b: Option<CellBox>, band: Band, count
     requires runs { IfSome b (HasRunsOf grid.now shapes.now) }
     requires within { band.from + band.len ≤ cells_of grid.now }
     requires one_each { length counts.old ≡ band.len }
-    requires room { (i : ℕ) → slice_index counts.old i + times i (places_in band.from band.len (cells_in grid.now b)) < 2 ^ 32 }
+    requires room { CountsFit counts.old (places_in band.from band.len (cells_in grid.now b)) }
     ensures { AreCounted counts.old counts.new (places_in band.from band.len (cells_in grid.now b)) }
 {
     cells_of_a_box();
@@ -143,7 +143,7 @@ fn put_box(
 fn count_inside(first: u32, runs: &[Run], counts: &mut [u32])
     requires within { All (EndsBy (length counts.old) first) runs.now }
     requires few { length counts.old < 2 ^ 32 }
-    requires room { (i : ℕ) → slice_index counts.old i + times i (cells_from first runs.now) < 2 ^ 32 }
+    requires room { CountsFit counts.old (cells_from first runs.now) }
     ensures { AreCounted counts.old counts.new (cells_from first runs.now) }
 {
     for run in runs {
@@ -170,7 +170,7 @@ fn count_runs(first: u32, runs: &[Run], band: Band, counts: &mut [u32])
     requires within { All (EndsBy (2 ^ 20) first) runs.now }
     requires limit { band.from + band.len ≤ 2 ^ 20 }
     requires one_each { length counts.old ≡ band.len }
-    requires room { (i : ℕ) → slice_index counts.old i + times i (places_in band.from band.len (cells_from first runs.now)) < 2 ^ 32 }
+    requires room { CountsFit counts.old (places_in band.from band.len (cells_from first runs.now)) }
     ensures { AreCounted counts.old counts.new (places_in band.from band.len (cells_from first runs.now)) }
 {
     for run in runs {
@@ -198,7 +198,7 @@ fn put_runs(first: u32, runs: &[Run], band: Band, pair: u32, fill: &mut RowFill)
 #[inline]
 fn count_run(first: u32, len: u32, counts: &mut [u32])
     requires within { first + len ≤ length counts.old }
-    requires room { (i : ℕ) → slice_index counts.old i + times i (range_with_len first len) < 2 ^ 32 }
+    requires room { CountsFit counts.old (range_with_len first len) }
     ensures { AreCounted counts.old counts.new (range_with_len first len) }
 {
     let from = first as usize;

@@ -1,24 +1,26 @@
 //! The abstraction of a plant: its game in memory.
 //!
-//! The layer above hands in a plant with its deviations, and gets the plant's game, made by
-//! several threads, or the exact number of its edges where these are too many. What `survey` gives
-//! is the game as it is seen ahead, a `Forward`: it keeps a box of cells for each pair, whose cells
-//! are the pair's successors. What `build` gives is a `Graph`, which keeps for each cell the pairs
-//! that lead to it as well. Stands on `successor_box`, `game_core`, `edge_rows` and the crates below.
+//! The layer above hands in a plant with its deviations, and gets the plant's game, or the exact
+//! number of its edges where these are too many. What `survey` gives is the game as it is seen
+//! ahead, a `Forward`: it keeps a box of cells for each pair, whose cells are the pair's successors.
+//! What `build` gives is a `Graph`, which keeps for each cell the pairs that lead to it as well.
+//! Stands on `successor_box`, `game_core`, `edge_rows` and the crates below.
 #![tactic(auto)]
 
 mod abstraction;
 mod band;
+mod blocks;
 mod boxes;
 mod building;
 mod digits;
-mod edges;
+mod fans;
 mod fault;
 mod filling;
 pub mod laws;
 mod marks;
 mod outlook;
 mod pair_box;
+mod rows;
 mod shapes;
 mod sides;
 mod sources;

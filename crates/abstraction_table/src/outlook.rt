@@ -1,6 +1,7 @@
 ghost use Rattle.abstraction_table.specs.inside.Memory.{HoldsBoxes};
 ghost use Rattle.abstraction_table.specs.inside.Props.{box_props};
 
+use crate::fans::Fans;
 use crate::pair_box::PairBox;
 use game_core::{Forward, Mark};
 use grid_quantiser::{CellBox, Grid};
@@ -13,7 +14,8 @@ pub struct Outlook {
     pub(crate) inputs: u32,
     pub(crate) marks: Vec<Mark>,
     pub(crate) boxes: Vec<PairBox>,
-    ghost in_memory: { HoldsBoxes grid inputs marks.items boxes.items } by { Prim.hlevel box_props },
+    pub(crate) fans: Fans,
+    ghost in_memory: { HoldsBoxes grid inputs marks.items boxes.items fans.counts.items } by { Prim.hlevel box_props },
 }
 
 impl Outlook {
@@ -49,10 +51,7 @@ impl Forward for Outlook {
     }
 
     fn fan(&self, pair: u32) -> u32 {
-        match self.boxes(pair) {
-            Some(b) => self.grid.box_count(b) as u32,
-            None => 0,
-        }
+        self.fans.of(self.boxes(pair))
     }
 
     fn successor(&self, pair: u32, at: u32) -> u32 {

@@ -1,7 +1,9 @@
 //! The box of a pair as it is kept: two numbers, of which the first is the greater where there is no box.
-ghost use Rattle.std.specs.Prelude.{◌≡◌, ◌≤◌, IfSome};
+ghost use Rattle.std.specs.Prelude.{◌≡◌, ◌^◌, ◌<◌, ◌≤◌, IfSome};
+ghost use Rattle.grid_quantiser.specs.declared.axis.Axis.{Axis};
+ghost use Rattle.grid_quantiser.specs.SideBoxes.{with_side};
 
-use grid_quantiser::CellBox;
+use grid_quantiser::{CellBox, Side};
 use std::marker::Model;
 
 /// The box of a pair, or none, in 8 bytes.
@@ -55,5 +57,23 @@ impl PairBox {
             first: self.first,
             last: self.last,
         })
+    }
+
+    /// The box with a side along one more axis, of so many places: none where the side is missing.
+    #[inline]
+    pub(crate) fn with_side(self, count: u32, side: Option<Side>) -> PairBox
+        requires { (a : Axis) × (a.count ≡ count) × IfSome (with_side a self side) (λ b. (b.first ≤ b.last) × (b.last < 2 ^ 32)) }
+        ensures { (a : Axis) → a.count ≡ count → result ≡ with_side a self side }
+    {
+        let Some(b) = self.get() else {
+            return self;
+        };
+        let Some(side) = side else {
+            return PairBox::new(None);
+        };
+        PairBox::new(Some(CellBox {
+            first: b.first * count + side.first,
+            last: b.last * count + side.last,
+        }))
     }
 }

@@ -1,16 +1,12 @@
 //! The runs of the cells of boxes, listed once for all boxes of one shape.
-ghost use Rattle.std.specs.Prelude.{◌≡◌, ◌+◌, ◌-◌, ◌^◌, ◌≤◌, length, IfOk, IfSome};
-ghost use Rattle.std.specs.List.{All};
+ghost use Rattle.std.specs.Prelude.{◌≡◌, ◌+◌, ◌-◌, ◌^◌, ◌<◌, ◌≤◌, length, sum, IfOk};
 ghost use Rattle.grid_quantiser.specs.Axes.{cells_of};
-ghost use Rattle.successor_box.specs.Boxes.{cells_in};
-ghost use Rattle.abstraction_table.specs.inside.Shapes.{IsListed, runs_at, HasRunsAt, HaveRuns, ListsRuns, AreSound, KeepsRuns};
-ghost use Rattle.abstraction_table.specs.inside.Sources.{IsBox};
-ghost use Rattle.abstraction_table.specs.inside.Tallies.{edges_of};
+ghost use Rattle.grid_quantiser.specs.Boxes.{IsCellBox, cells_between};
+ghost use Rattle.abstraction_table.specs.inside.Fans.{AreShapes};
+ghost use Rattle.abstraction_table.specs.inside.Shapes.{IsListed, runs_at, HasRunsAt, HaveRunsAt, ListsRuns, KeepsRuns};
 
-use crate::pair_box::PairBox;
-use grid_quantiser::laws::{
-    boxes_are_moved_shapes, cells_of_a_box, every_grid_is_within_the_limit,
-};
+use crate::fans::Fans;
+use grid_quantiser::laws::every_grid_is_within_the_limit;
 use grid_quantiser::{CellBox, Grid, Runs};
 use std::alloc::{AllocError, Global};
 
@@ -53,54 +49,44 @@ impl Shapes {
         &self.runs[span.from as usize..span.to as usize]
     }
 
-    /// Lists the runs of a box, where those of its shape aren't listed yet.
-    fn list(&mut self, grid: &Grid, b: Option<CellBox>) -> Result<(), AllocError>
-        requires ordered { IsBox grid.now b }
-        requires distances { length self.old.spans.items ≡ cells_of grid.now }
-        requires sound { AreSound grid.now self.old }
-        requires few { length self.old.runs.items + length (cells_in grid.now b) ≤ 2 ^ 25 }
+    /// Lists the runs of the shape of a distance.
+    fn list(&mut self, grid: &Grid, distance: u32) -> Result<(), AllocError>
+        requires shape { IsCellBox grid.now 0 distance }
+        requires within { distance < length self.old.spans.items }
+        requires few { length self.old.runs.items + length (cells_between grid.now 0 distance) ≤ 2 ^ 25 }
         ensures distances { length self.new.spans.items ≡ length self.old.spans.items }
         ensures kept { IfOk result (λ _. KeepsRuns grid.now self.old self.new) }
-        ensures listed { IfOk result (λ _. IfSome b (λ b. HasRunsAt grid.now self.new (b.last - b.first))) }
-        ensures few { IfOk result (λ _. length self.new.runs.items ≤ length self.old.runs.items + length (cells_in grid.now b)) }
+        ensures listed { IfOk result (λ _. HasRunsAt grid.now self.new distance) }
+        ensures few { IfOk result (λ _. length self.new.runs.items ≤ length self.old.runs.items + length (cells_between grid.now 0 distance)) }
     {
-        every_grid_is_within_the_limit(grid);
-        boxes_are_moved_shapes();
-        cells_of_a_box();
-        let Some(b) = b else {
-            return Ok(());
+        let shape = CellBox {
+            first: 0,
+            last: distance,
         };
-        let last = b.last - b.first;
-        let span = self.spans[last as usize];
-        if span.from < span.to {
-            return Ok(());
-        }
         let from = self.runs.len() as u32;
-        list_runs(grid.runs(CellBox { first: 0, last }), &mut self.runs)?;
+        list_runs(grid.runs(shape), &mut self.runs)?;
         let to = self.runs.len() as u32;
-        self.spans[last as usize] = Span { from, to };
+        self.spans[distance as usize] = Span { from, to };
         Ok(())
     }
 }
 
-/// The runs of the shapes that boxes have.
-pub(crate) fn find_shapes(
-    alloc: Global,
-    grid: &Grid,
-    boxes: &[PairBox],
-) -> Result<Shapes, AllocError>
-    requires ordered { All (IsBox grid.now) boxes.now }
-    requires edges { edges_of grid.now boxes.now ≤ 2 ^ 25 }
-    ensures { IfOk result (λ shapes. HaveRuns grid.now shapes boxes.now) }
+/// The runs of the shapes whose cells are counted.
+pub(crate) fn find_shapes(alloc: Global, grid: &Grid, fans: &Fans) -> Result<Shapes, AllocError>
+    requires distances { length fans.now.counts.items ≡ cells_of grid.now }
+    requires shapes { AreShapes grid.now fans.now.counts.items }
+    requires few { sum fans.now.counts.items ≤ 2 ^ 25 }
+    ensures { IfOk result (λ shapes. HaveRunsAt grid.now shapes fans.now.counts.items) }
 {
     every_grid_is_within_the_limit(grid);
-    boxes_are_moved_shapes();
     let mut shapes = Shapes {
         spans: vec![in alloc; NO_SPAN; grid.cells() as usize]?,
         runs: Vec::new(alloc),
     };
-    for b in boxes {
-        shapes.list(grid, b.get())?;
+    for distance in 0..grid.cells() {
+        if fans.counts[distance as usize] > 0 {
+            shapes.list(grid, distance)?;
+        }
     }
     Ok(shapes)
 }

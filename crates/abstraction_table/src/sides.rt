@@ -1,21 +1,22 @@
 //! The sides of all boxes, state by state.
-ghost use Rattle.std.specs.Prelude.{◌≡◌, ℕ, ◌+◌, ◌*◌, ◌/◌, ◌%◌, ◌^◌, ◌≤◌, ◌<◌, length, slice_index_or, None, if◌then◌else◌, IfOk};
+ghost use Rattle.std.specs.Prelude.{◌≡◌, ℕ, ◌+◌, ◌*◌, ◌/◌, ◌^◌, ◌<◌, length, slice_index_or, None, if◌then◌else◌, IsTrue, IfOk};
 ghost use Rattle.std.specs.List.{All};
-ghost use Rattle.grid_quantiser.specs.Axes.{cells_of};
-ghost use Rattle.plant_text.specs.plant.Description.{axes_of, vectors_of};
+ghost use Rattle.plant_text.specs.plant.Description.{vectors_of};
 ghost use Rattle.successor_box.specs.Deviations.{HasNoOverflow, deviations_of};
 ghost use Rattle.abstraction_table.specs.inside.Digits.{AreDigitsFrom, place_at};
+ghost use Rattle.abstraction_table.specs.inside.Rows.{StaysAlongRows};
 ghost use Rattle.abstraction_table.specs.inside.Sides.{first_in, side_in, HasPlaceFor, HoldsSidesAlong, HoldSides, IsSideFor};
 
-use crate::digits::{Digit, Digits, find_digits, pair_of, place_of};
+use crate::blocks::{CHUNK, fill_chunk};
+use crate::digits::{Digit, Digits, find_digits, place_of};
 use grid_quantiser::Side;
 use plant_text::Plant;
 use plant_text::laws::{every_plant_is_within_limits, plants_are_sound};
 use rayon::prelude::*;
 use std::alloc::{AllocError, Global};
 use std::thread::Threads;
+use successor_box::Slopes;
 use successor_box::laws::sides_rest_on_places;
-use successor_box::{Slopes, prolonged_side};
 
 /// The sides along the axis of a state: one for each combination of the places in the variables of the
 /// state's equation, since those of all pairs rest on these. Where the equation moves with the state itself,
@@ -49,6 +50,19 @@ impl SideTable {
         ensures { result ≡ (if self.now.moves then place else 0) }
     {
         if self.moves { place } else { 0 }
+    }
+
+    /// Whether a state's sides are the same all along each row: they rest on no place along the last state, nor
+    /// move with it.
+    pub(crate) fn stays_along_rows(&self, state: u32, last: u32) -> bool
+        ensures { IsTrue result → StaysAlongRows last state self.now }
+    {
+        for d in &self.digits {
+            if d.variable == last {
+                return false;
+            }
+        }
+        !(self.moves && state == last)
     }
 
     /// The side of the box of a cell that brings `first`, under an input.
@@ -147,36 +161,20 @@ fn find_sides<R: Threads + Sync>(
     every_plant_is_within_limits(p);
     plants_are_sound();
     let mut sides = vec![in alloc; None; digits.places as usize]?;
-    par_for_each_mut(
+    par_chunks_mut_for_each(
         rt,
         &mut sides,
-        |place: usize, found: &mut Option<Side>|
+        CHUNK,
+        |place: usize, chunk: &mut [Option<Side>]|
             requires slopes { s.now ≡ deviations_of p.now }
             requires fits { HasNoOverflow p.now }
             requires state { state < length p.now.equations }
             requires digits { AreDigitsFrom p.now state 0 digits.now.each.items digits.now.places }
-            requires place { place < digits.now.places }
-            requires limit { place < 2 ^ 32 }
-            ensures { IsSideFor p.entry.now state digits.entry.now.each.items place found.exit.now }
+            requires room { place + length chunk.now < 2 ^ 32 }
+            ensures { (j : ℕ) → j < length chunk.entry.now → IsSideFor p.entry.now state digits.entry.now.each.items (place + j) (slice_index_or chunk.exit.now j None) }
         {
-            *found = side_at(p, s, state, digits, place as u32);
+            fill_chunk(p, s, state, digits, place as u32, chunk);
         },
     );
     Ok(sides)
-}
-
-/// The side of the pair that has the digits of a place, from which the others' are moved.
-fn side_at(p: &Plant, s: &Slopes, state: u32, digits: &Digits, place: u32) -> Option<Side>
-    requires slopes { s.now ≡ deviations_of p.now }
-    requires fits { HasNoOverflow p.now }
-    requires state { state < length p.now.equations }
-    requires digits { AreDigitsFrom p.now state 0 digits.now.each.items digits.now.places }
-    requires place { place < digits.now.places }
-    ensures { IsSideFor p.now state digits.now.each.items place result }
-{
-    every_plant_is_within_limits(p);
-    plants_are_sound();
-    let pair = pair_of(&digits.each, place);
-    let inputs = p.vectors();
-    prolonged_side(p, s, pair / inputs, pair % inputs, state)
 }

@@ -3,28 +3,36 @@ ghost use Rattle.std.specs.Prelude.{◌≡◌, ℕ, ◌-◌, ◌*◌, ◌/◌, �
 ghost use Rattle.std.specs.List.{All};
 ghost use Rattle.grid_quantiser.specs.Axes.{cells_of};
 ghost use Rattle.edge_rows.specs.Rows.{row_at};
+ghost use Rattle.abstraction_table.specs.inside.Fans.{AreFansOf};
 ghost use Rattle.abstraction_table.specs.inside.Shapes.{HaveRuns};
 ghost use Rattle.abstraction_table.specs.inside.Sources.{IsBox, AreBandRows, AreSourceBands, band_of};
 ghost use Rattle.abstraction_table.specs.inside.Tallies.{edges_of};
 
 use crate::band::Band;
+use crate::fans::Fans;
 use crate::filling::fill_band;
 use crate::pair_box::PairBox;
 use crate::shapes::find_shapes;
 use edge_rows::{NoMemory, Rows};
 use grid_quantiser::Grid;
-use grid_quantiser::laws::every_grid_is_within_the_limit;
+use grid_quantiser::laws::{boxes_are_moved_shapes, every_grid_is_within_the_limit};
 use rayon::current_num_threads;
 use rayon::prelude::*;
 use std::alloc::Global;
 use std::thread::Threads;
 
 /// The most bands: each goes over all boxes.
-const BANDS_LIMIT: usize = 32;
+const BANDS_LIMIT: u64 = 32;
 
 /// So many pairs for each band at least: to start a thread takes as long as to go over some thousands
 /// of them, and of bands of fewer pairs one alone is sooner filled.
-const PAIRS_FOR_A_BAND: usize = 10_000;
+const PAIRS_FOR_A_BAND: u64 = 10_000;
+
+/// Boxes of so many cells each are wide: to go over them all costs nothing beside their cells.
+const WIDE_FAN: u64 = 64;
+
+/// So many edges for each band at least, where boxes are wide.
+const EDGES_FOR_A_BAND: u64 = 100_000;
 
 /// The pairs that lead to each cell, in bands of `size` cells, the last with what is left.
 #[derive(Drop)]
@@ -51,17 +59,20 @@ pub(crate) fn find_sources<R: Threads + Sync>(
     alloc: Global,
     grid: &Grid,
     boxes: &[PairBox],
+    fans: &Fans,
 ) -> Result<Sources, NoMemory>
     requires ordered { All (IsBox grid.now) boxes.now }
+    requires fans { AreFansOf grid.now boxes.now fans.now.counts.items }
     requires pairs { length boxes.now ≤ 2 ^ 22 }
     requires edges { edges_of grid.now boxes.now ≤ 2 ^ 25 }
     ensures { IfOk result (λ s. AreSourceBands grid.now boxes.now s.size s.bands.items) }
 {
     every_grid_is_within_the_limit(grid);
-    let shapes = find_shapes(alloc, grid, boxes)?;
+    boxes_are_moved_shapes();
+    let shapes = find_shapes(alloc, grid, fans)?;
     let shapes = &shapes;
     let cells = grid.cells();
-    let size = band_size(rt, cells, boxes.len());
+    let size = band_size(rt, cells, boxes.len(), fans.edges);
     let bands = (0..cells.div_ceil(size))
         .into_par_iter()
         .with_min_len(1)
@@ -93,11 +104,27 @@ pub(crate) fn find_sources<R: Threads + Sync>(
     Ok(Sources { size, bands })
 }
 
-/// How many cells a band has. There is a band for each processor, unless there are few pairs.
-fn band_size<R: Threads>(rt: &R, cells: u32, pairs: usize) -> u32
+/// How many cells a band has. There is a band for each processor, unless there are few pairs. Where boxes are wide
+/// there are more bands, so that the places at which a band's rows go on stay in fast memory.
+fn band_size<R: Threads>(rt: &R, cells: u32, pairs: usize, edges: u64) -> u32
     ensures some { 1 ≤ result }
 {
-    let most = BANDS_LIMIT.min(pairs / PAIRS_FOR_A_BAND).max(1);
-    let bands = current_num_threads(rt).min(most) as u32;
+    let pairs = pairs as u64;
+    if edges / WIDE_FAN >= pairs {
+        return part_of(cells, edges / EDGES_FOR_A_BAND);
+    }
+    let most = pairs / PAIRS_FOR_A_BAND;
+    if most <= 1 {
+        // One band needs no number of processors, for which the system's files are read.
+        return part_of(cells, 1);
+    }
+    part_of(cells, most.min(current_num_threads(rt) as u64))
+}
+
+/// How many cells a band has where there are so many, 32 at most.
+fn part_of(cells: u32, bands: u64) -> u32
+    ensures some { 1 ≤ result }
+{
+    let bands = bands.clamp(1, BANDS_LIMIT) as u32;
     cells.div_ceil(bands).max(1)
 }

@@ -1,163 +1,161 @@
--- The cells that the places of sides give, and the box whose sides they are.
-use Rattle.std.proofs.Common.{◌≡◌, ℕ, zero, suc, ◌+◌, ◌*◌, ◌<◌, ◌≤◌, arith, refl, List, [], ◌∷◌, length, drop, slice_index_or, ℤ, pos, Option, None, Some, IsSome, inl, inr}
+-- The box of cells that meet a box of states grows by its sides, axis by axis.
+use Rattle.std.proofs.Common.{◌≡◌, ℕ, zero, suc, ◌+◌, ◌*◌, ◌<◌, ◌≤◌, arith, refl, sym, ap, ap₂, subst, subst₂, ◌∙◌, List, [], ◌∷◌, length, take, slice_index_or, ℤ, pos, Option, None, Some}
+use Rattle.std.specs.Prelude.{IfSome}
 use Rattle.std.specs.List.{All}
-use Rattle.std.proofs.Math.Nat.{mul_comm, mul_assoc, add-mul, le-mul_of_pos_right}
-use Rattle.std.proofs.lemmas.Bool.{cases_lt, false≢true}
-use Rattle.std.proofs.lemmas.List.{drop_more, drop_all}
-use Rattle.std.proofs.lemmas.List.Elements.{All-tail, All-drop, All-get_or}
-use Rattle.std.proofs.lemmas.Nat.{mul-add-lt}
+use Rattle.std.proofs.Math.Nat.{mul_assoc, add-mul, mul-le-mul_left}
+use Rattle.std.proofs.lemmas.Bool.{false≢true}
+use Rattle.std.proofs.lemmas.List.Elements.{All-tail, All-take}
 use Rattle.grid_quantiser.specs.declared.axis.Axis.{Axis}
+use Rattle.grid_quantiser.specs.declared.boxes.CellBox.{CellBox}
 use Rattle.grid_quantiser.specs.declared.sides.Side.{Side}
 use Rattle.grid_quantiser.specs.Axes.{IsAxis, cells_of, no_axis}
 use Rattle.grid_quantiser.specs.Cells.{IsInDomain, place_of, cell_of}
-use Rattle.grid_quantiser.specs.Boxes.{IsBoxInDomain}
+use Rattle.grid_quantiser.specs.Boxes.{IsAtMost, IsBoxInDomain, AreCornersMeeting}
 use Rattle.grid_quantiser.specs.Sides.{IsOnAxis, IsSideOf, AreSidesOf}
+use Rattle.grid_quantiser.specs.SideBoxes.{one_cell, with_side, IsBoxMeeting}
 use Rattle.grid_quantiser.proofs.Suffixes.{some_cells}
+use Rattle.grid_quantiser.proofs.BoxRuns.{box_ordered}
+use Rattle.grid_quantiser.proofs.MeetingCells.{meeting_corners}
 
--- the places of a side, 0 where it is missing
-abbrev pub first_of : Option Side → ℕ
-first_of None = 0
-first_of (Some s) = s.first
+-- ---- the first axes, and one more
 
-abbrev pub last_of : Option Side → ℕ
-last_of None = 0
-last_of (Some s) = s.last
+at_most_take : (k : ℕ) (axes : List Axis) (xs ys : List ℤ) → IsAtMost axes xs ys → IsAtMost (take k axes) xs ys
+at_most_take zero axes xs ys h = tt
+at_most_take (suc k) [] xs ys h = tt
+at_most_take (suc k) (a ∷ axes) [] ys h = absurd h
+at_most_take (suc k) (a ∷ axes) (x ∷ xs) [] h = absurd h
+at_most_take (suc k) (a ∷ axes) (x ∷ xs) (y ∷ ys) h = (h.0, at_most_take k axes xs ys h.1)
 
--- the cell with a place of each side
-abbrev pub cell_with : (Option Side → ℕ) → List Axis → List (Option Side) → ℕ
-cell_with place [] sides = 0
-cell_with place (a ∷ axes) [] = 0
-cell_with place (a ∷ axes) (s ∷ sides) = place s * cells_of axes + cell_with place axes sides
+-- both lists have a number for each axis
+at_most_long : (axes : List Axis) (xs ys : List ℤ) → IsAtMost axes xs ys → (length axes ≤ length xs) × (length axes ≤ length ys)
+at_most_long [] xs ys h = (omega arith, omega arith)
+at_most_long (a ∷ axes) [] ys h = absurd h
+at_most_long (a ∷ axes) (x ∷ xs) [] h = absurd h
+at_most_long (a ∷ axes) (x ∷ xs) (y ∷ ys) h = let later = at_most_long axes xs ys h.1 in (omega (arith, later.0), omega (arith, later.1))
 
--- a place of each side is one of its axis
-abbrev pub AreBelow : (Option Side → ℕ) → List Axis → List (Option Side) → Type 0
-AreBelow place axes sides = (i : ℕ) → i < length axes → place (slice_index_or sides i None) < (slice_index_or axes i no_axis).count
+-- the first axes alone have no more cells
+cells_of-take : (k : ℕ) (axes : List Axis) → All IsAxis axes → cells_of (take k axes) ≤ cells_of axes
+cells_of-take zero axes each = some_cells axes each
+cells_of-take (suc k) [] each = omega arith
+cells_of-take (suc k) (a ∷ axes) each =
+    omega (arith, mul-le-mul_left a.count (cells_of-take k axes (All-tail IsAxis a axes each)))
 
--- no side before one is missing
-abbrev pub AreSome : ℕ → List (Option Side) → Type 0
-AreSome n sides = (i : ℕ) → i < n → IsSome (slice_index_or sides i None)
+cells_more : (axes : List Axis) (k : ℕ) → k < length axes → cells_of (take (suc k) axes) ≡ cells_of (take k axes) * (slice_index_or axes k no_axis).count
+cells_more [] k lt = absurd (omega (arith, lt))
+cells_more (a ∷ axes) zero lt = omega arith
+cells_more (a ∷ axes) (suc k) lt =
+    ap (λ (n : ℕ). a.count * n) (cells_more axes k (omega (arith, lt))) ∙ sym (mul_assoc a.count (cells_of (take k axes)) (slice_index_or axes k no_axis).count)
 
--- ---- the bound
+-- a state in the domain of one axis more
+domain_less : (axes : List Axis) (xs : List ℤ) (k : ℕ) → k < length axes → IsInDomain (take (suc k) axes) xs →
+    IsInDomain (take k axes) xs × IsOnAxis (slice_index_or axes k no_axis) (slice_index_or xs k (pos 0))
+domain_less [] xs k lt inside = absurd (omega (arith, lt))
+domain_less (a ∷ axes) [] k lt inside = absurd inside
+domain_less (a ∷ axes) (x ∷ xs) zero lt inside = (tt, (inside.0, inside.1))
+domain_less (a ∷ axes) (x ∷ xs) (suc k) lt inside =
+    let later = domain_less axes xs k (omega (arith, lt)) inside.2 in
+    ((inside.0, inside.1, later.0), later.1)
 
-first_below_one : (a : Axis) (low high : ℤ) (side : Option Side) → IsAxis a → IsSideOf a low high side → first_of side < a.count
-first_below_one a low high None axis is = omega (arith, axis.some_cell)
-first_below_one a low high (Some s) axis is = is.on_axis.0
+-- a state in the domain of the first axes, and on the next one
+domain_more : (axes : List Axis) (xs : List ℤ) (k : ℕ) → k < length axes → k < length xs → IsInDomain (take k axes) xs → IsOnAxis (slice_index_or axes k no_axis) (slice_index_or xs k (pos 0)) → IsInDomain (take (suc k) axes) xs
+domain_more [] xs k lt long inside on = absurd (omega (arith, lt))
+domain_more (a ∷ axes) [] k lt long inside on = absurd (omega (arith, long))
+domain_more (a ∷ axes) (x ∷ xs) zero lt long inside on = (on.0, on.1, tt)
+domain_more (a ∷ axes) (x ∷ xs) (suc k) lt long inside on =
+    (inside.0, inside.1, domain_more axes xs k (omega (arith, lt)) (omega (arith, long)) inside.2 on)
 
-last_below_one : (a : Axis) (low high : ℤ) (side : Option Side) → IsAxis a → IsSideOf a low high side → last_of side < a.count
-last_below_one a low high None axis is = omega (arith, axis.some_cell)
-last_below_one a low high (Some s) axis is = is.on_axis.1
+-- a number of a state in the domain
+on_axis : (axes : List Axis) (xs : List ℤ) (i : ℕ) → i < length axes → IsInDomain axes xs → IsOnAxis (slice_index_or axes i no_axis) (slice_index_or xs i (pos 0))
+on_axis [] xs i lt inside = absurd (omega (arith, lt))
+on_axis (a ∷ axes) [] i lt inside = absurd inside
+on_axis (a ∷ axes) (x ∷ xs) zero lt inside = (inside.0, inside.1)
+on_axis (a ∷ axes) (x ∷ xs) (suc i) lt inside = on_axis axes xs i (omega (arith, lt)) inside.2
 
-module _ (axes : List Axis) (lo hi : List ℤ) (sides : List (Option Side)) (each : All IsAxis axes) (are : AreSidesOf axes lo hi sides) where
-  pub firsts_below : AreBelow first_of axes sides
-  firsts_below i lt =
-      first_below_one (slice_index_or axes i no_axis) (slice_index_or lo i (pos 0)) (slice_index_or hi i (pos 0)) (slice_index_or sides i None) (All-get_or IsAxis axes i no_axis lt each) (are.each i lt)
+-- its cell there
+cell_more : (axes : List Axis) (xs : List ℤ) (k : ℕ) → k < length axes → k < length xs →
+    cell_of (take (suc k) axes) xs ≡ cell_of (take k axes) xs * (slice_index_or axes k no_axis).count + place_of (slice_index_or axes k no_axis) (slice_index_or xs k (pos 0))
+cell_more [] xs k lt long = absurd (omega (arith, lt))
+cell_more (a ∷ axes) [] k lt long = absurd (omega (arith, long))
+cell_more (a ∷ axes) (x ∷ xs) zero lt long = omega arith
+cell_more (a ∷ axes) (x ∷ xs) (suc k) lt long =
+    let place : ℕ = place_of a x in
+    let n : ℕ = (slice_index_or axes k no_axis).count in
+    let cells : ℕ = cells_of (take k axes) in
+    let so_far : ℕ = cell_of (take k axes) xs in
+    omega (arith, ap (λ (m : ℕ). place * m) (cells_more axes k (omega (arith, lt))), cell_more axes xs k (omega (arith, lt)) (omega (arith, long)), mul_assoc place cells n, add-mul (place * cells) so_far n)
 
-  pub lasts_below : AreBelow last_of axes sides
-  lasts_below i lt =
-      last_below_one (slice_index_or axes i no_axis) (slice_index_or lo i (pos 0)) (slice_index_or hi i (pos 0)) (slice_index_or sides i None) (All-get_or IsAxis axes i no_axis lt each) (are.each i lt)
+-- ---- boxes on them
 
-cell_with_below : (place : Option Side → ℕ) (axes : List Axis) (sides : List (Option Side)) → All IsAxis axes → AreBelow place axes sides → cell_with place axes sides < cells_of axes
-cell_with_below place [] sides each below = omega arith
-cell_with_below place (a ∷ axes) [] each below = some_cells (a ∷ axes) each
-cell_with_below place (a ∷ axes) (s ∷ sides) each below =
-    let here : place s < a.count = below 0 (omega arith) in
-    let later : AreBelow place axes sides = λ i lt. below (suc i) (omega (arith, lt)) in
-    omega (arith, mul-add-lt (place s) (cells_of axes) (cell_with place axes sides) a.count here (cell_with_below place axes sides (All-tail IsAxis a axes each) later), mul_comm a.count (cells_of axes))
+pub start_meets : (lo hi : List ℤ) → IsBoxMeeting [] lo hi one_cell
+start_meets lo hi = record { inside = (λ h. (tt, tt), λ h. refl); corners = meeting_corners [] lo hi (λ i d lt. absurd (omega (arith, lt))) tt (tt, tt) }
 
--- ---- the loop over the axes, with the cell of the places so far
+module _ (axes : List Axis) (lo hi : List ℤ) (k : ℕ) (each : All IsAxis axes) (ordered : IsAtMost axes lo hi) (lt : k < length axes) where
+  abbrev a : Axis
+  a = slice_index_or axes k no_axis
 
--- what the cell so far and the later sides make
-abbrev pub whole_with : (Option Side → ℕ) → List Axis → List (Option Side) → ℕ → ℕ → ℕ
-whole_with place axes sides i so_far = so_far * cells_of (drop i axes) + cell_with place (drop i axes) (drop i sides)
+  abbrev low : ℤ
+  low = slice_index_or lo k (pos 0)
 
-module _ (place : Option Side → ℕ) (axes : List Axis) (sides : List (Option Side)) (i so_far : ℕ) (each : All IsAxis axes) (below : AreBelow place axes sides) (whole : whole_with place axes sides i so_far ≡ cell_with place axes sides) where
-  -- the cell so far stays below the number of cells
-  pub so_far_below : so_far < cells_of axes
-  so_far_below =
-      let some : 0 < cells_of (drop i axes) = some_cells (drop i axes) (All-drop IsAxis i axes each) in
-      omega (arith, whole, le-mul_of_pos_right so_far some, cell_with_below place axes sides each below)
+  abbrev high : ℤ
+  high = slice_index_or hi k (pos 0)
 
-  -- after the last axis
-  pub all_is : length axes ≤ i → so_far ≡ cell_with place axes sides
-  all_is end =
-      let opened : so_far * 1 + 0 ≡ cell_with place axes sides = rw (drop_all i axes end) at whole in
-      omega (arith, opened)
+  grown : (found : Option CellBox) (side : Option Side) → IsBoxMeeting (take k axes) lo hi found → IsSideOf a low high side → IsBoxMeeting (take (suc k) axes) lo hi (with_side a found side)
+  grown None side box is = record {
+    inside = (
+      λ h. absurd (false≢true h),
+      λ inside. absurd (false≢true (box.inside.1 ((domain_less axes lo k lt inside.0).0, (domain_less axes hi k lt inside.1).0))),
+    );
+    corners = tt;
+  }
+  grown (Some b) None box is = record {
+    inside = (
+      λ h. absurd (false≢true h),
+      λ inside. absurd (false≢true (is.inside.1 ((domain_less axes lo k lt inside.0).1, (domain_less axes hi k lt inside.1).1))),
+    );
+    corners = tt;
+  }
+  grown (Some b) (Some s) box is =
+      let long = at_most_long axes lo hi ordered in
+      let long_lo : k < length lo = omega (arith, lt, long.0) in
+      let long_hi : k < length hi = omega (arith, lt, long.1) in
+      let before = box.inside.0 refl in
+      let on = is.inside.0 refl in
+      let whole : IsBoxInDomain (take (suc k) axes) lo hi = (domain_more axes lo k lt long_lo before.0 on.0, domain_more axes hi k lt long_hi before.1 on.1) in
+      let first : cell_of (take (suc k) axes) lo ≡ b.first * a.count + s.first = cell_more axes lo k lt long_lo ∙ ap₂ (λ (c p : ℕ). c * a.count + p) (sym box.corners.first_is) (sym is.places.0) in
+      let last : cell_of (take (suc k) axes) hi ≡ b.last * a.count + s.last = cell_more axes hi k lt long_hi ∙ ap₂ (λ (c p : ℕ). c * a.count + p) (sym box.corners.last_is) (sym is.places.1) in
+      record {
+        inside = (λ h. whole, λ h. refl);
+        corners =
+            subst₂ (AreCornersMeeting (take (suc k) axes) lo hi) first last
+            (meeting_corners (take (suc k) axes) lo hi (All-take IsAxis (suc k) axes each) (at_most_take (suc k) axes lo hi ordered) whole);
+      }
 
-  pub whole_step : i < length axes → i < length sides →
-      whole_with place axes sides (i + 1) (so_far * (slice_index_or axes i no_axis).count + place (slice_index_or sides i None)) ≡ cell_with place axes sides
-  whole_step lt short =
-      let n : ℕ = (slice_index_or axes i no_axis).count in
-      let p : ℕ = place (slice_index_or sides i None) in
-      let rest : ℕ = cells_of (drop (i + 1) axes) in
-      let opened : so_far * (n * rest) + (p * rest + cell_with place (drop (i + 1) axes) (drop (i + 1) sides)) ≡ cell_with place axes sides =
-      rw (drop_more axes i no_axis lt, drop_more sides i None short) at whole in
-      omega (arith, opened, add-mul (so_far * n) p rest, mul_assoc so_far n rest)
+pub more_meets : (axes : List Axis) (lo hi : List ℤ) (k : ℕ) (found : Option CellBox) (side : Option Side) → All IsAxis axes → IsAtMost axes lo hi → k < length axes →
+    IsBoxMeeting (take k axes) lo hi found → IsSideOf (slice_index_or axes k no_axis) (slice_index_or lo k (pos 0)) (slice_index_or hi k (pos 0)) side →
+    IsBoxMeeting (take (k + 1) axes) lo hi (with_side (slice_index_or axes k no_axis) found side)
+more_meets axes lo hi k found side each ordered lt box is =
+    let next : suc k ≡ k + 1 = omega arith in
+    subst (λ (n : ℕ). IsBoxMeeting (take n axes) lo hi (with_side (slice_index_or axes k no_axis) found side)) next (grown axes lo hi k each ordered lt found side box is)
 
--- the cell after one more step stays below the number of cells
-pub next_below : (place : Option Side → ℕ) (axes : List Axis) (sides : List (Option Side)) (i so_far : ℕ) → All IsAxis axes → AreBelow place axes sides → whole_with place axes sides i so_far ≡ cell_with place axes sides →
-    i < length axes → i < length sides → so_far * (slice_index_or axes i no_axis).count + place (slice_index_or sides i None) < cells_of axes
-next_below place axes sides i so_far each below whole lt short =
-    let next : ℕ = so_far * (slice_index_or axes i no_axis).count + place (slice_index_or sides i None) in
-    so_far_below place axes sides (i + 1) next each below (whole_step place axes sides i so_far each below whole lt short)
+-- ---- the loop that adds side after side
 
--- before the first axis
-pub start_is : (place : Option Side → ℕ) (axes : List Axis) (sides : List (Option Side)) → whole_with place axes sides 0 0 ≡ cell_with place axes sides
-start_is place axes sides = omega arith
+module _ (axes : List Axis) (lo hi : List ℤ) (sides : List (Option Side)) (i : ℕ) (b : CellBox) (each : All IsAxis axes) (are : AreSidesOf axes lo hi sides) (lt : i < length axes) (box : IsBoxMeeting (take i axes) lo hi (Some b)) where
+  -- one side more
+  pub with_next : (s : Side) → slice_index_or sides i None ≡ Some s → IsBoxMeeting (take (i + 1) axes) lo hi (with_side (slice_index_or axes i no_axis) (Some b) (Some s))
+  with_next s was = rw was at (more_meets axes lo hi i (Some b) (slice_index_or sides i None) each are.ordered lt box (are.each i lt))
 
-pub some_step : (sides : List (Option Side)) (i : ℕ) (side : Side) → AreSome i sides → slice_index_or sides i None ≡ Some side → AreSome (i + 1) sides
-some_step sides i side some is k lt =
-    elim (cases_lt k i) [
-      | inl below ↦ some k below
-      | inr above ↦
-          let same : k ≡ i = omega (arith, lt, above) in
-          rw (same, is) refl
-    ]
+  -- a missing side
+  pub none_inside : slice_index_or sides i None ≡ None → IsBoxInDomain axes lo hi → ⊥
+  none_inside was inside = false≢true (rw was at (are.each i lt).inside.1 (on_axis axes lo i lt inside.0, on_axis axes hi i lt inside.1))
 
--- ---- the box
+-- the cells of a box on the first axes are cells of the grid
+pub corners_within : (axes : List Axis) (lo hi : List ℤ) (k : ℕ) (b : CellBox) → All IsAxis axes → IsBoxMeeting (take k axes) lo hi (Some b) → (b.first < cells_of axes) × (b.last < cells_of axes)
+corners_within axes lo hi k b each box =
+    (omega (arith, box.corners.first_below, cells_of-take k axes each), omega (arith, box.corners.last_below, cells_of-take k axes each))
 
--- the numbers of a state in the domain
-pub on_axis_at : (axes : List Axis) (xs : List ℤ) (i : ℕ) → i < length axes → IsInDomain axes xs → IsOnAxis (slice_index_or axes i no_axis) (slice_index_or xs i (pos 0))
-on_axis_at [] xs i lt inside = absurd (omega (arith, lt))
-on_axis_at (a ∷ axes) [] i lt inside = absurd inside
-on_axis_at (a ∷ axes) (x ∷ xs) zero lt inside = (inside.0, inside.1)
-on_axis_at (a ∷ axes) (x ∷ xs) (suc i) lt inside = on_axis_at axes xs i (omega (arith, lt)) inside.2
-
--- a box in the domain has all its sides
-pub some_at : (axes : List Axis) (lo hi : List ℤ) (sides : List (Option Side)) (i : ℕ) → i < length axes → AreSidesOf axes lo hi sides → IsBoxInDomain axes lo hi → IsSome (slice_index_or sides i None)
-some_at axes lo hi sides i lt are inside = (are.each i lt).inside.1 (on_axis_at axes lo i lt inside.0, on_axis_at axes hi i lt inside.1)
-
--- the sides along the later axes
-later_sides : (a : Axis) (axes : List Axis) (x y : ℤ) (lo hi : List ℤ) (s : Option Side) (sides : List (Option Side)) → AreSidesOf (a ∷ axes) (x ∷ lo) (y ∷ hi) (s ∷ sides) → AreSidesOf axes lo hi sides
-later_sides a axes x y lo hi s sides are = record { ordered = are.ordered.1; each = λ i lt. are.each (suc i) (omega (arith, lt)) }
-
--- the box with all its sides lies in the domain
-pub inside_from_sides : (axes : List Axis) (lo hi : List ℤ) (sides : List (Option Side)) → AreSidesOf axes lo hi sides → AreSome (length axes) sides → IsBoxInDomain axes lo hi
-inside_from_sides [] lo hi sides are some = (tt, tt)
-inside_from_sides (a ∷ axes) [] hi sides are some = absurd are.ordered
-inside_from_sides (a ∷ axes) (x ∷ lo) [] sides are some = absurd are.ordered
-inside_from_sides (a ∷ axes) (x ∷ lo) (y ∷ hi) [] are some = absurd (false≢true (some 0 (omega arith)))
-inside_from_sides (a ∷ axes) (x ∷ lo) (y ∷ hi) (s ∷ sides) are some =
-    let here = (are.each 0 (omega arith)).inside.0 (some 0 (omega arith)) in
-    let later = inside_from_sides axes lo hi sides (later_sides a axes x y lo hi s sides are) (λ i lt. some (suc i) (omega (arith, lt))) in
-    ((here.0.0, here.0.1, later.0), (here.1.0, here.1.1, later.1))
-
-first_place_is : (a : Axis) (x y : ℤ) (side : Option Side) → IsSideOf a x y side → IsSome side → first_of side ≡ place_of a x
-first_place_is a x y None is some = absurd (false≢true some)
-first_place_is a x y (Some s) is some = is.places.0
-
-last_place_is : (a : Axis) (x y : ℤ) (side : Option Side) → IsSideOf a x y side → IsSome side → last_of side ≡ place_of a y
-last_place_is a x y None is some = absurd (false≢true some)
-last_place_is a x y (Some s) is some = is.places.1
-
--- the cells of its ends
-pub cells_from_sides : (axes : List Axis) (lo hi : List ℤ) (sides : List (Option Side)) → AreSidesOf axes lo hi sides → AreSome (length axes) sides →
-    (cell_with first_of axes sides ≡ cell_of axes lo) × (cell_with last_of axes sides ≡ cell_of axes hi)
-cells_from_sides [] lo hi sides are some = (refl, refl)
-cells_from_sides (a ∷ axes) [] hi sides are some = absurd are.ordered
-cells_from_sides (a ∷ axes) (x ∷ lo) [] sides are some = absurd are.ordered
-cells_from_sides (a ∷ axes) (x ∷ lo) (y ∷ hi) [] are some = absurd (false≢true (some 0 (omega arith)))
-cells_from_sides (a ∷ axes) (x ∷ lo) (y ∷ hi) (s ∷ sides) are some =
-    let is : IsSideOf a x y s = are.each 0 (omega arith) in
-    let there : IsSome s = some 0 (omega arith) in
-    let later = cells_from_sides axes lo hi sides (later_sides a axes x y lo hi s sides are) (λ i lt. some (suc i) (omega (arith, lt))) in
-    (rw (first_place_is a x y s is there, later.0) refl, rw (last_place_is a x y s is there, later.1) refl)
+-- their corners are in order
+pub box_within : (axes : List Axis) (lo hi : List ℤ) (k : ℕ) (found : Option CellBox) → All IsAxis axes → IsBoxMeeting (take k axes) lo hi found → IfSome found (λ (b : CellBox). (b.first ≤ b.last) × (b.last < cells_of axes))
+box_within axes lo hi k None each box = tt
+box_within axes lo hi k (Some b) each box =
+    let corners = box.corners in
+    (box_ordered (take k axes) b.first b.last (All-take IsAxis k axes each) corners.first_below corners.last_below corners.ordered, (corners_within axes lo hi k b each box).1)

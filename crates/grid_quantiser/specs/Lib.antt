@@ -4,5 +4,6 @@ pub mod Places
 pub mod Boxes
 pub mod Runs
 pub mod Sides
+pub mod SideBoxes
 pub mod Laws
 pub mod inside

@@ -2,7 +2,7 @@
 
 ghost use Rattle.std.specs.Prelude.{◌^◌, ◌≤◌};
 ghost use Rattle.grid_quantiser.specs.Axes.{cells_of, AreAxes};
-ghost use Rattle.grid_quantiser.specs.Laws.{CellsAreBoxes, DomainIsBox, DomainHasEnds, CentresAreNear, StatesHaveCells, BoxesHaveCells, CellsLieBetweenCorners, BoxesAreMovedShapes, CentresRestOnTheirPlaces};
+ghost use Rattle.grid_quantiser.specs.Laws.{CellsAreBoxes, DomainIsBox, DomainHasEnds, CentresAreNear, StatesHaveCells, BoxesHaveCells, CellsLieBetweenCorners, BoxesAreMovedShapes, BoxesGrowBySides, CentresRestOnTheirPlaces};
 
 use crate::grid::Grid;
 
@@ -44,6 +44,11 @@ pub fn cells_lie_between_corners()
 /// A box is its shape, moved by its first cell.
 pub fn boxes_are_moved_shapes()
     ensures { BoxesAreMovedShapes }
+{}
+
+/// The box of cells that meet a box of states on the first axes grows to the next by its side there.
+pub fn boxes_grow_by_sides()
+    ensures { BoxesGrowBySides }
 {}
 
 /// The centre of a cell in a state rests on the cell's place along that axis alone.

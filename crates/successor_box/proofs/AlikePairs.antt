@@ -55,18 +55,18 @@ module _ (p : Description) where
   abbrev noises : List ℤ
   noises = take (length p.noises) (map noise_centre p.noises)
 
-  centre_long : (c : ℕ) → length (centre c) ≡ states
+  pub centre_long : (c : ℕ) → length (centre c) ≡ states
   centre_long c = length-take-le states (centre_of (axes_of p) c) (omega (arith, centre_count (axes_of p) c, length-map p.states axis_of))
 
-  central_state : (c u k : ℕ) → k < states → get_or (central_values p c u) k (pos 0) ≡ get_or (centre_of (axes_of p) c) k (pos 0)
+  pub central_state : (c u k : ℕ) → k < states → get_or (central_values p c u) k (pos 0) ≡ get_or (centre_of (axes_of p) c) k (pos 0)
   central_state c u k lt =
       in_first (centre c) (vector_of p.inputs u) noises k (pos 0) (omega (arith, lt, centre_long c))
       ∙ get_or-take states (centre_of (axes_of p) c) k (pos 0) lt
 
-  central_input : (c u k : ℕ) → states ≤ k → k < states + length p.inputs → get_or (central_values p c u) k (pos 0) ≡ get_or (vector_of p.inputs u) (k - states) (pos 0)
+  pub central_input : (c u k : ℕ) → states ≤ k → k < states + length p.inputs → get_or (central_values p c u) k (pos 0) ≡ get_or (vector_of p.inputs u) (k - states) (pos 0)
   central_input c u k past lt = in_second (centre c) (vector_of p.inputs u) noises k (pos 0) states (centre_long c) past (omega (arith, lt, vector_count p.inputs u))
 
-  central_noise : (c u k : ℕ) → states + length p.inputs ≤ k → get_or (central_values p c u) k (pos 0) ≡ get_or noises (k - states - length p.inputs) (pos 0)
+  pub central_noise : (c u k : ℕ) → states + length p.inputs ≤ k → get_or (central_values p c u) k (pos 0) ≡ get_or noises (k - states - length p.inputs) (pos 0)
   central_noise c u k past = in_third (centre c) (vector_of p.inputs u) noises k (pos 0) states (length p.inputs) (centre_long c) (vector_count p.inputs u) past
 
 -- ---- two pairs

@@ -10,3 +10,7 @@ pub mod DeviationRows
 pub mod SideEnds
 pub mod Ranges
 pub mod AlikePairs
+pub mod PairSides
+pub mod InputNumbers
+pub mod Middles
+pub mod Columns

@@ -38,10 +38,9 @@ unmoved a low high side is =
     let same : (x : ℤ) → x ≡ x -ℤ (a.width *ℤ pos 0) = λ x. omega (arith, ints) in
     subst₂ (λ (x y : ℤ). IsSideOf (prolonged a) x y side) (same low) (same high) is
 
--- a number of the centre's step, less and plus the deviation, is a number of the corners, and fits
-pub record AreSideEnds (p : Description) (c u i : ℕ) (value deviation : ℤ) : Type 0 where
-  pub low : value -ℤ deviation ≡ get_or (low_corner p c u) i (pos 0)
-  pub high : value +ℤ deviation ≡ get_or (high_corner p c u) i (pos 0)
+-- a number of the centre's step fits, less and plus the deviation
+pub record AreSideEnds (p : Description) (u i : ℕ) (value deviation : ℤ) : Type 0 where
+  pub moves_by : deviation ≡ deviation_at p u (equation_at p i)
   pub low_fits : FitsSigned w128 (value -ℤ deviation)
   pub high_fits : FitsSigned w128 (value +ℤ deviation)
 
@@ -50,15 +49,14 @@ fits_signed z h = let h' : nat_abs z < 2 ^ 127 = h in omega (arith, ints)
 
 pub end_step : NumbersLieInRange → ValuesLieInSpans → CentresAreNear → (p : Description) → IsSound p → HasNoOverflow p → All IsNoiseVariable p.noises → (c u i : ℕ) → c < cells_of (axes_of p) → u < vectors_of p.inputs → i < length p.equations
     → (value : ℤ) (rows : List (List ℤ)) (deviation : ℤ) → value ≡ value_of (equation_at p i) (central_values p c u) → rows ≡ deviations_of p → deviation ≡ get_or (get_or rows i []) u (pos 0)
-    → AreSideEnds p c u i value deviation
+    → AreSideEnds p u i value deviation
 end_step numbers spans near p sound fits noises c u i cell input lt value rows deviation at rows-are deviation-is =
     let by : deviation ≡ deviation_at p u (equation_at p i) = deviation-is ∙ ap (λ (r : List (List ℤ)). get_or (get_or r i []) u (pos 0)) rows-are ∙ entry_is p i lt u input in
     let low : value -ℤ deviation ≡ value_of (equation_at p i) (central_values p c u) -ℤ deviation_at p u (equation_at p i) = ap₂ (λ (x y : ℤ). x -ℤ y) at by in
     let high : value +ℤ deviation ≡ value_of (equation_at p i) (central_values p c u) +ℤ deviation_at p u (equation_at p i) = ap₂ (λ (x y : ℤ). x +ℤ y) at by in
     let ends = ends_fit numbers spans near p sound fits noises c u i cell input lt in
     record {
-      low = low ∙ sym (low_is p c u i lt);
-      high = high ∙ sym (high_is p c u i lt);
+      moves_by = by;
       low_fits = fits_signed _ (subst IsInRange (sym low) ends.0);
       high_fits = fits_signed _ (subst IsInRange (sym high) ends.1);
     }

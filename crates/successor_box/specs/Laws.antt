@@ -1,16 +1,17 @@
 -- What holds of every sound plant's successor boxes.
-use Rattle.std.specs.Prelude.{◌≡◌, ℕ, ◌<◌, ◌≤◌, ◌↔◌, ℤ, List, [], length, Option}
+use Rattle.std.specs.Prelude.{◌≡◌, ℕ, ◌+◌, ◌<◌, ◌≤◌, ◌↔◌, ℤ, List, [], length, slice_index_or, Option, IfSome}
 use Rattle.std.specs.List.{Contains}
 use Rattle.grid_quantiser.specs.declared.boxes.CellBox.{CellBox}
 use Rattle.grid_quantiser.specs.declared.sides.Side.{Side}
-use Rattle.grid_quantiser.specs.Axes.{cells_of}
+use Rattle.grid_quantiser.specs.Axes.{no_axis, cells_of}
+use Rattle.grid_quantiser.specs.SideBoxes.{one_cell, with_side}
 use Rattle.grid_quantiser.specs.Cells.{IsInDomain, IsPointOf, cell_of, point_of}
 use Rattle.plant_text.specs.plant.Description.{Description, axes_of, vectors_of}
 use Rattle.plant_text.specs.plant.Steps.{IsNoise, step_of, StepStaysInRange}
 use Rattle.plant_text.specs.plant.Soundness.{IsSound}
 use Rattle.successor_box.specs.Boxes.{IsEnabledAt, AreSuccessors, IsBoxOf, cells_in}
 use Rattle.successor_box.specs.Deviations.{HasNoOverflow}
-use Rattle.successor_box.specs.Sides.{moved_by, IsSideBeforeAt, AreAlikeIn}
+use Rattle.successor_box.specs.Sides.{IsSideAt, IsBoxAlong, moved_by, IsSideBeforeAt, AreAlikeIn}
 
 -- a step from a point of a cell, under an enabled input and a noise in range, lies in the domain, and its cell
 -- is a successor
@@ -45,3 +46,12 @@ SidesRestOnPlaces =
     (p : Description) (i c u d v : ℕ) (side : Option Side) → IsSound p → i < length p.equations →
     c < cells_of (axes_of p) → u < vectors_of p.inputs → d < cells_of (axes_of p) → v < vectors_of p.inputs →
     AreAlikeIn p i c u d v → IsSideBeforeAt p d v i (moved_by p i d) side → IsSideBeforeAt p c u i (moved_by p i c) side
+
+-- A pair's box is made of its sides, from the one cell on no axis, state by state. At each state its
+-- corners are in order, and cells of the grid.
+pub record SidesMakeBoxes : Type 0 where
+  pub start : (p : Description) (c u : ℕ) → IsBoxAlong p 0 c u one_cell
+  pub more : (p : Description) (k c u : ℕ) (found : Option CellBox) (side : Option Side) → IsSound p → k < length p.equations →
+      IsBoxAlong p k c u found → IsSideAt p c u k side → IsBoxAlong p (k + 1) c u (with_side (slice_index_or (axes_of p) k no_axis) found side)
+  pub within : (p : Description) (k c u : ℕ) (found : Option CellBox) → IsSound p → IsBoxAlong p k c u found → IfSome found (λ b. (b.first ≤ b.last) × (b.last < cells_of (axes_of p)))
+  pub all : (p : Description) (c u : ℕ) (found : Option CellBox) → IsSound p → IsBoxAlong p (length p.equations) c u found → IsBoxOf p c u found

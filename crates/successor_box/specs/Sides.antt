@@ -1,12 +1,15 @@
 -- The successor box of a pair, state by state.
-use Rattle.std.specs.Prelude.{◌≡◌, ℕ, ◌+◌, ◌-◌, ◌<◌, pos, Bool, not, ◌&&◌, ◌==◌, List, length, slice_index_or, Option, None, IsTrue, if◌then◌else◌, nat_lt}
+use Rattle.std.specs.Prelude.{◌≡◌, ℕ, ◌+◌, ◌-◌, ◌<◌, pos, Bool, not, ◌&&◌, ◌==◌, List, [], take, length, slice_index_or, Option, None, IsTrue, if◌then◌else◌, nat_lt}
+use Rattle.fixed_expr.specs.declared.lanes.TheConstants.{LANES}
 use Rattle.fixed_expr.specs.Mentions.{mentions}
 use Rattle.fixed_expr.specs.Moves.{moves_with}
+use Rattle.grid_quantiser.specs.declared.boxes.CellBox.{CellBox}
 use Rattle.grid_quantiser.specs.declared.sides.Side.{Side}
-use Rattle.grid_quantiser.specs.Axes.{no_axis}
+use Rattle.grid_quantiser.specs.Axes.{no_axis, cells_of}
 use Rattle.grid_quantiser.specs.Places.{place_along}
 use Rattle.grid_quantiser.specs.Sides.{IsSideOf, IsSideBefore}
-use Rattle.plant_text.specs.plant.Description.{Description, axes_of}
+use Rattle.grid_quantiser.specs.SideBoxes.{IsBoxMeeting}
+use Rattle.plant_text.specs.plant.Description.{Description, axes_of, vectors_of}
 use Rattle.plant_text.specs.plant.InputPlaces.{input_place}
 use Rattle.plant_text.specs.plant.Steps.{equation_at}
 use Rattle.successor_box.specs.Boxes.{low_corner, high_corner}
@@ -18,6 +21,10 @@ IsSideAt p c u i side = IsSideOf (slice_index_or (axes_of p) i no_axis) (slice_i
 -- the sides along all axes
 abbrev pub AreSidesAt : Description → ℕ → ℕ → List (Option Side) → Type 0
 AreSidesAt p c u sides = (i : ℕ) → i < length p.equations → IsSideAt p c u i (slice_index_or sides i None)
+
+-- the box of a cell under an input, on the axes of the first so many states alone
+abbrev pub IsBoxAlong : Description → ℕ → ℕ → ℕ → Option CellBox → Type 0
+IsBoxAlong p states c u found = IsBoxMeeting (take states (axes_of p)) (low_corner p c u) (high_corner p c u) found
 
 -- the place of a cell and an input in a variable: along the axis of a state, or among the values of an input variable
 abbrev pub place_in : Description → ℕ → ℕ → ℕ → ℕ
@@ -35,6 +42,16 @@ moved_by p i c = if moves_along p i then place_along (axes_of p) i c else 0
 abbrev pub IsSideBeforeAt : Description → ℕ → ℕ → ℕ → ℕ → Option Side → Type 0
 IsSideBeforeAt p c u i places side =
     IsSideBefore (slice_index_or (axes_of p) i no_axis) places (slice_index_or (low_corner p c u) i (pos 0)) (slice_index_or (high_corner p c u) i (pos 0)) side
+
+-- A row of columns of places, one for each state and then each input variable, holds those of a cell and an input.
+pub record IsPairInRow (p : Description) (places : List (List ℕ)) (row c u : ℕ) : Type 0 where
+  pub cell : c < cells_of (axes_of p)
+  pub input : u < vectors_of p.inputs
+  pub each : (k : ℕ) → k < length p.states + length p.inputs → slice_index_or (slice_index_or places k []) row 0 ≡ place_in p c u k
+
+-- each row holds the places of a cell and an input
+abbrev pub HasPairInEachRow : Description → List (List ℕ) → Type 0
+HasPairInEachRow p places = (row : ℕ) → row < LANES → (c : ℕ) × (u : ℕ) × IsPairInRow p places row c u
 
 -- a side rests on a variable that stands in the state's equation, but for the state itself where the side moves with it
 abbrev pub rests_on : Description → ℕ → ℕ → Bool

@@ -1,9 +1,9 @@
 //! What holds of every sound plant's successor boxes.
 
-ghost use Rattle.successor_box.specs.Laws.{StepsLieInTheBoxes, StepsStayInRange, BoxesHoldTheSuccessors, EnabledPairsHaveSuccessors, PointsLieWithTheirStates, SidesRestOnPlaces};
+ghost use Rattle.successor_box.specs.Laws.{StepsLieInTheBoxes, StepsStayInRange, BoxesHoldTheSuccessors, EnabledPairsHaveSuccessors, PointsLieWithTheirStates, SidesRestOnPlaces, SidesMakeBoxes};
 
 use fixed_expr::laws::{values_move_with_variables, values_rest_on_variables};
-use grid_quantiser::laws::{centre_is_near, centres_rest_on_their_places};
+use grid_quantiser::laws::{boxes_grow_by_sides, centre_is_near, centres_rest_on_their_places};
 use growth_bound::laws::{deviations_rest_on_variables, values_move_by_at_most_the_deviation};
 use interval_eval::laws::values_stay_in_the_range;
 use plant_text::laws::inputs_rest_on_their_places;
@@ -49,4 +49,11 @@ pub fn sides_rest_on_places()
     deviations_rest_on_variables();
     centres_rest_on_their_places();
     inputs_rest_on_their_places();
+}
+
+/// The box of a pair is made of its sides, state by state.
+pub fn sides_make_boxes()
+    ensures { SidesMakeBoxes }
+{
+    boxes_grow_by_sides();
 }

@@ -7,6 +7,7 @@
 #![tactic(auto)]
 
 mod area;
+mod blocks;
 mod boxes;
 mod fault;
 pub mod laws;
@@ -14,7 +15,8 @@ mod noise;
 mod sides;
 mod slopes;
 
+pub use blocks::prolonged_sides;
 pub use boxes::{box_of_sides, successors};
 pub use fault::SlopeFault;
-pub use sides::{moved_side, prolonged_side};
+pub use sides::moved_side;
 pub use slopes::{Slopes, find_slopes};

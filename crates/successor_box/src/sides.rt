@@ -1,9 +1,9 @@
-ghost use Rattle.std.specs.Prelude.{◌≡◌, ◌<◌, ℕ, pos, length, slice_index_or};
+ghost use Rattle.std.specs.Prelude.{◌≡◌, ◌<◌, ℕ, pos, ◌+ℤ◌, ◌-ℤ◌, length, slice_index_or};
 ghost use Rattle.fixed_expr.specs.Value.{value_of};
 ghost use Rattle.grid_quantiser.specs.Axes.{no_axis, cells_of};
 ghost use Rattle.plant_text.specs.plant.Description.{axes_of, vectors_of};
 ghost use Rattle.plant_text.specs.plant.Steps.{equation_at};
-ghost use Rattle.successor_box.specs.Boxes.{central_values, low_corner, high_corner};
+ghost use Rattle.successor_box.specs.Boxes.{deviation_at, central_values, low_corner, high_corner};
 ghost use Rattle.successor_box.specs.Sides.{IsSideAt, IsSideBeforeAt};
 ghost use Rattle.successor_box.specs.Deviations.{HasNoOverflow, deviations_of};
 
@@ -32,22 +32,6 @@ pub(crate) fn side(p: &Plant, s: &Slopes, c: u32, input: u32, state: u32) -> Opt
     p.grid().side(state, low, high)
 }
 
-/// The side of a successor box along the axis of a state prolonged by its own length below, from which
-/// `moved_side` goes on: None where one of the box's ends leaves that too. It takes no memory.
-pub fn prolonged_side(p: &Plant, s: &Slopes, c: u32, input: u32, state: u32) -> Option<Side>
-    requires slopes { s.now ≡ deviations_of p.now }
-    requires fits { HasNoOverflow p.now }
-    requires cell { c < cells_of (axes_of p.now) }
-    requires input { input < vectors_of p.now.inputs }
-    requires state { state < length p.now.equations }
-    ensures { IsSideBeforeAt p.now c input state 0 result }
-{
-    every_plant_is_within_limits(p);
-    plants_are_sound();
-    let (low, high) = ends(p, s, c, input, state);
-    p.grid().prolonged_side(state, low, high)
-}
-
 /// The side of a successor box along the axis of a state, from its side so many places before: None where
 /// one of the box's ends leaves the axis.
 #[inline]
@@ -73,12 +57,49 @@ fn ends(p: &Plant, s: &Slopes, c: u32, input: u32, state: u32) -> (i128, i128)
     ensures low { result.0 ≡ slice_index_or (low_corner p.now c input) state (pos 0) }
     ensures high { result.1 ≡ slice_index_or (high_corner p.now c input) state (pos 0) }
 {
+    let next = next_along(p, c, input, state);
+    ends_around(p, s, next, input, state)
+}
+
+/// The side of the box around one state of the next from a cell's centre, along the axis prolonged by its own length below,
+/// from which `moved_side` goes on: None where one of the box's ends leaves that too.
+#[inline]
+pub(crate) fn prolonged_side_around(
+    p: &Plant,
+    s: &Slopes,
+    next: i128,
+    input: u32,
+    state: u32,
+) -> Option<Side>
+    requires slopes { s.now ≡ deviations_of p.now }
+    requires fits { HasNoOverflow p.now }
+    requires input { input < vectors_of p.now.inputs }
+    requires state { state < length p.now.equations }
+    requires next { (c : ℕ) × (c < cells_of (axes_of p.now)) × (next ≡ value_of (equation_at p.now state) (central_values p.now c input)) }
+    ensures { (c : ℕ) → c < cells_of (axes_of p.now) → next ≡ value_of (equation_at p.now state) (central_values p.now c input) → IsSideBeforeAt p.now c input state 0 result }
+{
+    every_plant_is_within_limits(p);
+    plants_are_sound();
+    let (low, high) = ends_around(p, s, next, input, state);
+    p.grid().prolonged_side(state, low, high)
+}
+
+/// The ends of a successor box around one state of the next from a cell's centre.
+#[inline]
+fn ends_around(p: &Plant, s: &Slopes, next: i128, input: u32, state: u32) -> (i128, i128)
+    requires slopes { s.now ≡ deviations_of p.now }
+    requires fits { HasNoOverflow p.now }
+    requires input { input < vectors_of p.now.inputs }
+    requires state { state < length p.now.equations }
+    requires next { (c : ℕ) × (c < cells_of (axes_of p.now)) × (next ≡ value_of (equation_at p.now state) (central_values p.now c input)) }
+    ensures low { result.0 ≡ next -ℤ deviation_at p.now input (equation_at p.now state) }
+    ensures high { result.1 ≡ next +ℤ deviation_at p.now input (equation_at p.now state) }
+{
     every_plant_is_within_limits(p);
     plants_are_sound();
     centre_is_near();
     values_lie_in_the_span();
     numbers_of_an_interval_lie_in_the_range();
-    let next = next_along(p, c, input, state);
     let deviation = s.of(state, input);
     let low = next - deviation;
     let high = next + deviation;

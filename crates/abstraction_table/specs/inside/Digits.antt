@@ -1,10 +1,10 @@
 -- Pairs of a cell and an input as numbers of digits, one for each state and each input variable.
-use Rattle.std.specs.Prelude.{◌≡◌, ℕ, ◌+◌, ◌*◌, ◌/◌, ◌%◌, ◌<◌, ◌≤◌, List, [], ◌∷◌, ◌++◌, map, drop, length, slice_index_or, sum_by, IsTrue}
+use Rattle.std.specs.Prelude.{◌≡◌, ℕ, ◌+◌, ◌*◌, ◌/◌, ◌%◌, ◌<◌, ◌≤◌, List, [], ◌∷◌, ◌++◌, map, drop, length, slice_index_or, sum_by, IsTrue, IsFalse}
 use Rattle.std.specs.List.{All}
 use Rattle.grid_quantiser.specs.declared.axis.Axis.{Axis}
 use Rattle.plant_text.specs.declared.plant.variables.InputVariable.{InputVariable}
 use Rattle.plant_text.specs.plant.Description.{Description, axes_of}
-use Rattle.successor_box.specs.Sides.{moves_along, rests_on}
+use Rattle.successor_box.specs.Sides.{rests_on}
 use Rattle.abstraction_table.specs.declared.digits.Digit.{Digit}
 
 -- how many places each state and each input variable has
@@ -28,6 +28,11 @@ place_at digits pair = moved (λ (d : Digit). d.in_pair) (λ (d : Digit). d.in_t
 abbrev pub pair_at : List Digit → ℕ → ℕ
 pair_at digits place = moved (λ (d : Digit). d.in_table) (λ (d : Digit). d.in_pair) digits place
 
+-- A digit of a number, with the weight t and below m, and for how many numbers from this one on it stays the same.
+pub record IsDigitAt (t m n digit left : ℕ) : Type 0 where
+  pub digit_is : digit ≡ n / t % m
+  pub left_is : left + n % t ≡ t
+
 -- Each digit of a number is found again where it was moved to, and the number there is below a bound.
 pub record Moves (from to : Digit → ℕ) (digits : List Digit) (bound : ℕ) : Type 0 where
   pub below : (n : ℕ) → moved from to digits n < bound
@@ -46,13 +51,13 @@ pub record IsDigitOf (p : Description) (d : Digit) : Type 0 where
 abbrev pub HasDigit : List Digit → ℕ → Type 0
 HasDigit digits k = (j : ℕ) × (j < length digits) × ((d : Digit) → (slice_index_or digits j d).variable ≡ k)
 
--- The digits of an equation from a variable on, and how many places they make. The state itself has none where
--- the sides move with it: the pairs of all places are then at its first place.
+-- The digits of an equation from a variable on, and how many places they make. The pairs of all places are at the first
+-- place in a variable without a digit.
 pub record AreDigitsFrom (p : Description) (i from : ℕ) (digits : List Digit) (places : ℕ) : Type 0 where
   pub each : All (IsDigitOf p) digits
   pub all : (k : ℕ) → from ≤ k → k < length p.states + length p.inputs → IsTrue (rests_on p i k) → HasDigit digits k
   pub packed : Moves (λ (d : Digit). d.in_pair) (λ (d : Digit). d.in_table) digits places
   pub spread : Moves (λ (d : Digit). d.in_table) (λ (d : Digit). d.in_pair) digits (combinations (drop from (counts_of p)))
-  pub first : IsTrue (moves_along p i) → from ≤ i → (place : ℕ) → pair_at digits place / combinations (drop (i + 1) (counts_of p)) % slice_index_or (counts_of p) i 0 ≡ 0
+  pub others : (k : ℕ) → from ≤ k → k < length p.states + length p.inputs → IsFalse (rests_on p i k) → (place : ℕ) → pair_at digits place / combinations (drop (k + 1) (counts_of p)) % slice_index_or (counts_of p) k 0 ≡ 0
   pub some : 1 ≤ places
   pub few : places ≤ combinations (drop from (counts_of p))

@@ -7,9 +7,10 @@ use Rattle.grid_quantiser.specs.declared.axis.Axis.{Axis}
 use Rattle.grid_quantiser.specs.declared.boxes.CellBox.{CellBox}
 use Rattle.grid_quantiser.specs.Axes.{cells_of}
 use Rattle.grid_quantiser.specs.Boxes.{IsCellBox}
+use Rattle.abstraction_table.specs.inside.Fans.{HasFan, FanIsKnown}
 use Rattle.abstraction_table.specs.inside.Sources.{IsBox}
 
-IsCellBox-prop : (axes : List Axis) (first last : ℕ) → IsProp (IsCellBox axes first last)
+pub IsCellBox-prop : (axes : List Axis) (first last : ℕ) → IsProp (IsCellBox axes first last)
 IsCellBox-prop [] first last = Unit-prop
 IsCellBox-prop (a ∷ axes) first last = λ p q i. (le_prop p.0 q.0 i, le_prop p.1 q.1 i, IsCellBox-prop axes (first % cells_of axes) (last % cells_of axes) p.2 q.2 i)
 
@@ -17,4 +18,11 @@ pub IsBox-prop : (axes : List Axis) (b : Option CellBox) → IsProp (IsBox axes 
 IsBox-prop axes None = Unit-prop
 IsBox-prop axes (Some b) = IsCellBox-prop axes b.first b.last
 
-pub ruleset box_props = (props, IsBox-prop)
+HasFan-prop : (axes : List Axis) (fans : List ℕ) (b : CellBox) → IsProp (HasFan axes fans b)
+HasFan-prop axes fans b = Prim.hlevel props
+
+pub FanIsKnown-prop : (axes : List Axis) (fans : List ℕ) (b : Option CellBox) → IsProp (FanIsKnown axes fans b)
+FanIsKnown-prop axes fans None = Unit-prop
+FanIsKnown-prop axes fans (Some b) = HasFan-prop axes fans b
+
+pub ruleset box_props = (props, IsCellBox-prop, IsBox-prop, FanIsKnown-prop)

@@ -1,5 +1,5 @@
 -- The runs of the cells of boxes, listed by the shapes of the boxes.
-use Rattle.std.specs.Prelude.{◌≡◌, ℕ, ◌+◌, ◌-◌, ◌<◌, ◌≤◌, List, ◌++◌, take, drop, length, slice_index_or, Option, IfSome}
+use Rattle.std.specs.Prelude.{◌≡◌, ℕ, ◌+◌, ◌-◌, ◌<◌, ◌≤◌, List, ◌++◌, take, drop, length, slice_index, slice_index_or, Option, IfSome}
 use Rattle.std.specs.List.{All, flat_map, range_with_len}
 use Rattle.grid_quantiser.specs.declared.axis.Axis.{Axis}
 use Rattle.grid_quantiser.specs.declared.boxes.CellBox.{CellBox}
@@ -47,14 +47,13 @@ pub record HasRunsOf (axes : List Axis) (s : Shapes) (b : CellBox) : Type 0 wher
 abbrev pub HaveRuns : List Axis → Shapes → List (Option CellBox) → Type 0
 HaveRuns axes s boxes = All (λ b. IfSome b (HasRunsOf axes s)) boxes
 
--- each shape for which runs stand has these
-abbrev pub AreSound : List Axis → Shapes → Type 0
-AreSound axes s = (extent : ℕ) → (span_at s extent).from < (span_at s extent).to → HasRunsAt axes s extent
+-- each shape whose cells are counted has its runs
+abbrev pub HaveRunsAt : List Axis → Shapes → List ℕ → Type 0
+HaveRunsAt axes s fans = (distance : ℕ) → 1 ≤ slice_index fans distance → HasRunsAt axes s distance
 
--- Each shape that had its runs still has them, and what is listed is right.
-pub record KeepsRuns (axes : List Axis) (before after : Shapes) : Type 0 where
-  pub sound : AreSound axes after
-  pub kept : (extent : ℕ) → HasRunsAt axes before extent → HasRunsAt axes after extent
+-- each shape that had its runs still has them
+abbrev pub KeepsRuns : List Axis → Shapes → Shapes → Type 0
+KeepsRuns axes before after = (extent : ℕ) → HasRunsAt axes before extent → HasRunsAt axes after extent
 
 -- The runs of cells were put behind those before.
 pub record ListsRuns (before after : List Run) (cells : List ℕ) : Type 0 where

@@ -1,11 +1,11 @@
 -- The sides of all boxes, in one table for each state.
-use Rattle.std.specs.Prelude.{◌≡◌, ℕ, ◌+◌, ◌*◌, ◌/◌, ◌%◌, ◌^◌, ◌<◌, ◌≤◌, List, length, slice_index, slice_index_or, sum_by, Option, None}
+use Rattle.std.specs.Prelude.{◌≡◌, ℕ, ◌+◌, ◌*◌, ◌/◌, ◌%◌, ◌^◌, ◌<◌, ◌≤◌, List, length, slice_index, slice_index_or, sum_by, Option, None, if◌then◌else◌}
 use Rattle.std.specs.List.{All}
+use Rattle.grid_quantiser.specs.declared.boxes.CellBox.{CellBox}
 use Rattle.grid_quantiser.specs.declared.sides.Side.{Side}
 use Rattle.grid_quantiser.specs.Axes.{cells_of}
 use Rattle.plant_text.specs.plant.Description.{Description, axes_of, vectors_of}
-use Rattle.successor_box.specs.Sides.{place_in, moves_along, moved_by, IsSideBeforeAt}
-use Rattle.abstraction_table.specs.declared.boxes.Offsets.{Offsets}
+use Rattle.successor_box.specs.Sides.{place_in, moves_along, moved_by, IsSideAt, IsSideBeforeAt, IsBoxAlong}
 use Rattle.abstraction_table.specs.declared.digits.Digit.{Digit}
 use Rattle.abstraction_table.specs.declared.sides.SideTable.{SideTable}
 use Rattle.abstraction_table.specs.inside.Digits.{IsDigitOf, pair_at}
@@ -44,12 +44,21 @@ pub record HoldSides (p : Description) (tables : List SideTable) : Type 0 where
   pub one_each : length tables ≡ length p.equations
   pub each : (i : ℕ) (d : SideTable) → i < length p.equations → HoldsSidesAlong p i (slice_index_or tables i d)
 
--- What a cell brings to each table.
-pub record AreOffsetsOf (p : Description) (tables : List SideTable) (c : ℕ) (offsets : Offsets) : Type 0 where
-  pub firsts : (i : ℕ) (d : SideTable) → i < length tables → slice_index offsets.firsts i ≡ first_of p (slice_index_or tables i d) c
-  pub moves : (i : ℕ) → i < length tables → slice_index offsets.moves i ≡ moved_by p i c
+-- Places along the axes bring to a state's table what a cell brings.
+pub record BringAs (p : Description) (i : ℕ) (t : SideTable) (places : List ℕ) (c : ℕ) : Type 0 where
+  pub cell : c < cells_of (axes_of p)
+  pub first : first_in t places ≡ first_of p t c
+  pub moves : (if t.moves then slice_index places i else 0) ≡ moved_by p i c
+
+-- boxes, one for each input, are those of a cell on the axes of the first so many states
+abbrev pub AreBoxesAlong : Description → ℕ → ℕ → List (Option CellBox) → Type 0
+AreBoxesAlong p states c boxes = (u : ℕ) → u < vectors_of p.inputs → IsBoxAlong p states c u (slice_index_or boxes u None)
 
 -- the side of the pair that has the digits of a place, as many places before as its cell moves it
 abbrev pub IsSideFor : Description → ℕ → List Digit → ℕ → Option Side → Type 0
 IsSideFor p i digits place side =
     IsSideBeforeAt p (pair_at digits place / vectors_of p.inputs) (pair_at digits place % vectors_of p.inputs) i (moved_by p i (pair_at digits place / vectors_of p.inputs)) side
+
+-- a side is the one at a place of a table, moved so many places
+abbrev pub IsMovedFrom : Description → ℕ → SideTable → ℕ → ℕ → ℕ → Option Side → Type 0
+IsMovedFrom p i t first moves place side = (c u : ℕ) → IsSideBeforeAt p c u i moves (slice_index_or t.sides.items (first + place) None) → IsSideAt p c u i side

@@ -1,15 +1,12 @@
 -- How often numbers occur among cells, and where pairs are put for them.
-use Rattle.std.specs.Prelude.{◌≡◌, ℕ, ◌+◌, ◌-◌, ◌<◌, ◌≤◌, ◌==◌, ◌&&◌, leb, ltb, List, ◌++◌, map, length, replicate, slice_index, sum, sum_by, count_by, Option}
+use Rattle.std.specs.Prelude.{◌≡◌, ℕ, ◌+◌, ◌-◌, ◌^◌, ◌<◌, ◌≤◌, ◌&&◌, leb, ltb, List, ◌++◌, map, length, replicate, slice_index, sum, sum_by, Option}
 use Rattle.std.specs.List.{filter}
 use Rattle.grid_quantiser.specs.declared.axis.Axis.{Axis}
 use Rattle.grid_quantiser.specs.declared.boxes.CellBox.{CellBox}
+use Rattle.game_core.specs.Counts.{times}
 use Rattle.edge_rows.specs.Rows.{Filling, row_at}
 use Rattle.successor_box.specs.Boxes.{cells_in}
 use Rattle.abstraction_table.specs.inside.Sources.{sources_among}
-
--- how often a cell stands among cells
-abbrev pub times : ℕ → List ℕ → ℕ
-times c cells = count_by (λ x. c == x) cells
 
 -- Each cell's count has grown by how often it stands among cells.
 pub record AreCounted (before after cells : List ℕ) : Type 0 where
@@ -22,6 +19,10 @@ pub record ArePut (pair : ℕ) (before after : Filling) (cells : List ℕ) : Typ
   pub long : length after.rows ≡ length before.rows
   pub lengths : after.lengths ≡ before.lengths
   pub each : (c : ℕ) → c < length before.rows → row_at after.rows c ≡ row_at before.rows c ++ replicate (times c cells) pair
+
+-- Each cell's count stays below 2^32 where the cells are counted too.
+abbrev pub CountsFit : List ℕ → List ℕ → Type 0
+CountsFit counts cells = (c : ℕ) → slice_index counts c + times c cells < 2 ^ 32
 
 -- There is room for a pair at each of the cells.
 abbrev pub HasRoomFor : Filling → List ℕ → Type 0

@@ -57,7 +57,6 @@ loop-variable-preserved c =
     let lt : k < length p.states + length p.inputs = omega (arith, c.loop-variable-test.true, c.loop-variable.auto.variable, c.states.ensures, c.input_variables.ensures) in
     let so_far = subst (λ (n : ℕ). AreDigitsFrom p i n digits places) back c.loop-variable.invariant.so_far in
     let weight : c.loop-variable.in_pair ≡ combinations (drop (k + 1) (counts_of p)) = c.loop-variable.invariant.pairs ∙ ap (λ (n : ℕ). combinations (drop n (counts_of p))) back in
-    let state : i < length p.states + length p.inputs = omega (arith, c.requires, sound.one_each) in
     let d : Digit = record { variable = k; count = c.count_of-count.result; in_pair = c.loop-variable.in_pair; in_table = places } in
     record {
       pairs = ap₂ (λ (m n : ℕ). m * n) weight c.count_of-count.ensures ∙ mul_comm (combinations (drop (k + 1) (counts_of p))) (get_or (counts_of p) k 0) ∙ sym (next_combinations p k lt);
@@ -65,7 +64,7 @@ loop-variable-preserved c =
         | then-has_digit+in_ok-push w ↦
             let items : c.if-has_digit.each.items ≡ digits ++ d ∷ [] = ap (λ (each : Vec Digit). each.items) w.each-is ∙ w.in_ok-push.ensures.items in
             let table : c.if-has_digit.in_table ≡ places * get_or (counts_of p) k 0 = w.in_table-is ∙ ap (λ (n : ℕ). places * n) c.count_of-count.ensures in
-            subst₂ (λ (ds : List Digit) (n : ℕ). AreDigitsFrom p i k ds n) (sym items) (sym table) (digits_more p plant sound i k places digits lt so_far (sym c.has_digit.ensures ∙ w.if-has_digit.true) state d refl c.count_of-count.ensures weight refl)
+            subst₂ (λ (ds : List Digit) (n : ℕ). AreDigitsFrom p i k ds n) (sym items) (sym table) (digits_more p plant sound i k places digits lt so_far (sym c.has_digit.ensures ∙ w.if-has_digit.true) d refl c.count_of-count.ensures weight refl)
         | else-has_digit w ↦
             let items : c.if-has_digit.each.items ≡ digits = ap (λ (each : Vec Digit). each.items) w.each-is in
             subst₂ (λ (ds : List Digit) (n : ℕ). AreDigitsFrom p i k ds n) (sym items) (sym w.in_table-is) (digits_same p plant sound i k places digits lt so_far (sym c.has_digit.ensures ∙ w.if-has_digit.false))

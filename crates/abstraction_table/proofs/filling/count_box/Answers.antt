@@ -1,6 +1,6 @@
-use Rattle.std.proofs.Common.{ℕ, ◌+◌, ◌-◌, ◌^◌, ◌<◌, List, All, get_or, sym, subst}
+use Rattle.std.proofs.Common.{ℕ, ◌-◌, All, sym, subst}
 use Rattle.abstraction_table.specs.inside.Shapes.{EndsBy}
-use Rattle.abstraction_table.specs.inside.Tallies.{times, AreCounted}
+use Rattle.abstraction_table.specs.inside.Tallies.{AreCounted, CountsFit}
 use Rattle.abstraction_table.proofs.ListedShapes.{box_runs_end, box_inside}
 use Rattle.abstraction_table.proofs.filling.count_box.Goals as goal
 
@@ -16,7 +16,7 @@ count_inside-requires-clause-room c =
     let grid = c.every_grid_is_within_the_limit.ensures in
     let band = c.args.band in
     let inside = box_inside c.cells_lie_between_corners.ensures c.args.grid.now c.args.shapes.now c.args.b c.in-Some.b c.in-Some.ensures.same grid.axes c.requires.ordered c.requires.runs band.from band.len (c.holds.ensures.0 c.if-holds.true) c.runs_of-runs.result.now c.runs_of-runs.ensures in
-    subst (λ (xs : List ℕ). (i : ℕ) → get_or c.args.counts.now i 0 + times i xs < 2 ^ 32) inside.places c.requires.room
+    subst (CountsFit c.args.counts.now) inside.places c.requires.room
 
 pub returns-then-holds : goal.returns-then-holds
 returns-then-holds c =

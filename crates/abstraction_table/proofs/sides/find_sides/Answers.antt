@@ -1,4 +1,4 @@
-use Rattle.std.proofs.Common.{◌≡◌, ◌<◌, List, Option, None, ◌∙◌, length, get_or, sym, ap, subst, arith}
+use Rattle.std.proofs.Common.{◌≡◌, ℕ, ◌<◌, List, Option, None, ◌∙◌, length, get_or, sym, ap, subst, subst₂, arith}
 use Rattle.std.proofs.lemmas.List.{take_at}
 use Rattle.grid_quantiser.specs.declared.sides.Side.{Side}
 use Rattle.abstraction_table.specs.declared.digits.Digit.{Digit}
@@ -6,17 +6,16 @@ use Rattle.abstraction_table.specs.inside.Sides.{IsSideFor}
 use Rattle.abstraction_table.proofs.EquationDigits.{few_places}
 use Rattle.abstraction_table.proofs.sides.find_sides.Goals as goal
 
-pub par_for_each_mut-requires-after_bounds : goal.par_for_each_mut-requires-after_bounds
-par_for_each_mut-requires-after_bounds g c = λ κs within place found lt is.
+pub par_chunks_mut_for_each-requires-clause-accepts : goal.par_chunks_mut_for_each-requires-clause-accepts
+par_chunks_mut_for_each-requires-clause-accepts g c κs within = λ start chunk here.
     let p = c.args.p.now in
     let limits = c.every_plant_is_within_limits.ensures in
-    let below : place < c.args.digits.now.places = omega (arith, lt, c.in_ok-sides.ensures.len) in
     let few = few_places p limits.plant (c.plants_are_sound.ensures p limits.plant) c.args.state c.args.digits.now.each.items c.args.digits.now.places c.requires.digits in
-    (c.requires.slopes, (c.requires.fits, (c.requires.state, (c.requires.digits, (below, omega (arith, below, few, limits.pairs))))))
+    (c.requires.slopes, (c.requires.fits, (c.requires.state, (c.requires.digits, omega (arith, here.in_bounds, c.deref_mut.ensures.len, c.in_ok-sides.ensures.len, few, limits.pairs)))))
 
 pub returns-clause-long : goal.returns-clause-long
 returns-clause-long g c =
-    let found = c.par_for_each_mut.new.s in
+    let found = c.par_chunks_mut_for_each.new.s in
     let len : length found ≡ c.in_ok-sides.sides.len = omega arith in
     ap length (take_at found _ c.in_ok-sides.sides.len len) ∙ len ∙ c.in_ok-sides.ensures.len
 
@@ -24,8 +23,8 @@ pub returns-clause-each : goal.returns-clause-each
 returns-clause-each g c = λ place below.
     let p = c.args.p.now in
     let digits : List Digit = c.args.digits.now.each.items in
-    let found = c.par_for_each_mut.new.s in
+    let found = c.par_chunks_mut_for_each.new.s in
     let len : length found ≡ c.in_ok-sides.sides.len = omega arith in
-    let change = (c.par_for_each_mut.ensures place None (omega (arith, below, len, c.in_ok-sides.ensures.len, c.par_for_each_mut.auto.s))).1 in
-    let here = subst (IsSideFor p c.args.state digits place) change.left change.call in
+    let block = (c.par_chunks_mut_for_each.ensures.by_index place None (omega (arith, below, len, c.in_ok-sides.ensures.len, c.par_chunks_mut_for_each.auto.s))).1 in
+    let here = subst₂ (λ (n : ℕ) (side : Option Side). IsSideFor p c.args.state digits n side) block.start_plus_offset block.new_element (block.call block.offset block.offset_in_chunk) in
     subst (λ (sides : List (Option Side)). IsSideFor p c.args.state digits place (get_or sides place None)) (sym (take_at found _ c.in_ok-sides.sides.len len)) here

@@ -1,20 +1,6 @@
-use Rattle.std.proofs.Common.{ℕ, List, Option, arith}
-use Rattle.std.proofs.lemmas.List.{length-map}
-use Rattle.grid_quantiser.specs.declared.sides.Side.{Side}
-use Rattle.grid_quantiser.specs.Sides.{AreSidesOf}
-use Rattle.plant_text.specs.plant.Description.{Description, axis_of, axes_of}
-use Rattle.plant_text.specs.plant.Soundness.{IsSound}
 use Rattle.successor_box.specs.Boxes.{low_corner, high_corner}
-use Rattle.successor_box.specs.Sides.{AreSidesAt}
-use Rattle.successor_box.proofs.Enabled.{corners_ordered}
+use Rattle.successor_box.proofs.PairSides.{sides_of_box}
 use Rattle.successor_box.proofs.boxes.box_of_sides.Goals as goal
-
--- the sides of a pair are those of its box
-sides_of_box : (p : Description) (c u : ℕ) (sides : List (Option Side)) → IsSound p → AreSidesAt p c u sides → AreSidesOf (axes_of p) (low_corner p c u) (high_corner p c u) sides
-sides_of_box p c u sides sound each = record {
-  ordered = (corners_ordered p c u sound).0;
-  each = λ i lt. each i (omega (arith, lt, length-map p.states axis_of, sound.one_each));
-}
 
 pub box_with-requires : goal.box_with-requires
 box_with-requires c =

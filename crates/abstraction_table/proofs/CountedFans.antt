@@ -1,0 +1,131 @@
+-- One more shape whose cells are counted, and the boxes that have it.
+use Rattle.std.proofs.Common.{◌≡◌, ◌≢◌, ℕ, ◌+◌, ◌-◌, ◌*◌, ◌<◌, ◌≤◌, List, [], ◌∷◌, All, length, take, get_or, set, sum, Option, Some, None, sym, ap, subst, ◌∙◌, arith}
+use Rattle.std.specs.Prelude.{IfSome}
+use Rattle.std.proofs.lemmas.List.{get_or_default, get_or-set_same, get_or-set_other, length-map, take_all}
+use Rattle.std.proofs.lemmas.List.Sums.{sum_by_more}
+use Rattle.std.proofs.Math.Nat.{div-lt_iff_lt-mul, mul-zero}
+use Rattle.grid_quantiser.specs.declared.axis.Axis.{Axis}
+use Rattle.grid_quantiser.specs.declared.boxes.CellBox.{CellBox}
+use Rattle.grid_quantiser.specs.Axes.{cells_of, AreAxes}
+use Rattle.grid_quantiser.specs.Boxes.{IsCellBox, cells_between}
+use Rattle.grid_quantiser.specs.Laws.{IsMovedShape, BoxesAreMovedShapes}
+use Rattle.successor_box.specs.Boxes.{cells_in}
+use Rattle.abstraction_table.specs.inside.Fans.{fan_of, IsCounted, AreShapes, KeepsFans, FanIsKnown, AreFansOf}
+use Rattle.abstraction_table.specs.inside.Sources.{IsBox}
+use Rattle.abstraction_table.specs.inside.Tallies.{edges_of}
+use Rattle.abstraction_table.proofs.Tallying.{by_cell}
+
+-- the last corner of a box is a cell
+last_below : (axes : List Axis) (f l : ℕ) → 1 ≤ length axes → 1 ≤ cells_of axes → IsCellBox axes f l → l < cells_of axes
+last_below [] f l some cells box = absurd (omega (arith, some))
+last_below (a ∷ axes) f l some cells box = by_cell (cells_of axes) 0
+    (λ none. let no : a.count * cells_of axes ≡ 0 = ap (λ (n : ℕ). a.count * n) none ∙ mul-zero a.count in absurd (omega (arith, no, cells)))
+    (λ other. let positive : 0 < cells_of axes = omega (arith, other) in (div-lt_iff_lt-mul positive).0 box.1)
+
+-- the distance from the first cell of a box to its last is less than there are cells
+distance_below : (axes : List Axis) (b : CellBox) → AreAxes axes → 1 ≤ cells_of axes → IsMovedShape axes b.first b.last → b.last - b.first < cells_of axes
+distance_below axes b grid some moved = last_below axes 0 (b.last - b.first) grid.some_state some moved.shape
+
+-- a box has as many cells as its shape
+pub as_many : (axes : List Axis) (b : CellBox) → IsMovedShape axes b.first b.last → length (cells_between axes b.first b.last) ≡ length (cells_between axes 0 (b.last - b.first))
+as_many axes b moved = ap length moved.cells ∙ length-map (cells_between axes 0 (b.last - b.first)) (λ c. b.first + c)
+
+-- a box that is there is its shape, moved
+pub is_moved : BoxesAreMovedShapes → (axes : List Axis) (o : Option CellBox) (b : CellBox) → o ≡ Some b → AreAxes axes → IsBox axes o → IsMovedShape axes b.first b.last
+is_moved laws axes o b is grid ordered = laws axes b.first b.last grid (subst (IsBox axes) is ordered)
+
+-- ---- one more shape
+
+module _ (axes : List Axis) (before : List ℕ) (distance cells : ℕ) (within : distance < length before) (shape : IsCellBox axes 0 distance)
+    (some : 1 ≤ cells) (count : cells ≡ length (cells_between axes 0 distance)) where
+  abbrev now : List ℕ
+  now = set before distance cells
+
+  here : get_or now distance 0 ≡ cells
+  here = get_or-set_same before distance cells 0 within
+
+  counted_here : IsCounted axes now distance
+  counted_here = record { shape = shape; some = omega (arith, here, some); cells = here ∙ count }
+
+  there : (k : ℕ) → k ≢ distance → get_or now k 0 ≡ get_or before k 0
+  there k other = get_or-set_other before distance k cells 0 other
+
+  still_counted : (k : ℕ) → k ≢ distance → IsCounted axes before k → IsCounted axes now k
+  still_counted k other h = record { shape = h.shape; some = omega (arith, there k other, h.some); cells = there k other ∙ h.cells }
+
+  keeps_fans : AreShapes axes before → KeepsFans axes before now
+  keeps_fans shapes = record {
+    shapes = λ k known. by_cell k distance
+        (λ same. subst (IsCounted axes now) (sym same) counted_here)
+        (λ other. still_counted k other (shapes k (omega (arith, there k other, known))));
+    kept = λ k h. by_cell k distance (λ same. subst (IsCounted axes now) (sym same) counted_here) (λ other. still_counted k other h);
+  }
+
+-- The shape of a box was counted.
+pub record IsAdded (axes : List Axis) (before after : List ℕ) (b : CellBox) : Type 0 where
+  pub counted : IsCounted axes after (b.last - b.first)
+  pub kept : KeepsFans axes before after
+
+module _ (laws : BoxesAreMovedShapes) (axes : List Axis) (o : Option CellBox) (b : CellBox) (is : o ≡ Some b) (grid : AreAxes axes) (some_cell : 1 ≤ cells_of axes) (ordered : IsBox axes o) where
+  pub box_below : b.last - b.first < cells_of axes
+  box_below = distance_below axes b grid some_cell (is_moved laws axes o b is grid ordered)
+
+  pub is_added : (before : List ℕ) (cells : ℕ) → length before ≡ cells_of axes → AreShapes axes before → 1 ≤ cells → cells ≡ length (cells_between axes b.first b.last) → IsAdded axes before (set before (b.last - b.first) cells) b
+  is_added before cells long shapes some count =
+      let moved = is_moved laws axes o b is grid ordered in
+      let within : b.last - b.first < length before = omega (arith, box_below, long) in
+      record {
+        counted = counted_here axes before (b.last - b.first) cells within moved.shape some (count ∙ as_many axes b moved);
+        kept = keeps_fans axes before (b.last - b.first) cells within moved.shape some (count ∙ as_many axes b moved) shapes;
+      }
+
+-- ---- the shapes that a loop over the boxes has counted
+
+pub record FansSoFar (axes : List Axis) (boxes : List (Option CellBox)) (n : ℕ) (fans : List ℕ) (edges : ℕ) : Type 0 where
+  pub one_each : length fans ≡ cells_of axes
+  pub shapes : AreShapes axes fans
+  pub counted : (k : ℕ) → k < n → IfSome (get_or boxes k None) (λ (b : CellBox). IsCounted axes fans (b.last - b.first))
+  pub edges_so_far : edges ≡ edges_of axes (take n boxes)
+  pub few : sum fans ≤ edges
+
+kept_for : (axes : List Axis) (before after : List ℕ) (o : Option CellBox) → KeepsFans axes before after →
+    IfSome o (λ (b : CellBox). IsCounted axes before (b.last - b.first)) → IfSome o (λ (b : CellBox). IsCounted axes after (b.last - b.first))
+kept_for axes before after None keep h = tt
+kept_for axes before after (Some b) keep h = keep.kept (b.last - b.first) h
+
+pub fans_more : (axes : List Axis) (boxes : List (Option CellBox)) (n : ℕ) (before after : List ℕ) (edges cells : ℕ) → n < length boxes → FansSoFar axes boxes n before edges →
+    length after ≡ length before → KeepsFans axes before after → IfSome (get_or boxes n None) (λ (b : CellBox). IsCounted axes after (b.last - b.first)) →
+    cells ≡ length (cells_in axes (get_or boxes n None)) → sum after ≤ sum before + cells → FansSoFar axes boxes (n + 1) after (edges + cells)
+fans_more axes boxes n before after edges cells below h long keep counted count few = record {
+  one_each = long ∙ h.one_each;
+  shapes = keep.shapes;
+  counted = λ k lt. by_cell k n
+      (λ same. subst (λ (j : ℕ). IfSome (get_or boxes j None) (λ (b : CellBox). IsCounted axes after (b.last - b.first))) (sym same) counted)
+      (λ other. kept_for axes before after (get_or boxes k None) keep (h.counted k (omega (arith, lt, other))));
+  edges_so_far = omega (arith, h.edges_so_far, count, sum_by_more (λ b. length (cells_in axes b)) boxes n None below);
+  few = omega (arith, few, h.few);
+}
+
+-- the count for a shape is that for the boxes that have it
+has_fan : (axes : List Axis) (fans : List ℕ) (o : Option CellBox) → BoxesAreMovedShapes → AreAxes axes → 1 ≤ cells_of axes → length fans ≡ cells_of axes → IsBox axes o →
+    IfSome o (λ (b : CellBox). IsCounted axes fans (b.last - b.first)) → FanIsKnown axes fans o
+has_fan axes fans None laws grid some long ordered counted = tt
+has_fan axes fans (Some b) laws grid some long ordered counted =
+    let moved = laws axes b.first b.last grid ordered in
+    record { ordered = moved.ordered; within = omega (arith, distance_below axes b grid some moved, long); some = counted.some; cells = counted.cells ∙ sym (as_many axes b moved) }
+
+pub fans_all : (axes : List Axis) (boxes : List (Option CellBox)) (n : ℕ) (fans : List ℕ) (edges : ℕ) → BoxesAreMovedShapes → AreAxes axes → 1 ≤ cells_of axes → All (IsBox axes) boxes →
+    length boxes ≤ n → FansSoFar axes boxes n fans edges → AreFansOf axes boxes fans
+fans_all axes boxes n fans edges laws grid some ordered whole h = record {
+  one_each = h.one_each;
+  shapes = h.shapes;
+  each = λ k d lt.
+      subst (FanIsKnown axes fans) (get_or_default boxes k None d lt)
+      (has_fan axes fans (get_or boxes k None) laws grid some h.one_each (ordered k None lt) (h.counted k (omega (arith, lt, whole))));
+  few = omega (arith, h.few, h.edges_so_far, ap (edges_of axes) (take_all n boxes whole));
+}
+
+-- what is counted for a box, or none, is how many cells it has
+pub fan_is : (axes : List Axis) (fans : List ℕ) (o : Option CellBox) → FanIsKnown axes fans o → fan_of fans o ≡ length (cells_in axes o)
+fan_is axes fans None known = omega arith
+fan_is axes fans (Some b) known = known.cells

@@ -1,0 +1,116 @@
+use Rattle.std.proofs.Common.{◌≡◌, ◌≢◌, ℕ, ◌+◌, ◌-◌, ◌*◌, ◌/◌, ◌<◌, ◌≤◌, ◌∙◌, None, length, drop, ◌++◌, get_or, sym, ap, subst, arith}
+use Rattle.std.proofs.lemmas.List.{length-set, length-append, length-take-le, length-drop, get_or_append_left, get_or-set_other}
+use Rattle.std.proofs.lemmas.Nat.{mul-le}
+use Rattle.plant_text.specs.plant.Description.{vectors_of}
+use Rattle.successor_box.specs.Boxes.{IsBoxOf}
+use Rattle.successor_box.specs.Sides.{IsBoxAlong}
+use Rattle.abstraction_table.specs.inside.Rows.{last_state}
+use Rattle.abstraction_table.proofs.RowBoxes.{AreDone, later_cell, after_long, first_after, done_after, cell_count, cell_within, cell_places, cell_starts}
+use Rattle.abstraction_table.proofs.rows.boxes_in_row.Goals as goal
+
+pub add_early-early-requires-clause-cell : goal.add_early-early-requires-clause-cell
+add_early-early-requires-clause-cell c = let row = c.requires.row.2 in (c.args.c, omega (arith, row.some, row.within), c.places_of-places.ensures)
+
+pub loop-cell-init : goal.loop-cell-init
+loop-cell-init c =
+    let p = c.args.p.now in
+    let v : ℕ = c.vectors-inputs.result in
+    let n : ℕ = c.requires.row.0 in
+    let boxes = c.args.boxes.now in
+    let early = c.add_early-early.new.boxes in
+    let same = c.vectors-inputs.ensures.count in
+    let some = c.vectors-inputs.ensures.some in
+    let cells : length boxes / v ≡ n = cell_count (length boxes) n v (vectors_of p.inputs) c.requires.row.1 same some in
+    let long : length boxes ≡ n * v = c.requires.row.1 ∙ ap (λ (m : ℕ). n * m) (sym same) in
+    let wide : v ≤ length boxes = omega (arith, long, later_cell 0 n v c.requires.row.2.some) in
+    let early_long : length early ≡ v = c.add_early-early.ensures.long ∙ length-take-le v boxes wide in
+    let all : length (early ++ drop v boxes) ≡ length boxes = omega (arith, length-append early (drop v boxes), early_long, length-drop v boxes, wide) in
+    record {
+      long = all;
+      few = omega (arith, ap (λ (m : ℕ). m / v) all);
+      nine = omega arith;
+      places = λ k within other. c.places_of-places.ensures k within;
+      first = λ have d u row input.
+          subst (IsBoxAlong p c.add_early-early.result d u) (sym (get_or_append_left early (drop v boxes) None u (omega (arith, input, early_long))))
+          (c.add_early-early.ensures.along c.args.c d (omega (arith, c.requires.row.2.some, c.requires.row.2.within)) c.places_of-places.ensures row u (omega (arith, input, same)));
+      done = λ k u from input short. absurd (omega (arith, short, all, long, mul-le n v k v (omega (arith, from, ap (λ (m : ℕ). m / v) all, cells)) (omega arith)));
+    }
+
+pub add_late-requires-clause-cell : goal.add_late-requires-clause-cell
+add_late-requires-clause-cell c =
+    let p = c.args.p.now in
+    let plant = c.every_plant_is_within_limits.ensures.plant in
+    let v : ℕ = c.vectors-inputs.result in
+    let n : ℕ = c.requires.row.0 in
+    let row = c.requires.row.2 in
+    let boxes = c.loop-cell.boxes in
+    let cell : ℕ = c.loop-cell.cell - 1 in
+    let so_far = c.loop-cell.invariant in
+    let inputs = c.vectors-inputs.ensures.count in
+    let cells = cell_count (length c.args.boxes.now) n v (vectors_of p.inputs) c.requires.row.1 inputs c.vectors-inputs.ensures.some in
+    let lt : cell < n = omega (arith, so_far.few, cells, c.loop-cell-test.true) in
+    let last : c.states.result - 1 ≡ last_state p = ap (λ (k : ℕ). k - 1) c.states.ensures in
+    let first = so_far.first c.loop-cell-test.true in
+    let moved : (u : ℕ) → u < v → get_or c.copy_within.new.self (cell * v + u) None ≡ get_or boxes u None =
+    λ u input.
+    let from : 0 + (cell * v + u - cell * v) ≡ u = omega arith in
+    c.copy_within.ensures.by_index.0 (cell * v + u) None (omega arith) (omega (arith, input)) ∙ ap (λ (k : ℕ). get_or boxes k None) from
+    in
+    let within = cell_within p plant c.args.c n c.add_early-early.result v cell (c.states.result - 1) c.places_of-places.result c.loop-cell.places boxes c.copy_within.new.self row lt last inputs c.places_of-places.ensures so_far.nine so_far.places first moved in
+    let places = cell_places p plant c.args.c n c.add_early-early.result v cell (c.states.result - 1) c.places_of-places.result c.loop-cell.places boxes c.copy_within.new.self row lt last inputs c.places_of-places.ensures so_far.nine so_far.places first moved in
+    let starts = cell_starts p plant c.args.c n c.add_early-early.result v cell (c.states.result - 1) c.places_of-places.result c.loop-cell.places boxes c.copy_within.new.self row lt last inputs c.places_of-places.ensures so_far.nine so_far.places first moved in
+    (c.args.c + cell, within, places, starts)
+
+pub loop-cell-preserved : goal.loop-cell-preserved
+loop-cell-preserved c =
+    let p = c.args.p.now in
+    let plant = c.every_plant_is_within_limits.ensures.plant in
+    let v : ℕ = c.vectors-inputs.result in
+    let n : ℕ = c.requires.row.0 in
+    let row = c.requires.row.2 in
+    let boxes = c.loop-cell.boxes in
+    let cell : ℕ = c.loop-cell.cell - 1 in
+    let so_far = c.loop-cell.invariant in
+    let inputs = c.vectors-inputs.ensures.count in
+    let cells = cell_count (length c.args.boxes.now) n v (vectors_of p.inputs) c.requires.row.1 inputs c.vectors-inputs.ensures.some in
+    let lt : cell < n = omega (arith, so_far.few, cells, c.loop-cell-test.true) in
+    let last : c.states.result - 1 ≡ last_state p = ap (λ (k : ℕ). k - 1) c.states.ensures in
+    let first = so_far.first c.loop-cell-test.true in
+    let moved : (u : ℕ) → u < v → get_or c.copy_within.new.self (cell * v + u) None ≡ get_or boxes u None =
+    λ u input.
+    let from : 0 + (cell * v + u - cell * v) ≡ u = omega arith in
+    c.copy_within.ensures.by_index.0 (cell * v + u) None (omega arith) (omega (arith, input)) ∙ ap (λ (k : ℕ). get_or boxes k None) from
+    in
+    let within = cell_within p plant c.args.c n c.add_early-early.result v cell (c.states.result - 1) c.places_of-places.result c.loop-cell.places boxes c.copy_within.new.self row lt last inputs c.places_of-places.ensures so_far.nine so_far.places first moved in
+    let places = cell_places p plant c.args.c n c.add_early-early.result v cell (c.states.result - 1) c.places_of-places.result c.loop-cell.places boxes c.copy_within.new.self row lt last inputs c.places_of-places.ensures so_far.nine so_far.places first moved in
+    let starts = cell_starts p plant c.args.c n c.add_early-early.result v cell (c.states.result - 1) c.places_of-places.result c.loop-cell.places boxes c.copy_within.new.self row lt last inputs c.places_of-places.ensures so_far.nine so_far.places first moved in
+    let long : length boxes ≡ n * v = so_far.long ∙ c.requires.row.1 ∙ ap (λ (m : ℕ). n * m) (sym inputs) in
+    let late = c.add_late.new.boxes in
+    let w : ℕ = cell * v + v - cell * v in
+    let whole : w ≡ v = omega arith in
+    let this : c.loop-cell.cell ≡ cell + 1 = omega (arith, c.loop-cell-test.true) in
+    let done : AreDone p c.args.c v (cell + 1) boxes = subst (λ (k : ℕ). AreDone p c.args.c v k boxes) this so_far.done in
+    let below : (i : ℕ) → i < cell * v → get_or c.copy_within.new.self i None ≡ get_or boxes i None = λ i before. c.copy_within.ensures.by_index.1 i None before in
+    let above : (i : ℕ) → cell * v + v ≤ i → get_or c.copy_within.new.self i None ≡ get_or boxes i None = λ i from. c.copy_within.ensures.by_index.2 i None (omega (arith, from)) in
+    let room : cell * v + v ≤ length c.copy_within.new.self = omega (arith, later_cell cell n v lt, long, c.copy_within.ensures.len) in
+    let late_long : length late ≡ w =
+    c.add_late.ensures.long ∙ length-take-le w (drop (cell * v) c.copy_within.new.self) (omega (arith, length-drop (cell * v) c.copy_within.new.self, room))
+    in
+    let found : (u : ℕ) → u < v → IsBoxOf p (c.args.c + cell) u (get_or late u None) = λ u input. c.add_late.ensures.each (c.args.c + cell) within places starts u (omega (arith, input, inputs)) in
+    record {
+      long = after_long p c.args.c n c.add_early-early.result v w cell whole boxes c.copy_within.new.self late long lt first done c.copy_within.ensures.len below moved above late_long found ∙ so_far.long;
+      few = omega (arith, so_far.few);
+      nine = length-set c.loop-cell.places (c.states.result - 1) _ ∙ so_far.nine;
+      places = λ k short other.
+          let apart : k ≢ c.states.result - 1 = omega (arith, other, last) in
+          get_or-set_other c.loop-cell.places (c.states.result - 1) k _ 0 apart ∙ so_far.places k short other;
+      first = first_after p c.args.c n c.add_early-early.result v w cell whole boxes c.copy_within.new.self late long lt first done c.copy_within.ensures.len below moved above late_long found;
+      done = done_after p c.args.c n c.add_early-early.result v w cell whole boxes c.copy_within.new.self late long lt first done c.copy_within.ensures.len below moved above late_long found;
+    }
+
+pub returns-clause-each : goal.returns-clause-each
+returns-clause-each c =
+    let p = c.args.p.now in
+    let none : c.loop-cell.cell ≤ 0 = omega (arith, c.loop-cell-test.false) in
+    subst (λ (v : ℕ). (k u : ℕ) → u < v → k * v + u < length c.loop-cell.boxes → IsBoxOf p (c.args.c + k) u (get_or c.loop-cell.boxes (k * v + u) None)) c.vectors-inputs.ensures.count
+    (λ k u input short. c.loop-cell.invariant.done k u (omega (arith, none)) input short)

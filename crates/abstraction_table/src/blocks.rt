@@ -1,0 +1,141 @@
+//! The sides of blocks of places, one place after the other.
+ghost use Rattle.std.specs.Prelude.{◌≡◌, ℕ, ◌+◌, ◌*◌, ◌/◌, ◌%◌, ◌^◌, ◌≤◌, ◌<◌, length, slice_index_or, None};
+ghost use Rattle.fixed_expr.specs.declared.lanes.TheConstants.{LANES};
+ghost use Rattle.plant_text.specs.plant.Description.{vectors_of};
+ghost use Rattle.successor_box.specs.Deviations.{HasNoOverflow, deviations_of};
+ghost use Rattle.successor_box.specs.Sides.{place_in, IsPairInRow};
+ghost use Rattle.abstraction_table.specs.inside.Digits.{AreDigitsFrom, IsDigitAt, pair_at};
+ghost use Rattle.abstraction_table.specs.inside.Sides.{IsSideFor};
+
+use crate::digits::{Digit, Digits};
+use fixed_expr::LANES;
+use grid_quantiser::Side;
+use plant_text::Plant;
+use plant_text::laws::{every_plant_is_within_limits, plants_are_sound};
+use successor_box::{Slopes, prolonged_sides};
+
+/// To start a thread takes as long as to find so many sides.
+pub(crate) const CHUNK: usize = 1024;
+
+/// The sides of the pairs that have the digits of a place and of the next ones, from which the others'
+/// are moved.
+pub(crate) fn fill_chunk(
+    p: &Plant,
+    s: &Slopes,
+    state: u32,
+    digits: &Digits,
+    place: u32,
+    chunk: &mut [Option<Side>],
+)
+    requires slopes { s.now ≡ deviations_of p.now }
+    requires fits { HasNoOverflow p.now }
+    requires state { state < length p.now.equations }
+    requires digits { AreDigitsFrom p.now state 0 digits.now.each.items digits.now.places }
+    requires room { place + length chunk.old < 2 ^ 32 }
+    ensures long { length chunk.new ≡ length chunk.old }
+    ensures each { (j : ℕ) → j < length chunk.old → IsSideFor p.now state digits.now.each.items (place + j) (slice_index_or chunk.new j None) }
+{
+    for block in 0..chunk.len().div_ceil(LANES) {
+        let start = block * LANES;
+        let end = chunk.len().min(start + LANES);
+        fill_block(
+            p,
+            s,
+            state,
+            digits,
+            place + start as u32,
+            &mut chunk[start..end],
+        );
+    }
+}
+
+/// The sides of up to as many pairs as a block has.
+fn fill_block(
+    p: &Plant,
+    s: &Slopes,
+    state: u32,
+    digits: &Digits,
+    place: u32,
+    block: &mut [Option<Side>],
+)
+    requires slopes { s.now ≡ deviations_of p.now }
+    requires fits { HasNoOverflow p.now }
+    requires state { state < length p.now.equations }
+    requires digits { AreDigitsFrom p.now state 0 digits.now.each.items digits.now.places }
+    requires few { length block.old ≤ LANES }
+    ensures long { length block.new ≡ length block.old }
+    ensures each { (j : ℕ) → j < length block.old → IsSideFor p.now state digits.now.each.items (place + j) (slice_index_or block.new j None) }
+{
+    every_plant_is_within_limits(p);
+    plants_are_sound();
+    let places = places_from(p, state, digits, place);
+    let sides = prolonged_sides(p, s, &places, state);
+    let count = block.len();
+    block.copy_from_slice(&sides[..count]);
+}
+
+/// The places of these pairs in each state and each input variable.
+fn places_from(p: &Plant, state: u32, digits: &Digits, place: u32) -> [[u32; LANES]; 9]
+    requires state { state < length p.now.equations }
+    requires digits { AreDigitsFrom p.now state 0 digits.now.each.items digits.now.places }
+    ensures { (j : ℕ) → j < LANES → IsPairInRow p.now result j (pair_at digits.now.each.items (place + j) / vectors_of p.now.inputs) (pair_at digits.now.each.items (place + j) % vectors_of p.now.inputs) }
+{
+    every_plant_is_within_limits(p);
+    plants_are_sound();
+    let mut places = [[0; LANES]; 9];
+    for variable in 0..p.states() + p.input_variables() {
+        places[variable as usize] = places_in(p, state, digits, variable, place);
+    }
+    places
+}
+
+/// The places of these pairs in one variable.
+fn places_in(p: &Plant, state: u32, digits: &Digits, variable: u32, place: u32) -> [u32; LANES]
+    requires state { state < length p.now.equations }
+    requires digits { AreDigitsFrom p.now state 0 digits.now.each.items digits.now.places }
+    requires variable { variable < length p.now.states + length p.now.inputs }
+    ensures { (j : ℕ) → j < LANES → slice_index_or result j 0 ≡ place_in p.now (pair_at digits.now.each.items (place + j) / vectors_of p.now.inputs) (pair_at digits.now.each.items (place + j) % vectors_of p.now.inputs) variable }
+{
+    every_plant_is_within_limits(p);
+    plants_are_sound();
+    for d in &digits.each {
+        if d.variable == variable {
+            return digit_at(d, place);
+        }
+    }
+    [0; LANES]
+}
+
+/// What a digit is at a place and at the next ones.
+fn digit_at(d: &Digit, place: u32) -> [u32; LANES]
+    requires counted { (0 < d.now.count) × (0 < d.now.in_table) }
+    ensures { (j : ℕ) → j < LANES → slice_index_or result j 0 ≡ (place + j) / d.now.in_table % d.now.count }
+{
+    let mut digits = [0; LANES];
+    let mut digit = place / d.in_table % d.count;
+    let mut left = d.in_table - place % d.in_table;
+    for j in 0..LANES {
+        digits[j] = digit;
+        (digit, left) = next_digit(d, digit, left);
+    }
+    digits
+}
+
+/// A digit at the next place, and for how many places it stays.
+#[inline]
+fn next_digit(d: &Digit, digit: u32, left: u32) -> (u32, u32)
+    requires digit { digit < d.now.count }
+    requires some { 0 < left }
+    requires few { left ≤ d.now.in_table }
+    ensures { (n : ℕ) → IsDigitAt d.now.in_table d.now.count n digit left → IsDigitAt d.now.in_table d.now.count (n + 1) result.0 result.1 }
+{
+    if left > 1 {
+        return (digit, left - 1);
+    }
+    let next = digit + 1;
+    if next < d.count {
+        (next, d.in_table)
+    } else {
+        (0, d.in_table)
+    }
+}

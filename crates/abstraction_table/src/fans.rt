@@ -1,0 +1,89 @@
+//! How many cells boxes have.
+ghost use Rattle.std.specs.Prelude.{◌≡◌, ◌+◌, ◌-◌, ◌^◌, ◌<◌, ◌≤◌, length, sum, IfOk, IfSome};
+ghost use Rattle.std.specs.List.{All};
+ghost use Rattle.grid_quantiser.specs.Axes.{cells_of};
+ghost use Rattle.successor_box.specs.Boxes.{cells_in};
+ghost use Rattle.abstraction_table.specs.inside.Fans.{fan_of, IsCounted, AreShapes, KeepsFans, AreFansOf};
+ghost use Rattle.abstraction_table.specs.inside.Sources.{IsBox};
+ghost use Rattle.abstraction_table.specs.inside.Tallies.{edges_of};
+
+use crate::pair_box::PairBox;
+use grid_quantiser::laws::{
+    boxes_are_moved_shapes, cells_of_a_box, every_grid_is_within_the_limit,
+};
+use grid_quantiser::{CellBox, Grid};
+use std::alloc::{AllocError, Global};
+
+/// How many cells the boxes of each shape have. A box is its shape, moved by its first cell, and how
+/// far its last cell is from its first tells the shape.
+#[derive(Drop)]
+pub(crate) struct Fans {
+    // One for each such distance, 0 where no box has it.
+    pub(crate) counts: Vec<u32>,
+    // Of all boxes together.
+    pub(crate) edges: u64,
+}
+
+impl Fans {
+    /// How many cells a box has.
+    #[inline]
+    pub(crate) fn of(&self, b: Option<CellBox>) -> u32
+        requires ordered { IfSome b (λ b. b.first ≤ b.last) }
+        requires within { IfSome b (λ b. b.last - b.first < length self.now.counts.items) }
+        ensures { result ≡ fan_of self.now.counts.items b }
+    {
+        match b {
+            Some(b) => self.counts[(b.last - b.first) as usize],
+            None => 0,
+        }
+    }
+
+    /// Counts the cells of a box, where those of its shape aren't counted yet.
+    #[inline]
+    fn count(&mut self, grid: &Grid, b: Option<CellBox>) -> u32
+        requires ordered { IsBox grid.now b }
+        requires distances { length self.old.counts.items ≡ cells_of grid.now }
+        requires shapes { AreShapes grid.now self.old.counts.items }
+        ensures distances { length self.new.counts.items ≡ length self.old.counts.items }
+        ensures kept { KeepsFans grid.now self.old.counts.items self.new.counts.items }
+        ensures counted { IfSome b (λ b. IsCounted grid.now self.new.counts.items (b.last - b.first)) }
+        ensures cells { result ≡ length (cells_in grid.now b) }
+        ensures few { sum self.new.counts.items ≤ sum self.old.counts.items + result }
+    {
+        every_grid_is_within_the_limit(grid);
+        boxes_are_moved_shapes();
+        let Some(b) = b else {
+            return 0;
+        };
+        let distance = (b.last - b.first) as usize;
+        let known = self.counts[distance];
+        if known > 0 {
+            return known;
+        }
+        let cells = grid.box_count(b) as u32;
+        self.counts[distance] = cells;
+        cells
+    }
+}
+
+/// How many cells the boxes of each shape have, and all boxes together.
+pub(crate) fn find_fans(alloc: Global, grid: &Grid, boxes: &[PairBox]) -> Result<Fans, AllocError>
+    requires ordered { All (IsBox grid.now) boxes.now }
+    requires limit { length boxes.now ≤ 2 ^ 22 }
+    ensures fans { IfOk result (λ fans. AreFansOf grid.now boxes.now fans.counts.items) }
+    ensures edges { IfOk result (λ fans. fans.edges ≡ edges_of grid.now boxes.now) }
+{
+    cells_of_a_box();
+    boxes_are_moved_shapes();
+    every_grid_is_within_the_limit(grid);
+    let mut fans = Fans {
+        counts: vec![in alloc; 0; grid.cells() as usize]?,
+        edges: 0,
+    };
+    let mut edges: u64 = 0;
+    for b in boxes {
+        edges += u64::from(fans.count(grid, b.get()));
+    }
+    fans.edges = edges;
+    Ok(fans)
+}

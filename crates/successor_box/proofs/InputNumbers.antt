@@ -1,0 +1,49 @@
+-- The number of an input vector, digit by digit, and its values.
+use Rattle.std.proofs.Common.{◌≡◌, ℕ, zero, suc, ◌+◌, ◌*◌, ◌/◌, ◌%◌, ◌^◌, ◌<◌, ◌≤◌, List, [], ◌∷◌, All, length, drop, get_or, refl, sym, ap, subst, ◌∙◌, arith, inl, inr}
+use Rattle.std.specs.Prelude.{pos, nat_abs}
+use Rattle.std.proofs.Math.Nat.{mul_comm, div-div-eq-div-mul, div-eq_of_lt, div-le_self}
+use Rattle.std.proofs.lemmas.Bool.{cases_lt}
+use Rattle.std.proofs.lemmas.Nat.{div-add-mod'}
+use Rattle.std.proofs.lemmas.List.{drop_all, get_or_past}
+use Rattle.std.proofs.lemmas.List.Elements.{All-get_or, All-head, All-tail}
+use Rattle.plant_text.specs.declared.plant.variables.InputVariable.{InputVariable}
+use Rattle.plant_text.specs.plant.Description.{vectors_of, vector_of}
+use Rattle.plant_text.specs.plant.InputPlaces.{value_count, input_place}
+use Rattle.plant_text.specs.plant.Variables.{IsInputVariable}
+use Rattle.plant_text.specs.words.Numbers.{IsLiteral}
+
+vectors_next : (inputs : List InputVariable) (k : ℕ) → k < length inputs → vectors_of (drop k inputs) ≡ value_count inputs k * vectors_of (drop (k + 1) inputs)
+vectors_next [] k lt = absurd (omega (arith, lt))
+vectors_next (i ∷ inputs) zero lt = refl
+vectors_next (i ∷ inputs) (suc k) lt =
+    let next : suc (k + 1) ≡ suc k + 1 = omega arith in
+    vectors_next inputs k (omega (arith, lt)) ∙ ap (λ (n : ℕ). value_count (i ∷ inputs) (suc k) * vectors_of (drop n (i ∷ inputs))) next
+
+pub number_none : (inputs : List InputVariable) (u : ℕ) → u < vectors_of inputs → 0 ≡ u / vectors_of (drop 0 inputs)
+number_none inputs u lt = sym (div-eq_of_lt lt)
+
+pub number_more : (inputs : List InputVariable) (k u : ℕ) → k < length inputs → u / vectors_of (drop k inputs) * value_count inputs k + input_place inputs k u ≡ u / vectors_of (drop (k + 1) inputs)
+number_more inputs k u lt =
+    let m : ℕ = value_count inputs k in
+    let v : ℕ = vectors_of (drop (k + 1) inputs) in
+    ap (λ (t : ℕ). u / t * m + u / v % m) (vectors_next inputs k lt ∙ mul_comm m v)
+    ∙ ap (λ (n : ℕ). n * m + u / v % m) (sym (div-div-eq-div-mul u v m))
+    ∙ div-add-mod' (u / v) m
+
+pub number_all : (inputs : List InputVariable) (k u : ℕ) → length inputs ≤ k → u / vectors_of (drop k inputs) ≡ u
+number_all inputs k u past = ap (λ (l : List InputVariable). u / vectors_of l) (drop_all k inputs past) ∙ (let whole : u / 1 ≡ u = omega arith in whole)
+
+-- no digit makes more than the number
+pub number_below : (inputs : List InputVariable) (k u : ℕ) → k < length inputs → u / vectors_of (drop k inputs) * value_count inputs k + input_place inputs k u ≤ u
+number_below inputs k u lt = subst (λ (n : ℕ). n ≤ u) (sym (number_more inputs k u lt)) (div-le_self u (vectors_of (drop (k + 1) inputs)))
+
+-- each value of an input vector is a literal
+pub value_literal : (inputs : List InputVariable) (u k : ℕ) → All IsInputVariable inputs → nat_abs (get_or (vector_of inputs u) k (pos 0)) < 10 ^ 18
+value_literal [] u k each = omega arith
+value_literal (i ∷ inputs) u (suc k) each = value_literal inputs (u % vectors_of inputs) k (All-tail IsInputVariable i inputs each)
+value_literal (i ∷ inputs) u zero each =
+    let place : ℕ = u / vectors_of inputs in
+    elim (cases_lt place (length i.values)) [
+      | inl within ↦ All-get_or IsLiteral i.values place (pos 0) within (All-head IsInputVariable i inputs each).each
+      | inr past ↦ subst IsLiteral (sym (get_or_past i.values place (pos 0) past)) (omega arith)
+    ]

@@ -1,0 +1,121 @@
+-- The middles of the places along an axis, in 64 bits.
+use Rattle.std.proofs.Common.{◌≡◌, ℕ, zero, suc, ◌+◌, ◌*◌, ◌/◌, ◌%◌, ◌^◌, ◌<◌, ◌≤◌, List, [], ◌∷◌, length, get_or, refl, ap, ◌∙◌, w64, arith}
+use Rattle.std.specs.Prelude.{ℤ, pos, negsuc, nat_abs, ◌+ℤ◌, ◌-ℤ◌, ◌*ℤ◌, ◌≤ℤ◌, FitsSigned}
+use Rattle.std.specs.Int.{w128}
+use Rattle.std.proofs.Math.Nat.{zero-div, zero-mod}
+use Rattle.std.proofs.lemmas.Int.{ints}
+use Rattle.std.proofs.lemmas.Nat.{mul-le}
+use Rattle.std.proofs.lemmas.List.{get_or_append_left}
+use Rattle.grid_quantiser.specs.declared.axis.Axis.{Axis}
+use Rattle.grid_quantiser.specs.Axes.{IsAxis, no_axis, cells_of}
+use Rattle.grid_quantiser.specs.Cells.{low_of, high_of, radius_of, point_of}
+use Rattle.grid_quantiser.specs.Places.{middle_of}
+
+-- a number within 10^18 has room in 64 bits
+pub literal_fits : (z : ℤ) → nat_abs z < 10 ^ 18 → FitsSigned w64 z
+literal_fits z h = omega (arith, ints, h)
+
+-- a number between two literals is one
+pub between_literals : (low high z : ℤ) → nat_abs low < 10 ^ 18 → nat_abs high < 10 ^ 18 → low ≤ℤ z → z ≤ℤ high → nat_abs z < 10 ^ 18
+between_literals low high z h k below above = omega (arith, ints, h, k, below, above)
+
+-- ---- the ends of the first cell
+
+low_long : (axes : List Axis) (c : ℕ) → length (low_of axes c) ≡ length axes
+low_long [] c = refl
+low_long (a ∷ axes) c = ap suc (low_long axes (c % cells_of axes))
+
+high_long : (axes : List Axis) (c : ℕ) → length (high_of axes c) ≡ length axes
+high_long [] c = refl
+high_long (a ∷ axes) c = ap suc (high_long axes (c % cells_of axes))
+
+first_low : (axes : List Axis) (k : ℕ) → k < length axes → get_or (low_of axes 0) k (pos 0) ≡ (get_or axes k no_axis).lo
+first_low [] k lt = absurd (omega (arith, lt))
+first_low (a ∷ axes) zero lt = ap (λ (n : ℕ). a.lo +ℤ (a.width *ℤ pos n)) (zero-div (cells_of axes)) ∙ (let e : a.lo +ℤ (a.width *ℤ pos 0) ≡ a.lo = omega (arith, ints) in e)
+first_low (a ∷ axes) (suc k) lt = ap (λ (c : ℕ). get_or (low_of axes c) k (pos 0)) (zero-mod (cells_of axes)) ∙ first_low axes k (omega (arith, lt))
+
+first_high : (axes : List Axis) (k : ℕ) → k < length axes → get_or (high_of axes 0) k (pos 0) ≡ (get_or axes k no_axis).lo +ℤ ((get_or axes k no_axis).width -ℤ pos 1)
+first_high [] k lt = absurd (omega (arith, lt))
+first_high (a ∷ axes) zero lt =
+    ap (λ (n : ℕ). (a.lo +ℤ (a.width *ℤ pos n)) +ℤ (a.width -ℤ pos 1)) (zero-div (cells_of axes)) ∙ (let e : (a.lo +ℤ (a.width *ℤ pos 0)) +ℤ (a.width -ℤ pos 1) ≡ a.lo +ℤ (a.width -ℤ pos 1) = omega (arith, ints) in e)
+first_high (a ∷ axes) (suc k) lt = ap (λ (c : ℕ). get_or (high_of axes c) k (pos 0)) (zero-mod (cells_of axes)) ∙ first_high axes k (omega (arith, lt))
+
+pub low_at : (axes : List Axis) (k : ℕ) (x : ℤ) → k < length axes → x ≡ get_or (point_of (low_of axes 0)) k (pos 0) → x ≡ (get_or axes k no_axis).lo
+low_at axes k x lt is = is ∙ get_or_append_left (low_of axes 0) _ (pos 0) k (omega (arith, lt, low_long axes 0)) ∙ first_low axes k lt
+
+pub high_at : (axes : List Axis) (k : ℕ) (x : ℤ) → k < length axes → x ≡ get_or (point_of (high_of axes 0)) k (pos 0) → x ≡ (get_or axes k no_axis).lo +ℤ ((get_or axes k no_axis).width -ℤ pos 1)
+high_at axes k x lt is = is ∙ get_or_append_left (high_of axes 0) _ (pos 0) k (omega (arith, lt, high_long axes 0)) ∙ first_high axes k lt
+
+-- ---- bounds
+
+-- places before the last one
+record AreSteps (width : ℤ) (count place : ℕ) : Type 0 where
+  pub forward : pos 0 ≤ℤ (width *ℤ pos place)
+  pub within : ((width *ℤ pos place) +ℤ width) ≤ℤ (width *ℤ pos count)
+
+steps : (width : ℤ) (count place : ℕ) → pos 1 ≤ℤ width → place < count → AreSteps width count place
+steps (negsuc w) count place some lt = absurd (omega (arith, ints, some))
+steps (pos w) count place some lt =
+    let more : (place + 1) * w ≤ count * w = mul-le (place + 1) w count w (omega (arith, lt)) (omega arith) in
+    record { forward = omega (arith, ints); within = omega (arith, ints, more) }
+
+radius_below : (width : ℤ) → pos 1 ≤ℤ width → pos (nat_abs width / 2) ≤ℤ (width -ℤ pos 1)
+radius_below (negsuc w) some = absurd (omega (arith, ints, some))
+radius_below (pos w) some = omega (arith, ints, some)
+
+-- the numbers that lead to a middle have room
+pub record HasRoom (a : Axis) (place : ℕ) : Type 0 where
+  pub width : FitsSigned w64 a.width
+  pub way : FitsSigned w64 (a.width *ℤ pos place)
+  pub middle : FitsSigned w64 (middle_of a place)
+
+pub has_room : (a : Axis) (place : ℕ) → IsAxis a → place < a.count → HasRoom a place
+has_room a place is lt =
+    let s = steps a.width a.count place is.some_width lt in
+    let r = radius_below a.width is.some_width in
+    let low = is.low_bound in
+    let high : (a.lo +ℤ (a.width *ℤ pos a.count)) ≤ℤ pos (10 ^ 18) = is.high_bound in
+    let some = is.some_width in
+    record {
+      width = omega (arith, ints, s.forward, s.within, low, high, some);
+      way = omega (arith, ints, s.forward, s.within, low, high, some);
+      middle = omega (arith, ints, s.forward, s.within, r, low, high, some);
+    }
+
+-- a middle from the first one
+pub middle_from : (a : Axis) (place : ℕ) (first width : ℤ) → first ≡ middle_of a 0 → width ≡ a.width → first +ℤ (width *ℤ pos place) ≡ middle_of a place
+middle_from a place first width first-is width-is = rw (first-is, width-is) (omega (arith, ints))
+
+-- what is found of the first place
+pub record IsFirstCell (a : Axis) (low high radius : ℤ) : Type 0 where
+  pub low_fits : FitsSigned w128 low
+  pub high_fits : FitsSigned w128 high
+  pub radius_fits : FitsSigned w128 radius
+  pub middle_wide : FitsSigned w128 (low +ℤ radius)
+  pub middle_fits : FitsSigned w64 (low +ℤ radius)
+  pub middle : low +ℤ radius ≡ middle_of a 0
+  pub length_wide : FitsSigned w128 (high -ℤ low)
+  pub width_wide : FitsSigned w128 ((high -ℤ low) +ℤ pos 1)
+  pub width_fits : FitsSigned w64 ((high -ℤ low) +ℤ pos 1)
+  pub width : (high -ℤ low) +ℤ pos 1 ≡ a.width
+
+pub first_cell : (a : Axis) (low high radius : ℤ) → IsAxis a → low ≡ a.lo → high ≡ a.lo +ℤ (a.width -ℤ pos 1) → radius ≡ radius_of a → IsFirstCell a low high radius
+first_cell a low high radius is low-is high-is radius-is =
+    let s = steps a.width a.count 0 is.some_width is.some_cell in
+    let r = radius_below a.width is.some_width in
+    let from = is.low_bound in
+    let to : (a.lo +ℤ (a.width *ℤ pos a.count)) ≤ℤ pos (10 ^ 18) = is.high_bound in
+    let some = is.some_width in
+    let at : radius ≡ pos (nat_abs a.width / 2) = radius-is in
+    record {
+      low_fits = omega (arith, ints, s.within, r, from, to, some, low-is);
+      high_fits = omega (arith, ints, s.within, r, from, to, some, high-is);
+      radius_fits = omega (arith, ints, s.within, r, from, to, some, at);
+      middle_wide = omega (arith, ints, s.within, r, from, to, some, low-is, at);
+      middle_fits = omega (arith, ints, s.within, r, from, to, some, low-is, at);
+      middle = omega (arith, ints, low-is, at);
+      length_wide = omega (arith, ints, s.within, r, from, to, some, low-is, high-is);
+      width_wide = omega (arith, ints, s.within, r, from, to, some, low-is, high-is);
+      width_fits = omega (arith, ints, s.within, r, from, to, some, low-is, high-is);
+      width = omega (arith, ints, low-is, high-is);
+    }

@@ -1,0 +1,13 @@
+use Rattle.std.proofs.Common.{◌≡◌, ℕ, ◌<◌, [], length, get_or}
+use Rattle.std.specs.Prelude.{pos}
+use Rattle.successor_box.specs.Boxes.{central_values}
+use Rattle.successor_box.specs.Sides.{IsPairInRow}
+use Rattle.fixed_expr.specs.declared.lanes.TheConstants.{LANES}
+use Rattle.successor_box.proofs.blocks.columns.Given as goal
+
+-- the columns so far
+abbrev pub invariant-loop-k : goal.invariant-loop-k
+invariant-loop-k l = record {
+  long : length l.columns ≡ 15;
+  each : (i : ℕ) → i < l.k → (row c u : ℕ) → row < LANES → IsPairInRow l.p l.places row c u → get_or (get_or l.columns i []) row (pos 0) ≡ get_or (central_values l.p c u) i (pos 0);
+}

@@ -1,0 +1,232 @@
+//! The sides of many pairs at once, in blocks of rows.
+ghost use Rattle.std.specs.Prelude.{◌≡◌, ℕ, ◌+◌, ◌*◌, ◌^◌, ◌≤◌, ◌<◌, [], None, pos, length, map, slice_index_or};
+ghost use Rattle.fixed_expr.specs.declared.lanes.TheConstants.{LANES};
+ghost use Rattle.fixed_expr.specs.Expression.{expression_of};
+ghost use Rattle.fixed_expr.specs.Rows.{row_of};
+ghost use Rattle.fixed_expr.specs.Value.{IsWellFormed, StaysInRange, value_of};
+ghost use Rattle.grid_quantiser.specs.Axes.{no_axis};
+ghost use Rattle.grid_quantiser.specs.Places.{middle_of};
+ghost use Rattle.plant_text.specs.plant.Description.{axes_of, vectors_of, vector_of};
+ghost use Rattle.successor_box.specs.Boxes.{noise_centre, central_values};
+ghost use Rattle.successor_box.specs.Deviations.{HasNoOverflow, deviations_of};
+ghost use Rattle.successor_box.specs.Sides.{IsSideBeforeAt, IsPairInRow, HasPairInEachRow};
+ghost use Rattle.successor_box.specs.inside.Area.{variables_of};
+
+use crate::area::{VARIABLES_LIMIT, variables};
+use crate::laws::steps_stay_in_range;
+use crate::noise::noise_centre;
+use crate::sides::prolonged_side_around;
+use crate::slopes::Slopes;
+use fixed_expr::{Expr, LANES, eval, eval_rows};
+use grid_quantiser::Side;
+use grid_quantiser::laws::{centre_is_near, centres_rest_on_their_places};
+use plant_text::Plant;
+use plant_text::laws::{every_plant_is_within_limits, plants_are_sound};
+
+/// The sides of successor boxes along the axis of a state prolonged by its own length below, from which `moved_side` goes on,
+/// each None where one of the box's ends leaves that too, of a block of
+/// pairs with these places: a row for each state, and then for each input variable. It takes no memory.
+pub fn prolonged_sides(
+    p: &Plant,
+    s: &Slopes,
+    places: &[[u32; LANES]; 9],
+    state: u32,
+) -> [Option<Side>; LANES]
+    requires slopes { s.now ≡ deviations_of p.now }
+    requires fits { HasNoOverflow p.now }
+    requires pairs { HasPairInEachRow p.now places.now }
+    requires state { state < length p.now.equations }
+    ensures { (j c u : ℕ) → j < LANES → IsPairInRow p.now places.now j c u → IsSideBeforeAt p.now c u state 0 (slice_index_or result j None) }
+{
+    every_plant_is_within_limits(p);
+    plants_are_sound();
+    centre_is_near();
+    steps_stay_in_range();
+    let inputs = input_numbers(p, places);
+    let columns = columns(p, places, &inputs);
+    let next = values_in_rows(p.equation(state), &columns[..variables(p) as usize]);
+    let mut sides = [None; LANES];
+    for j in 0..LANES {
+        sides[j] = prolonged_side_around(p, s, next[j], inputs[j], state);
+    }
+    sides
+}
+
+/// The number of each pair's input vector.
+fn input_numbers(p: &Plant, places: &[[u32; LANES]; 9]) -> [u32; LANES]
+    requires { HasPairInEachRow p.now places.now }
+    ensures { (j c u : ℕ) → j < LANES → IsPairInRow p.now places.now j c u → slice_index_or result j 0 ≡ u }
+{
+    every_plant_is_within_limits(p);
+    let mut numbers = [0; LANES];
+    for k in 0..p.input_variables() {
+        let row = &places[(p.states() + k) as usize];
+        numbers = with_digit(&numbers, p.input_values(k), row);
+    }
+    numbers
+}
+
+/// Numbers with one digit more.
+fn with_digit(numbers: &[u32; LANES], count: u32, digits: &[u32; LANES]) -> [u32; LANES]
+    requires { (j : ℕ) → j < LANES → slice_index_or numbers.now j 0 * count + slice_index_or digits.now j 0 < 2 ^ 32 }
+    ensures { (j : ℕ) → j < LANES → slice_index_or result j 0 ≡ slice_index_or numbers.now j 0 * count + slice_index_or digits.now j 0 }
+{
+    let mut longer = [0; LANES];
+    for j in 0..LANES {
+        longer[j] = numbers[j] * count + digits[j];
+    }
+    longer
+}
+
+/// The values of the variables, a column for each. Nothing is said of the columns past the last.
+fn columns(
+    p: &Plant,
+    places: &[[u32; LANES]; 9],
+    inputs: &[u32; LANES],
+) -> [[i64; LANES]; VARIABLES_LIMIT]
+    requires pairs { HasPairInEachRow p.now places.now }
+    requires inputs { (j c u : ℕ) → j < LANES → IsPairInRow p.now places.now j c u → slice_index_or inputs.now j 0 ≡ u }
+    ensures { (j c u : ℕ) → j < LANES → IsPairInRow p.now places.now j c u → (k : ℕ) → k < variables_of p.now → slice_index_or (slice_index_or result k []) j (pos 0) ≡ slice_index_or (central_values p.now c u) k (pos 0) }
+{
+    let mut columns = [[0; LANES]; VARIABLES_LIMIT];
+    for k in 0..variables(p) {
+        columns[k as usize] = column(p, places, inputs, k);
+    }
+    columns
+}
+
+/// The values of one variable.
+fn column(p: &Plant, places: &[[u32; LANES]; 9], inputs: &[u32; LANES], k: u32) -> [i64; LANES]
+    requires pairs { HasPairInEachRow p.now places.now }
+    requires inputs { (j c u : ℕ) → j < LANES → IsPairInRow p.now places.now j c u → slice_index_or inputs.now j 0 ≡ u }
+    requires variable { k < variables_of p.now }
+    ensures { (j c u : ℕ) → j < LANES → IsPairInRow p.now places.now j c u → slice_index_or result j (pos 0) ≡ slice_index_or (central_values p.now c u) k (pos 0) }
+{
+    every_plant_is_within_limits(p);
+    plants_are_sound();
+    centres_rest_on_their_places();
+    let states = p.states();
+    let inputs_count = p.input_variables();
+    if k < states {
+        return middles(p, k, &places[k as usize]);
+    }
+    if k - states < inputs_count {
+        return input_values(p, k - states, inputs);
+    }
+    [noise_middle(p, k - states - inputs_count); LANES]
+}
+
+/// The middles of places along the axis of a state.
+fn middles(p: &Plant, state: u32, places: &[u32; LANES]) -> [i64; LANES]
+    requires state { state < length p.now.states }
+    requires within { (j : ℕ) → j < LANES → slice_index_or places.now j 0 < (slice_index_or (axes_of p.now) state no_axis).count }
+    ensures { (j : ℕ) → j < LANES → slice_index_or result j (pos 0) ≡ middle_of (slice_index_or (axes_of p.now) state no_axis) (slice_index_or places.now j 0) }
+{
+    every_plant_is_within_limits(p);
+    plants_are_sound();
+    let (first, width) = first_middle(p, state);
+    let mut middles = [0; LANES];
+    for j in 0..LANES {
+        middles[j] = first + width * i64::from(places[j]);
+    }
+    middles
+}
+
+/// The middle of the first place along the axis of a state, and how far one place is from the next.
+fn first_middle(p: &Plant, state: u32) -> (i64, i64)
+    requires { state < length p.now.states }
+    ensures middle { result.0 ≡ middle_of (slice_index_or (axes_of p.now) state no_axis) 0 }
+    ensures width { result.1 ≡ (slice_index_or (axes_of p.now) state no_axis).width }
+{
+    every_plant_is_within_limits(p);
+    plants_are_sound();
+    let grid = p.grid();
+    grid.cells();
+    let low = grid.low(0)[state as usize];
+    let high = grid.high(0)[state as usize];
+    let middle = low + grid.radius(state);
+    (middle as i64, (high - low + 1) as i64)
+}
+
+/// The values of an input variable in these input vectors.
+fn input_values(p: &Plant, variable: u32, inputs: &[u32; LANES]) -> [i64; LANES]
+    requires variable { variable < length p.now.inputs }
+    requires inputs { (j : ℕ) → j < LANES → slice_index_or inputs.now j 0 < vectors_of p.now.inputs }
+    ensures { (j : ℕ) → j < LANES → slice_index_or result j (pos 0) ≡ slice_index_or (vector_of p.now.inputs (slice_index_or inputs.now j 0)) variable (pos 0) }
+{
+    every_plant_is_within_limits(p);
+    let mut values = [0; LANES];
+    for j in 0..LANES {
+        values[j] = p.input_value(inputs[j], variable) as i64;
+    }
+    values
+}
+
+/// The middle of a noise's range.
+fn noise_middle(p: &Plant, k: u32) -> i64
+    requires { k < length p.now.noises }
+    ensures { result ≡ slice_index_or (map noise_centre p.now.noises) k (pos 0) }
+{
+    every_plant_is_within_limits(p);
+    let (low, high) = p.noise_range(k);
+    noise_centre(low, high) as i64
+}
+
+/// The value of an expression in each row: in 64 bits for all at once, or row by row where that leaves them.
+fn values_in_rows(e: &Expr, columns: &[[i64; LANES]]) -> [i128; LANES]
+    requires formed { IsWellFormed (expression_of e.now) (length columns.now) }
+    requires few { length columns.now ≤ 15 }
+    requires fits { (j : ℕ) → j < LANES → StaysInRange (expression_of e.now) (row_of columns.now j) }
+    ensures { (j : ℕ) → j < LANES → slice_index_or result j (pos 0) ≡ value_of (expression_of e.now) (row_of columns.now j) }
+{
+    let mut narrow = [0; LANES];
+    match eval_rows(e, columns, &mut narrow) {
+        Some(()) => widened(&narrow),
+        None => wide_values_in_rows(e, columns),
+    }
+}
+
+/// The same numbers in 128 bits.
+#[inline]
+fn widened(narrow: &[i64; LANES]) -> [i128; LANES]
+    ensures { (j : ℕ) → j < LANES → slice_index_or result j (pos 0) ≡ slice_index_or narrow.now j (pos 0) }
+{
+    let mut wide = [0; LANES];
+    for j in 0..LANES {
+        wide[j] = i128::from(narrow[j]);
+    }
+    wide
+}
+
+/// The value of an expression in each row, one row after the other.
+#[cold]
+fn wide_values_in_rows(e: &Expr, columns: &[[i64; LANES]]) -> [i128; LANES]
+    requires formed { IsWellFormed (expression_of e.now) (length columns.now) }
+    requires few { length columns.now ≤ 15 }
+    requires fits { (j : ℕ) → j < LANES → StaysInRange (expression_of e.now) (row_of columns.now j) }
+    ensures { (j : ℕ) → j < LANES → slice_index_or result j (pos 0) ≡ value_of (expression_of e.now) (row_of columns.now j) }
+{
+    let mut values = [0; LANES];
+    for j in 0..LANES {
+        values[j] = value_in_row(e, columns, j);
+    }
+    values
+}
+
+/// The value of an expression in one row.
+fn value_in_row(e: &Expr, columns: &[[i64; LANES]], j: usize) -> i128
+    requires formed { IsWellFormed (expression_of e.now) (length columns.now) }
+    requires few { length columns.now ≤ 15 }
+    requires row { j < LANES }
+    requires fits { StaysInRange (expression_of e.now) (row_of columns.now j) }
+    ensures { result ≡ value_of (expression_of e.now) (row_of columns.now j) }
+{
+    let mut values = [0; VARIABLES_LIMIT];
+    for k in 0..columns.len() {
+        values[k] = i128::from(columns[k][j]);
+    }
+    match eval(e, &values[..columns.len()]) {
+        Some(value) => value,
+        None => unreachable!(),
+    }
+}
