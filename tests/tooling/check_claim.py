@@ -1,0 +1,27 @@
+"""tests/claim against the repository, and docs/READING.md against what it lists."""
+
+import re
+import subprocess
+import sys
+
+# Folders that READING names whole.
+WHOLE = {"words", "reading", "writing"}
+
+
+def check(report):
+    status, output = run(report, "--strays")
+    report.expect("files of specs/ that no public clause names", (0, ""), (status, output))
+    status, output = run(report)
+    report.expect("the definitions of the claim are listed", 0, status)
+    reading = (report.top / "docs/READING.md").read_text()
+    named = set(re.findall(r"(\w+)\.antt", reading))
+    files = re.findall(r"^\w+/specs/([\w/]+)\.antt:", output, re.M)
+    report.holds("the claim has files", len(files) > 50, str(len(files)))
+    for file in files:
+        *folders, name = file.split("/")
+        report.holds(f"READING names {file}.antt", name in named or WHOLE & set(folders))
+
+
+def run(report, *words):
+    done = subprocess.run([sys.executable, str(report.top / "tests/claim"), *words], capture_output=True, check=False, text=True)
+    return done.returncode, done.stdout
