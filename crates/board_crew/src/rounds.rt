@@ -108,7 +108,8 @@ impl Rounds {
         counts_tell();
         new_places();
         let items = self.list.len() as u32;
-        let hands = hands_for(self.tally.rounds, items, workers);
+        let cuts = expected_cuts(rule, &self.list);
+        let hands = hands_for(self.tally.rounds, items, cuts, workers);
         deal(board, &mut self.root, &mut self.members, hands);
         let turn = Turn {
             rule,
@@ -122,6 +123,20 @@ impl Rounds {
         self.listed = list_logged(board, &mut self.root, &mut self.list, self.listed);
         self.tally.rounds += 1;
     }
+}
+
+// About how many cuts the round of a list takes: as if its cells had as many sources each as the first, the middle and
+// the last of them on average.
+fn expected_cuts<L: Rule>(rule: &L, list: &[u32]) -> u64
+    requires some { 0 < length list.now }
+    requires cells { All (λ c. c < (L.game rule.now).cells) list.now }
+{
+    let cells = list.len();
+    let first = rule.sources(list[0]).len() as u64;
+    let middle = rule.sources(list[cells / 2]).len() as u64;
+    let last = rule.sources(list[cells - 1]).len() as u64;
+    let three = first.saturating_add(middle).saturating_add(last);
+    three.saturating_mul(cells as u64) / 3
 }
 
 // New workers do all items of the round.

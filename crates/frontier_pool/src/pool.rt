@@ -13,21 +13,22 @@ use std::alloc::{AllocError, Global};
 use std::thread;
 use std::thread::Threads;
 
-// Fewer items a hand aren't worth a thread.
-const ITEMS_A_HAND: u32 = 500;
+// Fewer steps a hand aren't worth a thread.
+const STEPS_A_HAND: u64 = 10_000;
 
-/// How many hands a round is worth: in round 0 as many as there are items, and later one for each 500 items.
+/// How many hands a round is worth whose items take about so many short steps in all: in round 0 as many as there are
+/// items, and later one for each 10,000 steps, but no more than there are items.
 ///
-/// A further hand takes some 20 microseconds, as long as some 500 short items. Most rounds are short and come by the
-/// thousand, so threads in each would take longer than all items. Round 0 comes once.
-pub fn hands_for(round: u32, items: u32, workers: u32) -> u32
+/// A further hand takes some 20 microseconds, and each item of a shared round a fraction of one. Most rounds are short and
+/// come by the thousand, so threads in each would take longer than all steps. Round 0 comes once.
+pub fn hands_for(round: u32, items: u32, steps: u64, workers: u32) -> u32
     ensures first { round ≡ 0 → result ≡ max 1 (min workers items) }
-    ensures later { 0 < round → result ≡ max 1 (min workers (items / 500)) }
+    ensures later { 0 < round → result ≡ max 1 (min workers (min items (steps / 10000))) }
 {
     let worth = if round == 0 {
         items
     } else {
-        items / ITEMS_A_HAND
+        u64::from(items).min(steps / STEPS_A_HAND) as u32
     };
     workers.min(worth).max(1)
 }
