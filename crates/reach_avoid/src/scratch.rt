@@ -71,13 +71,14 @@ fn new_board(
     Board::of_words(alloc, words, counters, places).map_err(|_| NoMemory)
 }
 
-// The numbers with which the board begins: the counters' of the pairs, then the least words' of the cells.
+// The numbers with which the board begins: the counters' of the pairs, then the least words' of the cells. There is room for
+// what the board puts behind them, the log of the cells and its length.
 fn first_words<G: Graph>(alloc: Global, g: &G) -> Result<Vec<u64>, NoMemory>
     ensures { IfOk result (λ v. v.items ≡ map length (G.game g.now).successors ++ map word_at (G.game g.now).marks) }
 {
     let mut words = fans(alloc, g)?;
     let cells = g.cells();
-    if words.try_reserve_exact(cells as usize).is_err() {
+    if words.try_reserve_exact(2 * cells as usize + 1).is_err() {
         return Err(NoMemory);
     }
     for c in 0..cells {

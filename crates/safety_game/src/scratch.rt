@@ -66,13 +66,14 @@ fn new_board(alloc: Global, starts: Vec<u64>, places: u32) -> Result<(Board, Roo
     Board::of_words(alloc, starts, counters, places).map_err(|_| NoMemory)
 }
 
-// The numbers with which the counters begin: for each pair its successors, then for each cell its enabled inputs.
+// The numbers with which the counters begin: for each pair its successors, then for each cell its enabled inputs. There is
+// room for what the board puts behind them, the log of the cells and its length.
 fn starts<G: Graph>(alloc: Global, g: &G) -> Result<Vec<u64>, NoMemory>
     ensures { IfOk result (λ v. v.items ≡ map length (G.game g.now).successors ++ map (enabled_at (G.game g.now)) (range_with_len 0 (G.game g.now).cells)) }
 {
     let mut starts = fans(alloc, g)?;
     let cells = g.cells();
-    if starts.try_reserve_exact(cells as usize).is_err() {
+    if starts.try_reserve_exact(2 * cells as usize + 1).is_err() {
         return Err(NoMemory);
     }
     for c in 0..cells {

@@ -1,9 +1,9 @@
-use Rattle.std.proofs.Common.{◌≡◌, ℕ, ◌+◌, ◌*◌, ◌≤◌, List, None, ◌++◌, length, map, replicate, take, drop, vec_len, sym, ◌∙◌, ap, ap₂, subst, arith, length-append}
+use Rattle.std.proofs.Common.{◌≡◌, ℕ, ◌+◌, ◌*◌, List, None, ◌++◌, length, map, replicate, take, drop, sym, ◌∙◌, ap, ap₂, subst, arith, length-append}
 use Rattle.std.proofs.Math.Seq.{take-append_seam, drop-append_seam}
 use Rattle.std.proofs.lemmas.List.{length-map}
 use Rattle.board_crew.specs.Rounds.{IsUnused}
 use Rattle.game_core.specs.Game.{Game, IsGraph, pairs_of}
-use Rattle.reach_avoid.specs.Boards.{word_at, IsBoardOf}
+use Rattle.reach_avoid.specs.Boards.{word_at}
 use Rattle.reach_avoid.proofs.scratch.Scratch.new.Goals as goal
 
 -- the counters' numbers, and behind them the words'
