@@ -4,7 +4,7 @@ use Rattle.std.specs.Prelude.{IfSome}
 use Rattle.std.specs.List.{range_with_len}
 use Rattle.std.proofs.lemmas.Bool.{cases_lt}
 use Rattle.std.proofs.lemmas.List.Sums.{sum_by_more}
-use Rattle.std.proofs.lemmas.List.{length-append, map-append, get_or_past, get_or_default, get_or-set_same, get_or-set_other, length-set, take_all, take-append-drop, take-append-le, drop-append-le, length-drop}
+use Rattle.std.proofs.lemmas.List.{length-append, map-append, get_or_past, get_or-set_same, get_or-set_other, length-set, take_all, take-append-drop, take-append-le, drop-append-le, length-drop}
 use Rattle.std.proofs.Math.Seq.{drop-append_seam}
 use Rattle.grid_quantiser.specs.declared.axis.Axis.{Axis}
 use Rattle.grid_quantiser.specs.declared.boxes.CellBox.{CellBox}

@@ -1,5 +1,5 @@
 //! The sides of many pairs at once, in blocks of rows.
-ghost use Rattle.std.specs.Prelude.{◌≡◌, ℕ, ◌+◌, ◌*◌, ◌^◌, ◌≤◌, ◌<◌, [], None, pos, length, map, slice_index_or};
+ghost use Rattle.std.specs.Prelude.{◌≡◌, ℕ, ◌+◌, ◌*◌, ◌^◌, ◌≤◌, ◌<◌, [], None, pos, length, map, slice_index_or, IfSome};
 ghost use Rattle.fixed_expr.specs.declared.lanes.TheConstants.{LANES};
 ghost use Rattle.fixed_expr.specs.Expression.{expression_of};
 ghost use Rattle.fixed_expr.specs.Rows.{row_of};
@@ -7,6 +7,7 @@ ghost use Rattle.fixed_expr.specs.Value.{IsWellFormed, StaysInRange, value_of};
 ghost use Rattle.grid_quantiser.specs.Axes.{no_axis};
 ghost use Rattle.grid_quantiser.specs.Places.{middle_of};
 ghost use Rattle.plant_text.specs.plant.Description.{axes_of, vectors_of, vector_of};
+ghost use Rattle.plant_text.specs.plant.InputPlaces.{input_place};
 ghost use Rattle.successor_box.specs.Boxes.{noise_centre, central_values};
 ghost use Rattle.successor_box.specs.Deviations.{HasNoOverflow, deviations_of};
 ghost use Rattle.successor_box.specs.Sides.{IsSideBeforeAt, IsPairInRow, HasPairInEachRow};
@@ -21,7 +22,9 @@ use fixed_expr::{Expr, LANES, eval, eval_rows};
 use grid_quantiser::Side;
 use grid_quantiser::laws::{centre_is_near, centres_rest_on_their_places};
 use plant_text::Plant;
-use plant_text::laws::{every_plant_is_within_limits, plants_are_sound};
+use plant_text::laws::{
+    every_plant_is_within_limits, inputs_rest_on_their_places, plants_are_sound,
+};
 
 /// The sides of successor boxes along the axis of a state prolonged by its own length below, from which `moved_side` goes on,
 /// each None where one of the box's ends leaves that too, of a block of
@@ -43,7 +46,8 @@ pub fn prolonged_sides(
     centre_is_near();
     steps_stay_in_range();
     let inputs = input_numbers(p, places);
-    let columns = columns(p, places, &inputs);
+    let mut columns = [[0; LANES]; VARIABLES_LIMIT];
+    fill_columns(p, places, &inputs, &mut columns);
     let next = values_in_rows(p.equation(state), &columns[..variables(p) as usize]);
     let mut sides = [None; LANES];
     for j in 0..LANES {
@@ -78,21 +82,20 @@ fn with_digit(numbers: &[u32; LANES], count: u32, digits: &[u32; LANES]) -> [u32
     longer
 }
 
-/// The values of the variables, a column for each. Nothing is said of the columns past the last.
-fn columns(
+/// Puts the values of the variables into columns, one for each. Nothing is said of the columns past the last.
+fn fill_columns(
     p: &Plant,
     places: &[[u32; LANES]; 9],
     inputs: &[u32; LANES],
-) -> [[i64; LANES]; VARIABLES_LIMIT]
+    columns: &mut [[i64; LANES]; VARIABLES_LIMIT],
+)
     requires pairs { HasPairInEachRow p.now places.now }
     requires inputs { (j c u : ℕ) → j < LANES → IsPairInRow p.now places.now j c u → slice_index_or inputs.now j 0 ≡ u }
-    ensures { (j c u : ℕ) → j < LANES → IsPairInRow p.now places.now j c u → (k : ℕ) → k < variables_of p.now → slice_index_or (slice_index_or result k []) j (pos 0) ≡ slice_index_or (central_values p.now c u) k (pos 0) }
+    ensures { (j c u : ℕ) → j < LANES → IsPairInRow p.now places.now j c u → (k : ℕ) → k < variables_of p.now → slice_index_or (slice_index_or columns.new k []) j (pos 0) ≡ slice_index_or (central_values p.now c u) k (pos 0) }
 {
-    let mut columns = [[0; LANES]; VARIABLES_LIMIT];
     for k in 0..variables(p) {
         columns[k as usize] = column(p, places, inputs, k);
     }
-    columns
 }
 
 /// The values of one variable.
@@ -111,7 +114,7 @@ fn column(p: &Plant, places: &[[u32; LANES]; 9], inputs: &[u32; LANES], k: u32) 
         return middles(p, k, &places[k as usize]);
     }
     if k - states < inputs_count {
-        return input_values(p, k - states, inputs);
+        return input_values(p, k - states, inputs, &places[k as usize]);
     }
     [noise_middle(p, k - states - inputs_count); LANES]
 }
@@ -148,18 +151,64 @@ fn first_middle(p: &Plant, state: u32) -> (i64, i64)
     (middle as i64, (high - low + 1) as i64)
 }
 
-/// The values of an input variable in these input vectors.
-fn input_values(p: &Plant, variable: u32, inputs: &[u32; LANES]) -> [i64; LANES]
+/// The values of an input variable in these input vectors, which have these places among its values.
+fn input_values(
+    p: &Plant,
+    variable: u32,
+    inputs: &[u32; LANES],
+    places: &[u32; LANES],
+) -> [i64; LANES]
     requires variable { variable < length p.now.inputs }
     requires inputs { (j : ℕ) → j < LANES → slice_index_or inputs.now j 0 < vectors_of p.now.inputs }
+    requires places { (j : ℕ) → j < LANES → slice_index_or places.now j 0 ≡ input_place p.now.inputs variable (slice_index_or inputs.now j 0) }
     ensures { (j : ℕ) → j < LANES → slice_index_or result j (pos 0) ≡ slice_index_or (vector_of p.now.inputs (slice_index_or inputs.now j 0)) variable (pos 0) }
 {
-    every_plant_is_within_limits(p);
     let mut values = [0; LANES];
     for j in 0..LANES {
-        values[j] = p.input_value(inputs[j], variable) as i64;
+        let value = input_value(p, variable, inputs, places, &values, j);
+        values[j] = value;
     }
     values
+}
+
+/// The value of an input variable in one of these input vectors: that of an earlier one with the same place, where there
+/// is one at hand, since to find a value takes two divisions.
+fn input_value(
+    p: &Plant,
+    variable: u32,
+    inputs: &[u32; LANES],
+    places: &[u32; LANES],
+    values: &[i64; LANES],
+    j: usize,
+) -> i64
+    requires variable { variable < length p.now.inputs }
+    requires inputs { (j : ℕ) → j < LANES → slice_index_or inputs.now j 0 < vectors_of p.now.inputs }
+    requires places { (j : ℕ) → j < LANES → slice_index_or places.now j 0 ≡ input_place p.now.inputs variable (slice_index_or inputs.now j 0) }
+    requires row { j < LANES }
+    requires earlier { (i : ℕ) → i < j → slice_index_or values.now i (pos 0) ≡ slice_index_or (vector_of p.now.inputs (slice_index_or inputs.now i 0)) variable (pos 0) }
+    ensures { result ≡ slice_index_or (vector_of p.now.inputs (slice_index_or inputs.now j 0)) variable (pos 0) }
+{
+    every_plant_is_within_limits(p);
+    inputs_rest_on_their_places();
+    match row_before(places, p.input_values(variable) as usize, j) {
+        Some(i) => values[i],
+        None => p.input_value(inputs[j], variable) as i64,
+    }
+}
+
+/// An earlier row with the same place, where one is at hand: places mostly stay, or come again after as many rows as there
+/// are places.
+fn row_before(places: &[u32; LANES], count: usize, j: usize) -> Option<usize>
+    requires { j < LANES }
+    ensures { IfSome result (λ i. (i < j) × (slice_index_or places.now i 0 ≡ slice_index_or places.now j 0)) }
+{
+    if 0 < j && places[j - 1] == places[j] {
+        return Some(j - 1);
+    }
+    if 0 < count && count <= j && places[j - count] == places[j] {
+        return Some(j - count);
+    }
+    None
 }
 
 /// The middle of a noise's range.

@@ -10,7 +10,7 @@ use Rattle.grid_quantiser.specs.SideBoxes.{with_side}
 use Rattle.plant_text.specs.plant.Description.{Description, axes_of, vectors_of}
 use Rattle.plant_text.specs.plant.Soundness.{IsSound}
 use Rattle.successor_box.specs.Laws.{SidesMakeBoxes}
-use Rattle.successor_box.specs.Sides.{IsSideAt, IsSideBeforeAt, IsBoxAlong}
+use Rattle.successor_box.specs.Sides.{IsSideBeforeAt, IsBoxAlong}
 use Rattle.abstraction_table.specs.declared.digits.Digit.{Digit}
 use Rattle.abstraction_table.specs.declared.sides.SideTable.{SideTable}
 use Rattle.abstraction_table.specs.inside.Digits.{IsDigitOf}

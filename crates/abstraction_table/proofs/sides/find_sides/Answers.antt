@@ -1,4 +1,4 @@
-use Rattle.std.proofs.Common.{◌≡◌, ℕ, ◌<◌, List, Option, None, ◌∙◌, length, get_or, sym, ap, subst, subst₂, arith}
+use Rattle.std.proofs.Common.{◌≡◌, ℕ, List, Option, None, ◌∙◌, length, get_or, sym, ap, subst, subst₂, arith}
 use Rattle.std.proofs.lemmas.List.{take_at}
 use Rattle.grid_quantiser.specs.declared.sides.Side.{Side}
 use Rattle.abstraction_table.specs.declared.digits.Digit.{Digit}

@@ -1,11 +1,12 @@
-use Rattle.std.proofs.Common.{ℕ, ◌+◌, ◌-◌, ◌<◌, ◌≤◌, ◌∙◌, length, map, get_or, sym, ap₂, subst, w64, to_z, of_z, rules, arith}
+use Rattle.std.proofs.Common.{◌≡◌, ℕ, [], ◌+◌, ◌-◌, ◌<◌, ◌≤◌, ◌∙◌, length, map, get_or, sym, ap₂, subst, w64, to_z, of_z, rules, arith}
 use Rattle.std.specs.Prelude.{pos, FitsSigned}
 use Rattle.std.proofs.lemmas.Int.{to_z-of_z}
 use Rattle.std.proofs.lemmas.List.{get_or-replicate}
 use Rattle.plant_text.specs.plant.Description.{vectors_of, vector_of}
+use Rattle.plant_text.specs.plant.InputPlaces.{input_place}
 use Rattle.successor_box.specs.Boxes.{noise_centre}
 use Rattle.successor_box.proofs.AlikePairs.{central_input}
-use Rattle.successor_box.proofs.Columns.{place_within, state_value, noise_value}
+use Rattle.successor_box.proofs.Columns.{place_within, digit_at, state_value, noise_value}
 use Rattle.successor_box.proofs.blocks.column.Goals as goal
 
 pub middles-requires-clause-within : goal.middles-requires-clause-within
@@ -23,6 +24,18 @@ pub input_values-requires-clause-inputs : goal.input_values-requires-clause-inpu
 input_values-requires-clause-inputs c = λ row lt.
     let pair = c.requires.pairs row lt in
     subst (λ (n : ℕ). n < vectors_of c.args.p.now.inputs) (sym (c.requires.inputs row pair.0 pair.1 lt pair.2)) pair.2.input
+
+pub input_values-requires-clause-places : goal.input_values-requires-clause-places
+input_values-requires-clause-places c = λ row lt.
+    let p = c.args.p.now in
+    let k : ℕ = c.args.k in
+    let i : ℕ = k - length p.states in
+    let pair = c.requires.pairs row lt in
+    let past : length p.states ≤ k = omega (arith, c.if-k-states.false, c.states-states.ensures) in
+    let within : i < length p.inputs = omega (arith, past, c.if-k-states-2.true, c.states-states.ensures, c.input_variables-inputs_count.ensures) in
+    let here : length p.states + i ≡ k = omega (arith, past) in
+    subst (λ (n : ℕ). get_or (get_or c.args.places.now n []) row 0 ≡ input_place p.inputs i pair.1) here (digit_at p c.args.places.now row pair.0 pair.1 pair.2 i within)
+    ∙ ap₂ (λ (m n : ℕ). input_place p.inputs (k - m) n) (sym c.states-states.ensures) (sym (c.requires.inputs row pair.0 pair.1 lt pair.2))
 
 pub returns-then-k-states-2 : goal.returns-then-k-states-2
 returns-then-k-states-2 c = λ row cell u lt is.

@@ -1,31 +1,20 @@
 use Rattle.std.proofs.Common.{◌≡◌, ℕ, ◌∙◌, get_or, w64, rules, arith}
 use Rattle.std.specs.Prelude.{ℤ, pos, FitsSigned}
-use Rattle.std.specs.Int.{w128}
 use Rattle.std.proofs.lemmas.Int.{to_z-of_z}
 use Rattle.std.proofs.lemmas.List.{length-set}
 use Rattle.plant_text.specs.plant.Description.{vector_of}
 use Rattle.successor_box.proofs.Filling.{place_more}
-use Rattle.successor_box.proofs.InputNumbers.{value_literal}
-use Rattle.successor_box.proofs.Middles.{literal_fits}
 use Rattle.successor_box.proofs.blocks.input_values.Goals as goal
-
-pub overflow_cast-values : goal.overflow_cast-values
-overflow_cast-values c =
-    let x : ℤ = c.input_value.result in
-    let wide : FitsSigned w128 x = search rules in
-    let inputs = c.args.p.now.inputs in
-    rw (to_z-of_z w128 x wide, c.input_value.ensures) (literal_fits _ (value_literal inputs (get_or c.args.inputs.now c.loop-j.j 0) c.args.variable c.every_plant_is_within_limits.ensures.plant.inputs))
 
 pub loop-j-preserved : goal.loop-j-preserved
 loop-j-preserved c =
-    let x : ℤ = c.input_value.result in
-    let wide : FitsSigned w128 x = search rules in
+    let x : ℤ = c.input_value-value.result in
+    let fits : FitsSigned w64 x = search rules in
     let inputs = c.args.p.now.inputs in
-    let narrow : FitsSigned w64 x = rw c.input_value.ensures (literal_fits _ (value_literal inputs (get_or c.args.inputs.now c.loop-j.j 0) c.args.variable c.every_plant_is_within_limits.ensures.plant.inputs)) in
     let values = c.loop-j.values in
     let j : ℕ = c.loop-j.j in
-    rw (to_z-of_z w128 x wide, to_z-of_z w64 x narrow)
+    rw (to_z-of_z w64 x fits)
     (record {
       long = length-set values j x ∙ c.loop-j.invariant.long;
-      each = place_more (λ (i : ℕ) (y : ℤ). y ≡ get_or (vector_of inputs (get_or c.args.inputs.now i 0)) c.args.variable (pos 0)) (pos 0) values j x (omega arith) c.loop-j.invariant.each c.input_value.ensures;
+      each = place_more (λ (i : ℕ) (y : ℤ). y ≡ get_or (vector_of inputs (get_or c.args.inputs.now i 0)) c.args.variable (pos 0)) (pos 0) values j x (omega arith) c.loop-j.invariant.each c.input_value-value.ensures;
     })

@@ -24,7 +24,7 @@ values_in_rows-next-requires-clause-fits c = λ row lt.
     let sound = c.plants_are_sound.ensures p within.plant in
     let pair = c.requires.pairs row lt in
     let equation : expression_of c.equation.result.now ≡ equation_at p i = sym (get_or_from_slice_get p.equations i (expression_of c.equation.result.now) (Number (pos 0)) c.equation.ensures) in
-    let values : row_of (take c.variables.result c.columns-columns.result) row ≡ central_values p pair.0 pair.1 = row_is p pair.0 pair.1 c.columns-columns.result c.variables.result row c.variables.ensures.count (omega arith) (c.columns-columns.ensures row pair.0 pair.1 lt pair.2) in
+    let values : row_of (take c.variables.result c.fill_columns.new.columns) row ≡ central_values p pair.0 pair.1 = row_is p pair.0 pair.1 c.fill_columns.new.columns c.variables.result row c.variables.ensures.count (omega arith) (c.fill_columns.ensures row pair.0 pair.1 lt pair.2) in
     rw (equation, values) (stays_at p pair.0 pair.1 c.steps_stay_in_range.ensures c.centre_is_near.ensures sound c.requires.fits within.plant.noises pair.2.cell pair.2.input i c.requires.state)
 
 pub prolonged_side_around-requires-clause-input : goal.prolonged_side_around-requires-clause-input
@@ -44,7 +44,7 @@ prolonged_side_around-requires-clause-next c =
     let cell : ℕ = pair.0 in
     let u : ℕ = pair.1 in
     let equation : expression_of c.equation.result.now ≡ equation_at p i = sym (get_or_from_slice_get p.equations i (expression_of c.equation.result.now) (Number (pos 0)) c.equation.ensures) in
-    let values : row_of (take c.variables.result c.columns-columns.result) row ≡ central_values p cell u = row_is p cell u c.columns-columns.result c.variables.result row c.variables.ensures.count (omega arith) (c.columns-columns.ensures row cell u lt pair.2) in
+    let values : row_of (take c.variables.result c.fill_columns.new.columns) row ≡ central_values p cell u = row_is p cell u c.fill_columns.new.columns c.variables.result row c.variables.ensures.count (omega arith) (c.fill_columns.ensures row cell u lt pair.2) in
     let number : get_or c.input_numbers-inputs.result row 0 ≡ u = c.input_numbers-inputs.ensures row cell u lt pair.2 in
     let x : ℤ = get_or c.values_in_rows-next.result row (pos 0) in
     let fits : FitsSigned w128 x = search rules in
@@ -64,7 +64,7 @@ loop-j-preserved c =
       long = length-set sides row side ∙ c.loop-j.invariant.long;
       each = place_more (λ (j : ℕ) (s : Option Side). (cell u : ℕ) → IsPairInRow p c.args.places.now j cell u → IsSideBeforeAt p cell u i 0 s) None sides row side (omega arith) c.loop-j.invariant.each (λ cell u is.
           let equation : expression_of c.equation.result.now ≡ equation_at p i = sym (get_or_from_slice_get p.equations i (expression_of c.equation.result.now) (Number (pos 0)) c.equation.ensures) in
-          let values : row_of (take c.variables.result c.columns-columns.result) row ≡ central_values p cell u = row_is p cell u c.columns-columns.result c.variables.result row c.variables.ensures.count (omega arith) (c.columns-columns.ensures row cell u lt is) in
+          let values : row_of (take c.variables.result c.fill_columns.new.columns) row ≡ central_values p cell u = row_is p cell u c.fill_columns.new.columns c.variables.result row c.variables.ensures.count (omega arith) (c.fill_columns.ensures row cell u lt is) in
           let number : get_or c.input_numbers-inputs.result row 0 ≡ u = c.input_numbers-inputs.ensures row cell u lt is in
           let x : ℤ = get_or c.values_in_rows-next.result row (pos 0) in
           let fits : FitsSigned w128 x = search rules in

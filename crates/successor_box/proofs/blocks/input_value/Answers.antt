@@ -1,0 +1,35 @@
+use Rattle.std.proofs.Common.{ℕ, ◌<◌, ◌∙◌, get_or, w64, sym, rules, arith}
+use Rattle.std.specs.Prelude.{ℤ, pos, FitsSigned}
+use Rattle.std.specs.Int.{w128}
+use Rattle.std.proofs.lemmas.Int.{to_z-of_z}
+use Rattle.successor_box.proofs.InputNumbers.{value_literal}
+use Rattle.successor_box.proofs.Middles.{literal_fits}
+use Rattle.successor_box.proofs.blocks.input_value.Goals as goal
+
+pub overflow_cast-result : goal.overflow_cast-result
+overflow_cast-result c =
+    let x : ℤ = c.input_value.result in
+    let wide : FitsSigned w128 x = search rules in
+    rw (to_z-of_z w128 x wide, c.input_value.ensures) (literal_fits _ (value_literal c.args.p.now.inputs (get_or c.args.inputs.now c.args.j 0) c.args.variable c.every_plant_is_within_limits.ensures.plant.inputs))
+
+pub returns-in-Some : goal.returns-in-Some
+returns-in-Some c =
+    let inputs = c.args.p.now.inputs in
+    let i : ℕ = c.in-Some.i in
+    let j : ℕ = c.args.j in
+    let lt : i < j = c.in-Some.ensures.0 in
+    let row : j < 32 = c.requires.row in
+    let before : i < 32 = omega (arith, lt, row) in
+    let x : ℤ = get_or c.args.values.now i (pos 0) in
+    let fits : FitsSigned w64 x = search rules in
+    rw (to_z-of_z w64 x fits)
+    (c.requires.earlier i lt
+    ∙ c.inputs_rest_on_their_places.ensures inputs c.args.variable (get_or c.args.inputs.now i 0) (get_or c.args.inputs.now j 0) c.requires.variable (c.requires.inputs i before) (c.requires.inputs j row)
+    (sym (c.requires.places i before) ∙ c.in-Some.ensures.1 ∙ c.requires.places j row))
+
+pub returns-in-None : goal.returns-in-None
+returns-in-None c =
+    let x : ℤ = c.input_value.result in
+    let wide : FitsSigned w128 x = search rules in
+    let narrow : FitsSigned w64 x = rw c.input_value.ensures (literal_fits _ (value_literal c.args.p.now.inputs (get_or c.args.inputs.now c.args.j 0) c.args.variable c.every_plant_is_within_limits.ensures.plant.inputs)) in
+    rw (to_z-of_z w128 x wide, to_z-of_z w64 x narrow) c.input_value.ensures
