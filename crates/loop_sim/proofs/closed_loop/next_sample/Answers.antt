@@ -1,5 +1,5 @@
 use Rattle.std.proofs.Common.{◌≡◌, ◌+◌, ◌*◌, length, sym, ap, subst, ◌∙◌, arith}
-use Rattle.std.specs.Prelude.{List, ℤ, ℕ}
+use Rattle.std.specs.Prelude.{ℕ}
 use Rattle.std.proofs.lemmas.Grind.{not_there}
 use Rattle.grid_quantiser.specs.Cells.{point_of}
 use Rattle.plant_text.specs.plant.Description.{Description}

@@ -1,5 +1,5 @@
 use Rattle.std.proofs.Common.{◌≡◌, ℕ, take, ap}
-use Rattle.std.specs.Prelude.{List, ℤ, length}
+use Rattle.std.specs.Prelude.{length}
 use Rattle.loop_sim.proofs.Lines.{loss_parts}
 use Rattle.loop_sim.proofs.line_text.LineText.of_loss.Goals as goal
 

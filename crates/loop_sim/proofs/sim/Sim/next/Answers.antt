@@ -1,5 +1,4 @@
 use Rattle.std.proofs.Common.{◌≡◌, sym, ap, ◌∙◌}
-use Rattle.std.specs.Prelude.{List}
 use Rattle.loop_sim.specs.declared.closed_loop.Sample.{Sample}
 use Rattle.loop_sim.specs.declared.closed_loop.Stage.{Stage}
 use Rattle.loop_sim.specs.declared.closed_loop.Stage.TheVariants.{Due, Over}
