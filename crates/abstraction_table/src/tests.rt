@@ -2,9 +2,64 @@ use crate::{Abstraction, BuildFault, build};
 use game_core::{Graph, Mark};
 use grid_quantiser::CellBox;
 use plant_text::read_plant;
+use std::process::Abort;
 use std::test::Fail;
 use std::thread;
+use std::thread::Threads;
 use successor_box::find_slopes;
+
+/// The game of the plant that a text spells.
+fn game_of<R: AllocGlobal + Threads + Sync>(rt: &R, text: &[u8]) -> Result<Abstraction, Fail> {
+    let plant = read_plant(rt.alloc(), text)?;
+    let slopes = find_slopes(rt.alloc(), &plant)?;
+    Ok(build(rt, rt.alloc(), &plant, &slopes)?)
+}
+
+/// Ends the test where the game has other numbers of cells and of inputs.
+fn expect_size(rt: &impl Abort, game: &Abstraction, cells: u32, inputs: u32) {
+    assert_eq!(rt; game.cells(), cells);
+    assert_eq!(rt; game.inputs(), inputs);
+}
+
+/// The mark of a cell.
+fn mark_at(rt: &impl Abort, game: &Abstraction, cell: u32) -> Mark {
+    assert!(rt; cell < game.cells());
+    game.mark(cell)
+}
+
+/// The first and the last cell of a pair's box.
+fn ends_of(rt: &impl Abort, game: &Abstraction, cell: u32, input: u32) -> Option<(u32, u32)> {
+    assert!(rt; cell < game.cells());
+    assert!(rt; input < game.inputs());
+    let CellBox { first, last } = game.boxes(cell * game.inputs() + input)?;
+    Some((first, last))
+}
+
+/// Ends the test where a pair has other successors.
+fn expect_successors(
+    rt: &impl Abort,
+    game: &Abstraction,
+    cell: u32,
+    input: u32,
+    successors: &[u32],
+) {
+    assert!(rt; cell < game.cells());
+    assert!(rt; input < game.inputs());
+    let pair = cell * game.inputs() + input;
+    assert_eq!(rt; game.fan(pair) as usize, successors.len());
+    for at in 0..game.fan(pair) {
+        assert_eq!(rt;
+            Some(&game.successor(pair, at)),
+            successors.get(at as usize)
+        );
+    }
+}
+
+/// Ends the test where a cell has other sources.
+fn expect_sources(rt: &impl Abort, game: &Abstraction, cell: u32, sources: &[u32]) {
+    assert!(rt; cell < game.cells());
+    assert_eq!(rt; game.sources(cell), sources, "{cell}");
+}
 
 /// Each box is 0 to 8190, so 8,192 pairs have 8,191 successors each.
 const WIDE: &[u8] = b"plant 1\nstate x 0 8191 1\nnoise w 0 8190\nnext x = w\ngoal reach\nend\n";
@@ -33,24 +88,19 @@ const CORRIDOR: &[u8] =
 
 #[test]
 fn corridor(rt: HostRuntime) -> Result<(), Fail> {
-    let plant = read_plant(rt.alloc(), CORRIDOR)?;
-    let slopes = find_slopes(rt.alloc(), &plant)?;
-    let game = build(&rt, rt.alloc(), &plant, &slopes)?;
-    assert_eq!(rt; game.cells(), 5);
-    assert_eq!(rt; game.inputs(), 2);
-    assert_eq!(rt; game.mark(0), Mark::Obstacle);
-    assert_eq!(rt; game.mark(2), Mark::Plain);
-    assert_eq!(rt; game.mark(3), Mark::Goal);
-    assert_eq!(rt; game.boxes(3), Some(CellBox { first: 3, last: 4 }));
-    assert_eq!(rt; game.boxes(5), None);
-    assert_eq!(rt; game.fan(5), 0);
-    assert_eq!(rt; game.fan(3), 2);
-    assert_eq!(rt; game.successor(3, 1), 4);
-    assert_eq!(rt; game.sources(0), [].as_slice());
-    assert_eq!(rt; game.sources(1), [0].as_slice());
-    assert_eq!(rt; game.sources(2), [0, 1, 2].as_slice());
-    assert_eq!(rt; game.sources(3), [1, 2, 3, 4].as_slice());
-    assert_eq!(rt; game.sources(4), [3, 4].as_slice());
+    let game = game_of(&rt, CORRIDOR)?;
+    expect_size(&rt, &game, 5, 2);
+    for (cell, mark) in [(0, Mark::Obstacle), (2, Mark::Plain), (3, Mark::Goal)] {
+        assert_eq!(rt; mark_at(&rt, &game, cell), mark);
+    }
+    assert_eq!(rt; ends_of(&rt, &game, 1, 1), Some((3, 4)));
+    assert_eq!(rt; ends_of(&rt, &game, 2, 1), None);
+    expect_successors(&rt, &game, 1, 1, &[3, 4]);
+    expect_successors(&rt, &game, 2, 1, &[]);
+    let sources: [&[u32]; 5] = [&[], &[0], &[0, 1, 2], &[1, 2, 3, 4], &[3, 4]];
+    for (cell, expected) in sources.into_iter().enumerate() {
+        expect_sources(&rt, &game, cell as u32, expected);
+    }
     Ok(())
 }
 
@@ -68,20 +118,21 @@ const TWO_SHAPES: &[u8] =
 
 #[test]
 fn boxes_of_two_shapes(rt: HostRuntime) -> Result<(), Fail> {
-    let plant = read_plant(rt.alloc(), TWO_SHAPES)?;
-    let slopes = find_slopes(rt.alloc(), &plant)?;
-    let game = build(&rt, rt.alloc(), &plant, &slopes)?;
-    assert_eq!(rt; game.cells(), 5);
-    assert_eq!(rt; game.inputs(), 2);
-    assert_eq!(rt; game.fan(0), 0);
-    assert_eq!(rt; game.fan(1), 2);
-    assert_eq!(rt; game.fan(2), 3);
-    assert_eq!(rt; game.fan(3), 2);
-    assert_eq!(rt; game.fan(6), 3);
-    assert_eq!(rt; game.fan(9), 0);
-    assert_eq!(rt; game.successor(6, 2), 4);
-    assert_eq!(rt; game.sources(0), [1, 2].as_slice());
-    assert_eq!(rt; game.sources(2), [2, 3, 4, 5, 6].as_slice());
+    let game = game_of(&rt, TWO_SHAPES)?;
+    expect_size(&rt, &game, 5, 2);
+    let successors: [(u32, u32, &[u32]); 6] = [
+        (0, 0, &[]),
+        (0, 1, &[0, 1]),
+        (1, 0, &[0, 1, 2]),
+        (1, 1, &[1, 2]),
+        (3, 0, &[2, 3, 4]),
+        (4, 1, &[]),
+    ];
+    for (cell, input, expected) in successors {
+        expect_successors(&rt, &game, cell, input, expected);
+    }
+    expect_sources(&rt, &game, 0, &[1, 2]);
+    expect_sources(&rt, &game, 2, &[2, 3, 4, 5, 6]);
     assert_eq!(rt; edges(&game), 17);
     Ok(())
 }
@@ -93,20 +144,16 @@ const PLANE: &[u8] =
 
 #[test]
 fn plane(rt: HostRuntime) -> Result<(), Fail> {
-    let plant = read_plant(rt.alloc(), PLANE)?;
-    let slopes = find_slopes(rt.alloc(), &plant)?;
-    let game = build(&rt, rt.alloc(), &plant, &slopes)?;
-    assert_eq!(rt; game.cells(), 12);
-    assert_eq!(rt; game.inputs(), 1);
+    let game = game_of(&rt, PLANE)?;
+    expect_size(&rt, &game, 12, 1);
+    assert_eq!(rt; ends_of(&rt, &game, 4, 0), None);
+    assert_eq!(rt; ends_of(&rt, &game, 5, 0), Some((0, 10)));
+    assert_eq!(rt; ends_of(&rt, &game, 6, 0), Some((1, 11)));
     // Places 0 to 2 by 0 to 2.
-    assert_eq!(rt; game.boxes(5), Some(CellBox { first: 0, last: 10 }));
-    assert_eq!(rt; game.fan(5), 9);
-    assert_eq!(rt; game.successor(5, 3), 4);
-    assert_eq!(rt; game.boxes(6), Some(CellBox { first: 1, last: 11 }));
-    assert_eq!(rt; game.boxes(4), None);
-    assert_eq!(rt; game.sources(4), [5].as_slice());
-    assert_eq!(rt; game.sources(9), [5, 6].as_slice());
-    assert_eq!(rt; game.sources(7), [6].as_slice());
+    expect_successors(&rt, &game, 5, 0, &[0, 1, 2, 4, 5, 6, 8, 9, 10]);
+    expect_sources(&rt, &game, 4, &[5]);
+    expect_sources(&rt, &game, 9, &[5, 6]);
+    expect_sources(&rt, &game, 7, &[6]);
     Ok(())
 }
 
@@ -117,26 +164,22 @@ const SWING: &[u8] =
 
 #[test]
 fn swing(rt: HostRuntime) -> Result<(), Fail> {
-    let plant = read_plant(rt.alloc(), SWING)?;
-    let slopes = find_slopes(rt.alloc(), &plant)?;
-    let game = build(&rt, rt.alloc(), &plant, &slopes)?;
-    assert_eq!(rt; game.cells(), 18);
-    assert_eq!(rt; game.inputs(), 2);
-    // (2, 1) is cell 2 * 3 + 2. Under 0 it goes to (3, -1), and under 1 to (3, 0).
-    assert_eq!(rt; game.boxes(16), Some(CellBox { first: 9, last: 9 }));
-    assert_eq!(rt;
-        game.boxes(17),
-        Some(CellBox {
-            first: 10,
-            last: 10
-        })
-    );
-    // (1, -1) is cell 3. Under 0 it goes to (0, 1), and under 1 to (0, 2), outside.
-    assert_eq!(rt; game.boxes(6), Some(CellBox { first: 2, last: 2 }));
-    assert_eq!(rt; game.boxes(7), None);
-    // (0, -1) goes to -1 along x, and (5, 1) to 6.
-    assert_eq!(rt; game.boxes(0), None);
-    assert_eq!(rt; game.boxes(34), None);
+    let game = game_of(&rt, SWING)?;
+    expect_size(&rt, &game, 18, 2);
+    let boxes = [
+        // (2, 1) goes to (3, -1), and under 1 to (3, 0).
+        (8, 0, Some((9, 9))),
+        (8, 1, Some((10, 10))),
+        // (1, -1) goes to (0, 1), and under 1 to (0, 2), outside.
+        (3, 0, Some((2, 2))),
+        (3, 1, None),
+        // (0, -1) goes to -1 along x, and (5, 1) to 6.
+        (0, 0, None),
+        (17, 0, None),
+    ];
+    for (cell, input, expected) in boxes {
+        assert_eq!(rt; ends_of(&rt, &game, cell, input), expected);
+    }
     Ok(())
 }
 
@@ -155,27 +198,22 @@ fn swing(rt: HostRuntime) -> Result<(), Fail> {
 const BLEND: &[u8] =
     b"plant 1\nstate x 0 6 1\nstate y 0 4 1\ninput u 1 2\nnext x = (x * u + y) / 3\nnext y = min(x * u, y)\ngoal keep\nend\n";
 
-fn one_cell(cell: u32) -> Option<CellBox> {
-    Some(CellBox {
-        first: cell,
-        last: cell,
-    })
-}
-
 #[test]
 fn blocks_end_between_pairs(rt: HostRuntime) -> Result<(), Fail> {
-    let plant = read_plant(rt.alloc(), BLEND)?;
-    let slopes = find_slopes(rt.alloc(), &plant)?;
-    let game = build(&rt, rt.alloc(), &plant, &slopes)?;
-    assert_eq!(rt; game.cells(), 35);
-    assert_eq!(rt; game.inputs(), 2);
-    assert_eq!(rt; game.boxes(0), one_cell(0));
-    assert_eq!(rt; game.boxes(31), one_cell(10));
-    assert_eq!(rt; game.boxes(32), one_cell(6));
-    assert_eq!(rt; game.boxes(63), one_cell(21));
-    assert_eq!(rt; game.boxes(64), one_cell(12));
-    assert_eq!(rt; game.boxes(67), one_cell(28));
-    assert_eq!(rt; game.boxes(69), one_cell(29));
+    let game = game_of(&rt, BLEND)?;
+    expect_size(&rt, &game, 35, 2);
+    let cells = [
+        (0, 0, 0),
+        (15, 1, 10),
+        (16, 0, 6),
+        (31, 1, 21),
+        (32, 0, 12),
+        (33, 1, 28),
+        (34, 1, 29),
+    ];
+    for (cell, input, next) in cells {
+        assert_eq!(rt; ends_of(&rt, &game, cell, input), Some((next, next)));
+    }
     Ok(())
 }
 
@@ -185,13 +223,10 @@ const FAR: &[u8] =
 
 #[test]
 fn values_beyond_64_bits_have_their_sides(rt: HostRuntime) -> Result<(), Fail> {
-    let plant = read_plant(rt.alloc(), FAR)?;
-    let slopes = find_slopes(rt.alloc(), &plant)?;
-    let game = build(&rt, rt.alloc(), &plant, &slopes)?;
-    assert_eq!(rt; game.cells(), 40);
-    assert_eq!(rt; game.inputs(), 1);
+    let game = game_of(&rt, FAR)?;
+    expect_size(&rt, &game, 40, 1);
     for c in 0..40 {
-        assert_eq!(rt; game.boxes(c), one_cell(c));
+        assert_eq!(rt; ends_of(&rt, &game, c, 0), Some((c, c)));
     }
     Ok(())
 }
@@ -211,52 +246,25 @@ const LIFT: &[u8] =
     b"plant 1\nstate x 0 15 1\nstate y 0 15 1\nstate z 0 4 1\ninput u 0 1\ninput v 0 1\nnext x = x + u\nnext y = y - v\nnext z = 4 - z\ngoal keep\nend\n";
 
 #[test]
-fn rows_begin(rt: HostRuntime) -> Result<(), Fail> {
-    let plant = read_plant(rt.alloc(), LIFT)?;
-    let slopes = find_slopes(rt.alloc(), &plant)?;
-    let game = build(&rt, rt.alloc(), &plant, &slopes)?;
-    assert_eq!(rt; game.cells(), 1280);
-    assert_eq!(rt; game.inputs(), 4);
-    assert_eq!(rt; game.boxes(0), one_cell(4));
-    assert_eq!(rt; game.boxes(1), None);
-    assert_eq!(rt; game.boxes(2), one_cell(84));
-    assert_eq!(rt; game.boxes(3), None);
-    assert_eq!(rt; game.boxes(24), one_cell(8));
-    assert_eq!(rt; game.boxes(25), one_cell(3));
-    assert_eq!(rt; game.boxes(26), one_cell(88));
-    assert_eq!(rt; game.boxes(27), one_cell(83));
-    Ok(())
-}
-
-#[test]
 fn rows_across_chunks(rt: HostRuntime) -> Result<(), Fail> {
-    let plant = read_plant(rt.alloc(), LIFT)?;
-    let slopes = find_slopes(rt.alloc(), &plant)?;
-    let game = build(&rt, rt.alloc(), &plant, &slopes)?;
-    assert_eq!(rt; game.cells(), 1280);
-    assert_eq!(rt; game.inputs(), 4);
-    assert_eq!(rt; game.boxes(4092), one_cell(1021));
-    assert_eq!(rt; game.boxes(4093), one_cell(1016));
-    assert_eq!(rt; game.boxes(4094), one_cell(1101));
-    assert_eq!(rt; game.boxes(4095), one_cell(1096));
-    assert_eq!(rt; game.boxes(4096), one_cell(1020));
-    assert_eq!(rt; game.boxes(4097), one_cell(1015));
-    assert_eq!(rt; game.boxes(4098), one_cell(1100));
-    assert_eq!(rt; game.boxes(4099), one_cell(1095));
-    Ok(())
-}
-
-#[test]
-fn rows_end(rt: HostRuntime) -> Result<(), Fail> {
-    let plant = read_plant(rt.alloc(), LIFT)?;
-    let slopes = find_slopes(rt.alloc(), &plant)?;
-    let game = build(&rt, rt.alloc(), &plant, &slopes)?;
-    assert_eq!(rt; game.cells(), 1280);
-    assert_eq!(rt; game.inputs(), 4);
-    assert_eq!(rt; game.boxes(5116), one_cell(1275));
-    assert_eq!(rt; game.boxes(5117), one_cell(1270));
-    assert_eq!(rt; game.boxes(5118), None);
-    assert_eq!(rt; game.boxes(5119), None);
+    let game = game_of(&rt, LIFT)?;
+    expect_size(&rt, &game, 1280, 4);
+    let rows = [
+        (0, [Some(4), None, Some(84), None]),
+        (6, [Some(8), Some(3), Some(88), Some(83)]),
+        (1023, [Some(1021), Some(1016), Some(1101), Some(1096)]),
+        (1024, [Some(1020), Some(1015), Some(1100), Some(1095)]),
+        (1279, [Some(1275), Some(1270), None, None]),
+    ];
+    for (cell, next) in rows {
+        for input in 0..4 {
+            let expected = match next[input] {
+                Some(at) => Some((at, at)),
+                None => None,
+            };
+            assert_eq!(rt; ends_of(&rt, &game, cell, input as u32), expected);
+        }
+    }
     Ok(())
 }
 
@@ -266,12 +274,10 @@ const STILL: &[u8] = b"plant 1\nstate x 0 29999 1\nnext x = x\ngoal reach\nend\n
 
 #[test]
 fn bands_meet(rt: HostRuntime) -> Result<(), Fail> {
-    let plant = read_plant(rt.alloc(), STILL)?;
-    let slopes = find_slopes(rt.alloc(), &plant)?;
-    let game = build(&rt, rt.alloc(), &plant, &slopes)?;
-    assert_eq!(rt; game.cells(), 30_000);
+    let game = game_of(&rt, STILL)?;
+    expect_size(&rt, &game, 30_000, 1);
     for c in 0..30_000 {
-        assert_eq!(rt; game.sources(c), [c].as_slice());
+        expect_sources(&rt, &game, c, &[c]);
     }
     Ok(())
 }
@@ -282,9 +288,7 @@ const BROAD: &[u8] =
 
 #[test]
 fn wide_boxes_fill_several_bands(rt: HostRuntime) -> Result<(), Fail> {
-    let plant = read_plant(rt.alloc(), BROAD)?;
-    let slopes = find_slopes(rt.alloc(), &plant)?;
-    let game = build(&rt, rt.alloc(), &plant, &slopes)?;
+    let game = game_of(&rt, BROAD)?;
     assert_eq!(rt; game.cells(), 3_000);
     for c in 200..2_800 {
         let sources = game.sources(c);
@@ -309,9 +313,7 @@ fn edges(game: &Abstraction) -> u32 {
 // The corridor's cells 0 and 1 have two successors under each input, and cell 2 under the first.
 #[test]
 fn four_threads_read_one_game(rt: HostRuntime) -> Result<(), Fail> {
-    let plant = read_plant(rt.alloc(), CORRIDOR)?;
-    let slopes = find_slopes(rt.alloc(), &plant)?;
-    let game = build(&rt, rt.alloc(), &plant, &slopes)?;
+    let game = game_of(&rt, CORRIDOR)?;
     let counts = thread::map_indices(&rt, rt.alloc(), 4, &|_| edges(&game))?;
     assert_eq!(rt; counts.as_slice(), [10; 4].as_slice());
     Ok(())
@@ -319,11 +321,7 @@ fn four_threads_read_one_game(rt: HostRuntime) -> Result<(), Fail> {
 
 #[test]
 fn another_thread_takes_a_game(rt: HostRuntime) -> Result<(), Fail> {
-    let plant = read_plant(rt.alloc(), CORRIDOR)?;
-    let slopes = find_slopes(rt.alloc(), &plant)?;
-    let mut games = Vec::new(rt.alloc());
-    games.push(build(&rt, rt.alloc(), &plant, &slopes)?)?;
-    games.push(build(&rt, rt.alloc(), &plant, &slopes)?)?;
+    let games = vec![in rt.alloc(); game_of(&rt, CORRIDOR)?, game_of(&rt, CORRIDOR)?]?;
     let counts = thread::map_vec(&rt, games, &|game: Abstraction| edges(&game))?;
     assert_eq!(rt; counts.as_slice(), [10; 2].as_slice());
     Ok(())

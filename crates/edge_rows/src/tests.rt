@@ -4,8 +4,17 @@ ghost use Rattle.edge_rows.specs.Rows.{row_at, appended, HasRoom};
 use crate::laws::full_rows_leave_no_place;
 use crate::{RowFill, Rows};
 use std::alloc::Global;
+use std::process::Abort;
 use std::test::Fail;
 use std::thread;
+
+/// Ends the test where the rows are others.
+fn expect_rows(rt: &impl Abort, rows: &Rows, expected: &[&[u32]]) {
+    assert_eq!(rt; rows.rows() as usize, expected.len());
+    for r in 0..rows.rows() {
+        assert_eq!(rt; rows.row(r), expected[r as usize], "{r}");
+    }
+}
 
 #[test]
 fn rows_are_read_as_they_were_filled(rt: HostRuntime) -> Result<(), Fail> {
@@ -13,11 +22,7 @@ fn rows_are_read_as_they_were_filled(rt: HostRuntime) -> Result<(), Fail> {
     fill.put(2, 9);
     fill.put(0, 4);
     fill.put(0, 6);
-    let rows = fill.finish();
-    assert_eq!(rt; rows.rows(), 3);
-    assert_eq!(rt; rows.row(0), [4, 6].as_slice());
-    assert_eq!(rt; rows.row(1), [].as_slice());
-    assert_eq!(rt; rows.row(2), [9].as_slice());
+    expect_rows(&rt, &fill.finish(), &[&[4, 6], &[], &[9]]);
     Ok(())
 }
 
@@ -28,11 +33,7 @@ fn a_run_puts_one_value_in_each_of_its_rows(rt: HostRuntime) -> Result<(), Fail>
     fill.put_run(3, 0, 8);
     fill.put_run(1, 2, 9);
     assert_eq!(rt; fill.left(), 0);
-    let rows = fill.finish();
-    assert_eq!(rt; rows.row(0), [7].as_slice());
-    assert_eq!(rt; rows.row(1), [7, 9].as_slice());
-    assert_eq!(rt; rows.row(2), [7, 9].as_slice());
-    assert_eq!(rt; rows.row(3), [].as_slice());
+    expect_rows(&rt, &fill.finish(), &[&[7], &[7, 9], &[7, 9], &[]]);
     Ok(())
 }
 
@@ -95,40 +96,50 @@ fn put_falling(fill: &mut RowFill, rows: u32, more: u32)
     }
 }
 
+/// Which row comes first where each gets a value.
+#[derive(Clone, Copy)]
+enum Order {
+    Rising,
+    Falling,
+}
+
+fn put_each(fill: &mut RowFill, order: Order, rows: u32, more: u32)
+    requires room { (k : ℕ) → k < rows → HasRoom fill.old k }
+    requires small { rows + more < 2 ^ 32 }
+    ensures rows { (k : ℕ) → k < rows → row_at fill.new.rows k ≡ row_at fill.old.rows k ++ (k + more) ∷ [] }
+    ensures lengths { (fill.new.lengths ≡ fill.old.lengths) × (length fill.new.rows ≡ length fill.old.rows) }
+{
+    match order {
+        Order::Rising => put_rising(fill, rows, more),
+        Order::Falling => put_falling(fill, rows, more),
+    }
+}
+
 // Each row k is k and k + more.
-fn filled_rising(alloc: Global, rows: u32, more: u32) -> Result<Rows, Fail>
+fn filled(alloc: Global, order: Order, rows: u32, more: u32) -> Result<Rows, Fail>
     requires { (rows ≤ 1000) × (more ≤ 1000) }
     ensures { IfOk result (λ r. (length r ≡ rows) × ((k : ℕ) → k < rows → row_at r k ≡ k ∷ (k + more) ∷ [])) }
 {
     let lengths = vec![in alloc; 2; rows as usize]?;
     let mut fill = RowFill::new(alloc, &lengths)?;
-    put_rising(&mut fill, rows, 0);
-    put_rising(&mut fill, rows, more);
+    put_each(&mut fill, order, rows, 0);
+    put_each(&mut fill, order, rows, more);
     full_rows_leave_no_place(&fill);
     Ok(fill.finish())
 }
 
-fn filled_falling(alloc: Global, rows: u32, more: u32) -> Result<Rows, Fail>
-    requires { (rows ≤ 1000) × (more ≤ 1000) }
-    ensures { IfOk result (λ r. (length r ≡ rows) × ((k : ℕ) → k < rows → row_at r k ≡ k ∷ (k + more) ∷ [])) }
-{
-    let lengths = vec![in alloc; 2; rows as usize]?;
-    let mut fill = RowFill::new(alloc, &lengths)?;
-    put_falling(&mut fill, rows, 0);
-    put_falling(&mut fill, rows, more);
-    full_rows_leave_no_place(&fill);
-    Ok(fill.finish())
+// Ends the test where a row k of 1,000 isn't k and k + 500.
+fn expect_pairs(rt: &impl Abort, rows: &Rows) {
+    assert_eq!(rt; rows.rows(), 1000);
+    for row in 0..1000 {
+        assert_eq!(rt; rows.row(row), [row, row + 500].as_slice());
+    }
 }
 
 #[test]
 fn rows_are_the_same_whatever_the_order_of_rows(rt: HostRuntime) -> Result<(), Fail> {
-    let rising = filled_rising(rt.alloc(), 1000, 500)?;
-    let falling = filled_falling(rt.alloc(), 1000, 500)?;
-    assert_eq!(rt; rising.rows(), 1000);
-    assert_eq!(rt; falling.rows(), 1000);
-    for row in 0..1000 {
-        assert_eq!(rt; rising.row(row), [row, row + 500].as_slice());
-        assert_eq!(rt; falling.row(row), rising.row(row));
+    for order in [Order::Rising, Order::Falling] {
+        expect_pairs(&rt, &filled(rt.alloc(), order, 1000, 500)?);
     }
     Ok(())
 }
@@ -146,7 +157,7 @@ fn sum_of(rows: &Rows) -> u64 {
 
 #[test]
 fn four_threads_read_one_rows(rt: HostRuntime) -> Result<(), Fail> {
-    let rows = filled_rising(rt.alloc(), 1000, 500)?;
+    let rows = filled(rt.alloc(), Order::Rising, 1000, 500)?;
     let sums = thread::map_indices(&rt, rt.alloc(), 4, &|_| sum_of(&rows))?;
     // Twice 0 + 1 + .. + 999, and 500 in each of 1,000 rows.
     assert_eq!(rt; sums.as_slice(), [1_499_000; 4].as_slice());
@@ -187,7 +198,7 @@ fn threads_finish_fillings_that_another_began(rt: HostRuntime) -> Result<(), Fai
     let other = half_filled(rt.alloc(), 6)?;
     let fills = vec![in rt.alloc(); one, other]?;
     let rows = thread::map_vec(&rt, fills, &|fill| completed(fill, 9))?;
-    assert_eq!(rt; rows[0].row(0), [4, 9].as_slice());
-    assert_eq!(rt; rows[1].row(0), [6, 9].as_slice());
+    expect_rows(&rt, &rows[0], &[&[4, 9]]);
+    expect_rows(&rt, &rows[1], &[&[6, 9]]);
     Ok(())
 }

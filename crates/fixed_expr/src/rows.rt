@@ -99,10 +99,7 @@ mod tests {
         columns[1][31] = 9;
         let mut found = [0; LANES];
         assert_eq!(rt; eval_rows(&e, &columns, &mut found), Some(()));
-        assert_eq!(rt; found[0], -2);
-        assert_eq!(rt; found[1], 2);
-        assert_eq!(rt; found[30], 2);
-        assert_eq!(rt; found[31], 1);
+        assert_eq!(rt; [found[0], found[1], found[30], found[31]], [-2, 2, 2, 1]);
         Ok(())
     }
 

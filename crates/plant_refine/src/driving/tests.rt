@@ -1,4 +1,6 @@
+ghost use Rattle.std.specs.Prelude.{◌≡◌, IfOk};
 ghost use Rattle.game_core.specs.Solution.{IsReachSolution};
+ghost use Rattle.successor_box.specs.Deviations.{HasNoOverflow, deviations_of};
 ghost use Rattle.abstraction_table.specs.Abstraction.{IsGameOf};
 ghost use Rattle.abstraction_table.specs.Table.{game_of};
 ghost use Rattle.plant_refine.specs.RightRows.{AreRightRowsOf};
@@ -32,26 +34,46 @@ fn expect_right(rt: &impl Abort, table: &Table, game: &Abstraction, answer: &Ans
     }
 }
 
-/// Drives the carriage from a place for at most four samples, where its numbers past the one state are 7.
+/// Ends the test where the table's rows aren't those of its plant's solution.
+fn expect_solution<R: Abort + AllocGlobal + Threads + Sync>(
+    rt: &R,
+    table: &Table,
+    slopes: &Slopes,
+) -> Result<(), Fail>
+    requires slopes { slopes.now ≡ deviations_of table.now.plant }
+    requires fits { HasNoOverflow table.now.plant }
+    ensures { IfOk result (λ _. AreRightRowsOf table.now.plant table.now.rows) }
+{
+    let game = build(rt, rt.alloc(), table.plant(), slopes)?;
+    let answer = solve_plain(rt.alloc(), &game)?;
+    expect_right(rt, table, &game, &answer);
+    Ok(())
+}
+
+/// Drives the plant of a right table from a state for at most four samples.
+fn driven(rt: &impl Abort, table: &Table, slopes: &Slopes, x: &Point) -> Result<Driven, Fail>
+    requires slopes { slopes.now ≡ deviations_of table.now.plant }
+    requires fits { HasNoOverflow table.now.plant }
+    requires right { AreRightRowsOf table.now.plant table.now.rows }
+{
+    let plant = table.plant();
+    assert!(rt; plant.goal() == GoalKind::Reach);
+    assert_eq!(rt; plant.noises(), 0);
+    let cell = plant.grid().cell_of(x).ok_or("outside")?;
+    let row = table.row(cell).ok_or("no row")?;
+    assert!(rt; row.rank <= 4);
+    Ok(drive(plant, slopes, table, x, &[[0; 6]; 4]))
+}
+
+/// Drives the carriage from a place, where its numbers past the one state are 7.
 fn driven_from<R: Abort + AllocGlobal + Threads + Sync>(
     rt: &R,
     place: i128,
 ) -> Result<Driven, Fail> {
     let table = read_table(rt.alloc(), TABLE)?;
-    let plant = table.plant();
-    let slopes = find_slopes(rt.alloc(), plant)?;
-    let game = build(rt, rt.alloc(), plant, &slopes)?;
-    let answer = solve_plain(rt.alloc(), &game)?;
-    expect_right(rt, &table, &game, &answer);
-    let GoalKind::Reach = plant.goal() else {
-        return Err(Fail::from("goal keep"));
-    };
-    assert_eq!(rt; plant.noises(), 0);
-    let x = [place, 7, 7, 7, 7, 7];
-    let cell = plant.grid().cell_of(&x).ok_or("outside")?;
-    let row = table.row(cell).ok_or("no row")?;
-    assert!(rt; row.rank <= 4);
-    Ok(drive(plant, &slopes, &table, &x, &[[0; 6]; 4]))
+    let slopes = find_slopes(rt.alloc(), table.plant())?;
+    expect_solution(rt, &table, &slopes)?;
+    driven(rt, &table, &slopes, &[place, 7, 7, 7, 7, 7])
 }
 
 // By the table's inputs the places are 1, 4, 7, 10 and 13.

@@ -15,6 +15,22 @@ const VALUES_64: &[u8] =
 const VALUES_65: &[u8] =
     b"input u 1 1 1 1 1 1 1 1 1 1 1 1 1 1 1 1 1 1 1 1 1 1 1 1 1 1 1 1 1 1 1 1 1 1 1 1 1 1 1 1 1 1 1 1 1 1 1 1 1 1 1 1 1 1 1 1 1 1 1 1 1 1 1 1 1";
 
+/// What a statement is.
+fn kind(statement: &Statement) -> &'static str {
+    match statement {
+        Statement::Version => "version",
+        Statement::State(_) => "state",
+        Statement::Input(_) => "input",
+        Statement::Noise(_) => "noise",
+        Statement::Next { .. } => "next",
+        Statement::Target(_) => "target",
+        Statement::Obstacle(_) => "obstacle",
+        Statement::Goal(GoalKind::Reach) => "reach",
+        Statement::Goal(GoalKind::Keep) => "keep",
+        Statement::End => "end",
+    }
+}
+
 /// What a line states where no variable is known.
 fn kind_of(alloc: Global, line: &[u8]) -> &'static str {
     let none = Variables {
@@ -23,16 +39,7 @@ fn kind_of(alloc: Global, line: &[u8]) -> &'static str {
         noises: Vec::new(alloc),
     };
     match statement_in(alloc, &none, line) {
-        Ok(Statement::Version) => "version",
-        Ok(Statement::State(_)) => "state",
-        Ok(Statement::Input(_)) => "input",
-        Ok(Statement::Noise(_)) => "noise",
-        Ok(Statement::Next { .. }) => "next",
-        Ok(Statement::Target(_)) => "target",
-        Ok(Statement::Obstacle(_)) => "obstacle",
-        Ok(Statement::Goal(GoalKind::Reach)) => "reach",
-        Ok(Statement::Goal(GoalKind::Keep)) => "keep",
-        Ok(Statement::End) => "end",
+        Ok(statement) => kind(&statement),
         Err(ReadFault::Malformed) => "refused",
         Err(ReadFault::Memory) => "no memory",
     }
@@ -139,20 +146,33 @@ fn boxes(rt: HostRuntime) {
 }
 
 #[test]
-fn lines_and_words(rt: HostRuntime) {
-    assert_eq!(rt;
-        next_line(b"a\n\nb"),
-        Some((b"a".as_slice(), b"\nb".as_slice()))
-    );
-    assert_eq!(rt; next_line(b"\nb"), Some((b"".as_slice(), b"b".as_slice())));
-    assert_eq!(rt; next_line(b"b"), Some((b"b".as_slice(), b"".as_slice())));
-    assert_eq!(rt; next_line(b""), None);
-    assert_eq!(rt;
-        next_word(b" \tab\rc "),
-        Some((b"ab".as_slice(), b"\rc ".as_slice()))
-    );
-    assert_eq!(rt; next_word(b" \r"), None);
-    assert!(rt; is_passed_over(b" \t\r"));
-    assert!(rt; is_passed_over(b" #1"));
-    assert!(rt; !is_passed_over(b"x # y"));
+fn lines(rt: HostRuntime) {
+    let cases: [(&[u8], Option<(&[u8], &[u8])>); 4] = [
+        (b"a\n\nb", Some((b"a", b"\nb"))),
+        (b"\nb", Some((b"", b"b"))),
+        (b"b", Some((b"b", b""))),
+        (b"", None),
+    ];
+    for (bytes, line) in cases {
+        assert_eq!(rt; next_line(bytes), line, "{bytes:?}");
+    }
+}
+
+#[test]
+fn words(rt: HostRuntime) {
+    let cases: [(&[u8], Option<(&[u8], &[u8])>); 2] = [
+        (b" \tab\rc ", Some((b"ab", b"\rc "))),
+        (b" \r", None),
+    ];
+    for (bytes, word) in cases {
+        assert_eq!(rt; next_word(bytes), word, "{bytes:?}");
+    }
+}
+
+#[test]
+fn lines_that_are_passed_over(rt: HostRuntime) {
+    let cases: [(&[u8], bool); 3] = [(b" \t\r", true), (b" #1", true), (b"x # y", false)];
+    for (line, is) in cases {
+        assert_eq!(rt; is_passed_over(line), is, "{line:?}");
+    }
 }

@@ -97,22 +97,33 @@ fn writes_the_canonical_text(rt: HostRuntime) -> Result<(), Fail> {
 #[test]
 fn counts(rt: HostRuntime) -> Result<(), Fail> {
     let plant = worked(rt.alloc())?;
-    assert_eq!(rt; plant.states(), 1);
-    assert_eq!(rt; plant.input_variables(), 1);
-    assert_eq!(rt; plant.noises(), 0);
-    assert_eq!(rt; plant.vectors(), 2);
-    assert_eq!(rt; plant.input_value(1, 0), 3);
-    assert_eq!(rt; plant.grid().cells(), 5);
-    assert_eq!(rt; plant.targets(), 1);
-    assert_eq!(rt; plant.target(0), (on_line(12), on_line(14)));
-    assert_eq!(rt; plant.obstacles(), 1);
-    assert_eq!(rt; plant.obstacle(0), (on_line(0), on_line(0)));
+    let variables = [plant.states(), plant.input_variables(), plant.noises()];
+    assert_eq!(rt; variables, [1, 1, 0]);
+    let others = [plant.vectors(), plant.targets(), plant.obstacles()];
+    assert_eq!(rt; others, [2, 1, 1]);
     assert_eq!(rt; plant.goal(), GoalKind::Reach);
-    assert_eq!(rt; plant.name(1).as_bytes(), b"u".as_slice());
-    assert!(rt; plant.goal_cell(4));
-    assert!(rt; !plant.goal_cell(3));
-    assert!(rt; plant.obstacle_cell(0));
-    assert!(rt; !plant.obstacle_cell(1));
+    Ok(())
+}
+
+#[test]
+fn contents(rt: HostRuntime) -> Result<(), Fail> {
+    let plant = worked(rt.alloc())?;
+    assert!(rt; plant.input_variables() == 1 && plant.vectors() == 2);
+    assert_eq!(rt; plant.input_value(1, 0), 3);
+    assert!(rt; plant.targets() == 1 && plant.obstacles() == 1);
+    assert_eq!(rt; plant.target(0), (on_line(12), on_line(14)));
+    assert_eq!(rt; plant.obstacle(0), (on_line(0), on_line(0)));
+    Ok(())
+}
+
+#[test]
+fn marks(rt: HostRuntime) -> Result<(), Fail> {
+    let plant = worked(rt.alloc())?;
+    assert_eq!(rt; plant.grid().cells(), 5);
+    for c in 0..5 {
+        assert_eq!(rt; plant.goal_cell(c), c == 4);
+        assert_eq!(rt; plant.obstacle_cell(c), c == 0);
+    }
     Ok(())
 }
 
@@ -120,14 +131,12 @@ fn counts(rt: HostRuntime) -> Result<(), Fail> {
 fn steps(rt: HostRuntime) -> Result<(), Fail> {
     let plant = worked(rt.alloc())?;
     assert_eq!(rt; plant.vectors(), 2);
-    assert_eq!(rt;
-        step(&plant, &on_line(13), 0, &on_line(0)),
-        Some(on_line(10))
-    );
-    assert_eq!(rt;
-        step(&plant, &on_line(13), 1, &on_line(0)),
-        Some(on_line(16))
-    );
+    for (input, next) in [(0, 10), (1, 16)] {
+        assert_eq!(rt;
+            step(&plant, &on_line(13), input, &on_line(0)),
+            Some(on_line(next))
+        );
+    }
     // 3 more than the greatest value
     assert_eq!(rt; step(&plant, &on_line(i128::MAX), 1, &on_line(0)), None);
     Ok(())
