@@ -15,6 +15,8 @@ from .oracle import TABLE_LIMIT, row_text
 from .program import CART, CHECK, SYNTH, WORKERS
 
 FEW = 8
+# Numbers past 64 bits are evaluated one by one, and a quotient of theirs takes two divisions of 128 bits.
+WIDE = 16
 EVEN = 1.3
 HEAD = b"plant 1\nstate x 0 14 3\ninput u -3 3\n"
 TAIL = b"next x = x + u\ntarget 12 14\ngoal reach\nen"
@@ -47,13 +49,15 @@ class Table:
         def judge():
             self.program.has(self.form)
             if self.empty is None:
-                self.empty = spent(self.program, self.form.words, b"", 20)[0]
+                self.empty = spent(self.program, self.form.words, b"", 100)[0]
             given = text()
             units = units_of(given)
             time, line = spent(self.program, self.form.words, given, self.runs)
             each = max(time - self.empty, 0) / units
-            if self.ordinary is None:
+            if not self.ordinary:
                 self.ordinary = each
+            if not self.ordinary:
+                return "took no time that could be told from an empty run's"
             ratio = each / self.ordinary
             print(f"    {name:56} {line or 'answered':22} {units:10} {self.what} {time:8.3f} s {each * 1e9:8.1f} ns {ratio:6.2f}",
                   flush=True)
@@ -238,11 +242,11 @@ def dear_plants():
     def of(equations):
         return plant(six(8), [b"u 0 0 0 0"], equations)
 
-    yield "short equations", of([b"min(%s, %s + u)" % (one, one) for one in STAY])
+    yield "short equations", FEW, of([b"min(%s, %s + u)" % (one, one) for one in STAY])
     for name, join in (("sums", lambda a, b: b"(%s + %s)" % (a, b)), ("minimums", lambda a, b: b"min(%s, %s)" % (a, b)),
                        ("products", lambda a, b: b"(%s * %s)" % (a, b) if len(a) < 20 else b"min(%s, %s)" % (a, b))):
-        yield f"equations of 255 nodes, {name}", of([b"min(0, %s)" % mixed(join)] * 6)
-    yield "equations of 220 nodes, quotients past 64 bits", of([b"min(0, %s)" % quotients()] * 6)
+        yield f"equations of 255 nodes, {name}", FEW, of([b"min(0, %s)" % mixed(join)] * 6)
+    yield "equations of 220 nodes, quotients past 64 bits", WIDE, of([b"min(0, %s)" % quotients()] * 6)
 
 
 def cells_pairs_and_edges(edges):
@@ -259,7 +263,7 @@ def nodes_of_pairs(text):
 
 
 def cases(program):
-    texts = Table(program, SYNTH[0], "bytes", 20)
+    texts = Table(program, SYNTH[0], "bytes", 100)
     for name, text in plant_texts():
         yield texts.measure(name, lambda text=text: text, len)
     tables = Table(program, CHECK[0], "bytes", 3)
@@ -274,5 +278,5 @@ def cases(program):
         units = cells_pairs_and_edges(edges)(text)
         yield checks.measure(name, lambda text=text: program.end(SYNTH[0].words, text)[1], lambda _, units=units: units)
     deep = Table(program, SYNTH[0], "nodes", 1)
-    for name, text in dear_plants():
-        yield deep.measure(name, lambda text=text: text, nodes_of_pairs)
+    for name, most, text in dear_plants():
+        yield deep.measure(name, lambda text=text: text, nodes_of_pairs, most)
