@@ -12,7 +12,7 @@ use Rattle.game_core.specs.Game.{Game, pairs_of}
 use Rattle.board_crew.specs.Crew.{cuts_in, offers_in, logged_cells}
 use Rattle.board_crew.specs.Laws.{claimed, counters_of}
 use Rattle.reach_avoid.specs.Reckoned.{bid_of, bid_at}
-use Rattle.reach_avoid.specs.inside.Rounds.{last_cuts, IsKept}
+use Rattle.reach_avoid.specs.inside.Rounds.{last_cuts, KeepsRule}
 
 -- all of two lists of accounts
 pub cuts_in-append : (xs ys : List Account) → cuts_in (xs ++ ys) ≡ cuts_in xs ++ cuts_in ys
@@ -39,23 +39,23 @@ claimed-append xs ys =
 
 module _ (g : Game) (rank : ℕ) where
   -- a pair bids with the cut that uses it up
-  pub offers_added : (more : List Account) → All (IsKept g rank) more → map bid_of (offers_in more) ≡ map (bid_at g (suc rank)) (last_cuts (cuts_in more))
+  pub offers_added : (more : List Account) → All (KeepsRule g rank) more → map bid_of (offers_in more) ≡ map (bid_at g (suc rank)) (last_cuts (cuts_in more))
   offers_added [] h = refl
   offers_added (a ∷ more) h =
       map-append bid_of a.offers (offers_in more)
-      ∙ (ap₂ ◌++◌ (All-head (IsKept g rank) a more h).offers (offers_added more (All-tail (IsKept g rank) a more h))
+      ∙ (ap₂ ◌++◌ (All-head (KeepsRule g rank) a more h).offers (offers_added more (All-tail (KeepsRule g rank) a more h))
       ∙ sym (ap (map (bid_at g (suc rank))) (last_cuts-append a.cuts (cuts_in more)) ∙ map-append (bid_at g (suc rank)) (last_cuts a.cuts) (last_cuts (cuts_in more))))
 
   -- the cells that are logged are those whose offers are first
-  pub logs_added : (more : List Account) → All (IsKept g rank) more → logged_cells (all_logs more) ≡ claimed (offers_in more)
+  pub logs_added : (more : List Account) → All (KeepsRule g rank) more → logged_cells (all_logs more) ≡ claimed (offers_in more)
   logs_added [] h = refl
   logs_added (a ∷ more) h =
       map-append (λ (l : Log). l.cell) a.logs (all_logs more)
-      ∙ (ap₂ ◌++◌ (All-head (IsKept g rank) a more h).logs (logs_added more (All-tail (IsKept g rank) a more h))
+      ∙ (ap₂ ◌++◌ (All-head (KeepsRule g rank) a more h).logs (logs_added more (All-tail (KeepsRule g rank) a more h))
       ∙ sym (claimed-append a.offers (offers_in more)))
 
-  pub cuts_stay_below : (more : List Account) → All (IsKept g rank) more → All (λ (c : Cut). c.counter < pairs_of g) (cuts_in more)
+  pub cuts_stay_below : (more : List Account) → All (KeepsRule g rank) more → All (λ (c : Cut). c.counter < pairs_of g) (cuts_in more)
   cuts_stay_below [] h = All-nil (λ (c : Cut). c.counter < pairs_of g)
   cuts_stay_below (a ∷ more) h =
       All-append (λ (c : Cut). c.counter < pairs_of g) a.cuts (cuts_in more)
-      (All-head (IsKept g rank) a more h).no_other_cut (cuts_stay_below more (All-tail (IsKept g rank) a more h))
+      (All-head (KeepsRule g rank) a more h).no_other_cut (cuts_stay_below more (All-tail (KeepsRule g rank) a more h))

@@ -24,7 +24,7 @@ use Rattle.board_crew.specs.Laws.{claimed}
 use Rattle.board_crew.specs.Rules.{IsRound}
 use Rattle.reach_avoid.specs.Boards.{word_at}
 use Rattle.reach_avoid.specs.Reckoned.{bid_of, bid_at}
-use Rattle.reach_avoid.specs.inside.Rounds.{Laws, row_in, least_from, word_after, rows_told, below_in, rank_is, taken_in, is_done, bids_done, IsLawfulFor, IsBid, IsReached, last_cuts, IsKept, IsNext}
+use Rattle.reach_avoid.specs.inside.Rounds.{Laws, row_in, least_from, word_after, rows_told, below_in, rank_is, taken_in, is_done, bids_done, IsLawfulFor, IsBid, IsReached, last_cuts, KeepsRule, IsNext}
 use Rattle.reach_avoid.proofs.Added.{cuts_in-append, offers_in-append, all_logs-append, cut_count-append, claimed-append, offers_added, logs_added, cuts_stay_below}
 use Rattle.reach_avoid.proofs.Words.{least_from-le, least_from-keeps, least_from-range, row_from_word, no_row_from_word, row_told, cell_of_row, word_after-le, word_of_row, word_after-more}
 use Rattle.reach_avoid.proofs.Ranks.{done_parts, not_done, taken_after, done_stays, rank_by-stays, rank_by-new}
@@ -37,7 +37,7 @@ map_alike f h (x ∷ xs) e = ap₂ ◌∷◌ (e 0 x (omega arith)) (map_alike f 
 empty_not_done : (n m : ℕ) → n ≡ 0 → (nat_lt 0 n && (m == n)) ≡ false
 empty_not_done n m e = ap (λ b. b && (m == n)) (le-ltb 0 n (omega arith))
 
-module _ (g : Game) (a : IsGraph g) (rank : ℕ) (small : rank < 2 ^ 31) (list : List ℕ) (accounts more : List Account) (laws : Laws) (was : IsReached g rank list accounts) (r : IsRound g (IsKept g rank) list more) (lawful : IsLawfulFor g (accounts ++ more)) where
+module _ (g : Game) (a : IsGraph g) (rank : ℕ) (small : rank < 2 ^ 31) (list : List ℕ) (accounts more : List Account) (laws : Laws) (was : IsReached g rank list accounts) (r : IsRound g (KeepsRule g rank) list more) (lawful : IsLawfulFor g (accounts ++ more)) where
   abbrev rows : List (Option Row)
   rows = rows_told g accounts
 

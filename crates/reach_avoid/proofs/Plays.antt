@@ -10,7 +10,7 @@ use Rattle.game_core.specs.Game.{Game, IsGraph, pairs_of, mark_of}
 use Rattle.board_crew.specs.Crew.{logged_cells}
 use Rattle.board_crew.specs.Rules.{IsRound, LeadsOn}
 use Rattle.reach_avoid.specs.Boards.{IsBoardOf}
-use Rattle.reach_avoid.specs.inside.Rounds.{Laws, rows_told, IsKept, IsLawfulFor, is_goal}
+use Rattle.reach_avoid.specs.inside.Rounds.{Laws, rows_told, KeepsRule, IsLawfulFor, is_goal}
 use Rattle.reach_avoid.specs.inside.Standing.{StandsAt}
 use Rattle.reach_avoid.proofs.OnBoards.{lawful_for}
 use Rattle.reach_avoid.proofs.Added.{logs_added}
@@ -18,7 +18,7 @@ use Rattle.reach_avoid.proofs.LeadsOn.{next_rows, round_leads_on}
 use Rattle.reach_avoid.proofs.Begins.{begins, full_after, few_logs}
 
 module _ (g : Game) (a : IsGraph g) (laws : Laws) where
-  next_stand : (board : BoardModel) (rank : ℕ) (list next : List ℕ) (accounts more : List Account) → IsBoardOf g board → rank ≤ g.cells → 0 < length list → StandsAt g rank list accounts → IsRound g (IsKept g rank) list more
+  next_stand : (board : BoardModel) (rank : ℕ) (list next : List ℕ) (accounts more : List Account) → IsBoardOf g board → rank ≤ g.cells → 0 < length list → StandsAt g rank list accounts → IsRound g (KeepsRule g rank) list more
       → IsLawful (accounts ++ more) board.starts board.least → ((c : ℕ) → times c next ≡ times c (logged_cells (all_logs more))) → StandsAt g (suc rank) next (accounts ++ more)
   next_stand board rank list next accounts more of_game early some' was round lawful same =
       let low : rank < 2 ^ 31 = (let b = a.cells_bound in omega arith) in
@@ -28,7 +28,7 @@ module _ (g : Game) (a : IsGraph g) (laws : Laws) where
         full = full_after g a laws rank list accounts (rows_told g (accounts ++ more)) was.reached (next_rows g a rank low list accounts more laws was.reached round after) some';
       }
 
-  pub leads_on : LeadsOn g (IsBoardOf g) (λ c. is_goal (mark_of g c)) (IsKept g) (StandsAt g)
+  pub leads_on : LeadsOn g (IsBoardOf g) (λ c. is_goal (mark_of g c)) (KeepsRule g) (StandsAt g)
   leads_on = record {
     graph = a;
     fresh = λ rank. record { no_other_cut = All-nil (λ (c : Cut). c.counter < pairs_of g); offers = refl; logs = refl };

@@ -9,7 +9,7 @@ use Rattle.game_core.specs.Counts.{times, one_if}
 use Rattle.game_core.specs.Game.{Game, pairs_of}
 use Rattle.board_crew.specs.Rules.{CutsOnce}
 use Rattle.reach_avoid.specs.Reckoned.{bid_of, bid_at}
-use Rattle.reach_avoid.specs.inside.Rounds.{last_cuts, IsKept}
+use Rattle.reach_avoid.specs.inside.Rounds.{last_cuts, KeepsRule}
 use Rattle.reach_avoid.specs.inside.Workers.{Cuts}
 use Rattle.reach_avoid.proofs.Added.{last_cuts-append}
 
@@ -24,7 +24,7 @@ module _ (g : Game) (rank pair : ℕ) (was now : HandModel) (c : Cuts g rank pai
         ∙ sum_by_push (λ n. one_if (n == p)) (map (λ (c : Cut). c.counter) was.account.cuts) pair);
   }
 
-  pub still_kept : pair < pairs_of g → IsKept g rank was.account → IsKept g rank now.account
+  pub still_kept : pair < pairs_of g → KeepsRule g rank was.account → KeepsRule g rank now.account
   still_kept below h =
       let cut : Cut = record { counter = pair; left = c.left } in
       let cuts = was.account.cuts in

@@ -21,7 +21,7 @@ pub(crate) struct Reach<'a, G: Graph> {
 
 impl<G: Graph + Sync> Rule for Reach<'_, G> {
     ghost use Rattle.game_core.specs.Game.{mark_of};
-    ghost use Rattle.reach_avoid.specs.inside.Rounds.{IsKept};
+    ghost use Rattle.reach_avoid.specs.inside.Rounds.{KeepsRule};
     ghost use Rattle.reach_avoid.specs.inside.Standing.{StandsAt};
 
     ghost game = { λ rule. G.game rule.graph.now };
@@ -30,7 +30,7 @@ impl<G: Graph + Sync> Rule for Reach<'_, G> {
 
     ghost first = { λ rule c. is_goal (mark_of (G.game rule.graph.now) c) };
 
-    ghost keeps = { λ rule. IsKept (G.game rule.graph.now) };
+    ghost keeps = { λ rule. KeepsRule (G.game rule.graph.now) };
 
     ghost stands = { λ rule. StandsAt (G.game rule.graph.now) };
 

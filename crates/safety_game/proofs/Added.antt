@@ -9,7 +9,7 @@ use Rattle.cell_counters.specs.declared.account.Log.{Log}
 use Rattle.cell_counters.specs.declared.account.Account.{Account}
 use Rattle.cell_counters.specs.Accounts.{answers, all_answers, cut_count, all_logs}
 use Rattle.game_core.specs.Game.{Game}
-use Rattle.safety_game.specs.inside.Rounds.{IsInStep, IsKept}
+use Rattle.safety_game.specs.inside.Rounds.{IsInStep, KeepsRule}
 use Rattle.safety_game.proofs.InStep.{all_in_step}
 
 pub cuts_in-append : (xs ys : List Account) → cuts_in (xs ++ ys) ≡ cuts_in xs ++ cuts_in ys
@@ -28,9 +28,9 @@ pub cut_count-append : (counter : ℕ) (xs ys : List Account) → cut_count coun
 cut_count-append counter xs ys = ap length (flat_map-append (answers counter) xs ys) ∙ length-append (all_answers counter xs) (all_answers counter ys)
 
 module _ (g : Game) (tell : CountsTell) where
-  pub none_offered : (more : List Account) → All (IsKept g) more → offers_in more ≡ []
+  pub none_offered : (more : List Account) → All (KeepsRule g) more → offers_in more ≡ []
   none_offered [] h = refl
-  none_offered (a ∷ more) h = ap₂ ◌++◌ (All-head (IsKept g) a more h).no_offer (none_offered more (All-tail (IsKept g) a more h))
+  none_offered (a ∷ more) h = ap₂ ◌++◌ (All-head (KeepsRule g) a more h).no_offer (none_offered more (All-tail (KeepsRule g) a more h))
 
-  pub round_in_step : (more : List Account) → All (IsKept g) more → IsInStep g (cuts_in more) (logged_cells (all_logs more))
-  round_in_step more h = all_in_step g tell more (All-weaker (IsKept g) (λ (a : Account). IsInStep g a.cuts (logged_cells a.logs)) (λ a w. w.in_step) more h)
+  pub round_in_step : (more : List Account) → All (KeepsRule g) more → IsInStep g (cuts_in more) (logged_cells (all_logs more))
+  round_in_step more h = all_in_step g tell more (All-weaker (KeepsRule g) (λ (a : Account). IsInStep g a.cuts (logged_cells a.logs)) (λ a w. w.in_step) more h)

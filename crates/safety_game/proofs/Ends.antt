@@ -12,7 +12,7 @@ use Rattle.game_core.specs.Tally.{IsKeepTally}
 use Rattle.safety_game.specs.declared.outcome.Kept.{Kept}
 use Rattle.safety_game.specs.Boards.{IsBoardOf}
 use Rattle.safety_game.specs.Reckoned.{IsReckoned}
-use Rattle.safety_game.specs.Kept.{IsKeptBy}
+use Rattle.safety_game.specs.Kept.{IsKeepSolved}
 use Rattle.safety_game.specs.inside.Rounds.{Laws, AreFewCuts, AreRowsTold}
 use Rattle.safety_game.specs.inside.Standing.{StandsAt}
 use Rattle.safety_game.proofs.Falls.{gone_few}
@@ -27,7 +27,7 @@ module _ (g : Game) (a : IsGraph g) (laws : Laws) (board : BoardModel) where
       omega arith
 
   -- with no cell on the list the game is solved
-  pub solved : ((g : Game) (rows : List (Option Row)) → IsGame g → AreSettled g rows → IsKeepSolution g rows) → IsBoardOf g board → (r : Rounds) → IsOver board g.cells r → StandsAt g r.tally.rounds [] r.root.accounts → (k : Kept) → AreRowsTold g r.root.accounts k.answer → k.tally ≡ r.tally → k.board ≡ board → k.root ≡ r.root → IsKeptBy g k
+  pub solved : ((g : Game) (rows : List (Option Row)) → IsGame g → AreSettled g rows → IsKeepSolution g rows) → IsBoardOf g board → (r : Rounds) → IsOver board g.cells r → StandsAt g r.tally.rounds [] r.root.accounts → (k : Kept) → AreRowsTold g r.root.accounts k.answer → k.tally ≡ r.tally → k.board ≡ board → k.root ≡ r.root → IsKeepSolved g k
   solved settles of_game r over stands k told tally same root =
       let accounts = r.root.accounts in
       let d = r.tally.rounds in

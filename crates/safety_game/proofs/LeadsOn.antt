@@ -14,7 +14,7 @@ use Rattle.cell_counters.specs.Laws.{answered}
 use Rattle.game_core.specs.Fallen.{is_obstacle, has_fallen}
 use Rattle.game_core.specs.Game.{Game, IsGraph, mark_of, pairs_of, successors_at}
 use Rattle.safety_game.specs.Boards.{pairs_at, enabled_at}
-use Rattle.safety_game.specs.inside.Rounds.{Laws, fell_before, gone_in, is_hit, hits_at, IsLawfulFor, AreFalling, firsts_in, hits_in, IsInStep, IsKept}
+use Rattle.safety_game.specs.inside.Rounds.{Laws, fell_before, gone_in, is_hit, hits_at, IsLawfulFor, AreFalling, firsts_in, hits_in, IsInStep, KeepsRule}
 use Rattle.safety_game.proofs.Counting.{times-append}
 use Rattle.safety_game.proofs.Pairs.{cell_of, pairs_below, All-pairs_at, few_enabled, successors_within, few_successors}
 use Rattle.safety_game.proofs.Falls.{fell_stays, gone_few, hits_few, falls_by_hits, hits_by_fall, obstacle_falls, obstacle_unhit}
@@ -23,7 +23,7 @@ use Rattle.safety_game.proofs.Added.{cuts_in-append, offers_in-append, logged_ce
 answered_few : (counter v : ℕ) (accounts : List Account) → answered counter v accounts ≤ cut_count counter accounts
 answered_few counter v accounts = count_by-le-length (λ answer. answer == v) (all_answers counter accounts)
 
-module _ (g : Game) (a : IsGraph g) (d : ℕ) (list : List ℕ) (accounts more : List Account) (laws : Laws) (was : AreFalling g d list accounts) (r : IsRound g (IsKept g) list more) (lawful : IsLawfulFor g (accounts ++ more)) where
+module _ (g : Game) (a : IsGraph g) (d : ℕ) (list : List ℕ) (accounts more : List Account) (laws : Laws) (was : AreFalling g d list accounts) (r : IsRound g (KeepsRule g) list more) (lawful : IsLawfulFor g (accounts ++ more)) where
   in_step : IsInStep g (cuts_in more) (logged_cells (all_logs more))
   in_step = round_in_step g laws.counts more r.each
 

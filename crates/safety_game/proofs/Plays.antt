@@ -9,7 +9,7 @@ use Rattle.game_core.specs.Game.{Game, IsGraph}
 use Rattle.board_crew.specs.Crew.{logged_cells}
 use Rattle.board_crew.specs.Rules.{IsRound, LeadsOn}
 use Rattle.safety_game.specs.Boards.{IsBoardOf}
-use Rattle.safety_game.specs.inside.Rounds.{Laws, IsKept}
+use Rattle.safety_game.specs.inside.Rounds.{Laws, KeepsRule}
 use Rattle.safety_game.specs.inside.Standing.{StandsAt}
 use Rattle.safety_game.proofs.OnBoards.{lawful_for}
 use Rattle.safety_game.proofs.InStep.{nothing_in_step}
@@ -17,14 +17,14 @@ use Rattle.safety_game.proofs.LeadsOn.{round_leads_on}
 use Rattle.safety_game.proofs.Begins.{begins, full_after, few_logs}
 
 module _ (g : Game) (a : IsGraph g) (laws : Laws) where
-  next_stand : (board : BoardModel) (d : ℕ) (list next : List ℕ) (accounts more : List Account) → IsBoardOf g board → d ≤ g.cells → 0 < length list → StandsAt g d list accounts → IsRound g (IsKept g) list more
+  next_stand : (board : BoardModel) (d : ℕ) (list next : List ℕ) (accounts more : List Account) → IsBoardOf g board → d ≤ g.cells → 0 < length list → StandsAt g d list accounts → IsRound g (KeepsRule g) list more
       → IsLawful (accounts ++ more) board.starts board.least → ((c : ℕ) → times c next ≡ times c (logged_cells (all_logs more))) → StandsAt g (suc d) next (accounts ++ more)
   next_stand board d list next accounts more of_game early some' was round lawful same = record {
     falling = round_leads_on g a d list accounts more laws was.falling round (lawful_for g a board of_game (accounts ++ more) lawful) next same;
     full = full_after g a laws d list accounts was.falling some';
   }
 
-  pub leads_on : LeadsOn g (IsBoardOf g) (has_fallen g 0) (λ d. IsKept g) (StandsAt g)
+  pub leads_on : LeadsOn g (IsBoardOf g) (has_fallen g 0) (λ d. KeepsRule g) (StandsAt g)
   leads_on = record {
     graph = a;
     fresh = λ d. record { in_step = nothing_in_step g laws.counts; no_offer = refl };

@@ -8,7 +8,7 @@ use Rattle.cell_counters.specs.declared.account.Cut.{Cut}
 use Rattle.cell_counters.specs.Tokens.{HandModel}
 use Rattle.game_core.specs.Counts.{times, one_if, CountsTell}
 use Rattle.game_core.specs.Game.{Game, pairs_of}
-use Rattle.safety_game.specs.inside.Rounds.{IsInStep, IsKept}
+use Rattle.safety_game.specs.inside.Rounds.{IsInStep, KeepsRule}
 use Rattle.safety_game.specs.inside.Workers.{Takes, HitsAfter, Cuts}
 use Rattle.safety_game.proofs.Counting.{elsewhere}
 use Rattle.safety_game.proofs.InStep.{cut, times_counters, one_counter, in_step-append, quiet_in_step, blow_in_step}
@@ -85,7 +85,7 @@ module _ (g : Game) (sums : CountsTell) (some' : 0 < g.inputs) (pair : ℕ) (lt 
         cuts = λ p lp. ap (λ l. times p (counters_of l)) one.cuts ∙ (times_counters p was.account.cuts one.more ∙ ap (λ n. times p (counters_of was.account.cuts) + n) (one.once p lp));
       }
 
-  pub still_kept : (was now : HandModel) → Cuts g pair was now → IsKept g was.account → IsKept g now.account
+  pub still_kept : (was now : HandModel) → Cuts g pair was now → KeepsRule g was.account → KeepsRule g now.account
   still_kept was now c h =
       let one = has_cut was now c in
       record {

@@ -8,7 +8,7 @@ use Rattle.safety_game.specs.Boards.{IsBoardOf}
 use Rattle.safety_game.specs.Reckoned.{IsReckoned}
 
 -- the solution with its tally, the game's board, and the board's root, whose accounts are reckoned and which has no hand out
-pub record IsKeptBy (g : Game) (kept : Kept) : Type 0 where
+pub record IsKeepSolved (g : Game) (kept : Kept) : Type 0 where
   pub solution : IsKeepSolution g kept.answer
   pub tallied : IsKeepTally g kept.answer kept.tally
   pub of_game : IsBoardOf g kept.board

@@ -22,7 +22,7 @@ pub(crate) struct Keep<'a, G: Graph> {
 
 impl<G: Graph + Sync> Rule for Keep<'_, G> {
     ghost use Rattle.game_core.specs.Fallen.{has_fallen};
-    ghost use Rattle.safety_game.specs.inside.Rounds.{IsKept};
+    ghost use Rattle.safety_game.specs.inside.Rounds.{KeepsRule};
     ghost use Rattle.safety_game.specs.inside.Standing.{StandsAt};
 
     ghost game = { λ rule. G.game rule.graph.now };
@@ -31,7 +31,7 @@ impl<G: Graph + Sync> Rule for Keep<'_, G> {
 
     ghost first = { λ rule. has_fallen (G.game rule.graph.now) 0 };
 
-    ghost keeps = { λ rule _. IsKept (G.game rule.graph.now) };
+    ghost keeps = { λ rule _. KeepsRule (G.game rule.graph.now) };
 
     ghost stands = { λ rule. StandsAt (G.game rule.graph.now) };
 

@@ -2,7 +2,7 @@
 ghost use Rattle.std.specs.Prelude.{◌≡◌, ◌<◌, ◌≤◌, length, IfOk};
 ghost use Rattle.game_core.specs.Game.{pairs_of};
 ghost use Rattle.safety_game.specs.Boards.{IsBoardOf};
-ghost use Rattle.safety_game.specs.Kept.{IsKeptBy};
+ghost use Rattle.safety_game.specs.Kept.{IsKeepSolved};
 ghost use Rattle.safety_game.specs.inside.Rounds.{is_whole, IsRowTold, AreRowsTold, AreFewCuts};
 
 use crate::known::{known_graph, known_laws};
@@ -25,7 +25,7 @@ pub fn keep<R: Threads + Sync, G: Graph + Sync, T: Gate>(
     gate: &T,
 ) -> Result<Kept, NoMemory>
     requires { (1 ≤ workers) × (workers ≤ 64) }
-    ensures { IfOk result (IsKeptBy (G.game g.now)) }
+    ensures { IfOk result (IsKeepSolved (G.game g.now)) }
 {
     let scratch = Scratch::new(alloc, g, workers)?;
     Ok(keep_in(rt, alloc, g, scratch, gate))
@@ -40,7 +40,7 @@ pub fn keep_in<R: Threads + Sync, G: Graph + Sync, T: Gate>(
     gate: &T,
 ) -> Kept
     requires { IsBoardOf (G.game g.now) scratch }
-    ensures { IsKeptBy (G.game g.now) result }
+    ensures { IsKeepSolved (G.game g.now) result }
 {
     known_graph(g);
     known_laws();

@@ -109,7 +109,7 @@ abbrev pub last_cuts : List Cut → List ℕ
 last_cuts cuts = cut_to 0 cuts
 
 -- what the account of a worker keeps in the round of a rank: each cut that used up a pair bid, and each cell that was first bid on was logged
-pub record IsKept (g : Game) (rank : ℕ) (a : Account) : Type 0 where
+pub record KeepsRule (g : Game) (rank : ℕ) (a : Account) : Type 0 where
   pub no_other_cut : All (λ (c : Cut). c.counter < pairs_of g) a.cuts
   pub offers : map bid_of a.offers ≡ map (bid_at g (suc rank)) (last_cuts a.cuts)
   pub logs : logged_cells a.logs ≡ claimed a.offers

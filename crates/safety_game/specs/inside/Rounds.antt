@@ -83,7 +83,7 @@ pub record IsInStep (g : Game) (cuts : List Cut) (logged : List ℕ) : Type 0 wh
   pub no_other_cut : All (λ (c : Cut). c.counter < pairs_of g + g.cells) cuts
 
 -- what the account of a worker keeps in each round
-pub record IsKept (g : Game) (a : Account) : Type 0 where
+pub record KeepsRule (g : Game) (a : Account) : Type 0 where
   pub in_step : IsInStep g a.cuts (logged_cells a.logs)
   pub no_offer : a.offers ≡ []
 
