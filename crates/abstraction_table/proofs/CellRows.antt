@@ -4,7 +4,7 @@ use Rattle.std.proofs.Math.Nat.{add-mul}
 use Rattle.std.proofs.lemmas.Bool.{cases_lt}
 use Rattle.std.proofs.lemmas.Nat.{mul-le}
 use Rattle.grid_quantiser.specs.declared.boxes.CellBox.{CellBox}
-use Rattle.plant_text.specs.plant.Description.{Description}
+use Rattle.plant_record.specs.Description.{Description}
 use Rattle.successor_box.specs.Boxes.{IsBoxOf}
 use Rattle.abstraction_table.proofs.RowBoxes.{later_cell}
 use Rattle.abstraction_table.proofs.Parts.{written_long, written_before, written_in, written_behind}

@@ -6,13 +6,13 @@ use Rattle.std.proofs.lemmas.List.{ext_get_or}
 use Rattle.std.proofs.lemmas.Nat.{div_below, mod_below, div-add-mod'}
 use Rattle.std.proofs.Math.Nat.{mul-zero}
 use Rattle.grid_quantiser.specs.Boxes.{AreCellsMeeting}
-use Rattle.plant_text.specs.plant.Description.{Description, axes_of, vectors_of}
-use Rattle.plant_text.specs.plant.Soundness.{IsSound}
+use Rattle.plant_record.specs.Description.{Description, axes_of, vectors_of}
+use Rattle.plant_record.specs.Soundness.{IsSound}
 use Rattle.grid_quantiser.specs.Axes.{cells_of}
 use Rattle.game_core.specs.Game.{Game}
 use Rattle.successor_box.specs.Boxes.{IsEnabledAt, AreSuccessors, low_corner, high_corner}
 use Rattle.successor_box.specs.Laws.{EnabledPairsHaveSuccessors}
-use Rattle.plant_text.specs.plant.Soundness.{PlantsAreSound}
+use Rattle.plant_record.specs.Soundness.{PlantsAreSound}
 use Rattle.abstraction_table.specs.Abstraction.{IsGameOf, pairs_of, pair_of}
 use Rattle.abstraction_table.specs.Laws.{OneEdgeCount, GamesCountTheirEdges}
 

@@ -11,10 +11,10 @@ use Rattle.std.proofs.lemmas.List.Sums.{sum_by-cons}
 use Rattle.fixed_expr.specs.Mentions.{mentions}
 use Rattle.grid_quantiser.specs.Axes.{cells_of}
 use Rattle.grid_quantiser.specs.Places.{place_along}
-use Rattle.plant_text.specs.plant.Description.{Description, axes_of, vectors_of}
-use Rattle.plant_text.specs.plant.Plants.{IsPlant}
-use Rattle.plant_text.specs.plant.Soundness.{IsSound}
-use Rattle.plant_text.specs.plant.Steps.{equation_at}
+use Rattle.plant_record.specs.Description.{Description, axes_of, vectors_of}
+use Rattle.plant_record.specs.Plants.{IsPlant}
+use Rattle.plant_record.specs.Soundness.{IsSound}
+use Rattle.plant_record.specs.Steps.{equation_at}
 use Rattle.successor_box.specs.Sides.{place_in, moves_along, moved_by, rests_on, AreAlikeIn}
 use Rattle.abstraction_table.specs.declared.digits.Digit.{Digit}
 use Rattle.abstraction_table.specs.Abstraction.{pairs_of, pair_of}

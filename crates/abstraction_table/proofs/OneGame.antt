@@ -5,8 +5,8 @@ use Rattle.std.proofs.lemmas.List.{ext_get_or}
 use Rattle.game_core.specs.declared.game.Mark.{Mark}
 use Rattle.game_core.specs.declared.game.Mark.TheVariants.{Goal, Obstacle, Plain}
 use Rattle.game_core.specs.Game.{Game, mark_of}
-use Rattle.plant_text.specs.plant.Description.{Description}
-use Rattle.plant_text.specs.plant.Soundness.{PlantsAreSound}
+use Rattle.plant_record.specs.Description.{Description}
+use Rattle.plant_record.specs.Soundness.{PlantsAreSound}
 use Rattle.successor_box.specs.Laws.{EnabledPairsHaveSuccessors}
 use Rattle.abstraction_table.specs.Abstraction.{IsGameOf}
 use Rattle.abstraction_table.specs.Laws.{OneGamePerPlant}

@@ -9,12 +9,12 @@ use Rattle.std.proofs.lemmas.List.Elements.{All-head, All-tail, All-append, All-
 use Rattle.grid_quantiser.specs.declared.axis.Axis.{Axis}
 use Rattle.grid_quantiser.specs.Axes.{IsAxis, no_axis, cells_of}
 use Rattle.grid_quantiser.specs.Places.{place_along}
-use Rattle.plant_text.specs.declared.plant.variables.InputVariable.{InputVariable}
-use Rattle.plant_text.specs.plant.Description.{Description, axis_of, axes_of, vectors_of}
-use Rattle.plant_text.specs.plant.InputPlaces.{value_count, input_place}
-use Rattle.plant_text.specs.plant.Plants.{IsPlant}
-use Rattle.plant_text.specs.plant.Soundness.{IsSound}
-use Rattle.plant_text.specs.plant.Variables.{IsInputVariable}
+use Rattle.plant_record.specs.declared.variables.InputVariable.{InputVariable}
+use Rattle.plant_record.specs.Description.{Description, axis_of, axes_of, vectors_of}
+use Rattle.plant_record.specs.InputPlaces.{value_count, input_place}
+use Rattle.plant_record.specs.Plants.{IsPlant}
+use Rattle.plant_record.specs.Soundness.{IsSound}
+use Rattle.plant_record.specs.Variables.{IsInputVariable}
 use Rattle.successor_box.specs.Sides.{place_in}
 use Rattle.abstraction_table.specs.Abstraction.{pairs_of}
 use Rattle.abstraction_table.specs.inside.Digits.{counts_of, combinations}

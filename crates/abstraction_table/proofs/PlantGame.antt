@@ -12,9 +12,9 @@ use Rattle.grid_quantiser.specs.Axes.{AreAxes, cells_of}
 use Rattle.grid_quantiser.specs.Laws.{BoxesHaveCells}
 use Rattle.game_core.specs.declared.game.Mark.{Mark}
 use Rattle.game_core.specs.Game.{Game, IsGame, IsGraph}
-use Rattle.plant_text.specs.plant.Description.{Description, axes_of, vectors_of}
-use Rattle.plant_text.specs.plant.Limits.{IsWithinLimits}
-use Rattle.plant_text.specs.plant.Soundness.{PlantsAreSound}
+use Rattle.plant_record.specs.Description.{Description, axes_of, vectors_of}
+use Rattle.plant_record.specs.Limits.{IsWithinLimits}
+use Rattle.plant_record.specs.Soundness.{PlantsAreSound}
 use Rattle.successor_box.specs.Boxes.{AreSuccessors, IsBoxOf, cells_in}
 use Rattle.successor_box.specs.Laws.{BoxesHoldTheSuccessors}
 use Rattle.abstraction_table.specs.Abstraction.{IsGameOf, pairs_of, pair_of, box_at, AreBoxesOf, AreEdges}

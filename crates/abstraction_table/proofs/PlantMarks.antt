@@ -7,9 +7,9 @@ use Rattle.std.proofs.lemmas.Option.{get_or_from_slice_get}
 use Rattle.grid_quantiser.specs.Axes.{cells_of}
 use Rattle.game_core.specs.declared.game.Mark.{Mark}
 use Rattle.game_core.specs.declared.game.Mark.TheVariants.{Goal, Obstacle, Plain}
-use Rattle.plant_text.specs.declared.plant.aims.StateBox.{StateBox}
-use Rattle.plant_text.specs.plant.Description.{Description, axes_of}
-use Rattle.plant_text.specs.plant.Marks.{IsObstacleCell}
+use Rattle.plant_record.specs.declared.aims.StateBox.{StateBox}
+use Rattle.plant_record.specs.Description.{Description, axes_of}
+use Rattle.plant_record.specs.Marks.{IsObstacleCell}
 use Rattle.abstraction_table.specs.inside.Marks.{LiesInTarget, AreMarked, AreMarksOf}
 use Rattle.abstraction_table.proofs.Marking.{marked_likewise, none_marked, more_marked}
 

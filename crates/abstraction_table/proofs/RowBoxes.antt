@@ -6,8 +6,8 @@ use Rattle.std.proofs.lemmas.List.{get_or-take, get_or-drop}
 use Rattle.std.proofs.lemmas.Nat.{div-mul-add, mul-le}
 use Rattle.grid_quantiser.specs.declared.boxes.CellBox.{CellBox}
 use Rattle.grid_quantiser.specs.Axes.{cells_of}
-use Rattle.plant_text.specs.plant.Description.{Description, axes_of, vectors_of}
-use Rattle.plant_text.specs.plant.Plants.{IsPlant}
+use Rattle.plant_record.specs.Description.{Description, axes_of, vectors_of}
+use Rattle.plant_record.specs.Plants.{IsPlant}
 use Rattle.successor_box.specs.Boxes.{IsBoxOf}
 use Rattle.successor_box.specs.Sides.{place_in, IsBoxAlong}
 use Rattle.abstraction_table.specs.inside.Rows.{last_state, AreInRow, IsInRowOf}

@@ -10,8 +10,8 @@ use Rattle.std.proofs.lemmas.Nat.{div-mul-add, mod-mul-add}
 use Rattle.grid_quantiser.specs.declared.axis.Axis.{Axis}
 use Rattle.grid_quantiser.specs.Axes.{no_axis, cells_of}
 use Rattle.grid_quantiser.specs.Places.{place_along}
-use Rattle.plant_text.specs.plant.Description.{Description, axis_of, axes_of}
-use Rattle.plant_text.specs.plant.Plants.{IsPlant}
+use Rattle.plant_record.specs.Description.{Description, axis_of, axes_of}
+use Rattle.plant_record.specs.Plants.{IsPlant}
 use Rattle.successor_box.specs.Sides.{place_in, moves_along}
 use Rattle.abstraction_table.specs.declared.digits.Digit.{Digit}
 use Rattle.abstraction_table.specs.declared.sides.SideTable.{SideTable}

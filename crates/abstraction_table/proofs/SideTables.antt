@@ -8,9 +8,9 @@ use Rattle.std.proofs.lemmas.List.Sums.{sum_by-cons}
 use Rattle.std.proofs.lemmas.Nat.{mod_below}
 use Rattle.grid_quantiser.specs.Axes.{IsAxis, no_axis, cells_of}
 use Rattle.grid_quantiser.specs.Places.{place_along}
-use Rattle.plant_text.specs.plant.Description.{Description, axis_of, axes_of, vectors_of}
-use Rattle.plant_text.specs.plant.Plants.{IsPlant}
-use Rattle.plant_text.specs.plant.Soundness.{IsSound}
+use Rattle.plant_record.specs.Description.{Description, axis_of, axes_of, vectors_of}
+use Rattle.plant_record.specs.Plants.{IsPlant}
+use Rattle.plant_record.specs.Soundness.{IsSound}
 use Rattle.successor_box.specs.Sides.{place_in, moves_along, moved_by, IsSideBeforeAt}
 use Rattle.successor_box.specs.Laws.{SidesRestOnPlaces}
 use Rattle.abstraction_table.specs.declared.digits.Digit.{Digit}

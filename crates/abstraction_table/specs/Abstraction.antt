@@ -4,8 +4,8 @@ use Rattle.grid_quantiser.specs.declared.boxes.CellBox.{CellBox}
 use Rattle.grid_quantiser.specs.Axes.{cells_of}
 use Rattle.game_core.specs.declared.game.Mark.TheVariants.{Goal, Obstacle}
 use Rattle.game_core.specs.Game.{Game, IsGame, mark_of, successors_of}
-use Rattle.plant_text.specs.plant.Description.{Description, axes_of, vectors_of}
-use Rattle.plant_text.specs.plant.Marks.{IsGoalCell, IsObstacleCell}
+use Rattle.plant_record.specs.Description.{Description, axes_of, vectors_of}
+use Rattle.plant_record.specs.Marks.{IsGoalCell, IsObstacleCell}
 use Rattle.successor_box.specs.Boxes.{AreSuccessors, IsBoxOf}
 
 -- A game is the game of a plant.

@@ -1,6 +1,6 @@
 -- Why a plant has no abstraction.
 use Rattle.std.specs.Prelude.{◌^◌, ◌<◌}
-use Rattle.plant_text.specs.plant.Description.{Description}
+use Rattle.plant_record.specs.Description.{Description}
 use Rattle.abstraction_table.specs.declared.fault.BuildFault.{BuildFault}
 use Rattle.abstraction_table.specs.declared.fault.BuildFault.TheVariants.{TooManyEdges, Memory}
 use Rattle.abstraction_table.specs.Abstraction.{AreEdges}

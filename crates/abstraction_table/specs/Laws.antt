@@ -2,8 +2,8 @@
 use Rattle.std.specs.Prelude.{◌≡◌, ℕ, List, Option, length, sum_by}
 use Rattle.game_core.specs.declared.game.Row.{Row}
 use Rattle.game_core.specs.Game.{Game}
-use Rattle.plant_text.specs.plant.Description.{Description}
-use Rattle.plant_text.specs.plant.Plants.{IsPlant}
+use Rattle.plant_record.specs.Description.{Description}
+use Rattle.plant_record.specs.Plants.{IsPlant}
 use Rattle.abstraction_table.specs.Abstraction.{IsGameOf, AreEdges}
 use Rattle.abstraction_table.specs.Solution.{IsSolutionOf}
 

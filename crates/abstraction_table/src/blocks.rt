@@ -1,7 +1,7 @@
 //! The sides of blocks of places, one place after the other.
 ghost use Rattle.std.specs.Prelude.{◌≡◌, ℕ, ◌+◌, ◌*◌, ◌/◌, ◌%◌, ◌^◌, ◌≤◌, ◌<◌, length, slice_index_or, None};
 ghost use Rattle.fixed_expr.specs.declared.lanes.TheConstants.{LANES};
-ghost use Rattle.plant_text.specs.plant.Description.{vectors_of};
+ghost use Rattle.plant_record.specs.Description.{vectors_of};
 ghost use Rattle.successor_box.specs.Deviations.{HasNoOverflow, deviations_of};
 ghost use Rattle.successor_box.specs.Sides.{place_in, IsPairInRow};
 ghost use Rattle.abstraction_table.specs.inside.Digits.{AreDigitsFrom, IsDigitAt, pair_at};
@@ -10,8 +10,8 @@ ghost use Rattle.abstraction_table.specs.inside.Sides.{IsSideFor};
 use crate::digits::{Digit, Digits};
 use fixed_expr::LANES;
 use grid_quantiser::Side;
-use plant_text::Plant;
-use plant_text::laws::{every_plant_is_within_limits, plants_are_sound};
+use plant_record::Plant;
+use plant_record::laws::{every_plant_is_within_limits, plants_are_sound};
 use successor_box::{Slopes, prolonged_sides};
 
 /// To start a thread takes as long as to find so many sides.

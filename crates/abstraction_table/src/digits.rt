@@ -4,8 +4,8 @@ ghost use Rattle.std.specs.List.{All};
 ghost use Rattle.successor_box.specs.Sides.{rests_on};
 ghost use Rattle.abstraction_table.specs.inside.Digits.{AreDigitsFrom, counts_of, place_at};
 
-use plant_text::Plant;
-use plant_text::laws::{every_plant_is_within_limits, plants_are_sound};
+use plant_record::Plant;
+use plant_record::laws::{every_plant_is_within_limits, plants_are_sound};
 use std::alloc::{AllocError, Global};
 
 /// A state or an input variable that stands in an equation: how many places it has, and what one place

@@ -3,7 +3,7 @@
 ghost use Rattle.abstraction_table.specs.Laws.{OneGamePerPlant, OneSolutionPerPlant, OneEdgeCount, GamesCountTheirEdges};
 
 use game_core::laws::{one_keep_solution, one_solution};
-use plant_text::laws::plants_are_sound;
+use plant_record::laws::plants_are_sound;
 use successor_box::laws::enabled_pairs_have_successors;
 
 /// A plant has one game.

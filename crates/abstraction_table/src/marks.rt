@@ -3,8 +3,8 @@ ghost use Rattle.std.specs.Prelude.{◌≡◌, ◌<◌, length, IfOk};
 ghost use Rattle.std.specs.List.{All, Contains};
 ghost use Rattle.grid_quantiser.specs.Axes.{cells_of};
 ghost use Rattle.game_core.specs.declared.game.Mark.TheVariants.{Goal, Obstacle};
-ghost use Rattle.plant_text.specs.plant.Description.{axes_of};
-ghost use Rattle.plant_text.specs.plant.Marks.{IsObstacleCell};
+ghost use Rattle.plant_record.specs.Description.{axes_of};
+ghost use Rattle.plant_record.specs.Marks.{IsObstacleCell};
 ghost use Rattle.successor_box.specs.Boxes.{cells_in};
 ghost use Rattle.abstraction_table.specs.inside.Marks.{LiesInTarget, AreMarked, AreMarksOf};
 ghost use Rattle.abstraction_table.specs.inside.Sources.{IsBox};
@@ -12,7 +12,7 @@ ghost use Rattle.abstraction_table.specs.inside.Sources.{IsBox};
 use game_core::Mark;
 use grid_quantiser::laws::{cells_of_a_box, every_grid_is_within_the_limit};
 use grid_quantiser::{CellBox, Grid, Runs};
-use plant_text::Plant;
+use plant_record::Plant;
 use std::alloc::{AllocError, Global};
 
 /// The mark of each cell. The obstacles come last, since a cell that touches one is no goal.

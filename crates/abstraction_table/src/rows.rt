@@ -3,7 +3,7 @@ ghost use Rattle.std.specs.Prelude.{◌≡◌, ℕ, ◌+◌, ◌*◌, ◌<◌, �
 ghost use Rattle.std.specs.List.{All};
 ghost use Rattle.grid_quantiser.specs.Axes.{no_axis, cells_of};
 ghost use Rattle.grid_quantiser.specs.SideBoxes.{one_cell};
-ghost use Rattle.plant_text.specs.plant.Description.{axes_of, vectors_of};
+ghost use Rattle.plant_record.specs.Description.{axes_of, vectors_of};
 ghost use Rattle.successor_box.specs.Boxes.{IsBoxOf};
 ghost use Rattle.successor_box.specs.Sides.{IsSideBeforeAt};
 ghost use Rattle.abstraction_table.specs.inside.Rows.{AreInRow, IsInRowOf, AreBoxesFrom};
@@ -12,8 +12,8 @@ ghost use Rattle.abstraction_table.specs.inside.Sides.{ArePlacesOf, BringAs, Are
 use crate::pair_box::PairBox;
 use crate::sides::SideTable;
 use grid_quantiser::Side;
-use plant_text::Plant;
-use plant_text::laws::{every_plant_is_within_limits, plants_are_sound};
+use plant_record::Plant;
+use plant_record::laws::{every_plant_is_within_limits, plants_are_sound};
 use successor_box::laws::sides_make_boxes;
 use successor_box::moved_side;
 

@@ -1,7 +1,7 @@
 //! The sides of all boxes, state by state.
 ghost use Rattle.std.specs.Prelude.{◌≡◌, ℕ, ◌+◌, ◌*◌, ◌/◌, ◌^◌, ◌<◌, length, slice_index_or, None, if◌then◌else◌, IsTrue, IfOk};
 ghost use Rattle.std.specs.List.{All};
-ghost use Rattle.plant_text.specs.plant.Description.{vectors_of};
+ghost use Rattle.plant_record.specs.Description.{vectors_of};
 ghost use Rattle.successor_box.specs.Deviations.{HasNoOverflow, deviations_of};
 ghost use Rattle.abstraction_table.specs.inside.Digits.{AreDigitsFrom, place_at};
 ghost use Rattle.abstraction_table.specs.inside.Rows.{StaysAlongRows};
@@ -10,8 +10,8 @@ ghost use Rattle.abstraction_table.specs.inside.Sides.{first_in, side_in, HasPla
 use crate::blocks::{CHUNK, fill_chunk};
 use crate::digits::{Digit, Digits, find_digits, place_of};
 use grid_quantiser::Side;
-use plant_text::Plant;
-use plant_text::laws::{every_plant_is_within_limits, plants_are_sound};
+use plant_record::Plant;
+use plant_record::laws::{every_plant_is_within_limits, plants_are_sound};
 use rayon::prelude::*;
 use std::alloc::{AllocError, Global};
 use std::thread::Threads;

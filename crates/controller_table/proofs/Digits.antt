@@ -7,7 +7,7 @@ use Rattle.std.proofs.lemmas.Bool.Decides.{nat_tests}
 use Rattle.std.proofs.lemmas.Fmt.{decimal_by_steps, decimal_digit, decimal_step, decimal_nonempty, decimal_injective, first_decimal}
 use Rattle.std.proofs.lemmas.List.Folds.{list_all-append}
 use Rattle.std.proofs.lemmas.List.Sums.{fold-append}
-use Rattle.plant_text.specs.words.Names.{is_digit}
+use Rattle.plant_record.specs.Names.{is_digit}
 use Rattle.controller_table.specs.inside.Numbers.{IsNumberTo}
 use Rattle.controller_table.proofs.Cuts.{one_cut, not_both}
 

@@ -8,9 +8,9 @@ use Rattle.std.proofs.lemmas.Bool.Decides.{nat_tests}
 use Rattle.std.proofs.lemmas.Fmt.{decimal_by_steps, decimal_injective}
 use Rattle.std.proofs.lemmas.List.Folds.{list_all-append}
 use Rattle.game_core.specs.declared.game.Row.{Row}
-use Rattle.plant_text.specs.declared.plant.aims.GoalKind.{GoalKind}
-use Rattle.plant_text.specs.declared.plant.aims.GoalKind.TheVariants.{Reach, Keep}
-use Rattle.plant_text.specs.words.Separators.{is_separator, is_word}
+use Rattle.plant_record.specs.declared.aims.GoalKind.{GoalKind}
+use Rattle.plant_record.specs.declared.aims.GoalKind.TheVariants.{Reach, Keep}
+use Rattle.plant_reading.specs.Separators.{is_separator, is_word}
 use Rattle.controller_table.specs.declared.entry.Entry.{Entry}
 use Rattle.controller_table.specs.TableText.{rank_word, input_word, entry_line, count_line, end_line}
 use Rattle.controller_table.specs.inside.Reading.{IsSpelled, IsSpelledRow, TellsAll, row_words}

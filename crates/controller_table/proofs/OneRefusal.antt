@@ -6,14 +6,14 @@ use Rattle.std.proofs.lemmas.List.Elements.{All-take}
 use Rattle.std.proofs.Math.Seq.{take-append_seam}
 use Rattle.game_core.specs.declared.game.Row.{Row}
 use Rattle.grid_quantiser.specs.Axes.{cells_of}
-use Rattle.plant_text.specs.declared.fault.LimitKind.{LimitKind}
-use Rattle.plant_text.specs.declared.fault.LimitKind.TheVariants.{PlantText, TableText, Vectors, Cells, Pairs, Edges}
+use Rattle.plant_record.specs.declared.fault.LimitKind.{LimitKind}
+use Rattle.plant_record.specs.declared.fault.LimitKind.TheVariants.{PlantText, TableText, Vectors, Cells, Pairs, Edges}
 use Rattle.plant_text.specs.declared.fault.PlantFault.{PlantFault}
 use Rattle.plant_text.specs.declared.fault.PlantFault.TheVariants as front
-use Rattle.plant_text.specs.plant.Description.{Description, axes_of}
-use Rattle.plant_text.specs.plant.Limits.{IsWithinLimits}
-use Rattle.plant_text.specs.writing.CanonicalText.{text_of}
-use Rattle.plant_text.specs.reading.CanonicalFronts.{IsFront, IsFrontRefusedFor}
+use Rattle.plant_record.specs.Description.{Description, axes_of}
+use Rattle.plant_record.specs.Limits.{IsWithinLimits}
+use Rattle.plant_writing.specs.CanonicalText.{text_of}
+use Rattle.plant_text.specs.CanonicalFronts.{IsFront, IsFrontRefusedFor}
 use Rattle.plant_text.specs.Laws.{OnePlantAtTheFront, OneFrontRefusal, FrontReadOrRefused}
 use Rattle.controller_table.specs.declared.entry.Entry.{Entry}
 use Rattle.controller_table.specs.declared.fault.TableFault.TheVariants as faults

@@ -10,21 +10,22 @@ use Rattle.std.proofs.lemmas.List.Concat.{length-flat_map}
 use Rattle.std.proofs.lemmas.List.Sums.{sum_by-le}
 use Rattle.std.proofs.lemmas.List.Elements.{All-weaker, recursion_from_All}
 use Rattle.fixed_expr.specs.Expression.{Expression, Number, Variable, Negation, Sum, Difference, Product, Quotient, Minimum, Maximum, Absolute}
-use Rattle.plant_text.specs.declared.plant.variables.StateVariable.{StateVariable}
-use Rattle.plant_text.specs.declared.plant.variables.InputVariable.{InputVariable}
-use Rattle.plant_text.specs.declared.plant.variables.NoiseVariable.{NoiseVariable}
-use Rattle.plant_text.specs.declared.plant.aims.StateBox.{StateBox}
-use Rattle.plant_text.specs.declared.plant.aims.GoalKind.{GoalKind}
-use Rattle.plant_text.specs.declared.plant.aims.GoalKind.TheVariants.{Reach, Keep}
-use Rattle.plant_text.specs.words.Names.{IsName}
-use Rattle.plant_text.specs.words.Numbers.{IsLiteral}
-use Rattle.plant_text.specs.plant.Description.{Description, names_of}
-use Rattle.plant_text.specs.plant.Variables.{IsStateVariable, IsInputVariable, IsNoiseVariable}
-use Rattle.plant_text.specs.plant.Boxes.{AreEnds, IsStateBox}
-use Rattle.plant_text.specs.plant.Equations.{nodes_of, HasLiterals, IsEquation}
-use Rattle.plant_text.specs.plant.Plants.{IsPlant}
-use Rattle.plant_text.specs.writing.ExpressionText.{at_level, expression_text}
-use Rattle.plant_text.specs.writing.CanonicalText.{line, state_line, input_line, noise_line, equation_line, equation_lines, end_words, box_line, goal_word, text_of}
+use Rattle.plant_record.specs.declared.variables.StateVariable.{StateVariable}
+use Rattle.plant_record.specs.declared.variables.InputVariable.{InputVariable}
+use Rattle.plant_record.specs.declared.variables.NoiseVariable.{NoiseVariable}
+use Rattle.plant_record.specs.declared.aims.StateBox.{StateBox}
+use Rattle.plant_record.specs.declared.aims.GoalKind.{GoalKind}
+use Rattle.plant_record.specs.declared.aims.GoalKind.TheVariants.{Reach, Keep}
+use Rattle.plant_record.specs.Names.{IsName}
+use Rattle.plant_record.specs.Numbers.{IsLiteral}
+use Rattle.plant_record.specs.Description.{Description, names_of}
+use Rattle.plant_record.specs.Variables.{IsStateVariable, IsInputVariable, IsNoiseVariable}
+use Rattle.plant_record.specs.Boxes.{AreEnds, IsStateBox}
+use Rattle.plant_record.specs.Equations.{nodes_of, HasLiterals, IsEquation}
+use Rattle.plant_record.specs.Plants.{IsPlant}
+use Rattle.plant_writing.specs.ExpressionText.{at_level, expression_text}
+use Rattle.plant_record.specs.Spelling.{line, end_words, goal_word}
+use Rattle.plant_writing.specs.CanonicalText.{state_line, input_line, noise_line, equation_line, equation_lines, box_line, text_of}
 
 -- ---- words and lines
 

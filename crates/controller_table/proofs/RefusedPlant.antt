@@ -1,8 +1,8 @@
 -- Why no plant is read behind a table's first line.
 use Rattle.std.proofs.Common.{ℕ, ◌+◌, ◌≤◌, List, [], ◌∷◌, ◌++◌, length, length-append, ap, arith}
 use Rattle.std.specs.Prelude.{codes}
-use Rattle.plant_text.specs.words.Lines.{with_line_feeds}
-use Rattle.plant_text.specs.reading.CanonicalFronts.{IsFirstRefusedAtFront}
+use Rattle.plant_reading.specs.Lines.{with_line_feeds}
+use Rattle.plant_text.specs.CanonicalFronts.{IsFirstRefusedAtFront}
 
 few_lines : (lines : List (List ℕ)) → length lines ≤ length (with_line_feeds lines)
 few_lines [] = omega arith

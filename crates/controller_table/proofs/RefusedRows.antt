@@ -7,8 +7,8 @@ use Rattle.std.proofs.lemmas.List.Elements.{recursion_from_All, All-from_recursi
 use Rattle.std.proofs.lemmas.List.Folds.{concat-append}
 use Rattle.game_core.specs.declared.game.Row.{Row}
 use Rattle.grid_quantiser.specs.Axes.{cells_of}
-use Rattle.plant_text.specs.plant.Description.{Description, axes_of}
-use Rattle.plant_text.specs.plant.Limits.{IsWithinLimits}
+use Rattle.plant_record.specs.Description.{Description, axes_of}
+use Rattle.plant_record.specs.Limits.{IsWithinLimits}
 use Rattle.controller_table.specs.TableText.{First, entries_from, entry_line, count_line, end_line, lines_behind}
 use Rattle.controller_table.specs.Tables.{IsRowOf, RowsFit}
 use Rattle.controller_table.specs.RowLines.{IsEntryOf, IsFirstRefusedBehind}

@@ -7,11 +7,11 @@ use Rattle.std.proofs.lemmas.Fmt.{length-decimal-le}
 use Rattle.std.proofs.lemmas.List.Elements.{recursion_from_All}
 use Rattle.game_core.specs.declared.game.Row.{Row}
 use Rattle.grid_quantiser.specs.Axes.{cells_of}
-use Rattle.plant_text.specs.declared.plant.aims.GoalKind.{GoalKind}
-use Rattle.plant_text.specs.declared.plant.aims.GoalKind.TheVariants.{Reach, Keep}
-use Rattle.plant_text.specs.plant.Description.{Description, axes_of}
-use Rattle.plant_text.specs.plant.Limits.{IsWithinLimits}
-use Rattle.plant_text.specs.writing.CanonicalText.{text_of}
+use Rattle.plant_record.specs.declared.aims.GoalKind.{GoalKind}
+use Rattle.plant_record.specs.declared.aims.GoalKind.TheVariants.{Reach, Keep}
+use Rattle.plant_record.specs.Description.{Description, axes_of}
+use Rattle.plant_record.specs.Limits.{IsWithinLimits}
+use Rattle.plant_writing.specs.CanonicalText.{text_of}
 use Rattle.controller_table.specs.declared.entry.Entry.{Entry}
 use Rattle.controller_table.specs.TableText.{Version, First, entries_from, entry_line, rank_word, input_word, count_line, end_line, version_line, lines_behind}
 use Rattle.controller_table.specs.Tables.{HasFittingRank, RowsFit}

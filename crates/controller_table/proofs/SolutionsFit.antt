@@ -7,8 +7,8 @@ use Rattle.game_core.specs.Game.{Game}
 use Rattle.game_core.specs.Keep.{IsKeepRow}
 use Rattle.game_core.specs.Solution.{row_of, IsReachRow, IsChosenInput, RanksAreBelowTheCells}
 use Rattle.grid_quantiser.specs.Axes.{cells_of}
-use Rattle.plant_text.specs.declared.plant.aims.GoalKind.{GoalKind}
-use Rattle.plant_text.specs.plant.Description.{axes_of}
+use Rattle.plant_record.specs.declared.aims.GoalKind.{GoalKind}
+use Rattle.plant_record.specs.Description.{axes_of}
 use Rattle.controller_table.specs.Tables.{HasFittingRank, IsRowOf}
 use Rattle.controller_table.specs.Laws.{ReachSolutionsFit, KeepSolutionsFit}
 

@@ -4,8 +4,8 @@ use Rattle.std.specs.List.{AllByRecursion}
 use Rattle.std.proofs.lemmas.List.{length-map}
 use Rattle.std.proofs.lemmas.List.Elements.{recursion_from_All}
 use Rattle.grid_quantiser.specs.Axes.{cells_of}
-use Rattle.plant_text.specs.plant.Description.{Description, axes_of}
-use Rattle.plant_text.specs.plant.Limits.{IsWithinLimits}
+use Rattle.plant_record.specs.Description.{Description, axes_of}
+use Rattle.plant_record.specs.Limits.{IsWithinLimits}
 use Rattle.controller_table.specs.declared.entry.Entry.{Entry}
 use Rattle.controller_table.specs.TableText.{Version, First, entry_line, count_line, end_line}
 use Rattle.controller_table.specs.RowLines.{IsEntryOf, AreEntriesOf, AreRowLines, AreBegun, AreWhole, MayStand}

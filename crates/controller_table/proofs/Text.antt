@@ -4,9 +4,9 @@ use Rattle.std.specs.List.{concat}
 use Rattle.std.proofs.lemmas.List.{length-map}
 use Rattle.std.proofs.lemmas.List.Folds.{concat-append}
 use Rattle.game_core.specs.declared.game.Row.{Row}
-use Rattle.plant_text.specs.declared.plant.aims.GoalKind.{GoalKind}
-use Rattle.plant_text.specs.plant.Description.{Description}
-use Rattle.plant_text.specs.writing.CanonicalText.{text_of}
+use Rattle.plant_record.specs.declared.aims.GoalKind.{GoalKind}
+use Rattle.plant_record.specs.Description.{Description}
+use Rattle.plant_writing.specs.CanonicalText.{text_of}
 use Rattle.controller_table.specs.TableText.{First, entries_from, entry_line, count_line, end_line, version_line, lines_behind, table_text}
 
 -- the lines of the rows, and the last line

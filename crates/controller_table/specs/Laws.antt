@@ -5,8 +5,8 @@ use Rattle.game_core.specs.Game.{Game, IsGraph}
 use Rattle.game_core.specs.Keep.{IsKeepSolution}
 use Rattle.game_core.specs.Solution.{IsReachSolution}
 use Rattle.grid_quantiser.specs.Axes.{cells_of}
-use Rattle.plant_text.specs.declared.plant.aims.GoalKind.TheVariants.{Reach, Keep}
-use Rattle.plant_text.specs.plant.Description.{Description, axes_of, vectors_of}
+use Rattle.plant_record.specs.declared.aims.GoalKind.TheVariants.{Reach, Keep}
+use Rattle.plant_record.specs.Description.{Description, axes_of, vectors_of}
 use Rattle.controller_table.specs.declared.fault.TableFault.{TableFault}
 use Rattle.controller_table.specs.Tables.{RowsFit, IsTable}
 use Rattle.controller_table.specs.Choice.{IsChoice, HasRank}

@@ -1,13 +1,13 @@
 -- Which texts are refused as tables, and why: the first reason that applies.
 use Rattle.std.specs.Prelude.{◌≡◌, ◌⊎◌, ℕ, suc, ◌+◌, ◌≤◌, ◌==◌, List, ◌++◌, length, count_by}
-use Rattle.plant_text.specs.declared.fault.LimitKind.{LimitKind}
-use Rattle.plant_text.specs.declared.fault.LimitKind.TheVariants.{PlantText, TableText, Vectors, Cells, Pairs, Edges}
+use Rattle.plant_record.specs.declared.fault.LimitKind.{LimitKind}
+use Rattle.plant_record.specs.declared.fault.LimitKind.TheVariants.{PlantText, TableText, Vectors, Cells, Pairs, Edges}
 use Rattle.plant_text.specs.declared.fault.PlantFault.{PlantFault}
 use Rattle.plant_text.specs.declared.fault.PlantFault.TheVariants as front
-use Rattle.plant_text.specs.plant.Description.{Description}
-use Rattle.plant_text.specs.plant.Limits.{IsWithinLimits}
-use Rattle.plant_text.specs.writing.CanonicalText.{text_of}
-use Rattle.plant_text.specs.reading.CanonicalFronts.{IsFrontRefusedFor}
+use Rattle.plant_record.specs.Description.{Description}
+use Rattle.plant_record.specs.Limits.{IsWithinLimits}
+use Rattle.plant_writing.specs.CanonicalText.{text_of}
+use Rattle.plant_text.specs.CanonicalFronts.{IsFrontRefusedFor}
 use Rattle.controller_table.specs.declared.fault.TableFault.{TableFault}
 use Rattle.controller_table.specs.declared.fault.TableFault.TheVariants as faults
 use Rattle.controller_table.specs.TableText.{Version, version_line}

@@ -2,7 +2,7 @@
 use Rattle.std.specs.Prelude.{◌≡◌, ◌⊎◌, ℕ, suc, ◌<◌, ◌≤◌, List, [], ◌∷◌, ◌++◌, length, map}
 use Rattle.std.specs.List.{All, AllPairs, concat}
 use Rattle.grid_quantiser.specs.Axes.{cells_of}
-use Rattle.plant_text.specs.plant.Description.{Description, axes_of}
+use Rattle.plant_record.specs.Description.{Description, axes_of}
 use Rattle.controller_table.specs.declared.entry.Entry.{Entry}
 use Rattle.controller_table.specs.TableText.{Version, First, entry_line, count_line, end_line}
 use Rattle.controller_table.specs.Tables.{IsRowOf}

@@ -3,10 +3,11 @@ use Rattle.std.specs.Prelude.{ℕ, suc, ◌==◌, List, [], ◌∷◌, ◌++◌,
 use Rattle.std.specs.List.{concat}
 use Rattle.std.specs.Fmt.{decimal}
 use Rattle.game_core.specs.declared.game.Row.{Row}
-use Rattle.plant_text.specs.declared.plant.aims.GoalKind.{GoalKind}
-use Rattle.plant_text.specs.declared.plant.aims.GoalKind.TheVariants.{Reach, Keep}
-use Rattle.plant_text.specs.plant.Description.{Description}
-use Rattle.plant_text.specs.writing.CanonicalText.{line, text_of}
+use Rattle.plant_record.specs.declared.aims.GoalKind.{GoalKind}
+use Rattle.plant_record.specs.declared.aims.GoalKind.TheVariants.{Reach, Keep}
+use Rattle.plant_record.specs.Description.{Description}
+use Rattle.plant_record.specs.Spelling.{line}
+use Rattle.plant_writing.specs.CanonicalText.{text_of}
 use Rattle.controller_table.specs.declared.entry.Entry.{Entry}
 
 -- The versions of a table's text. In the first each cell with a row has a line of its own.

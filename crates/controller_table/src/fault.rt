@@ -1,7 +1,7 @@
 ghost use Rattle.std.specs.Prelude.{◌≡◌};
 ghost use Rattle.controller_table.specs.declared.fault.TableFault.TheVariants as faults;
 
-use plant_text::LimitKind;
+use plant_record::LimitKind;
 use std::alloc::AllocError;
 
 /// There was no memory left.
@@ -14,8 +14,8 @@ impl From<AllocError> for NoMemory {
     }
 }
 
-impl From<plant_text::NoMemory> for NoMemory {
-    fn from(_refused: plant_text::NoMemory) -> NoMemory {
+impl From<plant_record::NoMemory> for NoMemory {
+    fn from(_refused: plant_record::NoMemory) -> NoMemory {
         NoMemory
     }
 }

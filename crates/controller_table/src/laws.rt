@@ -1,6 +1,6 @@
 //! What holds of every table and of its text.
 
-ghost use Rattle.plant_text.specs.plant.Limits.{IsWithinLimits};
+ghost use Rattle.plant_record.specs.Limits.{IsWithinLimits};
 ghost use Rattle.controller_table.specs.Tables.{RowsFit};
 ghost use Rattle.controller_table.specs.Laws.{OneTablePerText, OneChoice, OneRank, OneTableRefusal, TableOrRefused, TablesAreShort, ReachSolutionsFit, KeepSolutionsFit};
 

@@ -7,7 +7,7 @@ ghost use Rattle.controller_table.specs.TableText.{entry_line, count_line, end_l
 use crate::entry::Entry;
 use game_core::Row;
 use itoa::write_digits;
-use plant_text::GoalKind;
+use plant_record::GoalKind;
 use std::marker::Model;
 
 /// More bytes than three numbers of 32 bits have, with a byte behind each.

@@ -5,7 +5,7 @@ ghost use Rattle.controller_table.specs.TableText.{entries_from, entry_line, end
 use crate::line_text::LineText;
 use crate::rows_left::RowsLeft;
 use game_core::Answer;
-use plant_text::GoalKind;
+use plant_record::GoalKind;
 use std::marker::Model;
 use text_pieces::{Pieces, copy_front};
 

@@ -1,7 +1,7 @@
 // Numbers in lines.
 
 ghost use Rattle.std.specs.Prelude.{◌≡◌, ◌⊎◌, ℕ, ◌+◌, ◌*◌, ◌^◌, ◌<◌, ◌≤◌, List, false, MatchOption};
-ghost use Rattle.plant_text.specs.words.Names.{is_digit};
+ghost use Rattle.plant_record.specs.Names.{is_digit};
 ghost use Rattle.controller_table.specs.inside.Found.{Finds};
 ghost use Rattle.controller_table.specs.inside.Numbers.{IsNumberTo};
 

@@ -1,6 +1,6 @@
 ghost use Rattle.std.specs.Prelude.{◌≡◌, ◌≢◌, ◌≤◌, length, IfOk, IfErr};
-ghost use Rattle.plant_text.specs.plant.Limits.{IsWithinLimits};
-ghost use Rattle.plant_text.specs.reading.CanonicalFronts.{IsFront};
+ghost use Rattle.plant_record.specs.Limits.{IsWithinLimits};
+ghost use Rattle.plant_text.specs.CanonicalFronts.{IsFront};
 ghost use Rattle.controller_table.specs.declared.fault.TableFault.TheVariants.{Memory};
 ghost use Rattle.controller_table.specs.Tables.{IsTable};
 ghost use Rattle.controller_table.specs.Refusals.{IsTableRefusedFor, line_count};
@@ -10,8 +10,9 @@ use crate::fault::TableFault;
 use crate::front::behind_front;
 use crate::row_reader::rows_behind;
 use crate::table::Table;
-use plant_text::laws::every_plant_is_within_limits;
-use plant_text::{Front, LimitKind, PlantFault, read_front};
+use plant_record::laws::every_plant_is_within_limits;
+use plant_record::LimitKind;
+use plant_text::{Front, PlantFault, read_front};
 use std::alloc::Global;
 
 /// The most bytes of a table's text.

@@ -4,8 +4,8 @@ ghost use Rattle.std.specs.Prelude.{◌≡◌, ◌≤◌, ℕ, List, ◌++◌, l
 ghost use Rattle.std.specs.List.{concat};
 ghost use Rattle.game_core.specs.declared.game.Row.{Row};
 ghost use Rattle.grid_quantiser.specs.Axes.{cells_of};
-ghost use Rattle.plant_text.specs.plant.Description.{axes_of};
-ghost use Rattle.plant_text.specs.plant.Limits.{IsWithinLimits};
+ghost use Rattle.plant_record.specs.Description.{axes_of};
+ghost use Rattle.plant_record.specs.Limits.{IsWithinLimits};
 ghost use Rattle.controller_table.specs.declared.entry.Entry.{Entry};
 ghost use Rattle.controller_table.specs.TableText.{First, entry_line, count_line, end_line, lines_behind, entries_from};
 ghost use Rattle.controller_table.specs.Tables.{RowsFit};
@@ -19,7 +19,7 @@ use crate::fault::TableFault;
 use crate::front::behind_front;
 use crate::numbers::number_to;
 use game_core::{Answer, Row};
-use plant_text::{GoalKind, Plant};
+use plant_record::{GoalKind, Plant};
 use std::alloc::Global;
 
 /// The rows whose lines stand behind the text of a plant, and how many there are.

@@ -8,7 +8,7 @@ ghost use Rattle.controller_table.specs.TableText.{entries_from, entry_line, end
 use crate::entry::Entry;
 use crate::line_text::LineText;
 use game_core::Answer;
-use plant_text::GoalKind;
+use plant_record::GoalKind;
 use std::marker::Model;
 
 /// The rows whose lines are still to be written, and the last line. Seen as their bytes.

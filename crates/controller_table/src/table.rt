@@ -2,14 +2,14 @@ ghost use Rattle.std.specs.Prelude.{◌≡◌, ◌<◌, ℕ, length, IfSome};
 ghost use Rattle.std.specs.Option.{IfNone};
 ghost use Rattle.grid_quantiser.specs.Axes.{cells_of};
 ghost use Rattle.game_core.specs.Solution.{row_of};
-ghost use Rattle.plant_text.specs.plant.Description.{axes_of};
+ghost use Rattle.plant_record.specs.Description.{axes_of};
 ghost use Rattle.controller_table.specs.TableText.{entries_from};
 ghost use Rattle.controller_table.specs.Tables.{RowsFit};
 ghost use Rattle.controller_table.specs.Choice.{Chooses};
 
 use game_core::{Answer, Row};
 use grid_quantiser::Point;
-use plant_text::{GoalKind, Plant};
+use plant_record::{GoalKind, Plant};
 use std::marker::Model;
 
 /// A plant with a row that fits it for some of its cells.

@@ -1,14 +1,15 @@
 ghost use Rattle.std.specs.Prelude.{◌≡◌, ◌<◌, ◌++◌, length, take, drop, min, IfOk};
 ghost use Rattle.controller_table.specs.TableText.{First, table_text, count_line, version_line};
 ghost use Rattle.controller_table.specs.Tables.{RowsFit};
-ghost use Rattle.plant_text.specs.writing.CanonicalText.{text_of};
+ghost use Rattle.plant_writing.specs.CanonicalText.{text_of};
 
 use crate::fault::NoMemory;
 use crate::line_text::LineText;
 use crate::lines_left::LinesLeft;
 use crate::rows_left::count_rows;
 use game_core::Answer;
-use plant_text::{Plant, write_plant};
+use plant_record::Plant;
+use plant_writing::write_plant;
 use std::alloc::Global;
 use std::marker::Model;
 use text_pieces::{Pieces, copy_front};

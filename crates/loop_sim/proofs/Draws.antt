@@ -5,9 +5,9 @@ use Rattle.std.specs.Option.{option_map}
 use Rattle.std.proofs.lemmas.Int.{ints}
 use Rattle.std.proofs.lemmas.Option.{none-some, same_Some}
 use Rattle.std.proofs.lemmas.List.Elements.{All-head, All-tail}
-use Rattle.plant_text.specs.declared.plant.variables.NoiseVariable.{NoiseVariable}
-use Rattle.plant_text.specs.plant.Variables.{IsNoiseVariable}
-use Rattle.plant_text.specs.plant.Steps.{IsNoise}
+use Rattle.plant_record.specs.declared.variables.NoiseVariable.{NoiseVariable}
+use Rattle.plant_record.specs.Variables.{IsNoiseVariable}
+use Rattle.plant_record.specs.Steps.{IsNoise}
 use Rattle.loop_sim.specs.Noise.{generator, next_state, noise_of, noises_from}
 
 pub generator_more : (s a b : ℕ) → generator (generator s a) b ≡ generator s (a + b)

@@ -3,9 +3,9 @@ use Rattle.std.proofs.Common.{ℕ, zero, suc, Bool, true, false, List, [], ◌�
 use Rattle.std.specs.Prelude.{ℤ, if◌then◌else◌}
 use Rattle.game_core.specs.declared.game.Row.{Row}
 use Rattle.grid_quantiser.specs.Cells.{point_of}
-use Rattle.plant_text.specs.declared.plant.aims.GoalKind.{GoalKind}
-use Rattle.plant_text.specs.plant.Description.{Description}
-use Rattle.plant_text.specs.plant.Steps.{step_of}
+use Rattle.plant_record.specs.declared.aims.GoalKind.{GoalKind}
+use Rattle.plant_record.specs.Description.{Description}
+use Rattle.plant_record.specs.Steps.{step_of}
 use Rattle.loop_sim.specs.declared.line.SimLine.{SimLine}
 use Rattle.loop_sim.specs.declared.line.SimLine.TheVariants.{At, Arrived, Stopped}
 use Rattle.loop_sim.specs.Laws.{EndWithTheirLast}

@@ -7,7 +7,7 @@ use Rattle.std.proofs.lemmas.List.{append-nil, take_more}
 use Rattle.std.proofs.lemmas.List.Folds.{flat_map-map}
 use Rattle.std.proofs.lemmas.List.Concat.{flat_map-append}
 use Rattle.game_core.specs.declared.game.Row.{Row}
-use Rattle.plant_text.specs.plant.Description.{Description}
+use Rattle.plant_record.specs.Description.{Description}
 use Rattle.controller_table.specs.TableText.{rank_word, input_word}
 use Rattle.loop_sim.specs.declared.line.SimLine.TheVariants.{At, Lost}
 use Rattle.loop_sim.specs.TraceText.{line_text, state_words}

@@ -8,7 +8,7 @@ use Rattle.game_core.specs.Solution.{row_of}
 use Rattle.grid_quantiser.specs.declared.axis.Axis.{Axis}
 use Rattle.grid_quantiser.specs.Axes.{end_of}
 use Rattle.grid_quantiser.specs.Cells.{IsInDomain, cell_of}
-use Rattle.plant_text.specs.plant.Description.{Description, axes_of}
+use Rattle.plant_record.specs.Description.{Description, axes_of}
 use Rattle.controller_table.specs.Choice.{HasRowAt}
 use Rattle.loop_sim.specs.Trace.{is_in_domain, row_at}
 

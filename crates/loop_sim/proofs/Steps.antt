@@ -6,10 +6,10 @@ use Rattle.std.proofs.lemmas.List.Elements.{All-head, All-tail}
 use Rattle.fixed_expr.specs.Value.{value_of}
 use Rattle.game_core.specs.declared.game.Row.{Row}
 use Rattle.grid_quantiser.specs.Cells.{cell_of, point_of}
-use Rattle.plant_text.specs.plant.Description.{Description, axes_of, vector_of}
-use Rattle.plant_text.specs.plant.Limits.{IsWithinLimits}
-use Rattle.plant_text.specs.plant.Soundness.{PlantsAreSound}
-use Rattle.plant_text.specs.plant.Steps.{IsNoise, step_of, StepStaysInRange}
+use Rattle.plant_record.specs.Description.{Description, axes_of, vector_of}
+use Rattle.plant_record.specs.Limits.{IsWithinLimits}
+use Rattle.plant_record.specs.Soundness.{PlantsAreSound}
+use Rattle.plant_record.specs.Steps.{IsNoise, step_of, StepStaysInRange}
 use Rattle.successor_box.specs.Deviations.{HasNoOverflow}
 use Rattle.successor_box.specs.Laws.{StepsStayInRange}
 use Rattle.controller_table.specs.Tables.{TableModel, IsRowOf, RowsFit}

@@ -1,9 +1,9 @@
 -- What holds of every trace.
 use Rattle.std.specs.Prelude.{◌≡◌, ℕ, ◌↔◌, ℤ, List, [], ◌∷◌, Option, Some}
 use Rattle.game_core.specs.declared.game.Row.{Row}
-use Rattle.plant_text.specs.plant.Description.{Description}
-use Rattle.plant_text.specs.plant.Plants.{IsPlant}
-use Rattle.plant_text.specs.plant.Steps.{IsNoise}
+use Rattle.plant_record.specs.Description.{Description}
+use Rattle.plant_record.specs.Plants.{IsPlant}
+use Rattle.plant_record.specs.Steps.{IsNoise}
 use Rattle.controller_table.specs.Choice.{HasRowAt}
 use Rattle.loop_sim.specs.declared.line.SimLine.{SimLine}
 use Rattle.loop_sim.specs.declared.line.SimLine.TheVariants.{At, Arrived, Stopped, Lost}

@@ -1,7 +1,7 @@
 -- The noises of a trace, drawn by MMIX's linear congruential generator (Knuth).
 use Rattle.std.specs.Prelude.{ℕ, zero, suc, ◌+◌, ◌*◌, ◌/◌, ◌%◌, ◌^◌, ℤ, pos, nat_abs, ◌+ℤ◌, ◌-ℤ◌, List, [], ◌∷◌, length}
-use Rattle.plant_text.specs.declared.plant.variables.NoiseVariable.{NoiseVariable}
-use Rattle.plant_text.specs.plant.Description.{Description}
+use Rattle.plant_record.specs.declared.variables.NoiseVariable.{NoiseVariable}
+use Rattle.plant_record.specs.Description.{Description}
 
 -- the state that follows a state of the generator
 abbrev pub next_state : ℕ → ℕ

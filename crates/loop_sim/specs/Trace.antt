@@ -5,10 +5,10 @@ use Rattle.game_core.specs.Solution.{row_of}
 use Rattle.grid_quantiser.specs.declared.axis.Axis.{Axis}
 use Rattle.grid_quantiser.specs.Axes.{end_of}
 use Rattle.grid_quantiser.specs.Cells.{cell_of, point_of}
-use Rattle.plant_text.specs.declared.plant.aims.GoalKind.{GoalKind}
-use Rattle.plant_text.specs.declared.plant.aims.GoalKind.TheVariants.{Reach, Keep}
-use Rattle.plant_text.specs.plant.Description.{Description, axes_of}
-use Rattle.plant_text.specs.plant.Steps.{step_of}
+use Rattle.plant_record.specs.declared.aims.GoalKind.{GoalKind}
+use Rattle.plant_record.specs.declared.aims.GoalKind.TheVariants.{Reach, Keep}
+use Rattle.plant_record.specs.Description.{Description, axes_of}
+use Rattle.plant_record.specs.Steps.{step_of}
 use Rattle.loop_sim.specs.declared.line.SimLine.{SimLine}
 use Rattle.loop_sim.specs.declared.line.SimLine.TheVariants.{At, Arrived, Stopped, Lost}
 use Rattle.loop_sim.specs.Noise.{noises_at}

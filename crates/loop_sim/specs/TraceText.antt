@@ -3,8 +3,8 @@ use Rattle.std.specs.Prelude.{ℕ, ℤ, List, [], ◌∷◌, ◌++◌, length, m
 use Rattle.std.specs.List.{concat}
 use Rattle.std.specs.Fmt.{decimal, signed_decimal}
 use Rattle.game_core.specs.declared.game.Row.{Row}
-use Rattle.plant_text.specs.plant.Description.{Description}
-use Rattle.plant_text.specs.writing.CanonicalText.{line}
+use Rattle.plant_record.specs.Description.{Description}
+use Rattle.plant_record.specs.Spelling.{line}
 use Rattle.controller_table.specs.TableText.{rank_word, input_word}
 use Rattle.loop_sim.specs.declared.line.SimLine.{SimLine}
 use Rattle.loop_sim.specs.declared.line.SimLine.TheVariants.{At, Arrived, Stopped, Lost}

@@ -11,8 +11,8 @@ use controller_table::Table;
 use controller_table::laws::every_table_fits;
 use game_core::Row;
 use grid_quantiser::Point;
-use plant_text::laws::plants_are_sound;
-use plant_text::{GoalKind, step};
+use plant_record::laws::plants_are_sound;
+use plant_record::{GoalKind, step};
 use successor_box::laws::steps_stay_in_range;
 
 /// A sample of a closed loop.

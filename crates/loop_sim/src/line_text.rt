@@ -9,8 +9,8 @@ ghost use Rattle.loop_sim.specs.TraceText.{line_text, first_line};
 use crate::line::SimLine;
 use game_core::Row;
 use itoa::Buffer;
-use plant_text::laws::every_plant_is_within_limits;
-use plant_text::{GoalKind, Plant};
+use plant_record::laws::every_plant_is_within_limits;
+use plant_record::{GoalKind, Plant};
 use std::marker::Model;
 
 /// More bytes than a word, three numbers of 32 bits and six of 128 bits have, with a byte behind each.

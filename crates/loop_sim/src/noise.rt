@@ -5,8 +5,8 @@ ghost use Rattle.grid_quantiser.specs.Cells.{point_of};
 ghost use Rattle.loop_sim.specs.Noise.{generator, next_state, noises_from};
 
 use grid_quantiser::Point;
-use plant_text::Plant;
-use plant_text::laws::every_plant_is_within_limits;
+use plant_record::Plant;
+use plant_record::laws::every_plant_is_within_limits;
 
 const MULTIPLIER: u64 = 6364136223846793005;
 

@@ -9,8 +9,8 @@ use Rattle.game_core.specs.Solution.{row_of}
 use Rattle.grid_quantiser.specs.declared.axis.Axis.{Axis}
 use Rattle.grid_quantiser.specs.Axes.{cells_of}
 use Rattle.grid_quantiser.specs.Cells.{IsInDomain, cell_of, place_of, point_of}
-use Rattle.plant_text.specs.plant.Description.{Description, axes_of, axis_of}
-use Rattle.plant_text.specs.plant.Steps.{step_of}
+use Rattle.plant_record.specs.Description.{Description, axes_of, axis_of}
+use Rattle.plant_record.specs.Steps.{step_of}
 use Rattle.successor_box.specs.Laws.{PointsLieWithTheirStates}
 use Rattle.controller_table.specs.Choice.{Chooses, HasRowAt}
 use Rattle.plant_refine.specs.Drives.{LiesInSome, IsClear}

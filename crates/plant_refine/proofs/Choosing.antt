@@ -5,10 +5,10 @@ use Rattle.game_core.specs.declared.game.Row.{Row}
 use Rattle.game_core.specs.Solution.{row_of, RowsStandAtCells}
 use Rattle.grid_quantiser.specs.Axes.{cells_of}
 use Rattle.grid_quantiser.specs.Cells.{cell_of, point_of}
-use Rattle.plant_text.specs.declared.plant.aims.GoalKind.{GoalKind}
-use Rattle.plant_text.specs.declared.plant.aims.GoalKind.TheVariants.{Reach, Keep}
-use Rattle.plant_text.specs.plant.Description.{Description, axes_of}
-use Rattle.plant_text.specs.plant.Steps.{step_of, IsNoise}
+use Rattle.plant_record.specs.declared.aims.GoalKind.{GoalKind}
+use Rattle.plant_record.specs.declared.aims.GoalKind.TheVariants.{Reach, Keep}
+use Rattle.plant_record.specs.Description.{Description, axes_of}
+use Rattle.plant_record.specs.Steps.{step_of, IsNoise}
 use Rattle.controller_table.specs.Choice.{Applies, Chooses, HasRowAt}
 use Rattle.controller_table.specs.Tables.{HasFittingRank, IsRowOf, RowsFit}
 use Rattle.std.specs.Prelude.{IfSome}

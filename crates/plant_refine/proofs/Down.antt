@@ -7,10 +7,10 @@ use Rattle.game_core.specs.Game.{Game, IsEnabled, IsGame, successors_of}
 use Rattle.game_core.specs.Right.{AreRight}
 use Rattle.game_core.specs.Solution.{row_of, IsReachSolution, LeadsToGoals, RowsStandAtCells}
 use Rattle.grid_quantiser.specs.Cells.{cell_of, point_of}
-use Rattle.plant_text.specs.plant.Description.{Description, axes_of}
-use Rattle.plant_text.specs.plant.Plants.{IsPlant}
-use Rattle.plant_text.specs.plant.Soundness.{IsSound, PlantsAreSound}
-use Rattle.plant_text.specs.plant.Steps.{step_of, IsNoise}
+use Rattle.plant_record.specs.Description.{Description, axes_of}
+use Rattle.plant_record.specs.Plants.{IsPlant}
+use Rattle.plant_record.specs.Soundness.{IsSound, PlantsAreSound}
+use Rattle.plant_record.specs.Steps.{step_of, IsNoise}
 use Rattle.successor_box.specs.Boxes.{IsEnabledAt}
 use Rattle.successor_box.specs.Laws.{EnabledPairsHaveSuccessors, PointsLieWithTheirStates}
 use Rattle.controller_table.specs.Choice.{HasRowAt}

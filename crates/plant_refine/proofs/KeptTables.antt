@@ -12,12 +12,12 @@ use Rattle.game_core.specs.Strategy.{Tree, Leaf, Apply}
 use Rattle.grid_quantiser.specs.Cells.{IsInDomain, cell_of}
 use Rattle.grid_quantiser.specs.Boxes.{IsInBox, Touches}
 use Rattle.grid_quantiser.specs.Laws.{StatesHaveCells}
-use Rattle.plant_text.specs.declared.plant.aims.GoalKind.{GoalKind}
-use Rattle.plant_text.specs.declared.plant.aims.GoalKind.TheVariants.{Keep}
-use Rattle.plant_text.specs.plant.Description.{Description, axes_of}
-use Rattle.plant_text.specs.plant.Marks.{IsObstacleCell}
-use Rattle.plant_text.specs.plant.Soundness.{IsSound}
-use Rattle.plant_text.specs.plant.Steps.{step_of, IsNoise}
+use Rattle.plant_record.specs.declared.aims.GoalKind.{GoalKind}
+use Rattle.plant_record.specs.declared.aims.GoalKind.TheVariants.{Keep}
+use Rattle.plant_record.specs.Description.{Description, axes_of}
+use Rattle.plant_record.specs.Marks.{IsObstacleCell}
+use Rattle.plant_record.specs.Soundness.{IsSound}
+use Rattle.plant_record.specs.Steps.{step_of, IsNoise}
 use Rattle.controller_table.specs.Choice.{Applies, HasRowAt}
 use Rattle.controller_table.specs.Laws.{OneTablePerText}
 use Rattle.controller_table.specs.Tables.{IsTable}

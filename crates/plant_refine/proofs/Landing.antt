@@ -5,9 +5,9 @@ use Rattle.std.specs.List.{Contains}
 use Rattle.std.proofs.lemmas.List.{length-map}
 use Rattle.grid_quantiser.specs.Cells.{IsInDomain, cell_of, point_of}
 use Rattle.grid_quantiser.specs.Laws.{StatesHaveCells}
-use Rattle.plant_text.specs.plant.Description.{Description, axes_of}
-use Rattle.plant_text.specs.plant.Steps.{IsNoise, step_of}
-use Rattle.plant_text.specs.plant.Soundness.{IsSound}
+use Rattle.plant_record.specs.Description.{Description, axes_of}
+use Rattle.plant_record.specs.Steps.{IsNoise, step_of}
+use Rattle.plant_record.specs.Soundness.{IsSound}
 use Rattle.successor_box.specs.Boxes.{IsEnabledAt, AreSuccessors}
 use Rattle.successor_box.specs.Laws.{StepsLieInTheBoxes, PointsLieWithTheirStates}
 

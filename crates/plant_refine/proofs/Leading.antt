@@ -8,9 +8,9 @@ use Rattle.game_core.specs.Game.{Game, IsEnabled, mark_of, successors_of}
 use Rattle.game_core.specs.Solution.{row_of, HasRowBelow, LeadsToGoals, RowsStandAtCells}
 use Rattle.grid_quantiser.specs.Cells.{IsInDomain, cell_of}
 use Rattle.grid_quantiser.specs.Boxes.{IsInBox, Touches, LiesInside}
-use Rattle.plant_text.specs.plant.Description.{Description, axes_of}
-use Rattle.plant_text.specs.plant.Steps.{step_of, IsNoise}
-use Rattle.plant_text.specs.plant.Marks.{IsGoalCell, IsObstacleCell}
+use Rattle.plant_record.specs.Description.{Description, axes_of}
+use Rattle.plant_record.specs.Steps.{step_of, IsNoise}
+use Rattle.plant_record.specs.Marks.{IsGoalCell, IsObstacleCell}
 use Rattle.controller_table.specs.Choice.{HasRowAt}
 use Rattle.abstraction_table.specs.Abstraction.{IsGameOf}
 use Rattle.plant_refine.specs.Drives.{LiesInSome, IsClear}

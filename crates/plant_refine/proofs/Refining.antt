@@ -4,10 +4,10 @@ use Rattle.std.specs.Prelude.{ℤ}
 use Rattle.game_core.specs.Game.{Game, IsEnabled, successors_of}
 use Rattle.grid_quantiser.specs.Cells.{IsInDomain, IsPointOf, cell_of}
 use Rattle.std.specs.List.{Contains}
-use Rattle.plant_text.specs.plant.Description.{Description, axes_of}
-use Rattle.plant_text.specs.plant.Plants.{IsPlant}
-use Rattle.plant_text.specs.plant.Soundness.{PlantsAreSound}
-use Rattle.plant_text.specs.plant.Steps.{IsNoise, step_of}
+use Rattle.plant_record.specs.Description.{Description, axes_of}
+use Rattle.plant_record.specs.Plants.{IsPlant}
+use Rattle.plant_record.specs.Soundness.{PlantsAreSound}
+use Rattle.plant_record.specs.Steps.{IsNoise, step_of}
 use Rattle.successor_box.specs.Laws.{StepsLieInTheBoxes, EnabledPairsHaveSuccessors}
 use Rattle.abstraction_table.specs.Abstraction.{IsGameOf}
 use Rattle.plant_refine.specs.Laws.{GamesRefineTheirPlants}

@@ -4,9 +4,9 @@ use Rattle.game_core.specs.declared.game.Row.{Row}
 use Rattle.game_core.specs.Game.{Game, IsGame}
 use Rattle.game_core.specs.Right.{AreRight}
 use Rattle.game_core.specs.Solution.{IsReachSolution}
-use Rattle.plant_text.specs.declared.plant.aims.GoalKind.{GoalKind}
-use Rattle.plant_text.specs.declared.plant.aims.GoalKind.TheVariants.{Reach, Keep}
-use Rattle.plant_text.specs.plant.Description.{Description}
+use Rattle.plant_record.specs.declared.aims.GoalKind.{GoalKind}
+use Rattle.plant_record.specs.declared.aims.GoalKind.TheVariants.{Reach, Keep}
+use Rattle.plant_record.specs.Description.{Description}
 use Rattle.controller_table.specs.Tables.{IsTable}
 use Rattle.abstraction_table.specs.Solution.{Solves, IsSolutionOf}
 use Rattle.plant_refine.specs.Controls.{ControlsFor}

@@ -1,8 +1,8 @@
 -- What the table does for its plant, by the plant's goal.
 use Rattle.std.specs.Prelude.{ℕ, List}
-use Rattle.plant_text.specs.declared.plant.aims.GoalKind.{GoalKind}
-use Rattle.plant_text.specs.declared.plant.aims.GoalKind.TheVariants.{Reach, Keep}
-use Rattle.plant_text.specs.plant.Description.{Description}
+use Rattle.plant_record.specs.declared.aims.GoalKind.{GoalKind}
+use Rattle.plant_record.specs.declared.aims.GoalKind.TheVariants.{Reach, Keep}
+use Rattle.plant_record.specs.Description.{Description}
 use Rattle.plant_refine.specs.Drives.{Drives}
 use Rattle.plant_refine.specs.Stays.{Stays}
 

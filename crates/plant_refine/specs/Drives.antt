@@ -4,9 +4,9 @@ use Rattle.std.specs.Prelude.{◌≡◌, ℕ, ◌⊎◌, ℤ, List, [], ◌∷�
 use Rattle.std.specs.List.{Any, All}
 use Rattle.grid_quantiser.specs.Cells.{IsInDomain}
 use Rattle.grid_quantiser.specs.Boxes.{IsInBox}
-use Rattle.plant_text.specs.declared.plant.aims.StateBox.{StateBox}
-use Rattle.plant_text.specs.plant.Description.{Description, axes_of}
-use Rattle.plant_text.specs.plant.Steps.{step_of, IsNoise}
+use Rattle.plant_record.specs.declared.aims.StateBox.{StateBox}
+use Rattle.plant_record.specs.Description.{Description, axes_of}
+use Rattle.plant_record.specs.Steps.{step_of, IsNoise}
 use Rattle.controller_table.specs.Choice.{IsChoice, HasRank}
 
 -- a state in some box of a list

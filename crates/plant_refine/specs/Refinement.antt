@@ -4,8 +4,8 @@ use Rattle.std.specs.Prelude.{ℕ, ◌<◌, ℤ, List}
 use Rattle.std.specs.List.{Contains}
 use Rattle.game_core.specs.Game.{Game, IsEnabled, successors_of}
 use Rattle.grid_quantiser.specs.Cells.{IsInDomain, IsPointOf, cell_of}
-use Rattle.plant_text.specs.plant.Description.{Description, axes_of}
-use Rattle.plant_text.specs.plant.Steps.{IsNoise, step_of}
+use Rattle.plant_record.specs.Description.{Description, axes_of}
+use Rattle.plant_record.specs.Steps.{IsNoise, step_of}
 
 -- Every step from a point of a cell, under an enabled input and a noise in range, lies in the domain,
 -- and its cell is among the successors.

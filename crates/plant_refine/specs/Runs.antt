@@ -2,8 +2,8 @@
 use Rattle.std.specs.Prelude.{◌≡◌, ℕ, zero, suc, ◌<◌, ◌≤◌, ℤ, List, length, take, slice_get, Option, Some}
 use Rattle.game_core.specs.declared.game.Row.{Row}
 use Rattle.grid_quantiser.specs.Cells.{point_of}
-use Rattle.plant_text.specs.plant.Description.{Description}
-use Rattle.plant_text.specs.plant.Steps.{step_of}
+use Rattle.plant_record.specs.Description.{Description}
+use Rattle.plant_record.specs.Steps.{step_of}
 use Rattle.controller_table.specs.Choice.{Chooses}
 use Rattle.plant_refine.specs.Drives.{LiesInSome, IsClear}
 

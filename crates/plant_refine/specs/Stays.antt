@@ -2,8 +2,8 @@
 -- No solver and no game occurs here.
 use Rattle.std.specs.Prelude.{ℕ, ℤ, List, [], ◌∷◌}
 use Rattle.std.specs.List.{All}
-use Rattle.plant_text.specs.plant.Description.{Description}
-use Rattle.plant_text.specs.plant.Steps.{step_of, IsNoise}
+use Rattle.plant_record.specs.Description.{Description}
+use Rattle.plant_record.specs.Steps.{step_of, IsNoise}
 use Rattle.controller_table.specs.Choice.{IsChoice, HasRank}
 use Rattle.plant_refine.specs.Drives.{IsClear}
 

@@ -1,15 +1,15 @@
 ghost use Rattle.std.specs.Prelude.{◌≡◌, ◌<◌, ℕ, List};
 ghost use Rattle.std.specs.List.{Contains};
 ghost use Rattle.grid_quantiser.specs.Cells.{IsInDomain, cell_of, point_of};
-ghost use Rattle.plant_text.specs.plant.Description.{axes_of, vectors_of};
-ghost use Rattle.plant_text.specs.plant.Steps.{IsNoise, step_of};
+ghost use Rattle.plant_record.specs.Description.{axes_of, vectors_of};
+ghost use Rattle.plant_record.specs.Steps.{IsNoise, step_of};
 ghost use Rattle.successor_box.specs.Boxes.{IsEnabledAt, AreSuccessors};
 ghost use Rattle.successor_box.specs.Deviations.{HasNoOverflow, deviations_of};
 
 use grid_quantiser::Point;
 use grid_quantiser::laws::every_state_has_a_cell;
-use plant_text::laws::{every_plant_is_within_limits, plants_are_sound};
-use plant_text::{Plant, step};
+use plant_record::laws::{every_plant_is_within_limits, plants_are_sound};
+use plant_record::{Plant, step};
 use successor_box::Slopes;
 use successor_box::laws::{
     points_lie_with_their_states, steps_lie_in_the_boxes, steps_stay_in_range,

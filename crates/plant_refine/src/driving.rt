@@ -2,8 +2,8 @@ ghost use Rattle.std.specs.Prelude.{◌≡◌, ◌≤◌, ◌<◌, length, take}
 ghost use Rattle.std.specs.List.{All};
 ghost use Rattle.game_core.specs.declared.game.Row.{Row};
 ghost use Rattle.grid_quantiser.specs.Cells.{point_of};
-ghost use Rattle.plant_text.specs.declared.plant.aims.GoalKind.TheVariants.{Reach};
-ghost use Rattle.plant_text.specs.plant.Steps.{IsNoise};
+ghost use Rattle.plant_record.specs.declared.aims.GoalKind.TheVariants.{Reach};
+ghost use Rattle.plant_record.specs.Steps.{IsNoise};
 ghost use Rattle.successor_box.specs.Deviations.{HasNoOverflow, deviations_of};
 ghost use Rattle.controller_table.specs.Choice.{HasRowAt};
 ghost use Rattle.plant_refine.specs.RightRows.{AreRightRowsOf};
@@ -17,8 +17,8 @@ use controller_table::Table;
 use controller_table::laws::every_table_fits;
 use game_core::laws::{right_rows_are_the_solution, rows_lead_to_goals, rows_stand_at_cells};
 use grid_quantiser::Point;
-use plant_text::Plant;
-use plant_text::laws::{every_plant_is_within_limits, plants_are_sound};
+use plant_record::Plant;
+use plant_record::laws::{every_plant_is_within_limits, plants_are_sound};
 use successor_box::Slopes;
 use successor_box::laws::{enabled_pairs_have_successors, points_lie_with_their_states};
 

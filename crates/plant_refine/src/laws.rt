@@ -7,7 +7,7 @@ use game_core::laws::{
     right_rows_are_the_solution, rows_lead_to_goals, rows_stand_at_cells, solutions_are_right,
 };
 use grid_quantiser::laws::every_state_has_a_cell;
-use plant_text::laws::plants_are_sound;
+use plant_record::laws::plants_are_sound;
 use successor_box::laws::{enabled_pairs_have_successors, steps_lie_in_the_boxes};
 
 /// The game of a plant has a successor for each step from each enabled pair.

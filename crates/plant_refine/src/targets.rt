@@ -6,7 +6,7 @@ ghost use Rattle.plant_refine.specs.Drives.{LiesInSome};
 
 use grid_quantiser::laws::every_grid_is_within_the_limit;
 use grid_quantiser::{Grid, Point};
-use plant_text::Plant;
+use plant_record::Plant;
 
 /// Whether a state lies in a target box.
 pub(crate) fn lies_in_target(p: &Plant, x: &Point) -> bool

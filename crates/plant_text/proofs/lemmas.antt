@@ -1,6 +1,15 @@
 -- Lemmas that several proofs use.
-pub mod general
-pub mod words
-pub mod plant
-pub mod writing
-pub mod reading
+pub mod CanonicalFronts
+pub mod CanonicalLines
+pub mod CanonicalParts
+pub mod CanonicalTrees
+pub mod CanonicalWays
+pub mod CanonicalWords
+pub mod ExpressionTokens
+pub mod FrontLineByLine
+pub mod LineByLine
+pub mod LinesLead
+pub mod Lists
+pub mod PlantLines
+pub mod RulesKept
+pub mod SpelledCanonically

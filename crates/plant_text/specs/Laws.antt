@@ -1,16 +1,16 @@
 -- What holds of every plant text.
 use Rattle.std.specs.Prelude.{◌≡◌, ℕ, ℤ, List, ◌++◌, true}
 use Rattle.std.specs.Fmt.{signed_decimal}
-use Rattle.plant_text.specs.words.Separators.{is_word}
-use Rattle.plant_text.specs.words.Numbers.{IsLiteral}
-use Rattle.plant_text.specs.plant.Description.{Description}
-use Rattle.plant_text.specs.writing.CanonicalText.{text_of}
+use Rattle.plant_reading.specs.Separators.{is_word}
+use Rattle.plant_record.specs.Numbers.{IsLiteral}
+use Rattle.plant_record.specs.Description.{Description}
+use Rattle.plant_writing.specs.CanonicalText.{text_of}
 use Rattle.plant_text.specs.declared.fault.PlantFault.{PlantFault}
-use Rattle.plant_text.specs.plant.Plants.{IsPlant}
-use Rattle.plant_text.specs.plant.Limits.{IsWithinLimits}
-use Rattle.plant_text.specs.reading.Grammar.{Spells}
-use Rattle.plant_text.specs.reading.CanonicalFronts.{IsFront, IsFrontRefusedFor}
-use Rattle.plant_text.specs.reading.Refusals.{IsShort, IsRefusedFor}
+use Rattle.plant_record.specs.Plants.{IsPlant}
+use Rattle.plant_record.specs.Limits.{IsWithinLimits}
+use Rattle.plant_text.specs.Grammar.{Spells}
+use Rattle.plant_text.specs.CanonicalFronts.{IsFront, IsFrontRefusedFor}
+use Rattle.plant_text.specs.Refusals.{IsShort, IsRefusedFor}
 
 -- no bytes spell two plants, and what they spell is a plant
 abbrev pub OnePlantPerText : Type 0

@@ -1,6 +1,5 @@
-pub mod words
-pub mod plant
-pub mod writing
-pub mod reading
+pub mod CanonicalFronts
+pub mod Grammar
 pub mod Laws
+pub mod Refusals
 pub mod inside

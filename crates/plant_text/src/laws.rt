@@ -1,11 +1,11 @@
 //! What holds of every plant and of its text.
 
 ghost use Rattle.plant_text.specs.Laws.{OnePlantPerText, OnePlantAtTheFront, SpelledPlantsArePlants, OneRefusal, ReadOrRefused, CanonicalTextsSpell, CanonicalTextsReadBack, NumbersAreWords, OneFront, OneFrontRefusal, FrontReadOrRefused};
-ghost use Rattle.plant_text.specs.plant.Soundness.{PlantsAreSound, VectorsHaveOneEach};
-ghost use Rattle.plant_text.specs.plant.InputPlaces.{InputsRestOnTheirPlaces};
-ghost use Rattle.plant_text.specs.plant.Limits.{IsWithinLimits};
 
-use crate::plant::Plant;
+pub use plant_record::laws::{
+    every_plant_is_within_limits, inputs_rest_on_their_places, plants_are_sound,
+    vectors_have_one_each,
+};
 
 /// No bytes spell two plants.
 pub fn one_plant_per_text()
@@ -46,29 +46,6 @@ pub fn one_refusal()
 pub fn read_or_refused()
     ensures { ReadOrRefused }
 {}
-
-/// A plant has a grid of whole cells, and a well-formed equation for each state.
-pub fn plants_are_sound()
-    ensures { PlantsAreSound }
-{}
-
-/// An input vector has one number for each input variable.
-pub fn vectors_have_one_each()
-    ensures { VectorsHaveOneEach }
-{}
-
-/// The value of a variable in an input vector rests on its place among the variable's values alone.
-pub fn inputs_rest_on_their_places()
-    ensures { InputsRestOnTheirPlaces }
-{}
-
-/// Every `Plant` is within the limits.
-pub fn every_plant_is_within_limits(p: &Plant)
-    ensures { IsWithinLimits p.now }
-{
-    // Its contract says so.
-    p.equations();
-}
 
 /// The canonical text of a plant spells it.
 pub fn canonical_texts_spell()

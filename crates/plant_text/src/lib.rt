@@ -2,25 +2,22 @@
 //!
 //! The layer above hands in the bytes of a plant text and gets the one plant that they spell, or
 //! learns that they spell none; or it hands in bytes that begin with a plant's canonical text and
-//! gets that plant. A `Plant` is seen as its description. Stands on `fixed_expr` and
-//! `grid_quantiser`.
+//! gets that plant. What is written reads back. Passes on what `plant_record` and `plant_writing`
+//! give; stands on these, on `plant_reading` and on `fixed_expr`.
 #![tactic(auto)]
 
+mod draft;
 mod fault;
+mod front_reader;
 pub mod laws;
-mod plant;
-mod reading;
-mod words;
-mod writing;
+mod plant_reader;
+mod statement_writer;
 
-pub use fault::{LimitKind, NoMemory, PlantFault};
-pub use plant::Plant;
-pub use plant::aims::{GoalKind, StateBox};
-pub use plant::transition::{step, step_along};
-pub use plant::variables::{InputVariable, Name, NoiseVariable, StateVariable, Values};
-pub use reading::front_reader::{Front, read_front};
-pub use reading::plant_reader::{TEXT_LIMIT, read_plant};
-pub use writing::plant_writer::write_plant;
-
-#[cfg(test)]
-mod tests;
+pub use fault::PlantFault;
+pub use front_reader::{Front, read_front};
+pub use plant_reader::{TEXT_LIMIT, read_plant};
+pub use plant_record::{
+    GoalKind, InputVariable, LimitKind, Name, NoMemory, NoiseVariable, Plant, StateBox,
+    StateVariable, Values, step, step_along,
+};
+pub use plant_writing::write_plant;

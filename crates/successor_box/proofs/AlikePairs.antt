@@ -17,12 +17,12 @@ use Rattle.grid_quantiser.specs.Cells.{centre_of, radius_of}
 use Rattle.grid_quantiser.specs.Places.{place_along, middle_of}
 use Rattle.grid_quantiser.specs.Sides.{IsSideOf, prolonged}
 use Rattle.grid_quantiser.specs.Laws.{CentresRestOnTheirPlaces}
-use Rattle.plant_text.specs.declared.plant.variables.StateVariable.{StateVariable}
-use Rattle.plant_text.specs.declared.plant.variables.NoiseVariable.{NoiseVariable}
-use Rattle.plant_text.specs.plant.Description.{Description, axis_of, axes_of, vectors_of, vector_of}
-use Rattle.plant_text.specs.plant.InputPlaces.{input_place, InputsRestOnTheirPlaces}
-use Rattle.plant_text.specs.plant.Soundness.{IsSound}
-use Rattle.plant_text.specs.plant.Steps.{equation_at}
+use Rattle.plant_record.specs.declared.variables.StateVariable.{StateVariable}
+use Rattle.plant_record.specs.declared.variables.NoiseVariable.{NoiseVariable}
+use Rattle.plant_record.specs.Description.{Description, axis_of, axes_of, vectors_of, vector_of}
+use Rattle.plant_record.specs.InputPlaces.{input_place, InputsRestOnTheirPlaces}
+use Rattle.plant_record.specs.Soundness.{IsSound}
+use Rattle.plant_record.specs.Steps.{equation_at}
 use Rattle.successor_box.specs.Boxes.{noise_centre, area_of, radii_of, deviation_at, central_values, low_corner, high_corner}
 use Rattle.successor_box.specs.Sides.{place_in, moves_along, moved_by, IsSideBeforeAt, rests_on, AreAlikeIn}
 use Rattle.successor_box.specs.inside.Area.{no_range}

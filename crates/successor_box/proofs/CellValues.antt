@@ -11,12 +11,12 @@ use Rattle.growth_bound.specs.Deviation.{IsNear, AreNear}
 use Rattle.grid_quantiser.specs.Axes.{end_of}
 use Rattle.grid_quantiser.specs.Cells.{IsInDomain, centre_of, radius_of}
 use Rattle.grid_quantiser.specs.Laws.{AreStatesNear}
-use Rattle.plant_text.specs.declared.plant.variables.StateVariable.{StateVariable}
-use Rattle.plant_text.specs.declared.plant.variables.InputVariable.{InputVariable}
-use Rattle.plant_text.specs.declared.plant.variables.NoiseVariable.{NoiseVariable}
-use Rattle.plant_text.specs.plant.Description.{Description, axis_of, axes_of, names_of, vectors_of, vector_of}
-use Rattle.plant_text.specs.plant.Steps.{IsNoise, values_at}
-use Rattle.plant_text.specs.plant.Soundness.{IsFilledByCells}
+use Rattle.plant_record.specs.declared.variables.StateVariable.{StateVariable}
+use Rattle.plant_record.specs.declared.variables.InputVariable.{InputVariable}
+use Rattle.plant_record.specs.declared.variables.NoiseVariable.{NoiseVariable}
+use Rattle.plant_record.specs.Description.{Description, axis_of, axes_of, names_of, vectors_of, vector_of}
+use Rattle.plant_record.specs.Steps.{IsNoise, values_at}
+use Rattle.plant_record.specs.Soundness.{IsFilledByCells}
 use Rattle.successor_box.specs.Boxes.{noise_centre, area_of, radii_of, central_values}
 
 near_append : (rs xs ys radii values others : List ℤ) → AreNear rs xs ys → AreNear radii values others → AreNear (rs ++ radii) (xs ++ values) (ys ++ others)

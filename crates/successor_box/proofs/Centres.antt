@@ -15,11 +15,11 @@ use Rattle.grid_quantiser.specs.Axes.{cells_of}
 use Rattle.grid_quantiser.specs.Cells.{centre_of, point_of}
 use Rattle.grid_quantiser.specs.Laws.{CentresAreNear}
 use Rattle.interval_eval.specs.Span.{span_of}
-use Rattle.plant_text.specs.declared.plant.variables.NoiseVariable.{NoiseVariable}
-use Rattle.plant_text.specs.plant.Description.{Description, axis_of, axes_of, vectors_of, vector_of}
-use Rattle.plant_text.specs.plant.Variables.{IsNoiseVariable}
-use Rattle.plant_text.specs.plant.Steps.{IsNoise, values_at, equation_at}
-use Rattle.plant_text.specs.plant.Soundness.{IsSound}
+use Rattle.plant_record.specs.declared.variables.NoiseVariable.{NoiseVariable}
+use Rattle.plant_record.specs.Description.{Description, axis_of, axes_of, vectors_of, vector_of}
+use Rattle.plant_record.specs.Variables.{IsNoiseVariable}
+use Rattle.plant_record.specs.Steps.{IsNoise, values_at, equation_at}
+use Rattle.plant_record.specs.Soundness.{IsSound}
 use Rattle.successor_box.specs.Boxes.{noise_centre, area_of, radii_of, deviation_at, central_values}
 use Rattle.successor_box.specs.Deviations.{HasNoOverflow}
 use Rattle.successor_box.proofs.CellValues.{middle, central_in}

@@ -11,11 +11,11 @@ use Rattle.grid_quantiser.specs.Axes.{IsAxis, no_axis, cells_of}
 use Rattle.grid_quantiser.specs.Cells.{centre_of, point_of}
 use Rattle.grid_quantiser.specs.Laws.{CentresAreNear, CentresRestOnTheirPlaces}
 use Rattle.grid_quantiser.specs.Places.{place_along, middle_of}
-use Rattle.plant_text.specs.plant.Description.{Description, axis_of, axes_of, vectors_of, vector_of}
-use Rattle.plant_text.specs.plant.InputPlaces.{input_place}
-use Rattle.plant_text.specs.plant.Soundness.{IsSound}
-use Rattle.plant_text.specs.plant.Steps.{equation_at}
-use Rattle.plant_text.specs.plant.Variables.{IsNoiseVariable}
+use Rattle.plant_record.specs.Description.{Description, axis_of, axes_of, vectors_of, vector_of}
+use Rattle.plant_record.specs.InputPlaces.{input_place}
+use Rattle.plant_record.specs.Soundness.{IsSound}
+use Rattle.plant_record.specs.Steps.{equation_at}
+use Rattle.plant_record.specs.Variables.{IsNoiseVariable}
 use Rattle.successor_box.specs.Boxes.{noise_centre, central_values}
 use Rattle.successor_box.specs.Deviations.{HasNoOverflow}
 use Rattle.successor_box.specs.Laws.{StepsStayInRange}

@@ -4,9 +4,9 @@ use Rattle.std.specs.Prelude.{ℤ, pos}
 use Rattle.std.proofs.lemmas.List.{get_or-map}
 use Rattle.std.proofs.lemmas.List.FromFn.{length-map-range_with_len, get_or-map-range_with_len}
 use Rattle.fixed_expr.specs.Expression.{Number}
-use Rattle.plant_text.specs.plant.Description.{Description, vectors_of}
+use Rattle.plant_record.specs.Description.{Description, vectors_of}
 use Rattle.successor_box.specs.Boxes.{deviation_at}
-use Rattle.plant_text.specs.plant.Steps.{equation_at}
+use Rattle.plant_record.specs.Steps.{equation_at}
 use Rattle.successor_box.specs.Deviations.{deviations_along, deviations_of}
 
 module _ (p : Description) (i : ℕ) (lt : i < length p.equations) where

@@ -12,8 +12,8 @@ use Rattle.grid_quantiser.specs.declared.axis.Axis.{Axis}
 use Rattle.grid_quantiser.specs.declared.boxes.CellBox.{CellBox}
 use Rattle.grid_quantiser.specs.Cells.{cell_of}
 use Rattle.grid_quantiser.specs.Boxes.{IsAtMost}
-use Rattle.plant_text.specs.plant.Description.{Description, axis_of, axes_of}
-use Rattle.plant_text.specs.plant.Soundness.{IsSound}
+use Rattle.plant_record.specs.Description.{Description, axis_of, axes_of}
+use Rattle.plant_record.specs.Soundness.{IsSound}
 use Rattle.successor_box.specs.Boxes.{IsEnabledAt, AreSuccessors, IsBoxOf, cells_in, area_of, radii_of, central_values, low_corner, high_corner}
 use Rattle.successor_box.proofs.BoxDomains.{by_box_in_domain, cell_touches}
 

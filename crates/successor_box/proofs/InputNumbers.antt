@@ -6,11 +6,11 @@ use Rattle.std.proofs.lemmas.Bool.{cases_lt}
 use Rattle.std.proofs.lemmas.Nat.{div-add-mod'}
 use Rattle.std.proofs.lemmas.List.{drop_all, get_or_past}
 use Rattle.std.proofs.lemmas.List.Elements.{All-get_or, All-head, All-tail}
-use Rattle.plant_text.specs.declared.plant.variables.InputVariable.{InputVariable}
-use Rattle.plant_text.specs.plant.Description.{vectors_of, vector_of}
-use Rattle.plant_text.specs.plant.InputPlaces.{value_count, input_place}
-use Rattle.plant_text.specs.plant.Variables.{IsInputVariable}
-use Rattle.plant_text.specs.words.Numbers.{IsLiteral}
+use Rattle.plant_record.specs.declared.variables.InputVariable.{InputVariable}
+use Rattle.plant_record.specs.Description.{vectors_of, vector_of}
+use Rattle.plant_record.specs.InputPlaces.{value_count, input_place}
+use Rattle.plant_record.specs.Variables.{IsInputVariable}
+use Rattle.plant_record.specs.Numbers.{IsLiteral}
 
 vectors_next : (inputs : List InputVariable) (k : ℕ) → k < length inputs → vectors_of (drop k inputs) ≡ value_count inputs k * vectors_of (drop (k + 1) inputs)
 vectors_next [] k lt = absurd (omega (arith, lt))

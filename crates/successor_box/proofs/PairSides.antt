@@ -8,8 +8,8 @@ use Rattle.grid_quantiser.specs.Axes.{no_axis}
 use Rattle.grid_quantiser.specs.Sides.{AreSidesOf}
 use Rattle.grid_quantiser.specs.SideBoxes.{with_side, IsBoxMeeting}
 use Rattle.grid_quantiser.specs.Laws.{BoxesGrowBySides}
-use Rattle.plant_text.specs.plant.Description.{Description, axis_of, axes_of}
-use Rattle.plant_text.specs.plant.Soundness.{IsSound}
+use Rattle.plant_record.specs.Description.{Description, axis_of, axes_of}
+use Rattle.plant_record.specs.Soundness.{IsSound}
 use Rattle.successor_box.specs.Boxes.{IsBoxOf, low_corner, high_corner}
 use Rattle.successor_box.specs.Sides.{IsSideAt, AreSidesAt, IsBoxAlong}
 use Rattle.successor_box.proofs.Enabled.{corners_ordered}

@@ -4,9 +4,9 @@ use Rattle.std.specs.Prelude.{ℤ, pos, ◌-ℤ◌, ◌≤ℤ◌}
 use Rattle.std.proofs.lemmas.Int.{ints}
 use Rattle.std.proofs.lemmas.List.Elements.{All-append, All-map, All-weaker}
 use Rattle.grid_quantiser.specs.Cells.{radius_of}
-use Rattle.plant_text.specs.declared.plant.variables.NoiseVariable.{NoiseVariable}
-use Rattle.plant_text.specs.plant.Description.{Description, axes_of, vector_of}
-use Rattle.plant_text.specs.plant.Variables.{IsNoiseVariable}
+use Rattle.plant_record.specs.declared.variables.NoiseVariable.{NoiseVariable}
+use Rattle.plant_record.specs.Description.{Description, axes_of, vector_of}
+use Rattle.plant_record.specs.Variables.{IsNoiseVariable}
 use Rattle.successor_box.specs.Boxes.{noise_centre, radii_of}
 use Rattle.successor_box.proofs.CellValues.{middle}
 

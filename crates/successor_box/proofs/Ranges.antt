@@ -12,11 +12,11 @@ use Rattle.grid_quantiser.specs.declared.axis.Axis.{Axis}
 use Rattle.grid_quantiser.specs.Axes.{end_of, no_axis, cells_of}
 use Rattle.grid_quantiser.specs.Cells.{low_of, high_of, radius_of, point_of}
 use Rattle.grid_quantiser.specs.Laws.{DomainHasEnds}
-use Rattle.plant_text.specs.declared.plant.variables.StateVariable.{StateVariable}
-use Rattle.plant_text.specs.declared.plant.variables.NoiseVariable.{NoiseVariable}
-use Rattle.plant_text.specs.plant.Variables.{IsNoiseVariable}
-use Rattle.plant_text.specs.plant.Soundness.{IsSound, IsFilledByCells}
-use Rattle.plant_text.specs.plant.Description.{Description, axis_of, axes_of, vector_of}
+use Rattle.plant_record.specs.declared.variables.StateVariable.{StateVariable}
+use Rattle.plant_record.specs.declared.variables.NoiseVariable.{NoiseVariable}
+use Rattle.plant_record.specs.Variables.{IsNoiseVariable}
+use Rattle.plant_record.specs.Soundness.{IsSound, IsFilledByCells}
+use Rattle.plant_record.specs.Description.{Description, axis_of, axes_of, vector_of}
 use Rattle.successor_box.specs.Boxes.{noise_centre, area_of, radii_of}
 use Rattle.successor_box.specs.inside.Area.{variables_of}
 use Rattle.successor_box.proofs.CellValues.{vector_count}

@@ -13,11 +13,11 @@ use Rattle.grid_quantiser.specs.declared.sides.Side.{Side}
 use Rattle.grid_quantiser.specs.Axes.{cells_of}
 use Rattle.grid_quantiser.specs.Sides.{IsSideOf, prolonged, IsSideBefore}
 use Rattle.grid_quantiser.specs.Laws.{CentresAreNear}
-use Rattle.plant_text.specs.plant.Description.{Description, axes_of, vectors_of}
-use Rattle.plant_text.specs.plant.Variables.{IsNoiseVariable}
-use Rattle.plant_text.specs.plant.Soundness.{IsSound}
+use Rattle.plant_record.specs.Description.{Description, axes_of, vectors_of}
+use Rattle.plant_record.specs.Variables.{IsNoiseVariable}
+use Rattle.plant_record.specs.Soundness.{IsSound}
 use Rattle.successor_box.specs.Boxes.{deviation_at, central_values, low_corner, high_corner}
-use Rattle.plant_text.specs.plant.Steps.{equation_at}
+use Rattle.plant_record.specs.Steps.{equation_at}
 use Rattle.successor_box.specs.Deviations.{HasNoOverflow, deviations_of}
 use Rattle.successor_box.proofs.DeviationRows.{entry_is}
 use Rattle.successor_box.proofs.Centres.{ends_fit}

@@ -15,9 +15,9 @@ use Rattle.grid_quantiser.specs.Axes.{cells_of}
 use Rattle.grid_quantiser.specs.Cells.{IsInDomain, IsPointOf, cell_of}
 use Rattle.grid_quantiser.specs.Boxes.{IsInBox}
 use Rattle.grid_quantiser.specs.Laws.{CentresAreNear}
-use Rattle.plant_text.specs.plant.Description.{Description, axis_of, axes_of, vectors_of}
-use Rattle.plant_text.specs.plant.Steps.{IsNoise, step_of, values_at, StepStaysInRange}
-use Rattle.plant_text.specs.plant.Soundness.{IsSound}
+use Rattle.plant_record.specs.Description.{Description, axis_of, axes_of, vectors_of}
+use Rattle.plant_record.specs.Steps.{IsNoise, step_of, values_at, StepStaysInRange}
+use Rattle.plant_record.specs.Soundness.{IsSound}
 use Rattle.successor_box.specs.Boxes.{IsEnabledAt, AreSuccessors, area_of, radii_of, deviation_at, central_values, low_corner, high_corner}
 use Rattle.successor_box.specs.Deviations.{HasNoOverflow}
 use Rattle.successor_box.proofs.BoxDomains.{box_inside, cell_touches}

@@ -9,10 +9,10 @@ use Rattle.grid_quantiser.specs.declared.axis.Axis.{Axis}
 use Rattle.grid_quantiser.specs.declared.boxes.CellBox.{CellBox}
 use Rattle.grid_quantiser.specs.Cells.{centre_of, radius_of}
 use Rattle.grid_quantiser.specs.Boxes.{IsBoxInDomain, AreCellsMeeting, AreCornersMeeting, cells_between}
-use Rattle.plant_text.specs.declared.plant.variables.StateVariable.{StateVariable}
-use Rattle.plant_text.specs.declared.plant.variables.NoiseVariable.{NoiseVariable}
-use Rattle.plant_text.specs.plant.Description.{Description, axes_of, vector_of}
-use Rattle.plant_text.specs.plant.Steps.{values_at}
+use Rattle.plant_record.specs.declared.variables.StateVariable.{StateVariable}
+use Rattle.plant_record.specs.declared.variables.NoiseVariable.{NoiseVariable}
+use Rattle.plant_record.specs.Description.{Description, axes_of, vector_of}
+use Rattle.plant_record.specs.Steps.{values_at}
 
 -- the middle of a noise's range, rounded down
 abbrev pub noise_centre : NoiseVariable → ℤ

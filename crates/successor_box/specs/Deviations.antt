@@ -6,8 +6,8 @@ use Rattle.fixed_expr.specs.Expression.{Expression}
 use Rattle.interval_eval.specs.declared.interval.Interval.{Interval}
 use Rattle.interval_eval.specs.Span.{SpanStaysInRange, span_of}
 use Rattle.growth_bound.specs.Deviation.{DeviationStaysInRange, deviation_of}
-use Rattle.plant_text.specs.plant.Description.{Description, vectors_of}
-use Rattle.plant_text.specs.plant.Steps.{equation_at}
+use Rattle.plant_record.specs.Description.{Description, vectors_of}
+use Rattle.plant_record.specs.Steps.{equation_at}
 use Rattle.successor_box.specs.declared.fault.SlopeFault.{SlopeFault}
 use Rattle.successor_box.specs.declared.fault.SlopeFault.TheVariants.{Overflow, Memory}
 use Rattle.successor_box.specs.Boxes.{area_of, radii_of, deviation_at}

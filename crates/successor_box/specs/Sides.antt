@@ -9,9 +9,9 @@ use Rattle.grid_quantiser.specs.Axes.{no_axis, cells_of}
 use Rattle.grid_quantiser.specs.Places.{place_along}
 use Rattle.grid_quantiser.specs.Sides.{IsSideOf, IsSideBefore}
 use Rattle.grid_quantiser.specs.SideBoxes.{IsBoxMeeting}
-use Rattle.plant_text.specs.plant.Description.{Description, axes_of, vectors_of}
-use Rattle.plant_text.specs.plant.InputPlaces.{input_place}
-use Rattle.plant_text.specs.plant.Steps.{equation_at}
+use Rattle.plant_record.specs.Description.{Description, axes_of, vectors_of}
+use Rattle.plant_record.specs.InputPlaces.{input_place}
+use Rattle.plant_record.specs.Steps.{equation_at}
 use Rattle.successor_box.specs.Boxes.{low_corner, high_corner}
 
 -- the side of the successor box of a cell, under an input, along the axis of a state

@@ -3,7 +3,7 @@
 ghost use Rattle.std.specs.Prelude.{◌≡◌, ℕ, ◌+◌, ◌-◌, ◌<◌, ◌≤◌, ◌≤ℤ◌, length, take, slice_index_or, pos};
 ghost use Rattle.grid_quantiser.specs.Axes.{cells_of};
 ghost use Rattle.grid_quantiser.specs.Cells.{low_of, high_of, point_of};
-ghost use Rattle.plant_text.specs.plant.Description.{axes_of, vectors_of};
+ghost use Rattle.plant_record.specs.Description.{axes_of, vectors_of};
 ghost use Rattle.successor_box.specs.Boxes.{area_of, radii_of};
 ghost use Rattle.successor_box.specs.inside.Area.{AreRanges, AreRadii, no_range, variables_of};
 
@@ -11,8 +11,8 @@ use crate::noise::noise_radius;
 use grid_quantiser::Point;
 use grid_quantiser::laws::ends_of_the_domain;
 use interval_eval::Interval;
-use plant_text::Plant;
-use plant_text::laws::{every_plant_is_within_limits, plants_are_sound};
+use plant_record::Plant;
+use plant_record::laws::{every_plant_is_within_limits, plants_are_sound};
 
 /// The most variables that a plant has: 6 states, 3 input variables and 6 noises.
 pub(crate) const VARIABLES_LIMIT: usize = 15;

@@ -6,8 +6,8 @@ ghost use Rattle.fixed_expr.specs.Rows.{row_of};
 ghost use Rattle.fixed_expr.specs.Value.{IsWellFormed, StaysInRange, value_of};
 ghost use Rattle.grid_quantiser.specs.Axes.{no_axis};
 ghost use Rattle.grid_quantiser.specs.Places.{middle_of};
-ghost use Rattle.plant_text.specs.plant.Description.{axes_of, vectors_of, vector_of};
-ghost use Rattle.plant_text.specs.plant.InputPlaces.{input_place};
+ghost use Rattle.plant_record.specs.Description.{axes_of, vectors_of, vector_of};
+ghost use Rattle.plant_record.specs.InputPlaces.{input_place};
 ghost use Rattle.successor_box.specs.Boxes.{noise_centre, central_values};
 ghost use Rattle.successor_box.specs.Deviations.{HasNoOverflow, deviations_of};
 ghost use Rattle.successor_box.specs.Sides.{IsSideBeforeAt, IsPairInRow, HasPairInEachRow};
@@ -21,8 +21,8 @@ use crate::slopes::Slopes;
 use fixed_expr::{Expr, LANES, eval, eval_rows};
 use grid_quantiser::Side;
 use grid_quantiser::laws::{centre_is_near, centres_rest_on_their_places};
-use plant_text::Plant;
-use plant_text::laws::{
+use plant_record::Plant;
+use plant_record::laws::{
     every_plant_is_within_limits, inputs_rest_on_their_places, plants_are_sound,
 };
 

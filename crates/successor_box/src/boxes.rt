@@ -1,6 +1,6 @@
 ghost use Rattle.std.specs.Prelude.{◌≡◌, ℕ, ◌<◌};
 ghost use Rattle.grid_quantiser.specs.Axes.{cells_of};
-ghost use Rattle.plant_text.specs.plant.Description.{axes_of, vectors_of};
+ghost use Rattle.plant_record.specs.Description.{axes_of, vectors_of};
 ghost use Rattle.successor_box.specs.Boxes.{IsBoxOf};
 ghost use Rattle.successor_box.specs.Deviations.{HasNoOverflow, deviations_of};
 ghost use Rattle.successor_box.specs.Sides.{AreSidesAt};
@@ -8,8 +8,8 @@ ghost use Rattle.successor_box.specs.Sides.{AreSidesAt};
 use crate::sides::side;
 use crate::slopes::Slopes;
 use grid_quantiser::{CellBox, Side};
-use plant_text::Plant;
-use plant_text::laws::{every_plant_is_within_limits, plants_are_sound};
+use plant_record::Plant;
+use plant_record::laws::{every_plant_is_within_limits, plants_are_sound};
 
 /// The cells that a cell's points can be in one sample later, under an input vector: None where the
 /// successor box leaves the domain. It takes no memory.

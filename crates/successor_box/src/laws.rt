@@ -6,7 +6,7 @@ use fixed_expr::laws::{values_move_with_variables, values_rest_on_variables};
 use grid_quantiser::laws::{boxes_grow_by_sides, centre_is_near, centres_rest_on_their_places};
 use growth_bound::laws::{deviations_rest_on_variables, values_move_by_at_most_the_deviation};
 use interval_eval::laws::values_stay_in_the_range;
-use plant_text::laws::inputs_rest_on_their_places;
+use plant_record::laws::inputs_rest_on_their_places;
 
 /// Every step from a cell, under an enabled input and a noise in range, leads into a successor.
 pub fn steps_lie_in_the_boxes()

@@ -6,8 +6,8 @@ ghost use Rattle.grid_quantiser.specs.Cells.{point_of};
 ghost use Rattle.successor_box.specs.Boxes.{noise_centre};
 
 use grid_quantiser::Point;
-use plant_text::Plant;
-use plant_text::laws::every_plant_is_within_limits;
+use plant_record::Plant;
+use plant_record::laws::every_plant_is_within_limits;
 
 /// The middle of a noise's range, rounded down.
 #[inline]

@@ -1,8 +1,8 @@
 ghost use Rattle.std.specs.Prelude.{◌≡◌, ◌<◌, ℕ, pos, ◌+ℤ◌, ◌-ℤ◌, length, slice_index_or};
 ghost use Rattle.fixed_expr.specs.Value.{value_of};
 ghost use Rattle.grid_quantiser.specs.Axes.{no_axis, cells_of};
-ghost use Rattle.plant_text.specs.plant.Description.{axes_of, vectors_of};
-ghost use Rattle.plant_text.specs.plant.Steps.{equation_at};
+ghost use Rattle.plant_record.specs.Description.{axes_of, vectors_of};
+ghost use Rattle.plant_record.specs.Steps.{equation_at};
 ghost use Rattle.successor_box.specs.Boxes.{deviation_at, central_values, low_corner, high_corner};
 ghost use Rattle.successor_box.specs.Sides.{IsSideAt, IsSideBeforeAt};
 ghost use Rattle.successor_box.specs.Deviations.{HasNoOverflow, deviations_of};
@@ -13,8 +13,8 @@ use crate::slopes::Slopes;
 use grid_quantiser::Side;
 use grid_quantiser::laws::centre_is_near;
 use interval_eval::laws::{numbers_of_an_interval_lie_in_the_range, values_lie_in_the_span};
-use plant_text::laws::{every_plant_is_within_limits, plants_are_sound};
-use plant_text::{Plant, step_along};
+use plant_record::laws::{every_plant_is_within_limits, plants_are_sound};
+use plant_record::{Plant, step_along};
 
 /// The side of a successor box along the axis of a state: None where one of its ends leaves the axis.
 /// It takes no memory.

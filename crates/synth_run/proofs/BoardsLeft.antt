@@ -3,8 +3,8 @@ use Rattle.std.proofs.Common.{◌≡◌, ℕ, List, [], ◌∷◌, refl, sym, su
 use Rattle.std.specs.Prelude.{Option, Some, IfSome, codes}
 use Rattle.std.specs.Fmt.{decimal}
 use Rattle.cell_counters.specs.Tokens.{BoardModel, RootModel}
-use Rattle.plant_text.specs.plant.Description.{Description}
-use Rattle.plant_text.specs.reading.Grammar.{Spells}
+use Rattle.plant_record.specs.Description.{Description}
+use Rattle.plant_text.specs.Grammar.{Spells}
 use Rattle.plant_text.specs.Laws.{OnePlantPerText}
 use Rattle.synth_run.specs.declared.form.Form.TheVariants.{Synth}
 use Rattle.synth_run.specs.declared.outcome.Outcome.{Outcome}

@@ -2,14 +2,14 @@
 use Rattle.std.proofs.Common.{inl, inr, ◌≡◌, ℕ, ◌^◌, ◌<◌, ◌≤◌, List, Option, Some, None, sym, ap, subst, ◌∙◌, refl, arith}
 use Rattle.std.specs.Prelude.{◌⊎◌, ℤ}
 use Rattle.std.proofs.lemmas.Bool.{cases_order}
-use Rattle.plant_text.specs.declared.fault.LimitKind.{LimitKind}
-use Rattle.plant_text.specs.declared.fault.LimitKind.TheVariants.{PlantText, TableText, Vectors, Cells, Pairs, Edges}
+use Rattle.plant_record.specs.declared.fault.LimitKind.{LimitKind}
+use Rattle.plant_record.specs.declared.fault.LimitKind.TheVariants.{PlantText, TableText, Vectors, Cells, Pairs, Edges}
 use Rattle.plant_text.specs.declared.fault.PlantFault.TheVariants as plants
-use Rattle.plant_text.specs.declared.plant.aims.GoalKind.{GoalKind}
-use Rattle.plant_text.specs.declared.plant.aims.GoalKind.TheVariants.{Reach, Keep}
-use Rattle.plant_text.specs.plant.Description.{Description}
-use Rattle.plant_text.specs.plant.Plants.{IsPlant}
-use Rattle.plant_text.specs.reading.Refusals.{IsRefusedFor}
+use Rattle.plant_record.specs.declared.aims.GoalKind.{GoalKind}
+use Rattle.plant_record.specs.declared.aims.GoalKind.TheVariants.{Reach, Keep}
+use Rattle.plant_record.specs.Description.{Description}
+use Rattle.plant_record.specs.Plants.{IsPlant}
+use Rattle.plant_text.specs.Refusals.{IsRefusedFor}
 use Rattle.plant_text.specs.Laws.{OnePlantPerText, OneRefusal, ReadOrRefused}
 use Rattle.successor_box.specs.Deviations.{HasNoOverflow, IsFirstOverflow}
 use Rattle.game_core.specs.declared.game.Row.{Row}

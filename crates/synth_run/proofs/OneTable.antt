@@ -1,6 +1,6 @@
 -- Bytes that spell a plant have one table.
 use Rattle.std.proofs.Common.{◌≡◌, sym, ap, subst, ◌∙◌}
-use Rattle.plant_text.specs.plant.Description.{Description}
+use Rattle.plant_record.specs.Description.{Description}
 use Rattle.plant_text.specs.Laws.{OnePlantPerText}
 use Rattle.abstraction_table.specs.Laws.{OneSolutionPerPlant}
 use Rattle.controller_table.specs.TableText.{First, table_text}

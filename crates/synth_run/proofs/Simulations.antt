@@ -3,7 +3,7 @@ use Rattle.std.proofs.Common.{inr, ◌≡◌, List, length, Option, Some, None, 
 use Rattle.std.specs.Prelude.{ℤ, IfSome, IfNone}
 use Rattle.game_core.specs.declared.game.Row.{Row}
 use Rattle.grid_quantiser.specs.Cells.{point_of}
-use Rattle.plant_text.specs.plant.Description.{Description}
+use Rattle.plant_record.specs.Description.{Description}
 use Rattle.successor_box.specs.declared.fault.SlopeFault.{SlopeFault}
 use Rattle.successor_box.specs.declared.fault.SlopeFault.TheVariants as slopes
 use Rattle.successor_box.specs.Deviations.{IsOverflow}

@@ -11,7 +11,7 @@ use Rattle.std.proofs.lemmas.Fmt.{signed_decimal_injective, parse-decimal, parse
 use Rattle.std.proofs.lemmas.Int.{fits_signed_from_abs}
 use Rattle.std.proofs.lemmas.List.{length-map, get_or-map, map-append, map_more, length-take-le}
 use Rattle.std.proofs.lemmas.List.Elements.{All-head, All-tail, All-push, All-nil, All-get_or}
-use Rattle.plant_text.specs.words.Numbers.{IsLiteral}
+use Rattle.plant_record.specs.Numbers.{IsLiteral}
 use Rattle.synth_run.specs.inside.Spelling.{Spell}
 
 -- ---- a number's own spelling is read

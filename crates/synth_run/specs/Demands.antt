@@ -1,14 +1,14 @@
 -- What a text demands: to be refused for the first reason that applies, or to be answered.
 use Rattle.std.specs.Prelude.{◌≡◌, ◌⊎◌, ℕ, ◌^◌, ◌<◌, ◌≤◌, ℤ, List, Option}
-use Rattle.plant_text.specs.declared.fault.LimitKind.{LimitKind}
-use Rattle.plant_text.specs.declared.fault.LimitKind.TheVariants.{PlantText, TableText, Vectors, Cells, Pairs, Edges}
+use Rattle.plant_record.specs.declared.fault.LimitKind.{LimitKind}
+use Rattle.plant_record.specs.declared.fault.LimitKind.TheVariants.{PlantText, TableText, Vectors, Cells, Pairs, Edges}
 use Rattle.plant_text.specs.declared.fault.PlantFault.TheVariants as plants
-use Rattle.plant_text.specs.declared.plant.aims.GoalKind.{GoalKind}
-use Rattle.plant_text.specs.declared.plant.aims.GoalKind.TheVariants.{Reach, Keep}
-use Rattle.plant_text.specs.plant.Description.{Description}
-use Rattle.plant_text.specs.plant.Limits.{IsWithinLimits}
-use Rattle.plant_text.specs.reading.Grammar.{Spells}
-use Rattle.plant_text.specs.reading.Refusals.{IsShort, IsRefusedFor}
+use Rattle.plant_record.specs.declared.aims.GoalKind.{GoalKind}
+use Rattle.plant_record.specs.declared.aims.GoalKind.TheVariants.{Reach, Keep}
+use Rattle.plant_record.specs.Description.{Description}
+use Rattle.plant_record.specs.Limits.{IsWithinLimits}
+use Rattle.plant_text.specs.Grammar.{Spells}
+use Rattle.plant_text.specs.Refusals.{IsShort, IsRefusedFor}
 use Rattle.successor_box.specs.Deviations.{HasNoOverflow, IsFirstOverflow}
 use Rattle.game_core.specs.declared.game.Row.{Row}
 use Rattle.game_core.specs.Game.{Game}

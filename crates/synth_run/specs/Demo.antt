@@ -4,12 +4,12 @@ use Rattle.std.specs.Option.{is_some}
 use Rattle.std.specs.Fmt.{decimal}
 use Rattle.fixed_expr.specs.Expression.{Expression, Variable, Sum, Quotient}
 use Rattle.grid_quantiser.specs.Axes.{cells_of}
-use Rattle.plant_text.specs.declared.plant.variables.StateVariable.{StateVariable}
-use Rattle.plant_text.specs.declared.plant.variables.InputVariable.{InputVariable}
-use Rattle.plant_text.specs.declared.plant.variables.NoiseVariable.{NoiseVariable}
-use Rattle.plant_text.specs.declared.plant.aims.StateBox.{StateBox}
-use Rattle.plant_text.specs.declared.plant.aims.GoalKind.TheVariants.{Reach}
-use Rattle.plant_text.specs.plant.Description.{Description, axes_of}
+use Rattle.plant_record.specs.declared.variables.StateVariable.{StateVariable}
+use Rattle.plant_record.specs.declared.variables.InputVariable.{InputVariable}
+use Rattle.plant_record.specs.declared.variables.NoiseVariable.{NoiseVariable}
+use Rattle.plant_record.specs.declared.aims.StateBox.{StateBox}
+use Rattle.plant_record.specs.declared.aims.GoalKind.TheVariants.{Reach}
+use Rattle.plant_record.specs.Description.{Description, axes_of}
 use Rattle.game_core.specs.declared.game.Row.{Row}
 use Rattle.game_core.specs.Solution.{rank_in, greatest}
 use Rattle.abstraction_table.specs.Abstraction.{pairs_of, AreEdges}

@@ -1,12 +1,12 @@
 -- What holds of every demo plant.
 use Rattle.std.specs.Prelude.{◌≡◌, ℕ, ◌*◌, ◌^◌, ◌<◌, ◌≤◌, List}
 use Rattle.grid_quantiser.specs.Axes.{cells_of}
-use Rattle.plant_text.specs.declared.plant.aims.GoalKind.TheVariants.{Reach}
-use Rattle.plant_text.specs.plant.Description.{axes_of}
-use Rattle.plant_text.specs.plant.Limits.{IsWithinLimits}
-use Rattle.plant_text.specs.writing.CanonicalText.{text_of}
-use Rattle.plant_text.specs.reading.Grammar.{Spells}
-use Rattle.plant_text.specs.reading.Refusals.{IsShort}
+use Rattle.plant_record.specs.declared.aims.GoalKind.TheVariants.{Reach}
+use Rattle.plant_record.specs.Description.{axes_of}
+use Rattle.plant_record.specs.Limits.{IsWithinLimits}
+use Rattle.plant_writing.specs.CanonicalText.{text_of}
+use Rattle.plant_text.specs.Grammar.{Spells}
+use Rattle.plant_text.specs.Refusals.{IsShort}
 use Rattle.successor_box.specs.Deviations.{HasNoOverflow}
 use Rattle.abstraction_table.specs.Abstraction.{pairs_of, AreEdges}
 use Rattle.synth_run.specs.Demo.{IsDemoNumber, demo_plant_of, demo_text, IsDemoLine}

@@ -1,7 +1,7 @@
 -- What status 0 means: the text that was written is the answer of the form for the bytes on the source.
 use Rattle.std.specs.Prelude.{◌≡◌, ℕ, List, Option, codes}
 use Rattle.game_core.specs.declared.game.Row.{Row}
-use Rattle.plant_text.specs.plant.Description.{Description}
+use Rattle.plant_record.specs.Description.{Description}
 use Rattle.abstraction_table.specs.Solution.{IsSolutionOf}
 use Rattle.controller_table.specs.TableText.{First, table_text}
 use Rattle.controller_table.specs.Tables.{RowsFit, IsTable}

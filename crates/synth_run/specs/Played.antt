@@ -3,9 +3,9 @@ use Rattle.std.specs.Prelude.{◌≡◌, ℕ, List, Option, Some, None}
 use Rattle.cell_counters.specs.declared.account.Account.{Account}
 use Rattle.cell_counters.specs.Tokens.{BoardModel, RootModel}
 use Rattle.game_core.specs.Game.{Game}
-use Rattle.plant_text.specs.declared.plant.aims.GoalKind.{GoalKind}
-use Rattle.plant_text.specs.declared.plant.aims.GoalKind.TheVariants.{Reach, Keep}
-use Rattle.plant_text.specs.plant.Description.{Description}
+use Rattle.plant_record.specs.declared.aims.GoalKind.{GoalKind}
+use Rattle.plant_record.specs.declared.aims.GoalKind.TheVariants.{Reach, Keep}
+use Rattle.plant_record.specs.Description.{Description}
 use Rattle.abstraction_table.specs.Abstraction.{IsGameOf}
 use Rattle.reach_avoid.specs.Boards.{IsBoardOf as IsReachBoardOf}
 use Rattle.reach_avoid.specs.Reckoned.{IsReckoned as IsReachReckoned}

@@ -1,8 +1,8 @@
 -- How a run can end, and how it says so.
 use Rattle.std.specs.Prelude.{◌⊎◌, ℕ, List, [], ◌++◌, codes}
 use Rattle.std.specs.Fmt.{decimal}
-use Rattle.plant_text.specs.declared.fault.LimitKind.{LimitKind}
-use Rattle.plant_text.specs.declared.fault.LimitKind.TheVariants.{PlantText, TableText, Vectors, Cells, Pairs, Edges}
+use Rattle.plant_record.specs.declared.fault.LimitKind.{LimitKind}
+use Rattle.plant_record.specs.declared.fault.LimitKind.TheVariants.{PlantText, TableText, Vectors, Cells, Pairs, Edges}
 use Rattle.synth_run.specs.declared.outcome.Outcome.{Outcome}
 use Rattle.synth_run.specs.declared.outcome.Outcome.TheVariants.{Done, Invalid, NoRow, Usage, Malformed, Overflow, Limit, ReadFault, WriteFault, NoMemory}
 use Rattle.synth_run.specs.Devices.{Writing, GainsWhole, GainsPart}

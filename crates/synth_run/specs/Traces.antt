@@ -1,7 +1,7 @@
 -- What a table demands of a start, and what is written of the plant that it drives from there.
 use Rattle.std.specs.Prelude.{◌≡◌, ◌≢◌, ◌⊎◌, ℕ, ℤ, List, length, Option, Some, None}
 use Rattle.grid_quantiser.specs.Cells.{point_of}
-use Rattle.plant_text.specs.plant.Description.{Description}
+use Rattle.plant_record.specs.Description.{Description}
 use Rattle.successor_box.specs.Deviations.{HasNoOverflow, IsFirstOverflow}
 use Rattle.game_core.specs.declared.game.Row.{Row}
 use Rattle.controller_table.specs.Tables.{IsTable}

@@ -2,7 +2,7 @@
 
 ghost use Rattle.std.specs.Prelude.{◌≡◌, ◌≢◌, IfOk, IfErr, OnOk};
 ghost use Rattle.synth_run.specs.declared.outcome.Outcome.TheVariants as ends;
-ghost use Rattle.plant_text.specs.declared.plant.aims.GoalKind.TheVariants.{Reach, Keep};
+ghost use Rattle.plant_record.specs.declared.aims.GoalKind.TheVariants.{Reach, Keep};
 ghost use Rattle.abstraction_table.specs.Solution.{IsSolutionOf};
 ghost use Rattle.synth_run.specs.Demands.{TableTextDemands, TableDemands, IsSolvable};
 ghost use Rattle.synth_run.specs.Headline.{IsValid};
@@ -12,7 +12,7 @@ use crate::game::{game_of, outlook_of};
 use crate::outcome::Outcome;
 use controller_table::{Table, read_table};
 use plant_refine::laws::solution_tables_control_plants;
-use plant_text::GoalKind;
+use plant_record::GoalKind;
 use std::alloc::Global;
 use std::thread::Threads;
 use table_check::{Verdict, check_keep, check_reach};

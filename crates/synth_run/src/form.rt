@@ -1,6 +1,6 @@
 ghost use Rattle.std.specs.Prelude.{◌≡◌, ◌↔◌, ◌^◌, ◌<◌, ◌≤◌, ℕ, ℤ, List, Some, [], ◌∷◌, length, map, codes, IfSome, IfNone, IsTrue};
 ghost use Rattle.std.specs.Fmt.{decimal, signed_decimal};
-ghost use Rattle.plant_text.specs.words.Numbers.{IsLiteral};
+ghost use Rattle.plant_record.specs.Numbers.{IsLiteral};
 ghost use Rattle.synth_run.specs.Demo.{IsDemoNumber};
 ghost use Rattle.synth_run.specs.Form.{AreWorkers, IsOfForm};
 ghost use Rattle.synth_run.specs.inside.Spelling.{Spell};

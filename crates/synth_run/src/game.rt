@@ -11,7 +11,7 @@ use crate::outcome::Outcome;
 use abstraction_table::laws::games_count_their_edges;
 use abstraction_table::{Abstraction, Outlook, build, survey};
 use game_core::Forward;
-use plant_text::Plant;
+use plant_record::Plant;
 use std::alloc::Global;
 use std::thread::Threads;
 use successor_box::find_slopes;

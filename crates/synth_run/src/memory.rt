@@ -20,8 +20,8 @@ impl From<AllocError> for NoMemory {
     }
 }
 
-impl From<plant_text::NoMemory> for NoMemory {
-    fn from(_refused: plant_text::NoMemory) -> NoMemory {
+impl From<plant_record::NoMemory> for NoMemory {
+    fn from(_refused: plant_record::NoMemory) -> NoMemory {
         NoMemory
     }
 }

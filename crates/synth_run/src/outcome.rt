@@ -10,7 +10,8 @@ use crate::transfer::{ReadFault, write_pieces};
 use abstraction_table::BuildFault;
 use controller_table::TableFault;
 use itoa::Buffer;
-use plant_text::{LimitKind, PlantFault};
+use plant_record::LimitKind;
+use plant_text::PlantFault;
 use successor_box::SlopeFault;
 
 /// How a run ended.

@@ -7,7 +7,7 @@ ghost use Rattle.synth_run.specs.inside.Resolving.{IsResolved};
 use cell_counters::{Board, Root};
 use frontier_pool::Gate;
 use game_core::{Answer, Graph, NoMemory};
-use plant_text::GoalKind;
+use plant_record::GoalKind;
 use std::alloc::Global;
 use std::thread::Threads;
 

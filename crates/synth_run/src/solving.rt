@@ -18,8 +18,9 @@ use controller_table::laws::{keep_solutions_fit, reach_solutions_fit};
 use frontier_pool::Gate;
 use game_core::Answer;
 use plant_refine::laws::solution_tables_control_plants;
-use plant_text::laws::every_plant_is_within_limits;
-use plant_text::{Plant, read_plant};
+use plant_record::laws::every_plant_is_within_limits;
+use plant_record::Plant;
+use plant_text::read_plant;
 use std::alloc::Global;
 use std::thread::Threads;
 

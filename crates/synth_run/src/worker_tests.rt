@@ -2,7 +2,7 @@
 
 ghost use Rattle.std.specs.Prelude.{IfOk};
 ghost use Rattle.abstraction_table.specs.Abstraction.{IsGameOf};
-ghost use Rattle.plant_text.specs.reading.Grammar.{Spells};
+ghost use Rattle.plant_text.specs.Grammar.{Spells};
 ghost use Rattle.synth_run.specs.Form.{AreWorkers};
 ghost use Rattle.synth_run.specs.Played.{IsResolvedOn};
 
@@ -13,8 +13,10 @@ use abstraction_table::laws::one_game_per_plant;
 use cell_counters::{Board, Root};
 use game_core::Graph;
 use itoa::Buffer;
-use plant_text::laws::{every_plant_is_within_limits, one_plant_per_text};
-use plant_text::{GoalKind, Plant, read_plant};
+use plant_record::laws::every_plant_is_within_limits;
+use plant_text::laws::one_plant_per_text;
+use plant_record::{GoalKind, Plant};
+use plant_text::read_plant;
 use std::alloc::Global;
 use std::process::Abort;
 use std::sync::atomic::{AtomicBool, Ordering};

@@ -6,8 +6,8 @@ use Rattle.std.proofs.lemmas.List.Elements.{All-get_or}
 use Rattle.game_core.specs.declared.game.Row.{Row}
 use Rattle.game_core.specs.Solution.{row_of}
 use Rattle.grid_quantiser.specs.Axes.{cells_of}
-use Rattle.plant_text.specs.declared.plant.aims.GoalKind.TheVariants.{Reach}
-use Rattle.plant_text.specs.plant.Description.{Description, axes_of, vectors_of}
+use Rattle.plant_record.specs.declared.aims.GoalKind.TheVariants.{Reach}
+use Rattle.plant_record.specs.Description.{Description, axes_of, vectors_of}
 use Rattle.controller_table.specs.Tables.{HasFittingRank, IsRowOf, RowsFit}
 
 row_fits : (p : Description) (rows : List (Option Row)) → RowsFit p rows → (c : ℕ) (row : Row) → row_of rows c ≡ Some row → IsRowOf p row

@@ -1,8 +1,8 @@
 ghost use Rattle.std.specs.Prelude.{◌≡◌, length, IfOk};
 ghost use Rattle.game_core.specs.Solution.{row_of};
 ghost use Rattle.grid_quantiser.specs.Axes.{cells_of};
-ghost use Rattle.plant_text.specs.declared.plant.aims.GoalKind.TheVariants.{Keep};
-ghost use Rattle.plant_text.specs.plant.Description.{axes_of, vectors_of};
+ghost use Rattle.plant_record.specs.declared.aims.GoalKind.TheVariants.{Keep};
+ghost use Rattle.plant_record.specs.Description.{axes_of, vectors_of};
 ghost use Rattle.table_check.specs.Verdicts.{IsVerdict, IsKeepVerdict};
 
 use crate::verdict::Verdict;

@@ -1,7 +1,7 @@
 ghost use Rattle.std.specs.Prelude.{◌≡◌};
 ghost use Rattle.grid_quantiser.specs.Axes.{cells_of};
-ghost use Rattle.plant_text.specs.declared.plant.aims.GoalKind.TheVariants.{Reach};
-ghost use Rattle.plant_text.specs.plant.Description.{axes_of, vectors_of};
+ghost use Rattle.plant_record.specs.declared.aims.GoalKind.TheVariants.{Reach};
+ghost use Rattle.plant_record.specs.Description.{axes_of, vectors_of};
 ghost use Rattle.table_check.specs.Verdicts.{IsReachVerdict};
 
 use crate::judge::Judge;

@@ -4,7 +4,7 @@ ghost use Rattle.table_check.specs.inside.Line.{line};
 use super::*;
 use controller_table::read_table;
 use game_core::{Graph, Mark, Remark};
-use plant_text::GoalKind;
+use plant_record::GoalKind;
 use std::alloc::Global;
 use std::test::Fail;
 

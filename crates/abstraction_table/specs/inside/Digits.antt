@@ -2,8 +2,8 @@
 use Rattle.std.specs.Prelude.{◌≡◌, ℕ, ◌+◌, ◌*◌, ◌/◌, ◌%◌, ◌<◌, ◌≤◌, List, [], ◌∷◌, ◌++◌, map, drop, length, slice_index_or, sum_by, IsTrue, IsFalse}
 use Rattle.std.specs.List.{All}
 use Rattle.grid_quantiser.specs.declared.axis.Axis.{Axis}
-use Rattle.plant_text.specs.declared.plant.variables.InputVariable.{InputVariable}
-use Rattle.plant_text.specs.plant.Description.{Description, axes_of}
+use Rattle.plant_record.specs.declared.variables.InputVariable.{InputVariable}
+use Rattle.plant_record.specs.Description.{Description, axes_of}
 use Rattle.successor_box.specs.Sides.{rests_on}
 use Rattle.abstraction_table.specs.declared.digits.Digit.{Digit}
 

@@ -3,7 +3,7 @@ use Rattle.std.specs.Prelude.{◌≡◌, ℕ, ◌+◌, ◌-◌, ◌*◌, ◌/◌
 use Rattle.std.specs.List.{All}
 use Rattle.grid_quantiser.specs.declared.boxes.CellBox.{CellBox}
 use Rattle.grid_quantiser.specs.Axes.{no_axis, cells_of}
-use Rattle.plant_text.specs.plant.Description.{Description, axes_of, vectors_of}
+use Rattle.plant_record.specs.Description.{Description, axes_of, vectors_of}
 use Rattle.successor_box.specs.Boxes.{IsBoxOf}
 use Rattle.abstraction_table.specs.declared.digits.Digit.{Digit}
 use Rattle.abstraction_table.specs.declared.sides.SideTable.{SideTable}

@@ -4,7 +4,7 @@ use Rattle.std.specs.List.{All}
 use Rattle.grid_quantiser.specs.declared.boxes.CellBox.{CellBox}
 use Rattle.grid_quantiser.specs.declared.sides.Side.{Side}
 use Rattle.grid_quantiser.specs.Axes.{cells_of}
-use Rattle.plant_text.specs.plant.Description.{Description, axes_of, vectors_of}
+use Rattle.plant_record.specs.Description.{Description, axes_of, vectors_of}
 use Rattle.successor_box.specs.Sides.{place_in, moves_along, moved_by, IsSideAt, IsSideBeforeAt, IsBoxAlong}
 use Rattle.abstraction_table.specs.declared.digits.Digit.{Digit}
 use Rattle.abstraction_table.specs.declared.sides.SideTable.{SideTable}

@@ -2,7 +2,7 @@
 use Rattle.std.specs.Prelude.{ℕ, Bool, List, [], ◌++◌, map, drop, Option, if◌then◌else◌}
 use Rattle.std.specs.List.{concat}
 use Rattle.game_core.specs.declared.game.Row.{Row}
-use Rattle.plant_text.specs.declared.plant.aims.GoalKind.{GoalKind}
+use Rattle.plant_record.specs.declared.aims.GoalKind.{GoalKind}
 use Rattle.controller_table.specs.TableText.{entries_from, entry_line, end_line}
 
 -- the lines of the rows from a cell on, and the last line

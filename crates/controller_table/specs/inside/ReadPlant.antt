@@ -1,7 +1,7 @@
 -- Why no plant is read behind a table's first line. No public clause names this.
 use Rattle.std.specs.Prelude.{◌≡◌, ℕ, suc, List}
 use Rattle.plant_text.specs.declared.fault.PlantFault.TheVariants as front
-use Rattle.plant_text.specs.reading.CanonicalFronts.{IsFrontRefusedFor}
+use Rattle.plant_text.specs.CanonicalFronts.{IsFrontRefusedFor}
 use Rattle.controller_table.specs.declared.fault.TableFault.{TableFault}
 use Rattle.controller_table.specs.declared.fault.TableFault.TheVariants as faults
 

@@ -4,7 +4,7 @@ use Rattle.std.specs.List.{All, concat}
 use Rattle.game_core.specs.declared.game.Row.{Row}
 use Rattle.game_core.specs.Solution.{row_of}
 use Rattle.grid_quantiser.specs.Axes.{cells_of}
-use Rattle.plant_text.specs.plant.Description.{Description, axes_of}
+use Rattle.plant_record.specs.Description.{Description, axes_of}
 use Rattle.controller_table.specs.declared.entry.Entry.{Entry}
 use Rattle.controller_table.specs.declared.fault.TableFault.{TableFault}
 use Rattle.controller_table.specs.declared.fault.TableFault.TheVariants as faults

@@ -4,7 +4,7 @@ use super::*;
 use crate::fault::TableFault;
 use crate::reader::read_table;
 use crate::writer::TableWriter;
-use plant_text::LimitKind;
+use plant_record::LimitKind;
 use std::alloc::Global;
 use std::test::Fail;
 

@@ -2,8 +2,8 @@
 use Rattle.std.specs.Prelude.{◌≡◌, ℕ, suc, zero, ℤ, ◌+◌, ◌*◌, ◌≤◌, List, [], ◌∷◌, length, if◌then◌else◌}
 use Rattle.game_core.specs.declared.game.Row.{Row}
 use Rattle.grid_quantiser.specs.Cells.{point_of}
-use Rattle.plant_text.specs.plant.Steps.{step_of}
-use Rattle.plant_text.specs.plant.Description.{Description}
+use Rattle.plant_record.specs.Steps.{step_of}
+use Rattle.plant_record.specs.Description.{Description}
 use Rattle.controller_table.specs.Tables.{TableModel}
 use Rattle.loop_sim.specs.declared.line.SimLine.{SimLine}
 use Rattle.loop_sim.specs.declared.closed_loop.Sample.{Sample}

@@ -2,9 +2,9 @@
 use Rattle.std.specs.Prelude.{◌≡◌, ℕ, ◌<◌, ℤ, List, Option}
 use Rattle.game_core.specs.declared.game.Row.{Row}
 use Rattle.grid_quantiser.specs.Cells.{cell_of, point_of}
-use Rattle.plant_text.specs.plant.Description.{Description, axes_of}
-use Rattle.plant_text.specs.plant.Plants.{IsPlant}
-use Rattle.plant_text.specs.plant.Steps.{step_of, IsNoise}
+use Rattle.plant_record.specs.Description.{Description, axes_of}
+use Rattle.plant_record.specs.Plants.{IsPlant}
+use Rattle.plant_record.specs.Steps.{step_of, IsNoise}
 use Rattle.successor_box.specs.Boxes.{IsEnabledAt}
 use Rattle.controller_table.specs.Choice.{HasRowAt}
 use Rattle.plant_refine.specs.Drives.{LiesInSome, IsClear}

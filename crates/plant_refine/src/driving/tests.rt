@@ -10,7 +10,7 @@ use abstraction_table::{Abstraction, build};
 use controller_table::read_table;
 use game_core::laws::solutions_are_right;
 use game_core::{Answer, solve_plain};
-use plant_text::GoalKind;
+use plant_record::GoalKind;
 use std::process::Abort;
 use std::test::Fail;
 use std::thread::Threads;

@@ -1,8 +1,8 @@
 -- What a draft in memory holds. No public clause names this.
 use Rattle.std.specs.Prelude.{map}
 use Rattle.fixed_expr.specs.Expression.{expression_of}
-use Rattle.plant_text.specs.declared.reading.draft.Draft.{Draft}
-use Rattle.plant_text.specs.reading.Grammar.{Part}
+use Rattle.plant_text.specs.declared.draft.Draft.{Draft}
+use Rattle.plant_text.specs.Grammar.{Part}
 
 abbrev pub part_of : Draft → Part
 part_of d = record {

@@ -1,7 +1,7 @@
 -- Which statements can be written. No public clause names this.
 use Rattle.std.specs.Prelude.{ℕ}
 use Rattle.fixed_expr.specs.Value.{IsWellFormed}
-use Rattle.plant_text.specs.reading.Statements.{Statement, Version, State, Input, Noise, Next, Target, Obstacle, Goal, End}
+use Rattle.plant_reading.specs.Statements.{Statement, Version, State, Input, Noise, Next, Target, Obstacle, Goal, End}
 
 -- the equation of a statement, if any, has the variables that it names
 abbrev pub HasFormedEquation : ℕ → Statement → Type 0

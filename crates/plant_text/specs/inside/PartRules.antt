@@ -1,12 +1,12 @@
 -- What every part keeps that lines spell. No public clause names this.
 use Rattle.std.specs.Prelude.{◌≡◌, ◌≢◌, ◌⊎◌, ◌≤◌, [], length, Some, None, AllPairs, true}
 use Rattle.std.specs.List.{All}
-use Rattle.plant_text.specs.declared.plant.aims.GoalKind.TheVariants.{Keep}
-use Rattle.plant_text.specs.words.Names.{IsName}
-use Rattle.plant_text.specs.plant.Variables.{IsStateVariable, IsInputVariable, IsNoiseVariable}
-use Rattle.plant_text.specs.plant.Boxes.{IsStateBox}
-use Rattle.plant_text.specs.plant.Equations.{IsEquation}
-use Rattle.plant_text.specs.reading.Grammar.{Part, HasEquations, names_in}
+use Rattle.plant_record.specs.declared.aims.GoalKind.TheVariants.{Keep}
+use Rattle.plant_record.specs.Names.{IsName}
+use Rattle.plant_record.specs.Variables.{IsStateVariable, IsInputVariable, IsNoiseVariable}
+use Rattle.plant_record.specs.Boxes.{IsStateBox}
+use Rattle.plant_record.specs.Equations.{IsEquation}
+use Rattle.plant_text.specs.Grammar.{Part, HasEquations, names_in}
 
 -- no box and no goal yet
 abbrev pub IsAimless : Part → Type 0

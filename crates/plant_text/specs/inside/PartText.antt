@@ -1,9 +1,10 @@
 -- The canonical text of a part, as far as it goes. No public clause names this.
 use Rattle.std.specs.Prelude.{◌≡◌, ℕ, Bool, false, List, [], ◌∷◌, ◌++◌, length, Option, Some, None, codes, if◌then◌else◌}
 use Rattle.std.specs.List.{flat_map}
-use Rattle.plant_text.specs.declared.plant.aims.GoalKind.{GoalKind}
-use Rattle.plant_text.specs.writing.CanonicalText.{line, state_line, input_line, noise_line, equation_lines, box_line, goal_word}
-use Rattle.plant_text.specs.reading.Grammar.{Part, names_in}
+use Rattle.plant_record.specs.declared.aims.GoalKind.{GoalKind}
+use Rattle.plant_record.specs.Spelling.{line, goal_word}
+use Rattle.plant_writing.specs.CanonicalText.{state_line, input_line, noise_line, equation_lines, box_line}
+use Rattle.plant_text.specs.Grammar.{Part, names_in}
 
 abbrev pub version_text : Bool → List ℕ
 version_text begun = if begun then line (codes "plant" ∷ codes "1" ∷ []) else []

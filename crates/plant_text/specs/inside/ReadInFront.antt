@@ -1,9 +1,9 @@
 -- How far the front of some bytes is read. No public clause names this.
 use Rattle.std.specs.Prelude.{◌≡◌, ℕ, suc, ◌+◌, ◌≤◌, List, ◌++◌, length}
-use Rattle.plant_text.specs.reading.Grammar.{Part, nothing_yet}
+use Rattle.plant_text.specs.Grammar.{Part, nothing_yet}
 use Rattle.plant_text.specs.inside.PartRules.{KeepsRules}
-use Rattle.plant_text.specs.reading.CanonicalFronts.{LeadsCanonically}
-use Rattle.plant_text.specs.words.Lines.{with_line_feeds}
+use Rattle.plant_text.specs.CanonicalFronts.{LeadsCanonically}
+use Rattle.plant_reading.specs.Lines.{with_line_feeds}
 
 -- The lines before the rest lead canonically to a part, and the next line has this number.
 pub record IsReadInFront (bytes rest : List ℕ) (number : ℕ) (q : Part) : Type 0 where

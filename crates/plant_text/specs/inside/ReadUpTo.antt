@@ -1,7 +1,7 @@
 -- How far a text is read. No public clause names this.
 use Rattle.std.specs.Prelude.{◌≡◌, ℕ, suc, ◌+◌, ◌≤◌, List, ◌++◌, length}
-use Rattle.plant_text.specs.words.Lines.{lines_of}
-use Rattle.plant_text.specs.reading.Grammar.{Part, Reads}
+use Rattle.plant_reading.specs.Lines.{lines_of}
+use Rattle.plant_text.specs.Grammar.{Part, Reads}
 use Rattle.plant_text.specs.inside.PartRules.{KeepsRules}
 
 -- The lines before the rest spell a part, and the next line has this number.

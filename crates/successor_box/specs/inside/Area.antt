@@ -1,7 +1,7 @@
 -- The ranges and the radii of a plant's variables, in arrays that are longer.
 use Rattle.std.specs.Prelude.{◌≡◌, ℕ, ◌+◌, ◌<◌, ℤ, pos, List, length, take}
 use Rattle.interval_eval.specs.declared.interval.Interval.{Interval}
-use Rattle.plant_text.specs.plant.Description.{Description, vectors_of}
+use Rattle.plant_record.specs.Description.{Description, vectors_of}
 use Rattle.successor_box.specs.declared.fault.SlopeFault.{SlopeFault}
 use Rattle.successor_box.specs.declared.fault.SlopeFault.TheVariants.{Overflow, Memory}
 use Rattle.successor_box.specs.Boxes.{area_of, radii_of}

@@ -5,7 +5,7 @@ use Rattle.std.proofs.lemmas.List.{get_or_default}
 use Rattle.std.proofs.lemmas.List.Sums.{sum_by-le}
 use Rattle.fixed_expr.specs.Value.{value_of}
 use Rattle.grid_quantiser.specs.Axes.{cells_of}
-use Rattle.plant_text.specs.plant.Description.{axes_of, count_of, vectors_of}
+use Rattle.plant_record.specs.Description.{axes_of, count_of, vectors_of}
 use Rattle.successor_box.specs.Boxes.{IsEnabledAt, AreSuccessors, central_values}
 use Rattle.abstraction_table.specs.Abstraction.{pairs_of, pair_of, AreEdges}
 use Rattle.synth_run.specs.Demo.{demo_plant_of, place, place_step, speed_step}

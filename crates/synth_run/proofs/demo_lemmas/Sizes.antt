@@ -6,13 +6,13 @@ use Rattle.std.proofs.lemmas.Int.{ints}
 use Rattle.std.proofs.lemmas.List.Elements.{All-nil, All-cons}
 use Rattle.std.proofs.lemmas.List.Kept.{AllPairs-cons}
 use Rattle.grid_quantiser.specs.Axes.{cells_of}
-use Rattle.plant_text.specs.words.Numbers.{IsLiteral}
-use Rattle.plant_text.specs.plant.Description.{axes_of, count_of, vectors_of}
-use Rattle.plant_text.specs.plant.Variables.{IsStateVariable, IsInputVariable, IsNoiseVariable}
-use Rattle.plant_text.specs.plant.Boxes.{IsStateBox}
-use Rattle.plant_text.specs.plant.Equations.{IsEquation}
-use Rattle.plant_text.specs.plant.Plants.{IsPlant}
-use Rattle.plant_text.specs.plant.Limits.{IsWithinLimits}
+use Rattle.plant_record.specs.Numbers.{IsLiteral}
+use Rattle.plant_record.specs.Description.{axes_of, count_of, vectors_of}
+use Rattle.plant_record.specs.Variables.{IsStateVariable, IsInputVariable, IsNoiseVariable}
+use Rattle.plant_record.specs.Boxes.{IsStateBox}
+use Rattle.plant_record.specs.Equations.{IsEquation}
+use Rattle.plant_record.specs.Plants.{IsPlant}
+use Rattle.plant_record.specs.Limits.{IsWithinLimits}
 use Rattle.abstraction_table.specs.Abstraction.{pairs_of}
 use Rattle.synth_run.specs.Demo.{IsDemoNumber, demo_plant_of, place, speed, acceleration, wind, demo_target, fast_forwards, fast_backwards, place_step, speed_step}
 use Rattle.synth_run.specs.DemoLaws.{DemoPlantsAreWithinLimits}

@@ -4,9 +4,9 @@ use Rattle.std.specs.Prelude.{codes}
 use Rattle.std.specs.Fmt.{decimal, digits}
 use Rattle.std.proofs.lemmas.List.{append-nil}
 use Rattle.std.proofs.lemmas.Fmt.{length-decimal-le}
-use Rattle.plant_text.specs.writing.CanonicalText.{text_of, state_line, box_line}
-use Rattle.plant_text.specs.reading.Grammar.{Spells}
-use Rattle.plant_text.specs.reading.Refusals.{IsShort}
+use Rattle.plant_writing.specs.CanonicalText.{text_of, state_line, box_line}
+use Rattle.plant_text.specs.Grammar.{Spells}
+use Rattle.plant_text.specs.Refusals.{IsShort}
 use Rattle.plant_text.specs.Laws.{CanonicalTextsSpell}
 use Rattle.synth_run.specs.Demo.{IsDemoNumber, demo_plant_of, demo_text, place, demo_target, fast_forwards, fast_backwards}
 use Rattle.synth_run.specs.DemoLaws.{DemoPlantsAreWithinLimits, DemoTextsSpell}

@@ -1,5 +1,5 @@
 -- The outcome of a fault of a layer below.
-use Rattle.plant_text.specs.declared.fault.LimitKind.TheVariants.{Edges}
+use Rattle.plant_record.specs.declared.fault.LimitKind.TheVariants.{Edges}
 use Rattle.plant_text.specs.declared.fault.PlantFault.{PlantFault}
 use Rattle.plant_text.specs.declared.fault.PlantFault.TheVariants as plants
 use Rattle.controller_table.specs.declared.fault.TableFault.{TableFault}

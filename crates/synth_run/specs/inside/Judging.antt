@@ -2,8 +2,8 @@
 use Rattle.std.specs.Prelude.{List, Option}
 use Rattle.game_core.specs.declared.game.Row.{Row}
 use Rattle.game_core.specs.Game.{Game}
-use Rattle.plant_text.specs.declared.plant.aims.GoalKind.{GoalKind}
-use Rattle.plant_text.specs.plant.Description.{Description}
+use Rattle.plant_record.specs.declared.aims.GoalKind.{GoalKind}
+use Rattle.plant_record.specs.Description.{Description}
 use Rattle.abstraction_table.specs.Abstraction.{IsGameOf}
 use Rattle.abstraction_table.specs.Solution.{Solves}
 use Rattle.table_check.specs.declared.verdict.Verdict.{Verdict}

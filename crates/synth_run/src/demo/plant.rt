@@ -8,7 +8,8 @@ use crate::demo::push_part;
 use crate::laws::demo::{demo_plants_are_within_limits, demo_texts_spell};
 use crate::memory::NoMemory;
 use plant_text::laws::canonical_texts_read_back;
-use plant_text::{Plant, PlantFault, read_plant};
+use plant_record::Plant;
+use plant_text::{PlantFault, read_plant};
 use std::alloc::{AllocError, Global};
 
 /// The n-th demo plant: a cart on a line of 600 n places.

@@ -13,7 +13,7 @@ use crate::outcome::Outcome;
 use crate::resolving::{Resolved, resolve};
 use cell_counters::{Board, Root};
 use frontier_pool::Gate;
-use plant_text::GoalKind;
+use plant_record::GoalKind;
 use std::alloc::Global;
 use std::thread::Threads;
 

@@ -1,7 +1,7 @@
 use Rattle.std.proofs.Common.{◌≡◌, ℕ, ◌+◌, ◌/◌, ◌%◌, ◌<◌, ◌∙◌, List, Option, None, length, get_or, sym, ap, subst₂, arith}
 use Rattle.std.proofs.lemmas.List.{get_or-take}
 use Rattle.grid_quantiser.specs.declared.sides.Side.{Side}
-use Rattle.plant_text.specs.plant.Description.{vectors_of}
+use Rattle.plant_record.specs.Description.{vectors_of}
 use Rattle.successor_box.specs.Sides.{IsSideBeforeAt}
 use Rattle.abstraction_table.specs.inside.Digits.{pair_at}
 use Rattle.abstraction_table.proofs.PairDigits.{some_vectors}

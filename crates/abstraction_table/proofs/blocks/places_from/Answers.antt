@@ -1,6 +1,6 @@
 use Rattle.std.proofs.Common.{◌+◌, arith}
 use Rattle.std.proofs.lemmas.Nat.{mod_below}
-use Rattle.plant_text.specs.plant.Description.{vectors_of}
+use Rattle.plant_record.specs.Description.{vectors_of}
 use Rattle.abstraction_table.specs.inside.Digits.{pair_at}
 use Rattle.abstraction_table.proofs.PairDigits.{some_vectors}
 use Rattle.abstraction_table.proofs.EquationDigits.{cell_below}

@@ -1,6 +1,6 @@
 use Rattle.std.proofs.Common.{◌≡◌, ℕ, ◌+◌, ◌/◌, ◌%◌, ◌<◌, [], length, get_or}
 use Rattle.fixed_expr.specs.declared.lanes.TheConstants.{LANES}
-use Rattle.plant_text.specs.plant.Description.{vectors_of}
+use Rattle.plant_record.specs.Description.{vectors_of}
 use Rattle.successor_box.specs.Sides.{place_in}
 use Rattle.abstraction_table.specs.inside.Digits.{pair_at}
 use Rattle.abstraction_table.proofs.blocks.places_from.Given as goal

@@ -5,9 +5,9 @@ use Rattle.std.proofs.lemmas.List.Elements.{All-get_or}
 use Rattle.std.proofs.lemmas.Nat.{mod_below}
 use Rattle.grid_quantiser.specs.declared.axis.Axis.{Axis}
 use Rattle.grid_quantiser.specs.Axes.{IsAxis, no_axis, cells_of}
-use Rattle.plant_text.specs.plant.Description.{Description, axis_of, axes_of, vectors_of}
-use Rattle.plant_text.specs.plant.Plants.{IsPlant}
-use Rattle.plant_text.specs.plant.Soundness.{IsSound}
+use Rattle.plant_record.specs.Description.{Description, axis_of, axes_of, vectors_of}
+use Rattle.plant_record.specs.Plants.{IsPlant}
+use Rattle.plant_record.specs.Soundness.{IsSound}
 use Rattle.successor_box.specs.Boxes.{IsBoxOf}
 use Rattle.abstraction_table.specs.inside.Rows.{last_state, row_of, AreInRow}
 use Rattle.abstraction_table.proofs.RowBoxes.{later_cell, cell_count}

@@ -4,7 +4,7 @@ use Rattle.std.proofs.lemmas.List.{take_at, get_or-replicate}
 use Rattle.grid_quantiser.specs.declared.boxes.CellBox.{CellBox}
 use Rattle.grid_quantiser.specs.Axes.{cells_of}
 use Rattle.grid_quantiser.specs.SideBoxes.{one_cell}
-use Rattle.plant_text.specs.plant.Description.{axes_of}
+use Rattle.plant_record.specs.Description.{axes_of}
 use Rattle.abstraction_table.specs.Abstraction.{pairs_of}
 use Rattle.abstraction_table.specs.inside.Rows.{AreBoxesFrom}
 use Rattle.abstraction_table.proofs.PairBoxes.{all_boxes, are_boxes, chunk_cells}

@@ -1,7 +1,7 @@
 use Rattle.std.proofs.Common.{◌^◌, ◌≤◌, arith}
 use Rattle.abstraction_table.specs.inside.Tallies.{edges_of}
 use Rattle.grid_quantiser.specs.Axes.{cells_of}
-use Rattle.plant_text.specs.plant.Description.{axes_of, vectors_of}
+use Rattle.plant_record.specs.Description.{axes_of, vectors_of}
 use Rattle.abstraction_table.proofs.PlantGame.{Laws, ordered, are_edges, in_memory, is_game_of}
 use Rattle.abstraction_table.proofs.building.survey.Goals as goal
 

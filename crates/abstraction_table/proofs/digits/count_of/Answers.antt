@@ -2,7 +2,7 @@ use Rattle.std.proofs.Common.{length, get_or, sym, ap, ◌∙◌, List, arith}
 use Rattle.std.proofs.lemmas.List.{length-map}
 use Rattle.grid_quantiser.specs.declared.axis.Axis.{Axis}
 use Rattle.grid_quantiser.specs.Axes.{no_axis}
-use Rattle.plant_text.specs.plant.Description.{axis_of}
+use Rattle.plant_record.specs.Description.{axis_of}
 use Rattle.abstraction_table.proofs.PairDigits.{count_along}
 use Rattle.abstraction_table.proofs.digits.count_of.Goals as goal
 

@@ -3,8 +3,8 @@ use Rattle.std.proofs.lemmas.List.{take_at, length-replicate}
 use Rattle.grid_quantiser.specs.Axes.{cells_of}
 use Rattle.game_core.specs.declared.game.Mark.{Mark}
 use Rattle.game_core.specs.declared.game.Mark.TheVariants.{Goal, Obstacle, Plain}
-use Rattle.plant_text.specs.plant.Description.{axes_of}
-use Rattle.plant_text.specs.plant.Marks.{IsObstacleCell}
+use Rattle.plant_record.specs.Description.{axes_of}
+use Rattle.plant_record.specs.Marks.{IsObstacleCell}
 use Rattle.abstraction_table.specs.inside.Marks.{LiesInTarget, AreMarked}
 use Rattle.abstraction_table.proofs.PlantMarks.{both_marked}
 use Rattle.abstraction_table.proofs.marks.find_marks.Goals as goal

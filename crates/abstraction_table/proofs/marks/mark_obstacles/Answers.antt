@@ -3,7 +3,7 @@ use Rattle.std.specs.List.{Contains}
 use Rattle.grid_quantiser.specs.declared.axis.Axis.{Axis}
 use Rattle.grid_quantiser.specs.Boxes.{Touches, IsBoxWith}
 use Rattle.game_core.specs.declared.game.Mark.TheVariants.{Obstacle}
-use Rattle.plant_text.specs.plant.Description.{axes_of}
+use Rattle.plant_record.specs.Description.{axes_of}
 use Rattle.successor_box.specs.Boxes.{cells_in}
 use Rattle.abstraction_table.specs.inside.Marks.{AreMarked}
 use Rattle.abstraction_table.proofs.Marking.{box_marked}

@@ -4,7 +4,7 @@ use Rattle.grid_quantiser.specs.declared.axis.Axis.{Axis}
 use Rattle.grid_quantiser.specs.Axes.{cells_of}
 use Rattle.grid_quantiser.specs.Boxes.{LiesInside, IsBoxWith}
 use Rattle.game_core.specs.declared.game.Mark.TheVariants.{Goal}
-use Rattle.plant_text.specs.plant.Description.{axes_of}
+use Rattle.plant_record.specs.Description.{axes_of}
 use Rattle.successor_box.specs.Boxes.{cells_in}
 use Rattle.abstraction_table.specs.inside.Marks.{AreMarked}
 use Rattle.abstraction_table.proofs.Marking.{marked_likewise, box_marked}

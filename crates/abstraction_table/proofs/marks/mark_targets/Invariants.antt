@@ -1,6 +1,6 @@
 use Rattle.grid_quantiser.specs.Boxes.{LiesInside}
 use Rattle.game_core.specs.declared.game.Mark.TheVariants.{Goal}
-use Rattle.plant_text.specs.plant.Description.{axes_of}
+use Rattle.plant_record.specs.Description.{axes_of}
 use Rattle.abstraction_table.specs.inside.Marks.{AreMarked}
 use Rattle.abstraction_table.proofs.PlantMarks.{AnyBefore}
 use Rattle.abstraction_table.proofs.marks.mark_targets.Given as goal

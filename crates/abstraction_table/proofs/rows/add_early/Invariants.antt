@@ -1,6 +1,6 @@
 use Rattle.std.proofs.Common.{◌≡◌, ℕ, ◌<◌, ◌≤◌, ◌-◌, length}
 use Rattle.grid_quantiser.specs.Axes.{cells_of}
-use Rattle.plant_text.specs.plant.Description.{axes_of}
+use Rattle.plant_record.specs.Description.{axes_of}
 use Rattle.abstraction_table.specs.inside.Rows.{IsInRowOf}
 use Rattle.abstraction_table.specs.inside.Sides.{ArePlacesOf, AreBoxesAlong}
 use Rattle.abstraction_table.proofs.rows.add_early.Given as goal

@@ -1,7 +1,7 @@
 use Rattle.std.proofs.Common.{◌≡◌, ◌≢◌, ℕ, ◌+◌, ◌-◌, ◌*◌, ◌/◌, ◌<◌, ◌≤◌, ◌∙◌, None, length, drop, ◌++◌, get_or, sym, ap, subst, arith}
 use Rattle.std.proofs.lemmas.List.{length-set, length-append, length-take-le, length-drop, get_or_append_left, get_or-set_other}
 use Rattle.std.proofs.lemmas.Nat.{mul-le}
-use Rattle.plant_text.specs.plant.Description.{vectors_of}
+use Rattle.plant_record.specs.Description.{vectors_of}
 use Rattle.successor_box.specs.Boxes.{IsBoxOf}
 use Rattle.successor_box.specs.Sides.{IsBoxAlong}
 use Rattle.abstraction_table.specs.inside.Rows.{last_state}

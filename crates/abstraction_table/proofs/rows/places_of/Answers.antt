@@ -3,7 +3,7 @@ use Rattle.std.proofs.lemmas.Bool.{cases_lt}
 use Rattle.std.proofs.lemmas.List.{length-set, length-map, get_or-replicate, get_or_past}
 use Rattle.grid_quantiser.specs.declared.axis.Axis.{Axis}
 use Rattle.grid_quantiser.specs.Places.{place_along}
-use Rattle.plant_text.specs.plant.Description.{axis_of, axes_of}
+use Rattle.plant_record.specs.Description.{axis_of, axes_of}
 use Rattle.abstraction_table.proofs.PairDigits.{state_place, no_input_place}
 use Rattle.abstraction_table.proofs.rows.places_of.Goals as goal
 

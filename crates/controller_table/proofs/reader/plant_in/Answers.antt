@@ -1,5 +1,5 @@
 use Rattle.std.proofs.Common.{arith}
-use Rattle.plant_text.specs.reading.CanonicalFronts.{IsFirstRefusedAtFront}
+use Rattle.plant_text.specs.CanonicalFronts.{IsFirstRefusedAtFront}
 use Rattle.controller_table.proofs.RefusedPlant.{line_bound}
 use Rattle.controller_table.proofs.reader.plant_in.Goals as goal
 

@@ -1,5 +1,5 @@
 use Rattle.std.proofs.Common.{◌≡◌, subst, ap, sym, ◌∙◌, arith}
-use Rattle.plant_text.specs.declared.plant.aims.GoalKind.{GoalKind}
+use Rattle.plant_record.specs.declared.aims.GoalKind.{GoalKind}
 use Rattle.controller_table.specs.declared.entry.Entry.{Entry}
 use Rattle.controller_table.specs.RowLines.{IsEntryOf}
 use Rattle.controller_table.specs.inside.Reading.{IsEntryAt}

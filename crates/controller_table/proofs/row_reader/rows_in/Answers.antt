@@ -1,7 +1,7 @@
 use Rattle.std.proofs.Common.{◌≡◌, ◌+◌, ℕ, List, Option, None, replicate, ap, sym, subst, ◌∙◌, refl}
 use Rattle.game_core.specs.declared.game.Row.{Row}
 use Rattle.grid_quantiser.specs.Axes.{cells_of}
-use Rattle.plant_text.specs.plant.Description.{axes_of}
+use Rattle.plant_record.specs.Description.{axes_of}
 use Rattle.controller_table.specs.inside.ReadRows.{AreRead, AreBelow}
 use Rattle.controller_table.proofs.MoreEntries.{nothing_read, nothing_below, read_on, below_on, row_refused}
 use Rattle.controller_table.proofs.row_reader.rows_in.Goals as goal

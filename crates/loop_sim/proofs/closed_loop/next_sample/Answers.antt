@@ -2,8 +2,8 @@ use Rattle.std.proofs.Common.{◌≡◌, ◌+◌, ◌*◌, length, sym, ap, subs
 use Rattle.std.specs.Prelude.{ℕ}
 use Rattle.std.proofs.lemmas.Grind.{not_there}
 use Rattle.grid_quantiser.specs.Cells.{point_of}
-use Rattle.plant_text.specs.plant.Description.{Description}
-use Rattle.plant_text.specs.plant.Steps.{step_of, StepStaysInRange}
+use Rattle.plant_record.specs.Description.{Description}
+use Rattle.plant_record.specs.Steps.{step_of, StepStaysInRange}
 use Rattle.loop_sim.specs.Noise.{generator, noises_from}
 use Rattle.loop_sim.proofs.Draws.{generator_more}
 use Rattle.loop_sim.proofs.Steps.{stays, drawn_step, lines_go_on}

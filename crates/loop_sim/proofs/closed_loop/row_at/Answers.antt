@@ -2,7 +2,7 @@ use Rattle.std.proofs.Common.{◌≡◌, true, false, List, refl, sym, subst, ap
 use Rattle.grid_quantiser.specs.declared.axis.Axis.{Axis}
 use Rattle.grid_quantiser.specs.Cells.{IsInDomain, cell_of}
 use Rattle.game_core.specs.Solution.{row_of}
-use Rattle.plant_text.specs.plant.Description.{axes_of}
+use Rattle.plant_record.specs.Description.{axes_of}
 use Rattle.loop_sim.proofs.Rows.{row_inside, no_row_outside}
 use Rattle.loop_sim.proofs.closed_loop.row_at.Goals as goal
 

@@ -1,8 +1,8 @@
 use Rattle.std.proofs.Common.{◌≡◌, true, false, sym, subst, ◌∙◌}
 use Rattle.std.specs.List.{Contains}
 use Rattle.grid_quantiser.specs.Cells.{IsInDomain, cell_of}
-use Rattle.plant_text.specs.plant.Description.{axes_of}
-use Rattle.plant_text.specs.plant.Steps.{step_of}
+use Rattle.plant_record.specs.Description.{axes_of}
+use Rattle.plant_record.specs.Steps.{step_of}
 use Rattle.plant_refine.proofs.Landing.{lands}
 use Rattle.plant_refine.proofs.cells.next_cell.Goals as goal
 

@@ -1,6 +1,6 @@
 use Rattle.std.proofs.Common.{◌≡◌, ℕ, ◌<◌, length, false, true, subst, add-one, arith}
 use Rattle.grid_quantiser.specs.Axes.{cells_of}
-use Rattle.plant_text.specs.plant.Description.{axes_of}
+use Rattle.plant_record.specs.Description.{axes_of}
 use Rattle.plant_refine.specs.Runs.{ArrivesFirst}
 use Rattle.plant_refine.proofs.Choosing.{rank_below}
 use Rattle.plant_refine.proofs.InBoxes.{gets}

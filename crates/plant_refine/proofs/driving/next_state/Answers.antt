@@ -1,6 +1,6 @@
 use Rattle.std.proofs.Common.{subst}
 use Rattle.grid_quantiser.specs.Cells.{cell_of}
-use Rattle.plant_text.specs.plant.Description.{axes_of}
+use Rattle.plant_record.specs.Description.{axes_of}
 use Rattle.successor_box.specs.Boxes.{IsEnabledAt}
 use Rattle.plant_refine.proofs.Choosing.{chooses_input, input_of, leads_lower}
 use Rattle.plant_refine.proofs.driving.next_state.Goals as goal

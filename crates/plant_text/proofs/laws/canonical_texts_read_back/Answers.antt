@@ -1,4 +1,4 @@
-use Rattle.plant_text.specs.writing.CanonicalText.{text_of}
+use Rattle.plant_writing.specs.CanonicalText.{text_of}
 use Rattle.plant_text.proofs.laws.canonical_texts_read_back.Goals as goal
 
 pub returns : goal.returns

@@ -1,4 +1,4 @@
-use Rattle.plant_text.proofs.lemmas.reading.SpelledCanonically as spelled
+use Rattle.plant_text.proofs.lemmas.SpelledCanonically as spelled
 use Rattle.plant_text.proofs.laws.canonical_texts_spell.Goals as goal
 
 pub returns : goal.returns

@@ -1,5 +1,5 @@
-use Rattle.plant_text.proofs.lemmas.reading.StatementLaws.{one_statement}
-use Rattle.plant_text.proofs.lemmas.reading.CanonicalFronts as fronts
+use Rattle.plant_reading.proofs.lemmas.StatementLaws.{one_statement}
+use Rattle.plant_text.proofs.lemmas.CanonicalFronts as fronts
 use Rattle.plant_text.proofs.laws.one_front.Goals as goal
 
 pub returns : goal.returns

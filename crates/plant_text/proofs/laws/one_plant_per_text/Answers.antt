@@ -1,5 +1,5 @@
-use Rattle.plant_text.proofs.lemmas.reading.StatementLaws.{one_statement, passed_over}
-use Rattle.plant_text.proofs.lemmas.reading.LinesLead.{one_plant}
+use Rattle.plant_reading.proofs.lemmas.StatementLaws.{one_statement, passed_over}
+use Rattle.plant_text.proofs.lemmas.LinesLead.{one_plant}
 use Rattle.plant_text.proofs.laws.one_plant_per_text.Goals as goal
 
 pub returns : goal.returns

@@ -1,5 +1,5 @@
-use Rattle.plant_text.proofs.lemmas.reading.StatementLaws.{one_statement, passed_over}
-use Rattle.plant_text.proofs.lemmas.reading.LinesLead as leading
+use Rattle.plant_reading.proofs.lemmas.StatementLaws.{one_statement, passed_over}
+use Rattle.plant_text.proofs.lemmas.LinesLead as leading
 use Rattle.plant_text.proofs.laws.one_refusal.Goals as goal
 
 pub returns : goal.returns

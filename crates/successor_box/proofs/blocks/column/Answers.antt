@@ -2,8 +2,8 @@ use Rattle.std.proofs.Common.{◌≡◌, ℕ, [], ◌+◌, ◌-◌, ◌<◌, ◌
 use Rattle.std.specs.Prelude.{pos, FitsSigned}
 use Rattle.std.proofs.lemmas.Int.{to_z-of_z}
 use Rattle.std.proofs.lemmas.List.{get_or-replicate}
-use Rattle.plant_text.specs.plant.Description.{vectors_of, vector_of}
-use Rattle.plant_text.specs.plant.InputPlaces.{input_place}
+use Rattle.plant_record.specs.Description.{vectors_of, vector_of}
+use Rattle.plant_record.specs.InputPlaces.{input_place}
 use Rattle.successor_box.specs.Boxes.{noise_centre}
 use Rattle.successor_box.proofs.AlikePairs.{central_input}
 use Rattle.successor_box.proofs.Columns.{place_within, digit_at, state_value, noise_value}

@@ -6,7 +6,7 @@ use Rattle.std.proofs.lemmas.List.{length-map}
 use Rattle.grid_quantiser.specs.declared.axis.Axis.{Axis}
 use Rattle.grid_quantiser.specs.Axes.{no_axis}
 use Rattle.grid_quantiser.specs.Cells.{low_of, high_of, radius_of, point_of}
-use Rattle.plant_text.specs.plant.Description.{axis_of, axes_of}
+use Rattle.plant_record.specs.Description.{axis_of, axes_of}
 use Rattle.successor_box.proofs.Columns.{axis_at}
 use Rattle.successor_box.proofs.Middles.{IsFirstCell, first_cell, low_at, high_at}
 use Rattle.successor_box.proofs.blocks.first_middle.Goals as goal

@@ -1,7 +1,7 @@
 use Rattle.std.proofs.Common.{ℕ, ◌+◌, ◌*◌, ◌/◌, ◌<◌, ◌∙◌, [], drop, get_or, length, ap, ap₂, arith}
 use Rattle.std.proofs.lemmas.List.{get_or-replicate}
-use Rattle.plant_text.specs.plant.Description.{vectors_of}
-use Rattle.plant_text.specs.plant.InputPlaces.{input_place}
+use Rattle.plant_record.specs.Description.{vectors_of}
+use Rattle.plant_record.specs.InputPlaces.{input_place}
 use Rattle.successor_box.proofs.InputNumbers.{number_none, number_more, number_all, number_below}
 use Rattle.successor_box.proofs.Columns.{digit_at}
 use Rattle.successor_box.proofs.blocks.input_numbers.Goals as goal

@@ -2,7 +2,7 @@ use Rattle.std.proofs.Common.{◌≡◌, ℕ, ◌∙◌, get_or, w64, rules, ari
 use Rattle.std.specs.Prelude.{ℤ, pos, FitsSigned}
 use Rattle.std.proofs.lemmas.Int.{to_z-of_z}
 use Rattle.std.proofs.lemmas.List.{length-set}
-use Rattle.plant_text.specs.plant.Description.{vector_of}
+use Rattle.plant_record.specs.Description.{vector_of}
 use Rattle.successor_box.proofs.Filling.{place_more}
 use Rattle.successor_box.proofs.blocks.input_values.Goals as goal
 

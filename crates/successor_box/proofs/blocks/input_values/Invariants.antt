@@ -1,6 +1,6 @@
 use Rattle.std.proofs.Common.{◌≡◌, ℕ, ◌<◌, length, get_or}
 use Rattle.std.specs.Prelude.{pos}
-use Rattle.plant_text.specs.plant.Description.{vector_of}
+use Rattle.plant_record.specs.Description.{vector_of}
 use Rattle.successor_box.proofs.blocks.input_values.Given as goal
 
 -- the values so far

@@ -2,7 +2,7 @@ use Rattle.std.proofs.Common.{◌≡◌, ℕ, ◌<◌, length, get_or}
 use Rattle.std.specs.Prelude.{pos}
 use Rattle.grid_quantiser.specs.Axes.{no_axis}
 use Rattle.grid_quantiser.specs.Places.{middle_of}
-use Rattle.plant_text.specs.plant.Description.{axes_of}
+use Rattle.plant_record.specs.Description.{axes_of}
 use Rattle.successor_box.proofs.blocks.middles.Given as goal
 
 -- the middles so far

@@ -7,8 +7,8 @@ use Rattle.std.proofs.lemmas.Option.{get_or_from_slice_get}
 use Rattle.fixed_expr.specs.Expression.{Number, expression_of}
 use Rattle.fixed_expr.specs.Value.{value_of}
 use Rattle.grid_quantiser.specs.declared.sides.Side.{Side}
-use Rattle.plant_text.specs.plant.Description.{vectors_of}
-use Rattle.plant_text.specs.plant.Steps.{equation_at}
+use Rattle.plant_record.specs.Description.{vectors_of}
+use Rattle.plant_record.specs.Steps.{equation_at}
 use Rattle.successor_box.specs.Boxes.{central_values}
 use Rattle.successor_box.specs.Sides.{IsPairInRow, IsSideBeforeAt}
 use Rattle.fixed_expr.specs.Rows.{row_of}

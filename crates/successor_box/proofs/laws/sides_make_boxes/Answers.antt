@@ -1,4 +1,4 @@
-use Rattle.plant_text.specs.plant.Description.{axes_of}
+use Rattle.plant_record.specs.Description.{axes_of}
 use Rattle.successor_box.specs.Boxes.{low_corner, high_corner}
 use Rattle.successor_box.proofs.PairSides.{box_more, box_on_all}
 use Rattle.successor_box.proofs.laws.sides_make_boxes.Goals as goal

@@ -2,7 +2,7 @@ use Rattle.std.proofs.Common.{◌∙◌, sym, ap, rules}
 use Rattle.std.specs.Prelude.{ℤ, ◌+ℤ◌, ◌-ℤ◌, FitsSigned}
 use Rattle.std.specs.Int.{w128}
 use Rattle.std.proofs.lemmas.Int.{to_z-of_z}
-use Rattle.plant_text.specs.plant.Steps.{equation_at}
+use Rattle.plant_record.specs.Steps.{equation_at}
 use Rattle.successor_box.specs.Boxes.{deviation_at}
 use Rattle.successor_box.proofs.SideEnds.{low_is, high_is}
 use Rattle.successor_box.proofs.sides.ends.Goals as goal

@@ -3,7 +3,7 @@ use Rattle.std.specs.Prelude.{ℤ, ◌+ℤ◌, ◌-ℤ◌, FitsSigned}
 use Rattle.std.specs.Int.{w128}
 use Rattle.std.proofs.lemmas.Int.{to_z-of_z}
 use Rattle.fixed_expr.specs.Value.{value_of}
-use Rattle.plant_text.specs.plant.Steps.{equation_at}
+use Rattle.plant_record.specs.Steps.{equation_at}
 use Rattle.successor_box.specs.Boxes.{central_values}
 use Rattle.successor_box.proofs.DeviationRows.{row_count}
 use Rattle.successor_box.proofs.SideEnds.{end_step}

@@ -6,8 +6,8 @@ use Rattle.fixed_expr.specs.Expression.{Number}
 use Rattle.fixed_expr.specs.Value.{value_of}
 use Rattle.grid_quantiser.specs.declared.axis.Axis.{Axis}
 use Rattle.grid_quantiser.specs.Cells.{centre_of, point_of}
-use Rattle.plant_text.specs.plant.Description.{axes_of}
-use Rattle.plant_text.specs.plant.Steps.{equation_at}
+use Rattle.plant_record.specs.Description.{axes_of}
+use Rattle.plant_record.specs.Steps.{equation_at}
 use Rattle.successor_box.specs.Boxes.{noise_centre}
 use Rattle.successor_box.proofs.Padding.{domain_more}
 use Rattle.successor_box.proofs.Centres.{centres_are_noise, central_list}

@@ -4,8 +4,8 @@ use Rattle.std.specs.Int.{w128}
 use Rattle.std.proofs.lemmas.Int.{to_z-of_z}
 use Rattle.grid_quantiser.specs.Axes.{no_axis}
 use Rattle.grid_quantiser.specs.Sides.{IsSideBefore}
-use Rattle.plant_text.specs.plant.Description.{axes_of}
-use Rattle.plant_text.specs.plant.Steps.{equation_at}
+use Rattle.plant_record.specs.Description.{axes_of}
+use Rattle.plant_record.specs.Steps.{equation_at}
 use Rattle.successor_box.specs.Boxes.{deviation_at, low_corner, high_corner}
 use Rattle.successor_box.proofs.SideEnds.{low_is, high_is, unmoved}
 use Rattle.successor_box.proofs.sides.prolonged_side_around.Goals as goal

@@ -4,7 +4,7 @@ use Rattle.std.specs.Int.{w128}
 use Rattle.std.proofs.lemmas.Int.{to_z-of_z}
 use Rattle.grid_quantiser.specs.Axes.{no_axis}
 use Rattle.grid_quantiser.specs.Sides.{IsSideOf}
-use Rattle.plant_text.specs.plant.Description.{axes_of}
+use Rattle.plant_record.specs.Description.{axes_of}
 use Rattle.successor_box.proofs.sides.side.Goals as goal
 
 pub returns : goal.returns

@@ -2,7 +2,7 @@ use Rattle.std.proofs.Common.{◌≡◌}
 use Rattle.std.specs.Prelude.{pos}
 use Rattle.std.proofs.lemmas.Option.{get_or_from_slice_get}
 use Rattle.fixed_expr.specs.Expression.{Number, expression_of}
-use Rattle.plant_text.specs.plant.Steps.{equation_at}
+use Rattle.plant_record.specs.Steps.{equation_at}
 use Rattle.successor_box.proofs.Steps.{formed_over}
 use Rattle.successor_box.proofs.Radii.{radii_not_negative}
 use Rattle.successor_box.proofs.slopes.deviation_at.Goals as goal

@@ -4,7 +4,7 @@ use Rattle.std.specs.Global.{Vec}
 use borrow.Author.Count.{below_more}
 use Rattle.std.proofs.lemmas.List.{map-append, map_more, take_all}
 use Rattle.fixed_expr.specs.Expression.{Number}
-use Rattle.plant_text.specs.plant.Description.{vectors_of}
+use Rattle.plant_record.specs.Description.{vectors_of}
 use Rattle.successor_box.specs.Deviations.{HasNoOverflowAt, deviations_along}
 use Rattle.successor_box.proofs.slopes.find_slopes.Goals as goal
 

@@ -1,7 +1,7 @@
 use Rattle.std.proofs.Common.{◌≡◌, ℕ, ◌<◌, map, take}
 use Rattle.std.specs.Prelude.{ℤ}
 use Rattle.std.specs.Global.{Vec}
-use Rattle.plant_text.specs.plant.Description.{vectors_of}
+use Rattle.plant_record.specs.Description.{vectors_of}
 use Rattle.successor_box.specs.Deviations.{HasNoOverflowAt, deviations_along}
 use Rattle.successor_box.proofs.slopes.find_slopes.Given as goal
 

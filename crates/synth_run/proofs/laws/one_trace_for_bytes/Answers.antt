@@ -1,7 +1,7 @@
 use Rattle.std.proofs.Common.{List, Option, sym, ap, ◌∙◌}
 use Rattle.game_core.specs.declared.game.Row.{Row}
 use Rattle.grid_quantiser.specs.Cells.{point_of}
-use Rattle.plant_text.specs.plant.Description.{Description}
+use Rattle.plant_record.specs.Description.{Description}
 use Rattle.loop_sim.specs.TraceText.{trace_text}
 use Rattle.synth_run.proofs.laws.one_trace_for_bytes.Goals as goal
 

@@ -1,6 +1,6 @@
 use Rattle.std.proofs.Common.{◌≡◌, ◌≤◌, length, sym, subst, ap, ◌∙◌, arith}
 use Rattle.grid_quantiser.specs.Axes.{cells_of}
-use Rattle.plant_text.specs.plant.Description.{axes_of}
+use Rattle.plant_record.specs.Description.{axes_of}
 use Rattle.game_core.specs.Solution.{IsReachRow, IsReachSolution}
 use Rattle.abstraction_table.specs.Table.{game_of}
 use Rattle.plant_refine.proofs.driving.tests.expect_right.Goals as goal

@@ -1,10 +1,10 @@
 use Rattle.std.proofs.Common.{◌≡◌, List, ℕ, subst, ◌∙◌}
 use Rattle.plant_text.specs.declared.fault.PlantFault.{PlantFault}
-use Rattle.plant_text.specs.plant.Description.{Description}
+use Rattle.plant_record.specs.Description.{Description}
 use Rattle.plant_text.specs.Laws.{CanonicalTextsReadBack}
-use Rattle.plant_text.specs.reading.Grammar.{Spells}
-use Rattle.plant_text.specs.reading.Refusals.{IsShort, IsRefusedFor}
-use Rattle.plant_text.specs.writing.CanonicalText.{text_of}
+use Rattle.plant_text.specs.Grammar.{Spells}
+use Rattle.plant_text.specs.Refusals.{IsShort, IsRefusedFor}
+use Rattle.plant_writing.specs.CanonicalText.{text_of}
 use Rattle.synth_run.specs.Demo.{IsDemoNumber, demo_plant_of, demo_text}
 use Rattle.synth_run.specs.DemoLaws.{DemoTextsSpell, DemoPlantsAreWithinLimits}
 use Rattle.synth_run.proofs.demo.plant.demo_plant.Goals as goal

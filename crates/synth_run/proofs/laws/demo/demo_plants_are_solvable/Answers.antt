@@ -1,5 +1,5 @@
 use Rattle.std.proofs.Common.{◌≡◌, ℕ, arith, refl}
-use Rattle.plant_text.specs.declared.plant.aims.GoalKind.TheVariants.{Reach}
+use Rattle.plant_record.specs.declared.aims.GoalKind.TheVariants.{Reach}
 use Rattle.synth_run.specs.Demo.{demo_plant_of}
 use Rattle.synth_run.proofs.laws.demo.demo_plants_are_solvable.Goals as goal
 

@@ -2,7 +2,7 @@ use Rattle.std.proofs.Common.{ℕ, ◌≡◌, ◌<◌, ◌∙◌, Some, subst, s
 use Rattle.game_core.specs.declared.game.Row.{Row}
 use Rattle.game_core.specs.Solution.{row_of}
 use Rattle.grid_quantiser.specs.Axes.{cells_of}
-use Rattle.plant_text.specs.plant.Description.{axes_of}
+use Rattle.plant_record.specs.Description.{axes_of}
 use Rattle.table_check.specs.inside.Below.{NoneLeadsBelow}
 use Rattle.table_check.proofs.Fitting.{rank_fits}
 use Rattle.table_check.proofs.Lost.{lost_by_bound}

@@ -1,0 +1,22 @@
+-- Lemmas that several proofs use.
+pub mod Booleans
+pub mod BoxEnds
+pub mod ExpressionsRead
+pub mod FirstTokens
+pub mod InputValues
+pub mod ItemSpelling
+pub mod ItemsOfTrees
+pub mod KeywordsTell
+pub mod NumberBytes
+pub mod NumberWords
+pub mod OneScan
+pub mod OneStatement
+pub mod Positions
+pub mod PutTogether
+pub mod RefusalsPassOn
+pub mod Stacks
+pub mod StatementLaws
+pub mod TermsAreTrees
+pub mod TreesAreTaken
+pub mod WhereCut
+pub mod WordsSpellOne

@@ -1,0 +1,26 @@
+-- The words of a line.
+use Rattle.std.specs.Prelude.{ℕ, Bool, true, ◌||◌, ◌==◌, List, [], ◌∷◌, slice_index, if◌then◌else◌}
+use Rattle.plant_reading.specs.Lines.{joined}
+
+-- a space, a tab or a carriage return
+abbrev pub is_blank : ℕ → Bool
+is_blank b = b == 32 || (b == 9 || b == 13)
+
+-- whether no word begins at the front
+abbrev pub ends_word : List ℕ → Bool
+ends_word [] = true
+ends_word (b ∷ bytes) = is_blank b
+
+-- the words of a line, which blanks set apart
+abbrev pub words_of : List ℕ → List (List ℕ)
+words_of [] = []
+words_of (b ∷ bytes) =
+    if is_blank b then words_of bytes else (if ends_word bytes then (b ∷ []) ∷ words_of bytes else joined b (words_of bytes))
+
+-- a line of blanks, or one whose first word begins with `#`
+abbrev pub is_passed_over : List ℕ → Bool
+is_passed_over line = passed_over (words_of line)
+  where
+    passed_over : List (List ℕ) → Bool
+    passed_over [] = true
+    passed_over (word ∷ words) = slice_index word 0 == 35

@@ -1,0 +1,206 @@
+-- The items of an expression, by which it is read: its tokens, but a `/` with its divisor and a
+-- function with its bracket are one. No public clause names this.
+use Rattle.std.specs.Prelude.{◌≡◌, ◌≢◌, Result, Ok, Err, ℕ, suc, ◌+◌, ◌-◌, ◌^◌, ◌<◌, ◌≤◌, max, ◌&&◌, ◌==◌, nat_lt, if◌then◌else◌, List, [], ◌∷◌, Option, Some, None, slice_index_or, codes}
+use Rattle.std.specs.List.{All, AllPairs}
+use Rattle.std.specs.Option.{option_map}
+use Rattle.std.specs.Str.{bytes_eq}
+use Rattle.std.specs.Str.Parse.{digits_value}
+use Rattle.std.specs.Fmt.{decimal}
+use Rattle.plant_reading.specs.declared.fault.ReadFault.{ReadFault}
+use Rattle.plant_reading.specs.declared.fault.ReadFault.TheVariants as faults
+use Rattle.plant_reading.specs.declared.items.Bracket.{Bracket}
+use Rattle.plant_reading.specs.declared.items.Bracket.TheVariants as bracket
+use Rattle.plant_reading.specs.declared.items.Item.{Item}
+use Rattle.plant_reading.specs.declared.items.Item.TheVariants as item
+use Rattle.plant_record.specs.Names.{IsName}
+use Rattle.plant_reading.specs.SyntaxTrees.{Syntax, Literal, Named, Minus, Plus, Less, Times, Over, Least, Greatest, Size, Bracketed}
+
+-- The names of variables differ from each other, and none is reserved.
+pub record AreNames (names : List (List ℕ)) : Type 0 where
+  pub each : All IsName names
+  pub differ : AllPairs (λ a b. a ≢ b) names
+
+-- what a function returned, seen by view, is what reading gives, unless memory ran out
+abbrev pub Fails : {Y : Type 0} → ReadFault → Option Y → Type 0
+Fails faults.Memory read = Unit {0}
+Fails faults.Malformed read = read ≡ None
+
+abbrev pub Gives : {X Y : Type 0} → (X → Y) → Result X ReadFault → Option Y → Type 0
+Gives view (Ok x) read = read ≡ Some (view x)
+Gives view (Err e) read = Fails e read
+
+-- the tokens that open a bracket
+abbrev pub opening_of : Bracket → List (List ℕ)
+opening_of bracket.Plain = codes "(" ∷ []
+opening_of bracket.Least = codes "min" ∷ codes "(" ∷ []
+opening_of bracket.Greatest = codes "max" ∷ codes "(" ∷ []
+opening_of bracket.Size = codes "abs" ∷ codes "(" ∷ []
+
+-- the tokens of an item
+abbrev pub spelling_of : List (List ℕ) → Item → List (List ℕ)
+spelling_of names (item.Number k) = decimal k ∷ []
+spelling_of names (item.Variable i) = slice_index_or names i [] ∷ []
+spelling_of names item.Plus = codes "+" ∷ []
+spelling_of names item.Minus = codes "-" ∷ []
+spelling_of names item.Times = codes "*" ∷ []
+spelling_of names (item.Over k) = codes "/" ∷ decimal k ∷ []
+spelling_of names (item.Open b) = opening_of b
+spelling_of names item.Comma = codes "," ∷ []
+spelling_of names item.Close = codes ")" ∷ []
+
+-- the numbers and variables that an item may name
+abbrev pub IsItem : ℕ → Item → Type 0
+IsItem m (item.Number k) = k < 10 ^ 18
+IsItem m (item.Variable i) = i < m
+IsItem m item.Plus = Unit {0}
+IsItem m item.Minus = Unit {0}
+IsItem m item.Times = Unit {0}
+IsItem m (item.Over k) = (1 ≤ k) × (k < 10 ^ 18)
+IsItem m (item.Open b) = Unit {0}
+IsItem m item.Comma = Unit {0}
+IsItem m item.Close = Unit {0}
+
+-- each of them may stand over m variables
+abbrev pub AreItems : ℕ → List Item → Type 0
+AreItems m [] = Unit {0}
+AreItems m (x ∷ xs) = IsItem m x × AreItems m xs
+
+-- ---- the items of a tree, before others and onto those before it, of which the last comes first
+
+abbrev pub items_before : Syntax → List Item → List Item
+items_before (Literal k) xs = item.Number k ∷ xs
+items_before (Named i) xs = item.Variable i ∷ xs
+items_before (Minus a) xs = item.Minus ∷ items_before a xs
+items_before (Plus a b) xs = items_before a (item.Plus ∷ items_before b xs)
+items_before (Less a b) xs = items_before a (item.Minus ∷ items_before b xs)
+items_before (Times a b) xs = items_before a (item.Times ∷ items_before b xs)
+items_before (Over a k) xs = items_before a (item.Over k ∷ xs)
+items_before (Least a b) xs = item.Open bracket.Least ∷ items_before a (item.Comma ∷ items_before b (item.Close ∷ xs))
+items_before (Greatest a b) xs = item.Open bracket.Greatest ∷ items_before a (item.Comma ∷ items_before b (item.Close ∷ xs))
+items_before (Size a) xs = item.Open bracket.Size ∷ items_before a (item.Close ∷ xs)
+items_before (Bracketed a) xs = item.Open bracket.Plain ∷ items_before a (item.Close ∷ xs)
+
+abbrev pub items_onto : Syntax → List Item → List Item
+items_onto (Literal k) xs = item.Number k ∷ xs
+items_onto (Named i) xs = item.Variable i ∷ xs
+items_onto (Minus a) xs = items_onto a (item.Minus ∷ xs)
+items_onto (Plus a b) xs = items_onto b (item.Plus ∷ items_onto a xs)
+items_onto (Less a b) xs = items_onto b (item.Minus ∷ items_onto a xs)
+items_onto (Times a b) xs = items_onto b (item.Times ∷ items_onto a xs)
+items_onto (Over a k) xs = item.Over k ∷ items_onto a xs
+items_onto (Least a b) xs = item.Close ∷ items_onto b (item.Comma ∷ items_onto a (item.Open bracket.Least ∷ xs))
+items_onto (Greatest a b) xs = item.Close ∷ items_onto b (item.Comma ∷ items_onto a (item.Open bracket.Greatest ∷ xs))
+items_onto (Size a) xs = item.Close ∷ items_onto a (item.Open bracket.Size ∷ xs)
+items_onto (Bracketed a) xs = item.Close ∷ items_onto a (item.Open bracket.Plain ∷ xs)
+
+-- items turned round, before others
+abbrev pub turned : List Item → List Item → List Item
+turned [] ys = ys
+turned (x ∷ xs) ys = turned xs (x ∷ ys)
+
+-- ---- how much they make
+
+-- how many nodes an item makes
+abbrev pub nodes_made : Item → ℕ
+nodes_made (item.Number k) = 1
+nodes_made (item.Variable i) = 1
+nodes_made item.Plus = 1
+nodes_made item.Minus = 1
+nodes_made item.Times = 1
+nodes_made (item.Over k) = 1
+nodes_made (item.Open bracket.Plain) = 0
+nodes_made (item.Open bracket.Least) = 1
+nodes_made (item.Open bracket.Greatest) = 1
+nodes_made (item.Open bracket.Size) = 1
+nodes_made item.Comma = 0
+nodes_made item.Close = 0
+
+abbrev pub nodes_in : List Item → ℕ
+nodes_in [] = 0
+nodes_in (x ∷ xs) = nodes_in xs + nodes_made x
+
+-- how many brackets are open behind an item
+abbrev pub open_behind : ℕ → Item → ℕ
+open_behind d (item.Number k) = d
+open_behind d (item.Variable i) = d
+open_behind d item.Plus = d
+open_behind d item.Minus = d
+open_behind d item.Times = d
+open_behind d (item.Over k) = d
+open_behind d (item.Open b) = d + 1
+open_behind d item.Comma = d
+open_behind d item.Close = d - 1
+
+-- how many are open at most, where d are open before
+abbrev pub most_open : ℕ → List Item → ℕ
+most_open d [] = d
+most_open d (x ∷ xs) = max d (most_open (open_behind d x) xs)
+
+-- how many are open behind items, of which the last comes first
+abbrev pub open_after : List Item → ℕ
+open_after [] = 0
+open_after (x ∷ xs) = open_behind (open_after xs) x
+
+-- ---- reading one item
+
+infixl 10 ◌>>=◌
+abbrev pub ◌>>=◌ : {A B : Type 0} → Option A → (A → Option B) → Option B
+None >>= f = None
+(Some x) >>= f = f x
+
+abbrev pub or_else : {A B : Type 0} → Option A → B → (A → B) → B
+or_else None d f = d
+or_else (Some x) d f = f x
+
+-- the number that a token spells in its one spelling
+unfoldable pub literal_of : List ℕ → Option ℕ
+literal_of token = if bytes_eq (decimal (digits_value 10 token)) token && nat_lt (digits_value 10 token) (10 ^ 18) then Some (digits_value 10 token) else None
+
+-- the bracket that a function's name opens
+abbrev pub function_of : List ℕ → Option Bracket
+function_of token =
+    if bytes_eq token (codes "min") then Some bracket.Least
+    else (if bytes_eq token (codes "max") then Some bracket.Greatest
+    else (if bytes_eq token (codes "abs") then Some bracket.Size else None))
+
+abbrev pub symbol_of : List ℕ → Option Item
+symbol_of token =
+    if bytes_eq token (codes "+") then Some item.Plus
+    else (if bytes_eq token (codes "-") then Some item.Minus
+    else (if bytes_eq token (codes "*") then Some item.Times
+    else (if bytes_eq token (codes "(") then Some (item.Open bracket.Plain)
+    else (if bytes_eq token (codes ",") then Some item.Comma
+    else (if bytes_eq token (codes ")") then Some item.Close else None)))))
+
+-- the place of a name
+abbrev pub place_in : List (List ℕ) → List ℕ → Option ℕ
+place_in [] token = None
+place_in (name ∷ names) token = if bytes_eq name token then Some 0 else option_map suc (place_in names token)
+
+-- a variable or a number
+abbrev pub leaf_of : List (List ℕ) → List ℕ → Option Item
+leaf_of names token = or_else (place_in names token) (option_map item.Number (literal_of token)) (λ i. Some (item.Variable i))
+
+unfoldable pub item_of : List (List ℕ) → List ℕ → Option Item
+item_of names token = or_else (symbol_of token) (leaf_of names token) (λ x. Some x)
+
+-- a divisor, and the tokens behind it
+unfoldable pub divided : List (List ℕ) → Option (Item × List (List ℕ))
+divided [] = None
+divided (token ∷ rest) = literal_of token >>= λ k. if k == 0 then None else Some (item.Over k, rest)
+
+-- an open bracket, and the tokens behind it
+unfoldable pub opened : Bracket → List (List ℕ) → Option (Item × List (List ℕ))
+opened b [] = None
+opened b (token ∷ rest) = if bytes_eq token (codes "(") then Some (item.Open b, rest) else None
+
+-- an item that begins with a token, and the tokens behind it
+unfoldable pub item_behind : List (List ℕ) → List ℕ → List (List ℕ) → Option (Item × List (List ℕ))
+item_behind names token rest =
+    if bytes_eq token (codes "/") then divided rest
+    else or_else (function_of token) (option_map (λ x. (x, rest)) (item_of names token)) (λ b. opened b rest)
+
+-- the first item and the tokens behind it, or None at the end; None at all where no item begins
+unfoldable pub next_item : List (List ℕ) → List (List ℕ) → Option (Option (Item × List (List ℕ)))
+next_item names [] = Some None
+next_item names (token ∷ rest) = option_map (λ x. Some x) (item_behind names token rest)

@@ -1,0 +1,129 @@
+-- How an expression is put together, an item at a time, from left to right. No public clause names this.
+use Rattle.std.specs.Prelude.{◌≡◌, ◌+◌, ◌≤◌, pos, List, [], ◌∷◌, map, reverse, Option, Some, None}
+use Rattle.std.specs.Option.{option_map}
+use Rattle.fixed_expr.specs.Expression.{Expression, Number, Variable, Negation, Sum, Difference, Product, Quotient, Minimum, Maximum, Absolute, expression_of}
+use Rattle.plant_reading.specs.declared.items.Bracket.{Bracket}
+use Rattle.plant_reading.specs.declared.items.Bracket.TheVariants as bracket
+use Rattle.plant_reading.specs.declared.items.Item.{Item}
+use Rattle.plant_reading.specs.declared.items.Item.TheVariants as item
+use Rattle.plant_reading.specs.declared.frames.Frame.{Frame}
+use Rattle.plant_reading.specs.declared.frames.Frame.TheVariants as frame
+use Rattle.plant_reading.specs.declared.frames.Stack.{Stack}
+use Rattle.plant_reading.specs.declared.expression.Counts.{Counts}
+use Rattle.plant_reading.specs.declared.expression.Reader.{Reader}
+use Rattle.plant_record.specs.Equations.{depth_of}
+use Rattle.plant_reading.specs.inside.ExpressionItems.{nodes_made, open_behind, ◌>>=◌}
+
+-- What waits for the operand behind it: a sign, an operator with its first operand, an open bracket.
+pub data Pending : Type 0 where
+  Sign : Pending
+  AddTo : (a : Expression) → Pending
+  TakeFrom : (a : Expression) → Pending
+  Multiply : (a : Expression) → Pending
+  Opened : (b : Bracket) → Pending
+  LeastOf : (a : Expression) → Pending
+  GreatestOf : (a : Expression) → Pending
+
+abbrev pub pending_of : Frame → Pending
+pending_of frame.Sign = Sign
+pending_of (frame.AddTo a) = AddTo (expression_of a)
+pending_of (frame.TakeFrom a) = TakeFrom (expression_of a)
+pending_of (frame.Multiply a) = Multiply (expression_of a)
+pending_of (frame.Opened b) = Opened b
+pending_of (frame.LeastOf a) = LeastOf (expression_of a)
+pending_of (frame.GreatestOf a) = GreatestOf (expression_of a)
+
+-- what waits, the last first
+unfoldable pub pendings_of : Stack → List Pending
+pendings_of stack = reverse (map pending_of stack.frames.items)
+
+-- the operand that is complete, if any, and what waits
+abbrev pub Machine : Type 0
+Machine = Option Expression × List Pending
+
+abbrev pub machine_of : Reader → Machine
+machine_of r = (option_map expression_of r.term, pendings_of r.stack)
+
+-- a factor ends: signs and a product take it
+abbrev pub factor_ended : Expression → List Pending → Expression × List Pending
+factor_ended c [] = (c, [])
+factor_ended c (Sign ∷ S) = factor_ended (Negation c) S
+factor_ended c (AddTo a ∷ S) = (c, AddTo a ∷ S)
+factor_ended c (TakeFrom a ∷ S) = (c, TakeFrom a ∷ S)
+factor_ended c (Multiply a ∷ S) = (Product a c, S)
+factor_ended c (Opened b ∷ S) = (c, Opened b ∷ S)
+factor_ended c (LeastOf a ∷ S) = (c, LeastOf a ∷ S)
+factor_ended c (GreatestOf a ∷ S) = (c, GreatestOf a ∷ S)
+
+-- a term ends: a sum or a difference takes it
+abbrev pub term_ended : Expression → List Pending → Expression × List Pending
+term_ended c [] = (c, [])
+term_ended c (Sign ∷ S) = (c, Sign ∷ S)
+term_ended c (AddTo a ∷ S) = (Sum a c, S)
+term_ended c (TakeFrom a ∷ S) = (Difference a c, S)
+term_ended c (Multiply a ∷ S) = (c, Multiply a ∷ S)
+term_ended c (Opened b ∷ S) = (c, Opened b ∷ S)
+term_ended c (LeastOf a ∷ S) = (c, LeastOf a ∷ S)
+term_ended c (GreatestOf a ∷ S) = (c, GreatestOf a ∷ S)
+
+-- a bracket closes behind a sum
+abbrev pub closed : Expression → List Pending → Option (Expression × List Pending)
+closed c (Opened bracket.Plain ∷ S) = Some (c, S)
+closed c (Opened bracket.Size ∷ S) = Some (Absolute c, S)
+closed c (LeastOf a ∷ S) = Some (Minimum a c, S)
+closed c (GreatestOf a ∷ S) = Some (Maximum a c, S)
+closed c _ = None
+
+-- the first of two sums in a bracket ends
+abbrev pub halved : Expression → List Pending → Option (List Pending)
+halved c (Opened bracket.Least ∷ S) = Some (LeastOf c ∷ S)
+halved c (Opened bracket.Greatest ∷ S) = Some (GreatestOf c ∷ S)
+halved c _ = None
+
+-- an operand is complete
+abbrev pub complete : Expression × List Pending → Machine
+complete x = (Some x.0, x.1)
+
+-- an item where an operand may begin
+unfoldable pub begun : Item → List Pending → Option Machine
+begun (item.Number k) S = Some (complete (factor_ended (Number (pos k)) S))
+begun (item.Variable i) S = Some (complete (factor_ended (Variable i) S))
+begun item.Minus S = Some (None, Sign ∷ S)
+begun (item.Open b) S = Some (None, Opened b ∷ S)
+begun _ S = None
+
+-- an item behind a term
+unfoldable pub continued : Item → Expression → List Pending → Option Machine
+continued item.Plus c S = Some (None, AddTo (term_ended c S).0 ∷ (term_ended c S).1)
+continued item.Minus c S = Some (None, TakeFrom (term_ended c S).0 ∷ (term_ended c S).1)
+continued item.Times c S = Some (None, Multiply c ∷ S)
+continued (item.Over k) c S = Some (Some (Quotient c (pos k)), S)
+continued item.Comma c S = option_map (λ R. (None, R)) (halved (term_ended c S).0 (term_ended c S).1)
+continued item.Close c S = option_map (λ x. complete (factor_ended x.0 x.1)) (closed (term_ended c S).0 (term_ended c S).1)
+continued _ c S = None
+
+abbrev pub stepped : Item → Option Expression → List Pending → Option Machine
+stepped x None S = begun x S
+stepped x (Some c) S = continued x c S
+
+abbrev pub steps : Machine → List Item → Option Machine
+steps m [] = Some m
+steps m (x ∷ xs) = stepped x m.0 m.1 >>= λ n. steps n xs
+
+-- the same for items of which the last comes first, from the beginning
+abbrev pub state_after : List Item → Option Machine
+state_after [] = Some (None, [])
+state_after (x ∷ xs) = state_after xs >>= λ n. stepped x n.0 n.1
+
+-- the expression where the items end: nothing waits, and it is not too deep
+abbrev pub IsEnd : Machine → Expression → Type 0
+IsEnd (None, S) e = ⊥
+IsEnd (Some c, S) e = (term_ended c S ≡ (e, [])) × (depth_of e ≤ 64)
+
+-- the counts behind an item
+abbrev pub counts_behind : Counts → Item → Counts
+counts_behind c x = record { nodes = c.nodes + nodes_made x; brackets = open_behind c.brackets x }
+
+-- at most 256 nodes and 64 open brackets
+abbrev pub AreWithinLimits : Counts → Type 0
+AreWithinLimits c = (c.nodes ≤ 256) × (c.brackets ≤ 64)

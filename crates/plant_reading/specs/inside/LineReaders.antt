@@ -1,0 +1,41 @@
+-- What the words of a line spell behind its keyword. No public clause names this.
+use Rattle.std.specs.Prelude.{◌≡◌, ℕ, ◌%◌, ◌≤◌, ℤ, pos, nat_abs, ◌+ℤ◌, ◌-ℤ◌, ◌≤ℤ◌, List, [], ◌∷◌, length, map}
+use Rattle.std.specs.List.{All}
+use Rattle.std.specs.Fmt.{signed_decimal}
+use Rattle.plant_record.specs.declared.variables.StateVariable.{StateVariable}
+use Rattle.plant_record.specs.declared.variables.InputVariable.{InputVariable}
+use Rattle.plant_record.specs.declared.variables.NoiseVariable.{NoiseVariable}
+use Rattle.plant_record.specs.declared.aims.StateBox.{StateBox}
+use Rattle.plant_record.specs.declared.aims.GoalKind.{GoalKind}
+use Rattle.plant_record.specs.Numbers.{IsLiteral}
+use Rattle.plant_record.specs.Variables.{IsStateVariable, IsInputVariable, IsNoiseVariable}
+use Rattle.plant_record.specs.Boxes.{IsStateBox, AreEnds}
+use Rattle.plant_record.specs.Spelling.{end_words, goal_word}
+
+-- what the words behind `state`, `input`, `noise`, a box's keyword and `goal` spell
+abbrev pub SpellsState : List (List ℕ) → StateVariable → Type 0
+SpellsState words s = (words ≡ s.name ∷ signed_decimal s.low ∷ signed_decimal s.high ∷ signed_decimal s.width ∷ []) × IsStateVariable s
+
+abbrev pub SpellsInput : List (List ℕ) → InputVariable → Type 0
+SpellsInput words i = (words ≡ i.name ∷ map signed_decimal i.values) × IsInputVariable i
+
+abbrev pub SpellsNoise : List (List ℕ) → NoiseVariable → Type 0
+SpellsNoise words w = (words ≡ w.name ∷ signed_decimal w.low ∷ signed_decimal w.high ∷ []) × IsNoiseVariable w
+
+abbrev pub SpellsBox : ℕ → List (List ℕ) → StateBox → Type 0
+SpellsBox n words b = (words ≡ end_words n b.low b.high) × IsStateBox n b
+
+abbrev pub SpellsGoal : List (List ℕ) → GoalKind → Type 0
+SpellsGoal words kind = words ≡ goal_word kind ∷ []
+
+-- a state's range is divided into whole cells
+abbrev pub HasWholeCells : ℤ → ℤ → ℤ → Type 0
+HasWholeCells low high width = (low ≤ℤ high) × (pos 1 ≤ℤ width) × (nat_abs ((high -ℤ low) +ℤ pos 1) % nat_abs width ≡ 0)
+
+-- two numbers in order at the front of the words
+abbrev pub StartsWithEnds : List (List ℕ) → (ℤ × ℤ) × List (List ℕ) → Type 0
+StartsWithEnds words y = AreEnds y.0.0 y.0.1 × (words ≡ signed_decimal y.0.0 ∷ signed_decimal y.0.1 ∷ y.1)
+
+-- 1 to 64 numbers
+abbrev pub SpellsValues : List (List ℕ) → List ℤ → Type 0
+SpellsValues words zs = (words ≡ map signed_decimal zs) × (1 ≤ length zs) × (length zs ≤ 64) × All IsLiteral zs

@@ -1,0 +1,139 @@
+// What the words behind a line's first word say of a variable, a box or the goal.
+
+ghost use Rattle.std.specs.Prelude.{◌≡◌, ◌↔◌, ◌<◌, ◌%◌, IsTrue, ℤ, pos, nat_abs, ◌+ℤ◌, ◌-ℤ◌, ◌≤ℤ◌};
+ghost use Rattle.plant_record.specs.Spelling.{goal_word};
+ghost use Rattle.plant_record.specs.Numbers.{IsLiteral};
+ghost use Rattle.plant_reading.specs.Words.{words_of};
+ghost use Rattle.plant_reading.specs.inside.WordReaders.{Finds};
+ghost use Rattle.plant_reading.specs.inside.LineReaders.{HasWholeCells, StartsWithEnds, SpellsState, SpellsInput, SpellsNoise, SpellsValues, SpellsGoal};
+
+use crate::fault::ReadFault;
+use crate::words::blanks::next_word;
+use crate::words::expected::{expect_end, name_in, number_in};
+use crate::words::numbers::number_of;
+use plant_record::{GoalKind, InputVariable, Name, NoiseVariable, StateVariable, Values};
+use std::alloc::Global;
+
+/// `NAME LOW HIGH WIDTH`.
+pub fn state_in(alloc: Global, bytes: &[u8]) -> Result<StateVariable, ReadFault>
+    ensures { Finds (λ s. s) (SpellsState (words_of bytes.now)) result }
+{
+    let (name, rest) = name_in(bytes)?;
+    let (low, rest) = number_in(rest)?;
+    let (high, rest) = number_in(rest)?;
+    let (width, rest) = number_in(rest)?;
+    expect_end(rest)?;
+    if !has_whole_cells(low, high, width) {
+        return Err(ReadFault::Malformed);
+    }
+    let name = Name::new(alloc, name)?;
+    Ok(StateVariable {
+        name,
+        low,
+        high,
+        width,
+    })
+}
+
+fn has_whole_cells(low: i128, high: i128, width: i128) -> bool
+    requires low { IsLiteral low }
+    requires high { IsLiteral high }
+    ensures { IsTrue result ↔ HasWholeCells low high width }
+{
+    low <= high && 1 <= width && divides(width.unsigned_abs(), numbers_along(low, high))
+}
+
+/// How many numbers lie from one to the other, both included.
+fn numbers_along(low: i128, high: i128) -> u128
+    requires low { IsLiteral low }
+    requires high { IsLiteral high }
+    ensures { result ≡ nat_abs ((high -ℤ low) +ℤ pos 1) }
+{
+    (high - low + 1).unsigned_abs()
+}
+
+fn divides(k: u128, n: u128) -> bool
+    requires { 0 < k }
+    ensures { IsTrue result ↔ (n % k ≡ 0) }
+{
+    n % k == 0
+}
+
+/// `NAME VALUE ..`.
+pub fn input_in(alloc: Global, bytes: &[u8]) -> Result<InputVariable, ReadFault>
+    ensures { Finds (λ i. i) (SpellsInput (words_of bytes.now)) result }
+{
+    let (name, rest) = name_in(bytes)?;
+    let values = values_in(alloc, rest)?;
+    let name = Name::new(alloc, name)?;
+    Ok(InputVariable { name, values })
+}
+
+/// 1 to 64 numbers.
+fn values_in(alloc: Global, bytes: &[u8]) -> Result<Values, ReadFault>
+    ensures { Finds (λ v. v) (SpellsValues (words_of bytes.now)) result }
+{
+    let mut numbers = Vec::new(alloc);
+    let mut rest = bytes;
+    while let Some((word, after)) = next_word(rest) {
+        if numbers.len() == 64 {
+            return Err(ReadFault::Malformed);
+        }
+        numbers.push(number_of(word)?)?;
+        rest = after;
+    }
+    if numbers.is_empty() {
+        return Err(ReadFault::Malformed);
+    }
+    Ok(Values::new(numbers))
+}
+
+/// `NAME LOW HIGH`.
+pub fn noise_in(alloc: Global, bytes: &[u8]) -> Result<NoiseVariable, ReadFault>
+    ensures { Finds (λ w. w) (SpellsNoise (words_of bytes.now)) result }
+{
+    let (name, rest) = name_in(bytes)?;
+    let (low, high, rest) = ends_in(rest)?;
+    expect_end(rest)?;
+    let name = Name::new(alloc, name)?;
+    Ok(NoiseVariable { name, low, high })
+}
+
+/// Two numbers in order, and what stands behind them.
+pub fn ends_in(bytes: &[u8]) -> Result<(i128, i128, &[u8]), ReadFault>
+    ensures { Finds (λ r. ((r.0, r.1), words_of r.2.now)) (StartsWithEnds (words_of bytes.now)) result }
+{
+    let (low, rest) = number_in(bytes)?;
+    let (high, rest) = number_in(rest)?;
+    if !is_ordered(low, high) {
+        return Err(ReadFault::Malformed);
+    }
+    Ok((low, high, rest))
+}
+
+fn is_ordered(least: i128, greatest: i128) -> bool
+    ensures { IsTrue result ↔ (least ≤ℤ greatest) }
+{
+    least <= greatest
+}
+
+/// `reach` or `keep`.
+pub fn goal_in(bytes: &[u8]) -> Result<GoalKind, ReadFault>
+    ensures { Finds (λ kind. kind) (SpellsGoal (words_of bytes.now)) result }
+{
+    let Some((word, rest)) = next_word(bytes) else {
+        return Err(ReadFault::Malformed);
+    };
+    expect_end(rest)?;
+    goal_of(word)
+}
+
+fn goal_of(word: &[u8]) -> Result<GoalKind, ReadFault>
+    ensures { Finds (λ kind. kind) (λ kind. word.now ≡ goal_word kind) result }
+{
+    match word {
+        b"reach" => Ok(GoalKind::Reach),
+        b"keep" => Ok(GoalKind::Keep),
+        _ => Err(ReadFault::Malformed),
+    }
+}

@@ -1,0 +1,250 @@
+// Expressions, read from left to right.
+
+ghost use Rattle.std.specs.Prelude.{◌≡◌, ◌≢◌, ◌⊎◌, ◌↔◌, ◌≤◌, [], length, flat_map, IsTrue, IfOk, OnOk, SomeIff, Some, None};
+ghost use Rattle.std.specs.List.{All, AllPairs};
+ghost use Rattle.std.specs.Option.{option_map};
+ghost use Rattle.fixed_expr.specs.Expression.{Expression, expression_of};
+ghost use Rattle.plant_record.specs.Names.{IsName};
+ghost use Rattle.plant_reading.specs.Words.{words_of};
+ghost use Rattle.plant_reading.specs.Tokens.{tokens_of};
+ghost use Rattle.plant_record.specs.Equations.{depth_of};
+ghost use Rattle.plant_reading.specs.SyntaxTrees.{AreTokensOf};
+ghost use Rattle.plant_reading.specs.inside.ExpressionItems.{Gives, nodes_made, open_behind};
+ghost use Rattle.plant_record.specs.Parts.{variable_names};
+ghost use Rattle.plant_reading.specs.inside.ExpressionMachine.{pendings_of, machine_of, closed, halved, begun, continued, stepped, IsEnd, counts_behind, AreWithinLimits};
+
+use crate::fault::ReadFault;
+use crate::frames::{Frame, Stack};
+use crate::items::{Bracket, Item, next_item};
+use fixed_expr::Expr;
+use plant_record::Variables;
+use std::alloc::Global;
+
+/// The most nodes of an expression.
+const NODE_LIMIT: u32 = 256;
+
+/// The most brackets that are open at once.
+const BRACKET_LIMIT: u32 = 64;
+
+/// The most nodes one below another.
+const DEPTH_LIMIT: u32 = 64;
+
+/// How many nodes there are, and how many open brackets.
+#[derive(Clone, Copy)]
+struct Counts {
+    nodes: u32,
+    brackets: u32,
+}
+
+fn nodes_made(item: Item) -> u32
+    ensures { result ≡ nodes_made item }
+{
+    match item {
+        Item::Open(Bracket::Plain) | Item::Comma | Item::Close => 0,
+        _ => 1,
+    }
+}
+
+fn open_behind(open_before: u32, item: Item) -> u32
+    requires { open_before ≤ 64 }
+    ensures { result ≡ open_behind open_before item }
+{
+    match item {
+        Item::Open(_) => open_before + 1,
+        Item::Close => open_before.saturating_sub(1),
+        _ => open_before,
+    }
+}
+
+/// None where the item exceeds a limit.
+fn counts_behind(counts: Counts, item: Item) -> Option<Counts>
+    requires { AreWithinLimits counts }
+    ensures { SomeIff result (AreWithinLimits (counts_behind counts item)) (counts_behind counts item) }
+{
+    let nodes = counts.nodes + nodes_made(item);
+    let brackets = open_behind(counts.brackets, item);
+    if nodes > NODE_LIMIT || brackets > BRACKET_LIMIT {
+        return None;
+    }
+    Some(Counts { nodes, brackets })
+}
+
+/// Where a bracket closes: what it makes of the sum in it.
+fn closed(alloc: Global, stack: &mut Stack, sum: Expr) -> Result<Expr, ReadFault>
+    ensures { Gives (λ e. (expression_of e, pendings_of stack.new)) result (closed (expression_of sum) (pendings_of stack.old)) }
+{
+    match stack.pop() {
+        Some(Frame::Opened(Bracket::Plain)) => Ok(sum),
+        Some(Frame::Opened(Bracket::Size)) => Ok(Expr::Abs(Box::new(alloc, sum)?)),
+        Some(Frame::LeastOf(a)) => Ok(Expr::Min(Box::new(alloc, a)?, Box::new(alloc, sum)?)),
+        Some(Frame::GreatestOf(a)) => Ok(Expr::Max(Box::new(alloc, a)?, Box::new(alloc, sum)?)),
+        _ => Err(ReadFault::Malformed),
+    }
+}
+
+/// Behind the first of two sums in a bracket.
+fn halved(stack: &mut Stack, sum: Expr) -> Result<(), ReadFault>
+    ensures { Gives (λ _. pendings_of stack.new) result (halved (expression_of sum) (pendings_of stack.old)) }
+{
+    let Some(Frame::Opened(bracket)) = stack.pop() else {
+        return Err(ReadFault::Malformed);
+    };
+    match bracket {
+        Bracket::Least => Ok(stack.push(Frame::LeastOf(sum))?),
+        Bracket::Greatest => Ok(stack.push(Frame::GreatestOf(sum))?),
+        Bracket::Plain | Bracket::Size => Err(ReadFault::Malformed),
+    }
+}
+
+/// Takes an item where an operand may begin. Returns the term that it ends, if any.
+#[tactic(auto, unfolding(crate::specs::inside::ExpressionMachine::begun))]
+fn begun(alloc: Global, stack: &mut Stack, item: Item) -> Result<Option<Expr>, ReadFault>
+    ensures { Gives (λ t. (option_map expression_of t, pendings_of stack.new)) result (begun item (pendings_of stack.old)) }
+{
+    match item {
+        Item::Number(k) => Ok(Some(stack.end_factor(alloc, Expr::Num(i128::from(k)))?)),
+        Item::Variable(i) => Ok(Some(stack.end_factor(alloc, Expr::Var(i))?)),
+        Item::Minus => {
+            stack.push(Frame::Sign)?;
+            Ok(None)
+        }
+        Item::Open(bracket) => {
+            stack.push(Frame::Opened(bracket))?;
+            Ok(None)
+        }
+        _ => Err(ReadFault::Malformed),
+    }
+}
+
+/// Takes an item behind a term.
+#[tactic(auto, unfolding(crate::specs::inside::ExpressionMachine::continued))]
+fn continued(
+    alloc: Global,
+    stack: &mut Stack,
+    term: Expr,
+    item: Item,
+) -> Result<Option<Expr>, ReadFault>
+    ensures { Gives (λ t. (option_map expression_of t, pendings_of stack.new)) result (continued item (expression_of term) (pendings_of stack.old)) }
+{
+    match item {
+        Item::Plus => {
+            let sum = stack.end_term(alloc, term)?;
+            stack.push(Frame::AddTo(sum))?;
+            Ok(None)
+        }
+        Item::Minus => {
+            let sum = stack.end_term(alloc, term)?;
+            stack.push(Frame::TakeFrom(sum))?;
+            Ok(None)
+        }
+        Item::Times => {
+            stack.push(Frame::Multiply(term))?;
+            Ok(None)
+        }
+        Item::Over(k) => Ok(Some(Expr::Div(Box::new(alloc, term)?, i128::from(k)))),
+        Item::Comma => {
+            let sum = stack.end_term(alloc, term)?;
+            halved(stack, sum)?;
+            Ok(None)
+        }
+        Item::Close => {
+            let sum = stack.end_term(alloc, term)?;
+            let factor = closed(alloc, stack, sum)?;
+            Ok(Some(stack.end_factor(alloc, factor)?))
+        }
+        _ => Err(ReadFault::Malformed),
+    }
+}
+
+/// An expression of which some items are read.
+#[derive(Drop)]
+struct Reader {
+    stack: Stack,
+    term: Option<Expr>,
+    counts: Counts,
+}
+
+impl Reader {
+    fn new(alloc: Global) -> Reader
+        ensures machine { machine_of result ≡ (None, []) }
+        ensures counts { result.counts ≡ record { nodes = 0; brackets = 0 } }
+    {
+        Reader {
+            stack: Stack::new(alloc),
+            term: None,
+            counts: Counts {
+                nodes: 0,
+                brackets: 0,
+            },
+        }
+    }
+
+    fn take(&mut self, alloc: Global, item: Item) -> Result<(), ReadFault>
+        requires { AreWithinLimits self.old.counts }
+        ensures machine { OnOk result (stepped item (machine_of self.old).0 (machine_of self.old).1 ≡ Some (machine_of self.new)) }
+        ensures counts { OnOk result (self.new.counts ≡ counts_behind self.old.counts item) }
+        ensures within { OnOk result (AreWithinLimits self.new.counts) }
+        ensures refused { result ≡ Err ReadFault.Malformed → (stepped item (machine_of self.old).0 (machine_of self.old).1 ≡ None) ⊎ (AreWithinLimits (counts_behind self.old.counts item) → ⊥) }
+    {
+        let Some(counts) = counts_behind(self.counts, item) else {
+            return Err(ReadFault::Malformed);
+        };
+        self.counts = counts;
+        self.term = match self.term.take() {
+            Some(term) => continued(alloc, &mut self.stack, term, item)?,
+            None => begun(alloc, &mut self.stack, item)?,
+        };
+        Ok(())
+    }
+
+    fn end(self, alloc: Global) -> Result<Expr, ReadFault>
+        ensures whole { IfOk result (λ e. IsEnd (machine_of self) (expression_of e)) }
+        ensures refused { result ≡ Err ReadFault.Malformed → (e : Expression) → IsEnd (machine_of self) e → ⊥ }
+    {
+        let Reader {
+            mut stack,
+            term,
+            ..
+        } = self;
+        let Some(term) = term else {
+            return Err(ReadFault::Malformed);
+        };
+        let e = stack.end_term(alloc, term)?;
+        if !stack.is_empty() || !is_within(&e, DEPTH_LIMIT) {
+            return Err(ReadFault::Malformed);
+        }
+        Ok(e)
+    }
+}
+
+/// Whether an expression has at most this depth.
+fn is_within(e: &Expr, limit: u32) -> bool
+    ensures { IsTrue result ↔ (depth_of (expression_of e.now) ≤ limit) }
+{
+    if limit == 0 {
+        return false;
+    }
+    match e {
+        Expr::Num(_) | Expr::Var(_) => true,
+        Expr::Neg(a) | Expr::Div(a, _) | Expr::Abs(a) => is_within(a, limit - 1),
+        Expr::Add(a, b) | Expr::Sub(a, b) | Expr::Mul(a, b) | Expr::Min(a, b) | Expr::Max(a, b) =>
+            is_within(a, limit - 1) && is_within(b, limit - 1),
+    }
+}
+
+/// Reads an expression over the variables.
+pub fn expression_in(alloc: Global, variables: &Variables, rest: &[u8]) -> Result<Expr, ReadFault>
+    requires few { length (variable_names variables.now) ≤ 15 }
+    requires differ { AllPairs (λ a b. a ≢ b) (variable_names variables.now) }
+    requires names { All IsName (variable_names variables.now) }
+    ensures found { IfOk result (λ e. AreTokensOf (variable_names variables.now) (flat_map tokens_of (words_of rest.now)) (expression_of e)) }
+    ensures refused { result ≡ Err ReadFault.Malformed → (e : Expression) → AreTokensOf (variable_names variables.now) (flat_map tokens_of (words_of rest.now)) e → ⊥ }
+{
+    let mut reader = Reader::new(alloc);
+    let mut rest = rest;
+    while let Some((item, after)) = next_item(variables, rest)? {
+        reader.take(alloc, item)?;
+        rest = after;
+    }
+    reader.end(alloc)
+}

@@ -1,0 +1,164 @@
+// The items of an expression: its tokens, but a `/` with its divisor and a function with its
+// bracket are one.
+
+ghost use Rattle.std.specs.Prelude.{◌≡◌, ◌↔◌, ◌<◌, ◌≤◌, ◌≤ℤ◌, pos, length, IsTrue, IfSome, IfOk};
+ghost use Rattle.std.specs.Fmt.{signed_decimal};
+ghost use Rattle.std.specs.Option.{option_map};
+ghost use Rattle.plant_record.specs.Numbers.{IsLiteral};
+ghost use Rattle.plant_reading.specs.inside.LineTokens.{tokens_in};
+ghost use Rattle.plant_reading.specs.inside.ExpressionItems.{AreNames, Gives, literal_of, function_of, symbol_of, leaf_of, item_of, divided, opened, item_behind, next_item};
+ghost use Rattle.plant_record.specs.Parts.{variable_names};
+
+use crate::fault::ReadFault;
+use crate::words::numbers::{is_literal, is_spelling, parsed};
+use crate::words::tokens::next_token;
+use plant_record::Variables;
+
+/// What stands before an open bracket.
+#[derive(Clone, Copy, Debug, PartialEq, Eq)]
+pub enum Bracket {
+    Plain,
+    Least,
+    Greatest,
+    Size,
+}
+
+#[derive(Clone, Copy, Debug, PartialEq, Eq)]
+pub enum Item {
+    Number(u64),
+    Variable(u32),
+    Plus,
+    Minus,
+    Times,
+    Over(u64),
+    Open(Bracket),
+    Comma,
+    Close,
+}
+
+fn literal_of(token: &[u8]) -> Option<u64>
+    ensures { result ≡ literal_of token.now }
+{
+    let z = parsed(token)?;
+    if !is_written(z, token) {
+        return None;
+    }
+    Some(z.unsigned_abs())
+}
+
+fn is_written(z: i64, token: &[u8]) -> bool
+    ensures { IsTrue result ↔ ((pos 0 ≤ℤ z) × IsLiteral z × (token.now ≡ signed_decimal z)) }
+{
+    0 <= z && is_literal(z) && is_spelling(z, token)
+}
+
+fn function_of(token: &[u8]) -> Option<Bracket>
+    ensures { result ≡ function_of token.now }
+{
+    match token {
+        b"min" => Some(Bracket::Least),
+        b"max" => Some(Bracket::Greatest),
+        b"abs" => Some(Bracket::Size),
+        _ => None,
+    }
+}
+
+fn symbol_of(token: &[u8]) -> Option<Item>
+    ensures { result ≡ symbol_of token.now }
+{
+    match token {
+        b"+" => Some(Item::Plus),
+        b"-" => Some(Item::Minus),
+        b"*" => Some(Item::Times),
+        b"(" => Some(Item::Open(Bracket::Plain)),
+        b"," => Some(Item::Comma),
+        b")" => Some(Item::Close),
+        _ => None,
+    }
+}
+
+fn leaf_of(variables: &Variables, token: &[u8]) -> Option<Item>
+    requires few { length (variable_names variables.now) ≤ 15 }
+    requires names { AreNames (variable_names variables.now) }
+    ensures { result ≡ leaf_of (variable_names variables.now) token.now }
+{
+    match variables.place_of(token) {
+        Some(i) => Some(Item::Variable(i)),
+        None => Some(Item::Number(literal_of(token)?)),
+    }
+}
+
+#[tactic(auto, unfolding(crate::specs::inside::ExpressionItems::item_of))]
+fn item_of(variables: &Variables, token: &[u8]) -> Option<Item>
+    requires few { length (variable_names variables.now) ≤ 15 }
+    requires names { AreNames (variable_names variables.now) }
+    ensures { result ≡ item_of (variable_names variables.now) token.now }
+{
+    match symbol_of(token) {
+        Some(item) => Some(item),
+        None => leaf_of(variables, token),
+    }
+}
+
+/// A divisor, and the bytes after it.
+#[tactic(auto, unfolding(crate::specs::inside::ExpressionItems::divided))]
+fn divided(bytes: &[u8]) -> Option<(Item, &[u8])>
+    ensures item { option_map (λ x. (x.0, tokens_in x.1.now)) result ≡ divided (tokens_in bytes.now) }
+    ensures shorter { IfSome result (λ x. length x.1.now < length bytes.now) }
+{
+    let (token, rest) = next_token(bytes)?;
+    let k = literal_of(token)?;
+    if k == 0 {
+        return None;
+    }
+    Some((Item::Over(k), rest))
+}
+
+/// The bracket behind a function's name, and the bytes after it.
+#[tactic(auto, unfolding(crate::specs::inside::ExpressionItems::opened))]
+fn opened(bracket: Bracket, bytes: &[u8]) -> Option<(Item, &[u8])>
+    ensures item { option_map (λ x. (x.0, tokens_in x.1.now)) result ≡ opened bracket (tokens_in bytes.now) }
+    ensures shorter { IfSome result (λ x. length x.1.now < length bytes.now) }
+{
+    let (token, rest) = next_token(bytes)?;
+    match token {
+        b"(" => Some((Item::Open(bracket), rest)),
+        _ => None,
+    }
+}
+
+#[tactic(auto, unfolding(crate::specs::inside::ExpressionItems::item_behind))]
+fn item_behind<'a>(variables: &Variables, token: &[u8], rest: &'a [u8]) -> Option<(Item, &'a [u8])>
+    requires few { length (variable_names variables.now) ≤ 15 }
+    requires names { AreNames (variable_names variables.now) }
+    ensures item { option_map (λ x. (x.0, tokens_in x.1.now)) result ≡ item_behind (variable_names variables.now) token.now (tokens_in rest.now) }
+    ensures no_longer { IfSome result (λ x. length x.1.now ≤ length rest.now) }
+{
+    if matches!(token, b"/") {
+        return divided(rest);
+    }
+    match function_of(token) {
+        Some(bracket) => opened(bracket, rest),
+        None => Some((item_of(variables, token)?, rest)),
+    }
+}
+
+/// The first item and the bytes after it, or None at the end.
+#[tactic(auto, unfolding(crate::specs::inside::ExpressionItems::next_item))]
+pub fn next_item<'a>(
+    variables: &Variables,
+    bytes: &'a [u8],
+) -> Result<Option<(Item, &'a [u8])>, ReadFault>
+    requires few { length (variable_names variables.now) ≤ 15 }
+    requires names { AreNames (variable_names variables.now) }
+    ensures item { Gives (λ r. option_map (λ x. (x.0, tokens_in x.1.now)) r) result (next_item (variable_names variables.now) (tokens_in bytes.now)) }
+    ensures shorter { IfOk result (λ r. IfSome r (λ x. length x.1.now < length bytes.now)) }
+{
+    let Some((token, rest)) = next_token(bytes) else {
+        return Ok(None);
+    };
+    match item_behind(variables, token, rest) {
+        Some(found) => Ok(Some(found)),
+        None => Err(ReadFault::Malformed),
+    }
+}

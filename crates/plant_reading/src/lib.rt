@@ -1,0 +1,19 @@
+//! Lines of plant texts, read one by one.
+//!
+//! The layer above hands in a line, with the variables that are known before it, and gets the one
+//! thing that the line states, or learns that it states nothing. Stands on `plant_record`.
+#![tactic(auto)]
+
+mod boxes;
+mod declarations;
+mod expression;
+mod fault;
+mod frames;
+mod items;
+mod statements;
+mod words;
+
+pub use fault::ReadFault;
+pub use statements::{Statement, statement_in};
+pub use words::blanks::is_passed_over;
+pub use words::lines::{next_full_line, next_line};

@@ -1,0 +1,138 @@
+// What one line of a plant text states.
+
+ghost use Rattle.std.specs.Prelude.{◌≡◌, ◌≢◌, ◌≤◌, ◌∷◌, length, codes, IfOk, Err, AllPairs};
+ghost use Rattle.std.specs.List.{All};
+ghost use Rattle.plant_record.specs.Names.{IsName};
+ghost use Rattle.plant_reading.specs.inside.WordReaders.{Finds};
+ghost use Rattle.plant_record.specs.Parts.{variable_names};
+ghost use Rattle.plant_reading.specs.StatementsRead.{statement_of};
+ghost use Rattle.plant_reading.specs.inside.Keywords.{keyword_text};
+ghost use Rattle.plant_reading.specs.Statements.{Statement as Stated, States};
+ghost use Rattle.plant_reading.specs.Words.{words_of};
+
+use crate::boxes::box_in;
+use crate::declarations::{goal_in, input_in, noise_in, state_in};
+use crate::expression::expression_in;
+use crate::fault::ReadFault;
+use crate::words::blanks::next_word;
+use crate::words::expected::{expect_end, expect_word};
+use fixed_expr::Expr;
+use plant_record::{GoalKind, InputVariable, NoiseVariable, StateBox, StateVariable, Variables};
+use std::alloc::Global;
+
+/// What a line states.
+#[derive(Drop)]
+pub enum Statement<'a> {
+    Version,
+    State(StateVariable),
+    Input(InputVariable),
+    Noise(NoiseVariable),
+    /// The equation of a state, which is named as the line names it.
+    Next { state: &'a [u8], equation: Expr },
+    Target(StateBox),
+    Obstacle(StateBox),
+    Goal(GoalKind),
+    End,
+}
+
+/// The word that a statement begins with.
+#[derive(Clone, Copy)]
+pub enum Keyword {
+    Plant,
+    State,
+    Input,
+    Noise,
+    Next,
+    Target,
+    Obstacle,
+    Goal,
+    End,
+}
+
+fn keyword_of(word: &[u8]) -> Result<Keyword, ReadFault>
+    ensures { Finds (λ k. k) (λ k. word.now ≡ keyword_text k) result }
+{
+    match word {
+        b"plant" => Ok(Keyword::Plant),
+        b"state" => Ok(Keyword::State),
+        b"input" => Ok(Keyword::Input),
+        b"noise" => Ok(Keyword::Noise),
+        b"next" => Ok(Keyword::Next),
+        b"target" => Ok(Keyword::Target),
+        b"obstacle" => Ok(Keyword::Obstacle),
+        b"goal" => Ok(Keyword::Goal),
+        b"end" => Ok(Keyword::End),
+        _ => Err(ReadFault::Malformed),
+    }
+}
+
+/// The statement of a line.
+pub fn statement_in<'a>(
+    alloc: Global,
+    variables: &Variables,
+    line: &'a [u8],
+) -> Result<Statement<'a>, ReadFault>
+    requires few { length (variable_names variables.now) ≤ 15 }
+    requires differ { AllPairs (λ a b. a ≢ b) (variable_names variables.now) }
+    requires named { All IsName (variable_names variables.now) }
+    requires states { length variables.now.states.items ≤ 6 }
+    ensures found { IfOk result (λ s. States (variable_names variables.now) (length variables.now.states.items) (words_of line.now) (statement_of s)) }
+    ensures refused { result ≡ Err ReadFault.Malformed → (s : Stated) → States (variable_names variables.now) (length variables.now.states.items) (words_of line.now) s → ⊥ }
+{
+    let Some((word, rest)) = next_word(line) else {
+        return Err(ReadFault::Malformed);
+    };
+    let keyword = keyword_of(word)?;
+    statement_behind(alloc, variables, keyword, rest)
+}
+
+/// The statement of a line that begins with a keyword, from the bytes behind that.
+fn statement_behind<'a>(
+    alloc: Global,
+    variables: &Variables,
+    keyword: Keyword,
+    bytes: &'a [u8],
+) -> Result<Statement<'a>, ReadFault>
+    requires few { length (variable_names variables.now) ≤ 15 }
+    requires differ { AllPairs (λ a b. a ≢ b) (variable_names variables.now) }
+    requires named { All IsName (variable_names variables.now) }
+    requires states { length variables.now.states.items ≤ 6 }
+    ensures { Finds statement_of (States (variable_names variables.now) (length variables.now.states.items) (keyword_text keyword ∷ words_of bytes.now)) result }
+{
+    match keyword {
+        Keyword::Plant => {
+            expect_end(expect_word(bytes, b"1")?)?;
+            Ok(Statement::Version)
+        }
+        Keyword::State => Ok(Statement::State(state_in(alloc, bytes)?)),
+        Keyword::Input => Ok(Statement::Input(input_in(alloc, bytes)?)),
+        Keyword::Noise => Ok(Statement::Noise(noise_in(alloc, bytes)?)),
+        Keyword::Next => equation_behind(alloc, variables, bytes),
+        Keyword::Target => Ok(Statement::Target(box_in(bytes, variables.states.len())?)),
+        Keyword::Obstacle => Ok(Statement::Obstacle(box_in(bytes, variables.states.len())?)),
+        Keyword::Goal => Ok(Statement::Goal(goal_in(bytes)?)),
+        Keyword::End => {
+            expect_end(bytes)?;
+            Ok(Statement::End)
+        }
+    }
+}
+
+/// `NAME = EXPRESSION`.
+fn equation_behind<'a>(
+    alloc: Global,
+    variables: &Variables,
+    bytes: &'a [u8],
+) -> Result<Statement<'a>, ReadFault>
+    requires few { length (variable_names variables.now) ≤ 15 }
+    requires differ { AllPairs (λ a b. a ≢ b) (variable_names variables.now) }
+    requires named { All IsName (variable_names variables.now) }
+    ensures { Finds statement_of (States (variable_names variables.now) (length variables.now.states.items) (codes "next" ∷ words_of bytes.now)) result }
+{
+    let Some((state, rest)) = next_word(bytes) else {
+        return Err(ReadFault::Malformed);
+    };
+    let rest = expect_word(rest, b"=")?;
+    let equation = expression_in(alloc, variables, rest)?;
+    Ok(Statement::Next { state, equation })
+}

@@ -1,0 +1,51 @@
+// Words that have to stand next: a name, a number, a fixed word, or none.
+
+ghost use Rattle.std.specs.Prelude.{◌≡◌, ◌<◌, Some, [], ◌∷◌};
+ghost use Rattle.plant_record.specs.Names.{is_name};
+ghost use Rattle.plant_reading.specs.Words.{words_of};
+ghost use Rattle.plant_reading.specs.inside.WordReaders.{Finds, StartsWithName, StartsWithNumber};
+
+use crate::fault::ReadFault;
+use crate::words::blanks::next_word;
+use crate::words::names::is_name;
+use crate::words::numbers::number_of;
+
+/// The next word, which has to be a name.
+pub fn name_in(bytes: &[u8]) -> Result<(&[u8], &[u8]), ReadFault>
+    ensures { Finds (λ r. (r.0.now, words_of r.1.now)) (StartsWithName (words_of bytes.now)) result }
+{
+    match next_word(bytes) {
+        Some((word, rest)) if is_name(word) => Ok((word, rest)),
+        _ => Err(ReadFault::Malformed),
+    }
+}
+
+/// The next word, which has to be a number.
+pub fn number_in(bytes: &[u8]) -> Result<(i128, &[u8]), ReadFault>
+    ensures { Finds (λ r. (r.0, words_of r.1.now)) (StartsWithNumber (words_of bytes.now)) result }
+{
+    match next_word(bytes) {
+        Some((word, rest)) => Ok((number_of(word)?, rest)),
+        None => Err(ReadFault::Malformed),
+    }
+}
+
+/// What stands behind the next word, which has to be this one.
+pub fn expect_word<'a>(bytes: &'a [u8], text: &[u8]) -> Result<&'a [u8], ReadFault>
+    ensures { Finds (λ rest. words_of rest.now) (λ words. words_of bytes.now ≡ text.now ∷ words) result }
+{
+    match next_word(bytes) {
+        Some((word, rest)) if word == text => Ok(rest),
+        _ => Err(ReadFault::Malformed),
+    }
+}
+
+/// No more words may follow.
+pub fn expect_end(bytes: &[u8]) -> Result<(), ReadFault>
+    ensures { Finds (λ _. tt) (λ (_ : Unit {0}). words_of bytes.now ≡ []) result }
+{
+    match next_word(bytes) {
+        Some(_) => Err(ReadFault::Malformed),
+        None => Ok(()),
+    }
+}

@@ -1,0 +1,48 @@
+// The tokens of a line: blanks set them apart, and each is as long as it can be.
+
+ghost use Rattle.std.specs.Prelude.{◌≡◌, ◌<◌, ◌≤◌, length, [], ◌∷◌, IfSome, MatchOption};
+ghost use Rattle.std.specs.List.{prefix_len};
+ghost use Rattle.plant_record.specs.Names.{is_digit};
+ghost use Rattle.plant_reading.specs.Words.{is_blank};
+ghost use Rattle.plant_reading.specs.Tokens.{goes_on};
+ghost use Rattle.plant_reading.specs.inside.LineTokens.{tokens_in};
+
+use crate::words::blanks::is_blank;
+use crate::words::names::{is_letter, is_name_byte};
+
+fn is_digit(b: u8) -> bool
+    ensures { result ≡ is_digit b }
+{
+    b.is_ascii_digit()
+}
+
+fn goes_on(first: u8, b: u8) -> bool
+    ensures { result ≡ goes_on (first ∷ []) b }
+{
+    (is_letter(first) && is_name_byte(b)) || (is_digit(first) && is_digit(b))
+}
+
+fn blanks_before(bytes: &[u8]) -> usize
+    ensures blanks { result ≡ prefix_len is_blank bytes.now }
+    ensures within { result ≤ length bytes.now }
+{
+    bytes.iter().take_while(|b| is_blank(**b)).count()
+}
+
+fn more_of_token(first: u8, after: &[u8]) -> usize
+    ensures more { result ≡ prefix_len (goes_on (first ∷ [])) after.now }
+    ensures within { result ≤ length after.now }
+{
+    after.iter().take_while(|b| goes_on(first, **b)).count()
+}
+
+/// The first token and the bytes after it.
+pub fn next_token(bytes: &[u8]) -> Option<(&[u8], &[u8])>
+    ensures tokens { MatchOption result (tokens_in bytes.now ≡ []) (λ x. tokens_in bytes.now ≡ x.0.now ∷ tokens_in x.1.now) }
+    ensures shorter { IfSome result (λ x. length x.1.now < length bytes.now) }
+{
+    let (_, rest) = bytes.split_at(blanks_before(bytes));
+    let (first, after) = rest.split_first()?;
+    let end = 1 + more_of_token(*first, after);
+    Some(rest.split_at(end))
+}

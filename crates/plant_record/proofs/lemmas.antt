@@ -1,0 +1,11 @@
+-- Lemmas that several proofs use.
+pub mod Axes
+pub mod InputPlaces
+pub mod InputVectors
+pub mod Limits
+pub mod NamePlaces
+pub mod NextPoints
+pub mod Numbers
+pub mod OrderedBoxes
+pub mod SoundPlants
+pub mod VariableValues

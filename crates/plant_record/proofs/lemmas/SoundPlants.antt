@@ -1,0 +1,35 @@
+-- A plant is sound.
+use Rattle.std.proofs.Common.{ℕ, List}
+use Rattle.std.specs.List.{All}
+use Rattle.std.proofs.lemmas.List.Elements.{All-weaker}
+use Rattle.fixed_expr.specs.Expression.{Expression, Number, Variable, Negation, Sum, Difference, Product, Quotient, Minimum, Maximum, Absolute}
+use Rattle.fixed_expr.specs.Value.{IsWellFormed}
+use Rattle.plant_record.specs.Description.{Description}
+use Rattle.plant_record.specs.Variables.{IsStateVariable}
+use Rattle.plant_record.specs.Equations.{HasLiterals, IsEquation}
+use Rattle.plant_record.specs.Plants.{IsPlant}
+use Rattle.plant_record.specs.Soundness.{IsFilledByCells, IsSound}
+use Rattle.plant_record.proofs.lemmas.Axes.{axes_are, end_is}
+
+pub well_formed : (m : ℕ) (e : Expression) → HasLiterals m e → IsWellFormed e m
+well_formed m (Number k) h = tt
+well_formed m (Variable i) h = h
+well_formed m (Negation a) h = well_formed m a h
+well_formed m (Sum a b) h = (well_formed m a h.0, well_formed m b h.1)
+well_formed m (Difference a b) h = (well_formed m a h.0, well_formed m b h.1)
+well_formed m (Product a b) h = (well_formed m a h.0, well_formed m b h.1)
+well_formed m (Quotient a k) h = (well_formed m a h.0, h.1)
+well_formed m (Minimum a b) h = (well_formed m a h.0, well_formed m b h.1)
+well_formed m (Maximum a b) h = (well_formed m a h.0, well_formed m b h.1)
+well_formed m (Absolute a) h = well_formed m a h
+
+pub all_formed : (m : ℕ) (equations : List Expression) → All (IsEquation m) equations → All (λ e. IsWellFormed e m) equations
+all_formed m equations each = All-weaker (IsEquation m) (λ e. IsWellFormed e m) (λ e h. well_formed m e h.literals) equations each
+
+pub sound : (p : Description) → IsPlant p → IsSound p
+sound p h = record {
+  axes = axes_are p.states h.some_state h.states_bound h.states;
+  whole = All-weaker IsStateVariable IsFilledByCells end_is p.states h.states;
+  one_each = h.one_each;
+  formed = all_formed _ p.equations h.equations;
+}

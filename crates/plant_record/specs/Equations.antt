@@ -1,0 +1,49 @@
+-- What the equations of a plant keep.
+use Rattle.std.specs.Prelude.{ℕ, suc, ◌+◌, ◌<◌, ◌≤◌, max, pos, ◌≤ℤ◌}
+use Rattle.fixed_expr.specs.Expression.{Expression, Number, Variable, Negation, Sum, Difference, Product, Quotient, Minimum, Maximum, Absolute}
+use Rattle.plant_record.specs.Numbers.{IsLiteral}
+
+-- how many nodes an expression has; a divisor is none
+abbrev pub nodes_of : Expression → ℕ
+nodes_of (Number k) = 1
+nodes_of (Variable i) = 1
+nodes_of (Negation a) = suc (nodes_of a)
+nodes_of (Sum a b) = suc (nodes_of a + nodes_of b)
+nodes_of (Difference a b) = suc (nodes_of a + nodes_of b)
+nodes_of (Product a b) = suc (nodes_of a + nodes_of b)
+nodes_of (Quotient a k) = suc (nodes_of a)
+nodes_of (Minimum a b) = suc (nodes_of a + nodes_of b)
+nodes_of (Maximum a b) = suc (nodes_of a + nodes_of b)
+nodes_of (Absolute a) = suc (nodes_of a)
+
+-- how many nodes lie on the longest way down; a leaf has depth 1
+abbrev pub depth_of : Expression → ℕ
+depth_of (Number k) = 1
+depth_of (Variable i) = 1
+depth_of (Negation a) = suc (depth_of a)
+depth_of (Sum a b) = suc (max (depth_of a) (depth_of b))
+depth_of (Difference a b) = suc (max (depth_of a) (depth_of b))
+depth_of (Product a b) = suc (max (depth_of a) (depth_of b))
+depth_of (Quotient a k) = suc (depth_of a)
+depth_of (Minimum a b) = suc (max (depth_of a) (depth_of b))
+depth_of (Maximum a b) = suc (max (depth_of a) (depth_of b))
+depth_of (Absolute a) = suc (depth_of a)
+
+-- numbers without sign, one of the first m variables, divisors of at least 1
+abbrev pub HasLiterals : ℕ → Expression → Type 0
+HasLiterals m (Number k) = (pos 0 ≤ℤ k) × IsLiteral k
+HasLiterals m (Variable i) = i < m
+HasLiterals m (Negation a) = HasLiterals m a
+HasLiterals m (Sum a b) = HasLiterals m a × HasLiterals m b
+HasLiterals m (Difference a b) = HasLiterals m a × HasLiterals m b
+HasLiterals m (Product a b) = HasLiterals m a × HasLiterals m b
+HasLiterals m (Quotient a k) = HasLiterals m a × (pos 1 ≤ℤ k) × IsLiteral k
+HasLiterals m (Minimum a b) = HasLiterals m a × HasLiterals m b
+HasLiterals m (Maximum a b) = HasLiterals m a × HasLiterals m b
+HasLiterals m (Absolute a) = HasLiterals m a
+
+-- An equation over m variables has at most 256 nodes, and at most 64 of them one below another.
+pub record IsEquation (m : ℕ) (e : Expression) : Type 0 where
+  pub literals : HasLiterals m e
+  pub nodes : nodes_of e ≤ 256
+  pub depth : depth_of e ≤ 64

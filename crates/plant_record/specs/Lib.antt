@@ -1,0 +1,15 @@
+pub mod Boxes
+pub mod Description
+pub mod Equations
+pub mod InputPlaces
+pub mod Limits
+pub mod Marks
+pub mod Names
+pub mod Numbers
+pub mod Parts
+pub mod Plants
+pub mod Soundness
+pub mod Spelling
+pub mod Steps
+pub mod Variables
+pub mod inside

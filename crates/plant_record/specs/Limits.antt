@@ -1,0 +1,32 @@
+-- The limits of a plant that is solved, and which one a plant exceeds.
+use Rattle.std.specs.Prelude.{◌*◌, ◌^◌, ◌≤◌}
+use Rattle.grid_quantiser.specs.Axes.{cells_of}
+use Rattle.plant_record.specs.Description.{Description, axes_of, vectors_of}
+use Rattle.plant_record.specs.declared.fault.LimitKind.TheVariants.{PlantText, TableText, Vectors, Cells, Pairs, Edges}
+use Rattle.plant_record.specs.declared.fault.LimitKind.{LimitKind}
+use Rattle.plant_record.specs.Plants.{IsPlant}
+
+abbrev pub HasFewVectors : Description → Type 0
+HasFewVectors p = vectors_of p.inputs ≤ 4096
+
+abbrev pub HasFewCells : Description → Type 0
+HasFewCells p = cells_of (axes_of p) ≤ 2 ^ 20
+
+abbrev pub HasFewPairs : Description → Type 0
+HasFewPairs p = cells_of (axes_of p) * vectors_of p.inputs ≤ 2 ^ 22
+
+-- A plant within the limits on input vectors, cells and pairs.
+pub record IsWithinLimits (p : Description) : Type 0 where
+  pub plant : IsPlant p
+  pub vectors : HasFewVectors p
+  pub cells : HasFewCells p
+  pub pairs : HasFewPairs p
+
+-- the first limit that a plant exceeds
+abbrev pub Exceeds : Description → LimitKind → Type 0
+Exceeds p PlantText = ⊥
+Exceeds p TableText = ⊥
+Exceeds p Vectors = HasFewVectors p → ⊥
+Exceeds p Cells = HasFewVectors p × (HasFewCells p → ⊥)
+Exceeds p Pairs = HasFewVectors p × HasFewCells p × (HasFewPairs p → ⊥)
+Exceeds p Edges = ⊥

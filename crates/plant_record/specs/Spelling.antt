@@ -1,0 +1,22 @@
+-- How a line, the ends of a box and a goal are spelled.
+use Rattle.std.specs.Prelude.{ℕ, zero, suc, ℤ, List, [], ◌∷◌, ◌++◌, codes}
+use Rattle.std.specs.List.{join_with_byte}
+use Rattle.std.specs.Fmt.{signed_decimal}
+use Rattle.plant_record.specs.declared.aims.GoalKind.{GoalKind}
+use Rattle.plant_record.specs.declared.aims.GoalKind.TheVariants.{Reach, Keep}
+
+-- words with one space between, and a line feed
+abbrev pub line : List (List ℕ) → List ℕ
+line words = join_with_byte 32 words ++ codes "\n"
+
+-- the two ends of a box in each of the first n states
+abbrev pub end_words : ℕ → List ℤ → List ℤ → List (List ℕ)
+end_words zero low high = []
+end_words (suc n) [] high = []
+end_words (suc n) (l ∷ low) [] = []
+end_words (suc n) (l ∷ low) (h ∷ high) = signed_decimal l ∷ signed_decimal h ∷ end_words n low high
+
+-- the word of a goal
+abbrev pub goal_word : GoalKind → List ℕ
+goal_word Reach = codes "reach"
+goal_word Keep = codes "keep"

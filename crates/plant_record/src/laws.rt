@@ -1,0 +1,30 @@
+//! What holds of every plant.
+
+ghost use Rattle.plant_record.specs.Soundness.{PlantsAreSound, VectorsHaveOneEach};
+ghost use Rattle.plant_record.specs.InputPlaces.{InputsRestOnTheirPlaces};
+ghost use Rattle.plant_record.specs.Limits.{IsWithinLimits};
+
+use crate::plant::Plant;
+
+/// A plant has a grid of whole cells, and a well-formed equation for each state.
+pub fn plants_are_sound()
+    ensures { PlantsAreSound }
+{}
+
+/// An input vector has one number for each input variable.
+pub fn vectors_have_one_each()
+    ensures { VectorsHaveOneEach }
+{}
+
+/// The value of a variable in an input vector rests on its place among the variable's values alone.
+pub fn inputs_rest_on_their_places()
+    ensures { InputsRestOnTheirPlaces }
+{}
+
+/// Every `Plant` is within the limits.
+pub fn every_plant_is_within_limits(p: &Plant)
+    ensures { IsWithinLimits p.now }
+{
+    // Its contract says so.
+    p.equations();
+}

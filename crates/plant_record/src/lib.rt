@@ -1,0 +1,23 @@
+//! A plant: its variables, equations, aims and limits, and what it does from one sample to the next.
+//!
+//! The layers that read and write texts put a `Plant` together from its parts or take it apart; all
+//! others ask it. A `Plant` is seen as its description. Stands on `fixed_expr` and `grid_quantiser`.
+#![tactic(auto)]
+
+mod aims;
+mod fault;
+pub mod laws;
+mod marks;
+mod plant;
+mod plant_parts;
+mod transition;
+mod variable_names;
+mod variables;
+
+pub use aims::{GoalKind, StateBox};
+pub use fault::{LimitKind, NoMemory};
+pub use plant::Plant;
+pub use plant_parts::PlantParts;
+pub use transition::{step, step_along};
+pub use variable_names::Names;
+pub use variables::{InputVariable, Name, NoiseVariable, StateVariable, Values, Variables};

@@ -1,0 +1,287 @@
+// A plant: what it is made of, what it keeps, and what it does from one sample to the next.
+
+ghost use Rattle.std.specs.Prelude.{◌≡◌, ◌<◌, ◌≤◌, ◌↔◌, length, map, slice_get, slice_index_or, pos, IfOk, IfErr, IsTrue, Some};
+ghost use Rattle.std.specs.Option.{option_map};
+ghost use Rattle.fixed_expr.specs.Expression.{expression_of};
+ghost use Rattle.grid_quantiser.specs.Axes.{cells_of};
+ghost use Rattle.plant_record.specs.declared.variables.NoiseVariable.{NoiseVariable};
+ghost use Rattle.plant_record.specs.Description.{axes_of, names_of, vectors_of, vector_of};
+ghost use Rattle.plant_record.specs.InputPlaces.{value_count};
+ghost use Rattle.plant_record.specs.Plants.{IsPlant};
+ghost use Rattle.plant_record.specs.Limits.{IsWithinLimits, Exceeds};
+ghost use Rattle.plant_record.specs.Marks.{IsGoalCell, IsObstacleCell};
+ghost use Rattle.plant_record.specs.Parts.{description_of};
+
+use crate::aims::{GoalKind, StateBox};
+use crate::fault::LimitKind;
+use crate::marks::{lies_in_one, touches_one};
+use crate::plant_parts::{PlantParts, grid_of, vectors_of};
+use crate::variable_names::Names;
+use crate::variables::{InputVariable, Name, NoiseVariable, StateVariable, Variables};
+use fixed_expr::Expr;
+use grid_quantiser::{Grid, Point};
+use std::marker::Model;
+
+/// The most input vectors of a plant.
+const VECTORS_LIMIT: u32 = 4096;
+
+/// The most pairs of a cell and an input vector.
+const PAIRS_LIMIT: u64 = 1 << 22;
+
+/// A plant within the limits, seen as its description.
+#[derive(Drop)]
+pub struct Plant {
+    states: Vec<StateVariable>,
+    inputs: Vec<InputVariable>,
+    noises: Vec<NoiseVariable>,
+    equations: Vec<Expr>,
+    targets: Vec<StateBox>,
+    obstacles: Vec<StateBox>,
+    goal: GoalKind,
+    grid: Grid,
+}
+
+impl Model for Plant {
+    ghost use Rattle.std.specs.Coded.{codes};
+    ghost use Rattle.fixed_expr.specs.inside.Postfix.{expression_code};
+    ghost use Rattle.plant_record.specs.Description.{Description};
+    ghost use Rattle.plant_record.specs.Parts.{described};
+    ghost use Rattle.plant_record.specs.inside.PlantsInMemory.{IsPlantWithGrid};
+
+    ghost Value = { Description };
+
+    ghost coded = { Prim.hlevel (codes, expression_code) };
+
+    ghost view = { λ p. described p.states.items p.inputs.items p.noises.items p.equations.items p.targets.items p.obstacles.items p.goal };
+
+    ghost invariant = { λ p. IsPlantWithGrid (described p.states.items p.inputs.items p.noises.items p.equations.items p.targets.items p.obstacles.items p.goal) p.grid };
+}
+
+impl Plant {
+    /// The plant of the parts, or the first limit that they exceed. It takes no memory.
+    pub fn new(parts: PlantParts) -> Result<Plant, LimitKind>
+        requires { IsPlant (description_of parts) }
+        ensures kept { IfOk result (λ p. p ≡ description_of parts) }
+        ensures limits { IfOk result (λ p. IsWithinLimits p) }
+        ensures exceeded { IfErr result (λ what. Exceeds (description_of parts) what) }
+    {
+        let vectors = vectors_of(&parts.variables.inputs);
+        if vectors > VECTORS_LIMIT {
+            return Err(LimitKind::Vectors);
+        }
+        let Ok(grid) = grid_of(&parts.variables.states) else {
+            return Err(LimitKind::Cells);
+        };
+        if u64::from(grid.cells()) * u64::from(vectors) > PAIRS_LIMIT {
+            return Err(LimitKind::Pairs);
+        }
+        let PlantParts {
+            variables,
+            equations,
+            targets,
+            obstacles,
+            goal,
+        } = parts;
+        let Variables {
+            states,
+            inputs,
+            noises,
+        } = variables;
+        Ok(Plant {
+            states,
+            inputs,
+            noises,
+            equations,
+            targets,
+            obstacles,
+            goal,
+            grid,
+        })
+    }
+
+    /// How many states there are.
+    pub fn states(&self) -> u32
+        ensures { result ≡ length self.now.states }
+    {
+        self.states.len() as u32
+    }
+
+    pub fn input_variables(&self) -> u32
+        ensures { result ≡ length self.now.inputs }
+    {
+        self.inputs.len() as u32
+    }
+
+    /// How many noises there are.
+    pub fn noises(&self) -> u32
+        ensures { result ≡ length self.now.noises }
+    {
+        self.noises.len() as u32
+    }
+
+    /// How many input vectors there are.
+    pub fn vectors(&self) -> u32
+        ensures count { result ≡ vectors_of self.now.inputs }
+        ensures some { 1 ≤ result }
+    {
+        vectors_of(&self.inputs)
+    }
+
+    pub fn goal(&self) -> GoalKind
+        ensures { result ≡ self.now.goal }
+    {
+        self.goal
+    }
+
+    pub fn grid(&self) -> &Grid
+        ensures { result.now ≡ axes_of self.now }
+    {
+        &self.grid
+    }
+
+    /// The equation of a state.
+    pub fn equation(&self, i: u32) -> &Expr
+        requires { i < length self.now.equations }
+        ensures { slice_get self.now.equations i ≡ Some (expression_of result.now) }
+    {
+        &self.equations[i as usize]
+    }
+
+    /// How many values an input variable has.
+    pub fn input_values(&self, variable: u32) -> u32
+        requires { variable < length self.now.inputs }
+        ensures { result ≡ value_count self.now.inputs variable }
+    {
+        self.inputs[variable as usize].values.len() as u32
+    }
+
+    /// The value of an input variable in an input vector.
+    pub fn input_value(&self, input: u32, variable: u32) -> i128
+        requires input { input < vectors_of self.now.inputs }
+        requires variable { variable < length self.now.inputs }
+        ensures { result ≡ slice_index_or (vector_of self.now.inputs input) variable (pos 0) }
+    {
+        let later = vectors_of(&self.inputs[variable as usize + 1..]);
+        let values = self.inputs[variable as usize].values.as_slice();
+        values[(input / later) as usize % values.len()]
+    }
+
+    /// The least and the greatest value of a noise.
+    pub fn noise_range(&self, k: u32) -> (i128, i128)
+        requires { k < length self.now.noises }
+        ensures { option_map (λ (w : NoiseVariable). (w.low, w.high)) (slice_get self.now.noises k) ≡ Some result }
+    {
+        let noise = &self.noises[k as usize];
+        let low = noise.low;
+        let high = noise.high;
+        (low, high)
+    }
+
+    /// How many targets there are.
+    pub fn targets(&self) -> u32
+        ensures { result ≡ length self.now.targets }
+    {
+        self.targets.len() as u32
+    }
+
+    /// The least and the greatest corner of a target.
+    pub fn target(&self, k: u32) -> (Point, Point)
+        requires { k < length self.now.targets }
+        ensures { slice_get self.now.targets k ≡ Some (record { low = result.0; high = result.1 }) }
+    {
+        let target = &self.targets[k as usize];
+        let low = target.low;
+        let high = target.high;
+        (low, high)
+    }
+
+    /// How many obstacles there are.
+    pub fn obstacles(&self) -> u32
+        ensures { result ≡ length self.now.obstacles }
+    {
+        self.obstacles.len() as u32
+    }
+
+    /// The least and the greatest corner of an obstacle.
+    pub fn obstacle(&self, k: u32) -> (Point, Point)
+        requires { k < length self.now.obstacles }
+        ensures { slice_get self.now.obstacles k ≡ Some (record { low = result.0; high = result.1 }) }
+    {
+        let obstacle = &self.obstacles[k as usize];
+        let low = obstacle.low;
+        let high = obstacle.high;
+        (low, high)
+    }
+
+    /// Whether a cell is a goal: all its points lie in one target, and none in an obstacle.
+    pub fn goal_cell(&self, c: u32) -> bool
+        requires { c < cells_of (axes_of self.now) }
+        ensures { IsTrue result ↔ IsGoalCell self.now c }
+    {
+        lies_in_one(&self.grid, c, &self.targets) && !self.obstacle_cell(c)
+    }
+
+    /// Whether some point of a cell lies in an obstacle.
+    pub fn obstacle_cell(&self, c: u32) -> bool
+        requires { c < cells_of (axes_of self.now) }
+        ensures { IsTrue result ↔ IsObstacleCell self.now c }
+    {
+        touches_one(&self.grid, c, &self.obstacles)
+    }
+
+    /// The name of a variable: the states come first, then the inputs, then the noises.
+    pub fn name(&self, variable: u32) -> &Name
+        requires { variable < length (names_of self.now) }
+        ensures { slice_get (names_of self.now) variable ≡ Some result.now }
+    {
+        self.names().name(variable)
+    }
+
+    pub fn names(&self) -> Names<'_>
+        ensures { result ≡ names_of self.now }
+    {
+        Names {
+            states: &self.states,
+            inputs: &self.inputs,
+            noises: &self.noises,
+        }
+    }
+
+    pub fn state_list(&self) -> &[StateVariable]
+        ensures { result.now ≡ self.now.states }
+    {
+        &self.states
+    }
+
+    pub fn input_list(&self) -> &[InputVariable]
+        ensures { result.now ≡ self.now.inputs }
+    {
+        &self.inputs
+    }
+
+    pub fn noise_list(&self) -> &[NoiseVariable]
+        ensures { result.now ≡ self.now.noises }
+    {
+        &self.noises
+    }
+
+    pub fn target_list(&self) -> &[StateBox]
+        ensures { result.now ≡ self.now.targets }
+    {
+        &self.targets
+    }
+
+    pub fn obstacle_list(&self) -> &[StateBox]
+        ensures { result.now ≡ self.now.obstacles }
+    {
+        &self.obstacles
+    }
+
+    /// The equations, where they lie in memory.
+    pub fn equations(&self) -> &[Expr]
+        ensures same { map expression_of result.now ≡ self.now.equations }
+        ensures limits { IsWithinLimits self.now }
+    {
+        &self.equations
+    }
+}

@@ -1,0 +1,87 @@
+// The parts of a plant, and what the limits need to know of them.
+
+ghost use Rattle.std.specs.Prelude.{◌≡◌, ◌/◌, ◌^◌, ◌<◌, ◌≤◌, ◌↔◌, ◌+ℤ◌, ◌-ℤ◌, length, map, nat_abs, pos, IfOk, IsErr};
+ghost use Rattle.std.specs.List.{All};
+ghost use Rattle.grid_quantiser.specs.Axes.{cells_of};
+ghost use Rattle.plant_record.specs.Description.{axis_of, vectors_of};
+ghost use Rattle.plant_record.specs.Numbers.{IsLiteral};
+ghost use Rattle.plant_record.specs.Variables.{IsStateVariable, IsInputVariable};
+
+use crate::aims::{GoalKind, StateBox};
+use crate::variables::{InputVariable, StateVariable, Variables};
+use fixed_expr::Expr;
+use grid_quantiser::{Axis, Grid, TooManyCells};
+
+/// What a plant text says, with nothing counted yet.
+#[derive(Drop)]
+pub struct PlantParts {
+    pub variables: Variables,
+    pub equations: Vec<Expr>,
+    pub targets: Vec<StateBox>,
+    pub obstacles: Vec<StateBox>,
+    pub goal: GoalKind,
+}
+
+/// What stands in a place with no axis.
+const NO_AXIS: Axis = Axis {
+    lo: 0,
+    width: 0,
+    count: 0,
+};
+
+/// How many combinations there are of the inputs' values.
+pub fn vectors_of(inputs: &[InputVariable]) -> u32
+    requires bound { length inputs.now ≤ 3 }
+    requires each { All IsInputVariable inputs.now }
+    ensures count { result ≡ vectors_of inputs.now }
+    ensures some { 1 ≤ result }
+{
+    let mut vectors: u32 = 1;
+    for i in (0..inputs.len()).rev() {
+        vectors *= inputs[i].values.len() as u32;
+    }
+    vectors
+}
+
+/// The grid of the states, unless it has too many cells.
+pub fn grid_of(states: &[StateVariable]) -> Result<Grid, TooManyCells>
+    requires some { 1 ≤ length states.now }
+    requires bound { length states.now ≤ 6 }
+    requires each { All IsStateVariable states.now }
+    ensures ok { IfOk result (λ grid. grid ≡ map axis_of states.now) }
+    ensures refused { IsErr result ↔ (2 ^ 20 < cells_of (map axis_of states.now)) }
+{
+    let mut axes = [NO_AXIS; 6];
+    for (i, state) in states.iter().enumerate() {
+        axes[i] = axis_of(state);
+    }
+    Grid::new(&axes[..states.len()])
+}
+
+fn axis_of(state: &StateVariable) -> Axis
+    requires { IsStateVariable state.now }
+    ensures { result ≡ axis_of state.now }
+{
+    Axis {
+        lo: state.low,
+        width: state.width,
+        count: quotient(numbers_along(state), state.width.unsigned_abs()),
+    }
+}
+
+/// How many numbers lie along a state.
+fn numbers_along(state: &StateVariable) -> u128
+    requires low { IsLiteral state.now.low }
+    requires high { IsLiteral state.now.high }
+    ensures { result ≡ nat_abs ((state.now.high -ℤ state.now.low) +ℤ pos 1) }
+{
+    (state.high - state.low + 1).unsigned_abs()
+}
+
+fn quotient(numbers: u128, width: u128) -> u64
+    requires width { 0 < width }
+    requires bound { numbers / width < 2 ^ 64 }
+    ensures { result ≡ numbers / width }
+{
+    (numbers / width) as u64
+}

@@ -1,0 +1,87 @@
+ghost use Rattle.std.specs.Prelude.{◌≡◌, ◌≤◌, ◌<◌, length, map, pos, slice_index_or, take, SomeIff};
+ghost use Rattle.std.specs.List.{All};
+ghost use Rattle.fixed_expr.specs.Expression.{expression_of};
+ghost use Rattle.fixed_expr.specs.Value.{IsWellFormed, StaysInRange, value_of};
+ghost use Rattle.grid_quantiser.specs.Cells.{point_of};
+ghost use Rattle.plant_record.specs.Description.{names_of, vectors_of};
+ghost use Rattle.plant_record.specs.Steps.{equation_at, values_at, step_of, StepStaysInRange};
+
+use crate::laws::every_plant_is_within_limits;
+use crate::plant::Plant;
+use fixed_expr::{Expr, eval};
+use grid_quantiser::Point;
+
+/// The state one sample later, all equations taken at the old state: None where the value of some
+/// node leaves the range. It takes no memory.
+pub fn step(p: &Plant, x: &Point, input: u32, noise: &Point) -> Option<Point>
+    requires { input < vectors_of p.now.inputs }
+    ensures { SomeIff result (StepStaysInRange p.now x.now input noise.now) (point_of (step_of p.now x.now input noise.now)) }
+{
+    let values = values_at(p, x, input, noise);
+    next_point(p.equations(), &values[..variables(p)])
+}
+
+/// One state of the next, as `step` gives it: None where the value of some node of its equation leaves
+/// the range.
+pub fn step_along(p: &Plant, x: &Point, input: u32, noise: &Point, state: u32) -> Option<i128>
+    requires input { input < vectors_of p.now.inputs }
+    requires state { state < length p.now.equations }
+    ensures { SomeIff result (StaysInRange (equation_at p.now state) (values_at p.now x.now input noise.now)) (value_of (equation_at p.now state) (values_at p.now x.now input noise.now)) }
+{
+    every_plant_is_within_limits(p);
+    let values = values_at(p, x, input, noise);
+    eval(p.equation(state), &values[..variables(p)])
+}
+
+/// How many variables there are.
+fn variables(p: &Plant) -> usize
+    ensures count { result ≡ length (names_of p.now) }
+    ensures bound { result ≤ 15 }
+{
+    every_plant_is_within_limits(p);
+    (p.states() + p.input_variables() + p.noises()) as usize
+}
+
+/// The values of the variables, and 0 in the places past them.
+fn values_at(p: &Plant, x: &Point, input: u32, noise: &Point) -> [i128; 15]
+    requires { input < vectors_of p.now.inputs }
+    ensures { take (length (names_of p.now)) result ≡ values_at p.now x.now input noise.now }
+{
+    every_plant_is_within_limits(p);
+    let mut values = [0; 15];
+    for i in 0..variables(p) {
+        values[i] = value_at(p, x, input, noise, i);
+    }
+    values
+}
+
+/// The value of one variable.
+fn value_at(p: &Plant, x: &Point, input: u32, noise: &Point, i: usize) -> i128
+    requires input { input < vectors_of p.now.inputs }
+    requires variable { i < length (names_of p.now) }
+    ensures { result ≡ slice_index_or (values_at p.now x.now input noise.now) i (pos 0) }
+{
+    every_plant_is_within_limits(p);
+    let states = p.states() as usize;
+    let noises = states + p.input_variables() as usize;
+    if i < states {
+        x[i]
+    } else if i < noises {
+        p.input_value(input, (i - states) as u32)
+    } else {
+        noise[i - noises]
+    }
+}
+
+/// The equations' values, one for each state.
+fn next_point(equations: &[Expr], values: &[i128]) -> Option<Point>
+    requires few { length equations.now ≤ 6 }
+    requires formed { All (λ e. IsWellFormed (expression_of e) (length values.now)) equations.now }
+    ensures { SomeIff result (All (λ e. StaysInRange (expression_of e) values.now) equations.now) (point_of (map (λ e. value_of (expression_of e) values.now) equations.now)) }
+{
+    let mut next = [0; 6];
+    for (i, equation) in equations.iter().enumerate() {
+        next[i] = eval(equation, values)?;
+    }
+    Some(next)
+}

@@ -1,0 +1,162 @@
+// The variables of a plant.
+
+ghost use Rattle.std.specs.Prelude.{◌≡◌, ◌<◌, ◌≤◌, length, position, IfOk, IfSome, IfNone, slice_get, Some, Contains};
+ghost use Rattle.std.specs.Str.{bytes_eq};
+ghost use Rattle.plant_record.specs.Names.{IsName};
+ghost use Rattle.plant_record.specs.Description.{names_over};
+
+use crate::variable_names::Names;
+use std::alloc::{AllocError, Global};
+use std::marker::Model;
+
+/// The name of a variable.
+#[derive(Debug, Drop)]
+pub struct Name {
+    bytes: Vec<u8>,
+}
+
+impl Model for Name {
+    ghost use Rattle.std.specs.Prelude.{ℕ, List};
+    ghost use Rattle.plant_record.specs.Names.{IsName};
+
+    ghost Value = { List ℕ };
+
+    ghost view = { λ n. n.bytes.items };
+
+    ghost invariant = { λ n. IsName n.bytes.items };
+}
+
+impl Name {
+    pub fn new(alloc: Global, word: &[u8]) -> Result<Name, AllocError>
+        requires { IsName word.now }
+        ensures { IfOk result (λ name. name ≡ word.now) }
+    {
+        Ok(Name {
+            bytes: Vec::from_slice(alloc, word)?,
+        })
+    }
+
+    pub fn as_bytes(&self) -> &[u8]
+        ensures { result.now ≡ self.now }
+    {
+        &self.bytes
+    }
+}
+
+/// The values that an input variable may take.
+#[derive(Debug, Drop)]
+pub struct Values {
+    numbers: Vec<i128>,
+}
+
+impl Model for Values {
+    ghost use Rattle.std.specs.Prelude.{ℤ, List};
+
+    ghost Value = { List ℤ };
+
+    ghost view = { λ v. v.numbers.items };
+}
+
+impl Values {
+    pub fn new(numbers: Vec<i128>) -> Values
+        ensures { result ≡ numbers.items }
+    {
+        Values { numbers }
+    }
+
+    pub fn len(&self) -> usize
+        ensures { result ≡ length self.now }
+    {
+        self.numbers.len()
+    }
+
+    pub fn as_slice(&self) -> &[i128]
+        ensures { result.now ≡ self.now }
+    {
+        &self.numbers
+    }
+}
+
+/// A state, with its range and the width of a cell.
+#[derive(Debug, Drop)]
+pub struct StateVariable {
+    pub name: Name,
+    pub low: i128,
+    pub high: i128,
+    pub width: i128,
+}
+
+/// An input, with the values that it may take.
+#[derive(Debug, Drop)]
+pub struct InputVariable {
+    pub name: Name,
+    pub values: Values,
+}
+
+/// A disturbance, with its range.
+#[derive(Debug, Drop)]
+pub struct NoiseVariable {
+    pub name: Name,
+    pub low: i128,
+    pub high: i128,
+}
+
+/// The variables of a plant: its states first, then its inputs, then its noises.
+#[derive(Debug, Drop)]
+pub struct Variables {
+    pub states: Vec<StateVariable>,
+    pub inputs: Vec<InputVariable>,
+    pub noises: Vec<NoiseVariable>,
+}
+
+impl Variables {
+    /// The names of all variables.
+    pub fn names(&self) -> Names<'_>
+        ensures { result ≡ names_over self.now.states.items self.now.inputs.items self.now.noises.items }
+    {
+        Names {
+            states: &self.states,
+            inputs: &self.inputs,
+            noises: &self.noises,
+        }
+    }
+
+    /// The place of the variable of this name.
+    pub fn place_of(&self, name: &[u8]) -> Option<u32>
+        requires { length (names_over self.now.states.items self.now.inputs.items self.now.noises.items) ≤ 15 }
+        ensures found { IfSome result (λ i. slice_get (names_over self.now.states.items self.now.inputs.items self.now.noises.items) i ≡ Some name.now) }
+        ensures none { IfNone result (Contains (names_over self.now.states.items self.now.inputs.items self.now.noises.items) name.now → ⊥) }
+    {
+        if let Some(i) = state_named(&self.states, name) {
+            return Some(i as u32);
+        }
+        let states = self.states.len();
+        if let Some(i) = input_named(&self.inputs, name) {
+            return Some((states + i) as u32);
+        }
+        let inputs = self.inputs.len();
+        let i = noise_named(&self.noises, name)?;
+        Some((states + inputs + i) as u32)
+    }
+}
+
+fn state_named(states: &[StateVariable], name: &[u8]) -> Option<usize>
+    ensures place { result ≡ position (λ (s : StateVariable). bytes_eq s.name name.now) states.now }
+    ensures within { IfSome result (λ i. i < length states.now) }
+{
+    states.iter().position(|s| s.name.as_bytes() == name)
+}
+
+fn input_named(inputs: &[InputVariable], name: &[u8]) -> Option<usize>
+    ensures place { result ≡ position (λ (i : InputVariable). bytes_eq i.name name.now) inputs.now }
+    ensures within { IfSome result (λ i. i < length inputs.now) }
+{
+    inputs.iter().position(|i| i.name.as_bytes() == name)
+}
+
+fn noise_named(noises: &[NoiseVariable], name: &[u8]) -> Option<usize>
+    ensures place { result ≡ position (λ (w : NoiseVariable). bytes_eq w.name name.now) noises.now }
+    ensures within { IfSome result (λ i. i < length noises.now) }
+{
+    noises.iter().position(|w| w.name.as_bytes() == name)
+}

@@ -1,0 +1,142 @@
+-- The tokens of a canonical expression text are those of a syntax tree.
+use Rattle.std.proofs.Common.{◌≡◌, ℕ, Bool, true, false, cond, List, [], ◌∷◌, ◌++◌, length, get_or, refl, sym, ap, ◌∙◌, append_assoc, arith}
+use Rattle.std.specs.Prelude.{ℤ, pos, negsuc, nat_abs, ◌≤ℤ◌, codes, nat_lt}
+use Rattle.std.specs.List.{All}
+use Rattle.std.specs.Fmt.{decimal, signed_decimal}
+use Rattle.std.proofs.lemmas.Int.{ints}
+use Rattle.std.proofs.lemmas.Fmt.{decimal_nonempty}
+use Rattle.std.proofs.lemmas.List.Elements.{All-get_or}
+use Rattle.fixed_expr.specs.Expression.{Expression, Number, Variable, Negation, Sum, Difference, Product, Quotient, Minimum, Maximum, Absolute}
+use Rattle.plant_record.specs.Names.{is_letter, is_digit, IsName}
+use Rattle.plant_record.specs.Numbers.{IsLiteral}
+use Rattle.plant_reading.specs.Words.{is_blank}
+use Rattle.plant_record.specs.Equations.{HasLiterals}
+use Rattle.plant_writing.specs.ExpressionText.{expression_text}
+use Rattle.plant_reading.specs.SyntaxTrees.{Syntax, Literal, Named, Minus, Plus, Less, Times, Over, Least, Greatest, Size, Bracketed, yield_of}
+use Rattle.plant_reading.proofs.lemmas.NumberBytes.{decimal_digits}
+use Rattle.plant_reading.proofs.lemmas.OneScan.{scan, is_break, is_run, symbol_front, run_front, name_front, digits_front}
+
+-- ---- texts and their tokens
+
+-- the tokens of a text, whatever stands behind it
+abbrev pub Spells : List ℕ → List (List ℕ) → Type 0
+Spells text tokens = (rest : List ℕ) → scan [] (text ++ rest) ≡ tokens ++ scan [] rest
+
+-- the tokens of a text, where no name and no number goes on behind it
+abbrev pub Yields : List ℕ → List (List ℕ) → Type 0
+Yields text tokens = (rest : List ℕ) → is_break rest ≡ true → scan [] (text ++ rest) ≡ tokens ++ scan [] rest
+
+-- a text that no name and no number goes on with
+abbrev pub Breaks : List ℕ → Type 0
+Breaks text = (rest : List ℕ) → is_break (text ++ rest) ≡ true
+
+spelled : (text : List ℕ) (tokens : List (List ℕ)) → Spells text tokens → Yields text tokens
+spelled text tokens h = λ rest ends. h rest
+
+opened : (before text : List ℕ) (first tokens : List (List ℕ)) → Spells before first → Yields text tokens → Yields (before ++ text) (first ++ tokens)
+opened before text first tokens left right = λ rest ends.
+    ap (scan []) (append_assoc before text rest) ∙ left (text ++ rest) ∙ ap (λ (ts : List (List ℕ)). first ++ ts) (right rest ends) ∙ sym (append_assoc first tokens (scan [] rest))
+
+closed : (text behind : List ℕ) (tokens last : List (List ℕ)) → Yields text tokens → Spells behind last → Breaks behind → Spells (text ++ behind) (tokens ++ last)
+closed text behind tokens last left right breaks = λ rest.
+    ap (scan []) (append_assoc text behind rest) ∙ left (behind ++ rest) (breaks rest) ∙ ap (λ (ts : List (List ℕ)). tokens ++ ts) (right rest) ∙ sym (append_assoc tokens last (scan [] rest))
+
+retold : (text : List ℕ) (tokens others : List (List ℕ)) → tokens ≡ others → Yields text tokens → Yields text others
+retold text tokens others same h = λ rest ends. h rest ends ∙ ap (λ (ts : List (List ℕ)). ts ++ scan [] rest) same
+
+-- ---- brackets
+
+in_brackets : (text : List ℕ) (tokens : List (List ℕ)) → Yields text tokens → Yields (codes "(" ++ text ++ codes ")") (codes "(" ∷ tokens ++ codes ")" ∷ [])
+in_brackets text tokens h =
+    spelled (codes "(" ++ text ++ codes ")") (codes "(" ∷ tokens ++ codes ")" ∷ [])
+    (closed (codes "(" ++ text) (codes ")") (codes "(" ∷ tokens) (codes ")" ∷ [])
+    (opened (codes "(") text (codes "(" ∷ []) tokens (λ rest. symbol_front 40 rest refl refl refl) h)
+    (λ rest. symbol_front 41 rest refl refl refl)
+    (λ rest. refl))
+
+abbrev pub wrapped : ℕ → ℕ → Syntax → Syntax
+wrapped own asked s = cond (nat_lt own asked) (Bracketed s) s
+
+at_its_level : (u : Bool) (names : List (List ℕ)) (text : List ℕ) (s : Syntax) → Yields text (yield_of names s) → Yields (cond u (codes "(" ++ text ++ codes ")") text) (yield_of names (cond u (Bracketed s) s))
+at_its_level true names text s h = in_brackets text (yield_of names s) h
+at_its_level false names text s h = h
+
+-- ---- operators
+
+-- a word that begins a construct, with its bracket
+opening : (c : ℕ) (w : List ℕ) → is_blank c ≡ false → is_run c w ≡ true → Spells ((c ∷ w) ++ codes "(") ((c ∷ w) ∷ codes "(" ∷ [])
+opening c w dark goes = λ rest.
+    ap (scan []) (append_assoc (c ∷ w) (codes "(") rest) ∙ run_front c w (codes "(" ++ rest) dark goes refl ∙ ap (λ (ts : List (List ℕ)). (c ∷ w) ∷ ts) (symbol_front 40 rest refl refl refl)
+
+-- an operator between spaces
+operator : (b : ℕ) → is_blank b ≡ false → is_letter b ≡ false → is_digit b ≡ false → Spells (32 ∷ b ∷ 32 ∷ []) ((b ∷ []) ∷ [])
+operator b dark letter digit = λ rest. symbol_front b (32 ∷ rest) dark letter digit
+
+two : (left between right : List ℕ) (first : List (List ℕ)) (op : List ℕ) (second : List (List ℕ)) → Yields left first → Spells between (op ∷ []) → Breaks between → Yields right second
+    → Yields (left ++ between ++ right) (first ++ op ∷ second)
+two left between right first op second a o breaks b =
+    retold (left ++ between ++ right) ((first ++ op ∷ []) ++ second) (first ++ op ∷ second) (append_assoc first (op ∷ []) second)
+    (opened (left ++ between) right (first ++ op ∷ []) second (closed left between first (op ∷ []) a o breaks) b)
+
+call : (opening : List ℕ) (word : List ℕ) (left right : List ℕ) (first second : List (List ℕ)) → Spells opening (word ∷ codes "(" ∷ []) → Yields left first → Yields right second
+    → Yields (opening ++ left ++ codes ", " ++ right ++ codes ")") (word ∷ codes "(" ∷ first ++ codes "," ∷ second ++ codes ")" ∷ [])
+call opening word left right first second o a b =
+    spelled (opening ++ left ++ codes ", " ++ right ++ codes ")") (word ∷ codes "(" ∷ first ++ codes "," ∷ second ++ codes ")" ∷ [])
+    (closed (opening ++ left ++ codes ", " ++ right) (codes ")") (word ∷ codes "(" ∷ first ++ codes "," ∷ second) (codes ")" ∷ [])
+    (two (opening ++ left) (codes ", ") right (word ∷ codes "(" ∷ first) (codes ",") second
+    (opened opening left (word ∷ codes "(" ∷ []) first o a)
+    (λ rest. symbol_front 44 (32 ∷ rest) refl refl refl)
+    (λ rest. refl)
+    b)
+    (λ rest. symbol_front 41 rest refl refl refl)
+    (λ rest. refl))
+
+size : (text : List ℕ) (tokens : List (List ℕ)) → Yields text tokens → Yields (codes "abs(" ++ text ++ codes ")") (codes "abs" ∷ codes "(" ∷ tokens ++ codes ")" ∷ [])
+size text tokens h =
+    spelled (codes "abs(" ++ text ++ codes ")") (codes "abs" ∷ codes "(" ∷ tokens ++ codes ")" ∷ [])
+    (closed (codes "abs(" ++ text) (codes ")") (codes "abs" ∷ codes "(" ∷ tokens) (codes ")" ∷ [])
+    (opened (codes "abs(") text (codes "abs" ∷ codes "(" ∷ []) tokens (opening 97 (98 ∷ 115 ∷ []) refl refl) h)
+    (λ rest. symbol_front 41 rest refl refl refl)
+    (λ rest. refl))
+
+-- ---- the whole
+
+-- a number that has no sign
+abbrev pub tree : ℕ → Expression → Syntax
+tree asked (Number k) = Literal (nat_abs k)
+tree asked (Variable i) = Named i
+tree asked (Negation a) = Minus (tree 3 a)
+tree asked (Sum a b) = wrapped 1 asked (Plus (tree 1 a) (tree 2 b))
+tree asked (Difference a b) = wrapped 1 asked (Less (tree 1 a) (tree 2 b))
+tree asked (Product a b) = wrapped 2 asked (Times (tree 2 a) (tree 3 b))
+tree asked (Quotient a k) = wrapped 2 asked (Over (tree 2 a) (nat_abs k))
+tree asked (Minimum a b) = Least (tree 1 a) (tree 1 b)
+tree asked (Maximum a b) = Greatest (tree 1 a) (tree 1 b)
+tree asked (Absolute a) = Size (tree 1 a)
+
+number_yields : (k : ℤ) → pos 0 ≤ℤ k → IsLiteral k → Yields (signed_decimal k) (decimal (nat_abs k) ∷ [])
+number_yields (pos n) some lt = λ rest ends. digits_front (decimal n) rest (decimal_digits n (omega (arith, lt))) (decimal_nonempty n (omega (arith, lt))) ends
+number_yields (negsuc n) some lt = absurd (omega (arith, ints, some))
+
+pub yields : (names : List (List ℕ)) (asked : ℕ) (e : Expression) → All IsName names → HasLiterals (length names) e → Yields (expression_text names asked e) (yield_of names (tree asked e))
+yields names asked (Number k) named h = number_yields k h.0 h.1
+yields names asked (Variable i) named h = λ rest ends. name_front (get_or names i []) rest (All-get_or IsName names i [] h named) ends
+yields names asked (Negation a) named h =
+    opened (codes "-") (expression_text names 3 a) (codes "-" ∷ []) (yield_of names (tree 3 a)) (λ rest. symbol_front 45 rest refl refl refl) (yields names 3 a named h)
+yields names asked (Sum a b) named h =
+    at_its_level (nat_lt 1 asked) names _ (Plus (tree 1 a) (tree 2 b))
+    (two (expression_text names 1 a) (codes " + ") (expression_text names 2 b) (yield_of names (tree 1 a)) (codes "+") (yield_of names (tree 2 b)) (yields names 1 a named h.0) (operator 43 refl refl refl) (λ rest. refl) (yields names 2 b named h.1))
+yields names asked (Difference a b) named h =
+    at_its_level (nat_lt 1 asked) names _ (Less (tree 1 a) (tree 2 b))
+    (two (expression_text names 1 a) (codes " - ") (expression_text names 2 b) (yield_of names (tree 1 a)) (codes "-") (yield_of names (tree 2 b)) (yields names 1 a named h.0) (operator 45 refl refl refl) (λ rest. refl) (yields names 2 b named h.1))
+yields names asked (Product a b) named h =
+    at_its_level (nat_lt 2 asked) names _ (Times (tree 2 a) (tree 3 b))
+    (two (expression_text names 2 a) (codes " * ") (expression_text names 3 b) (yield_of names (tree 2 a)) (codes "*") (yield_of names (tree 3 b)) (yields names 2 a named h.0) (operator 42 refl refl refl) (λ rest. refl) (yields names 3 b named h.1))
+yields names asked (Quotient a k) named h =
+    at_its_level (nat_lt 2 asked) names _ (Over (tree 2 a) (nat_abs k))
+    (two (expression_text names 2 a) (codes " / ") (signed_decimal k) (yield_of names (tree 2 a)) (codes "/") (decimal (nat_abs k) ∷ []) (yields names 2 a named h.0) (operator 47 refl refl refl) (λ rest. refl) (number_yields k (omega (arith, ints, h.1)) h.2))
+yields names asked (Minimum a b) named h =
+    call (codes "min(") (codes "min") (expression_text names 1 a) (expression_text names 1 b) (yield_of names (tree 1 a)) (yield_of names (tree 1 b)) (opening 109 (105 ∷ 110 ∷ []) refl refl) (yields names 1 a named h.0) (yields names 1 b named h.1)
+yields names asked (Maximum a b) named h =
+    call (codes "max(") (codes "max") (expression_text names 1 a) (expression_text names 1 b) (yield_of names (tree 1 a)) (yield_of names (tree 1 b)) (opening 109 (97 ∷ 120 ∷ []) refl refl) (yields names 1 a named h.0) (yields names 1 b named h.1)
+yields names asked (Absolute a) named h = size (expression_text names 1 a) (yield_of names (tree 1 a)) (yields names 1 a named h)

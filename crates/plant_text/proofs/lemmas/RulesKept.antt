@@ -1,0 +1,231 @@
+-- Every part that lines spell keeps the rules.
+use Rattle.std.proofs.Common.{inl, inr, ◌≡◌, ◌≢◌, ◌⊎◌, ℕ, ◌<◌, ◌≤◌, Bool, true, Option, Some, List, [], ◌∷◌, ◌++◌, length, None, All, arith, refl, sym, ap, subst, append_assoc, append-nil, length-append}
+use Rattle.std.specs.Prelude.{AllPairs}
+use Rattle.std.specs.List.{flat_map}
+use Rattle.std.proofs.lemmas.List.{map-append}
+use Rattle.std.proofs.lemmas.List.Elements.{All-push, All-same, All-nil}
+use Rattle.fixed_expr.specs.Expression.{Expression}
+use Rattle.plant_record.specs.declared.variables.StateVariable.{StateVariable}
+use Rattle.plant_record.specs.declared.variables.InputVariable.{InputVariable}
+use Rattle.plant_record.specs.declared.variables.NoiseVariable.{NoiseVariable}
+use Rattle.plant_record.specs.declared.aims.StateBox.{StateBox}
+use Rattle.plant_record.specs.declared.aims.GoalKind.{GoalKind}
+use Rattle.plant_record.specs.declared.aims.GoalKind.TheVariants.{Keep}
+use Rattle.plant_record.specs.Names.{IsName}
+use Rattle.plant_record.specs.Variables.{IsStateVariable, IsInputVariable, IsNoiseVariable}
+use Rattle.plant_record.specs.Boxes.{IsStateBox}
+use Rattle.plant_record.specs.Equations.{IsEquation, HasLiterals}
+use Rattle.plant_reading.specs.Words.{words_of}
+use Rattle.plant_reading.specs.Tokens.{tokens_of}
+use Rattle.plant_reading.specs.SyntaxTrees.{AreTokensOf}
+use Rattle.plant_reading.specs.Statements.{Statement, Version, State, Input, Noise, Next, Target, Obstacle, Goal, End, States}
+use Rattle.plant_text.specs.Grammar.{Part, nothing_yet, names_in, HasEquations, FitsAfter, extended, Extends, Leads}
+use Rattle.plant_text.specs.inside.PartRules.{KeepsRules, IsAimless}
+use Rattle.plant_reading.proofs.lemmas.ItemsOfTrees.{tree_literals}
+use Rattle.plant_text.proofs.lemmas.Lists.{differ}
+
+-- a new name at the end of the names
+pub with_state : (q : Part) (s : StateVariable) → q.inputs ≡ [] → q.noises ≡ [] → names_in (extended q (State s)) ≡ names_in q ++ s.name ∷ []
+with_state q s i w = rw (i, w, map-append (λ (t : StateVariable). t.name) q.states (s ∷ [])) (simp (append_assoc, append-nil))
+
+pub with_input : (q : Part) (i : InputVariable) → q.noises ≡ [] → names_in (extended q (Input i)) ≡ names_in q ++ i.name ∷ []
+with_input q i w = rw (w, map-append (λ (t : InputVariable). t.name) q.inputs (i ∷ [])) (simp (append_assoc, append-nil))
+
+pub with_noise : (q : Part) (w : NoiseVariable) → names_in (extended q (Noise w)) ≡ names_in q ++ w.name ∷ []
+with_noise q w = rw (map-append (λ (t : NoiseVariable). t.name) q.noises (w ∷ [])) (simp append_assoc)
+
+pub rules_of_nothing : KeepsRules nothing_yet
+rules_of_nothing = record {
+  states_bound = omega arith;
+  states = All-nil IsStateVariable;
+  inputs_bound = omega arith;
+  inputs = All-nil IsInputVariable;
+  noises_bound = omega arith;
+  noises = All-nil IsNoiseVariable;
+  names = All-nil IsName;
+  names_differ = λ i j d lt below. absurd (omega (arith, below));
+  equations_bound = omega arith;
+  equations = All-nil (IsEquation 0);
+  targets_bound = omega arith;
+  targets = All-nil (IsStateBox 0);
+  obstacles_bound = omega arith;
+  obstacles = All-nil (IsStateBox 0);
+  placed = inr (refl, refl, refl);
+  kept_aims_nowhere = λ _. refl;
+  closed = λ e. cc;
+}
+
+-- where no equation stands, nothing is aimed at
+pub aimless : (q : Part) → KeepsRules q → (HasEquations q → ⊥) → IsAimless q
+aimless q k none = elim k.placed [
+  | inl has ↦ absurd (none has)
+  | inr aims ↦ aims
+]
+
+pub no_equations : (q : Part) → q.equations ≡ [] → HasEquations q → ⊥
+no_equations q none has = let count : length q.equations ≡ 0 = ap length none in omega (arith, count, has.0, has.1)
+
+rules_state : (q : Part) (s : StateVariable) → KeepsRules q → IsStateVariable s → FitsAfter q (State s) → KeepsRules (extended q (State s))
+rules_state q s k is fits =
+    let names : names_in (extended q (State s)) ≡ names_in q ++ s.name ∷ [] = with_state q s fits.1 fits.2 in
+    let room : length q.states < 6 = fits.4 in
+    let aims = aimless q k (no_equations q fits.3) in
+    record {
+      states_bound = omega (arith, room, length-append q.states (s ∷ []));
+      states = All-push IsStateVariable q.states s k.states is;
+      inputs_bound = k.inputs_bound;
+      inputs = k.inputs;
+      noises_bound = k.noises_bound;
+      noises = k.noises;
+      names = subst (All IsName) (sym names) (All-push IsName (names_in q) s.name k.names is.name);
+      names_differ = subst (AllPairs (λ a b. a ≢ b)) (sym names) (differ (names_in q) s.name k.names_differ fits.5);
+      equations_bound = omega (arith, k.equations_bound, length-append q.states (s ∷ []));
+      equations = All-same (IsEquation (length (names_in (extended q (State s))))) q.equations [] fits.3 (All-nil (IsEquation (length (names_in (extended q (State s))))));
+      targets_bound = k.targets_bound;
+      targets = All-same (IsStateBox (length (q.states ++ s ∷ []))) q.targets [] aims.0 (All-nil (IsStateBox (length (q.states ++ s ∷ []))));
+      obstacles_bound = k.obstacles_bound;
+      obstacles = All-same (IsStateBox (length (q.states ++ s ∷ []))) q.obstacles [] aims.1 (All-nil (IsStateBox (length (q.states ++ s ∷ []))));
+      placed = inr aims;
+      kept_aims_nowhere = k.kept_aims_nowhere;
+      closed = k.closed;
+    }
+
+rules_input : (q : Part) (i : InputVariable) → KeepsRules q → IsInputVariable i → FitsAfter q (Input i) → KeepsRules (extended q (Input i))
+rules_input q i k is fits =
+    let names : names_in (extended q (Input i)) ≡ names_in q ++ i.name ∷ [] = with_input q i fits.1 in
+    let room : length q.inputs < 3 = fits.3 in
+    record {
+      states_bound = k.states_bound;
+      states = k.states;
+      inputs_bound = omega (arith, room, length-append q.inputs (i ∷ []));
+      inputs = All-push IsInputVariable q.inputs i k.inputs is;
+      noises_bound = k.noises_bound;
+      noises = k.noises;
+      names = subst (All IsName) (sym names) (All-push IsName (names_in q) i.name k.names is.name);
+      names_differ = subst (AllPairs (λ a b. a ≢ b)) (sym names) (differ (names_in q) i.name k.names_differ fits.4);
+      equations_bound = k.equations_bound;
+      equations = All-same (IsEquation (length (names_in (extended q (Input i))))) q.equations [] fits.2 (All-nil (IsEquation (length (names_in (extended q (Input i))))));
+      targets_bound = k.targets_bound;
+      targets = k.targets;
+      obstacles_bound = k.obstacles_bound;
+      obstacles = k.obstacles;
+      placed = k.placed;
+      kept_aims_nowhere = k.kept_aims_nowhere;
+      closed = k.closed;
+    }
+
+rules_noise : (q : Part) (w : NoiseVariable) → KeepsRules q → IsNoiseVariable w → FitsAfter q (Noise w) → KeepsRules (extended q (Noise w))
+rules_noise q w k is fits =
+    let names : names_in (extended q (Noise w)) ≡ names_in q ++ w.name ∷ [] = with_noise q w in
+    let room : length q.noises < 6 = fits.2 in
+    record {
+      states_bound = k.states_bound;
+      states = k.states;
+      inputs_bound = k.inputs_bound;
+      inputs = k.inputs;
+      noises_bound = omega (arith, room, length-append q.noises (w ∷ []));
+      noises = All-push IsNoiseVariable q.noises w k.noises is;
+      names = subst (All IsName) (sym names) (All-push IsName (names_in q) w.name k.names is.name);
+      names_differ = subst (AllPairs (λ a b. a ≢ b)) (sym names) (differ (names_in q) w.name k.names_differ fits.3);
+      equations_bound = k.equations_bound;
+      equations = All-same (IsEquation (length (names_in (extended q (Noise w))))) q.equations [] fits.1 (All-nil (IsEquation (length (names_in (extended q (Noise w))))));
+      targets_bound = k.targets_bound;
+      targets = k.targets;
+      obstacles_bound = k.obstacles_bound;
+      obstacles = k.obstacles;
+      placed = k.placed;
+      kept_aims_nowhere = k.kept_aims_nowhere;
+      closed = k.closed;
+    }
+
+module _ (q : Part) (k : KeepsRules q) where
+  -- other equations, boxes and goal behind the same variables
+  same_variables : (begun : Bool) (equations : List Expression) (targets obstacles : List StateBox) (goal : Option GoalKind) (ended : Bool)
+      → let r = record q { begun = begun; equations = equations; targets = targets; obstacles = obstacles; goal = goal; ended = ended } in
+      length equations ≤ length q.states → All (IsEquation (length (names_in q))) equations → length targets ≤ 64 → All (IsStateBox (length q.states)) targets → length obstacles ≤ 64 → All (IsStateBox (length q.states)) obstacles
+      → HasEquations r ⊎ IsAimless r → (goal ≡ Some Keep → targets ≡ []) → (ended ≡ true → goal ≢ None) → KeepsRules r
+  same_variables begun equations targets obstacles goal ended equations_bound equations_are targets_bound targets_are obstacles_bound obstacles_are placed kept_aims_nowhere closed = record {
+    states_bound = k.states_bound;
+    states = k.states;
+    inputs_bound = k.inputs_bound;
+    inputs = k.inputs;
+    noises_bound = k.noises_bound;
+    noises = k.noises;
+    names = k.names;
+    names_differ = k.names_differ;
+    equations_bound = equations_bound;
+    equations = equations_are;
+    targets_bound = targets_bound;
+    targets = targets_are;
+    obstacles_bound = obstacles_bound;
+    obstacles = obstacles_are;
+    placed = placed;
+    kept_aims_nowhere = kept_aims_nowhere;
+    closed = closed;
+  }
+
+  rules_version : KeepsRules (extended q Version)
+  rules_version = same_variables true q.equations q.targets q.obstacles q.goal q.ended k.equations_bound k.equations k.targets_bound k.targets k.obstacles_bound k.obstacles k.placed k.kept_aims_nowhere k.closed
+
+  rules_next : (name : List ℕ) (e : Expression) → IsEquation (length (names_in q)) e → FitsAfter q (Next name e) → KeepsRules (extended q (Next name e))
+  rules_next name e is fits =
+      let room : length q.equations < length q.states = fits.0 in
+      same_variables q.begun (q.equations ++ e ∷ []) q.targets q.obstacles q.goal q.ended
+      (omega (arith, room, length-append q.equations (e ∷ []))) (All-push (IsEquation (length (names_in q))) q.equations e k.equations is) k.targets_bound k.targets k.obstacles_bound k.obstacles
+      (inr (aimless q k (λ has. omega (arith, room, has.1)))) k.kept_aims_nowhere k.closed
+
+  rules_target : (b : StateBox) → IsStateBox (length q.states) b → FitsAfter q (Target b) → KeepsRules (extended q (Target b))
+  rules_target b is fits =
+      let room : length q.targets < 64 = fits.2 in
+      same_variables q.begun q.equations (q.targets ++ b ∷ []) q.obstacles q.goal q.ended
+      k.equations_bound k.equations (omega (arith, room, length-append q.targets (b ∷ []))) (All-push (IsStateBox (length q.states)) q.targets b k.targets is) k.obstacles_bound k.obstacles
+      (inl fits.0) (λ e. (let g : q.goal ≡ None = fits.1 in cc)) k.closed
+
+  rules_obstacle : (b : StateBox) → IsStateBox (length q.states) b → FitsAfter q (Obstacle b) → KeepsRules (extended q (Obstacle b))
+  rules_obstacle b is fits =
+      let room : length q.obstacles < 64 = fits.2 in
+      same_variables q.begun q.equations q.targets (q.obstacles ++ b ∷ []) q.goal q.ended
+      k.equations_bound k.equations k.targets_bound k.targets (omega (arith, room, length-append q.obstacles (b ∷ []))) (All-push (IsStateBox (length q.states)) q.obstacles b k.obstacles is)
+      (inl fits.0) k.kept_aims_nowhere k.closed
+
+  rules_goal : (kind : GoalKind) → FitsAfter q (Goal kind) → KeepsRules (extended q (Goal kind))
+  rules_goal kind fits =
+      same_variables q.begun q.equations q.targets q.obstacles (Some kind) q.ended
+      k.equations_bound k.equations k.targets_bound k.targets k.obstacles_bound k.obstacles
+      (inl fits.0) (λ e. (let is : kind ≡ Keep = (let same : kind ≡ Keep = cc in same) in fits.2 is)) (λ _ e. cc)
+
+  rules_end : FitsAfter q End → KeepsRules (extended q End)
+  rules_end fits =
+      same_variables q.begun q.equations q.targets q.obstacles q.goal true
+      k.equations_bound k.equations k.targets_bound k.targets k.obstacles_bound k.obstacles
+      k.placed k.kept_aims_nowhere (λ _. fits.0)
+
+-- an expression that tokens spell is an equation
+pub equation_spelled : (names : List (List ℕ)) (tokens : List (List ℕ)) (e : Expression) → AreTokensOf names tokens e → IsEquation (length names) e
+equation_spelled names tokens e t =
+    record { literals = subst (HasLiterals (length names)) t.means (tree_literals (length names) t.syntax_tree t.grammatical); nodes = t.nodes; depth = t.depth }
+
+pub rules_extended : (q : Part) (words : List (List ℕ)) (s : Statement) → KeepsRules q → States (names_in q) (length q.states) words s → FitsAfter q s → KeepsRules (extended q s)
+rules_extended q words Version k says fits = rules_version q k
+rules_extended q words (State s) k says fits = rules_state q s k says.1 fits
+rules_extended q words (Input i) k says fits = rules_input q i k says.1 fits
+rules_extended q words (Noise w) k says fits = rules_noise q w k says.1 fits
+rules_extended q words (Next name e) k says fits = rules_next q k name e (equation_spelled (names_in q) (flat_map tokens_of says.0) e says.2) fits
+rules_extended q words (Target b) k says fits = rules_target q k b says.1 fits
+rules_extended q words (Obstacle b) k says fits = rules_obstacle q k b says.1 fits
+rules_extended q words (Goal kind) k says fits = rules_goal q k kind fits
+rules_extended q words End k says fits = rules_end q k fits
+
+pub rules_after : (q : Part) (line : List ℕ) (r : Part) → KeepsRules q → Extends q line r → KeepsRules r
+rules_after q line r k e =
+    elim e [
+      | inl over ↦ subst KeepsRules (sym over.1) k
+      | inr stated ↦ subst KeepsRules (sym stated.leads_to) (rules_extended q (words_of line) stated.statement k stated.states stated.fits)
+    ]
+
+pub rules_led : (q : Part) (lines : List (List ℕ)) (r : Part) → KeepsRules q → Leads q lines r → KeepsRules r
+rules_led q [] r k leads = subst KeepsRules (sym leads) k
+rules_led q (line ∷ lines) r k leads = rules_led leads.0 lines r (rules_after q line leads.0 k leads.1) leads.2
+
+pub rules_stated : (q : Part) (words : List (List ℕ)) (s : Statement) (r : Part) → KeepsRules q → States (names_in q) (length q.states) words s → FitsAfter q s → r ≡ extended q s → KeepsRules r
+rules_stated q words s r k says fits is = subst KeepsRules (sym is) (rules_extended q words s k says fits)

@@ -1,5 +1,0 @@
--- What knows nothing of plants.
-pub mod Booleans
-pub mod Lists
-pub mod Numbers
-pub mod Positions

@@ -1,6 +1,0 @@
-pub mod CanonicalLines
-pub mod CanonicalTrees
-pub mod CanonicalWords
-pub mod ExpressionTokens
-pub mod PlantLines
-pub mod WrittenLines

@@ -1,0 +1,41 @@
+use Rattle.std.proofs.Common.{arith, Err, ap}
+use Rattle.plant_reading.specs.Lines.{lines_of}
+use Rattle.plant_text.specs.inside.DraftsInMemory.{part_of}
+use Rattle.plant_text.proofs.lemmas.LinesLead.{read_once}
+use Rattle.plant_text.proofs.lemmas.LineByLine.{at_first_line, at_next_line, refused_here, all_read, ends_early}
+use Rattle.plant_reading.proofs.lemmas.StatementLaws.{one_statement, passed_over}
+use Rattle.plant_text.proofs.plant_reader.read_lines.Goals as goal
+
+pub loop-line-init : goal.loop-line-init
+loop-line-init c = at_first_line c.args.bytes.now (part_of c.new-draft.result) c.new-draft.ensures
+
+pub read_line-requires : goal.read_line-requires
+read_line-requires c = c.loop-line.invariant.rules
+
+pub returns-in-Err-Malformed-clause-refused : goal.returns-in-Err-Malformed-clause-refused
+returns-in-Err-Malformed-clause-refused c = λ _. (
+  c.requires,
+  refused_here (read_once one_statement passed_over) c.args.bytes.now c.loop-line.rest.now c.in-Some.line.now c.in-Some.after.now c.loop-line.number (part_of c.loop-line.draft) c.loop-line.invariant c.in-Some.ensures.line (c.in-Err-Malformed.ensures.refused (ap Err c.in-Err-Malformed.field-0-is)),
+)
+
+pub overflow_add-number : goal.overflow_add-number
+overflow_add-number c = (let few = c.loop-line.invariant.few in let numbered = c.loop-line.invariant.numbered in let short = c.requires in let shorter = c.in-Some.ensures.shorter in omega (arith, few, numbered, short, shorter))
+
+pub loop-line-smaller : goal.loop-line-smaller
+loop-line-smaller c = c.in-Some.ensures.shorter
+
+pub loop-line-preserved : goal.loop-line-preserved
+loop-line-preserved c =
+    at_next_line c.args.bytes.now c.loop-line.rest.now c.in-Some.line.now c.in-Some.after.now c.loop-line.number (part_of c.loop-line.draft) (part_of c.read_line.new.self) c.loop-line.invariant c.in-Some.ensures.line c.in-Some.ensures.shorter c.in-Ok.ensures.read c.in-Ok.ensures.rules
+
+pub returns-then-not-has_ended-clause-refused : goal.returns-then-not-has_ended-clause-refused
+returns-then-not-has_ended-clause-refused c = λ _. (
+  c.requires,
+  ends_early c.args.bytes.now c.loop-line.rest.now c.loop-line.number (part_of c.loop-line.draft) c.loop-line.invariant (ap lines_of c.in_default.ensures.ended) (let e = c.has_ended.ensures in let f = c.if-not-has_ended.true in cc),
+)
+
+pub returns-clause-read : goal.returns-clause-read
+returns-clause-read c = all_read c.args.bytes.now c.loop-line.rest.now c.loop-line.number (part_of c.loop-line.draft) c.loop-line.invariant (ap lines_of c.in_default.ensures.ended)
+
+pub returns-clause-rules : goal.returns-clause-rules
+returns-clause-rules c = c.loop-line.invariant.rules

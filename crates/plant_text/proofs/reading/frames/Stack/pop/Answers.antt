@@ -1,6 +1,0 @@
-use Rattle.std.proofs.Common.{rules}
-use Rattle.plant_text.proofs.lemmas.reading.Stacks.{popped}
-use Rattle.plant_text.proofs.reading.frames.Stack.pop.Goals as goal
-
-pub returns : goal.returns
-returns c = popped c.args.self.now (record { frames = c.pop.new.self }) c.pop.result c.pop.ensures.items (search rules)

@@ -1,7 +1,0 @@
-use Rattle.std.proofs.Common.{◌≡◌, ◌++◌, take}
-use Rattle.plant_text.specs.plant.Description.{names_of}
-use Rattle.plant_text.specs.writing.CanonicalText.{equation_lines}
-use Rattle.plant_text.proofs.writing.plant_writer.push_equations.Given as goal
-
-abbrev pub invariant-loop-i : goal.invariant-loop-i
-invariant-loop-i l = l.text.items ≡ l.fn.text.items ++ equation_lines (names_of l.p) (take l.i l.p.states) (take l.i l.p.equations)

@@ -1,7 +1,0 @@
-use Rattle.std.proofs.Common.{◌≡◌, ◌++◌, take}
-use Rattle.std.specs.List.{flat_map}
-use Rattle.plant_text.specs.writing.CanonicalText.{noise_line}
-use Rattle.plant_text.proofs.writing.plant_writer.push_noises.Given as goal
-
-abbrev pub invariant-loop-noise : goal.invariant-loop-noise
-invariant-loop-noise l = l.text.items ≡ l.fn.text.items ++ flat_map noise_line (take l.noise-index l.noises)

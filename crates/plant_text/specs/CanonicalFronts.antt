@@ -1,0 +1,71 @@
+-- The canonical text of a plant at the front of some bytes, and the first line that isn't of one.
+use Rattle.std.specs.Prelude.{◌≡◌, ℕ, suc, ◌≤◌, false, List, [], ◌∷◌, ◌++◌, length, take, codes}
+use Rattle.plant_text.specs.declared.fault.PlantFault.{PlantFault}
+use Rattle.plant_text.specs.declared.fault.PlantFault.TheVariants as faults
+use Rattle.plant_record.specs.Description.{Description}
+use Rattle.plant_record.specs.Plants.{IsPlant}
+use Rattle.plant_record.specs.Limits.{Exceeds}
+use Rattle.plant_record.specs.Spelling.{line, goal_word}
+use Rattle.plant_writing.specs.CanonicalText.{text_of, state_line, input_line, noise_line, equation_line, box_line}
+use Rattle.plant_reading.specs.Statements.{Statement, Version, State, Input, Noise, Next, Target, Obstacle, Goal, End}
+use Rattle.plant_text.specs.Grammar.{Part, nothing_yet, names_in, IsStated}
+use Rattle.plant_reading.specs.Lines.{with_line_feeds}
+
+-- a statement's line in the canonical text, where the variables have these names and the first n are states
+abbrev pub statement_line : List (List ℕ) → ℕ → Statement → List ℕ
+statement_line names n Version = line (codes "plant" ∷ codes "1" ∷ [])
+statement_line names n (State s) = state_line s
+statement_line names n (Input i) = input_line i
+statement_line names n (Noise w) = noise_line w
+statement_line names n (Next name e) = equation_line names name e
+statement_line names n (Target b) = box_line (codes "target") n b
+statement_line names n (Obstacle b) = box_line (codes "obstacle") n b
+statement_line names n (Goal kind) = line (codes "goal" ∷ goal_word kind ∷ [])
+statement_line names n End = line (codes "end" ∷ [])
+
+-- all targets stand before all obstacles
+abbrev pub IsInOrder : Part → Statement → Type 0
+IsInOrder q (Target b) = q.obstacles ≡ []
+IsInOrder q Version = Unit {0}
+IsInOrder q (State s) = Unit {0}
+IsInOrder q (Input i) = Unit {0}
+IsInOrder q (Noise w) = Unit {0}
+IsInOrder q (Next name e) = Unit {0}
+IsInOrder q (Obstacle b) = Unit {0}
+IsInOrder q (Goal kind) = Unit {0}
+IsInOrder q End = Unit {0}
+
+-- A line states something in its canonical spelling, and in the canonical order.
+pub record ExtendsCanonically (q : Part) (words : List ℕ) (r : Part) : Type 0 where
+  pub stated : IsStated q words r
+  pub spelling : words ++ codes "\n" ≡ statement_line (names_in q) (length q.states) stated.statement
+  pub order : IsInOrder q stated.statement
+
+-- lines lead in this way from one part to another
+abbrev pub LeadsCanonically : Part → List (List ℕ) → Part → Type 0
+LeadsCanonically q [] r = r ≡ q
+LeadsCanonically q (words ∷ lines) r = (m : Part) × ExtendsCanonically q words m × LeadsCanonically m lines r
+
+-- The n-th line, from 1, is the first that isn't one of a canonical plant text, or that has no line feed, or
+-- that isn't there.
+pub record IsFirstRefusedAtFront (bytes : List ℕ) (n : ℕ) : Type 0 where
+  pub lines : List (List ℕ)
+  pub next : n ≡ suc (length lines)
+  pub part : Part
+  pub leads : LeadsCanonically nothing_yet lines part
+  pub goes_on : part.ended ≡ false
+  pub rest : List ℕ
+  pub are : bytes ≡ with_line_feeds lines ++ rest
+  pub refused : (words behind : List ℕ) (r : Part) → rest ≡ words ++ codes "\n" ++ behind → ExtendsCanonically part words r → ⊥
+
+-- the first so many bytes are the canonical text of a plant
+pub record IsFront (bytes : List ℕ) (p : Description) (count : ℕ) : Type 0 where
+  pub plant : IsPlant p
+  pub within : count ≤ length bytes
+  pub text : take count bytes ≡ text_of p
+
+-- why no plant is read at the front
+abbrev pub IsFrontRefusedFor : List ℕ → PlantFault → Type 0
+IsFrontRefusedFor bytes (faults.Malformed line) = IsFirstRefusedAtFront bytes line
+IsFrontRefusedFor bytes (faults.Limit what) = (p : Description) × (count : ℕ) × IsFront bytes p count × Exceeds p what
+IsFrontRefusedFor bytes faults.Memory = ⊥

@@ -1,3 +1,0 @@
--- The canonical text of a plant.
-pub mod CanonicalText
-pub mod ExpressionText

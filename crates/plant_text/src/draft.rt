@@ -1,0 +1,241 @@
+ghost use Rattle.std.specs.Prelude.{◌≡◌, ◌≢◌, ◌<◌, ◌≤◌, ◌↔◌, [], length, None, Some, Err, IsTrue, IfOk, IfErr, OnOk, slice_index_or, true, false};
+ghost use Rattle.plant_reading.specs.declared.fault.ReadFault.TheVariants.{Malformed};
+ghost use Rattle.plant_record.specs.declared.aims.GoalKind.TheVariants.{Keep};
+ghost use Rattle.plant_reading.specs.Statements.{State, Input, Noise, Next, Target, Obstacle, Goal};
+ghost use Rattle.plant_text.specs.Grammar.{Part, nothing_yet, names_in, HasEquations, IsNewIn, FitsAfter, extended, Extends, IsWhole};
+ghost use Rattle.plant_record.specs.Description.{Description};
+ghost use Rattle.plant_record.specs.Limits.{IsWithinLimits, Exceeds};
+ghost use Rattle.plant_text.specs.inside.PartRules.{KeepsRules};
+ghost use Rattle.plant_reading.specs.StatementsRead.{statement_of};
+ghost use Rattle.plant_text.specs.inside.DraftsInMemory.{part_of};
+ghost use Rattle.plant_text.specs.CanonicalFronts.{IsInOrder, ExtendsCanonically};
+
+use crate::statement_writer::is_canonical;
+use fixed_expr::Expr;
+use plant_reading::{ReadFault, Statement, is_passed_over, statement_in};
+use plant_record::{GoalKind, LimitKind, Name, Plant, PlantParts, StateBox, Variables};
+use std::alloc::Global;
+
+/// The part of a plant that the lines so far spell.
+#[derive(Drop)]
+pub struct Draft {
+    begun: bool,
+    variables: Variables,
+    equations: Vec<Expr>,
+    targets: Vec<StateBox>,
+    obstacles: Vec<StateBox>,
+    goal: Option<GoalKind>,
+    ended: bool,
+}
+
+impl Draft {
+    pub fn new(alloc: Global) -> Draft
+        ensures { part_of result ≡ nothing_yet }
+    {
+        Draft {
+            begun: false,
+            variables: Variables {
+                states: Vec::new(alloc),
+                inputs: Vec::new(alloc),
+                noises: Vec::new(alloc),
+            },
+            equations: Vec::new(alloc),
+            targets: Vec::new(alloc),
+            obstacles: Vec::new(alloc),
+            goal: None,
+            ended: false,
+        }
+    }
+
+    /// Passes over a line, or takes in what it states.
+    pub fn read_line(&mut self, alloc: Global, line: &[u8]) -> Result<(), ReadFault>
+        requires { KeepsRules (part_of self.old) }
+        ensures read { OnOk result (Extends (part_of self.old) line.now (part_of self.new)) }
+        ensures rules { OnOk result (KeepsRules (part_of self.new)) }
+        ensures refused { result ≡ Err Malformed → (r : Part) → Extends (part_of self.old) line.now r → ⊥ }
+    {
+        if is_passed_over(line) {
+            return Ok(());
+        }
+        let statement = statement_in(alloc, &self.variables, line)?;
+        if !self.fits(&statement) {
+            return Err(ReadFault::Malformed);
+        }
+        self.add(statement)
+    }
+
+    /// Takes in what a line states, where it does so in its canonical spelling and in the canonical
+    /// order. The spelling is written into `scratch`, whose contents go.
+    pub fn read_canonical_line(
+        &mut self,
+        alloc: Global,
+        line: &[u8],
+        scratch: &mut Vec<u8>,
+    ) -> Result<(), ReadFault>
+        requires { KeepsRules (part_of self.old) }
+        ensures read { OnOk result (ExtendsCanonically (part_of self.old) line.now (part_of self.new)) }
+        ensures rules { OnOk result (KeepsRules (part_of self.new)) }
+        ensures refused { result ≡ Err Malformed → (r : Part) → ExtendsCanonically (part_of self.old) line.now r → ⊥ }
+    {
+        let statement = statement_in(alloc, &self.variables, line)?;
+        if !self.fits_in_order(&statement) {
+            return Err(ReadFault::Malformed);
+        }
+        if !is_canonical(&self.variables, &statement, line, scratch)? {
+            return Err(ReadFault::Malformed);
+        }
+        self.add(statement)
+    }
+
+    /// Whether the last line stands.
+    pub fn has_ended(&self) -> bool
+        ensures { result ≡ self.now.ended }
+    {
+        self.ended
+    }
+
+    /// The plant that the lines spell, or the first limit that it exceeds.
+    pub fn finish(self) -> Result<Plant, LimitKind>
+        requires rules { KeepsRules (part_of self) }
+        requires closed { self.ended ≡ true }
+        ensures whole { IfOk result (λ p. IsWhole (part_of self) p) }
+        ensures limits { IfOk result (λ p. IsWithinLimits p) }
+        ensures exceeded { IfErr result (λ what. (p : Description) × IsWhole (part_of self) p × Exceeds p what) }
+    {
+        let Draft {
+            begun: _,
+            variables,
+            equations,
+            targets,
+            obstacles,
+            goal,
+            ended: _,
+        } = self;
+        match goal {
+            Some(goal) => Plant::new(PlantParts {
+                variables,
+                equations,
+                targets,
+                obstacles,
+                goal,
+            }),
+            None => unreachable!(),
+        }
+    }
+
+    /// Whether a statement has its place behind the lines so far.
+    fn fits(&self, statement: &Statement) -> bool
+        requires { KeepsRules (part_of self.now) }
+        ensures { IsTrue result ↔ FitsAfter (part_of self.now) (statement_of statement.now) }
+    {
+        match statement {
+            Statement::Version => !self.begun,
+            Statement::State(s) => self.takes_state() && self.is_new(&s.name),
+            Statement::Input(i) => self.takes_input() && self.is_new(&i.name),
+            Statement::Noise(w) => self.takes_noise() && self.is_new(&w.name),
+            Statement::Next { state, equation: _ } => self.is_next(state),
+            Statement::Target(_) => self.takes_boxes() && self.targets.len() < 64,
+            Statement::Obstacle(_) => self.takes_boxes() && self.obstacles.len() < 64,
+            Statement::Goal(kind) => self.takes_boxes() && self.takes_goal(*kind),
+            Statement::End => self.goal.is_some() && !self.ended,
+        }
+    }
+
+    /// Whether a statement has its place behind the lines so far, and its place in the canonical order.
+    fn fits_in_order(&self, statement: &Statement) -> bool
+        requires { KeepsRules (part_of self.now) }
+        ensures { IsTrue result ↔ (FitsAfter (part_of self.now) (statement_of statement.now) × IsInOrder (part_of self.now) (statement_of statement.now)) }
+    {
+        self.fits(statement) && self.is_in_order(statement)
+    }
+
+    /// Whether no obstacle stands before a target.
+    fn is_in_order(&self, statement: &Statement) -> bool
+        ensures { IsTrue result ↔ IsInOrder (part_of self.now) (statement_of statement.now) }
+    {
+        match statement {
+            Statement::Target(_) => self.obstacles.is_empty(),
+            _ => true,
+        }
+    }
+
+    fn takes_state(&self) -> bool
+        ensures { IsTrue result ↔ ((self.now.begun ≡ true) × (self.now.variables.inputs.items ≡ []) × (self.now.variables.noises.items ≡ []) × (self.now.equations.items ≡ []) × (length self.now.variables.states.items < 6)) }
+    {
+        self.begun
+            && self.variables.inputs.is_empty()
+            && self.variables.noises.is_empty()
+            && self.equations.is_empty()
+            && self.variables.states.len() < 6
+    }
+
+    fn takes_input(&self) -> bool
+        ensures { IsTrue result ↔ ((1 ≤ length self.now.variables.states.items) × (self.now.variables.noises.items ≡ []) × (self.now.equations.items ≡ []) × (length self.now.variables.inputs.items < 3)) }
+    {
+        !self.variables.states.is_empty()
+            && self.variables.noises.is_empty()
+            && self.equations.is_empty()
+            && self.variables.inputs.len() < 3
+    }
+
+    fn takes_noise(&self) -> bool
+        ensures { IsTrue result ↔ ((1 ≤ length self.now.variables.states.items) × (self.now.equations.items ≡ []) × (length self.now.variables.noises.items < 6)) }
+    {
+        !self.variables.states.is_empty()
+            && self.equations.is_empty()
+            && self.variables.noises.len() < 6
+    }
+
+    fn is_new(&self, name: &Name) -> bool
+        requires { KeepsRules (part_of self.now) }
+        ensures { IsTrue result ↔ IsNewIn (part_of self.now) name.now }
+    {
+        match self.variables.place_of(name.as_bytes()) {
+            Some(_) => false,
+            None => true,
+        }
+    }
+
+    /// Whether the next equation is that of this state.
+    fn is_next(&self, state: &[u8]) -> bool
+        ensures { IsTrue result ↔ ((length (part_of self.now).equations < length (part_of self.now).states) × (slice_index_or (names_in (part_of self.now)) (length (part_of self.now).equations) [] ≡ state.now)) }
+    {
+        match self.variables.states.get(self.equations.len()) {
+            Some(next) => next.name.as_bytes() == state,
+            None => false,
+        }
+    }
+
+    /// Whether all equations stand, and no goal yet.
+    fn takes_boxes(&self) -> bool
+        ensures { IsTrue result ↔ (HasEquations (part_of self.now) × ((part_of self.now).goal ≡ None)) }
+    {
+        !self.variables.states.is_empty()
+            && self.equations.len() == self.variables.states.len()
+            && self.goal.is_none()
+    }
+
+    fn takes_goal(&self, kind: GoalKind) -> bool
+        ensures { IsTrue result ↔ (kind ≡ Keep → (part_of self.now).targets ≡ []) }
+    {
+        kind == GoalKind::Reach || self.targets.is_empty()
+    }
+
+    fn add(&mut self, statement: Statement) -> Result<(), ReadFault>
+        ensures added { OnOk result (part_of self.new ≡ extended (part_of self.old) (statement_of statement.entry)) }
+        ensures memory { result ≢ Err Malformed }
+    {
+        match statement {
+            Statement::Version => self.begun = true,
+            Statement::State(s) => self.variables.states.push(s)?,
+            Statement::Input(i) => self.variables.inputs.push(i)?,
+            Statement::Noise(w) => self.variables.noises.push(w)?,
+            Statement::Next { state: _, equation } => self.equations.push(equation)?,
+            Statement::Target(b) => self.targets.push(b)?,
+            Statement::Obstacle(b) => self.obstacles.push(b)?,
+            Statement::Goal(kind) => self.goal = Some(kind),
+            Statement::End => self.ended = true,
+        }
+        Ok(())
+    }
+}

@@ -1,0 +1,63 @@
+ghost use Rattle.std.specs.Prelude.{◌≡◌, ◌≢◌, ◌<◌, IfOk, IfErr, true};
+ghost use Rattle.plant_text.specs.declared.fault.PlantFault.TheVariants.{Memory};
+ghost use Rattle.plant_reading.specs.Lines.{lines_of};
+ghost use Rattle.plant_text.specs.Grammar.{Reads, Spells};
+ghost use Rattle.plant_record.specs.Limits.{IsWithinLimits};
+ghost use Rattle.plant_text.specs.Refusals.{IsShort, IsRefusedFor};
+ghost use Rattle.plant_text.specs.inside.PartRules.{KeepsRules};
+ghost use Rattle.plant_text.specs.inside.DraftsInMemory.{part_of};
+
+use crate::draft::Draft;
+use crate::fault::PlantFault;
+use plant_reading::{ReadFault, next_line};
+use plant_record::{LimitKind, Plant};
+use std::alloc::Global;
+
+/// The most bytes of a plant text.
+pub const TEXT_LIMIT: usize = 65_536;
+
+/// Reads the plant that a text spells, or answers why the text is refused: the first reason that
+/// applies. It goes over the bytes once, and keeps no copy of the text.
+pub fn read_plant(alloc: Global, bytes: &[u8]) -> Result<Plant, PlantFault>
+    ensures short { IfOk result (λ _. IsShort bytes.now) }
+    ensures spelled { IfOk result (λ p. Spells bytes.now p) }
+    ensures limits { IfOk result (λ p. IsWithinLimits p) }
+    ensures refused { IfErr result (λ fault. fault ≢ Memory → IsRefusedFor bytes.now fault) }
+{
+    if bytes.len() > TEXT_LIMIT {
+        return Err(PlantFault::Limit {
+            what: LimitKind::PlantText,
+        });
+    }
+    let draft = read_lines(alloc, bytes)?;
+    match draft.finish() {
+        Ok(plant) => Ok(plant),
+        Err(what) => Err(PlantFault::Limit { what }),
+    }
+}
+
+/// Reads the lines of a text, the last of which is `end` but for those that are passed over.
+fn read_lines(alloc: Global, bytes: &[u8]) -> Result<Draft, PlantFault>
+    requires { IsShort bytes.now }
+    ensures read { IfOk result (λ d. Reads (lines_of bytes.now) (part_of d)) }
+    ensures rules { IfOk result (λ d. KeepsRules (part_of d)) }
+    ensures closed { IfOk result (λ d. d.ended ≡ true) }
+    ensures refused { IfErr result (λ fault. fault ≢ Memory → IsRefusedFor bytes.now fault) }
+{
+    let mut draft = Draft::new(alloc);
+    let mut rest = bytes;
+    let mut number: u32 = 1;
+    while let Some((line, after)) = next_line(rest) {
+        match draft.read_line(alloc, line) {
+            Ok(()) => {}
+            Err(ReadFault::Malformed) => return Err(PlantFault::Malformed { line: number }),
+            Err(ReadFault::Memory) => return Err(PlantFault::Memory),
+        }
+        rest = after;
+        number += 1;
+    }
+    if !draft.has_ended() {
+        return Err(PlantFault::Malformed { line: number });
+    }
+    Ok(draft)
+}

@@ -1,5 +1,0 @@
-mod canonical_texts;
-mod fronts;
-mod lines;
-mod plants;
-mod refused_texts;

@@ -1,0 +1,3 @@
+pub mod CanonicalText
+pub mod ExpressionText
+pub mod inside

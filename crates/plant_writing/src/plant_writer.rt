@@ -1,0 +1,198 @@
+// The canonical text of a plant.
+
+ghost use Rattle.std.specs.Prelude.{◌≡◌, ◌≤◌, ◌++◌, [], ◌∷◌, length, codes, IfOk, OnOk, OnErr};
+ghost use Rattle.std.specs.List.{flat_map};
+ghost use Rattle.std.specs.Fmt.{signed_decimal};
+ghost use Rattle.fixed_expr.specs.Expression.{expression_of};
+ghost use Rattle.fixed_expr.specs.Value.{IsWellFormed};
+ghost use Rattle.plant_record.specs.Description.{names_of};
+ghost use Rattle.plant_writing.specs.CanonicalText.{text_of, state_line, input_line, noise_line, equation_line, equation_lines, box_line};
+ghost use Rattle.plant_record.specs.Spelling.{line, goal_word};
+
+use crate::expression_writer::{Level, push_expression, push_number};
+use fixed_expr::Expr;
+use plant_record::laws::every_plant_is_within_limits;
+use plant_record::{
+    GoalKind, InputVariable, Names, NoMemory, NoiseVariable, Plant, StateBox, StateVariable,
+};
+use std::alloc::{AllocError, Global};
+
+/// Appends the canonical text of a plant.
+pub fn write_plant(alloc: Global, p: &Plant, to: &mut Vec<u8>) -> Result<(), NoMemory>
+    ensures written { OnOk result (to.new.items ≡ to.old.items ++ text_of p.now) }
+    ensures unchanged { OnErr result (to.new.items ≡ to.old.items) }
+{
+    let text = text_of(alloc, p)?;
+    to.extend_from_slice(&text)?;
+    Ok(())
+}
+
+fn text_of(alloc: Global, p: &Plant) -> Result<Vec<u8>, AllocError>
+    ensures { IfOk result (λ text. text.items ≡ text_of p.now) }
+{
+    every_plant_is_within_limits(p);
+    let states = p.state_list().len();
+    let mut text = Vec::from_slice(alloc, b"plant 1\n")?;
+    push_states(&mut text, p.state_list())?;
+    push_inputs(&mut text, p.input_list())?;
+    push_noises(&mut text, p.noise_list())?;
+    push_equations(&mut text, p)?;
+    push_boxes(&mut text, b"target", states, p.target_list())?;
+    push_boxes(&mut text, b"obstacle", states, p.obstacle_list())?;
+    text.extend_from_slice(goal_line(p.goal()))?;
+    text.extend_from_slice(b"end\n")?;
+    Ok(text)
+}
+
+pub fn goal_line(goal: GoalKind) -> &'static [u8]
+    ensures { result.now ≡ line (codes "goal" ∷ goal_word goal ∷ []) }
+{
+    match goal {
+        GoalKind::Reach => b"goal reach\n",
+        GoalKind::Keep => b"goal keep\n",
+    }
+}
+
+#[tactic(auto, using(crate::proofs::lemmas::WrittenLines::pieces_more))]
+fn push_states(text: &mut Vec<u8>, states: &[StateVariable]) -> Result<(), AllocError>
+    ensures { OnOk result (text.new.items ≡ text.old.items ++ flat_map state_line states.now) }
+{
+    for state in states {
+        push_state(text, state)?;
+    }
+    Ok(())
+}
+
+pub fn push_state(text: &mut Vec<u8>, state: &StateVariable) -> Result<(), AllocError>
+    ensures { OnOk result (text.new.items ≡ text.old.items ++ state_line state.now) }
+{
+    text.extend_from_slice(b"state ")?;
+    text.extend_from_slice(state.name.as_bytes())?;
+    push_spaced(text, state.low)?;
+    push_spaced(text, state.high)?;
+    push_spaced(text, state.width)?;
+    text.extend_from_slice(b"\n")?;
+    Ok(())
+}
+
+#[tactic(auto, using(crate::proofs::lemmas::WrittenLines::pieces_more))]
+fn push_inputs(text: &mut Vec<u8>, inputs: &[InputVariable]) -> Result<(), AllocError>
+    ensures { OnOk result (text.new.items ≡ text.old.items ++ flat_map input_line inputs.now) }
+{
+    for input in inputs {
+        push_input(text, input)?;
+    }
+    Ok(())
+}
+
+pub fn push_input(text: &mut Vec<u8>, input: &InputVariable) -> Result<(), AllocError>
+    ensures { OnOk result (text.new.items ≡ text.old.items ++ input_line input.now) }
+{
+    text.extend_from_slice(b"input ")?;
+    text.extend_from_slice(input.name.as_bytes())?;
+    push_values(text, input.values.as_slice())?;
+    text.extend_from_slice(b"\n")?;
+    Ok(())
+}
+
+#[tactic(auto, using(crate::proofs::lemmas::WrittenLines::pieces_more))]
+fn push_values(text: &mut Vec<u8>, values: &[i128]) -> Result<(), AllocError>
+    ensures { OnOk result (text.new.items ≡ text.old.items ++ flat_map (λ z. 32 ∷ signed_decimal z) values.now) }
+{
+    for value in values {
+        push_spaced(text, *value)?;
+    }
+    Ok(())
+}
+
+#[tactic(auto, using(crate::proofs::lemmas::WrittenLines::pieces_more))]
+fn push_noises(text: &mut Vec<u8>, noises: &[NoiseVariable]) -> Result<(), AllocError>
+    ensures { OnOk result (text.new.items ≡ text.old.items ++ flat_map noise_line noises.now) }
+{
+    for noise in noises {
+        push_noise(text, noise)?;
+    }
+    Ok(())
+}
+
+pub fn push_noise(text: &mut Vec<u8>, noise: &NoiseVariable) -> Result<(), AllocError>
+    ensures { OnOk result (text.new.items ≡ text.old.items ++ noise_line noise.now) }
+{
+    text.extend_from_slice(b"noise ")?;
+    text.extend_from_slice(noise.name.as_bytes())?;
+    push_spaced(text, noise.low)?;
+    push_spaced(text, noise.high)?;
+    text.extend_from_slice(b"\n")?;
+    Ok(())
+}
+
+fn push_equations(text: &mut Vec<u8>, p: &Plant) -> Result<(), AllocError>
+    ensures { OnOk result (text.new.items ≡ text.old.items ++ equation_lines (names_of p.now) p.now.states p.now.equations) }
+{
+    every_plant_is_within_limits(p);
+    let names = p.names();
+    for i in 0..p.states() {
+        push_equation(text, &names, p.name(i).as_bytes(), p.equation(i))?;
+    }
+    Ok(())
+}
+
+/// The line of one state's equation.
+pub fn push_equation(
+    text: &mut Vec<u8>,
+    names: &Names<'_>,
+    state: &[u8],
+    equation: &Expr,
+) -> Result<(), AllocError>
+    requires { IsWellFormed (expression_of equation.now) (length names.now) }
+    ensures { OnOk result (text.new.items ≡ text.old.items ++ equation_line names.now state.now (expression_of equation.now)) }
+{
+    text.extend_from_slice(b"next ")?;
+    text.extend_from_slice(state)?;
+    text.extend_from_slice(b" = ")?;
+    push_expression(text, names, Level::Sum, equation)?;
+    text.extend_from_slice(b"\n")?;
+    Ok(())
+}
+
+#[tactic(auto, using(crate::proofs::lemmas::WrittenLines::pieces_more))]
+fn push_boxes(
+    text: &mut Vec<u8>,
+    keyword: &[u8],
+    states: usize,
+    boxes: &[StateBox],
+) -> Result<(), AllocError>
+    requires { states ≤ 6 }
+    ensures { OnOk result (text.new.items ≡ text.old.items ++ flat_map (box_line keyword.now states) boxes.now) }
+{
+    for b in boxes {
+        push_box(text, keyword, states, b)?;
+    }
+    Ok(())
+}
+
+pub fn push_box(
+    text: &mut Vec<u8>,
+    keyword: &[u8],
+    states: usize,
+    b: &StateBox,
+) -> Result<(), AllocError>
+    requires { states ≤ 6 }
+    ensures { OnOk result (text.new.items ≡ text.old.items ++ box_line keyword.now states b.now) }
+{
+    text.extend_from_slice(keyword)?;
+    for i in 0..states {
+        push_spaced(text, b.low[i])?;
+        push_spaced(text, b.high[i])?;
+    }
+    text.extend_from_slice(b"\n")?;
+    Ok(())
+}
+
+/// A space and a number.
+fn push_spaced(text: &mut Vec<u8>, number: i128) -> Result<(), AllocError>
+    ensures { OnOk result (text.new.items ≡ text.old.items ++ 32 ∷ signed_decimal number) }
+{
+    text.extend_from_slice(b" ")?;
+    push_number(text, number)
+}
