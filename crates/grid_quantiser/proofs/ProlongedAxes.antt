@@ -1,5 +1,5 @@
 -- Places on an axis that is prolonged by its own length below, and sides that are moved from there.
-use Rattle.std.proofs.Common.{◌≡◌, ◌⊎◌, ℕ, ◌+◌, ◌-◌, ◌*◌, ◌/◌, ◌^◌, ◌<◌, ◌≤◌, arith, refl, ap, sym, subst, subst₂, List, All, length, get_or, ◌∙◌, ℤ, pos, nat_abs, ◌+ℤ◌, ◌-ℤ◌, ◌*ℤ◌, ◌<ℤ◌, ◌≤ℤ◌, Option, None, Some, IfSome, inl, inr}
+use Rattle.std.proofs.Common.{◌≡◌, ◌⊎◌, ℕ, ◌+◌, ◌-◌, ◌*◌, ◌/◌, ◌^◌, ◌<◌, ◌≤◌, arith, refl, ap, sym, subst, List, All, length, get_or, ◌∙◌, ℤ, pos, nat_abs, ◌+ℤ◌, ◌-ℤ◌, ◌*ℤ◌, ◌<ℤ◌, ◌≤ℤ◌, Option, None, Some, IfSome, inl, inr}
 use Rattle.std.proofs.lemmas.Int.{ints}
 use Rattle.std.specs.Int.Signed.{pos-nat_abs, yes_non_neg}
 use Rattle.std.proofs.Math.Nat.{mul_comm, mul-add, add-mul-div_left, mul-le-mul_left}
@@ -17,13 +17,6 @@ use Rattle.grid_quantiser.proofs.AxisNumbers.{some_width, widths_is, offset_is, 
 -- one axis of a grid
 pub axis_at : (axes given : List Axis) (i : ℕ) → axes ≡ given → AreAxes axes → i < length given → IsAxis (get_or given i no_axis)
 axis_at axes given i same grid within = All-get_or IsAxis given i no_axis within (subst (λ (l : List Axis). All IsAxis l) same grid.each)
-
--- a side on the prolonged axis is one of what lies so many places after
-pub before : (a : Axis) (d : ℕ) (low high : ℤ) (side : Option Side) → low ≤ℤ high → IsSideOf (prolonged a) low high side → (l : ℤ) × (h : ℤ) × (l ≤ℤ h) × IsSideBefore a d l h side
-before a d low high side order is =
-    let step : ℤ = a.width *ℤ pos d in
-    let back : (x : ℤ) → x ≡ (x +ℤ step) -ℤ step = λ x. omega (arith, ints) in
-    (low +ℤ step, high +ℤ step, omega (arith, ints, order), subst₂ (λ (x y : ℤ). IsSideOf (prolonged a) x y side) (back low) (back high) is)
 
 -- a place on an axis is one on the prolonged axis
 pub within_both : (n : ℕ) (place : Option ℕ) → IfSome place (λ p. p < n) → IfSome place (λ p. p < n + n)

@@ -14,8 +14,6 @@ pub mod laws;
 mod runs;
 mod shares;
 mod sides;
-#[cfg(test)]
-mod tests;
 
 pub use axis::Axis;
 pub use boxes::CellBox;

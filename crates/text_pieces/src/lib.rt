@@ -9,6 +9,3 @@ mod pieces;
 
 pub use copying::copy_front;
 pub use pieces::Pieces;
-
-#[cfg(test)]
-mod tests;

@@ -1,0 +1,123 @@
+// fixed_expr
+
+use fixed_expr::{Expr, LANES, eval, eval_rows};
+use std::alloc::{AllocError, Global};
+use std::test::Fail;
+
+/// -5 / 2 is -2.5 and 5 / 2 is 2.5. -(2^64 + 1) / 2 is half below -2^63, past 64 bits.
+fn halves_round_down(alloc: Global) -> Result<bool, AllocError> {
+    let half = Expr::Div(Box::new(alloc, Expr::Var(0))?, 2);
+    Ok(
+        eval(&half, &[-5]) == Some(-3)
+            && eval(&half, &[5]) == Some(2)
+            && eval(&half, &[-(1 << 64) - 1]) == Some(-(1 << 63) - 1),
+    )
+}
+
+#[test]
+fn quotients_round_down(rt: HostRuntime) -> Result<(), Fail> {
+    assert!(rt; halves_round_down(rt.alloc())?);
+    Ok(())
+}
+
+/// 2^64 * 2^64 is 2^128.
+fn square_of_2_to_64_has_no_value(alloc: Global) -> Result<bool, AllocError> {
+    let square = Expr::Mul(
+        Box::new(alloc, Expr::Var(0))?,
+        Box::new(alloc, Expr::Var(0))?,
+    );
+    Ok(eval(&square, &[1 << 64]) == None && eval(&square, &[1 << 32]) == Some(1 << 64))
+}
+
+#[test]
+fn values_past_the_range_are_none(rt: HostRuntime) -> Result<(), Fail> {
+    assert!(rt; square_of_2_to_64_has_no_value(rt.alloc())?);
+    Ok(())
+}
+
+fn least_number_has_no_value() -> bool {
+    eval(&Expr::Num(i128::MIN), &[]) == None && eval(&Expr::Num(i128::MAX), &[]) == Some(i128::MAX)
+}
+
+#[test]
+fn the_least_128_bit_number_is_out_of_range(rt: HostRuntime) {
+    assert!(rt; least_number_has_no_value());
+}
+
+/// min(|x0|, max(x1 / 4, x0 - 3)), where -7 / 4 is -1.75 and its floor -2: at (-9, -7) the lesser of 9 and
+/// max(-2, -12), at (5, 8) of 5 and max(2, 2), at (-1, 9) of 1 and max(2, -4).
+fn rows_have_their_values(alloc: Global) -> Result<bool, AllocError> {
+    let quarter = Expr::Div(Box::new(alloc, Expr::Var(1))?, 4);
+    let difference = Expr::Sub(
+        Box::new(alloc, Expr::Var(0))?,
+        Box::new(alloc, Expr::Num(3))?,
+    );
+    let greater = Expr::Max(Box::new(alloc, quarter)?, Box::new(alloc, difference)?);
+    let size = Expr::Abs(Box::new(alloc, Expr::Var(0))?);
+    let e = Expr::Min(Box::new(alloc, size)?, Box::new(alloc, greater)?);
+    let mut columns = [[5; LANES], [8; LANES]];
+    columns[0][0] = -9;
+    columns[1][0] = -7;
+    columns[0][31] = -1;
+    columns[1][31] = 9;
+    let mut found = [0; LANES];
+    Ok(
+        eval_rows(&e, &columns, &mut found) == Some(())
+            && [found[0], found[1], found[30], found[31]] == [-2, 2, 2, 1]
+            && eval(&e, &[-9, -7]) == Some(-2),
+    )
+}
+
+#[test]
+fn each_row_has_its_own_value(rt: HostRuntime) -> Result<(), Fail> {
+    assert!(rt; rows_have_their_values(rt.alloc())?);
+    Ok(())
+}
+
+/// -2^62 * 2 is -2^63, the least number of 64 bits, and 2^62 * 2 is 2^63, one more than 64 bits hold.
+fn one_row_decides(alloc: Global) -> Result<bool, AllocError> {
+    let double = Expr::Mul(
+        Box::new(alloc, Expr::Var(0))?,
+        Box::new(alloc, Expr::Num(2))?,
+    );
+    let mut columns = [[-(1 << 62); LANES]];
+    let mut found = [0; LANES];
+    let fits = eval_rows(&double, &columns, &mut found) == Some(()) && found[31] == i64::MIN;
+    columns[0][31] = 1 << 62;
+    Ok(fits && eval_rows(&double, &columns, &mut found) == None)
+}
+
+#[test]
+fn one_row_past_64_bits_leaves_no_answer(rt: HostRuntime) -> Result<(), Fail> {
+    assert!(rt; one_row_decides(rt.alloc())?);
+    Ok(())
+}
+
+/// ((x1 + (x0 + x0)) + 3 * x3) - x2 mentions the first four variables, and moves with x1 alone: with x0 it moves twice as far.
+fn only_a_summand_of_its_own_moves(alloc: Global) -> Result<bool, AllocError> {
+    let double = Expr::Add(
+        Box::new(alloc, Expr::Var(0))?,
+        Box::new(alloc, Expr::Var(0))?,
+    );
+    let product = Expr::Mul(
+        Box::new(alloc, Expr::Num(3))?,
+        Box::new(alloc, Expr::Var(3))?,
+    );
+    let inner = Expr::Add(Box::new(alloc, Expr::Var(1))?, Box::new(alloc, double)?);
+    let sum = Expr::Add(Box::new(alloc, inner)?, Box::new(alloc, product)?);
+    let e = Expr::Sub(Box::new(alloc, sum)?, Box::new(alloc, Expr::Var(2))?);
+    let mentioned = [e.mentions(0), e.mentions(1), e.mentions(2), e.mentions(3)];
+    let moving = [
+        e.moves_with(0),
+        e.moves_with(1),
+        e.moves_with(2),
+        e.moves_with(3),
+    ];
+    Ok(mentioned == [true; 4] && !e.mentions(4) && moving == [false, true, false, false])
+}
+
+#[test]
+fn a_difference_moves_with_a_summand_of_its_own(rt: HostRuntime) -> Result<(), Fail> {
+    assert!(rt; only_a_summand_of_its_own_moves(rt.alloc())?);
+    Ok(())
+}

@@ -1,0 +1,54 @@
+// interval_eval
+
+use fixed_expr::Expr;
+use interval_eval::{Interval, span};
+use std::alloc::{AllocError, Global};
+use std::test::Fail;
+
+fn interval(lo: i128, hi: i128) -> Interval {
+    Interval { lo, hi }
+}
+
+/// Over -3 to 2 the products of ends are 9, -6, -6 and 4. 2^64 * 2^64 is 2^128.
+fn square_takes_all_corners(alloc: Global) -> Result<bool, AllocError> {
+    let square = Expr::Mul(
+        Box::new(alloc, Expr::Var(0))?,
+        Box::new(alloc, Expr::Var(0))?,
+    );
+    Ok(
+        span(&square, &[interval(-3, 2)]) == Some(interval(-6, 9))
+            && span(&square, &[interval(0, 1 << 64)]) == None,
+    )
+}
+
+#[test]
+fn a_product_takes_all_corners(rt: HostRuntime) -> Result<(), Fail> {
+    assert!(rt; square_takes_all_corners(rt.alloc())?);
+    Ok(())
+}
+
+fn absolute_values_reach_down_to_0(alloc: Global) -> Result<bool, AllocError> {
+    let e = Expr::Abs(Box::new(alloc, Expr::Var(0))?);
+    Ok(
+        span(&e, &[interval(-3, 2)]) == Some(interval(0, 3))
+            && span(&e, &[interval(-3, -2)]) == Some(interval(2, 3)),
+    )
+}
+
+#[test]
+fn absolute_values_reach_down_to_0_where_the_range_holds_it(rt: HostRuntime) -> Result<(), Fail> {
+    assert!(rt; absolute_values_reach_down_to_0(rt.alloc())?);
+    Ok(())
+}
+
+/// -5 / 2 is -2.5 and 5 / 2 is 2.5.
+fn half_of_both_ends_rounds_down(alloc: Global) -> Result<bool, AllocError> {
+    let half = Expr::Div(Box::new(alloc, Expr::Var(0))?, 2);
+    Ok(span(&half, &[interval(-5, 5)]) == Some(interval(-3, 2)))
+}
+
+#[test]
+fn both_ends_of_a_quotient_round_down(rt: HostRuntime) -> Result<(), Fail> {
+    assert!(rt; half_of_both_ends_rounds_down(rt.alloc())?);
+    Ok(())
+}
