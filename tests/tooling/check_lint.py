@@ -112,6 +112,8 @@ def check_cases(report):
     for folder in sorted((report.top / "tests" / "cases" / "synth").iterdir()):
         if not folder.is_dir() or any((folder / name).exists() for name in ("words", "stdin", "stdout")):
             continue
+        if text_of(report, folder).startswith(b"plant 2") and not report.reads_version_2():
+            continue
         error = (folder / "error").read_text() if (folder / "error").exists() else ""
         refused = error.startswith(("malformed", "limit", "overflow"))
         done, output, complaint = report.tool("lint", "-", data=text_of(report, folder))

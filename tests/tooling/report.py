@@ -33,6 +33,10 @@ class Report:
         done = subprocess.run([str(self.program), *words], input=data, capture_output=True, check=False)
         return done.returncode, done.stdout, done.stderr
 
+    def reads_version_2(self):
+        """Whether the program reads plants of version 2."""
+        return self.run(("synth", "1"), self.plant_text("line").replace(b"plant 1", b"plant 2"))[0] == 0
+
     def examples(self):
         """The names of the examples that are plants."""
         return sorted(path.stem for path in self.top.glob("examples/*/*.plant"))

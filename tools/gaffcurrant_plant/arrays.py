@@ -53,18 +53,23 @@ class Cells:
         rank, choice = int(self.ranks[cell]), int(self.inputs[cell])
         return None if rank == NONE else rank, None if choice == NONE else choice
 
-    def seen(self, axes, fixed):
-        """Rank, input and whether there is a row, over the places of one or two axes. The other states are fixed at a
-        place, or the cell of the least rank is taken over all of their places."""
+    def arranged(self, values, axes, fixed):
+        """Values of cells over the places of some axes, and behind them over those of the other states that aren't fixed."""
         counts = self.plant.counts
         others = [i for i in range(len(counts)) if i not in axes]
-        order = list(axes) + others
         chosen = tuple([slice(None)] * len(axes) + [fixed.get(i, slice(None)) for i in others])
+        part = values.reshape(counts).transpose(list(axes) + others)[chosen]
+        return part.reshape([counts[i] for i in axes] + [-1])
 
-        def arranged(values):
-            part = values.reshape(counts).transpose(order)[chosen]
-            return part.reshape([counts[i] for i in axes] + [-1])
+    def seen(self, axes, fixed):
+        """Rank, input and whether there is a row, over the places of some axes. The other states are fixed at a place, or the cell
+        of the least rank is taken over all of their places."""
+        won = self.arranged(self.won, axes, fixed)
+        ranks = self.arranged(self.ranks, axes, fixed)
+        best = numpy.where(won, ranks, numpy.iinfo(numpy.int64).max).argmin(axis=-1)[..., None]
+        parts = (ranks, self.arranged(self.inputs, axes, fixed), won)
+        return [numpy.take_along_axis(part, best, -1)[..., 0] for part in parts]
 
-        won = arranged(self.won)
-        best = numpy.where(won, arranged(self.ranks), numpy.iinfo(numpy.int64).max).argmin(axis=-1)[..., None]
-        return [numpy.take_along_axis(arranged(values), best, -1)[..., 0] for values in (self.ranks, self.inputs, self.won)]
+    def share(self, axes, fixed):
+        """Over the places of some axes, the share of the places of the other states that have a row."""
+        return self.arranged(self.won, axes, fixed).mean(axis=-1)

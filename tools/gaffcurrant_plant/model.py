@@ -1,5 +1,6 @@
 """Reads a model with real coefficients, for tools/scale, whose --help gives the lines of its text."""
 
+import re
 from fractions import Fraction
 
 from .command import Trouble
@@ -14,6 +15,7 @@ class Model:
         self.states, self.inputs, self.noises = [], [], []
         self.equations, self.rows = [], {"A": [], "B": [], "c": [], "w": []}
         self.boxes, self.goal = [], None
+        self.words = {}
 
     def names(self):
         return [entry[0] for entry in self.states + self.inputs + self.noises]
@@ -22,7 +24,7 @@ class Model:
 def read_model(data):
     """The model that a text spells; raises Trouble with the line."""
     model = Model()
-    for number, line in enumerate(data.decode("utf-8", "replace").splitlines(), 1):
+    for number, line in enumerate(data.decode("utf-8", "replace").lstrip("\ufeff").splitlines(), 1):
         words = line.split("#")[0].split()
         if not words:
             continue
@@ -56,6 +58,10 @@ def read_line(model, words):
         model.sample = numbers(rest, 1)[0]
         if model.sample <= 0:
             fail("a sampling time is above 0")
+    elif keyword == "unit":
+        if len(rest) != 2 or rest[0] not in model.names() or not re.match(r"[^\s:]{1,16}\Z", rest[1]):
+            fail("`unit NAME WORD` has the name of a state or an input, and a word for its unit, of at most 16 characters and no colon")
+        model.words[rest[0]] = rest[1]
     elif keyword in ("state", "input", "noise"):
         read_variable(model, keyword, rest)
     elif keyword == "next":
