@@ -2,10 +2,12 @@
 the inside is seen, the targets' edges, and runs."""
 
 import itertools
+import math
 
 from . import drawing
 
 BLOCKS = 18
+ELEVATION, AZIMUTH = 26, -52
 
 
 def blocks_of(colouring, counts):
@@ -37,11 +39,19 @@ def draw_solid(figure, axes, view, colouring):
     low, high = colouring.limits()
     palette = colouring.palette()
     colours = palette((numbers - low) / ((high - low) or 1))
-    axes.voxels(*numpy.meshgrid(*edges, indexing="ij"), filled, facecolors=colours, edgecolor=(0, 0, 0, 0.12), linewidth=0.2)
+    faces = axes.voxels(*numpy.meshgrid(*edges, indexing="ij"), filled, facecolors=colours, edgecolor=(0, 0, 0, 0.12), linewidth=0.2)
+    for block, face in faces.items():
+        face.set_zorder(1 + sum(part * (place + 0.5) / size for part, place, size in zip(towards_viewer(), block, filled.shape)))
     if colouring.is_named:
         return [Patch(facecolor=palette(i), label=view.input_said(number)) for i, number in enumerate(colouring.present)]
     drawing.draw_bar(figure, axes, (low, high), colouring.label(), not colouring.is_share, 0.12)
     return []
+
+
+def towards_viewer():
+    """The direction from the middle to the viewer."""
+    elevation, azimuth = map(math.radians, (ELEVATION, AZIMUTH))
+    return math.cos(elevation) * math.cos(azimuth), math.cos(elevation) * math.sin(azimuth), math.sin(elevation)
 
 
 def frame_solid(axes, view):
@@ -50,9 +60,9 @@ def frame_solid(axes, view):
         set_range(*view.range(place))
         set_label(view.label(place), fontsize=9)
     axes.tick_params(labelsize=7)
-    # Edges and runs lie above the blocks, also where these would hide them.
+    # Blocks have their order from draw_solid; edges and runs lie above them, also where these would hide them.
     axes.computed_zorder = False
-    axes.view_init(elev=26, azim=-52)
+    axes.view_init(elev=ELEVATION, azim=AZIMUTH)
 
 
 def draw_edges(axes, view):
@@ -65,7 +75,7 @@ def draw_edges(axes, view):
                     for place, i in enumerate(view.axes)]
             for one, other in itertools.combinations(itertools.product(*ends), 2):
                 if sum(a != b for a, b in zip(one, other)) == 1:
-                    axes.plot(*zip(one, other), color=colour, linewidth=1.4, zorder=20)
+                    axes.plot(*zip(one, other), color=colour, linewidth=1.6 if colour == drawing.TARGET else 0.7, zorder=20)
         if any(map(view.meets, boxes)):
             entries.append(Line2D([], [], color=colour, linewidth=1.4, label=label))
     return entries
