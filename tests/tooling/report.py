@@ -2,13 +2,17 @@
 
 import subprocess
 import sys
+import tempfile
 from functools import lru_cache
+from pathlib import Path
 
 
 class Report:
     def __init__(self, top, program):
         self.top, self.program = top, program
         self.passed = self.failed = 0
+        self._room = tempfile.TemporaryDirectory()
+        self.room = Path(self._room.name)
 
     def expect(self, what, wanted, got):
         """Counts a comparison, and prints it where it failed."""

@@ -4,8 +4,9 @@ import re
 from fractions import Fraction
 
 from .command import Trouble
+from .halfplane import HalfPlane
 from .polynomial import Fault, added, number_of, parse
-from .reader import NAME, NO_NAMES
+from .reader import MOST, NAME, NO_NAMES
 from .sampling import TooLong, sampled
 
 
@@ -14,7 +15,7 @@ class Model:
         self.denominator = self.sample = None
         self.states, self.inputs, self.noises = [], [], []
         self.equations, self.rows = [], {"A": [], "B": [], "c": [], "w": []}
-        self.boxes, self.goal = [], None
+        self.boxes, self.half_planes, self.goal = [], [], None
         self.words = {}
 
     def names(self):
@@ -40,7 +41,28 @@ def read_model(data):
         raise Trouble("`sample` is for a linear system alone, of lines A, B and c; `next` lines are sampled already")
     if len(model.equations) != len(model.states):
         raise Trouble(f"there are {len(model.states)} states and {len(model.equations)} equations")
+    cover_half_planes(model)
     return model
+
+
+def cover_half_planes(model):
+    """Boxes for the half-planes, which share the obstacles that are left evenly."""
+    left = MOST["obstacle"] - sum(keyword == "obstacle" for keyword, _ in model.boxes)
+    for number, half_plane in enumerate(model.half_planes):
+        boxes = half_plane.boxes(max(1, left // (len(model.half_planes) - number)))
+        left -= len(boxes)
+        model.boxes += [("obstacle", box) for box in boxes]
+
+
+def half_plane_of(model, words):
+    """The half-plane of an inequality `SUM < SUM` or `SUM > SUM`."""
+    text = " ".join(words)
+    sides = re.split("[<>]", text)
+    if len(sides) != 2:
+        fail("an inequality has one `<` or `>`")
+    names = [state[0] for state in model.states]
+    left, right = (parse(side, names) for side in (sides if "<" in text else sides[::-1]))
+    return HalfPlane(added(left, right, -1), model.states)
 
 
 def fail(said):
@@ -73,6 +95,8 @@ def read_line(model, words):
     elif keyword in model.rows:
         size = {"A": len(model.states), "B": len(model.inputs), "c": 1, "w": 2}[keyword]
         model.rows[keyword].append(numbers(rest, size))
+    elif keyword == "obstacle" and ("<" in " ".join(rest) or ">" in " ".join(rest)):
+        model.half_planes.append(half_plane_of(model, rest))
     elif keyword in ("target", "obstacle"):
         ends = numbers(rest, 2 * len(model.states))
         model.boxes.append((keyword, list(zip(ends[::2], ends[1::2]))))

@@ -7,11 +7,35 @@ from .reader import Refused, lines_of, read_lines
 NUMBER = re.compile(r"(0|[1-9][0-9]*)\Z")
 
 
+class NoRow(LookupError):
+    """A state is outside the domain, or its cell has no row: the table promises nothing there."""
+
+
 class Table:
     """rows: for a cell with a row its rank (None with goal keep) and its input (None at rank 0)."""
 
     def __init__(self, plant, rows, version=1):
         self.plant, self.rows, self.version = plant, rows, version
+
+    def row(self, state):
+        """Rank and input of the row of a state's cell; raises NoRow. A state has a whole number for each of the plant's."""
+        state = [int(value) for value in state]
+        if len(state) != len(self.plant.states):
+            names = ", ".join(name for name, *_ in self.plant.states)
+            raise ValueError(f"a state has {len(self.plant.states)} numbers ({names}), here are {len(state)}")
+        row = self.rows.get(self.plant.cell_of(state))
+        if row is None:
+            raise NoRow(f"{state} has no row")
+        return row
+
+    def rank(self, state):
+        """The number of samples that suffice from a state, or None with goal keep; raises NoRow."""
+        return self.row(state)[0]
+
+    def choice(self, state):
+        """The values to apply at a state, one for each input, or None in a target, where nothing has to be; raises NoRow."""
+        number = self.row(state)[1]
+        return None if number is None else tuple(self.plant.vector(number))
 
 
 class Front:
