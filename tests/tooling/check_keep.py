@@ -30,7 +30,8 @@ def lost_from(text):
     """The kept cells from which a run doesn't stay."""
     front, _, rows = text.partition("\nrows ")
     lines = [line.split() for line in front.splitlines()]
-    chosen = {int(words[0]): int(words[2]) for words in map(str.split, rows.splitlines()[1:-1])}
+    words = [line.split() for line in rows.splitlines()[1:-1]]
+    chosen = {cell: int(word[-1]) for word in words for cell in range(int(word[0]), int(word[-3]) + 1)}
     stays, draws, few = runner(lines, chosen), random.Random(1), len(chosen) > MANY
     noises = [[noise_of(lines, draws, run % 2 == 0) for _ in range(FEW_SAMPLES if few else SAMPLES)] for run in range(RUNS)]
     starts = draws.sample(sorted(chosen), STARTS) if few else sorted(chosen)

@@ -44,7 +44,8 @@ REFUSED = [
     (LINE, 6, "goal stay", "malformed: line 6", "`goal reach` or `goal keep`"),
     (LINE, 6, "goal keep", "malformed: line 6", "has no targets"),
     (LINE, 7, "", "malformed: line 7", "ends before its `end` line"),
-    (LINE, 1, "plant 2", "malformed: line 1", "the version is 1"),
+    (LINE, 1, "plant 3", "malformed: line 1", "the version is 1 or 2"),
+    (LINE, 4, "next x = lut(x, 0:0, 14:14)", "malformed: line 4", "`plant 2` brings it"),
     (LINE, 1, "\ufeffplant 1", "malformed: line 1", "byte order mark"),
     (CART, 7, "target 400 559 -50 49", "malformed: line 7", "the equation of v is missing"),
     (CART, 6, "next v = v + a + w", "malformed: line 6", "that of p is due"),
@@ -66,12 +67,25 @@ NOTED = [
     (LINE, 4, "next x = x + u - x + x", "x stands in it more than once"),
     (LINE, 4, "next x = x + u + 30", "the box of every input leaves the domain"),
     (LINE, 4, "next x = x + u / 3", "may lead back into the cell itself"),
+    (LINE, 6, "obstacle 0 2\ngoal reach", "8 edges: under 0.01 per cent"),
+    (CART, 7, "next v = v + a + w", "step of v: -20 under a = -20; 0 under a = 0; 20 under a = 20; a cell is 10 wide"),
     (CART, 5, "noise w -2 2\nnoise e 0 1", "the noise e stands in no equation"),
 ]
 
 
+# To be kept: a step of 10, where the box of a cell of ten numbers reaches 6 to each side of its middle. Out of -5 to 4 about the middle it
+# takes 11 upwards (11 - 6 is 5) and 12 downwards (-12 + 6 is -6).
+KEPT = ["plant 1", "state v 0 99 10", "input u -10 10", "noise w -1 1", "next v = v + u + w", "goal keep", "end"]
+KEPT_NOTES = [("10", "moves v down for sure, out of its cell: that takes a step of 12, and the best is 10", True),
+              ("10", "moves v up for sure, out of its cell: that takes a step of 11, and the best is 10", True),
+              ("12", "for sure", False)]
+
+
 def check(report):
     check_cases(report)
+    for step, said, wanted in KEPT_NOTES:
+        _, output, _ = report.tool("lint", "-", data=changed(KEPT, 3, f"input u -{step} {step}"))
+        report.expect(f"lint of a plant to be kept, steps of {step}, notes `{said}`", wanted, said in output)
     for base, number, line, answer, reason in REFUSED:
         status, output, error = report.tool("lint", "-", data=changed(base, number, line))
         first, second = (output.splitlines() + ["", ""])[:2]
@@ -84,7 +98,8 @@ def check(report):
         report.expect(f"lint of `{line}`", (0, "accepted", ""), (status, output.split("\n")[0], error))
         report.holds(f"lint of `{line}` notes `{note}`", any(note in one for one in output.splitlines()), output)
     report.expect("lint of the line example", (0, "accepted\nsize: deviation of x: 1; half a cell is 1; a box meets up to 2 "
-                  "places\nsize: 5 cells, 2 input vectors, 10 pairs, 8 edges\n", ""),
+                  "places\nsize: step of x: -3 under u = -3; 3 under u = 3; a cell is 3 wide\nsize: 5 cells, 2 input vectors, "
+                  "10 pairs, 8 edges: under 0.01 per cent of the 33554432 that are the most\n", ""),
                   report.tool("lint", "-", data=changed(LINE, 1, "plant 1")))
 
 
@@ -96,6 +111,8 @@ def check_cases(report):
     """Every text of tests/cases/synth that the program is given by `synth 1` with its output to a file."""
     for folder in sorted((report.top / "tests" / "cases" / "synth").iterdir()):
         if not folder.is_dir() or any((folder / name).exists() for name in ("words", "stdin", "stdout")):
+            continue
+        if text_of(report, folder).startswith(b"plant 2") and not report.reads_version_2():
             continue
         error = (folder / "error").read_text() if (folder / "error").exists() else ""
         refused = error.startswith(("malformed", "limit", "overflow"))

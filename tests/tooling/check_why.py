@@ -1,5 +1,9 @@
 """tools/why on the tables of line, tank and cart, against boxes worked out by hand."""
 
+import re
+
+from gaffcurrant_plant.table import read_table
+
 # Words behind the table, and whole lines that the answer has.
 ANSWERS = [
     ("line", ["7"], ["cell 2 (x 6 to 8): its row: rank 2, apply input 1 (u = 3)", "  deviation: x 1", "  successor box: x 3 to 5",
@@ -50,6 +54,29 @@ rows 4
 end
 """
 
+# What lies deeper: the lines of a plant behind `state x 0 14 3`, the rows of its table, a state, and the answer behind its first line.
+# u = 3 leads from cell 1 onto the obstacle in cell 2, and from cell 0 to cell 1. u = 2 leads the middle 10 to 12, and the box from 11 to
+# 13: cell 3 may come back to itself. With u = 3 alone nothing is kept: cell 4 falls at once, and each cell one round after the next.
+DEEP = [
+    (["input u 3", "next x = x + u", "target 12 14", "obstacle 7 7", "goal reach"], ["3 1 0", "4 0 -"], "0", [
+        "the nearest causes, going from lost cell to lost cell (3 looked at):",
+        "  an obstacle: the box meets it: 1 sample on, at cell 1 (x 3 to 5), input 0 (u = 3)",
+        "no lost cell has an input that leads its middle into a cell that is won"]),
+    (["input u 2", "next x = x + u", "target 12 14", "goal reach"], ["4 0 -"], "9", [
+        "the nearest causes, going from lost cell to lost cell (1 looked at):",
+        "  no input moves the cell farther than its box overhangs: here, input 0 (u = 2)",
+        "  the input may come back to the cell itself: here, input 0 (u = 2)",
+        "lost cells next to what is won: 1; an input leads their middle there, and is stopped by",
+        "  1: no input moves the cell farther than its box overhangs"]),
+    (["input u 3", "next x = x + u", "goal keep"], [], "6", [
+        "the nearest causes, going from lost cell to lost cell (3 looked at):",
+        "  the edge: the box leaves the domain: 2 samples on, at cell 4 (x 12 to 14), input 0 (u = 3)",
+        "it falls in round 2 of 4; the last of its inputs is cut by the cell below, and so on:",
+        "  by input 0 (u = 3): cell 3 (x 9 to 11), round 1", "  by input 0 (u = 3): cell 4 (x 12 to 14), round 0",
+        "  round 0: every input leaves the domain there", "cells that fall in round 0, 1, ..: 1, 1, 1, 1, 1",
+        "no lost cell has an input that leads its middle into a cell that is kept"]),
+]
+
 COMPLAINTS = [
     (["0", "0"], 2, "a state of this plant has 1 numbers (x), here are 2"),
     (["15"], 1, "x = 15 is outside 0 to 14"),
@@ -91,6 +118,26 @@ def check(report):
         report.expect(f"why {words}", (wanted, ""), (status, output))
         report.holds(f"why {words} says `{said}`", said in error and error.count("\n") == 1, error)
     check_damaged(report)
+    for lines, rows, state, wanted in DEEP:
+        text = "\n".join(["table 1", "plant 1", "state x 0 14 3", *lines, "end", f"rows {len(rows)}", *rows, "end", ""])
+        status, output, error = report.tool("why", "--deep", "-", state, data=text.encode())
+        report.expect(f"why --deep of {lines}", (0, wanted, ""), (status, output.splitlines()[1:], error))
+    _, output, _ = report.tool("why", "--deep", report.top / "examples/cart/cart.table", "0", "-100")
+    beside = frontier_of_the_cart((report.top / "examples/cart/cart.table").read_bytes())
+    report.expect("why --deep counts the causes of the frontier", beside, sum(map(int, re.findall(r"^  (\d+): ", output, re.M))))
+    report.holds("why --deep of the cart counts cells", f"lost cells next to what is won: {beside}; " in output, output)
+
+
+def frontier_of_the_cart(text):
+    """How many lost cells of the cart have an input that leads their middle into a cell with a row, by the cart's own equations. The
+    obstacles are the cells 20 and 21 of the place by 18 and 19 of the speed, and 30 by 0 and 1, with 20 cells of the speed to each of the place."""
+    won, found = read_table(text).rows, 0
+    obstacles = {20 * p + v for p, v in ((20, 18), (20, 19), (21, 18), (21, 19), (30, 0), (30, 1))}
+    for cell in set(range(1200)) - set(won) - obstacles:
+        place, speed = 10 * (cell // 20) + 5, 10 * (cell % 20) - 95
+        after = [(place + speed // 5, speed + a) for a in (-20, -15, 0, 15, 20)]
+        found += any(0 <= p < 600 and -100 <= v < 100 and 20 * (p // 10) + (v + 100) // 10 in won for p, v in after)
+    return found
 
 
 def check_damaged(report):

@@ -2,13 +2,17 @@
 
 import subprocess
 import sys
+import tempfile
 from functools import lru_cache
+from pathlib import Path
 
 
 class Report:
     def __init__(self, top, program):
         self.top, self.program = top, program
         self.passed = self.failed = 0
+        self._room = tempfile.TemporaryDirectory()
+        self.room = Path(self._room.name)
 
     def expect(self, what, wanted, got):
         """Counts a comparison, and prints it where it failed."""
@@ -32,6 +36,10 @@ class Report:
         """Runs the program; answers its status, output and error as bytes."""
         done = subprocess.run([str(self.program), *words], input=data, capture_output=True, check=False)
         return done.returncode, done.stdout, done.stderr
+
+    def reads_version_2(self):
+        """Whether the program reads plants of version 2."""
+        return self.run(("synth", "1"), self.plant_text("line").replace(b"plant 1", b"plant 2"))[0] == 0
 
     def examples(self):
         """The names of the examples that are plants."""

@@ -5,7 +5,7 @@ import warnings
 import numpy
 
 from .reader import Refused
-from .table import parts_of
+from .table import front_of
 
 NONE = -1
 
@@ -14,27 +14,37 @@ class Cells:
     """For each cell its rank and its input, NONE where there is no row, no rank or no input."""
 
     def __init__(self, data):
-        self.plant, count, line, at = parts_of(data)
-        end = len(data) - 4
-        if data[end:] != b"end\n" or end < at:
-            raise Refused(f"malformed: line {line + count}", "the table doesn't end with `end`")
-        with warnings.catch_warnings():
-            warnings.simplefilter("error")
-            try:
-                numbers = numpy.fromstring(data[at:end].replace(b"-", b"-1"), dtype=numpy.int64, sep=" ")
-            except (DeprecationWarning, ValueError):
-                raise Refused(f"malformed: line {line}", "the rows aren't of the form CELL RANK INPUT") from None
-        if numbers.size != 3 * count or data.count(b"\n", at, end) != count:
-            raise Refused(f"malformed: line {line + count}", f"{count} rows are due behind `rows {count}`")
-        cells, ranks, inputs = numbers.reshape(-1, 3).T
-        if count and (numpy.any(numpy.diff(cells) <= 0) or cells[0] < 0 or cells[-1] >= self.plant.cells
-                      or numpy.any(inputs >= self.plant.vectors)):
-            raise Refused(f"malformed: line {line}", "the cells of the rows don't rise below the number of cells, or an "
-                          "input is none")
+        front = front_of(data)
+        self.plant, self.version = front.plant, front.version
+        firsts, lasts, ranks, inputs = self.columns(data, front)
+        lengths = lasts - firsts + 1
+        cells = numpy.arange(lengths.sum()) + numpy.repeat(firsts - numpy.cumsum(lengths) + lengths, lengths)
         self.won = numpy.zeros(self.plant.cells, dtype=bool)
         self.ranks = numpy.full(self.plant.cells, NONE)
         self.inputs = numpy.full(self.plant.cells, NONE)
-        self.won[cells], self.ranks[cells], self.inputs[cells] = True, ranks, inputs
+        self.won[cells] = True
+        self.ranks[cells], self.inputs[cells] = numpy.repeat(ranks, lengths), numpy.repeat(inputs, lengths)
+
+    def columns(self, data, front):
+        """The first and last cells, ranks and inputs of the row lines; raises Refused where they are none."""
+        end, wide = len(data) - 4, 2 + front.version
+        if data[end:] != b"end\n" or end < front.at:
+            raise Refused(f"malformed: line {front.line + front.count}", "the table doesn't end with `end`")
+        with warnings.catch_warnings():
+            warnings.simplefilter("error")
+            try:
+                numbers = numpy.fromstring(data[front.at:end].replace(b"-", b"-1"), dtype=numpy.int64, sep=" ")
+            except (DeprecationWarning, ValueError):
+                raise Refused(f"malformed: line {front.line}", "the row lines aren't of their form") from None
+        if numbers.size != wide * front.count or data.count(b"\n", front.at, end) != front.count:
+            raise Refused(f"malformed: line {front.line + front.count}", f"{front.count} row lines are due behind `rows {front.count}`")
+        columns = numbers.reshape(-1, wide).T
+        firsts, lasts, ranks, inputs = columns[0], columns[front.version - 1], columns[-2], columns[-1]
+        if front.count and (numpy.any(firsts[1:] <= lasts[:-1]) or numpy.any(lasts < firsts) or firsts[0] < 0
+                            or lasts[-1] >= self.plant.cells or numpy.any(inputs >= self.plant.vectors)):
+            raise Refused(f"malformed: line {front.line}", "the cells of the row lines don't rise below the number of cells, or "
+                          "an input is none")
+        return firsts, lasts, ranks, inputs
 
     def row_of(self, cell):
         """The row of a cell as a pair, or None."""
@@ -43,18 +53,23 @@ class Cells:
         rank, choice = int(self.ranks[cell]), int(self.inputs[cell])
         return None if rank == NONE else rank, None if choice == NONE else choice
 
-    def seen(self, axes, fixed):
-        """Rank, input and whether there is a row, over the places of one or two axes. The other states are fixed at a
-        place, or the cell of the least rank is taken over all of their places."""
+    def arranged(self, values, axes, fixed):
+        """Values of cells over the places of some axes, and behind them over those of the other states that aren't fixed."""
         counts = self.plant.counts
         others = [i for i in range(len(counts)) if i not in axes]
-        order = list(axes) + others
         chosen = tuple([slice(None)] * len(axes) + [fixed.get(i, slice(None)) for i in others])
+        part = values.reshape(counts).transpose(list(axes) + others)[chosen]
+        return part.reshape([counts[i] for i in axes] + [-1])
 
-        def arranged(values):
-            part = values.reshape(counts).transpose(order)[chosen]
-            return part.reshape([counts[i] for i in axes] + [-1])
+    def seen(self, axes, fixed):
+        """Rank, input and whether there is a row, over the places of some axes. The other states are fixed at a place, or the cell
+        of the least rank is taken over all of their places."""
+        won = self.arranged(self.won, axes, fixed)
+        ranks = self.arranged(self.ranks, axes, fixed)
+        best = numpy.where(won, ranks, numpy.iinfo(numpy.int64).max).argmin(axis=-1)[..., None]
+        parts = (ranks, self.arranged(self.inputs, axes, fixed), won)
+        return [numpy.take_along_axis(part, best, -1)[..., 0] for part in parts]
 
-        won = arranged(self.won)
-        best = numpy.where(won, arranged(self.ranks), numpy.iinfo(numpy.int64).max).argmin(axis=-1)[..., None]
-        return [numpy.take_along_axis(arranged(values), best, -1)[..., 0] for values in (self.ranks, self.inputs, self.won)]
+    def share(self, axes, fixed):
+        """Over the places of some axes, the share of the places of the other states that have a row."""
+        return self.arranged(self.won, axes, fixed).mean(axis=-1)

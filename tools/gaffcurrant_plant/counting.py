@@ -42,11 +42,23 @@ def _axis_table(plant, axis, sizes):
         for i, place in zip(names, places):
             values[i] = plant.inputs[i - wide][1][place] if i >= wide else \
                 plant.states[i][1] + place * plant.states[i][3] + plant.radii[i]
-        middle = function(values)
-        low, high = middle - moves[chosen], middle + moves[chosen]
+        area = _area(plant, names, values) if plant.version > 1 else None
+        low, high = plant.side(axis, function(values), moves[chosen], area)
         if low >= least and high <= most:
             table[places] = (high - least) // width - (low - least) // width + 1
     return names, table
+
+
+def _area(plant, names, values):
+    """The cell's area where the variables that an equation names have these values, states at their centres; the others,
+    on which its span doesn't rest, have their whole ranges."""
+    wide = len(plant.states)
+    area = [state[1:3] for state in plant.states] + [(min(choices), max(choices)) for _, choices in plant.inputs]
+    area += [noise[1:] for noise in plant.noises]
+    for i in names:
+        low = values[i] - plant.radii[i] if i < wide else values[i]
+        area[i] = (low, low + (plant.states[i][3] - 1 if i < wide else 0))
+    return area
 
 
 def _vector_weights(plant):

@@ -1,13 +1,15 @@
 """Expressions over whole numbers: reading, writing, value, span and deviation (docs/FORMATS.md, docs/DEFINITIONS.md).
 
 A node is a tuple whose first place is its kind: ('num', k), ('var', i), ('neg', a), ('abs', a), ('add', a, b),
-('sub', a, b), ('mul', a, b), ('min', a, b), ('max', a, b), ('div', a, k)."""
+('sub', a, b), ('mul', a, b), ('min', a, b), ('max', a, b), ('div', a, k), ('lut', a, points) with the points as pairs."""
 
 import re
+from bisect import bisect_right
 
 TOP = 2 ** 127 - 1
 NODES, DEPTH, BRACKETS, DIGITS = 256, 64, 64, 18
-FUNCTIONS = {"min": 2, "max": 2, "abs": 1}
+FUNCTIONS = {"min": 2, "max": 2, "abs": 1, "lut": 1}
+FEWEST_POINTS, MOST_POINTS = 2, 32
 TOKEN = re.compile(r"[A-Za-z][A-Za-z0-9_]*|[0-9]+|.", re.DOTALL)
 
 
@@ -26,8 +28,8 @@ def tokens_of(words):
 class _Reader:
     """Descends over the tokens; counts nodes, depth and open brackets as it goes."""
 
-    def __init__(self, tokens, names):
-        self.tokens, self.names = tokens, names
+    def __init__(self, tokens, names, version):
+        self.tokens, self.names, self.version = tokens, names, version
         self.at, self.nodes, self.open = 0, 0, 0
 
     def peek(self):
@@ -111,8 +113,12 @@ class _Reader:
                 raise Fault(f"between `{token}` and `{self.peek()}` a sign is due, such as `*`")
             return self.node(1, "num", value)
         if token in FUNCTIONS:
+            if token == "lut" and self.version < 2:
+                raise Fault("`lut` isn't known in a plant of version 1; the first line `plant 2` brings it")
             if self.take() != "(":
                 raise Fault(f"behind `{token}` an opening bracket is due")
+            if token == "lut":
+                return self.lut()
             parts = self.bracketed(FUNCTIONS[token], token)
             return self.node(max(depth for _, depth in parts) + 1, token, *(part for part, _ in parts))
         if token in self.names:
@@ -120,9 +126,7 @@ class _Reader:
         raise Fault(self.unknown(token))
 
     def bracketed(self, count, opener):
-        self.open += 1
-        if self.open > BRACKETS:
-            raise Fault(f"more than {BRACKETS} brackets are open at once")
+        self.open_bracket()
         parts = [self.sum()]
         while self.peek() == ",":
             if len(parts) == count:
@@ -139,11 +143,49 @@ class _Reader:
         self.open -= 1
         return parts
 
+    def lut(self):
+        """What stands behind `lut(`: an expression, and 2 to 32 points behind commas."""
+        self.open_bracket()
+        part, depth = self.sum()
+        points = []
+        while self.peek() == ",":
+            self.take()
+            points.append(self.point())
+        if self.take() != ")":
+            raise Fault("behind the points of `lut` a closing bracket is due")
+        self.open -= 1
+        if not FEWEST_POINTS <= len(points) <= MOST_POINTS:
+            raise Fault(f"`lut` takes {FEWEST_POINTS} to {MOST_POINTS} points `x:y`, here are {len(points)}")
+        if any(one >= other for (one, _), (other, _) in zip(points, points[1:])):
+            raise Fault("the first numbers of the points of `lut` rise from point to point")
+        return self.node(depth + 1, "lut", part, tuple(points))
+
+    def point(self):
+        x = self.signed()
+        if self.take() != ":":
+            raise Fault("a point of `lut` has the form `x:y`")
+        return x, self.signed()
+
+    def signed(self):
+        minus = self.peek() == "-"
+        if minus:
+            self.take()
+        token = self.take()
+        if token is None or not (token.isdigit() and token.isascii()):
+            raise Fault("a point of `lut` is two whole numbers `x:y` written out in digits")
+        if minus and token == "0":
+            raise Fault("`-0` is written `0`")
+        return -self.literal(token) if minus else self.literal(token)
+
+    def open_bracket(self):
+        self.open += 1
+        if self.open > BRACKETS:
+            raise Fault(f"more than {BRACKETS} brackets are open at once")
+
     def unknown(self, token):
         if token in ("sin", "cos", "tan", "sqrt", "exp", "log", "floor", "mod", "pow"):
-            return f"`{token}` isn't known: there are min, max and abs alone; see docs/GUIDE.md for sines and quotients"
-        if token == "lut":
-            return "`lut` isn't known"
+            return f"`{token}` isn't known: there are min, max and abs, and lut in version 2; tools/scale makes them of sines " \
+                   "and quotients"
         if re.match(r"[A-Za-z]", token):
             known = ", ".join(self.names)
             return f"`{token}` is no state, input or noise of this plant (they are {known})"
@@ -158,12 +200,13 @@ class _Reader:
         return f"`{token}` isn't one of + - * / ( ) ,"
 
 
-def parse(words, names):
-    """The node that the words spell, where the names are the variables in their order; else raises Fault."""
+def parse(words, names, version=1):
+    """The node that the words spell in a plant of this version, where the names are the variables in their order; else
+    raises Fault."""
     tokens = tokens_of(words)
     if not tokens:
         raise Fault("behind `=` an expression is due")
-    reader = _Reader(tokens, list(names))
+    reader = _Reader(tokens, list(names), version)
     node, _ = reader.sum()
     token = reader.peek()
     if token is None:
@@ -201,6 +244,8 @@ def text_of(node, names, level=1):
         said = text_of(node[1], names, first) + sign + text_of(node[2], names, second)
     elif kind == "div":
         said = text_of(node[1], names, 2) + f" / {node[2]}"
+    elif kind == "lut":
+        said = f"lut({text_of(node[1], names)}, " + ", ".join(f"{x}:{y}" for x, y in node[2]) + ")"
     else:
         said = kind + "(" + ", ".join(text_of(part, names) for part in node[1:]) + ")"
     return f"({said})" if LEVELS.get(kind, 3) < level else said
@@ -208,7 +253,19 @@ def text_of(node, names, level=1):
 
 def parts_of(node):
     """The nodes right below a node."""
-    return [part for part in node[1:] if isinstance(part, tuple)]
+    return [node[1]] if node[0] == "lut" else [part for part in node[1:] if isinstance(part, tuple)]
+
+
+def value_at(points, value):
+    """The value of `lut` with these points: the first or last one's beyond them, and on the line of the two about it, rounded
+    down, between them."""
+    k = bisect_right(points, value, key=lambda point: point[0])
+    if k == 0:
+        return points[0][1]
+    if k == len(points):
+        return points[-1][1]
+    (x, y), (next_x, next_y) = points[k - 1], points[k]
+    return y + (next_y - y) * (value - x) // (next_x - x)
 
 
 def walk(node):
@@ -229,7 +286,7 @@ def uses_of(node):
 
 SHAPES = {"num": "{1}", "var": "v[{1}]", "neg": "-{1}", "abs": "abs({1})", "add": "({1} + {2})", "sub": "({1} - {2})",
           "mul": "({1} * {2})", "div": "({1} // {2})", "min": "({1} if {1} <= {2} else {2})",
-          "max": "({1} if {1} >= {2} else {2})"}
+          "max": "({1} if {1} >= {2} else {2})", "lut": "value_at({2}, {1})"}
 
 
 def compiled(node):
@@ -243,7 +300,7 @@ def compiled(node):
     def text(one):
         if one in names:
             return names[one]
-        said = SHAPES[one[0]].format(*[text(part) if isinstance(part, tuple) else part for part in one])
+        said = SHAPES[one[0]].format(one[0], *[text(part) for part in parts_of(one)], *one[1 + len(parts_of(one)):])
         if one[0] not in ("num", "var") and (counts[one] > 1 or one[0] in ("min", "max")):
             names[one] = f"t{len(names)}"
             lines.append(f"    {names[one]} = {said}")
@@ -252,8 +309,38 @@ def compiled(node):
 
     result = text(node)
     room = {}
-    exec("\n".join(["def value(v):"] + lines + [f"    return {result}"]), {"abs": abs}, room)
+    exec("\n".join(["def value(v):"] + lines + [f"    return {result}"]), {"abs": abs, "value_at": value_at}, room)
     return room["value"]
+
+
+def span_of(node, area):
+    """The ends of the span over an area, which has the two ends of each variable's range; no end is refused."""
+    kind = node[0]
+    if kind == "num":
+        return node[1], node[1]
+    if kind == "var":
+        return area[node[1]]
+    return span_of_parts(node, [span_of(part, area) for part in parts_of(node)])
+
+
+def span_of_parts(node, spans):
+    """The ends of the span of a node over those of its parts."""
+    kind, (low, high) = node[0], spans[0]
+    if kind == "neg":
+        return -high, -low
+    if kind == "abs":
+        return low if low >= 0 else -high if high <= 0 else 0, max(-low, high)
+    if kind == "div":
+        return low // node[2], high // node[2]
+    if kind == "lut":
+        values = [value_at(node[2], low), value_at(node[2], high)] + [y for x, y in node[2] if low <= x <= high]
+        return min(values), max(values)
+    low2, high2 = spans[1]
+    if kind == "mul":
+        ends = (low * low2, low * high2, high * low2, high * high2)
+        return min(ends), max(ends)
+    return {"add": (low + low2, high + high2), "sub": (low - high2, high - low2), "min": (min(low, low2), min(high, high2)),
+            "max": (max(low, low2), max(high, high2))}[kind]
 
 
 def bounds_of(node, area, radii):
@@ -273,23 +360,19 @@ def _bounds(node, area, radii):
     if kind == "var":
         return area[node[1]] + (radii[node[1]],)
     parts = [bounds_of(part, area, radii) for part in parts_of(node)]
-    low, high, moves = parts[0]
-    if kind == "neg":
-        return -high, -low, moves
-    if kind == "abs":
-        least = low if low >= 0 else -high if high <= 0 else 0
-        return least, max(-low, high), moves
+    return span_of_parts(node, [part[:2] for part in parts]) + (deviation_of_parts(node, parts),)
+
+
+def deviation_of_parts(node, parts):
+    """The deviation of a node over the bounds of its parts."""
+    kind, (low, high, moves) = node[0], parts[0]
+    if kind in ("neg", "abs"):
+        return moves
     if kind == "div":
-        return low // node[2], high // node[2], -(-moves // node[2])
+        return -(-moves // node[2])
+    if kind == "lut":
+        return max(-(-abs(next_y - y) * moves // (next_x - x)) for (x, y), (next_x, next_y) in zip(node[2], node[2][1:]))
     low2, high2, moves2 = parts[1]
-    if kind == "add":
-        return low + low2, high + high2, moves + moves2
-    if kind == "sub":
-        return low - high2, high - low2, moves + moves2
     if kind == "mul":
-        ends = (low * low2, low * high2, high * low2, high * high2)
-        moved = max(-low, high) * moves2 + max(-low2, high2) * moves
-        return min(ends), max(ends), moved
-    if kind == "min":
-        return min(low, low2), min(high, high2), max(moves, moves2)
-    return max(low, low2), max(high, high2), max(moves, moves2)
+        return max(-low, high) * moves2 + max(-low2, high2) * moves
+    return moves + moves2 if kind in ("add", "sub") else max(moves, moves2)

@@ -1,10 +1,12 @@
 """Reads a model with real coefficients, for tools/scale, whose --help gives the lines of its text."""
 
+import re
 from fractions import Fraction
 
 from .command import Trouble
+from .halfplane import HalfPlane
 from .polynomial import Fault, added, number_of, parse
-from .reader import NAME, NO_NAMES
+from .reader import MOST, NAME, NO_NAMES
 from .sampling import TooLong, sampled
 
 
@@ -13,7 +15,8 @@ class Model:
         self.denominator = self.sample = None
         self.states, self.inputs, self.noises = [], [], []
         self.equations, self.rows = [], {"A": [], "B": [], "c": [], "w": []}
-        self.boxes, self.goal = [], None
+        self.boxes, self.half_planes, self.goal = [], [], None
+        self.words = {}
 
     def names(self):
         return [entry[0] for entry in self.states + self.inputs + self.noises]
@@ -22,7 +25,7 @@ class Model:
 def read_model(data):
     """The model that a text spells; raises Trouble with the line."""
     model = Model()
-    for number, line in enumerate(data.decode("utf-8", "replace").splitlines(), 1):
+    for number, line in enumerate(data.decode("utf-8", "replace").lstrip("\ufeff").splitlines(), 1):
         words = line.split("#")[0].split()
         if not words:
             continue
@@ -38,7 +41,28 @@ def read_model(data):
         raise Trouble("`sample` is for a linear system alone, of lines A, B and c; `next` lines are sampled already")
     if len(model.equations) != len(model.states):
         raise Trouble(f"there are {len(model.states)} states and {len(model.equations)} equations")
+    cover_half_planes(model)
     return model
+
+
+def cover_half_planes(model):
+    """Boxes for the half-planes, which share the obstacles that are left evenly."""
+    left = MOST["obstacle"] - sum(keyword == "obstacle" for keyword, _ in model.boxes)
+    for number, half_plane in enumerate(model.half_planes):
+        boxes = half_plane.boxes(max(1, left // (len(model.half_planes) - number)))
+        left -= len(boxes)
+        model.boxes += [("obstacle", box) for box in boxes]
+
+
+def half_plane_of(model, words):
+    """The half-plane of an inequality `SUM < SUM` or `SUM > SUM`."""
+    text = " ".join(words)
+    sides = re.split("[<>]", text)
+    if len(sides) != 2:
+        fail("an inequality has one `<` or `>`")
+    names = [state[0] for state in model.states]
+    left, right = (parse(side, names) for side in (sides if "<" in text else sides[::-1]))
+    return HalfPlane(added(left, right, -1), model.states)
 
 
 def fail(said):
@@ -56,6 +80,10 @@ def read_line(model, words):
         model.sample = numbers(rest, 1)[0]
         if model.sample <= 0:
             fail("a sampling time is above 0")
+    elif keyword == "unit":
+        if len(rest) != 2 or rest[0] not in model.names() or not re.match(r"[^\s:]{1,16}\Z", rest[1]):
+            fail("`unit NAME WORD` has the name of a state or an input, and a word for its unit, of at most 16 characters and no colon")
+        model.words[rest[0]] = rest[1]
     elif keyword in ("state", "input", "noise"):
         read_variable(model, keyword, rest)
     elif keyword == "next":
@@ -67,6 +95,8 @@ def read_line(model, words):
     elif keyword in model.rows:
         size = {"A": len(model.states), "B": len(model.inputs), "c": 1, "w": 2}[keyword]
         model.rows[keyword].append(numbers(rest, size))
+    elif keyword == "obstacle" and ("<" in " ".join(rest) or ">" in " ".join(rest)):
+        model.half_planes.append(half_plane_of(model, rest))
     elif keyword in ("target", "obstacle"):
         ends = numbers(rest, 2 * len(model.states))
         model.boxes.append((keyword, list(zip(ends[::2], ends[1::2]))))

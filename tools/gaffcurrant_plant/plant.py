@@ -4,7 +4,7 @@ import math
 import random
 
 from .counting import TooMuch, edges_of
-from .expression import TOP, Overflow, bounds_of, compiled, text_of, uses_of
+from .expression import TOP, Overflow, bounds_of, compiled, span_of, text_of, uses_of
 
 CELLS, VECTORS, PAIRS, EDGES = 2 ** 20, 4096, 2 ** 22, 2 ** 25
 
@@ -13,7 +13,8 @@ class Plant:
     """states: (name, least, greatest, width); inputs: (name, values); noises: (name, least, greatest);
     targets and obstacles: a list of the two ends for each state."""
 
-    def __init__(self, states, inputs, noises, equations, targets, obstacles, goal):
+    def __init__(self, states, inputs, noises, equations, targets, obstacles, goal, version=1):
+        self.version = version
         self.states, self.inputs, self.noises = states, inputs, noises
         self.equations, self.targets, self.obstacles, self.goal = equations, targets, obstacles, goal
         self.counts = [(high - low + 1) // width for _, low, high, width in states]
@@ -34,7 +35,7 @@ class Plant:
     def text(self):
         """The canonical text."""
         names = self.names()
-        lines = ["plant 1"]
+        lines = [f"plant {self.version}"]
         lines += ["state " + " ".join(map(str, state)) for state in self.states]
         lines += [" ".join(map(str, ["input", name] + values)) for name, values in self.inputs]
         lines += ["noise " + " ".join(map(str, noise)) for noise in self.noises]
@@ -123,9 +124,24 @@ class Plant:
 
     def box(self, cell, vector):
         """The two corners of the successor box, whether it lies in the domain or not."""
-        middle = self.step(self.centre(cell), self.vector(vector), self.rest)
-        moves = self.deviations(vector)
-        return [m - d for m, d in zip(middle, moves)], [m + d for m, d in zip(middle, moves)]
+        values, moves = self.vector(vector), self.deviations(vector)
+        middle = self.step(self.centre(cell), values, self.rest)
+        area = self.cell_area(self.low(cell), values) if self.version > 1 else None
+        sides = [self.side(i, one, move, area) for i, (one, move) in enumerate(zip(middle, moves))]
+        return [low for low, _ in sides], [high for _, high in sides]
+
+    def cell_area(self, lows, values):
+        """The ends of each variable's range over a cell, given by its least point, and under the values of the inputs."""
+        return [(low, low + state[3] - 1) for low, state in zip(lows, self.states)] + [(value, value) for value in values] \
+            + [noise[1:] for noise in self.noises]
+
+    def side(self, equation, middle, moves, area):
+        """The ends of a box along one state: about the middle, and from version 2 on within the span over the cell's area."""
+        low, high = middle - moves, middle + moves
+        if self.version > 1:
+            least, most = span_of(self.equations[equation], area)
+            low, high = max(low, least), min(high, most)
+        return low, high
 
     def leaves(self, low, high):
         """The states in which a box leaves the domain, as their numbers."""

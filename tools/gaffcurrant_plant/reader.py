@@ -150,9 +150,9 @@ class Draft:
         if keyword.startswith(("//", ";", "%", "/*", "--")):
             return "a comment begins with `#`"
         if due == ["plant"] and keyword == "table":
-            return "the text is a table; a plant text begins with `plant 1`"
+            return "the text is a table; a plant text begins with `plant 1` or `plant 2`"
         if due == ["plant"]:
-            return "the first line is `plant 1`"
+            return "the first line is `plant 1` or `plant 2`"
         if keyword in KEYWORDS:
             return self.out_of_order(keyword, due)
         near = difflib.get_close_matches(keyword.lower(), KEYWORDS + ("disturbance", "avoid"), 1, 0.7)
@@ -169,7 +169,7 @@ class Draft:
             missing = self.states[len(self.equations)][0]
             return f"the equation of {missing} is missing: `next {missing} = ..` is due before this line"
         if keyword == "plant":
-            return "`plant 1` stands once, as the first line"
+            return "`plant` stands once, as the first line"
         if keyword == "next" and "state" not in due:
             return "each state has one equation, and all of them have theirs"
         if due == ["state"]:
@@ -193,9 +193,9 @@ class Draft:
             raise Wrong(f"{MOST[keyword]} `{keyword}` lines are the most")
 
     def read_plant(self, rest):
-        if rest != ["1"]:
-            raise Wrong("the version is 1: `plant 1`")
-        self.plant = 1
+        if rest not in (["1"], ["2"]):
+            raise Wrong("the version is 1 or 2: `plant 1` or `plant 2`")
+        self.plant = int(rest[0])
 
     def read_state(self, rest):
         self.room("state", self.states)
@@ -242,7 +242,7 @@ class Draft:
                 raise Wrong(f"equations stand in the order of the states: that of {due} is due, not that of {rest[0]}")
             raise Wrong(f"`{rest[0]}` is no state; the equation of {due} is due")
         try:
-            self.equations.append(expression.parse(rest[2:], self.names()))
+            self.equations.append(expression.parse(rest[2:], self.names(), self.plant))
         except expression.Fault as fault:
             raise Wrong(str(fault)) from None
 
@@ -280,7 +280,7 @@ class Draft:
 
     def made(self):
         """The plant, once all lines were read."""
-        return Plant(self.states, self.inputs, self.noises, self.equations, self.targets, self.obstacles, self.goal)
+        return Plant(self.states, self.inputs, self.noises, self.equations, self.targets, self.obstacles, self.goal, self.plant)
 
 
 def comment_in(words):

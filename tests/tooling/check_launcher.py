@@ -1,0 +1,152 @@
+"""The launcher, in a small repository with a kit that is a few lines of shell: when it builds, what it tells, and what it hands on."""
+
+import os
+import re
+import shutil
+import subprocess
+import tempfile
+from pathlib import Path
+
+# Notes each call. `rt run` makes a program that prints its words and ends with the status that stands in the first word's file, else 0.
+KIT = """#!/usr/bin/env bash
+crate=$(basename "$PWD")
+echo "$crate $1" >>"$CALLS"
+[[ -e src/broken ]] && { echo "no proof"; exit 1; }
+mkdir -p out
+if [[ $1 == try ]]; then cat; exit 0; fi
+if [[ $1 == run ]]; then
+  printf '%s\\n' '#!/usr/bin/env bash' 'echo "$@"' '[[ $1 == check ]] && exit 7' '[[ $1 == demo ]] && echo usage >&2 && exit 2' 'exit 0' >out/synth_cli
+  chmod +x out/synth_cli
+fi
+"""
+CRATES = "# lowest first\nlow: itoa\nmiddle tests_may=Threads: low\naside: low\nsynth_cli: middle low\n"
+BUILDS = ["low lib", "middle lib", "synth_cli run"]
+
+
+class Small:
+    """A repository with three crates below the launcher, and one beside them."""
+
+    def __init__(self, report, room):
+        self.room, self.top = room, room / "top"
+        for crate in ("low", "middle", "aside", "synth_cli"):
+            (self.top / "crates" / crate / "src").mkdir(parents=True)
+            (self.top / "crates" / crate / "src" / "lib.rt").write_text(crate)
+        (self.top / "crates/low/specs").mkdir()
+        (self.top / "crates/low/specs/Lib.antt").write_text("specs")
+        (self.top / "crates.txt").write_text(CRATES)
+        (self.top / "crates.seconds").write_text("# crate, seconds\nlow 100\nmiddle 200\nsynth_cli 60\n")
+        (self.top / "examples/line").mkdir(parents=True)
+        (self.top / "examples/line/line.plant").write_text("a plant\n")
+        shutil.copy(report.top / "gaffcurrant", self.top)
+        (room / "kit").mkdir()
+        (room / "kit/rt").write_text(KIT)
+        (room / "kit/rt").chmod(0o755)
+        self.calls = room / "calls"
+
+    def run(self, *words, top=None):
+        """Status, output, error, and the calls of the kit."""
+        self.calls.write_text("")
+        path = f"{self.room / 'kit'}:{os.environ['PATH']}"
+        done = subprocess.run([(top or self.top) / "gaffcurrant", *words], capture_output=True, text=True, check=False,
+                              env=os.environ | {"PATH": path, "CALLS": str(self.calls)}, stdin=subprocess.DEVNULL)
+        return done.returncode, done.stdout, done.stderr, self.calls.read_text().splitlines()
+
+    def built(self, **more):
+        """Whether a call that succeeds has built anew; else its answer."""
+        status, output, error, calls = self.run("synth", "1", **more)
+        if (status, output) != (0, "synth 1\n") or calls not in ([], BUILDS):
+            return status, output, error, calls
+        return bool(calls)
+
+
+def check(report):
+    with tempfile.TemporaryDirectory() as room:
+        small = Small(report, Path(room))
+        check_words(report, small)
+        check_first(report, small)
+        check_content(report, small)
+        check_fault(report, small)
+    check_forms(report)
+
+
+def check_words(report, small):
+    """Before anything is built: forms are told at once, and a look proves nothing."""
+    for words, wanted, first in ((["--help"], 0, "forms:"), (["solve"], 2, "usage"), ([], 2, "usage")):
+        status, output, error, calls = small.run(*words)
+        report.expect(f"launcher {words}", (wanted, "", first, []), (status, output, error.split("\n")[0], calls))
+        report.holds(f"launcher {words} tells the forms", "sim N SEED X1 .. Xm" in error)
+    status, output, error, calls = small.run("--look")
+    report.expect("launcher --look", (0, "a plant\n", ["synth_cli try"]), (status, output, calls))
+    report.holds("launcher --look says that nothing is proved", error.count("proved") == 2 and "not proved" in error, error)
+
+
+def check_first(report, small):
+    """The first build: its order, how far it is, and the time that is left by the known seconds."""
+    status, output, error, calls = small.run("synth", "1")
+    report.expect("launcher builds lowest first", (0, "synth 1\n", BUILDS), (status, output, calls))
+    told = re.findall(r"(\d) of (\d) crates, about (\d+) minutes? left; proving (\w+)", error)
+    # low, middle and synth_cli stand on one another: 100 + 200 + 60 seconds are 6 minutes.
+    report.expect("launcher tells how far it is", [("0", "3", "6", "low"), ("1", "3", "low"), ("2", "3", "low")],
+                  told[:1] + [(done, of, "low") for done, of, _, _ in told[1:]])
+    status, output, error, _ = small.run("check")
+    report.expect("launcher at a full device", (7, 1), (status, error.count("\n")))
+    report.holds("launcher tells a full device", "device is full" in error, error)
+    status, output, error, _ = small.run("demo", "0")
+    report.expect("launcher hands on usage", (2, "demo 0\n", "usage"), (status, output, error.split("\n")[0]))
+    report.holds("launcher tells the forms behind usage", "demo N W" in error)
+
+
+def check_content(report, small):
+    """The same content is never built twice, and other content always."""
+    source, specs = small.top / "crates/low/src/lib.rt", small.top / "crates/low/specs/Lib.antt"
+    report.expect("launcher: a second call doesn't build", False, small.built())
+    source.touch()
+    report.expect("launcher: touched files don't build", False, small.built())
+    record = small.top / "crates/synth_cli/out/synth_cli.built_from"
+    renewed = record.read_text()
+    report.expect("launcher: the record is renewed once", (False, renewed), (small.built(), record.read_text()))
+    copied = small.room / "copied"
+    shutil.copytree(small.top, copied, copy_function=shutil.copyfile)
+    for program in ("gaffcurrant", "crates/synth_cli/out/synth_cli"):
+        (copied / program).chmod(0o755)
+    report.expect("launcher: a copied repository doesn't build", False, small.built(top=copied))
+    specs.write_text("other")
+    specs.write_text("specs")
+    report.expect("launcher: a change that was taken back doesn't build", False, small.built())
+    (small.top / "crates/aside/src/lib.rt").write_text("other")
+    (small.top / "crates.txt").write_text(CRATES + "# a comment\nnew: low\n")
+    report.expect("launcher: a crate that isn't below the program doesn't build", False, small.built())
+    for what, change in (("a source", lambda: source.write_text("other")), ("a source taken back", lambda: source.write_text("low")),
+                         ("a definition", lambda: specs.write_text("other")), ("a file less", specs.unlink),
+                         ("a dependency more", lambda: (small.top / "crates.txt").write_text(CRATES.replace("low: itoa", "low: rayon"))),
+                         ("no record", record.unlink)):
+        change()
+        report.expect(f"launcher: {what} builds once", (True, False), (small.built(), small.built()))
+    old = small.top / "crates/low/src/lib.rt"
+    times = old.stat()
+    old.write_text("wol")
+    os.utime(old, ns=(times.st_atime_ns, times.st_mtime_ns))
+    report.expect("launcher: other bytes of the same size and time build", True, small.built())
+
+
+def check_fault(report, small):
+    """A crate that isn't proved ends the build, and the next call tries again."""
+    broken = small.top / "crates/middle/src/broken"
+    broken.write_text("")
+    for _ in range(2):
+        status, output, error, calls = small.run("synth", "1")
+        report.expect("launcher at a failed proof", (70, "", BUILDS[:2]), (status, output, calls))
+        report.holds("launcher tells the failed proof", "no proof\n" in error and "middle wasn't built" in error, error)
+    broken.unlink()
+    report.expect("launcher behind a failed proof", False, small.built())
+    (small.top / "crates/middle/src/lib.rt").write_text("mended")
+    report.expect("launcher behind a mended proof", (True, False), (small.built(), small.built()))
+
+
+def check_forms(report):
+    """The forms are those of docs/FORMATS.md."""
+    rows = re.findall(r"^\| `(\w+[^`]*)`(?:, [^|]*)? \| (?:plant text|table text|not read|[^|]*script[^|]*) \|",
+                      (report.top / "docs/FORMATS.md").read_text(), re.M)
+    script = (report.top / "gaffcurrant").read_text()
+    told = [re.split(r" [<>]|  ", line)[0] for line in re.findall(r"^  \./gaffcurrant (\w.*)$", script, re.M)]
+    report.expect("the launcher's forms are those of FORMATS", sorted(rows), sorted(told))

@@ -1,0 +1,52 @@
+"""Units go from a model through the comments of its plant text into a C header, and values in them become whole numbers."""
+
+from fractions import Fraction
+
+from gaffcurrant_plant.command import Trouble
+from gaffcurrant_plant.units import decimal, read_units
+
+MODEL = b"state x 0 1 0.1 0.02\nstate v -1 1 0.5 0.25\ninput u 0.5 -1 0 1\nunit x m\nunit u m/s^2\nnext x = x + 0.1*v\nnext v = v + u\ngoal keep\n"
+COMMENTS = ["# unit x 0.02 m: a real value lies between its whole number and the next one",
+            "# unit v 0.25: a real value lies between its whole number and the next one", "# unit u 0.5 m/s^2"]
+DECIMALS = [(Fraction(1, 100), "0.01"), (Fraction(-5, 4), "-1.25"), (Fraction(30), "30"), (Fraction(1, 10 ** 12), "0.000000000001"),
+            (Fraction(0), "0"), (Fraction(-1, 2), "-0.5")]
+# A word, and the whole number of x: that of the unit of 0.02 in which it lies.
+WHOLES = [("0", 0), ("0.02", 1), ("0.0399", 1), ("-0.001", -1), ("1e-1", 5)]
+
+
+def check(report):
+    for value, said in DECIMALS:
+        report.expect(f"{value} as a decimal", said, decimal(value))
+    plant = report.tool("scale", "-", data=MODEL)[1]
+    report.expect("scale tells units in comments", COMMENTS, [line for line in plant.splitlines() if line.startswith("# unit")])
+    for what, text in (("the model", MODEL), ("the plant", plant.encode()), ("the model with CRLF", MODEL.replace(b"\n", b"\r\n")),
+                       ("the model with a byte order mark", b"\xef\xbb\xbf" + MODEL)):
+        units = read_units("text", text)
+        report.expect(f"units by {what}", ({"x": Fraction(1, 50), "v": Fraction(1, 4), "u": Fraction(1, 2)}, {"x": "m", "u": "m/s^2"}),
+                      (units.sizes, units.words))
+    for word, whole in WHOLES:
+        report.expect(f"`{word}` in whole units", whole, units.whole("x", word))
+    report.expect("a value in words", "u = -0.5 m/s^2", units.said("u", -1))
+    check_header(report, plant)
+    for text, said in ((b"plant 1\nend\n", "no comments `# unit"), (b"state x 0 1 0.1 0.1\nunit y m\n", "line 2: `unit NAME WORD`"),
+                       (b"\xff\xfe", "begins no line of a model")):
+        report.holds(f"units of {text[:20]} are refused", said in fault_of(text), fault_of(text))
+
+
+def fault_of(text):
+    try:
+        return f"they are {read_units('text', text).sizes}"
+    except Trouble as trouble:
+        return str(trouble)
+
+
+def check_header(report, plant):
+    """UNIT[] of a table by its model, and nothing of it without one."""
+    table = "table 1\n" + "\n".join(line for line in plant.splitlines() if not line.startswith("#")) + "\nrows 0\nend\n"
+    model = report.top / "examples/gate/gate.model"
+    plain = report.tool("header", "-", data=table.encode())
+    report.expect("a header without a model has no units", (0, False), (plain[0], "UNIT" in plain[1]))
+    gate = report.tool("header", "-", "--model", model, data=report.table_text("gate"))[1]
+    report.holds("the gate's units stand in its header", "UNIT[STATES] = {0.01, 0.01};" in gate and "/* x in m, v in m/s, u in m/s^2 */" in gate)
+    wrong = report.tool("header", "-", "--model", report.top / "examples/cart/cart.plant", data=table.encode())
+    report.expect("a plant without units is refused", (1, "", 1), (wrong[0], wrong[1], wrong[2].count("\n")))
