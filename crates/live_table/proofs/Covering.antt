@@ -1,0 +1,25 @@
+-- What a seat that knows a list can see.
+use Rattle.std.proofs.Common.{◌≡◌, ◌∙◌, Option, Some, subst, refl}
+use mathlib.Core.List.{IsPrefix}
+use Rattle.live_table.specs.Publishes.{Published}
+use Rattle.live_table.specs.inside.Rules.{Begins, Covers}
+use Rattle.live_table.proofs.Prefixes.{prefix_self, prefix_trans}
+
+-- who knows a list covers it
+pub covers_same : (known : Option Published) (a : Published) → known ≡ Some a → Covers known a
+covers_same known a is = record { all = a; is = is; opening = refl; begins = prefix_self a.list }
+
+-- and its beginnings
+pub covers_less : (known : Option Published) (a b : Published) → Covers known b → a.opening ≡ b.opening → IsPrefix a.list b.list → Covers known a
+covers_less known a b h o p = record { all = h.all; is = h.is; opening = o ∙ h.opening; begins = prefix_trans a.list b.list h.all.list p h.begins }
+
+-- a list that is covered begins what a look finds
+pub covers_found : (known now : Option Published) (a f : Published) → Covers known a → Begins known now → now ≡ Some f → (a.opening ≡ f.opening) × IsPrefix a.list f.list
+covers_found known now a f h begins is =
+    let b : Begins (Some h.all) (Some f) = subst (λ (z : Option Published × Option Published). Begins z.0 z.1) (λ i. (h.is i, is i)) begins in
+    (h.opening ∙ b.0, prefix_trans a.list h.all.list f.list h.begins b.1)
+
+-- and is covered by who looked
+pub covers_later : (known now : Option Published) (a f : Published) → Covers known a → Begins known now → now ≡ Some f → Covers now a
+covers_later known now a f h begins is = let t = covers_found known now a f h begins is in
+    record { all = f; is = is; opening = t.0; begins = t.1 }

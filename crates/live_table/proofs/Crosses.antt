@@ -1,0 +1,28 @@
+-- A reader may go to another thread.
+use denote.Param.Send.{IsSend, IsSync, sendable, view_send, recorded_send, struct_send}
+use denote.Struct.Declared as Declared
+use Rattle.std.proofs.Crossing.{crosses}
+use Rattle.std.proofs.alloc.Global.TheSendSync as Heap
+use Rattle.std.below.std_heap.proofs.GlobalAllocator.TheSendSync as Frees
+use Rattle.std.specs.contracts.alloc.Global
+use Rattle.std.specs.contracts.impls.GlobalAllocator.TheImpl as InHeap
+use Rattle.core.specs.contracts.option.Option
+use Rattle.fixed_expr.proofs.expr.Expr.TheLaws.TheKnot
+use Rattle.left_right.proofs.reader.Reader.TheSendSync as SideReader
+use Rattle.live_table.proofs.prefix.Prefix.TheSendSync as Prefixed
+use Rattle.live_table.specs.contracts.in_force.InForce
+use Rattle.live_table.specs.contracts.side.LiveSide
+use Rattle.live_table.specs.contracts.side.OneList
+use Rattle.live_table.specs.contracts.side.OneListProtocolLiveSideOptionInForce.TheImpl
+use Rattle.live_table.specs.contracts.reader.Reader
+use Rattle.live_table.specs.contracts.reader.Reader.TheInside
+
+pub side_sync : IsSync LiveSide.the_row
+side_sync = search (crosses, TheKnot.crosses, sendable, Prefixed.the_sync) depth 60 fits 20000
+
+pub reader_send : IsSend Reader.the_row
+reader_send =
+    let sides = SideReader.the_field_send LiveSide.the_row (Option.the_row InForce.the_row) OneList.the_row Global.the_row TheImpl.ghosts InHeap.ghosts Heap.the_send side_sync Heap.the_sync Frees.the_frees in
+    view_send TheInside.the_row _ _ _ _
+    (recorded_send (TheInside.the_field).row _ _ (TheInside.the_type).to_one
+    (struct_send (Declared.shape TheInside.the_type) (sides, (Prefixed.the_send, (Prefixed.the_send, tt)))))

@@ -1,0 +1,11 @@
+use Rattle.std.proofs.Common.{Option, Some, ap, sym, subst}
+use Rattle.live_table.specs.Publishes.{Published}
+use Rattle.live_table.specs.inside.Rules.{Begins}
+use Rattle.live_table.proofs.Steps.{turns}
+use Rattle.live_table.proofs.publisher.show.Goals as goal
+
+pub show_as-requires : goal.show_as-requires
+show_as-requires g c =
+    let now = c.open-open.result.0 in
+    turns _ _ now.shown.value (record { in_force = Some c.args.in_force })
+    (subst (λ (z : Option Published). Begins z (Some c.args.in_force)) (sym (ap (λ p. p.value.in_force) c.open-open.ensures.values.0)) c.requires)

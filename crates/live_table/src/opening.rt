@@ -1,0 +1,86 @@
+ghost use Rattle.std.specs.Prelude.{◌≡◌, ◌≤◌, [], ◌∷◌, vec_len, All, IfOk};
+ghost use Rattle.live_table.specs.Publishes.{newcomer};
+
+use crate::fault::LiveFault;
+use crate::history::History;
+use crate::in_force::InForce;
+use crate::publisher::{Publisher, show};
+use crate::reader::Reader;
+use crate::side::LiveSide;
+use controller_table::Table;
+use left_right::writer::Writer;
+use std::alloc::Global;
+use std::sync::Wait;
+
+/// Brings a table into force for the first time, and makes readers that have seen it. What was made before a refusal
+/// is ended and dropped, the table too.
+pub fn open<R: Wait>(
+    rt: &R,
+    alloc: Global,
+    first: Table,
+    readers: u32,
+) -> Result<(Publisher, Vec<Reader>), LiveFault>
+    requires { (1 ≤ readers) × (readers ≤ 64) }
+    ensures publisher { IfOk result (λ o. o.0.list ≡ first ∷ []) }
+    ensures count { IfOk result (λ o. vec_len o.1 ≡ readers) }
+    ensures readers { IfOk result (λ o. All (λ r. r ≡ newcomer o.0) o.1.items) }
+{
+    let mut publisher = publisher_of(rt, alloc, first, readers)?;
+    match seat_all(&mut publisher, alloc, readers) {
+        Ok(all) => Ok((publisher, all)),
+        Err(fault) => {
+            publisher.close(rt);
+            Err(fault)
+        }
+    }
+}
+
+/// A publisher of one table, with two places for each reader: its own, and one for what it is told.
+fn publisher_of<R: Wait>(
+    rt: &R,
+    alloc: Global,
+    first: Table,
+    readers: u32,
+) -> Result<Publisher, LiveFault>
+    requires { (1 ≤ readers) × (readers ≤ 64) }
+    ensures { IfOk result (λ p. p.list ≡ first ∷ []) }
+{
+    let (history, prefix) = History::open(&first);
+    let Ok(sides) = Writer::new(
+        alloc,
+        LiveSide { in_force: None },
+        LiveSide { in_force: None },
+        2 * readers as usize,
+    ) else {
+        return Err(LiveFault::Memory);
+    };
+    let in_force = InForce::new(first, prefix.again());
+    let sides = show(sides, rt, in_force);
+    Ok(Publisher {
+        sides,
+        history,
+        prefix,
+    })
+}
+
+/// Readers that have seen and were told of all that was published.
+fn seat_all(
+    publisher: &mut Publisher,
+    alloc: Global,
+    readers: u32,
+) -> Result<Vec<Reader>, LiveFault>
+    ensures count { IfOk result (λ v. vec_len v ≡ readers) }
+    ensures readers { IfOk result (λ v. All (λ r. r ≡ newcomer publisher.old) v.items) }
+    ensures same { publisher.new ≡ publisher.old }
+{
+    let Ok(mut all) = Vec::with_capacity(alloc, readers as usize) else {
+        return Err(LiveFault::Memory);
+    };
+    for _ in 0..readers {
+        let reader = publisher.tell()?.seated();
+        if all.push(reader).is_err() {
+            return Err(LiveFault::Memory);
+        }
+    }
+    Ok(all)
+}

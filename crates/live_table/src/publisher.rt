@@ -1,0 +1,125 @@
+ghost use Rattle.std.specs.Prelude.{◌≡◌, ◌+◌, ◌<◌, ◌^◌, length, IfOk, MatchResult, Some};
+ghost use Rattle.left_right.specs.Sides.{view as known};
+ghost use Rattle.live_table.specs.Publishes.{LastChooses, with_table};
+ghost use Rattle.live_table.specs.inside.Rules.{Begins, IsInForce};
+
+use crate::fault::LiveFault;
+use crate::history::History;
+use crate::in_force::InForce;
+use crate::prefix::Prefix;
+use crate::side::{Sees, SideReader, SideWriter, Tells};
+use crate::told::Told;
+use controller_table::Table;
+use core::mem::replace_with;
+use grid_quantiser::Point;
+use std::marker::Model;
+use std::sync::Wait;
+
+/// Brings tables into force. It isn't `Drop`: `close` ends it.
+///
+/// Seen as the opening and the tables that it has published.
+pub struct Publisher {
+    pub(crate) sides: SideWriter,
+    pub(crate) history: History,
+    pub(crate) prefix: Prefix,
+}
+
+impl Model for Publisher {
+    ghost use Rattle.std.specs.Coded.{codes};
+    ghost use Rattle.fixed_expr.specs.inside.Postfix.{expression_code};
+    ghost use Rattle.std.specs.Prelude.{◌≡◌};
+    ghost use Rattle.left_right.specs.Sides.{view as known};
+    ghost use Rattle.live_table.specs.Publishes.{Published};
+    ghost use Rattle.live_table.specs.inside.Rules.{IsInForce};
+
+    ghost Value = { Published };
+
+    ghost coded = { Prim.hlevel (codes, expression_code) };
+
+    ghost view = { λ p. p.prefix };
+
+    ghost invariant = { λ p. IsInForce p.sides.desk.shown.value.in_force (known p.sides.desk.place) p.prefix × (p.history ≡ p.prefix.opening) };
+}
+
+impl Publisher {
+    /// How many tables it has published.
+    pub fn count(&self) -> u32
+        ensures { result ≡ length self.now.list }
+    {
+        self.prefix.count()
+    }
+
+    /// The input that the table in force applies at a state.
+    pub fn choice(&self, x: &Point) -> Option<u32>
+        ensures { LastChooses self.now.list x.now result }
+    {
+        match &self.sides.published().in_force {
+            Some(in_force) => in_force.choice(x),
+            None => None,
+        }
+    }
+
+    /// Brings a table into force. It waits for readers that still read the table before the last.
+    pub fn publish<R: Wait>(&mut self, rt: &R, t: Table) -> Result<(), LiveFault>
+        requires { length self.old.list + 1 < 2 ^ 32 }
+        ensures list { MatchResult result (λ _. self.new ≡ with_table self.old t) (λ _. self.new ≡ self.old) }
+        ensures opening { self.new.opening ≡ self.old.opening }
+    {
+        let Some(prefix) = self.history.add(&self.prefix, &t) else {
+            return Err(LiveFault::Refused);
+        };
+        let in_force = InForce::new(t, prefix.again());
+        replace_with(
+            &mut self.sides,
+            (rt, in_force),
+            |sides, (rt, in_force)| (show(sides, rt, in_force), ()),
+        );
+        self.prefix = prefix;
+        Ok(())
+    }
+
+    /// What was published so far, for a reader to learn. A told has a place until it is learnt or dropped; there is
+    /// one for each reader.
+    pub fn tell(&mut self) -> Result<Told, LiveFault>
+        ensures told { IfOk result (λ t. t ≡ self.old) }
+        ensures same { self.new ≡ self.old }
+    {
+        let sides = new_reader(&mut self.sides)?;
+        let prefix = self.prefix.again();
+        Ok(Told { sides, prefix })
+    }
+
+    /// Ends it. It waits for readers that are reading.
+    pub fn close<R: Wait>(self, rt: &R) {
+        let Publisher {
+            sides,
+            history: _,
+            prefix: _,
+        } = self;
+        sides.take(rt);
+    }
+}
+
+/// Readers find this in force from now on.
+pub(crate) fn show<R: Wait>(mut sides: SideWriter, rt: &R, in_force: InForce) -> SideWriter
+    requires { Begins sides.desk.shown.value.in_force (Some in_force) }
+    ensures { IsInForce result.desk.shown.value.in_force (known result.desk.place) in_force }
+{
+    let (open, mut spare) = sides.desk.open(rt);
+    spare.in_force = Some(in_force);
+    sides.desk = open.show_as::<Sees>(spare);
+    sides
+}
+
+/// A reader of the sides that knows what the publisher knows.
+fn new_reader(sides: &mut SideWriter) -> Result<SideReader, LiveFault>
+    ensures knows { IfOk result (λ r. known r.place ≡ known sides.old.desk.place) }
+    ensures shown { sides.new.desk.shown ≡ sides.old.desk.shown }
+    ensures same { known sides.new.desk.place ≡ known sides.old.desk.place }
+{
+    let Ok(mut reader) = sides.factory().reader() else {
+        return Err(LiveFault::Refused);
+    };
+    reader.learn::<Tells>(sides.tell::<Tells>());
+    Ok(reader)
+}

@@ -1,0 +1,47 @@
+ghost use Rattle.std.specs.Prelude.{◌≡◌};
+ghost use Rattle.live_table.specs.Publishes.{newcomer};
+
+use crate::prefix::Prefix;
+use crate::reader::Reader;
+use crate::side::SideReader;
+use std::marker::Model;
+
+/// All that was published when it was made, for a reader to learn.
+///
+/// Seen as the opening and the tables. It has a place of its own among the readers, since a place forgets which
+/// sides it is of: a reader learns by going over to this one.
+#[derive(Drop)]
+pub struct Told {
+    pub(crate) sides: SideReader,
+    pub(crate) prefix: Prefix,
+}
+
+impl Model for Told {
+    ghost use Rattle.std.specs.Coded.{codes};
+    ghost use Rattle.fixed_expr.specs.inside.Postfix.{expression_code};
+    ghost use Rattle.left_right.specs.Sides.{view as known};
+    ghost use Rattle.live_table.specs.Publishes.{Published};
+    ghost use Rattle.live_table.specs.inside.Rules.{Covers};
+
+    ghost Value = { Published };
+
+    ghost coded = { Prim.hlevel (codes, expression_code) };
+
+    ghost view = { λ t. t.prefix };
+
+    ghost invariant = { λ t. Covers (known t.sides.place) t.prefix };
+}
+
+impl Told {
+    /// A reader that has seen all this.
+    pub(crate) fn seated(self) -> Reader
+        ensures { result ≡ newcomer self }
+    {
+        let Told { sides, prefix } = self;
+        Reader {
+            sides,
+            seen: prefix.again(),
+            told: prefix,
+        }
+    }
+}
