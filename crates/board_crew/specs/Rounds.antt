@@ -19,8 +19,10 @@ pub record IsUnused (root : RootModel) (cells workers : ℕ) (r : Rounds) : Type
   pub unlisted : r.listed ≡ 0
   pub untallied : r.tally ≡ no_tally
 
--- no cell is on the list, all hands are taken in, and the tally has all that they did
+-- no cell is on the list, no member is left, all hands are taken in, and the tally has all that they did
 pub record IsOver (board : BoardModel) (cells : ℕ) (r : Rounds) : Type 0 where
+  pub empty : r.list.items ≡ []
+  pub nobody : r.members.items ≡ []
   pub at : r.root.board ≡ board
   pub settled : r.root.out ≡ 0
   pub tallied : IsTalliedBy r.root.accounts r.tally
