@@ -21,25 +21,3 @@ impl Expr {
         }
     }
 }
-
-#[cfg(test)]
-mod tests {
-    use super::*;
-    use std::test::Fail;
-
-    // x1 + 3 * x4
-    #[test]
-    fn variables_of_a_sum(rt: HostRuntime) -> Result<(), Fail> {
-        let alloc = rt.alloc();
-        let product = Expr::Mul(
-            Box::new(alloc, Expr::Num(3))?,
-            Box::new(alloc, Expr::Var(4))?,
-        );
-        let sum = Expr::Add(Box::new(alloc, Expr::Var(1))?, Box::new(alloc, product)?);
-        assert!(rt; sum.mentions(1));
-        assert!(rt; sum.mentions(4));
-        assert!(rt; !sum.mentions(0));
-        assert!(rt; !sum.mentions(3));
-        Ok(())
-    }
-}

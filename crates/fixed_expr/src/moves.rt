@@ -27,38 +27,3 @@ impl Expr {
         }
     }
 }
-
-#[cfg(test)]
-mod tests {
-    use super::*;
-    use std::test::Fail;
-
-    // (x1 + 3 * x0) - x2
-    #[test]
-    fn a_sum_moves_with_its_own_summand(rt: HostRuntime) -> Result<(), Fail> {
-        let alloc = rt.alloc();
-        let product = Expr::Mul(
-            Box::new(alloc, Expr::Num(3))?,
-            Box::new(alloc, Expr::Var(0))?,
-        );
-        let sum = Expr::Add(Box::new(alloc, Expr::Var(1))?, Box::new(alloc, product)?);
-        let difference = Expr::Sub(Box::new(alloc, sum)?, Box::new(alloc, Expr::Var(2))?);
-        assert!(rt; difference.moves_with(1));
-        assert!(rt; !difference.moves_with(0));
-        assert!(rt; !difference.moves_with(2));
-        assert!(rt; !difference.moves_with(3));
-        Ok(())
-    }
-
-    // x0 + x0 moves by twice as much as x0
-    #[test]
-    fn a_double_moves_with_nothing(rt: HostRuntime) -> Result<(), Fail> {
-        let alloc = rt.alloc();
-        let double = Expr::Add(
-            Box::new(alloc, Expr::Var(0))?,
-            Box::new(alloc, Expr::Var(0))?,
-        );
-        assert!(rt; !double.moves_with(0));
-        Ok(())
-    }
-}

@@ -9,7 +9,5 @@
 mod bounds;
 mod deviations;
 pub mod laws;
-#[cfg(test)]
-mod tests;
 
 pub use deviations::{deviation, span_and_deviation};

@@ -8,8 +8,6 @@
 mod interval;
 pub mod laws;
 mod spans;
-#[cfg(test)]
-mod tests;
 
 pub use interval::Interval;
 pub use spans::span;

@@ -41,17 +41,3 @@ pub(crate) fn noise_centres(p: &Plant) -> Point
     }
     centres
 }
-
-#[cfg(test)]
-mod tests {
-    use super::*;
-
-    // The middle of -4 to -1 is -2.5, whose floor is -3; from there to -1 it is 2.
-    #[test]
-    fn centre_rounds_down(rt: HostRuntime) {
-        assert_eq!(rt; noise_centre(-4, -1), -3);
-        assert_eq!(rt; noise_radius(-4, -1), 2);
-        assert_eq!(rt; noise_centre(-2, 2), 0);
-        assert_eq!(rt; noise_radius(-2, 2), 2);
-    }
-}
