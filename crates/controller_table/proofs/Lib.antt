@@ -15,3 +15,4 @@ pub mod OneTable
 pub mod OneRefusal
 pub mod PlantLength
 pub mod ShortTables
+pub mod Copies

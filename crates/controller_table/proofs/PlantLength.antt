@@ -30,11 +30,11 @@ use Rattle.plant_writing.specs.CanonicalText.{state_line, input_line, noise_line
 -- ---- bounds
 
 -- bytes of an expression for each of its nodes
-abbrev node_bytes : ℕ
+abbrev pub node_bytes : ℕ
 node_bytes = 60
 
 -- of an equation's line: four words, each no longer than the expression of 256 nodes
-abbrev equation_bytes : ℕ
+abbrev pub equation_bytes : ℕ
 equation_bytes = 4 * (256 * node_bytes) + 5
 
 -- of a plant's text: six equations, and all other lines

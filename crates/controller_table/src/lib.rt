@@ -6,6 +6,7 @@
 //! `text_pieces`, `row_runs`, `plant_text`, `grid_quantiser` and `game_core`.
 #![tactic(auto)]
 
+mod copying;
 mod fault;
 mod front;
 pub mod laws;

@@ -1,16 +1,20 @@
-ghost use Rattle.std.specs.Prelude.{◌≡◌, ◌<◌, ◌≤◌, ℕ, length, count_by, IfSome};
+ghost use Rattle.std.specs.Prelude.{◌≡◌, ◌<◌, ℕ, count_by, IfSome, IfOk};
 ghost use Rattle.std.specs.Option.{IfNone, is_some};
 ghost use Rattle.grid_quantiser.specs.Axes.{cells_of};
 ghost use Rattle.game_core.specs.Solution.{row_of};
 ghost use Rattle.plant_record.specs.Description.{axes_of};
+ghost use Rattle.plant_record.specs.Limits.{IsWithinLimits};
 ghost use Rattle.controller_table.specs.TableText.{version_number};
 ghost use Rattle.controller_table.specs.Tables.{RowsFit};
 ghost use Rattle.controller_table.specs.Choice.{Chooses};
 
+use crate::copying::{copy_answer, copy_plant};
+use crate::fault::NoMemory;
 use game_core::{Answer, Row};
 use grid_quantiser::Point;
 use plant_record::{GoalKind, Plant};
 use row_runs::Version;
+use std::alloc::Global;
 use std::marker::Model;
 
 /// A plant with a row that fits it for some of its cells.
@@ -28,6 +32,7 @@ impl Model for Table {
     ghost use Rattle.std.specs.Prelude.{◌≡◌, count_by};
     ghost use Rattle.std.specs.Option.{is_some};
     ghost use Rattle.fixed_expr.specs.inside.Postfix.{expression_code};
+    ghost use Rattle.plant_record.specs.Limits.{IsWithinLimits};
     ghost use Rattle.controller_table.specs.Tables.{TableModel, RowsFit};
 
     ghost Value = { TableModel };
@@ -36,12 +41,13 @@ impl Model for Table {
 
     ghost view = { λ t. record { version = t.version; plant = t.plant; rows = t.answer } };
 
-    ghost invariant = { λ t. RowsFit t.plant t.answer × (t.rows ≡ count_by is_some t.answer) };
+    ghost invariant = { λ t. IsWithinLimits t.plant × RowsFit t.plant t.answer × (t.rows ≡ count_by is_some t.answer) };
 }
 
 impl Table {
     pub(crate) fn new(version: Version, plant: Plant, answer: Answer) -> Table
-        requires { RowsFit plant answer }
+        requires limits { IsWithinLimits plant }
+        requires fit { RowsFit plant answer }
         ensures { result ≡ record { version = version; plant = plant; rows = answer } }
     {
         let rows = count_rows(&answer);
@@ -96,6 +102,18 @@ impl Table {
             GoalKind::Reach if row.rank == 0 => None,
             GoalKind::Reach | GoalKind::Keep => Some(row.input),
         }
+    }
+
+    /// An equal table.
+    pub fn copy(&self, alloc: Global) -> Result<Table, NoMemory>
+        ensures { IfOk result (λ copy. copy ≡ self.now) }
+    {
+        Ok(Table {
+            version: self.version,
+            plant: copy_plant(alloc, &self.plant)?,
+            answer: copy_answer(alloc, &self.answer)?,
+            rows: self.rows,
+        })
     }
 
     pub(crate) fn answer(&self) -> &Answer
