@@ -24,8 +24,6 @@ mod rows;
 mod shapes;
 mod sides;
 mod sources;
-#[cfg(test)]
-mod tests;
 
 pub use abstraction::Abstraction;
 pub use building::{build, survey};

@@ -1,4 +1,3 @@
--- what only private clauses, tests and proofs name
+-- what only private clauses and proofs name
 pub mod Workers
 pub mod Standing
-pub mod SmallGames

@@ -14,8 +14,6 @@ mod logged;
 mod room;
 mod rounds;
 mod rule;
-#[cfg(test)]
-mod tests;
 mod turn;
 mod worker;
 

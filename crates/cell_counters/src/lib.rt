@@ -12,8 +12,6 @@ mod account;
 mod board;
 pub mod laws;
 mod rule;
-#[cfg(test)]
-mod tests;
 
 pub use account::{Account, Cut, Log, NONE, Offer};
 pub use board::{Board, Hand, NoMemory, Root};

@@ -13,8 +13,6 @@ mod fill;
 pub mod laws;
 mod places;
 mod rows;
-#[cfg(test)]
-mod tests;
 
 pub use fill::{NoMemory, RowFill};
 pub use rows::Rows;

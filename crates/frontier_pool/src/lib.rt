@@ -14,8 +14,6 @@ mod pool;
 mod round;
 mod rule;
 mod serial;
-#[cfg(test)]
-mod tests;
 mod toil;
 
 pub use gate::{Gate, Open};

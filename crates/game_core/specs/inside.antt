@@ -1,4 +1,4 @@
--- What only tests and proofs name.
+-- What only proofs name.
 pub mod Search
 pub mod Falling
 pub mod SmallGames

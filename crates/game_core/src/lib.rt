@@ -23,6 +23,3 @@ pub use game::{Forward, Graph, Mark, Row};
 pub use plain::{keep_plain, solve_plain};
 pub use remark::Remark;
 pub use tally::Tally;
-
-#[cfg(test)]
-mod tests;

@@ -11,8 +11,6 @@ mod outcome;
 mod rule;
 mod scratch;
 mod solver;
-#[cfg(test)]
-mod tests;
 
 pub use game_core::{NoMemory, Tally};
 pub use outcome::Solved;

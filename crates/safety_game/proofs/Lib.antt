@@ -11,3 +11,4 @@ pub mod Settled
 pub mod OnBoards
 pub mod Plays
 pub mod Ends
+pub mod SmallGames

@@ -1,4 +1,4 @@
--- what only private clauses, tests and proofs name
+-- what only private clauses and proofs name
 pub mod Rounds
 pub mod Workers
 pub mod Standing

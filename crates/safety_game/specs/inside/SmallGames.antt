@@ -1,4 +1,4 @@
--- Games that are small enough to be solved by hand.
+-- A game that is small enough to be solved by hand.
 use Rattle.std.specs.Prelude.{ℕ, [], ◌∷◌, List, Option, Some, None}
 use Rattle.game_core.specs.declared.game.Mark.TheVariants.{Obstacle, Plain}
 use Rattle.game_core.specs.declared.game.Row.{Row}
@@ -28,7 +28,3 @@ traps_starts = 1 ∷ 2 ∷ 1 ∷ 0 ∷ 0 ∷ 0 ∷ 1 ∷ 1 ∷ 2 ∷ 2 ∷ 2 ∷
 -- how often they are cut
 abbrev pub traps_cuts : List ℕ
 traps_cuts = 0 ∷ 2 ∷ 1 ∷ 0 ∷ 0 ∷ 0 ∷ 1 ∷ 1 ∷ 2 ∷ 2 ∷ 1 ∷ 0 ∷ 1 ∷ 0 ∷ 0 ∷ 2 ∷ 2 ∷ 1 ∷ []
-
--- two cells with one input, each of which leads to the other
-abbrev pub ring : Game
-ring = record { cells = 2; inputs = 1; marks = Plain ∷ Plain ∷ []; successors = (1 ∷ []) ∷ (0 ∷ []) ∷ [] }

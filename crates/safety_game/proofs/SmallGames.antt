@@ -1,9 +1,13 @@
-use Rattle.std.proofs.Common.{◌≡◌, ℕ, zero, suc, ◌<◌, ◌≤◌, Some, None, true, false, refl, arith}
+-- What the definitions say of the game with traps, by computation.
+use Rattle.std.proofs.Common.{◌≡◌, ℕ, zero, suc, ◌<◌, ◌≤◌, ◌++◌, Some, None, map, length, true, false, refl, arith}
+use Rattle.std.specs.List.{range_with_len}
 use Rattle.game_core.specs.declared.game.Row.{Row}
 use Rattle.game_core.specs.Fallen.{has_fallen}
 use Rattle.game_core.specs.Solution.{row_of}
-use Rattle.safety_game.specs.inside.SmallGames.{traps, traps_rows}
-use Rattle.safety_game.proofs.tests.told_of_traps.Goals as goal
+use Rattle.game_core.specs.Tally.{IsKeepTally, all_pairs, unkept_in}
+use Rattle.safety_game.specs.Boards.{enabled_at}
+use Rattle.safety_game.specs.Reckoned.{lost_at}
+use Rattle.safety_game.specs.inside.SmallGames.{traps, traps_rows, traps_tally, traps_starts, traps_cuts}
 
 -- cell 4 falls in round 2, and not before
 last_round : (d : ℕ) → has_fallen traps d 4 ≡ true → 2 ≤ d
@@ -23,16 +27,16 @@ fell (suc (suc (suc (suc zero)))) lt e = refl
 fell (suc (suc (suc (suc (suc zero))))) lt e = absurd (some_row (record { rank = 0; input = 1 }) e)
 fell (suc (suc (suc (suc (suc (suc c)))))) lt e = absurd (omega arith)
 
-pub returns-clause-tally : goal.returns-clause-tally
-returns-clause-tally c = record {
+pub traps_count : IsKeepTally traps traps_rows traps_tally
+traps_count = record {
   cuts = refl;
   offers = refl;
   all_fell = λ c lt e. (2, omega arith, fell c lt e);
   no_sooner = λ n before. let first = before 4 (omega arith) refl in let late = last_round first.0 first.2 in let lt = first.1 in omega arith;
 }
 
-pub returns-clause-starts : goal.returns-clause-starts
-returns-clause-starts c = refl
+pub traps_start : map length traps.successors ++ map (enabled_at traps) (range_with_len 0 6) ≡ traps_starts
+traps_start = refl
 
-pub returns-clause-cuts : goal.returns-clause-cuts
-returns-clause-cuts c = refl
+pub traps_are_cut : map (unkept_in traps traps_rows) (all_pairs traps) ++ map (lost_at traps traps_rows) (range_with_len 0 6) ≡ traps_cuts
+traps_are_cut = refl
