@@ -6,8 +6,8 @@ use Rattle.plant_record.specs.Description.{Description}
 use Rattle.plant_record.specs.Limits.{IsWithinLimits}
 use Rattle.plant_writing.specs.CanonicalText.{text_of}
 use Rattle.plant_text.specs.CanonicalFronts.{IsFront, IsFrontRefusedFor}
-use Rattle.plant_text.proofs.lemmas.reading.StatementLaws.{one_statement}
-use Rattle.plant_text.proofs.lemmas.reading.CanonicalFronts.{one_front, front_read_or_refused}
+use Rattle.plant_reading.proofs.lemmas.StatementLaws.{one_statement}
+use Rattle.plant_text.proofs.lemmas.CanonicalFronts.{one_front, front_read_or_refused}
 use Rattle.controller_table.proofs.PlantLength.{plant_bytes, plant_length}
 
 module _ (p : Description) (within : IsWithinLimits p) (text : List ℕ) (is : text ≡ text_of p) where

@@ -5,7 +5,9 @@ ghost use Rattle.plant_record.specs.Limits.{IsWithinLimits};
 
 use crate::fault::NoMemory;
 use game_core::Answer;
-use plant_text::{Plant, PlantFault, read_front, write_plant};
+use plant_record::Plant;
+use plant_text::{PlantFault, read_front};
+use plant_writing::write_plant;
 use std::alloc::Global;
 
 /// The plant that a plant's text is read back as.

@@ -1,0 +1,23 @@
+//! Tests of games, of what they lie in and of their solvers, each through public calls.
+#![tactic(auto)]
+
+#[cfg(test)]
+mod abstraction;
+#[cfg(test)]
+mod boards;
+#[cfg(test)]
+mod games;
+#[cfg(test)]
+mod keep;
+#[cfg(test)]
+mod meeting;
+#[cfg(test)]
+mod outlook;
+#[cfg(test)]
+mod plain;
+#[cfg(test)]
+mod reach;
+#[cfg(test)]
+mod row_fills;
+#[cfg(test)]
+mod sweeps;

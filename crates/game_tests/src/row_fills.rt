@@ -1,0 +1,82 @@
+// Rows that are filled place by place, and the block in which they lie.
+
+use edge_rows::{RowFill, Rows};
+use std::alloc::Global;
+use std::test::Fail;
+use std::thread;
+
+fn are_rows(rows: &Rows, expected: &[&[u32]]) -> bool {
+    if rows.rows() as usize != expected.len() {
+        return false;
+    }
+    for r in 0..rows.rows() {
+        if rows.row(r) != expected[r as usize] {
+            return false;
+        }
+    }
+    true
+}
+
+#[test]
+fn rows_are_read_as_they_were_filled(rt: HostRuntime) -> Result<(), Fail> {
+    let mut fill = RowFill::new(rt.alloc(), &[2, 0, 1])?;
+    fill.put(2, 9);
+    fill.put(0, 4);
+    fill.put(0, 6);
+    let rows = fill.finish();
+    // four threads read them at once
+    let same = thread::map_indices(
+        &rt,
+        rt.alloc(),
+        4,
+        &|_| are_rows(&rows, &[&[4, 6], &[], &[9]]),
+    )?;
+    assert!(rt; same.as_slice() == [true; 4].as_slice());
+    Ok(())
+}
+
+#[test]
+fn a_run_puts_one_value_in_each_of_its_rows(rt: HostRuntime) -> Result<(), Fail> {
+    let mut fill = RowFill::new(rt.alloc(), &[1, 2, 2, 0])?;
+    fill.put_run(0, 3, 7);
+    fill.put_run(3, 0, 8);
+    fill.put_run(1, 2, 9);
+    assert!(rt; are_rows(&fill.finish(), &[&[7], &[7, 9], &[7, 9], &[]]));
+    Ok(())
+}
+
+// A filling of three places, so many of them written.
+fn filled_as_far_as(alloc: Global, puts: u64) -> Result<RowFill, Fail> {
+    let mut fill = RowFill::new(alloc, &[2, 0, 1])?;
+    if puts == 0 {
+        return Ok(fill);
+    }
+    fill.put(2, 9);
+    if puts == 1 {
+        return Ok(fill);
+    }
+    fill.put(0, 4);
+    Ok(fill)
+}
+
+#[test]
+fn a_filling_is_dropped_by_another_thread(rt: HostRuntime) -> Result<(), Fail> {
+    let fills = vec![in rt.alloc();
+        filled_as_far_as(rt.alloc(), 0)?,
+        filled_as_far_as(rt.alloc(), 1)?,
+        filled_as_far_as(rt.alloc(), 2)?,
+    ]?;
+    let left = thread::map_vec(&rt, fills, &|fill: RowFill| fill.left())?;
+    assert!(rt; left.as_slice() == [3, 2, 1].as_slice());
+    Ok(())
+}
+
+// Blocks that weren't given back would soon fill the 2^47 bytes of addresses that a process has.
+#[test]
+fn a_block_is_given_back(rt: HostRuntime) -> Result<(), Fail> {
+    for _ in 0..1_100_000 {
+        let mut fill = RowFill::new(rt.alloc(), &[1 << 25])?;
+        fill.put(0, 7);
+    }
+    Ok(())
+}
