@@ -1,5 +1,6 @@
 pub mod Completeness
 pub mod Demanded
+pub mod Ending
 pub mod Giving
 pub mod Leaving
 pub mod Limits

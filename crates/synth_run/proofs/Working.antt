@@ -35,7 +35,7 @@ within_limit : (most : ℕ) (told after : Option (List ℕ)) (read : List ℕ) �
 within_limit most None after read up_to = tt
 within_limit most (Some bytes) after read up_to = (most, omega arith, up_to.1)
 
-if_some_more : (told : Option (List ℕ)) (P Q : List ℕ → Type 0) → ((bytes : List ℕ) → P bytes → Q bytes) → IfSome told P → IfSome told Q
+pub if_some_more : (told : Option (List ℕ)) (P Q : List ℕ → Type 0) → ((bytes : List ℕ) → P bytes → Q bytes) → IfSome told P → IfSome told Q
 if_some_more None P Q more h = tt
 if_some_more (Some bytes) P Q more h = more bytes h
 
