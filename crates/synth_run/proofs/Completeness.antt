@@ -1,7 +1,7 @@
 -- Where no device fails, every text has its answer.
 use Rattle.std.proofs.Common.{inl, inr, ◌≡◌, ℕ, List, Option, Some, None, refl, ap}
 use Rattle.std.specs.Prelude.{IfSome}
-use Rattle.synth_run.specs.declared.form.Form.{Form}
+use Rattle.run_words.specs.declared.form.Form.{Form}
 use Rattle.synth_run.specs.declared.outcome.Outcome.{Outcome}
 use Rattle.synth_run.specs.declared.outcome.Outcome.TheVariants.{Done, Invalid, NoRow, Usage, Malformed, Overflow, Limit, ReadFault, WriteFault, NoMemory}
 use Rattle.synth_run.specs.Demands.{Demands}

@@ -22,14 +22,14 @@ use Rattle.controller_table.specs.declared.fault.TableFault.TheVariants as table
 use Rattle.controller_table.specs.Refusals.{IsTableRefusedFor}
 use Rattle.controller_table.specs.Laws.{OneTablePerText, OneTableRefusal, TableOrRefused}
 use Rattle.table_check.specs.Verdicts.{IsFirstWithout}
-use Rattle.synth_run.specs.declared.form.Form.TheVariants.{Synth, Check, Sim, Demo}
+use Rattle.run_words.specs.declared.form.Form.TheVariants.{Synth, Check, Sim, Demo}
 use Rattle.synth_run.specs.declared.outcome.Outcome.{Outcome}
 use Rattle.synth_run.specs.declared.outcome.Outcome.TheVariants.{Done, Invalid, NoRow, Usage, Malformed, Overflow, Limit, ReadFault, WriteFault, NoMemory}
 use Rattle.synth_run.specs.Demands.{IsRefusal, IsRefused, IsSolvable, HasEdges, ExceedsEdges, PlantDemands, PlantTextDemands, IsRightFor, IsFirstWrong, TableDemands, IsRefusedTable, IsTableThatDemands}
 use Rattle.synth_run.specs.Traces.{HasRowFor, HasNoRowFor, TraceDemands}
 use Rattle.synth_run.specs.inside.Causes.{of_plant, of_table}
-use Rattle.synth_run.specs.Demo.{demo_plant_of}
-use Rattle.synth_run.specs.DemoLaws.{IsSolvableDemo}
+use Rattle.demo_plants.specs.Demo.{demo_plant_of}
+use Rattle.demo_plants.specs.Laws.{IsSolvableDemo}
 use Rattle.synth_run.specs.Laws.{OneDemandPerText}
 
 -- no earlier equation or input overflows than the first

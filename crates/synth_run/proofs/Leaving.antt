@@ -6,10 +6,10 @@ use Rattle.game_core.specs.Game.{Game}
 use Rattle.plant_record.specs.declared.aims.GoalKind.{GoalKind}
 use Rattle.plant_record.specs.Description.{Description}
 use Rattle.abstraction_table.specs.Abstraction.{IsGameOf}
-use Rattle.synth_run.specs.declared.form.Form.TheVariants.{Synth, Check, Sim, Demo}
+use Rattle.run_words.specs.declared.form.Form.TheVariants.{Synth, Check, Sim, Demo}
 use Rattle.synth_run.specs.declared.resolving.Resolved.{Resolved}
-use Rattle.synth_run.specs.Demo.{demo_plant_of}
-use Rattle.synth_run.specs.Devices.{Reading}
+use Rattle.demo_plants.specs.Demo.{demo_plant_of}
+use Rattle.run_devices.specs.Devices.{Reading}
 use Rattle.synth_run.specs.Played.{IsBoardFor, IsReckonedFor, IsResolvedOn, LeavesTheGameOf, IsPlayed}
 use Rattle.synth_run.specs.inside.Resolving.{IsResolved, IsToBeLeft}
 use Rattle.synth_run.proofs.Limits.{of_whole, long_front}

@@ -12,15 +12,15 @@ use Rattle.controller_table.specs.declared.fault.TableFault.TheVariants as table
 use Rattle.controller_table.specs.Tables.{IsTable}
 use Rattle.controller_table.specs.Refusals.{IsShortTable, IsTableRefusedFor}
 use Rattle.controller_table.specs.Laws.{TablesAreShort}
-use Rattle.synth_run.specs.declared.form.Form.{Form}
-use Rattle.synth_run.specs.declared.form.Form.TheVariants.{Synth, Check, Sim}
+use Rattle.run_words.specs.declared.form.Form.{Form}
+use Rattle.run_words.specs.declared.form.Form.TheVariants.{Synth, Check, Sim}
 use Rattle.synth_run.specs.declared.outcome.Outcome.{Outcome}
 use Rattle.synth_run.specs.declared.outcome.Outcome.TheVariants.{Done, Invalid, NoRow, Usage, Malformed, Overflow, Limit, ReadFault, WriteFault, NoMemory}
-use Rattle.synth_run.specs.inside.Transfers.{ReadUpTo}
-use Rattle.synth_run.specs.Form.{most_read}
+use Rattle.run_devices.specs.Transfers.{ReadUpTo}
+use Rattle.synth_run.specs.Sources.{most_read}
 use Rattle.synth_run.specs.Demands.{IsRefusal, IsRefused, IsRefusedTable, Demands}
 use Rattle.synth_run.specs.Headline.{IsAnswer}
-use Rattle.synth_run.proofs.SoFar.{take_all}
+use Rattle.std.proofs.lemmas.List.{take_all}
 
 -- ---- what was read stands for the whole text
 

@@ -2,24 +2,12 @@
 use Rattle.std.proofs.Common.{inl, inr, ◌≡◌, ℕ, List, Result, Ok, Err, sym, subst}
 use Rattle.std.specs.Prelude.{Option, Some, None, IfNone, IfOk, IfErr, OnOk, OnErr}
 use Rattle.std.specs.Result.{IsErrAnd}
-use Rattle.synth_run.specs.Devices.{Writing, GainsWhole, GainsPart}
+use Rattle.run_devices.specs.Devices.{Writing, GainsWhole, GainsPart}
 use Rattle.synth_run.specs.Statuses.{Reports}
 
 pub reports_by : {A E : Type 0} (r : Result A E) (sink : Writing) (pieces line : List ℕ) → pieces ≡ line → OnOk r (GainsWhole sink pieces) → OnErr r (GainsPart sink pieces) → Reports sink line
 reports_by (Ok x) sink pieces line same whole part = inl (subst (GainsWhole sink) same whole)
 reports_by (Err e) sink pieces line same whole part = inr (subst (GainsPart sink) same part)
-
-pub if_ok_more : {A E : Type 0} (r : Result A E) (P Q : A → Type 0) → ((x : A) → P x → Q x) → IfOk r P → IfOk r Q
-if_ok_more (Ok x) P Q more h = more x h
-if_ok_more (Err e) P Q more h = tt
-
-pub if_err_both : {A E : Type 0} (r : Result A E) (P Q R : E → Type 0) → ((e : E) → P e → Q e → R e) → IfErr r P → IfErr r Q → IfErr r R
-if_err_both (Ok x) P Q R both p q = tt
-if_err_both (Err e) P Q R both p q = both e p q
-
-pub where_none : {A : Type 0} (r : Option A) (P : Type 0) → P → IfNone r P
-where_none (Some x) P h = tt
-where_none None P h = h
 
 pub on_ok_both : {A E : Type 0} (r : Result A E) (P Q R : Type 0) → (P → Q → R) → OnOk r P → OnOk r Q → OnOk r R
 on_ok_both (Ok x) P Q R both p q = both p q

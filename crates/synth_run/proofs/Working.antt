@@ -1,17 +1,17 @@
 -- What a form has worked out from what it read.
 use Rattle.std.proofs.Common.{Bool, refl, drop, ◌≡◌, ℕ, List, inl, inr, sym, subst, ◌∙◌, arith}
 use Rattle.std.specs.Prelude.{Option, Some, None, IfSome}
-use Rattle.synth_run.specs.declared.form.Form.{Form}
-use Rattle.synth_run.specs.declared.form.Form.TheVariants.{Synth, Check, Sim, Demo}
-use Rattle.synth_run.specs.Demo.{IsDemoLine}
+use Rattle.run_words.specs.declared.form.Form.{Form}
+use Rattle.run_words.specs.declared.form.Form.TheVariants.{Synth, Check, Sim, Demo}
+use Rattle.demo_plants.specs.Demo.{IsDemoLine}
 use Rattle.synth_run.specs.declared.outcome.Outcome.{Outcome}
 use Rattle.synth_run.specs.declared.outcome.Outcome.TheVariants.{Done, Usage, ReadFault, WriteFault, NoMemory}
 use Rattle.synth_run.specs.declared.text.Text.{Text}
-use Rattle.synth_run.specs.Devices.{Reading, TakesAtMost}
+use Rattle.run_devices.specs.Devices.{Reading, TakesAtMost}
 use Rattle.synth_run.specs.inside.Texts.{bytes_of, CanBeWritten}
-use Rattle.synth_run.specs.inside.Transfers.{ReadUpTo}
+use Rattle.run_devices.specs.Transfers.{ReadUpTo}
 use Rattle.synth_run.specs.inside.Working.{IsWorkedOut, IsTurnedDown}
-use Rattle.synth_run.specs.Form.{given, most_read}
+use Rattle.synth_run.specs.Sources.{given, most_read}
 use Rattle.synth_run.specs.Demands.{Demands}
 use Rattle.synth_run.specs.Headline.{IsAnswer}
 use Rattle.synth_run.specs.Statuses.{IsTheTexts}
@@ -35,7 +35,7 @@ within_limit : (most : ℕ) (told after : Option (List ℕ)) (read : List ℕ) �
 within_limit most None after read up_to = tt
 within_limit most (Some bytes) after read up_to = (most, omega arith, up_to.1)
 
-if_some_more : (told : Option (List ℕ)) (P Q : List ℕ → Type 0) → ((bytes : List ℕ) → P bytes → Q bytes) → IfSome told P → IfSome told Q
+pub if_some_more : (told : Option (List ℕ)) (P Q : List ℕ → Type 0) → ((bytes : List ℕ) → P bytes → Q bytes) → IfSome told P → IfSome told Q
 if_some_more None P Q more h = tt
 if_some_more (Some bytes) P Q more h = more bytes h
 

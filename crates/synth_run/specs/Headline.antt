@@ -6,9 +6,9 @@ use Rattle.abstraction_table.specs.Solution.{IsSolutionOf}
 use Rattle.controller_table.specs.TableText.{First, table_text}
 use Rattle.controller_table.specs.Tables.{RowsFit, IsTable}
 use Rattle.plant_refine.specs.Controls.{Controls}
-use Rattle.synth_run.specs.declared.form.Form.{Form}
-use Rattle.synth_run.specs.declared.form.Form.TheVariants.{Synth, Check, Sim, Demo}
-use Rattle.synth_run.specs.Demo.{IsDemoLine}
+use Rattle.run_words.specs.declared.form.Form.{Form}
+use Rattle.run_words.specs.declared.form.Form.TheVariants.{Synth, Check, Sim, Demo}
+use Rattle.demo_plants.specs.Demo.{IsDemoLine}
 use Rattle.synth_run.specs.Demands.{IsAccepted, IsSolvable}
 use Rattle.synth_run.specs.Traces.{IsTraceFor}
 

@@ -1,6 +1,4 @@
-pub mod Devices
-pub mod Memory
-pub mod Form
+pub mod Sources
 pub mod Traces
 pub mod Demands
 pub mod Headline
@@ -8,6 +6,4 @@ pub mod Played
 pub mod Statuses
 pub mod Runs
 pub mod Laws
-pub mod Demo
-pub mod DemoLaws
 pub mod inside

@@ -11,10 +11,10 @@ use Rattle.reach_avoid.specs.Boards.{IsBoardOf as IsReachBoardOf}
 use Rattle.reach_avoid.specs.Reckoned.{IsReckoned as IsReachReckoned}
 use Rattle.safety_game.specs.Boards.{IsBoardOf as IsKeepBoardOf}
 use Rattle.safety_game.specs.Reckoned.{IsReckoned as IsKeepReckoned}
-use Rattle.synth_run.specs.declared.form.Form.{Form}
-use Rattle.synth_run.specs.declared.form.Form.TheVariants.{Synth, Check, Sim, Demo}
+use Rattle.run_words.specs.declared.form.Form.{Form}
+use Rattle.run_words.specs.declared.form.Form.TheVariants.{Synth, Check, Sim, Demo}
 use Rattle.synth_run.specs.Demands.{IsAccepted}
-use Rattle.synth_run.specs.Demo.{demo_plant_of}
+use Rattle.demo_plants.specs.Demo.{demo_plant_of}
 
 -- a board began with the numbers of a game, by the goal kind
 abbrev pub IsBoardFor : GoalKind → Game → BoardModel → Type 0

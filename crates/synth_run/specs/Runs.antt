@@ -1,11 +1,12 @@
 -- What a run of some words gives.
 use Rattle.std.specs.Prelude.{◌≡◌, ◌≢◌, ◌⊎◌, ◌↔◌, ℕ, List, [], drop, Option, Some, None, IfSome, IsTrue}
 use Rattle.cell_counters.specs.Tokens.{BoardModel, RootModel}
-use Rattle.synth_run.specs.declared.form.Form.{Form}
+use Rattle.run_words.specs.declared.form.Form.{Form}
 use Rattle.synth_run.specs.declared.outcome.Outcome.{Outcome}
 use Rattle.synth_run.specs.declared.outcome.Outcome.TheVariants.{Done, Usage, ReadFault, WriteFault, NoMemory}
-use Rattle.synth_run.specs.Devices.{Rose, Reading, Writing, GainsWhole, GainsPart, TakesAtMost}
-use Rattle.synth_run.specs.Form.{IsOfForm, AreOfNoForm, given, most_read}
+use Rattle.run_devices.specs.Devices.{Rose, Reading, Writing, GainsWhole, GainsPart, TakesAtMost}
+use Rattle.run_words.specs.Form.{IsOfForm, AreOfNoForm}
+use Rattle.synth_run.specs.Sources.{given, most_read}
 use Rattle.synth_run.specs.Demands.{Demands}
 use Rattle.synth_run.specs.Headline.{IsAnswer}
 use Rattle.synth_run.specs.Played.{IsPlayed, SolvesNothing}

@@ -5,7 +5,7 @@ use Rattle.plant_record.specs.declared.fault.LimitKind.{LimitKind}
 use Rattle.plant_record.specs.declared.fault.LimitKind.TheVariants.{PlantText, TableText, Vectors, Cells, Pairs, Edges}
 use Rattle.synth_run.specs.declared.outcome.Outcome.{Outcome}
 use Rattle.synth_run.specs.declared.outcome.Outcome.TheVariants.{Done, Invalid, NoRow, Usage, Malformed, Overflow, Limit, ReadFault, WriteFault, NoMemory}
-use Rattle.synth_run.specs.Devices.{Writing, GainsWhole, GainsPart}
+use Rattle.run_devices.specs.Devices.{Writing, GainsWhole, GainsPart}
 
 -- the exit status
 abbrev pub status_of : Outcome → ℕ

@@ -1,23 +1,44 @@
-// The demo plants: what `demo` solves, and the line that it writes.
+// The line of a demo plant, from its number.
 
-ghost use Rattle.std.specs.Prelude.{◌≡◌, ◌++◌, OnOk};
-ghost use Rattle.std.specs.Fmt.{decimal};
+ghost use Rattle.std.specs.Prelude.{◌≡◌, IfOk, IfErr};
+ghost use Rattle.run_words.specs.Form.{IsDemoNumber, AreWorkers};
+ghost use Rattle.demo_plants.specs.Demo.{IsDemoLine, demo_plant_of};
+ghost use Rattle.synth_run.specs.Played.{IsResolvedOn};
+ghost use Rattle.synth_run.specs.declared.outcome.Outcome.TheVariants.{NoMemory};
 
-mod line;
-mod plant;
-mod solved;
+use crate::game::game_of;
+use crate::outcome::Outcome;
+use crate::resolving::{Resolved, resolve};
+use cell_counters::{Board, Root};
+use demo_plants::laws::demo_plants_are_solvable;
+use demo_plants::{demo_line, demo_plant};
+use frontier_pool::Gate;
+use plant_record::GoalKind;
+use std::alloc::Global;
+use std::thread::Threads;
 
-use itoa::Buffer;
-pub use line::demo_line;
-pub use plant::demo_plant;
-pub(crate) use solved::solved_line;
-use std::alloc::AllocError;
-
-/// A piece and a number.
-fn push_part(text: &mut Vec<u8>, piece: &[u8], number: u32) -> Result<(), AllocError>
-    ensures { OnOk result (text.new.items ≡ text.old.items ++ piece.now ++ decimal number) }
+/// The line of the n-th demo plant, which nothing refuses; and the board on which its game was resolved, with its root.
+pub fn solved_line<R: Threads + Sync, T: Gate>(
+    rt: &R,
+    alloc: Global,
+    n: u32,
+    workers: u32,
+    gate: &T,
+) -> Result<(Vec<u8>, (Board, Root)), Outcome>
+    requires number { IsDemoNumber n }
+    requires workers { AreWorkers workers }
+    ensures line { IfOk result (λ made. IsDemoLine n made.0.items) }
+    ensures played { IfOk result (λ made. IsResolvedOn (demo_plant_of n) made.1.0 made.1.1) }
+    ensures memory { IfErr result (λ outcome. outcome ≡ NoMemory) }
 {
-    let mut buffer = Buffer::new();
-    text.extend_from_slice(piece)?;
-    text.extend_from_slice(buffer.format(number).as_bytes())
+    demo_plants_are_solvable();
+    let plant = demo_plant(alloc, n)?;
+    let game = game_of(rt, alloc, &plant)?;
+    let Resolved {
+        answer,
+        board,
+        root,
+    } = resolve(rt, alloc, GoalKind::Reach, &game, workers, gate)?;
+    let line = demo_line(alloc, n, &game, &answer)?;
+    Ok((line, (board, root)))
 }

@@ -2,12 +2,18 @@
 
 ghost use Rattle.synth_run.specs.Laws.{OneTableForBytes, OneTraceForBytes, OneDemandPerText};
 
-pub mod demo;
-
 use abstraction_table::laws::{one_edge_count, one_game_per_plant, one_solution_per_plant};
 use controller_table::laws::{one_table_per_text, one_table_refusal, table_or_refused};
 use game_core::laws::solutions_are_right;
 use plant_text::laws::{one_plant_per_text, one_refusal, read_or_refused};
+
+/// What holds of every demo plant.
+pub mod demo {
+    pub use demo_plants::laws::{
+        demo_plants_are_solvable, demo_plants_are_within_limits, demo_plants_have_few_edges,
+        demo_plants_have_no_overflow, demo_texts_spell, one_demo_line,
+    };
+}
 
 /// Bytes that spell a plant have one table: `synth` has no choice of what to write.
 pub fn one_table_for_bytes()

@@ -9,31 +9,18 @@
 
 mod checking;
 mod demo;
-mod devices;
-mod form;
 mod game;
 pub mod laws;
-mod memory;
 mod outcome;
 mod resolving;
 mod simulating;
 mod solving;
-mod start;
 mod text;
 mod top;
-mod transfer;
 
-pub use demo::{demo_line, demo_plant};
-pub use devices::{Failed, Sink, Source};
+pub use demo_plants::{demo_line, demo_plant};
 pub use frontier_pool::{Gate, Open};
-pub use memory::{CleanSource, CountSink, MemorySink, MemorySource, NoMemory};
+pub use run_devices::{
+    CleanSource, CountSink, Failed, MemorySink, MemorySource, NoMemory, Sink, Source,
+};
 pub use top::run;
-
-#[cfg(test)]
-mod device_tests;
-#[cfg(test)]
-mod tests;
-#[cfg(test)]
-mod trial;
-#[cfg(test)]
-mod worker_tests;

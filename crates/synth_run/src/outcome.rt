@@ -1,17 +1,15 @@
 ghost use Rattle.std.specs.Prelude.{◌≡◌};
-ghost use Rattle.synth_run.specs.Devices.{writing};
+ghost use Rattle.run_devices.specs.Devices.{writing};
 ghost use Rattle.synth_run.specs.declared.outcome.Outcome.TheVariants as ends;
 ghost use Rattle.synth_run.specs.Statuses.{status_of, line_of, limit_words, Reports};
 ghost use Rattle.synth_run.specs.inside.Causes.{of_plant, of_table, of_slopes, of_build, of_read};
 
-use crate::devices::Sink;
-use crate::memory::NoMemory;
-use crate::transfer::{ReadFault, write_pieces};
 use abstraction_table::BuildFault;
 use controller_table::TableFault;
 use itoa::Buffer;
 use plant_record::LimitKind;
 use plant_text::PlantFault;
+use run_devices::{NoMemory, ReadFault, Sink, write_pieces};
 use successor_box::SlopeFault;
 
 /// How a run ended.

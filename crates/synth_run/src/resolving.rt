@@ -1,7 +1,7 @@
 // The game of a plant, resolved by workers at a board.
 
 ghost use Rattle.std.specs.Prelude.{IfOk};
-ghost use Rattle.synth_run.specs.Form.{AreWorkers};
+ghost use Rattle.run_words.specs.Form.{AreWorkers};
 ghost use Rattle.synth_run.specs.inside.Resolving.{IsResolved};
 
 use cell_counters::{Board, Root};

@@ -8,12 +8,12 @@ ghost use Rattle.synth_run.specs.Traces.{HasRowFor, HasNoRowFor, TraceDemands, I
 ghost use Rattle.synth_run.specs.inside.Texts.{trace_of, IsReady};
 
 use crate::outcome::Outcome;
-use crate::start::Start;
 use controller_table::{Table, read_table};
 use game_core::Row;
 use grid_quantiser::Point;
 use loop_sim::laws::rows_stand_at_states;
 use loop_sim::{TraceWriter, row_at};
+use run_words::Start;
 use std::alloc::Global;
 use successor_box::{Slopes, find_slopes};
 

@@ -1,12 +1,12 @@
 // From the bytes of a plant's text to the solution of its game.
 
 ghost use Rattle.std.specs.Prelude.{◌≡◌, ◌≢◌, Some, IfOk, IfErr};
-ghost use Rattle.synth_run.specs.declared.form.Form.{Form};
+ghost use Rattle.run_words.specs.declared.form.Form.{Form};
 ghost use Rattle.synth_run.specs.declared.outcome.Outcome.TheVariants as ends;
 ghost use Rattle.controller_table.specs.TableText.{First, table_text};
 ghost use Rattle.controller_table.specs.Tables.{RowsFit};
 ghost use Rattle.synth_run.specs.Demands.{PlantTextDemands, PlantDemands, IsSolvable};
-ghost use Rattle.synth_run.specs.Form.{AreWorkers};
+ghost use Rattle.run_words.specs.Form.{AreWorkers};
 ghost use Rattle.synth_run.specs.Headline.{IsTableOf, IsTableFor};
 ghost use Rattle.synth_run.specs.Played.{IsPlayed, IsResolvedOn};
 

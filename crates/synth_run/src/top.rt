@@ -1,31 +1,30 @@
 ghost use Rattle.std.specs.Prelude.{◌≡◌, ℕ, ◌≤◌, List, map, None, IfSome, IfOk, IfErr};
-ghost use Rattle.synth_run.specs.Devices.{Rose, reading, writing};
-ghost use Rattle.synth_run.specs.Form.{AreWorkers, IsOfForm, given};
+ghost use Rattle.run_devices.specs.Devices.{Rose, reading, writing};
+ghost use Rattle.run_words.specs.Form.{AreWorkers, IsOfForm, IsDemoNumber};
+ghost use Rattle.synth_run.specs.Sources.{given};
 ghost use Rattle.synth_run.specs.Played.{LeavesTheGameOf};
 ghost use Rattle.synth_run.specs.Runs.{Gives, IsRun, IsRunOf, IsAnswered, IsCompleteAnswer};
-ghost use Rattle.synth_run.specs.declared.form.Form.{Form};
+ghost use Rattle.run_words.specs.declared.form.Form.{Form};
 ghost use Rattle.synth_run.specs.declared.outcome.Outcome.TheVariants as ends;
-ghost use Rattle.synth_run.specs.Demo.{IsDemoNumber, IsDemoLine, demo_plant_of};
+ghost use Rattle.demo_plants.specs.Demo.{IsDemoLine, demo_plant_of};
 ghost use Rattle.synth_run.specs.inside.Resolving.{IsToBeLeft};
 ghost use Rattle.synth_run.specs.inside.Texts.{bytes_of, CanBeWritten};
 ghost use Rattle.synth_run.specs.inside.Working.{IsWorkedOut, IsTurnedDown};
 
 use crate::checking::check_text;
 use crate::demo::solved_line;
-use crate::devices::{Sink, Source};
-use crate::form::{Form, form_of};
 use crate::laws::one_demand_per_text;
 use crate::outcome::Outcome;
 use crate::simulating::simulate_text;
 use crate::solving::solve_text;
-use crate::start::Start;
 use crate::text::Text;
-use crate::transfer::{WriteFault, read_up_to};
 use cell_counters::{Board, Root};
 use controller_table::TABLE_LIMIT;
 use controller_table::laws::tables_are_short;
 use frontier_pool::Gate;
 use plant_text::TEXT_LIMIT;
+use run_devices::{Sink, Source, WriteFault, read_up_to};
+use run_words::{Form, Start, form_of};
 use std::alloc::Global;
 use std::thread::Threads;
 

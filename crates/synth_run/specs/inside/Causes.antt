@@ -8,8 +8,8 @@ use Rattle.successor_box.specs.declared.fault.SlopeFault.{SlopeFault}
 use Rattle.successor_box.specs.declared.fault.SlopeFault.TheVariants as slopes
 use Rattle.abstraction_table.specs.declared.fault.BuildFault.{BuildFault}
 use Rattle.abstraction_table.specs.declared.fault.BuildFault.TheVariants as builds
-use Rattle.synth_run.specs.declared.transfer.ReadFault.{ReadFault}
-use Rattle.synth_run.specs.declared.transfer.ReadFault.TheVariants as reads
+use Rattle.run_devices.specs.declared.transfer.ReadFault.{ReadFault}
+use Rattle.run_devices.specs.declared.transfer.ReadFault.TheVariants as reads
 use Rattle.synth_run.specs.declared.outcome.Outcome.{Outcome}
 use Rattle.synth_run.specs.declared.outcome.Outcome.TheVariants.{Malformed, Overflow, Limit, ReadFault as ReadFailed, NoMemory}
 

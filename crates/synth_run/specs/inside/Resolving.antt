@@ -4,10 +4,10 @@ use Rattle.cell_counters.specs.Tokens.{BoardModel, RootModel}
 use Rattle.game_core.specs.Game.{Game}
 use Rattle.plant_record.specs.declared.aims.GoalKind.{GoalKind}
 use Rattle.abstraction_table.specs.Solution.{Solves}
-use Rattle.synth_run.specs.declared.form.Form.{Form}
+use Rattle.run_words.specs.declared.form.Form.{Form}
 use Rattle.synth_run.specs.declared.resolving.Resolved.{Resolved}
-use Rattle.synth_run.specs.Devices.{Reading}
-use Rattle.synth_run.specs.Form.{given}
+use Rattle.run_devices.specs.Devices.{Reading}
+use Rattle.synth_run.specs.Sources.{given}
 use Rattle.synth_run.specs.Played.{IsBoardFor, IsReckonedFor, IsPlayed, SolvesNothing}
 
 -- The solution of a game for a goal, with the game's board and the board's root, whose accounts are reckoned and which

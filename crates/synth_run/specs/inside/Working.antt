@@ -1,10 +1,10 @@
 -- What a form has worked out from its source before anything is written.
 use Rattle.std.specs.Prelude.{◌≡◌, ◌≢◌, IfSome, IsTrue}
-use Rattle.synth_run.specs.declared.form.Form.{Form}
+use Rattle.run_words.specs.declared.form.Form.{Form}
 use Rattle.synth_run.specs.declared.outcome.Outcome.{Outcome}
 use Rattle.synth_run.specs.declared.outcome.Outcome.TheVariants.{Done, Usage, ReadFault, WriteFault, NoMemory}
-use Rattle.synth_run.specs.Devices.{Rose, Reading, TakesAtMost}
-use Rattle.synth_run.specs.Form.{given, most_read}
+use Rattle.run_devices.specs.Devices.{Rose, Reading, TakesAtMost}
+use Rattle.synth_run.specs.Sources.{given, most_read}
 use Rattle.synth_run.specs.Demands.{Demands}
 use Rattle.synth_run.specs.Headline.{IsAnswer}
 use Rattle.synth_run.specs.Statuses.{IsTheTexts}

@@ -1,6 +1,6 @@
 use Rattle.std.proofs.Common.{List, ℕ, refl, subst}
-use Rattle.synth_run.specs.declared.form.Form.TheVariants.{Check}
-use Rattle.synth_run.specs.Devices.{reading}
+use Rattle.run_words.specs.declared.form.Form.TheVariants.{Check}
+use Rattle.run_devices.specs.Devices.{reading}
 use Rattle.synth_run.specs.Headline.{IsValid}
 use Rattle.synth_run.proofs.Limits.{tables_pass_on}
 use Rattle.synth_run.proofs.Working.{worked_out, turned_down}

@@ -1,8 +1,8 @@
 use Rattle.std.proofs.Common.{List, ℕ, refl, subst}
-use Rattle.synth_run.specs.declared.form.Form.TheVariants.{Sim}
+use Rattle.run_words.specs.declared.form.Form.TheVariants.{Sim}
 use Rattle.synth_run.specs.declared.text.Text.TheVariants.{Trace}
 use Rattle.synth_run.specs.Demands.{TraceTextDemands}
-use Rattle.synth_run.specs.Devices.{reading}
+use Rattle.run_devices.specs.Devices.{reading}
 use Rattle.synth_run.specs.Traces.{IsTraceFor}
 use Rattle.synth_run.specs.inside.Texts.{trace_of}
 use Rattle.synth_run.proofs.Limits.{traces_pass_on}

@@ -1,8 +1,8 @@
 use Rattle.std.proofs.Common.{List, ℕ, Some, refl, subst}
 use Rattle.controller_table.specs.TableText.{First, table_text}
-use Rattle.synth_run.specs.declared.form.Form.TheVariants.{Synth}
+use Rattle.run_words.specs.declared.form.Form.TheVariants.{Synth}
 use Rattle.synth_run.specs.declared.text.Text.TheVariants.{Table}
-use Rattle.synth_run.specs.Devices.{reading}
+use Rattle.run_devices.specs.Devices.{reading}
 use Rattle.synth_run.specs.Headline.{IsTableFor}
 use Rattle.synth_run.specs.Played.{IsPlayed}
 use Rattle.synth_run.proofs.Leaving.{synth_leaves}

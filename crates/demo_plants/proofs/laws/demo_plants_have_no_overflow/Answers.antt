@@ -1,0 +1,5 @@
+use Rattle.demo_plants.proofs.lemmas.Overflows.{no_overflow}
+use Rattle.demo_plants.proofs.laws.demo_plants_have_no_overflow.Goals as goal
+
+pub returns : goal.returns
+returns c = no_overflow

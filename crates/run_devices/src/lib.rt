@@ -1,0 +1,14 @@
+//! Devices, in memory and any other, and what goes through them.
+//!
+//! A `Source` gives bytes and a `Sink` takes them; both count the calls that failed. The layer above reads
+//! a source to its end or to a limit, and writes texts whole: where a call fails, that ends it, and the
+//! clauses say which bytes went through till then. Stands on `text_pieces`.
+#![tactic(auto)]
+
+mod devices;
+mod memory;
+mod transfer;
+
+pub use devices::{Failed, Sink, Source};
+pub use memory::{CleanSource, CountSink, MemorySink, MemorySource, NoMemory};
+pub use transfer::{ReadFault, WriteFault, read_up_to, write_buffered, write_pieces, write_whole};

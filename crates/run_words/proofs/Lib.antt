@@ -1,0 +1,4 @@
+pub mod Laws
+pub mod Spellings
+pub mod Starts
+pub mod Words

@@ -1,0 +1,74 @@
+-- Words that spell the numbers of a state.
+use Rattle.std.proofs.Common.{Bor, ◌≡◌, ℕ, ◌+◌, ◌^◌, ◌<◌, ◌≤◌, List, [], ◌∷◌, ◌++◌, length, take, map, get_or, Some, refl, sym, ap, ◌∙◌, arith}
+use Rattle.std.specs.Prelude.{ℤ, pos, negsuc, Result}
+use Rattle.std.specs.Int.{w64}
+use Rattle.std.specs.Int.Signed.{mag}
+use Rattle.std.specs.Result.{result_ok}
+use Rattle.std.specs.Str.Parse.{ParsesUnsigned, ParsesSigned}
+use Rattle.std.specs.List.{All}
+use Rattle.std.specs.Fmt.{decimal, signed_decimal}
+use Rattle.std.proofs.lemmas.Fmt.{signed_decimal_injective, parse-decimal, parse-signed_decimal}
+use Rattle.std.proofs.lemmas.Int.{fits_signed_from_abs}
+use Rattle.std.proofs.lemmas.List.{length-map, get_or-map, map-append, map_more, length-take-le}
+use Rattle.std.proofs.lemmas.List.Elements.{All-head, All-tail, All-push, All-nil, All-get_or}
+use Rattle.plant_record.specs.Numbers.{IsLiteral}
+use Rattle.run_words.specs.inside.Spelling.{Spell}
+
+-- ---- a number's own spelling is read
+
+pub parsed_number : {E : Type 0} (word : List ℕ) (n : ℕ) (r : Result ℕ E) → ParsesUnsigned 64 10 word r → n < 2 ^ 64 → word ≡ decimal n → result_ok r ≡ Some n
+parsed_number word n r parses lt is = ap result_ok (parse-decimal 64 n word r lt lt is parses)
+
+-- a number of 18 digits is one of 64 bits
+short_number : (z : ℤ) → IsLiteral z → mag z < 2 ^ 63
+short_number (pos n) h = omega (arith, h)
+short_number (negsuc n) h = omega (arith, h)
+
+pub parsed_signed : {E : Type 0} (word : List ℕ) (z : ℤ) (r : Result ℤ E) → ParsesSigned w64 10 word r → IsLiteral z → word ≡ signed_decimal z → result_ok r ≡ Some z
+parsed_signed word z r parses few is =
+    ap result_ok (parse-signed_decimal w64 z word r (fits_signed_from_abs w64 z (omega (arith, few))) (short_number z few) is parses)
+
+-- ---- numbers have one spelling
+
+-- the words spell these numbers alone
+pub one_spelling : (xs ys : List ℤ) → All IsLiteral xs → All IsLiteral ys → map signed_decimal xs ≡ map signed_decimal ys → xs ≡ ys
+one_spelling [] [] h k e = refl
+one_spelling [] (y ∷ ys) h k e = cc
+one_spelling (x ∷ xs) [] h k e = cc
+one_spelling (x ∷ xs) (y ∷ ys) h k e =
+    let here : x ≡ y = signed_decimal_injective x y (short_number x (All-head IsLiteral x xs h)) (short_number y (All-head IsLiteral y ys k)) cc in
+    let rest : xs ≡ ys = one_spelling xs ys (All-tail IsLiteral x xs h) (All-tail IsLiteral y ys k) cc in
+    ap (λ (z : ℤ). z ∷ xs) here ∙ ap (λ (zs : List ℤ). y ∷ zs) rest
+
+pub as_many : (words : List (List ℕ)) (numbers : List ℤ) → Spell words numbers → length numbers ≡ length words
+as_many words numbers s = sym (ap length s.spelled ∙ length-map numbers signed_decimal)
+
+-- ---- words that are read one by one
+
+abbrev pub now : Bor (List ℕ) → List ℕ
+now word = word.now
+
+pub none_spelled : (words : List (Bor (List ℕ))) → Spell (map now (take 0 words)) []
+none_spelled words = record { spelled = refl; each = All-nil IsLiteral }
+
+pub as_many_so_far : (words : List (Bor (List ℕ))) (numbers : List ℤ) (i : ℕ) → i ≤ length words → Spell (map now (take i words)) numbers → length numbers ≡ i
+as_many_so_far words numbers i le s = as_many (map now (take i words)) numbers s ∙ length-map (take i words) now ∙ length-take-le i words le
+
+-- one more word is spelled
+pub spelled_more : (words : List (Bor (List ℕ))) (numbers : List ℤ) (i : ℕ) (d : Bor (List ℕ)) (z : ℤ) → i < length words → Spell (map now (take i words)) numbers → IsLiteral z → (get_or words i d).now ≡ signed_decimal z
+    → Spell (map now (take (i + 1) words)) (numbers ++ z ∷ [])
+spelled_more words numbers i d z lt s few is = record {
+  spelled =
+      map_more now words i d lt
+      ∙ ap (λ (front : List (List ℕ)). front ++ (get_or words i d).now ∷ []) s.spelled
+      ∙ ap (λ (word : List ℕ). map signed_decimal numbers ++ word ∷ []) is
+      ∙ sym (map-append signed_decimal numbers (z ∷ []));
+  each = All-push IsLiteral numbers z s.each few;
+}
+
+-- a word that spells no number is in no such words
+pub no_spelling : (words : List (Bor (List ℕ))) (i : ℕ) (d : Bor (List ℕ)) → i < length words → ((z : ℤ) → IsLiteral z → (get_or words i d).now ≡ signed_decimal z → ⊥) → (numbers : List ℤ) → Spell (map now words) numbers → ⊥
+no_spelling words i d lt none numbers s =
+    let count : i < length numbers = omega (arith, lt, as_many (map now words) numbers s, length-map words now) in
+    none (get_or numbers i (pos 0)) (All-get_or IsLiteral numbers i (pos 0) count s.each)
+    (sym (get_or-map now words i d [] lt) ∙ ap (λ (ws : List (List ℕ)). get_or ws i []) s.spelled ∙ get_or-map signed_decimal numbers i (pos 0) [] count)

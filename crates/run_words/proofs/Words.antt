@@ -1,0 +1,119 @@
+-- The words of a command line.
+use Rattle.std.proofs.Common.{◌≡◌, ℕ, ◌^◌, ◌<◌, ◌≤◌, List, [], ◌∷◌, length, Option, Some, None, refl, ap, sym, ◌∙◌, arith}
+use Rattle.std.specs.Prelude.{codes, ℤ, IfNone}
+use Rattle.std.specs.Fmt.{decimal, signed_decimal}
+use Rattle.std.proofs.lemmas.Fmt.{decimal_injective}
+use Rattle.std.proofs.lemmas.List.{length-map}
+use Rattle.run_words.specs.declared.form.Form.{Form}
+use Rattle.run_words.specs.declared.form.Form.TheVariants.{Synth, Check, Sim, Demo}
+use Rattle.run_words.specs.Form.{AreWorkers, IsDemoNumber, IsOfForm}
+use Rattle.run_words.specs.inside.Spelling.{Spell}
+use Rattle.run_words.proofs.Spellings.{one_spelling, as_many}
+
+-- ---- words are of one form
+
+second : {a b c d : List ℕ} → (a ∷ b ∷ []) ≡ (c ∷ d ∷ []) → b ≡ d
+second e = cc
+
+first : {a b c d : List ℕ} → (a ∷ b ∷ []) ≡ (c ∷ d ∷ []) → a ≡ c
+first e = cc
+
+third : {a b c d e f : List ℕ} → (a ∷ b ∷ c ∷ []) ≡ (d ∷ e ∷ f ∷ []) → (a ≡ d) × (b ≡ e) × (c ≡ f)
+third e = (cc, cc, cc)
+
+one_or_three : {a b c d : List ℕ} → (a ∷ []) ≡ (b ∷ c ∷ d ∷ []) → ⊥
+one_or_three e = cc
+
+two_or_three : {a b c d e : List ℕ} → (a ∷ b ∷ []) ≡ (c ∷ d ∷ e ∷ []) → ⊥
+two_or_three e = cc
+
+one_or_two : {a b c : List ℕ} → (a ∷ []) ≡ (b ∷ c ∷ []) → ⊥
+one_or_two e = cc
+
+behind : {a b c d e f : List ℕ} {rest others : List (List ℕ)} → (a ∷ b ∷ c ∷ rest) ≡ (d ∷ e ∷ f ∷ others) → (b ≡ e) × (c ≡ f) × (rest ≡ others)
+behind e = (cc, cc, cc)
+
+-- `sim` has four words at least
+not_sim : (words : List (List ℕ)) (samples seed : ℕ) (start : List ℤ) → length words ≤ 3 → IsOfForm words (Sim samples seed start) → ⊥
+not_sim words samples seed start few h = let some = h.3.some in omega (arith, few, ap length h.0, length-map start signed_decimal, some)
+
+pub one_form : (words : List (List ℕ)) (f g : Form) → IsOfForm words f → IsOfForm words g → f ≡ g
+one_form words (Synth m) (Synth n) h k = ap Synth (decimal_injective m n (omega (arith, h.1.1)) (omega (arith, k.1.1)) (second (sym h.0 ∙ k.0)))
+one_form words (Synth m) Check h k = absurd (one_or_two (sym k ∙ h.0))
+one_form words Check (Synth n) h k = absurd (one_or_two (sym h ∙ k.0))
+one_form words Check Check h k = refl
+one_form words (Synth m) (Demo n w) h k = absurd (two_or_three (sym h.0 ∙ k.0))
+one_form words Check (Demo n w) h k = absurd (one_or_three (sym h ∙ k.0))
+one_form words (Demo n w) (Synth m) h k = absurd (two_or_three (sym k.0 ∙ h.0))
+one_form words (Demo n w) Check h k = absurd (one_or_three (sym k ∙ h.0))
+one_form words (Synth m) (Sim samples seed start) h k = absurd (not_sim words samples seed start (omega (arith, ap length h.0)) k)
+one_form words Check (Sim samples seed start) h k = absurd (not_sim words samples seed start (omega (arith, ap length h)) k)
+one_form words (Demo m v) (Sim samples seed start) h k = absurd (not_sim words samples seed start (omega (arith, ap length h.0)) k)
+one_form words (Sim samples seed start) (Synth n) h k = absurd (not_sim words samples seed start (omega (arith, ap length k.0)) h)
+one_form words (Sim samples seed start) Check h k = absurd (not_sim words samples seed start (omega (arith, ap length k)) h)
+one_form words (Sim samples seed start) (Demo n w) h k = absurd (not_sim words samples seed start (omega (arith, ap length k.0)) h)
+one_form words (Sim m s xs) (Sim n r ys) h k =
+    let same = behind (sym h.0 ∙ k.0) in
+    ap (λ (x : ℕ). Sim x s xs) (decimal_injective m n (omega (arith, h.1)) (omega (arith, k.1)) same.0)
+    ∙ ap (λ (x : ℕ). Sim n x xs) (decimal_injective s r h.2 k.2 same.1)
+    ∙ ap (λ (zs : List ℤ). Sim n r zs) (one_spelling xs ys h.3.each k.3.each same.2)
+one_form words (Demo m v) (Demo n w) h k =
+    let same = third (sym h.0 ∙ k.0) in
+    ap (λ (x : ℕ). Demo x v) (decimal_injective m n (omega (arith, h.1.1)) (omega (arith, k.1.1)) same.1) ∙ ap (λ (x : ℕ). Demo n x) (decimal_injective v w (omega (arith, h.2.1)) (omega (arith, k.2.1)) same.2)
+
+-- ---- numbers of workers and of demo plants
+
+-- 0 is the number of no demo plant, and no number of workers
+pub not_zero : (word : List ℕ) → word ≡ decimal 0 → (n : ℕ) → 1 ≤ n → n ≤ 500 → word ≡ decimal n → ⊥
+not_zero word zero n some few is = let same : n ≡ 0 = decimal_injective n 0 (omega (arith, few)) (omega arith) (sym is ∙ zero) in omega (arith, same, some)
+
+-- ---- the forms of two words
+
+pub is_form : (command workers : List ℕ) (n : ℕ) → command ≡ codes "synth" → AreWorkers n → workers ≡ decimal n → IsOfForm (command ∷ workers ∷ []) (Synth n)
+is_form command workers n c few w = (rw (c, w) refl, few)
+
+pub no_form : (command workers : List ℕ) → (command ≡ codes "synth" → (n : ℕ) → AreWorkers n → workers ≡ decimal n → ⊥) → (f : Form) → IsOfForm (command ∷ workers ∷ []) f → ⊥
+no_form command workers other (Synth n) h = other (first h.0) n h.1 (second h.0)
+no_form command workers other Check h = one_or_two (sym h)
+no_form command workers other (Sim samples seed start) h = not_sim (command ∷ workers ∷ []) samples seed start (omega arith) h
+no_form command workers other (Demo n w) h = two_or_three h.0
+
+-- ---- the forms of three words
+
+pub is_demo_form : (command number workers : List ℕ) (n w : ℕ) → command ≡ codes "demo" → IsDemoNumber n → number ≡ decimal n → AreWorkers w → workers ≡ decimal w → IsOfForm (command ∷ number ∷ workers ∷ []) (Demo n w)
+is_demo_form command number workers n w c bounds d few e = (rw (c, d, e) refl, bounds, few)
+
+-- a form of three words is `demo`, with the number of a demo plant and a number of workers
+pub no_demo_form : (command number workers : List ℕ) → (command ≡ codes "demo" → (n : ℕ) → IsDemoNumber n → number ≡ decimal n → (w : ℕ) → AreWorkers w → workers ≡ decimal w → ⊥) → (f : Form) → IsOfForm (command ∷ number ∷ workers ∷ []) f → ⊥
+no_demo_form command number workers other (Synth n) h = two_or_three (sym h.0)
+no_demo_form command number workers other Check h = one_or_three (sym h)
+no_demo_form command number workers other (Demo n w) h = let same = third h.0 in other same.0 n h.1 same.1 w h.2 same.2
+no_demo_form command number workers other (Sim samples seed start) h = not_sim (command ∷ number ∷ workers ∷ []) samples seed start (omega arith) h
+
+-- ---- the forms of four words and more
+
+pub is_sim_form : (command samples seed : List ℕ) (numbers : List (List ℕ)) (m s : ℕ) (start : List ℤ) → command ≡ codes "sim" → samples ≡ decimal m → m ≤ 1000000 → seed ≡ decimal s → s < 2 ^ 64 → Spell numbers start → 1 ≤ length numbers → length numbers ≤ 6
+    → IsOfForm (command ∷ samples ∷ seed ∷ numbers) (Sim m s start)
+is_sim_form command samples seed numbers m s start c d few e lt spelled some most = (
+  rw (c, d, e, spelled.spelled) refl,
+  few,
+  lt,
+  record { some = omega (arith, some, as_many numbers start spelled); most = omega (arith, most, as_many numbers start spelled); each = spelled.each },
+)
+
+-- a form of four words or more is `sim`
+pub no_sim_form : (command samples seed : List ℕ) (numbers : List (List ℕ)) → 1 ≤ length numbers → ((m s : ℕ) (start : List ℤ) → command ≡ codes "sim" → samples ≡ decimal m → m ≤ 1000000 → seed ≡ decimal s → s < 2 ^ 64 → Spell numbers start → ⊥)
+    → (f : Form) → IsOfForm (command ∷ samples ∷ seed ∷ numbers) f → ⊥
+no_sim_form command samples seed numbers some other (Synth n) h = omega (arith, some, ap length h.0)
+no_sim_form command samples seed numbers some other Check h = omega (arith, some, ap length h)
+no_sim_form command samples seed numbers some other (Demo n w) h = omega (arith, some, ap length h.0)
+no_sim_form command samples seed numbers some other (Sim m s start) h =
+    let same = behind h.0 in
+    let first : command ≡ codes "sim" = cc (h.0) in
+    other m s start first same.0 h.1 same.1 h.2 (record { spelled = same.2; each = h.3.each })
+
+-- ---- words that are passed on
+
+pub where_none : {A : Type 0} (r : Option A) (P : Type 0) → P → IfNone r P
+where_none (Some x) P h = tt
+where_none None P h = h

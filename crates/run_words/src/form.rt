@@ -1,0 +1,211 @@
+ghost use Rattle.std.specs.Prelude.{◌≡◌, ◌↔◌, ◌^◌, ◌<◌, ◌≤◌, ℕ, ℤ, List, Some, [], ◌∷◌, length, map, codes, IfSome, IfNone, IsTrue};
+ghost use Rattle.std.specs.Fmt.{decimal, signed_decimal};
+ghost use Rattle.plant_record.specs.Numbers.{IsLiteral};
+ghost use Rattle.run_words.specs.Form.{IsDemoNumber, AreWorkers, IsOfForm};
+ghost use Rattle.run_words.specs.inside.Spelling.{Spell};
+ghost use Rattle.run_words.specs.declared.form.Form.{Form};
+
+use crate::start::Start;
+use itoa::Buffer;
+
+/// More than a number of 18 digits.
+const NUMBER_LIMIT: u64 = 1_000_000_000_000_000_000;
+
+/// What the words ask for.
+#[derive(Clone, Copy, Debug, PartialEq, Eq)]
+pub enum Form {
+    /// Solve the plant on the source with so many workers.
+    Synth {
+        workers: u32,
+    },
+    /// Judge the table on the source.
+    Check,
+    /// Drive the plant of the table on the source from a start, for at most so many samples, under the noises of a seed.
+    Sim {
+        samples: u32,
+        seed: u64,
+        start: Start,
+    },
+    /// Solve the demo plant of a number with so many workers.
+    Demo {
+        number: u32,
+        workers: u32,
+    },
+}
+
+/// The form that the words are of.
+pub fn form_of(words: &[&str]) -> Option<Form>
+    ensures found { IfSome result (IsOfForm (map (λ w. w.now) words.now)) }
+    ensures none { IfNone result ((f : Form) → IsOfForm (map (λ w. w.now) words.now) f → ⊥) }
+{
+    match words.len() {
+        1 => form_of_one(words[0]),
+        2 => form_of_two(words[0], words[1]),
+        3 => form_of_three(words[0], words[1], words[2]),
+        4..=9 => form_of_more(words[0], words[1], words[2], &words[3..]),
+        _ => None,
+    }
+}
+
+fn form_of_one(command: &str) -> Option<Form>
+    ensures found { IfSome result (IsOfForm (command.now ∷ [])) }
+    ensures none { IfNone result ((f : Form) → IsOfForm (command.now ∷ []) f → ⊥) }
+{
+    if is_check(command) {
+        Some(Form::Check)
+    } else {
+        None
+    }
+}
+
+fn form_of_two(command: &str, workers: &str) -> Option<Form>
+    ensures found { IfSome result (IsOfForm (command.now ∷ workers.now ∷ [])) }
+    ensures none { IfNone result ((f : Form) → IsOfForm (command.now ∷ workers.now ∷ []) f → ⊥) }
+{
+    let workers = workers_of(workers)?;
+    if is_synth(command) {
+        Some(Form::Synth { workers })
+    } else {
+        None
+    }
+}
+
+fn form_of_three(command: &str, number: &str, workers: &str) -> Option<Form>
+    ensures found { IfSome result (IsOfForm (command.now ∷ number.now ∷ workers.now ∷ [])) }
+    ensures none { IfNone result ((f : Form) → IsOfForm (command.now ∷ number.now ∷ workers.now ∷ []) f → ⊥) }
+{
+    let number = demo_number_of(number)?;
+    let workers = workers_of(workers)?;
+    if is_demo(command) {
+        Some(Form::Demo { number, workers })
+    } else {
+        None
+    }
+}
+
+fn form_of_more(command: &str, samples: &str, seed: &str, numbers: &[&str]) -> Option<Form>
+    requires some { 1 ≤ length numbers.now }
+    requires most { length numbers.now ≤ 6 }
+    ensures found { IfSome result (IsOfForm (command.now ∷ samples.now ∷ seed.now ∷ map (λ w. w.now) numbers.now)) }
+    ensures none { IfNone result ((f : Form) → IsOfForm (command.now ∷ samples.now ∷ seed.now ∷ map (λ w. w.now) numbers.now) f → ⊥) }
+{
+    let samples = number_of(samples, 1_000_000)? as u32;
+    let seed = number_of(seed, u64::MAX)?;
+    let start = start_of(numbers)?;
+    if is_sim(command) {
+        Some(Form::Sim {
+            samples,
+            seed,
+            start,
+        })
+    } else {
+        None
+    }
+}
+
+/// How many workers a word asks for.
+fn workers_of(word: &str) -> Option<u32>
+    ensures found { IfSome result (λ n. AreWorkers n × (word.now ≡ decimal n)) }
+    ensures none { IfNone result ((n : ℕ) → AreWorkers n → word.now ≡ decimal n → ⊥) }
+{
+    match number_of(word, 64)? {
+        0 => None,
+        workers => Some(workers as u32),
+    }
+}
+
+/// The number of a demo plant that a word spells.
+fn demo_number_of(word: &str) -> Option<u32>
+    ensures found { IfSome result (λ n. IsDemoNumber n × (word.now ≡ decimal n)) }
+    ensures none { IfNone result ((n : ℕ) → IsDemoNumber n → word.now ≡ decimal n → ⊥) }
+{
+    match number_of(word, 500)? {
+        0 => None,
+        number => Some(number as u32),
+    }
+}
+
+/// The start whose numbers the words spell.
+fn start_of(words: &[&str]) -> Option<Start>
+    requires { length words.now ≤ 6 }
+    ensures found { IfSome result (Spell (map (λ w. w.now) words.now)) }
+    ensures none { IfNone result ((numbers : List ℤ) → Spell (map (λ w. w.now) words.now) numbers → ⊥) }
+{
+    let mut start = Start::empty();
+    for word in words {
+        start.push(state_number_of(word)?);
+    }
+    Some(start)
+}
+
+/// The number up to a bound that a word spells.
+fn number_of(word: &str, most: u64) -> Option<u64>
+    ensures found { IfSome result (λ n. (n ≤ most) × (word.now ≡ decimal n)) }
+    ensures none { IfNone result ((n : ℕ) → n ≤ most → word.now ≡ decimal n → ⊥) }
+{
+    match parsed(word) {
+        Some(n) if n <= most && is_spelling(n, word) => Some(n),
+        _ => None,
+    }
+}
+
+/// The number of a state that a word spells.
+fn state_number_of(word: &str) -> Option<i128>
+    ensures found { IfSome result (λ n. IsLiteral n × (word.now ≡ signed_decimal n)) }
+    ensures none { IfNone result ((n : ℤ) → IsLiteral n → word.now ≡ signed_decimal n → ⊥) }
+{
+    match parsed_state(word) {
+        Some(n) if n.unsigned_abs() < NUMBER_LIMIT && is_state_spelling(n, word) => Some(n.into()),
+        _ => None,
+    }
+}
+
+/// The number of its own spelling. Of other words nothing is said.
+fn parsed(word: &str) -> Option<u64>
+    ensures { (n : ℕ) → n < 2 ^ 64 → word.now ≡ decimal n → result ≡ Some n }
+{
+    word.parse::<u64>().ok()
+}
+
+/// The number of its own spelling, with its sign. Of other words nothing is said.
+fn parsed_state(word: &str) -> Option<i64>
+    ensures { (n : ℤ) → IsLiteral n → word.now ≡ signed_decimal n → result ≡ Some n }
+{
+    word.parse::<i64>().ok()
+}
+
+fn is_spelling(number: u64, word: &str) -> bool
+    ensures { IsTrue result ↔ (word.now ≡ decimal number) }
+{
+    Buffer::new().format(number) == word
+}
+
+fn is_state_spelling(number: i64, word: &str) -> bool
+    ensures { IsTrue result ↔ (word.now ≡ signed_decimal number) }
+{
+    Buffer::new().format(number) == word
+}
+
+fn is_sim(word: &str) -> bool
+    ensures { IsTrue result ↔ (word.now ≡ codes "sim") }
+{
+    word == "sim"
+}
+
+fn is_demo(word: &str) -> bool
+    ensures { IsTrue result ↔ (word.now ≡ codes "demo") }
+{
+    word == "demo"
+}
+
+fn is_check(word: &str) -> bool
+    ensures { IsTrue result ↔ (word.now ≡ codes "check") }
+{
+    word == "check"
+}
+
+fn is_synth(word: &str) -> bool
+    ensures { IsTrue result ↔ (word.now ≡ codes "synth") }
+{
+    word == "synth"
+}

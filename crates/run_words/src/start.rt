@@ -1,0 +1,61 @@
+ghost use Rattle.std.specs.Prelude.{◌≡◌, ◌<◌, [], ◌∷◌, ◌++◌, length};
+ghost use Rattle.grid_quantiser.specs.Cells.{point_of};
+
+use grid_quantiser::Point;
+use std::marker::Model;
+
+/// The numbers of the state in which a trace begins, six at most. Seen as their list.
+#[derive(Clone, Copy, Debug, PartialEq, Eq)]
+pub struct Start {
+    six: Point,
+    count: u32,
+}
+
+impl Model for Start {
+    ghost use Rattle.std.specs.Prelude.{ℤ, List, length, take};
+    ghost use Rattle.grid_quantiser.specs.Cells.{point_of};
+    ghost use Rattle.run_words.specs.inside.StoredStart.{IsStored, restored};
+
+    ghost Value = { List ℤ };
+
+    ghost view = { λ s. take s.count s.six };
+
+    ghost invariant = { λ s. IsStored s.six s.count };
+
+    ghost inverse = { λ numbers. record { six = point_of numbers; count = length numbers } };
+
+    ghost inverse_ok = { λ s stored. restored s stored };
+}
+
+impl Start {
+    /// No number yet.
+    pub fn empty() -> Start
+        ensures { result ≡ [] }
+    {
+        Start {
+            six: [0; 6],
+            count: 0,
+        }
+    }
+
+    pub fn push(&mut self, number: i128)
+        requires { length self.old < 6 }
+        ensures { self.new ≡ self.old ++ number ∷ [] }
+    {
+        self.six[self.count as usize] = number;
+        self.count += 1;
+    }
+
+    pub fn count(&self) -> u32
+        ensures { result ≡ length self.now }
+    {
+        self.count
+    }
+
+    /// The state, where there are as many numbers as states.
+    pub fn point(&self) -> Point
+        ensures { result ≡ point_of self.now }
+    {
+        self.six
+    }
+}

@@ -1,6 +1,0 @@
-use Rattle.std.proofs.Common.{◌∙◌}
-use Rattle.synth_run.proofs.Spellings.{parsed_number}
-use Rattle.synth_run.proofs.form.parsed.Goals as goal
-
-pub returns : goal.returns
-returns c = λ n lt is. c.ok.ensures.value ∙ parsed_number c.args.word.now n c.parse.result c.parse.ensures.value.0 lt is

@@ -1,5 +1,0 @@
-use Rattle.synth_run.proofs.demo_lemmas.Texts.{texts_spell}
-use Rattle.synth_run.proofs.laws.demo.demo_texts_spell.Goals as goal
-
-pub returns : goal.returns
-returns c = texts_spell c.demo_plants_are_within_limits.ensures c.canonical_texts_spell.ensures
