@@ -97,14 +97,26 @@ def number_word(number):
     return "-" if number is None else str(number)
 
 
-def row_text(cell, row):
+def row_text(row):
     rank, vector = row
-    return f"{cell} {number_word(rank)} {number_word(vector)}"
+    return f"{number_word(rank)} {number_word(vector)}"
+
+
+def runs_of(rows):
+    """The longest runs of cells that have one row, each as its first cell, its last and the row."""
+    runs = []
+    for cell in sorted(rows):
+        if runs and runs[-1][1] == cell - 1 and runs[-1][2] == rows[cell]:
+            runs[-1][1] = cell
+        else:
+            runs.append([cell, cell, rows[cell]])
+    return runs
 
 
 def table_text(plant, rows):
-    lines = [row_text(cell, rows[cell]) for cell in sorted(rows)]
-    return f"table 1\n{plant.text()}rows {len(rows)}\n{''.join(line + chr(10) for line in lines)}end\n".encode()
+    """The table in version 2."""
+    lines = [f"{first} {last} {row_text(row)}\n" for first, last, row in runs_of(rows)]
+    return f"table 2\n{plant.text()}rows {len(lines)}\n{''.join(lines)}end\n".encode()
 
 
 class TableReader:
@@ -131,11 +143,12 @@ class TableReader:
 
     def read(self):
         """The plant and the rows."""
-        if self.line() != b"table 1":
+        version = self.line()
+        if version not in (b"table 1", b"table 2"):
             self.again()
         plant = self.plant()
         plant.check_limits(Refused)
-        rows = self.rows(plant)
+        rows = self.rows(plant, cells_of_a_run=1 if version == b"table 1" else 2)
         if self.line() != b"end":
             self.again()
         if self.at < len(self.lines) or self.rest:
@@ -165,20 +178,22 @@ class TableReader:
             self.again()
         return int(word)
 
-    def rows(self, plant):
+    def rows(self, plant, cells_of_a_run):
+        """The rows of lines that begin with a cell, or with the first and the last cell of a run."""
         first, _, number = self.line().partition(b" ")
         if first != b"rows":
             self.again()
         rows, before = {}, -1
         for _ in range(self.count(plant.cells, number)):
             words = self.line().split(b" ")
-            if len(words) != 3:
+            if len(words) != cells_of_a_run + 2:
                 self.again()
-            cell = self.count(plant.cells - 1, words[0])
-            if cell <= before:
+            first, last = (self.count(plant.cells - 1, word) for word in (words[0], words[cells_of_a_run - 1]))
+            row = self.row(plant, *words[cells_of_a_run:])
+            if not before < first <= last or cells_of_a_run == 2 and first == before + 1 and rows.get(before) == row:
                 self.again()
-            rows[cell] = self.row(plant, *words[1:])
-            before = cell
+            rows.update((cell, row) for cell in range(first, last + 1))
+            before = last
         return rows
 
     def row(self, plant, rank, vector):
@@ -221,6 +236,15 @@ def check(data):
         return refused(refusal)
     wrong = Game(plant).first_wrong(rows)
     return ended(0, b"valid\n") if wrong is None else ended(1, line=f"invalid: cell {wrong}\n".encode())
+
+
+def upgrade(data):
+    try:
+        plant, rows = read_table(data)
+        plant.check_overflow(Refused)
+    except Refused as refusal:
+        return refused(refusal)
+    return ended(0, table_text(plant, rows))
 
 
 def sim(steps, seed, *start):

@@ -13,9 +13,11 @@ from gaffcurrant_plant.reader import read_plant
 from . import oracle
 
 PLANT = b"plant 1\nstate x 0 14 3\ninput u -3 3\nnext x = x + u\ntarget 12 14\ngoal reach\nend\n"
-TABLE = b"table 1\n" + PLANT + b"rows 5\n0 4 1\n1 3 1\n2 2 1\n3 1 1\n4 0 -\nend\n"
+TABLE = b"table 2\n" + PLANT + b"rows 5\n0 0 4 1\n1 1 3 1\n2 2 2 1\n3 3 1 1\n4 4 0 -\nend\n"
+OLD_TABLE = b"table 1\n" + PLANT + b"rows 5\n0 4 1\n1 3 1\n2 2 1\n3 1 1\n4 0 -\nend\n"
 KEEP_PLANT = PLANT.replace(b"target 12 14\n", b"").replace(b"reach", b"keep")
-KEEP_TABLE = b"table 1\n" + KEEP_PLANT + b"rows 5\n0 - 1\n1 - 0\n2 - 0\n3 - 0\n4 - 0\nend\n"
+KEEP_TABLE = b"table 2\n" + KEEP_PLANT + b"rows 2\n0 0 - 1\n1 4 - 0\nend\n"
+OLD_KEEP_TABLE = b"table 1\n" + KEEP_PLANT + b"rows 5\n0 - 1\n1 - 0\n2 - 0\n3 - 0\n4 - 0\nend\n"
 CART = b"""plant 1
 state p 0 599 10
 state v -100 99 10
@@ -42,7 +44,7 @@ class Form:
 
     def __init__(self, words, text, oracle_of):
         self.words, self.text, self.answer = words.split(), text, oracle_of
-        self.name = words + (" on a keep plant" if b"keep" in text else "")
+        self.name = words + (" on a keep plant" if b"keep" in text else "") + (", version 1" if b"table 1" in text else "")
 
     @functools.cache
     def want(self):
@@ -61,11 +63,13 @@ def demo(_):
 
 
 SYNTH = [Form("synth 1", PLANT, oracle.synth), Form("synth 1", KEEP_PLANT, oracle.synth)]
-CHECK = [Form("check", TABLE, oracle.check), Form("check", KEEP_TABLE, oracle.check)]
+TABLES = (TABLE, KEEP_TABLE, OLD_TABLE, OLD_KEEP_TABLE)
+CHECK = [Form("check", text, oracle.check) for text in TABLES]
+UPGRADE = [Form("upgrade", text, oracle.upgrade) for text in TABLES]
 SIM = [Form("sim 10 0 1", TABLE, oracle.sim(10, 0, 1)), Form("sim 3 0 0", KEEP_TABLE, oracle.sim(3, 0, 0))]
 WORKERS = [Form(f"synth {workers}", text, oracle.synth) for workers in (2, 4) for text in (PLANT, KEEP_PLANT)]
 DEMO = [Form("demo 1 1", b"", demo), Form("demo 1 2", b"", demo)]
-FORMS = SYNTH + WORKERS + CHECK + SIM + DEMO
+FORMS = SYNTH + WORKERS + CHECK + UPGRADE + SIM + DEMO
 
 
 class Program:

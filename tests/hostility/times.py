@@ -148,7 +148,7 @@ def plant_texts():
 def table(cells, rows, last, front=b""):
     """So many rows of a plant with so many cells, of ranks with as many digits as its cells."""
     plant = lines(b"plant 1", b"state x 1 %d 1" % cells, b"next x = x", b"target 1 1", b"goal reach", b"end")
-    body = "".join(row_text(cell, (cells - 1, 0)) + "\n" for cell in range(cells - rows, cells))
+    body = "".join(f"{cell} {row_text((cells - 1, 0))}\n" for cell in range(cells - rows, cells))
     return lines(b"table 1") + plant + lines(b"rows %d" % rows) + body.encode() + last
 
 
