@@ -5,7 +5,7 @@ use Rattle.std.specs.declared.result.Result.{Result}
 use Rattle.std.specs.List.{AllZip, range_with_len}
 use Rattle.std.specs.Int.{div_ceil}
 use Rattle.std.proofs.lemmas.Grind.{div_ceil_times}
-use Rattle.std.proofs.lemmas.Nat.{div-add-mod', div_below, mod_below}
+use Rattle.std.proofs.lemmas.Nat.{div-add-mod', div_below, mod_below, mul-le}
 use Rattle.std.proofs.Math.Nat.{mul-le-mul_right}
 use Rattle.grid_quantiser.specs.declared.axis.Axis.{Axis}
 use Rattle.grid_quantiser.specs.declared.boxes.CellBox.{CellBox}
@@ -19,6 +19,10 @@ all_ok E P [] [] each = tt
 all_ok E P [] (y ∷ ys) each = absurd each
 all_ok E P (x ∷ xs) [] each = absurd each
 all_ok E P (x ∷ xs) (y ∷ ys) each = (each.0, all_ok E P xs ys each.1)
+
+-- of 32 bands or fewer each is no narrower than a 32nd of the cells
+pub few_bands : (cells bands size : ℕ) → 0 < bands → bands ≤ 32 → div_ceil cells bands ≤ size → cells ≤ 32 * size
+few_bands cells bands size some few wide = omega (arith, (div_ceil_times cells bands some).0, mul-le (div_ceil cells bands) bands size 32 wide few)
 
 -- each band begins at a cell
 pub band_begins : (cells size k : ℕ) → 0 < size → k < div_ceil cells size → k * size < cells

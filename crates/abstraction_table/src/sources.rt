@@ -108,6 +108,7 @@ pub(crate) fn find_sources<R: Threads + Sync>(
 /// there are more bands, so that the places at which a band's rows go on stay in fast memory.
 fn band_size<R: Threads>(rt: &R, cells: u32, pairs: usize, edges: u64) -> u32
     ensures some { 1 ≤ result }
+    ensures few { cells ≤ 32 * result }
 {
     let pairs = pairs as u64;
     if edges / WIDE_FAN >= pairs {
@@ -124,6 +125,7 @@ fn band_size<R: Threads>(rt: &R, cells: u32, pairs: usize, edges: u64) -> u32
 /// How many cells a band has where there are so many, 32 at most.
 fn part_of(cells: u32, bands: u64) -> u32
     ensures some { 1 ≤ result }
+    ensures few { cells ≤ 32 * result }
 {
     let bands = bands.clamp(1, BANDS_LIMIT) as u32;
     cells.div_ceil(bands).max(1)
