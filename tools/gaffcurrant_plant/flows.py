@@ -14,7 +14,8 @@ from fractions import Fraction
 from .command import Trouble
 from .formula import add, derivative, is_smooth, mul, number, value_of, with_values
 
-MOST_BOXES, MOST_TRIALS, TERMS = 96, 40, 24
+MOST_BOXES, MOST_TRIALS, TERMS = 96, 30, 24
+TINY = Fraction(1, 10 ** 12)
 
 
 class Flow:
@@ -72,17 +73,29 @@ class Flow:
                 yield area | {name: maths.between(*ends) for (name, *_), ends in zip(model.inputs, vector)} | noises
 
     def enclosure(self, area):
-        """A box of states that holds the solutions from an area up to the sampling time."""
-        maths = self.maths
-        whole = maths.between(0, self.time)
-        box = dict(area)
-        for _ in range(MOST_TRIALS):
-            after = {name: area[name] + whole * value_of(side, box, maths) for name, side in zip(self.names, self.sides)}
-            if all(box[name].a <= one.a and one.b <= box[name].b for name, one in after.items()):
+        """A box of states that holds the solutions from an area up to the sampling time, found in one step of time or in several."""
+        for parts in (1, 4, 16):
+            try:
+                box, begin = None, area
+                for _ in range(parts):
+                    one, begin = self.short_enclosure(begin, self.time / parts)
+                    box = one if box is None else {name: self.maths.hull(box[name], one[name]) for name in one}
                 return box
+            except Trouble as trouble:
+                fault = trouble
+        raise fault
+
+    def short_enclosure(self, area, time):
+        """A box that holds the solutions from an area up to a time, and one that holds their ends."""
+        maths, box = self.maths, dict(area)
+        whole, end = maths.between(0, time), maths.number(time)
+        for _ in range(MOST_TRIALS):
+            slopes = {name: value_of(side, box, maths) for name, side in zip(self.names, self.sides)}
+            after = {name: area[name] + whole * slope for name, slope in slopes.items()}
+            if all(box[name].a <= one.a and one.b <= box[name].b for name, one in after.items()):
+                return box, area | {name: area[name] + end * slope for name, slope in slopes.items()}
             for name, one in after.items():
-                slack = maths.between(-1, 1) * (one.b - one.a) / 50
-                box[name] = maths.hull(box[name], one) + slack
+                box[name] = one + (one - area[name]) / 20 + maths.between(-TINY, TINY)
         raise Trouble("the sampling time is too long: no box was found that holds the solutions up to it")
 
     def rests_in(self, area):
