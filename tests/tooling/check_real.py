@@ -45,10 +45,8 @@ COMPLAINTS = [
 
 
 def check(report):
-    try:
-        import mpmath  # noqa: F401
-    except ImportError:
-        print("skipped: mpmath isn't there, so functions of models aren't tried")
+    if not report.has_mpmath():
+        print("skipped: mpmath isn't there, so functions and differential equations of models aren't tried")
         return
     for what, text in MODELS.items():
         status, output, error = report.tool("scale", "-", data=text.encode())
