@@ -1,5 +1,6 @@
 """The numbers and the code of docs/GUIDE.md."""
 
+import os
 import re
 from fractions import Fraction
 
@@ -22,10 +23,32 @@ def check(report):
     narrow = wide.replace("target -0.21 0.21 -0.21 0.21", "target -0.20 0.20 -0.20 0.20")
     report.expect("the double integrator with its target on the cells' bounds, and within them", (2559, 36),
                   (solved(report, wide)[0], solved(report, narrow)[0]))
+    if report.has_mpmath():
+        check_sweep(report, guide)
+        pendulum = re.search(r"```\n(version 2.*?)```", guide, re.DOTALL).group(1)
+        report.expect("the guide's pendulum is scaled", (0, ""), report.tool("scale", "-", data=pendulum.encode())[::2])
     for expression, moves in (("e + (u - e) * 2 / 5", 7), ("(3 * e + 2 * u) / 5", 3)):
         plant = read_plant(f"plant 1\nstate e 0 199 10\ninput u 0 100\nnext e = {expression}\ngoal reach\nend\n".encode())
         report.expect(f"the deviation of `{expression}`", [moves], plant.deviations(1))
         report.holds(f"the guide has `{expression}`", expression in guide)
+
+
+def check_sweep(report, guide):
+    """The guide's table of what is kept at which sampling time, by tools/sweep; and a model past a limit."""
+    model = re.search(r"```\n(sample 0.3.*?)```", guide, re.DOTALL).group(1)
+    rows = re.findall(r"^\| ([0-9.]+) \| ([0-9]+) \|$", guide, re.MULTILINE)
+    program = os.environ | {"GAFFCURRANT": str(report.program)}
+    status, output, error = report.tool("sweep", "-", "--times", *(time for time, _ in rows), data=model.encode(), env=program)
+    report.expect("tools/sweep of the guide's model", (0, "", rows),
+                  (status, error, [(words[0], words[5]) for words in map(str.split, output.splitlines()[1:])]))
+    status, output, error = report.tool("sweep", "-", "--widths", "1", "0.01", "0.001", data=model.replace("0.01\n", "0.001\n").encode(), env=program)
+    report.expect("tools/sweep stops at a limit", (0, "0.3 0.01 limit: cells: 2880000 cells, and 1048576 are the most"),
+                  (status, " ".join(output.splitlines()[2].split())))
+    report.holds("tools/sweep tells widths that can't be", "no multiple of the unit" in output.splitlines()[3], output)
+    for words, wanted, said in ((["--times", "0"], 2, "isn't above 0"), (["--times", "x"], 2, "no number"), (["--workers", "65"], 2, "1 to 64")):
+        status, output, error = report.tool("sweep", "-", *words, data=model.encode(), env=program)
+        report.expect(f"tools/sweep {words}", (wanted, "", 1), (status, output, error.count("\n")))
+        report.holds(f"tools/sweep {words} says `{said}`", said in error, error)
 
 
 def lines_of(text):

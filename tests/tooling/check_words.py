@@ -1,16 +1,17 @@
 """Each program of tools/ has --help, and says in one line what is wrong: with its words, its input and its output."""
 
+import os
 import subprocess
 import sys
 
-TOOLS = ("lint", "why", "scale", "header", "picture")
+TOOLS = ("lint", "why", "scale", "header", "picture", "diff", "sweep")
 
 
 def check(report):
     table = report.top / "examples/line/line.table"
     plant = report.top / "examples/line/line.plant"
     model = report.top / "examples/gate/gate.model"
-    right = {"lint": [plant], "why": [table, "7"], "scale": [model], "header": [table]}
+    right = {"lint": [plant], "why": [table, "7"], "scale": [model], "header": [table], "diff": [table, table], "sweep": [model]}
     for name in TOOLS:
         status, output, error = report.tool(name, "--help")
         report.expect(f"{name} --help", (0, ""), (status, error))
@@ -18,9 +19,9 @@ def check(report):
         output_words = ["-o", "/tmp/none.png"] if name == "picture" else []
         wrong(report, f"{name} without words", 2, report.tool(name))
         wrong(report, f"{name} with an unknown word", 2, report.tool(name, "--bogus"))
-        wrong(report, f"{name} without its file", 1, report.tool(name, "/nowhere/file", *right["why"][1:] * (name == "why"),
-                                                                 *output_words))
-        wrong(report, f"{name} of a folder", 1, report.tool(name, "/", *right["why"][1:] * (name == "why"), *output_words))
+        more = [*right[name][1:], *output_words] if name != "picture" else output_words
+        wrong(report, f"{name} without its file", 1, report.tool(name, "/nowhere/file", *more))
+        wrong(report, f"{name} of a folder", 1, report.tool(name, "/", *more))
     for name, words in right.items():
         for what, opened in (("a full device", "/dev/full"), ("a closed output", None)):
             wrong(report, f"{name} to {what}", 1, redirected(report, name, words, opened))
@@ -35,7 +36,8 @@ def redirected(report, name, words, path):
     """A run whose output goes to a device, or nowhere for None."""
     command = [sys.executable, str(report.top / "tools" / name), *map(str, words)]
     shell = ["bash", "-c", f'exec "$@" >{path}' if path else 'exec "$@" >&-', "bash", *command]
-    done = subprocess.run(shell, stdin=subprocess.DEVNULL, capture_output=True, check=False)
+    program = os.environ | {"GAFFCURRANT": str(report.program)}
+    done = subprocess.run(shell, stdin=subprocess.DEVNULL, capture_output=True, check=False, env=program)
     return done.returncode, done.stdout.decode(), done.stderr.decode()
 
 

@@ -1,5 +1,6 @@
 """Counts what passed and prints what failed; runs programs."""
 
+import importlib.util
 import subprocess
 import sys
 import tempfile
@@ -20,7 +21,7 @@ class Report:
             self.passed += 1
         else:
             self.failed += 1
-            print(f"failed {what}: wanted {wanted!r}, got {got!r}"[:400])
+            print(f"failed {what}: wanted {wanted!r}, got {got!r}"[:400], flush=True)
 
     def holds(self, what, fact, else_said=""):
         self.expect(what, True, bool(fact) or else_said or False)
@@ -36,6 +37,11 @@ class Report:
         """Runs the program; answers its status, output and error as bytes."""
         done = subprocess.run([str(self.program), *words], input=data, capture_output=True, check=False)
         return done.returncode, done.stdout, done.stderr
+
+    @staticmethod
+    def has_mpmath():
+        """Whether mpmath is there, on which functions and differential equations of models stand."""
+        return importlib.util.find_spec("mpmath") is not None
 
     def reads_version_2(self):
         """Whether the program reads plants of version 2."""

@@ -3,6 +3,7 @@
 import re
 from fractions import Fraction
 
+from . import formula
 from .command import Trouble
 from .halfplane import HalfPlane
 from .polynomial import Fault, added, number_of, parse
@@ -10,11 +11,19 @@ from .reader import MOST, NAME, NO_NAMES
 from .sampling import TooLong, sampled
 
 
+# Parts of a cell where the unit is chosen by itself: an odd number of which a decimal width has decimal parts.
+FINENESS = 125
+
+
 class Model:
+    """states: (name, least, greatest, width, unit); inputs: (name, unit, values); noises: (name, least, greatest); equations: of `next`
+    lines and linear systems, as formulas or polynomials; flows: of `d` lines; boxes: a keyword and two ends for each state."""
+
     def __init__(self):
-        self.denominator = self.sample = None
+        self.denominator = self.sample = self.order = self.pieces = None
+        self.version = 1
         self.states, self.inputs, self.noises = [], [], []
-        self.equations, self.rows = [], {"A": [], "B": [], "c": [], "w": []}
+        self.equations, self.flows, self.rows = [], [], {"A": [], "B": [], "c": [], "w": []}
         self.boxes, self.half_planes, self.goal = [], [], None
         self.words = {}
 
@@ -35,14 +44,23 @@ def read_model(data):
             raise Trouble(f"line {number}: {fault}") from None
     if not model.states or model.goal is None:
         raise Trouble("the model has no state" if not model.states else "the model has no `goal reach` line")
-    if model.rows["A"]:
-        add_linear_system(model)
-    elif model.sample:
-        raise Trouble("`sample` is for a linear system alone, of lines A, B and c; `next` lines are sampled already")
-    if len(model.equations) != len(model.states):
-        raise Trouble(f"there are {len(model.states)} states and {len(model.equations)} equations")
+    check_equations(model)
     cover_half_planes(model)
     return model
+
+
+def check_equations(model):
+    """Whether the lines give one equation for each state, in one of the three forms."""
+    if model.flows and (model.equations or model.rows["A"]):
+        raise Trouble("a model has `next` lines, `d` lines or a matrix A, and no two of them")
+    if model.rows["A"]:
+        add_linear_system(model)
+    elif model.sample and not model.flows:
+        raise Trouble("`sample` is for lines `d` or A, B and c; `next` lines are sampled already")
+    if model.flows and not model.sample:
+        raise Trouble("lines `d NAME = ..` need a sampling time, `sample T`")
+    if len(model.equations or model.flows) != len(model.states):
+        raise Trouble(f"there are {len(model.states)} states and {len(model.equations or model.flows)} equations")
 
 
 def cover_half_planes(model):
@@ -86,12 +104,15 @@ def read_line(model, words):
         model.words[rest[0]] = rest[1]
     elif keyword in ("state", "input", "noise"):
         read_variable(model, keyword, rest)
-    elif keyword == "next":
+    elif keyword in ("version", "order", "pieces"):
+        read_choice(model, keyword, rest)
+    elif keyword in ("next", "d"):
+        equations = model.equations if keyword == "next" else model.flows
         if len(rest) < 2 or rest[1] != "=":
-            fail("`next NAME = EXPRESSION` has the `=` as a word of its own")
-        if len(model.equations) >= len(model.states) or rest[0] != model.states[len(model.equations)][0]:
-            fail(f"the equations stand in the order of the states, one for each; `next {rest[0]}` isn't due")
-        model.equations.append(parse(" ".join(rest[2:]), model.names()))
+            fail(f"`{keyword} NAME = EXPRESSION` has the `=` as a word of its own")
+        if len(equations) >= len(model.states) or rest[0] != model.states[len(equations)][0]:
+            fail(f"the equations stand in the order of the states, one for each; `{keyword} {rest[0]}` isn't due")
+        equations.append(formula.parse(" ".join(rest[2:]), model.names()))
     elif keyword in model.rows:
         size = {"A": len(model.states), "B": len(model.inputs), "c": 1, "w": 2}[keyword]
         model.rows[keyword].append(numbers(rest, size))
@@ -106,6 +127,18 @@ def read_line(model, words):
         fail(f"`{' '.join(words[:2])}` begins no line of a model; see --help")
 
 
+# The least and the greatest number behind a keyword.
+CHOICES = {"version": (1, 2), "order": (1, 3), "pieces": (2, 31)}
+
+
+def read_choice(model, keyword, rest):
+    low, high = CHOICES[keyword]
+    value = numbers(rest, 1)[0]
+    if value.denominator != 1 or not low <= value <= high:
+        fail(f"`{keyword}` takes a whole number from {low} to {high}")
+    setattr(model, keyword, int(value))
+
+
 def numbers(words, count):
     if len(words) != count:
         fail(f"{count} numbers are due, here are {len(words)}")
@@ -117,7 +150,7 @@ def read_variable(model, keyword, rest):
         fail(f"behind `{keyword}` a new name is due")
     name = rest[0]
     if keyword == "state":
-        low, high, width, unit = numbers(rest[1:], 4)
+        low, high, width, unit = cells_by_number(name, rest[1:]) if "cells" in rest[3:4] else numbers(rest[1:], 4)
         if unit <= 0 or width <= 0 or low >= high:
             fail("a state has LO below HI, and a WIDTH and a UNIT above 0")
         for what, value in (("LO", low), ("WIDTH", width), ("HI - LO", high - low)):
@@ -140,6 +173,20 @@ def read_variable(model, keyword, rest):
         if low > high:
             fail("a noise has LO of at most HI")
         model.noises.append((name, low, high))
+
+
+def cells_by_number(name, rest):
+    """Range, width and unit of a state by `LO HI cells N`, with a unit of which a cell has an odd number where that can be; or by
+    `LO HI cells N UNIT`."""
+    low, high = numbers(rest[:2], 2)
+    count, *unit = numbers(rest[3:], len(rest[3:]) if len(rest) == 5 else 1)
+    if count < 1 or count.denominator != 1 or low >= high:
+        fail("`state NAME LO HI cells N` has LO below HI, and a whole number of cells of at least 1")
+    width = (high - low) / count
+    if unit:
+        return low, high, width, unit[0]
+    # LO has to be a whole number of units: so the parts of a cell are a multiple of this.
+    return low, high, width, width / (FINENESS * (low / width).denominator)
 
 
 def add_linear_system(model):

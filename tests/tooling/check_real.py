@@ -1,0 +1,140 @@
+"""tools/scale on models with functions and differential equations: the real step from random points, by Python's own functions and fine
+steps of its own, lies within the plant's noise; and what is told where a model can't be scaled."""
+
+import math
+import random
+import re
+
+from gaffcurrant_plant.reader import read_plant
+
+POINTS = 100_000
+NEAR = 1e-6
+SUBSTEPS = 4
+
+GOAL = "goal keep\n"
+MODELS = {
+    "a vehicle of version 2": "version 2\nstate x 0 4 0.1 0.001\nstate h -3.2 3.2 0.1 0.001\ninput v 0.5 -1 1\ninput t 0.1 -0.5 0 0.5\nnoise w -0.01 0.01\n"
+                              "next x = x + 0.3*v*cos(h + 0.15*t) + w\nnext h = h + 0.3*v*tan(t)*cos(h)^2 + sin(2*h - t)/20\n" + GOAL,
+    "a pendulum of version 2": "version 2\nsample 0.1\nstate a -3.5 3.5 cells 70\nstate w -4 4 cells 40\ninput u 0.1 -3 0 3\nnoise f -0.2 0.2\n"
+                               "d a = w\nd w = 9.81*sin(a) - 0.1*w + u*cos(a) + f\n" + GOAL,
+    "a pendulum of version 1": "sample 0.05\npieces 4\nstate a -1.5 1.5 0.1 0.001\nstate w -3 3 0.1 0.001\ninput u 0.5 -3 0 3\nd a = w\n"
+                               "d w = 9.81*sin(a) - 0.1*w + u\n" + GOAL,
+    "a tank with a root": "state h 0.1 4.1 0.05 0.001\ninput q 0.1 0 0.5 1\nnoise w -0.02 0.02\n"
+                          "next h = min(max(h + 0.2*(q - 0.6*sqrt(h)) + w*h, 0.2), 4) + abs(h - 2)/40 - log(h)/50\n" + GOAL,
+    "a car with quotients": "version 2\nsample 0.5\nstate d 1 31 0.5 0.01\nstate v 2 22 0.5 0.01\ninput u 0.5 -2 0 2\nnoise s -0.1 0.1\n"
+                            "d d = 12 - v + s\nd v = u*10/(5 + v) - 0.002*v^2 + exp(-v/4)/3 + s/2\n" + GOAL,
+    "powers and friction": "version 2\nsample 0.2\nstate x 1 3 cells 21\nstate y 1 4 0.1 0.01\ninput u 0.1 -0.5 0.5\nd x = u*x^-2 - y^1.5/9 + x/3\n"
+                           "d y = max(x - y, -1)/2 - u*abs(y - 2)\n" + GOAL,
+}
+
+COMPLAINTS = [
+    ("state x 0 1 0.1 0.1\nnext x = x / x\n", "a quotient's divisor may lie between 0 and 1"),
+    ("state x 0 1 0.1 0.1\nnext x = sqrt(x - 0.5)\n", "what stands in sqrt may lie between -0.6 and 0.6"),
+    ("state x 0 3 0.1 0.1\nnext x = tan(x)\n", "with a pole between"),
+    ("state x 0 1 0.1 0.1\nnext x = sin x\n", "line 2: behind `sin` an opening bracket"),
+    ("state x 0 1 0.1 0.1\nnext x = min(x)\n", "line 2: `min` takes 2, here are 1"),
+    ("state x 0 1 0.1 0.1\nnext x = 2^x\n", "line 2: the exponent behind `^` is a number"),
+    ("state x 0 1 0.1 0.1\nd x = x\n", "need a sampling time"),
+    ("sample 9\nstate x 1 9 0.1 0.1\nd x = x*x\n", "the sampling time is too long"),
+    ("sample 1\norder 2\nstate x 1 9 0.1 0.1\nd x = abs(x)\n", "by order 1 alone"),
+    ("sample 1\nstate x 0 1 0.1 0.1\nd x = x\nnext x = x\n", "no two of them"),
+    ("version 3\n", "line 1: `version` takes a whole number from 1 to 2"),
+    ("state x 0 1 cells 0.5\n", "line 1: `state NAME LO HI cells N`"),
+    ("pieces 2\nstate x 0 1 cells\n", "line 2: 1 numbers are due"),
+]
+
+
+def check(report):
+    if not report.has_mpmath():
+        print("skipped: mpmath isn't there, so functions and differential equations of models aren't tried")
+        return
+    for what, text in MODELS.items():
+        status, output, error = report.tool("scale", "-", data=text.encode())
+        report.expect(f"scale of {what}", (0, ""), (status, error))
+        if not status:
+            report.expect(f"{what}: real steps outside of the noise", [], outside(Real(text), read_plant(output.encode()), POINTS // len(MODELS))[:3])
+    for model, said in COMPLAINTS:
+        status, output, error = report.tool("scale", "-", data=(model + GOAL).encode())
+        report.expect(f"scale of {model!r}", (1, "", 1), (status, output, error.count("\n")))
+        report.holds(f"scale of {model!r} says `{said}`", said in error, error)
+    check_seen(report)
+
+
+def check_seen(report):
+    """The comparison sees what the noise is for: with half of it, real steps lie outside. And --try finds none with all of it."""
+    text = MODELS["a pendulum of version 2"]
+    plant = report.tool("scale", "-", data=text.encode())[1]
+    halved = re.sub(r"(noise \w+) (-?\d+) (-?\d+)", lambda found: f"{found[1]} {int(found[2]) // 3} {int(found[3]) // 3}", plant)
+    report.holds("with a third of its noise the pendulum's real steps lie outside", outside(Real(text), read_plant(halved.encode()), 3000))
+    status, output, error = report.tool("scale", "--try", "500", "-", data=text.encode())
+    report.expect("scale --try of the pendulum", (0, 2, ""), (status, output.count("the noise allows"), error))
+    check_cells(report)
+
+
+def check_cells(report):
+    """Units by the number of cells: 125 to a cell, or as many times that as LO asks for, so that widths are odd."""
+    for line, wanted in (("state x 0 1 cells 4", "state x 0 499 125"), ("state x -1 1 cells 5", "state x -625 624 250"), ("state x 0.5 2 cells 3", "state x 125 499 125"),
+                         ("state x -1 1 cells 8 0.05", "state x -20 19 5")):
+        output = report.tool("scale", "-", data=f"{line}\nnext x = x\ngoal keep\n".encode())[1]
+        report.holds(f"`{line}` gives `{wanted}`", wanted in output.splitlines(), output)
+
+
+class Real:
+    """A model as functions of Python over floats."""
+
+    def __init__(self, text):
+        lines = [line.split() for line in text.splitlines()]
+        self.time = next((float(words[1]) for words in lines if words[0] == "sample"), None)
+        self.names = [words[1] for words in lines if words[0] == "state"]
+        self.ranges = [(float(words[2]), float(words[3])) for words in lines if words[0] == "state"]
+        self.units = {words[1]: float(words[2]) for words in lines if words[0] == "input"}
+        self.noises = [(words[1], float(words[2]), float(words[3])) for words in lines if words[0] == "noise"]
+        sides = ["".join(words[3:]).replace("^", "**") for words in lines if words[0] in ("d", "next")]
+        names = ", ".join(self.names + list(self.units) + [name for name, *_ in self.noises])
+        room = {name: getattr(math, name) for name in ("sin", "cos", "tan", "sqrt", "exp", "log")}
+        self.sides = eval(f"lambda {names}: ({', '.join(sides)},)", room)
+
+    def step(self, state, inputs, draws):
+        noise = self.noise(draws)
+        if self.time is None:
+            return self.sides(*state, *inputs, *noise)
+        step = self.time / SUBSTEPS
+        for k in range(SUBSTEPS):
+            if k == SUBSTEPS // 2:
+                noise = self.noise(draws)
+            rest = (*inputs, *noise)
+            one = self.sides(*state, *rest)
+            two = self.sides(*[x + step / 2 * d for x, d in zip(state, one)], *rest)
+            three = self.sides(*[x + step / 2 * d for x, d in zip(state, two)], *rest)
+            four = self.sides(*[x + step * d for x, d in zip(state, three)], *rest)
+            state = [x + step / 6 * (a + 2 * b + 2 * c + d) for x, a, b, c, d in zip(state, one, two, three, four)]
+        return state
+
+    def noise(self, draws):
+        return [draws.choice((low, high, draws.uniform(low, high))) for _, low, high in self.noises]
+
+
+def outside(real, plant, count):
+    """The real steps from random points which, in units, lie outside of the plant's step and its noise."""
+    draws, faults = random.Random(4), []
+    ranges = {name: (low, high) for name, low, high in plant.noises}
+    ends = [ranges.get(f"r_{name}", (0, 0)) for name in real.names]
+    sizes = units_of(real, plant)
+    for _ in range(count):
+        whole = [draws.choice((low, high, draws.randint(low, high), draws.randint(low, high))) for _, low, high, _ in plant.states]
+        state = [(value + draws.choice((0.0, 0.999999, draws.random()))) * size for value, size in zip(whole, sizes)]
+        vector = plant.vector(draws.randrange(plant.vectors))
+        inputs = [value * unit for value, unit in zip(vector, real.units.values())]
+        after, step = real.step(state, inputs, draws), plant.step(whole, vector, [0] * len(plant.noises))
+        for name, one, other, size, (low, high) in zip(real.names, after, step, sizes, ends):
+            if not low - NEAR <= one / size - other < high + 1 + NEAR:
+                faults.append(f"{name} at {state}, {inputs}: {one / size} for {other}, noise {low} to {high}")
+    return faults
+
+
+def units_of(real, plant):
+    """The size of each state's unit, by the range of the model's line."""
+    sizes = []
+    for (name, low, high, _), (first, last) in zip(plant.states, real.ranges):
+        sizes.append((last - first) / (high + 1 - low))
+    return sizes

@@ -1,0 +1,136 @@
+"""Samples differential equations x' = f(x, u, w) with the input held: the step by a Taylor polynomial of f, and a bound of all that it
+leaves out.
+
+The bound is that of Taylor's theorem with its remainder over an enclosure of the states on the way, which is found as in the proof of Picard
+and Lindeloef: a box B with D + [0, T] f(B) within B holds every solution from D up to the time T (R. E. Moore, Interval Analysis, 1966; N. S.
+Nedialkov, K. R. Jackson, G. F. Corliss, Validated solutions of initial value problems for ordinary differential equations, 1999). A
+disturbance may vary at any time: by how much it moves a state is bounded by the linear system whose matrix bounds the derivatives of f (a
+growth bound, as in the method of the program)."""
+
+import itertools
+import math
+from fractions import Fraction
+
+from .command import Trouble
+from .formula import add, derivative, is_smooth, mul, number, value_of, with_values
+
+MOST_BOXES, MOST_TRIALS, TERMS = 96, 30, 24
+TINY = Fraction(1, 10 ** 12)
+
+
+class Flow:
+    """The right sides of the states' equations, the ranges of all variables, and the sampling time."""
+
+    def __init__(self, model, maths):
+        self.model, self.maths, self.time = model, maths, model.sample
+        self.names = [state[0] for state in model.states]
+        self.sides = model.flows
+        self.middles = {name: (low + high) / 2 for name, low, high in model.noises}
+        self.held = [with_values(side, self.middles) for side in self.sides]
+        is_plain = all(map(is_smooth, self.sides))
+        self.order = model.order or (2 if is_plain else 1)
+        if self.order > 1 and not is_plain:
+            raise Trouble("with min, max or abs a differential equation is sampled by order 1 alone")
+        self.derivatives = [self.held]
+        for _ in range(self.order):
+            self.derivatives.append([self.along(node) for node in self.derivatives[-1]])
+
+    def along(self, node):
+        """The derivative of a node along the solutions."""
+        total = number(0)
+        for name, side in zip(self.names, self.held):
+            total = add(total, mul(derivative(node, name), side))
+        return total
+
+    def steps(self):
+        """For each state its Taylor polynomial."""
+        steps = []
+        for i, name in enumerate(self.names):
+            total = ("var", name)
+            for k in range(self.order):
+                total = add(total, mul(number(self.time ** (k + 1) / math.factorial(k + 1)), self.derivatives[k][i]))
+            steps.append(total)
+        return steps
+
+    def rests(self):
+        """For each state the ends of what its Taylor polynomial leaves out, over the whole domain and all inputs and disturbances."""
+        found = [self.rests_in(area) for area in self.areas()]
+        return [(min(one[i][0] for one in found), max(one[i][1] for one in found)) for i in range(len(self.names))]
+
+    def areas(self):
+        """The domain in boxes, with each input vector, or with the inputs' ranges where these are too many."""
+        maths, model = self.maths, self.model
+        choices = [[(value, value) for value in values] for _, _, values in model.inputs]
+        if math.prod(map(len, choices)) > 12:
+            choices = [[(min(values), max(values))] for _, _, values in model.inputs]
+        vectors = list(itertools.product(*choices))
+        parts = max(1, int((MOST_BOXES / len(vectors)) ** (1 / len(model.states))))
+        cuts = [[(low + (high - low) * k / parts, low + (high - low) * (k + 1) / parts) for k in range(parts)] for _, low, high, *_ in model.states]
+        noises = {name: maths.between(low, high) for name, low, high in model.noises}
+        for box in itertools.product(*cuts):
+            for vector in vectors:
+                area = {name: maths.between(*ends) for name, ends in zip(self.names, box)}
+                yield area | {name: maths.between(*ends) for (name, *_), ends in zip(model.inputs, vector)} | noises
+
+    def enclosure(self, area):
+        """A box of states that holds the solutions from an area up to the sampling time, found in one step of time or in several."""
+        for parts in (1, 4, 16):
+            try:
+                box, begin = None, area
+                for _ in range(parts):
+                    one, begin = self.short_enclosure(begin, self.time / parts)
+                    box = one if box is None else {name: self.maths.hull(box[name], one[name]) for name in one}
+                return box
+            except Trouble as trouble:
+                fault = trouble
+        raise fault
+
+    def short_enclosure(self, area, time):
+        """A box that holds the solutions from an area up to a time, and one that holds their ends."""
+        maths, box = self.maths, dict(area)
+        whole, end = maths.between(0, time), maths.number(time)
+        for _ in range(MOST_TRIALS):
+            slopes = {name: value_of(side, box, maths) for name, side in zip(self.names, self.sides)}
+            after = {name: area[name] + whole * slope for name, slope in slopes.items()}
+            if all(box[name].a <= one.a and one.b <= box[name].b for name, one in after.items()):
+                return box, area | {name: area[name] + end * slope for name, slope in slopes.items()}
+            for name, one in after.items():
+                box[name] = one + (one - area[name]) / 20 + maths.between(-TINY, TINY)
+        raise Trouble("the sampling time is too long: no box was found that holds the solutions up to it")
+
+    def rests_in(self, area):
+        maths, box = self.maths, self.enclosure(area)
+        share = number(self.time ** (self.order + 1) / math.factorial(self.order + 1))
+        rests = [maths.ends(value_of(mul(share, node), box, maths)) for node in self.derivatives[self.order]]
+        moved = self.disturbed(box)
+        return [(low - more, high + more) for (low, high), more in zip(rests, moved)]
+
+    def disturbed(self, box):
+        """By how much disturbances move each state within a sample."""
+        maths, size = self.maths, len(self.names)
+        pushes = [sum((bound(maths, derivative(side, name), box) * (high - low) / 2 for name, low, high in self.model.noises), Fraction(0))
+                  for side in self.sides]
+        if not any(pushes):
+            return [Fraction(0)] * size
+        matrix = [[bound(maths, derivative(side, name), box, signed=i == j) for j, name in enumerate(self.names)]
+                  for i, side in enumerate(self.sides)]
+        norm = max(map(sum, matrix))
+        if self.time * norm > TERMS / 2:
+            raise Trouble("the sampling time is too long beside the fastest time of the system")
+        power, total = [push * self.time for push in pushes], [Fraction(0)] * size
+        for k in range(2, TERMS + 2):
+            total = [rounded_up(a + b) for a, b in zip(total, power)]
+            power = [rounded_up(sum(a * b for a, b in zip(row, power)) * self.time / k) for row in matrix]
+        # The terms that are left are below a geometric series of a half.
+        return [a + 2 * max(power) for a in total]
+
+
+def rounded_up(value):
+    """A fraction of few digits that isn't less."""
+    return Fraction(math.ceil(value * 10 ** 24), 10 ** 24)
+
+
+def bound(maths, node, box, signed=False):
+    """The greatest absolute value of a node over a box; with `signed` the greatest value, or 0 where that is below it."""
+    low, high = maths.ends(value_of(node, box, maths))
+    return max(high, Fraction(0)) if signed else max(abs(low), abs(high))

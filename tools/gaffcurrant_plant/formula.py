@@ -1,0 +1,230 @@
+"""Real expressions of models: sums, products, quotients, powers, min, max, abs and functions; read from text, derived, evaluated.
+
+A node is a tuple whose first place is its kind: ('num', fraction), ('var', name), ('add', a, b), ('mul', a, b), ('call', function, a)
+with a function of CURVES or a power ('power', exponent), ('min', a, b), ('max', a, b), ('abs', a), ('sign', a)."""
+
+import re
+from fractions import Fraction
+
+from .polynomial import OPEN, TOKEN, Fault, number_of
+
+CURVES = ("sin", "cos", "tan", "sqrt", "exp", "log")
+PI = Fraction("3.14159265358979323846264338327950288419716939937510582097494")
+ZERO, ONE = ("num", Fraction(0)), ("num", Fraction(1))
+MOST_POWER = 12
+
+
+def number(value):
+    return "num", Fraction(value)
+
+
+def add(a, b):
+    if a == ZERO or b == ZERO:
+        return b if a == ZERO else a
+    if a[0] == b[0] == "num":
+        return number(a[1] + b[1])
+    return "add", a, b
+
+
+def mul(a, b):
+    if ZERO in (a, b):
+        return ZERO
+    if a == ONE or b == ONE:
+        return b if a == ONE else a
+    if a[0] == b[0] == "num":
+        return number(a[1] * b[1])
+    return "mul", a, b
+
+
+def minus(a):
+    return mul(number(-1), a)
+
+
+def power(a, exponent):
+    """A power by a number: products for small whole exponents, else a function."""
+    if exponent.denominator == 1 and 0 <= exponent <= MOST_POWER:
+        result = ONE
+        for _ in range(int(exponent)):
+            result = mul(result, a)
+        return result
+    if a[0] == "num" and exponent.denominator == 1 and a[1]:
+        return number(a[1] ** int(exponent))
+    return "call", ("power", exponent), a
+
+
+class _Reader:
+    def __init__(self, text, names):
+        self.tokens = [token for token in TOKEN.findall(text.strip())]
+        self.names, self.at, self.open = names, 0, 0
+
+    def peek(self):
+        return self.tokens[self.at] if self.at < len(self.tokens) else None
+
+    def take(self):
+        token = self.peek()
+        self.at += 1
+        return token
+
+    def sum(self):
+        total = self.product()
+        while self.peek() in ("+", "-"):
+            is_minus = self.take() == "-"
+            other = self.product()
+            total = add(total, minus(other) if is_minus else other)
+        return total
+
+    def product(self):
+        total = self.factor()
+        while self.peek() in ("*", "/"):
+            if self.take() == "*":
+                total = mul(total, self.factor())
+            else:
+                divisor = self.factor()
+                if divisor == ZERO:
+                    raise Fault("a quotient by 0")
+                total = mul(total, power(divisor, Fraction(-1)))
+        return total
+
+    def factor(self):
+        if self.peek() == "-":
+            self.deeper()
+            self.take()
+            result = minus(self.factor())
+            self.open -= 1
+            return result
+        base = self.leaf()
+        if self.peek() != "^":
+            return base
+        self.take()
+        exponent = self.factor()
+        if exponent[0] != "num":
+            raise Fault("the exponent behind `^` is a number, without variables")
+        return power(base, exponent[1])
+
+    def deeper(self):
+        self.open += 1
+        if self.open > OPEN:
+            raise Fault(f"more than {OPEN} brackets are open at once")
+
+    def leaf(self):
+        token = self.take()
+        if token is None:
+            raise Fault("the expression ends where a number, a name or a bracket is due")
+        if token == "(":
+            return self.bracketed(1, "(")[0]
+        if token in self.names:
+            return "var", token
+        if re.match(r"[0-9.]", token):
+            return number(number_of(token))
+        if token == "pi":
+            return number(PI)
+        if token in CURVES + ("abs", "min", "max"):
+            return self.called(token)
+        raise Fault(f"`{token}` is no variable of this model" if token[0].isalpha() else f"`{token}` isn't expected")
+
+    def called(self, name):
+        if self.take() != "(":
+            raise Fault(f"behind `{name}` an opening bracket is due")
+        parts = self.bracketed(2 if name in ("min", "max") else 1, name)
+        if name in ("min", "max"):
+            return name, *parts
+        return ("abs", parts[0]) if name == "abs" else ("call", name, parts[0])
+
+    def bracketed(self, count, opener):
+        self.deeper()
+        parts = [self.sum()]
+        while self.peek() == ",":
+            self.take()
+            parts.append(self.sum())
+        if self.take() != ")":
+            raise Fault("a bracket is left open")
+        if len(parts) != count:
+            raise Fault(f"`{opener}` takes {count}, here are {len(parts)}")
+        self.open -= 1
+        return parts
+
+
+def parse(text, names):
+    """The node that a text spells over the names; else raises Fault."""
+    reader = _Reader(text.replace("**", "^"), names)
+    if not reader.tokens:
+        raise Fault("behind `=` an expression is due")
+    node = reader.sum()
+    if reader.peek() is not None:
+        raise Fault(f"`{reader.peek()}` isn't expected")
+    return node
+
+
+def parts_of(node):
+    """The nodes right below a node."""
+    return {"num": (), "var": (), "call": node[2:]}.get(node[0], node[1:])
+
+
+def is_smooth(node):
+    """Whether it has no min, max and abs."""
+    return node[0] not in ("min", "max", "abs") and all(map(is_smooth, parts_of(node)))
+
+
+def with_values(node, values):
+    """The node with numbers in the place of some variables."""
+    if node[0] == "var":
+        return number(values[node[1]]) if node[1] in values else node
+    parts = [with_values(part, values) for part in parts_of(node)]
+    if node[0] == "add":
+        return add(*parts)
+    if node[0] == "mul":
+        return mul(*parts)
+    return node[:len(node) - len(parts)] + tuple(parts)
+
+
+def derivative(node, name):
+    """The derivative by a variable; that of abs, min and max has `sign` in it, anything from -1 to 1 where its argument may be 0."""
+    kind = node[0]
+    if kind in ("num", "var"):
+        return ONE if node == ("var", name) else ZERO
+    if kind == "call":
+        return mul(outer_derivative(node[1], node[2]), derivative(node[2], name))
+    if kind == "abs":
+        return mul(("sign", node[1]), derivative(node[1], name))
+    a, b = node[1:]
+    left, right = derivative(a, name), derivative(b, name)
+    if kind == "add":
+        return add(left, right)
+    if kind == "mul":
+        return add(mul(left, b), mul(a, right))
+    # max(a, b) is (a + b + |a - b|) / 2, and min(a, b) with a minus there.
+    turned = mul(("sign", add(a, minus(b))), add(left, minus(right)))
+    return mul(number(Fraction(1, 2)), add(add(left, right), turned if kind == "max" else minus(turned)))
+
+
+def outer_derivative(function, a):
+    """The derivative of a function at a node."""
+    if function == "sin":
+        return "call", "cos", a
+    if function == "cos":
+        return minus(("call", "sin", a))
+    if function == "tan":
+        return add(ONE, power(("call", "tan", a), Fraction(2)))
+    if function == "exp":
+        return "call", "exp", a
+    if function == "log":
+        return power(a, Fraction(-1))
+    exponent = Fraction(1, 2) if function == "sqrt" else function[1]
+    return mul(number(exponent), power(a, exponent - 1))
+
+
+def value_of(node, values, maths):
+    """The value where `values` has the variables' and `maths` the functions and the numbers: real numbers or intervals."""
+    kind = node[0]
+    if kind == "num":
+        return maths.number(node[1])
+    if kind == "var":
+        return values[node[1]]
+    if kind == "call":
+        return maths.call(node[1], value_of(node[2], values, maths))
+    parts = [value_of(part, values, maths) for part in parts_of(node)]
+    if kind == "add":
+        return parts[0] + parts[1]
+    if kind == "mul":
+        return maths.square(parts[0]) if node[1] == node[2] else parts[0] * parts[1]
+    return getattr(maths, {"min": "least", "max": "greatest", "abs": "size", "sign": "sign"}[kind])(*parts)

@@ -1,0 +1,151 @@
+"""Makes the plant text of a model, with comments on its units and on what its noises bound."""
+
+import math
+from fractions import Fraction
+
+from .command import Trouble
+from .formula import is_smooth
+from .model import said
+from .polynomial import added
+from .reader import Refused, read_plant
+from .scaling import Room, Scaled, Variable
+from .units import decimal
+
+# Straight pieces that are tried, most first: as many as a lut has, and as many as fit into an equation.
+PIECES = {1: (8, 7, 6, 5, 4, 3, 2), 2: (31, 24, 16, 10, 6)}
+
+
+# Orders of the Taylor polynomial that are tried.
+ORDERS = (1, 2, 3)
+
+
+class Planting:
+    """text: the plant text; plant: as it is read; ranges: the ends of each state's noise."""
+
+    def __init__(self, model, pieces):
+        self.model, self.room = model, Room(model, pieces)
+        self.rests = None
+        equations = [self.room.flattened(node) for node in model.equations] if model.equations else self.sampled()
+        self.denominator = denominator_of(model, self.room, equations)
+        self.scaled = [Scaled(self.room, equation, state[-1], self.denominator, state[0]) for equation, state in zip(equations, model.states)]
+        self.ranges = [equation.noise() for equation in self.scaled]
+        self.text = self.plant_text()
+        self.plant = read_plant(self.text.encode())
+
+    def sampled(self):
+        """The equations of a step of the differential equations, each with a noise for what it leaves out."""
+        from .flows import Flow
+        from .maths import Intervals
+        self.room.maths = Intervals()
+        flow = Flow(self.model, self.room.maths)
+        self.rests, self.order, equations = flow.rests(), flow.order, []
+        for state, node, (low, high) in zip(self.model.states, flow.steps(), self.rests):
+            rest = f"@rest {state[0]}"
+            self.room.variables[rest] = Variable("noise", Fraction(1), low, high)
+            equations.append(added(self.room.flattened(node), {(rest,): Fraction(1)}))
+        return equations
+
+    def plant_text(self):
+        model = self.model
+        taken = set(model.names())
+        names = [noise_name(state[0], taken) for state in model.states]
+        lines = self.comments(names) + [f"plant {model.version}"]
+        for name, low, high, width, unit in model.states:
+            lines.append(f"state {name} {low / unit} {high / unit - 1} {width / unit}")
+        for name, unit, values in model.inputs:
+            lines.append(" ".join([f"input {name}"] + [str(value / unit) for value in values]))
+        lines += [f"noise {name} {low} {high}" for name, (low, high) in zip(names, self.ranges) if (low, high) != (0, 0)]
+        for state, equation, name, ends in zip(model.states, self.scaled, names, self.ranges):
+            lines.append(f"next {state[0]} = {equation.text()}" + (f" + {name}" if ends != (0, 0) else ""))
+        lines += [box_text(model, keyword, box) for keyword, box in model.boxes]
+        return "\n".join(lines + [f"goal {model.goal}", "end", ""])
+
+    def comments(self, names):
+        model = self.model
+        lines = ["# Made by tools/scale from a model with real coefficients."]
+        lines += [unit_said(model, name, unit) + ": a real value lies between its whole number and the next one" for name, *_, unit in model.states]
+        lines += [unit_said(model, name, unit) for name, unit, _ in model.inputs]
+        lines.append(f"# coefficients are whole numbers over {self.denominator}")
+        if self.rests:
+            lines.append(f"# sampled with {said(model.sample)} by a Taylor polynomial of order {self.order}")
+        if self.room.curves:
+            lines.append(f"# functions are made of up to {self.room.pieces} straight pieces")
+        for state, equation, ends, name in zip(model.states, self.scaled, self.ranges, names):
+            low, high = (said(end) for end in equation.quantising)
+            curves = ", with straight pieces," if equation.has_curves() else ""
+            lines.append(f"# {name}: quantising{curves} moves {state[0]} by {low} to {high} units, rounded coefficients by at most "
+                         f"{said(equation.rounding)},")
+            low, high = (said(end) for end in equation.disturbance)
+            added_by = "the model's noises and sampling add" if self.rests else "the model's noises add"
+            lines.append(f"#   the quotient leaves at most {said(equation.left_over())}, {added_by} {low} to {high}: {ends[0]} to {ends[1]}")
+        return lines
+
+
+def planted(model):
+    """The plant of a model, its functions in as many pieces as fit; raises Trouble. Differential equations are sampled by the order, where
+    the model gives none, whose boxes are the least beside the cells."""
+    if not model.flows or model.order:
+        return with_pieces(model)
+    found, faults = [], []
+    for order in ORDERS if all(map(is_smooth, model.flows)) else ORDERS[:1]:
+        model.order = order
+        try:
+            found.append(with_pieces(model))
+        except Trouble as trouble:
+            faults.append(trouble)
+    model.order = None
+    if not found:
+        raise faults[0]
+    return min(found, key=lambda planting: box_size(planting.plant))
+
+
+def box_size(plant):
+    """The sum of the greatest deviations beside the widths of cells."""
+    return sum(max(plant.bounds(i, vector)[2] for vector in range(plant.vectors)) / state[3] for i, state in enumerate(plant.states))
+
+
+def with_pieces(model):
+    pieces = [model.pieces] if model.pieces else PIECES[model.version]
+    for number in pieces:
+        try:
+            return Planting(model, number)
+        except Refused as refusal:
+            if number == pieces[-1] or "nodes" not in refusal.reason:
+                raise Trouble(f"the plant would be refused, {refusal.answer}: {refusal.reason}") from None
+
+
+def denominator_of(model, room, equations):
+    """The model's denominator, or the least power of ten whose rounding is at most a tenth of a unit."""
+    if model.denominator:
+        return model.denominator
+    for power in range(0, 16):
+        if all(Scaled(room, equation, state[-1], 10 ** power).rounding <= Fraction(1, 10) for equation, state in zip(equations, model.states)):
+            return 10 ** power
+    raise Trouble("no denominator up to 10^15 keeps the rounding below a tenth of a unit; give one")
+
+
+def noise_name(state, taken):
+    name = f"r_{state}"[:32]
+    while name in taken:
+        name = "r" + name[:31]
+    taken.add(name)
+    return name
+
+
+def box_text(model, keyword, box):
+    """A target holds the whole numbers whose unit lies in it, an obstacle those whose unit meets it."""
+    words = [keyword]
+    for (low, high), (name, *_, unit) in zip(box, model.states):
+        if keyword == "target":
+            first, last = math.ceil(low / unit), math.floor(high / unit) - 1
+        else:
+            first, last = math.floor(low / unit), math.ceil(high / unit) - 1
+        if first > last:
+            raise Trouble(f"a {keyword} holds no whole unit of {name}")
+        words += [str(first), str(last)]
+    return " ".join(words)
+
+
+def unit_said(model, name, unit):
+    """The comment by which the other programs know a unit."""
+    return f"# unit {name} {decimal(unit)}" + (f" {model.words[name]}" if name in model.words else "")

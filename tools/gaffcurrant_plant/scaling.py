@@ -1,0 +1,271 @@
+"""Scales a model with real coefficients to whole numbers: plant texts whose noise bounds what rounding, quantising, straight pieces and
+sampling do."""
+
+import itertools
+import math
+from fractions import Fraction
+
+from . import polynomial
+from .command import Trouble
+from .curves import Curve, as_lines, as_lut, combined, hull, product, unit_for
+from .polynomial import added, multiplied
+
+NEVER = (Fraction(0), Fraction(0))
+
+
+def size(interval):
+    return max(-interval[0], interval[1])
+
+
+class Variable:
+    """What an equation may name: low and high are the ends of its whole number (of a noise those of its real value), error the ends of
+    real value / unit - whole number, text how the plant writes it."""
+
+    def __init__(self, kind, unit, low, high, error=NEVER, text=None, choices=None):
+        self.kind, self.unit, self.low, self.high = kind, unit, low, high
+        self.error, self.text, self.choices = error, text, choices
+
+    def around(self):
+        """Where real value / unit lies."""
+        return self.low + self.error[0], self.high + self.error[1]
+
+
+class Room:
+    """The variables of a model, and those that stand for its functions, of which each is made once."""
+
+    def __init__(self, model, pieces):
+        self.version, self.pieces, self.curves, self.maths = model.version, pieces, {}, None
+        self.variables = {}
+        for name, low, high, _, unit in model.states:
+            self.variables[name] = Variable("state", unit, low / unit, high / unit - 1, (Fraction(0), Fraction(1)), name)
+        for name, unit, values in model.inputs:
+            whole = {value / unit for value in values}
+            self.variables[name] = Variable("input", unit, min(whole), max(whole), NEVER, name, whole)
+        for name, low, high in model.noises:
+            self.variables[name] = Variable("noise", Fraction(1), low, high)
+
+    def flattened(self, node):
+        """A formula as a polynomial of variables, with a new variable for each of its functions."""
+        if isinstance(node, dict):
+            return node
+        kind = node[0]
+        if kind == "num":
+            return added({}, {(): node[1]})
+        if kind == "var":
+            return {(node[1],): Fraction(1)}
+        if kind == "add":
+            return added(self.flattened(node[1]), self.flattened(node[2]))
+        if kind == "mul":
+            return multiplied(self.flattened(node[1]), self.flattened(node[2]))
+        parts = [self.flattened(part) for part in (node[2:] if kind == "call" else node[1:])]
+        if kind == "call":
+            return self.curve(node[1], parts[0])
+        return self.chosen(kind, parts)
+
+    def named(self, key, make):
+        """The polynomial of a variable that stands for a function, made where it isn't there yet."""
+        if key not in self.curves:
+            self.curves[key] = f"@{len(self.curves)}"
+            self.variables[self.curves[key]] = make()
+        return {(self.curves[key],): Fraction(1)}
+
+    def curve(self, function, argument):
+        key = function, tuple(sorted(argument.items()))
+        return self.named(key, lambda: self.made_curve(function, argument))
+
+    def made_curve(self, function, argument):
+        from .maths import Intervals
+        self.maths = self.maths or Intervals()
+        whole = Whole(self, argument)
+        curve = Curve(function, self.maths, whole, self.pieces)
+        text, (low, high), error = (as_lut if self.version > 1 else as_lines)(curve, whole.text)
+        return Variable("curve", curve.unit_out, low, high, error, text)
+
+    def chosen(self, kind, parts):
+        """min, max or abs of polynomials."""
+        return self.named((kind, tuple(tuple(sorted(part.items())) for part in parts)), lambda: self.made_choice(kind, parts))
+
+    def made_choice(self, kind, parts):
+        unit = min((self.own_unit(part) for part in parts), key=lambda one: one)
+        wholes = [Whole(self, part, unit) for part in parts]
+        texts = ", ".join(whole.text for whole in wholes)
+        if kind == "abs":
+            low, high = wholes[0].low, wholes[0].high
+            most = max(map(abs, wholes[0].error))
+            least = max(low, -high, 0)
+            return Variable("curve", unit, least, max(-low, high), (-most, most), f"abs({texts})")
+        ends = min if kind == "min" else max
+        return Variable("curve", unit, ends(one.low for one in wholes), ends(one.high for one in wholes), hull([one.error for one in wholes]),
+                        f"{kind}({texts})")
+
+    def range_of(self, argument):
+        """The ends of the real value of a polynomial."""
+        total = NEVER
+        for monomial, coefficient in argument.items():
+            interval = (coefficient, coefficient)
+            for name in monomial:
+                variable = self.variables[name]
+                interval = product(interval, tuple(end * variable.unit for end in variable.around()))
+            total = combined(total, interval)
+        return total
+
+    def own_unit(self, argument):
+        """The unit of a variable that stands alone, else one that is fine beside the range."""
+        single = single_of(argument)
+        return self.variables[single].unit if single and self.variables[single].kind != "noise" else unit_for(self.range_of(argument))
+
+
+def single_of(argument):
+    """The variable that a polynomial is, or None."""
+    if len(argument) == 1:
+        (monomial, coefficient), = argument.items()
+        if len(monomial) == 1 and coefficient == 1:
+            return monomial[0]
+    return None
+
+
+class Whole:
+    """A polynomial as a whole number of units: its text, ends and error."""
+
+    def __init__(self, room, argument, unit=None):
+        single = single_of(argument)
+        self.unit = unit or room.own_unit(argument)
+        variable = room.variables[single] if single else None
+        if variable and variable.kind != "noise" and variable.unit == self.unit:
+            self.text, self.error, self.low, self.high = variable.text, variable.error, int(variable.low), int(variable.high)
+            return
+        scaled = finest(room, argument, self.unit)
+        self.text, self.error = scaled.text(), scaled.error()
+        low, high = (end / self.unit for end in room.range_of(argument))
+        self.low, self.high = math.floor(low - self.error[1]), math.ceil(high - self.error[0])
+
+
+def finest(room, equation, unit, name=None):
+    """The equation over the least power of ten whose rounding is at most a tenth of a unit."""
+    for exponent in range(0, 16):
+        scaled = Scaled(room, equation, unit, 10 ** exponent, name)
+        if scaled.rounding <= Fraction(1, 10):
+            return scaled
+    raise Trouble("no denominator up to 10^15 keeps the rounding below a tenth of a unit; give one")
+
+
+class Scaled:
+    """An equation in units: whole coefficients over a denominator, and what the rounding leaves."""
+
+    def __init__(self, room, equation, unit, denominator, name=None):
+        self.room, self.name, self.unit, self.denominator = room, name, unit, denominator
+        self.coefficients, self.rounding = {}, Fraction(0)
+        self.quantising = self.disturbance = NEVER
+        for monomial, coefficient in equation.items():
+            self.take(monomial, coefficient)
+        common = math.gcd(denominator, *self.coefficients.values())
+        self.denominator //= common
+        self.coefficients = {monomial: whole // common for monomial, whole in self.coefficients.items()}
+
+    def take(self, monomial, coefficient):
+        variables = [self.room.variables[name] for name in monomial]
+        scale = coefficient / self.unit * math.prod([variable.unit for variable in variables], start=Fraction(1))
+        if any(variable.kind == "noise" for variable in variables):
+            self.disturbance = combined(self.disturbance, times(scale, [variable.around() for variable in variables]))
+            return
+        whole = round(scale * self.denominator)
+        if whole:
+            self.coefficients[monomial] = whole
+        ranges = [(variable.low, variable.high) for variable in variables]
+        self.rounding += abs(scale - Fraction(whole, self.denominator)) * size(times(1, ranges))
+        for i, variable in enumerate(variables):
+            if variable.error != NEVER:
+                moved = [other.around() for other in variables[:i]] + [variable.error] + ranges[i + 1:]
+                self.quantising = combined(self.quantising, times(scale, moved))
+
+    def varies(self, name):
+        """Whether a variable is none of the inputs, whose values are known."""
+        return self.room.variables[name].kind != "input"
+
+    def has_curves(self):
+        return any(self.room.variables[name].kind == "curve" for monomial in self.coefficients for name in monomial)
+
+    def left_over(self):
+        """The most that the quotient's rounding down may leave. The states add multiples of `step` to the dividend, and
+        the inputs what they give, so not every remainder comes."""
+        step = math.gcd(self.denominator, *(whole for monomial, whole in self.coefficients.items() if any(map(self.varies, monomial))))
+        of_inputs = {monomial: whole for monomial, whole in self.coefficients.items() if not any(map(self.varies, monomial))}
+        names = sorted({name for monomial in of_inputs for name in monomial})
+        choices = [self.room.variables[name].choices for name in names]
+        if math.prod(map(len, choices)) > 5000:
+            return Fraction(self.denominator - 1, self.denominator)
+        remainders = [polynomial.value_of(of_inputs, dict(zip(names, values))) % step for values in itertools.product(*choices)]
+        return Fraction(self.denominator - step + int(max(remainders)), self.denominator)
+
+    def error(self):
+        """What real value / unit - the whole number may be."""
+        low = -self.rounding + self.quantising[0] + self.disturbance[0]
+        return low, self.left_over() + self.rounding + self.quantising[1] + self.disturbance[1]
+
+    def noise(self):
+        """The whole numbers by which the real next state, rounded down, may differ from the plant's."""
+        low, high = self.error()
+        # A real state lies below the next whole number: so the greatest end isn't taken where quantising reaches up.
+        is_open = self.quantising[1] > 0 and not self.has_curves()
+        return math.floor(low), math.ceil(high) - 1 if is_open else math.floor(high)
+
+    def text(self):
+        """The equation without its noise. Where the state itself is only added, as in `x + v / 2`, it stands before the quotient
+        with all that is a whole multiple of the denominator: the value is the same, and the program finds the boxes faster."""
+        groups = {}
+        for monomial, coefficient in self.coefficients.items():
+            of_states = tuple(name for name in monomial if self.varies(name))
+            of_inputs = tuple(name for name in monomial if not self.varies(name))
+            groups.setdefault(of_states, {})[of_inputs] = coefficient
+        if self.denominator == 1:
+            return joined([self.grouped(of_states, group) for of_states, group in groups.items()])
+        apart = {of_states: {of_inputs: coefficient // self.denominator for of_inputs, coefficient in group.items()}
+                 for of_states, group in groups.items() if self.is_added(groups) and self.is_apart(of_states, groups)}
+        divided = {of_states: group for of_states, group in groups.items() if of_states not in apart}
+        terms = [self.grouped(of_states, group) for of_states, group in apart.items()]
+        return joined(terms + [self.quotient(divided, is_first=not terms)] if divided else terms)
+
+    def is_added(self, groups):
+        return groups.get((self.name,)) == {(): self.denominator} and self.is_apart((self.name,), groups)
+
+    def is_apart(self, of_states, groups):
+        """Whether states have whole multiples of the denominator alone, and stand in no other term."""
+        others = {name for other in groups if other != of_states for name in other}
+        return others.isdisjoint(of_states) and all(weight % self.denominator == 0 for weight in groups[of_states].values())
+
+    def quotient(self, groups, is_first):
+        """The sum over the denominator. Behind another term it doesn't begin with a minus, which would turn its rounding round."""
+        terms = [self.grouped(of_states, group) for of_states, group in groups.items()]
+        total = joined(terms)
+        is_sum = len(terms) > 1 or any(len(group) > 1 and not of_states for of_states, group in groups.items())
+        if is_sum or not is_first and total.startswith("-"):
+            return f"({total}) / {self.denominator}"
+        return f"{total} / {self.denominator}"
+
+    def grouped(self, of_states, group):
+        """One product of states with what the inputs weigh it by, so that each state is named once where it can be."""
+        if not of_states or len(group) == 1:
+            return joined([self.term(coefficient, of_states + of_inputs) for of_inputs, coefficient in group.items()])
+        weight = joined([self.term(coefficient, of_inputs) for of_inputs, coefficient in group.items()])
+        return " * ".join(self.room.variables[name].text for name in of_states) + f" * ({weight})"
+
+    def term(self, coefficient, names):
+        if not names:
+            return str(coefficient)
+        words = " * ".join(self.room.variables[name].text for name in names)
+        return {1: words, -1: "-" + words}.get(coefficient) or f"{coefficient} * {words}"
+
+
+def times(scale, ranges):
+    interval = (Fraction(scale), Fraction(scale))
+    for one in ranges:
+        interval = product(interval, one)
+    return interval
+
+
+def joined(terms):
+    """Terms as a sum, a leading minus becoming a difference."""
+    text = terms[0] if terms else "0"
+    for one in terms[1:]:
+        text += f" - {one[1:]}" if one.startswith("-") else f" + {one}"
+    return text
