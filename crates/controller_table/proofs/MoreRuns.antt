@@ -18,7 +18,7 @@ use Rattle.grid_quantiser.specs.Axes.{cells_of}
 use Rattle.plant_record.specs.Description.{Description, axes_of}
 use Rattle.controller_table.specs.TableText.{words_of}
 use Rattle.controller_table.specs.RowLines.{IsRunOf, AreRunsOf}
-use Rattle.controller_table.specs.inside.ReadRows.{MayFollowOn, last_run, IsNextRun, IsRunNext, AreRead, IsRunRefused}
+use Rattle.controller_table.specs.inside.ReadRows.{MayFollowOn, last_run, IsNextRun, IsNextRunAt, AreRead, IsRunRefused}
 
 -- ---- the last run
 
@@ -94,7 +94,7 @@ module _ (v : Version) (p : Description) (bytes rest : List ℕ) (rows : List (O
         sym (last_pushed read.runs r),
       )
 
-  pub run_refused : (all line : ℕ) → count < all → line ≡ count + 2 → ((y : Run × List ℕ) → IsRunNext v p before rest y → ⊥) → IsRunRefused v p bytes all line
+  pub run_refused : (all line : ℕ) → count < all → line ≡ count + 2 → ((y : Run × List ℕ) → IsNextRunAt v p before rest y → ⊥) → IsRunRefused v p bytes all line
   run_refused all line few number none = record {
     runs = read.runs;
     are = read.are;

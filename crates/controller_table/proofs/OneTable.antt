@@ -17,7 +17,7 @@ use Rattle.plant_text.specs.Laws.{OnePlantAtTheFront}
 use Rattle.row_runs.specs.declared.run.Run.{Run}
 use Rattle.row_runs.specs.declared.run.Version.{Version}
 use Rattle.row_runs.specs.declared.run.Version.TheVariants.{First, Second}
-use Rattle.row_runs.specs.Runs.{runs_from, put_before, is_same_row, AreRuns, Gives}
+use Rattle.row_runs.specs.Runs.{runs_from, prepend_row, is_same_row, AreRuns, Gives}
 use Rattle.row_runs.specs.RunText.{run_line}
 use Rattle.row_runs.proofs.RunLaws.{runs_tell, tell_apart, forward}
 use Rattle.controller_table.specs.TableText.{words_of, count_line, end_line, version_line, row_lines, lines_behind}
@@ -63,7 +63,7 @@ module _ (p : Description) (rows : List (Option Row)) (fit : RowsFit p rows) whe
       let own = runs_tell v rows in
       record { order = own.0; each = All-from_recursion (IsRunOf p) (runs_from v 0 rows) (each_run v (runs_from v 0 rows) own.0 (λ c row given. (own.1 c row).1 given)) }
 
-one_put : (v : Version) (c : ℕ) (row : Row) (runs : List Run) → length (put_before v c row runs) ≤ suc (length runs)
+one_put : (v : Version) (c : ℕ) (row : Row) (runs : List Run) → length (prepend_row v c row runs) ≤ suc (length runs)
 one_put First c row runs = omega arith
 one_put Second c row [] = omega arith
 one_put Second c row (r ∷ runs) = either ((r.first == suc c) && is_same_row row r.row)
@@ -168,7 +168,7 @@ one_table front bytes p q rows others h k =
     plant.1
     ∙ ap (λ (v : Version). concat (lines_behind v q.goal others)) (sym version.0)
     ∙ ap (λ (d : Description). concat (lines_behind h.version d.goal others)) (sym plant.0) in
-    (plant.0, behind_told h.version p rows others h.limits h.fitting (subst (λ (d : Description). RowsFit d others) (sym plant.0) k.fitting) moved)
+    (plant.0, behind_told h.version p rows others h.limits h.fitting (subst (λ (d : Description). RowsFit d others) (sym plant.0) k.fitting) moved, version.0)
 
 -- ---- one row at a state
 

@@ -12,10 +12,10 @@ use Rattle.controller_table.specs.Tables.{RowsFit, IsTable}
 use Rattle.controller_table.specs.Choice.{IsChoice, HasRank}
 use Rattle.controller_table.specs.Refusals.{IsShortTable, IsTableRefusedFor}
 
--- no bytes are the table of two plants, or of one plant with other rows
+-- no bytes are the table of two plants, or of one plant with other rows, or in two versions
 abbrev pub OneTablePerText : Type 0
 OneTablePerText =
-    (bytes : List ℕ) (p q : Description) (rows others : List (Option Row)) → IsTable bytes p rows → IsTable bytes q others → (p ≡ q) × (rows ≡ others)
+    (bytes : List ℕ) (p q : Description) (rows others : List (Option Row)) (table : IsTable bytes p rows) (other : IsTable bytes q others) → (p ≡ q) × (rows ≡ others) × (table.version ≡ other.version)
 
 -- a table chooses one input at a state, and its row there has one rank
 abbrev pub OneChoice : Type 0

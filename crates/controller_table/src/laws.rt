@@ -10,7 +10,7 @@ use plant_text::laws::{
     every_plant_is_within_limits, front_read_or_refused, one_front_refusal, one_plant_at_the_front,
 };
 
-/// No bytes are the table of two plants, or of one plant with other rows.
+/// No bytes are the table of two plants, or of one plant with other rows, or in two versions.
 pub fn one_table_per_text()
     ensures { OneTablePerText }
 {

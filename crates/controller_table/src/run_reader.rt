@@ -6,7 +6,7 @@ ghost use Rattle.row_runs.specs.Runs.{MayFollow};
 ghost use Rattle.controller_table.specs.RowLines.{IsRunOf};
 ghost use Rattle.controller_table.specs.inside.Found.{Finds};
 ghost use Rattle.controller_table.specs.inside.Reading.{IsLastAt, IsRowAt, IsRunAt};
-ghost use Rattle.controller_table.specs.inside.ReadRows.{IsRunNext, MayFollowOn};
+ghost use Rattle.controller_table.specs.inside.ReadRows.{IsNextRunAt, MayFollowOn};
 
 use crate::front::behind_front;
 use crate::numbers::number_to;
@@ -22,7 +22,7 @@ pub(crate) fn run_in<'a>(
     bytes: &'a [u8],
 ) -> Option<(Run, &'a [u8])>
     requires { IsWithinLimits plant.now }
-    ensures { Finds (λ r. (r.0, r.1.now)) (IsRunNext version plant.now before bytes.now) result }
+    ensures { Finds (λ r. (r.0, r.1.now)) (IsNextRunAt version plant.now before bytes.now) result }
 {
     let (run, behind) = run_at(version, plant.goal(), bytes)?;
     if may_follow(version, before, run) && is_run_of(plant, run) {

@@ -22,7 +22,7 @@ applies Keep k u = refl
 -- the row that the bytes have at a state is that of the table
 pub row_of_table : OneTablePerText → (bytes : List ℕ) (p : Description) (rows : List (Option Row)) (x : List ℤ) (k : ℕ) → IsTable bytes p rows → HasRank bytes x k → (row : Row) × HasRowAt p rows x row × (row.rank ≡ k)
 row_of_table one bytes p rows x k table h =
-    let same : (h.plant ≡ p) × (h.rows ≡ rows) = one bytes h.plant p h.rows rows h.table table in
+    let same = one bytes h.plant p h.rows rows h.table table in
     let has : HasRowAt p h.rows x h.row = subst (λ (q : Description). HasRowAt q h.rows x h.row) same.0 h.has in
     (h.row, subst (λ (r : List (Option Row)). HasRowAt p r x h.row) same.1 has, h.ranked)
 

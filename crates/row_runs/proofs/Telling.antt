@@ -7,7 +7,7 @@ use Rattle.row_runs.specs.declared.run.Run.{Run}
 use Rattle.game_core.specs.Solution.{row_of}
 use Rattle.row_runs.specs.declared.run.Version.{Version}
 use Rattle.row_runs.specs.declared.run.Version.TheVariants.{First, Second}
-use Rattle.row_runs.specs.Runs.{is_same_row, put_before, runs_from, MayFollow, HasCells, MayLead, AreRuns, Gives}
+use Rattle.row_runs.specs.Runs.{is_same_row, prepend_row, runs_from, MayFollow, HasCells, MayLead, AreRuns, Gives}
 use Rattle.row_runs.specs.Laws.{RunsTellTheRows}
 
 same_row : (a b : Row) → is_same_row a b ≡ true → a ≡ b
@@ -142,7 +142,7 @@ joined c row rows r runs next same h = record { are = (cells, lead (begin_later 
       (λ given. (h.tell i other).1 ((behind i other).1 given)),
     )
 
-put : (v : Version) (c : ℕ) (row : Row) (rows : List (Option Row)) (runs : List Run) → AreOf v (suc c) rows runs → AreOf v c (Some row ∷ rows) (put_before v c row runs)
+put : (v : Version) (c : ℕ) (row : Row) (rows : List (Option Row)) (runs : List Run) → AreOf v (suc c) rows runs → AreOf v c (Some row ∷ rows) (prepend_row v c row runs)
 put First c row rows runs h = single First c row rows runs refl (lead runs h.begin) h
   where
     lead : (runs : List Run) → BeginAt (suc c) runs → MayLead First (record { first = c; last = c; row = row }) runs

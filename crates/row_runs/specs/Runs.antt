@@ -11,10 +11,10 @@ abbrev pub is_same_row : Row → Row → Bool
 is_same_row a b = (a.rank == b.rank) && (a.input == b.input)
 
 -- a cell's row before the runs of the cells behind it
-abbrev pub put_before : Version → ℕ → Row → List Run → List Run
-put_before First c row runs = record { first = c; last = c; row = row } ∷ runs
-put_before Second c row [] = record { first = c; last = c; row = row } ∷ []
-put_before Second c row (r ∷ runs) =
+abbrev pub prepend_row : Version → ℕ → Row → List Run → List Run
+prepend_row First c row runs = record { first = c; last = c; row = row } ∷ runs
+prepend_row Second c row [] = record { first = c; last = c; row = row } ∷ []
+prepend_row Second c row (r ∷ runs) =
     if (r.first == suc c) && is_same_row row r.row then record { first = c; last = r.last; row = row } ∷ runs
     else record { first = c; last = c; row = row } ∷ r ∷ runs
 
@@ -22,7 +22,7 @@ put_before Second c row (r ∷ runs) =
 abbrev pub runs_from : Version → ℕ → List (Option Row) → List Run
 runs_from version c [] = []
 runs_from version c (None ∷ rows) = runs_from version (suc c) rows
-runs_from version c (Some row ∷ rows) = put_before version c row (runs_from version (suc c) rows)
+runs_from version c (Some row ∷ rows) = prepend_row version c row (runs_from version (suc c) rows)
 
 -- a run may stand right behind another: its cells come later, and in the second version neighbours have different rows
 abbrev pub MayFollow : Version → Run → Run → Type 0

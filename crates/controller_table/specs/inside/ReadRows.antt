@@ -31,8 +31,8 @@ pub record IsNextRun (version : Version) (p : Description) (before : Option Run)
   pub is : IsRunOf p r
   pub text : bytes ≡ run_line version (words_of p.goal) r ++ behind
 
-abbrev pub IsRunNext : Version → Description → Option Run → List ℕ → Run × List ℕ → Type 0
-IsRunNext version p before bytes (r, behind) = IsNextRun version p before bytes r behind
+abbrev pub IsNextRunAt : Version → Description → Option Run → List ℕ → Run × List ℕ → Type 0
+IsNextRunAt version p before bytes (r, behind) = IsNextRun version p before bytes r behind
 
 -- So many runs are read from the lines at the front of the bytes.
 pub record AreRead (version : Version) (p : Description) (bytes rest : List ℕ) (rows : List (Option Row)) (count : ℕ) : Type 0 where
