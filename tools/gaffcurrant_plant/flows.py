@@ -14,7 +14,7 @@ from fractions import Fraction
 from .command import Trouble
 from .formula import add, derivative, is_smooth, mul, number, value_of, with_values
 
-MOST_BOXES, MOST_TRIALS, TERMS = 96, 30, 24
+MOST_BOXES, MOST_TRIALS, TERMS, FASTEST = 96, 30, 24, 100
 TINY = Fraction(1, 10 ** 12)
 
 
@@ -115,14 +115,14 @@ class Flow:
         matrix = [[bound(maths, derivative(side, name), box, signed=i == j) for j, name in enumerate(self.names)]
                   for i, side in enumerate(self.sides)]
         norm = max(map(sum, matrix))
-        if self.time * norm > TERMS / 2:
+        if self.time * norm > FASTEST:
             raise Trouble("the sampling time is too long beside the fastest time of the system")
         power, total = [push * self.time for push in pushes], [Fraction(0)] * size
-        for k in range(2, TERMS + 2):
+        for k in range(2, TERMS + 2 * math.ceil(self.time * norm)):
             total = [rounded_up(a + b) for a, b in zip(total, power)]
             power = [rounded_up(sum(a * b for a, b in zip(row, power)) * self.time / k) for row in matrix]
-        # The terms that are left are below a geometric series of a half.
-        return [a + 2 * max(power) for a in total]
+        # The terms that are left are below a geometric series of a half; a state that no disturbance has reached by now, none reaches.
+        return [a + 2 * max(power) if a else a for a in total]
 
 
 def rounded_up(value):
