@@ -1,4 +1,4 @@
--- A reader may go to another thread.
+-- A reader may go to another thread, and so may what it is to be told.
 use denote.Param.Send.{IsSend, IsSync, sendable, view_send, recorded_send, struct_send}
 use denote.Struct.Declared as Declared
 use Rattle.std.proofs.Crossing.{crosses}
@@ -16,6 +16,8 @@ use Rattle.live_table.specs.contracts.side.OneList
 use Rattle.live_table.specs.contracts.side.OneListProtocolLiveSideOptionInForce.TheImpl
 use Rattle.live_table.specs.contracts.reader.Reader
 use Rattle.live_table.specs.contracts.reader.Reader.TheInside
+use Rattle.live_table.specs.contracts.told.Told
+use Rattle.live_table.specs.contracts.told.Told.TheInside as ToldInside
 
 pub side_sync : IsSync LiveSide.the_row
 side_sync = search (crosses, TheKnot.crosses, sendable, Prefixed.the_sync) depth 60 fits 20000
@@ -26,3 +28,10 @@ reader_send =
     view_send TheInside.the_row _ _ _ _
     (recorded_send (TheInside.the_field).row _ _ (TheInside.the_type).to_one
     (struct_send (Declared.shape TheInside.the_type) (sides, (Prefixed.the_send, (Prefixed.the_send, tt)))))
+
+pub told_send : IsSend Told.the_row
+told_send =
+    let sides = SideReader.the_field_send LiveSide.the_row (Option.the_row InForce.the_row) OneList.the_row Global.the_row TheImpl.ghosts InHeap.ghosts Heap.the_send side_sync Heap.the_sync Frees.the_frees in
+    view_send ToldInside.the_row _ _ _ _
+    (recorded_send (ToldInside.the_field).row _ _ (ToldInside.the_type).to_one
+    (struct_send (Declared.shape ToldInside.the_type) (sides, (Prefixed.the_send, tt))))
