@@ -1,2 +1,0 @@
-pub mod KeptNumbers
-pub mod Words
