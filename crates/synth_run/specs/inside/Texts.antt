@@ -2,13 +2,13 @@
 use Rattle.std.specs.Prelude.{◌≡◌, ℕ, ◌≤◌, List, Some}
 use Rattle.game_core.specs.declared.game.Row.{Row}
 use Rattle.successor_box.specs.Deviations.{HasNoOverflow, deviations_of}
-use Rattle.controller_table.specs.TableText.{First, table_text}
+use Rattle.controller_table.specs.TableText.{written, table_text}
 use Rattle.controller_table.specs.Tables.{RowsFit}
 use Rattle.loop_sim.specs.Trace.{row_at}
 use Rattle.loop_sim.specs.TraceText.{trace_text}
 use Rattle.synth_run.specs.declared.simulating.Simulation.{Simulation}
 use Rattle.synth_run.specs.declared.text.Text.{Text}
-use Rattle.synth_run.specs.declared.text.Text.TheVariants.{Table, Line, Trace, Summary}
+use Rattle.synth_run.specs.declared.text.Text.TheVariants.{Table, Upgraded, Line, Trace, Summary}
 
 -- the trace of a simulation
 abbrev pub trace_of : Simulation → List ℕ
@@ -24,7 +24,8 @@ pub record IsReady (s : Simulation) : Type 0 where
   pub begins : row_at s.table.plant s.table.rows s.start ≡ Some row
 
 abbrev pub bytes_of : Text → List ℕ
-bytes_of (Table solved) = table_text First solved.plant solved.answer
+bytes_of (Table solved) = table_text written solved.plant solved.answer
+bytes_of (Upgraded table) = table_text written table.plant table.rows
 bytes_of (Line bytes) = bytes.now
 bytes_of (Trace simulation) = trace_of simulation
 bytes_of (Summary text) = text.items
@@ -32,6 +33,7 @@ bytes_of (Summary text) = text.items
 -- a table's rows fit its plant
 abbrev pub CanBeWritten : Text → Type 0
 CanBeWritten (Table solved) = RowsFit solved.plant solved.answer
+CanBeWritten (Upgraded table) = Unit {0}
 CanBeWritten (Line bytes) = Unit {0}
 CanBeWritten (Trace simulation) = IsReady simulation
 CanBeWritten (Summary text) = Unit {0}
