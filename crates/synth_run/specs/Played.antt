@@ -6,13 +6,14 @@ use Rattle.game_core.specs.Game.{Game}
 use Rattle.plant_record.specs.declared.aims.GoalKind.{GoalKind}
 use Rattle.plant_record.specs.declared.aims.GoalKind.TheVariants.{Reach, Keep}
 use Rattle.plant_record.specs.Description.{Description}
+use Rattle.plant_record.specs.Limits.{IsWithinLimits}
 use Rattle.abstraction_table.specs.Abstraction.{IsGameOf}
 use Rattle.reach_avoid.specs.Boards.{IsBoardOf as IsReachBoardOf}
 use Rattle.reach_avoid.specs.Reckoned.{IsReckoned as IsReachReckoned}
 use Rattle.safety_game.specs.Boards.{IsBoardOf as IsKeepBoardOf}
 use Rattle.safety_game.specs.Reckoned.{IsReckoned as IsKeepReckoned}
 use Rattle.run_words.specs.declared.form.Form.{Form}
-use Rattle.run_words.specs.declared.form.Form.TheVariants.{Synth, Check, Sim, Demo}
+use Rattle.run_words.specs.declared.form.Form.TheVariants.{Synth, Check, Upgrade, Sim, Demo}
 use Rattle.synth_run.specs.Demands.{IsAccepted}
 use Rattle.demo_plants.specs.Demo.{demo_plant_of}
 
@@ -40,16 +41,27 @@ pub record IsResolvedOn (p : Description) (board : BoardModel) (root : RootModel
 abbrev pub LeavesTheGameOf : Description → Option (BoardModel × RootModel) → Type 0
 LeavesTheGameOf p played = (board : BoardModel) × (root : RootModel) × (played ≡ Some (board, root)) × IsResolvedOn p board root
 
--- what a form leaves that was done for some bytes: `synth` and `demo` the game of their plant, `check` and `sim` nothing
+-- what a form leaves that was done for some bytes: `synth` and `demo` the game of their plant, the others nothing
 abbrev pub IsPlayed : Form → List ℕ → Option (BoardModel × RootModel) → Type 0
 IsPlayed (Synth workers) bytes played = (p : Description) × IsAccepted bytes p × LeavesTheGameOf p played
 IsPlayed Check bytes played = played ≡ None
+IsPlayed Upgrade bytes played = played ≡ None
 IsPlayed (Sim samples seed start) bytes played = played ≡ None
 IsPlayed (Demo number workers) bytes played = LeavesTheGameOf (demo_plant_of number) played
 
--- `check` and `sim` solve no game, whatever their source tells
+-- what a form leaves that was done, whatever its source tells: `synth` the game of a plant within the limits, `demo` that
+-- of its plant, the others nothing
+abbrev pub LeavesAGame : Form → Option (BoardModel × RootModel) → Type 0
+LeavesAGame (Synth workers) played = (p : Description) × IsWithinLimits p × LeavesTheGameOf p played
+LeavesAGame Check played = played ≡ None
+LeavesAGame Upgrade played = played ≡ None
+LeavesAGame (Sim samples seed start) played = played ≡ None
+LeavesAGame (Demo number workers) played = LeavesTheGameOf (demo_plant_of number) played
+
+-- `check`, `upgrade` and `sim` solve no game, whatever their source tells
 abbrev pub SolvesNothing : Form → Option (BoardModel × RootModel) → Type 0
 SolvesNothing (Synth workers) played = Unit {0}
 SolvesNothing Check played = played ≡ None
+SolvesNothing Upgrade played = played ≡ None
 SolvesNothing (Sim samples seed start) played = played ≡ None
 SolvesNothing (Demo number workers) played = Unit {0}
