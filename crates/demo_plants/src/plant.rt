@@ -7,8 +7,8 @@ ghost use Rattle.demo_plants.specs.Demo.{demo_plant_of, demo_text};
 
 use crate::laws::{demo_plants_are_within_limits, demo_texts_spell};
 use crate::parts::push_part;
-use plant_text::laws::canonical_texts_read_back;
 use plant_record::Plant;
+use plant_text::laws::canonical_texts_read_back;
 use plant_text::{PlantFault, read_plant};
 use run_devices::NoMemory;
 use std::alloc::{AllocError, Global};

@@ -84,13 +84,16 @@ module _ (g : Game) (a : IsGame g) (kept others : List (Option Row)) (k : IsKeep
       record {
         rank = record { reached = (Leaf, held, sym none); least = λ t l. omega (arith, none) };
         leads = (by.leads.0, λ i d li. (0, omega arith, held_rank g (get_or (successors_of g c row.input) i d) (held_if_kept g a (get_or (successors_of g c row.input) i d) (successors_below g a (pair_of g c row.input) i d li) (by.leads.1 i d li))));
-        least = λ v l. by.least v (l.0, λ i d li.
-            let s = get_or (successors_of g c v) i d in
-            let rank = l.1 i d li in
-            let le = rank.1 in
-            let tree = rank.2.reached in
-            let deep = tree.2 in
-            kept_if_held g a (get_or (successors_of g c v) i d) (successors_below g a (pair_of g c v) i d li) (end_from_leaf g (IsHeld g) (get_or (successors_of g c v) i d) tree.0 tree.1 (omega (arith, none, le, deep))));
+        least = λ v l. by.least v (
+          l.0,
+          λ i d li.
+              let s = get_or (successors_of g c v) i d in
+              let rank = l.1 i d li in
+              let le = rank.1 in
+              let tree = rank.2.reached in
+              let deep = tree.2 in
+              kept_if_held g a (get_or (successors_of g c v) i d) (successors_below g a (pair_of g c v) i d li) (end_from_leaf g (IsHeld g) (get_or (successors_of g c v) i d) tree.0 tree.1 (omega (arith, none, le, deep))),
+        );
       }
 
   by_rank : (c n u : ℕ) → c < g.cells → row_of kept c ≡ None → IsRank (remarked g (marks_to_reach g kept)) c n → IsChosenInput (remarked g (marks_to_reach g kept)) c n u → IsStayedBy g c (record { rank = n; input = u })

@@ -22,10 +22,10 @@ returns g c =
     let held : List (Option Row) = c.in_ok-held.field-0.answer in
     let others : List (Option Row) = c.in_ok-rows.field-0.answer in
     let keeps : IsKeepSolution (goals_alone game) held =
-        subst (λ (m : Game). IsKeepSolution m held) (c.new.ensures ∙ ap (remarked game) (c.deref.ensures.value ∙ c.in_ok-marks.ensures)) c.in_ok-held.ensures.solution
+    subst (λ (m : Game). IsKeepSolution m held) (c.new.ensures ∙ ap (remarked game) (c.deref.ensures.value ∙ c.in_ok-marks.ensures)) c.in_ok-held.ensures.solution
     in
     let reaches : IsReachSolution (remarked game (marks_to_reach game held)) others =
-        subst (λ (m : Game). IsReachSolution m others) (c.new-2.ensures ∙ ap (remarked game) (c.deref-2.ensures.value ∙ c.in_ok-marks-2.ensures)) c.in_ok-rows.ensures.solution
+    subst (λ (m : Game). IsReachSolution m others) (c.new-2.ensures ∙ ap (remarked game) (c.deref-2.ensures.value ∙ c.in_ok-marks-2.ensures)) c.in_ok-rows.ensures.solution
     in
     subst (IsStaySolution game) (sym (c.put_over.ensures ∙ ap (λ (n : ℕ). rows_over n held others) keeps.one_each))
     (stays game lawful.game held others keeps reaches)
