@@ -1,14 +1,19 @@
--- Rows that a plant may have are told whole by their lines.
-use Rattle.std.proofs.Common.{ℕ, ◌^◌, ◌<◌, ◌≤◌, arith}
+-- Runs that a plant may have are told whole by their lines.
+use Rattle.std.proofs.Common.{ℕ, ◌^◌, ◌<◌, ◌≤◌, List, [], ◌∷◌, arith}
+use Rattle.std.specs.List.{AllByRecursion}
+use Rattle.std.proofs.lemmas.List.Elements.{recursion_from_All}
 use Rattle.game_core.specs.declared.game.Row.{Row}
+use Rattle.row_runs.specs.declared.run.Run.{Run}
+use Rattle.row_runs.specs.declared.run.Version.{Version}
+use Rattle.row_runs.specs.Runs.{HasCells, AreRuns}
+use Rattle.row_runs.proofs.RunLaws.{forward}
 use Rattle.grid_quantiser.specs.Axes.{cells_of}
 use Rattle.plant_text.specs.declared.plant.aims.GoalKind.{GoalKind}
 use Rattle.plant_text.specs.declared.plant.aims.GoalKind.TheVariants.{Reach, Keep}
 use Rattle.plant_text.specs.plant.Description.{Description, axes_of}
 use Rattle.plant_text.specs.plant.Limits.{IsWithinLimits}
-use Rattle.controller_table.specs.declared.entry.Entry.{Entry}
 use Rattle.controller_table.specs.Tables.{HasFittingRank, IsRowOf}
-use Rattle.controller_table.specs.RowLines.{IsEntryOf}
+use Rattle.controller_table.specs.RowLines.{IsRunOf, AreRunsOf}
 use Rattle.controller_table.specs.inside.Reading.{IsSpelled, IsSpelledRow}
 
 spelled_at : (goal : GoalKind) (cells : ℕ) (row : Row) → cells ≤ 2 ^ 20 → row.input < 4096 → HasFittingRank goal cells row → IsSpelledRow goal row
@@ -18,5 +23,15 @@ spelled_at Keep cells row few lt h = record { rank = omega (arith, h); input = o
 pub spelled_row : (p : Description) (row : Row) → IsWithinLimits p → IsRowOf p row → IsSpelledRow p.goal row
 spelled_row p row within h = let vectors = within.vectors in spelled_at p.goal (cells_of (axes_of p)) row within.cells (omega (arith, h.input, vectors)) h.rank
 
-pub spelled_entry : (p : Description) (e : Entry) → IsWithinLimits p → IsEntryOf p e → IsSpelled p.goal e
-spelled_entry p e within h = let cells = within.cells in record { cell = omega (arith, h.cell, cells); row = spelled_row p e.row within h.row }
+pub spelled_run : (v : Version) (p : Description) (r : Run) → IsWithinLimits p → HasCells v r → IsRunOf p r → IsSpelled v p.goal r
+spelled_run v p r within some h =
+    let cells = within.cells in
+    let ahead = forward v r some in
+    record { first = omega (arith, ahead, h.cells, cells); last = omega (arith, h.cells, cells); cells = some; row = spelled_row p r.row within h.row }
+
+all_spelled : (v : Version) (p : Description) (runs : List Run) → IsWithinLimits p → AreRuns v runs → AllByRecursion (IsRunOf p) runs → AllByRecursion (IsSpelled v p.goal) runs
+all_spelled v p [] within order each = tt
+all_spelled v p (r ∷ runs) within order each = (spelled_run v p r within order.0 each.0, all_spelled v p runs within order.2 each.1)
+
+pub spelled_runs : (v : Version) (p : Description) (runs : List Run) → IsWithinLimits p → AreRunsOf v p runs → AllByRecursion (IsSpelled v p.goal) runs
+spelled_runs v p runs within are = all_spelled v p runs within are.order (recursion_from_All (IsRunOf p) runs are.each)

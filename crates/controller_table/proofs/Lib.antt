@@ -1,12 +1,11 @@
 pub mod Digits
-pub mod Entries
 pub mod Text
 pub mod Lines
 pub mod Cuts
-pub mod EntryLines
+pub mod RunWords
 pub mod LinesRead
 pub mod Fitting
-pub mod MoreEntries
+pub mod MoreRuns
 pub mod Standing
 pub mod RefusedRows
 pub mod RefusedPlant
@@ -16,3 +15,4 @@ pub mod OneTable
 pub mod OneRefusal
 pub mod PlantLength
 pub mod ShortTables
+pub mod Copies

@@ -1,7 +1,7 @@
 -- A text has one reason to be refused as a table, and none where it is one.
-use Rattle.std.proofs.Common.{inl, inr, ◌≡◌, ◌⊎◌, ℕ, zero, suc, ◌+◌, ◌<◌, ◌≤◌, List, [], ◌∷◌, ◌++◌, length, length-append, take, get_or, Option, refl, sym, ap, subst, ◌∙◌, append_assoc, append-nil, arith}
-use Rattle.std.specs.List.{AllPairs, AllByRecursion, concat}
-use Rattle.std.proofs.lemmas.List.{take_all, length-take, take-map, take-append-le, get_or-take}
+use Rattle.std.proofs.Common.{inl, inr, ◌≡◌, ◌⊎◌, ℕ, zero, suc, ◌+◌, ◌<◌, ◌≤◌, List, [], ◌∷◌, ◌++◌, length, length-append, take, Option, refl, sym, ap, subst, ◌∙◌, append_assoc, append-nil, arith}
+use Rattle.std.specs.List.{AllByRecursion, concat}
+use Rattle.std.proofs.lemmas.List.{take_all, length-take, take-map, take-append-le}
 use Rattle.std.proofs.lemmas.List.Elements.{All-take}
 use Rattle.std.proofs.Math.Seq.{take-append_seam}
 use Rattle.game_core.specs.declared.game.Row.{Row}
@@ -15,33 +15,38 @@ use Rattle.plant_text.specs.plant.Limits.{IsWithinLimits}
 use Rattle.plant_text.specs.writing.CanonicalText.{text_of}
 use Rattle.plant_text.specs.reading.CanonicalFronts.{IsFront, IsFrontRefusedFor}
 use Rattle.plant_text.specs.Laws.{OnePlantAtTheFront, OneFrontRefusal, FrontReadOrRefused}
-use Rattle.controller_table.specs.declared.entry.Entry.{Entry}
 use Rattle.controller_table.specs.declared.fault.TableFault.TheVariants as faults
-use Rattle.controller_table.specs.TableText.{Version, First, entry_line, count_line, end_line, version_line, lines_behind}
+use Rattle.row_runs.specs.declared.run.Run.{Run}
+use Rattle.row_runs.specs.declared.run.Version.{Version}
+use Rattle.row_runs.specs.Runs.{MayLead, AreRuns}
+use Rattle.row_runs.specs.RunText.{run_line}
+use Rattle.controller_table.specs.TableText.{words_of, count_line, end_line, version_line, lines_behind}
 use Rattle.controller_table.specs.Tables.{RowsFit, IsTable}
-use Rattle.controller_table.specs.RowLines.{IsEntryOf, AreEntriesOf, AreRowLines, AreWhole, MayStand, IsFirstRefusedBehind}
+use Rattle.controller_table.specs.RowLines.{IsRunOf, AreRunsOf, AreRowLines, AreWhole, MayStand, IsFirstRefusedBehind}
 use Rattle.controller_table.specs.Refusals.{IsShortTable, line_count, HasNoVersion, IsPlantRefusedFor, AreRowsRefusedAt, IsFirstRefusedInTable, ExceedsTableLimit}
 use Rattle.controller_table.specs.Laws.{OneTableRefusal, TableOrRefused, TablesAreShort}
 use Rattle.controller_table.proofs.Lines.{IsLine, one_line}
-use Rattle.controller_table.proofs.EntryLines.{count_is_line}
+use Rattle.controller_table.proofs.RunWords.{count_is_line}
 use Rattle.controller_table.proofs.OneTable.{one_version, whole_lines, row_lines_are_lines, whole_are_lines}
 use Rattle.controller_table.proofs.Standing.{nothing_next}
 
 -- ---- the first of some lines
 
-entries_taken : (p : Description) (n : ℕ) (es : List Entry) → AreEntriesOf p es → AreEntriesOf p (take n es)
-entries_taken p n es are = record { rising = pairs; each = All-take (IsEntryOf p) n es are.each }
-  where
-    pairs : AllPairs (λ (d e : Entry). d.cell < e.cell) (take n es)
-    pairs i j d lt bound =
-        let size = length-take n es in
-        let first : get_or (take n es) i d ≡ get_or es i d = get_or-take n es i d (omega (arith, lt, bound, size)) in
-        let second : get_or (take n es) j d ≡ get_or es j d = get_or-take n es j d (omega (arith, bound, size)) in
-        let above = are.rising i j d lt (omega (arith, bound, size)) in
-        omega (arith, above, ap (λ (e : Entry). e.cell) first, ap (λ (e : Entry). e.cell) second)
+lead_taken : (v : Version) (r : Run) (n : ℕ) (runs : List Run) → MayLead v r runs → MayLead v r (take n runs)
+lead_taken v r zero runs h = tt
+lead_taken v r (suc n) [] h = tt
+lead_taken v r (suc n) (s ∷ runs) h = h
+
+order_taken : (v : Version) (n : ℕ) (runs : List Run) → AreRuns v runs → AreRuns v (take n runs)
+order_taken v zero runs h = tt
+order_taken v (suc n) [] h = tt
+order_taken v (suc n) (r ∷ runs) h = (h.0, lead_taken v r n runs h.1, order_taken v n runs h.2)
+
+runs_taken : (v : Version) (p : Description) (n : ℕ) (runs : List Run) → AreRunsOf v p runs → AreRunsOf v p (take n runs)
+runs_taken v p n runs are = record { order = order_taken v n runs are.order; each = All-take (IsRunOf p) n runs are.each }
 
 rows_taken : (v : Version) (p : Description) (n : ℕ) (lines : List (List ℕ)) → AreRowLines v p lines → AreRowLines v p (take n lines)
-rows_taken First p n lines h = (take n h.0, entries_taken p n h.0 h.1, ap (take n) h.2 ∙ take-map (entry_line p.goal) n h.0)
+rows_taken v p n lines h = (take n h.0, runs_taken v p n h.0 h.1, ap (take n) h.2 ∙ take-map (run_line v (words_of p.goal)) n h.0)
 
 begun_taken : (v : Version) (p : Description) (n count : ℕ) (rows : List (List ℕ)) → count ≤ cells_of (axes_of p) → length rows ≤ count → AreRowLines v p rows → MayStand v p (take (suc n) (count_line count ∷ rows))
 begun_taken v p n count rows le few h = inr (inl (record {

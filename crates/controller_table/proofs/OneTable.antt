@@ -1,13 +1,12 @@
 -- Bytes are the table of one plant and of one list of rows.
-use Rattle.std.proofs.Common.{◌≡◌, ℕ, suc, ◌+◌, ◌<◌, ◌≤◌, List, [], ◌∷◌, ◌++◌, length, length-append, map, drop, Option, Some, None, refl, sym, ap, subst, ◌∙◌, append_assoc, arith}
-use Rattle.std.specs.Prelude.{ℤ, IfSome}
-use Rattle.std.specs.List.{AllPairs, AllByRecursion, concat}
-use Rattle.std.proofs.lemmas.List.{length-map}
-use Rattle.std.proofs.lemmas.List.Elements.{recursion_from_All, All-from_recursion}
-use Rattle.std.proofs.lemmas.List.Kept.{AllPairs-cons}
+use Rattle.std.proofs.Common.{inl, inr, ◌≡◌, ℕ, suc, ◌<◌, ◌≤◌, Bool, true, false, ◌&&◌, List, [], ◌∷◌, ◌++◌, length, length-append, map, drop, get_or, Option, Some, None, refl, sym, ap, subst, ◌∙◌, append_assoc, arith}
+use Rattle.std.specs.Prelude.{ℤ, IfSome, ◌==◌, if◌then◌else◌}
+use Rattle.std.specs.List.{AllByRecursion, concat}
+use Rattle.std.proofs.lemmas.Bool.{cases_lt}
+use Rattle.std.proofs.lemmas.List.{length-map, get_or_past}
+use Rattle.std.proofs.lemmas.List.Elements.{All-from_recursion}
 use Rattle.game_core.specs.declared.game.Row.{Row}
 use Rattle.game_core.specs.Solution.{row_of}
-use Rattle.grid_quantiser.specs.Axes.{cells_of}
 use Rattle.grid_quantiser.specs.Cells.{cell_of}
 use Rattle.plant_text.specs.declared.plant.aims.GoalKind.{GoalKind}
 use Rattle.plant_text.specs.declared.plant.aims.GoalKind.TheVariants.{Reach, Keep}
@@ -15,62 +14,75 @@ use Rattle.plant_text.specs.plant.Description.{Description, axes_of}
 use Rattle.plant_text.specs.plant.Limits.{IsWithinLimits}
 use Rattle.plant_text.specs.writing.CanonicalText.{text_of}
 use Rattle.plant_text.specs.Laws.{OnePlantAtTheFront}
-use Rattle.controller_table.specs.declared.entry.Entry.{Entry}
-use Rattle.controller_table.specs.TableText.{Version, First, entries_from, entry_line, count_line, end_line, version_line, row_lines, lines_behind}
+use Rattle.row_runs.specs.declared.run.Run.{Run}
+use Rattle.row_runs.specs.declared.run.Version.{Version}
+use Rattle.row_runs.specs.declared.run.Version.TheVariants.{First, Second}
+use Rattle.row_runs.specs.Runs.{runs_from, put_before, is_same_row, AreRuns, Gives}
+use Rattle.row_runs.specs.RunText.{run_line}
+use Rattle.row_runs.proofs.RunLaws.{runs_tell, tell_apart, forward}
+use Rattle.controller_table.specs.TableText.{words_of, count_line, end_line, version_line, row_lines, lines_behind}
 use Rattle.controller_table.specs.Tables.{IsRowOf, RowsFit, IsTable}
 use Rattle.controller_table.specs.Choice.{HasRowAt, Applies}
-use Rattle.controller_table.specs.RowLines.{IsEntryOf, AreEntriesOf, AreRowLines, AreWhole}
+use Rattle.controller_table.specs.RowLines.{IsRunOf, AreRunsOf, AreRowLines, AreWhole}
 use Rattle.controller_table.specs.Laws.{OneTablePerText, OneChoice, OneRank}
 use Rattle.controller_table.proofs.Lines.{IsLine, one_line}
-use Rattle.controller_table.proofs.EntryLines.{count_is_line, end_is_line, entry_is_line, entry_same}
-use Rattle.controller_table.proofs.Fitting.{spelled_entry}
+use Rattle.controller_table.specs.inside.Reading.{IsSpelled}
+use Rattle.controller_table.proofs.RunWords.{count_is_line, end_is_line, run_is_line, run_same}
+use Rattle.controller_table.proofs.Fitting.{spelled_runs}
 
 -- ---- the first line
 
 pub one_version : (v w : Version) (s t : List ℕ) → version_line v ++ s ≡ version_line w ++ t → (v ≡ w) × (s ≡ t)
 one_version First First s t e = (refl, ap (drop 8) e)
+one_version First Second s t e = absurd (let other : 49 ≡ 50 = ap (λ (x : List ℕ). get_or x 6 0) e in omega (arith, other))
+one_version Second First s t e = absurd (let other : 50 ≡ 49 = ap (λ (x : List ℕ). get_or x 6 0) e in omega (arith, other))
+one_version Second Second s t e = (refl, ap (drop 8) e)
 
--- ---- the entries of fitting rows
+-- ---- the runs of fitting rows
 
-entries_of : (p : Description) (c : ℕ) (rows : List (Option Row)) → c + length rows ≤ cells_of (axes_of p) → AllByRecursion (λ row. IfSome row (IsRowOf p)) rows → AllByRecursion (IsEntryOf p) (entries_from c rows)
-entries_of p c [] le h = tt
-entries_of p c (None ∷ rows) le h = entries_of p (suc c) rows (omega (arith, le)) h.1
-entries_of p c (Some row ∷ rows) le h = (record { cell = omega (arith, le); row = h.0 }, entries_of p (suc c) rows (omega (arith, le)) h.1)
+module _ (p : Description) (rows : List (Option Row)) (fit : RowsFit p rows) where
+  row_stands : (c : ℕ) (row : Row) → row_of rows c ≡ Some row → c < length rows
+  row_stands c row is = elim (cases_lt c (length rows)) [
+    | inl lt ↦ lt
+    | inr past ↦ absurd (let none = sym (get_or_past rows c None past) ∙ is in cc)
+  ]
 
-at_least : (c d : ℕ) (rows : List (Option Row)) → c ≤ d → AllByRecursion (λ e. c ≤ e.cell) (entries_from d rows)
-at_least c d [] le = tt
-at_least c d (None ∷ rows) le = at_least c (suc d) rows (omega arith)
-at_least c d (Some row ∷ rows) le = (le, at_least c (suc d) rows (omega arith))
+  run_of_row : (r : Run) → row_of rows r.last ≡ Some r.row → IsRunOf p r
+  run_of_row r is =
+      let lt = row_stands r.last r.row is in
+      record { cells = omega (arith, lt, fit.one_each); row = subst (λ (o : Option Row). IfSome o (IsRowOf p)) is (fit.each r.last None lt) }
 
-rising : (c : ℕ) (rows : List (Option Row)) → AllPairs (λ d e. d.cell < e.cell) (entries_from c rows)
-rising c [] = λ i j d lt bound. absurd (omega (arith, bound))
-rising c (None ∷ rows) = rising (suc c) rows
-rising c (Some row ∷ rows) =
-    AllPairs-cons (λ (d e : Entry). d.cell < e.cell) (record { cell = c; row = row }) (entries_from (suc c) rows)
-    (All-from_recursion (λ (e : Entry). c < e.cell) (entries_from (suc c) rows) (above c (suc c) rows (omega arith))) (rising (suc c) rows)
+  -- runs that give the rows' own
+  each_run : (v : Version) (runs : List Run) → AreRuns v runs → ((c : ℕ) (row : Row) → Gives runs c row → row_of rows c ≡ Some row) → AllByRecursion (IsRunOf p) runs
+  each_run v [] order told = tt
+  each_run v (r ∷ runs) order told =
+      (run_of_row r (told r.last r.row (inl (forward v r order.0, omega arith, refl))), each_run v runs order.2 (λ c row given. told c row (inr given)))
+
+  pub fitting_runs : (v : Version) → AreRunsOf v p (runs_from v 0 rows)
+  fitting_runs v =
+      let own = runs_tell v rows in
+      record { order = own.0; each = All-from_recursion (IsRunOf p) (runs_from v 0 rows) (each_run v (runs_from v 0 rows) own.0 (λ c row given. (own.1 c row).1 given)) }
+
+one_put : (v : Version) (c : ℕ) (row : Row) (runs : List Run) → length (put_before v c row runs) ≤ suc (length runs)
+one_put First c row runs = omega arith
+one_put Second c row [] = omega arith
+one_put Second c row (r ∷ runs) = either ((r.first == suc c) && is_same_row row r.row)
   where
-    above : (c d : ℕ) (rows : List (Option Row)) → c < d → AllByRecursion (λ e. c < e.cell) (entries_from d rows)
-    above c d [] lt = tt
-    above c d (None ∷ rows) lt = above c (suc d) rows (omega arith)
-    above c d (Some row ∷ rows) lt = (lt, above c (suc d) rows (omega arith))
+    either : (b : Bool) → length (if b then record { first = c; last = r.last; row = row } ∷ runs else record { first = c; last = c; row = row } ∷ r ∷ runs) ≤ suc (suc (length runs))
+    either true = omega arith
+    either false = omega arith
 
-pub fitting_entries : (p : Description) (rows : List (Option Row)) → RowsFit p rows → AreEntriesOf p (entries_from 0 rows)
-fitting_entries p rows fit = record {
-  rising = rising 0 rows;
-  each = All-from_recursion (IsEntryOf p) (entries_from 0 rows) (entries_of p 0 rows (omega (arith, fit.one_each)) (recursion_from_All (λ row. IfSome row (IsRowOf p)) rows fit.each));
-}
-
-pub few_entries : (c : ℕ) (rows : List (Option Row)) → length (entries_from c rows) ≤ length rows
-few_entries c [] = omega arith
-few_entries c (None ∷ rows) = omega (arith, few_entries (suc c) rows)
-few_entries c (Some row ∷ rows) = omega (arith, few_entries (suc c) rows)
+pub few_runs : (v : Version) (c : ℕ) (rows : List (Option Row)) → length (runs_from v c rows) ≤ length rows
+few_runs v c [] = omega arith
+few_runs v c (None ∷ rows) = omega (arith, few_runs v (suc c) rows)
+few_runs v c (Some row ∷ rows) = omega (arith, few_runs v (suc c) rows, one_put v c row (runs_from v (suc c) rows))
 
 -- the lines of a table are whole
 pub whole_lines : (v : Version) (p : Description) (rows : List (Option Row)) → RowsFit p rows → AreWhole v p (lines_behind v p.goal rows)
-whole_lines First p rows fit = record {
-  rows = row_lines First p.goal rows;
-  row_lines = (entries_from 0 rows, fitting_entries p rows fit, refl);
-  count_bound = omega (arith, length-map (entries_from 0 rows) (entry_line p.goal), few_entries 0 rows, fit.one_each);
+whole_lines v p rows fit = record {
+  rows = row_lines v p.goal rows;
+  row_lines = (runs_from v 0 rows, fitting_runs p rows fit v, refl);
+  count_bound = omega (arith, length-map (runs_from v 0 rows) (run_line v (words_of p.goal)), few_runs v 0 rows, fit.one_each);
   are = refl;
 }
 
@@ -84,23 +96,23 @@ same_lines (x ∷ ks) (y ∷ ls) h k e =
     let same = one_line x y (concat ks) (concat ls) h.0 k.0 e in
     ap (λ (z : List ℕ). z ∷ ks) same.line ∙ ap (λ (z : List (List ℕ)). y ∷ z) (same_lines ks ls h.1 k.1 same.rest)
 
-pub entries_are_lines : (p : Description) (es : List Entry) → IsWithinLimits p → AllByRecursion (IsEntryOf p) es → AllByRecursion IsLine (map (entry_line p.goal) es)
-entries_are_lines p [] within h = tt
-entries_are_lines p (e ∷ es) within h = (entry_is_line p.goal e (spelled_entry p e within h.0), entries_are_lines p es within h.1)
+runs_are_lines : (v : Version) (p : Description) (runs : List Run) → AllByRecursion (IsSpelled v p.goal) runs → AllByRecursion IsLine (map (run_line v (words_of p.goal)) runs)
+runs_are_lines v p [] h = tt
+runs_are_lines v p (r ∷ runs) h = (run_is_line v p.goal r h.0, runs_are_lines v p runs h.1)
 
 pub lines_then : (ks ls : List (List ℕ)) → AllByRecursion IsLine ks → AllByRecursion IsLine ls → AllByRecursion IsLine (ks ++ ls)
 lines_then [] ls h k = k
 lines_then (l ∷ ks) ls h k = (h.0, lines_then ks ls h.1 k)
 
 pub row_lines_are_lines : (v : Version) (p : Description) (lines : List (List ℕ)) → IsWithinLimits p → AreRowLines v p lines → AllByRecursion IsLine lines
-row_lines_are_lines First p lines within h = subst (AllByRecursion IsLine) (sym h.2) (entries_are_lines p h.0 within (recursion_from_All (IsEntryOf p) h.0 h.1.each))
+row_lines_are_lines v p lines within h = subst (AllByRecursion IsLine) (sym h.2) (runs_are_lines v p h.0 (spelled_runs v p h.0 within h.1))
 
 pub whole_are_lines : (v : Version) (p : Description) (lines : List (List ℕ)) → IsWithinLimits p → AreWhole v p lines → AllByRecursion IsLine lines
 whole_are_lines v p lines within w =
     let cells = within.cells in
     subst (AllByRecursion IsLine) (sym w.are) (count_is_line (length w.rows) (omega (arith, w.count_bound, cells)), lines_then w.rows (end_line ∷ []) (row_lines_are_lines v p w.rows within w.row_lines) (end_is_line, tt))
 
--- ---- rows from their entries
+-- ---- rows from their runs
 
 same_front : (xs ys : List (List ℕ)) (z : List ℕ) → xs ++ z ∷ [] ≡ ys ++ z ∷ [] → xs ≡ ys
 same_front [] [] z e = refl
@@ -113,15 +125,16 @@ same_front (x ∷ xs) (y ∷ ys) z e =
     let tail : xs ++ z ∷ [] ≡ ys ++ z ∷ [] = (let h = e in cc) in
     ap (λ (w : List ℕ). w ∷ xs) head ∙ ap (λ (w : List (List ℕ)). y ∷ w) (same_front xs ys z tail)
 
-same_entries : (p : Description) (es fs : List Entry) → IsWithinLimits p → AllByRecursion (IsEntryOf p) es → AllByRecursion (IsEntryOf p) fs → map (entry_line p.goal) es ≡ map (entry_line p.goal) fs → es ≡ fs
-same_entries p [] [] within h k e = refl
-same_entries p [] (f ∷ fs) within h k e = absurd cc
-same_entries p (d ∷ es) [] within h k e = absurd cc
-same_entries p (d ∷ es) (f ∷ fs) within h k e =
-    let head : entry_line p.goal d ≡ entry_line p.goal f = first_same (entry_line p.goal d) (entry_line p.goal f) (map (entry_line p.goal) es) (map (entry_line p.goal) fs) e in
-    let tail : map (entry_line p.goal) es ≡ map (entry_line p.goal) fs = rest_same (entry_line p.goal d) (entry_line p.goal f) (map (entry_line p.goal) es) (map (entry_line p.goal) fs) e in
-    let one : d ≡ f = entry_same p.goal d f (spelled_entry p d within h.0) (spelled_entry p f within k.0) head in
-    ap (λ (x : Entry). x ∷ es) one ∙ ap (λ (x : List Entry). f ∷ x) (same_entries p es fs within h.1 k.1 tail)
+same_runs : (v : Version) (p : Description) (rs ss : List Run) → AllByRecursion (IsSpelled v p.goal) rs → AllByRecursion (IsSpelled v p.goal) ss → map (run_line v (words_of p.goal)) rs ≡ map (run_line v (words_of p.goal)) ss → rs ≡ ss
+same_runs v p [] [] h k e = refl
+same_runs v p [] (s ∷ ss) h k e = absurd cc
+same_runs v p (r ∷ rs) [] h k e = absurd cc
+same_runs v p (r ∷ rs) (s ∷ ss) h k e =
+    let text : Run → List ℕ = run_line v (words_of p.goal) in
+    let head : text r ≡ text s = first_same (text r) (text s) (map text rs) (map text ss) e in
+    let tail : map text rs ≡ map text ss = rest_same (text r) (text s) (map text rs) (map text ss) e in
+    let one : r ≡ s = run_same v p.goal r s h.0 k.0 head in
+    ap (λ (x : Run). x ∷ rs) one ∙ ap (λ (x : List Run). s ∷ x) (same_runs v p rs ss h.1 k.1 tail)
   where
     first_same : (x y : List ℕ) (xs ys : List (List ℕ)) → x ∷ xs ≡ y ∷ ys → x ≡ y
     first_same x y xs ys e = cc
@@ -129,31 +142,11 @@ same_entries p (d ∷ es) (f ∷ fs) within h k e =
     rest_same : (x y : List ℕ) (xs ys : List (List ℕ)) → x ∷ xs ≡ y ∷ ys → xs ≡ ys
     rest_same x y xs ys e = cc
 
-not_below : (c : ℕ) (rows : List (Option Row)) (row : Row) (es : List Entry) → entries_from (suc c) rows ≡ record { cell = c; row = row } ∷ es → ⊥
-not_below c rows row es e =
-    let all = subst (AllByRecursion (λ (d : Entry). suc c ≤ d.cell)) e (at_least (suc c) (suc c) rows (omega arith)) in
-    omega (arith, all.0)
-
-first_entry : (d e : Entry) (ds es : List Entry) → d ∷ ds ≡ e ∷ es → d ≡ e
-first_entry d e ds es h = cc
-
-pub same_rows : (c : ℕ) (rows others : List (Option Row)) → length rows ≡ length others → entries_from c rows ≡ entries_from c others → rows ≡ others
-same_rows c [] [] len e = refl
-same_rows c [] (o ∷ others) len e = absurd (omega (arith, len))
-same_rows c (o ∷ rows) [] len e = absurd (omega (arith, len))
-same_rows c (None ∷ rows) (None ∷ others) len e = ap (λ (x : List (Option Row)). None ∷ x) (same_rows (suc c) rows others (omega (arith, len)) e)
-same_rows c (None ∷ rows) (Some b ∷ others) len e = absurd (not_below c rows b (entries_from (suc c) others) e)
-same_rows c (Some a ∷ rows) (None ∷ others) len e = absurd (not_below c others a (entries_from (suc c) rows) (sym e))
-same_rows c (Some a ∷ rows) (Some b ∷ others) len e =
-    let one : a ≡ b = ap (λ (x : Entry). x.row) (first_entry (record { cell = c; row = a }) (record { cell = c; row = b }) (entries_from (suc c) rows) (entries_from (suc c) others) e) in
-    let more : entries_from (suc c) rows ≡ entries_from (suc c) others = (let h = e in cc) in
-    ap (λ (x : Row). Some x ∷ rows) one ∙ ap (λ (x : List (Option Row)). Some b ∷ x) (same_rows (suc c) rows others (omega (arith, len)) more)
-
 -- the row lines of fitting rows tell them
 rows_told : (v : Version) (p : Description) (rows others : List (Option Row)) → IsWithinLimits p → RowsFit p rows → RowsFit p others → row_lines v p.goal rows ≡ row_lines v p.goal others → rows ≡ others
-rows_told First p rows others within h k e =
-    same_rows 0 rows others (h.one_each ∙ sym k.one_each)
-    (same_entries p (entries_from 0 rows) (entries_from 0 others) within (recursion_from_All (IsEntryOf p) (entries_from 0 rows) (fitting_entries p rows h).each) (recursion_from_All (IsEntryOf p) (entries_from 0 others) (fitting_entries p others k).each) e)
+rows_told v p rows others within h k e =
+    tell_apart v rows others (h.one_each ∙ sym k.one_each)
+    (same_runs v p (runs_from v 0 rows) (runs_from v 0 others) (spelled_runs v p (runs_from v 0 rows) within (fitting_runs p rows h v)) (spelled_runs v p (runs_from v 0 others) within (fitting_runs p others k v)) e)
 
 behind_told : (v : Version) (p : Description) (rows others : List (Option Row)) → IsWithinLimits p → RowsFit p rows → RowsFit p others → concat (lines_behind v p.goal rows) ≡ concat (lines_behind v p.goal others) → rows ≡ others
 behind_told v p rows others within h k e =

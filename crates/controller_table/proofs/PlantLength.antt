@@ -1,5 +1,5 @@
 -- How long the canonical text of a plant is at most.
-use Rattle.std.proofs.Common.{◌≡◌, ℕ, zero, suc, ◌+◌, ◌*◌, ◌^◌, ◌≤◌, Bool, true, false, cond, List, [], ◌∷◌, ◌++◌, length, length-append, map, take, get_or, sym, subst, arith}
+use Rattle.std.proofs.Common.{◌≡◌, ℕ, zero, suc, ◌+◌, ◌*◌, ◌≤◌, Bool, true, false, cond, List, [], ◌∷◌, ◌++◌, length, length-append, map, take, get_or, sym, subst, arith}
 use Rattle.std.specs.Prelude.{ℤ, pos, negsuc, nat_lt, codes}
 use Rattle.std.specs.List.{All, AllByRecursion, AllZip, join_with_byte, flat_map}
 use Rattle.std.specs.Fmt.{signed_decimal}
@@ -25,6 +25,20 @@ use Rattle.plant_text.specs.plant.Equations.{nodes_of, HasLiterals, IsEquation}
 use Rattle.plant_text.specs.plant.Plants.{IsPlant}
 use Rattle.plant_text.specs.writing.ExpressionText.{at_level, expression_text}
 use Rattle.plant_text.specs.writing.CanonicalText.{line, state_line, input_line, noise_line, equation_line, equation_lines, end_words, box_line, goal_word, text_of}
+
+-- ---- bounds
+
+-- bytes of an expression for each of its nodes
+abbrev pub node_bytes : ℕ
+node_bytes = 60
+
+-- of an equation's line: four words, each no longer than the expression of 256 nodes
+abbrev pub equation_bytes : ℕ
+equation_bytes = 4 * (256 * node_bytes) + 5
+
+-- of a plant's text: six equations, and all other lines
+abbrev pub plant_bytes : ℕ
+plant_bytes = 6 * equation_bytes + 150000
 
 -- ---- words and lines
 
@@ -104,7 +118,7 @@ placed own asked text k le = go (nat_lt own asked)
 joined : (a b s : List ℕ) (m n k : ℕ) → length a ≤ m → length b ≤ n → length s + m + n ≤ k → length (a ++ s ++ b) ≤ k
 joined a b s m n k ha hb le = omega (arith, ha, hb, le, length-append (a ++ s) b, length-append a s)
 
-called : (open_word a b : List ℕ) (m n : ℕ) → length open_word ≤ 4 → length a ≤ 60 * m → length b ≤ 60 * n → length (open_word ++ a ++ codes ", " ++ b ++ codes ")") ≤ 60 * suc (m + n)
+called : (open_word a b : List ℕ) (m n : ℕ) → length open_word ≤ 4 → length a ≤ node_bytes * m → length b ≤ node_bytes * n → length (open_word ++ a ++ codes ", " ++ b ++ codes ")") ≤ node_bytes * suc (m + n)
 called open_word a b m n few ha hb =
     omega (arith, few, ha, hb, length-append (open_word ++ a ++ codes ", " ++ b) (codes ")"), length-append (open_word ++ a ++ codes ", ") b, length-append (open_word ++ a) (codes ", "), length-append open_word a)
 
@@ -114,26 +128,26 @@ name_at (name ∷ names) zero h = h.0
 name_at (name ∷ names) (suc i) h = name_at names i h.1
 
 module _ (names : List (List ℕ)) (short : AllByRecursion (IsShort 32) names) (m : ℕ) where
-  expression_length : (asked : ℕ) (e : Expression) → HasLiterals m e → length (expression_text names asked e) ≤ 60 * nodes_of e
+  expression_length : (asked : ℕ) (e : Expression) → HasLiterals m e → length (expression_text names asked e) ≤ node_bytes * nodes_of e
   expression_length asked (Number k) h = let n = number_length k h.1 in omega (arith, n)
   expression_length asked (Variable i) h = let n = name_at names i short in omega (arith, n)
   expression_length asked (Negation a) h = let x = expression_length 3 a h in omega (arith, x)
   expression_length asked (Sum a b) h =
       let x = expression_length 1 a h.0 in
       let y = expression_length 2 b h.1 in
-      placed 1 asked (expression_text names 1 a ++ codes " + " ++ expression_text names 2 b) (60 * suc (nodes_of a + nodes_of b)) (let t = joined (expression_text names 1 a) (expression_text names 2 b) (codes " + ") (60 * nodes_of a) (60 * nodes_of b) (3 + 60 * nodes_of a + 60 * nodes_of b) x y (omega arith) in omega (arith, t))
+      placed 1 asked (expression_text names 1 a ++ codes " + " ++ expression_text names 2 b) (node_bytes * suc (nodes_of a + nodes_of b)) (let t = joined (expression_text names 1 a) (expression_text names 2 b) (codes " + ") (node_bytes * nodes_of a) (node_bytes * nodes_of b) (3 + node_bytes * nodes_of a + node_bytes * nodes_of b) x y (omega arith) in omega (arith, t))
   expression_length asked (Difference a b) h =
       let x = expression_length 1 a h.0 in
       let y = expression_length 2 b h.1 in
-      placed 1 asked (expression_text names 1 a ++ codes " - " ++ expression_text names 2 b) (60 * suc (nodes_of a + nodes_of b)) (let t = joined (expression_text names 1 a) (expression_text names 2 b) (codes " - ") (60 * nodes_of a) (60 * nodes_of b) (3 + 60 * nodes_of a + 60 * nodes_of b) x y (omega arith) in omega (arith, t))
+      placed 1 asked (expression_text names 1 a ++ codes " - " ++ expression_text names 2 b) (node_bytes * suc (nodes_of a + nodes_of b)) (let t = joined (expression_text names 1 a) (expression_text names 2 b) (codes " - ") (node_bytes * nodes_of a) (node_bytes * nodes_of b) (3 + node_bytes * nodes_of a + node_bytes * nodes_of b) x y (omega arith) in omega (arith, t))
   expression_length asked (Product a b) h =
       let x = expression_length 2 a h.0 in
       let y = expression_length 3 b h.1 in
-      placed 2 asked (expression_text names 2 a ++ codes " * " ++ expression_text names 3 b) (60 * suc (nodes_of a + nodes_of b)) (let t = joined (expression_text names 2 a) (expression_text names 3 b) (codes " * ") (60 * nodes_of a) (60 * nodes_of b) (3 + 60 * nodes_of a + 60 * nodes_of b) x y (omega arith) in omega (arith, t))
+      placed 2 asked (expression_text names 2 a ++ codes " * " ++ expression_text names 3 b) (node_bytes * suc (nodes_of a + nodes_of b)) (let t = joined (expression_text names 2 a) (expression_text names 3 b) (codes " * ") (node_bytes * nodes_of a) (node_bytes * nodes_of b) (3 + node_bytes * nodes_of a + node_bytes * nodes_of b) x y (omega arith) in omega (arith, t))
   expression_length asked (Quotient a k) h =
       let x = expression_length 2 a h.0 in
       let y = number_length k h.2 in
-      placed 2 asked (expression_text names 2 a ++ codes " / " ++ signed_decimal k) (60 * suc (nodes_of a)) (let t = joined (expression_text names 2 a) (signed_decimal k) (codes " / ") (60 * nodes_of a) 32 (35 + 60 * nodes_of a) x y (omega arith) in omega (arith, t))
+      placed 2 asked (expression_text names 2 a ++ codes " / " ++ signed_decimal k) (node_bytes * suc (nodes_of a)) (let t = joined (expression_text names 2 a) (signed_decimal k) (codes " / ") (node_bytes * nodes_of a) 32 (35 + node_bytes * nodes_of a) x y (omega arith) in omega (arith, t))
   expression_length asked (Minimum a b) h =
       let x = expression_length 1 a h.0 in
       let y = expression_length 1 b h.1 in
@@ -144,13 +158,13 @@ module _ (names : List (List ℕ)) (short : AllByRecursion (IsShort 32) names) (
       called (codes "max(") (expression_text names 1 a) (expression_text names 1 b) (nodes_of a) (nodes_of b) (omega arith) x y
   expression_length asked (Absolute a) h = let x = expression_length 1 a h in omega (arith, x, length-append (codes "abs(" ++ expression_text names 1 a) (codes ")"))
 
-  equation_length : (name : List ℕ) (e : Expression) → length name ≤ 32 → IsEquation m e → length (equation_line names name e) ≤ 61500
+  equation_length : (name : List ℕ) (e : Expression) → length name ≤ 32 → IsEquation m e → length (equation_line names name e) ≤ equation_bytes
   equation_length name e short h =
       let x = expression_length 1 e h.literals in
-      let l = line_length 15360 (codes "next" ∷ name ∷ codes "=" ∷ expression_text names 1 e ∷ []) (omega arith, (omega (arith, short), (omega arith, (omega (arith, x, h.nodes), tt)))) in
+      let l = line_length (256 * node_bytes) (codes "next" ∷ name ∷ codes "=" ∷ expression_text names 1 e ∷ []) (omega arith, (omega (arith, short), (omega arith, (omega (arith, x, h.nodes), tt)))) in
       omega (arith, l)
 
-  equations_length : (states : List StateVariable) (equations : List Expression) → AllByRecursion IsStateVariable states → AllByRecursion (IsEquation m) equations → length (equation_lines names states equations) ≤ length states * 61500
+  equations_length : (states : List StateVariable) (equations : List Expression) → AllByRecursion IsStateVariable states → AllByRecursion (IsEquation m) equations → length (equation_lines names states equations) ≤ length states * equation_bytes
   equations_length [] equations h k = omega arith
   equations_length (s ∷ states) [] h k = omega arith
   equations_length (s ∷ states) (e ∷ equations) h k =
@@ -193,7 +207,7 @@ goal_length Keep = omega arith
 nine : (a b c d e f g h i : List ℕ) → length (a ++ b ++ c ++ d ++ e ++ f ++ g ++ h ++ i) ≡ length a + length b + length c + length d + length e + length f + length g + length h + length i
 nine a b c d e f g h i = simp length-append
 
-pub plant_length : (p : Description) → IsPlant p → length (text_of p) ≤ 2 ^ 19
+pub plant_length : (p : Description) → IsPlant p → length (text_of p) ≤ plant_bytes
 plant_length p h =
     let states = lines_length state_line IsStateVariable 200 p.states h.states state_length in
     let inputs = lines_length input_line IsInputVariable 2300 p.inputs h.inputs input_length in

@@ -15,57 +15,72 @@ use Rattle.plant_text.specs.writing.CanonicalText.{text_of}
 use Rattle.plant_text.specs.reading.CanonicalFronts.{IsFront, IsFrontRefusedFor}
 use Rattle.controller_table.specs.declared.fault.TableFault.{TableFault}
 use Rattle.controller_table.specs.declared.fault.TableFault.TheVariants as faults
-use Rattle.controller_table.specs.TableText.{Version, First, version_line, lines_behind, end_line}
-use Rattle.controller_table.specs.Tables.{RowsFit, IsTable}
+use Rattle.row_runs.specs.declared.run.Version.{Version}
+use Rattle.row_runs.specs.declared.run.Version.TheVariants.{First, Second}
+use Rattle.controller_table.specs.TableText.{version_line, lines_behind, end_line}
+use Rattle.controller_table.specs.Tables.{RowsFit, IsTableIn}
 use Rattle.controller_table.specs.RowLines.{MayStand, IsFirstRefusedBehind}
 use Rattle.controller_table.specs.Refusals.{IsShortTable, line_count, HasNoVersion, IsTableRefusedFor, ExceedsTableLimit}
+use Rattle.controller_table.specs.inside.Reading.{IsVersionAt}
 use Rattle.controller_table.specs.inside.ReadPlant.{IsPlantRefused}
 
-pub no_version : (bytes : List ℕ) → ((rest : List ℕ) → bytes ≡ codes "table 1\n" ++ rest → ⊥) → HasNoVersion bytes
-no_version bytes none First rest e = none rest e
+pub no_version : (bytes : List ℕ) → ((y : Version × List ℕ) → IsVersionAt bytes y → ⊥) → HasNoVersion bytes
+no_version bytes none v rest e = none (v, rest) e
+
+pub neither_version : (bytes : List ℕ) → ((rest : List ℕ) → bytes ≡ codes "table 1\n" ++ rest → ⊥) → ((rest : List ℕ) → bytes ≡ codes "table 2\n" ++ rest → ⊥) → (y : Version × List ℕ) → IsVersionAt bytes y → ⊥
+neither_version bytes none other (First, rest) e = none rest e
+neither_version bytes none other (Second, rest) e = other rest e
+
+-- each version's line has eight bytes
+front_taken : (v : Version) (rest : List ℕ) (count : ℕ) → take (8 + count) (version_line v ++ rest) ≡ version_line v ++ take count rest
+front_taken First rest count = take-append-add (version_line First) rest count
+front_taken Second rest count = take-append-add (version_line Second) rest count
 
 -- ---- the plant
 
-limit_of : (bytes rest : List ℕ) (what : LimitKind) → IsShortTable bytes → bytes ≡ version_line First ++ rest → IsFrontRefusedFor rest (front.Limit what) → ExceedsTableLimit bytes what
-limit_of bytes rest PlantText short are h = h.3
-limit_of bytes rest TableText short are h = absurd h.3
-limit_of bytes rest Vectors short are h = (short, record { version = First; rest = rest; are = are; refused = h })
-limit_of bytes rest Cells short are h = (short, record { version = First; rest = rest; are = are; refused = h })
-limit_of bytes rest Pairs short are h = (short, record { version = First; rest = rest; are = are; refused = h })
-limit_of bytes rest Edges short are h = h.3
+limit_of : (v : Version) (bytes rest : List ℕ) (what : LimitKind) → IsShortTable bytes → bytes ≡ version_line v ++ rest → IsFrontRefusedFor rest (front.Limit what) → ExceedsTableLimit bytes what
+limit_of v bytes rest PlantText short are h = h.3
+limit_of v bytes rest TableText short are h = absurd h.3
+limit_of v bytes rest Vectors short are h = (short, record { version = v; rest = rest; are = are; refused = h })
+limit_of v bytes rest Cells short are h = (short, record { version = v; rest = rest; are = are; refused = h })
+limit_of v bytes rest Pairs short are h = (short, record { version = v; rest = rest; are = are; refused = h })
+limit_of v bytes rest Edges short are h = h.3
 
-pub plant_refused : (bytes rest : List ℕ) (fault : TableFault) → IsShortTable bytes → bytes ≡ version_line First ++ rest → IsPlantRefused rest fault → (fault ≡ faults.Memory → ⊥) → IsTableRefusedFor bytes fault
-plant_refused bytes rest (faults.Malformed n) short are h other = (short, inr (inl (h.0, h.1, record { version = First; rest = rest; are = are; refused = h.2 })))
-plant_refused bytes rest (faults.Limit what) short are h other = limit_of bytes rest what short are h
-plant_refused bytes rest faults.Memory short are h other = absurd (other refl)
+pub plant_refused : (v : Version) (bytes rest : List ℕ) (fault : TableFault) → IsShortTable bytes → bytes ≡ version_line v ++ rest → IsPlantRefused rest fault → (fault ≡ faults.Memory → ⊥) → IsTableRefusedFor bytes fault
+plant_refused v bytes rest (faults.Malformed n) short are h other = (short, inr (inl (h.0, h.1, record { version = v; rest = rest; are = are; refused = h.2 })))
+plant_refused v bytes rest (faults.Limit what) short are h other = limit_of v bytes rest what short are h
+plant_refused v bytes rest faults.Memory short are h other = absurd (other refl)
 
 -- ---- the rows
 
-behind_plant : (bytes rest : List ℕ) (p : Description) (count : ℕ) → bytes ≡ version_line First ++ rest → IsFront rest p count → bytes ≡ version_line First ++ text_of p ++ drop count rest
-behind_plant bytes rest p count are f =
+behind_plant : (v : Version) (bytes rest : List ℕ) (p : Description) (count : ℕ) → bytes ≡ version_line v ++ rest → IsFront rest p count → bytes ≡ version_line v ++ text_of p ++ drop count rest
+behind_plant v bytes rest p count are f =
     are
-    ∙ ap (λ (x : List ℕ). version_line First ++ x) (sym (take-append-drop count rest) ∙ ap (λ (x : List ℕ). x ++ drop count rest) f.text)
-    ∙ sym (append_assoc (version_line First) (text_of p) (drop count rest))
+    ∙ ap (λ (x : List ℕ). version_line v ++ x) (sym (take-append-drop count rest) ∙ ap (λ (x : List ℕ). x ++ drop count rest) f.text)
+    ∙ sym (append_assoc (version_line v) (text_of p) (drop count rest))
 
-pub table_read : (bytes rest behind : List ℕ) (p : Description) (count : ℕ) (rows : List (Option Row)) → bytes ≡ version_line First ++ rest → IsFront rest p count → IsWithinLimits p → behind ≡ drop count rest → RowsFit p rows → behind ≡ concat (lines_behind First p.goal rows) → IsTable bytes p rows
-table_read bytes rest behind p count rows are f within from fit text = record {
-  limits = within;
-  fitting = fit;
-  version = First;
-  text = behind_plant bytes rest p count are f ∙ ap (λ (x : List ℕ). version_line First ++ text_of p ++ x) (sym from ∙ text);
-}
+pub table_read : (v : Version) (bytes rest behind : List ℕ) (p : Description) (count : ℕ) (rows : List (Option Row)) → bytes ≡ version_line v ++ rest → IsFront rest p count → IsWithinLimits p → behind ≡ drop count rest → RowsFit p rows → behind ≡ concat (lines_behind v p.goal rows) → IsTableIn v bytes p rows
+table_read v bytes rest behind p count rows are f within from fit text = (
+  record {
+    limits = within;
+    fitting = fit;
+    version = v;
+    text = behind_plant v bytes rest p count are f ∙ ap (λ (x : List ℕ). version_line v ++ text_of p ++ x) (sym from ∙ text);
+  },
+  refl,
+)
 
-pub rows_refused : (bytes rest behind : List ℕ) (p : Description) (count lines line : ℕ) → IsShortTable bytes → bytes ≡ version_line First ++ rest → IsFront rest p count → IsWithinLimits p → behind ≡ drop count rest → IsFirstRefusedBehind First p behind line → lines ≡ line_count (take (8 + count) bytes) → IsTableRefusedFor bytes (faults.Malformed (lines + line))
-rows_refused bytes rest behind p count lines line short are f within from refused counted =
-    let front_is : take (8 + count) bytes ≡ version_line First ++ text_of p =
-    ap (take (8 + count)) are ∙ take-append-add (version_line First) rest count ∙ ap (λ (x : List ℕ). version_line First ++ x) f.text in (
+pub rows_refused : (v : Version) (bytes rest behind : List ℕ) (p : Description) (count lines line : ℕ) → IsShortTable bytes → bytes ≡ version_line v ++ rest → IsFront rest p count → IsWithinLimits p → behind ≡ drop count rest → IsFirstRefusedBehind v p behind line → lines ≡ line_count (take (8 + count) bytes) → IsTableRefusedFor bytes (faults.Malformed (lines + line))
+rows_refused v bytes rest behind p count lines line short are f within from refused counted =
+    let front_is : take (8 + count) bytes ≡ version_line v ++ text_of p =
+    ap (take (8 + count)) are ∙ front_taken v rest count ∙ ap (λ (x : List ℕ). version_line v ++ x) f.text in (
       short,
       inr (inr (record {
-        version = First;
+        version = v;
         plant = p;
         limits = within;
         rest = behind;
-        are = behind_plant bytes rest p count are f ∙ ap (λ (x : List ℕ). version_line First ++ text_of p ++ x) (sym from);
+        are = behind_plant v bytes rest p count are f ∙ ap (λ (x : List ℕ). version_line v ++ text_of p ++ x) (sym from);
         line = line;
         refused = refused;
         number = ap (λ (n : ℕ). n + line) (counted ∙ ap line_count front_is);

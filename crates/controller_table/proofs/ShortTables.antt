@@ -12,14 +12,18 @@ use Rattle.plant_text.specs.declared.plant.aims.GoalKind.TheVariants.{Reach, Kee
 use Rattle.plant_text.specs.plant.Description.{Description, axes_of}
 use Rattle.plant_text.specs.plant.Limits.{IsWithinLimits}
 use Rattle.plant_text.specs.writing.CanonicalText.{text_of}
-use Rattle.controller_table.specs.declared.entry.Entry.{Entry}
-use Rattle.controller_table.specs.TableText.{Version, First, entries_from, entry_line, rank_word, input_word, count_line, end_line, version_line, lines_behind}
+use Rattle.row_runs.specs.declared.run.Run.{Run}
+use Rattle.row_runs.specs.declared.run.Version.{Version}
+use Rattle.row_runs.specs.declared.run.Version.TheVariants.{First, Second}
+use Rattle.row_runs.specs.Runs.{HasCells, AreRuns, runs_from}
+use Rattle.row_runs.specs.RunText.{run_line, rank_word, input_word}
+use Rattle.controller_table.specs.TableText.{words_of, count_line, end_line, version_line, lines_behind}
 use Rattle.controller_table.specs.Tables.{HasFittingRank, RowsFit}
-use Rattle.controller_table.specs.RowLines.{IsEntryOf}
+use Rattle.controller_table.specs.RowLines.{IsRunOf}
 use Rattle.controller_table.specs.Laws.{TablesAreShort}
-use Rattle.controller_table.proofs.OneTable.{fitting_entries, few_entries}
+use Rattle.controller_table.proofs.OneTable.{fitting_runs, few_runs}
 use Rattle.controller_table.proofs.PlantLength.{plant_length}
-use Rattle.controller_table.proofs.Text.{behind_text, rows_text}
+use Rattle.controller_table.proofs.Text.{behind_text, runs_text}
 
 seven : (n : ℕ) → n ≤ 2 ^ 20 → length (decimal n) ≤ 7
 seven n le = length-decimal-le 7 n (omega arith) (omega (arith, le)) (omega (arith, le))
@@ -27,11 +31,11 @@ seven n le = length-decimal-le 7 n (omega arith) (omega (arith, le)) (omega (ari
 four : (n : ℕ) → n < 4096 → length (decimal n) ≤ 4
 four n lt = length-decimal-le 4 n (omega arith) (omega (arith, lt)) (omega (arith, lt))
 
-rank_length : (goal : GoalKind) (cells : ℕ) (row : Row) → cells ≤ 2 ^ 20 → HasFittingRank goal cells row → length (rank_word goal row) ≤ 7
+rank_length : (goal : GoalKind) (cells : ℕ) (row : Row) → cells ≤ 2 ^ 20 → HasFittingRank goal cells row → length (rank_word (words_of goal) row) ≤ 7
 rank_length Reach cells row le h = seven row.rank (omega (arith, h.0, le))
 rank_length Keep cells row le h = omega arith
 
-input_length : (goal : GoalKind) (row : Row) → row.input < 4096 → length (input_word goal row) ≤ 4
+input_length : (goal : GoalKind) (row : Row) → row.input < 4096 → length (input_word (words_of goal) row) ≤ 4
 input_length Reach row lt = chosen (eqb row.rank 0) (four row.input lt)
   where
     chosen : (b : Bool) → length (decimal row.input) ≤ 4 → length (cond b (codes "-") (decimal row.input)) ≤ 4
@@ -43,27 +47,46 @@ words_length : (a b i : List ℕ) → length a ≤ 7 → length b ≤ 7 → leng
 words_length a b i ha hb hi =
     omega (arith, ha, hb, hi, length-append (a ++ (32 ∷ (b ++ (32 ∷ i)))) (10 ∷ []), length-append a (32 ∷ (b ++ (32 ∷ i))), length-append b (32 ∷ i))
 
-entry_length : (p : Description) (e : Entry) → IsWithinLimits p → IsEntryOf p e → length (entry_line p.goal e) ≤ 21
-entry_length p e within h =
+longer_length : (a l b i : List ℕ) → length a ≤ 7 → length l ≤ 7 → length b ≤ 7 → length i ≤ 4 → length ((a ++ (32 ∷ (l ++ (32 ∷ (b ++ (32 ∷ i)))))) ++ (10 ∷ [])) ≤ 29
+longer_length a l b i ha hl hb hi =
+    let inner = words_length l b i hl hb hi in
+    omega (
+      arith,
+      ha,
+      inner,
+      length-append (l ++ (32 ∷ (b ++ (32 ∷ i)))) (10 ∷ []),
+      length-append (a ++ (32 ∷ (l ++ (32 ∷ (b ++ (32 ∷ i)))))) (10 ∷ []),
+      length-append a (32 ∷ (l ++ (32 ∷ (b ++ (32 ∷ i))))),
+    )
+
+-- a run's line has at most four numbers of 7, 7, 7 and 4 digits, and a byte behind each
+run_length : (v : Version) (p : Description) (r : Run) → IsWithinLimits p → HasCells v r → IsRunOf p r → length (run_line v (words_of p.goal) r) ≤ 29
+run_length First p r within some h =
     let cells = within.cells in
     let vectors = within.vectors in
-    words_length (decimal e.cell) (rank_word p.goal e.row) (input_word p.goal e.row)
-    (seven e.cell (omega (arith, h.cell, cells))) (rank_length p.goal (cells_of (axes_of p)) e.row cells h.row.rank) (input_length p.goal e.row (omega (arith, h.row.input, vectors)))
+    let short = words_length (decimal r.first) (rank_word (words_of p.goal) r.row) (input_word (words_of p.goal) r.row)
+    (seven r.first (omega (arith, some, h.cells, cells))) (rank_length p.goal (cells_of (axes_of p)) r.row cells h.row.rank) (input_length p.goal r.row (omega (arith, h.row.input, vectors))) in
+    omega (arith, short)
+run_length Second p r within some h =
+    let cells = within.cells in
+    let vectors = within.vectors in
+    longer_length (decimal r.first) (decimal r.last) (rank_word (words_of p.goal) r.row) (input_word (words_of p.goal) r.row)
+    (seven r.first (omega (arith, some, h.cells, cells))) (seven r.last (omega (arith, h.cells, cells))) (rank_length p.goal (cells_of (axes_of p)) r.row cells h.row.rank) (input_length p.goal r.row (omega (arith, h.row.input, vectors)))
 
-entries_length : (p : Description) (es : List Entry) → IsWithinLimits p → AllByRecursion (IsEntryOf p) es → length (concat (map (entry_line p.goal) es)) ≤ length es * 21
-entries_length p [] within h = omega arith
-entries_length p (e ∷ es) within h =
-    let one = entry_length p e within h.0 in
-    let more = entries_length p es within h.1 in
-    omega (arith, one, more, length-append (entry_line p.goal e) (concat (map (entry_line p.goal) es)))
+runs_length : (v : Version) (p : Description) (runs : List Run) → IsWithinLimits p → AreRuns v runs → AllByRecursion (IsRunOf p) runs → length (concat (map (run_line v (words_of p.goal)) runs)) ≤ length runs * 29
+runs_length v p [] within order h = omega arith
+runs_length v p (r ∷ runs) within order h =
+    let one = run_length v p r within order.0 h.0 in
+    let more = runs_length v p runs within order.2 h.1 in
+    omega (arith, one, more, length-append (run_line v (words_of p.goal) r) (concat (map (run_line v (words_of p.goal)) runs)))
 
 behind_length : (v : Version) (p : Description) (rows : List (Option Row)) → IsWithinLimits p → RowsFit p rows → length (concat (lines_behind v p.goal rows)) ≤ 2 ^ 25
-behind_length First p rows within fit =
+behind_length v p rows within fit =
     let cells = within.cells in
-    let entries : List Entry = entries_from 0 rows in
-    let few = few_entries 0 rows in
-    let number = seven (length (entries_from 0 rows)) (omega (arith, few, fit.one_each, cells)) in
-    let rows_length = entries_length p (entries_from 0 rows) within (recursion_from_All (IsEntryOf p) (entries_from 0 rows) (fitting_entries p rows fit).each) in
+    let few = few_runs v 0 rows in
+    let number = seven (length (runs_from v 0 rows)) (omega (arith, few, fit.one_each, cells)) in
+    let are = fitting_runs p rows fit v in
+    let rows_length = runs_length v p (runs_from v 0 rows) within are.order (recursion_from_All (IsRunOf p) (runs_from v 0 rows) are.each) in
     omega (
       arith,
       few,
@@ -71,14 +94,15 @@ behind_length First p rows within fit =
       rows_length,
       fit.one_each,
       cells,
-      ap length (behind_text p.goal rows),
-      length-append (count_line (length (entries_from 0 rows))) (rows_text p.goal rows),
-      length-append (codes "rows " ++ decimal (length (entries_from 0 rows))) (codes "\n"),
-      length-append (concat (map (entry_line p.goal) (entries_from 0 rows))) end_line,
+      ap length (behind_text v p.goal rows),
+      length-append (count_line (length (runs_from v 0 rows))) (runs_text v p.goal rows ++ end_line),
+      length-append (codes "rows " ++ decimal (length (runs_from v 0 rows))) (codes "\n"),
+      length-append (runs_text v p.goal rows) end_line,
     )
 
 first_length : (v : Version) → length (version_line v) ≤ 8
 first_length First = omega arith
+first_length Second = omega arith
 
 pub tables_are_short : TablesAreShort
 tables_are_short bytes p rows t =

@@ -2,15 +2,17 @@
 use Rattle.std.proofs.Common.{inl, inr, ◌≡◌, ◌⊎◌, ℕ, ◌^◌, ◌<◌, ◌≤◌, List, [], ◌∷◌, ◌++◌, length, length-append, map, refl, sym, ap, subst, ◌∙◌, arith}
 use Rattle.std.specs.List.{AllByRecursion}
 use Rattle.std.proofs.lemmas.List.{length-map}
-use Rattle.std.proofs.lemmas.List.Elements.{recursion_from_All}
 use Rattle.grid_quantiser.specs.Axes.{cells_of}
 use Rattle.plant_text.specs.plant.Description.{Description, axes_of}
 use Rattle.plant_text.specs.plant.Limits.{IsWithinLimits}
-use Rattle.controller_table.specs.declared.entry.Entry.{Entry}
-use Rattle.controller_table.specs.TableText.{Version, First, entry_line, count_line, end_line}
-use Rattle.controller_table.specs.RowLines.{IsEntryOf, AreEntriesOf, AreRowLines, AreBegun, AreWhole, MayStand}
-use Rattle.controller_table.proofs.EntryLines.{count_same, entry_same}
-use Rattle.controller_table.proofs.Fitting.{spelled_entry}
+use Rattle.row_runs.specs.declared.run.Run.{Run}
+use Rattle.row_runs.specs.declared.run.Version.{Version}
+use Rattle.row_runs.specs.RunText.{run_line}
+use Rattle.controller_table.specs.TableText.{words_of, count_line, end_line}
+use Rattle.controller_table.specs.RowLines.{AreRunsOf, AreRowLines, AreBegun, AreWhole, MayStand}
+use Rattle.controller_table.specs.inside.Reading.{IsSpelled}
+use Rattle.controller_table.proofs.RunWords.{count_same, run_same}
+use Rattle.controller_table.proofs.Fitting.{spelled_runs}
 
 -- ---- the parts of lines
 
@@ -69,35 +71,39 @@ module _ (p : Description) (within : IsWithinLimits p) where
 
   -- ---- one line more
 
-  -- An entry more, and its line.
-  pub record IsEntryMore (es : List Entry) (line : List ℕ) (all : List Entry) : Type 0 where
-    pub entry : Entry
-    pub entries : all ≡ es ++ entry ∷ []
-    pub line_is : line ≡ entry_line p.goal entry
+  -- A run more, and its line.
+  pub record IsRunMore (v : Version) (rs : List Run) (line : List ℕ) (all : List Run) : Type 0 where
+    pub run : Run
+    pub runs : all ≡ rs ++ run ∷ []
+    pub line_is : line ≡ run_line v (words_of p.goal) run
 
-  one_more : (es all : List Entry) (line : List ℕ) → AllByRecursion (IsEntryOf p) es → AllByRecursion (IsEntryOf p) all → map (entry_line p.goal) es ++ line ∷ [] ≡ map (entry_line p.goal) all → IsEntryMore es line all
-  one_more [] [] line h k e = absurd cc
-  one_more [] (e ∷ []) line h k same = record { entry = e; entries = refl; line_is = same_head line (entry_line p.goal e) [] [] same }
-  one_more [] (e ∷ f ∷ all) line h k same = absurd (let s = same_tail line (entry_line p.goal e) [] (entry_line p.goal f ∷ map (entry_line p.goal) all) same in cc)
-  one_more (d ∷ es) [] line h k same = absurd cc
-  one_more (d ∷ es) (e ∷ all) line h k same =
-      let head = same_head (entry_line p.goal d) (entry_line p.goal e) (map (entry_line p.goal) es ++ line ∷ []) (map (entry_line p.goal) all) same in
-      let first : d ≡ e = entry_same p.goal d e (spelled_entry p d within h.0) (spelled_entry p e within k.0) head in
-      let more = one_more es all line h.1 k.1 (same_tail (entry_line p.goal d) (entry_line p.goal e) (map (entry_line p.goal) es ++ line ∷ []) (map (entry_line p.goal) all) same) in
-      record { entry = more.entry; entries = ap (λ (x : Entry). x ∷ all) (sym first) ∙ ap (λ (x : List Entry). d ∷ x) more.entries; line_is = more.line_is }
+  module _ (v : Version) where
+    abbrev text : Run → List ℕ
+    text r = run_line v (words_of p.goal) r
 
-  -- what may come behind some rows, too few, is the line of a further row
-  pub row_next : (n : ℕ) (es : List Entry) (line : List ℕ) → n ≤ cells_of (axes_of p) → AreEntriesOf p es → length es < n → MayStand First p (count_line n ∷ (map (entry_line p.goal) es ++ line ∷ [])) → (e : Entry) × AreEntriesOf p (es ++ e ∷ []) × (line ≡ entry_line p.goal e)
-  row_next n es line le are lt may = elim (stands First n (map (entry_line p.goal) es ++ line ∷ []) le may) [
-    | inl begun ↦
-        let all = begun.row_lines.0 in
-        let more = one_more es all line (recursion_from_All (IsEntryOf p) es are.each) (recursion_from_All (IsEntryOf p) all begun.row_lines.1.each) begun.row_lines.2 in
-        (more.entry, subst (AreEntriesOf p) more.entries begun.row_lines.1, more.line_is)
-    | inr whole ↦ absurd (
-        let first = length-append (map (entry_line p.goal) es) (line ∷ []) in
-        let second = length-append whole.rows (end_line ∷ []) in
-        omega (arith, first, second, length-map es (entry_line p.goal), ap length whole.are, whole.counted, lt))
-  ]
+    one_more : (rs all : List Run) (line : List ℕ) → AllByRecursion (IsSpelled v p.goal) rs → AllByRecursion (IsSpelled v p.goal) all → map text rs ++ line ∷ [] ≡ map text all → IsRunMore v rs line all
+    one_more [] [] line h k e = absurd cc
+    one_more [] (r ∷ []) line h k same = record { run = r; runs = refl; line_is = same_head line (text r) [] [] same }
+    one_more [] (r ∷ s ∷ all) line h k same = absurd (let more = same_tail line (text r) [] (text s ∷ map text all) same in cc)
+    one_more (q ∷ rs) [] line h k same = absurd cc
+    one_more (q ∷ rs) (r ∷ all) line h k same =
+        let head = same_head (text q) (text r) (map text rs ++ line ∷ []) (map text all) same in
+        let first : q ≡ r = run_same v p.goal q r h.0 k.0 head in
+        let more = one_more rs all line h.1 k.1 (same_tail (text q) (text r) (map text rs ++ line ∷ []) (map text all) same) in
+        record { run = more.run; runs = ap (λ (x : Run). x ∷ all) (sym first) ∙ ap (λ (x : List Run). q ∷ x) more.runs; line_is = more.line_is }
+
+    -- what may come behind some rows, too few, is the line of a further run
+    pub row_next : (n : ℕ) (rs : List Run) (line : List ℕ) → n ≤ cells_of (axes_of p) → AreRunsOf v p rs → length rs < n → MayStand v p (count_line n ∷ (map text rs ++ line ∷ [])) → (r : Run) × AreRunsOf v p (rs ++ r ∷ []) × (line ≡ text r)
+    row_next n rs line le are lt may = elim (stands v n (map text rs ++ line ∷ []) le may) [
+      | inl begun ↦
+          let all = begun.row_lines.0 in
+          let more = one_more rs all line (spelled_runs v p rs within are) (spelled_runs v p all within begun.row_lines.1) begun.row_lines.2 in
+          (more.run, subst (AreRunsOf v p) more.runs begun.row_lines.1, more.line_is)
+      | inr whole ↦ absurd (
+          let first = length-append (map text rs) (line ∷ []) in
+          let second = length-append whole.rows (end_line ∷ []) in
+          omega (arith, first, second, length-map rs text, ap length whole.are, whole.counted, lt))
+    ]
 
   -- what may come behind all rows is the end
   pub end_next : (v : Version) (n : ℕ) (rows : List (List ℕ)) (line : List ℕ) → n ≤ cells_of (axes_of p) → length rows ≡ n → MayStand v p (count_line n ∷ (rows ++ line ∷ [])) → line ≡ end_line

@@ -4,25 +4,28 @@ use Rattle.std.specs.List.{concat}
 use Rattle.std.proofs.lemmas.List.{length-map}
 use Rattle.std.proofs.lemmas.List.Folds.{concat-append}
 use Rattle.game_core.specs.declared.game.Row.{Row}
+use Rattle.row_runs.specs.declared.run.Version.{Version}
+use Rattle.row_runs.specs.Runs.{runs_from}
+use Rattle.row_runs.specs.RunText.{run_line}
 use Rattle.plant_text.specs.declared.plant.aims.GoalKind.{GoalKind}
 use Rattle.plant_text.specs.plant.Description.{Description}
 use Rattle.plant_text.specs.writing.CanonicalText.{text_of}
-use Rattle.controller_table.specs.TableText.{First, entries_from, entry_line, count_line, end_line, version_line, lines_behind, table_text}
+use Rattle.controller_table.specs.TableText.{written, words_of, count_line, end_line, version_line, lines_behind, table_text}
 
--- the lines of the rows, and the last line
-abbrev pub rows_text : GoalKind → List (Option Row) → List ℕ
-rows_text goal rows = concat (map (entry_line goal) (entries_from 0 rows)) ++ end_line
+-- the lines of the rows
+abbrev pub runs_text : Version → GoalKind → List (Option Row) → List ℕ
+runs_text v goal rows = concat (map (run_line v (words_of goal)) (runs_from v 0 rows))
 
-pub behind_text : (goal : GoalKind) (rows : List (Option Row)) → concat (lines_behind First goal rows) ≡ count_line (length (entries_from 0 rows)) ++ rows_text goal rows
-behind_text goal rows =
-    let lines : List (List ℕ) = map (entry_line goal) (entries_from 0 rows) in
-    ap (λ (n : ℕ). count_line n ++ concat (lines ++ end_line ∷ [])) (length-map (entries_from 0 rows) (entry_line goal))
-    ∙ ap (λ (x : List ℕ). count_line (length (entries_from 0 rows)) ++ x) (concat-append lines (end_line ∷ []) ∙ ap (λ (x : List ℕ). concat lines ++ x) (append-nil end_line))
+pub behind_text : (v : Version) (goal : GoalKind) (rows : List (Option Row)) → concat (lines_behind v goal rows) ≡ count_line (length (runs_from v 0 rows)) ++ (runs_text v goal rows ++ end_line)
+behind_text v goal rows =
+    let lines : List (List ℕ) = map (run_line v (words_of goal)) (runs_from v 0 rows) in
+    ap (λ (n : ℕ). count_line n ++ concat (lines ++ end_line ∷ [])) (length-map (runs_from v 0 rows) (run_line v (words_of goal)))
+    ∙ ap (λ (x : List ℕ). count_line (length (runs_from v 0 rows)) ++ x) (concat-append lines (end_line ∷ []) ∙ ap (λ (x : List ℕ). concat lines ++ x) (append-nil end_line))
 
-pub whole_text : (p : Description) (rows : List (Option Row)) (n : ℕ) (front behind : List ℕ) → n ≡ length (entries_from 0 rows) → front ≡ version_line First ++ text_of p ++ count_line n → behind ≡ rows_text p.goal rows → front ++ behind ≡ table_text First p rows
-whole_text p rows n front behind count front_is behind_is =
-    ap (λ (x : List ℕ). x ++ behind) front_is
-    ∙ ap (λ (x : List ℕ). (version_line First ++ text_of p ++ count_line n) ++ x) behind_is
-    ∙ ap (λ (k : ℕ). (version_line First ++ text_of p ++ count_line k) ++ rows_text p.goal rows) count
-    ∙ append_assoc (version_line First ++ text_of p) (count_line (length (entries_from 0 rows))) (rows_text p.goal rows)
-    ∙ ap (λ (x : List ℕ). version_line First ++ text_of p ++ x) (sym (behind_text p.goal rows))
+pub whole_text : (p : Description) (rows : List (Option Row)) (n : ℕ) (front lines : List ℕ) → n ≡ length (runs_from written 0 rows) → front ≡ version_line written ++ text_of p ++ count_line n → lines ≡ runs_text written p.goal rows → front ++ (lines ++ end_line) ≡ table_text written p rows
+whole_text p rows n front lines count front_is lines_are =
+    ap (λ (x : List ℕ). x ++ (lines ++ end_line)) front_is
+    ∙ ap (λ (x : List ℕ). (version_line written ++ text_of p ++ count_line n) ++ (x ++ end_line)) lines_are
+    ∙ ap (λ (k : ℕ). (version_line written ++ text_of p ++ count_line k) ++ (runs_text written p.goal rows ++ end_line)) count
+    ∙ append_assoc (version_line written ++ text_of p) (count_line (length (runs_from written 0 rows))) (runs_text written p.goal rows ++ end_line)
+    ∙ ap (λ (x : List ℕ). version_line written ++ text_of p ++ x) (sym (behind_text written p.goal rows))

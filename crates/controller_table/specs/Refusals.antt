@@ -10,7 +10,8 @@ use Rattle.plant_text.specs.writing.CanonicalText.{text_of}
 use Rattle.plant_text.specs.reading.CanonicalFronts.{IsFrontRefusedFor}
 use Rattle.controller_table.specs.declared.fault.TableFault.{TableFault}
 use Rattle.controller_table.specs.declared.fault.TableFault.TheVariants as faults
-use Rattle.controller_table.specs.TableText.{Version, version_line}
+use Rattle.row_runs.specs.declared.run.Version.{Version}
+use Rattle.controller_table.specs.TableText.{version_line}
 use Rattle.controller_table.specs.RowLines.{IsFirstRefusedBehind}
 
 -- the text has at most 67,108,864 bytes

@@ -1,27 +1,31 @@
 -- Which lines may stand behind a plant's text in a table, and the first that may not.
 use Rattle.std.specs.Prelude.{◌≡◌, ◌⊎◌, ℕ, suc, ◌<◌, ◌≤◌, List, [], ◌∷◌, ◌++◌, length, map}
-use Rattle.std.specs.List.{All, AllPairs, concat}
+use Rattle.std.specs.List.{All, concat}
+use Rattle.row_runs.specs.declared.run.Run.{Run}
+use Rattle.row_runs.specs.declared.run.Version.{Version}
+use Rattle.row_runs.specs.Runs.{AreRuns}
+use Rattle.row_runs.specs.RunText.{run_line}
 use Rattle.grid_quantiser.specs.Axes.{cells_of}
 use Rattle.plant_text.specs.plant.Description.{Description, axes_of}
-use Rattle.controller_table.specs.declared.entry.Entry.{Entry}
-use Rattle.controller_table.specs.TableText.{Version, First, entry_line, count_line, end_line}
+use Rattle.controller_table.specs.TableText.{words_of, count_line, end_line}
 use Rattle.controller_table.specs.Tables.{IsRowOf}
 
--- A cell of the plant with a row that it may have.
-pub record IsEntryOf (p : Description) (e : Entry) : Type 0 where
-  pub cell : e.cell < cells_of (axes_of p)
-  pub row : IsRowOf p e.row
+-- A run of cells of the plant with a row that they may have.
+pub record IsRunOf (p : Description) (r : Run) : Type 0 where
+  pub cells : r.last < cells_of (axes_of p)
+  pub row : IsRowOf p r.row
 
--- Cells with rows, in strictly rising order.
-pub record AreEntriesOf (p : Description) (entries : List Entry) : Type 0 where
-  pub rising : AllPairs (λ d e. d.cell < e.cell) entries
-  pub each : All (IsEntryOf p) entries
+-- Runs of the plant, one behind another.
+pub record AreRunsOf (version : Version) (p : Description) (runs : List Run) : Type 0 where
+  pub order : AreRuns version runs
+  pub each : All (IsRunOf p) runs
 
 -- lines of rows, as far as they go
 abbrev pub AreRowLines : Version → Description → List (List ℕ) → Type 0
-AreRowLines First p lines = (entries : List Entry) × AreEntriesOf p entries × (lines ≡ map (entry_line p.goal) entries)
+AreRowLines version p lines =
+    (runs : List Run) × AreRunsOf version p runs × (lines ≡ map (run_line version (words_of p.goal)) runs)
 
--- How many rows follow, and the lines of some of them.
+-- How many row lines follow, and some of them.
 pub record AreBegun (version : Version) (p : Description) (lines : List (List ℕ)) : Type 0 where
   pub count : ℕ
   pub count_bound : count ≤ cells_of (axes_of p)
@@ -30,7 +34,7 @@ pub record AreBegun (version : Version) (p : Description) (lines : List (List �
   pub so_far : length rows ≤ count
   pub are : lines ≡ count_line count ∷ rows
 
--- How many rows follow, all their lines, and the end.
+-- How many row lines follow, all of them, and the end.
 pub record AreWhole (version : Version) (p : Description) (lines : List (List ℕ)) : Type 0 where
   pub rows : List (List ℕ)
   pub row_lines : AreRowLines version p rows

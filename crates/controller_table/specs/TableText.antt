@@ -1,47 +1,40 @@
--- The text of a table, by its version: the plant's text, and lines for the rows of its cells.
-use Rattle.std.specs.Prelude.{ℕ, suc, ◌==◌, List, [], ◌∷◌, ◌++◌, length, map, Option, Some, None, codes, if◌then◌else◌}
+-- The text of a table, by its version: the plant's text, and lines for the runs of its rows.
+use Rattle.std.specs.Prelude.{ℕ, List, [], ◌∷◌, ◌++◌, length, map, Option, codes}
 use Rattle.std.specs.List.{concat}
 use Rattle.std.specs.Fmt.{decimal}
 use Rattle.game_core.specs.declared.game.Row.{Row}
+use Rattle.row_runs.specs.declared.row_words.RowWords.{RowWords}
+use Rattle.row_runs.specs.declared.row_words.RowWords.TheVariants.{InputAboveZero, InputAlone}
+use Rattle.row_runs.specs.declared.run.Version.{Version}
+use Rattle.row_runs.specs.declared.run.Version.TheVariants.{First, Second}
+use Rattle.row_runs.specs.Runs.{runs_from}
+use Rattle.row_runs.specs.RunText.{line, run_line}
 use Rattle.plant_text.specs.declared.plant.aims.GoalKind.{GoalKind}
 use Rattle.plant_text.specs.declared.plant.aims.GoalKind.TheVariants.{Reach, Keep}
 use Rattle.plant_text.specs.plant.Description.{Description}
-use Rattle.plant_text.specs.writing.CanonicalText.{line, text_of}
-use Rattle.controller_table.specs.declared.entry.Entry.{Entry}
+use Rattle.plant_text.specs.writing.CanonicalText.{text_of}
 
--- The versions of a table's text. In the first each cell with a row has a line of its own.
-pub data Version : Type 0 where
-  First : Version
+-- the number of a version
+abbrev pub version_number : Version → ℕ
+version_number First = 1
+version_number Second = 2
 
-abbrev pub version_word : Version → List ℕ
-version_word First = codes "1"
+-- the version in which tables are written
+abbrev pub written : Version
+written = Second
 
--- the cells with a row, in rising order; the first of the rows is that of cell c
-abbrev pub entries_from : ℕ → List (Option Row) → List Entry
-entries_from c [] = []
-entries_from c (None ∷ rows) = entries_from (suc c) rows
-entries_from c (Some row ∷ rows) = record { cell = c; row = row } ∷ entries_from (suc c) rows
-
--- a plant to be kept off its obstacles has no ranks
-abbrev pub rank_word : GoalKind → Row → List ℕ
-rank_word Reach row = decimal row.rank
-rank_word Keep row = codes "-"
-
--- at rank 0 of a plant to be brought to its targets nothing is applied
-abbrev pub input_word : GoalKind → Row → List ℕ
-input_word Reach row = if row.rank == 0 then codes "-" else decimal row.input
-input_word Keep row = decimal row.input
-
--- the line of a cell with a row
-abbrev pub entry_line : GoalKind → Entry → List ℕ
-entry_line goal e = line (decimal e.cell ∷ rank_word goal e.row ∷ input_word goal e.row ∷ [])
+-- a plant to be kept off its obstacles has no ranks, and at rank 0 of one to be brought to its targets nothing is applied
+abbrev pub words_of : GoalKind → RowWords
+words_of Reach = InputAboveZero
+words_of Keep = InputAlone
 
 -- the lines of all rows
 abbrev pub row_lines : Version → GoalKind → List (Option Row) → List (List ℕ)
-row_lines First goal rows = map (entry_line goal) (entries_from 0 rows)
+row_lines version goal rows = map (run_line version (words_of goal)) (runs_from version 0 rows)
 
 abbrev pub version_line : Version → List ℕ
-version_line version = line (codes "table" ∷ version_word version ∷ [])
+version_line First = line (codes "table" ∷ codes "1" ∷ [])
+version_line Second = line (codes "table" ∷ codes "2" ∷ [])
 
 -- the line that tells how many row lines follow
 abbrev pub count_line : ℕ → List ℕ

@@ -7,10 +7,12 @@ use Rattle.plant_text.specs.declared.plant.aims.GoalKind.{GoalKind}
 use Rattle.plant_text.specs.declared.plant.aims.GoalKind.TheVariants.{Reach, Keep}
 use Rattle.plant_text.specs.plant.Description.{Description, axes_of, vectors_of}
 use Rattle.plant_text.specs.plant.Limits.{IsWithinLimits}
-use Rattle.controller_table.specs.TableText.{Version, table_text}
+use Rattle.row_runs.specs.declared.run.Version.{Version}
+use Rattle.controller_table.specs.TableText.{table_text}
 
--- What a table holds.
+-- What a table holds, and the version of the text that it was read from.
 pub record TableModel : Type 0 where
+  pub version : Version
   pub plant : Description
   pub rows : List (Option Row)
 
@@ -36,3 +38,7 @@ pub record IsTable (bytes : List ℕ) (p : Description) (rows : List (Option Row
   pub fitting : RowsFit p rows
   pub version : Version
   pub text : bytes ≡ table_text version p rows
+
+-- the bytes are such a table, in this version
+abbrev pub IsTableIn : Version → List ℕ → Description → List (Option Row) → Type 0
+IsTableIn version bytes p rows = (table : IsTable bytes p rows) × (table.version ≡ version)

@@ -1,6 +1,5 @@
 pub mod Numbers
 pub mod Found
 pub mod Reading
-pub mod Left
 pub mod ReadRows
 pub mod ReadPlant

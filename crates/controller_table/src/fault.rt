@@ -20,6 +20,12 @@ impl From<plant_text::NoMemory> for NoMemory {
     }
 }
 
+impl From<game_core::NoMemory> for NoMemory {
+    fn from(_refused: game_core::NoMemory) -> NoMemory {
+        NoMemory
+    }
+}
+
 /// Why no table was read.
 #[derive(Clone, Copy, Debug, PartialEq, Eq)]
 pub enum TableFault {

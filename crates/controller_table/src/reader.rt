@@ -2,8 +2,10 @@ ghost use Rattle.std.specs.Prelude.{◌≡◌, ◌≢◌, ◌≤◌, length, IfO
 ghost use Rattle.plant_text.specs.plant.Limits.{IsWithinLimits};
 ghost use Rattle.plant_text.specs.reading.CanonicalFronts.{IsFront};
 ghost use Rattle.controller_table.specs.declared.fault.TableFault.TheVariants.{Memory};
-ghost use Rattle.controller_table.specs.Tables.{IsTable};
+ghost use Rattle.controller_table.specs.Tables.{IsTableIn};
 ghost use Rattle.controller_table.specs.Refusals.{IsTableRefusedFor, line_count};
+ghost use Rattle.controller_table.specs.inside.Found.{Finds};
+ghost use Rattle.controller_table.specs.inside.Reading.{IsVersionAt};
 ghost use Rattle.controller_table.specs.inside.ReadPlant.{IsPlantRefused};
 
 use crate::fault::TableFault;
@@ -12,33 +14,46 @@ use crate::row_reader::rows_behind;
 use crate::table::Table;
 use plant_text::laws::every_plant_is_within_limits;
 use plant_text::{Front, LimitKind, PlantFault, read_front};
+use row_runs::Version;
 use std::alloc::Global;
 
 /// The most bytes of a table's text.
 pub const TABLE_LIMIT: usize = 67_108_864;
 
-const VERSION_LINE: &[u8] = b"table 1\n";
+/// How many bytes the line of a version has.
+const VERSION_LENGTH: usize = 8;
 
 /// Reads the table that the bytes are, or answers why they are none.
 pub fn read_table(alloc: Global, bytes: &[u8]) -> Result<Table, TableFault>
-    ensures read { IfOk result (λ t. IsTable bytes.now t.plant t.rows) }
+    ensures read { IfOk result (λ t. IsTableIn t.version bytes.now t.plant t.rows) }
     ensures refused { IfErr result (λ fault. fault ≢ Memory → IsTableRefusedFor bytes.now fault) }
 {
     if bytes.len() > TABLE_LIMIT {
         let what = LimitKind::TableText;
         return Err(TableFault::Limit { what });
     }
-    let Some(rest) = behind_front(bytes, VERSION_LINE) else {
+    let Some((version, rest)) = version_at(bytes) else {
         return Err(TableFault::Malformed { line: 1 });
     };
     let Front { plant, length } = plant_in(alloc, rest)?;
     every_plant_is_within_limits(&plant);
-    let lines = line_count(&bytes[..VERSION_LINE.len() + length]);
-    match rows_behind(alloc, &plant, &rest[length..]) {
-        Ok((answer, rows)) => Ok(Table::new(plant, answer, rows)),
+    let lines = line_count(&bytes[..VERSION_LENGTH + length]);
+    match rows_behind(alloc, version, &plant, &rest[length..]) {
+        Ok(answer) => Ok(Table::new(version, plant, answer)),
         Err(TableFault::Malformed { line }) => Err(TableFault::Malformed { line: lines + line }),
         Err(fault) => Err(fault),
     }
+}
+
+/// The version of the first line, and what stands behind it.
+fn version_at(bytes: &[u8]) -> Option<(Version, &[u8])>
+    ensures { Finds (λ r. (r.0, r.1.now)) (IsVersionAt bytes.now) result }
+{
+    if let Some(rest) = behind_front(bytes, b"table 1\n") {
+        return Some((Version::First, rest));
+    }
+    let rest = behind_front(bytes, b"table 2\n")?;
+    Some((Version::Second, rest))
 }
 
 /// The plant whose text stands behind the first line.

@@ -1,20 +1,26 @@
-ghost use Rattle.std.specs.Prelude.{◌≡◌, ◌<◌, ℕ, length, IfSome};
-ghost use Rattle.std.specs.Option.{IfNone};
+ghost use Rattle.std.specs.Prelude.{◌≡◌, ◌<◌, ℕ, count_by, IfSome, IfOk};
+ghost use Rattle.std.specs.Option.{IfNone, is_some};
 ghost use Rattle.grid_quantiser.specs.Axes.{cells_of};
 ghost use Rattle.game_core.specs.Solution.{row_of};
 ghost use Rattle.plant_text.specs.plant.Description.{axes_of};
-ghost use Rattle.controller_table.specs.TableText.{entries_from};
+ghost use Rattle.plant_text.specs.plant.Limits.{IsWithinLimits};
+ghost use Rattle.controller_table.specs.TableText.{version_number};
 ghost use Rattle.controller_table.specs.Tables.{RowsFit};
 ghost use Rattle.controller_table.specs.Choice.{Chooses};
 
+use crate::copying::{copy_answer, copy_plant};
+use crate::fault::NoMemory;
 use game_core::{Answer, Row};
 use grid_quantiser::Point;
 use plant_text::{GoalKind, Plant};
+use row_runs::Version;
+use std::alloc::Global;
 use std::marker::Model;
 
 /// A plant with a row that fits it for some of its cells.
 #[derive(Drop)]
 pub struct Table {
+    version: Version,
     plant: Plant,
     answer: Answer,
     /// How many cells have a row.
@@ -23,27 +29,30 @@ pub struct Table {
 
 impl Model for Table {
     ghost use Rattle.std.specs.Coded.{codes};
-    ghost use Rattle.std.specs.Prelude.{◌≡◌, length};
+    ghost use Rattle.std.specs.Prelude.{◌≡◌, count_by};
+    ghost use Rattle.std.specs.Option.{is_some};
     ghost use Rattle.fixed_expr.specs.inside.Postfix.{expression_code};
-    ghost use Rattle.controller_table.specs.TableText.{entries_from};
+    ghost use Rattle.plant_text.specs.plant.Limits.{IsWithinLimits};
     ghost use Rattle.controller_table.specs.Tables.{TableModel, RowsFit};
 
     ghost Value = { TableModel };
 
     ghost coded = { Prim.hlevel (codes, expression_code) };
 
-    ghost view = { λ t. record { plant = t.plant; rows = t.answer } };
+    ghost view = { λ t. record { version = t.version; plant = t.plant; rows = t.answer } };
 
-    ghost invariant = { λ t. RowsFit t.plant t.answer × (t.rows ≡ length (entries_from 0 t.answer)) };
+    ghost invariant = { λ t. IsWithinLimits t.plant × RowsFit t.plant t.answer × (t.rows ≡ count_by is_some t.answer) };
 }
 
 impl Table {
-    pub(crate) fn new(plant: Plant, answer: Answer, rows: u32) -> Table
+    pub(crate) fn new(version: Version, plant: Plant, answer: Answer) -> Table
+        requires limits { IsWithinLimits plant }
         requires fit { RowsFit plant answer }
-        requires count { rows ≡ length (entries_from 0 answer) }
-        ensures { result ≡ record { plant = plant; rows = answer } }
+        ensures { result ≡ record { version = version; plant = plant; rows = answer } }
     {
+        let rows = count_rows(&answer);
         Table {
+            version,
             plant,
             answer,
             rows,
@@ -56,9 +65,19 @@ impl Table {
         &self.plant
     }
 
+    /// The version of the text that it was read from: 1 or 2.
+    pub fn version(&self) -> u32
+        ensures { result ≡ version_number self.now.version }
+    {
+        match self.version {
+            Version::First => 1,
+            Version::Second => 2,
+        }
+    }
+
     /// How many cells have a row. That the rows of every table fit its plant is learnt here.
     pub fn rows(&self) -> u32
-        ensures count { result ≡ length (entries_from 0 self.now.rows) }
+        ensures count { result ≡ count_by is_some self.now.rows }
         ensures fit { RowsFit self.now.plant self.now.rows }
     {
         self.rows
@@ -84,7 +103,36 @@ impl Table {
             GoalKind::Reach | GoalKind::Keep => Some(row.input),
         }
     }
+
+    /// An equal table.
+    pub fn copy(&self, alloc: Global) -> Result<Table, NoMemory>
+        ensures { IfOk result (λ copy. copy ≡ self.now) }
+    {
+        Ok(Table {
+            version: self.version,
+            plant: copy_plant(alloc, &self.plant)?,
+            answer: copy_answer(alloc, &self.answer)?,
+            rows: self.rows,
+        })
+    }
+
+    pub(crate) fn answer(&self) -> &Answer
+        ensures rows { result.now ≡ self.now.rows }
+        ensures fit { RowsFit self.now.plant result.now }
+    {
+        &self.answer
+    }
 }
 
-#[cfg(test)]
-mod tests;
+/// How many cells have a row.
+fn count_rows(answer: &Answer) -> u32
+    ensures { result ≡ count_by is_some answer.now }
+{
+    let mut count = 0;
+    for cell in 0..answer.cells() {
+        if answer.row(cell).is_some() {
+            count += 1;
+        }
+    }
+    count
+}

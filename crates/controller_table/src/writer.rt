@@ -1,50 +1,64 @@
 ghost use Rattle.std.specs.Prelude.{◌≡◌, ◌<◌, ◌++◌, length, take, drop, min, IfOk};
-ghost use Rattle.controller_table.specs.TableText.{First, table_text, count_line, version_line};
+ghost use Rattle.controller_table.specs.TableText.{written, table_text, count_line, version_line};
 ghost use Rattle.controller_table.specs.Tables.{RowsFit};
 ghost use Rattle.plant_text.specs.writing.CanonicalText.{text_of};
 
 use crate::fault::NoMemory;
-use crate::line_text::LineText;
-use crate::lines_left::LinesLeft;
-use crate::rows_left::count_rows;
+use crate::table::Table;
+use crate::words::words_of;
 use game_core::Answer;
 use plant_text::{Plant, write_plant};
+use row_runs::{LineText, RunLines, count_runs};
 use std::alloc::Global;
 use std::marker::Model;
 use text_pieces::{Pieces, copy_front};
 
+/// The last line.
+const END: &[u8] = b"end\n";
+
 /// Writes the text of a table piece by piece. Seen as the bytes that are still to come.
 #[derive(Drop)]
 pub struct TableWriter<'a> {
-    /// The lines up to that on the number of rows, and how many of their bytes are written.
+    /// The lines up to that on the number of runs, and how many of their bytes are written.
     front: Vec<u8>,
     at: usize,
-    /// The lines behind them.
-    lines: LinesLeft<'a>,
+    /// The lines of the runs.
+    lines: RunLines<'a>,
+    /// How many bytes of the last line are written.
+    end_at: usize,
 }
 
 impl<'a> Model for TableWriter<'a> {
     ghost use Rattle.std.specs.Prelude.{List, ℕ, ◌++◌, drop, ◌≤◌, length};
+    ghost use Rattle.controller_table.specs.TableText.{end_line};
 
     ghost Value = { List ℕ };
 
-    ghost view = { λ w. drop w.at w.front.items ++ w.lines };
+    ghost view = { λ w. drop w.at w.front.items ++ (w.lines ++ drop w.end_at end_line) };
 
-    ghost invariant = { λ w. w.at ≤ length w.front.items };
+    ghost invariant = { λ w. (w.at ≤ length w.front.items) × (w.end_at ≤ length end_line) };
 }
 
 impl<'a> TableWriter<'a> {
     /// The writer of a plant's table. It takes all its memory here.
     pub fn new(alloc: Global, p: &Plant, a: &'a Answer) -> Result<TableWriter<'a>, NoMemory>
         requires { RowsFit p.now a.now }
-        ensures { IfOk result (λ w. w ≡ table_text First p.now a.now) }
+        ensures { IfOk result (λ w. w ≡ table_text written p.now a.now) }
     {
-        let front = front_of(alloc, p, count_rows(a))?;
+        let front = front_of(alloc, p, count_runs(a))?;
         Ok(TableWriter {
             front,
             at: 0,
-            lines: LinesLeft::new(p.goal(), a),
+            lines: RunLines::new(words_of(p.goal()), a),
+            end_at: 0,
         })
+    }
+
+    /// The writer of a table that was read.
+    pub fn of(alloc: Global, t: &'a Table) -> Result<TableWriter<'a>, NoMemory>
+        ensures { IfOk result (λ w. w ≡ table_text written t.now.plant t.now.rows) }
+    {
+        TableWriter::new(alloc, t.plant(), t.answer())
     }
 
     /// Puts the next bytes of the text into the buffer, as many as there is room for, and answers how many.
@@ -65,19 +79,28 @@ impl Pieces for TableWriter<'_> {
         if self.at < self.front.len() {
             let count = copy_front(&self.front[self.at..], buf);
             self.at += count;
-            count
-        } else {
-            self.lines.copy_some(buf)
+            return count;
         }
+        let count = self.lines.copy_some(buf);
+        if count > 0 {
+            return count;
+        }
+        let count = copy_front(&END[self.end_at..], buf);
+        self.end_at += count;
+        count
     }
 }
 
-/// The lines up to that on the number of rows.
-fn front_of(alloc: Global, p: &Plant, rows: u32) -> Result<Vec<u8>, NoMemory>
-    ensures { IfOk result (λ front. front.items ≡ version_line First ++ text_of p.now ++ count_line rows) }
+/// The lines up to that on the number of runs.
+fn front_of(alloc: Global, p: &Plant, runs: u32) -> Result<Vec<u8>, NoMemory>
+    ensures { IfOk result (λ front. front.items ≡ version_line written ++ text_of p.now ++ count_line runs) }
 {
-    let mut front = Vec::from_slice(alloc, b"table 1\n")?;
+    let mut line = LineText::empty();
+    line.begin();
+    line.put_number_before(runs);
+    line.put_before(b"rows ");
+    let mut front = Vec::from_slice(alloc, b"table 2\n")?;
     write_plant(alloc, p, &mut front)?;
-    front.extend_from_slice(LineText::of_count(rows).as_slice())?;
+    front.extend_from_slice(line.as_slice())?;
     Ok(front)
 }

@@ -1,16 +1,18 @@
 -- The lines of a trace, word by word.
-use Rattle.std.proofs.Common.{◌≡◌, ℕ, ◌+◌, ◌<◌, List, [], ◌∷◌, ◌++◌, length, get_or, take, sym, ap, ◌∙◌, append_assoc}
+use Rattle.std.proofs.Common.{◌≡◌, ℕ, suc, ◌+◌, ◌<◌, List, [], ◌∷◌, ◌++◌, length, get_or, take, drop, drop-cons, sym, ap, ◌∙◌, append_assoc, arith}
 use Rattle.std.specs.Prelude.{ℤ, codes}
 use Rattle.std.specs.List.{flat_map, join_with_byte}
 use Rattle.std.specs.Fmt.{decimal, signed_decimal}
-use Rattle.std.proofs.lemmas.List.{append-nil, take_more}
+use Rattle.std.proofs.lemmas.List.{append-nil}
 use Rattle.std.proofs.lemmas.List.Folds.{flat_map-map}
 use Rattle.std.proofs.lemmas.List.Concat.{flat_map-append}
 use Rattle.game_core.specs.declared.game.Row.{Row}
 use Rattle.plant_text.specs.plant.Description.{Description}
-use Rattle.controller_table.specs.TableText.{rank_word, input_word}
+use Rattle.row_runs.specs.RunText.{rank_word, input_word}
+use Rattle.controller_table.specs.TableText.{words_of}
 use Rattle.loop_sim.specs.declared.line.SimLine.TheVariants.{At, Lost}
 use Rattle.loop_sim.specs.TraceText.{line_text, state_words}
+use Rattle.loop_sim.specs.inside.States.{state_text}
 
 -- a word with a space before it
 abbrev pub spaced : List ℕ → List ℕ
@@ -21,35 +23,35 @@ pub joined_words : (word : List ℕ) (words : List (List ℕ)) → join_with_byt
 joined_words word [] = sym (append-nil word)
 joined_words word (next ∷ words) = ap (λ (x : List ℕ). word ++ 32 ∷ x) (joined_words next words)
 
--- the numbers of a state, each with a space before it
-abbrev pub state_text : List ℤ → List ℕ
-state_text x = flat_map (λ z. 32 ∷ signed_decimal z) x
-
--- one number more
-pub state_more : (text : List ℕ) (x : List ℤ) (i : ℕ) (z : ℤ) → i < length x → z ≡ get_or x i z → ((text ++ state_text (take i x)) ++ 32 ∷ []) ++ signed_decimal z ≡ text ++ state_text (take (i + 1) x)
+-- one number more, from a place on
+pub state_more : (text : List ℕ) (x : List ℤ) (i : ℕ) (z : ℤ) → i < length x → z ≡ get_or x i z → 32 ∷ (signed_decimal z ++ (state_text (drop (i + 1) x) ++ text)) ≡ state_text (drop i x) ++ text
 state_more text x i z lt z_is =
-    let e : ((text ++ state_text (take i x)) ++ 32 ∷ []) ++ signed_decimal z ≡ text ++ (state_text (take i x) ++ ((32 ∷ signed_decimal z) ++ [])) = simp (append_assoc, append-nil) in
-    e ∙ ap (λ (y : List ℕ). text ++ y) (ap (λ (y : ℤ). state_text (take i x) ++ ((32 ∷ signed_decimal y) ++ [])) z_is ∙ sym (ap state_text (take_more x i z lt) ∙ flat_map-append (λ z. 32 ∷ signed_decimal z) (take i x) (get_or x i z ∷ [])))
+    let next : i + 1 ≡ suc i = omega arith in
+    let e : 32 ∷ (signed_decimal z ++ (state_text (drop (suc i) x) ++ text)) ≡ state_text (z ∷ drop (suc i) x) ++ text = sym (append_assoc (32 ∷ signed_decimal z) (state_text (drop (suc i) x)) text) in
+    ap (λ (k : ℕ). 32 ∷ (signed_decimal z ++ (state_text (drop k x) ++ text))) next
+    ∙ e
+    ∙ ap (λ (y : ℤ). state_text (y ∷ drop (suc i) x) ++ text) z_is
+    ∙ ap (λ (ys : List ℤ). state_text ys ++ text) (sym (drop-cons x i z lt))
 
-in_order : (a b c d space feed : List ℕ) → (((((a ++ b) ++ space) ++ c) ++ space) ++ d) ++ feed ≡ (a ++ (b ++ (space ++ (c ++ (space ++ (d ++ [])))))) ++ feed
-in_order a b c d space feed = simp (append_assoc, append-nil)
+in_order : (a b r i space feed : List ℕ) → a ++ (b ++ (space ++ (r ++ (space ++ (i ++ feed))))) ≡ (a ++ (b ++ (space ++ (r ++ (space ++ (i ++ [])))))) ++ feed
+in_order a b r i space feed = simp (append_assoc, append-nil)
 
 pub sample_parts : (p : Description) (t : ℕ) (x : List ℤ) (row : Row)
-    → (((((decimal t ++ state_text (take (length p.states) x)) ++ 32 ∷ []) ++ rank_word p.goal row) ++ 32 ∷ []) ++ input_word p.goal row) ++ 10 ∷ [] ≡ line_text p (At t x row)
+    → decimal t ++ (state_text (take (length p.states) x) ++ (32 ∷ (rank_word (words_of p.goal) row ++ 32 ∷ (input_word (words_of p.goal) row ++ 10 ∷ [])))) ≡ line_text p (At t x row)
 sample_parts p t x row =
     let xs : List ℤ = take (length p.states) x in
-    let rank : List ℕ = rank_word p.goal row in
-    let input : List ℕ = input_word p.goal row in
+    let rank : List ℕ = rank_word (words_of p.goal) row in
+    let input : List ℕ = input_word (words_of p.goal) row in
     in_order (decimal t) (state_text xs) rank input (32 ∷ []) (10 ∷ [])
     ∙ ap (λ (y : List ℕ). y ++ 10 ∷ [])
     (sym (joined_words (decimal t) (state_words p x ++ rank ∷ input ∷ [])
     ∙ ap (λ (y : List ℕ). decimal t ++ y) (flat_map-append spaced (state_words p x) (rank ∷ input ∷ []) ∙ ap (λ (y : List ℕ). y ++ ((32 ∷ rank) ++ ((32 ∷ input) ++ []))) (flat_map-map spaced signed_decimal xs))))
 
-in_short : (a b c feed : List ℕ) → ((a ++ b) ++ c) ++ feed ≡ (a ++ (b ++ c)) ++ feed
-in_short a b c feed = simp append_assoc
+in_short : (a b c : List ℕ) → a ++ (b ++ (c ++ 10 ∷ [])) ≡ (a ++ (b ++ c)) ++ 10 ∷ []
+in_short a b c = simp append_assoc
 
-pub loss_parts : (p : Description) (t : ℕ) (x : List ℤ) → ((codes "lost " ++ decimal t) ++ state_text (take (length p.states) x)) ++ 10 ∷ [] ≡ line_text p (Lost t x)
+pub loss_parts : (p : Description) (t : ℕ) (x : List ℤ) → codes "lost " ++ (decimal t ++ (state_text (take (length p.states) x) ++ 10 ∷ [])) ≡ line_text p (Lost t x)
 loss_parts p t x =
     let xs : List ℤ = take (length p.states) x in
-    in_short (codes "lost ") (decimal t) (state_text xs) (10 ∷ [])
+    in_short (codes "lost ") (decimal t) (state_text xs)
     ∙ ap (λ (y : List ℕ). (codes "lost " ++ y) ++ 10 ∷ []) (sym (joined_words (decimal t) (state_words p x) ∙ ap (λ (y : List ℕ). decimal t ++ y) (flat_map-map spaced signed_decimal xs)))

@@ -4,8 +4,8 @@ use Rattle.std.specs.List.{concat}
 use Rattle.std.specs.Fmt.{decimal, signed_decimal}
 use Rattle.game_core.specs.declared.game.Row.{Row}
 use Rattle.plant_text.specs.plant.Description.{Description}
-use Rattle.plant_text.specs.writing.CanonicalText.{line}
-use Rattle.controller_table.specs.TableText.{rank_word, input_word}
+use Rattle.row_runs.specs.RunText.{line, rank_word, input_word}
+use Rattle.controller_table.specs.TableText.{words_of}
 use Rattle.loop_sim.specs.declared.line.SimLine.{SimLine}
 use Rattle.loop_sim.specs.declared.line.SimLine.TheVariants.{At, Arrived, Stopped, Lost}
 use Rattle.loop_sim.specs.Trace.{trace_lines}
@@ -16,7 +16,7 @@ state_words p x = map signed_decimal (take (length p.states) x)
 
 -- a line of a trace as text
 abbrev pub line_text : Description → SimLine → List ℕ
-line_text p (At t x row) = line (decimal t ∷ state_words p x ++ rank_word p.goal row ∷ input_word p.goal row ∷ [])
+line_text p (At t x row) = line (decimal t ∷ state_words p x ++ rank_word (words_of p.goal) row ∷ input_word (words_of p.goal) row ∷ [])
 line_text p (Arrived t) = line (codes "arrived" ∷ decimal t ∷ [])
 line_text p (Stopped t) = line (codes "stopped" ∷ decimal t ∷ [])
 line_text p (Lost t x) = line (codes "lost" ∷ decimal t ∷ state_words p x)

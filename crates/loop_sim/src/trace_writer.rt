@@ -4,10 +4,11 @@ ghost use Rattle.controller_table.specs.Choice.{HasRowAt};
 ghost use Rattle.successor_box.specs.Deviations.{HasNoOverflow, deviations_of};
 ghost use Rattle.loop_sim.specs.TraceText.{trace_text};
 
-use crate::line_text::LineText;
 use crate::sim::Sim;
+use crate::trace_line::{write_first, write_line};
 use controller_table::Table;
 use grid_quantiser::Point;
+use row_runs::LineText;
 use std::marker::Model;
 use successor_box::Slopes;
 use text_pieces::{Pieces, copy_front};
@@ -16,23 +17,20 @@ use text_pieces::{Pieces, copy_front};
 #[derive(Drop)]
 pub struct TraceWriter<'a> {
     table: &'a Table,
-    /// The line that is being written, and how many of its bytes are.
+    /// What is left of the line that is being written.
     line: LineText,
-    at: usize,
     /// The lines behind it.
     sim: Sim<'a>,
 }
 
 impl<'a> Model for TraceWriter<'a> {
-    ghost use Rattle.std.specs.Prelude.{List, ℕ, ◌++◌, ◌≤◌, drop, length, map};
+    ghost use Rattle.std.specs.Prelude.{List, ℕ, ◌++◌, map};
     ghost use Rattle.std.specs.List.{concat};
     ghost use Rattle.loop_sim.specs.TraceText.{line_text};
 
     ghost Value = { List ℕ };
 
-    ghost view = { λ w. drop w.at w.line ++ concat (map (line_text w.table.now.plant) w.sim) };
-
-    ghost invariant = { λ w. w.at ≤ length w.line };
+    ghost view = { λ w. w.line ++ concat (map (line_text w.table.now.plant) w.sim) };
 }
 
 impl<'a> TraceWriter<'a> {
@@ -50,10 +48,11 @@ impl<'a> TraceWriter<'a> {
         ensures { SomeIff result ((row : Row) × HasRowAt t.now.plant t.now.rows x.now row) (trace_text t.now.plant t.now.rows x.now seed steps) }
     {
         let sim = Sim::new(t, s, x, seed, steps)?;
+        let mut line = LineText::empty();
+        write_first(&mut line);
         Some(TraceWriter {
             table: t,
-            line: LineText::first(),
-            at: 0,
+            line,
             sim,
         })
     }
@@ -73,15 +72,14 @@ impl Pieces for TraceWriter<'_> {
     ghost left = { λ w. w };
 
     fn copy_some(&mut self, buf: &mut [u8]) -> usize {
-        if self.at == self.line.as_slice().len() {
+        if self.line.as_slice().is_empty() {
             let Some(line) = self.sim.next() else {
                 return 0;
             };
-            self.line = LineText::of(self.table.plant(), &line);
-            self.at = 0;
+            write_line(&mut self.line, self.table.plant(), &line);
         }
-        let count = copy_front(&self.line.as_slice()[self.at..], buf);
-        self.at += count;
+        let count = copy_front(self.line.as_slice(), buf);
+        self.line.advance(count);
         count
     }
 }

@@ -108,6 +108,3 @@ fn right_rows_lead_down()
     enabled_pairs_have_successors();
     points_lie_with_their_states();
 }
-
-#[cfg(test)]
-mod tests;

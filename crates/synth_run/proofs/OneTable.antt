@@ -3,7 +3,7 @@ use Rattle.std.proofs.Common.{◌≡◌, sym, ap, subst, ◌∙◌}
 use Rattle.plant_text.specs.plant.Description.{Description}
 use Rattle.plant_text.specs.Laws.{OnePlantPerText}
 use Rattle.abstraction_table.specs.Laws.{OneSolutionPerPlant}
-use Rattle.controller_table.specs.TableText.{First, table_text}
+use Rattle.controller_table.specs.TableText.{written, table_text}
 use Rattle.synth_run.specs.Headline.{IsTableOf}
 use Rattle.synth_run.specs.Laws.{OneTableForBytes}
 
@@ -14,4 +14,4 @@ one_for_bytes one_plant one_solution bytes a b first second =
     let table : IsTableOf p a = subst (λ (d : Description). IsTableOf d a) (one_plant bytes first.0 p first.1.spells second.1.spells) first.3 in
     let other : IsTableOf p b = second.3 in
     let rows : table.rows ≡ other.rows = one_solution p table.rows other.rows second.1.limits.plant table.solution other.solution in
-    table.text_is ∙ ap (table_text First p) rows ∙ sym other.text_is
+    table.text_is ∙ ap (table_text written p) rows ∙ sym other.text_is

@@ -3,7 +3,7 @@ use Rattle.std.specs.Prelude.{◌≡◌, ℕ, List, Option, codes}
 use Rattle.game_core.specs.declared.game.Row.{Row}
 use Rattle.plant_text.specs.plant.Description.{Description}
 use Rattle.abstraction_table.specs.Solution.{IsSolutionOf}
-use Rattle.controller_table.specs.TableText.{First, table_text}
+use Rattle.controller_table.specs.TableText.{written, table_text}
 use Rattle.controller_table.specs.Tables.{RowsFit, IsTable}
 use Rattle.plant_refine.specs.Controls.{Controls}
 use Rattle.run_words.specs.declared.form.Form.{Form}
@@ -22,7 +22,7 @@ pub record IsTableOf (p : Description) (text : List ℕ) : Type 0 where
   pub rows : List (Option Row)
   pub solution : IsSolutionOf p rows
   pub fitting : RowsFit p rows
-  pub text_is : text ≡ table_text First p rows
+  pub text_is : text ≡ table_text written p rows
   pub controls : Controls p text
 
 -- the bytes spell a plant that nothing refuses, and the text is its table

@@ -3,7 +3,7 @@
 ghost use Rattle.std.specs.Prelude.{◌≡◌, ◌≢◌, Some, IfOk, IfErr};
 ghost use Rattle.run_words.specs.declared.form.Form.{Form};
 ghost use Rattle.synth_run.specs.declared.outcome.Outcome.TheVariants as ends;
-ghost use Rattle.controller_table.specs.TableText.{First, table_text};
+ghost use Rattle.controller_table.specs.TableText.{written, table_text};
 ghost use Rattle.controller_table.specs.Tables.{RowsFit};
 ghost use Rattle.synth_run.specs.Demands.{PlantTextDemands, PlantDemands, IsSolvable};
 ghost use Rattle.run_words.specs.Form.{AreWorkers};
@@ -39,7 +39,7 @@ pub fn solve_text<R: Threads + Sync, T: Gate>(
     gate: &T,
 ) -> Result<(Solved, (Board, Root)), Outcome>
     requires { AreWorkers workers }
-    ensures table { IfOk result (λ made. IsTableFor bytes.now (table_text First made.0.plant made.0.answer)) }
+    ensures table { IfOk result (λ made. IsTableFor bytes.now (table_text written made.0.plant made.0.answer)) }
     ensures fits { IfOk result (λ made. RowsFit made.0.plant made.0.answer) }
     ensures played { IfOk result (λ made. IsPlayed (Form.Synth workers) bytes.now (Some made.1)) }
     ensures demanded { IfErr result (λ outcome. outcome ≢ ends.NoMemory → PlantTextDemands bytes.now outcome) }
@@ -63,7 +63,7 @@ fn solve<R: Threads + Sync, T: Gate>(
     gate: &T,
 ) -> Result<Resolved, Outcome>
     requires { AreWorkers workers }
-    ensures table { IfOk result (λ resolved. IsSolvable plant.now × IsTableOf plant.now (table_text First plant.now resolved.answer)) }
+    ensures table { IfOk result (λ resolved. IsSolvable plant.now × IsTableOf plant.now (table_text written plant.now resolved.answer)) }
     ensures fits { IfOk result (λ resolved. RowsFit plant.now resolved.answer) }
     ensures played { IfOk result (λ resolved. IsResolvedOn plant.now resolved.board resolved.root) }
     ensures demanded { IfErr result (λ outcome. outcome ≢ ends.NoMemory → PlantDemands plant.now outcome) }

@@ -1,7 +1,7 @@
 // What a form writes, and how it is written.
 
 ghost use Rattle.std.specs.Prelude.{OnOk, IfErr};
-ghost use Rattle.controller_table.specs.TableText.{First, table_text};
+ghost use Rattle.controller_table.specs.TableText.{written, table_text};
 ghost use Rattle.controller_table.specs.Tables.{RowsFit};
 ghost use Rattle.run_devices.specs.Devices.{GainsWhole, writing};
 ghost use Rattle.synth_run.specs.inside.Texts.{bytes_of, CanBeWritten};
@@ -40,8 +40,8 @@ impl Text {
 
 fn write_table<O: Sink>(alloc: Global, solved: &Solved, out: &mut O) -> Result<(), WriteFault>
     requires { RowsFit solved.now.plant solved.now.answer }
-    ensures whole { OnOk result (GainsWhole (writing O.got O.faults O.room out.old out.new) (table_text First solved.now.plant solved.now.answer)) }
-    ensures stopped { IfErr result (λ fault. StopsBy fault (writing O.got O.faults O.room out.old out.new) (table_text First solved.now.plant solved.now.answer)) }
+    ensures whole { OnOk result (GainsWhole (writing O.got O.faults O.room out.old out.new) (table_text written solved.now.plant solved.now.answer)) }
+    ensures stopped { IfErr result (λ fault. StopsBy fault (writing O.got O.faults O.room out.old out.new) (table_text written solved.now.plant solved.now.answer)) }
 {
     let mut writer = match TableWriter::new(alloc, &solved.plant, &solved.answer) {
         Ok(writer) => writer,

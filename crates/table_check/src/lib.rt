@@ -15,6 +15,3 @@ pub use game_core::NoMemory;
 pub use keep::check_keep;
 pub use reach::check_reach;
 pub use verdict::Verdict;
-
-#[cfg(test)]
-mod tests;

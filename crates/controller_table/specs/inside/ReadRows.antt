@@ -1,42 +1,60 @@
 -- How far the rows of a table are read. No public clause names this.
-use Rattle.std.specs.Prelude.{◌≡◌, ℕ, ◌+◌, ◌<◌, ◌≤◌, List, [], ◌∷◌, ◌++◌, length, map, Option, None}
-use Rattle.std.specs.List.{All, concat}
+use Rattle.std.specs.Prelude.{◌≡◌, ℕ, ◌+◌, ◌<◌, List, [], ◌∷◌, ◌++◌, length, map, Option, Some, None}
+use Rattle.std.specs.List.{concat}
 use Rattle.game_core.specs.declared.game.Row.{Row}
-use Rattle.game_core.specs.Solution.{row_of}
+use Rattle.row_runs.specs.declared.run.Run.{Run}
+use Rattle.row_runs.specs.declared.run.Version.{Version}
+use Rattle.row_runs.specs.Runs.{HasCells, MayFollow, TellRows}
+use Rattle.row_runs.specs.RunText.{run_line}
 use Rattle.grid_quantiser.specs.Axes.{cells_of}
 use Rattle.plant_text.specs.plant.Description.{Description, axes_of}
-use Rattle.controller_table.specs.declared.entry.Entry.{Entry}
 use Rattle.controller_table.specs.declared.fault.TableFault.{TableFault}
 use Rattle.controller_table.specs.declared.fault.TableFault.TheVariants as faults
-use Rattle.controller_table.specs.TableText.{entries_from, entry_line}
-use Rattle.controller_table.specs.RowLines.{AreEntriesOf}
+use Rattle.controller_table.specs.TableText.{words_of}
+use Rattle.controller_table.specs.RowLines.{IsRunOf, AreRunsOf}
 
--- So many rows are read from the lines at the front of the bytes.
-pub record AreRead (p : Description) (bytes rest : List ℕ) (rows : List (Option Row)) (count : ℕ) : Type 0 where
+-- a run may stand behind the one before it, if any
+abbrev pub MayFollowOn : Version → Option Run → Run → Type 0
+MayFollowOn version None r = Unit {0}
+MayFollowOn version (Some before) r = MayFollow version before r
+
+-- the last of some runs
+abbrev pub last_run : List Run → Option Run
+last_run [] = None
+last_run (r ∷ []) = Some r
+last_run (r ∷ s ∷ runs) = last_run (s ∷ runs)
+
+-- A run of the plant that may come next, its line, and what stands behind it.
+pub record IsNextRun (version : Version) (p : Description) (before : Option Run) (bytes : List ℕ) (r : Run) (behind : List ℕ) : Type 0 where
+  pub cells : HasCells version r
+  pub follows : MayFollowOn version before r
+  pub is : IsRunOf p r
+  pub text : bytes ≡ run_line version (words_of p.goal) r ++ behind
+
+abbrev pub IsRunNext : Version → Description → Option Run → List ℕ → Run × List ℕ → Type 0
+IsRunNext version p before bytes (r, behind) = IsNextRun version p before bytes r behind
+
+-- So many runs are read from the lines at the front of the bytes.
+pub record AreRead (version : Version) (p : Description) (bytes rest : List ℕ) (rows : List (Option Row)) (count : ℕ) : Type 0 where
   pub one_each : length rows ≡ cells_of (axes_of p)
-  pub entries : AreEntriesOf p (entries_from 0 rows)
-  pub counted : length (entries_from 0 rows) ≡ count
-  pub text : bytes ≡ concat (map (entry_line p.goal) (entries_from 0 rows)) ++ rest
+  pub runs : List Run
+  pub are : AreRunsOf version p runs
+  pub tell : TellRows runs rows
+  pub counted : length runs ≡ count
+  pub text : bytes ≡ concat (map (run_line version (words_of p.goal)) runs) ++ rest
 
--- The rows lie below a cell, which is the least for the next row.
-pub record AreBelow (p : Description) (rows : List (Option Row)) (least : ℕ) : Type 0 where
-  pub bound : least ≤ cells_of (axes_of p)
-  pub below : All (λ e. e.cell < least) (entries_from 0 rows)
-  pub empty : (c : ℕ) → least ≤ c → row_of rows c ≡ None
-  pub next : (e : Entry) → AreEntriesOf p (entries_from 0 rows ++ e ∷ []) → least ≤ e.cell
-
--- Behind the lines of some rows, too few, no line of a further row stands.
-pub record IsRowRefused (p : Description) (bytes : List ℕ) (count line : ℕ) : Type 0 where
-  pub entries : List Entry
-  pub are : AreEntriesOf p entries
-  pub few : length entries < count
-  pub number : line ≡ length entries + 2
+-- Behind the lines of some runs, too few, no line of a further run stands.
+pub record IsRunRefused (version : Version) (p : Description) (bytes : List ℕ) (count line : ℕ) : Type 0 where
+  pub runs : List Run
+  pub are : AreRunsOf version p runs
+  pub few : length runs < count
+  pub number : line ≡ length runs + 2
   pub rest : List ℕ
-  pub text : bytes ≡ concat (map (entry_line p.goal) entries) ++ rest
-  pub none : (e : Entry) (behind : List ℕ) → AreEntriesOf p (entries ++ e ∷ []) → rest ≡ entry_line p.goal e ++ behind → ⊥
+  pub text : bytes ≡ concat (map (run_line version (words_of p.goal)) runs) ++ rest
+  pub none : (r : Run) (behind : List ℕ) → AreRunsOf version p (runs ++ r ∷ []) → rest ≡ run_line version (words_of p.goal) r ++ behind → ⊥
 
--- why not so many rows are read
-abbrev pub AreRowsRefused : Description → List ℕ → ℕ → TableFault → Type 0
-AreRowsRefused p bytes count (faults.Malformed line) = IsRowRefused p bytes count line
-AreRowsRefused p bytes count (faults.Limit what) = ⊥
-AreRowsRefused p bytes count faults.Memory = Unit {0}
+-- why not so many runs are read
+abbrev pub AreRunsRefused : Version → Description → List ℕ → ℕ → TableFault → Type 0
+AreRunsRefused version p bytes count (faults.Malformed line) = IsRunRefused version p bytes count line
+AreRunsRefused version p bytes count (faults.Limit what) = ⊥
+AreRunsRefused version p bytes count faults.Memory = Unit {0}

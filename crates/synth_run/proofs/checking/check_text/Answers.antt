@@ -8,7 +8,7 @@ pub returns-clause-valid : goal.returns-clause-valid
 returns-clause-valid g c =
     let plant = c.in_ok-table.table.plant in
     let rows = c.in_ok-table.table.rows in
-    let table = c.in_ok-table.ensures.read in
+    let table = c.in_ok-table.ensures.read.0 in
     on_ok_both c.check_table.result _ _ _
     (λ solvable solution. record {
       plant = plant;

@@ -1,6 +1,6 @@
 use Rattle.std.proofs.Common.{refl}
 use Rattle.abstraction_table.specs.Table.{game_of}
-use Rattle.controller_table.specs.TableText.{First, table_text}
+use Rattle.controller_table.specs.TableText.{written, table_text}
 use Rattle.synth_run.proofs.Leaving.{resolved_on}
 use Rattle.synth_run.proofs.Tables.{is_solution, solution_fits}
 use Rattle.synth_run.proofs.solving.solve.Goals as goal
@@ -22,7 +22,7 @@ returns-clause-table g c =
         solution = solution;
         fitting = fits;
         text_is = refl;
-        controls = c.solution_tables_control_plants.ensures (table_text First p rows) p rows (record { limits = c.every_plant_is_within_limits.ensures; fitting = fits; version = First; text = refl }) solution;
+        controls = c.solution_tables_control_plants.ensures (table_text written p rows) p rows (record { limits = c.every_plant_is_within_limits.ensures; fitting = fits; version = written; text = refl }) solution;
       },
     )
 

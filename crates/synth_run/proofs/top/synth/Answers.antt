@@ -1,5 +1,5 @@
 use Rattle.std.proofs.Common.{List, ℕ, Some, refl, subst}
-use Rattle.controller_table.specs.TableText.{First, table_text}
+use Rattle.controller_table.specs.TableText.{written, table_text}
 use Rattle.run_words.specs.declared.form.Form.TheVariants.{Synth}
 use Rattle.synth_run.specs.declared.text.Text.TheVariants.{Table}
 use Rattle.run_devices.specs.Devices.{reading}
@@ -20,7 +20,7 @@ returns-clause-answer g c =
     worked_out (Synth workers) (plants_pass_on workers) source c.in_ok-bytes.bytes.items (Table solved)
     (record { told = refl; up_to = c.in_ok-bytes.ensures.read; no_fault = c.in_ok-bytes.ensures.no_fault (λ e. cc) })
     c.in_ok-solved.ensures.fits
-    (subst (λ (bytes : List ℕ). IsTableFor bytes (table_text First solved.plant solved.answer)) c.deref.ensures.value c.in_ok-solved.ensures.table)
+    (subst (λ (bytes : List ℕ). IsTableFor bytes (table_text written solved.plant solved.answer)) c.deref.ensures.value c.in_ok-solved.ensures.table)
 
 pub returns-clause-played : goal.returns-clause-played
 returns-clause-played g c =

@@ -1,0 +1,80 @@
+// The text of one line of a trace.
+
+ghost use Rattle.std.specs.Prelude.{◌≡◌, ◌+◌, ◌*◌, ◌<◌, ◌≤◌, ◌∷◌, ◌++◌, [], length};
+ghost use Rattle.std.specs.Fmt.{decimal};
+ghost use Rattle.loop_sim.specs.TraceText.{line_text, first_line};
+ghost use Rattle.loop_sim.specs.inside.States.{state_text};
+
+use crate::line::SimLine;
+use controller_table::words_of;
+use game_core::Row;
+use itoa::Buffer;
+use plant_text::Plant;
+use plant_text::laws::every_plant_is_within_limits;
+use row_runs::LineText;
+
+/// The first line of a trace.
+pub(crate) fn write_first(text: &mut LineText)
+    ensures { text.new ≡ first_line }
+{
+    text.begin();
+    text.put_before(b"trace 1");
+}
+
+pub(crate) fn write_line(text: &mut LineText, p: &Plant, line: &SimLine)
+    ensures text { text.new ≡ line_text p.now line.now }
+    ensures some { 0 < length text.new }
+{
+    match *line {
+        SimLine::At { time, x, row } => write_sample(text, p, time, &x, row),
+        SimLine::Arrived { time } => write_event(text, b"arrived ", time),
+        SimLine::Stopped { time } => write_event(text, b"stopped ", time),
+        SimLine::Lost { time, x } => write_loss(text, p, time, &x),
+    }
+}
+
+fn write_sample(text: &mut LineText, p: &Plant, time: u32, x: &[i128; 6], row: Row)
+    ensures text { text.new ≡ line_text p.now (SimLine.At time x.now row) }
+    ensures some { 0 < length text.new }
+{
+    every_plant_is_within_limits(p);
+    text.begin();
+    text.put_row_before(words_of(p.goal()), row);
+    put_state_before(text, &x[..p.states() as usize]);
+    text.put_number_before(time);
+}
+
+fn write_loss(text: &mut LineText, p: &Plant, time: u32, x: &[i128; 6])
+    ensures text { text.new ≡ line_text p.now (SimLine.Lost time x.now) }
+    ensures some { 0 < length text.new }
+{
+    every_plant_is_within_limits(p);
+    text.begin();
+    put_state_before(text, &x[..p.states() as usize]);
+    text.put_number_before(time);
+    text.put_before(b"lost ");
+}
+
+/// A word with a space behind it, and a time.
+fn write_event(text: &mut LineText, word: &[u8], time: u32)
+    requires { length word.now ≤ 200 }
+    ensures text { text.new ≡ word.now ++ (decimal time ++ 10 ∷ []) }
+    ensures some { 0 < length text.new }
+{
+    text.begin();
+    text.put_number_before(time);
+    text.put_before(word);
+}
+
+/// Puts the numbers before the rest, each with a space before it.
+fn put_state_before(text: &mut LineText, x: &[i128])
+    requires { 41 * length x.now + length text.old ≤ 320 }
+    ensures text { text.new ≡ state_text x.now ++ text.old }
+    ensures length { length text.new ≤ 41 * length x.now + length text.old }
+    ensures grows { length text.old ≤ length text.new }
+{
+    for at in (0..x.len()).rev() {
+        text.put_before(Buffer::new().format(x[at]).as_bytes());
+        text.put_before(b" ");
+    }
+}

@@ -1,0 +1,7 @@
+pub mod Telling
+pub mod Uniqueness
+pub mod NextRun
+pub mod NextRows
+pub mod MoreRuns
+pub mod SameRows
+pub mod RunLaws

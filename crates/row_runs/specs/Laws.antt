@@ -1,0 +1,21 @@
+-- What holds of every list of rows.
+use Rattle.std.specs.Prelude.{◌≡◌, List, length, Option}
+use Rattle.game_core.specs.declared.game.Row.{Row}
+use Rattle.row_runs.specs.declared.run.Run.{Run}
+use Rattle.row_runs.specs.declared.run.Version.{Version}
+use Rattle.row_runs.specs.Runs.{runs_from, AreRuns, TellRows}
+
+-- the runs of rows are runs, and tell the rows
+abbrev pub RunsTellTheRows : Type 0
+RunsTellTheRows =
+    (version : Version) (rows : List (Option Row)) → AreRuns version (runs_from version 0 rows) × TellRows (runs_from version 0 rows) rows
+
+-- two lists of runs that tell the same rows are one
+abbrev pub OneListOfRuns : Type 0
+OneListOfRuns =
+    (version : Version) (rows : List (Option Row)) (runs others : List Run) → AreRuns version runs → AreRuns version others → TellRows runs rows → TellRows others rows → runs ≡ others
+
+-- as many rows with the same runs are the same
+abbrev pub RunsTellApart : Type 0
+RunsTellApart =
+    (version : Version) (rows others : List (Option Row)) → length rows ≡ length others → runs_from version 0 rows ≡ runs_from version 0 others → rows ≡ others

@@ -1,0 +1,4 @@
+pub mod Runs
+pub mod RunText
+pub mod Laws
+pub mod inside

@@ -1,0 +1,30 @@
+-- The lines that tell runs of rows.
+use Rattle.std.specs.Prelude.{ℕ, ◌==◌, List, [], ◌∷◌, ◌++◌, codes, if◌then◌else◌}
+use Rattle.std.specs.List.{join_with_byte}
+use Rattle.std.specs.Fmt.{decimal}
+use Rattle.game_core.specs.declared.game.Row.{Row}
+use Rattle.row_runs.specs.declared.row_words.RowWords.{RowWords}
+use Rattle.row_runs.specs.declared.row_words.RowWords.TheVariants.{InputAboveZero, InputAlone, Both}
+use Rattle.row_runs.specs.declared.run.Run.{Run}
+use Rattle.row_runs.specs.declared.run.Version.{Version}
+use Rattle.row_runs.specs.declared.run.Version.TheVariants.{First, Second}
+
+-- words with a space between two, and a line feed
+abbrev pub line : List (List ℕ) → List ℕ
+line words = join_with_byte 32 words ++ codes "\n"
+
+abbrev pub rank_word : RowWords → Row → List ℕ
+rank_word InputAboveZero row = decimal row.rank
+rank_word InputAlone row = codes "-"
+rank_word Both row = decimal row.rank
+
+abbrev pub input_word : RowWords → Row → List ℕ
+input_word InputAboveZero row = if row.rank == 0 then codes "-" else decimal row.input
+input_word InputAlone row = decimal row.input
+input_word Both row = decimal row.input
+
+-- the line of a run: its cell in the first version, its first and last cell in the second, and the words of its row
+abbrev pub run_line : Version → RowWords → Run → List ℕ
+run_line First words r = line (decimal r.first ∷ rank_word words r.row ∷ input_word words r.row ∷ [])
+run_line Second words r =
+    line (decimal r.first ∷ decimal r.last ∷ rank_word words r.row ∷ input_word words r.row ∷ [])

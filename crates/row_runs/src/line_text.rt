@@ -1,0 +1,139 @@
+ghost use Rattle.std.specs.Prelude.{◌≡◌, ◌+◌, ◌<◌, ◌≤◌, ◌∷◌, ◌++◌, [], length, drop};
+ghost use Rattle.std.specs.Fmt.{decimal};
+ghost use Rattle.row_runs.specs.RunText.{rank_word, input_word, run_line};
+ghost use Rattle.row_runs.specs.declared.run.Version.TheVariants.{Second};
+
+use crate::row_words::RowWords;
+use crate::run::Run;
+use game_core::Row;
+use itoa::write_digits;
+use std::marker::Model;
+
+/// As many bytes as the longest line has: a word, three numbers of 32 bits and six of 128 bits, with a byte behind each.
+const ROOM: usize = 320;
+
+/// A line that is written from its end, and then taken from its front. Seen as its bytes.
+#[derive(Drop)]
+pub struct LineText {
+    bytes: [u8; ROOM],
+    /// The bytes from here on.
+    start: usize,
+}
+
+impl Model for LineText {
+    ghost use Rattle.std.specs.Prelude.{List, ℕ, drop, ◌≤◌};
+
+    ghost Value = { List ℕ };
+
+    ghost view = { λ l. drop l.start l.bytes };
+
+    ghost invariant = { λ l. l.start ≤ 320 };
+}
+
+impl LineText {
+    /// No bytes.
+    pub fn empty() -> LineText
+        ensures text { result ≡ [] }
+        ensures length { length result ≡ 0 }
+    {
+        LineText {
+            bytes: [0; ROOM],
+            start: ROOM,
+        }
+    }
+
+    /// Begins a line anew, at the line feed that ends it.
+    pub fn begin(&mut self)
+        ensures text { self.new ≡ 10 ∷ [] }
+        ensures length { length self.new ≡ 1 }
+    {
+        self.clear();
+        self.put_before(b"\n");
+    }
+
+    fn clear(&mut self)
+        ensures text { self.new ≡ [] }
+        ensures length { length self.new ≡ 0 }
+    {
+        self.start = ROOM;
+    }
+
+    /// Puts bytes before the rest.
+    pub fn put_before(&mut self, text: &[u8])
+        requires { length text.now + length self.old ≤ 320 }
+        ensures text { self.new ≡ text.now ++ self.old }
+        ensures length { length self.new ≡ length text.now + length self.old }
+    {
+        let start = self.start - text.len();
+        self.bytes[start..self.start].copy_from_slice(text);
+        self.start = start;
+    }
+
+    pub fn put_number_before(&mut self, number: u32)
+        requires { 10 + length self.old ≤ 320 }
+        ensures text { self.new ≡ decimal number ++ self.old }
+        ensures length { length self.new ≤ 10 + length self.old }
+    {
+        self.start = write_digits(u64::from(number), &mut self.bytes, self.start);
+    }
+
+    /// Puts the words of a row before the rest, with a space before each.
+    pub fn put_row_before(&mut self, words: RowWords, row: Row)
+        requires { 22 + length self.old ≤ 320 }
+        ensures text { self.new ≡ 32 ∷ (rank_word words row ++ 32 ∷ (input_word words row ++ self.old)) }
+        ensures length { length self.new ≤ 22 + length self.old }
+    {
+        self.put_input_before(words, row);
+        self.put_before(b" ");
+        self.put_rank_before(words, row);
+        self.put_before(b" ");
+    }
+
+    /// The line of a run.
+    pub fn write_run(&mut self, words: RowWords, run: Run)
+        ensures text { self.new ≡ run_line Second words run }
+        ensures some { 0 < length self.new }
+    {
+        self.begin();
+        self.put_row_before(words, run.row);
+        self.put_number_before(run.last);
+        self.put_before(b" ");
+        self.put_number_before(run.first);
+    }
+
+    fn put_input_before(&mut self, words: RowWords, row: Row)
+        requires { 10 + length self.old ≤ 320 }
+        ensures text { self.new ≡ input_word words row ++ self.old }
+        ensures length { length self.new ≤ 10 + length self.old }
+    {
+        match words {
+            RowWords::InputAboveZero if row.rank == 0 => self.put_before(b"-"),
+            _ => self.put_number_before(row.input),
+        }
+    }
+
+    fn put_rank_before(&mut self, words: RowWords, row: Row)
+        requires { 10 + length self.old ≤ 320 }
+        ensures text { self.new ≡ rank_word words row ++ self.old }
+        ensures length { length self.new ≤ 10 + length self.old }
+    {
+        match words {
+            RowWords::InputAlone => self.put_before(b"-"),
+            RowWords::InputAboveZero | RowWords::Both => self.put_number_before(row.rank),
+        }
+    }
+
+    pub fn as_slice(&self) -> &[u8]
+        ensures { result.now ≡ self.now }
+    {
+        &self.bytes[self.start..]
+    }
+
+    /// Takes the first bytes away.
+    pub fn advance(&mut self, count: usize)
+        requires { count ≤ length self.old }
+        ensures { self.new ≡ drop count self.old }
+    {
+        self.start += count;
+    }
+}

@@ -1,0 +1,18 @@
+use game_core::Row;
+
+/// How lines tell rows.
+#[derive(Clone, Copy, Debug, PartialEq, Eq)]
+pub enum Version {
+    /// Cell by cell.
+    First,
+    /// By the longest runs of cells with one row.
+    Second,
+}
+
+/// Cells that follow one another, with one row.
+#[derive(Clone, Copy, Debug, PartialEq, Eq)]
+pub struct Run {
+    pub first: u32,
+    pub last: u32,
+    pub row: Row,
+}

@@ -1,0 +1,62 @@
+ghost use Rattle.std.specs.Prelude.{◌≡◌, map};
+ghost use Rattle.std.specs.List.{concat};
+ghost use Rattle.row_runs.specs.declared.run.Version.TheVariants.{Second};
+ghost use Rattle.row_runs.specs.Runs.{runs_from};
+ghost use Rattle.row_runs.specs.RunText.{run_line};
+
+use crate::line_text::LineText;
+use crate::row_words::RowWords;
+use crate::runs::Runs;
+use game_core::Answer;
+use std::marker::Model;
+use text_pieces::{Pieces, copy_front};
+
+/// The lines of the runs of rows, piece by piece. Seen as the bytes that are still to come.
+#[derive(Drop)]
+pub struct RunLines<'a> {
+    words: RowWords,
+    /// What is left of the line that is being written.
+    line: LineText,
+    /// The runs behind it.
+    runs: Runs<'a>,
+}
+
+impl<'a> Model for RunLines<'a> {
+    ghost use Rattle.std.specs.Prelude.{List, ℕ, map, ◌++◌};
+    ghost use Rattle.std.specs.List.{concat};
+    ghost use Rattle.row_runs.specs.declared.run.Version.TheVariants.{Second};
+    ghost use Rattle.row_runs.specs.RunText.{run_line};
+
+    ghost Value = { List ℕ };
+
+    ghost view = { λ l. l.line ++ concat (map (run_line Second l.words) l.runs) };
+}
+
+impl<'a> RunLines<'a> {
+    /// The lines of all runs.
+    pub fn new(words: RowWords, answer: &'a Answer) -> RunLines<'a>
+        ensures { result ≡ concat (map (run_line Second words) (runs_from Second 0 answer.now)) }
+    {
+        RunLines {
+            words,
+            line: LineText::empty(),
+            runs: Runs::new(answer),
+        }
+    }
+}
+
+impl Pieces for RunLines<'_> {
+    ghost left = { λ l. l };
+
+    fn copy_some(&mut self, buf: &mut [u8]) -> usize {
+        if self.line.as_slice().is_empty() {
+            let Some(run) = self.runs.next() else {
+                return 0;
+            };
+            self.line.write_run(self.words, run);
+        }
+        let count = copy_front(self.line.as_slice(), buf);
+        self.line.advance(count);
+        count
+    }
+}
