@@ -5,7 +5,7 @@ use Rattle.std.proofs.lemmas.Bool.{cases_lt}
 use Rattle.std.proofs.Math.Nat.{zero-add, suc-add}
 use Rattle.std.specs.Prelude.{flat_map}
 use Rattle.std.specs.Io.KnownBytes.{Keeps}
-use Rattle.run_devices.specs.Devices.{Rose, Gains, GainsPart, Writing}
+use Rattle.run_devices.specs.Devices.{next_count, Gains, GainsPart, Writing}
 
 -- these bytes were read, and the others are left
 abbrev pub ReadSoFar : Option (List ℕ) → Option (List ℕ) → List ℕ → Type 0
@@ -55,7 +55,7 @@ pub short_of_room : (room now rest text : ℕ) → room + rest ≤ now + text �
 short_of_room room now rest text within none = elim (cases_lt now rest) [ inl lt ↦ omega (arith, lt, within) | inr le ↦ absurd (none le) ]
 
 -- the write of what is left failed
-pub written_part : (sink : Writing) (before : Option (List ℕ)) (text rest : List ℕ) → WrittenSoFar sink.before before text rest → Keeps before sink.after → 0 < length rest → Rose sink.faults_before sink.faults_after → sink.room < length text → GainsPart sink text
+pub written_part : (sink : Writing) (before : Option (List ℕ)) (text rest : List ℕ) → WrittenSoFar sink.before before text rest → Keeps before sink.after → 0 < length rest → sink.faults_after ≡ next_count sink.faults_before → sink.room < length text → GainsPart sink text
 written_part sink before text rest w kept some fault no_room = record {
   count = length w.front;
   proper = omega (arith, length-append w.front rest, ap length w.parts);
@@ -97,7 +97,7 @@ piece_part sink before faults room text rest piece more w same within cut part =
       count = length w.front + part.count;
       proper = (let lt = part.proper in omega (arith, lt, ap length whole, length-append w.front (piece ++ more), length-append piece more));
       gained = subst (λ (x : List ℕ). Gains sink.before sink.after x) (sym front_is) (gains_more sink.before before sink.after w.front (take part.count piece) w.gained part.gained);
-      fault = subst (λ (n : ℕ). Rose n sink.faults_after) same part.fault;
+      fault = part.fault ∙ ap next_count same;
       no_room = (let none = part.no_room in omega (arith, none, within, ap length cut, length-append piece more));
     }
 

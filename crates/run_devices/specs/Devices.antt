@@ -1,5 +1,9 @@
 -- What a source gave and what a sink took, where they tell their bytes.
-use Rattle.std.specs.Prelude.{◌≡◌, ◌⊎◌, ℕ, ◌-◌, ◌^◌, ◌<◌, ◌≤◌, Bool, List, ◌++◌, length, take, drop, Option, Some, None}
+use Rattle.std.specs.Prelude.{◌≡◌, ◌⊎◌, ℕ, ◌+◌, ◌-◌, ◌^◌, ◌<◌, ◌≤◌, Bool, List, ◌++◌, length, take, drop, min, Option, Some, None}
+
+-- one more, up to the greatest number of 64 bits
+abbrev pub next_count : ℕ → ℕ
+next_count n = min (n + 1) (2 ^ 64 - 1)
 
 -- a count of faults rose: it is greater, or has come to the last number that it can hold
 abbrev pub Rose : ℕ → ℕ → Type 0
@@ -51,10 +55,10 @@ pub record GainsWhole (sink : Writing) (text : List ℕ) : Type 0 where
   pub gained : Gains sink.before sink.after text
   pub no_fault : sink.faults_after ≡ sink.faults_before
 
--- A part of a text was appended, and not the whole: a fault was counted, and the sink hadn't promised room for the text.
+-- A part of a text was appended, and not the whole: one fault was counted, and the sink hadn't promised room for the text.
 pub record GainsPart (sink : Writing) (text : List ℕ) : Type 0 where
   pub count : ℕ
   pub proper : count < length text
   pub gained : Gains sink.before sink.after (take count text)
-  pub fault : Rose sink.faults_before sink.faults_after
+  pub fault : sink.faults_after ≡ next_count sink.faults_before
   pub no_room : sink.room < length text

@@ -18,10 +18,6 @@ pub record MemoryTaken : Type 0 where
   pub fails : List ℕ
   pub faults : ℕ
 
--- one more, up to the greatest number of 64 bits
-abbrev pub next_count : ℕ → ℕ
-next_count n = min (n + 1) (2 ^ 64 - 1)
-
 -- no call is to fail
 abbrev pub is_none_listed : List ℕ → Bool
 is_none_listed [] = true

@@ -1,6 +1,6 @@
 ghost use Rattle.std.specs.Prelude.{◌≡◌, ℕ, ◌<◌, ◌≤◌, ◌+◌, Bool, false, List, [], Option, Ok, length, take, IsTrue, IsOk, IfOk, IfSome, OnOk, OnErr};
 ghost use Rattle.std.specs.Io.KnownBytes.{Keeps};
-ghost use Rattle.run_devices.specs.Devices.{Rose, Takes, Gains};
+ghost use Rattle.run_devices.specs.Devices.{next_count, Takes, Gains};
 
 /// A device failed in this call.
 #[derive(Clone, Copy, Debug, PartialEq, Eq)]
@@ -26,7 +26,7 @@ pub trait Source {
         ensures kept { OnErr result (Keeps (left self.old) (left self.new)) }
 
         ensures counted { OnOk result (faults self.new ≡ faults self.old) }
-        ensures failed { OnErr result (Rose (faults self.old) (faults self.new)) }
+        ensures failed { OnErr result (faults self.new ≡ next_count (faults self.old)) }
         ensures never_falls { faults self.old ≤ faults self.new }
 
         ensures sound { IsTrue (is_sound self.old) → IsOk result }
@@ -52,7 +52,7 @@ pub trait Sink {
         ensures kept { OnErr result (Keeps (got self.old) (got self.new)) }
 
         ensures counted { OnOk result (faults self.new ≡ faults self.old) }
-        ensures failed { OnErr result (Rose (faults self.old) (faults self.new)) }
+        ensures failed { OnErr result (faults self.new ≡ next_count (faults self.old)) }
         ensures never_falls { faults self.old ≤ faults self.new }
 
         ensures room { 0 < length piece.now → length piece.now ≤ room self.old → IsOk result }

@@ -3,8 +3,8 @@
 ghost use Rattle.std.specs.Prelude.{◌≡◌, ◌<◌, ◌≤◌, ◌+◌, ◌-◌, ◌^◌, ◌↔◌, ◌⊎◌, [], true, Some, None, Ok, length, take, min, max, IsTrue, IsOk, IfOk, IfSome, IsErr, OnOk, OnErr};
 ghost use Rattle.std.specs.Io.KnownBytes.{Keeps};
 ghost use Rattle.std.specs.List.{Contains};
-ghost use Rattle.run_devices.specs.Devices.{Rose, Takes, Gains};
-ghost use Rattle.run_devices.specs.Memory.{MemoryLeft, MemoryTaken, next_count, is_none_listed, room_of};
+ghost use Rattle.run_devices.specs.Devices.{next_count, Takes, Gains};
+ghost use Rattle.run_devices.specs.Memory.{MemoryLeft, MemoryTaken, is_none_listed, room_of};
 
 use crate::devices::{Failed, Sink, Source};
 use std::alloc::{AllocError, Global};
@@ -105,7 +105,7 @@ impl Source for MemorySource {
         ensures at_end { result ≡ Ok 0 → 0 < length buf.old → IfSome (Some self.old.left) (λ bytes. bytes ≡ []) }
         ensures kept { OnErr result (Keeps (Some self.old.left) (Some self.new.left)) }
         ensures counted { OnOk result (self.new.faults ≡ self.old.faults) }
-        ensures failed { OnErr result (Rose self.old.faults self.new.faults) }
+        ensures failed { OnErr result (self.new.faults ≡ next_count self.old.faults) }
         ensures never_falls { self.old.faults ≤ self.new.faults }
         ensures sound { IsTrue (is_none_listed self.old.fails) → IsOk result }
         ensures stays_sound { IsTrue (is_none_listed self.old.fails) → IsTrue (is_none_listed self.new.fails) }
@@ -113,6 +113,7 @@ impl Source for MemorySource {
         ensures calls { self.new.calls ≡ next_count self.old.calls }
         ensures fails { self.new.fails ≡ self.old.fails }
         ensures chosen { IsErr result ↔ Contains self.old.fails self.new.calls }
+        ensures untouched { OnErr result (buf.new ≡ buf.old) }
     {
         self.calls = self.calls.saturating_add(1);
         if self.fails.contains(&self.calls) {
@@ -187,7 +188,7 @@ impl Sink for MemorySink {
         ensures gained { IfOk result (λ n. Gains (Some self.old.got) (Some self.new.got) (take n piece.now)) }
         ensures kept { OnErr result (Keeps (Some self.old.got) (Some self.new.got)) }
         ensures counted { OnOk result (self.new.faults ≡ self.old.faults) }
-        ensures failed { OnErr result (Rose self.old.faults self.new.faults) }
+        ensures failed { OnErr result (self.new.faults ≡ next_count self.old.faults) }
         ensures never_falls { self.old.faults ≤ self.new.faults }
         ensures room { 0 < length piece.now → length piece.now ≤ room_of self.old.fails self.old.room self.old.got → IsOk result }
         ensures room_left { IfOk result (λ n. room_of self.old.fails self.old.room self.old.got ≤ room_of self.new.fails self.new.room self.new.got + n) }
@@ -240,12 +241,6 @@ impl CountSink {
     {
         self.count
     }
-
-    fn add(&mut self, piece: &[u8])
-        ensures { self.new ≡ min (self.old + length piece.now) (2 ^ 64 - 1) }
-    {
-        self.count = self.count.saturating_add(piece.len() as u64);
-    }
 }
 
 impl Sink for CountSink {
@@ -255,8 +250,11 @@ impl Sink for CountSink {
 
     ghost room = { λ _. 2 ^ 64 - 1 };
 
-    fn write(&mut self, piece: &[u8]) -> Result<usize, Failed> {
-        self.add(piece);
+    fn write(&mut self, piece: &[u8]) -> Result<usize, Failed>
+        ensures whole { result ≡ Ok (length piece.now) }
+        ensures count { self.new ≡ min (self.old + length piece.now) (2 ^ 64 - 1) }
+    {
+        self.count = self.count.saturating_add(piece.len() as u64);
         Ok(piece.len())
     }
 }

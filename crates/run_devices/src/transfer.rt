@@ -2,7 +2,7 @@
 
 ghost use Rattle.std.specs.List.{flat_map};
 ghost use Rattle.std.specs.Prelude.{◌≡◌, ◌≢◌, ◌<◌, ◌≤◌, ◌+◌, Ok, IfOk, IfErr, OnOk, OnErr, IsTrue, IsOk, Err, length};
-ghost use Rattle.run_devices.specs.Devices.{Rose, TakesAtMost, Gains, GainsWhole, GainsPart, writing};
+ghost use Rattle.run_devices.specs.Devices.{next_count, TakesAtMost, Gains, GainsWhole, GainsPart, writing};
 ghost use Rattle.run_devices.specs.Transfers.{ReadUpTo, StopsBy};
 ghost use Rattle.run_devices.specs.declared.transfer.ReadFault.TheVariants.{Memory, Device};
 ghost use Rattle.run_devices.specs.declared.transfer.WriteFault.TheVariants as writes;
@@ -70,7 +70,7 @@ pub fn read_up_to<S: Source>(
 ) -> Result<Vec<u8>, ReadFault>
     ensures read { IfOk result (λ bytes. ReadUpTo (S.left source.old) (S.left source.new) most bytes.items) }
     ensures never_past { TakesAtMost (S.left source.old) (S.left source.new) most }
-    ensures fault { result ≡ Err ReadFault.Device → Rose (S.faults source.old) (S.faults source.new) }
+    ensures fault { result ≡ Err ReadFault.Device → S.faults source.new ≡ next_count (S.faults source.old) }
     ensures no_fault { result ≢ Err ReadFault.Device → S.faults source.new ≡ S.faults source.old }
     ensures sound { IsTrue (S.is_sound source.old) → result ≢ Err ReadFault.Device }
 {

@@ -1,13 +1,17 @@
 -- Where no device fails, every text has its answer.
-use Rattle.std.proofs.Common.{inl, inr, ◌≡◌, ℕ, List, Option, Some, None, refl, ap}
+use Rattle.std.proofs.Common.{inl, inr, ◌≡◌, ℕ, List, Option, Some, None, refl, sym, ap, ◌∙◌}
 use Rattle.std.specs.Prelude.{IfSome}
 use Rattle.run_words.specs.declared.form.Form.{Form}
+use Rattle.run_words.specs.declared.form.Form.TheVariants.{Synth, Check, Sim, Demo}
 use Rattle.synth_run.specs.declared.outcome.Outcome.{Outcome}
 use Rattle.synth_run.specs.declared.outcome.Outcome.TheVariants.{Done, Invalid, NoRow, Usage, Malformed, Overflow, Limit, ReadFault, WriteFault, NoMemory}
+use Rattle.run_devices.specs.Devices.{next_count}
+use Rattle.run_devices.proofs.Laws.{rose_by_one}
+use Rattle.synth_run.specs.Sources.{NoReadFailed}
 use Rattle.synth_run.specs.Demands.{Demands}
 use Rattle.synth_run.specs.Laws.{OneDemandPerText}
 use Rattle.synth_run.specs.Statuses.{status_of, IsTheTexts}
-use Rattle.synth_run.specs.Runs.{IsCompleteAnswer}
+use Rattle.synth_run.specs.Runs.{CanEnd, IsCompleteAnswer}
 
 pub answer_is_complete : OneDemandPerText → (form : Form) (outcome : Outcome) (told : Option (List ℕ)) → (outcome ≡ Usage → ⊥) → (outcome ≡ ReadFault → ⊥) → (outcome ≡ WriteFault → ⊥)
     → (IsTheTexts outcome → IfSome told (λ bytes. Demands form bytes outcome)) → IfSome told (IsCompleteAnswer form (status_of outcome))
@@ -22,3 +26,17 @@ answer_is_complete one form NoRow (Some bytes) usage read write demanded = λ ot
 answer_is_complete one form (Malformed line) (Some bytes) usage read write demanded = λ other demands. inl (ap status_of (one form bytes (Malformed line) other (demanded tt) demands))
 answer_is_complete one form (Overflow i u) (Some bytes) usage read write demanded = λ other demands. inl (ap status_of (one form bytes (Overflow i u) other (demanded tt) demands))
 answer_is_complete one form (Limit what) (Some bytes) usage read write demanded = λ other demands. inl (ap status_of (one form bytes (Limit what) other (demanded tt) demands))
+
+-- no read of a form failed where its source didn't count one, and none where the form makes none
+pub read_did_not_fail : (form : Form) (outcome : Outcome) (before after : ℕ) → CanEnd form outcome → (outcome ≡ ReadFault → after ≡ next_count before) → NoReadFailed form before after → outcome ≡ ReadFault → ⊥
+read_did_not_fail (Synth workers) outcome before after can fault none e = none (rose_by_one before after (fault e))
+read_did_not_fail Check outcome before after can fault none e = none (rose_by_one before after (fault e))
+read_did_not_fail (Sim samples seed start) outcome before after can fault none e = none (rose_by_one before after (fault e))
+read_did_not_fail (Demo number workers) outcome before after can fault none e =
+    elim can [
+      | inl done ↦ (let clash : Done ≡ ReadFault = sym done ∙ e in cc)
+      | inr other ↦ elim other [
+        | inl cut ↦ (let clash : WriteFault ≡ ReadFault = sym cut ∙ e in cc)
+        | inr memory ↦ (let clash : NoMemory ≡ ReadFault = sym memory ∙ e in cc)
+      ]
+    ]

@@ -1,5 +1,5 @@
 -- How a run of a form ends.
-use Rattle.std.proofs.Common.{◌≡◌, ℕ, List, Option, Some, None, refl}
+use Rattle.std.proofs.Common.{inl, inr, ◌≡◌, ℕ, List, Option, Some, None, refl}
 use Rattle.std.specs.Prelude.{IfSome}
 use Rattle.cell_counters.specs.Tokens.{BoardModel, RootModel}
 use Rattle.run_devices.specs.Devices.{Reading, Writing, GainsWhole, GainsPart}
@@ -11,7 +11,7 @@ use Rattle.synth_run.specs.declared.outcome.Outcome.TheVariants.{Done, WriteFaul
 use Rattle.synth_run.specs.declared.text.Text.{Text}
 use Rattle.synth_run.specs.Headline.{IsAnswer}
 use Rattle.synth_run.specs.Played.{SolvesNothing}
-use Rattle.synth_run.specs.Runs.{IsAnswered, IsCutOff, IsRunOf}
+use Rattle.synth_run.specs.Runs.{CanEnd, IsAnswered, IsCutOff, IsRunOf}
 use Rattle.synth_run.specs.Sources.{given}
 use Rattle.synth_run.specs.inside.Resolving.{IsToBeLeft}
 use Rattle.synth_run.specs.inside.Texts.{bytes_of}
@@ -24,18 +24,39 @@ solves_none Check = refl
 solves_none (Sim samples seed start) = refl
 solves_none (Demo number workers) = tt
 
+can_end_done : (form : Form) → CanEnd form Done
+can_end_done (Synth workers) = tt
+can_end_done Check = tt
+can_end_done (Sim samples seed start) = tt
+can_end_done (Demo number workers) = inl refl
+
+can_end_cut_off : (form : Form) → CanEnd form WriteFault
+can_end_cut_off (Synth workers) = tt
+can_end_cut_off Check = tt
+can_end_cut_off (Sim samples seed start) = tt
+can_end_cut_off (Demo number workers) = inr (inl refl)
+
+can_end_without_memory : (form : Form) → CanEnd form NoMemory
+can_end_without_memory (Synth workers) = tt
+can_end_without_memory Check = tt
+can_end_without_memory (Sim samples seed start) = tt
+can_end_without_memory (Demo number workers) = inr (inr refl)
+
 -- there is no answer, and nothing is written
 pub ends_turned_down : (form : Form) (outcome : Outcome) (source : Reading) (out : Writing) → IsTurnedDown form outcome source → IsUntouched out → IsRunOf form outcome source out None
 ends_turned_down form outcome source out h untouched = record {
   not_usage = h.not_usage;
+  can_end = h.can_end;
   answered = λ e. absurd (h.not_done e);
   cut_off = λ e. absurd (h.not_write_fault e);
   nothing_written = λ _ _. untouched.nothing;
   leaves = λ e. absurd (h.not_done e);
+  leaves_a_game = λ e. absurd (h.not_done e);
   leaves_nothing = λ _. refl;
   solves_nothing = solves_none form;
   read = h.read;
   never_past = h.never_past;
+  leaves_alone = h.leaves_alone;
   demanded = h.demanded;
   read_fault = h.fault;
   no_read_fault = h.no_fault;
@@ -48,14 +69,17 @@ ends_turned_down form outcome source out h untouched = record {
 pub ends_done : (form : Form) (text : Text) (source : Reading) (out : Writing) (played : Option (BoardModel × RootModel)) → IsWorkedOut form text source → IsToBeLeft form played source → GainsWhole out (bytes_of text) → IsRunOf form Done source out played
 ends_done form text source out played h left whole = record {
   not_usage = λ e. cc;
+  can_end = can_end_done form;
   answered = λ _. if_some_more (given form source.before) (λ bytes. IsAnswer form bytes (bytes_of text)) (λ bytes. IsAnswered form bytes out) (λ bytes answer. (bytes_of text, answer, whole)) h.answer;
   cut_off = λ e. absurd (let clash : Done ≡ WriteFault = e in cc);
   nothing_written = λ not_done _. absurd (not_done refl);
   leaves = λ _. left.leaves;
+  leaves_a_game = λ _. left.leaves_a_game;
   leaves_nothing = λ not_done. absurd (not_done refl);
   solves_nothing = left.solves_nothing;
   read = λ _ _. h.read;
   never_past = h.never_past;
+  leaves_alone = h.leaves_alone;
   demanded = λ _. h.demanded;
   read_fault = λ e. absurd (cc);
   no_read_fault = λ _. h.no_fault;
@@ -68,14 +92,17 @@ ends_done form text source out played h left whole = record {
 pub ends_cut_off : (form : Form) (text : Text) (source : Reading) (out : Writing) → IsWorkedOut form text source → GainsPart out (bytes_of text) → IsRunOf form WriteFault source out None
 ends_cut_off form text source out h part = record {
   not_usage = λ e. cc;
+  can_end = can_end_cut_off form;
   answered = λ e. absurd (let clash : WriteFault ≡ Done = e in cc);
   cut_off = λ _. if_some_more (given form source.before) (λ bytes. IsAnswer form bytes (bytes_of text)) (λ bytes. IsCutOff form bytes out) (λ bytes answer. (bytes_of text, answer, part)) h.answer;
   nothing_written = λ _ other. absurd (other refl);
   leaves = λ e. absurd (let clash : WriteFault ≡ Done = e in cc);
+  leaves_a_game = λ e. absurd (let clash : WriteFault ≡ Done = e in cc);
   leaves_nothing = λ _. refl;
   solves_nothing = solves_none form;
   read = λ _ _. h.read;
   never_past = h.never_past;
+  leaves_alone = h.leaves_alone;
   demanded = λ texts. absurd texts;
   read_fault = λ e. absurd (cc);
   no_read_fault = λ _. h.no_fault;
@@ -88,14 +115,17 @@ ends_cut_off form text source out h part = record {
 pub ends_without_memory : (form : Form) (text : Text) (source : Reading) (out : Writing) → IsWorkedOut form text source → IsUntouched out → IsRunOf form NoMemory source out None
 ends_without_memory form text source out h untouched = record {
   not_usage = λ e. cc;
+  can_end = can_end_without_memory form;
   answered = λ e. absurd (let clash : NoMemory ≡ Done = e in cc);
   cut_off = λ e. absurd (let clash : NoMemory ≡ WriteFault = e in cc);
   nothing_written = λ _ _. untouched.nothing;
   leaves = λ e. absurd (let clash : NoMemory ≡ Done = e in cc);
+  leaves_a_game = λ e. absurd (let clash : NoMemory ≡ Done = e in cc);
   leaves_nothing = λ _. refl;
   solves_nothing = solves_none form;
   read = λ _ some. absurd (some refl);
   never_past = h.never_past;
+  leaves_alone = h.leaves_alone;
   demanded = λ texts. absurd texts;
   read_fault = λ e. absurd (cc);
   no_read_fault = λ _. h.no_fault;

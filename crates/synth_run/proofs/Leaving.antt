@@ -35,13 +35,13 @@ if_told None P h = tt
 if_told (Some bytes) P h = h bytes
 
 pub check_leaves : (source : Reading) → IsToBeLeft Check None source
-check_leaves source = record { leaves = if_told source.before (λ bytes. IsPlayed Check bytes None) (λ bytes. refl); solves_nothing = refl }
+check_leaves source = record { leaves = if_told source.before (λ bytes. IsPlayed Check bytes None) (λ bytes. refl); leaves_a_game = refl; solves_nothing = refl }
 
 pub sim_leaves : (samples seed : ℕ) (start : List ℤ) (source : Reading) → IsToBeLeft (Sim samples seed start) None source
-sim_leaves samples seed start source = record { leaves = if_told source.before (λ bytes. IsPlayed (Sim samples seed start) bytes None) (λ bytes. refl); solves_nothing = refl }
+sim_leaves samples seed start source = record { leaves = if_told source.before (λ bytes. IsPlayed (Sim samples seed start) bytes None) (λ bytes. refl); leaves_a_game = refl; solves_nothing = refl }
 
 pub demo_leaves : (n workers : ℕ) (played : Option (BoardModel × RootModel)) (source : Reading) → LeavesTheGameOf (demo_plant_of n) played → IsToBeLeft (Demo n workers) played source
-demo_leaves n workers played source h = record { leaves = h; solves_nothing = tt }
+demo_leaves n workers played source h = record { leaves = h; leaves_a_game = h; solves_nothing = tt }
 
 -- what was read spells no plant where it is a front of a longer text
 longer : (workers : ℕ) (played : Option (BoardModel × RootModel)) (bytes : List ℕ) → 65537 < length bytes → IsPlayed (Synth workers) (take 65537 bytes) played → IsPlayed (Synth workers) bytes played
@@ -50,5 +50,6 @@ longer workers played bytes lt h = absurd (long_front bytes lt h.1.short)
 pub synth_leaves : (workers : ℕ) (played : Option (BoardModel × RootModel)) (source : Reading) (read : List ℕ) → IsReadWhole (Synth workers) source read → IsPlayed (Synth workers) read played → IsToBeLeft (Synth workers) played source
 synth_leaves workers played source read whole h = record {
   leaves = of_whole (λ bytes. IsPlayed (Synth workers) bytes played) 65537 source.before source.after read whole.up_to (longer workers played) h;
+  leaves_a_game = (h.0, h.1.limits, h.2);
   solves_nothing = tt;
 }

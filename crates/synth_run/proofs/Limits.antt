@@ -17,9 +17,11 @@ use Rattle.run_words.specs.declared.form.Form.TheVariants.{Synth, Check, Sim}
 use Rattle.synth_run.specs.declared.outcome.Outcome.{Outcome}
 use Rattle.synth_run.specs.declared.outcome.Outcome.TheVariants.{Done, Invalid, NoRow, Usage, Malformed, Overflow, Limit, ReadFault, WriteFault, NoMemory}
 use Rattle.run_devices.specs.Transfers.{ReadUpTo}
-use Rattle.synth_run.specs.Sources.{most_read}
+use Rattle.synth_run.specs.Sources.{most_read, LeavesAlone}
 use Rattle.synth_run.specs.Demands.{IsRefusal, IsRefused, IsRefusedTable, Demands}
 use Rattle.synth_run.specs.Headline.{IsAnswer}
+use Rattle.synth_run.specs.Runs.{CanEnd}
+use Rattle.run_devices.specs.Devices.{Reading}
 use Rattle.std.proofs.lemmas.List.{take_all}
 
 -- ---- what was read stands for the whole text
@@ -85,13 +87,18 @@ refused_table_of_longer bytes outcome lt h = passes _ _ _ _ (λ line h. absurd (
 
 -- ---- forms
 
--- What a form's text demands as far as it is read, and how it is answered, holds of the whole text if it is longer.
+-- A form that reads its source: what its text demands as far as it is read, and how it is answered, holds of the whole text
+-- if it is longer.
 pub record PassesOn (form : Form) : Type 0 where
+  pub ends : (outcome : Outcome) → CanEnd form outcome
+  pub uses : (source : Reading) → LeavesAlone form source
   pub demands : (outcome : Outcome) (bytes : List ℕ) → most_read form < length bytes → Demands form (take (most_read form) bytes) outcome → Demands form bytes outcome
   pub answers : (text bytes : List ℕ) → most_read form < length bytes → IsAnswer form (take (most_read form) bytes) text → IsAnswer form bytes text
 
 pub plants_pass_on : (workers : ℕ) → PassesOn (Synth workers)
 plants_pass_on workers = record {
+  ends = λ _. tt;
+  uses = λ _. tt;
   demands = λ outcome bytes lt h.
       elim h [
         | inl refused ↦ inl (refused_of_longer bytes outcome lt refused)
@@ -105,6 +112,8 @@ no_table_front short bytes p rows lt table = long_table_front bytes lt (short (t
 
 pub tables_pass_on : TablesAreShort → PassesOn Check
 tables_pass_on short = record {
+  ends = λ _. tt;
+  uses = λ _. tt;
   demands = λ outcome bytes lt h.
       elim h [
         | inl refused ↦ inl (refused_table_of_longer bytes outcome lt refused)
@@ -115,6 +124,8 @@ tables_pass_on short = record {
 
 pub traces_pass_on : TablesAreShort → (samples seed : ℕ) (start : List ℤ) → PassesOn (Sim samples seed start)
 traces_pass_on short samples seed start = record {
+  ends = λ _. tt;
+  uses = λ _. tt;
   demands = λ outcome bytes lt h.
       elim h [
         | inl refused ↦ inl (refused_table_of_longer bytes outcome lt refused)

@@ -48,6 +48,7 @@ worked_out form passes source read text whole fits answer = record {
       (if_some_more source.before (λ bytes. IsAnswer form bytes (bytes_of text)) (λ bytes. Demands form bytes Done) (λ bytes. answered_is_demanded form bytes (bytes_of text)) answers);
   read = read_to_the_limit (most_read form) source.before source.after read whole.up_to;
   never_past = within_limit (most_read form) source.before source.after read whole.up_to;
+  leaves_alone = passes.uses source;
   no_fault = whole.no_fault;
 }
   where
@@ -83,10 +84,12 @@ turned_down form passes source read outcome whole not_done demands = record {
   not_done = not_done;
   not_usage = λ e. demands_no_usage form read (subst (Demands form read) e (demands (λ m. let clash : NoMemory ≡ Usage = sym m ∙ e in cc)));
   not_write_fault = λ e. demands_no_write_fault form read (subst (Demands form read) e (demands (λ m. let clash : NoMemory ≡ WriteFault = sym m ∙ e in cc)));
+  can_end = passes.ends outcome;
   demanded = λ texts. subst (λ (told : Option (List ℕ)). IfSome told (λ bytes. Demands form bytes outcome)) (sym whole.told)
       (of_whole (λ bytes. Demands form bytes outcome) (most_read form) source.before source.after read whole.up_to (passes.demands outcome) (demands (not_for_memory outcome texts)));
   read = λ _ _. read_to_the_limit (most_read form) source.before source.after read whole.up_to;
   never_past = within_limit (most_read form) source.before source.after read whole.up_to;
+  leaves_alone = passes.uses source;
   fault = λ e. absurd (no_read_fault e);
   no_fault = λ _. whole.no_fault;
   sound = λ _. no_read_fault;
@@ -108,7 +111,7 @@ none_taken (Some bytes) = (0, omega arith, refl)
 -- the line of a demo plant is the form's answer, and its source stays as it was
 pub demo_worked_out : (n workers : ℕ) (told : Option (List ℕ)) (faults : ℕ) (sound : Bool) (text : Text) → CanBeWritten text → IsDemoLine n (bytes_of text)
     → IsWorkedOut (Demo n workers) text (record { before = told; after = told; faults_before = faults; faults_after = faults; is_sound = sound })
-demo_worked_out n workers told faults sound text fits line = record { can_be_written = fits; answer = line; demanded = refl; read = unread told; never_past = none_taken told; no_fault = refl }
+demo_worked_out n workers told faults sound text fits line = record { can_be_written = fits; answer = line; demanded = refl; read = unread told; never_past = none_taken told; leaves_alone = record { bytes = refl; faults = refl }; no_fault = refl }
 
 pub demo_turned_down : (n workers : ℕ) (told : Option (List ℕ)) (faults : ℕ) (sound : Bool) (outcome : Outcome) → outcome ≡ NoMemory
     → IsTurnedDown (Demo n workers) outcome (record { before = told; after = told; faults_before = faults; faults_after = faults; is_sound = sound })
@@ -116,9 +119,11 @@ demo_turned_down n workers told faults sound outcome memory = record {
   not_done = λ e. let clash : NoMemory ≡ Done = sym memory ∙ e in cc;
   not_usage = λ e. let clash : NoMemory ≡ Usage = sym memory ∙ e in cc;
   not_write_fault = λ e. let clash : NoMemory ≡ WriteFault = sym memory ∙ e in cc;
+  can_end = inr (inr memory);
   demanded = λ texts. absurd (not_for_memory outcome texts memory);
   read = λ _ some. absurd (some memory);
   never_past = none_taken told;
+  leaves_alone = record { bytes = refl; faults = refl };
   fault = λ e. absurd (let clash : NoMemory ≡ ReadFault = sym memory ∙ e in cc);
   no_fault = λ _. refl;
   sound = λ _ e. let clash : NoMemory ≡ ReadFault = sym memory ∙ e in cc;

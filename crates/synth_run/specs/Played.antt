@@ -6,6 +6,7 @@ use Rattle.game_core.specs.Game.{Game}
 use Rattle.plant_text.specs.declared.plant.aims.GoalKind.{GoalKind}
 use Rattle.plant_text.specs.declared.plant.aims.GoalKind.TheVariants.{Reach, Keep}
 use Rattle.plant_text.specs.plant.Description.{Description}
+use Rattle.plant_text.specs.plant.Limits.{IsWithinLimits}
 use Rattle.abstraction_table.specs.Abstraction.{IsGameOf}
 use Rattle.reach_avoid.specs.Boards.{IsBoardOf as IsReachBoardOf}
 use Rattle.reach_avoid.specs.Reckoned.{IsReckoned as IsReachReckoned}
@@ -40,12 +41,20 @@ pub record IsResolvedOn (p : Description) (board : BoardModel) (root : RootModel
 abbrev pub LeavesTheGameOf : Description → Option (BoardModel × RootModel) → Type 0
 LeavesTheGameOf p played = (board : BoardModel) × (root : RootModel) × (played ≡ Some (board, root)) × IsResolvedOn p board root
 
--- what a form leaves that was done for some bytes: `synth` and `demo` the game of their plant, `check` and `sim` nothing
+-- what a form leaves that was done for some bytes: `synth` and `demo` the game of their plant, the others nothing
 abbrev pub IsPlayed : Form → List ℕ → Option (BoardModel × RootModel) → Type 0
 IsPlayed (Synth workers) bytes played = (p : Description) × IsAccepted bytes p × LeavesTheGameOf p played
 IsPlayed Check bytes played = played ≡ None
 IsPlayed (Sim samples seed start) bytes played = played ≡ None
 IsPlayed (Demo number workers) bytes played = LeavesTheGameOf (demo_plant_of number) played
+
+-- what a form leaves that was done, whatever its source tells: `synth` the game of a plant within the limits, `demo` that
+-- of its plant, the others nothing
+abbrev pub LeavesAGame : Form → Option (BoardModel × RootModel) → Type 0
+LeavesAGame (Synth workers) played = (p : Description) × IsWithinLimits p × LeavesTheGameOf p played
+LeavesAGame Check played = played ≡ None
+LeavesAGame (Sim samples seed start) played = played ≡ None
+LeavesAGame (Demo number workers) played = LeavesTheGameOf (demo_plant_of number) played
 
 -- `check` and `sim` solve no game, whatever their source tells
 abbrev pub SolvesNothing : Form → Option (BoardModel × RootModel) → Type 0

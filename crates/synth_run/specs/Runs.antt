@@ -2,14 +2,15 @@
 use Rattle.std.specs.Prelude.{◌≡◌, ◌≢◌, ◌⊎◌, ◌↔◌, ℕ, List, [], drop, Option, Some, None, IfSome, IsTrue}
 use Rattle.cell_counters.specs.Tokens.{BoardModel, RootModel}
 use Rattle.run_words.specs.declared.form.Form.{Form}
+use Rattle.run_words.specs.declared.form.Form.TheVariants.{Synth, Check, Sim, Demo}
 use Rattle.synth_run.specs.declared.outcome.Outcome.{Outcome}
 use Rattle.synth_run.specs.declared.outcome.Outcome.TheVariants.{Done, Usage, ReadFault, WriteFault, NoMemory}
-use Rattle.run_devices.specs.Devices.{Rose, Reading, Writing, GainsWhole, GainsPart, TakesAtMost}
+use Rattle.run_devices.specs.Devices.{next_count, Reading, Writing, GainsWhole, GainsPart, TakesAtMost}
 use Rattle.run_words.specs.Form.{IsOfForm, AreOfNoForm}
-use Rattle.synth_run.specs.Sources.{given, most_read}
+use Rattle.synth_run.specs.Sources.{given, most_read, LeavesAlone}
 use Rattle.synth_run.specs.Demands.{Demands}
 use Rattle.synth_run.specs.Headline.{IsAnswer}
-use Rattle.synth_run.specs.Played.{IsPlayed, SolvesNothing}
+use Rattle.synth_run.specs.Played.{IsPlayed, LeavesAGame, SolvesNothing}
 use Rattle.synth_run.specs.Statuses.{status_of, line_of, IsTheTexts, Reports}
 
 -- the answer of a form for some bytes was written whole
@@ -24,26 +25,36 @@ IsCutOff form bytes out = (text : List ℕ) × IsAnswer form bytes text × Gains
 abbrev pub IsRead : Form → Reading → Type 0
 IsRead form source = IfSome source.before (λ bytes. source.after ≡ Some (drop (most_read form) bytes))
 
+-- how a form can end whose words are right, whatever its source tells: nothing refuses `demo`, and no read of it fails
+abbrev pub CanEnd : Form → Outcome → Type 0
+CanEnd (Synth workers) outcome = Unit {0}
+CanEnd Check outcome = Unit {0}
+CanEnd (Sim samples seed start) outcome = Unit {0}
+CanEnd (Demo number workers) outcome = (outcome ≡ Done) ⊎ ((outcome ≡ WriteFault) ⊎ (outcome ≡ NoMemory))
+
 -- What a run of a form gives, by how it ends.
 pub record IsRunOf (form : Form) (outcome : Outcome) (source : Reading) (out : Writing) (played : Option (BoardModel × RootModel)) : Type 0 where
   pub not_usage : outcome ≢ Usage
+  pub can_end : CanEnd form outcome
   -- what was written
   pub answered : outcome ≡ Done → IfSome (given form source.before) (λ bytes. IsAnswered form bytes out)
   pub cut_off : outcome ≡ WriteFault → IfSome (given form source.before) (λ bytes. IsCutOff form bytes out)
   pub nothing_written : outcome ≢ Done → outcome ≢ WriteFault → out.after ≡ out.before
   -- what is left of the game that was solved
   pub leaves : outcome ≡ Done → IfSome (given form source.before) (λ bytes. IsPlayed form bytes played)
+  pub leaves_a_game : outcome ≡ Done → LeavesAGame form played
   pub leaves_nothing : outcome ≢ Done → played ≡ None
   pub solves_nothing : SolvesNothing form played
   -- what was read, and that a refusal is the one that the text demands
   pub read : outcome ≢ ReadFault → outcome ≢ NoMemory → IsRead form source
   pub never_past : TakesAtMost source.before source.after (most_read form)
+  pub leaves_alone : LeavesAlone form source
   pub demanded : IsTheTexts outcome → IfSome (given form source.before) (λ bytes. Demands form bytes outcome)
-  -- a device is told to have failed where its count rose, and its count stands everywhere else
-  pub read_fault : outcome ≡ ReadFault → Rose source.faults_before source.faults_after
+  -- a device is told to have failed where its count rose by one, and its count stands everywhere else
+  pub read_fault : outcome ≡ ReadFault → source.faults_after ≡ next_count source.faults_before
   pub no_read_fault : outcome ≢ ReadFault → source.faults_after ≡ source.faults_before
   pub sound_source : IsTrue source.is_sound → outcome ≢ ReadFault
-  pub write_fault : outcome ≡ WriteFault → Rose out.faults_before out.faults_after
+  pub write_fault : outcome ≡ WriteFault → out.faults_after ≡ next_count out.faults_before
   pub no_write_fault : outcome ≢ WriteFault → out.faults_after ≡ out.faults_before
 
 -- Neither device was used.

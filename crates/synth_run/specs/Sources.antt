@@ -1,5 +1,6 @@
--- What a form takes from its source.
-use Rattle.std.specs.Prelude.{ℕ, ◌+◌, List, [], Option, Some}
+-- What a form takes from its source. `demo` takes nothing.
+use Rattle.std.specs.Prelude.{◌≡◌, ℕ, ◌+◌, List, [], Option, Some}
+use Rattle.run_devices.specs.Devices.{Rose, Reading}
 use Rattle.run_words.specs.declared.form.Form.{Form}
 use Rattle.run_words.specs.declared.form.Form.TheVariants.{Synth, Check, Sim, Demo}
 
@@ -16,3 +17,22 @@ most_read (Synth workers) = 65536 + 1
 most_read Check = 67108864 + 1
 most_read (Sim samples seed start) = 67108864 + 1
 most_read (Demo number workers) = 0
+
+-- The source is as it was, and counted no fault.
+pub record IsLeftAlone (source : Reading) : Type 0 where
+  pub bytes : source.after ≡ source.before
+  pub faults : source.faults_after ≡ source.faults_before
+
+-- a source that a form has no use for is left alone
+abbrev pub LeavesAlone : Form → Reading → Type 0
+LeavesAlone (Synth workers) source = Unit {0}
+LeavesAlone Check source = Unit {0}
+LeavesAlone (Sim samples seed start) source = Unit {0}
+LeavesAlone (Demo number workers) source = IsLeftAlone source
+
+-- no read of a form failed, by its source's count of faults; `demo` makes none, whatever the count
+abbrev pub NoReadFailed : Form → ℕ → ℕ → Type 0
+NoReadFailed (Synth workers) before after = Rose before after → ⊥
+NoReadFailed Check before after = Rose before after → ⊥
+NoReadFailed (Sim samples seed start) before after = Rose before after → ⊥
+NoReadFailed (Demo number workers) before after = Unit {0}

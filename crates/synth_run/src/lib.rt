@@ -20,7 +20,9 @@ mod top;
 
 pub use demo_plants::{demo_line, demo_plant};
 pub use frontier_pool::{Gate, Open};
+pub use outcome::Outcome;
 pub use run_devices::{
     CleanSource, CountSink, Failed, MemorySink, MemorySource, NoMemory, Sink, Source,
 };
+pub use run_words::{Form, Start};
 pub use top::run;

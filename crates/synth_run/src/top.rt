@@ -1,7 +1,7 @@
 ghost use Rattle.std.specs.Prelude.{◌≡◌, ℕ, ◌≤◌, List, map, None, IfSome, IfOk, IfErr};
 ghost use Rattle.run_devices.specs.Devices.{Rose, reading, writing};
 ghost use Rattle.run_words.specs.Form.{AreWorkers, IsOfForm, IsDemoNumber};
-ghost use Rattle.synth_run.specs.Sources.{given};
+ghost use Rattle.synth_run.specs.Sources.{given, NoReadFailed};
 ghost use Rattle.synth_run.specs.Played.{LeavesTheGameOf};
 ghost use Rattle.synth_run.specs.Runs.{Gives, IsRun, IsRunOf, IsAnswered, IsCompleteAnswer};
 ghost use Rattle.run_words.specs.declared.form.Form.{Form};
@@ -210,7 +210,7 @@ pub fn run<R: Threads + Sync, S: Source, O: Sink, E: Sink, G: Gate>(
     ensures gives { IsRun (map (λ w. w.now) words.now) result (reading S.left S.faults S.is_sound source.old source.new) (writing O.got O.faults O.room out.old out.new) (writing E.got E.faults E.room err.old err.new) played.new }
 
     // Where no device fails, only want of memory keeps a text from what it demands.
-    ensures complete { (form : Form) → IsOfForm (map (λ w. w.now) words.now) form → (Rose (S.faults source.old) (S.faults source.new) → ⊥) → (Rose (O.faults out.old) (O.faults out.new) → ⊥) → IfSome (given form (S.left source.old)) (IsCompleteAnswer form result) }
+    ensures complete { (form : Form) → IsOfForm (map (λ w. w.now) words.now) form → NoReadFailed form (S.faults source.old) (S.faults source.new) → (Rose (O.faults out.old) (O.faults out.new) → ⊥) → IfSome (given form (S.left source.old)) (IsCompleteAnswer form result) }
 {
     one_demand_per_text();
     let (outcome, resolved) = outcome_of(rt, alloc, words, source, out, gate);

@@ -8,7 +8,7 @@ use Rattle.run_words.specs.declared.form.Form.{Form}
 use Rattle.synth_run.specs.declared.resolving.Resolved.{Resolved}
 use Rattle.run_devices.specs.Devices.{Reading}
 use Rattle.synth_run.specs.Sources.{given}
-use Rattle.synth_run.specs.Played.{IsBoardFor, IsReckonedFor, IsPlayed, SolvesNothing}
+use Rattle.synth_run.specs.Played.{IsBoardFor, IsReckonedFor, IsPlayed, LeavesAGame, SolvesNothing}
 
 -- The solution of a game for a goal, with the game's board and the board's root, whose accounts are reckoned and which
 -- has no hand out.
@@ -22,4 +22,5 @@ pub record IsResolved (goal : GoalKind) (g : Game) (resolved : Resolved) : Type 
 -- What a form is to leave, once its answer is written.
 pub record IsToBeLeft (form : Form) (played : Option (BoardModel × RootModel)) (source : Reading) : Type 0 where
   pub leaves : IfSome (given form source.before) (λ bytes. IsPlayed form bytes played)
+  pub leaves_a_game : LeavesAGame form played
   pub solves_nothing : SolvesNothing form played

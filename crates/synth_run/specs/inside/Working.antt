@@ -3,12 +3,12 @@ use Rattle.std.specs.Prelude.{◌≡◌, ◌≢◌, IfSome, IsTrue}
 use Rattle.run_words.specs.declared.form.Form.{Form}
 use Rattle.synth_run.specs.declared.outcome.Outcome.{Outcome}
 use Rattle.synth_run.specs.declared.outcome.Outcome.TheVariants.{Done, Usage, ReadFault, WriteFault, NoMemory}
-use Rattle.run_devices.specs.Devices.{Rose, Reading, TakesAtMost}
-use Rattle.synth_run.specs.Sources.{given, most_read}
+use Rattle.run_devices.specs.Devices.{next_count, Reading, TakesAtMost}
+use Rattle.synth_run.specs.Sources.{given, most_read, LeavesAlone}
 use Rattle.synth_run.specs.Demands.{Demands}
 use Rattle.synth_run.specs.Headline.{IsAnswer}
 use Rattle.synth_run.specs.Statuses.{IsTheTexts}
-use Rattle.synth_run.specs.Runs.{IsRead}
+use Rattle.synth_run.specs.Runs.{IsRead, CanEnd}
 use Rattle.synth_run.specs.declared.text.Text.{Text}
 use Rattle.synth_run.specs.inside.Texts.{bytes_of, CanBeWritten}
 
@@ -19,6 +19,7 @@ pub record IsWorkedOut (form : Form) (text : Text) (source : Reading) : Type 0 w
   pub demanded : IfSome (given form source.before) (λ bytes. Demands form bytes Done)
   pub read : IsRead form source
   pub never_past : TakesAtMost source.before source.after (most_read form)
+  pub leaves_alone : LeavesAlone form source
   pub no_fault : source.faults_after ≡ source.faults_before
 
 -- There is no answer, and the run is to end so.
@@ -26,9 +27,11 @@ pub record IsTurnedDown (form : Form) (outcome : Outcome) (source : Reading) : T
   pub not_done : outcome ≢ Done
   pub not_usage : outcome ≢ Usage
   pub not_write_fault : outcome ≢ WriteFault
+  pub can_end : CanEnd form outcome
   pub demanded : IsTheTexts outcome → IfSome (given form source.before) (λ bytes. Demands form bytes outcome)
   pub read : outcome ≢ ReadFault → outcome ≢ NoMemory → IsRead form source
   pub never_past : TakesAtMost source.before source.after (most_read form)
-  pub fault : outcome ≡ ReadFault → Rose source.faults_before source.faults_after
+  pub leaves_alone : LeavesAlone form source
+  pub fault : outcome ≡ ReadFault → source.faults_after ≡ next_count source.faults_before
   pub no_fault : outcome ≢ ReadFault → source.faults_after ≡ source.faults_before
   pub sound : IsTrue source.is_sound → outcome ≢ ReadFault

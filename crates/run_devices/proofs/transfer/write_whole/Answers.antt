@@ -1,6 +1,6 @@
-use Rattle.std.proofs.Common.{ℕ, ◌<◌, length, length-drop, subst, ◌∙◌, arith, rules}
+use Rattle.std.proofs.Common.{ℕ, ◌<◌, length, length-drop, ap, ◌∙◌, arith, rules}
 use Rattle.std.proofs.lemmas.Result.{err_from_is_err_and}
-use Rattle.run_devices.specs.Devices.{Rose, writing}
+use Rattle.run_devices.specs.Devices.{next_count, writing}
 use Rattle.run_devices.proofs.SoFar.{written_part, written_more, short_of_room}
 use Rattle.run_devices.proofs.transfer.write_whole.Goals as goal
 
@@ -10,7 +10,7 @@ returns-in_err-n-clause-part g c =
     let some : 0 < length c.loop-rest.rest.now = search rules in
     rw p.1 (written_part (writing g.O.Sink.got g.O.Sink.faults g.O.Sink.room c.args.out.now c.write.new.self) (g.O.Sink.got c.loop-rest.out) c.args.text.now c.loop-rest.rest.now
     c.loop-rest.invariant.written c.in_err-n.ensures.kept some
-    (subst (λ (n : ℕ). Rose n (g.O.Sink.faults c.write.new.self)) c.loop-rest.invariant.faults c.in_err-n.ensures.failed)
+    (c.in_err-n.ensures.failed ∙ ap next_count c.loop-rest.invariant.faults)
     (short_of_room _ _ _ _ c.loop-rest.invariant.room (λ enough. let ok = c.in_err-n.ensures.room some enough in cc)))
 
 pub loop-rest-preserved : goal.loop-rest-preserved

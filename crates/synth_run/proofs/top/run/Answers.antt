@@ -1,4 +1,5 @@
-use Rattle.synth_run.proofs.Completeness.{answer_is_complete}
+use Rattle.synth_run.proofs.Completeness.{answer_is_complete, read_did_not_fail}
+use Rattle.run_devices.proofs.Laws.{rose_by_one}
 use Rattle.synth_run.proofs.top.run.Goals as goal
 
 pub returns-clause-complete : goal.returns-clause-complete
@@ -7,6 +8,6 @@ returns-clause-complete g c =
     let gives = c.outcome_of-outcome.ensures.of_form form of_form in
     rw c.status.ensures
     (answer_is_complete c.one_demand_per_text.ensures form c.outcome_of-outcome.result.0 _ gives.not_usage
-    (λ e. no_read_fault (gives.read_fault e))
-    (λ e. no_write_fault (gives.write_fault e))
+    (read_did_not_fail form c.outcome_of-outcome.result.0 _ _ gives.can_end gives.read_fault no_read_fault)
+    (λ e. no_write_fault (rose_by_one _ _ (gives.write_fault e)))
     gives.demanded)
