@@ -1,11 +1,11 @@
 -- The words of a command line.
 use Rattle.std.proofs.Common.{◌≡◌, ℕ, ◌^◌, ◌<◌, ◌≤◌, List, [], ◌∷◌, length, Option, Some, None, refl, ap, sym, ◌∙◌, arith}
-use Rattle.std.specs.Prelude.{codes, ℤ, IfNone}
+use Rattle.std.specs.Prelude.{codes, ℤ, sum_by, IfNone}
 use Rattle.std.specs.Fmt.{decimal, signed_decimal}
 use Rattle.std.proofs.lemmas.Fmt.{decimal_injective}
 use Rattle.std.proofs.lemmas.List.{length-map}
 use Rattle.run_words.specs.declared.form.Form.{Form}
-use Rattle.run_words.specs.declared.form.Form.TheVariants.{Synth, Check, Sim, Demo}
+use Rattle.run_words.specs.declared.form.Form.TheVariants.{Synth, Check, Upgrade, Sim, Demo}
 use Rattle.run_words.specs.Form.{AreWorkers, IsDemoNumber, IsOfForm}
 use Rattle.run_words.specs.inside.Spelling.{Spell}
 use Rattle.run_words.proofs.Spellings.{one_spelling, as_many}
@@ -30,6 +30,9 @@ two_or_three e = cc
 one_or_two : {a b c : List ℕ} → (a ∷ []) ≡ (b ∷ c ∷ []) → ⊥
 one_or_two e = cc
 
+check_or_upgrade : (codes "check" ∷ []) ≡ (codes "upgrade" ∷ []) → ⊥
+check_or_upgrade e = let lengths : 5 ≡ 7 = ap (λ (words : List (List ℕ)). sum_by length words) e in omega (arith, lengths)
+
 behind : {a b c d e f : List ℕ} {rest others : List (List ℕ)} → (a ∷ b ∷ c ∷ rest) ≡ (d ∷ e ∷ f ∷ others) → (b ≡ e) × (c ≡ f) × (rest ≡ others)
 behind e = (cc, cc, cc)
 
@@ -42,6 +45,15 @@ one_form words (Synth m) (Synth n) h k = ap Synth (decimal_injective m n (omega 
 one_form words (Synth m) Check h k = absurd (one_or_two (sym k ∙ h.0))
 one_form words Check (Synth n) h k = absurd (one_or_two (sym h ∙ k.0))
 one_form words Check Check h k = refl
+one_form words Check Upgrade h k = absurd (check_or_upgrade (sym h ∙ k))
+one_form words Upgrade Check h k = absurd (check_or_upgrade (sym k ∙ h))
+one_form words Upgrade Upgrade h k = refl
+one_form words (Synth m) Upgrade h k = absurd (one_or_two (sym k ∙ h.0))
+one_form words Upgrade (Synth n) h k = absurd (one_or_two (sym h ∙ k.0))
+one_form words Upgrade (Demo n w) h k = absurd (one_or_three (sym h ∙ k.0))
+one_form words (Demo n w) Upgrade h k = absurd (one_or_three (sym k ∙ h.0))
+one_form words Upgrade (Sim samples seed start) h k = absurd (not_sim words samples seed start (omega (arith, ap length h)) k)
+one_form words (Sim samples seed start) Upgrade h k = absurd (not_sim words samples seed start (omega (arith, ap length k)) h)
 one_form words (Synth m) (Demo n w) h k = absurd (two_or_three (sym h.0 ∙ k.0))
 one_form words Check (Demo n w) h k = absurd (one_or_three (sym h ∙ k.0))
 one_form words (Demo n w) (Synth m) h k = absurd (two_or_three (sym k.0 ∙ h.0))
@@ -75,6 +87,7 @@ is_form command workers n c few w = (rw (c, w) refl, few)
 pub no_form : (command workers : List ℕ) → (command ≡ codes "synth" → (n : ℕ) → AreWorkers n → workers ≡ decimal n → ⊥) → (f : Form) → IsOfForm (command ∷ workers ∷ []) f → ⊥
 no_form command workers other (Synth n) h = other (first h.0) n h.1 (second h.0)
 no_form command workers other Check h = one_or_two (sym h)
+no_form command workers other Upgrade h = one_or_two (sym h)
 no_form command workers other (Sim samples seed start) h = not_sim (command ∷ workers ∷ []) samples seed start (omega arith) h
 no_form command workers other (Demo n w) h = two_or_three h.0
 
@@ -87,6 +100,7 @@ is_demo_form command number workers n w c bounds d few e = (rw (c, d, e) refl, b
 pub no_demo_form : (command number workers : List ℕ) → (command ≡ codes "demo" → (n : ℕ) → IsDemoNumber n → number ≡ decimal n → (w : ℕ) → AreWorkers w → workers ≡ decimal w → ⊥) → (f : Form) → IsOfForm (command ∷ number ∷ workers ∷ []) f → ⊥
 no_demo_form command number workers other (Synth n) h = two_or_three (sym h.0)
 no_demo_form command number workers other Check h = one_or_three (sym h)
+no_demo_form command number workers other Upgrade h = one_or_three (sym h)
 no_demo_form command number workers other (Demo n w) h = let same = third h.0 in other same.0 n h.1 same.1 w h.2 same.2
 no_demo_form command number workers other (Sim samples seed start) h = not_sim (command ∷ number ∷ workers ∷ []) samples seed start (omega arith) h
 
@@ -106,6 +120,7 @@ pub no_sim_form : (command samples seed : List ℕ) (numbers : List (List ℕ)) 
     → (f : Form) → IsOfForm (command ∷ samples ∷ seed ∷ numbers) f → ⊥
 no_sim_form command samples seed numbers some other (Synth n) h = omega (arith, some, ap length h.0)
 no_sim_form command samples seed numbers some other Check h = omega (arith, some, ap length h)
+no_sim_form command samples seed numbers some other Upgrade h = omega (arith, some, ap length h)
 no_sim_form command samples seed numbers some other (Demo n w) h = omega (arith, some, ap length h.0)
 no_sim_form command samples seed numbers some other (Sim m s start) h =
     let same = behind h.0 in

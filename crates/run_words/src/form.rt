@@ -20,6 +20,8 @@ pub enum Form {
     },
     /// Judge the table on the source.
     Check,
+    /// Rewrite the table on the source in the newest text.
+    Upgrade,
     /// Drive the plant of the table on the source from a start, for at most so many samples, under the noises of a seed.
     Sim {
         samples: u32,
@@ -53,6 +55,8 @@ fn form_of_one(command: &str) -> Option<Form>
 {
     if is_check(command) {
         Some(Form::Check)
+    } else if is_upgrade(command) {
+        Some(Form::Upgrade)
     } else {
         None
     }
@@ -202,6 +206,12 @@ fn is_check(word: &str) -> bool
     ensures { IsTrue result ↔ (word.now ≡ codes "check") }
 {
     word == "check"
+}
+
+fn is_upgrade(word: &str) -> bool
+    ensures { IsTrue result ↔ (word.now ≡ codes "upgrade") }
+{
+    word == "upgrade"
 }
 
 fn is_synth(word: &str) -> bool

@@ -2,7 +2,7 @@
 use Rattle.std.proofs.Common.{inl, inr, ◌≡◌, ℕ, List, Option, Some, None, refl, sym, ap, ◌∙◌}
 use Rattle.std.specs.Prelude.{IfSome}
 use Rattle.run_words.specs.declared.form.Form.{Form}
-use Rattle.run_words.specs.declared.form.Form.TheVariants.{Synth, Check, Sim, Demo}
+use Rattle.run_words.specs.declared.form.Form.TheVariants.{Synth, Check, Upgrade, Sim, Demo}
 use Rattle.synth_run.specs.declared.outcome.Outcome.{Outcome}
 use Rattle.synth_run.specs.declared.outcome.Outcome.TheVariants.{Done, Invalid, NoRow, Usage, Malformed, Overflow, Limit, ReadFault, WriteFault, NoMemory}
 use Rattle.run_devices.specs.Devices.{next_count}
@@ -31,6 +31,7 @@ answer_is_complete one form (Limit what) (Some bytes) usage read write demanded 
 pub read_did_not_fail : (form : Form) (outcome : Outcome) (before after : ℕ) → CanEnd form outcome → (outcome ≡ ReadFault → after ≡ next_count before) → NoReadFailed form before after → outcome ≡ ReadFault → ⊥
 read_did_not_fail (Synth workers) outcome before after can fault none e = none (rose_by_one before after (fault e))
 read_did_not_fail Check outcome before after can fault none e = none (rose_by_one before after (fault e))
+read_did_not_fail Upgrade outcome before after can fault none e = none (rose_by_one before after (fault e))
 read_did_not_fail (Sim samples seed start) outcome before after can fault none e = none (rose_by_one before after (fault e))
 read_did_not_fail (Demo number workers) outcome before after can fault none e =
     elim can [

@@ -22,11 +22,11 @@ use Rattle.controller_table.specs.declared.fault.TableFault.TheVariants as table
 use Rattle.controller_table.specs.Refusals.{IsTableRefusedFor}
 use Rattle.controller_table.specs.Laws.{OneTablePerText, OneTableRefusal, TableOrRefused}
 use Rattle.table_check.specs.Verdicts.{IsFirstWithout}
-use Rattle.run_words.specs.declared.form.Form.TheVariants.{Synth, Check, Sim, Demo}
+use Rattle.run_words.specs.declared.form.Form.TheVariants.{Synth, Check, Upgrade, Sim, Demo}
 use Rattle.synth_run.specs.declared.outcome.Outcome.{Outcome}
 use Rattle.synth_run.specs.declared.outcome.Outcome.TheVariants.{Done, Invalid, NoRow, Usage, Malformed, Overflow, Limit, ReadFault, WriteFault, NoMemory}
 use Rattle.synth_run.specs.Demands.{IsRefusal, IsRefused, IsSolvable, HasEdges, ExceedsEdges, PlantDemands, PlantTextDemands, IsRightFor, IsFirstWrong, TableDemands, IsRefusedTable, IsTableThatDemands}
-use Rattle.synth_run.specs.Traces.{HasRowFor, HasNoRowFor, TraceDemands}
+use Rattle.synth_run.specs.Traces.{HasRowFor, HasNoRowFor, RangeDemands, TraceDemands}
 use Rattle.synth_run.specs.inside.Causes.{of_plant, of_table}
 use Rattle.demo_plants.specs.Demo.{demo_plant_of}
 use Rattle.demo_plants.specs.Laws.{IsSolvableDemo}
@@ -265,6 +265,37 @@ one_demand_of_tables laws Demanded one bytes a b f g =
 
 -- ---- traces
 
+-- what a table's plant demands of its numbers
+one_range_end : (p : Description) (a b : Outcome) → RangeDemands p a → RangeDemands p b → a ≡ b
+one_range_end p Done Done f g = refl
+one_range_end p Done (Overflow i u) f g = absurd (fits_or_not p i u f g)
+one_range_end p (Overflow i u) Done f g = absurd (fits_or_not p i u g f)
+one_range_end p (Overflow i u) (Overflow j v) f g = same_overflow p i u j v f g
+one_range_end p (Invalid c) b f g = absurd f
+one_range_end p NoRow b f g = absurd f
+one_range_end p Usage b f g = absurd f
+one_range_end p (Malformed n) b f g = absurd f
+one_range_end p (Limit what) b f g = absurd f
+one_range_end p ReadFault b f g = absurd f
+one_range_end p WriteFault b f g = absurd f
+one_range_end p NoMemory b f g = absurd f
+one_range_end p Done (Invalid c) f g = absurd g
+one_range_end p Done NoRow f g = absurd g
+one_range_end p Done Usage f g = absurd g
+one_range_end p Done (Malformed n) f g = absurd g
+one_range_end p Done (Limit what) f g = absurd g
+one_range_end p Done ReadFault f g = absurd g
+one_range_end p Done WriteFault f g = absurd g
+one_range_end p Done NoMemory f g = absurd g
+one_range_end p (Overflow i u) (Invalid c) f g = absurd g
+one_range_end p (Overflow i u) NoRow f g = absurd g
+one_range_end p (Overflow i u) Usage f g = absurd g
+one_range_end p (Overflow i u) (Malformed n) f g = absurd g
+one_range_end p (Overflow i u) (Limit what) f g = absurd g
+one_range_end p (Overflow i u) ReadFault f g = absurd g
+one_range_end p (Overflow i u) WriteFault f g = absurd g
+one_range_end p (Overflow i u) NoMemory f g = absurd g
+
 -- what a table demands for a start: a trace, or that there is no row for it, or what refuses its plant
 data TraceEnd (p : Description) (rows : List (Option Row)) (start : List ℤ) (outcome : Outcome) : Type 0 where
   is_driven : outcome ≡ Done → HasNoOverflow p → HasRowFor p rows start → TraceEnd p rows start outcome
@@ -307,6 +338,8 @@ pub one_demand : OnePlantPerText → OneRefusal → ReadOrRefused → TableLaws 
 one_demand plant refusal read laws (Synth workers) bytes a b f g = one_demand_of_plants plant refusal read laws.edges bytes a b f g
 one_demand plant refusal read laws Check bytes a b f g =
     one_demand_of_tables laws TableDemands (λ p rows c d well h k. one_table_end laws p rows c d well (table_end p rows c h) (table_end p rows d k)) bytes a b f g
+one_demand plant refusal read laws Upgrade bytes a b f g =
+    one_demand_of_tables laws (λ p rows outcome. RangeDemands p outcome) (λ p rows c d well h k. one_range_end p c d h k) bytes a b f g
 one_demand plant refusal read laws (Sim samples seed start) bytes a b f g =
     one_demand_of_tables laws (λ p rows outcome. TraceDemands p rows start outcome) (λ p rows c d well h k. one_trace_end p rows start c d (trace_end p rows start c h) (trace_end p rows start d k)) bytes a b f g
 one_demand plant refusal read laws (Demo n workers) bytes a b f g = f ∙ sym g

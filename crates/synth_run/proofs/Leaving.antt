@@ -6,7 +6,7 @@ use Rattle.game_core.specs.Game.{Game}
 use Rattle.plant_text.specs.declared.plant.aims.GoalKind.{GoalKind}
 use Rattle.plant_text.specs.plant.Description.{Description}
 use Rattle.abstraction_table.specs.Abstraction.{IsGameOf}
-use Rattle.run_words.specs.declared.form.Form.TheVariants.{Synth, Check, Sim, Demo}
+use Rattle.run_words.specs.declared.form.Form.TheVariants.{Synth, Check, Upgrade, Sim, Demo}
 use Rattle.synth_run.specs.declared.resolving.Resolved.{Resolved}
 use Rattle.demo_plants.specs.Demo.{demo_plant_of}
 use Rattle.run_devices.specs.Devices.{Reading}
@@ -36,6 +36,9 @@ if_told (Some bytes) P h = h bytes
 
 pub check_leaves : (source : Reading) → IsToBeLeft Check None source
 check_leaves source = record { leaves = if_told source.before (λ bytes. IsPlayed Check bytes None) (λ bytes. refl); leaves_a_game = refl; solves_nothing = refl }
+
+pub upgrade_leaves : (source : Reading) → IsToBeLeft Upgrade None source
+upgrade_leaves source = record { leaves = if_told source.before (λ bytes. IsPlayed Upgrade bytes None) (λ bytes. refl); leaves_a_game = refl; solves_nothing = refl }
 
 pub sim_leaves : (samples seed : ℕ) (start : List ℤ) (source : Reading) → IsToBeLeft (Sim samples seed start) None source
 sim_leaves samples seed start source = record { leaves = if_told source.before (λ bytes. IsPlayed (Sim samples seed start) bytes None) (λ bytes. refl); leaves_a_game = refl; solves_nothing = refl }

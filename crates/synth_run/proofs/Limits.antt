@@ -13,7 +13,7 @@ use Rattle.controller_table.specs.Tables.{IsTable}
 use Rattle.controller_table.specs.Refusals.{IsShortTable, IsTableRefusedFor}
 use Rattle.controller_table.specs.Laws.{TablesAreShort}
 use Rattle.run_words.specs.declared.form.Form.{Form}
-use Rattle.run_words.specs.declared.form.Form.TheVariants.{Synth, Check, Sim}
+use Rattle.run_words.specs.declared.form.Form.TheVariants.{Synth, Check, Upgrade, Sim}
 use Rattle.synth_run.specs.declared.outcome.Outcome.{Outcome}
 use Rattle.synth_run.specs.declared.outcome.Outcome.TheVariants.{Done, Invalid, NoRow, Usage, Malformed, Overflow, Limit, ReadFault, WriteFault, NoMemory}
 use Rattle.run_devices.specs.Transfers.{ReadUpTo}
@@ -120,6 +120,18 @@ tables_pass_on short = record {
         | inr table ↦ absurd (no_table_front short bytes table.plant table.rows lt table.table)
       ];
   answers = λ text bytes lt h. absurd (no_table_front short bytes h.0.plant h.0.rows lt h.0.table);
+}
+
+pub upgrades_pass_on : TablesAreShort → PassesOn Upgrade
+upgrades_pass_on short = record {
+  ends = λ _. tt;
+  uses = λ _. tt;
+  demands = λ outcome bytes lt h.
+      elim h [
+        | inl refused ↦ inl (refused_table_of_longer bytes outcome lt refused)
+        | inr table ↦ absurd (no_table_front short bytes table.plant table.rows lt table.table)
+      ];
+  answers = λ text bytes lt h. absurd (no_table_front short bytes h.plant h.rows lt h.table);
 }
 
 pub traces_pass_on : TablesAreShort → (samples seed : ℕ) (start : List ℤ) → PassesOn (Sim samples seed start)

@@ -2,7 +2,7 @@
 use Rattle.std.proofs.Common.{Bool, refl, drop, ◌≡◌, ℕ, List, inl, inr, sym, subst, ◌∙◌, arith}
 use Rattle.std.specs.Prelude.{Option, Some, None, IfSome}
 use Rattle.run_words.specs.declared.form.Form.{Form}
-use Rattle.run_words.specs.declared.form.Form.TheVariants.{Synth, Check, Sim, Demo}
+use Rattle.run_words.specs.declared.form.Form.TheVariants.{Synth, Check, Upgrade, Sim, Demo}
 use Rattle.demo_plants.specs.Demo.{IsDemoLine}
 use Rattle.synth_run.specs.declared.outcome.Outcome.{Outcome}
 use Rattle.synth_run.specs.declared.outcome.Outcome.TheVariants.{Done, Usage, ReadFault, WriteFault, NoMemory}
@@ -27,6 +27,7 @@ pub record IsReadWhole (form : Form) (source : Reading) (read : List ℕ) : Type
 answered_is_demanded : (form : Form) (bytes text : List ℕ) → IsAnswer form bytes text → Demands form bytes Done
 answered_is_demanded (Synth workers) bytes text h = inr (h.0, h.1, h.2)
 answered_is_demanded Check bytes text h = inr (record { plant = h.0.plant; rows = h.0.rows; table = h.0.table; demands = (h.0.solvable, h.0.solution) })
+answered_is_demanded Upgrade bytes text h = inr (record { plant = h.plant; rows = h.rows; table = h.table; demands = h.fits })
 answered_is_demanded (Sim samples seed start) bytes text h = inr (record { plant = h.plant; rows = h.rows; table = h.table; demands = (h.fits, h.begins) })
 answered_is_demanded (Demo n workers) bytes text h = refl
 
@@ -59,18 +60,21 @@ worked_out form passes source read text whole fits answer = record {
 demands_no_usage : (form : Form) (bytes : List ℕ) → Demands form bytes Usage → ⊥
 demands_no_usage (Synth workers) bytes h = elim h [ inl refused ↦ refused | inr accepted ↦ accepted.2 ]
 demands_no_usage Check bytes h = elim h [ inl refused ↦ refused | inr table ↦ table.demands ]
+demands_no_usage Upgrade bytes h = elim h [ inl refused ↦ refused | inr table ↦ table.demands ]
 demands_no_usage (Sim samples seed start) bytes h = elim h [ inl refused ↦ refused | inr table ↦ table.demands ]
 demands_no_usage (Demo n workers) bytes h = cc
 
 demands_no_read_fault : (form : Form) (bytes : List ℕ) → Demands form bytes ReadFault → ⊥
 demands_no_read_fault (Synth workers) bytes h = elim h [ inl refused ↦ refused | inr accepted ↦ accepted.2 ]
 demands_no_read_fault Check bytes h = elim h [ inl refused ↦ refused | inr table ↦ table.demands ]
+demands_no_read_fault Upgrade bytes h = elim h [ inl refused ↦ refused | inr table ↦ table.demands ]
 demands_no_read_fault (Sim samples seed start) bytes h = elim h [ inl refused ↦ refused | inr table ↦ table.demands ]
 demands_no_read_fault (Demo n workers) bytes h = cc
 
 demands_no_write_fault : (form : Form) (bytes : List ℕ) → Demands form bytes WriteFault → ⊥
 demands_no_write_fault (Synth workers) bytes h = elim h [ inl refused ↦ refused | inr accepted ↦ accepted.2 ]
 demands_no_write_fault Check bytes h = elim h [ inl refused ↦ refused | inr table ↦ table.demands ]
+demands_no_write_fault Upgrade bytes h = elim h [ inl refused ↦ refused | inr table ↦ table.demands ]
 demands_no_write_fault (Sim samples seed start) bytes h = elim h [ inl refused ↦ refused | inr table ↦ table.demands ]
 demands_no_write_fault (Demo n workers) bytes h = cc
 

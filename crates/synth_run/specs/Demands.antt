@@ -19,9 +19,9 @@ use Rattle.controller_table.specs.declared.fault.TableFault.TheVariants as table
 use Rattle.controller_table.specs.Tables.{IsTable}
 use Rattle.controller_table.specs.Refusals.{IsTableRefusedFor}
 use Rattle.table_check.specs.Verdicts.{IsFirstWithout, HasItsKeepRow}
-use Rattle.synth_run.specs.Traces.{TraceDemands}
+use Rattle.synth_run.specs.Traces.{RangeDemands, TraceDemands}
 use Rattle.run_words.specs.declared.form.Form.{Form}
-use Rattle.run_words.specs.declared.form.Form.TheVariants.{Synth, Check, Sim, Demo}
+use Rattle.run_words.specs.declared.form.Form.TheVariants.{Synth, Check, Upgrade, Sim, Demo}
 use Rattle.synth_run.specs.declared.outcome.Outcome.{Outcome}
 use Rattle.synth_run.specs.declared.outcome.Outcome.TheVariants.{Done, Invalid, NoRow, Usage, Malformed, Overflow, Limit, ReadFault, WriteFault, NoMemory}
 
@@ -137,11 +137,18 @@ TableTextDemands bytes outcome = IsRefusedTable bytes outcome ⊎ IsTableThatDem
 abbrev pub TraceTextDemands : List ℤ → List ℕ → Outcome → Type 0
 TraceTextDemands start bytes outcome = IsRefusedTable bytes outcome ⊎ IsTableThatDemands (λ p rows. TraceDemands p rows start outcome) bytes
 
+-- ---- the text of a table that is to be written anew
+
+-- a table text is refused, or it is a table, whose plant demands it: nothing is asked of its rows
+abbrev pub UpgradeTextDemands : List ℕ → Outcome → Type 0
+UpgradeTextDemands bytes outcome = IsRefusedTable bytes outcome ⊎ IsTableThatDemands (λ p rows. RangeDemands p outcome) bytes
+
 -- ---- the text of a form
 
 -- what the bytes demand of a form: nothing refuses a demo plant
 abbrev pub Demands : Form → List ℕ → Outcome → Type 0
 Demands (Synth workers) bytes outcome = PlantTextDemands bytes outcome
 Demands Check bytes outcome = TableTextDemands bytes outcome
+Demands Upgrade bytes outcome = UpgradeTextDemands bytes outcome
 Demands (Sim samples seed start) bytes outcome = TraceTextDemands start bytes outcome
 Demands (Demo number workers) bytes outcome = outcome ≡ Done

@@ -5,9 +5,10 @@ use Rattle.plant_text.specs.plant.Description.{Description}
 use Rattle.abstraction_table.specs.Solution.{IsSolutionOf}
 use Rattle.controller_table.specs.TableText.{written, table_text}
 use Rattle.controller_table.specs.Tables.{RowsFit, IsTable}
+use Rattle.successor_box.specs.Deviations.{HasNoOverflow}
 use Rattle.plant_refine.specs.Controls.{Controls}
 use Rattle.run_words.specs.declared.form.Form.{Form}
-use Rattle.run_words.specs.declared.form.Form.TheVariants.{Synth, Check, Sim, Demo}
+use Rattle.run_words.specs.declared.form.Form.TheVariants.{Synth, Check, Upgrade, Sim, Demo}
 use Rattle.demo_plants.specs.Demo.{IsDemoLine}
 use Rattle.synth_run.specs.Demands.{IsAccepted, IsSolvable}
 use Rattle.synth_run.specs.Traces.{IsTraceFor}
@@ -40,11 +41,21 @@ pub record IsValid (bytes : List ℕ) : Type 0 where
   pub solution : IsSolutionOf plant rows
   pub controls : Controls plant bytes
 
+-- The bytes are a table, in any version, of a plant that doesn't overflow, and the text is that of its plant and rows as
+-- tables are written now. Nothing says that the rows are right.
+pub record IsUpgradeOf (bytes text : List ℕ) : Type 0 where
+  pub plant : Description
+  pub rows : List (Option Row)
+  pub table : IsTable bytes plant rows
+  pub fits : HasNoOverflow plant
+  pub text_is : text ≡ table_text written plant rows
+
 -- the answer of a form for some bytes: that of `synth` is the plant's one table, whatever the number of workers, that of
--- `check` is `valid` where the bytes are one, that of `sim` is a trace of the table that the bytes are, and that of
--- `demo` is the line of the demo plant
+-- `check` is `valid` where the bytes are one, that of `upgrade` is the text of the table that the bytes are, that of `sim`
+-- is a trace of it, and that of `demo` is the line of the demo plant
 abbrev pub IsAnswer : Form → List ℕ → List ℕ → Type 0
 IsAnswer (Synth workers) bytes text = IsTableFor bytes text
 IsAnswer Check bytes text = IsValid bytes × (text ≡ codes "valid\n")
+IsAnswer Upgrade bytes text = IsUpgradeOf bytes text
 IsAnswer (Sim samples seed start) bytes text = IsTraceFor bytes samples seed start text
 IsAnswer (Demo number workers) bytes text = IsDemoLine number text

@@ -13,7 +13,7 @@ use Rattle.reach_avoid.specs.Reckoned.{IsReckoned as IsReachReckoned}
 use Rattle.safety_game.specs.Boards.{IsBoardOf as IsKeepBoardOf}
 use Rattle.safety_game.specs.Reckoned.{IsReckoned as IsKeepReckoned}
 use Rattle.run_words.specs.declared.form.Form.{Form}
-use Rattle.run_words.specs.declared.form.Form.TheVariants.{Synth, Check, Sim, Demo}
+use Rattle.run_words.specs.declared.form.Form.TheVariants.{Synth, Check, Upgrade, Sim, Demo}
 use Rattle.synth_run.specs.Demands.{IsAccepted}
 use Rattle.demo_plants.specs.Demo.{demo_plant_of}
 
@@ -45,6 +45,7 @@ LeavesTheGameOf p played = (board : BoardModel) × (root : RootModel) × (played
 abbrev pub IsPlayed : Form → List ℕ → Option (BoardModel × RootModel) → Type 0
 IsPlayed (Synth workers) bytes played = (p : Description) × IsAccepted bytes p × LeavesTheGameOf p played
 IsPlayed Check bytes played = played ≡ None
+IsPlayed Upgrade bytes played = played ≡ None
 IsPlayed (Sim samples seed start) bytes played = played ≡ None
 IsPlayed (Demo number workers) bytes played = LeavesTheGameOf (demo_plant_of number) played
 
@@ -53,12 +54,14 @@ IsPlayed (Demo number workers) bytes played = LeavesTheGameOf (demo_plant_of num
 abbrev pub LeavesAGame : Form → Option (BoardModel × RootModel) → Type 0
 LeavesAGame (Synth workers) played = (p : Description) × IsWithinLimits p × LeavesTheGameOf p played
 LeavesAGame Check played = played ≡ None
+LeavesAGame Upgrade played = played ≡ None
 LeavesAGame (Sim samples seed start) played = played ≡ None
 LeavesAGame (Demo number workers) played = LeavesTheGameOf (demo_plant_of number) played
 
--- `check` and `sim` solve no game, whatever their source tells
+-- `check`, `upgrade` and `sim` solve no game, whatever their source tells
 abbrev pub SolvesNothing : Form → Option (BoardModel × RootModel) → Type 0
 SolvesNothing (Synth workers) played = Unit {0}
 SolvesNothing Check played = played ≡ None
+SolvesNothing Upgrade played = played ≡ None
 SolvesNothing (Sim samples seed start) played = played ≡ None
 SolvesNothing (Demo number workers) played = Unit {0}

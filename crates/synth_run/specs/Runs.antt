@@ -2,7 +2,7 @@
 use Rattle.std.specs.Prelude.{◌≡◌, ◌≢◌, ◌⊎◌, ◌↔◌, ℕ, List, [], drop, Option, Some, None, IfSome, IsTrue}
 use Rattle.cell_counters.specs.Tokens.{BoardModel, RootModel}
 use Rattle.run_words.specs.declared.form.Form.{Form}
-use Rattle.run_words.specs.declared.form.Form.TheVariants.{Synth, Check, Sim, Demo}
+use Rattle.run_words.specs.declared.form.Form.TheVariants.{Synth, Check, Upgrade, Sim, Demo}
 use Rattle.synth_run.specs.declared.outcome.Outcome.{Outcome}
 use Rattle.synth_run.specs.declared.outcome.Outcome.TheVariants.{Done, Usage, ReadFault, WriteFault, NoMemory}
 use Rattle.run_devices.specs.Devices.{next_count, Reading, Writing, GainsWhole, GainsPart, TakesAtMost}
@@ -29,6 +29,7 @@ IsRead form source = IfSome source.before (λ bytes. source.after ≡ Some (drop
 abbrev pub CanEnd : Form → Outcome → Type 0
 CanEnd (Synth workers) outcome = Unit {0}
 CanEnd Check outcome = Unit {0}
+CanEnd Upgrade outcome = Unit {0}
 CanEnd (Sim samples seed start) outcome = Unit {0}
 CanEnd (Demo number workers) outcome = (outcome ≡ Done) ⊎ ((outcome ≡ WriteFault) ⊎ (outcome ≡ NoMemory))
 

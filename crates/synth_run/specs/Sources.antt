@@ -2,12 +2,13 @@
 use Rattle.std.specs.Prelude.{◌≡◌, ℕ, ◌+◌, List, [], Option, Some}
 use Rattle.run_devices.specs.Devices.{Rose, Reading}
 use Rattle.run_words.specs.declared.form.Form.{Form}
-use Rattle.run_words.specs.declared.form.Form.TheVariants.{Synth, Check, Sim, Demo}
+use Rattle.run_words.specs.declared.form.Form.TheVariants.{Synth, Check, Upgrade, Sim, Demo}
 
 -- the bytes that a form works on, from what the source tells; `demo` works on none
 abbrev pub given : Form → Option (List ℕ) → Option (List ℕ)
 given (Synth workers) told = told
 given Check told = told
+given Upgrade told = told
 given (Sim samples seed start) told = told
 given (Demo number workers) told = Some []
 
@@ -15,6 +16,7 @@ given (Demo number workers) told = Some []
 abbrev pub most_read : Form → ℕ
 most_read (Synth workers) = 65536 + 1
 most_read Check = 67108864 + 1
+most_read Upgrade = 67108864 + 1
 most_read (Sim samples seed start) = 67108864 + 1
 most_read (Demo number workers) = 0
 
@@ -27,6 +29,7 @@ pub record IsLeftAlone (source : Reading) : Type 0 where
 abbrev pub LeavesAlone : Form → Reading → Type 0
 LeavesAlone (Synth workers) source = Unit {0}
 LeavesAlone Check source = Unit {0}
+LeavesAlone Upgrade source = Unit {0}
 LeavesAlone (Sim samples seed start) source = Unit {0}
 LeavesAlone (Demo number workers) source = IsLeftAlone source
 
@@ -34,5 +37,6 @@ LeavesAlone (Demo number workers) source = IsLeftAlone source
 abbrev pub NoReadFailed : Form → ℕ → ℕ → Type 0
 NoReadFailed (Synth workers) before after = Rose before after → ⊥
 NoReadFailed Check before after = Rose before after → ⊥
+NoReadFailed Upgrade before after = Rose before after → ⊥
 NoReadFailed (Sim samples seed start) before after = Rose before after → ⊥
 NoReadFailed (Demo number workers) before after = Unit {0}

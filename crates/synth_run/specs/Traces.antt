@@ -20,15 +20,29 @@ pub record HasRowFor (p : Description) (rows : List (Option Row)) (start : List 
 abbrev pub HasNoRowFor : Description → List (Option Row) → List ℤ → Type 0
 HasNoRowFor p rows start = (length start ≢ length p.states) ⊎ (row_at p rows (point_of start) ≡ None)
 
--- what a plant within the limits demands with rows, whatever its goal and however many edges it has: to be refused, or
--- to be driven from the start, or to be told that there is no row for it
+-- what a plant within the limits demands of its numbers, whatever its goal and however many edges it has: that they
+-- stay in the range, or to be refused for the first that doesn't
+abbrev pub RangeDemands : Description → Outcome → Type 0
+RangeDemands p Done = HasNoOverflow p
+RangeDemands p (Invalid cell) = ⊥
+RangeDemands p NoRow = ⊥
+RangeDemands p Usage = ⊥
+RangeDemands p (Malformed line) = ⊥
+RangeDemands p (Overflow equation input) = IsFirstOverflow p equation input
+RangeDemands p (Limit what) = ⊥
+RangeDemands p ReadFault = ⊥
+RangeDemands p WriteFault = ⊥
+RangeDemands p NoMemory = ⊥
+
+-- what such a plant demands with rows of a start: to be refused, or to be driven from there, or to be told that there is
+-- no row for it
 abbrev pub TraceDemands : Description → List (Option Row) → List ℤ → Outcome → Type 0
-TraceDemands p rows start Done = HasNoOverflow p × HasRowFor p rows start
+TraceDemands p rows start Done = RangeDemands p Done × HasRowFor p rows start
 TraceDemands p rows start (Invalid cell) = ⊥
-TraceDemands p rows start NoRow = HasNoOverflow p × HasNoRowFor p rows start
+TraceDemands p rows start NoRow = RangeDemands p Done × HasNoRowFor p rows start
 TraceDemands p rows start Usage = ⊥
 TraceDemands p rows start (Malformed line) = ⊥
-TraceDemands p rows start (Overflow equation input) = IsFirstOverflow p equation input
+TraceDemands p rows start (Overflow equation input) = RangeDemands p (Overflow equation input)
 TraceDemands p rows start (Limit what) = ⊥
 TraceDemands p rows start ReadFault = ⊥
 TraceDemands p rows start WriteFault = ⊥

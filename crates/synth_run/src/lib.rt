@@ -2,7 +2,8 @@
 //!
 //! `run` goes from the words and bytes that it is given to the bytes that it writes: its clauses say
 //! what each status means, that status 0 of `synth` means the plant's table, that of `check` that the
-//! bytes are such a table, that of `sim` a trace of the table, and that of `demo` the demo plant's line.
+//! bytes are such a table, that of `upgrade` the text of the table, that of `sim` a trace of it, and that of
+//! `demo` the demo plant's line.
 //! Stands on `text_pieces`, `plant_text`, `abstraction_table`, `reach_avoid`, `safety_game`,
 //! `controller_table`, `table_check`, `loop_sim`, `plant_refine` and the crates below.
 #![tactic(auto)]
@@ -17,6 +18,7 @@ mod simulating;
 mod solving;
 mod text;
 mod top;
+mod upgrading;
 
 pub use demo_plants::{demo_line, demo_plant};
 pub use frontier_pool::{Gate, Open};

@@ -9,7 +9,7 @@ ghost use Rattle.run_devices.specs.Transfers.{StopsBy};
 
 use crate::simulating::Simulation;
 use crate::solving::Solved;
-use controller_table::TableWriter;
+use controller_table::{Table, TableWriter};
 use run_devices::{Sink, WriteFault, write_buffered, write_whole};
 use std::alloc::Global;
 
@@ -17,6 +17,7 @@ use std::alloc::Global;
 #[derive(Drop)]
 pub enum Text {
     Table(Solved),
+    Upgraded(Table),
     Line(&'static [u8]),
     Trace(Simulation),
     Summary(Vec<u8>),
@@ -31,6 +32,7 @@ impl Text {
     {
         match self {
             Text::Table(solved) => write_table(alloc, solved, out),
+            Text::Upgraded(table) => write_upgraded(alloc, table, out),
             Text::Line(bytes) => Ok(write_whole(out, bytes)?),
             Text::Trace(simulation) => write_buffered(alloc, out, &mut simulation.writer()),
             Text::Summary(text) => Ok(write_whole(out, text)?),
@@ -44,6 +46,18 @@ fn write_table<O: Sink>(alloc: Global, solved: &Solved, out: &mut O) -> Result<(
     ensures stopped { IfErr result (λ fault. StopsBy fault (writing O.got O.faults O.room out.old out.new) (table_text written solved.now.plant solved.now.answer)) }
 {
     let mut writer = match TableWriter::new(alloc, &solved.plant, &solved.answer) {
+        Ok(writer) => writer,
+        Err(_) => return Err(WriteFault::Memory),
+    };
+    write_buffered(alloc, out, &mut writer)
+}
+
+/// Writes a table that was read.
+fn write_upgraded<O: Sink>(alloc: Global, table: &Table, out: &mut O) -> Result<(), WriteFault>
+    ensures whole { OnOk result (GainsWhole (writing O.got O.faults O.room out.old out.new) (table_text written table.now.plant table.now.rows)) }
+    ensures stopped { IfErr result (λ fault. StopsBy fault (writing O.got O.faults O.room out.old out.new) (table_text written table.now.plant table.now.rows)) }
+{
+    let mut writer = match TableWriter::of(alloc, table) {
         Ok(writer) => writer,
         Err(_) => return Err(WriteFault::Memory),
     };

@@ -18,9 +18,9 @@ use crate::outcome::Outcome;
 use crate::simulating::simulate_text;
 use crate::solving::solve_text;
 use crate::text::Text;
+use crate::upgrading::upgrade_text;
 use cell_counters::{Board, Root};
 use controller_table::TABLE_LIMIT;
-use controller_table::laws::tables_are_short;
 use frontier_pool::Gate;
 use plant_text::TEXT_LIMIT;
 use run_devices::{Sink, Source, WriteFault, read_up_to};
@@ -74,10 +74,19 @@ fn check<R: Threads + Sync, S: Source>(
     ensures answer { IfOk result (λ text. IsWorkedOut Form.Check text (reading S.left S.faults S.is_sound source.old source.new)) }
     ensures refusal { IfErr result (λ outcome. IsTurnedDown Form.Check outcome (reading S.left S.faults S.is_sound source.old source.new)) }
 {
-    tables_are_short();
     let bytes = read_up_to(alloc, source, TABLE_LIMIT + 1)?;
     check_text(rt, alloc, &bytes)?;
     Ok(Text::Line(b"valid\n"))
+}
+
+/// The table on the source, to be written anew.
+fn upgrade<S: Source>(alloc: Global, source: &mut S) -> Result<Text, Outcome>
+    ensures answer { IfOk result (λ text. IsWorkedOut Form.Upgrade text (reading S.left S.faults S.is_sound source.old source.new)) }
+    ensures refusal { IfErr result (λ outcome. IsTurnedDown Form.Upgrade outcome (reading S.left S.faults S.is_sound source.old source.new)) }
+{
+    let bytes = read_up_to(alloc, source, TABLE_LIMIT + 1)?;
+    let table = upgrade_text(alloc, &bytes)?;
+    Ok(Text::Upgraded(table))
 }
 
 /// The trace of the table on the source.
@@ -92,7 +101,6 @@ fn sim<S: Source>(
     ensures answer { IfOk result (λ text. IsWorkedOut (Form.Sim samples seed start.now) text (reading S.left S.faults S.is_sound source.old source.new)) }
     ensures refusal { IfErr result (λ outcome. IsTurnedDown (Form.Sim samples seed start.now) outcome (reading S.left S.faults S.is_sound source.old source.new)) }
 {
-    tables_are_short();
     let table = read_up_to(alloc, source, TABLE_LIMIT + 1)?;
     let simulation = simulate_text(alloc, &table, samples, seed, start)?;
     Ok(Text::Trace(simulation))
@@ -136,6 +144,7 @@ fn work_of<R: Threads + Sync, S: Source, G: Gate>(
     match form {
         Form::Synth { workers } => synth(rt, alloc, source, workers, gate),
         Form::Check => Ok(Work::of_text(check(rt, alloc, source)?)),
+        Form::Upgrade => Ok(Work::of_text(upgrade(alloc, source)?)),
         Form::Sim {
             samples,
             seed,

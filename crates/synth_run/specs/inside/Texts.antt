@@ -8,7 +8,7 @@ use Rattle.loop_sim.specs.Trace.{row_at}
 use Rattle.loop_sim.specs.TraceText.{trace_text}
 use Rattle.synth_run.specs.declared.simulating.Simulation.{Simulation}
 use Rattle.synth_run.specs.declared.text.Text.{Text}
-use Rattle.synth_run.specs.declared.text.Text.TheVariants.{Table, Line, Trace, Summary}
+use Rattle.synth_run.specs.declared.text.Text.TheVariants.{Table, Upgraded, Line, Trace, Summary}
 
 -- the trace of a simulation
 abbrev pub trace_of : Simulation → List ℕ
@@ -25,6 +25,7 @@ pub record IsReady (s : Simulation) : Type 0 where
 
 abbrev pub bytes_of : Text → List ℕ
 bytes_of (Table solved) = table_text written solved.plant solved.answer
+bytes_of (Upgraded table) = table_text written table.plant table.rows
 bytes_of (Line bytes) = bytes.now
 bytes_of (Trace simulation) = trace_of simulation
 bytes_of (Summary text) = text.items
@@ -32,6 +33,7 @@ bytes_of (Summary text) = text.items
 -- a table's rows fit its plant
 abbrev pub CanBeWritten : Text → Type 0
 CanBeWritten (Table solved) = RowsFit solved.plant solved.answer
+CanBeWritten (Upgraded table) = Unit {0}
 CanBeWritten (Line bytes) = Unit {0}
 CanBeWritten (Trace simulation) = IsReady simulation
 CanBeWritten (Summary text) = Unit {0}
