@@ -13,8 +13,8 @@ SUBSTEPS = 4
 
 GOAL = "goal keep\n"
 MODELS = {
-    "a vehicle of version 2": "version 2\nstate x 0 4 0.1 0.001\nstate h -3.2 3.2 0.1 0.001\ninput v 0.5 -1 1\ninput t 0.1 -0.5 0 0.5\nnoise w -0.01 0.01\n"
-                              "next x = x + 0.3*v*cos(h + 0.15*t) + w\nnext h = h + 0.3*v*tan(t)*cos(h)^2 + sin(2*h - t)/20\n" + GOAL,
+    "a vehicle of version 2": "version 2\nstate x 0 4 0.1 0.001\nstate h -3.2 3.2 0.1 0.001\ninput v 0.5 -1 1\ninput t 0.1 -0.5 0 0.5\n"
+                              "noise w -0.01 0.01\nnext x = x + 0.3*v*cos(h + 0.15*t) + w\nnext h = h + 0.3*v*tan(t)*cos(h)^2 + sin(2*h - t)/20\n" + GOAL,
     "a pendulum of version 2": "version 2\nsample 0.1\nstate a -3.5 3.5 cells 70\nstate w -4 4 cells 40\ninput u 0.1 -3 0 3\nnoise f -0.2 0.2\n"
                                "d a = w\nd w = 9.81*sin(a) - 0.1*w + u*cos(a) + f\n" + GOAL,
     "a pendulum of version 1": "sample 0.05\npieces 4\nstate a -1.5 1.5 0.1 0.001\nstate w -3 3 0.1 0.001\ninput u 0.5 -3 0 3\nd a = w\n"
@@ -52,7 +52,8 @@ def check(report):
         status, output, error = report.tool("scale", "-", data=text.encode())
         report.expect(f"scale of {what}", (0, ""), (status, error))
         if not status:
-            report.expect(f"{what}: real steps outside of the noise", [], outside(Real(text), read_plant(output.encode()), POINTS // len(MODELS))[:3])
+            faults = outside(Real(text), read_plant(output.encode()), POINTS // len(MODELS))
+            report.expect(f"{what}: real steps outside of the noise", [], faults[:3])
     for model, said in COMPLAINTS:
         status, output, error = report.tool("scale", "-", data=(model + GOAL).encode())
         report.expect(f"scale of {model!r}", (1, "", 1), (status, output, error.count("\n")))
@@ -73,8 +74,8 @@ def check_seen(report):
 
 def check_cells(report):
     """Units by the number of cells: 125 to a cell, or as many times that as LO asks for, so that widths are odd."""
-    for line, wanted in (("state x 0 1 cells 4", "state x 0 499 125"), ("state x -1 1 cells 5", "state x -625 624 250"), ("state x 0.5 2 cells 3", "state x 125 499 125"),
-                         ("state x -1 1 cells 8 0.05", "state x -20 19 5")):
+    for line, wanted in (("state x 0 1 cells 4", "state x 0 499 125"), ("state x -1 1 cells 5", "state x -625 624 250"),
+                         ("state x 0.5 2 cells 3", "state x 125 499 125"), ("state x -1 1 cells 8 0.05", "state x -20 19 5")):
         output = report.tool("scale", "-", data=f"{line}\nnext x = x\ngoal keep\n".encode())[1]
         report.holds(f"`{line}` gives `{wanted}`", wanted in output.splitlines(), output)
 

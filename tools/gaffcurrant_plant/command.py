@@ -1,10 +1,13 @@
 """What every program of tools/ does alike: its words, its input, its output, and one line for what is wrong."""
 
 import argparse
+import importlib.util
 import os
 import sys
 
 from .reader import Refused
+
+DEBIAN = "/usr/bin/python3"
 
 
 class Trouble(Exception):
@@ -35,9 +38,12 @@ def read_bytes(path):
         raise Trouble(f"{path}: {error.strerror}") from None
 
 
-def refusal_said(path, refusal):
-    """A refusal as one line."""
-    return f"{path}: {refusal.answer}: {refusal.reason}"
+def prefer(module):
+    """Goes over to Debian's Python, once, where this one lacks a module that Debian's may have. For programs, before they read anything."""
+    if importlib.util.find_spec(module) or os.environ.get("GAFFCURRANT_PYTHON") or not os.path.exists(DEBIAN):
+        return
+    os.environ["GAFFCURRANT_PYTHON"] = module
+    os.execv(DEBIAN, [DEBIAN, os.path.abspath(sys.argv[0])] + sys.argv[1:])
 
 
 def start(name, main):

@@ -6,8 +6,10 @@ with a function of CURVES or a power ('power', exponent), ('min', a, b), ('max',
 import re
 from fractions import Fraction
 
-from .polynomial import OPEN, TOKEN, Fault, number_of
+from .polynomial import Fault, added, multiplied, number_of
 
+TOKEN = re.compile(r"\s*([A-Za-z][A-Za-z0-9_]*|(?:[0-9]+\.?[0-9]*|\.[0-9]+)(?:[eE][+-]?[0-9]+)?|.)", re.DOTALL)
+OPEN = 64
 CURVES = ("sin", "cos", "tan", "sqrt", "exp", "log")
 PI = Fraction("3.14159265358979323846264338327950288419716939937510582097494")
 ZERO, ONE = ("num", Fraction(0)), ("num", Fraction(1))
@@ -158,6 +160,19 @@ def parse(text, names):
 def parts_of(node):
     """The nodes right below a node."""
     return {"num": (), "var": (), "call": node[2:]}.get(node[0], node[1:])
+
+
+def polynomial_of(node, other):
+    """The node as a polynomial, where `other` gives that of a node which is no number, variable, sum or product."""
+    kind = node[0]
+    if kind == "num":
+        return added({}, {(): node[1]})
+    if kind == "var":
+        return {(node[1],): Fraction(1)}
+    if kind in ("add", "mul"):
+        left, right = (polynomial_of(part, other) for part in node[1:])
+        return added(left, right) if kind == "add" else multiplied(left, right)
+    return other(node)
 
 
 def is_smooth(node):

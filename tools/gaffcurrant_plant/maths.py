@@ -2,23 +2,16 @@
 arithmetic (Debian: python3-mpmath)."""
 
 import math
-import os
-import sys
 from fractions import Fraction
 
 from .command import Trouble
 
-DEBIAN = "/usr/bin/python3"
-
 
 def load_mpmath():
-    """mpmath, by Debian's python where this one doesn't have it; raises Trouble where there is none."""
+    """mpmath's intervals; raises Trouble where it isn't there."""
     try:
         import mpmath
     except ImportError:
-        if os.path.exists(DEBIAN) and not os.environ.get("GAFFCURRANT_MPMATH") and os.path.isfile(sys.argv[0]):
-            os.environ["GAFFCURRANT_MPMATH"] = "1"
-            os.execv(DEBIAN, [DEBIAN] + sys.argv)
         raise Trouble("functions and differential equations need mpmath; on Debian: apt-get install python3-mpmath") from None
     mpmath.iv.prec = 80
     return mpmath.iv

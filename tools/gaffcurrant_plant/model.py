@@ -6,7 +6,7 @@ from fractions import Fraction
 from . import formula
 from .command import Trouble
 from .halfplane import HalfPlane
-from .polynomial import Fault, added, number_of, parse
+from .polynomial import Fault, added, number_of
 from .reader import MOST, NAME, NO_NAMES
 from .sampling import TooLong, sampled
 
@@ -79,8 +79,12 @@ def half_plane_of(model, words):
     if len(sides) != 2:
         fail("an inequality has one `<` or `>`")
     names = [state[0] for state in model.states]
-    left, right = (parse(side, names) for side in (sides if "<" in text else sides[::-1]))
-    return HalfPlane(added(left, right, -1), model.states)
+    left, right = (formula.parse(side, names) for side in (sides if "<" in text else sides[::-1]))
+    return HalfPlane(formula.polynomial_of(formula.add(left, formula.minus(right)), no_half_plane), model.states)
+
+
+def no_half_plane(node):
+    fail("the sides of an inequality are sums of states and numbers, each state times a number")
 
 
 def fail(said):

@@ -72,7 +72,7 @@ class Planting:
             lines.append(f"# functions are made of up to {self.room.pieces} straight pieces")
         for state, equation, ends, name in zip(model.states, self.scaled, self.ranges, names):
             low, high = (said(end) for end in equation.quantising)
-            curves = ", with straight pieces," if equation.has_curves() else ""
+            curves = ", with straight pieces," if equation.has_curves else ""
             lines.append(f"# {name}: quantising{curves} moves {state[0]} by {low} to {high} units, rounded coefficients by at most "
                          f"{said(equation.rounding)},")
             low, high = (said(end) for end in equation.disturbance)

@@ -8,7 +8,7 @@ from fractions import Fraction
 from . import polynomial
 from .command import Trouble
 from .curves import Curve, as_lines, as_lut, combined, hull, product, unit_for
-from .polynomial import added, multiplied
+from .formula import polynomial_of
 
 NEVER = (Fraction(0), Fraction(0))
 
@@ -44,23 +44,15 @@ class Room:
         for name, low, high in model.noises:
             self.variables[name] = Variable("noise", Fraction(1), low, high)
 
-    def flattened(self, node):
-        """A formula as a polynomial of variables, with a new variable for each of its functions."""
-        if isinstance(node, dict):
-            return node
-        kind = node[0]
-        if kind == "num":
-            return added({}, {(): node[1]})
-        if kind == "var":
-            return {(node[1],): Fraction(1)}
-        if kind == "add":
-            return added(self.flattened(node[1]), self.flattened(node[2]))
-        if kind == "mul":
-            return multiplied(self.flattened(node[1]), self.flattened(node[2]))
-        parts = [self.flattened(part) for part in (node[2:] if kind == "call" else node[1:])]
-        if kind == "call":
-            return self.curve(node[1], parts[0])
-        return self.chosen(kind, parts)
+    def flattened(self, equation):
+        """A formula as a polynomial of variables, with a new variable for each of its functions; a polynomial stays as it is."""
+        return equation if isinstance(equation, dict) else polynomial_of(equation, self.replaced)
+
+    def replaced(self, node):
+        """The polynomial for a function, min, max or abs."""
+        if node[0] == "call":
+            return self.curve(node[1], self.flattened(node[2]))
+        return self.chosen(node[0], [self.flattened(part) for part in node[1:]])
 
     def named(self, key, make):
         """The polynomial of a variable that stands for a function, made where it isn't there yet."""
@@ -155,6 +147,7 @@ class Scaled:
     def __init__(self, room, equation, unit, denominator, name=None):
         self.room, self.name, self.unit, self.denominator = room, name, unit, denominator
         self.coefficients, self.rounding = {}, Fraction(0)
+        self.has_curves = any(room.variables[one].kind == "curve" for monomial in equation for one in monomial)
         self.quantising = self.disturbance = NEVER
         for monomial, coefficient in equation.items():
             self.take(monomial, coefficient)
@@ -182,9 +175,6 @@ class Scaled:
         """Whether a variable is none of the inputs, whose values are known."""
         return self.room.variables[name].kind != "input"
 
-    def has_curves(self):
-        return any(self.room.variables[name].kind == "curve" for monomial in self.coefficients for name in monomial)
-
     def left_over(self):
         """The most that the quotient's rounding down may leave. The states add multiples of `step` to the dividend, and
         the inputs what they give, so not every remainder comes."""
@@ -206,7 +196,7 @@ class Scaled:
         """The whole numbers by which the real next state, rounded down, may differ from the plant's."""
         low, high = self.error()
         # A real state lies below the next whole number: so the greatest end isn't taken where quantising reaches up.
-        is_open = self.quantising[1] > 0 and not self.has_curves()
+        is_open = self.quantising[1] > 0 and not self.has_curves
         return math.floor(low), math.ceil(high) - 1 if is_open else math.floor(high)
 
     def text(self):
