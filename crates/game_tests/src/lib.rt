@@ -21,3 +21,5 @@ mod reach;
 mod row_fills;
 #[cfg(test)]
 mod sweeps;
+#[cfg(test)]
+mod tables;

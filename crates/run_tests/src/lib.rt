@@ -1,0 +1,13 @@
+//! Tests of the top call, on devices that fail and by several workers.
+#![tactic(auto)]
+
+#[cfg(test)]
+mod demo;
+#[cfg(test)]
+mod devices;
+#[cfg(test)]
+mod meeting;
+#[cfg(test)]
+mod trial;
+#[cfg(test)]
+mod workers;

@@ -1,0 +1,47 @@
+// A gate that shows that two workers are at work at once.
+
+use std::sync::atomic::{AtomicBool, Ordering};
+use std::thread;
+use synth_run::Gate;
+
+/// Holds the first two items of a round, each until the other has come, for so many turns at most.
+#[derive(Drop)]
+pub struct Meeting {
+    came: [AtomicBool; 2],
+    alone: AtomicBool,
+    turns: u32,
+}
+
+impl Meeting {
+    pub fn of(turns: u32) -> Meeting {
+        Meeting {
+            came: [AtomicBool::new(false), AtomicBool::new(false)],
+            alone: AtomicBool::new(false),
+            turns,
+        }
+    }
+
+    /// Whether both items came before either was let go.
+    pub fn met(&self) -> bool {
+        self.came[0].load(Ordering::SeqCst)
+            && self.came[1].load(Ordering::SeqCst)
+            && !self.alone.load(Ordering::SeqCst)
+    }
+}
+
+impl Gate for Meeting {
+    fn pass(&self, _worker: u32, item: u32) {
+        if item > 1 {
+            return;
+        }
+        self.came[item as usize].store(true, Ordering::SeqCst);
+        let other = &self.came[1 - item as usize];
+        for _turn in 0..self.turns {
+            if other.load(Ordering::SeqCst) {
+                return;
+            }
+            thread::yield_now();
+        }
+        self.alone.store(true, Ordering::SeqCst);
+    }
+}

@@ -1,0 +1,82 @@
+// Runs over devices in memory, some of which fail.
+
+use std::alloc::Global;
+use std::test::Fail;
+use std::thread::Threads;
+use synth_run::{Gate, MemorySink, MemorySource, run};
+
+/// The places 0 to 14 in cells of three, moved by three to either side, to be brought to 12 to 14.
+pub const PLANT: &[u8] =
+    b"plant 1\nstate x 0 14 3\ninput u -3 3\nnext x = x + u\ntarget 12 14\ngoal reach\nend\n";
+
+/// From each cell the greater input leads to the next one: no two cells have the same row.
+pub const TABLE: &[u8] =
+    b"table 2\nplant 1\nstate x 0 14 3\ninput u -3 3\nnext x = x + u\ntarget 12 14\ngoal reach\nend\nrows 5\n0 0 4 1\n1 1 3 1\n2 2 2 1\n3 3 1 1\n4 4 0 -\nend\n";
+
+/// Which calls fail, by their numbers from 1, for how many bytes there is room, and how many are taken at once.
+#[derive(Clone, Copy)]
+pub struct Devices<'a> {
+    pub failing_reads: &'a [u64],
+    pub failing_writes: &'a [u64],
+    pub at_once: usize,
+    pub room: usize,
+    pub room_for_line: usize,
+}
+
+/// No call fails, and the text is written in several pieces.
+pub const CLEAN: Devices = Devices {
+    failing_reads: &[],
+    failing_writes: &[],
+    at_once: 7,
+    room: 200,
+    room_for_line: 200,
+};
+
+/// What a run did, and whether it left a board.
+#[derive(Drop)]
+pub struct Trial {
+    pub status: u8,
+    pub out: MemorySink,
+    pub err: MemorySink,
+    pub has_board: bool,
+}
+
+impl Trial {
+    /// Whether it ended so, and wrote so much.
+    pub fn gave(&self, status: u8, out: &[u8], err: &[u8]) -> bool {
+        self.status == status && self.out.got() == out && self.err.got() == err
+    }
+}
+
+/// Runs some words on a text, past a gate.
+pub fn run_on<R: Threads + Sync, G: Gate>(
+    rt: &R,
+    alloc: Global,
+    words: &[&str],
+    text: &[u8],
+    devices: &Devices,
+    gate: &G,
+) -> Result<Trial, Fail> {
+    let failing_reads = Vec::from_slice(alloc, devices.failing_reads)?;
+    let failing_writes = Vec::from_slice(alloc, devices.failing_writes)?;
+    let mut source = MemorySource::new(Vec::from_slice(alloc, text)?, failing_reads);
+    let mut out = MemorySink::new(alloc, devices.room, devices.at_once, failing_writes)?;
+    let mut err = MemorySink::new(alloc, devices.room_for_line, 200, Vec::new(alloc))?;
+    let mut played = None;
+    let status = run(
+        rt,
+        alloc,
+        words,
+        &mut source,
+        &mut out,
+        &mut err,
+        gate,
+        &mut played,
+    );
+    Ok(Trial {
+        status,
+        out,
+        err,
+        has_board: played.is_some(),
+    })
+}

@@ -1,0 +1,84 @@
+// The top call by several workers.
+
+use crate::meeting::Meeting;
+use crate::trial::{CLEAN, PLANT, TABLE, run_on};
+use std::alloc::Global;
+use std::test::Fail;
+use std::thread::Threads;
+use synth_run::Open;
+
+// Turns enough for another thread to come.
+const MANY: u32 = 100_000_000;
+
+// Two goals, 9 to 11 and 12 to 14, so that round 0 has two items.
+const CORRIDOR: &[u8] =
+    b"plant 1\nstate x 0 14 3\ninput u 4 7\nnoise w -1 1\nnext x = x + u + w\ntarget 9 14\ngoal reach\nend\n";
+
+// A cell's box is its centre and the input, minus and plus 2: cell 0 comes to cells 1 to 3, of rank 1 at most, by either
+// input; cell 1 to 3 and 4 by the second, cell 2 by the first.
+const CORRIDOR_TABLE: &[u8] =
+    b"table 2\nplant 1\nstate x 0 14 3\ninput u 4 7\nnoise w -1 1\nnext x = x + u + w\ntarget 9 14\ngoal reach\nend\nrows 4\n0 0 2 0\n1 1 1 1\n2 2 1 0\n3 4 0 -\nend\n";
+
+// Two obstacles, the items of round 0. The other cells stay where they are.
+const ENDS: &[u8] =
+    b"plant 1\nstate x 0 14 3\ninput u 0\nnext x = x + u\nobstacle 0 2\nobstacle 12 14\ngoal keep\nend\n";
+
+const ENDS_TABLE: &[u8] =
+    b"table 2\nplant 1\nstate x 0 14 3\ninput u 0\nnext x = x + u\nobstacle 0 2\nobstacle 12 14\ngoal keep\nend\nrows 1\n1 3 - 0\nend\n";
+
+// Whether the first two items meet, and the table of the plant is written.
+fn do_meet<R: Threads + Sync>(
+    rt: &R,
+    alloc: Global,
+    text: &[u8],
+    table: &[u8],
+) -> Result<bool, Fail> {
+    let gate = Meeting::of(MANY);
+    let tried = run_on(rt, alloc, &["synth", "2"], text, &CLEAN, &gate)?;
+    Ok(gate.met() && tried.gave(0, table, b""))
+}
+
+#[test]
+fn two_workers_meet_where_a_plant_is_won(rt: HostRuntime) -> Result<(), Fail> {
+    assert!(rt; do_meet(&rt, rt.alloc(), CORRIDOR, CORRIDOR_TABLE)?);
+    Ok(())
+}
+
+#[test]
+fn two_workers_meet_where_a_plant_is_kept(rt: HostRuntime) -> Result<(), Fail> {
+    assert!(rt; do_meet(&rt, rt.alloc(), ENDS, ENDS_TABLE)?);
+    Ok(())
+}
+
+#[test]
+fn two_workers_meet_in_a_demo(rt: HostRuntime) -> Result<(), Fail> {
+    let gate = Meeting::of(MANY);
+    let tried = run_on(&rt, rt.alloc(), &["demo", "1", "2"], b"", &CLEAN, &gate)?;
+    assert!(rt; gate.met() && tried.status == 0);
+    Ok(())
+}
+
+// The second goal comes to the gate only after the first was let go.
+#[test]
+fn one_worker_meets_nobody(rt: HostRuntime) -> Result<(), Fail> {
+    let gate = Meeting::of(10);
+    let tried = run_on(&rt, rt.alloc(), &["synth", "1"], CORRIDOR, &CLEAN, &gate)?;
+    assert!(rt; !gate.met() && tried.gave(0, CORRIDOR_TABLE, b""));
+    Ok(())
+}
+
+fn leaves_a_board<R: Threads + Sync>(rt: &R, alloc: Global, workers: &str) -> Result<bool, Fail> {
+    let tried = run_on(rt, alloc, &["synth", workers], PLANT, &CLEAN, &Open)?;
+    Ok(tried.gave(0, TABLE, b"") && tried.has_board)
+}
+
+#[test]
+fn each_number_of_workers_leaves_a_board(rt: HostRuntime) -> Result<(), Fail> {
+    let alloc = rt.alloc();
+    assert!(rt;
+        leaves_a_board(&rt, alloc, "1")?
+            && leaves_a_board(&rt, alloc, "7")?
+            && leaves_a_board(&rt, alloc, "64")?
+    );
+    Ok(())
+}
