@@ -2,12 +2,14 @@
 steps of its own, lies within the plant's noise; and what is told where a model can't be scaled."""
 
 import math
+import os
 import random
 import re
 
 from gaffcurrant_plant.reader import read_plant
 
-POINTS = 100_000
+# In all; GAFFCURRANT_POINTS=600000 tries a hundred thousand of each model.
+POINTS = int(os.environ.get("GAFFCURRANT_POINTS", 100_000))
 NEAR = 1e-6
 SUBSTEPS = 4
 
