@@ -61,6 +61,10 @@ def check(report):
         report.expect(f"scale of {model!r}", (1, "", 1), (status, output, error.count("\n")))
         report.holds(f"scale of {model!r} says `{said}`", said in error, error)
     check_seen(report)
+    for name in report.examples():
+        model = report.top / "examples" / name / f"{name}.model"
+        if model.exists() and re.search("^d ", model.read_text(), re.M):
+            report.expect(f"{name}: real steps outside of the noise", [], outside(Real(model.read_text()), read_plant(report.plant_text(name)), 4000)[:3])
 
 
 def check_seen(report):
@@ -86,7 +90,7 @@ class Real:
     """A model as functions of Python over floats."""
 
     def __init__(self, text):
-        lines = [line.split() for line in text.splitlines()]
+        lines = [line.split() for line in text.splitlines() if line.strip()]
         self.time = next((float(words[1]) for words in lines if words[0] == "sample"), None)
         self.names = [words[1] for words in lines if words[0] == "state"]
         self.ranges = [(float(words[2]), float(words[3])) for words in lines if words[0] == "state"]
