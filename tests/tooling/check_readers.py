@@ -66,6 +66,17 @@ def check_lines(report, device, compiler, room):
         full = subprocess.run(["bash", "-c", 'exec "$@" >/dev/full', "bash", *program], input=b"20 0\n", cwd=room, capture_output=True, check=False)
         report.expect(f"{what} at a full device", (1, 1), (full.returncode, full.stderr.count(b"\n")))
     check_no_table(report, device, room, text)
+    check_sizes(report, (device / "README.md").read_text())
+
+
+def check_sizes(report, said):
+    """The README's sizes of headers: of an array a byte a cell, of runs five bytes each."""
+    rows = re.findall(r"^\| \[(\w+)\].*? \| (.*) \| (.*) \| (.*) \| (.*) \|$", said, re.M)
+    report.expect("headers whose sizes the README tells", 4, len(rows))
+    for name, *numbers in rows:
+        header = report.tool("header", "--runs", "-", data=report.table_text(name))[1]
+        cells, runs = int(re.search(r"; (\d+) cells", header)[1]), int(re.search(r"#define RUNS (\d+)", header)[1])
+        report.expect(f"sizes of the header of {name}", [f"{number:,}" for number in (cells, cells, runs, 5 * runs)], numbers)
 
 
 def check_no_table(report, device, room, text):

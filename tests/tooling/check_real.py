@@ -40,6 +40,9 @@ COMPLAINTS = [
     ("sample 9\nstate x 1 9 0.1 0.1\nd x = x*x\n", "the sampling time is too long"),
     ("sample 1\norder 2\nstate x 1 9 0.1 0.1\nd x = abs(x)\n", "by order 1 alone"),
     ("sample 1\nstate x 0 1 0.1 0.1\nd x = x\nnext x = x\n", "no two of them"),
+    ("state x 0 1 0.1 0.1\nnext x = " + "+".join(["x"] * 501) + "\n", "line 2: the expression has more than 1000 names"),
+    ("state x 0 1 0.1 0.1\nnext x = " + "(" * 70 + "x\n", "line 2: more than 64 brackets"),
+    ("state x 0 1 0.1 0.1\nnext x = " + "-" * 70 + "x\n", "line 2: more than 64 brackets"),
     ("version 3\n", "line 1: `version` takes a whole number from 1 to 2"),
     ("state x 0 1 cells 0.5\n", "line 1: `state NAME LO HI cells N`"),
     ("pieces 2\nstate x 0 1 cells\n", "line 2: 1 numbers are due"),
@@ -58,9 +61,13 @@ def check(report):
             report.expect(f"{what}: real steps outside of the noise", [], faults[:3])
     for model, said in COMPLAINTS:
         status, output, error = report.tool("scale", "-", data=(model + GOAL).encode())
-        report.expect(f"scale of {model!r}", (1, "", 1), (status, output, error.count("\n")))
-        report.holds(f"scale of {model!r} says `{said}`", said in error, error)
+        report.expect(f"scale of {model[:60]!r}", (1, "", 1), (status, output, error.count("\n")))
+        report.holds(f"scale of {model[:60]!r} says `{said}`", said in error, error)
     check_seen(report)
+    for name in report.examples():
+        model = report.top / "examples" / name / f"{name}.model"
+        if model.exists() and re.search("^d ", model.read_text(), re.M):
+            report.expect(f"{name}: real steps outside of the noise", [], outside(Real(model.read_text()), read_plant(report.plant_text(name)), 4000)[:3])
 
 
 def check_seen(report):
@@ -72,6 +79,13 @@ def check_seen(report):
     status, output, error = report.tool("scale", "--try", "500", "-", data=text.encode())
     report.expect("scale --try of the pendulum", (0, 2, ""), (status, output.count("the noise allows"), error))
     check_cells(report)
+    check_long(report)
+
+
+def check_long(report):
+    """A long sum is read and scaled: 480 times 1/480 of x is x."""
+    model = "state x 0 1 0.1 0.1\nnext x = " + "+".join(["x/480"] * 240) + "+ 240*x/480\ngoal keep\n"
+    report.holds("a long sum is scaled", "next x = x" in report.tool("scale", "-", data=model.encode())[1])
 
 
 def check_cells(report):
@@ -86,7 +100,7 @@ class Real:
     """A model as functions of Python over floats."""
 
     def __init__(self, text):
-        lines = [line.split() for line in text.splitlines()]
+        lines = [line.split() for line in text.splitlines() if line.strip()]
         self.time = next((float(words[1]) for words in lines if words[0] == "sample"), None)
         self.names = [words[1] for words in lines if words[0] == "state"]
         self.ranges = [(float(words[2]), float(words[3])) for words in lines if words[0] == "state"]

@@ -73,7 +73,7 @@ def check(report):
         report.holds(f"scale says `{said}`", said in error, error)
     for name in report.examples():
         model = report.top / "examples" / name / f"{name}.model"
-        if model.exists():
+        if model.exists() and not re.search("^d ", model.read_text(), re.M):
             compare(report, name, model.read_text(), report.plant_text(name).decode(), 1000)
     check_without_noise(report)
 

@@ -71,10 +71,11 @@ def check(report):
 
 
 def with_a_rank_more(text):
-    """The table with the greatest rank raised by one, and its cell, which alone is wrong then: no other rank counts on it."""
+    """The table, of either version, with the greatest rank raised by one in one line, and the first cell of the line, which is the least that
+    is wrong then: no other rank counts on it."""
     lines = text.decode().split("\n")
     rows = next(k for k, line in enumerate(lines) if line.startswith("rows "))
-    at = max(range(rows + 1, len(lines) - 2), key=lambda k: int(lines[k].split()[1]))
-    cell, rank, chosen = lines[at].split()
-    lines[at] = f"{cell} {int(rank) + 1} {chosen}"
-    return cell, "\n".join(lines).encode()
+    at = max(range(rows + 1, len(lines) - 2), key=lambda k: int(lines[k].split()[-2]))
+    words = lines[at].split()
+    lines[at] = " ".join(words[:-2] + [str(int(words[-2]) + 1), words[-1]])
+    return words[0], "\n".join(lines).encode()

@@ -49,6 +49,8 @@ def prefer(module):
 def start(name, main):
     """Calls main with the words, and ends the process with its status. No traceback for what a user may do."""
     status = 0
+    # Long sums are deep trees.
+    sys.setrecursionlimit(20_000)
     try:
         if sys.stdout is None:
             raise Trouble("standard output is closed")
@@ -63,7 +65,7 @@ def start(name, main):
     except OSError as error:
         where = f"{error.filename}: " if error.filename else "standard output: "
         status = complain(name, where + (error.strerror or str(error)), 1)
-    except MemoryError:
+    except (MemoryError, RecursionError):
         status = complain(name, "no memory", 1)
     except KeyboardInterrupt:
         status = 130

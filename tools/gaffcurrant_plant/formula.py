@@ -13,7 +13,7 @@ OPEN = 64
 CURVES = ("sin", "cos", "tan", "sqrt", "exp", "log")
 PI = Fraction("3.14159265358979323846264338327950288419716939937510582097494")
 ZERO, ONE = ("num", Fraction(0)), ("num", Fraction(1))
-MOST_POWER = 12
+MOST_POWER, MOST_TOKENS = 12, 1000
 
 
 def number(value):
@@ -151,6 +151,8 @@ def parse(text, names):
     reader = _Reader(text.replace("**", "^"), names)
     if not reader.tokens:
         raise Fault("behind `=` an expression is due")
+    if len(reader.tokens) > MOST_TOKENS:
+        raise Fault(f"the expression has more than {MOST_TOKENS} names, numbers and signs")
     node = reader.sum()
     if reader.peek() is not None:
         raise Fault(f"`{reader.peek()}` isn't expected")

@@ -30,8 +30,9 @@ def multiplied(left, right):
     total = {}
     for first, a in left.items():
         for second, b in right.items():
-            total = added(total, {tuple(sorted(first + second)): a * b})
-    return total
+            monomial = tuple(sorted(first + second))
+            total[monomial] = total.get(monomial, 0) + a * b
+    return {monomial: coefficient for monomial, coefficient in total.items() if coefficient}
 
 
 def value_of(polynomial, values):
