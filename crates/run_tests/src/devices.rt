@@ -6,25 +6,53 @@ use std::test::Fail;
 use std::thread::Threads;
 use synth_run::{CleanSource, CountSink, MemorySource, Open, Source, run};
 
+// The status of `synth 1` on a source, and how many bytes its line has.
+fn synthesised<R: Threads + Sync, S: Source>(
+    rt: &R,
+    alloc: Global,
+    source: &mut S,
+    out: &mut CountSink,
+) -> (u8, u64) {
+    let mut err = CountSink::new();
+    let words = ["synth", "1"];
+    let status = run(rt, alloc, &words, source, out, &mut err, &Open, &mut None);
+    (status, err.count())
+}
+
 // A sink that counts takes the 138 bytes of the table, in however many calls.
 #[test]
 fn clean_devices_take_the_whole_table(rt: HostRuntime) -> Result<(), Fail> {
-    let alloc = rt.alloc();
-    let mut source = CleanSource::new(Vec::from_slice(alloc, PLANT)?);
+    let mut source = CleanSource::new(Vec::from_slice(rt.alloc(), PLANT)?);
     let mut out = CountSink::new();
-    let mut err = CountSink::new();
-    let status = run(
-        &rt,
-        alloc,
-        &["synth", "1"],
-        &mut source,
-        &mut out,
-        &mut err,
-        &Open,
-        &mut None,
-    );
-    assert!(rt; status == 0 && out.count() == 138 && err.count() == 0);
+    let told = synthesised(&rt, rt.alloc(), &mut source, &mut out);
+    assert!(rt; told == (0, 0) && out.count() == 138);
     Ok(())
+}
+
+// A read that fails ends the reading: what it didn't take is still there. The line is `read fault`.
+#[test]
+fn nothing_is_read_behind_a_failed_read(rt: HostRuntime) -> Result<(), Fail> {
+    let fails = Vec::from_slice(rt.alloc(), &[1])?;
+    let mut source = MemorySource::new(Vec::from_slice(rt.alloc(), PLANT)?, fails);
+    let told = synthesised(&rt, rt.alloc(), &mut source, &mut CountSink::new());
+    let mut left = [0; 200];
+    let count = source.read(&mut left).map_err(|_| "a second fault")?;
+    assert!(rt; told == (6, 11) && count == PLANT.len());
+    Ok(())
+}
+
+// Whether `synth 1` of a text ends so on some devices, and writes this.
+fn gives<R: Threads + Sync>(
+    rt: &R,
+    alloc: Global,
+    text: &[u8],
+    devices: &Devices,
+    status: u8,
+    out: &[u8],
+    err: &[u8],
+) -> Result<bool, Fail> {
+    let tried = run_on(rt, alloc, &["synth", "1"], text, devices, &Open)?;
+    Ok(tried.gave(status, out, err))
 }
 
 #[test]
@@ -33,65 +61,32 @@ fn line_without_room_is_cut(rt: HostRuntime) -> Result<(), Fail> {
         room_for_line: 5,
         ..CLEAN
     };
-    let tried = run_on(&rt, rt.alloc(), &["synth", "1"], b"", &devices, &Open)?;
-    assert!(rt; tried.gave(3, b"", b"malfo"));
+    assert!(rt; gives(&rt, rt.alloc(), b"", &devices, 3, b"", b"malfo")?);
     Ok(())
 }
 
-// Whether `synth 1` of the plant ends so, with the front of its table written.
-fn gives_front<R: Threads + Sync>(
-    rt: &R,
-    alloc: Global,
-    devices: &Devices,
-    status: u8,
-    written: usize,
-    err: &[u8],
-) -> Result<bool, Fail> {
-    let tried = run_on(rt, alloc, &["synth", "1"], PLANT, devices, &Open)?;
-    let front = TABLE.get(..written).ok_or("past the end of the table")?;
-    Ok(tried.gave(status, front, err))
-}
-
-fn failing_read(call: &[u64]) -> Devices<'_> {
-    Devices {
-        failing_reads: call,
-        ..CLEAN
+// Whether one failing call is a read fault: the first takes the plant whole, the second finds the end, and there is no third.
+fn are_read_faults<R: Threads + Sync>(rt: &R, alloc: Global) -> Result<bool, Fail> {
+    let fault: &[u8] = b"read fault\n";
+    let calls: [(&[u64], u8, &[u8], &[u8]); 3] = [
+        (&[1], 6, b"", fault),
+        (&[2], 6, b"", fault),
+        (&[3], 0, TABLE, b""),
+    ];
+    let mut good = true;
+    for (failing_reads, status, out, err) in calls {
+        let devices = Devices {
+            failing_reads,
+            ..CLEAN
+        };
+        good = good && gives(rt, alloc, PLANT, &devices, status, out, err)?;
     }
+    Ok(good)
 }
 
-// A call takes the plant whole, and the next finds the end: nothing is read behind it.
 #[test]
 fn read_that_fails_is_a_read_fault(rt: HostRuntime) -> Result<(), Fail> {
-    let alloc = rt.alloc();
-    assert!(rt;
-        gives_front(&rt, alloc, &failing_read(&[1]), 6, 0, b"read fault\n")?
-            && gives_front(&rt, alloc, &failing_read(&[2]), 6, 0, b"read fault\n")?
-            && gives_front(&rt, alloc, &failing_read(&[3]), 0, 138, b"")?
-    );
-    Ok(())
-}
-
-// A read that fails ends the reading: what it didn't take is still there.
-#[test]
-fn nothing_is_read_behind_a_failed_read(rt: HostRuntime) -> Result<(), Fail> {
-    let alloc = rt.alloc();
-    let fails = Vec::from_slice(alloc, &[1])?;
-    let mut source = MemorySource::new(Vec::from_slice(alloc, PLANT)?, fails);
-    let mut out = CountSink::new();
-    let mut err = CountSink::new();
-    let status = run(
-        &rt,
-        alloc,
-        &["synth", "1"],
-        &mut source,
-        &mut out,
-        &mut err,
-        &Open,
-        &mut None,
-    );
-    let mut left = [0; 200];
-    let count = source.read(&mut left).map_err(|_| "a second fault")?;
-    assert!(rt; status == 6 && count == PLANT.len());
+    assert!(rt; are_read_faults(&rt, rt.alloc())?);
     Ok(())
 }
 
@@ -103,7 +98,7 @@ fn write_that_fails_leaves_the_front_of_the_table(rt: HostRuntime) -> Result<(),
         failing_writes: &[40],
         ..CLEAN
     };
-    assert!(rt; gives_front(&rt, rt.alloc(), &devices, 7, 39, b"")?);
+    assert!(rt; gives(&rt, rt.alloc(), PLANT, &devices, 7, &TABLE[..39], b"")?);
     Ok(())
 }
 
@@ -115,7 +110,8 @@ fn is_cut_at<R: Threads + Sync>(rt: &R, alloc: Global, room: usize) -> Result<bo
         ..CLEAN
     };
     let status = if room < TABLE.len() { 7 } else { 0 };
-    gives_front(rt, alloc, &devices, status, room, b"")
+    let front = TABLE.get(..room).ok_or("past the end of the table")?;
+    gives(rt, alloc, PLANT, &devices, status, front, b"")
 }
 
 #[test]

@@ -4,7 +4,8 @@ use std::sync::atomic::{AtomicBool, Ordering};
 use std::thread;
 use synth_run::Gate;
 
-/// Holds the first two items of a round, each until the other has come, for so many turns at most.
+/// Holds the first two items of a round, each until the other has come, and those behind them until the first has come, for
+/// so many turns at most: a worker that came earlier would find nothing to steal, and go.
 #[derive(Drop)]
 pub struct Meeting {
     came: [AtomicBool; 2],
@@ -27,21 +28,28 @@ impl Meeting {
             && self.came[1].load(Ordering::SeqCst)
             && !self.alone.load(Ordering::SeqCst)
     }
+
+    // Whether the other came in time.
+    fn wait_for(&self, other: &AtomicBool) -> bool {
+        for _turn in 0..self.turns {
+            if other.load(Ordering::SeqCst) {
+                return true;
+            }
+            thread::yield_now();
+        }
+        false
+    }
 }
 
 impl Gate for Meeting {
     fn pass(&self, _worker: u32, item: u32) {
         if item > 1 {
+            self.wait_for(&self.came[0]);
             return;
         }
         self.came[item as usize].store(true, Ordering::SeqCst);
-        let other = &self.came[1 - item as usize];
-        for _turn in 0..self.turns {
-            if other.load(Ordering::SeqCst) {
-                return;
-            }
-            thread::yield_now();
+        if !self.wait_for(&self.came[1 - item as usize]) {
+            self.alone.store(true, Ordering::SeqCst);
         }
-        self.alone.store(true, Ordering::SeqCst);
     }
 }

@@ -8,7 +8,7 @@ use std::thread::Threads;
 use synth_run::Open;
 
 // Turns enough for another thread to come.
-const MANY: u32 = 100_000_000;
+const MANY: u32 = 20_000_000;
 
 // Two goals, 9 to 11 and 12 to 14, so that round 0 has two items.
 const CORRIDOR: &[u8] =
@@ -26,27 +26,39 @@ const ENDS: &[u8] =
 const ENDS_TABLE: &[u8] =
     b"table 2\nplant 1\nstate x 0 14 3\ninput u 0\nnext x = x + u\nobstacle 0 2\nobstacle 12 14\ngoal keep\nend\nrows 1\n1 3 - 0\nend\n";
 
-// Whether the first two items meet, and the table of the plant is written.
+// Whether the first two items of a plant meet as told, and its table is written.
 fn do_meet<R: Threads + Sync>(
     rt: &R,
     alloc: Global,
+    workers: &str,
+    turns: u32,
     text: &[u8],
     table: &[u8],
-) -> Result<bool, Fail> {
-    let gate = Meeting::of(MANY);
-    let tried = run_on(rt, alloc, &["synth", "2"], text, &CLEAN, &gate)?;
-    Ok(gate.met() && tried.gave(0, table, b""))
+) -> Result<[bool; 2], Fail> {
+    let gate = Meeting::of(turns);
+    let tried = run_on(rt, alloc, &["synth", workers], text, &CLEAN, &gate)?;
+    Ok([gate.met(), tried.gave(0, table, b"")])
 }
 
 #[test]
 fn two_workers_meet_where_a_plant_is_won(rt: HostRuntime) -> Result<(), Fail> {
-    assert!(rt; do_meet(&rt, rt.alloc(), CORRIDOR, CORRIDOR_TABLE)?);
+    let told = do_meet(&rt, rt.alloc(), "2", MANY, CORRIDOR, CORRIDOR_TABLE)?;
+    assert!(rt; told == [true, true]);
     Ok(())
 }
 
 #[test]
 fn two_workers_meet_where_a_plant_is_kept(rt: HostRuntime) -> Result<(), Fail> {
-    assert!(rt; do_meet(&rt, rt.alloc(), ENDS, ENDS_TABLE)?);
+    let told = do_meet(&rt, rt.alloc(), "2", MANY, ENDS, ENDS_TABLE)?;
+    assert!(rt; told == [true, true]);
+    Ok(())
+}
+
+// The second goal comes to the gate only after the first was let go.
+#[test]
+fn one_worker_meets_nobody(rt: HostRuntime) -> Result<(), Fail> {
+    let told = do_meet(&rt, rt.alloc(), "1", 10, CORRIDOR, CORRIDOR_TABLE)?;
+    assert!(rt; told == [false, true]);
     Ok(())
 }
 
@@ -58,27 +70,18 @@ fn two_workers_meet_in_a_demo(rt: HostRuntime) -> Result<(), Fail> {
     Ok(())
 }
 
-// The second goal comes to the gate only after the first was let go.
-#[test]
-fn one_worker_meets_nobody(rt: HostRuntime) -> Result<(), Fail> {
-    let gate = Meeting::of(10);
-    let tried = run_on(&rt, rt.alloc(), &["synth", "1"], CORRIDOR, &CLEAN, &gate)?;
-    assert!(rt; !gate.met() && tried.gave(0, CORRIDOR_TABLE, b""));
-    Ok(())
-}
-
-fn leaves_a_board<R: Threads + Sync>(rt: &R, alloc: Global, workers: &str) -> Result<bool, Fail> {
-    let tried = run_on(rt, alloc, &["synth", workers], PLANT, &CLEAN, &Open)?;
-    Ok(tried.gave(0, TABLE, b"") && tried.has_board)
+// Whether each number of workers writes the table, and leaves a board.
+fn do_leave_boards<R: Threads + Sync>(rt: &R, alloc: Global) -> Result<bool, Fail> {
+    let mut good = true;
+    for workers in ["1", "7", "64"] {
+        let tried = run_on(rt, alloc, &["synth", workers], PLANT, &CLEAN, &Open)?;
+        good = good && tried.gave(0, TABLE, b"") && tried.has_board;
+    }
+    Ok(good)
 }
 
 #[test]
 fn each_number_of_workers_leaves_a_board(rt: HostRuntime) -> Result<(), Fail> {
-    let alloc = rt.alloc();
-    assert!(rt;
-        leaves_a_board(&rt, alloc, "1")?
-            && leaves_a_board(&rt, alloc, "7")?
-            && leaves_a_board(&rt, alloc, "64")?
-    );
+    assert!(rt; do_leave_boards(&rt, rt.alloc())?);
     Ok(())
 }
