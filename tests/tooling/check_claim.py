@@ -4,9 +4,6 @@ import re
 import subprocess
 import sys
 
-# Folders that READING names whole.
-WHOLE = {"words", "reading", "writing"}
-
 
 def check(report):
     status, output = run(report, "--strays")
@@ -20,8 +17,7 @@ def check(report):
     files = re.findall(r"^\w+/specs/([\w/]+)\.antt:", output, re.M)
     report.holds("the claim has files", len(files) > 50, str(len(files)))
     for file in files:
-        *folders, name = file.split("/")
-        report.holds(f"READING names {file}.antt", name in named or WHOLE & set(folders))
+        report.holds(f"READING names {file}.antt", file.split("/")[-1] in named)
 
 
 def run(report, *words):
