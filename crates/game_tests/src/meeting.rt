@@ -5,7 +5,7 @@ use std::sync::atomic::{AtomicBool, AtomicU32, Ordering};
 use std::thread;
 
 /// Turns enough for another thread to come.
-pub const MANY: u32 = 20_000_000;
+pub const MANY: u32 = 100_000_000;
 
 /// Holds the items 0 and 1, each until the other has come, and those behind them until item 0 has come, for so many
 /// turns at most.
