@@ -15,8 +15,8 @@ from .program import CHECK, DEMO, FORMS, PLANT, SECONDS, SIM, SYNTH, TABLE, UPGR
 
 MALFORMED = Form("synth 1", PLANT[:-4], oracle.synth)
 USAGE = Form("synth", PLANT, lambda _: oracle.ended(2, line=b"usage\n"))
-# A plant whose table has more bytes than a pipe holds: each of 20,000 cells is a goal.
-LONG = Form("synth 1", b"plant 1\nstate x 1 20000 1\nnext x = x\ntarget 1 20000\ngoal reach\nend\n", oracle.synth)
+# A plant whose table has more bytes than a pipe holds: 20,000 cells are kept, by the inputs 1 and 0 in turn, so no two neighbours make a run.
+LONG = Form("synth 1", b"plant 1\nstate x 1 20000 1\ninput u 0 1\nnext x = x + 100000 * (x - 2 * (x / 2)) * (1 - u)\ngoal keep\nend\n", oracle.synth)
 READ_FAULT = oracle.ended(6, line=b"read fault\n")
 PAGE = 4096
 
