@@ -1,6 +1,6 @@
 // Marks under which a solver is called in place of the graph's own.
 ghost use Rattle.std.specs.Prelude.{◌≡◌, length, IfOk};
-ghost use Rattle.temporal_games.specs.inside.StayMarks.{hold_mark, marks_to_hold, end_mark, marks_to_reach};
+ghost use Rattle.stay_game.specs.inside.StayMarks.{hold_mark, marks_to_hold, end_mark, marks_to_reach};
 
 use game_core::{Answer, Graph, Mark, NoMemory, Row};
 use std::alloc::Global;

@@ -10,11 +10,11 @@ use Rattle.game_core.specs.Game.{Game, IsGame, IsEnabled, mark_of, pair_of, succ
 use Rattle.game_core.specs.Strategy.{Tree, Leaf, Apply, LeadsTo, depth_of, IsRankTo, IsRank}
 use Rattle.game_core.specs.Keep.{IsKept, IsKeptBy, IsKeepRow, IsKeepSolution}
 use Rattle.game_core.specs.Solution.{row_of, LeadsWithinTo, IsReachRow, IsChosenInput, IsReachSolution}
-use Rattle.temporal_games.specs.Held.{HoldsFor, IsHeld}
-use Rattle.temporal_games.specs.Stay.{IsStayedBy, IsStayRow, IsStaySolution}
-use Rattle.temporal_games.specs.inside.StayMarks.{goals_alone, end_mark, marks_to_reach, either_row, rows_over}
-use Rattle.temporal_games.proofs.Trees.{AreMarksFor, successors_below, to_wins, from_rank, to_within, from_within}
-use Rattle.temporal_games.proofs.HeldCells.{held_if_kept, kept_if_held}
+use Rattle.stay_game.specs.Held.{HoldsFor, IsHeld}
+use Rattle.stay_game.specs.Stay.{IsStayedBy, IsStayRow, IsStaySolution}
+use Rattle.stay_game.specs.inside.StayMarks.{goals_alone, end_mark, marks_to_reach, either_row, rows_over}
+use Rattle.stay_game.proofs.Trees.{AreMarksFor, successors_below, to_wins, from_rank, to_within, from_within}
+use Rattle.stay_game.proofs.HeldCells.{held_if_kept, kept_if_held}
 
 end_goal : (m : Mark) (row : Row) → end_mark m (Some row) ≡ Goal
 end_goal Goal row = refl

@@ -4,7 +4,7 @@ use Rattle.game_core.specs.declared.game.Row.{Row}
 use Rattle.game_core.specs.Game.{Game}
 use Rattle.game_core.specs.Strategy.{Tree, LeadsTo, IsRankTo}
 use Rattle.game_core.specs.Solution.{row_of, LeadsWithinTo}
-use Rattle.temporal_games.specs.Held.{IsHeld}
+use Rattle.stay_game.specs.Held.{IsHeld}
 
 -- What a row says of a cell: the least depth of a strategy to held cells, and the least input after which each rank is
 -- less, or 0 where the row's is 0.

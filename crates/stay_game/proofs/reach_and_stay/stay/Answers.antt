@@ -5,10 +5,10 @@ use Rattle.game_core.specs.declared.game.Row.{Row}
 use Rattle.game_core.specs.Game.{Game, IsGraph, mark_of, remarked}
 use Rattle.game_core.specs.Keep.{IsKeepSolution}
 use Rattle.game_core.specs.Solution.{IsReachSolution}
-use Rattle.temporal_games.specs.Stay.{IsStaySolution}
-use Rattle.temporal_games.specs.inside.StayMarks.{hold_mark, goals_alone, marks_to_reach, rows_over}
-use Rattle.temporal_games.proofs.StayRows.{stays}
-use Rattle.temporal_games.proofs.reach_and_stay.stay.Goals as goal
+use Rattle.stay_game.specs.Stay.{IsStaySolution}
+use Rattle.stay_game.specs.inside.StayMarks.{hold_mark, goals_alone, marks_to_reach, rows_over}
+use Rattle.stay_game.proofs.StayRows.{stays}
+use Rattle.stay_game.proofs.reach_and_stay.stay.Goals as goal
 
 pub new-requires : goal.new-requires
 new-requires g c =

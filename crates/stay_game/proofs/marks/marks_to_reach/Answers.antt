@@ -3,8 +3,8 @@ use Rattle.std.proofs.lemmas.List.FromFn.{fill_by_all}
 use Rattle.game_core.specs.declared.game.Mark.TheVariants.{Plain}
 use Rattle.game_core.specs.Game.{mark_of}
 use Rattle.game_core.specs.Solution.{row_of}
-use Rattle.temporal_games.specs.inside.StayMarks.{end_mark}
-use Rattle.temporal_games.proofs.marks.marks_to_reach.Goals as goal
+use Rattle.stay_game.specs.inside.StayMarks.{end_mark}
+use Rattle.stay_game.proofs.marks.marks_to_reach.Goals as goal
 
 pub returns : goal.returns
 returns g c =

@@ -1,7 +1,7 @@
 use Rattle.std.proofs.Common.{◌≡◌, ℕ, ◌<◌, ◌≤◌, length}
 use Rattle.game_core.specs.Solution.{row_of}
-use Rattle.temporal_games.specs.inside.StayMarks.{either_row}
-use Rattle.temporal_games.proofs.reach_and_stay.put_over.Given as goal
+use Rattle.stay_game.specs.inside.StayMarks.{either_row}
+use Rattle.stay_game.proofs.reach_and_stay.put_over.Given as goal
 
 -- the rows so far, and those that are still as they were
 abbrev pub invariant-loop-c : goal.invariant-loop-c

@@ -2,8 +2,8 @@ use Rattle.std.proofs.Common.{◌≡◌, ℕ, ◌<◌, length, get_or}
 use Rattle.game_core.specs.declared.game.Mark.TheVariants.{Plain}
 use Rattle.game_core.specs.Game.{mark_of}
 use Rattle.game_core.specs.Solution.{row_of}
-use Rattle.temporal_games.specs.inside.StayMarks.{end_mark}
-use Rattle.temporal_games.proofs.marks.marks_to_reach.Given as goal
+use Rattle.stay_game.specs.inside.StayMarks.{end_mark}
+use Rattle.stay_game.proofs.marks.marks_to_reach.Given as goal
 
 -- the marks so far
 abbrev pub invariant-loop-c : goal.invariant-loop-c

@@ -7,9 +7,9 @@ use Rattle.game_core.specs.declared.game.Mark.TheVariants.{Goal, Obstacle, Plain
 use Rattle.game_core.specs.Game.{Game, IsGame, IsEnabled, mark_of, pair_of, successors_of, remarked}
 use Rattle.game_core.specs.Strategy.{Tree, Leaf, Apply, Trees, NoTrees, AndTree}
 use Rattle.game_core.specs.Keep.{StandsOn, StandEach, HasKeepTree, IsKept}
-use Rattle.temporal_games.specs.Held.{HoldsFor, IsHeld}
-use Rattle.temporal_games.specs.inside.StayMarks.{hold_mark, goals_alone}
-use Rattle.temporal_games.proofs.Trees.{successors_below}
+use Rattle.stay_game.specs.Held.{HoldsFor, IsHeld}
+use Rattle.stay_game.specs.inside.StayMarks.{hold_mark, goals_alone}
+use Rattle.stay_game.proofs.Trees.{successors_below}
 
 -- subtrees for cells, one by one
 pub keep_trees_for : (g : Game) (d : ℕ) (cells : List ℕ) → All (HasKeepTree g d) cells → (next : Trees) × StandEach g next d cells

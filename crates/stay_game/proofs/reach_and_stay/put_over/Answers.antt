@@ -1,8 +1,8 @@
 use Rattle.std.proofs.Common.{◌≡◌, None, length, arith}
 use Rattle.std.proofs.lemmas.List.FromFn.{fill_by_all}
 use Rattle.game_core.specs.Solution.{row_of}
-use Rattle.temporal_games.specs.inside.StayMarks.{either_row}
-use Rattle.temporal_games.proofs.reach_and_stay.put_over.Goals as goal
+use Rattle.stay_game.specs.inside.StayMarks.{either_row}
+use Rattle.stay_game.proofs.reach_and_stay.put_over.Goals as goal
 
 pub returns : goal.returns
 returns c =

@@ -2,8 +2,8 @@ use Rattle.std.proofs.Common.{arith}
 use Rattle.std.proofs.lemmas.List.FromFn.{fill_by_all}
 use Rattle.game_core.specs.declared.game.Mark.TheVariants.{Plain}
 use Rattle.game_core.specs.Game.{mark_of}
-use Rattle.temporal_games.specs.inside.StayMarks.{hold_mark}
-use Rattle.temporal_games.proofs.marks.marks_to_hold.Goals as goal
+use Rattle.stay_game.specs.inside.StayMarks.{hold_mark}
+use Rattle.stay_game.proofs.marks.marks_to_hold.Goals as goal
 
 pub returns : goal.returns
 returns g c =

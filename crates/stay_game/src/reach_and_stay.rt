@@ -1,7 +1,7 @@
 // Reach and stay, by the solvers of both games under other marks.
 ghost use Rattle.std.specs.Prelude.{◌≡◌, ◌≤◌, length, IfOk};
-ghost use Rattle.temporal_games.specs.Stay.{IsStaySolution};
-ghost use Rattle.temporal_games.specs.inside.StayMarks.{rows_over};
+ghost use Rattle.stay_game.specs.Stay.{IsStaySolution};
+ghost use Rattle.stay_game.specs.inside.StayMarks.{rows_over};
 
 use crate::marks::{marks_to_hold, marks_to_reach};
 use frontier_pool::Gate;
