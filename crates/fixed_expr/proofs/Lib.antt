@@ -1,5 +1,8 @@
-mod Places
+pub mod LaneSteps
 mod Columns
 pub mod Narrowness
 pub mod Values
 pub mod MovingValues
+pub mod Pieces
+pub mod PointsPassed
+pub mod Laws

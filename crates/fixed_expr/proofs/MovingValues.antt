@@ -3,10 +3,11 @@ use Rattle.std.proofs.Common.{◌≡◌, ℕ, true, false, not, ◌||◌, ◌&&�
 use Rattle.std.specs.Prelude.{ℤ, pos, ◌-ℤ◌, slice_index_or}
 use Rattle.std.proofs.lemmas.Int.{ints}
 use Rattle.std.proofs.lemmas.Bool.{or_left, or_right, or_cases, and_parts, not-true, eqb-true, false≢true}
-use Rattle.fixed_expr.specs.Expression.{Expression, Number, Variable, Negation, Sum, Difference, Product, Quotient, Minimum, Maximum, Absolute}
+use Rattle.fixed_expr.specs.Expression.{Expression, Number, Variable, Negation, Sum, Difference, Product, Quotient, Minimum, Maximum, Absolute, Lookup}
 use Rattle.fixed_expr.specs.Value.{value_of}
 use Rattle.fixed_expr.specs.Mentions.{mentions}
-use Rattle.fixed_expr.specs.Moves.{moves_with, AreSameBut, ValuesMoveWithVariables}
+use Rattle.fixed_expr.specs.Moves.{moves_with}
+use Rattle.fixed_expr.specs.inside.Alike.{AreSameBut}
 use Rattle.fixed_expr.proofs.Values.{agree}
 
 module _ (k : ℕ) (xs ys : List ℤ) where
@@ -27,7 +28,7 @@ module _ (k : ℕ) (xs ys : List ℤ) where
     right : AreSameBut k b xs ys
     right i other here = same i other (or_right (mentions a i) (mentions b i) here)
 
-  moves : (e : Expression) → Moves e
+  pub moves : (e : Expression) → Moves e
   moves (Number c) is same = absurd (false≢true is)
   moves (Variable j) is same = let here : j ≡ k = eqb-true j k is in omega (arith, ints, ap (λ (i : ℕ). slice_index_or xs i (pos 0)) here, ap (λ (i : ℕ). slice_index_or ys i (pos 0)) here)
   moves (Sum a b) is same =
@@ -48,6 +49,4 @@ module _ (k : ℕ) (xs ys : List ℤ) where
   moves (Minimum a b) is same = absurd (false≢true is)
   moves (Maximum a b) is same = absurd (false≢true is)
   moves (Absolute a) is same = absurd (false≢true is)
-
-pub values_move_with_variables : ValuesMoveWithVariables
-values_move_with_variables e k xs ys is same = moves k xs ys e is same
+  moves (Lookup a points) is same = absurd (false≢true is)

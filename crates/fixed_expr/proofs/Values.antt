@@ -3,10 +3,12 @@ use Rattle.std.proofs.Common.{◌≡◌, ℕ, true, ◌||◌, List, refl, ap, ap
 use Rattle.std.specs.Prelude.{ℤ, pos, nat_abs, neg_ℤ, ◌+ℤ◌, ◌-ℤ◌, ◌*ℤ◌, slice_index_or}
 use Rattle.std.specs.Int.{int_min, int_max}
 use Rattle.std.proofs.lemmas.Bool.{or_left, or_right, eq-eqb}
-use Rattle.fixed_expr.specs.Expression.{Expression, Number, Variable, Negation, Sum, Difference, Product, Quotient, Minimum, Maximum, Absolute}
+use Rattle.fixed_expr.specs.Expression.{Expression, Number, Variable, Negation, Sum, Difference, Product, Quotient, Minimum, Maximum, Absolute, Lookup}
 use Rattle.fixed_expr.specs.Quotient.{floor_div}
+use Rattle.fixed_expr.specs.Curves.{curve_value}
 use Rattle.fixed_expr.specs.Value.{value_of}
-use Rattle.fixed_expr.specs.Mentions.{mentions, AreSameIn, ValuesRestOnVariables}
+use Rattle.fixed_expr.specs.Mentions.{mentions}
+use Rattle.fixed_expr.specs.inside.Alike.{AreSameIn}
 
 module _ (xs ys : List ℤ) where
   abbrev Agree : Expression → Type 0
@@ -29,6 +31,4 @@ module _ (xs ys : List ℤ) where
   agree (Minimum a b) same = both int_min a b (agree a) (agree b) same
   agree (Maximum a b) same = both int_max a b (agree a) (agree b) same
   agree (Absolute a) same = ap (λ x. pos (nat_abs x)) (agree a same)
-
-pub values_rest_on_variables : ValuesRestOnVariables
-values_rest_on_variables e xs ys same = agree xs ys e same
+  agree (Lookup a points) same = ap (curve_value points) (agree a same)

@@ -1,8 +1,10 @@
 pub mod Range
 pub mod Quotient
+pub mod Curves
 pub mod Expression
 pub mod Value
 pub mod Narrow
+pub mod Lanes
 pub mod Rows
 pub mod Mentions
 pub mod Moves

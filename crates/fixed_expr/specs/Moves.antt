@@ -1,8 +1,7 @@
 -- Expressions that move with one of their variables.
-use Rattle.std.specs.Prelude.{◌≡◌, ℕ, ℤ, pos, ◌-ℤ◌, Bool, false, ◌==◌, ◌||◌, ◌&&◌, not, IsTrue, List, slice_index_or}
-use Rattle.fixed_expr.specs.Expression.{Expression, Number, Variable, Negation, Sum, Difference, Product, Quotient, Minimum, Maximum, Absolute}
+use Rattle.std.specs.Prelude.{ℕ, Bool, false, ◌==◌, ◌||◌, ◌&&◌, not}
+use Rattle.fixed_expr.specs.Expression.{Expression, Number, Variable, Negation, Sum, Difference, Product, Quotient, Minimum, Maximum, Absolute, Lookup}
 use Rattle.fixed_expr.specs.Mentions.{mentions}
-use Rattle.fixed_expr.specs.Value.{value_of}
 
 -- the expression is a variable, plus or minus what doesn't mention it
 abbrev pub moves_with : Expression → ℕ → Bool
@@ -16,13 +15,4 @@ moves_with (Quotient a c) k = false
 moves_with (Minimum a b) k = false
 moves_with (Maximum a b) k = false
 moves_with (Absolute a) k = false
-
--- two lists are the same at each other variable that stands in an expression
-abbrev pub AreSameBut : ℕ → Expression → List ℤ → List ℤ → Type 0
-AreSameBut k e xs ys = (i : ℕ) → (i ≡ k → ⊥) → IsTrue (mentions e i) → slice_index_or xs i (pos 0) ≡ slice_index_or ys i (pos 0)
-
--- such an expression less the variable has one value wherever the other variables are the same
-abbrev pub ValuesMoveWithVariables : Type 0
-ValuesMoveWithVariables =
-    (e : Expression) (k : ℕ) (xs ys : List ℤ) → IsTrue (moves_with e k) → AreSameBut k e xs ys →
-    value_of e xs -ℤ slice_index_or xs k (pos 0) ≡ value_of e ys -ℤ slice_index_or ys k (pos 0)
+moves_with (Lookup a points) k = false

@@ -1,2 +1,4 @@
 pub mod Postfix
-pub mod Places
+pub mod Progress
+pub mod Passed
+pub mod Alike

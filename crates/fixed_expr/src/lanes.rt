@@ -3,12 +3,15 @@
 ghost use Rattle.std.specs.Prelude.{neg_ℤ, ◌+ℤ◌, ◌-ℤ◌, ◌*ℤ◌, ◌≤ℤ◌, pos, nat_abs};
 ghost use Rattle.std.specs.Int.{int_min, int_max};
 ghost use Rattle.fixed_expr.specs.Quotient.{floor_div};
-ghost use Rattle.fixed_expr.specs.inside.Places.{at, AnswersPlaces, HoldsNarrow};
+ghost use Rattle.fixed_expr.specs.Curves.{curve_value};
+ghost use Rattle.fixed_expr.specs.Lanes.{at, AnswersLanes, HoldsNarrow};
+
+use crate::curve::Curve;
 
 /// How many rows are evaluated at once.
 pub const LANES: usize = 32;
 
-pub(crate) fn copy_to(found: &mut [i64; LANES], column: &[i64; LANES])
+pub fn copy_to(found: &mut [i64; LANES], column: &[i64; LANES])
     ensures { HoldsNarrow found.new (λ k. at column.now k) }
 {
     'lanes: for k in 0..LANES {
@@ -16,8 +19,8 @@ pub(crate) fn copy_to(found: &mut [i64; LANES], column: &[i64; LANES])
     }
 }
 
-pub(crate) fn add_to(found: &mut [i64; LANES], other: &[i64; LANES]) -> Option<()>
-    ensures { AnswersPlaces result found.new (λ k. at found.old k +ℤ at other.now k) }
+pub fn add_to(found: &mut [i64; LANES], other: &[i64; LANES]) -> Option<()>
+    ensures { AnswersLanes result found.new (λ k. at found.old k +ℤ at other.now k) }
 {
     'lanes: for k in 0..LANES {
         found[k] = found[k].checked_add(other[k])?;
@@ -25,8 +28,8 @@ pub(crate) fn add_to(found: &mut [i64; LANES], other: &[i64; LANES]) -> Option<(
     Some(())
 }
 
-pub(crate) fn subtract_from(found: &mut [i64; LANES], other: &[i64; LANES]) -> Option<()>
-    ensures { AnswersPlaces result found.new (λ k. at found.old k -ℤ at other.now k) }
+pub fn subtract_from(found: &mut [i64; LANES], other: &[i64; LANES]) -> Option<()>
+    ensures { AnswersLanes result found.new (λ k. at found.old k -ℤ at other.now k) }
 {
     'lanes: for k in 0..LANES {
         found[k] = found[k].checked_sub(other[k])?;
@@ -34,8 +37,8 @@ pub(crate) fn subtract_from(found: &mut [i64; LANES], other: &[i64; LANES]) -> O
     Some(())
 }
 
-pub(crate) fn multiply_by(found: &mut [i64; LANES], other: &[i64; LANES]) -> Option<()>
-    ensures { AnswersPlaces result found.new (λ k. at found.old k *ℤ at other.now k) }
+pub fn multiply_by(found: &mut [i64; LANES], other: &[i64; LANES]) -> Option<()>
+    ensures { AnswersLanes result found.new (λ k. at found.old k *ℤ at other.now k) }
 {
     'lanes: for k in 0..LANES {
         found[k] = found[k].checked_mul(other[k])?;
@@ -44,7 +47,7 @@ pub(crate) fn multiply_by(found: &mut [i64; LANES], other: &[i64; LANES]) -> Opt
 }
 
 /// The lesser of the two, in each lane.
-pub(crate) fn lower_to(found: &mut [i64; LANES], other: &[i64; LANES])
+pub fn lower_to(found: &mut [i64; LANES], other: &[i64; LANES])
     ensures { HoldsNarrow found.new (λ k. int_min (at found.old k) (at other.now k)) }
 {
     'lanes: for k in 0..LANES {
@@ -53,7 +56,7 @@ pub(crate) fn lower_to(found: &mut [i64; LANES], other: &[i64; LANES])
 }
 
 /// The greater of the two, in each lane.
-pub(crate) fn raise_to(found: &mut [i64; LANES], other: &[i64; LANES])
+pub fn raise_to(found: &mut [i64; LANES], other: &[i64; LANES])
     ensures { HoldsNarrow found.new (λ k. int_max (at found.old k) (at other.now k)) }
 {
     'lanes: for k in 0..LANES {
@@ -61,8 +64,8 @@ pub(crate) fn raise_to(found: &mut [i64; LANES], other: &[i64; LANES])
     }
 }
 
-pub(crate) fn negate(found: &mut [i64; LANES]) -> Option<()>
-    ensures { AnswersPlaces result found.new (λ k. neg_ℤ (at found.old k)) }
+pub fn negate(found: &mut [i64; LANES]) -> Option<()>
+    ensures { AnswersLanes result found.new (λ k. neg_ℤ (at found.old k)) }
 {
     'lanes: for k in 0..LANES {
         found[k] = found[k].checked_neg()?;
@@ -70,8 +73,8 @@ pub(crate) fn negate(found: &mut [i64; LANES]) -> Option<()>
     Some(())
 }
 
-pub(crate) fn make_absolute(found: &mut [i64; LANES]) -> Option<()>
-    ensures { AnswersPlaces result found.new (λ k. pos (nat_abs (at found.old k))) }
+pub fn make_absolute(found: &mut [i64; LANES]) -> Option<()>
+    ensures { AnswersLanes result found.new (λ k. pos (nat_abs (at found.old k))) }
 {
     'lanes: for k in 0..LANES {
         found[k] = found[k].checked_abs()?;
@@ -80,11 +83,20 @@ pub(crate) fn make_absolute(found: &mut [i64; LANES]) -> Option<()>
 }
 
 /// Rounds down, where `/` rounds towards 0.
-pub(crate) fn divide_by(found: &mut [i64; LANES], divisor: i64)
+pub fn divide_by(found: &mut [i64; LANES], divisor: i64)
     requires { pos 1 ≤ℤ divisor }
     ensures { HoldsNarrow found.new (λ k. floor_div (at found.old k) divisor) }
 {
     'lanes: for k in 0..LANES {
         found[k] = found[k].div_euclid(divisor);
+    }
+}
+
+/// The values of a table.
+pub fn look_up(found: &mut [i64; LANES], curve: &Curve)
+    ensures { HoldsNarrow found.new (λ k. curve_value curve.now (at found.old k)) }
+{
+    'lanes: for k in 0..LANES {
+        found[k] = curve.narrow_value(found[k]);
     }
 }

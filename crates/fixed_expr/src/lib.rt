@@ -6,16 +6,17 @@
 #![tactic(auto)]
 
 pub mod arithmetic;
+mod curve;
 mod evaluate;
 mod expr;
-mod lanes;
-pub mod laws;
+pub mod lanes;
 mod mentions;
 mod moves;
-mod narrow;
+pub mod narrow;
 mod rows;
 mod wide;
 
+pub use curve::{Curve, NoMemory};
 pub use evaluate::eval;
 pub use expr::Expr;
 pub use lanes::LANES;

@@ -12,7 +12,7 @@ impl Expr {
         match self {
             Expr::Num(_) => false,
             Expr::Var(i) => *i == variable,
-            Expr::Neg(a) | Expr::Div(a, _) | Expr::Abs(a) => a.mentions(variable),
+            Expr::Neg(a) | Expr::Div(a, _) | Expr::Abs(a) | Expr::Lut(a, _) => a.mentions(variable),
             Expr::Add(a, b)
             | Expr::Sub(a, b)
             | Expr::Mul(a, b)

@@ -23,7 +23,8 @@ impl Expr {
             | Expr::Div(_, _)
             | Expr::Min(_, _)
             | Expr::Max(_, _)
-            | Expr::Abs(_) => false,
+            | Expr::Abs(_)
+            | Expr::Lut(_, _) => false,
         }
     }
 }

@@ -7,8 +7,8 @@ ghost use Rattle.fixed_expr.specs.Rows.{AnswersRows};
 
 use crate::expr::Expr;
 use crate::lanes::{
-    LANES, add_to, copy_to, divide_by, lower_to, make_absolute, multiply_by, negate, raise_to,
-    subtract_from,
+    LANES, add_to, copy_to, divide_by, look_up, lower_to, make_absolute, multiply_by, negate,
+    raise_to, subtract_from,
 };
 use crate::narrow::narrow;
 
@@ -70,6 +70,11 @@ pub fn eval_rows(e: &Expr, columns: &[[i64; LANES]], found: &mut [i64; LANES]) -
         Expr::Abs(a) => {
             eval_rows(a, columns, found)?;
             make_absolute(found)
+        }
+        Expr::Lut(a, curve) => {
+            eval_rows(a, columns, found)?;
+            look_up(found, curve);
+            Some(())
         }
     }
 }

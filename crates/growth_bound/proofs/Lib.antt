@@ -1,5 +1,8 @@
 pub mod Division
 pub mod Fitting
 pub mod Distances
+pub mod Slopes
+pub mod CurveDistances
 pub mod Moves
 pub mod Resting
+pub mod Laws

@@ -2,13 +2,13 @@
 use Rattle.std.proofs.Common.{◌≡◌, ℕ, zero, suc, ◌≤◌, subst, sym, List, [], ◌∷◌, length, arith, slice_index_or}
 use Rattle.std.specs.Prelude.{ℤ, pos, nat_abs}
 use Rattle.std.proofs.lemmas.Int.{ints}
-use Rattle.fixed_expr.specs.Expression.{Expression, Number, Variable, Negation, Sum, Difference, Product, Quotient, Minimum, Maximum, Absolute}
+use Rattle.fixed_expr.specs.Expression.{Expression, Number, Variable, Negation, Sum, Difference, Product, Quotient, Minimum, Maximum, Absolute, Lookup}
 use Rattle.fixed_expr.specs.Value.{IsWellFormed, value_of}
 use Rattle.interval_eval.specs.declared.interval.Interval.{Interval}
 use Rattle.interval_eval.specs.Span.{IsIn, AreIn, span_of}
-use Rattle.interval_eval.specs.Laws.{ValuesLieInSpans}
+use Rattle.interval_eval.proofs.Laws.{values_lie_in_spans}
 use Rattle.growth_bound.specs.Deviation.{IsNear, AreNear, magnitude_of, deviation_of}
-use Rattle.growth_bound.specs.Laws.{ValuesMoveByDeviations}
+use Rattle.growth_bound.proofs.CurveDistances.{near_lookup}
 use Rattle.growth_bound.proofs.Distances.{near_negation, near_sum, near_difference, near_minimum, near_maximum, near_absolute, near_product, near_quotient}
 
 near_variable : (radii xs ys : List ℤ) (i : ℕ) → AreNear radii xs ys → IsNear (pos (nat_abs (slice_index_or radii i (pos 0)))) (slice_index_or xs i (pos 0)) (slice_index_or ys i (pos 0))
@@ -23,34 +23,35 @@ near_variable (r ∷ radii) (x ∷ xs) (y ∷ ys) (suc i) h = near_variable radi
 within_magnitude : (a : Interval) (x : ℤ) → IsIn a x → nat_abs x ≤ magnitude_of a
 within_magnitude a x h = omega (arith, ints, h.0, h.1)
 
--- The values are at most the deviation apart, as values lie in their spans.
-module _ (lies : ValuesLieInSpans) where
-  pub values_move : (e : Expression) (area : List Interval) (radii xs ys : List ℤ) → IsWellFormed e (length area) → AreIn area xs → AreIn area ys → AreNear radii xs ys → IsNear (pos (deviation_of e area radii)) (value_of e xs) (value_of e ys)
-  values_move (Number k) area radii xs ys formed p q h = (omega (arith, ints), omega (arith, ints))
-  values_move (Variable i) area radii xs ys formed p q h = near_variable radii xs ys i h
-  values_move (Negation a) area radii xs ys formed p q h =
-      near_negation (deviation_of a area radii) (value_of a xs) (value_of a ys) (values_move a area radii xs ys formed p q h)
-  values_move (Sum a b) area radii xs ys formed p q h =
-      near_sum (deviation_of a area radii) (deviation_of b area radii) (value_of a xs) (value_of a ys) (value_of b xs) (value_of b ys) (values_move a area radii xs ys formed.0 p q h) (values_move b area radii xs ys formed.1 p q h)
-  values_move (Difference a b) area radii xs ys formed p q h =
-      near_difference (deviation_of a area radii) (deviation_of b area radii) (value_of a xs) (value_of a ys) (value_of b xs) (value_of b ys) (values_move a area radii xs ys formed.0 p q h) (values_move b area radii xs ys formed.1 p q h)
-  values_move (Product a b) area radii xs ys formed p q h =
-      near_product (magnitude_of (span_of a area)) (magnitude_of (span_of b area)) (deviation_of a area radii) (deviation_of b area radii) (value_of a xs) (value_of a ys) (value_of b xs) (value_of b ys)
-      (within_magnitude (span_of a area) (value_of a xs) (lies a area xs formed.0 p))
-      (within_magnitude (span_of b area) (value_of b ys) (lies b area ys formed.1 q))
-      (values_move a area radii xs ys formed.0 p q h)
-      (values_move b area radii xs ys formed.1 p q h)
-  values_move (Quotient a k) area radii xs ys formed p q h =
-      near_quotient (deviation_of a area radii) (value_of a xs) (value_of a ys) k formed.1 (values_move a area radii xs ys formed.0 p q h)
-  values_move (Minimum a b) area radii xs ys formed p q h =
-      near_minimum (deviation_of a area radii) (deviation_of b area radii) (value_of a xs) (value_of a ys) (value_of b xs) (value_of b ys) (values_move a area radii xs ys formed.0 p q h) (values_move b area radii xs ys formed.1 p q h)
-  values_move (Maximum a b) area radii xs ys formed p q h =
-      near_maximum (deviation_of a area radii) (deviation_of b area radii) (value_of a xs) (value_of a ys) (value_of b xs) (value_of b ys) (values_move a area radii xs ys formed.0 p q h) (values_move b area radii xs ys formed.1 p q h)
-  values_move (Absolute a) area radii xs ys formed p q h =
-      near_absolute (deviation_of a area radii) (value_of a xs) (value_of a ys) (values_move a area radii xs ys formed p q h)
+-- the values are at most the deviation apart, as values lie in their spans
+pub values_move : (e : Expression) (area : List Interval) (radii xs ys : List ℤ) → IsWellFormed e (length area) → AreIn area xs → AreIn area ys → AreNear radii xs ys → IsNear (pos (deviation_of e area radii)) (value_of e xs) (value_of e ys)
+values_move (Number k) area radii xs ys formed p q h = (omega (arith, ints), omega (arith, ints))
+values_move (Variable i) area radii xs ys formed p q h = near_variable radii xs ys i h
+values_move (Negation a) area radii xs ys formed p q h =
+    near_negation (deviation_of a area radii) (value_of a xs) (value_of a ys) (values_move a area radii xs ys formed p q h)
+values_move (Sum a b) area radii xs ys formed p q h =
+    near_sum (deviation_of a area radii) (deviation_of b area radii) (value_of a xs) (value_of a ys) (value_of b xs) (value_of b ys) (values_move a area radii xs ys formed.0 p q h) (values_move b area radii xs ys formed.1 p q h)
+values_move (Difference a b) area radii xs ys formed p q h =
+    near_difference (deviation_of a area radii) (deviation_of b area radii) (value_of a xs) (value_of a ys) (value_of b xs) (value_of b ys) (values_move a area radii xs ys formed.0 p q h) (values_move b area radii xs ys formed.1 p q h)
+values_move (Product a b) area radii xs ys formed p q h =
+    near_product (magnitude_of (span_of a area)) (magnitude_of (span_of b area)) (deviation_of a area radii) (deviation_of b area radii) (value_of a xs) (value_of a ys) (value_of b xs) (value_of b ys)
+    (within_magnitude (span_of a area) (value_of a xs) (values_lie_in_spans a area xs formed.0 p))
+    (within_magnitude (span_of b area) (value_of b ys) (values_lie_in_spans b area ys formed.1 q))
+    (values_move a area radii xs ys formed.0 p q h)
+    (values_move b area radii xs ys formed.1 p q h)
+values_move (Quotient a k) area radii xs ys formed p q h =
+    near_quotient (deviation_of a area radii) (value_of a xs) (value_of a ys) k formed.1 (values_move a area radii xs ys formed.0 p q h)
+values_move (Minimum a b) area radii xs ys formed p q h =
+    near_minimum (deviation_of a area radii) (deviation_of b area radii) (value_of a xs) (value_of a ys) (value_of b xs) (value_of b ys) (values_move a area radii xs ys formed.0 p q h) (values_move b area radii xs ys formed.1 p q h)
+values_move (Maximum a b) area radii xs ys formed p q h =
+    near_maximum (deviation_of a area radii) (deviation_of b area radii) (value_of a xs) (value_of a ys) (value_of b xs) (value_of b ys) (values_move a area radii xs ys formed.0 p q h) (values_move b area radii xs ys formed.1 p q h)
+values_move (Absolute a) area radii xs ys formed p q h =
+    near_absolute (deviation_of a area radii) (value_of a xs) (value_of a ys) (values_move a area radii xs ys formed p q h)
+values_move (Lookup a points) area radii xs ys formed p q h =
+    near_lookup points (deviation_of a area radii) (value_of a xs) (value_of a ys) formed.1 (values_move a area radii xs ys formed.0 p q h)
 
 -- the same of a number that is the deviation
-pub deviation_bounds : ValuesMoveByDeviations → (e : Expression) (area : List Interval) (radii : List ℤ) (d : ℤ) → IsWellFormed e (length area) → d ≡ pos (deviation_of e area radii) → (xs ys : List ℤ) → AreIn area xs → AreIn area ys → AreNear radii xs ys → IsNear d (value_of e xs) (value_of e ys)
-deviation_bounds moves e area radii d formed exact xs ys p q h =
+pub deviation_bounds : (e : Expression) (area : List Interval) (radii : List ℤ) (d : ℤ) → IsWellFormed e (length area) → d ≡ pos (deviation_of e area radii) → (xs ys : List ℤ) → AreIn area xs → AreIn area ys → AreNear radii xs ys → IsNear d (value_of e xs) (value_of e ys)
+deviation_bounds e area radii d formed exact xs ys p q h =
     let Near : ℤ → Type 0 = λ z. IsNear z (value_of e xs) (value_of e ys) in
-    subst Near (sym exact) (moves e area radii xs ys formed p q h)
+    subst Near (sym exact) (values_move e area radii xs ys formed p q h)

@@ -2,13 +2,13 @@
 use Rattle.std.proofs.Common.{◌≡◌, ℕ, ◌+◌, ◌*◌, true, ◌||◌, List, refl, ap, ap₂}
 use Rattle.std.specs.Prelude.{ℤ, pos, nat_abs, max, slice_index_or}
 use Rattle.std.proofs.lemmas.Bool.{or_left, or_right, eq-eqb}
-use Rattle.fixed_expr.specs.Expression.{Expression, Number, Variable, Negation, Sum, Difference, Product, Quotient, Minimum, Maximum, Absolute}
-use Rattle.fixed_expr.specs.Mentions.{mentions, AreSameIn}
+use Rattle.fixed_expr.specs.Expression.{Expression, Number, Variable, Negation, Sum, Difference, Product, Quotient, Minimum, Maximum, Absolute, Lookup}
+use Rattle.fixed_expr.specs.Mentions.{mentions}
+use Rattle.fixed_expr.specs.inside.Alike.{AreSameIn}
 use Rattle.interval_eval.specs.declared.interval.Interval.{Interval}
 use Rattle.interval_eval.specs.Span.{span_of}
-use Rattle.interval_eval.specs.Laws.{SpansRestOnVariables}
-use Rattle.growth_bound.specs.Deviation.{magnitude_of, ceiling_div, deviation_of}
-use Rattle.growth_bound.specs.Laws.{DeviationsRestOnVariables}
+use Rattle.interval_eval.proofs.Laws.{spans_rest_on_variables}
+use Rattle.growth_bound.specs.Deviation.{magnitude_of, ceiling_div, greatest_rise, deviation_of}
 
 abbrev no_range : Interval
 no_range = record { lo = pos 0; hi = pos 0 }
@@ -21,7 +21,7 @@ module _ {A : Type 0} (d : A) (xs ys : List A) (a b : Expression) (same : (i : �
   right : AreSameIn d b xs ys
   right i here = same i (or_right (mentions a i) (mentions b i) here)
 
-module _ (spans : SpansRestOnVariables) (area other : List Interval) (radii others : List ℤ) where
+module _ (area other : List Interval) (radii others : List ℤ) where
   abbrev Agree : Expression → Type 0
   Agree e = AreSameIn no_range e area other → AreSameIn (pos 0) e radii others → deviation_of e area radii ≡ deviation_of e other others
 
@@ -36,9 +36,9 @@ module _ (spans : SpansRestOnVariables) (area other : List Interval) (radii othe
 
   -- a factor's deviation counts as often as the other factor is large
   scaled : (a b : Expression) → AreSameIn no_range a area other → deviation_of b area radii ≡ deviation_of b other others → magnitude_of (span_of a area) * deviation_of b area radii ≡ magnitude_of (span_of a other) * deviation_of b other others
-  scaled a b ranges moves = ap₂ (λ (i : Interval) (n : ℕ). magnitude_of i * n) (spans a area other ranges) moves
+  scaled a b ranges moves = ap₂ (λ (i : Interval) (n : ℕ). magnitude_of i * n) (spans_rest_on_variables a area other ranges) moves
 
-  agree : (e : Expression) → Agree e
+  pub agree : (e : Expression) → Agree e
   agree (Number k) ranges moves = refl
   agree (Variable j) ranges moves = ap nat_abs (moves j (eq-eqb j j refl))
   agree (Negation a) ranges moves = agree a ranges moves
@@ -54,6 +54,4 @@ module _ (spans : SpansRestOnVariables) (area other : List Interval) (radii othe
   agree (Minimum a b) ranges moves = both max a b (agree a) (agree b) ranges moves
   agree (Maximum a b) ranges moves = both max a b (agree a) (agree b) ranges moves
   agree (Absolute a) ranges moves = agree a ranges moves
-
-pub deviations_rest : SpansRestOnVariables → DeviationsRestOnVariables
-deviations_rest spans e area other radii others ranges moves = agree spans area other radii others e ranges moves
+  agree (Lookup a points) ranges moves = ap (greatest_rise points) (agree a ranges moves)

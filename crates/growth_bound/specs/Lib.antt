@@ -1,3 +1,2 @@
 pub mod Deviation
-pub mod Laws
 pub mod inside

@@ -6,7 +6,6 @@ ghost use Rattle.growth_bound.specs.Deviation.{IsNear, AreNear, DeviationStaysIn
 ghost use Rattle.growth_bound.specs.inside.Bounds.{bounds_of};
 
 use crate::bounds::Bounds;
-use crate::laws::values_move_by_at_most_the_deviation;
 use fixed_expr::Expr;
 use interval_eval::Interval;
 
@@ -24,7 +23,6 @@ pub fn deviation(e: &Expr, area: &[Interval], radii: &[i128]) -> Option<i128>
         (xs ys : List ℤ) → AreIn area.now xs → AreIn area.now ys → AreNear radii.now xs ys →
         IsNear d (value_of (expression_of e.now) xs) (value_of (expression_of e.now) ys)) }
 {
-    values_move_by_at_most_the_deviation();
     Some(span_and_deviation(e, area, radii)?.1)
 }
 
@@ -60,5 +58,6 @@ fn bounds(e: &Expr, area: &[Interval], radii: &[i128]) -> Option<Bounds>
         Expr::Min(a, b) => bounds(a, area, radii)?.minimum(bounds(b, area, radii)?),
         Expr::Max(a, b) => bounds(a, area, radii)?.maximum(bounds(b, area, radii)?),
         Expr::Abs(a) => bounds(a, area, radii)?.absolute(),
+        Expr::Lut(a, curve) => bounds(a, area, radii)?.lookup(curve),
     }
 }

@@ -8,6 +8,5 @@
 
 mod bounds;
 mod deviations;
-pub mod laws;
 
 pub use deviations::{deviation, span_and_deviation};

@@ -5,11 +5,13 @@ use Rattle.std.specs.Int.{int_min, int_max}
 use Rattle.std.proofs.lemmas.Int.{ints, clamps}
 use Rattle.std.proofs.lemmas.List.Elements.{All-head, All-tail}
 use Rattle.fixed_expr.specs.Quotient.{floor_div}
-use Rattle.fixed_expr.specs.Expression.{Expression, Number, Variable, Negation, Sum, Difference, Product, Quotient, Minimum, Maximum, Absolute}
+use Rattle.fixed_expr.specs.Expression.{Expression, Number, Variable, Negation, Sum, Difference, Product, Quotient, Minimum, Maximum, Absolute, Lookup}
 use Rattle.fixed_expr.specs.Value.{IsWellFormed, value_of}
 use Rattle.interval_eval.specs.declared.interval.Interval.{Interval}
 use Rattle.interval_eval.specs.Span.{IsInterval, IsIn, AreIn, SpanStaysInRange, negation_of, sum_of, difference_of, product_of, quotient_of, minimum_of, maximum_of, absolute_of, span_of}
-use Rattle.interval_eval.proofs.Integers.{multiple_between, product_between, floors_in_order}
+use Rattle.interval_eval.proofs.Lookups.{in_lookup}
+use Rattle.fixed_expr.proofs.Laws.{floors_in_order}
+use Rattle.interval_eval.proofs.Integers.{multiple_between, product_between}
 
 in_variable : (area : List Interval) (values : List ℤ) (i : ℕ) (d : Interval) (z : ℤ) → i < length area → AreIn area values → IsIn (slice_index_or area i d) (slice_index_or values i z)
 in_variable [] [] i d z below h = absurd (omega arith)
@@ -37,7 +39,7 @@ in_quotient : (a : Interval) (k x : ℤ) → pos 1 ≤ℤ k → IsIn a x → IsI
 in_quotient a k x some h = (floors_in_order a.lo x k some h.0, floors_in_order x a.hi k some h.1)
 
 -- x times y lies between x times the ends of b, which lie between products of ends
-in_product : (a b : Interval) (x y : ℤ) → IsIn a x → IsIn b y → IsIn (product_of a b) (x *ℤ y)
+pub in_product : (a b : Interval) (x y : ℤ) → IsIn a x → IsIn b y → IsIn (product_of a b) (x *ℤ y)
 in_product a b x y h k =
     let across = multiple_between x b.lo b.hi y k in
     let low = product_between b.lo a.lo a.hi x h in
@@ -47,7 +49,7 @@ in_product a b x y h k =
     corners : (p q r s low high x : ℤ) → (int_min p r ≤ℤ low) × (low ≤ℤ int_max p r) → (int_min q s ≤ℤ high) × (high ≤ℤ int_max q s) → (int_min low high ≤ℤ x) × (x ≤ℤ int_max low high) → (int_min (int_min p q) (int_min r s) ≤ℤ x) × (x ≤ℤ int_max (int_max p q) (int_max r s))
     corners p q r s low high x l h across = (omega (arith, ints, clamps), omega (arith, ints, clamps))
 
-in_absolute : (a : Interval) (x : ℤ) → IsIn a x → IsIn (absolute_of a) (pos (nat_abs x))
+pub in_absolute : (a : Interval) (x : ℤ) → IsIn a x → IsIn (absolute_of a) (pos (nat_abs x))
 in_absolute a x h = (by (int_le (pos 0) a.lo) (int_le a.hi (pos 0)) refl refl, omega (arith, ints, clamps))
   where
     by : (s t : Bool) → int_le (pos 0) a.lo ≡ s → int_le a.hi (pos 0) ≡ t → (if s then a.lo else (if t then neg_ℤ a.hi else pos 0)) ≤ℤ pos (nat_abs x)
@@ -73,6 +75,7 @@ values_lie (Minimum a b) area values formed h =
 values_lie (Maximum a b) area values formed h =
     in_maximum (span_of a area) (span_of b area) (value_of a values) (value_of b values) (values_lie a area values formed.0 h) (values_lie b area values formed.1 h)
 values_lie (Absolute a) area values formed h = in_absolute (span_of a area) (value_of a values) (values_lie a area values formed h)
+values_lie (Lookup a points) area values formed h = in_lookup points (span_of a area) (value_of a values) formed.1 (values_lie a area values formed.0 h)
 
 lows : List Interval → List ℤ
 lows [] = []

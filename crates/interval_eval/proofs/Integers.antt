@@ -1,13 +1,11 @@
 -- Products, floors of quotients and extremes of whole numbers, in order.
-use Rattle.std.proofs.Common.{ℕ, suc, ◌+◌, ◌/◌, ◌<◌, ◌≤◌, arith}
-use Rattle.std.specs.Prelude.{ℤ, pos, negsuc, nat_abs, ◌*ℤ◌, ◌≤ℤ◌}
+use Rattle.std.proofs.Common.{ℕ, suc, ◌+◌, ◌≤◌, arith}
+use Rattle.std.specs.Prelude.{ℤ, pos, negsuc, ◌*ℤ◌, ◌≤ℤ◌}
 use Rattle.std.specs.Int.{int_min, int_max}
 use Rattle.std.proofs.lemmas.Int.{ints, clamps}
-use Rattle.std.proofs.Math.Nat.{mul-le-mul_left, div-mul-le_self}
-use Rattle.std.proofs.lemmas.Nat.{le-div}
+use Rattle.std.proofs.Math.Nat.{mul-le-mul_left}
 use Rattle.std.proofs.Math.IntN.{*ℤ_comm}
 use borrow.Author.Differences.{up, down}
-use Rattle.fixed_expr.specs.Quotient.{floor_div}
 
 -- a number between two others
 abbrev pub IsBetween : ℤ → ℤ → ℤ → Type 0
@@ -36,21 +34,6 @@ multiple_between (negsuc n) low high x h =
 
 pub product_between : (k low high x : ℤ) → IsBetween low high x → IsBetween (int_min (low *ℤ k) (high *ℤ k)) (int_max (low *ℤ k) (high *ℤ k)) (x *ℤ k)
 product_between k low high x h = rw (*ℤ_comm low k, *ℤ_comm high k, *ℤ_comm x k) (multiple_between k low high x h)
-
-quotients_in_order : (m n k : ℕ) → 0 < k → m ≤ n → m / k ≤ n / k
-quotients_in_order m n k some order = le-div (m / k) n k some (omega (arith, div-mul-le_self m k))
-
-pub floors_in_order : (x y k : ℤ) → pos 1 ≤ℤ k → x ≤ℤ y → floor_div x k ≤ℤ floor_div y k
-floors_in_order (pos m) (pos n) k some below =
-    let order : m ≤ n = omega (arith, ints) in
-    let divisor : 0 < nat_abs k = omega (arith, ints) in
-    omega (arith, ints, quotients_in_order m n (nat_abs k) divisor order)
-floors_in_order (pos m) (negsuc n) k some below = absurd (omega (arith, ints))
-floors_in_order (negsuc m) (pos n) k some below = omega (arith, ints)
-floors_in_order (negsuc m) (negsuc n) k some below =
-    let order : n ≤ m = omega (arith, ints) in
-    let divisor : 0 < nat_abs k = omega (arith, ints) in
-    omega (arith, ints, quotients_in_order n m (nat_abs k) divisor order)
 
 -- the least and the greatest of four numbers
 abbrev pub least : ℤ → ℤ → ℤ → ℤ → ℤ

@@ -1,5 +1,11 @@
 pub mod Integers
+pub mod Lookups
 pub mod Holding
 pub mod Ranging
 pub mod Corners
 pub mod Resting
+pub mod Nesting
+pub mod MovingSpans
+pub mod IntervalColumns
+pub mod AreaColumns
+pub mod Laws

@@ -3,11 +3,10 @@ use Rattle.std.proofs.Common.{◌^◌, ◌<◌, List, length, arith}
 use Rattle.std.specs.Prelude.{ℤ, nat_abs, ◌≤ℤ◌}
 use Rattle.std.proofs.lemmas.Int.{ints}
 use Rattle.fixed_expr.specs.Range.{IsInRange}
-use Rattle.fixed_expr.specs.Expression.{Expression, Number, Variable, Negation, Sum, Difference, Product, Quotient, Minimum, Maximum, Absolute}
+use Rattle.fixed_expr.specs.Expression.{Expression, Number, Variable, Negation, Sum, Difference, Product, Quotient, Minimum, Maximum, Absolute, Lookup}
 use Rattle.fixed_expr.specs.Value.{IsWellFormed, value_of, StaysInRange}
 use Rattle.interval_eval.specs.declared.interval.Interval.{Interval}
-use Rattle.interval_eval.specs.Span.{AreIn, EndsFit, span_of, SpanStaysInRange}
-use Rattle.interval_eval.specs.Laws.{NumbersLieInRange}
+use Rattle.interval_eval.specs.Span.{IsIn, AreIn, EndsFit, span_of, SpanStaysInRange}
 use Rattle.interval_eval.proofs.Holding.{values_lie}
 
 pub between : (low high x : ℤ) → IsInRange low → IsInRange high → low ≤ℤ x → x ≤ℤ high → IsInRange x
@@ -16,7 +15,7 @@ between low high x p q above below =
     let high_fits : nat_abs high < 2 ^ 127 = q in
     omega (arith, ints, above, below)
 
-pub numbers_fit : NumbersLieInRange
+pub numbers_fit : (i : Interval) (x : ℤ) → EndsFit i → IsIn i x → IsInRange x
 numbers_fit i x ends inside = between i.lo i.hi x ends.0 ends.1 inside.0 inside.1
 
 module _ (area : List Interval) (values : List ℤ) (within : AreIn area values) where
@@ -34,3 +33,4 @@ module _ (area : List Interval) (values : List ℤ) (within : AreIn area values)
   values_stay (Minimum a b) formed span = (values_stay a formed.0 span.0, values_stay b formed.1 span.1, value_fits (Minimum a b) formed span.2)
   values_stay (Maximum a b) formed span = (values_stay a formed.0 span.0, values_stay b formed.1 span.1, value_fits (Maximum a b) formed span.2)
   values_stay (Absolute a) formed span = (values_stay a formed span.0, value_fits (Absolute a) formed span.1)
+  values_stay (Lookup a points) formed span = (values_stay a formed.0 span.0, value_fits (Lookup a points) formed span.1)

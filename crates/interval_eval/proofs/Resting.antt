@@ -2,11 +2,11 @@
 use Rattle.std.proofs.Common.{◌≡◌, ℕ, true, ◌||◌, List, refl, ap, ap₂}
 use Rattle.std.specs.Prelude.{pos, slice_index_or}
 use Rattle.std.proofs.lemmas.Bool.{or_left, or_right, eq-eqb}
-use Rattle.fixed_expr.specs.Expression.{Expression, Number, Variable, Negation, Sum, Difference, Product, Quotient, Minimum, Maximum, Absolute}
-use Rattle.fixed_expr.specs.Mentions.{mentions, AreSameIn}
+use Rattle.fixed_expr.specs.Expression.{Expression, Number, Variable, Negation, Sum, Difference, Product, Quotient, Minimum, Maximum, Absolute, Lookup}
+use Rattle.fixed_expr.specs.Mentions.{mentions}
+use Rattle.fixed_expr.specs.inside.Alike.{AreSameIn}
 use Rattle.interval_eval.specs.declared.interval.Interval.{Interval}
-use Rattle.interval_eval.specs.Span.{negation_of, sum_of, difference_of, product_of, quotient_of, minimum_of, maximum_of, absolute_of, span_of}
-use Rattle.interval_eval.specs.Laws.{SpansRestOnVariables}
+use Rattle.interval_eval.specs.Span.{negation_of, sum_of, difference_of, product_of, quotient_of, minimum_of, maximum_of, absolute_of, lookup_of, span_of}
 
 abbrev no_range : Interval
 no_range = record { lo = pos 0; hi = pos 0 }
@@ -21,7 +21,7 @@ module _ (area other : List Interval) where
       (left (λ i here. same i (or_left (mentions a i) (mentions b i) here)))
       (right (λ i here. same i (or_right (mentions a i) (mentions b i) here)))
 
-  agree : (e : Expression) → Agree e
+  pub agree : (e : Expression) → Agree e
   agree (Number k) same = refl
   agree (Variable j) same = same j (eq-eqb j j refl)
   agree (Negation a) same = ap negation_of (agree a same)
@@ -32,6 +32,4 @@ module _ (area other : List Interval) where
   agree (Minimum a b) same = both minimum_of a b (agree a) (agree b) same
   agree (Maximum a b) same = both maximum_of a b (agree a) (agree b) same
   agree (Absolute a) same = ap absolute_of (agree a same)
-
-pub spans_rest : SpansRestOnVariables
-spans_rest e area other same = agree area other e same
+  agree (Lookup a points) same = ap (lookup_of points) (agree a same)

@@ -1,2 +1,3 @@
 pub mod Span
-pub mod Laws
+pub mod Rows
+pub mod inside

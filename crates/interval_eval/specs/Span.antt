@@ -1,9 +1,11 @@
 -- The span of an expression over ranges of its variables, in unbounded whole numbers.
-use Rattle.std.specs.Prelude.{ℤ, pos, neg_ℤ, ◌+ℤ◌, ◌-ℤ◌, ◌*ℤ◌, ◌≤ℤ◌, int_le, List, [], ◌∷◌, slice_index_or, if◌then◌else◌}
+use Rattle.std.specs.Prelude.{ℤ, pos, neg_ℤ, ◌+ℤ◌, ◌-ℤ◌, ◌*ℤ◌, ◌≤ℤ◌, int_le, Bool, ◌&&◌, List, [], ◌∷◌, map, slice_index_or, if◌then◌else◌}
+use Rattle.std.specs.List.{fold, filter}
 use Rattle.std.specs.Int.{int_min, int_max}
 use Rattle.fixed_expr.specs.Range.{IsInRange}
 use Rattle.fixed_expr.specs.Quotient.{floor_div}
-use Rattle.fixed_expr.specs.Expression.{Expression, Number, Variable, Negation, Sum, Difference, Product, Quotient, Minimum, Maximum, Absolute}
+use Rattle.fixed_expr.specs.Curves.{curve_value}
+use Rattle.fixed_expr.specs.Expression.{Expression, Number, Variable, Negation, Sum, Difference, Product, Quotient, Minimum, Maximum, Absolute, Lookup}
 use Rattle.interval_eval.specs.declared.interval.Interval.{Interval}
 
 -- the low end is at most the high end
@@ -57,6 +59,21 @@ absolute_of a = record {
   hi = int_max (neg_ℤ a.lo) a.hi;
 }
 
+-- whether a number lies in an interval
+abbrev pub is_in : Interval → ℤ → Bool
+is_in i x = int_le i.lo x && int_le x i.hi
+
+-- the values of a curve at those of its points that lie in a range
+abbrev pub values_within : List (ℤ × ℤ) → Interval → List ℤ
+values_within points a = map (λ (p : ℤ × ℤ). p.1) (filter (λ (p : ℤ × ℤ). is_in a p.0) points)
+
+-- the least and the greatest of the values at the ends of a range and at the points in it
+abbrev pub lookup_of : List (ℤ × ℤ) → Interval → Interval
+lookup_of points a = record {
+  lo = fold int_min (curve_value points a.lo) (curve_value points a.hi ∷ values_within points a);
+  hi = fold int_max (curve_value points a.lo) (curve_value points a.hi ∷ values_within points a);
+}
+
 -- the span of an expression, where each variable lies in its range
 abbrev pub span_of : Expression → List Interval → Interval
 span_of (Number k) area = record { lo = k; hi = k }
@@ -69,6 +86,7 @@ span_of (Quotient a k) area = quotient_of (span_of a area) k
 span_of (Minimum a b) area = minimum_of (span_of a area) (span_of b area)
 span_of (Maximum a b) area = maximum_of (span_of a area) (span_of b area)
 span_of (Absolute a) area = absolute_of (span_of a area)
+span_of (Lookup a points) area = lookup_of points (span_of a area)
 
 -- the ends of every node's span lie in the range
 abbrev pub SpanStaysInRange : Expression → List Interval → Type 0
@@ -82,3 +100,4 @@ SpanStaysInRange (Quotient a k) area = SpanStaysInRange a area × EndsFit (span_
 SpanStaysInRange (Minimum a b) area = SpanStaysInRange a area × SpanStaysInRange b area × EndsFit (span_of (Minimum a b) area)
 SpanStaysInRange (Maximum a b) area = SpanStaysInRange a area × SpanStaysInRange b area × EndsFit (span_of (Maximum a b) area)
 SpanStaysInRange (Absolute a) area = SpanStaysInRange a area × EndsFit (span_of (Absolute a) area)
+SpanStaysInRange (Lookup a points) area = SpanStaysInRange a area × EndsFit (span_of (Lookup a points) area)

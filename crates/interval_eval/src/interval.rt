@@ -1,8 +1,10 @@
 ghost use Rattle.std.specs.Prelude.{◌≡◌, pos, ◌≤ℤ◌, SomeIff};
 ghost use Rattle.std.specs.Int.{int_min, int_max};
 ghost use Rattle.fixed_expr.specs.Range.{IsInRange};
-ghost use Rattle.interval_eval.specs.Span.{EndsFit, negation_of, sum_of, difference_of, product_of, hull_of, quotient_of, minimum_of, maximum_of, absolute_of};
+ghost use Rattle.interval_eval.specs.Span.{EndsFit, negation_of, sum_of, difference_of, product_of, hull_of, quotient_of, minimum_of, maximum_of, absolute_of, lookup_of};
+ghost use Rattle.interval_eval.specs.inside.Joined.{joined_at};
 
+use fixed_expr::Curve;
 use fixed_expr::arithmetic::{
     difference, greater, lesser, negation, product, quotient, sum, within,
 };
@@ -97,6 +99,38 @@ impl Interval {
         let hi = greater(negation(self.lo)?, self.hi)?;
         let lo = least_absolute(self)?;
         Some(Interval { lo, hi })
+    }
+
+    /// The values of a table.
+    pub fn lookup(self, curve: &Curve) -> Option<Interval>
+        ensures { SomeIff result (EndsFit (lookup_of curve.now self)) (lookup_of curve.now self) }
+    {
+        let first = curve.value(self.lo);
+        let last = curve.value(self.hi);
+        let points = curve.points();
+        let mut found = Interval {
+            lo: first.min(last),
+            hi: first.max(last),
+        };
+        'points: for k in 0..points.len() {
+            found = joined(found, points[k], self);
+        }
+        found.within()
+    }
+}
+
+/// An interval widened to the value at a point, where that lies in a range.
+fn joined(found: Interval, point: (i128, i128), range: Interval) -> Interval
+    ensures { result ≡ joined_at range found point }
+{
+    let (x, y) = point;
+    if range.lo <= x && x <= range.hi {
+        Interval {
+            lo: found.lo.min(y),
+            hi: found.hi.max(y),
+        }
+    } else {
+        found
     }
 }
 

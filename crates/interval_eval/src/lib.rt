@@ -5,9 +5,12 @@
 //! sign. Stands on `fixed_expr`.
 #![tactic(auto)]
 
+mod columns;
 mod interval;
-pub mod laws;
+mod rows;
 mod spans;
 
+pub use columns::IntervalColumn;
 pub use interval::Interval;
+pub use rows::span_rows;
 pub use spans::span;

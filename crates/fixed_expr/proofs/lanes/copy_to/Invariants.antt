@@ -1,5 +1,6 @@
 use Rattle.std.proofs.Common.{◌≡◌, length}
-use Rattle.fixed_expr.specs.inside.Places.{at, AreDone}
+use Rattle.fixed_expr.specs.Lanes.{at}
+use Rattle.fixed_expr.specs.inside.Progress.{AreDone}
 use Rattle.fixed_expr.proofs.lanes.copy_to.Given as goal
 
 abbrev pub invariant-lanes : goal.invariant-lanes

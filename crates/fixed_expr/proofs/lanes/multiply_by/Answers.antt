@@ -1,7 +1,7 @@
 use Rattle.std.proofs.Common.{rules}
 use Rattle.std.specs.Prelude.{◌*ℤ◌}
-use Rattle.fixed_expr.specs.inside.Places.{at}
-use Rattle.fixed_expr.proofs.Places.{one_more}
+use Rattle.fixed_expr.specs.Lanes.{at}
+use Rattle.fixed_expr.proofs.LaneSteps.{one_more}
 use Rattle.fixed_expr.proofs.lanes.multiply_by.Goals as goal
 
 pub lanes-preserved : goal.lanes-preserved

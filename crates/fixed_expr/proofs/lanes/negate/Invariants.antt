@@ -1,6 +1,7 @@
 use Rattle.std.proofs.Common.{◌≡◌, length}
 use Rattle.std.specs.Prelude.{neg_ℤ}
-use Rattle.fixed_expr.specs.inside.Places.{at, AreDone}
+use Rattle.fixed_expr.specs.Lanes.{at}
+use Rattle.fixed_expr.specs.inside.Progress.{AreDone}
 use Rattle.fixed_expr.proofs.lanes.negate.Given as goal
 
 abbrev pub invariant-lanes : goal.invariant-lanes

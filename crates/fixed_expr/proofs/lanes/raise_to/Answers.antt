@@ -1,7 +1,7 @@
 use Rattle.std.proofs.Common.{rules}
 use Rattle.std.specs.Int.{int_max}
-use Rattle.fixed_expr.specs.inside.Places.{at}
-use Rattle.fixed_expr.proofs.Places.{one_more}
+use Rattle.fixed_expr.specs.Lanes.{at}
+use Rattle.fixed_expr.proofs.LaneSteps.{one_more}
 use Rattle.fixed_expr.proofs.lanes.raise_to.Goals as goal
 
 pub lanes-preserved : goal.lanes-preserved

@@ -15,5 +15,5 @@ returns c =
     rw (to_z-of_z w128 d fits)
     (record {
       exact = (c.in_ok-span_and_deviation.ensures.0, is);
-      bounds = deviation_bounds c.values_move_by_at_most_the_deviation.ensures (expression_of c.args.e.now) c.args.area.now c.args.radii.now d c.requires.well_formed is;
+      bounds = deviation_bounds (expression_of c.args.e.now) c.args.area.now c.args.radii.now d c.requires.well_formed is;
     })

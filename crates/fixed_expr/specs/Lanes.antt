@@ -1,0 +1,24 @@
+-- What an operation on the numbers in many lanes answers.
+use Rattle.std.specs.Prelude.{◌≡◌, ℕ, ◌<◌, ℤ, pos, List, slice_index_or, Option, MatchOption}
+use Rattle.fixed_expr.specs.declared.lanes.TheConstants.{LANES}
+use Rattle.fixed_expr.specs.Narrow.{IsNarrow}
+
+-- the number in a lane
+abbrev pub at : List ℤ → ℕ → ℤ
+at xs k = slice_index_or xs k (pos 0)
+
+-- each number lies in 64 bits
+abbrev pub AreNarrow : (ℕ → ℤ) → Type 0
+AreNarrow wanted = (k : ℕ) → k < LANES → IsNarrow (wanted k)
+
+-- the list holds each number in its lane
+abbrev pub Holds : List ℤ → (ℕ → ℤ) → Type 0
+Holds found wanted = (k : ℕ) → k < LANES → at found k ≡ wanted k
+
+-- the list holds each number in its lane, and all lie in 64 bits
+abbrev pub HoldsNarrow : List ℤ → (ℕ → ℤ) → Type 0
+HoldsNarrow found wanted = AreNarrow wanted × Holds found wanted
+
+-- an answer is given exactly where each number lies in 64 bits, and then the list holds them
+abbrev pub AnswersLanes : {T : Type 0} → Option T → List ℤ → (ℕ → ℤ) → Type 0
+AnswersLanes answer found wanted = MatchOption answer (¬ (AreNarrow wanted)) (λ _. HoldsNarrow found wanted)

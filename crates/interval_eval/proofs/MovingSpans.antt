@@ -1,0 +1,70 @@
+-- The span of an expression that moves with a variable moves by just what the variable's range moves by.
+use Rattle.std.proofs.Common.{◌≡◌, ℕ, true, false, not, ◌||◌, ◌&&◌, List, sym, ap, ◌∙◌, arith, inl, inr}
+use Rattle.std.specs.Prelude.{◌-ℤ◌}
+use Rattle.std.proofs.lemmas.Int.{ints}
+use Rattle.std.proofs.lemmas.Bool.{or_left, or_right, or_cases, and_parts, not-true, eqb-true, false≢true}
+use Rattle.fixed_expr.specs.Expression.{Expression, Number, Variable, Negation, Sum, Difference, Product, Quotient, Minimum, Maximum, Absolute, Lookup}
+use Rattle.fixed_expr.specs.Mentions.{mentions}
+use Rattle.fixed_expr.specs.Moves.{moves_with}
+use Rattle.interval_eval.specs.declared.interval.Interval.{Interval}
+use Rattle.interval_eval.specs.Span.{span_of}
+use Rattle.interval_eval.specs.inside.Nested.{range_at, HaveSameRangesBut}
+use Rattle.interval_eval.proofs.Resting.{agree}
+
+-- two intervals moved from two others by one distance at each end
+abbrev AreMoved : Interval → Interval → Interval → Interval → Type 0
+AreMoved s i t j = (s.lo -ℤ i.lo ≡ t.lo -ℤ j.lo) × (s.hi -ℤ i.hi ≡ t.hi -ℤ j.hi)
+
+module _ (k : ℕ) (area other : List Interval) where
+  abbrev Moves : Expression → Type 0
+  Moves e = moves_with e k ≡ true → HaveSameRangesBut k e area other → AreMoved (span_of e area) (range_at area k) (span_of e other) (range_at other k)
+
+  -- a part that doesn't mention the variable has one span
+  stays : (e : Expression) → mentions e k ≡ false → HaveSameRangesBut k e area other → span_of e area ≡ span_of e other
+  stays e absent same = agree area other e (λ i here. same i (λ is. false≢true (sym absent ∙ ap (mentions e) (sym is) ∙ here)) here)
+
+  lows : (e : Expression) → span_of e area ≡ span_of e other → (span_of e area).lo ≡ (span_of e other).lo
+  lows e is = ap (λ (i : Interval). i.lo) is
+
+  highs : (e : Expression) → span_of e area ≡ span_of e other → (span_of e area).hi ≡ (span_of e other).hi
+  highs e is = ap (λ (i : Interval). i.hi) is
+
+  module _ (a b : Expression) (same : (i : ℕ) → (i ≡ k → ⊥) → (mentions a i || mentions b i) ≡ true → range_at area i ≡ range_at other i) where
+    left : HaveSameRangesBut k a area other
+    left i apart here = same i apart (or_left (mentions a i) (mentions b i) here)
+
+    right : HaveSameRangesBut k b area other
+    right i apart here = same i apart (or_right (mentions a i) (mentions b i) here)
+
+  pub moves : (e : Expression) → Moves e
+  moves (Number c) is same = absurd (false≢true is)
+  moves (Variable j) is same =
+      let here : j ≡ k = eqb-true j k is in
+      let one : range_at area j ≡ range_at area k = ap (range_at area) here in
+      let two : range_at other j ≡ range_at other k = ap (range_at other) here in
+      (omega (arith, ints, ap (λ (i : Interval). i.lo) one, ap (λ (i : Interval). i.lo) two), omega (arith, ints, ap (λ (i : Interval). i.hi) one, ap (λ (i : Interval). i.hi) two))
+  moves (Sum a b) is same =
+      elim (or_cases (moves_with a k && not (mentions b k)) (not (mentions a k) && moves_with b k) is) [
+        | inl first ↦
+            let parts = and_parts (moves_with a k) (not (mentions b k)) first in
+            let moved = moves a parts.0 (left a b same) in
+            let rest = stays b (not-true (mentions b k) parts.1) (right a b same) in
+            (omega (arith, ints, moved.0, lows b rest), omega (arith, ints, moved.1, highs b rest))
+        | inr second ↦
+            let parts = and_parts (not (mentions a k)) (moves_with b k) second in
+            let rest = stays a (not-true (mentions a k) parts.0) (left a b same) in
+            let moved = moves b parts.1 (right a b same) in
+            (omega (arith, ints, moved.0, lows a rest), omega (arith, ints, moved.1, highs a rest))
+      ]
+  moves (Difference a b) is same =
+      let parts = and_parts (moves_with a k) (not (mentions b k)) is in
+      let moved = moves a parts.0 (left a b same) in
+      let rest = stays b (not-true (mentions b k) parts.1) (right a b same) in
+      (omega (arith, ints, moved.0, highs b rest), omega (arith, ints, moved.1, lows b rest))
+  moves (Negation a) is same = absurd (false≢true is)
+  moves (Product a b) is same = absurd (false≢true is)
+  moves (Quotient a c) is same = absurd (false≢true is)
+  moves (Minimum a b) is same = absurd (false≢true is)
+  moves (Maximum a b) is same = absurd (false≢true is)
+  moves (Absolute a) is same = absurd (false≢true is)
+  moves (Lookup a points) is same = absurd (false≢true is)
