@@ -9,13 +9,16 @@ use Rattle.std.proofs.lemmas.List.{length-map}
 use Rattle.std.proofs.lemmas.List.Concat.{length-flat_map}
 use Rattle.std.proofs.lemmas.List.Sums.{sum_by-le}
 use Rattle.std.proofs.lemmas.List.Elements.{All-weaker, recursion_from_All}
-use Rattle.fixed_expr.specs.Expression.{Expression, Number, Variable, Negation, Sum, Difference, Product, Quotient, Minimum, Maximum, Absolute}
+use Rattle.fixed_expr.specs.Expression.{Expression, Number, Variable, Negation, Sum, Difference, Product, Quotient, Minimum, Maximum, Absolute, Lookup}
+use Rattle.fixed_expr.specs.Curves.{IsShort as IsShortPoint}
 use Rattle.plant_record.specs.declared.variables.StateVariable.{StateVariable}
 use Rattle.plant_record.specs.declared.variables.InputVariable.{InputVariable}
 use Rattle.plant_record.specs.declared.variables.NoiseVariable.{NoiseVariable}
 use Rattle.plant_record.specs.declared.aims.StateBox.{StateBox}
 use Rattle.plant_record.specs.declared.aims.GoalKind.{GoalKind}
 use Rattle.plant_record.specs.declared.aims.GoalKind.TheVariants.{Reach, Keep}
+use Rattle.plant_record.specs.declared.version.PlantVersion.{PlantVersion}
+use Rattle.plant_record.specs.declared.version.PlantVersion.TheVariants.{One, Two}
 use Rattle.plant_record.specs.Names.{IsName}
 use Rattle.plant_record.specs.Numbers.{IsLiteral}
 use Rattle.plant_record.specs.Description.{Description, names_of}
@@ -23,15 +26,15 @@ use Rattle.plant_record.specs.Variables.{IsStateVariable, IsInputVariable, IsNoi
 use Rattle.plant_record.specs.Boxes.{AreEnds, IsStateBox}
 use Rattle.plant_record.specs.Equations.{nodes_of, HasLiterals, IsEquation}
 use Rattle.plant_record.specs.Plants.{IsPlant}
-use Rattle.plant_writing.specs.ExpressionText.{at_level, expression_text}
-use Rattle.plant_record.specs.Spelling.{line, end_words, goal_word}
+use Rattle.plant_writing.specs.ExpressionText.{at_level, point_text, expression_text}
+use Rattle.plant_record.specs.Spelling.{line, version_word, end_words, goal_word}
 use Rattle.plant_writing.specs.CanonicalText.{state_line, input_line, noise_line, equation_line, equation_lines, box_line, text_of}
 
 -- ---- bounds
 
 -- bytes of an expression for each of its nodes
 abbrev pub node_bytes : ℕ
-node_bytes = 60
+node_bytes = 1400
 
 -- of an equation's line: four words, each no longer than the expression of 256 nodes
 abbrev pub equation_bytes : ℕ
@@ -43,9 +46,12 @@ plant_bytes = 6 * equation_bytes + 150000
 
 -- ---- words and lines
 
+digits_length : (z : ℤ) → IsLiteral z → length (signed_decimal z) ≤ 19
+digits_length (pos n) lt = let digits = length-decimal-le 18 n (omega arith) lt (omega (arith, lt)) in omega (arith, digits)
+digits_length (negsuc n) lt = let digits = length-decimal-le 18 (suc n) (omega arith) lt (omega (arith, lt)) in omega (arith, digits)
+
 number_length : (z : ℤ) → IsLiteral z → length (signed_decimal z) ≤ 32
-number_length (pos n) lt = let digits = length-decimal-le 18 n (omega arith) lt (omega (arith, lt)) in omega (arith, digits)
-number_length (negsuc n) lt = let digits = length-decimal-le 18 (suc n) (omega arith) lt (omega (arith, lt)) in omega (arith, digits)
+number_length z lt = let digits = digits_length z lt in omega (arith, digits)
 
 name_length : (w : List ℕ) → IsName w → length w ≤ 32
 name_length w h =
@@ -109,6 +115,16 @@ box_length keyword n b key le h =
 
 -- ---- equations
 
+lines_length : {X : Type 0} (f : X → List ℕ) (P : X → Type 0) (k : ℕ) (xs : List X) → All P xs → ((x : X) → P x → length (f x) ≤ k) → length (flat_map f xs) ≤ length xs * k
+lines_length {X} f P k xs h each =
+    subst (λ (n : ℕ). n ≤ length xs * k) (sym (length-flat_map f xs)) (sum_by-le (λ (x : X). length (f x)) k xs (All-weaker P (λ (x : X). length (f x) ≤ k) each xs h))
+
+point_length : (p : ℤ × ℤ) → IsShortPoint p → length (point_text p) ≤ 41
+point_length p h =
+    let x = digits_length p.0 h.0 in
+    let y = digits_length p.1 h.1 in
+    omega (arith, x, y, length-append (codes ", " ++ signed_decimal p.0 ++ codes ":") (signed_decimal p.1), length-append (codes ", " ++ signed_decimal p.0) (codes ":"), length-append (codes ", ") (signed_decimal p.0))
+
 placed : (own asked : ℕ) (text : List ℕ) (k : ℕ) → length text + 2 ≤ k → length (at_level own asked text) ≤ k
 placed own asked text k le = go (nat_lt own asked)
   where
@@ -158,6 +174,18 @@ module _ (names : List (List ℕ)) (short : AllByRecursion (IsShort 32) names) (
       let y = expression_length 1 b h.1 in
       called (codes "max(") (expression_text names 1 a) (expression_text names 1 b) (nodes_of a) (nodes_of b) (omega arith) x y
   expression_length asked (Absolute a) h = let x = expression_length 1 a h in omega (arith, x, length-append (codes "abs(" ++ expression_text names 1 a) (codes ")"))
+  expression_length asked (Lookup a points) h =
+      let x = expression_length 1 a h.0 in
+      let y = lines_length point_text IsShortPoint 41 points h.1.short point_length in
+      omega (
+        arith,
+        x,
+        y,
+        h.1.few,
+        length-append (codes "lut(" ++ expression_text names 1 a ++ flat_map point_text points) (codes ")"),
+        length-append (codes "lut(" ++ expression_text names 1 a) (flat_map point_text points),
+        length-append (codes "lut(") (expression_text names 1 a),
+      )
 
   equation_length : (name : List ℕ) (e : Expression) → length name ≤ 32 → IsEquation m e → length (equation_line names name e) ≤ equation_bytes
   equation_length name e short h =
@@ -197,13 +225,13 @@ names_short p h =
     (both (map (λ (s : StateVariable). s.name) p.states) (map (λ (i : InputVariable). i.name) p.inputs) (state_names p.states (recursion_from_All IsStateVariable p.states h.states)) (input_names p.inputs (recursion_from_All IsInputVariable p.inputs h.inputs)))
     (noise_names p.noises (recursion_from_All IsNoiseVariable p.noises h.noises))
 
-lines_length : {X : Type 0} (f : X → List ℕ) (P : X → Type 0) (k : ℕ) (xs : List X) → All P xs → ((x : X) → P x → length (f x) ≤ k) → length (flat_map f xs) ≤ length xs * k
-lines_length {X} f P k xs h each =
-    subst (λ (n : ℕ). n ≤ length xs * k) (sym (length-flat_map f xs)) (sum_by-le (λ (x : X). length (f x)) k xs (All-weaker P (λ (x : X). length (f x) ≤ k) each xs h))
-
 goal_length : (goal : GoalKind) → length (line (codes "goal" ∷ goal_word goal ∷ [])) ≤ 11
 goal_length Reach = omega arith
 goal_length Keep = omega arith
+
+version_length : (version : PlantVersion) → length (line (codes "plant" ∷ version_word version ∷ [])) ≤ 8
+version_length One = omega arith
+version_length Two = omega arith
 
 nine : (a b c d e f g h i : List ℕ) → length (a ++ b ++ c ++ d ++ e ++ f ++ g ++ h ++ i) ≡ length a + length b + length c + length d + length e + length f + length g + length h + length i
 nine a b c d e f g h i = simp length-append
@@ -216,6 +244,6 @@ plant_length p h =
     let equations = equations_length (names_of p) (names_short p h) (length (names_of p)) p.states p.equations (recursion_from_All IsStateVariable p.states h.states) (recursion_from_All (IsEquation (length (names_of p))) p.equations h.equations) in
     let targets = lines_length (box_line (codes "target") (length p.states)) (IsStateBox (length p.states)) 500 p.targets h.targets (λ b is. box_length (codes "target") (length p.states) b (omega arith) h.states_bound is) in
     let obstacles = lines_length (box_line (codes "obstacle") (length p.states)) (IsStateBox (length p.states)) 500 p.obstacles h.obstacles (λ b is. box_length (codes "obstacle") (length p.states) b (omega arith) h.states_bound is) in
-    let whole = nine (line (codes "plant" ∷ codes "1" ∷ [])) (flat_map state_line p.states) (flat_map input_line p.inputs) (flat_map noise_line p.noises) (equation_lines (names_of p) p.states p.equations)
+    let whole = nine (line (codes "plant" ∷ version_word p.version ∷ [])) (flat_map state_line p.states) (flat_map input_line p.inputs) (flat_map noise_line p.noises) (equation_lines (names_of p) p.states p.equations)
     (flat_map (box_line (codes "target") (length p.states)) p.targets) (flat_map (box_line (codes "obstacle") (length p.states)) p.obstacles) (line (codes "goal" ∷ goal_word p.goal ∷ [])) (line (codes "end" ∷ [])) in
-    omega (arith, states, inputs, noises, equations, targets, obstacles, whole, goal_length p.goal, h.states_bound, h.inputs_bound, h.noises_bound, h.targets_bound, h.obstacles_bound)
+    omega (arith, states, inputs, noises, equations, targets, obstacles, whole, version_length p.version, goal_length p.goal, h.states_bound, h.inputs_bound, h.noises_bound, h.targets_bound, h.obstacles_bound)

@@ -9,6 +9,7 @@ use Rattle.plant_record.specs.declared.variables.InputVariable.{InputVariable}
 use Rattle.plant_record.specs.declared.variables.NoiseVariable.{NoiseVariable}
 use Rattle.plant_record.specs.declared.aims.StateBox.{StateBox}
 use Rattle.plant_record.specs.declared.aims.GoalKind.TheVariants.{Reach}
+use Rattle.plant_record.specs.declared.version.PlantVersion.TheVariants.{One}
 use Rattle.plant_record.specs.Description.{Description, axes_of}
 use Rattle.game_core.specs.declared.game.Row.{Row}
 use Rattle.game_core.specs.Solution.{rank_in, greatest}
@@ -63,6 +64,7 @@ speed_step = Sum (Sum (Variable 1) (Variable 2)) (Variable 3)
 -- the n-th demo plant
 unfoldable pub demo_plant_of : ℕ → Description
 demo_plant_of n = record {
+  version = One;
   states = place n ∷ speed ∷ [];
   inputs = acceleration ∷ [];
   noises = wind ∷ [];

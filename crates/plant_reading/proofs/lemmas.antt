@@ -7,6 +7,7 @@ pub mod InputValues
 pub mod ItemSpelling
 pub mod ItemsOfTrees
 pub mod KeywordsTell
+pub mod Literals
 pub mod NumberBytes
 pub mod NumberWords
 pub mod OneScan
@@ -16,6 +17,7 @@ pub mod PutTogether
 pub mod RefusalsPassOn
 pub mod Stacks
 pub mod StatementLaws
+pub mod TablePoints
 pub mod TermsAreTrees
 pub mod TreesAreTaken
 pub mod WhereCut

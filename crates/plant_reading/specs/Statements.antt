@@ -8,14 +8,15 @@ use Rattle.plant_record.specs.declared.variables.InputVariable.{InputVariable}
 use Rattle.plant_record.specs.declared.variables.NoiseVariable.{NoiseVariable}
 use Rattle.plant_record.specs.declared.aims.StateBox.{StateBox}
 use Rattle.plant_record.specs.declared.aims.GoalKind.{GoalKind}
+use Rattle.plant_record.specs.declared.version.PlantVersion.{PlantVersion}
 use Rattle.plant_record.specs.Variables.{IsStateVariable, IsInputVariable, IsNoiseVariable}
 use Rattle.plant_record.specs.Boxes.{IsStateBox}
-use Rattle.plant_record.specs.Spelling.{end_words, goal_word}
+use Rattle.plant_record.specs.Spelling.{version_word, end_words, goal_word}
 use Rattle.plant_reading.specs.Tokens.{tokens_of}
 use Rattle.plant_reading.specs.SyntaxTrees.{AreTokensOf}
 
 pub data Statement : Type 0 where
-  Version : Statement
+  Version : (v : PlantVersion) → Statement
   State : (s : StateVariable) → Statement
   Input : (i : InputVariable) → Statement
   Noise : (w : NoiseVariable) → Statement
@@ -27,7 +28,7 @@ pub data Statement : Type 0 where
 
 -- the words of a line state it, where the variables have these names and the first n of them are states
 abbrev pub States : List (List ℕ) → ℕ → List (List ℕ) → Statement → Type 0
-States names n words Version = words ≡ codes "plant" ∷ codes "1" ∷ []
+States names n words (Version v) = words ≡ codes "plant" ∷ version_word v ∷ []
 States names n words (State s) =
     (words ≡ codes "state" ∷ s.name ∷ signed_decimal s.low ∷ signed_decimal s.high ∷ signed_decimal s.width ∷ []) × IsStateVariable s
 States names n words (Input i) = (words ≡ codes "input" ∷ i.name ∷ map signed_decimal i.values) × IsInputVariable i

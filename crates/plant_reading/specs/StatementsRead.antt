@@ -6,7 +6,7 @@ use Rattle.plant_reading.specs.Statements.{Statement, Version, State, Input, Noi
 
 -- the statement without where its parts lie in memory
 abbrev pub statement_of : Read → Statement
-statement_of read.Version = Version
+statement_of (read.Version v) = Version v
 statement_of (read.State s) = State s
 statement_of (read.Input i) = Input i
 statement_of (read.Noise w) = Noise w

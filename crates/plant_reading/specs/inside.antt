@@ -5,4 +5,5 @@ pub mod Keywords
 pub mod LineReaders
 pub mod LineTokens
 pub mod StatementLaws
+pub mod TokenReaders
 pub mod WordReaders

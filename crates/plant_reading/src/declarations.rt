@@ -1,18 +1,41 @@
 // What the words behind a line's first word say of a variable, a box or the goal.
 
 ghost use Rattle.std.specs.Prelude.{◌≡◌, ◌↔◌, ◌<◌, ◌%◌, IsTrue, ℤ, pos, nat_abs, ◌+ℤ◌, ◌-ℤ◌, ◌≤ℤ◌};
-ghost use Rattle.plant_record.specs.Spelling.{goal_word};
+ghost use Rattle.plant_record.specs.Spelling.{version_word, goal_word};
 ghost use Rattle.plant_record.specs.Numbers.{IsLiteral};
 ghost use Rattle.plant_reading.specs.Words.{words_of};
 ghost use Rattle.plant_reading.specs.inside.WordReaders.{Finds};
-ghost use Rattle.plant_reading.specs.inside.LineReaders.{HasWholeCells, StartsWithEnds, SpellsState, SpellsInput, SpellsNoise, SpellsValues, SpellsGoal};
+ghost use Rattle.plant_reading.specs.inside.LineReaders.{HasWholeCells, StartsWithEnds, SpellsVersion, SpellsState, SpellsInput, SpellsNoise, SpellsValues, SpellsGoal};
 
 use crate::fault::ReadFault;
 use crate::words::blanks::next_word;
 use crate::words::expected::{expect_end, name_in, number_in};
 use crate::words::numbers::number_of;
-use plant_record::{GoalKind, InputVariable, Name, NoiseVariable, StateVariable, Values};
+use plant_record::{
+    GoalKind, InputVariable, Name, NoiseVariable, PlantVersion, StateVariable, Values,
+};
 use std::alloc::Global;
+
+/// `1` or `2`.
+pub fn version_in(bytes: &[u8]) -> Result<PlantVersion, ReadFault>
+    ensures { Finds (λ v. v) (SpellsVersion (words_of bytes.now)) result }
+{
+    let Some((word, rest)) = next_word(bytes) else {
+        return Err(ReadFault::Malformed);
+    };
+    expect_end(rest)?;
+    version_of(word)
+}
+
+fn version_of(word: &[u8]) -> Result<PlantVersion, ReadFault>
+    ensures { Finds (λ v. v) (λ v. word.now ≡ version_word v) result }
+{
+    match word {
+        b"1" => Ok(PlantVersion::One),
+        b"2" => Ok(PlantVersion::Two),
+        _ => Err(ReadFault::Malformed),
+    }
+}
 
 /// `NAME LOW HIGH WIDTH`.
 pub fn state_in(alloc: Global, bytes: &[u8]) -> Result<StateVariable, ReadFault>

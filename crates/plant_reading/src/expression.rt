@@ -9,14 +9,15 @@ ghost use Rattle.plant_reading.specs.Words.{words_of};
 ghost use Rattle.plant_reading.specs.Tokens.{tokens_of};
 ghost use Rattle.plant_record.specs.Equations.{depth_of};
 ghost use Rattle.plant_reading.specs.SyntaxTrees.{AreTokensOf};
-ghost use Rattle.plant_reading.specs.inside.ExpressionItems.{Gives, nodes_made, open_behind};
+ghost use Rattle.plant_reading.specs.inside.ExpressionItems.{nodes_made, open_behind};
+ghost use Rattle.plant_reading.specs.inside.TokenReaders.{Gives};
 ghost use Rattle.plant_record.specs.Parts.{variable_names};
-ghost use Rattle.plant_reading.specs.inside.ExpressionMachine.{pendings_of, machine_of, closed, halved, begun, continued, stepped, IsEnd, counts_behind, AreWithinLimits};
+ghost use Rattle.plant_reading.specs.inside.ExpressionMachine.{pendings_of, machine_of, closed, tabled, halved, begun, continued, stepped, IsEnd, counts_behind, AreWithinLimits};
 
 use crate::fault::ReadFault;
 use crate::frames::{Frame, Stack};
 use crate::items::{Bracket, Item, next_item};
-use fixed_expr::Expr;
+use fixed_expr::{Curve, Expr};
 use plant_record::Variables;
 use std::alloc::Global;
 
@@ -36,30 +37,30 @@ struct Counts {
     brackets: u32,
 }
 
-fn nodes_made(item: Item) -> u32
-    ensures { result ≡ nodes_made item }
+fn nodes_made(item: &Item) -> u32
+    ensures { result ≡ nodes_made item.now }
 {
     match item {
-        Item::Open(Bracket::Plain) | Item::Comma | Item::Close => 0,
+        Item::Open(Bracket::Plain) | Item::Comma | Item::Close | Item::Points(_) => 0,
         _ => 1,
     }
 }
 
-fn open_behind(open_before: u32, item: Item) -> u32
+fn open_behind(open_before: u32, item: &Item) -> u32
     requires { open_before ≤ 64 }
-    ensures { result ≡ open_behind open_before item }
+    ensures { result ≡ open_behind open_before item.now }
 {
     match item {
         Item::Open(_) => open_before + 1,
-        Item::Close => open_before.saturating_sub(1),
+        Item::Close | Item::Points(_) => open_before.saturating_sub(1),
         _ => open_before,
     }
 }
 
 /// None where the item exceeds a limit.
-fn counts_behind(counts: Counts, item: Item) -> Option<Counts>
+fn counts_behind(counts: Counts, item: &Item) -> Option<Counts>
     requires { AreWithinLimits counts }
-    ensures { SomeIff result (AreWithinLimits (counts_behind counts item)) (counts_behind counts item) }
+    ensures { SomeIff result (AreWithinLimits (counts_behind counts item.now)) (counts_behind counts item.now) }
 {
     let nodes = counts.nodes + nodes_made(item);
     let brackets = open_behind(counts.brackets, item);
@@ -82,6 +83,17 @@ fn closed(alloc: Global, stack: &mut Stack, sum: Expr) -> Result<Expr, ReadFault
     }
 }
 
+/// Behind the points of a table: what they make of the sum before them.
+#[tactic(auto, unfolding(crate::specs::inside::ExpressionMachine::tabled))]
+fn tabled(alloc: Global, stack: &mut Stack, sum: Expr, curve: Curve) -> Result<Expr, ReadFault>
+    ensures { Gives (λ e. (expression_of e, pendings_of stack.new)) result (tabled curve (expression_of sum) (pendings_of stack.old)) }
+{
+    match stack.pop() {
+        Some(Frame::Opened(Bracket::Table)) => Ok(Expr::Lut(Box::new(alloc, sum)?, curve)),
+        _ => Err(ReadFault::Malformed),
+    }
+}
+
 /// Behind the first of two sums in a bracket.
 fn halved(stack: &mut Stack, sum: Expr) -> Result<(), ReadFault>
     ensures { Gives (λ _. pendings_of stack.new) result (halved (expression_of sum) (pendings_of stack.old)) }
@@ -92,7 +104,7 @@ fn halved(stack: &mut Stack, sum: Expr) -> Result<(), ReadFault>
     match bracket {
         Bracket::Least => Ok(stack.push(Frame::LeastOf(sum))?),
         Bracket::Greatest => Ok(stack.push(Frame::GreatestOf(sum))?),
-        Bracket::Plain | Bracket::Size => Err(ReadFault::Malformed),
+        Bracket::Plain | Bracket::Size | Bracket::Table => Err(ReadFault::Malformed),
     }
 }
 
@@ -152,6 +164,11 @@ fn continued(
             let factor = closed(alloc, stack, sum)?;
             Ok(Some(stack.end_factor(alloc, factor)?))
         }
+        Item::Points(curve) => {
+            let sum = stack.end_term(alloc, term)?;
+            let factor = tabled(alloc, stack, sum, curve)?;
+            Ok(Some(stack.end_factor(alloc, factor)?))
+        }
         _ => Err(ReadFault::Malformed),
     }
 }
@@ -186,7 +203,7 @@ impl Reader {
         ensures within { OnOk result (AreWithinLimits self.new.counts) }
         ensures refused { result ≡ Err ReadFault.Malformed → (stepped item (machine_of self.old).0 (machine_of self.old).1 ≡ None) ⊎ (AreWithinLimits (counts_behind self.old.counts item) → ⊥) }
     {
-        let Some(counts) = counts_behind(self.counts, item) else {
+        let Some(counts) = counts_behind(self.counts, &item) else {
             return Err(ReadFault::Malformed);
         };
         self.counts = counts;
@@ -226,7 +243,7 @@ fn is_within(e: &Expr, limit: u32) -> bool
     }
     match e {
         Expr::Num(_) | Expr::Var(_) => true,
-        Expr::Neg(a) | Expr::Div(a, _) | Expr::Abs(a) => is_within(a, limit - 1),
+        Expr::Neg(a) | Expr::Div(a, _) | Expr::Abs(a) | Expr::Lut(a, _) => is_within(a, limit - 1),
         Expr::Add(a, b) | Expr::Sub(a, b) | Expr::Mul(a, b) | Expr::Min(a, b) | Expr::Max(a, b) =>
             is_within(a, limit - 1) && is_within(b, limit - 1),
     }
@@ -242,7 +259,7 @@ pub fn expression_in(alloc: Global, variables: &Variables, rest: &[u8]) -> Resul
 {
     let mut reader = Reader::new(alloc);
     let mut rest = rest;
-    while let Some((item, after)) = next_item(variables, rest)? {
+    while let Some((item, after)) = next_item(alloc, variables, rest)? {
         reader.take(alloc, item)?;
         rest = after;
     }

@@ -1,18 +1,20 @@
-// The items of an expression: its tokens, but a `/` with its divisor and a function with its
-// bracket are one.
+// The items of an expression: its tokens, but a `/` with its divisor, a function with its bracket, and
+// the points of a table with the bracket behind them are one.
 
-ghost use Rattle.std.specs.Prelude.{◌≡◌, ◌↔◌, ◌<◌, ◌≤◌, ◌≤ℤ◌, pos, length, IsTrue, IfSome, IfOk};
-ghost use Rattle.std.specs.Fmt.{signed_decimal};
+ghost use Rattle.std.specs.Prelude.{◌≡◌, ◌<◌, ◌≤◌, length, IfSome, IfOk};
 ghost use Rattle.std.specs.Option.{option_map};
-ghost use Rattle.plant_record.specs.Numbers.{IsLiteral};
 ghost use Rattle.plant_reading.specs.inside.LineTokens.{tokens_in};
-ghost use Rattle.plant_reading.specs.inside.ExpressionItems.{AreNames, Gives, literal_of, function_of, symbol_of, leaf_of, item_of, divided, opened, item_behind, next_item};
+ghost use Rattle.plant_reading.specs.inside.ExpressionItems.{AreNames, function_of, symbol_of, leaf_of, item_of, divided, opened, plain_behind, comma_behind, item_behind, next_item};
+ghost use Rattle.plant_reading.specs.inside.TokenReaders.{Gives};
 ghost use Rattle.plant_record.specs.Parts.{variable_names};
 
 use crate::fault::ReadFault;
-use crate::words::numbers::{is_literal, is_spelling, parsed};
+use crate::literals::literal_of;
+use crate::tables::{curve_in, point_in};
 use crate::words::tokens::next_token;
+use fixed_expr::Curve;
 use plant_record::Variables;
+use std::alloc::Global;
 
 /// What stands before an open bracket.
 #[derive(Clone, Copy, Debug, PartialEq, Eq)]
@@ -21,9 +23,11 @@ pub enum Bracket {
     Least,
     Greatest,
     Size,
+    /// Of `lut`.
+    Table,
 }
 
-#[derive(Clone, Copy, Debug, PartialEq, Eq)]
+#[derive(Debug, Drop)]
 pub enum Item {
     Number(u64),
     Variable(u32),
@@ -34,22 +38,8 @@ pub enum Item {
     Open(Bracket),
     Comma,
     Close,
-}
-
-fn literal_of(token: &[u8]) -> Option<u64>
-    ensures { result ≡ literal_of token.now }
-{
-    let z = parsed(token)?;
-    if !is_written(z, token) {
-        return None;
-    }
-    Some(z.unsigned_abs())
-}
-
-fn is_written(z: i64, token: &[u8]) -> bool
-    ensures { IsTrue result ↔ ((pos 0 ≤ℤ z) × IsLiteral z × (token.now ≡ signed_decimal z)) }
-{
-    0 <= z && is_literal(z) && is_spelling(z, token)
+    /// The points behind the expression of a `lut`, and the bracket that closes it.
+    Points(Curve),
 }
 
 fn function_of(token: &[u8]) -> Option<Bracket>
@@ -59,6 +49,7 @@ fn function_of(token: &[u8]) -> Option<Bracket>
         b"min" => Some(Bracket::Least),
         b"max" => Some(Bracket::Greatest),
         b"abs" => Some(Bracket::Size),
+        b"lut" => Some(Bracket::Table),
         _ => None,
     }
 }
@@ -71,7 +62,6 @@ fn symbol_of(token: &[u8]) -> Option<Item>
         b"-" => Some(Item::Minus),
         b"*" => Some(Item::Times),
         b"(" => Some(Item::Open(Bracket::Plain)),
-        b"," => Some(Item::Comma),
         b")" => Some(Item::Close),
         _ => None,
     }
@@ -127,11 +117,12 @@ fn opened(bracket: Bracket, bytes: &[u8]) -> Option<(Item, &[u8])>
     }
 }
 
-#[tactic(auto, unfolding(crate::specs::inside::ExpressionItems::item_behind))]
-fn item_behind<'a>(variables: &Variables, token: &[u8], rest: &'a [u8]) -> Option<(Item, &'a [u8])>
+/// An item that begins with a token which is no comma, and the bytes after it.
+#[tactic(auto, unfolding(crate::specs::inside::ExpressionItems::plain_behind))]
+fn plain_behind<'a>(variables: &Variables, token: &[u8], rest: &'a [u8]) -> Option<(Item, &'a [u8])>
     requires few { length (variable_names variables.now) ≤ 15 }
     requires names { AreNames (variable_names variables.now) }
-    ensures item { option_map (λ x. (x.0, tokens_in x.1.now)) result ≡ item_behind (variable_names variables.now) token.now (tokens_in rest.now) }
+    ensures item { option_map (λ x. (x.0, tokens_in x.1.now)) result ≡ plain_behind (variable_names variables.now) token.now (tokens_in rest.now) }
     ensures no_longer { IfSome result (λ x. length x.1.now ≤ length rest.now) }
 {
     if matches!(token, b"/") {
@@ -143,9 +134,44 @@ fn item_behind<'a>(variables: &Variables, token: &[u8], rest: &'a [u8]) -> Optio
     }
 }
 
+/// What a comma begins, and the bytes after it: the points of a table, or the second of two sums.
+#[tactic(auto, unfolding(crate::specs::inside::ExpressionItems::comma_behind))]
+fn comma_behind(alloc: Global, bytes: &[u8]) -> Result<(Item, &[u8]), ReadFault>
+    ensures item { Gives (λ x. (x.0, tokens_in x.1.now)) result (comma_behind (tokens_in bytes.now)) }
+    ensures no_longer { IfOk result (λ x. length x.1.now ≤ length bytes.now) }
+{
+    if point_in(bytes).is_none() {
+        return Ok((Item::Comma, bytes));
+    }
+    let (curve, rest) = curve_in(alloc, bytes)?;
+    Ok((Item::Points(curve), rest))
+}
+
+#[tactic(auto, unfolding(crate::specs::inside::ExpressionItems::item_behind))]
+fn item_behind<'a>(
+    alloc: Global,
+    variables: &Variables,
+    token: &[u8],
+    rest: &'a [u8],
+) -> Result<(Item, &'a [u8]), ReadFault>
+    requires few { length (variable_names variables.now) ≤ 15 }
+    requires names { AreNames (variable_names variables.now) }
+    ensures item { Gives (λ x. (x.0, tokens_in x.1.now)) result (item_behind (variable_names variables.now) token.now (tokens_in rest.now)) }
+    ensures no_longer { IfOk result (λ x. length x.1.now ≤ length rest.now) }
+{
+    if matches!(token, b",") {
+        return comma_behind(alloc, rest);
+    }
+    match plain_behind(variables, token, rest) {
+        Some(found) => Ok(found),
+        None => Err(ReadFault::Malformed),
+    }
+}
+
 /// The first item and the bytes after it, or None at the end.
 #[tactic(auto, unfolding(crate::specs::inside::ExpressionItems::next_item))]
 pub fn next_item<'a>(
+    alloc: Global,
     variables: &Variables,
     bytes: &'a [u8],
 ) -> Result<Option<(Item, &'a [u8])>, ReadFault>
@@ -157,8 +183,5 @@ pub fn next_item<'a>(
     let Some((token, rest)) = next_token(bytes) else {
         return Ok(None);
     };
-    match item_behind(variables, token, rest) {
-        Some(found) => Ok(Some(found)),
-        None => Err(ReadFault::Malformed),
-    }
+    Ok(Some(item_behind(alloc, variables, token, rest)?))
 }

@@ -10,7 +10,9 @@ mod expression;
 mod fault;
 mod frames;
 mod items;
+mod literals;
 mod statements;
+mod tables;
 mod words;
 
 pub use fault::ReadFault;

@@ -11,19 +11,21 @@ ghost use Rattle.plant_reading.specs.Statements.{Statement as Stated, States};
 ghost use Rattle.plant_reading.specs.Words.{words_of};
 
 use crate::boxes::box_in;
-use crate::declarations::{goal_in, input_in, noise_in, state_in};
+use crate::declarations::{goal_in, input_in, noise_in, state_in, version_in};
 use crate::expression::expression_in;
 use crate::fault::ReadFault;
 use crate::words::blanks::next_word;
 use crate::words::expected::{expect_end, expect_word};
 use fixed_expr::Expr;
-use plant_record::{GoalKind, InputVariable, NoiseVariable, StateBox, StateVariable, Variables};
+use plant_record::{
+    GoalKind, InputVariable, NoiseVariable, PlantVersion, StateBox, StateVariable, Variables,
+};
 use std::alloc::Global;
 
 /// What a line states.
 #[derive(Drop)]
 pub enum Statement<'a> {
-    Version,
+    Version(PlantVersion),
     State(StateVariable),
     Input(InputVariable),
     Noise(NoiseVariable),
@@ -100,10 +102,7 @@ fn statement_behind<'a>(
     ensures { Finds statement_of (States (variable_names variables.now) (length variables.now.states.items) (keyword_text keyword ∷ words_of bytes.now)) result }
 {
     match keyword {
-        Keyword::Plant => {
-            expect_end(expect_word(bytes, b"1")?)?;
-            Ok(Statement::Version)
-        }
+        Keyword::Plant => Ok(Statement::Version(version_in(bytes)?)),
         Keyword::State => Ok(Statement::State(state_in(alloc, bytes)?)),
         Keyword::Input => Ok(Statement::Input(input_in(alloc, bytes)?)),
         Keyword::Noise => Ok(Statement::Noise(noise_in(alloc, bytes)?)),

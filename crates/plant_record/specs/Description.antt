@@ -7,9 +7,11 @@ use Rattle.plant_record.specs.declared.variables.InputVariable.{InputVariable}
 use Rattle.plant_record.specs.declared.variables.NoiseVariable.{NoiseVariable}
 use Rattle.plant_record.specs.declared.aims.StateBox.{StateBox}
 use Rattle.plant_record.specs.declared.aims.GoalKind.{GoalKind}
+use Rattle.plant_record.specs.declared.version.PlantVersion.{PlantVersion}
 
 -- One equation for each state; its variables are the states, then the inputs, then the noises.
 pub record Description : Type 0 where
+  pub version : PlantVersion
   pub states : List StateVariable
   pub inputs : List InputVariable
   pub noises : List NoiseVariable

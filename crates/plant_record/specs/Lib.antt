@@ -10,6 +10,8 @@ pub mod Parts
 pub mod Plants
 pub mod Soundness
 pub mod Spelling
+pub mod States
 pub mod Steps
 pub mod Variables
+pub mod Versions
 pub mod inside

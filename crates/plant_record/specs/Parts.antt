@@ -8,6 +8,7 @@ use Rattle.plant_record.specs.declared.variables.NoiseVariable.{NoiseVariable}
 use Rattle.plant_record.specs.declared.variables.Variables.{Variables}
 use Rattle.plant_record.specs.declared.aims.StateBox.{StateBox}
 use Rattle.plant_record.specs.declared.aims.GoalKind.{GoalKind}
+use Rattle.plant_record.specs.declared.version.PlantVersion.{PlantVersion}
 use Rattle.plant_record.specs.declared.plant_parts.PlantParts.{PlantParts}
 use Rattle.plant_record.specs.Description.{Description, names_over}
 
@@ -16,8 +17,9 @@ abbrev pub variable_names : Variables → List (List ℕ)
 variable_names v = names_over v.states.items v.inputs.items v.noises.items
 
 -- a description by its parts, the equations where they lie in memory
-abbrev pub described : List StateVariable → List InputVariable → List NoiseVariable → List Expr → List StateBox → List StateBox → GoalKind → Description
-described states inputs noises equations targets obstacles goal = record {
+abbrev pub described : PlantVersion → List StateVariable → List InputVariable → List NoiseVariable → List Expr → List StateBox → List StateBox → GoalKind → Description
+described version states inputs noises equations targets obstacles goal = record {
+  version = version;
   states = states;
   inputs = inputs;
   noises = noises;
@@ -30,4 +32,4 @@ described states inputs noises equations targets obstacles goal = record {
 -- the description that the parts hold
 abbrev pub description_of : PlantParts → Description
 description_of q =
-    described q.variables.states.items q.variables.inputs.items q.variables.noises.items q.equations.items q.targets.items q.obstacles.items q.goal
+    described q.version q.variables.states.items q.variables.inputs.items q.variables.noises.items q.equations.items q.targets.items q.obstacles.items q.goal

@@ -2,13 +2,14 @@
 use Rattle.std.specs.Prelude.{◌≡◌, ◌≢◌, ◌≤◌, [], length, AllPairs}
 use Rattle.std.specs.List.{All}
 use Rattle.plant_record.specs.declared.aims.GoalKind.TheVariants.{Keep}
+use Rattle.plant_record.specs.declared.version.PlantVersion.TheVariants.{One}
 use Rattle.plant_record.specs.Description.{Description, names_of}
 use Rattle.plant_record.specs.Variables.{IsStateVariable, IsInputVariable, IsNoiseVariable}
 use Rattle.plant_record.specs.Boxes.{IsStateBox}
-use Rattle.plant_record.specs.Equations.{IsEquation}
+use Rattle.plant_record.specs.Equations.{IsEquation, HasNoTable}
 
 -- 1 to 6 states with an equation each, up to 3 inputs, 6 noises, 64 targets and 64 obstacles, all names
--- different. A plant that is to be kept off its obstacles has no target.
+-- different. A plant that is to be kept off its obstacles has no target, and one of version 1 no table.
 pub record IsPlant (p : Description) : Type 0 where
   pub some_state : 1 ≤ length p.states
   pub states_bound : length p.states ≤ 6
@@ -24,4 +25,5 @@ pub record IsPlant (p : Description) : Type 0 where
   pub targets : All (IsStateBox (length p.states)) p.targets
   pub obstacles_bound : length p.obstacles ≤ 64
   pub obstacles : All (IsStateBox (length p.states)) p.obstacles
+  pub tables : p.version ≡ One → All HasNoTable p.equations
   pub kept_aims_nowhere : p.goal ≡ Keep → p.targets ≡ []

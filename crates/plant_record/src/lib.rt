@@ -13,6 +13,7 @@ mod plant_parts;
 mod transition;
 mod variable_names;
 mod variables;
+mod version;
 
 pub use aims::{GoalKind, StateBox};
 pub use fault::{LimitKind, NoMemory};
@@ -21,3 +22,4 @@ pub use plant_parts::PlantParts;
 pub use transition::{step, step_along};
 pub use variable_names::Names;
 pub use variables::{InputVariable, Name, NoiseVariable, StateVariable, Values, Variables};
+pub use version::PlantVersion;

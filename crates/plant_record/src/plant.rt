@@ -11,6 +11,7 @@ ghost use Rattle.plant_record.specs.Plants.{IsPlant};
 ghost use Rattle.plant_record.specs.Limits.{IsWithinLimits, Exceeds};
 ghost use Rattle.plant_record.specs.Marks.{IsGoalCell, IsObstacleCell};
 ghost use Rattle.plant_record.specs.Parts.{description_of};
+ghost use Rattle.plant_record.specs.Versions.{version_number};
 
 use crate::aims::{GoalKind, StateBox};
 use crate::fault::LimitKind;
@@ -18,6 +19,7 @@ use crate::marks::{lies_in_one, touches_one};
 use crate::plant_parts::{PlantParts, grid_of, vectors_of};
 use crate::variable_names::Names;
 use crate::variables::{InputVariable, Name, NoiseVariable, StateVariable, Variables};
+use crate::version::PlantVersion;
 use fixed_expr::Expr;
 use grid_quantiser::{Grid, Point};
 use std::marker::Model;
@@ -31,6 +33,7 @@ const PAIRS_LIMIT: u64 = 1 << 22;
 /// A plant within the limits, seen as its description.
 #[derive(Drop)]
 pub struct Plant {
+    version: PlantVersion,
     states: Vec<StateVariable>,
     inputs: Vec<InputVariable>,
     noises: Vec<NoiseVariable>,
@@ -52,9 +55,9 @@ impl Model for Plant {
 
     ghost coded = { Prim.hlevel (codes, expression_code) };
 
-    ghost view = { λ p. described p.states.items p.inputs.items p.noises.items p.equations.items p.targets.items p.obstacles.items p.goal };
+    ghost view = { λ p. described p.version p.states.items p.inputs.items p.noises.items p.equations.items p.targets.items p.obstacles.items p.goal };
 
-    ghost invariant = { λ p. IsPlantWithGrid (described p.states.items p.inputs.items p.noises.items p.equations.items p.targets.items p.obstacles.items p.goal) p.grid };
+    ghost invariant = { λ p. IsPlantWithGrid (described p.version p.states.items p.inputs.items p.noises.items p.equations.items p.targets.items p.obstacles.items p.goal) p.grid };
 }
 
 impl Plant {
@@ -76,6 +79,7 @@ impl Plant {
             return Err(LimitKind::Pairs);
         }
         let PlantParts {
+            version,
             variables,
             equations,
             targets,
@@ -88,6 +92,7 @@ impl Plant {
             noises,
         } = variables;
         Ok(Plant {
+            version,
             states,
             inputs,
             noises,
@@ -97,6 +102,19 @@ impl Plant {
             goal,
             grid,
         })
+    }
+
+    /// The number of the version, 1 or 2.
+    pub fn version(&self) -> u32
+        ensures { result ≡ version_number self.now.version }
+    {
+        self.version.number()
+    }
+
+    pub fn plant_version(&self) -> PlantVersion
+        ensures { result ≡ self.now.version }
+    {
+        self.version
     }
 
     /// How many states there are.

@@ -9,12 +9,14 @@ ghost use Rattle.plant_record.specs.Variables.{IsStateVariable, IsInputVariable}
 
 use crate::aims::{GoalKind, StateBox};
 use crate::variables::{InputVariable, StateVariable, Variables};
+use crate::version::PlantVersion;
 use fixed_expr::Expr;
 use grid_quantiser::{Axis, Grid, TooManyCells};
 
 /// What a plant text says, with nothing counted yet.
 #[derive(Drop)]
 pub struct PlantParts {
+    pub version: PlantVersion,
     pub variables: Variables,
     pub equations: Vec<Expr>,
     pub targets: Vec<StateBox>,

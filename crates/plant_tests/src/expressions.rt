@@ -1,6 +1,6 @@
 // fixed_expr
 
-use fixed_expr::{Expr, LANES, eval, eval_rows};
+use fixed_expr::{Curve, Expr, LANES, eval, eval_rows};
 use std::alloc::{AllocError, Global};
 use std::test::Fail;
 
@@ -119,5 +119,25 @@ fn only_a_summand_of_its_own_moves(alloc: Global) -> Result<bool, AllocError> {
 #[test]
 fn a_difference_moves_with_a_summand_of_its_own(rt: HostRuntime) -> Result<(), Fail> {
     assert!(rt; only_a_summand_of_its_own_moves(rt.alloc())?);
+    Ok(())
+}
+
+/// -3/4, -6/4 and -9/4 have the floors -1, -2 and -3. Before 0 and behind 4 the values stay as they are.
+fn falling_table_rounds_down(alloc: Global) -> Result<bool, Fail> {
+    let curve = Curve::new(alloc, &[(0, 0), (4, -3)])?;
+    let has_its_points = curve.points() == [(0, 0), (4, -3)].as_slice();
+    let e = Expr::Lut(Box::new(alloc, Expr::Var(0))?, curve);
+    let inside = [eval(&e, &[1]), eval(&e, &[2]), eval(&e, &[3])];
+    let outside = [eval(&e, &[-1]), eval(&e, &[4]), eval(&e, &[9])];
+    Ok(
+        has_its_points
+            && inside == [Some(-1), Some(-2), Some(-3)]
+            && outside == [Some(0), Some(-3), Some(-3)],
+    )
+}
+
+#[test]
+fn a_table_rounds_down_and_stays_level_outside(rt: HostRuntime) -> Result<(), Fail> {
+    assert!(rt; falling_table_rounds_down(rt.alloc())?);
     Ok(())
 }

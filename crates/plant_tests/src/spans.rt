@@ -1,7 +1,7 @@
 // interval_eval
 
-use fixed_expr::Expr;
-use interval_eval::{Interval, span};
+use fixed_expr::{Expr, LANES};
+use interval_eval::{Interval, IntervalColumn, span, span_rows};
 use std::alloc::{AllocError, Global};
 use std::test::Fail;
 
@@ -50,5 +50,29 @@ fn half_of_both_ends_rounds_down(alloc: Global) -> Result<bool, AllocError> {
 #[test]
 fn both_ends_of_a_quotient_round_down(rt: HostRuntime) -> Result<(), Fail> {
     assert!(rt; half_of_both_ends_rounds_down(rt.alloc())?);
+    Ok(())
+}
+
+/// The square of -3 to 2 spans -6 to 9, and that of 1 to 2 spans 1 to 4. 2^32 * 2^32 is 2^64, past 64 bits.
+fn squares_in_rows(alloc: Global) -> Result<bool, AllocError> {
+    let square = Expr::Mul(
+        Box::new(alloc, Expr::Var(0))?,
+        Box::new(alloc, Expr::Var(0))?,
+    );
+    let mut area = [IntervalColumn {
+        lo: [-3; LANES],
+        hi: [2; LANES],
+    }];
+    area[0].lo[31] = 1;
+    let mut found = area[0];
+    let fits = span_rows(&square, &area, &mut found) == Some(());
+    let ends = [found.lo[0], found.hi[0], found.lo[31], found.hi[31]];
+    area[0].hi[31] = 1 << 32;
+    Ok(fits && ends == [-6, 9, 1, 4] && span_rows(&square, &area, &mut found) == None)
+}
+
+#[test]
+fn each_row_has_its_own_span(rt: HostRuntime) -> Result<(), Fail> {
+    assert!(rt; squares_in_rows(rt.alloc())?);
     Ok(())
 }

@@ -5,7 +5,7 @@ use Rattle.plant_text.specs.declared.fault.PlantFault.TheVariants as faults
 use Rattle.plant_record.specs.Description.{Description}
 use Rattle.plant_record.specs.Plants.{IsPlant}
 use Rattle.plant_record.specs.Limits.{Exceeds}
-use Rattle.plant_record.specs.Spelling.{line, goal_word}
+use Rattle.plant_record.specs.Spelling.{line, version_word, goal_word}
 use Rattle.plant_writing.specs.CanonicalText.{text_of, state_line, input_line, noise_line, equation_line, box_line}
 use Rattle.plant_reading.specs.Statements.{Statement, Version, State, Input, Noise, Next, Target, Obstacle, Goal, End}
 use Rattle.plant_text.specs.Grammar.{Part, nothing_yet, names_in, IsStated}
@@ -13,7 +13,7 @@ use Rattle.plant_reading.specs.Lines.{with_line_feeds}
 
 -- a statement's line in the canonical text, where the variables have these names and the first n are states
 abbrev pub statement_line : List (List ℕ) → ℕ → Statement → List ℕ
-statement_line names n Version = line (codes "plant" ∷ codes "1" ∷ [])
+statement_line names n (Version v) = line (codes "plant" ∷ version_word v ∷ [])
 statement_line names n (State s) = state_line s
 statement_line names n (Input i) = input_line i
 statement_line names n (Noise w) = noise_line w
@@ -26,7 +26,7 @@ statement_line names n End = line (codes "end" ∷ [])
 -- all targets stand before all obstacles
 abbrev pub IsInOrder : Part → Statement → Type 0
 IsInOrder q (Target b) = q.obstacles ≡ []
-IsInOrder q Version = Unit {0}
+IsInOrder q (Version v) = Unit {0}
 IsInOrder q (State s) = Unit {0}
 IsInOrder q (Input i) = Unit {0}
 IsInOrder q (Noise w) = Unit {0}

@@ -8,6 +8,9 @@ use Rattle.plant_record.specs.declared.variables.NoiseVariable.{NoiseVariable}
 use Rattle.plant_record.specs.declared.aims.StateBox.{StateBox}
 use Rattle.plant_record.specs.declared.aims.GoalKind.{GoalKind}
 use Rattle.plant_record.specs.declared.aims.GoalKind.TheVariants.{Keep}
+use Rattle.plant_record.specs.declared.version.PlantVersion.{PlantVersion}
+use Rattle.plant_record.specs.declared.version.PlantVersion.TheVariants.{One}
+use Rattle.plant_record.specs.Equations.{HasNoTable}
 use Rattle.plant_record.specs.Description.{Description, names_over}
 use Rattle.plant_reading.specs.Lines.{lines_of}
 use Rattle.plant_reading.specs.Words.{words_of, is_passed_over}
@@ -15,7 +18,7 @@ use Rattle.plant_reading.specs.Statements.{Statement, Version, State, Input, Noi
 
 -- The part of a plant that some lines spell.
 pub record Part : Type 0 where
-  pub begun : Bool
+  pub version : Option PlantVersion
   pub states : List StateVariable
   pub inputs : List InputVariable
   pub noises : List NoiseVariable
@@ -26,7 +29,7 @@ pub record Part : Type 0 where
   pub ended : Bool
 
 abbrev pub nothing_yet : Part
-nothing_yet = record { begun = false; states = []; inputs = []; noises = []; equations = []; targets = []; obstacles = []; goal = None; ended = false }
+nothing_yet = record { version = None; states = []; inputs = []; noises = []; equations = []; targets = []; obstacles = []; goal = None; ended = false }
 
 abbrev pub names_in : Part → List (List ℕ)
 names_in q = names_over q.states q.inputs q.noises
@@ -39,13 +42,13 @@ HasEquations q = (1 ≤ length q.states) × (length q.equations ≡ length q.sta
 abbrev pub IsNewIn : Part → List ℕ → Type 0
 IsNewIn q name = Contains (names_in q) name → ⊥
 
--- a statement has its place behind a part: in what order the lines stand, and how many there are of each kind
+-- a statement has its place behind a part: in what order the lines stand, how many there are of each kind, and that version 1 has no table
 abbrev pub FitsAfter : Part → Statement → Type 0
-FitsAfter q Version = q.begun ≡ false
-FitsAfter q (State s) = (q.begun ≡ true) × (q.inputs ≡ []) × (q.noises ≡ []) × (q.equations ≡ []) × (length q.states < 6) × IsNewIn q s.name
+FitsAfter q (Version v) = q.version ≡ None
+FitsAfter q (State s) = (q.version ≢ None) × (q.inputs ≡ []) × (q.noises ≡ []) × (q.equations ≡ []) × (length q.states < 6) × IsNewIn q s.name
 FitsAfter q (Input i) = (1 ≤ length q.states) × (q.noises ≡ []) × (q.equations ≡ []) × (length q.inputs < 3) × IsNewIn q i.name
 FitsAfter q (Noise w) = (1 ≤ length q.states) × (q.equations ≡ []) × (length q.noises < 6) × IsNewIn q w.name
-FitsAfter q (Next name e) = (length q.equations < length q.states) × (slice_index_or (names_in q) (length q.equations) [] ≡ name)
+FitsAfter q (Next name e) = (length q.equations < length q.states) × (slice_index_or (names_in q) (length q.equations) [] ≡ name) × (q.version ≡ Some One → HasNoTable e)
 FitsAfter q (Target b) = HasEquations q × (q.goal ≡ None) × (length q.targets < 64)
 FitsAfter q (Obstacle b) = HasEquations q × (q.goal ≡ None) × (length q.obstacles < 64)
 FitsAfter q (Goal kind) = HasEquations q × (q.goal ≡ None) × (kind ≡ Keep → q.targets ≡ [])
@@ -53,7 +56,7 @@ FitsAfter q End = (q.goal ≢ None) × (q.ended ≡ false)
 
 -- the part with the statement
 abbrev pub extended : Part → Statement → Part
-extended q Version = record q { begun = true }
+extended q (Version v) = record q { version = Some v }
 extended q (State s) = record q { states = q.states ++ s ∷ [] }
 extended q (Input i) = record q { inputs = q.inputs ++ i ∷ [] }
 extended q (Noise w) = record q { noises = q.noises ++ w ∷ [] }
@@ -86,6 +89,7 @@ Reads lines q = Leads nothing_yet lines q
 -- a part is closed by its last line, and holds this plant
 pub record IsWhole (q : Part) (p : Description) : Type 0 where
   pub closed : q.ended ≡ true
+  pub version : q.version ≡ Some p.version
   pub states : q.states ≡ p.states
   pub inputs : q.inputs ≡ p.inputs
   pub noises : q.noises ≡ p.noises

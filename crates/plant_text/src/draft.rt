@@ -1,6 +1,9 @@
 ghost use Rattle.std.specs.Prelude.{◌≡◌, ◌≢◌, ◌<◌, ◌≤◌, ◌↔◌, [], length, None, Some, Err, IsTrue, IfOk, IfErr, OnOk, slice_index_or, true, false};
 ghost use Rattle.plant_reading.specs.declared.fault.ReadFault.TheVariants.{Malformed};
+ghost use Rattle.fixed_expr.specs.Expression.{expression_of};
 ghost use Rattle.plant_record.specs.declared.aims.GoalKind.TheVariants.{Keep};
+ghost use Rattle.plant_record.specs.declared.version.PlantVersion.TheVariants.{One};
+ghost use Rattle.plant_record.specs.Equations.{HasNoTable};
 ghost use Rattle.plant_reading.specs.Statements.{State, Input, Noise, Next, Target, Obstacle, Goal};
 ghost use Rattle.plant_text.specs.Grammar.{Part, nothing_yet, names_in, HasEquations, IsNewIn, FitsAfter, extended, Extends, IsWhole};
 ghost use Rattle.plant_record.specs.Description.{Description};
@@ -10,16 +13,19 @@ ghost use Rattle.plant_reading.specs.StatementsRead.{statement_of};
 ghost use Rattle.plant_text.specs.inside.DraftsInMemory.{part_of};
 ghost use Rattle.plant_text.specs.CanonicalFronts.{IsInOrder, ExtendsCanonically};
 
+use crate::equations::has_no_table;
 use crate::statement_writer::is_canonical;
 use fixed_expr::Expr;
 use plant_reading::{ReadFault, Statement, is_passed_over, statement_in};
-use plant_record::{GoalKind, LimitKind, Name, Plant, PlantParts, StateBox, Variables};
+use plant_record::{
+    GoalKind, LimitKind, Name, Plant, PlantParts, PlantVersion, StateBox, Variables,
+};
 use std::alloc::Global;
 
 /// The part of a plant that the lines so far spell.
 #[derive(Drop)]
 pub struct Draft {
-    begun: bool,
+    version: Option<PlantVersion>,
     variables: Variables,
     equations: Vec<Expr>,
     targets: Vec<StateBox>,
@@ -33,7 +39,7 @@ impl Draft {
         ensures { part_of result ≡ nothing_yet }
     {
         Draft {
-            begun: false,
+            version: None,
             variables: Variables {
                 states: Vec::new(alloc),
                 inputs: Vec::new(alloc),
@@ -103,7 +109,7 @@ impl Draft {
         ensures exceeded { IfErr result (λ what. (p : Description) × IsWhole (part_of self) p × Exceeds p what) }
     {
         let Draft {
-            begun: _,
+            version,
             variables,
             equations,
             targets,
@@ -111,16 +117,20 @@ impl Draft {
             goal,
             ended: _,
         } = self;
-        match goal {
-            Some(goal) => Plant::new(PlantParts {
-                variables,
-                equations,
-                targets,
-                obstacles,
-                goal,
-            }),
-            None => unreachable!(),
-        }
+        let Some(version) = version else {
+            unreachable!();
+        };
+        let Some(goal) = goal else {
+            unreachable!();
+        };
+        Plant::new(PlantParts {
+            version,
+            variables,
+            equations,
+            targets,
+            obstacles,
+            goal,
+        })
     }
 
     /// Whether a statement has its place behind the lines so far.
@@ -129,11 +139,11 @@ impl Draft {
         ensures { IsTrue result ↔ FitsAfter (part_of self.now) (statement_of statement.now) }
     {
         match statement {
-            Statement::Version => !self.begun,
+            Statement::Version(_) => self.version.is_none(),
             Statement::State(s) => self.takes_state() && self.is_new(&s.name),
             Statement::Input(i) => self.takes_input() && self.is_new(&i.name),
             Statement::Noise(w) => self.takes_noise() && self.is_new(&w.name),
-            Statement::Next { state, equation: _ } => self.is_next(state),
+            Statement::Next { state, equation } => self.is_next(state) && self.takes(equation),
             Statement::Target(_) => self.takes_boxes() && self.targets.len() < 64,
             Statement::Obstacle(_) => self.takes_boxes() && self.obstacles.len() < 64,
             Statement::Goal(kind) => self.takes_boxes() && self.takes_goal(*kind),
@@ -160,9 +170,9 @@ impl Draft {
     }
 
     fn takes_state(&self) -> bool
-        ensures { IsTrue result ↔ ((self.now.begun ≡ true) × (self.now.variables.inputs.items ≡ []) × (self.now.variables.noises.items ≡ []) × (self.now.equations.items ≡ []) × (length self.now.variables.states.items < 6)) }
+        ensures { IsTrue result ↔ ((self.now.version ≢ None) × (self.now.variables.inputs.items ≡ []) × (self.now.variables.noises.items ≡ []) × (self.now.equations.items ≡ []) × (length self.now.variables.states.items < 6)) }
     {
-        self.begun
+        self.version.is_some()
             && self.variables.inputs.is_empty()
             && self.variables.noises.is_empty()
             && self.equations.is_empty()
@@ -206,6 +216,13 @@ impl Draft {
         }
     }
 
+    /// Whether the version has what stands in an equation.
+    fn takes(&self, equation: &Expr) -> bool
+        ensures { IsTrue result ↔ ((part_of self.now).version ≡ Some One → HasNoTable (expression_of equation.now)) }
+    {
+        self.version != Some(PlantVersion::One) || has_no_table(equation)
+    }
+
     /// Whether all equations stand, and no goal yet.
     fn takes_boxes(&self) -> bool
         ensures { IsTrue result ↔ (HasEquations (part_of self.now) × ((part_of self.now).goal ≡ None)) }
@@ -226,7 +243,7 @@ impl Draft {
         ensures memory { result ≢ Err Malformed }
     {
         match statement {
-            Statement::Version => self.begun = true,
+            Statement::Version(version) => self.version = Some(version),
             Statement::State(s) => self.variables.states.push(s)?,
             Statement::Input(i) => self.variables.inputs.push(i)?,
             Statement::Noise(w) => self.variables.noises.push(w)?,

@@ -7,6 +7,7 @@
 #![tactic(auto)]
 
 mod draft;
+mod equations;
 mod fault;
 mod front_reader;
 pub mod laws;
@@ -17,7 +18,7 @@ pub use fault::PlantFault;
 pub use front_reader::{Front, read_front};
 pub use plant_reader::{TEXT_LIMIT, read_plant};
 pub use plant_record::{
-    GoalKind, InputVariable, LimitKind, Name, NoMemory, NoiseVariable, Plant, StateBox,
-    StateVariable, Values, step, step_along,
+    GoalKind, InputVariable, LimitKind, Name, NoMemory, NoiseVariable, Plant, PlantVersion,
+    StateBox, StateVariable, Values, step, step_along,
 };
 pub use plant_writing::write_plant;

@@ -8,7 +8,9 @@ ghost use Rattle.plant_text.specs.inside.FormedEquations.{HasFormedEquation};
 
 use plant_reading::Statement;
 use plant_record::Variables;
-use plant_writing::{goal_line, push_box, push_equation, push_input, push_noise, push_state};
+use plant_writing::{
+    goal_line, push_box, push_equation, push_input, push_noise, push_state, version_line,
+};
 use std::alloc::AllocError;
 
 /// Whether a line is the canonical one of its statement. It is written into `scratch`, whose
@@ -50,7 +52,7 @@ fn push_statement(
 {
     let states = variables.states.len();
     match statement {
-        Statement::Version => text.extend_from_slice(b"plant 1\n"),
+        Statement::Version(version) => text.extend_from_slice(version_line(*version)),
         Statement::State(state) => push_state(text, state),
         Statement::Input(input) => push_input(text, input),
         Statement::Noise(noise) => push_noise(text, noise),

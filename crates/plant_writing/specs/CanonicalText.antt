@@ -8,7 +8,7 @@ use Rattle.plant_record.specs.declared.variables.InputVariable.{InputVariable}
 use Rattle.plant_record.specs.declared.variables.NoiseVariable.{NoiseVariable}
 use Rattle.plant_record.specs.declared.aims.StateBox.{StateBox}
 use Rattle.plant_record.specs.Description.{Description, names_of}
-use Rattle.plant_record.specs.Spelling.{line, end_words, goal_word}
+use Rattle.plant_record.specs.Spelling.{line, version_word, end_words, goal_word}
 use Rattle.plant_writing.specs.ExpressionText.{expression_text}
 
 abbrev pub state_line : StateVariable → List ℕ
@@ -34,7 +34,7 @@ box_line keyword n b = line (keyword ∷ end_words n b.low b.high)
 -- the canonical text
 abbrev pub text_of : Description → List ℕ
 text_of p =
-    line (codes "plant" ∷ codes "1" ∷ [])
+    line (codes "plant" ∷ version_word p.version ∷ [])
     ++ flat_map state_line p.states
     ++ flat_map input_line p.inputs
     ++ flat_map noise_line p.noises

@@ -1,11 +1,16 @@
 -- The canonical text of an expression: one space on either side of an operator, brackets only where they are needed.
-use Rattle.std.specs.Prelude.{ℕ, List, [], ◌++◌, nat_lt, if◌then◌else◌, slice_index_or, codes}
+use Rattle.std.specs.Prelude.{ℕ, ℤ, List, [], ◌++◌, nat_lt, if◌then◌else◌, slice_index_or, codes}
+use Rattle.std.specs.List.{flat_map}
 use Rattle.std.specs.Fmt.{signed_decimal}
-use Rattle.fixed_expr.specs.Expression.{Expression, Number, Variable, Negation, Sum, Difference, Product, Quotient, Minimum, Maximum, Absolute}
+use Rattle.fixed_expr.specs.Expression.{Expression, Number, Variable, Negation, Sum, Difference, Product, Quotient, Minimum, Maximum, Absolute, Lookup}
 
 -- the text, in brackets where its own level is less than the one that its place asks for
 abbrev pub at_level : ℕ → ℕ → List ℕ → List ℕ
 at_level own asked text = if nat_lt own asked then codes "(" ++ text ++ codes ")" else text
+
+-- a point of a table, with the comma before it
+abbrev pub point_text : ℤ × ℤ → List ℕ
+point_text p = codes ", " ++ signed_decimal p.0 ++ codes ":" ++ signed_decimal p.1
 
 -- an expression at a place that asks for a level: sums have 1, products 2, all others 3
 abbrev pub expression_text : List (List ℕ) → ℕ → Expression → List ℕ
@@ -19,3 +24,4 @@ expression_text names asked (Quotient a k) = at_level 2 asked (expression_text n
 expression_text names asked (Minimum a b) = codes "min(" ++ expression_text names 1 a ++ codes ", " ++ expression_text names 1 b ++ codes ")"
 expression_text names asked (Maximum a b) = codes "max(" ++ expression_text names 1 a ++ codes ", " ++ expression_text names 1 b ++ codes ")"
 expression_text names asked (Absolute a) = codes "abs(" ++ expression_text names 1 a ++ codes ")"
+expression_text names asked (Lookup a points) = codes "lut(" ++ expression_text names 1 a ++ flat_map point_text points ++ codes ")"

@@ -1,10 +1,11 @@
 // The text of an expression, in brackets only where its place asks for them.
 
 ghost use Rattle.std.specs.Prelude.{◌≡◌, ◌++◌, length, codes, nat_lt, OnOk};
+ghost use Rattle.std.specs.List.{flat_map};
 ghost use Rattle.std.specs.Fmt.{signed_decimal};
 ghost use Rattle.fixed_expr.specs.Expression.{expression_of};
 ghost use Rattle.fixed_expr.specs.Value.{IsWellFormed};
-ghost use Rattle.plant_writing.specs.ExpressionText.{expression_text};
+ghost use Rattle.plant_writing.specs.ExpressionText.{expression_text, point_text};
 ghost use Rattle.plant_writing.specs.inside.WriterLevels.{number_of, own_level};
 
 use fixed_expr::Expr;
@@ -68,7 +69,45 @@ fn push_bare(text: &mut Vec<u8>, names: &Names<'_>, e: &Expr) -> Result<(), Allo
             push_expression(text, names, Level::Sum, a)?;
             text.extend_from_slice(b")")
         }
+        Expr::Lut(a, curve) => push_table(text, names, a, curve.points()),
     }
+}
+
+/// A table: its expression, and its points.
+#[cycle(expression)]
+fn push_table(
+    text: &mut Vec<u8>,
+    names: &Names<'_>,
+    a: &Expr,
+    points: &[(i128, i128)],
+) -> Result<(), AllocError>
+    requires { IsWellFormed (expression_of a.now) (length names.now) }
+    ensures { OnOk result (text.new.items ≡ text.old.items ++ (codes "lut(" ++ expression_text names.now 1 (expression_of a.now) ++ flat_map point_text points.now ++ codes ")")) }
+{
+    text.extend_from_slice(b"lut(")?;
+    push_expression(text, names, Level::Sum, a)?;
+    push_points(text, points)?;
+    text.extend_from_slice(b")")
+}
+
+/// Each point with the comma before it.
+#[tactic(auto, using(crate::proofs::lemmas::WrittenLines::pieces_more))]
+fn push_points(text: &mut Vec<u8>, points: &[(i128, i128)]) -> Result<(), AllocError>
+    ensures { OnOk result (text.new.items ≡ text.old.items ++ flat_map point_text points.now) }
+{
+    for point in points {
+        push_point(text, *point)?;
+    }
+    Ok(())
+}
+
+fn push_point(text: &mut Vec<u8>, point: (i128, i128)) -> Result<(), AllocError>
+    ensures { OnOk result (text.new.items ≡ text.old.items ++ point_text point) }
+{
+    text.extend_from_slice(b", ")?;
+    push_number(text, point.0)?;
+    text.extend_from_slice(b":")?;
+    push_number(text, point.1)
 }
 
 /// Two expressions at their places, with a text between.

@@ -8,5 +8,6 @@ mod expression_writer;
 mod plant_writer;
 
 pub use plant_writer::{
-    goal_line, push_box, push_equation, push_input, push_noise, push_state, write_plant,
+    goal_line, push_box, push_equation, push_input, push_noise, push_state, version_line,
+    write_plant,
 };

@@ -7,13 +7,14 @@ ghost use Rattle.fixed_expr.specs.Expression.{expression_of};
 ghost use Rattle.fixed_expr.specs.Value.{IsWellFormed};
 ghost use Rattle.plant_record.specs.Description.{names_of};
 ghost use Rattle.plant_writing.specs.CanonicalText.{text_of, state_line, input_line, noise_line, equation_line, equation_lines, box_line};
-ghost use Rattle.plant_record.specs.Spelling.{line, goal_word};
+ghost use Rattle.plant_record.specs.Spelling.{line, version_word, goal_word};
 
 use crate::expression_writer::{Level, push_expression, push_number};
 use fixed_expr::Expr;
 use plant_record::laws::every_plant_is_within_limits;
 use plant_record::{
-    GoalKind, InputVariable, Names, NoMemory, NoiseVariable, Plant, StateBox, StateVariable,
+    GoalKind, InputVariable, Names, NoMemory, NoiseVariable, Plant, PlantVersion, StateBox,
+    StateVariable,
 };
 use std::alloc::{AllocError, Global};
 
@@ -32,7 +33,7 @@ fn text_of(alloc: Global, p: &Plant) -> Result<Vec<u8>, AllocError>
 {
     every_plant_is_within_limits(p);
     let states = p.state_list().len();
-    let mut text = Vec::from_slice(alloc, b"plant 1\n")?;
+    let mut text = Vec::from_slice(alloc, version_line(p.plant_version()))?;
     push_states(&mut text, p.state_list())?;
     push_inputs(&mut text, p.input_list())?;
     push_noises(&mut text, p.noise_list())?;
@@ -42,6 +43,15 @@ fn text_of(alloc: Global, p: &Plant) -> Result<Vec<u8>, AllocError>
     text.extend_from_slice(goal_line(p.goal()))?;
     text.extend_from_slice(b"end\n")?;
     Ok(text)
+}
+
+pub fn version_line(version: PlantVersion) -> &'static [u8]
+    ensures { result.now ≡ line (codes "plant" ∷ version_word version ∷ []) }
+{
+    match version {
+        PlantVersion::One => b"plant 1\n",
+        PlantVersion::Two => b"plant 2\n",
+    }
 }
 
 pub fn goal_line(goal: GoalKind) -> &'static [u8]

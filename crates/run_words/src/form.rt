@@ -108,7 +108,7 @@ fn form_of_more(command: &str, samples: &str, seed: &str, numbers: &[&str]) -> O
 }
 
 /// How many workers a word asks for.
-fn workers_of(word: &str) -> Option<u32>
+pub fn workers_of(word: &str) -> Option<u32>
     ensures found { IfSome result (λ n. AreWorkers n × (word.now ≡ decimal n)) }
     ensures none { IfNone result ((n : ℕ) → AreWorkers n → word.now ≡ decimal n → ⊥) }
 {

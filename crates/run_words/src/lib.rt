@@ -8,5 +8,5 @@
 mod form;
 mod start;
 
-pub use form::{Form, form_of};
+pub use form::{Form, form_of, workers_of};
 pub use start::Start;

@@ -10,7 +10,7 @@ use Rattle.plant_record.specs.Numbers.{IsLiteral}
 use Rattle.plant_record.specs.Description.{axes_of, count_of, vectors_of}
 use Rattle.plant_record.specs.Variables.{IsStateVariable, IsInputVariable, IsNoiseVariable}
 use Rattle.plant_record.specs.Boxes.{IsStateBox}
-use Rattle.plant_record.specs.Equations.{IsEquation}
+use Rattle.plant_record.specs.Equations.{IsEquation, HasNoTable}
 use Rattle.plant_record.specs.Plants.{IsPlant}
 use Rattle.plant_record.specs.Limits.{IsWithinLimits}
 use Rattle.abstraction_table.specs.Abstraction.{pairs_of}
@@ -160,6 +160,7 @@ module _ (n : ℕ) (size : IsDemoNumber n) where
     targets = one (IsStateBox 2) (demo_target n) target_is;
     obstacles_bound = omega arith;
     obstacles = two (IsStateBox 2) (fast_forwards n) (fast_backwards n) forwards_is backwards_is;
+    tables = λ e. two HasNoTable place_step speed_step (tt, tt) ((tt, tt), tt);
     kept_aims_nowhere = λ e. cc;
   }
 

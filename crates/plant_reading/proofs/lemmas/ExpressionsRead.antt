@@ -5,17 +5,19 @@ use Rattle.std.specs.List.{All, AllPairs}
 use Rattle.std.proofs.lemmas.List.{append-nil}
 use Rattle.fixed_expr.specs.declared.expr.Expr.{Expr}
 use Rattle.plant_reading.specs.declared.fault.ReadFault.{ReadFault}
-use Rattle.fixed_expr.specs.Expression.{expression_of, Expression, Number, Variable, Negation, Sum, Difference, Product, Quotient, Minimum, Maximum, Absolute}
+use Rattle.fixed_expr.specs.Expression.{expression_of, Expression, Number, Variable, Negation, Sum, Difference, Product, Quotient, Minimum, Maximum, Absolute, Lookup}
 use Rattle.plant_reading.specs.declared.items.Item.{Item}
 use Rattle.plant_record.specs.Names.{IsName}
 use Rattle.plant_reading.specs.SyntaxTrees.{Syntax, AreTokensOf, meaning_of, yield_of}
 use Rattle.plant_record.specs.Equations.{nodes_of, depth_of}
-use Rattle.plant_reading.specs.inside.ExpressionItems.{AreNames, items_before, turned, spelling_of, IsItem, AreItems, nodes_made, nodes_in, open_behind, most_open, open_after, next_item, ◌>>=◌}
+use Rattle.plant_reading.specs.inside.ExpressionItems.{AreNames, items_before, turned, spelling_of, IsItem, AreItems, nodes_made, nodes_in, open_behind, most_open, open_after, next_item}
+use Rattle.plant_reading.specs.inside.TokenReaders.{◌>>=◌}
 use Rattle.plant_reading.specs.declared.expression.Counts.{Counts}
 use Rattle.plant_reading.specs.inside.ExpressionMachine.{Pending, Machine, stepped, steps, state_after, IsEnd, counts_behind, AreWithinLimits}
 use Rattle.plant_reading.proofs.lemmas.TreesAreTaken.{whole}
 use Rattle.plant_reading.proofs.lemmas.TermsAreTrees.{sum_spans}
-use Rattle.plant_reading.proofs.lemmas.ItemSpelling.{item_again, next_takes, next_ends, then_some}
+use Rattle.plant_reading.proofs.lemmas.Literals.{then_some}
+use Rattle.plant_reading.proofs.lemmas.ItemSpelling.{IsBefore, item_again, no_point, next_takes, next_ends}
 use Rattle.plant_reading.proofs.lemmas.ItemsOfTrees.{spelled, yield_is, turned_is, nodes_are, open_are, tree_items, turned_nodes, turned_open, turned_bound, open_bound, StaysOpen}
 
 -- the tokens of items, of which the last comes first, before others
@@ -29,24 +31,28 @@ before_is names (x ∷ xs) ys = before_is names xs (x ∷ ys)
 
 -- ---- tokens are those of at most one list of items
 
-same_read : (names : List (List ℕ)) (x y : Item) (ts us : List (List ℕ)) → AreNames names → IsItem (length names) x → IsItem (length names) y → spelling_of names x ++ ts ≡ spelling_of names y ++ us → (x ≡ y) × (ts ≡ us)
-same_read names x y ts us ok hx hy e =
-    let p : ◌≡◌ {A = Item × List (List ℕ)} (x, ts) (y, us) = cc (item_again names x ts ok hx, item_again names y us ok hy, ap (next_item names) e) in
+same_read : (names : List (List ℕ)) (x y : Item) (ts us : List (List ℕ)) → next_item names (spelling_of names x ++ ts) ≡ Some (Some (x, ts)) → next_item names (spelling_of names y ++ us) ≡ Some (Some (y, us)) → spelling_of names x ++ ts ≡ spelling_of names y ++ us → (x ≡ y) × (ts ≡ us)
+same_read names x y ts us hx hy e =
+    let p : ◌≡◌ {A = Item × List (List ℕ)} (x, ts) (y, us) = cc (hx, hy, ap (next_item names) e) in
     (ap (λ (q : Item × List (List ℕ)). q.0) p, ap (λ (q : Item × List (List ℕ)). q.1) p)
 
-some_token : (names : List (List ℕ)) (x : Item) (ts : List (List ℕ)) → AreNames names → IsItem (length names) x → spelling_of names x ++ ts ≡ [] → ⊥
+-- the first of some items is read before the others
+first_again : (names : List (List ℕ)) (x : Item) (xs : List Item) → AreNames names → AreItems (length names) (x ∷ xs) → next_item names (spelling_of names x ++ spelled names xs) ≡ Some (Some (x, spelled names xs))
+first_again names x xs ok h = item_again names x (spelled names xs) ok h.0 (λ _. no_point names xs ok h.1)
+
+some_token : (names : List (List ℕ)) (x : Item) (ts : List (List ℕ)) → next_item names (spelling_of names x ++ ts) ≡ Some (Some (x, ts)) → spelling_of names x ++ ts ≡ [] → ⊥
 unfolding next_item
-some_token names x ts ok h e =
-    let a : next_item names [] ≡ Some (Some (x, ts)) = ap (next_item names) (sym e) ∙ item_again names x ts ok h in
+some_token names x ts h e =
+    let a : next_item names [] ≡ Some (Some (x, ts)) = ap (next_item names) (sym e) ∙ h in
     let b : next_item names [] ≡ Some None = refl in
     absurd cc
 
 pub spelled_once : (names : List (List ℕ)) (xs ys : List Item) → AreNames names → AreItems (length names) xs → AreItems (length names) ys → spelled names xs ≡ spelled names ys → xs ≡ ys
 spelled_once names [] [] ok hx hy e = refl
-spelled_once names [] (y ∷ ys) ok hx hy e = absurd (some_token names y (spelled names ys) ok hy.0 (sym e))
-spelled_once names (x ∷ xs) [] ok hx hy e = absurd (some_token names x (spelled names xs) ok hx.0 e)
+spelled_once names [] (y ∷ ys) ok hx hy e = absurd (some_token names y (spelled names ys) (first_again names y ys ok hy) (sym e))
+spelled_once names (x ∷ xs) [] ok hx hy e = absurd (some_token names x (spelled names xs) (first_again names x xs ok hx) e)
 spelled_once names (x ∷ xs) (y ∷ ys) ok hx hy e =
-    let s = same_read names x y (spelled names xs) (spelled names ys) ok hx.0 hy.0 e in
+    let s = same_read names x y (spelled names xs) (spelled names ys) (first_again names x xs ok hx) (first_again names y ys ok hy) e in
     let later : xs ≡ ys = spelled_once names xs ys ok hx.1 hy.1 s.1 in
     let first : x ≡ y = s.0 in
     cc
@@ -58,13 +64,18 @@ pub record Left (names : List (List ℕ)) (all taken : List Item) (ts : List (Li
   pub joined : all ≡ turned taken items
   pub spelling : spelled names items ≡ ts
 
-left_behind : (names : List (List ℕ)) (all taken : List Item) (x : Item) (ts : List (List ℕ)) (ys : List Item) → AreNames names → IsItem (length names) x → AreItems (length names) ys → all ≡ turned taken ys → spelled names ys ≡ spelling_of names x ++ ts → Left names all (x ∷ taken) ts
-left_behind names all taken x ts [] ok hx hy joined e = absurd (some_token names x ts ok hx (sym e))
+-- each of the items that are taken was read before the tokens behind it
+abbrev pub WereRead : List (List ℕ) → List Item → List (List ℕ) → Type 0
+WereRead names [] ts = Unit {0}
+WereRead names (x ∷ xs) ts = (next_item names (spelling_of names x ++ ts) ≡ Some (Some (x, ts))) × WereRead names xs (spelling_of names x ++ ts)
+
+left_behind : (names : List (List ℕ)) (all taken : List Item) (x : Item) (ts : List (List ℕ)) (ys : List Item) → AreNames names → next_item names (spelling_of names x ++ ts) ≡ Some (Some (x, ts)) → AreItems (length names) ys → all ≡ turned taken ys → spelled names ys ≡ spelling_of names x ++ ts → Left names all (x ∷ taken) ts
+left_behind names all taken x ts [] ok hx hy joined e = absurd (some_token names x ts hx (sym e))
 left_behind names all taken x ts (y ∷ ys) ok hx hy joined e =
-    let s = same_read names y x (spelled names ys) ts ok hy.0 hx e in
+    let s = same_read names y x (spelled names ys) ts (first_again names y ys ok hy) hx e in
     record { items = ys; valid = hy.1; joined = joined ∙ ap (λ (z : Item). turned taken (z ∷ ys)) s.0; spelling = s.1 }
 
-left_of : (names : List (List ℕ)) (all taken : List Item) (ts : List (List ℕ)) → AreNames names → AreItems (length names) all → AreItems (length names) taken → spelled names all ≡ before names taken ts → Left names all taken ts
+left_of : (names : List (List ℕ)) (all taken : List Item) (ts : List (List ℕ)) → AreNames names → AreItems (length names) all → WereRead names taken ts → spelled names all ≡ before names taken ts → Left names all taken ts
 left_of names all [] ts ok ha ht e = record { items = all; valid = ha; joined = refl; spelling = e }
 left_of names all (x ∷ taken) ts ok ha ht e =
     let l = left_of names all taken (spelling_of names x ++ ts) ok ha ht.1 e in
@@ -103,6 +114,7 @@ some_depth (Quotient a k) = omega arith
 some_depth (Minimum a b) = omega arith
 some_depth (Maximum a b) = omega arith
 some_depth (Absolute a) = omega arith
+some_depth (Lookup a points) = omega arith
 
 -- ---- item by item
 
@@ -111,6 +123,7 @@ pub record Taken (names tokens rest : List (List ℕ)) (n : Machine) (c : Counts
   pub items : List Item
   pub valid : AreItems (length names) items
   pub spelling : tokens ≡ before names items rest
+  pub read : WereRead names items rest
   pub state : state_after items ≡ Some n
   pub nodes : c.nodes ≡ nodes_in items
   pub open_now : c.brackets ≡ open_after items
@@ -130,6 +143,7 @@ one_taken names tokens rest ts n r c d x h read step counts within =
       items = x ∷ h.items;
       valid = (b.valid, h.valid);
       spelling = h.spelling ∙ ap (before names h.items) b.spelling;
+      read = (ap (next_item names) (sym b.spelling) ∙ read, subst (WereRead names h.items) b.spelling h.read);
       state = ap (λ (s : Option Machine). s >>= λ q. stepped x q.0 q.1) h.state ∙ step;
       nodes = omega (arith, more, h.nodes);
       open_now = open_now;
@@ -140,12 +154,12 @@ one_taken names tokens rest ts n r c d x h read step counts within =
 -- a tree of the tokens goes on where the items that are taken end
 goes_on : (names tokens rest : List (List ℕ)) (n : Machine) (c : Counts) (e : Expression) → AreNames names → (k : Taken names tokens rest n c) → (h : AreTokensOf names tokens e) → Left names (items_before h.syntax_tree []) k.items rest
 goes_on names tokens rest n c e ok k h =
-    left_of names (items_before h.syntax_tree []) k.items rest ok (tree_items (length names) h.syntax_tree [] h.grammatical tt) k.valid
+    left_of names (items_before h.syntax_tree []) k.items rest ok (tree_items (length names) h.syntax_tree [] h.grammatical tt) k.read
     (tree_spelled names h.syntax_tree ∙ h.yields ∙ k.spelling)
 
 next_of : (names : List (List ℕ)) (ys : List Item) (ts : List (List ℕ)) → AreNames names → AreItems (length names) ys → spelled names ys ≡ ts → ((ys ≡ []) × (ts ≡ [])) ⊎ ((y : Item) × (zs : List Item) × (ys ≡ y ∷ zs) × (next_item names ts ≡ Some (Some (y, spelled names zs))))
 next_of names [] ts ok h e = inl (refl, sym e)
-next_of names (y ∷ zs) ts ok h e = inr (y, zs, refl, ap (next_item names) (sym e) ∙ item_again names y (spelled names zs) ok h.0)
+next_of names (y ∷ zs) ts ok h e = inr (y, zs, refl, ap (next_item names) (sym e) ∙ first_again names y zs ok h)
 
 -- where no item begins, the tokens are those of no expression
 pub no_item : (names tokens rest : List (List ℕ)) (n : Machine) (c : Counts) (e : Expression) → AreNames names → Taken names tokens rest n c → next_item names rest ≡ None → AreTokensOf names tokens e → ⊥

@@ -1,94 +1,27 @@
 -- An item that is read is spelled so, and what is spelled so is read.
-use Rattle.std.proofs.Common.{◌≡◌, ◌≢◌, ℕ, zero, suc, ◌^◌, ◌<◌, ◌≤◌, Bool, true, false, cond, eqb, leb, ltb, List, [], ◌∷◌, ◌++◌, length, get_or, Option, Some, None, refl, sym, ap, subst, ◌∙◌, arith, ◌⊎◌, ◌&&◌, not, inl, inr}
-use Rattle.std.specs.Prelude.{codes, ℤ, pos, negsuc, nat_abs, ◌≤ℤ◌, slice_get}
-use Rattle.std.specs.List.{All, AllPairs, Contains, list_all}
+use Rattle.std.proofs.Common.{◌≡◌, ◌≢◌, ℕ, zero, suc, ◌^◌, ◌<◌, ◌≤◌, Bool, true, false, cond, eqb, leb, ltb, List, [], ◌∷◌, ◌++◌, length, get_or, Option, Some, None, refl, sym, ap, subst, ◌∙◌, arith, ◌⊎◌, ◌&&◌, not, inl, inr, append_assoc}
+use Rattle.std.specs.Prelude.{codes, ℤ, pos, neg_ℤ, slice_get}
+use Rattle.fixed_expr.specs.Curves.{IsCurve}
+use Rattle.std.specs.List.{All, AllPairs, Contains, list_all, flat_map}
 use Rattle.std.specs.Option.{option_map}
 use Rattle.std.specs.Str.{bytes_eq}
-use Rattle.std.specs.Str.Parse.{digits_value}
-use Rattle.std.specs.Fmt.{decimal, signed_decimal}
-use Rattle.std.proofs.lemmas.Int.{ints}
-use Rattle.std.proofs.lemmas.Bool.{ltb-true, lt-ltb, and_parts, false_from_ne_true, eq-eqb, ne_eqb}
-use Rattle.std.proofs.lemmas.Fmt.{decimal_is_IsNumeral, decimal_nonempty}
+use Rattle.std.specs.Fmt.{decimal}
+use Rattle.std.proofs.lemmas.Bool.{and_parts, eq-eqb}
 use Rattle.std.proofs.lemmas.List.{get_or_default}
 use Rattle.std.proofs.lemmas.Option.{slice_get_within, get_or_from_slice_get}
-use Rattle.std.proofs.lemmas.Slice.Eq.{bytes_eq-Decides}
 use Rattle.plant_reading.specs.declared.items.Bracket.{Bracket}
 use Rattle.plant_reading.specs.declared.items.Bracket.TheVariants as bracket
 use Rattle.plant_reading.specs.declared.items.Item.{Item}
 use Rattle.plant_reading.specs.declared.items.Item.TheVariants as item
 use Rattle.plant_record.specs.Names.{is_letter, is_digit, is_name_byte, is_reserved, IsName}
-use Rattle.plant_record.specs.Numbers.{IsLiteral}
-use Rattle.plant_reading.specs.inside.ExpressionItems.{AreNames, opening_of, spelling_of, IsItem, or_else, ◌>>=◌, literal_of, function_of, symbol_of, place_in, leaf_of, item_of, divided, opened, item_behind, next_item}
-use Rattle.plant_reading.proofs.lemmas.NumberBytes.{decimal_digits, first_digit, no_name}
+use Rattle.plant_reading.specs.inside.ExpressionItems.{AreNames, opening_of, spelling_of, IsItem, AreItems, function_of, symbol_of, place_in, leaf_of, item_of, divided, opened, comma_behind, plain_behind, item_behind, next_item}
+use Rattle.plant_reading.specs.inside.TokenReaders.{or_else, ◌>>=◌, literal_of, negative_of, signed_of, behind_colon, point_of, curve_of}
+use Rattle.plant_reading.proofs.lemmas.NumberBytes.{no_name, letter_no_digit}
+use Rattle.plant_reading.proofs.lemmas.Literals.{same, is_same, differs, first_differs, if_some, or_else_some, map_some, then_some, literal_again, literal_takes, digit_first, nonzero_if, cond_cases, not_literal}
+use Rattle.plant_reading.proofs.lemmas.TablePoints.{pair_tokens, curve_again, curve_takes}
+use Rattle.plant_reading.specs.SyntaxTrees.{point_tokens}
+use Rattle.plant_reading.proofs.lemmas.ItemsOfTrees.{spelled}
 use Rattle.plant_reading.proofs.lemmas.Booleans.{neither_of}
-
--- ---- tests
-
-same : (w v : List ℕ) → bytes_eq w v ≡ true → w ≡ v
-same w v e = (bytes_eq-Decides w v).0 e
-
-is_same : (w v : List ℕ) → w ≡ v → bytes_eq w v ≡ true
-is_same w v e = (bytes_eq-Decides w v).1 e
-
-differs : (w v : List ℕ) → w ≢ v → bytes_eq w v ≡ false
-differs w v ne = false_from_ne_true (bytes_eq w v) (λ e. ne (same w v e))
-
--- texts differ where a test of their first bytes does
-first_differs : (p : ℕ → Bool) (w v : List ℕ) → p (get_or w 0 0) ≡ true → p (get_or v 0 0) ≡ false → bytes_eq w v ≡ false
-first_differs p w v passes fails = differs w v (λ e. let again : p (get_or v 0 0) ≡ true = subst (λ (u : List ℕ). p (get_or u 0 0) ≡ true) e passes in absurd cc)
-
-if_some : {A : Type 0} → (b : Bool) (x : A) (r : Option A) (y : A) → cond b (Some x) r ≡ Some y → ((b ≡ true) × (x ≡ y)) ⊎ (r ≡ Some y)
-if_some true x r y e = inl (refl, cc)
-if_some false x r y e = inr e
-
-or_else_some : {A B : Type 0} → (o : Option A) (d : Option B) (f : A → Option B) (y : B) → or_else o d f ≡ Some y → (d ≡ Some y) ⊎ ((a : A) × (o ≡ Some a) × (f a ≡ Some y))
-or_else_some None d f y e = inl e
-or_else_some (Some a) d f y e = inr (a, refl, e)
-
-map_some : {A B : Type 0} → (f : A → B) (o : Option A) (y : B) → option_map f o ≡ Some y → (a : A) × (o ≡ Some a) × (f a ≡ y)
-map_some f None y e = absurd cc
-map_some f (Some a) y e = (a, refl, cc)
-
-pub then_some : {A B : Type 0} → (o : Option A) (f : A → Option B) (y : B) → (o >>= f) ≡ Some y → (a : A) × (o ≡ Some a) × (f a ≡ Some y)
-then_some None f y e = absurd cc
-then_some (Some a) f y e = (a, refl, e)
-
--- ---- literals
-
-pub literal_again : (k : ℕ) → k < 10 ^ 18 → literal_of (decimal k) ≡ Some k
-unfolding literal_of
-literal_again k lt =
-    let value : digits_value 10 (decimal k) ≡ k = (decimal_is_IsNumeral k (omega arith)).1 in
-    let alike : bytes_eq (decimal k) (decimal k) ≡ true = is_same (decimal k) (decimal k) refl in
-    let small : ltb k (10 ^ 18) ≡ true = lt-ltb _ _ lt in
-    rw (value, alike, small) refl
-
-pub literal_takes : (w : List ℕ) (k : ℕ) → literal_of w ≡ Some k → (k < 10 ^ 18) × (w ≡ decimal k)
-unfolding literal_of
-literal_takes w k e =
-    let n = digits_value 10 w in
-    elim (if_some (bytes_eq (decimal n) w && ltb n (10 ^ 18)) n None k e) [
-      | inl p ↦
-          let tests = and_parts (bytes_eq (decimal n) w) (ltb n (10 ^ 18)) p.0 in
-          (subst (λ (j : ℕ). j < 10 ^ 18) p.1 (ltb-true _ _ tests.1), sym (same (decimal n) w tests.0) ∙ ap decimal p.1)
-      | inr none ↦ absurd cc
-    ]
-
-pub no_literal : (w : List ℕ) → ((k : ℕ) → k < 10 ^ 18 → w ≡ decimal k → ⊥) → literal_of w ≡ None
-no_literal w h = none_if (literal_of w) (λ k e. let t = literal_takes w k e in h k t.0 t.1)
-  where
-    none_if : (o : Option ℕ) → ((k : ℕ) → o ≡ Some k → ⊥) → o ≡ None
-    none_if None h = refl
-    none_if (Some k) h = absurd (h k refl)
-
--- what a number of the least spelling is read as
-pub literal_written : (w : List ℕ) (z : ℤ) → pos 0 ≤ℤ z → IsLiteral z → w ≡ signed_decimal z → literal_of w ≡ Some (nat_abs z)
-literal_written w (pos k) sign lt e = ap literal_of e ∙ literal_again k lt
-literal_written w (negsuc k) sign lt e = absurd (omega (arith, ints))
-
--- no number, where the one that is parsed has another spelling
-pub literal_unwritten : (w : List ℕ) (r : Option ℤ) → ((z : ℤ) → IsLiteral z → w ≡ signed_decimal z → r ≡ Some z) → ((z : ℤ) → r ≡ Some z → (pos 0 ≤ℤ z) × IsLiteral z × (w ≡ signed_decimal z) → ⊥) → literal_of w ≡ None
-literal_unwritten w r parsed refused = no_literal w (λ k lt e. refused (pos k) (parsed (pos k) lt e) (omega (arith, ints), lt, e))
 
 -- ---- names
 
@@ -148,11 +81,12 @@ no_leaf names w h e = rw (placed_nowhere names w h, ← e) refl
 -- ---- one item again
 
 -- a token that begins with a digit is neither a function's name nor a symbol
-number_token : (w : List ℕ) → is_digit (get_or w 0 0) ≡ true → (bytes_eq w (codes "/") ≡ false) × (function_of w ≡ None) × (symbol_of w ≡ None)
+number_token : (w : List ℕ) → is_digit (get_or w 0 0) ≡ true → (bytes_eq w (codes "/") ≡ false) × (bytes_eq w (codes ",") ≡ false) × (function_of w ≡ None) × (symbol_of w ≡ None)
 number_token w d = (
   first_differs is_digit w (codes "/") d refl,
-  rw (first_differs is_digit w (codes "min") d refl, first_differs is_digit w (codes "max") d refl, first_differs is_digit w (codes "abs") d refl) refl,
-  rw (first_differs is_digit w (codes "+") d refl, first_differs is_digit w (codes "-") d refl, first_differs is_digit w (codes "*") d refl, first_differs is_digit w (codes "(") d refl, first_differs is_digit w (codes ",") d refl, first_differs is_digit w (codes ")") d refl) refl,
+  first_differs is_digit w (codes ",") d refl,
+  rw (first_differs is_digit w (codes "min") d refl, first_differs is_digit w (codes "max") d refl, first_differs is_digit w (codes "abs") d refl, first_differs is_digit w (codes "lut") d refl) refl,
+  rw (first_differs is_digit w (codes "+") d refl, first_differs is_digit w (codes "-") d refl, first_differs is_digit w (codes "*") d refl, first_differs is_digit w (codes "(") d refl, first_differs is_digit w (codes ")") d refl) refl,
 )
 
 not_true : (b : Bool) → not b ≡ true → b ≡ false
@@ -160,7 +94,7 @@ not_true true e = absurd cc
 not_true false e = refl
 
 -- nor is a name
-name_token : (w : List ℕ) → IsName w → (bytes_eq w (codes "/") ≡ false) × (function_of w ≡ None) × (symbol_of w ≡ None)
+name_token : (w : List ℕ) → IsName w → (bytes_eq w (codes "/") ≡ false) × (bytes_eq w (codes ",") ≡ false) × (function_of w ≡ None) × (symbol_of w ≡ None)
 name_token w name =
     let a = and_parts (is_letter (get_or w 0 0)) _ name in
     let b = and_parts (list_all is_name_byte w) _ a.1 in
@@ -171,44 +105,142 @@ name_token w name =
     let no_abs = neither_of (bytes_eq w (codes "abs")) _ no_max.1 in
     let l = a.0 in (
       first_differs is_letter w (codes "/") l refl,
-      rw (no_min.0, no_max.0, no_abs.0) refl,
-      rw (first_differs is_letter w (codes "+") l refl, first_differs is_letter w (codes "-") l refl, first_differs is_letter w (codes "*") l refl, first_differs is_letter w (codes "(") l refl, first_differs is_letter w (codes ",") l refl, first_differs is_letter w (codes ")") l refl) refl,
+      first_differs is_letter w (codes ",") l refl,
+      rw (no_min.0, no_max.0, no_abs.0, no_abs.1) refl,
+      rw (first_differs is_letter w (codes "+") l refl, first_differs is_letter w (codes "-") l refl, first_differs is_letter w (codes "*") l refl, first_differs is_letter w (codes "(") l refl, first_differs is_letter w (codes ")") l refl) refl,
     )
-
-digit_first : (k : ℕ) → k < 10 ^ 18 → is_digit (get_or (decimal k) 0 0) ≡ true
-digit_first k lt = first_digit (decimal k) (decimal_digits k (omega arith)) (decimal_nonempty k (omega arith))
 
 no_number_named : (names : List (List ℕ)) (k : ℕ) → All IsName names → k < 10 ^ 18 → place_in names (decimal k) ≡ None
 no_number_named names k each lt = no_place names (decimal k) (λ i within e. no_name k (get_or names i []) (omega arith) (each i [] within) (sym e))
 
-nonzero_if : {A : Type 0} → (k : ℕ) (x y : A) → 1 ≤ k → cond (eqb k 0) x y ≡ y
-nonzero_if k x y le = let no : eqb k 0 ≡ false = ne_eqb k 0 (λ e. omega arith) in rw no refl
+points_again : (names : List (List ℕ)) (p : ℤ × ℤ) (points : List (ℤ × ℤ)) (rest : List (List ℕ)) → IsCurve (p ∷ points) → next_item names (spelling_of names (item.Points (p ∷ points)) ++ rest) ≡ Some (Some (item.Points (p ∷ points), rest))
+unfolding next_item item_behind comma_behind
+points_again names p points rest curve =
+    let k = curve_again p points rest curve in
+    let all : spelling_of names (item.Points (p ∷ points)) ++ rest ≡ codes "," ∷ (pair_tokens p ++ (flat_map point_tokens points ++ codes ")" ∷ rest)) = simp append_assoc in
+    let read : next_item names (codes "," ∷ (pair_tokens p ++ (flat_map point_tokens points ++ codes ")" ∷ rest))) ≡ Some (Some (item.Points (p ∷ points), rest)) = rw (k.0, k.1) refl in
+    ap (next_item names) all ∙ read
+
+-- ---- no point behind a comma that stands between sums
+
+-- no item begins with a colon
+no_colon : (names : List (List ℕ)) (xs : List Item) → AreNames names → AreItems (length names) xs → behind_colon (spelled names xs) ≡ None
+unfolding behind_colon
+no_colon names [] ok h = refl
+no_colon names (item.Number k ∷ xs) ok h = rw (first_differs is_digit (decimal k) (codes ":") (digit_first k h.0) refl) refl
+no_colon names (item.Variable i ∷ xs) ok h =
+    let letter : is_letter (get_or (get_or names i []) 0 0) ≡ true = (and_parts (is_letter (get_or (get_or names i []) 0 0)) _ (ok.each i [] h.0)).0 in
+    rw (first_differs is_letter (get_or names i []) (codes ":") letter refl) refl
+no_colon names (item.Plus ∷ xs) ok h = refl
+no_colon names (item.Minus ∷ xs) ok h = refl
+no_colon names (item.Times ∷ xs) ok h = refl
+no_colon names (item.Over k ∷ xs) ok h = refl
+no_colon names (item.Open bracket.Plain ∷ xs) ok h = refl
+no_colon names (item.Open bracket.Least ∷ xs) ok h = refl
+no_colon names (item.Open bracket.Greatest ∷ xs) ok h = refl
+no_colon names (item.Open bracket.Size ∷ xs) ok h = refl
+no_colon names (item.Open bracket.Table ∷ xs) ok h = refl
+no_colon names (item.Comma ∷ xs) ok h = refl
+no_colon names (item.Close ∷ xs) ok h = refl
+no_colon names (item.Points [] ∷ xs) ok h = refl
+no_colon names (item.Points (p ∷ points) ∷ xs) ok h = refl
+
+-- what a number's token and the tokens behind it are read as
+abbrev Read : Type 0
+Read = Option (ℤ × List (List ℕ))
+
+-- what stands behind a number that is read at the front of items begins with no colon
+abbrev NoColonBehind : Read → Type 0
+NoColonBehind None = Unit {0}
+NoColonBehind (Some x) = behind_colon x.1 ≡ None
+
+no_number : (names : List (List ℕ)) (i : ℕ) → AreNames names → i < length names → literal_of (get_or names i []) ≡ None
+no_number names i ok lt = not_literal (get_or names i []) (no_digit (get_or (get_or names i []) 0 0) (and_parts (is_letter (get_or (get_or names i []) 0 0)) _ (ok.each i [] lt)).0)
+  where
+    no_digit : (b : ℕ) → is_letter b ≡ true → is_digit b ≡ false
+    no_digit b l = letter_no_digit b l
+
+negative_behind : (names : List (List ℕ)) (xs : List Item) → AreNames names → AreItems (length names) xs → NoColonBehind (negative_of (spelled names xs))
+unfolding negative_of
+negative_behind names [] ok h = tt
+negative_behind names (item.Number k ∷ xs) ok h = rw (literal_again k h.0) (if_none (eqb k 0) (neg_ℤ (pos k), spelled names xs) (no_colon names xs ok h.1))
+  where
+    if_none : (b : Bool) (x : ℤ × List (List ℕ)) → behind_colon x.1 ≡ None → NoColonBehind (cond b None (Some x))
+    if_none true x e = tt
+    if_none false x e = e
+negative_behind names (item.Variable i ∷ xs) ok h = rw (no_number names i ok h.0) tt
+negative_behind names (item.Plus ∷ xs) ok h = rw (not_literal (codes "+") refl) tt
+negative_behind names (item.Minus ∷ xs) ok h = rw (not_literal (codes "-") refl) tt
+negative_behind names (item.Times ∷ xs) ok h = rw (not_literal (codes "*") refl) tt
+negative_behind names (item.Over k ∷ xs) ok h = rw (not_literal (codes "/") refl) tt
+negative_behind names (item.Open bracket.Plain ∷ xs) ok h = rw (not_literal (codes "(") refl) tt
+negative_behind names (item.Open bracket.Least ∷ xs) ok h = rw (not_literal (codes "min") refl) tt
+negative_behind names (item.Open bracket.Greatest ∷ xs) ok h = rw (not_literal (codes "max") refl) tt
+negative_behind names (item.Open bracket.Size ∷ xs) ok h = rw (not_literal (codes "abs") refl) tt
+negative_behind names (item.Open bracket.Table ∷ xs) ok h = rw (not_literal (codes "lut") refl) tt
+negative_behind names (item.Comma ∷ xs) ok h = rw (not_literal (codes ",") refl) tt
+negative_behind names (item.Close ∷ xs) ok h = rw (not_literal (codes ")") refl) tt
+negative_behind names (item.Points [] ∷ xs) ok h = rw (not_literal (codes ")") refl) tt
+negative_behind names (item.Points (p ∷ points) ∷ xs) ok h = rw (not_literal (codes ",") refl) tt
+
+signed_behind : (names : List (List ℕ)) (xs : List Item) → AreNames names → AreItems (length names) xs → NoColonBehind (signed_of (spelled names xs))
+unfolding signed_of
+signed_behind names [] ok h = tt
+signed_behind names (item.Number k ∷ xs) ok h = rw (first_differs is_digit (decimal k) (codes "-") (digit_first k h.0) refl, literal_again k h.0) (no_colon names xs ok h.1)
+signed_behind names (item.Variable i ∷ xs) ok h =
+    let letter : is_letter (get_or (get_or names i []) 0 0) ≡ true = (and_parts (is_letter (get_or (get_or names i []) 0 0)) _ (ok.each i [] h.0)).0 in
+    rw (first_differs is_letter (get_or names i []) (codes "-") letter refl, no_number names i ok h.0) tt
+signed_behind names (item.Plus ∷ xs) ok h = rw (not_literal (codes "+") refl) tt
+signed_behind names (item.Minus ∷ xs) ok h = negative_behind names xs ok h.1
+signed_behind names (item.Times ∷ xs) ok h = rw (not_literal (codes "*") refl) tt
+signed_behind names (item.Over k ∷ xs) ok h = rw (not_literal (codes "/") refl) tt
+signed_behind names (item.Open bracket.Plain ∷ xs) ok h = rw (not_literal (codes "(") refl) tt
+signed_behind names (item.Open bracket.Least ∷ xs) ok h = rw (not_literal (codes "min") refl) tt
+signed_behind names (item.Open bracket.Greatest ∷ xs) ok h = rw (not_literal (codes "max") refl) tt
+signed_behind names (item.Open bracket.Size ∷ xs) ok h = rw (not_literal (codes "abs") refl) tt
+signed_behind names (item.Open bracket.Table ∷ xs) ok h = rw (not_literal (codes "lut") refl) tt
+signed_behind names (item.Comma ∷ xs) ok h = rw (not_literal (codes ",") refl) tt
+signed_behind names (item.Close ∷ xs) ok h = rw (not_literal (codes ")") refl) tt
+signed_behind names (item.Points [] ∷ xs) ok h = rw (not_literal (codes ")") refl) tt
+signed_behind names (item.Points (p ∷ points) ∷ xs) ok h = rw (not_literal (codes ",") refl) tt
+
+-- no point stands at the front of items
+pub no_point : (names : List (List ℕ)) (xs : List Item) → AreNames names → AreItems (length names) xs → point_of (spelled names xs) ≡ None
+unfolding point_of
+no_point names xs ok h = none_behind (λ x rest. signed_of rest >>= λ y. Some ((x.0, y.0), y.1)) (signed_of (spelled names xs)) (signed_behind names xs ok h)
+  where
+    none_behind : (f : ℤ × List (List ℕ) → List (List ℕ) → Option ((ℤ × ℤ) × List (List ℕ))) (r : Read) → NoColonBehind r → (r >>= λ x. behind_colon x.1 >>= f x) ≡ None
+    none_behind f None e = refl
+    none_behind f (Some x) e = rw e refl
+
+-- a comma stands before no point
+abbrev pub IsBefore : Item → List (List ℕ) → Type 0
+IsBefore x rest = x ≡ item.Comma → point_of rest ≡ None
 
 -- what an item is spelled by is read as that item
-pub item_again : (names : List (List ℕ)) (x : Item) (rest : List (List ℕ)) → AreNames names → IsItem (length names) x → next_item names (spelling_of names x ++ rest) ≡ Some (Some (x, rest))
-unfolding next_item item_behind item_of divided opened
-item_again names (item.Number k) rest ok valid =
+pub item_again : (names : List (List ℕ)) (x : Item) (rest : List (List ℕ)) → AreNames names → IsItem (length names) x → IsBefore x rest → next_item names (spelling_of names x ++ rest) ≡ Some (Some (x, rest))
+unfolding next_item item_behind plain_behind comma_behind item_of divided opened
+item_again names (item.Number k) rest ok valid plain =
     let t = number_token (decimal k) (digit_first k valid) in
-    rw (t.0, t.1, t.2, no_number_named names k ok.each valid, literal_again k valid) refl
-item_again names (item.Variable i) rest ok valid =
+    rw (t.0, t.1, t.2, t.3, no_number_named names k ok.each valid, literal_again k valid) refl
+item_again names (item.Variable i) rest ok valid plain =
     let t = name_token (get_or names i []) (ok.each i [] valid) in
-    rw (t.0, t.1, t.2, place_again names i ok.differ valid) refl
-item_again names item.Plus rest ok valid = refl
-item_again names item.Minus rest ok valid = refl
-item_again names item.Times rest ok valid = refl
-item_again names (item.Over k) rest ok valid = rw (literal_again k valid.1) (ap (option_map (λ (x : Item × List (List ℕ)). Some x)) (nonzero_if k None (Some (item.Over k, rest)) valid.0))
-item_again names (item.Open bracket.Plain) rest ok valid = refl
-item_again names (item.Open bracket.Least) rest ok valid = refl
-item_again names (item.Open bracket.Greatest) rest ok valid = refl
-item_again names (item.Open bracket.Size) rest ok valid = refl
-item_again names item.Comma rest ok valid = refl
-item_again names item.Close rest ok valid = refl
+    rw (t.0, t.1, t.2, t.3, place_again names i ok.differ valid) refl
+item_again names item.Plus rest ok valid plain = refl
+item_again names item.Minus rest ok valid plain = refl
+item_again names item.Times rest ok valid plain = refl
+item_again names (item.Over k) rest ok valid plain = rw (literal_again k valid.1) (ap (option_map (λ (x : Item × List (List ℕ)). Some x)) (nonzero_if k None (Some (item.Over k, rest)) valid.0))
+item_again names (item.Open bracket.Plain) rest ok valid plain = refl
+item_again names (item.Open bracket.Least) rest ok valid plain = refl
+item_again names (item.Open bracket.Greatest) rest ok valid plain = refl
+item_again names (item.Open bracket.Size) rest ok valid plain = refl
+item_again names (item.Open bracket.Table) rest ok valid plain = refl
+item_again names item.Comma rest ok valid plain = rw (plain refl) refl
+item_again names item.Close rest ok valid plain = refl
+item_again names (item.Points []) rest ok valid plain = absurd (omega (arith, valid.some))
+item_again names (item.Points (p ∷ points)) rest ok valid plain = points_again names p points rest valid
 
 -- ---- what an item was read from
-
-cond_cases : {A : Type 0} → (b : Bool) (u v y : A) → cond b u v ≡ y → ((b ≡ true) × (u ≡ y)) ⊎ ((b ≡ false) × (v ≡ y))
-cond_cases true u v y e = inl (refl, e)
-cond_cases false u v y e = inr (refl, e)
 
 -- The tokens are those of an item and others.
 pub record Begins (names : List (List ℕ)) (tokens : List (List ℕ)) (x : Item) (rest : List (List ℕ)) : Type 0 where
@@ -233,12 +265,9 @@ symbol_takes names w x rest h =
           | inl p ↦ begins names (w ∷ rest) item.Times x rest rest (is_text (codes "*") p.0) tt p.1 refl
           | inr h ↦ elim (if_some (bytes_eq w (codes "(")) (item.Open bracket.Plain) _ x h) [
             | inl p ↦ begins names (w ∷ rest) (item.Open bracket.Plain) x rest rest (is_text (codes "(") p.0) tt p.1 refl
-            | inr h ↦ elim (if_some (bytes_eq w (codes ",")) item.Comma _ x h) [
-              | inl p ↦ begins names (w ∷ rest) item.Comma x rest rest (is_text (codes ",") p.0) tt p.1 refl
-              | inr h ↦ elim (if_some (bytes_eq w (codes ")")) item.Close None x h) [
-                | inl p ↦ begins names (w ∷ rest) item.Close x rest rest (is_text (codes ")") p.0) tt p.1 refl
-                | inr h ↦ absurd cc
-              ]
+            | inr h ↦ elim (if_some (bytes_eq w (codes ")")) item.Close None x h) [
+              | inl p ↦ begins names (w ∷ rest) item.Close x rest rest (is_text (codes ")") p.0) tt p.1 refl
+              | inr h ↦ absurd cc
             ]
           ]
         ]
@@ -302,16 +331,19 @@ function_takes names w b rest h =
       | inl p ↦ is_text (codes "min") p.0 ∙ ap (λ (c : Bracket). opening_of c ++ rest) p.1
       | inr h ↦ elim (if_some (bytes_eq w (codes "max")) bracket.Greatest _ b h) [
         | inl p ↦ is_text (codes "max") p.0 ∙ ap (λ (c : Bracket). opening_of c ++ rest) p.1
-        | inr h ↦ elim (if_some (bytes_eq w (codes "abs")) bracket.Size None b h) [
+        | inr h ↦ elim (if_some (bytes_eq w (codes "abs")) bracket.Size _ b h) [
           | inl p ↦ is_text (codes "abs") p.0 ∙ ap (λ (c : Bracket). opening_of c ++ rest) p.1
-          | inr h ↦ absurd cc
+          | inr h ↦ elim (if_some (bytes_eq w (codes "lut")) bracket.Table None b h) [
+            | inl p ↦ is_text (codes "lut") p.0 ∙ ap (λ (c : Bracket). opening_of c ++ rest) p.1
+            | inr h ↦ absurd cc
+          ]
         ]
       ]
     ]
 
-behind_takes : (names : List (List ℕ)) (w : List ℕ) (ts : List (List ℕ)) (x : Item) (rest : List (List ℕ)) → item_behind names w ts ≡ Some (x, rest) → Begins names (w ∷ ts) x rest
-unfolding item_behind
-behind_takes names w ts x rest h =
+plain_takes : (names : List (List ℕ)) (w : List ℕ) (ts : List (List ℕ)) (x : Item) (rest : List (List ℕ)) → plain_behind names w ts ≡ Some (x, rest) → Begins names (w ∷ ts) x rest
+unfolding plain_behind
+plain_takes names w ts x rest h =
     elim (cond_cases (bytes_eq w (codes "/")) _ _ (Some (x, rest)) h) [
       | inl p ↦
           let d = divided_takes names ts x rest p.1 in
@@ -325,6 +357,27 @@ behind_takes names w ts x rest h =
             let o = opened_takes names s.0 ts x rest s.2 in
             begins names (w ∷ ts) (item.Open s.0) x rest rest (ap (λ (us : List (List ℕ)). w ∷ us) o.0 ∙ function_takes names w s.0 rest s.1) tt o.1 refl
       ]
+    ]
+
+comma_takes : (names : List (List ℕ)) (ts : List (List ℕ)) (x : Item) (rest : List (List ℕ)) → comma_behind ts ≡ Some (x, rest) → Begins names (codes "," ∷ ts) x rest
+unfolding comma_behind
+comma_takes names ts x rest h =
+    elim (or_else_some (point_of ts) _ _ (x, rest) h) [
+      | inl e ↦
+          let q : ◌≡◌ {A = Item × List (List ℕ)} (item.Comma, ts) (x, rest) = cc e in
+          begins names (codes "," ∷ ts) item.Comma x ts rest refl tt (ap (λ (r : Item × List (List ℕ)). r.0) q) (ap (λ (r : Item × List (List ℕ)). r.1) q)
+      | inr s ↦
+          let m = map_some (λ (r : List (ℤ × ℤ) × List (List ℕ)). let y : Item × List (List ℕ) = (item.Points r.0, r.1) in y) (curve_of ts) (x, rest) s.2 in
+          let k = curve_takes ts m.0.0 m.0.1 m.1 in
+          begins names (codes "," ∷ ts) (item.Points m.0.0) x m.0.1 rest k.0 k.1 (ap (λ (r : Item × List (List ℕ)). r.0) m.2) (ap (λ (r : Item × List (List ℕ)). r.1) m.2)
+    ]
+
+behind_takes : (names : List (List ℕ)) (w : List ℕ) (ts : List (List ℕ)) (x : Item) (rest : List (List ℕ)) → item_behind names w ts ≡ Some (x, rest) → Begins names (w ∷ ts) x rest
+unfolding item_behind
+behind_takes names w ts x rest h =
+    elim (cond_cases (bytes_eq w (codes ",")) (comma_behind ts) (plain_behind names w ts) (Some (x, rest)) h) [
+      | inl p ↦ subst (λ (v : List ℕ). Begins names (v ∷ ts) x rest) (sym (same w (codes ",") p.0)) (comma_takes names ts x rest p.1)
+      | inr p ↦ plain_takes names w ts x rest p.1
     ]
 
 pub next_takes : (names : List (List ℕ)) (tokens : List (List ℕ)) (x : Item) (rest : List (List ℕ)) → next_item names tokens ≡ Some (Some (x, rest)) → Begins names tokens x rest

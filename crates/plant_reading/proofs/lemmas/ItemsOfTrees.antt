@@ -7,7 +7,7 @@ use Rattle.std.proofs.lemmas.Int.{ints}
 use Rattle.plant_reading.specs.declared.items.Bracket.TheVariants as bracket
 use Rattle.plant_reading.specs.declared.items.Item.{Item}
 use Rattle.plant_reading.specs.declared.items.Item.TheVariants as item
-use Rattle.plant_reading.specs.SyntaxTrees.{Syntax, Literal, Named, Minus, Plus, Less, Times, Over, Least, Greatest, Size, Bracketed, IsGrammatical, meaning_of, yield_of, brackets_of}
+use Rattle.plant_reading.specs.SyntaxTrees.{Syntax, Literal, Named, Minus, Plus, Less, Times, Over, Least, Greatest, Size, Tabled, Bracketed, point_tokens, IsGrammatical, meaning_of, yield_of, brackets_of}
 use Rattle.plant_record.specs.Equations.{nodes_of, HasLiterals}
 use Rattle.plant_reading.specs.inside.ExpressionItems.{items_before, items_onto, turned, spelling_of, AreItems, nodes_in, most_open, open_after}
 
@@ -23,6 +23,9 @@ in_bracket a c close = sym (append_assoc a (close ∷ []) c)
 
 two_in_bracket : (a b c : List (List ℕ)) (comma close : List ℕ) → a ++ comma ∷ (b ++ close ∷ c) ≡ (a ++ comma ∷ b ++ close ∷ []) ++ c
 two_in_bracket a b c comma close = simp append_assoc
+
+with_points : (a b c d : List (List ℕ)) → a ++ ((b ++ c) ++ d) ≡ ((a ++ b) ++ c) ++ d
+with_points a b c d = simp append_assoc
 
 pub yield_is : (names : List (List ℕ)) (t : Syntax) (xs : List Item) → spelled names (items_before t xs) ≡ yield_of names t ++ spelled names xs
 yield_is names (Literal k) xs = refl
@@ -53,6 +56,8 @@ yield_is names (Greatest a b) xs = ap (λ (ts : List (List ℕ)). codes "max" �
     ∙ two_in_bracket (yield_of names a) (yield_of names b) (spelled names xs) (codes ",") (codes ")"))
 yield_is names (Size a) xs = ap (λ (ts : List (List ℕ)). codes "abs" ∷ codes "(" ∷ ts) (
     yield_is names a (item.Close ∷ xs) ∙ in_bracket (yield_of names a) (spelled names xs) (codes ")"))
+yield_is names (Tabled a points) xs = ap (λ (ts : List (List ℕ)). codes "lut" ∷ codes "(" ∷ ts) (
+    yield_is names a (item.Points points ∷ xs) ∙ with_points (yield_of names a) (flat_map point_tokens points) (codes ")" ∷ []) (spelled names xs))
 yield_is names (Bracketed a) xs = ap (λ (ts : List (List ℕ)). codes "(" ∷ ts) (
     yield_is names a (item.Close ∷ xs) ∙ in_bracket (yield_of names a) (spelled names xs) (codes ")"))
 
@@ -71,6 +76,7 @@ turned_is (Greatest a b) ys xs =
     turned_is b (item.Comma ∷ items_onto a (item.Open bracket.Greatest ∷ ys)) (item.Close ∷ xs)
     ∙ turned_is a (item.Open bracket.Greatest ∷ ys) (item.Comma ∷ items_before b (item.Close ∷ xs))
 turned_is (Size a) ys xs = turned_is a (item.Open bracket.Size ∷ ys) (item.Close ∷ xs)
+turned_is (Tabled a points) ys xs = turned_is a (item.Open bracket.Table ∷ ys) (item.Points points ∷ xs)
 turned_is (Bracketed a) ys xs = turned_is a (item.Open bracket.Plain ∷ ys) (item.Close ∷ xs)
 
 pub nodes_are : (t : Syntax) (xs : List Item) → nodes_in (items_before t xs) ≡ nodes_of (meaning_of t) + nodes_in xs
@@ -84,6 +90,7 @@ nodes_are (Over a k) xs = omega (arith, nodes_are a (item.Over k ∷ xs))
 nodes_are (Least a b) xs = omega (arith, nodes_are a (item.Comma ∷ items_before b (item.Close ∷ xs)), nodes_are b (item.Close ∷ xs))
 nodes_are (Greatest a b) xs = omega (arith, nodes_are a (item.Comma ∷ items_before b (item.Close ∷ xs)), nodes_are b (item.Close ∷ xs))
 nodes_are (Size a) xs = omega (arith, nodes_are a (item.Close ∷ xs))
+nodes_are (Tabled a points) xs = omega (arith, nodes_are a (item.Points points ∷ xs))
 nodes_are (Bracketed a) xs = omega (arith, nodes_are a (item.Close ∷ xs))
 
 closes : (d : ℕ) (xs : List Item) → most_open (d + 1 - 1) xs ≡ most_open d xs
@@ -100,6 +107,7 @@ open_are (Over a k) d xs = omega (arith, open_are a d (item.Over k ∷ xs))
 open_are (Least a b) d xs = omega (arith, open_are a (d + 1) (item.Comma ∷ items_before b (item.Close ∷ xs)), open_are b (d + 1) (item.Close ∷ xs), closes d xs)
 open_are (Greatest a b) d xs = omega (arith, open_are a (d + 1) (item.Comma ∷ items_before b (item.Close ∷ xs)), open_are b (d + 1) (item.Close ∷ xs), closes d xs)
 open_are (Size a) d xs = omega (arith, open_are a (d + 1) (item.Close ∷ xs), closes d xs)
+open_are (Tabled a points) d xs = omega (arith, open_are a (d + 1) (item.Points points ∷ xs), closes d xs)
 open_are (Bracketed a) d xs = omega (arith, open_are a (d + 1) (item.Close ∷ xs), closes d xs)
 
 pub tree_items : (m : ℕ) (t : Syntax) (xs : List Item) → IsGrammatical m t → AreItems m xs → AreItems m (items_before t xs)
@@ -113,6 +121,7 @@ tree_items m (Over a k) xs g h = tree_items m a (item.Over k ∷ xs) g.0 ((g.2, 
 tree_items m (Least a b) xs g h = (tt, tree_items m a (item.Comma ∷ items_before b (item.Close ∷ xs)) g.0 (tt, tree_items m b (item.Close ∷ xs) g.1 (tt, h)))
 tree_items m (Greatest a b) xs g h = (tt, tree_items m a (item.Comma ∷ items_before b (item.Close ∷ xs)) g.0 (tt, tree_items m b (item.Close ∷ xs) g.1 (tt, h)))
 tree_items m (Size a) xs g h = (tt, tree_items m a (item.Close ∷ xs) g (tt, h))
+tree_items m (Tabled a points) xs g h = (tt, tree_items m a (item.Points points ∷ xs) g.0 (g.1, h))
 tree_items m (Bracketed a) xs g h = (tt, tree_items m a (item.Close ∷ xs) g (tt, h))
 
 -- a tree by the rules means an expression of literals
@@ -127,6 +136,7 @@ tree_literals m (Over a k) g = (tree_literals m a g.0, omega (arith, ints, g.2),
 tree_literals m (Least a b) g = (tree_literals m a g.0, tree_literals m b g.1)
 tree_literals m (Greatest a b) g = (tree_literals m a g.0, tree_literals m b g.1)
 tree_literals m (Size a) g = tree_literals m a g
+tree_literals m (Tabled a points) g = (tree_literals m a g.0, g.1)
 tree_literals m (Bracketed a) g = tree_literals m a g
 
 -- ---- items turned round

@@ -3,6 +3,8 @@ use Rattle.std.proofs.Common.{◌≡◌, ℕ, ◌+◌, ◌*◌, List, [], ◌∷
 use Rattle.std.specs.Prelude.{codes}
 use Rattle.std.specs.List.{flat_map}
 use Rattle.fixed_expr.specs.Expression.{Expression}
+use Rattle.plant_record.specs.declared.version.PlantVersion.{PlantVersion}
+use Rattle.plant_record.specs.Spelling.{version_word}
 use Rattle.plant_reading.specs.declared.statements.Keyword.{Keyword}
 use Rattle.plant_reading.specs.declared.statements.Keyword.TheVariants as keywords
 use Rattle.plant_reading.specs.inside.Keywords.{keyword_text}
@@ -15,7 +17,7 @@ abbrev pub front_of : List (List ℕ) → ℕ × ℕ
 front_of words = (get_or (get_or words 0 []) 0 0, get_or (get_or words 0 []) 1 0)
 
 abbrev pub kind_of : Statement → ℕ × ℕ
-kind_of Version = (112, 108)
+kind_of (Version v) = (112, 108)
 kind_of (State s) = (115, 116)
 kind_of (Input i) = (105, 110)
 kind_of (Noise w) = (110, 111)
@@ -26,7 +28,7 @@ kind_of (Goal kind) = (103, 111)
 kind_of End = (101, 110)
 
 pub front_is : (names : List (List ℕ)) (n : ℕ) (words : List (List ℕ)) (s : Statement) → States names n words s → front_of words ≡ kind_of s
-front_is names n words Version h = ap front_of h
+front_is names n words (Version v) h = ap front_of h
 front_is names n words (State s) h = ap front_of h.0
 front_is names n words (Input i) h = ap front_of h.0
 front_is names n words (Noise w) h = ap front_of h.0
@@ -40,8 +42,8 @@ front_is names n words End h = ap front_of h
 clash : (a b : ℕ × ℕ) → a ≡ b → (a.0 * 256 + a.1 ≡ b.0 * 256 + b.1)
 clash a b e = ap (λ (p : ℕ × ℕ). p.0 * 256 + p.1) e
 
-pub only_version : (names : List (List ℕ)) (n : ℕ) (ws : List (List ℕ)) (s : Statement) → States names n (codes "plant" ∷ ws) s → ws ≡ codes "1" ∷ []
-only_version names n ws Version h = cc h
+pub only_version : (names : List (List ℕ)) (n : ℕ) (ws : List (List ℕ)) (s : Statement) → States names n (codes "plant" ∷ ws) s → (v : PlantVersion) × (ws ≡ version_word v ∷ [])
+only_version names n ws (Version v) h = (v, cc h)
 only_version names n ws s h = absurd (omega (arith, clash (112, 108) (kind_of s) (front_is names n (codes "plant" ∷ ws) s h)))
 
 pub only_next : (names : List (List ℕ)) (n : ℕ) (ws : List (List ℕ)) (s : Statement) → States names n (codes "next" ∷ ws) s → (name : List ℕ) × (e : Expression) × (rest : List (List ℕ)) × (ws ≡ name ∷ codes "=" ∷ rest) × AreTokensOf names (flat_map tokens_of rest) e
@@ -54,7 +56,7 @@ only_end names n ws s h = absurd (omega (arith, clash (101, 110) (kind_of s) (fr
 
 -- the first word of a line that states something is a keyword
 pub has_keyword : (names : List (List ℕ)) (n : ℕ) (words : List (List ℕ)) (w : List ℕ) (ws : List (List ℕ)) (s : Statement) → States names n words s → words ≡ w ∷ ws → (k : Keyword) × (w ≡ keyword_text k)
-has_keyword names n words w ws Version h e = (keywords.Plant, cc (h, e))
+has_keyword names n words w ws (Version v) h e = (keywords.Plant, cc (h, e))
 has_keyword names n words w ws (State s) h e = (keywords.State, cc (h.0, e))
 has_keyword names n words w ws (Input i) h e = (keywords.Input, cc (h.0, e))
 has_keyword names n words w ws (Noise v) h e = (keywords.Noise, cc (h.0, e))

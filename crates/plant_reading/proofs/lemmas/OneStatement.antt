@@ -12,10 +12,12 @@ use Rattle.plant_record.specs.declared.variables.NoiseVariable.{NoiseVariable}
 use Rattle.plant_record.specs.declared.aims.StateBox.{StateBox}
 use Rattle.plant_record.specs.declared.aims.GoalKind.{GoalKind}
 use Rattle.plant_record.specs.declared.aims.GoalKind.TheVariants.{Reach, Keep}
+use Rattle.plant_record.specs.declared.version.PlantVersion.{PlantVersion}
+use Rattle.plant_record.specs.declared.version.PlantVersion.TheVariants.{One, Two}
 use Rattle.plant_record.specs.Names.{IsName}
 use Rattle.plant_record.specs.Numbers.{IsLiteral}
 use Rattle.plant_record.specs.Boxes.{AreEnds}
-use Rattle.plant_record.specs.Spelling.{end_words, goal_word}
+use Rattle.plant_record.specs.Spelling.{version_word, end_words, goal_word}
 use Rattle.plant_reading.specs.Words.{words_of, is_passed_over}
 use Rattle.plant_reading.specs.Tokens.{tokens_of}
 use Rattle.plant_reading.specs.SyntaxTrees.{AreTokensOf}
@@ -102,6 +104,12 @@ one_goal Reach Keep e = absurd (omega (arith, first_byte Reach Keep e))
 one_goal Keep Reach e = absurd (omega (arith, first_byte Keep Reach e))
 one_goal Keep Keep e = refl
 
+one_version : (v w : PlantVersion) → version_word v ∷ [] ≡ version_word w ∷ [] → v ≡ w
+one_version One One e = refl
+one_version One Two e = absurd (omega (arith, ap (λ (ws : List (List ℕ)). get_or (get_or ws 0 []) 0 0) e))
+one_version Two One e = absurd (omega (arith, ap (λ (ws : List (List ℕ)). get_or (get_or ws 0 []) 0 0) e))
+one_version Two Two e = refl
+
 one_equation : (names words : List (List ℕ)) (n : ℕ) (name other : List ℕ) (e f : Expression) → OneExpression → AllPairs (λ a b. a ≢ b) names → All IsName names → States names n words (Next name e) → States names n words (Next other f) → Next name e ≡ Next other f
 one_equation names words n name other e f one differ named h k =
     let same-name : name ≡ other = cc (h.1, k.1) in
@@ -117,7 +125,7 @@ same_kind : (names : List (List ℕ)) (n : ℕ) (words : List (List ℕ)) (s t :
 same_kind names n words s t h k = ap tag (sym (front_is names n words s h) ∙ front_is names n words t k)
 
 pub one_statement : (names : List (List ℕ)) (n : ℕ) (words : List (List ℕ)) (s t : Statement) → OneExpression → AllPairs (λ a b. a ≢ b) names → All IsName names → States names n words s → States names n words t → s ≡ t
-one_statement names n words Version Version one differ named h k = refl
+one_statement names n words (Version v) (Version w) one differ named h k = ap Version (one_version v w (cc (h, k)))
 one_statement names n words (State s) (State t) one differ named h k =
     ap State (one_state (s.name ∷ signed_decimal s.low ∷ signed_decimal s.high ∷ signed_decimal s.width ∷ []) s t (refl, h.1) (cc (h.0, k.0), k.1))
 one_statement names n words (Input i) (Input j) one differ named h k = ap Input (one_input (i.name ∷ map signed_decimal i.values) i j (refl, h.1) (cc (h.0, k.0), k.1))
@@ -138,7 +146,7 @@ first_of_passed line (w ∷ ws) e passed =
     omega (arith, mark)
 
 first_of_kind : (s : Statement) → 100 < (kind_of s).0
-first_of_kind Version = omega arith
+first_of_kind (Version v) = omega arith
 first_of_kind (State s) = omega arith
 first_of_kind (Input i) = omega arith
 first_of_kind (Noise w) = omega arith

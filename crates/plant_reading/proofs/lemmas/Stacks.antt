@@ -1,10 +1,13 @@
 -- A stack of frames, seen as what waits.
-use Rattle.std.proofs.Common.{◌≡◌, [], ◌∷◌, ◌++◌, length, Option, Some, None, refl, sym, ap, ◌∙◌, arith}
-use Rattle.std.specs.Prelude.{map, MatchOption, option_to_list}
+use Rattle.std.proofs.Common.{◌≡◌, List, [], ◌∷◌, ◌++◌, length, Option, Some, None, refl, sym, ap, ◌∙◌, arith}
+use Rattle.std.specs.Prelude.{ℤ, map, MatchOption, option_to_list}
 use Rattle.std.proofs.lemmas.List.{map-append, reverse-append, append-nil, nil_from_length, length-reverse, length-map}
 use Rattle.plant_reading.specs.declared.frames.Frame.{Frame}
 use Rattle.plant_reading.specs.declared.frames.Stack.{Stack}
-use Rattle.plant_reading.specs.inside.ExpressionMachine.{pending_of, pendings_of}
+use Rattle.fixed_expr.specs.Expression.{Expression}
+use Rattle.plant_reading.specs.declared.frames.Frame.TheVariants as frame
+use Rattle.plant_reading.specs.declared.items.Bracket.TheVariants as bracket
+use Rattle.plant_reading.specs.inside.ExpressionMachine.{Pending, pending_of, pendings_of, tabled}
 
 pub empty_stack : (s : Stack) → s.frames.items ≡ [] → pendings_of s ≡ []
 unfolding pendings_of
@@ -25,3 +28,19 @@ popped s t None e none =
     let nil = nil_from_length s.frames.items none in
     (empty_stack s nil, empty_stack t (sym same ∙ nil))
 popped s t (Some f) e some = pushed t s f e
+
+-- where no bracket of a table waits last, points stand nowhere
+pub not_tabled : (points : List (ℤ × ℤ)) (c : Expression) (old new : List Pending) (r : Option Frame) → MatchOption r ((old ≡ []) × (new ≡ [])) (λ f. old ≡ pending_of f ∷ new) → (r ≡ Some (frame.Opened bracket.Table) → ⊥) → tabled points c old ≡ None
+unfolding tabled
+not_tabled points c old new None e other = rw e.0 refl
+not_tabled points c old new (Some frame.Sign) e other = rw e refl
+not_tabled points c old new (Some (frame.AddTo a)) e other = rw e refl
+not_tabled points c old new (Some (frame.TakeFrom a)) e other = rw e refl
+not_tabled points c old new (Some (frame.Multiply a)) e other = rw e refl
+not_tabled points c old new (Some (frame.Opened bracket.Plain)) e other = rw e refl
+not_tabled points c old new (Some (frame.Opened bracket.Least)) e other = rw e refl
+not_tabled points c old new (Some (frame.Opened bracket.Greatest)) e other = rw e refl
+not_tabled points c old new (Some (frame.Opened bracket.Size)) e other = rw e refl
+not_tabled points c old new (Some (frame.Opened bracket.Table)) e other = absurd (other refl)
+not_tabled points c old new (Some (frame.LeastOf a)) e other = rw e refl
+not_tabled points c old new (Some (frame.GreatestOf a)) e other = rw e refl

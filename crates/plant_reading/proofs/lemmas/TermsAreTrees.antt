@@ -1,14 +1,16 @@
 -- What the machine puts together is the meaning of a grammatical tree over the items so far.
 use Rattle.std.proofs.Common.{◌≡◌, ℕ, ◌≤◌, List, [], ◌∷◌, Option, Some, None, refl, ap, subst, ◌∙◌, arith}
-use Rattle.std.specs.Prelude.{pos}
+use Rattle.std.specs.Prelude.{ℤ, pos}
 use Rattle.std.specs.Option.{option_map}
-use Rattle.fixed_expr.specs.Expression.{Expression, Number, Variable, Negation, Quotient, Absolute}
+use Rattle.fixed_expr.specs.Expression.{Expression, Number, Variable, Negation, Quotient, Absolute, Lookup}
 use Rattle.plant_reading.specs.declared.items.Bracket.TheVariants as bracket
 use Rattle.plant_reading.specs.declared.items.Item.{Item}
 use Rattle.plant_reading.specs.declared.items.Item.TheVariants as item
-use Rattle.plant_reading.specs.SyntaxTrees.{Syntax, Literal, Named, Minus, Plus, Less, Times, Over, Least, Greatest, Size, Bracketed, level_of, IsGrammatical, meaning_of}
-use Rattle.plant_reading.specs.inside.ExpressionItems.{items_onto, IsItem, AreItems, ◌>>=◌}
-use Rattle.plant_reading.specs.inside.ExpressionMachine.{Pending, Sign, AddTo, TakeFrom, Multiply, Opened, LeastOf, GreatestOf, Machine, factor_ended, term_ended, closed, halved, complete, begun, continued, stepped, state_after}
+use Rattle.plant_reading.specs.SyntaxTrees.{Syntax, Literal, Named, Minus, Plus, Less, Times, Over, Least, Greatest, Size, Tabled, Bracketed, level_of, IsGrammatical, meaning_of}
+use Rattle.plant_reading.specs.inside.ExpressionItems.{items_onto, IsItem, AreItems}
+use Rattle.plant_reading.specs.inside.TokenReaders.{◌>>=◌}
+use Rattle.fixed_expr.specs.Curves.{IsCurve}
+use Rattle.plant_reading.specs.inside.ExpressionMachine.{Pending, Sign, AddTo, TakeFrom, Multiply, Opened, LeastOf, GreatestOf, Machine, factor_ended, term_ended, closed, tabled, halved, complete, begun, continued, stepped, state_after}
 
 -- A tree of at least a level means an expression, and its items stand behind others, the last first.
 pub record Spans (m n : ℕ) (e : Expression) (before items : List Item) : Type 0 where
@@ -165,6 +167,25 @@ closed_stands m c (GreatestOf a ∷ S) items h =
     )
 closed_stands m c _ items h = tt
 
+-- the points of a table stand behind a sum: what they make is a factor
+tabled_stands : (m : ℕ) (points : List (ℤ × ℤ)) (c : Expression) (S : List Pending) (items : List Item) → IsCurve points → StandsAtSum m (c, S) items
+    → IfStands (λ (x : Expression × List Pending). (ys : List Item) × Awaits m x.1 ys × Spans m 3 x.0 ys (item.Points points ∷ items)) (tabled points c S)
+unfolding tabled
+tabled_stands m points c (Opened bracket.Table ∷ S) items curve h =
+    let s = h.2 in
+    let w = h.1 in (
+      w.0,
+      w.1,
+      record {
+        tree = Tabled s.tree points;
+        grammatical = (s.grammatical, curve);
+        level = omega arith;
+        means = ap (λ (a : Expression). Lookup a points) s.means;
+        spans = ap (λ (zs : List Item). item.Points points ∷ zs) (s.spans ∙ ap (items_onto s.tree) w.2);
+      },
+    )
+tabled_stands m points c _ items curve h = tt
+
 -- a comma stands behind the first of two sums
 halved_stands : (m : ℕ) (c : Expression) (S : List Pending) (items : List Item) → StandsAtSum m (c, S) items → IfStands (λ (R : List Pending). Awaits m R (item.Comma ∷ items)) (halved c S)
 halved_stands m c (Opened bracket.Least ∷ S) items h =
@@ -188,16 +209,17 @@ begun_stands m item.Times S items valid w = tt
 begun_stands m (item.Over k) S items valid w = tt
 begun_stands m item.Comma S items valid w = tt
 begun_stands m item.Close S items valid w = tt
+begun_stands m (item.Points points) S items valid w = tt
 
 halved_next : (m : ℕ) (items : List Item) (r : Option (List Pending)) → IfStands (λ (R : List Pending). Awaits m R (item.Comma ∷ items)) r
     → IfStands (λ (n : Machine). Stands m n (item.Comma ∷ items)) (option_map (λ (R : List Pending). let n : Machine = (None, R) in n) r)
 halved_next m items None h = tt
 halved_next m items (Some R) h = h
 
-closed_next : (m : ℕ) (items : List Item) (r : Option (Expression × List Pending)) → IfStands (λ (x : Expression × List Pending). (ys : List Item) × Awaits m x.1 ys × Spans m 3 x.0 ys (item.Close ∷ items)) r
-    → IfStands (λ (n : Machine). Stands m n (item.Close ∷ items)) (option_map (λ (x : Expression × List Pending). complete (factor_ended x.0 x.1)) r)
-closed_next m items None h = tt
-closed_next m items (Some x) h = factor_stands m x.0 x.1 h.0 (item.Close ∷ items) h.1 h.2
+closed_next : (m : ℕ) (y : Item) (items : List Item) (r : Option (Expression × List Pending)) → IfStands (λ (x : Expression × List Pending). (ys : List Item) × Awaits m x.1 ys × Spans m 3 x.0 ys (y ∷ items)) r
+    → IfStands (λ (n : Machine). Stands m n (y ∷ items)) (option_map (λ (x : Expression × List Pending). complete (factor_ended x.0 x.1)) r)
+closed_next m y items None h = tt
+closed_next m y items (Some x) h = factor_stands m x.0 x.1 h.0 (y ∷ items) h.1 h.2
 
 continued_stands : (m : ℕ) (x : Item) (c : Expression) (S : List Pending) (items : List Item) → IsItem m x → Stands m (Some c, S) items → IfStands (λ (n : Machine). Stands m n (x ∷ items)) (continued x c S)
 unfolding continued
@@ -221,7 +243,10 @@ continued_stands m item.Comma c S items valid h =
     halved_next m items (halved t.0 t.1) (halved_stands m t.0 t.1 items (term_stands m c S h.0 items h.1 h.2))
 continued_stands m item.Close c S items valid h =
     let t = term_ended c S in
-    closed_next m items (closed t.0 t.1) (closed_stands m t.0 t.1 items (term_stands m c S h.0 items h.1 h.2))
+    closed_next m item.Close items (closed t.0 t.1) (closed_stands m t.0 t.1 items (term_stands m c S h.0 items h.1 h.2))
+continued_stands m (item.Points points) c S items valid h =
+    let t = term_ended c S in
+    closed_next m (item.Points points) items (tabled points t.0 t.1) (tabled_stands m points t.0 t.1 items valid (term_stands m c S h.0 items h.1 h.2))
 continued_stands m (item.Number k) c S items valid h = tt
 continued_stands m (item.Variable i) c S items valid h = tt
 continued_stands m (item.Open b) c S items valid h = tt

@@ -4,9 +4,9 @@ use Rattle.fixed_expr.specs.Expression.{Expression}
 use Rattle.plant_reading.specs.declared.items.Bracket.TheVariants as bracket
 use Rattle.plant_reading.specs.declared.items.Item.{Item}
 use Rattle.plant_reading.specs.declared.items.Item.TheVariants as item
-use Rattle.plant_reading.specs.SyntaxTrees.{Syntax, Literal, Named, Minus, Plus, Less, Times, Over, Least, Greatest, Size, Bracketed, level_of, IsGrammatical, meaning_of}
+use Rattle.plant_reading.specs.SyntaxTrees.{Syntax, Literal, Named, Minus, Plus, Less, Times, Over, Least, Greatest, Size, Tabled, Bracketed, level_of, IsGrammatical, meaning_of}
 use Rattle.plant_reading.specs.inside.ExpressionItems.{items_before}
-use Rattle.plant_reading.specs.inside.ExpressionMachine.{Pending, Sign, AddTo, TakeFrom, Multiply, Opened, LeastOf, GreatestOf, factor_ended, term_ended, complete, begun, continued, steps}
+use Rattle.plant_reading.specs.inside.ExpressionMachine.{Pending, Sign, AddTo, TakeFrom, Multiply, Opened, LeastOf, GreatestOf, factor_ended, term_ended, tabled, complete, begun, continued, steps}
 
 -- what waits last takes a term: it is no sign and no product
 abbrev TakesTerm : List Pending → Type 0
@@ -93,7 +93,7 @@ from_factor t h =
     record { factor = λ _. h; term = λ _. term; sum = sum_of_term t term }
 
 leads : (m : ℕ) (t : Syntax) → IsGrammatical m t → Leads t
-unfolding begun continued
+unfolding begun continued tabled
 leads m (Literal k) g = from_factor (Literal k) (λ S xs. refl)
 leads m (Named i) g = from_factor (Named i) (λ S xs. refl)
 leads m (Minus a) g = from_factor (Minus a) (λ S xs. (leads m a g.0).factor g.1 (Sign ∷ S) xs)
@@ -138,6 +138,9 @@ leads m (Greatest a b) g = from_factor (Greatest a b) (λ S xs.
 leads m (Size a) g = from_factor (Size a) (λ S xs.
     let l = (leads m a g).sum (Opened bracket.Size ∷ S) tt in
     l.led (item.Close ∷ xs) ∙ (rw l.sum refl))
+leads m (Tabled a points) g = from_factor (Tabled a points) (λ S xs.
+    let l = (leads m a g.0).sum (Opened bracket.Table ∷ S) tt in
+    l.led (item.Points points ∷ xs) ∙ (rw l.sum refl))
 leads m (Bracketed a) g = from_factor (Bracketed a) (λ S xs.
     let l = (leads m a g).sum (Opened bracket.Plain ∷ S) tt in
     l.led (item.Close ∷ xs) ∙ (rw l.sum refl))

@@ -1,33 +1,23 @@
--- The items of an expression, by which it is read: its tokens, but a `/` with its divisor and a
--- function with its bracket are one. No public clause names this.
-use Rattle.std.specs.Prelude.{◌≡◌, ◌≢◌, Result, Ok, Err, ℕ, suc, ◌+◌, ◌-◌, ◌^◌, ◌<◌, ◌≤◌, max, ◌&&◌, ◌==◌, nat_lt, if◌then◌else◌, List, [], ◌∷◌, Option, Some, None, slice_index_or, codes}
-use Rattle.std.specs.List.{All, AllPairs}
+-- The items of an expression, by which it is read: its tokens, but a `/` with its divisor, a function
+-- with its bracket, and the points of a table with the bracket behind them are one. No public clause names this.
+use Rattle.std.specs.Prelude.{◌≢◌, ℕ, suc, ◌+◌, ◌-◌, ◌^◌, ◌<◌, ◌≤◌, max, ◌==◌, if◌then◌else◌, List, [], ◌∷◌, ◌++◌, Option, Some, None, slice_index_or, codes}
+use Rattle.std.specs.List.{All, AllPairs, flat_map}
 use Rattle.std.specs.Option.{option_map}
 use Rattle.std.specs.Str.{bytes_eq}
-use Rattle.std.specs.Str.Parse.{digits_value}
 use Rattle.std.specs.Fmt.{decimal}
-use Rattle.plant_reading.specs.declared.fault.ReadFault.{ReadFault}
-use Rattle.plant_reading.specs.declared.fault.ReadFault.TheVariants as faults
+use Rattle.fixed_expr.specs.Curves.{IsCurve}
 use Rattle.plant_reading.specs.declared.items.Bracket.{Bracket}
 use Rattle.plant_reading.specs.declared.items.Bracket.TheVariants as bracket
 use Rattle.plant_reading.specs.declared.items.Item.{Item}
 use Rattle.plant_reading.specs.declared.items.Item.TheVariants as item
 use Rattle.plant_record.specs.Names.{IsName}
-use Rattle.plant_reading.specs.SyntaxTrees.{Syntax, Literal, Named, Minus, Plus, Less, Times, Over, Least, Greatest, Size, Bracketed}
+use Rattle.plant_reading.specs.inside.TokenReaders.{◌>>=◌, or_else, literal_of, point_of, curve_of}
+use Rattle.plant_reading.specs.SyntaxTrees.{Syntax, Literal, Named, Minus, Plus, Less, Times, Over, Least, Greatest, Size, Tabled, Bracketed, point_tokens}
 
 -- The names of variables differ from each other, and none is reserved.
 pub record AreNames (names : List (List ℕ)) : Type 0 where
   pub each : All IsName names
   pub differ : AllPairs (λ a b. a ≢ b) names
-
--- what a function returned, seen by view, is what reading gives, unless memory ran out
-abbrev pub Fails : {Y : Type 0} → ReadFault → Option Y → Type 0
-Fails faults.Memory read = Unit {0}
-Fails faults.Malformed read = read ≡ None
-
-abbrev pub Gives : {X Y : Type 0} → (X → Y) → Result X ReadFault → Option Y → Type 0
-Gives view (Ok x) read = read ≡ Some (view x)
-Gives view (Err e) read = Fails e read
 
 -- the tokens that open a bracket
 abbrev pub opening_of : Bracket → List (List ℕ)
@@ -35,6 +25,7 @@ opening_of bracket.Plain = codes "(" ∷ []
 opening_of bracket.Least = codes "min" ∷ codes "(" ∷ []
 opening_of bracket.Greatest = codes "max" ∷ codes "(" ∷ []
 opening_of bracket.Size = codes "abs" ∷ codes "(" ∷ []
+opening_of bracket.Table = codes "lut" ∷ codes "(" ∷ []
 
 -- the tokens of an item
 abbrev pub spelling_of : List (List ℕ) → Item → List (List ℕ)
@@ -47,8 +38,9 @@ spelling_of names (item.Over k) = codes "/" ∷ decimal k ∷ []
 spelling_of names (item.Open b) = opening_of b
 spelling_of names item.Comma = codes "," ∷ []
 spelling_of names item.Close = codes ")" ∷ []
+spelling_of names (item.Points points) = flat_map point_tokens points ++ codes ")" ∷ []
 
--- the numbers and variables that an item may name
+-- the numbers, variables and points that an item may name
 abbrev pub IsItem : ℕ → Item → Type 0
 IsItem m (item.Number k) = k < 10 ^ 18
 IsItem m (item.Variable i) = i < m
@@ -59,6 +51,7 @@ IsItem m (item.Over k) = (1 ≤ k) × (k < 10 ^ 18)
 IsItem m (item.Open b) = Unit {0}
 IsItem m item.Comma = Unit {0}
 IsItem m item.Close = Unit {0}
+IsItem m (item.Points points) = IsCurve points
 
 -- each of them may stand over m variables
 abbrev pub AreItems : ℕ → List Item → Type 0
@@ -78,6 +71,7 @@ items_before (Over a k) xs = items_before a (item.Over k ∷ xs)
 items_before (Least a b) xs = item.Open bracket.Least ∷ items_before a (item.Comma ∷ items_before b (item.Close ∷ xs))
 items_before (Greatest a b) xs = item.Open bracket.Greatest ∷ items_before a (item.Comma ∷ items_before b (item.Close ∷ xs))
 items_before (Size a) xs = item.Open bracket.Size ∷ items_before a (item.Close ∷ xs)
+items_before (Tabled a points) xs = item.Open bracket.Table ∷ items_before a (item.Points points ∷ xs)
 items_before (Bracketed a) xs = item.Open bracket.Plain ∷ items_before a (item.Close ∷ xs)
 
 abbrev pub items_onto : Syntax → List Item → List Item
@@ -91,6 +85,7 @@ items_onto (Over a k) xs = item.Over k ∷ items_onto a xs
 items_onto (Least a b) xs = item.Close ∷ items_onto b (item.Comma ∷ items_onto a (item.Open bracket.Least ∷ xs))
 items_onto (Greatest a b) xs = item.Close ∷ items_onto b (item.Comma ∷ items_onto a (item.Open bracket.Greatest ∷ xs))
 items_onto (Size a) xs = item.Close ∷ items_onto a (item.Open bracket.Size ∷ xs)
+items_onto (Tabled a points) xs = item.Points points ∷ items_onto a (item.Open bracket.Table ∷ xs)
 items_onto (Bracketed a) xs = item.Close ∷ items_onto a (item.Open bracket.Plain ∷ xs)
 
 -- items turned round, before others
@@ -112,8 +107,10 @@ nodes_made (item.Open bracket.Plain) = 0
 nodes_made (item.Open bracket.Least) = 1
 nodes_made (item.Open bracket.Greatest) = 1
 nodes_made (item.Open bracket.Size) = 1
+nodes_made (item.Open bracket.Table) = 1
 nodes_made item.Comma = 0
 nodes_made item.Close = 0
+nodes_made (item.Points points) = 0
 
 abbrev pub nodes_in : List Item → ℕ
 nodes_in [] = 0
@@ -130,6 +127,7 @@ open_behind d (item.Over k) = d
 open_behind d (item.Open b) = d + 1
 open_behind d item.Comma = d
 open_behind d item.Close = d - 1
+open_behind d (item.Points points) = d - 1
 
 -- how many are open at most, where d are open before
 abbrev pub most_open : ℕ → List Item → ℕ
@@ -143,25 +141,13 @@ open_after (x ∷ xs) = open_behind (open_after xs) x
 
 -- ---- reading one item
 
-infixl 10 ◌>>=◌
-abbrev pub ◌>>=◌ : {A B : Type 0} → Option A → (A → Option B) → Option B
-None >>= f = None
-(Some x) >>= f = f x
-
-abbrev pub or_else : {A B : Type 0} → Option A → B → (A → B) → B
-or_else None d f = d
-or_else (Some x) d f = f x
-
--- the number that a token spells in its one spelling
-unfoldable pub literal_of : List ℕ → Option ℕ
-literal_of token = if bytes_eq (decimal (digits_value 10 token)) token && nat_lt (digits_value 10 token) (10 ^ 18) then Some (digits_value 10 token) else None
-
 -- the bracket that a function's name opens
 abbrev pub function_of : List ℕ → Option Bracket
 function_of token =
     if bytes_eq token (codes "min") then Some bracket.Least
     else (if bytes_eq token (codes "max") then Some bracket.Greatest
-    else (if bytes_eq token (codes "abs") then Some bracket.Size else None))
+    else (if bytes_eq token (codes "abs") then Some bracket.Size
+    else (if bytes_eq token (codes "lut") then Some bracket.Table else None)))
 
 abbrev pub symbol_of : List ℕ → Option Item
 symbol_of token =
@@ -169,8 +155,7 @@ symbol_of token =
     else (if bytes_eq token (codes "-") then Some item.Minus
     else (if bytes_eq token (codes "*") then Some item.Times
     else (if bytes_eq token (codes "(") then Some (item.Open bracket.Plain)
-    else (if bytes_eq token (codes ",") then Some item.Comma
-    else (if bytes_eq token (codes ")") then Some item.Close else None)))))
+    else (if bytes_eq token (codes ")") then Some item.Close else None))))
 
 -- the place of a name
 abbrev pub place_in : List (List ℕ) → List ℕ → Option ℕ
@@ -194,11 +179,19 @@ unfoldable pub opened : Bracket → List (List ℕ) → Option (Item × List (Li
 opened b [] = None
 opened b (token ∷ rest) = if bytes_eq token (codes "(") then Some (item.Open b, rest) else None
 
--- an item that begins with a token, and the tokens behind it
-unfoldable pub item_behind : List (List ℕ) → List ℕ → List (List ℕ) → Option (Item × List (List ℕ))
-item_behind names token rest =
+-- what a comma begins: the points of a table, or the second of two sums
+unfoldable pub comma_behind : List (List ℕ) → Option (Item × List (List ℕ))
+comma_behind rest = or_else (point_of rest) (Some (item.Comma, rest)) (λ _. option_map (λ r. (item.Points r.0, r.1)) (curve_of rest))
+
+-- an item that begins with a token which is no comma, and the tokens behind it
+unfoldable pub plain_behind : List (List ℕ) → List ℕ → List (List ℕ) → Option (Item × List (List ℕ))
+plain_behind names token rest =
     if bytes_eq token (codes "/") then divided rest
     else or_else (function_of token) (option_map (λ x. (x, rest)) (item_of names token)) (λ b. opened b rest)
+
+-- an item that begins with a token, and the tokens behind it
+unfoldable pub item_behind : List (List ℕ) → List ℕ → List (List ℕ) → Option (Item × List (List ℕ))
+item_behind names token rest = if bytes_eq token (codes ",") then comma_behind rest else plain_behind names token rest
 
 -- the first item and the tokens behind it, or None at the end; None at all where no item begins
 unfoldable pub next_item : List (List ℕ) → List (List ℕ) → Option (Option (Item × List (List ℕ)))

@@ -1,7 +1,7 @@
 -- How an expression is put together, an item at a time, from left to right. No public clause names this.
-use Rattle.std.specs.Prelude.{◌≡◌, ◌+◌, ◌≤◌, pos, List, [], ◌∷◌, map, reverse, Option, Some, None}
+use Rattle.std.specs.Prelude.{◌≡◌, ◌+◌, ◌≤◌, ℤ, pos, List, [], ◌∷◌, map, reverse, Option, Some, None}
 use Rattle.std.specs.Option.{option_map}
-use Rattle.fixed_expr.specs.Expression.{Expression, Number, Variable, Negation, Sum, Difference, Product, Quotient, Minimum, Maximum, Absolute, expression_of}
+use Rattle.fixed_expr.specs.Expression.{Expression, Number, Variable, Negation, Sum, Difference, Product, Quotient, Minimum, Maximum, Absolute, Lookup, expression_of}
 use Rattle.plant_reading.specs.declared.items.Bracket.{Bracket}
 use Rattle.plant_reading.specs.declared.items.Bracket.TheVariants as bracket
 use Rattle.plant_reading.specs.declared.items.Item.{Item}
@@ -12,7 +12,8 @@ use Rattle.plant_reading.specs.declared.frames.Stack.{Stack}
 use Rattle.plant_reading.specs.declared.expression.Counts.{Counts}
 use Rattle.plant_reading.specs.declared.expression.Reader.{Reader}
 use Rattle.plant_record.specs.Equations.{depth_of}
-use Rattle.plant_reading.specs.inside.ExpressionItems.{nodes_made, open_behind, ◌>>=◌}
+use Rattle.plant_reading.specs.inside.ExpressionItems.{nodes_made, open_behind}
+use Rattle.plant_reading.specs.inside.TokenReaders.{◌>>=◌}
 
 -- What waits for the operand behind it: a sign, an operator with its first operand, an open bracket.
 pub data Pending : Type 0 where
@@ -74,6 +75,11 @@ closed c (LeastOf a ∷ S) = Some (Minimum a c, S)
 closed c (GreatestOf a ∷ S) = Some (Maximum a c, S)
 closed c _ = None
 
+-- a table's points and its bracket stand behind a sum
+unfoldable pub tabled : List (ℤ × ℤ) → Expression → List Pending → Option (Expression × List Pending)
+tabled points c (Opened bracket.Table ∷ S) = Some (Lookup c points, S)
+tabled points c _ = None
+
 -- the first of two sums in a bracket ends
 abbrev pub halved : Expression → List Pending → Option (List Pending)
 halved c (Opened bracket.Least ∷ S) = Some (LeastOf c ∷ S)
@@ -100,6 +106,7 @@ continued item.Times c S = Some (None, Multiply c ∷ S)
 continued (item.Over k) c S = Some (Some (Quotient c (pos k)), S)
 continued item.Comma c S = option_map (λ R. (None, R)) (halved (term_ended c S).0 (term_ended c S).1)
 continued item.Close c S = option_map (λ x. complete (factor_ended x.0 x.1)) (closed (term_ended c S).0 (term_ended c S).1)
+continued (item.Points points) c S = option_map (λ x. complete (factor_ended x.0 x.1)) (tabled points (term_ended c S).0 (term_ended c S).1)
 continued _ c S = None
 
 abbrev pub stepped : Item → Option Expression → List Pending → Option Machine

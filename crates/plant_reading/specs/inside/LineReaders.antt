@@ -7,12 +7,16 @@ use Rattle.plant_record.specs.declared.variables.InputVariable.{InputVariable}
 use Rattle.plant_record.specs.declared.variables.NoiseVariable.{NoiseVariable}
 use Rattle.plant_record.specs.declared.aims.StateBox.{StateBox}
 use Rattle.plant_record.specs.declared.aims.GoalKind.{GoalKind}
+use Rattle.plant_record.specs.declared.version.PlantVersion.{PlantVersion}
 use Rattle.plant_record.specs.Numbers.{IsLiteral}
 use Rattle.plant_record.specs.Variables.{IsStateVariable, IsInputVariable, IsNoiseVariable}
 use Rattle.plant_record.specs.Boxes.{IsStateBox, AreEnds}
-use Rattle.plant_record.specs.Spelling.{end_words, goal_word}
+use Rattle.plant_record.specs.Spelling.{version_word, end_words, goal_word}
 
--- what the words behind `state`, `input`, `noise`, a box's keyword and `goal` spell
+-- what the words behind `plant`, `state`, `input`, `noise`, a box's keyword and `goal` spell
+abbrev pub SpellsVersion : List (List ℕ) → PlantVersion → Type 0
+SpellsVersion words v = words ≡ version_word v ∷ []
+
 abbrev pub SpellsState : List (List ℕ) → StateVariable → Type 0
 SpellsState words s = (words ≡ s.name ∷ signed_decimal s.low ∷ signed_decimal s.high ∷ signed_decimal s.width ∷ []) × IsStateVariable s
 

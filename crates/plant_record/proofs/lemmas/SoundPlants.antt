@@ -2,7 +2,7 @@
 use Rattle.std.proofs.Common.{ℕ, List}
 use Rattle.std.specs.List.{All}
 use Rattle.std.proofs.lemmas.List.Elements.{All-weaker}
-use Rattle.fixed_expr.specs.Expression.{Expression, Number, Variable, Negation, Sum, Difference, Product, Quotient, Minimum, Maximum, Absolute}
+use Rattle.fixed_expr.specs.Expression.{Expression, Number, Variable, Negation, Sum, Difference, Product, Quotient, Minimum, Maximum, Absolute, Lookup}
 use Rattle.fixed_expr.specs.Value.{IsWellFormed}
 use Rattle.plant_record.specs.Description.{Description}
 use Rattle.plant_record.specs.Variables.{IsStateVariable}
@@ -22,6 +22,7 @@ well_formed m (Quotient a k) h = (well_formed m a h.0, h.1)
 well_formed m (Minimum a b) h = (well_formed m a h.0, well_formed m b h.1)
 well_formed m (Maximum a b) h = (well_formed m a h.0, well_formed m b h.1)
 well_formed m (Absolute a) h = well_formed m a h
+well_formed m (Lookup a points) h = (well_formed m a h.0, h.1)
 
 pub all_formed : (m : ℕ) (equations : List Expression) → All (IsEquation m) equations → All (λ e. IsWellFormed e m) equations
 all_formed m equations each = All-weaker (IsEquation m) (λ e. IsWellFormed e m) (λ e h. well_formed m e h.literals) equations each
@@ -30,6 +31,7 @@ pub sound : (p : Description) → IsPlant p → IsSound p
 sound p h = record {
   axes = axes_are p.states h.some_state h.states_bound h.states;
   whole = All-weaker IsStateVariable IsFilledByCells end_is p.states h.states;
+  noises = h.noises;
   one_each = h.one_each;
   formed = all_formed _ p.equations h.equations;
 }

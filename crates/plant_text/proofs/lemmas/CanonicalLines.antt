@@ -10,7 +10,7 @@ use Rattle.plant_record.specs.declared.variables.InputVariable.{InputVariable}
 use Rattle.plant_record.specs.declared.variables.NoiseVariable.{NoiseVariable}
 use Rattle.plant_record.specs.Names.{IsName}
 use Rattle.plant_record.specs.Numbers.{IsLiteral}
-use Rattle.plant_record.specs.Spelling.{end_words, goal_word}
+use Rattle.plant_record.specs.Spelling.{version_word, end_words, goal_word}
 use Rattle.plant_writing.specs.ExpressionText.{expression_text}
 use Rattle.plant_reading.specs.Words.{words_of}
 use Rattle.plant_reading.specs.Tokens.{tokens_of}
@@ -23,11 +23,11 @@ use Rattle.plant_text.specs.inside.FormedEquations.{HasFormedEquation}
 use Rattle.plant_record.proofs.lemmas.SoundPlants.{well_formed}
 use Rattle.plant_text.proofs.lemmas.RulesKept.{equation_spelled}
 use Rattle.plant_reading.proofs.lemmas.PutTogether.{is_printable, IsDarkWord, printable_joined}
-use Rattle.plant_text.proofs.lemmas.CanonicalWords.{name_dark, number_dark, numbers_dark, box_dark, goal_dark, expression_printable, equation_printable}
+use Rattle.plant_text.proofs.lemmas.CanonicalWords.{name_dark, number_dark, numbers_dark, box_dark, version_dark, goal_dark, expression_printable, equation_printable}
 
 -- a stated equation has the variables that it names
 pub formed : (names : List (List ℕ)) (n : ℕ) (words : List (List ℕ)) (s : Statement) → States names n words s → HasFormedEquation (length names) s
-formed names n words Version says = tt
+formed names n words (Version v) says = tt
 formed names n words (State s) says = tt
 formed names n words (Input i) says = tt
 formed names n words (Noise w) says = tt
@@ -52,7 +52,7 @@ next_named q k lt =
 
 pub printable_line : (q : Part) (line : List ℕ) (s : Statement) → KeepsRules q → States (names_in q) (length q.states) (words_of line) s → FitsAfter q s → line ++ codes "\n" ≡ statement_line (names_in q) (length q.states) s
     → is_printable line ≡ true
-printable_line q line Version k says fits e = printable_words line (codes "plant") (codes "1" ∷ []) (record { dark = refl; some = omega arith }) (record { dark = refl; some = omega arith }, tt) e
+printable_line q line (Version v) k says fits e = printable_words line (codes "plant") (version_word v ∷ []) (record { dark = refl; some = omega arith }) (version_dark v, tt) e
 printable_line q line (State s) k says fits e =
     printable_words line (codes "state") (s.name ∷ signed_decimal s.low ∷ signed_decimal s.high ∷ signed_decimal s.width ∷ []) (record { dark = refl; some = omega arith })
     (name_dark s.name says.1.name, (number_dark s.low says.1.low, (number_dark s.high says.1.high, (number_dark s.width says.1.width, tt)))) e

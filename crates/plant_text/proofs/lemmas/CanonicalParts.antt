@@ -10,7 +10,8 @@ use Rattle.plant_record.specs.declared.variables.InputVariable.{InputVariable}
 use Rattle.plant_record.specs.declared.variables.NoiseVariable.{NoiseVariable}
 use Rattle.plant_record.specs.declared.aims.StateBox.{StateBox}
 use Rattle.plant_record.specs.declared.aims.GoalKind.{GoalKind}
-use Rattle.plant_record.specs.Spelling.{line, goal_word}
+use Rattle.plant_record.specs.declared.version.PlantVersion.{PlantVersion}
+use Rattle.plant_record.specs.Spelling.{line, version_word, goal_word}
 use Rattle.plant_writing.specs.CanonicalText.{state_line, input_line, noise_line, equation_line, equation_lines, box_line}
 use Rattle.plant_reading.specs.Statements.{Statement, Version, State, Input, Noise, Next, Target, Obstacle, Goal, End}
 use Rattle.plant_text.specs.Grammar.{Part, nothing_yet, names_in, FitsAfter, extended}
@@ -27,7 +28,7 @@ no_equation_lines names (s ∷ states) = refl
 -- where no goal stands, no end does
 not_ended : (q : Part) → KeepsRules q → q.goal ≡ None → q.ended ≡ false
 not_ended q k none = elim (cases_Bool q.ended) [
-  | inl e ↦ absurd (k.closed e none)
+  | inl e ↦ absurd ((k.closed e).0 none)
   | inr e ↦ e
 ]
 
@@ -41,6 +42,9 @@ next_line names (s ∷ states) (x ∷ equations) e lt =
     ∙ sym (append_assoc (equation_line names s.name x) (equation_lines names states equations) _)
 
 -- where the later parts are empty
+alone : (x : List ℕ) → x ++ [] ++ [] ++ [] ++ [] ++ [] ++ [] ++ [] ++ [] ≡ x
+alone x = simp append-nil
+
 behind_states : (a b x : List ℕ) → a ++ (b ++ x) ++ [] ++ [] ++ [] ++ [] ++ [] ++ [] ++ [] ≡ (a ++ b ++ [] ++ [] ++ [] ++ [] ++ [] ++ [] ++ []) ++ x
 behind_states a b x = simp (append_assoc, append-nil)
 
@@ -70,19 +74,19 @@ module _ (q : Part) (k : KeepsRules q) (o : IsOrderly q) where
   text_state s fits =
       let aims = aimless q k (no_equations q fits.3) in
       rw (fits.1, fits.2, fits.3, aims.0, aims.1, aims.2, not_ended q k aims.2, no_equation_lines _ q.states, no_equation_lines _ (q.states ++ s ∷ []), flat_map_one_more state_line q.states s)
-      (behind_states (version_text q.begun) (flat_map state_line q.states) (state_line s))
+      (behind_states (version_text q.version) (flat_map state_line q.states) (state_line s))
 
   text_input : (i : InputVariable) → FitsAfter q (Input i) → part_text (extended q (Input i)) ≡ part_text q ++ input_line i
   text_input i fits =
       let aims = aimless q k (no_equations q fits.2) in
       rw (fits.1, fits.2, aims.0, aims.1, aims.2, not_ended q k aims.2, no_equation_lines _ q.states, no_equation_lines _ q.states, flat_map_one_more input_line q.inputs i)
-      (behind_inputs (version_text q.begun) (flat_map state_line q.states) (flat_map input_line q.inputs) (input_line i))
+      (behind_inputs (version_text q.version) (flat_map state_line q.states) (flat_map input_line q.inputs) (input_line i))
 
   text_noise : (w : NoiseVariable) → FitsAfter q (Noise w) → part_text (extended q (Noise w)) ≡ part_text q ++ noise_line w
   text_noise w fits =
       let aims = aimless q k (no_equations q fits.1) in
       rw (fits.1, aims.0, aims.1, aims.2, not_ended q k aims.2, no_equation_lines _ q.states, no_equation_lines _ q.states, flat_map_one_more noise_line q.noises w)
-      (behind_noises (version_text q.begun) (flat_map state_line q.states) (flat_map input_line q.inputs) (flat_map noise_line q.noises) (noise_line w))
+      (behind_noises (version_text q.version) (flat_map state_line q.states) (flat_map input_line q.inputs) (flat_map noise_line q.noises) (noise_line w))
 
   -- the name of the state whose equation is next
   next_name : length q.equations < length q.states → slice_index_or (map (λ (s : StateVariable). s.name) q.states) (length q.equations) [] ≡ slice_index_or (names_in q) (length q.equations) []
@@ -94,43 +98,43 @@ module _ (q : Part) (k : KeepsRules q) (o : IsOrderly q) where
       let room = fits.0 in
       let aims = aimless q k (λ has. omega (arith, room, has.1)) in
       rw (aims.0, aims.1, aims.2, not_ended q k aims.2, next_line (names_in q) q.states q.equations e room, next_name room, fits.1)
-      (behind_equations (version_text q.begun) (flat_map state_line q.states) (flat_map input_line q.inputs) (flat_map noise_line q.noises) (equation_lines (names_in q) q.states q.equations) (equation_line (names_in q) name e))
+      (behind_equations (version_text q.version) (flat_map state_line q.states) (flat_map input_line q.inputs) (flat_map noise_line q.noises) (equation_lines (names_in q) q.states q.equations) (equation_line (names_in q) name e))
 
   text_target : (b : StateBox) → FitsAfter q (Target b) → q.obstacles ≡ [] → part_text (extended q (Target b)) ≡ part_text q ++ box_line (codes "target") (length q.states) b
   text_target b fits none =
       rw (fits.1, none, not_ended q k fits.1, flat_map_one_more (box_line (codes "target") (length q.states)) q.targets b)
-      (behind_targets (version_text q.begun) (flat_map state_line q.states) (flat_map input_line q.inputs) (flat_map noise_line q.noises) (equation_lines (names_in q) q.states q.equations) (flat_map (box_line (codes "target") (length q.states)) q.targets)
+      (behind_targets (version_text q.version) (flat_map state_line q.states) (flat_map input_line q.inputs) (flat_map noise_line q.noises) (equation_lines (names_in q) q.states q.equations) (flat_map (box_line (codes "target") (length q.states)) q.targets)
       (box_line (codes "target") (length q.states) b))
 
   text_obstacle : (b : StateBox) → FitsAfter q (Obstacle b) → part_text (extended q (Obstacle b)) ≡ part_text q ++ box_line (codes "obstacle") (length q.states) b
   text_obstacle b fits =
       rw (fits.1, not_ended q k fits.1, flat_map_one_more (box_line (codes "obstacle") (length q.states)) q.obstacles b)
-      (behind_obstacles (version_text q.begun) (flat_map state_line q.states) (flat_map input_line q.inputs) (flat_map noise_line q.noises) (equation_lines (names_in q) q.states q.equations) (flat_map (box_line (codes "target") (length q.states)) q.targets)
+      (behind_obstacles (version_text q.version) (flat_map state_line q.states) (flat_map input_line q.inputs) (flat_map noise_line q.noises) (equation_lines (names_in q) q.states q.equations) (flat_map (box_line (codes "target") (length q.states)) q.targets)
       (flat_map (box_line (codes "obstacle") (length q.states)) q.obstacles) (box_line (codes "obstacle") (length q.states) b))
 
   text_goal : (kind : GoalKind) → FitsAfter q (Goal kind) → part_text (extended q (Goal kind)) ≡ part_text q ++ line (codes "goal" ∷ goal_word kind ∷ [])
   text_goal kind fits =
       rw (fits.1, not_ended q k fits.1)
-      (behind_goal (version_text q.begun) (flat_map state_line q.states) (flat_map input_line q.inputs) (flat_map noise_line q.noises) (equation_lines (names_in q) q.states q.equations) (flat_map (box_line (codes "target") (length q.states)) q.targets)
+      (behind_goal (version_text q.version) (flat_map state_line q.states) (flat_map input_line q.inputs) (flat_map noise_line q.noises) (equation_lines (names_in q) q.states q.equations) (flat_map (box_line (codes "target") (length q.states)) q.targets)
       (flat_map (box_line (codes "obstacle") (length q.states)) q.obstacles) (line (codes "goal" ∷ goal_word kind ∷ [])))
 
   text_end : FitsAfter q End → part_text (extended q End) ≡ part_text q ++ line (codes "end" ∷ [])
   text_end fits =
       rw fits.1
-      (behind_end (version_text q.begun) (flat_map state_line q.states) (flat_map input_line q.inputs) (flat_map noise_line q.noises) (equation_lines (names_in q) q.states q.equations) (flat_map (box_line (codes "target") (length q.states)) q.targets)
+      (behind_end (version_text q.version) (flat_map state_line q.states) (flat_map input_line q.inputs) (flat_map noise_line q.noises) (equation_lines (names_in q) q.states q.equations) (flat_map (box_line (codes "target") (length q.states)) q.targets)
       (flat_map (box_line (codes "obstacle") (length q.states)) q.obstacles) (goal_text q.goal) (line (codes "end" ∷ [])))
 
   -- nothing stands before the version
-  text_version : FitsAfter q Version → part_text (extended q Version) ≡ part_text q ++ line (codes "plant" ∷ codes "1" ∷ [])
-  text_version fits =
+  text_version : (v : PlantVersion) → FitsAfter q (Version v) → part_text (extended q (Version v)) ≡ part_text q ++ line (codes "plant" ∷ version_word v ∷ [])
+  text_version v fits =
       let states : q.states ≡ [] = o.unbegun fits in
       let others = o.stateless states in
       let equations : q.equations ≡ [] = nil_from_length q.equations (let b = k.equations_bound in let n : length q.states ≡ 0 = ap length states in omega (arith, b, n)) in
       let aims = aimless q k (no_equations q equations) in
-      rw (fits, states, others.0, others.1, aims.0, aims.1, aims.2, not_ended q k aims.2) refl
+      rw (fits, states, others.0, others.1, aims.0, aims.1, aims.2, not_ended q k aims.2) (alone (line (codes "plant" ∷ version_word v ∷ [])))
 
   pub text_extended : (s : Statement) → FitsAfter q s → IsInOrder q s → part_text (extended q s) ≡ part_text q ++ statement_line (names_in q) (length q.states) s
-  text_extended Version fits order = text_version fits
+  text_extended (Version v) fits order = text_version v fits
   text_extended (State s) fits order = text_state s fits
   text_extended (Input i) fits order = text_input i fits
   text_extended (Noise w) fits order = text_noise w fits
@@ -144,9 +148,9 @@ pub orderly_nothing : IsOrderly nothing_yet
 orderly_nothing = record { unbegun = λ _. refl; stateless = λ _. (refl, refl) }
 
 pub orderly_extended : (q : Part) (s : Statement) → IsOrderly q → FitsAfter q s → IsOrderly (extended q s)
-orderly_extended q Version o fits = record { unbegun = λ e. (let t : true ≡ false = e in absurd cc); stateless = o.stateless }
+orderly_extended q (Version v) o fits = record { unbegun = λ e. absurd cc; stateless = o.stateless }
 orderly_extended q (State s) o fits = record {
-  unbegun = λ e. absurd (let b = fits.0 in cc);
+  unbegun = λ e. absurd (fits.0 e);
   stateless = λ e. absurd (some_last q.states s e);
 }
 orderly_extended q (Input i) o fits = record { unbegun = o.unbegun; stateless = λ e. absurd (let n : length q.states ≡ 0 = ap length e in omega (arith, n, fits.0)) }

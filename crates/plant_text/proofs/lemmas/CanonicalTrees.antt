@@ -5,7 +5,7 @@ use Rattle.std.specs.List.{All, flat_map}
 use Rattle.std.proofs.lemmas.Bool.{ltb-false}
 use Rattle.std.proofs.lemmas.Int.{ints}
 use Rattle.std.proofs.lemmas.List.{append-nil}
-use Rattle.fixed_expr.specs.Expression.{Expression, Number, Variable, Negation, Sum, Difference, Product, Quotient, Minimum, Maximum, Absolute}
+use Rattle.fixed_expr.specs.Expression.{Expression, Number, Variable, Negation, Sum, Difference, Product, Quotient, Minimum, Maximum, Absolute, Lookup}
 use Rattle.plant_record.specs.Names.{IsName}
 use Rattle.plant_record.specs.Equations.{HasLiterals, IsEquation, depth_of}
 use Rattle.plant_writing.specs.ExpressionText.{expression_text}
@@ -49,6 +49,7 @@ meaning m asked (Quotient a k) h =
 meaning m asked (Minimum a b) h = ap (λ x. Minimum x (meaning_of (tree 1 b))) (meaning m 1 a h.0) ∙ ap (Minimum a) (meaning m 1 b h.1)
 meaning m asked (Maximum a b) h = ap (λ x. Maximum x (meaning_of (tree 1 b))) (meaning m 1 a h.0) ∙ ap (Maximum a) (meaning m 1 b h.1)
 meaning m asked (Absolute a) h = ap Absolute (meaning m 1 a h)
+meaning m asked (Lookup a points) h = ap (λ x. Lookup x points) (meaning m 1 a h.0)
 
 level : (asked : ℕ) (e : Expression) → asked ≤ 3 → asked ≤ level_of (tree asked e)
 level asked (Number k) le = le
@@ -61,6 +62,7 @@ level asked (Quotient a k) le = enough (nat_lt 2 asked) 2 asked (Over (tree 2 a)
 level asked (Minimum a b) le = le
 level asked (Maximum a b) le = le
 level asked (Absolute a) le = le
+level asked (Lookup a points) le = le
 
 grammatical : (m asked : ℕ) (e : Expression) → HasLiterals m e → IsGrammatical m (tree asked e)
 grammatical m asked (Number k) h = h.1
@@ -73,6 +75,7 @@ grammatical m asked (Quotient a k) h = same_rules m (nat_lt 2 asked) (Over (tree
 grammatical m asked (Minimum a b) h = (grammatical m 1 a h.0, grammatical m 1 b h.1)
 grammatical m asked (Maximum a b) h = (grammatical m 1 a h.0, grammatical m 1 b h.1)
 grammatical m asked (Absolute a) h = grammatical m 1 a h
+grammatical m asked (Lookup a points) h = (grammatical m 1 a h.0, h.1)
 
 -- each open bracket belongs to a node of its own on the way down, and the leaf there has none
 brackets : (asked : ℕ) (e : Expression) → brackets_of (tree asked e) < depth_of e
@@ -86,6 +89,7 @@ brackets asked (Quotient a k) = one_bracket (nat_lt 2 asked) (Over (tree 2 a) (n
 brackets asked (Minimum a b) = omega (arith, brackets 1 a, brackets 1 b)
 brackets asked (Maximum a b) = omega (arith, brackets 1 a, brackets 1 b)
 brackets asked (Absolute a) = omega (arith, brackets 1 a)
+brackets asked (Lookup a points) = omega (arith, brackets 1 a)
 
 -- the words of a canonical expression text spell the expression
 pub tokens_spell : (names : List (List ℕ)) (e : Expression) → All IsName names → IsEquation (length names) e → AreTokensOf names (flat_map tokens_of (words_of (expression_text names 1 e))) e

@@ -44,14 +44,14 @@ line_at q line behind m k e = lines_front line behind (printable_line q line e.s
 
 -- a statement behind the end has no place
 no_place : (q : Part) (s : Statement) → IsOnTheWay q → HasEquations q → q.ended ≡ true → FitsAfter q s → ⊥
-no_place q Version w has ended fits = (let none : length q.states ≡ 0 = ap length (w.orderly.unbegun fits) in omega (arith, none, has.0))
+no_place q (Version v) w has ended fits = (let none : length q.states ≡ 0 = ap length (w.orderly.unbegun fits) in omega (arith, none, has.0))
 no_place q (State s) w has ended fits = (let none : length q.equations ≡ 0 = ap length fits.3 in omega (arith, none, has.0, has.1))
 no_place q (Input i) w has ended fits = (let none : length q.equations ≡ 0 = ap length fits.2 in omega (arith, none, has.0, has.1))
 no_place q (Noise n) w has ended fits = (let none : length q.equations ≡ 0 = ap length fits.1 in omega (arith, none, has.0, has.1))
 no_place q (Next name e) w has ended fits = omega (arith, fits.0, has.1)
-no_place q (Target b) w has ended fits = w.rules.closed ended fits.1
-no_place q (Obstacle b) w has ended fits = w.rules.closed ended fits.1
-no_place q (Goal kind) w has ended fits = w.rules.closed ended fits.1
+no_place q (Target b) w has ended fits = (w.rules.closed ended).0 fits.1
+no_place q (Obstacle b) w has ended fits = (w.rules.closed ended).0 fits.1
+no_place q (Goal kind) w has ended fits = (w.rules.closed ended).0 fits.1
 no_place q End w has ended fits = (let open_still = fits.1 in cc)
 
 -- no line stands behind the last
@@ -59,7 +59,7 @@ pub ends_here : (q : Part) (lines : List (List ℕ)) (r : Part) → IsOnTheWay q
 ends_here q [] r w ended leads = refl
 ends_here q (line ∷ lines) r w ended leads =
     let e = leads.1.stated in
-    absurd (no_place q e.statement w (has_equations q w.rules.placed (w.rules.closed ended)) ended e.fits)
+    absurd (no_place q e.statement w (has_equations q w.rules.placed (w.rules.closed ended).0) ended e.fits)
 
 -- ---- two ways
 

@@ -1,21 +1,24 @@
 -- The words of canonical lines, and the bytes of expression texts.
 use Rattle.std.proofs.Common.{◌≡◌, ℕ, zero, suc, ◌≤◌, Bool, true, false, cond, ltb, leb, List, [], ◌∷◌, ◌++◌, length, get_or, take, map, refl, arith}
 use Rattle.std.specs.Prelude.{ℤ, pos, negsuc, codes, nat_lt}
-use Rattle.std.specs.List.{All, AllZip, AllByRecursion, list_all, join_with_byte}
+use Rattle.std.specs.List.{All, AllZip, AllByRecursion, list_all, flat_map, join_with_byte}
 use Rattle.std.specs.Fmt.{decimal, signed_decimal}
 use Rattle.std.proofs.lemmas.Bool.{lt-ltb, leb-true, and_parts, and_from}
 use Rattle.std.proofs.lemmas.Fmt.{decimal_nonempty}
-use Rattle.std.proofs.lemmas.List.Elements.{All-get_or}
-use Rattle.fixed_expr.specs.Expression.{Expression, Number, Variable, Negation, Sum, Difference, Product, Quotient, Minimum, Maximum, Absolute}
+use Rattle.std.proofs.lemmas.List.Elements.{All-get_or, recursion_from_All}
+use Rattle.fixed_expr.specs.Expression.{Expression, Number, Variable, Negation, Sum, Difference, Product, Quotient, Minimum, Maximum, Absolute, Lookup}
+use Rattle.fixed_expr.specs.Curves.{IsShort}
 use Rattle.plant_record.specs.declared.aims.GoalKind.{GoalKind}
 use Rattle.plant_record.specs.declared.aims.GoalKind.TheVariants.{Reach, Keep}
+use Rattle.plant_record.specs.declared.version.PlantVersion.{PlantVersion}
+use Rattle.plant_record.specs.declared.version.PlantVersion.TheVariants.{One, Two}
 use Rattle.plant_record.specs.Names.{IsName, is_letter, is_digit, is_name_byte}
 use Rattle.plant_record.specs.Numbers.{IsLiteral}
 use Rattle.plant_record.specs.Equations.{HasLiterals}
 use Rattle.plant_record.specs.Boxes.{AreEnds, IsStateBox}
 use Rattle.plant_record.specs.declared.aims.StateBox.{StateBox}
-use Rattle.plant_writing.specs.ExpressionText.{expression_text}
-use Rattle.plant_record.specs.Spelling.{end_words, goal_word}
+use Rattle.plant_writing.specs.ExpressionText.{expression_text, point_text}
+use Rattle.plant_record.specs.Spelling.{version_word, end_words, goal_word}
 use Rattle.plant_reading.proofs.lemmas.NumberBytes.{decimal_digits}
 use Rattle.plant_reading.proofs.lemmas.OneScan.{name_byte_above}
 use Rattle.plant_reading.proofs.lemmas.PutTogether.{is_dark, is_printable, IsDarkWord, dark_printable, printable_both}
@@ -57,6 +60,10 @@ ends_dark (suc n) (l ∷ low) (h ∷ high) ends = (number_dark l ends.0.0, (numb
 pub box_dark : (n : ℕ) (b : StateBox) → IsStateBox n b → AllByRecursion IsDarkWord (end_words n b.low b.high)
 box_dark n b h = ends_dark n b.low b.high h.ends
 
+pub version_dark : (v : PlantVersion) → IsDarkWord (version_word v)
+version_dark One = record { dark = refl; some = omega arith }
+version_dark Two = record { dark = refl; some = omega arith }
+
 pub goal_dark : (goal : GoalKind) → IsDarkWord (goal_word goal)
 goal_dark Reach = record { dark = refl; some = omega arith }
 goal_dark Keep = record { dark = refl; some = omega arith }
@@ -69,6 +76,14 @@ level_printable false text h = h
 
 three : (a b d : List ℕ) → is_printable a ≡ true → is_printable b ≡ true → is_printable d ≡ true → is_printable (a ++ b ++ d) ≡ true
 three a b d left middle right = printable_both (a ++ b) d (printable_both a b left middle) right
+
+point_printable : (p : ℤ × ℤ) → IsShort p → is_printable (point_text p) ≡ true
+point_printable p short =
+    three (codes ", " ++ signed_decimal p.0) (codes ":") (signed_decimal p.1) (dark_printable (signed_decimal p.0) (number_dark p.0 short.0).dark) refl (dark_printable (signed_decimal p.1) (number_dark p.1 short.1).dark)
+
+points_printable : (points : List (ℤ × ℤ)) → AllByRecursion IsShort points → is_printable (flat_map point_text points) ≡ true
+points_printable [] each = refl
+points_printable (p ∷ points) each = printable_both (point_text p) (flat_map point_text points) (point_printable p each.0) (points_printable points each.1)
 
 pub expression_printable : (names : List (List ℕ)) (asked : ℕ) (e : Expression) → All IsName names → HasLiterals (length names) e → is_printable (expression_text names asked e) ≡ true
 expression_printable names asked (Number k) named h = dark_printable (signed_decimal k) (number_dark k h.1).dark
@@ -93,6 +108,9 @@ expression_printable names asked (Maximum a b) named h =
     printable_both (codes "max(" ++ expression_text names 1 a ++ codes ", " ++ expression_text names 1 b) (codes ")")
     (three (codes "max(" ++ expression_text names 1 a) (codes ", ") (expression_text names 1 b) (expression_printable names 1 a named h.0) refl (expression_printable names 1 b named h.1)) refl
 expression_printable names asked (Absolute a) named h = printable_both (codes "abs(" ++ expression_text names 1 a) (codes ")") (expression_printable names 1 a named h) refl
+expression_printable names asked (Lookup a points) named h =
+    printable_both (codes "lut(" ++ expression_text names 1 a ++ flat_map point_text points) (codes ")")
+    (printable_both (codes "lut(" ++ expression_text names 1 a) (flat_map point_text points) (expression_printable names 1 a named h.0) (points_printable points (recursion_from_All IsShort points h.1.short))) refl
 
 pub equation_printable : (name text : List ℕ) → IsName name → is_printable text ≡ true → is_printable (join_with_byte 32 (codes "next" ∷ name ∷ codes "=" ∷ text ∷ [])) ≡ true
 equation_printable name text named h = printable_both name (codes " = " ++ text) (dark_printable name (name_dark name named).dark) h

@@ -1,18 +1,19 @@
 -- The tokens of a canonical expression text are those of a syntax tree.
-use Rattle.std.proofs.Common.{◌≡◌, ℕ, Bool, true, false, cond, List, [], ◌∷◌, ◌++◌, length, get_or, refl, sym, ap, ◌∙◌, append_assoc, arith}
+use Rattle.std.proofs.Common.{◌≡◌, ℕ, suc, Bool, true, false, cond, List, [], ◌∷◌, ◌++◌, length, get_or, refl, sym, ap, ◌∙◌, append_assoc, append-nil, arith}
 use Rattle.std.specs.Prelude.{ℤ, pos, negsuc, nat_abs, ◌≤ℤ◌, codes, nat_lt}
-use Rattle.std.specs.List.{All}
+use Rattle.std.specs.List.{All, AllByRecursion, flat_map}
 use Rattle.std.specs.Fmt.{decimal, signed_decimal}
 use Rattle.std.proofs.lemmas.Int.{ints}
 use Rattle.std.proofs.lemmas.Fmt.{decimal_nonempty}
-use Rattle.std.proofs.lemmas.List.Elements.{All-get_or}
-use Rattle.fixed_expr.specs.Expression.{Expression, Number, Variable, Negation, Sum, Difference, Product, Quotient, Minimum, Maximum, Absolute}
+use Rattle.std.proofs.lemmas.List.Elements.{All-get_or, recursion_from_All}
+use Rattle.fixed_expr.specs.Expression.{Expression, Number, Variable, Negation, Sum, Difference, Product, Quotient, Minimum, Maximum, Absolute, Lookup}
+use Rattle.fixed_expr.specs.Curves.{IsShort}
 use Rattle.plant_record.specs.Names.{is_letter, is_digit, IsName}
 use Rattle.plant_record.specs.Numbers.{IsLiteral}
 use Rattle.plant_reading.specs.Words.{is_blank}
 use Rattle.plant_record.specs.Equations.{HasLiterals}
-use Rattle.plant_writing.specs.ExpressionText.{expression_text}
-use Rattle.plant_reading.specs.SyntaxTrees.{Syntax, Literal, Named, Minus, Plus, Less, Times, Over, Least, Greatest, Size, Bracketed, yield_of}
+use Rattle.plant_writing.specs.ExpressionText.{expression_text, point_text}
+use Rattle.plant_reading.specs.SyntaxTrees.{Syntax, Literal, Named, Minus, Plus, Less, Times, Over, Least, Greatest, Size, Tabled, Bracketed, signed_tokens, point_tokens, yield_of}
 use Rattle.plant_reading.proofs.lemmas.NumberBytes.{decimal_digits}
 use Rattle.plant_reading.proofs.lemmas.OneScan.{scan, is_break, is_run, symbol_front, run_front, name_front, digits_front}
 
@@ -99,6 +100,52 @@ size text tokens h =
     (λ rest. symbol_front 41 rest refl refl refl)
     (λ rest. refl))
 
+-- ---- tables
+
+-- a number with its sign
+signed_yields : (z : ℤ) → IsLiteral z → Yields (signed_decimal z) (signed_tokens z)
+signed_yields (pos n) lt = λ rest ends. digits_front (decimal n) rest (decimal_digits n (omega (arith, lt))) (decimal_nonempty n (omega (arith, lt))) ends
+signed_yields (negsuc n) lt =
+    opened (codes "-") (decimal (suc n)) (codes "-" ∷ []) (decimal (suc n) ∷ []) (λ rest. symbol_front 45 rest refl refl refl)
+    (λ rest ends. digits_front (decimal (suc n)) rest (decimal_digits (suc n) (omega (arith, lt))) (decimal_nonempty (suc n) (omega (arith, lt))) ends)
+
+rewritten : (text other : List ℕ) (tokens others : List (List ℕ)) → text ≡ other → tokens ≡ others → Yields text tokens → Yields other others
+rewritten text other tokens others same also h = λ rest ends. ap (λ (t : List ℕ). scan [] (t ++ rest)) (sym same) ∙ h rest ends ∙ ap (λ (ts : List (List ℕ)). ts ++ scan [] rest) also
+
+point_texts : (text x y : List ℕ) → (((text ++ codes ", ") ++ x) ++ codes ":") ++ y ≡ text ++ (((codes ", " ++ x) ++ codes ":") ++ y)
+point_texts text x y = simp append_assoc
+
+all_tokens : (tokens x y : List (List ℕ)) → (((tokens ++ codes "," ∷ []) ++ x) ++ codes ":" ∷ []) ++ y ≡ tokens ++ (codes "," ∷ x ++ codes ":" ∷ y)
+all_tokens tokens x y = simp append_assoc
+
+one_point : (text : List ℕ) (tokens : List (List ℕ)) (p : ℤ × ℤ) → IsShort p → Yields text tokens → Yields (text ++ point_text p) (tokens ++ point_tokens p)
+one_point text tokens p short h =
+    let x = signed_decimal p.0 in
+    let y = signed_decimal p.1 in
+    let comma = closed text (codes ", ") tokens (codes "," ∷ []) h (λ rest. symbol_front 44 (32 ∷ rest) refl refl refl) (λ rest. refl) in
+    let first = opened (text ++ codes ", ") x (tokens ++ codes "," ∷ []) (signed_tokens p.0) comma (signed_yields p.0 short.0) in
+    let colon = closed ((text ++ codes ", ") ++ x) (codes ":") ((tokens ++ codes "," ∷ []) ++ signed_tokens p.0) (codes ":" ∷ []) first (λ rest. symbol_front 58 rest refl refl refl) (λ rest. refl) in
+    rewritten ((((text ++ codes ", ") ++ x) ++ codes ":") ++ y) (text ++ point_text p) ((((tokens ++ codes "," ∷ []) ++ signed_tokens p.0) ++ codes ":" ∷ []) ++ signed_tokens p.1) (tokens ++ point_tokens p)
+    (point_texts text x y) (all_tokens tokens (signed_tokens p.0) (signed_tokens p.1))
+    (opened (((text ++ codes ", ") ++ x) ++ codes ":") y (((tokens ++ codes "," ∷ []) ++ signed_tokens p.0) ++ codes ":" ∷ []) (signed_tokens p.1) colon (signed_yields p.1 short.1))
+
+with_points : (text : List ℕ) (tokens : List (List ℕ)) (points : List (ℤ × ℤ)) → AllByRecursion IsShort points → Yields text tokens → Yields (text ++ flat_map point_text points) (tokens ++ flat_map point_tokens points)
+with_points text tokens [] each h = rewritten text (text ++ []) tokens (tokens ++ []) (sym (append-nil text)) (sym (append-nil tokens)) h
+with_points text tokens (p ∷ points) each h =
+    rewritten ((text ++ point_text p) ++ flat_map point_text points) (text ++ (point_text p ++ flat_map point_text points)) ((tokens ++ point_tokens p) ++ flat_map point_tokens points) (tokens ++ (point_tokens p ++ flat_map point_tokens points))
+    (append_assoc text (point_text p) (flat_map point_text points)) (append_assoc tokens (point_tokens p) (flat_map point_tokens points))
+    (with_points (text ++ point_text p) (tokens ++ point_tokens p) points each.1 (one_point text tokens p each.0 h))
+
+table : (text : List ℕ) (tokens : List (List ℕ)) (points : List (ℤ × ℤ)) → AllByRecursion IsShort points → Yields text tokens
+    → Yields (codes "lut(" ++ text ++ flat_map point_text points ++ codes ")") (codes "lut" ∷ codes "(" ∷ tokens ++ flat_map point_tokens points ++ codes ")" ∷ [])
+table text tokens points each h =
+    spelled (codes "lut(" ++ text ++ flat_map point_text points ++ codes ")") (codes "lut" ∷ codes "(" ∷ tokens ++ flat_map point_tokens points ++ codes ")" ∷ [])
+    (closed (codes "lut(" ++ text ++ flat_map point_text points) (codes ")") (codes "lut" ∷ codes "(" ∷ tokens ++ flat_map point_tokens points) (codes ")" ∷ [])
+    (with_points (codes "lut(" ++ text) (codes "lut" ∷ codes "(" ∷ tokens) points each
+    (opened (codes "lut(") text (codes "lut" ∷ codes "(" ∷ []) tokens (opening 108 (117 ∷ 116 ∷ []) refl refl) h))
+    (λ rest. symbol_front 41 rest refl refl refl)
+    (λ rest. refl))
+
 -- ---- the whole
 
 -- a number that has no sign
@@ -113,6 +160,7 @@ tree asked (Quotient a k) = wrapped 2 asked (Over (tree 2 a) (nat_abs k))
 tree asked (Minimum a b) = Least (tree 1 a) (tree 1 b)
 tree asked (Maximum a b) = Greatest (tree 1 a) (tree 1 b)
 tree asked (Absolute a) = Size (tree 1 a)
+tree asked (Lookup a points) = Tabled (tree 1 a) points
 
 number_yields : (k : ℤ) → pos 0 ≤ℤ k → IsLiteral k → Yields (signed_decimal k) (decimal (nat_abs k) ∷ [])
 number_yields (pos n) some lt = λ rest ends. digits_front (decimal n) rest (decimal_digits n (omega (arith, lt))) (decimal_nonempty n (omega (arith, lt))) ends
@@ -140,3 +188,4 @@ yields names asked (Minimum a b) named h =
 yields names asked (Maximum a b) named h =
     call (codes "max(") (codes "max") (expression_text names 1 a) (expression_text names 1 b) (yield_of names (tree 1 a)) (yield_of names (tree 1 b)) (opening 109 (97 ∷ 120 ∷ []) refl refl) (yields names 1 a named h.0) (yields names 1 b named h.1)
 yields names asked (Absolute a) named h = size (expression_text names 1 a) (yield_of names (tree 1 a)) (yields names 1 a named h)
+yields names asked (Lookup a points) named h = table (expression_text names 1 a) (yield_of names (tree 1 a)) points (recursion_from_All IsShort points h.1.short) (yields names 1 a named h.0)

@@ -89,15 +89,11 @@ pub read_orderly : (bytes rest : List ℕ) (n : ℕ) (q : Part) → IsReadInFron
 read_orderly bytes rest n q up = (all_the_way nothing_yet up.lines q at_the_beginning up.leads).orderly
 
 -- the text of a part that is whole is that of its plant
-whole_text : (q : Part) (p : Description) → IsPlant p → IsOrderly q → IsWhole q p → part_text q ≡ text_of p
-whole_text q p plant o w =
-    let begun : q.begun ≡ true = elim (cases_Bool q.begun) [
-      | inl e ↦ e
-      | inr e ↦ absurd (let none : length p.states ≡ 0 = ap length (sym w.states ∙ o.unbegun e) in omega (arith, none, plant.some_state))
-    ] in
-    rw (begun, w.closed, w.states, w.inputs, w.noises, w.equations, w.targets, w.obstacles, w.goal) refl
+whole_text : (q : Part) (p : Description) → IsWhole q p → part_text q ≡ text_of p
+whole_text q p w =
+    rw (w.version, w.closed, w.states, w.inputs, w.noises, w.equations, w.targets, w.obstacles, w.goal) refl
 
 pub at_front : (bytes : List ℕ) (count : ℕ) (q : Part) (p : Description) → KeepsRules q → IsOrderly q → count ≤ length bytes → take count bytes ≡ part_text q → IsWhole q p → IsFront bytes p count
 at_front bytes count q p k o within text w =
     let plant = whole_is_plant q p k w in
-    record { plant = plant; within = within; text = text ∙ whole_text q p plant o w }
+    record { plant = plant; within = within; text = text ∙ whole_text q p w }

@@ -5,6 +5,7 @@ use Rattle.plant_record.specs.declared.fault.LimitKind.{LimitKind}
 use Rattle.plant_record.specs.declared.fault.LimitKind.TheVariants.{PlantText, TableText, Vectors, Cells, Pairs, Edges}
 use Rattle.plant_text.specs.declared.fault.PlantFault.TheVariants as faults
 use Rattle.plant_record.specs.declared.aims.GoalKind.{GoalKind}
+use Rattle.plant_record.specs.declared.version.PlantVersion.{PlantVersion}
 use Rattle.plant_record.specs.Description.{Description}
 use Rattle.plant_record.specs.Plants.{IsPlant}
 use Rattle.plant_record.specs.Limits.{Exceeds}
@@ -41,6 +42,9 @@ read_less lines n m r le reads =
     let front = read_front (take m lines) n r reads in
     (front.0, subst (λ (x : List (List ℕ)). Reads x front.0) (take-take n m lines le) front.1)
 
+same_version : (a b : PlantVersion) → Some a ≡ Some b → a ≡ b
+same_version a b e = cc
+
 same_goal : (a b : GoalKind) → Some a ≡ Some b → a ≡ b
 same_goal a b e = cc
 
@@ -48,6 +52,7 @@ same_goal a b e = cc
 pub one_whole : (q : Part) (p r : Description) → IsWhole q p → IsWhole q r → p ≡ r
 one_whole q p r first second = λ i.
     record {
+      version = same_version p.version r.version (sym first.version ∙ second.version) i;
       states = (sym first.states ∙ second.states) i;
       inputs = (sym first.inputs ∙ second.inputs) i;
       noises = (sym first.noises ∙ second.noises) i;
@@ -196,6 +201,7 @@ whole_is_plant q p k whole =
       names_differ = k.names_differ;
       one_each = placed.1;
       equations = k.equations;
+      tables = λ e. k.tables (whole.version ∙ ap Some e);
       targets_bound = k.targets_bound;
       targets = k.targets;
       obstacles_bound = k.obstacles_bound;

@@ -11,15 +11,17 @@ use Rattle.plant_record.specs.declared.variables.InputVariable.{InputVariable}
 use Rattle.plant_record.specs.declared.variables.NoiseVariable.{NoiseVariable}
 use Rattle.plant_record.specs.declared.aims.StateBox.{StateBox}
 use Rattle.plant_record.specs.declared.aims.GoalKind.{GoalKind}
+use Rattle.plant_record.specs.declared.version.PlantVersion.{PlantVersion}
+use Rattle.plant_record.specs.declared.version.PlantVersion.TheVariants.{One, Two}
 use Rattle.plant_record.specs.Names.{IsName}
 use Rattle.plant_record.specs.Numbers.{IsLiteral}
 use Rattle.plant_record.specs.Description.{Description, names_over, names_of}
 use Rattle.plant_record.specs.Variables.{IsStateVariable, IsInputVariable, IsNoiseVariable}
 use Rattle.plant_record.specs.Boxes.{IsStateBox}
-use Rattle.plant_record.specs.Equations.{IsEquation}
+use Rattle.plant_record.specs.Equations.{IsEquation, HasNoTable}
 use Rattle.plant_record.specs.Plants.{IsPlant}
 use Rattle.plant_writing.specs.CanonicalText.{text_of, state_line, input_line, noise_line, equation_line, equation_lines, box_line}
-use Rattle.plant_record.specs.Spelling.{line, end_words, goal_word}
+use Rattle.plant_record.specs.Spelling.{line, version_word, end_words, goal_word}
 use Rattle.plant_writing.specs.ExpressionText.{expression_text}
 use Rattle.plant_reading.specs.Lines.{with_line_feeds}
 use Rattle.plant_reading.specs.Words.{words_of}
@@ -49,9 +51,12 @@ stated q body rest statement r says fits spelled order more = record {
 }
 
 -- the parts on the way
-abbrev part : List StateVariable → List InputVariable → List NoiseVariable → List Expression → List StateBox → List StateBox → Option GoalKind → Part
-part states inputs noises equations targets obstacles goal =
-    record { begun = true; states = states; inputs = inputs; noises = noises; equations = equations; targets = targets; obstacles = obstacles; goal = goal; ended = false }
+abbrev part : PlantVersion → List StateVariable → List InputVariable → List NoiseVariable → List Expression → List StateBox → List StateBox → Option GoalKind → Part
+part version states inputs noises equations targets obstacles goal =
+    record { version = Some version; states = states; inputs = inputs; noises = noises; equations = equations; targets = targets; obstacles = obstacles; goal = goal; ended = false }
+
+some_version : (v : PlantVersion) → Some v ≢ None
+some_version v = λ e. cc
 
 -- ---- names
 
@@ -70,16 +75,16 @@ noises_before states inputs done w more = simp (map-append, append_assoc)
 -- ---- the variables
 
 states_lead : (p : Description) (done more : List StateVariable) (rest : List ℕ) (r : Part) → IsPlant p → done ++ more ≡ p.states → AllByRecursion IsStateVariable more
-    → LeadsBy (part p.states [] [] [] [] [] None) rest r → LeadsBy (part done [] [] [] [] [] None) (flat_map state_line more ++ rest) r
-states_lead p done [] rest r h whole each then_rest = subst (λ (xs : List StateVariable). LeadsBy (part xs [] [] [] [] [] None) rest r) (sym (all_of done p.states whole)) then_rest
+    → LeadsBy (part p.version p.states [] [] [] [] [] None) rest r → LeadsBy (part p.version done [] [] [] [] [] None) (flat_map state_line more ++ rest) r
+states_lead p done [] rest r h whole each then_rest = subst (λ (xs : List StateVariable). LeadsBy (part p.version xs [] [] [] [] [] None) rest r) (sym (all_of done p.states whole)) then_rest
 states_lead p done (s ∷ more) rest r h whole each then_rest =
     let words = s.name ∷ signed_decimal s.low ∷ signed_decimal s.high ∷ signed_decimal s.width ∷ [] in
     let dark : AllByRecursion IsDarkWord words = (name_dark s.name each.0.name, (number_dark s.low each.0.low, (number_dark s.high each.0.high, (number_dark s.width each.0.width, tt)))) in
     let first : IsDarkWord (codes "state") = record { dark = refl; some = omega arith } in
-    subst (λ (text : List ℕ). LeadsBy (part done [] [] [] [] [] None) text r) (sym (append_assoc (state_line s) (flat_map state_line more) rest))
-    (stated (part done [] [] [] [] [] None) (join_with_byte 32 (codes "state" ∷ words)) (flat_map state_line more ++ rest) (State s) r
+    subst (λ (text : List ℕ). LeadsBy (part p.version done [] [] [] [] [] None) text r) (sym (append_assoc (state_line s) (flat_map state_line more) rest))
+    (stated (part p.version done [] [] [] [] [] None) (join_with_byte 32 (codes "state" ∷ words)) (flat_map state_line more ++ rest) (State s) r
     (words_joined (codes "state") words first dark, each.0) (
-      refl,
+      some_version p.version,
       refl,
       refl,
       refl,
@@ -90,14 +95,14 @@ states_lead p done (s ∷ more) rest r h whole each then_rest =
     (states_lead p (done ++ s ∷ []) more rest r h (next done s more p.states whole) each.1 then_rest))
 
 inputs_lead : (p : Description) (done more : List InputVariable) (rest : List ℕ) (r : Part) → IsPlant p → done ++ more ≡ p.inputs → AllByRecursion IsInputVariable more
-    → LeadsBy (part p.states p.inputs [] [] [] [] None) rest r → LeadsBy (part p.states done [] [] [] [] None) (flat_map input_line more ++ rest) r
-inputs_lead p done [] rest r h whole each then_rest = subst (λ (xs : List InputVariable). LeadsBy (part p.states xs [] [] [] [] None) rest r) (sym (all_of done p.inputs whole)) then_rest
+    → LeadsBy (part p.version p.states p.inputs [] [] [] [] None) rest r → LeadsBy (part p.version p.states done [] [] [] [] None) (flat_map input_line more ++ rest) r
+inputs_lead p done [] rest r h whole each then_rest = subst (λ (xs : List InputVariable). LeadsBy (part p.version p.states xs [] [] [] [] None) rest r) (sym (all_of done p.inputs whole)) then_rest
 inputs_lead p done (i ∷ more) rest r h whole each then_rest =
     let words = i.name ∷ map signed_decimal i.values in
     let dark : AllByRecursion IsDarkWord words = (name_dark i.name each.0.name, numbers_dark i.values (recursion_from_All IsLiteral i.values each.0.each)) in
     let first : IsDarkWord (codes "input") = record { dark = refl; some = omega arith } in
-    subst (λ (text : List ℕ). LeadsBy (part p.states done [] [] [] [] None) text r) (sym (append_assoc (input_line i) (flat_map input_line more) rest))
-    (stated (part p.states done [] [] [] [] None) (join_with_byte 32 (codes "input" ∷ words)) (flat_map input_line more ++ rest) (Input i) r
+    subst (λ (text : List ℕ). LeadsBy (part p.version p.states done [] [] [] [] None) text r) (sym (append_assoc (input_line i) (flat_map input_line more) rest))
+    (stated (part p.version p.states done [] [] [] [] None) (join_with_byte 32 (codes "input" ∷ words)) (flat_map input_line more ++ rest) (Input i) r
     (words_joined (codes "input") words first dark, each.0) (
       h.some_state,
       refl,
@@ -109,14 +114,14 @@ inputs_lead p done (i ∷ more) rest r h whole each then_rest =
     (inputs_lead p (done ++ i ∷ []) more rest r h (next done i more p.inputs whole) each.1 then_rest))
 
 noises_lead : (p : Description) (done more : List NoiseVariable) (rest : List ℕ) (r : Part) → IsPlant p → done ++ more ≡ p.noises → AllByRecursion IsNoiseVariable more
-    → LeadsBy (part p.states p.inputs p.noises [] [] [] None) rest r → LeadsBy (part p.states p.inputs done [] [] [] None) (flat_map noise_line more ++ rest) r
-noises_lead p done [] rest r h whole each then_rest = subst (λ (xs : List NoiseVariable). LeadsBy (part p.states p.inputs xs [] [] [] None) rest r) (sym (all_of done p.noises whole)) then_rest
+    → LeadsBy (part p.version p.states p.inputs p.noises [] [] [] None) rest r → LeadsBy (part p.version p.states p.inputs done [] [] [] None) (flat_map noise_line more ++ rest) r
+noises_lead p done [] rest r h whole each then_rest = subst (λ (xs : List NoiseVariable). LeadsBy (part p.version p.states p.inputs xs [] [] [] None) rest r) (sym (all_of done p.noises whole)) then_rest
 noises_lead p done (w ∷ more) rest r h whole each then_rest =
     let words = w.name ∷ signed_decimal w.low ∷ signed_decimal w.high ∷ [] in
     let dark : AllByRecursion IsDarkWord words = (name_dark w.name each.0.name, (number_dark w.low each.0.low, (number_dark w.high each.0.high, tt))) in
     let first : IsDarkWord (codes "noise") = record { dark = refl; some = omega arith } in
-    subst (λ (text : List ℕ). LeadsBy (part p.states p.inputs done [] [] [] None) text r) (sym (append_assoc (noise_line w) (flat_map noise_line more) rest))
-    (stated (part p.states p.inputs done [] [] [] None) (join_with_byte 32 (codes "noise" ∷ words)) (flat_map noise_line more ++ rest) (Noise w) r
+    subst (λ (text : List ℕ). LeadsBy (part p.version p.states p.inputs done [] [] [] None) text r) (sym (append_assoc (noise_line w) (flat_map noise_line more) rest))
+    (stated (part p.version p.states p.inputs done [] [] [] None) (join_with_byte 32 (codes "noise" ∷ words)) (flat_map noise_line more ++ rest) (Noise w) r
     (words_joined (codes "noise") words first dark, each.0) (
       h.some_state,
       refl,
@@ -142,58 +147,61 @@ equation_words name text named =
     ∙ ap (λ (ws : List (List ℕ)). codes "next" ∷ ws)
     (words_front name (codes "=" ++ 32 ∷ text) (name_dark name named) ∙ ap (λ (ws : List (List ℕ)). name ∷ ws) (words_front (codes "=") text (record { dark = refl; some = omega arith })))
 
+same_version : (v u : PlantVersion) → Some v ≡ Some u → v ≡ u
+same_version v u e = cc
+
 equations_lead : (p : Description) (done more : List Expression) (passed states : List StateVariable) (rest : List ℕ) (r : Part) → IsPlant p → done ++ more ≡ p.equations → passed ++ states ≡ p.states → length done ≡ length passed
-    → AllByRecursion (IsEquation (length (names_of p))) more
-    → LeadsBy (part p.states p.inputs p.noises p.equations [] [] None) rest r → LeadsBy (part p.states p.inputs p.noises done [] [] None) (equation_lines (names_of p) states more ++ rest) r
-equations_lead p done [] passed [] rest r h whole along same each then_rest = subst (λ (xs : List Expression). LeadsBy (part p.states p.inputs p.noises xs [] [] None) rest r) (sym (all_of done p.equations whole)) then_rest
-equations_lead p done [] passed (s ∷ states) rest r h whole along same each then_rest =
+    → AllByRecursion (IsEquation (length (names_of p))) more → (p.version ≡ One → AllByRecursion HasNoTable more)
+    → LeadsBy (part p.version p.states p.inputs p.noises p.equations [] [] None) rest r → LeadsBy (part p.version p.states p.inputs p.noises done [] [] None) (equation_lines (names_of p) states more ++ rest) r
+equations_lead p done [] passed [] rest r h whole along same each plain then_rest = subst (λ (xs : List Expression). LeadsBy (part p.version p.states p.inputs p.noises xs [] [] None) rest r) (sym (all_of done p.equations whole)) then_rest
+equations_lead p done [] passed (s ∷ states) rest r h whole along same each plain then_rest =
     absurd (omega (arith, same, h.one_each, length-append done [], length-append passed (s ∷ states), ap length whole, ap length along))
-equations_lead p done (e ∷ more) passed [] rest r h whole along same each then_rest =
+equations_lead p done (e ∷ more) passed [] rest r h whole along same each plain then_rest =
     absurd (omega (arith, same, h.one_each, length-append done (e ∷ more), length-append passed [], ap length whole, ap length along))
-equations_lead p done (e ∷ more) passed (s ∷ states) rest r h whole along same each then_rest =
+equations_lead p done (e ∷ more) passed (s ∷ states) rest r h whole along same each plain then_rest =
     let names = names_of p in
     let text = expression_text names 1 e in
     let lt : length done < length p.states = omega (arith, same, length-append passed (s ∷ states), ap length along) in
     let here : get_or p.states (length done) s ≡ s = ap (λ (xs : List StateVariable). get_or xs (length done) s) (sym along) ∙ get_or_at passed s states s (length done) (sym same) in
     let name_is : get_or names (length done) [] ≡ s.name = name_of_state p (length done) s lt ∙ ap (λ (x : StateVariable). x.name) here in
     let named : IsName s.name = subst IsName name_is (All-get_or IsName names (length done) [] (omega (arith, lt, names_count p)) (names_named p h)) in
-    subst (λ (t : List ℕ). LeadsBy (part p.states p.inputs p.noises done [] [] None) t r) (sym (append_assoc (equation_line names s.name e) (equation_lines names states more) rest))
-    (stated (part p.states p.inputs p.noises done [] [] None) (join_with_byte 32 (codes "next" ∷ s.name ∷ codes "=" ∷ text ∷ [])) (equation_lines names states more ++ rest) (Next s.name e) r
+    subst (λ (t : List ℕ). LeadsBy (part p.version p.states p.inputs p.noises done [] [] None) t r) (sym (append_assoc (equation_line names s.name e) (equation_lines names states more) rest))
+    (stated (part p.version p.states p.inputs p.noises done [] [] None) (join_with_byte 32 (codes "next" ∷ s.name ∷ codes "=" ∷ text ∷ [])) (equation_lines names states more ++ rest) (Next s.name e) r
     (words_of text, equation_words s.name text named, tokens_spell names e (names_named p h) each.0)
-    (lt, name_is)
+    (lt, name_is, λ one. (plain (same_version p.version One one)).0)
     refl tt
     (equations_lead p (done ++ e ∷ []) more (passed ++ s ∷ []) states rest r h (next done e more p.equations whole) (next passed s states p.states along)
     (omega (arith, same, length-append done (e ∷ []), length-append passed (s ∷ [])))
-    each.1 then_rest))
+    each.1 (λ one. (plain one).1) then_rest))
 
 -- ---- the boxes
 
 targets_lead : (p : Description) (done more : List StateBox) (rest : List ℕ) (r : Part) → IsPlant p → done ++ more ≡ p.targets → AllByRecursion (IsStateBox (length p.states)) more
-    → LeadsBy (part p.states p.inputs p.noises p.equations p.targets [] None) rest r
-    → LeadsBy (part p.states p.inputs p.noises p.equations done [] None) (flat_map (box_line (codes "target") (length p.states)) more ++ rest) r
-targets_lead p done [] rest r h whole each then_rest = subst (λ (xs : List StateBox). LeadsBy (part p.states p.inputs p.noises p.equations xs [] None) rest r) (sym (all_of done p.targets whole)) then_rest
+    → LeadsBy (part p.version p.states p.inputs p.noises p.equations p.targets [] None) rest r
+    → LeadsBy (part p.version p.states p.inputs p.noises p.equations done [] None) (flat_map (box_line (codes "target") (length p.states)) more ++ rest) r
+targets_lead p done [] rest r h whole each then_rest = subst (λ (xs : List StateBox). LeadsBy (part p.version p.states p.inputs p.noises p.equations xs [] None) rest r) (sym (all_of done p.targets whole)) then_rest
 targets_lead p done (b ∷ more) rest r h whole each then_rest =
     let n = length p.states in
     let words = end_words n b.low b.high in
     let first : IsDarkWord (codes "target") = record { dark = refl; some = omega arith } in
-    subst (λ (t : List ℕ). LeadsBy (part p.states p.inputs p.noises p.equations done [] None) t r) (sym (append_assoc (box_line (codes "target") n b) (flat_map (box_line (codes "target") n) more) rest))
-    (stated (part p.states p.inputs p.noises p.equations done [] None) (join_with_byte 32 (codes "target" ∷ words)) (flat_map (box_line (codes "target") n) more ++ rest) (Target b) r
+    subst (λ (t : List ℕ). LeadsBy (part p.version p.states p.inputs p.noises p.equations done [] None) t r) (sym (append_assoc (box_line (codes "target") n b) (flat_map (box_line (codes "target") n) more) rest))
+    (stated (part p.version p.states p.inputs p.noises p.equations done [] None) (join_with_byte 32 (codes "target" ∷ words)) (flat_map (box_line (codes "target") n) more ++ rest) (Target b) r
     (words_joined (codes "target") words first (box_dark n b each.0), each.0)
     ((h.some_state, h.one_each), refl, room done b more p.targets 64 whole h.targets_bound)
     refl refl
     (targets_lead p (done ++ b ∷ []) more rest r h (next done b more p.targets whole) each.1 then_rest))
 
 obstacles_lead : (p : Description) (done more : List StateBox) (rest : List ℕ) (r : Part) → IsPlant p → done ++ more ≡ p.obstacles → AllByRecursion (IsStateBox (length p.states)) more
-    → LeadsBy (part p.states p.inputs p.noises p.equations p.targets p.obstacles None) rest r
-    → LeadsBy (part p.states p.inputs p.noises p.equations p.targets done None) (flat_map (box_line (codes "obstacle") (length p.states)) more ++ rest) r
+    → LeadsBy (part p.version p.states p.inputs p.noises p.equations p.targets p.obstacles None) rest r
+    → LeadsBy (part p.version p.states p.inputs p.noises p.equations p.targets done None) (flat_map (box_line (codes "obstacle") (length p.states)) more ++ rest) r
 obstacles_lead p done [] rest r h whole each then_rest =
-    subst (λ (xs : List StateBox). LeadsBy (part p.states p.inputs p.noises p.equations p.targets xs None) rest r) (sym (all_of done p.obstacles whole)) then_rest
+    subst (λ (xs : List StateBox). LeadsBy (part p.version p.states p.inputs p.noises p.equations p.targets xs None) rest r) (sym (all_of done p.obstacles whole)) then_rest
 obstacles_lead p done (b ∷ more) rest r h whole each then_rest =
     let n = length p.states in
     let words = end_words n b.low b.high in
     let first : IsDarkWord (codes "obstacle") = record { dark = refl; some = omega arith } in
-    subst (λ (t : List ℕ). LeadsBy (part p.states p.inputs p.noises p.equations p.targets done None) t r) (sym (append_assoc (box_line (codes "obstacle") n b) (flat_map (box_line (codes "obstacle") n) more) rest))
-    (stated (part p.states p.inputs p.noises p.equations p.targets done None) (join_with_byte 32 (codes "obstacle" ∷ words)) (flat_map (box_line (codes "obstacle") n) more ++ rest) (Obstacle b) r
+    subst (λ (t : List ℕ). LeadsBy (part p.version p.states p.inputs p.noises p.equations p.targets done None) t r) (sym (append_assoc (box_line (codes "obstacle") n b) (flat_map (box_line (codes "obstacle") n) more) rest))
+    (stated (part p.version p.states p.inputs p.noises p.equations p.targets done None) (join_with_byte 32 (codes "obstacle" ∷ words)) (flat_map (box_line (codes "obstacle") n) more ++ rest) (Obstacle b) r
     (words_joined (codes "obstacle") words first (box_dark n b each.0), each.0)
     ((h.some_state, h.one_each), refl, room done b more p.obstacles 64 whole h.obstacles_bound)
     refl tt
@@ -203,7 +211,7 @@ obstacles_lead p done (b ∷ more) rest r h whole each then_rest =
 
 -- all of a plant
 abbrev pub whole_part : Description → Part
-whole_part p = record (part p.states p.inputs p.noises p.equations p.targets p.obstacles (Some p.goal)) { ended = true }
+whole_part p = record (part p.version p.states p.inputs p.noises p.equations p.targets p.obstacles (Some p.goal)) { ended = true }
 
 some_goal : (goal : GoalKind) → Some goal ≢ None
 some_goal goal = λ e. cc
@@ -211,20 +219,24 @@ some_goal goal = λ e. cc
 no_more : {q : Part} → LeadsBy q [] q
 no_more = record { lines = []; are = refl; leads = refl }
 
-goal_leads : (p : Description) → IsPlant p → LeadsBy (part p.states p.inputs p.noises p.equations p.targets p.obstacles None) (line (codes "goal" ∷ goal_word p.goal ∷ []) ++ (line (codes "end" ∷ []) ++ [])) (whole_part p)
+goal_leads : (p : Description) → IsPlant p → LeadsBy (part p.version p.states p.inputs p.noises p.equations p.targets p.obstacles None) (line (codes "goal" ∷ goal_word p.goal ∷ []) ++ (line (codes "end" ∷ []) ++ [])) (whole_part p)
 goal_leads p h =
     let first : IsDarkWord (codes "goal") = record { dark = refl; some = omega arith } in
-    stated (part p.states p.inputs p.noises p.equations p.targets p.obstacles None) (join_with_byte 32 (codes "goal" ∷ goal_word p.goal ∷ [])) (line (codes "end" ∷ []) ++ []) (Goal p.goal) (whole_part p)
+    stated (part p.version p.states p.inputs p.noises p.equations p.targets p.obstacles None) (join_with_byte 32 (codes "goal" ∷ goal_word p.goal ∷ [])) (line (codes "end" ∷ []) ++ []) (Goal p.goal) (whole_part p)
     (words_joined (codes "goal") (goal_word p.goal ∷ []) first (goal_dark p.goal, tt))
     ((h.some_state, h.one_each), refl, h.kept_aims_nowhere)
     refl tt
-    (stated (part p.states p.inputs p.noises p.equations p.targets p.obstacles (Some p.goal)) (codes "end") [] End (whole_part p) refl (some_goal p.goal, refl) refl tt no_more)
+    (stated (part p.version p.states p.inputs p.noises p.equations p.targets p.obstacles (Some p.goal)) (codes "end") [] End (whole_part p) refl (some_goal p.goal, refl) refl tt no_more)
 
 regrouped : (a b c d e f g i j : List ℕ) → a ++ b ++ c ++ d ++ e ++ f ++ g ++ i ++ j ≡ a ++ (b ++ (c ++ (d ++ (e ++ (f ++ (g ++ (i ++ (j ++ []))))))))
 regrouped a b c d e f g i j = simp (append_assoc, append-nil)
 
 pub is_whole : (p : Description) → IsWhole (whole_part p) p
-is_whole p = record { closed = refl; states = refl; inputs = refl; noises = refl; equations = refl; targets = refl; obstacles = refl; goal = refl }
+is_whole p = record { closed = refl; version = refl; states = refl; inputs = refl; noises = refl; equations = refl; targets = refl; obstacles = refl; goal = refl }
+
+version_words : (v : PlantVersion) → words_of (join_with_byte 32 (codes "plant" ∷ version_word v ∷ [])) ≡ codes "plant" ∷ version_word v ∷ []
+version_words One = refl
+version_words Two = refl
 
 pub plant_lines : (p : Description) → IsPlant p → LeadsBy nothing_yet (text_of p) (whole_part p)
 plant_lines p h =
@@ -236,18 +248,18 @@ plant_lines p h =
     let from_noises = flat_map noise_line p.noises ++ from_equations in
     let from_inputs = flat_map input_line p.inputs ++ from_noises in
     let from_states = flat_map state_line p.states ++ from_inputs in
-    let text : line (codes "plant" ∷ codes "1" ∷ []) ++ from_states ≡ text_of p =
+    let text : line (codes "plant" ∷ version_word p.version ∷ []) ++ from_states ≡ text_of p =
     sym (
-    regrouped (line (codes "plant" ∷ codes "1" ∷ [])) (flat_map state_line p.states) (flat_map input_line p.inputs) (flat_map noise_line p.noises) (equation_lines (names_of p) p.states p.equations)
+    regrouped (line (codes "plant" ∷ version_word p.version ∷ [])) (flat_map state_line p.states) (flat_map input_line p.inputs) (flat_map noise_line p.noises) (equation_lines (names_of p) p.states p.equations)
     (flat_map (box_line (codes "target") n) p.targets) (flat_map (box_line (codes "obstacle") n) p.obstacles) (line (codes "goal" ∷ goal_word p.goal ∷ [])) (line (codes "end" ∷ []))
     )
     in
     subst (λ (t : List ℕ). LeadsBy nothing_yet t (whole_part p)) text
-    (stated nothing_yet (codes "plant 1") from_states Version (whole_part p) refl refl refl tt
+    (stated nothing_yet (join_with_byte 32 (codes "plant" ∷ version_word p.version ∷ [])) from_states (Version p.version) (whole_part p) (version_words p.version) refl refl tt
     (states_lead p [] p.states from_inputs (whole_part p) h refl (recursion_from_All IsStateVariable p.states h.states)
     (inputs_lead p [] p.inputs from_noises (whole_part p) h refl (recursion_from_All IsInputVariable p.inputs h.inputs)
     (noises_lead p [] p.noises from_equations (whole_part p) h refl (recursion_from_All IsNoiseVariable p.noises h.noises)
-    (equations_lead p [] p.equations [] p.states from_targets (whole_part p) h refl refl refl (recursion_from_All (IsEquation (length (names_of p))) p.equations h.equations)
+    (equations_lead p [] p.equations [] p.states from_targets (whole_part p) h refl refl refl (recursion_from_All (IsEquation (length (names_of p))) p.equations h.equations) (λ one. recursion_from_All HasNoTable p.equations (h.tables one))
     (targets_lead p [] p.targets from_obstacles (whole_part p) h refl (recursion_from_All (IsStateBox n) p.targets h.targets)
     (obstacles_lead p [] p.obstacles ending (whole_part p) h refl (recursion_from_All (IsStateBox n) p.obstacles h.obstacles)
     (goal_leads p h))))))))

@@ -2,7 +2,7 @@
 use Rattle.std.proofs.Common.{inl, inr, ◌≡◌, ◌≢◌, ◌⊎◌, ℕ, ◌<◌, ◌≤◌, Bool, true, Option, Some, List, [], ◌∷◌, ◌++◌, length, None, All, arith, refl, sym, ap, subst, append_assoc, append-nil, length-append}
 use Rattle.std.specs.Prelude.{AllPairs}
 use Rattle.std.specs.List.{flat_map}
-use Rattle.std.proofs.lemmas.List.{map-append}
+use Rattle.std.proofs.lemmas.List.{map-append, nil_from_length}
 use Rattle.std.proofs.lemmas.List.Elements.{All-push, All-same, All-nil}
 use Rattle.fixed_expr.specs.Expression.{Expression}
 use Rattle.plant_record.specs.declared.variables.StateVariable.{StateVariable}
@@ -11,10 +11,12 @@ use Rattle.plant_record.specs.declared.variables.NoiseVariable.{NoiseVariable}
 use Rattle.plant_record.specs.declared.aims.StateBox.{StateBox}
 use Rattle.plant_record.specs.declared.aims.GoalKind.{GoalKind}
 use Rattle.plant_record.specs.declared.aims.GoalKind.TheVariants.{Keep}
+use Rattle.plant_record.specs.declared.version.PlantVersion.{PlantVersion}
+use Rattle.plant_record.specs.declared.version.PlantVersion.TheVariants.{One}
 use Rattle.plant_record.specs.Names.{IsName}
 use Rattle.plant_record.specs.Variables.{IsStateVariable, IsInputVariable, IsNoiseVariable}
 use Rattle.plant_record.specs.Boxes.{IsStateBox}
-use Rattle.plant_record.specs.Equations.{IsEquation, HasLiterals}
+use Rattle.plant_record.specs.Equations.{IsEquation, HasLiterals, HasNoTable}
 use Rattle.plant_reading.specs.Words.{words_of}
 use Rattle.plant_reading.specs.Tokens.{tokens_of}
 use Rattle.plant_reading.specs.SyntaxTrees.{AreTokensOf}
@@ -36,6 +38,7 @@ with_noise q w = rw (map-append (λ (t : NoiseVariable). t.name) q.noises (w ∷
 
 pub rules_of_nothing : KeepsRules nothing_yet
 rules_of_nothing = record {
+  unbegun = λ _. refl;
   states_bound = omega arith;
   states = All-nil IsStateVariable;
   inputs_bound = omega arith;
@@ -46,13 +49,14 @@ rules_of_nothing = record {
   names_differ = λ i j d lt below. absurd (omega (arith, below));
   equations_bound = omega arith;
   equations = All-nil (IsEquation 0);
+  tables = λ _. All-nil HasNoTable;
   targets_bound = omega arith;
   targets = All-nil (IsStateBox 0);
   obstacles_bound = omega arith;
   obstacles = All-nil (IsStateBox 0);
   placed = inr (refl, refl, refl);
   kept_aims_nowhere = λ _. refl;
-  closed = λ e. cc;
+  closed = λ e. absurd cc;
 }
 
 -- where no equation stands, nothing is aimed at
@@ -71,6 +75,7 @@ rules_state q s k is fits =
     let room : length q.states < 6 = fits.4 in
     let aims = aimless q k (no_equations q fits.3) in
     record {
+      unbegun = λ none. absurd (fits.0 none);
       states_bound = omega (arith, room, length-append q.states (s ∷ []));
       states = All-push IsStateVariable q.states s k.states is;
       inputs_bound = k.inputs_bound;
@@ -81,6 +86,7 @@ rules_state q s k is fits =
       names_differ = subst (AllPairs (λ a b. a ≢ b)) (sym names) (differ (names_in q) s.name k.names_differ fits.5);
       equations_bound = omega (arith, k.equations_bound, length-append q.states (s ∷ []));
       equations = All-same (IsEquation (length (names_in (extended q (State s))))) q.equations [] fits.3 (All-nil (IsEquation (length (names_in (extended q (State s))))));
+      tables = k.tables;
       targets_bound = k.targets_bound;
       targets = All-same (IsStateBox (length (q.states ++ s ∷ []))) q.targets [] aims.0 (All-nil (IsStateBox (length (q.states ++ s ∷ []))));
       obstacles_bound = k.obstacles_bound;
@@ -95,6 +101,7 @@ rules_input q i k is fits =
     let names : names_in (extended q (Input i)) ≡ names_in q ++ i.name ∷ [] = with_input q i fits.1 in
     let room : length q.inputs < 3 = fits.3 in
     record {
+      unbegun = k.unbegun;
       states_bound = k.states_bound;
       states = k.states;
       inputs_bound = omega (arith, room, length-append q.inputs (i ∷ []));
@@ -105,6 +112,7 @@ rules_input q i k is fits =
       names_differ = subst (AllPairs (λ a b. a ≢ b)) (sym names) (differ (names_in q) i.name k.names_differ fits.4);
       equations_bound = k.equations_bound;
       equations = All-same (IsEquation (length (names_in (extended q (Input i))))) q.equations [] fits.2 (All-nil (IsEquation (length (names_in (extended q (Input i))))));
+      tables = k.tables;
       targets_bound = k.targets_bound;
       targets = k.targets;
       obstacles_bound = k.obstacles_bound;
@@ -119,6 +127,7 @@ rules_noise q w k is fits =
     let names : names_in (extended q (Noise w)) ≡ names_in q ++ w.name ∷ [] = with_noise q w in
     let room : length q.noises < 6 = fits.2 in
     record {
+      unbegun = k.unbegun;
       states_bound = k.states_bound;
       states = k.states;
       inputs_bound = k.inputs_bound;
@@ -129,6 +138,7 @@ rules_noise q w k is fits =
       names_differ = subst (AllPairs (λ a b. a ≢ b)) (sym names) (differ (names_in q) w.name k.names_differ fits.3);
       equations_bound = k.equations_bound;
       equations = All-same (IsEquation (length (names_in (extended q (Noise w))))) q.equations [] fits.1 (All-nil (IsEquation (length (names_in (extended q (Noise w))))));
+      tables = k.tables;
       targets_bound = k.targets_bound;
       targets = k.targets;
       obstacles_bound = k.obstacles_bound;
@@ -140,11 +150,13 @@ rules_noise q w k is fits =
 
 module _ (q : Part) (k : KeepsRules q) where
   -- other equations, boxes and goal behind the same variables
-  same_variables : (begun : Bool) (equations : List Expression) (targets obstacles : List StateBox) (goal : Option GoalKind) (ended : Bool)
-      → let r = record q { begun = begun; equations = equations; targets = targets; obstacles = obstacles; goal = goal; ended = ended } in
-      length equations ≤ length q.states → All (IsEquation (length (names_in q))) equations → length targets ≤ 64 → All (IsStateBox (length q.states)) targets → length obstacles ≤ 64 → All (IsStateBox (length q.states)) obstacles
-      → HasEquations r ⊎ IsAimless r → (goal ≡ Some Keep → targets ≡ []) → (ended ≡ true → goal ≢ None) → KeepsRules r
-  same_variables begun equations targets obstacles goal ended equations_bound equations_are targets_bound targets_are obstacles_bound obstacles_are placed kept_aims_nowhere closed = record {
+  same_variables : (version : Option PlantVersion) (equations : List Expression) (targets obstacles : List StateBox) (goal : Option GoalKind) (ended : Bool)
+      → let r = record q { version = version; equations = equations; targets = targets; obstacles = obstacles; goal = goal; ended = ended } in
+      (version ≡ None → q.states ≡ []) → (version ≡ Some One → All HasNoTable equations) → length equations ≤ length q.states → All (IsEquation (length (names_in q))) equations → length targets ≤ 64 → All (IsStateBox (length q.states)) targets → length obstacles ≤ 64 → All (IsStateBox (length q.states)) obstacles
+      → HasEquations r ⊎ IsAimless r → (goal ≡ Some Keep → targets ≡ []) → (ended ≡ true → (goal ≢ None) × (version ≢ None)) → KeepsRules r
+  same_variables version equations targets obstacles goal ended unbegun tables equations_bound equations_are targets_bound targets_are obstacles_bound obstacles_are placed kept_aims_nowhere closed = record {
+    unbegun = unbegun;
+    tables = tables;
     states_bound = k.states_bound;
     states = k.states;
     inputs_bound = k.inputs_bound;
@@ -164,41 +176,53 @@ module _ (q : Part) (k : KeepsRules q) where
     closed = closed;
   }
 
-  rules_version : KeepsRules (extended q Version)
-  rules_version = same_variables true q.equations q.targets q.obstacles q.goal q.ended k.equations_bound k.equations k.targets_bound k.targets k.obstacles_bound k.obstacles k.placed k.kept_aims_nowhere k.closed
+  rules_version : (v : PlantVersion) → FitsAfter q (Version v) → KeepsRules (extended q (Version v))
+  rules_version v fits =
+      let states : q.states ≡ [] = k.unbegun fits in
+      let none : q.equations ≡ [] = nil_from_length q.equations (let b = k.equations_bound in let n : length q.states ≡ 0 = ap length states in omega (arith, b, n)) in
+      same_variables (Some v) q.equations q.targets q.obstacles q.goal q.ended (λ e. absurd cc) (λ _. All-same HasNoTable q.equations [] none (All-nil HasNoTable))
+      k.equations_bound k.equations k.targets_bound k.targets k.obstacles_bound k.obstacles k.placed k.kept_aims_nowhere (λ ended. ((k.closed ended).0, λ e. cc))
 
   rules_next : (name : List ℕ) (e : Expression) → IsEquation (length (names_in q)) e → FitsAfter q (Next name e) → KeepsRules (extended q (Next name e))
   rules_next name e is fits =
       let room : length q.equations < length q.states = fits.0 in
-      same_variables q.begun (q.equations ++ e ∷ []) q.targets q.obstacles q.goal q.ended
+      same_variables q.version (q.equations ++ e ∷ []) q.targets q.obstacles q.goal q.ended k.unbegun (λ v. All-push HasNoTable q.equations e (k.tables v) (fits.2 v))
       (omega (arith, room, length-append q.equations (e ∷ []))) (All-push (IsEquation (length (names_in q))) q.equations e k.equations is) k.targets_bound k.targets k.obstacles_bound k.obstacles
       (inr (aimless q k (λ has. omega (arith, room, has.1)))) k.kept_aims_nowhere k.closed
 
   rules_target : (b : StateBox) → IsStateBox (length q.states) b → FitsAfter q (Target b) → KeepsRules (extended q (Target b))
   rules_target b is fits =
       let room : length q.targets < 64 = fits.2 in
-      same_variables q.begun q.equations (q.targets ++ b ∷ []) q.obstacles q.goal q.ended
+      same_variables q.version q.equations (q.targets ++ b ∷ []) q.obstacles q.goal q.ended k.unbegun k.tables
       k.equations_bound k.equations (omega (arith, room, length-append q.targets (b ∷ []))) (All-push (IsStateBox (length q.states)) q.targets b k.targets is) k.obstacles_bound k.obstacles
       (inl fits.0) (λ e. (let g : q.goal ≡ None = fits.1 in cc)) k.closed
 
   rules_obstacle : (b : StateBox) → IsStateBox (length q.states) b → FitsAfter q (Obstacle b) → KeepsRules (extended q (Obstacle b))
   rules_obstacle b is fits =
       let room : length q.obstacles < 64 = fits.2 in
-      same_variables q.begun q.equations q.targets (q.obstacles ++ b ∷ []) q.goal q.ended
+      same_variables q.version q.equations q.targets (q.obstacles ++ b ∷ []) q.goal q.ended k.unbegun k.tables
       k.equations_bound k.equations k.targets_bound k.targets (omega (arith, room, length-append q.obstacles (b ∷ []))) (All-push (IsStateBox (length q.states)) q.obstacles b k.obstacles is)
       (inl fits.0) k.kept_aims_nowhere k.closed
 
   rules_goal : (kind : GoalKind) → FitsAfter q (Goal kind) → KeepsRules (extended q (Goal kind))
   rules_goal kind fits =
-      same_variables q.begun q.equations q.targets q.obstacles (Some kind) q.ended
+      same_variables q.version q.equations q.targets q.obstacles (Some kind) q.ended k.unbegun k.tables
       k.equations_bound k.equations k.targets_bound k.targets k.obstacles_bound k.obstacles
-      (inl fits.0) (λ e. (let is : kind ≡ Keep = (let same : kind ≡ Keep = cc in same) in fits.2 is)) (λ _ e. cc)
+      (inl fits.0) (λ e. (let is : kind ≡ Keep = (let same : kind ≡ Keep = cc in same) in fits.2 is)) (λ ended. (λ e. cc, (k.closed ended).1))
 
   rules_end : FitsAfter q End → KeepsRules (extended q End)
   rules_end fits =
-      same_variables q.begun q.equations q.targets q.obstacles q.goal true
+      same_variables q.version q.equations q.targets q.obstacles q.goal true k.unbegun k.tables
       k.equations_bound k.equations k.targets_bound k.targets k.obstacles_bound k.obstacles
-      k.placed k.kept_aims_nowhere (λ _. fits.0)
+      k.placed k.kept_aims_nowhere (λ _. (
+        fits.0,
+        λ none. (
+            let states : length q.states ≡ 0 = ap length (k.unbegun none) in
+            elim k.placed [
+              | inl has ↦ omega (arith, states, has.0)
+              | inr aims ↦ fits.0 aims.2
+            ]),
+      ))
 
 -- an expression that tokens spell is an equation
 pub equation_spelled : (names : List (List ℕ)) (tokens : List (List ℕ)) (e : Expression) → AreTokensOf names tokens e → IsEquation (length names) e
@@ -206,7 +230,7 @@ equation_spelled names tokens e t =
     record { literals = subst (HasLiterals (length names)) t.means (tree_literals (length names) t.syntax_tree t.grammatical); nodes = t.nodes; depth = t.depth }
 
 pub rules_extended : (q : Part) (words : List (List ℕ)) (s : Statement) → KeepsRules q → States (names_in q) (length q.states) words s → FitsAfter q s → KeepsRules (extended q s)
-rules_extended q words Version k says fits = rules_version q k
+rules_extended q words (Version v) k says fits = rules_version q k v fits
 rules_extended q words (State s) k says fits = rules_state q s k says.1 fits
 rules_extended q words (Input i) k says fits = rules_input q i k says.1 fits
 rules_extended q words (Noise w) k says fits = rules_noise q w k says.1 fits

@@ -6,7 +6,7 @@ use Rattle.plant_text.specs.Grammar.{Part}
 
 abbrev pub part_of : Draft → Part
 part_of d = record {
-  begun = d.begun;
+  version = d.version;
   states = d.variables.states.items;
   inputs = d.variables.inputs.items;
   noises = d.variables.noises.items;

@@ -6,7 +6,7 @@ use Rattle.plant_reading.specs.Statements.{Statement, Version, State, Input, Noi
 -- the equation of a statement, if any, has the variables that it names
 abbrev pub HasFormedEquation : ℕ → Statement → Type 0
 HasFormedEquation m (Next name e) = IsWellFormed e m
-HasFormedEquation m Version = Unit {0}
+HasFormedEquation m (Version v) = Unit {0}
 HasFormedEquation m (State s) = Unit {0}
 HasFormedEquation m (Input i) = Unit {0}
 HasFormedEquation m (Noise w) = Unit {0}

@@ -2,12 +2,14 @@
 use Rattle.std.specs.Prelude.{◌≡◌, ℕ, Bool, false, List, [], ◌∷◌, ◌++◌, length, Option, Some, None, codes, if◌then◌else◌}
 use Rattle.std.specs.List.{flat_map}
 use Rattle.plant_record.specs.declared.aims.GoalKind.{GoalKind}
-use Rattle.plant_record.specs.Spelling.{line, goal_word}
+use Rattle.plant_record.specs.declared.version.PlantVersion.{PlantVersion}
+use Rattle.plant_record.specs.Spelling.{line, version_word, goal_word}
 use Rattle.plant_writing.specs.CanonicalText.{state_line, input_line, noise_line, equation_lines, box_line}
 use Rattle.plant_text.specs.Grammar.{Part, names_in}
 
-abbrev pub version_text : Bool → List ℕ
-version_text begun = if begun then line (codes "plant" ∷ codes "1" ∷ []) else []
+abbrev pub version_text : Option PlantVersion → List ℕ
+version_text None = []
+version_text (Some v) = line (codes "plant" ∷ version_word v ∷ [])
 
 abbrev pub goal_text : Option GoalKind → List ℕ
 goal_text None = []
@@ -19,7 +21,7 @@ end_text ended = if ended then line (codes "end" ∷ []) else []
 -- the lines of a part in their order
 abbrev pub part_text : Part → List ℕ
 part_text q =
-    version_text q.begun
+    version_text q.version
     ++ flat_map state_line q.states
     ++ flat_map input_line q.inputs
     ++ flat_map noise_line q.noises
@@ -31,5 +33,5 @@ part_text q =
 
 -- What stands in a part only behind something else.
 pub record IsOrderly (q : Part) : Type 0 where
-  pub unbegun : q.begun ≡ false → q.states ≡ []
+  pub unbegun : q.version ≡ None → q.states ≡ []
   pub stateless : q.states ≡ [] → (q.inputs ≡ []) × (q.noises ≡ [])

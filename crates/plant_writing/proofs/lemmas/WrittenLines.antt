@@ -13,7 +13,7 @@ use Rattle.plant_record.specs.declared.variables.NoiseVariable.{NoiseVariable}
 use Rattle.plant_record.specs.declared.aims.StateBox.{StateBox}
 use Rattle.plant_record.specs.Description.{Description, names_of}
 use Rattle.plant_writing.specs.CanonicalText.{text_of, state_line, input_line, noise_line, equation_line, equation_lines, box_line}
-use Rattle.plant_record.specs.Spelling.{goal_word, line, end_words}
+use Rattle.plant_record.specs.Spelling.{end_words, goal_word, line, version_word}
 use Rattle.plant_writing.specs.ExpressionText.{expression_text}
 
 -- a word with a space before it
@@ -132,7 +132,7 @@ equations_all p i same le =
 -- the text but its last two lines
 abbrev pub front_text : Description → List ℕ
 front_text p =
-    line (codes "plant" ∷ codes "1" ∷ [])
+    line (codes "plant" ∷ version_word p.version ∷ [])
     ++ flat_map state_line p.states
     ++ flat_map input_line p.inputs
     ++ flat_map noise_line p.noises

@@ -1,6 +1,6 @@
 -- The levels of expressions in a text. No public clause names this.
 use Rattle.std.specs.Prelude.{ℕ}
-use Rattle.fixed_expr.specs.Expression.{Expression, Number, Variable, Negation, Sum, Difference, Product, Quotient, Minimum, Maximum, Absolute}
+use Rattle.fixed_expr.specs.Expression.{Expression, Number, Variable, Negation, Sum, Difference, Product, Quotient, Minimum, Maximum, Absolute, Lookup}
 use Rattle.plant_writing.specs.declared.expression_writer.Level.{Level}
 use Rattle.plant_writing.specs.declared.expression_writer.Level.TheVariants as level
 
@@ -21,3 +21,4 @@ own_level (Quotient a k) = 2
 own_level (Minimum a b) = 3
 own_level (Maximum a b) = 3
 own_level (Absolute a) = 3
+own_level (Lookup a points) = 3

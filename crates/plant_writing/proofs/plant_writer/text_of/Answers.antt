@@ -21,6 +21,8 @@ returns c =
       c.in_ok-push_inputs.ensures,
       c.in_ok-push_states.ensures,
       c.in_ok-text.ensures.items,
+      c.version_line.ensures,
+      c.plant_version.ensures,
       c.state_list-states.ensures,
       c.state_list.ensures,
       c.input_list.ensures,

@@ -4,8 +4,8 @@ use Rattle.std.specs.Int.{w64}
 use Rattle.std.specs.Fmt.{signed_decimal}
 use Rattle.std.proofs.lemmas.Int.{to_z-of_z}
 use Rattle.plant_record.specs.Numbers.{IsLiteral}
-use Rattle.plant_reading.proofs.lemmas.ItemSpelling.{literal_written, literal_unwritten}
-use Rattle.plant_reading.proofs.items.literal_of.Goals as goal
+use Rattle.plant_reading.proofs.lemmas.Literals.{literal_written, literal_unwritten}
+use Rattle.plant_reading.proofs.literals.literal_of.Goals as goal
 
 pub returns-in_err-z : goal.returns-in_err-z
 returns-in_err-z c = c.from_residual.ensures ∙ sym (literal_unwritten c.args.token.now c.parsed.result c.parsed.ensures (λ z e w. cc c.in_err-z.was))
