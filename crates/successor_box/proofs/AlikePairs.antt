@@ -1,47 +1,50 @@
 -- The side of a pair along a state's axis rests on its places in the variables of the state's equation.
-use Rattle.std.proofs.Common.{◌≡◌, ◌⊎◌, ℕ, ◌+◌, ◌-◌, ◌<◌, ◌≤◌, List, [], ◌∷◌, ◌++◌, map, length, take, get_or, true, false, not, ◌&&◌, eqb, refl, sym, ap, subst₂, ◌∙◌, arith, inl, inr}
+use Rattle.std.proofs.Common.{◌≡◌, ◌⊎◌, ℕ, ◌+◌, ◌-◌, ◌<◌, ◌≤◌, List, ◌++◌, map, length, take, get_or, true, false, not, ◌&&◌, eqb, refl, sym, ap, ap₂, subst₂, ◌∙◌, arith, inl, inr}
 use Rattle.std.specs.Prelude.{ℤ, pos, ◌-ℤ◌, ◌*ℤ◌, Option}
+use Rattle.std.specs.Int.{int_min, int_max}
 use Rattle.std.proofs.lemmas.Bool.{cases_lt, cases_Bool, both_ways, and_from, and_left, and_right, not_from_false, ne_eqb, cond_below, cond_above, cond-true, cond-false}
-use Rattle.std.proofs.lemmas.Int.{ints}
+use Rattle.std.proofs.lemmas.Int.{ints, clamps}
 use Rattle.std.proofs.lemmas.List.{length-map, get_or-take, length-take-le}
 use Rattle.fixed_expr.specs.Expression.{Expression}
-use Rattle.fixed_expr.specs.Mentions.{mentions, AreSameIn, ValuesRestOnVariables}
-use Rattle.fixed_expr.specs.Moves.{AreSameBut, ValuesMoveWithVariables}
+use Rattle.fixed_expr.specs.Mentions.{mentions}
+use Rattle.fixed_expr.specs.inside.Alike.{AreSameIn, AreSameBut}
+use Rattle.fixed_expr.proofs.Laws.{values_rest_on_variables, values_move_with_variables}
 use Rattle.fixed_expr.specs.Value.{value_of}
 use Rattle.interval_eval.specs.declared.interval.Interval.{Interval}
-use Rattle.growth_bound.specs.Laws.{DeviationsRestOnVariables}
+use Rattle.interval_eval.specs.Span.{span_of}
+use Rattle.interval_eval.specs.inside.Nested.{HaveSameRangesBut}
+use Rattle.interval_eval.proofs.Laws.{spans_rest_on_variables, spans_move_with_variables}
+use Rattle.growth_bound.proofs.Laws.{deviations_rest_on_variables}
 use Rattle.grid_quantiser.specs.declared.axis.Axis.{Axis}
 use Rattle.grid_quantiser.specs.declared.sides.Side.{Side}
 use Rattle.grid_quantiser.specs.Axes.{no_axis, cells_of}
 use Rattle.grid_quantiser.specs.Cells.{centre_of, radius_of}
 use Rattle.grid_quantiser.specs.Places.{place_along, middle_of}
 use Rattle.grid_quantiser.specs.Sides.{IsSideOf, prolonged}
-use Rattle.grid_quantiser.specs.Laws.{CentresRestOnTheirPlaces}
 use Rattle.plant_record.specs.declared.variables.StateVariable.{StateVariable}
 use Rattle.plant_record.specs.declared.variables.NoiseVariable.{NoiseVariable}
 use Rattle.plant_record.specs.Description.{Description, axis_of, axes_of, vectors_of, vector_of}
-use Rattle.plant_record.specs.InputPlaces.{input_place, InputsRestOnTheirPlaces}
+use Rattle.plant_record.specs.declared.version.PlantVersion.{PlantVersion}
+use Rattle.plant_record.specs.declared.version.PlantVersion.TheVariants.{One, Two}
+use Rattle.plant_record.specs.InputPlaces.{input_place}
+use Rattle.plant_record.proofs.lemmas.InputPlaces.{inputs_rest}
 use Rattle.plant_record.specs.Soundness.{IsSound}
 use Rattle.plant_record.specs.Steps.{equation_at}
-use Rattle.successor_box.specs.Boxes.{noise_centre, area_of, radii_of, deviation_at, central_values, low_corner, high_corner}
+use Rattle.successor_box.specs.Boxes.{noise_centre, area_of, radii_of, deviation_at, central_values, cell_area_of, growth_of, reach_of, low_corner, high_corner}
 use Rattle.successor_box.specs.Sides.{place_in, moves_along, moved_by, IsSideBeforeAt, rests_on, AreAlikeIn}
-use Rattle.successor_box.specs.inside.Area.{no_range}
+use Rattle.successor_box.specs.inside.Area.{no_range, offsets_of, moved_to}
+use Rattle.successor_box.proofs.Below.{centres_rest_on_their_places}
+use Rattle.successor_box.proofs.CellOffsets.{cell_range, same_constants, same_offsets, same_cell_range}
 use Rattle.successor_box.proofs.CellValues.{vector_count}
 use Rattle.successor_box.proofs.Centres.{centre_count}
 use Rattle.successor_box.proofs.Ranges.{in_first, in_second, in_third, input_range}
 use Rattle.successor_box.proofs.SideEnds.{low_is, high_is}
 
 -- inputs have no radius
-same_zeros : (xs ys : List ℤ) → length xs ≡ length ys → map (λ _. pos 0) xs ≡ map (λ _. pos 0) ys
-same_zeros [] [] long = refl
-same_zeros [] (y ∷ ys) long = absurd (omega (arith, long))
-same_zeros (x ∷ xs) [] long = absurd (omega (arith, long))
-same_zeros (x ∷ xs) (y ∷ ys) long = ap (λ (zs : List ℤ). pos 0 ∷ zs) (same_zeros xs ys (omega (arith, long)))
-
 same_radii : (p : Description) (u v : ℕ) → radii_of p v ≡ radii_of p u
 same_radii p u v =
     ap (λ (zs : List ℤ). map radius_of (axes_of p) ++ zs ++ map (λ (w : NoiseVariable). w.high -ℤ noise_centre w) p.noises)
-    (same_zeros (vector_of p.inputs v) (vector_of p.inputs u) (vector_count p.inputs v ∙ sym (vector_count p.inputs u)))
+    (same_constants (pos 0) (vector_of p.inputs v) (vector_of p.inputs u) (vector_count p.inputs v ∙ sym (vector_count p.inputs u)))
 
 -- ---- one central value
 
@@ -107,7 +110,7 @@ module _ (p : Description) (c u d v k : ℕ) where
           ∙ sym (in_third state_ranges (ranges u) noise_ranges k no_range (length p.states) (length p.inputs) states_count (ranges_count u) noise)
 
   -- the same place brings the same central value
-  module _ (centres : CentresRestOnTheirPlaces) (inputs : InputsRestOnTheirPlaces) (sound : IsSound p) (cell : c < cells_of (axes_of p)) (input : u < vectors_of p.inputs) (other_cell : d < cells_of (axes_of p)) (other_input : v < vectors_of p.inputs) where
+  module _ (sound : IsSound p) (cell : c < cells_of (axes_of p)) (input : u < vectors_of p.inputs) (other_cell : d < cells_of (axes_of p)) (other_input : v < vectors_of p.inputs) where
     same_state : k < length p.states → place_in p c u k ≡ place_in p d v k → get_or (central_values p d v) k (pos 0) ≡ get_or (central_values p c u) k (pos 0)
     same_state lt alike =
         let axes = axes_of p in
@@ -115,9 +118,9 @@ module _ (p : Description) (c u d v k : ℕ) where
         let place : place_along axes k d ≡ place_along axes k c =
         cond_below k (length p.states) (place_along axes k d) (input_place p.inputs (k - length p.states) v) lt ∙ sym alike ∙ sym (cond_below k (length p.states) (place_along axes k c) (input_place p.inputs (k - length p.states) u) lt) in
         central_state p d v k lt
-        ∙ centres axes d k sound.axes other_cell within
+        ∙ centres_rest_on_their_places axes d k sound.axes other_cell within
         ∙ ap (middle_of (get_or axes k no_axis)) place
-        ∙ sym (centres axes c k sound.axes cell within)
+        ∙ sym (centres_rest_on_their_places axes c k sound.axes cell within)
         ∙ sym (central_state p c u k lt)
 
     same_input : length p.states ≤ k → k < length p.states + length p.inputs → place_in p c u k ≡ place_in p d v k → get_or (central_values p d v) k (pos 0) ≡ get_or (central_values p c u) k (pos 0)
@@ -126,7 +129,7 @@ module _ (p : Description) (c u d v k : ℕ) where
         let place : input_place p.inputs j v ≡ input_place p.inputs j u =
         cond_above k (length p.states) (place_along (axes_of p) k d) (input_place p.inputs j v) (input_place p.inputs j v) past refl ∙ sym alike ∙ sym (cond_above k (length p.states) (place_along (axes_of p) k c) (input_place p.inputs j u) (input_place p.inputs j u) past refl) in
         central_input p d v k past lt
-        ∙ inputs p.inputs j v u (omega (arith, past, lt)) other_input input place
+        ∙ inputs_rest p.inputs j v u (omega (arith, past, lt)) other_input input place
         ∙ sym (central_input p c u k past lt)
 
     same_value : (k < length p.states + length p.inputs → place_in p c u k ≡ place_in p d v k) → get_or (central_values p d v) k (pos 0) ≡ get_or (central_values p c u) k (pos 0)
@@ -150,7 +153,7 @@ rests p i k stands other = and_from (mentions (equation_at p i) k) (not (moves_a
     apart (inl moves) = and_right (moves_along p i) (eqb k i) (ne_eqb k i (other moves))
     apart (inr fixed) = and_left (moves_along p i) (eqb k i) fixed
 
-module _ (values : ValuesRestOnVariables) (moving : ValuesMoveWithVariables) (deviations : DeviationsRestOnVariables) (centres : CentresRestOnTheirPlaces) (inputs : InputsRestOnTheirPlaces) (p : Description) (i c u d v : ℕ) (sound : IsSound p) (lt : i < length p.equations)
+module _ (p : Description) (i c u d v : ℕ) (sound : IsSound p) (lt : i < length p.equations)
     (cell : c < cells_of (axes_of p)) (input : u < vectors_of p.inputs) (other_cell : d < cells_of (axes_of p)) (other_input : v < vectors_of p.inputs) (alike : AreAlikeIn p i c u d v) where
   abbrev e : Expression
   e = equation_at p i
@@ -162,40 +165,83 @@ module _ (values : ValuesRestOnVariables) (moving : ValuesMoveWithVariables) (de
   state_lt = omega (arith, lt, sound.one_each)
 
   same : (k : ℕ) → mentions e k ≡ true → (moves_along p i ≡ true → k ≡ i → ⊥) → get_or (central_values p d v) k (pos 0) ≡ get_or (central_values p c u) k (pos 0)
-  same k stands other = same_value p c u d v k centres inputs sound cell input other_cell other_input (λ here. alike k here (rests p i k stands other))
+  same k stands other = same_value p c u d v k sound cell input other_cell other_input (λ here. alike k here (rests p i k stands other))
 
   same_deviation : deviation_at p v e ≡ deviation_at p u e
   same_deviation =
       let ranges : AreSameIn no_range e (area_of p v) (area_of p u) = λ k stands. same_range p c u d v k (λ past. same k stands (λ moves is. omega (arith, past, is, state_lt))) in
       let radii : AreSameIn (pos 0) e (radii_of p v) (radii_of p u) = λ k stands. ap (λ (rs : List ℤ). get_or rs k (pos 0)) (same_radii p u v) in
-      ap pos (deviations e (area_of p v) (area_of p u) (radii_of p v) (radii_of p u) ranges radii)
+      ap pos (deviations_rest_on_variables e (area_of p v) (area_of p u) (radii_of p v) (radii_of p u) ranges radii)
 
   -- the state's own value is the middle of its place
   own_value : (b w : ℕ) → b < cells_of (axes_of p) → get_or (central_values p b w) i (pos 0) ≡ middle_of axis (place_along (axes_of p) i b)
-  own_value b w within = central_state p b w i state_lt ∙ centres (axes_of p) b i sound.axes within (omega (arith, state_lt, length-map p.states axis_of))
+  own_value b w within = central_state p b w i state_lt ∙ centres_rest_on_their_places (axes_of p) b i sound.axes within (omega (arith, state_lt, length-map p.states axis_of))
 
-  -- the value of the equation so many places before
-  abbrev value_before : ℕ → ℕ → ℤ
-  value_before b w = value_of e (central_values p b w) -ℤ (axis.width *ℤ pos (moved_by p i b))
+  -- the same end of two intervals, each so many places before
+  abbrev shift : ℕ → ℤ
+  shift b = axis.width *ℤ pos (moved_by p i b)
 
-  same_before : (moves_along p i ≡ true) ⊎ (moves_along p i ≡ false) → value_before d v ≡ value_before c u
-  same_before (inl moves) =
+  abbrev IsSameBefore : ℤ → ℤ → Type 0
+  IsSameBefore there here = there -ℤ shift d ≡ here -ℤ shift c
+
+  moved_here : moves_along p i ≡ true → (b : ℕ) → moved_by p i b ≡ place_along (axes_of p) i b
+  moved_here moves b = cond-true (moves_along p i) (place_along (axes_of p) i b) 0 moves
+
+  fixed_here : moves_along p i ≡ false → (b : ℕ) → moved_by p i b ≡ 0
+  fixed_here fixed b = cond-false (moves_along p i) (place_along (axes_of p) i b) 0 fixed
+
+  -- the value at the centre
+  same_centre : (moves_along p i ≡ true) ⊎ (moves_along p i ≡ false) → IsSameBefore (value_of e (central_values p d v)) (value_of e (central_values p c u))
+  same_centre (inl moves) =
       let but : AreSameBut i e (central_values p d v) (central_values p c u) = λ k other stands. same k stands (λ m is. other is) in
-      let apart = moving e i (central_values p d v) (central_values p c u) moves but in
-      let here : moved_by p i c ≡ place_along (axes_of p) i c = cond-true (moves_along p i) (place_along (axes_of p) i c) 0 moves in
-      let there : moved_by p i d ≡ place_along (axes_of p) i d = cond-true (moves_along p i) (place_along (axes_of p) i d) 0 moves in
-      rw (here, there) (omega (arith, ints, apart, own_value c u cell, own_value d v other_cell))
-  same_before (inr fixed) =
-      let value : value_of e (central_values p d v) ≡ value_of e (central_values p c u) = values e (central_values p d v) (central_values p c u) (λ k stands. same k stands (λ m is. both_ways (moves_along p i) fixed m)) in
-      let here : moved_by p i c ≡ 0 = cond-false (moves_along p i) (place_along (axes_of p) i c) 0 fixed in
-      let there : moved_by p i d ≡ 0 = cond-false (moves_along p i) (place_along (axes_of p) i d) 0 fixed in
-      rw (here, there) (ap (λ (x : ℤ). x -ℤ (axis.width *ℤ pos 0)) value)
+      let apart = values_move_with_variables e i (central_values p d v) (central_values p c u) moves but in
+      rw (moved_here moves c, moved_here moves d) (omega (arith, ints, apart, own_value c u cell, own_value d v other_cell))
+  same_centre (inr fixed) =
+      let value = values_rest_on_variables e (central_values p d v) (central_values p c u) (λ k stands. same k stands (λ m is. both_ways (moves_along p i) fixed m)) in
+      rw (fixed_here fixed c, fixed_here fixed d) (ap (λ (x : ℤ). x -ℤ (axis.width *ℤ pos 0)) value)
+
+  -- the span over the cell
+  abbrev span : ℕ → ℕ → Interval
+  span b w = span_of e (cell_area_of p b w)
+
+  own_range : (b w : ℕ) → b < cells_of (axes_of p) → get_or (cell_area_of p b w) i no_range ≡ moved_to (middle_of axis (place_along (axes_of p) i b)) (get_or (offsets_of p u) i no_range)
+  own_range b w within =
+      cell_range p b w i (omega (arith, state_lt))
+      ∙ ap₂ (λ (x : ℤ) (os : List Interval). moved_to x (get_or os i no_range)) (own_value b w within) (same_offsets p u w)
+
+  same_span : (moves_along p i ≡ true) ⊎ (moves_along p i ≡ false) → IsSameBefore (span d v).lo (span c u).lo × IsSameBefore (span d v).hi (span c u).hi
+  same_span (inl moves) =
+      let but : HaveSameRangesBut i e (cell_area_of p d v) (cell_area_of p c u) = λ k other stands. same_cell_range p c u d v k (same k stands (λ m is. other is)) in
+      let apart = spans_move_with_variables e i (cell_area_of p d v) (cell_area_of p c u) moves but in
+      let here = own_range c u cell in
+      let there = own_range d v other_cell in
+      rw (moved_here moves c, moved_here moves d)
+      (omega (arith, ints, apart.0, ap (λ (r : Interval). r.lo) here, ap (λ (r : Interval). r.lo) there), omega (arith, ints, apart.1, ap (λ (r : Interval). r.hi) here, ap (λ (r : Interval). r.hi) there))
+  same_span (inr fixed) =
+      let is = spans_rest_on_variables e (cell_area_of p d v) (cell_area_of p c u) (λ k stands. same_cell_range p c u d v k (same k stands (λ m is. both_ways (moves_along p i) fixed m))) in
+      rw (fixed_here fixed c, fixed_here fixed d) (ap (λ (s : Interval). s.lo -ℤ (axis.width *ℤ pos 0)) is, ap (λ (s : Interval). s.hi -ℤ (axis.width *ℤ pos 0)) is)
+
+  -- where the equation leads
+  greater_before : (a b x y : ℤ) → IsSameBefore a b → IsSameBefore x y → IsSameBefore (int_max a x) (int_max b y)
+  greater_before a b x y h k = omega (arith, ints, clamps, h, k)
+
+  lesser_before : (a b x y : ℤ) → IsSameBefore a b → IsSameBefore x y → IsSameBefore (int_min a x) (int_min b y)
+  lesser_before a b x y h k = omega (arith, ints, clamps, h, k)
+
+  same_growth : IsSameBefore (growth_of p d v e).lo (growth_of p c u e).lo × IsSameBefore (growth_of p d v e).hi (growth_of p c u e).hi
+  same_growth =
+      let value = same_centre (cases_Bool (moves_along p i)) in
+      (omega (arith, ints, value, same_deviation), omega (arith, ints, value, same_deviation))
+
+  same_reach : (version : PlantVersion) → IsSameBefore (reach_of version p d v e).lo (reach_of version p c u e).lo × IsSameBefore (reach_of version p d v e).hi (reach_of version p c u e).hi
+  same_reach One = same_growth
+  same_reach Two =
+      let s = same_span (cases_Bool (moves_along p i)) in
+      (greater_before _ _ _ _ same_growth.0 s.0, lesser_before _ _ _ _ same_growth.1 s.1)
 
   pub alike_side : (side : Option Side) → IsSideBeforeAt p d v i (moved_by p i d) side → IsSideBeforeAt p c u i (moved_by p i c) side
   alike_side side is =
-      let value = same_before (cases_Bool (moves_along p i)) in
-      let low : get_or (low_corner p d v) i (pos 0) -ℤ (axis.width *ℤ pos (moved_by p i d)) ≡ get_or (low_corner p c u) i (pos 0) -ℤ (axis.width *ℤ pos (moved_by p i c)) =
-      omega (arith, ints, value, same_deviation, low_is p c u i lt, low_is p d v i lt) in
-      let high : get_or (high_corner p d v) i (pos 0) -ℤ (axis.width *ℤ pos (moved_by p i d)) ≡ get_or (high_corner p c u) i (pos 0) -ℤ (axis.width *ℤ pos (moved_by p i c)) =
-      omega (arith, ints, value, same_deviation, high_is p c u i lt, high_is p d v i lt) in
+      let reach = same_reach p.version in
+      let low : get_or (low_corner p d v) i (pos 0) -ℤ shift d ≡ get_or (low_corner p c u) i (pos 0) -ℤ shift c = omega (arith, ints, reach.0, low_is p c u i lt, low_is p d v i lt) in
+      let high : get_or (high_corner p d v) i (pos 0) -ℤ shift d ≡ get_or (high_corner p c u) i (pos 0) -ℤ shift c = omega (arith, ints, reach.1, high_is p c u i lt, high_is p d v i lt) in
       subst₂ (λ (x y : ℤ). IsSideOf (prolonged axis) x y side) low high is

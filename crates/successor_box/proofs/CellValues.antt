@@ -17,6 +17,7 @@ use Rattle.plant_record.specs.declared.variables.NoiseVariable.{NoiseVariable}
 use Rattle.plant_record.specs.Description.{Description, axis_of, axes_of, names_of, vectors_of, vector_of}
 use Rattle.plant_record.specs.Steps.{IsNoise, values_at}
 use Rattle.plant_record.specs.Soundness.{IsFilledByCells}
+use Rattle.plant_record.specs.Variables.{IsNoiseVariable}
 use Rattle.successor_box.specs.Boxes.{noise_centre, area_of, radii_of, central_values}
 
 near_append : (rs xs ys radii values others : List ℤ) → AreNear rs xs ys → AreNear radii values others → AreNear (rs ++ radii) (xs ++ values) (ys ++ others)
@@ -27,7 +28,7 @@ near_append (r ∷ rs) [] ys radii values others h k = absurd h
 near_append (r ∷ rs) (x ∷ xs) [] radii values others h k = absurd h
 near_append (r ∷ rs) (x ∷ xs) (y ∷ ys) radii values others h k = (h.0, near_append rs xs ys radii values others h.1 k)
 
-in_append : (is area : List Interval) (xs values : List ℤ) → AreIn is xs → AreIn area values → AreIn (is ++ area) (xs ++ values)
+pub in_append : (is area : List Interval) (xs values : List ℤ) → AreIn is xs → AreIn area values → AreIn (is ++ area) (xs ++ values)
 in_append [] area [] values h k = k
 in_append [] area (x ∷ xs) values h k = absurd h
 in_append (i ∷ is) area [] values h k = absurd h
@@ -49,7 +50,7 @@ states_near (s ∷ states) (x ∷ xs) [] near = absurd near
 states_near (s ∷ states) (x ∷ xs) (y ∷ ys) near = ((near.0, near.1), states_near states xs ys near.2)
 
 -- inputs
-inputs_in : (vs : List ℤ) → AreIn (map (λ v. record { lo = v; hi = v }) vs) vs
+pub inputs_in : (vs : List ℤ) → AreIn (map (λ v. record { lo = v; hi = v }) vs) vs
 inputs_in [] = tt
 inputs_in (v ∷ vs) = ((omega (arith, ints), omega (arith, ints)), inputs_in vs)
 
@@ -76,12 +77,12 @@ middle low high x below above =
     by_bounds : (m : ℤ) → (m +ℤ m) ≤ℤ (low +ℤ high) → (low +ℤ high) ≤ℤ ((m +ℤ m) +ℤ pos 1) → IsMiddle low high x m
     by_bounds m p q = record { above_low = omega (arith, ints, p, q, below, above); below_high = omega (arith, ints, p, q, below, above); near = (omega (arith, ints, p, q, below, above), omega (arith, ints, p, q, below, above)) }
 
-noises_in : (noises : List NoiseVariable) (w : List ℤ) → IsNoise noises w → AreIn (map (λ (v : NoiseVariable). record { lo = v.low; hi = v.high }) noises) (take (length noises) w)
+pub noises_in : (noises : List NoiseVariable) (w : List ℤ) → IsNoise noises w → AreIn (map (λ (v : NoiseVariable). record { lo = v.low; hi = v.high }) noises) (take (length noises) w)
 noises_in [] w noise = tt
 noises_in (v ∷ noises) [] noise = absurd noise
 noises_in (v ∷ noises) (x ∷ w) noise = ((noise.0, noise.1), noises_in noises w noise.2)
 
-centres_in : (noises : List NoiseVariable) (w : List ℤ) → IsNoise noises w → AreIn (map (λ (v : NoiseVariable). record { lo = v.low; hi = v.high }) noises) (take (length noises) (map noise_centre noises))
+pub centres_in : (noises : List NoiseVariable) (w : List ℤ) → IsNoise noises w → AreIn (map (λ (v : NoiseVariable). record { lo = v.low; hi = v.high }) noises) (take (length noises) (map noise_centre noises))
 centres_in [] w noise = tt
 centres_in (v ∷ noises) [] noise = absurd noise
 centres_in (v ∷ noises) (x ∷ w) noise = let m = middle v.low v.high x noise.0 noise.1 in ((m.above_low, m.below_high), centres_in noises w noise.2)
@@ -90,6 +91,16 @@ noises_near : (noises : List NoiseVariable) (w : List ℤ) → IsNoise noises w 
 noises_near [] w noise = tt
 noises_near (v ∷ noises) [] noise = absurd noise
 noises_near (v ∷ noises) (x ∷ w) noise = let m = middle v.low v.high x noise.0 noise.1 in (m.near, noises_near noises w noise.2)
+
+same : (z : ℤ) → z ≤ℤ z
+same z = omega (arith, ints)
+
+-- the centres of the noises are in range
+pub centres_are_noise : (noises : List NoiseVariable) (past : List ℤ) → All IsNoiseVariable noises → IsNoise noises (map noise_centre noises ++ past)
+centres_are_noise [] past each = tt
+centres_are_noise (v ∷ noises) past each =
+    let m = middle v.low v.high v.low (same v.low) (All-head IsNoiseVariable v noises each).ordered in
+    (m.above_low, m.below_high, centres_are_noise noises past (All-tail IsNoiseVariable v noises each))
 
 module _ (p : Description) (c u : ℕ) (x w : List ℤ) (noise : IsNoise p.noises w) where
   -- the values at a state in the domain lie in the area

@@ -1,30 +1,30 @@
 -- The values of the variables of the pairs in a block's rows.
-use Rattle.std.proofs.Common.{◌≡◌, ℕ, ◌+◌, ◌-◌, ◌/◌, ◌<◌, ◌≤◌, List, [], ◌++◌, All, length, map, take, drop, get_or, sym, ap, subst, ◌∙◌, arith}
+use Rattle.std.proofs.Common.{◌≡◌, ℕ, ◌+◌, ◌-◌, ◌/◌, ◌<◌, ◌≤◌, List, [], length, map, take, drop, get_or, sym, ap, subst, ◌∙◌, arith}
 use Rattle.std.specs.Prelude.{ℤ, pos}
 use Rattle.std.proofs.lemmas.Bool.{cond_below, cond_above}
-use Rattle.std.proofs.lemmas.List.{length-append, length-map, length-take-le, get_or-map, get_or-take, ext_get_or}
+use Rattle.std.proofs.lemmas.List.{length-map, length-take-le, get_or-map, get_or-take, ext_get_or}
 use Rattle.std.proofs.lemmas.List.Elements.{All-get_or}
 use Rattle.std.proofs.lemmas.Nat.{mod_below}
 use Rattle.fixed_expr.specs.Expression.{Number}
 use Rattle.fixed_expr.specs.Value.{StaysInRange}
 use Rattle.grid_quantiser.specs.Axes.{IsAxis, no_axis, cells_of}
 use Rattle.grid_quantiser.specs.Cells.{centre_of, point_of}
-use Rattle.grid_quantiser.specs.Laws.{CentresAreNear, CentresRestOnTheirPlaces}
 use Rattle.grid_quantiser.specs.Places.{place_along, middle_of}
-use Rattle.plant_record.specs.Description.{Description, axis_of, axes_of, vectors_of, vector_of}
+use Rattle.plant_record.specs.Description.{Description, axis_of, axes_of, vectors_of}
 use Rattle.plant_record.specs.InputPlaces.{input_place}
 use Rattle.plant_record.specs.Soundness.{IsSound}
 use Rattle.plant_record.specs.Steps.{equation_at}
-use Rattle.plant_record.specs.Variables.{IsNoiseVariable}
 use Rattle.successor_box.specs.Boxes.{noise_centre, central_values}
 use Rattle.successor_box.specs.Deviations.{HasNoOverflow}
-use Rattle.successor_box.specs.Laws.{StepsStayInRange}
 use Rattle.successor_box.specs.Sides.{IsPairInRow}
 use Rattle.successor_box.specs.inside.Area.{variables_of}
 use Rattle.fixed_expr.specs.Rows.{row_of}
-use Rattle.successor_box.proofs.AlikePairs.{central_state, central_noise, centre_long}
-use Rattle.successor_box.proofs.CellValues.{vector_count}
-use Rattle.successor_box.proofs.Centres.{centres_are_noise, central_list}
+use Rattle.successor_box.proofs.AlikePairs.{central_state, central_noise}
+use Rattle.successor_box.proofs.Below.{centres_are_near, centres_rest_on_their_places}
+use Rattle.successor_box.proofs.CellOffsets.{central_count}
+use Rattle.successor_box.proofs.CellValues.{centres_are_noise}
+use Rattle.successor_box.proofs.Centres.{central_list}
+use Rattle.successor_box.proofs.Steps.{step_stays}
 use Rattle.successor_box.proofs.Padding.{domain_more}
 
 pub axis_at : (p : Description) → IsSound p → (k : ℕ) → k < length p.states → IsAxis (get_or (axes_of p) k no_axis)
@@ -48,9 +48,9 @@ module _ (p : Description) (places : List (List ℕ)) (row c u : ℕ) (is : IsPa
       let count : ℕ = (get_or (axes_of p) k no_axis).count in
       subst (λ (n : ℕ). n < count) (sym (place_at k lt)) (mod_below (c / cells_of (drop (k + 1) (axes_of p))) count (axis_at p sound k lt).some_cell)
 
-  pub state_value : CentresRestOnTheirPlaces → IsSound p → (k : ℕ) → k < length p.states → middle_of (get_or (axes_of p) k no_axis) (get_or (get_or places k []) row 0) ≡ get_or (central_values p c u) k (pos 0)
-  state_value centres sound k lt =
-      ap (middle_of (get_or (axes_of p) k no_axis)) (place_at k lt) ∙ sym (centres (axes_of p) c k sound.axes is.cell (omega (arith, lt, length-map p.states axis_of))) ∙ sym (central_state p c u k lt)
+  pub state_value : IsSound p → (k : ℕ) → k < length p.states → middle_of (get_or (axes_of p) k no_axis) (get_or (get_or places k []) row 0) ≡ get_or (central_values p c u) k (pos 0)
+  state_value sound k lt =
+      ap (middle_of (get_or (axes_of p) k no_axis)) (place_at k lt) ∙ sym (centres_rest_on_their_places (axes_of p) c k sound.axes is.cell (omega (arith, lt, length-map p.states axis_of))) ∙ sym (central_state p c u k lt)
 
 -- ---- the central values of a pair
 
@@ -58,27 +58,19 @@ module _ (p : Description) (c u : ℕ) where
   pub noise_value : (k : ℕ) → length p.states + length p.inputs ≤ k → k < variables_of p → get_or (map noise_centre p.noises) (k - length p.states - length p.inputs) (pos 0) ≡ get_or (central_values p c u) k (pos 0)
   noise_value k past lt = sym (central_noise p c u k past ∙ get_or-take (length p.noises) (map noise_centre p.noises) (k - length p.states - length p.inputs) (pos 0) (omega (arith, past, lt)))
 
-  central_long : length (central_values p c u) ≡ variables_of p
-  central_long =
-      let states : List ℤ = take (length p.states) (centre_of (axes_of p) c) in
-      let inputs : List ℤ = vector_of p.inputs u in
-      let noises : List ℤ = take (length p.noises) (map noise_centre p.noises) in
-      let noises_long : length noises ≡ length p.noises = length-take-le (length p.noises) (map noise_centre p.noises) (omega (arith, length-map p.noises noise_centre)) in
-      omega (arith, length-append (states ++ inputs) noises, length-append states inputs, centre_long p c, vector_count p.inputs u, noises_long)
-
   -- a row of columns that hold them
   pub row_is : (columns : List (List ℤ)) (n row : ℕ) → n ≡ variables_of p → n ≤ length columns → ((k : ℕ) → k < variables_of p → get_or (get_or columns k []) row (pos 0) ≡ get_or (central_values p c u) k (pos 0)) → row_of (take n columns) row ≡ central_values p c u
   row_is columns n row all within each =
       let at : List ℤ → ℤ = λ (column : List ℤ). get_or column row (pos 0) in
       let front : length (take n columns) ≡ n = length-take-le n columns within in
-      let long : length (map at (take n columns)) ≡ length (central_values p c u) = length-map (take n columns) at ∙ front ∙ all ∙ sym central_long in
+      let long : length (map at (take n columns)) ≡ length (central_values p c u) = length-map (take n columns) at ∙ front ∙ all ∙ sym (central_count p c u) in
       ext_get_or (pos 0) (map at (take n columns)) (central_values p c u) long (λ k lt.
       let below : k < n = omega (arith, lt, length-map (take n columns) at, front) in
       get_or-map at (take n columns) k [] (pos 0) (omega (arith, below, front)) ∙ ap at (get_or-take n columns k [] below) ∙ each k (omega (arith, below, all)))
 
   -- no node of an equation leaves the range at them
-  pub stays_at : StepsStayInRange → CentresAreNear → IsSound p → HasNoOverflow p → All IsNoiseVariable p.noises → c < cells_of (axes_of p) → u < vectors_of p.inputs → (i : ℕ) → i < length p.equations → StaysInRange (equation_at p i) (central_values p c u)
-  stays_at steps near sound fits noises cell input i lt =
-      let inside = domain_more (axes_of p) (centre_of (axes_of p) c) _ (near (axes_of p) c sound.axes cell).0.0 in
-      let stays = steps p u (point_of (centre_of (axes_of p) c)) (point_of (map noise_centre p.noises)) sound fits input inside (centres_are_noise p.noises _ noises) in
+  pub stays_at : IsSound p → HasNoOverflow p → c < cells_of (axes_of p) → u < vectors_of p.inputs → (i : ℕ) → i < length p.equations → StaysInRange (equation_at p i) (central_values p c u)
+  stays_at sound fits cell input i lt =
+      let inside = domain_more (axes_of p) (centre_of (axes_of p) c) _ (centres_are_near (axes_of p) c sound.axes cell).0.0 in
+      let stays = step_stays p u (point_of (centre_of (axes_of p) c)) (point_of (map noise_centre p.noises)) sound fits input inside (centres_are_noise p.noises _ sound.noises) in
       subst (StaysInRange (equation_at p i)) (central_list p c u) (stays i (Number (pos 0)) lt)

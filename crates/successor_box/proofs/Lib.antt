@@ -1,5 +1,8 @@
+pub mod Below
 pub mod BoxDomains
 pub mod CellValues
+pub mod CellAreas
+pub mod Reaches
 pub mod Steps
 pub mod Enabled
 pub mod Padding
@@ -9,8 +12,10 @@ pub mod Centres
 pub mod DeviationRows
 pub mod SideEnds
 pub mod Ranges
+pub mod CellOffsets
 pub mod AlikePairs
 pub mod PairSides
 pub mod InputNumbers
 pub mod Middles
 pub mod Columns
+pub mod CellColumns

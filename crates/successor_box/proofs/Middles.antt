@@ -1,6 +1,6 @@
 -- The middles of the places along an axis, in 64 bits.
 use Rattle.std.proofs.Common.{◌≡◌, ℕ, zero, suc, ◌+◌, ◌*◌, ◌/◌, ◌%◌, ◌^◌, ◌<◌, ◌≤◌, List, [], ◌∷◌, length, get_or, refl, ap, ◌∙◌, w64, arith}
-use Rattle.std.specs.Prelude.{ℤ, pos, negsuc, nat_abs, ◌+ℤ◌, ◌-ℤ◌, ◌*ℤ◌, ◌≤ℤ◌, FitsSigned}
+use Rattle.std.specs.Prelude.{ℤ, pos, negsuc, nat_abs, neg_ℤ, ◌+ℤ◌, ◌-ℤ◌, ◌*ℤ◌, ◌≤ℤ◌, FitsSigned}
 use Rattle.std.specs.Int.{w128}
 use Rattle.std.proofs.Math.Nat.{zero-div, zero-mod}
 use Rattle.std.proofs.lemmas.Int.{ints}
@@ -21,11 +21,11 @@ between_literals low high z h k below above = omega (arith, ints, h, k, below, a
 
 -- ---- the ends of the first cell
 
-low_long : (axes : List Axis) (c : ℕ) → length (low_of axes c) ≡ length axes
+pub low_long : (axes : List Axis) (c : ℕ) → length (low_of axes c) ≡ length axes
 low_long [] c = refl
 low_long (a ∷ axes) c = ap suc (low_long axes (c % cells_of axes))
 
-high_long : (axes : List Axis) (c : ℕ) → length (high_of axes c) ≡ length axes
+pub high_long : (axes : List Axis) (c : ℕ) → length (high_of axes c) ≡ length axes
 high_long [] c = refl
 high_long (a ∷ axes) c = ap suc (high_long axes (c % cells_of axes))
 
@@ -98,6 +98,9 @@ pub record IsFirstCell (a : Axis) (low high radius : ℤ) : Type 0 where
   pub width_wide : FitsSigned w128 ((high -ℤ low) +ℤ pos 1)
   pub width_fits : FitsSigned w64 ((high -ℤ low) +ℤ pos 1)
   pub width : (high -ℤ low) +ℤ pos 1 ≡ a.width
+  pub back_wide : FitsSigned w128 (neg_ℤ radius)
+  pub rest_wide : FitsSigned w128 ((high -ℤ low) -ℤ radius)
+  pub rest : (high -ℤ low) -ℤ radius ≡ (a.width -ℤ pos 1) -ℤ radius_of a
 
 pub first_cell : (a : Axis) (low high radius : ℤ) → IsAxis a → low ≡ a.lo → high ≡ a.lo +ℤ (a.width -ℤ pos 1) → radius ≡ radius_of a → IsFirstCell a low high radius
 first_cell a low high radius is low-is high-is radius-is =
@@ -118,4 +121,7 @@ first_cell a low high radius is low-is high-is radius-is =
       width_wide = omega (arith, ints, s.within, r, from, to, some, low-is, high-is);
       width_fits = omega (arith, ints, s.within, r, from, to, some, low-is, high-is);
       width = omega (arith, ints, low-is, high-is);
+      back_wide = omega (arith, ints, s.within, r, from, to, some, at);
+      rest_wide = omega (arith, ints, s.within, r, from, to, some, low-is, high-is, at);
+      rest = omega (arith, ints, low-is, high-is, radius-is);
     }

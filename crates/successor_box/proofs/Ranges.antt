@@ -1,24 +1,25 @@
 -- The ranges and the radii of a plant's variables, one by one.
-use Rattle.std.proofs.Common.{◌≡◌, ℕ, zero, suc, ◌+◌, ◌-◌, ◌^◌, ◌<◌, ◌≤◌, List, [], ◌∷◌, ◌++◌, Some, All, length, map, get_or, refl, sym, ap, ap₂, subst, ◌∙◌, arith}
+use Rattle.std.proofs.Common.{◌≡◌, ℕ, zero, suc, ◌+◌, ◌-◌, ◌^◌, ◌<◌, ◌≤◌, List, [], ◌∷◌, ◌++◌, Some, All, length, map, take, replicate, get_or, refl, sym, ap, ap₂, subst, ◌∙◌, arith}
 use Rattle.std.specs.Prelude.{ℤ, pos, nat_abs, ◌+ℤ◌, ◌-ℤ◌, ◌≤ℤ◌, slice_get}
 use Rattle.std.specs.Option.{option_map}
 use Rattle.std.proofs.lemmas.Int.{ints}
 use Rattle.std.proofs.lemmas.Option.{none-some, same_Some}
-use Rattle.std.proofs.lemmas.List.{length-append, length-map, get_or-map, get_or_append_left, get_or-append_right}
+use Rattle.std.proofs.lemmas.List.{length-append, length-map, get_or-map, get_or_append_left, get_or-append_right, take-append-le, take_all}
 use Rattle.std.proofs.lemmas.List.Elements.{All-head, All-tail}
 use Rattle.fixed_expr.specs.Quotient.{floor_div}
 use Rattle.interval_eval.specs.declared.interval.Interval.{Interval}
 use Rattle.grid_quantiser.specs.declared.axis.Axis.{Axis}
 use Rattle.grid_quantiser.specs.Axes.{end_of, no_axis, cells_of}
 use Rattle.grid_quantiser.specs.Cells.{low_of, high_of, radius_of, point_of}
-use Rattle.grid_quantiser.specs.Laws.{DomainHasEnds}
 use Rattle.plant_record.specs.declared.variables.StateVariable.{StateVariable}
 use Rattle.plant_record.specs.declared.variables.NoiseVariable.{NoiseVariable}
 use Rattle.plant_record.specs.Variables.{IsNoiseVariable}
 use Rattle.plant_record.specs.Soundness.{IsSound, IsFilledByCells}
 use Rattle.plant_record.specs.Description.{Description, axis_of, axes_of, vector_of}
-use Rattle.successor_box.specs.Boxes.{noise_centre, area_of, radii_of}
+use Rattle.successor_box.specs.Boxes.{noise_centre, area_of, ranges_between, area_between, radii_of}
 use Rattle.successor_box.specs.inside.Area.{variables_of}
+use Rattle.successor_box.proofs.Below.{domain_has_ends}
+use Rattle.successor_box.proofs.CellAreas.{ranges_long}
 use Rattle.successor_box.proofs.CellValues.{vector_count}
 
 -- ---- the least and the greatest number of each state
@@ -36,12 +37,6 @@ highs (s ∷ states) whole =
     ap₂ (λ (x : ℤ) (xs : List ℤ). x ∷ xs) (before_end (end_of (axis_of s)) s.high (All-head IsFilledByCells s states whole)) (highs states (All-tail IsFilledByCells s states whole))
 
 -- ---- one variable
-
-state_at : (states : List StateVariable) (k : ℕ) (d : Interval) → k < length states →
-    ◌≡◌ {A = Interval} (record { lo = get_or (map (λ (s : StateVariable). s.low) states) k (pos 0); hi = get_or (map (λ (s : StateVariable). s.high) states) k (pos 0) }) (get_or (map (λ (s : StateVariable). record { lo = s.low; hi = s.high }) states) k d)
-state_at [] k d lt = absurd (omega (arith, lt))
-state_at (s ∷ states) zero d lt = refl
-state_at (s ∷ states) (suc k) d lt = state_at states k d (omega (arith, lt))
 
 noise_at : (noises : List NoiseVariable) (k : ℕ) (r : ℤ × ℤ) (d : Interval) → option_map (λ (w : NoiseVariable). (w.low, w.high)) (slice_get noises k) ≡ Some r →
     ◌≡◌ {A = Interval} (record { lo = r.0; hi = r.1 }) (get_or (map (λ (w : NoiseVariable). record { lo = w.low; hi = w.high }) noises) k d)
@@ -88,6 +83,30 @@ module _ {X : Type 0} (xs ys zs : List X) (k : ℕ) (d : X) where
       let both : length (xs ++ ys) ≡ n + m = omega (arith, length-append xs ys, is, are) in
       get_or-append_right (xs ++ ys) zs (n + m) k d both le ∙ ap (λ (i : ℕ). get_or zs i d) (omega (arith, le))
 
+-- the ranges of states
+states_between : (states : List StateVariable) → ranges_between (map (λ (s : StateVariable). s.low) states) (map (λ (s : StateVariable). s.high) states) ≡ map (λ (s : StateVariable). record { lo = s.low; hi = s.high }) states
+states_between [] = refl
+states_between (s ∷ states) = ap (λ (is : List Interval). record { lo = s.low; hi = s.high } ∷ is) (states_between states)
+
+between_at : (xs ys : List ℤ) (k : ℕ) (d : Interval) → k < length xs → k < length ys → ◌≡◌ {A = Interval} (record { lo = get_or xs k (pos 0); hi = get_or ys k (pos 0) }) (get_or (ranges_between xs ys) k d)
+between_at [] ys k d m n = absurd (omega (arith, m))
+between_at (x ∷ xs) [] k d m n = absurd (omega (arith, n))
+between_at (x ∷ xs) (y ∷ ys) zero d m n = refl
+between_at (x ∷ xs) (y ∷ ys) (suc k) d m n = between_at xs ys k d (omega (arith, m)) (omega (arith, n))
+
+-- the first numbers of a point
+pub point_front : (xs : List ℤ) (n : ℕ) → length xs ≡ n → take n (point_of xs) ≡ xs
+point_front xs n long = take-append-le n xs (replicate (6 - length xs) (pos 0)) (omega (arith, long)) ∙ take_all n xs (omega (arith, long))
+
+-- the domain reaches from the least point of the first cell to the greatest of the last
+pub area_is_between : (p : Description) (u : ℕ) → IsSound p → area_of p u ≡ area_between p (low_of (axes_of p) 0) (high_of (axes_of p) (cells_of (axes_of p) - 1)) u
+area_is_between p u sound =
+    let domain = domain_has_ends (axes_of p) sound.axes in
+    let low : low_of (axes_of p) 0 ≡ map (λ (s : StateVariable). s.low) p.states = domain.0 ∙ lows p.states in
+    let high : high_of (axes_of p) (cells_of (axes_of p) - 1) ≡ map (λ (s : StateVariable). s.high) p.states = domain.1 ∙ highs p.states sound.whole in
+    ap (λ (is : List Interval). is ++ map (λ v. record { lo = v; hi = v }) (vector_of p.inputs u) ++ map (λ (w : NoiseVariable). record { lo = w.low; hi = w.high }) p.noises) (sym (states_between p.states))
+    ∙ sym (ap₂ (λ (xs ys : List ℤ). area_between p xs ys u) low high)
+
 module _ (p : Description) (u : ℕ) where
   abbrev states_in : List Interval
   states_in = map (λ (s : StateVariable). record { lo = s.low; hi = s.high }) p.states
@@ -107,31 +126,49 @@ module _ (p : Description) (u : ℕ) where
   inputs_count : length inputs_in ≡ length p.inputs
   inputs_count = length-map (vector_of p.inputs u) _ ∙ vector_count p.inputs u
 
-  -- the range of a state
-  pub state_range : DomainHasEnds → IsSound p → (k : ℕ) (d : Interval) → k < length p.states →
-      ◌≡◌ {A = Interval} (record { lo = get_or (point_of (low_of (axes_of p) 0)) k (pos 0); hi = get_or (point_of (high_of (axes_of p) (cells_of (axes_of p) - 1))) k (pos 0) }) (get_or (area_of p u) k d)
-  state_range ends sound k d lt =
-      let domain = ends (axes_of p) sound.axes in
-      let low : low_of (axes_of p) 0 ≡ map (λ (s : StateVariable). s.low) p.states = domain.0 ∙ lows p.states in
-      let high : high_of (axes_of p) (cells_of (axes_of p) - 1) ≡ map (λ (s : StateVariable). s.high) p.states = domain.1 ∙ highs p.states sound.whole in
-      let at_low : get_or (point_of (low_of (axes_of p) 0)) k (pos 0) ≡ get_or (map (λ (s : StateVariable). s.low) p.states) k (pos 0) =
-      ap (λ (xs : List ℤ). get_or (point_of xs) k (pos 0)) low ∙ get_or_append_left (map (λ (s : StateVariable). s.low) p.states) _ (pos 0) k (omega (arith, lt, length-map p.states (λ (s : StateVariable). s.low))) in
-      let at_high : get_or (point_of (high_of (axes_of p) (cells_of (axes_of p) - 1))) k (pos 0) ≡ get_or (map (λ (s : StateVariable). s.high) p.states) k (pos 0) =
-      ap (λ (xs : List ℤ). get_or (point_of xs) k (pos 0)) high ∙ get_or_append_left (map (λ (s : StateVariable). s.high) p.states) _ (pos 0) k (omega (arith, lt, length-map p.states (λ (s : StateVariable). s.high))) in
-      ap₂ (λ (lo hi : ℤ). record { lo = lo; hi = hi }) at_low at_high ∙ state_at p.states k d lt ∙ sym (in_first states_in inputs_in noises_in k d (omega (arith, lt, states_count)))
+  -- behind as many ranges as there are states
+  module _ (front : List Interval) (long : length front ≡ length p.states) where
+    pub behind_count : length (front ++ inputs_in ++ noises_in) ≡ variables_of p
+    behind_count = omega (arith, length-append (front ++ inputs_in) noises_in, length-append front inputs_in, long, inputs_count, noises_count)
 
-  -- the range of an input
+    -- the range of an input
+    input_behind : (k : ℕ) (d : Interval) → length p.states ≤ k → k < length p.states + length p.inputs →
+        ◌≡◌ {A = Interval} (record { lo = get_or (vector_of p.inputs u) (k - length p.states) (pos 0); hi = get_or (vector_of p.inputs u) (k - length p.states) (pos 0) }) (get_or (front ++ inputs_in ++ noises_in) k d)
+    input_behind k d le lt =
+        let below : k - length p.states < length (vector_of p.inputs u) = omega (arith, le, lt, vector_count p.inputs u) in
+        sym (in_second front inputs_in noises_in k d (length p.states) long le (omega (arith, lt, inputs_count))
+        ∙ get_or-map (λ v. record { lo = v; hi = v }) (vector_of p.inputs u) (k - length p.states) (pos 0) d below)
+
+    -- the range of a noise
+    noise_behind : (k : ℕ) (r : ℤ × ℤ) (d : Interval) → length p.states + length p.inputs ≤ k → option_map (λ (w : NoiseVariable). (w.low, w.high)) (slice_get p.noises (k - length p.states - length p.inputs)) ≡ Some r →
+        ◌≡◌ {A = Interval} (record { lo = r.0; hi = r.1 }) (get_or (front ++ inputs_in ++ noises_in) k d)
+    noise_behind k r d le is = noise_at p.noises (k - length p.states - length p.inputs) r d is ∙ sym (in_third front inputs_in noises_in k d (length p.states) (length p.inputs) long inputs_count le)
+
+  -- the range of an input in the domain
   pub input_range : (k : ℕ) (d : Interval) → length p.states ≤ k → k < length p.states + length p.inputs →
       ◌≡◌ {A = Interval} (record { lo = get_or (vector_of p.inputs u) (k - length p.states) (pos 0); hi = get_or (vector_of p.inputs u) (k - length p.states) (pos 0) }) (get_or (area_of p u) k d)
-  input_range k d le lt =
-      let below : k - length p.states < length (vector_of p.inputs u) = omega (arith, le, lt, vector_count p.inputs u) in
-      sym (in_second states_in inputs_in noises_in k d (length p.states) states_count le (omega (arith, lt, inputs_count))
-      ∙ get_or-map (λ v. record { lo = v; hi = v }) (vector_of p.inputs u) (k - length p.states) (pos 0) d below)
+  input_range k d le lt = input_behind states_in states_count k d le lt
 
-  -- the range of a noise
-  pub noise_range : (k : ℕ) (r : ℤ × ℤ) (d : Interval) → length p.states + length p.inputs ≤ k → option_map (λ (w : NoiseVariable). (w.low, w.high)) (slice_get p.noises (k - length p.states - length p.inputs)) ≡ Some r →
-      ◌≡◌ {A = Interval} (record { lo = r.0; hi = r.1 }) (get_or (area_of p u) k d)
-  noise_range k r d le is = noise_at p.noises (k - length p.states - length p.inputs) r d is ∙ sym (in_third states_in inputs_in noises_in k d (length p.states) (length p.inputs) states_count inputs_count le)
+  -- the ranges where the states lie between two points
+  module _ (xs ys : List ℤ) (first : length xs ≡ length p.states) (second : length ys ≡ length p.states) where
+    between_long : length (ranges_between xs ys) ≡ length p.states
+    between_long = ranges_long xs ys (length p.states) first second
+
+    pub between_count : length (area_between p xs ys u) ≡ variables_of p
+    between_count = behind_count (ranges_between xs ys) between_long
+
+    pub state_between : (k : ℕ) (d : Interval) → k < length p.states → ◌≡◌ {A = Interval} (record { lo = get_or xs k (pos 0); hi = get_or ys k (pos 0) }) (get_or (area_between p xs ys u) k d)
+    state_between k d lt =
+        between_at xs ys k d (omega (arith, lt, first)) (omega (arith, lt, second))
+        ∙ sym (in_first (ranges_between xs ys) inputs_in noises_in k d (omega (arith, lt, between_long)))
+
+    pub input_between : (k : ℕ) (d : Interval) → length p.states ≤ k → k < length p.states + length p.inputs →
+        ◌≡◌ {A = Interval} (record { lo = get_or (vector_of p.inputs u) (k - length p.states) (pos 0); hi = get_or (vector_of p.inputs u) (k - length p.states) (pos 0) }) (get_or (area_between p xs ys u) k d)
+    input_between k d le lt = input_behind (ranges_between xs ys) between_long k d le lt
+
+    pub noise_between : (k : ℕ) (r : ℤ × ℤ) (d : Interval) → length p.states + length p.inputs ≤ k → option_map (λ (w : NoiseVariable). (w.low, w.high)) (slice_get p.noises (k - length p.states - length p.inputs)) ≡ Some r →
+        ◌≡◌ {A = Interval} (record { lo = r.0; hi = r.1 }) (get_or (area_between p xs ys u) k d)
+    noise_between k r d le is = noise_behind (ranges_between xs ys) between_long k r d le is
 
   abbrev cell_radii : List ℤ
   cell_radii = map radius_of (axes_of p)
@@ -163,9 +200,6 @@ module _ (p : Description) (u : ℕ) where
   pub noise_radius : (k : ℕ) (r : ℤ × ℤ) (d : ℤ) → length p.states + length p.inputs ≤ k → option_map (λ (w : NoiseVariable). (w.low, w.high)) (slice_get p.noises (k - length p.states - length p.inputs)) ≡ Some r →
       r.1 -ℤ floor_div (r.0 +ℤ r.1) (pos 2) ≡ get_or (radii_of p u) k d
   noise_radius k r d le is = noise_radius_at p.noises (k - length p.states - length p.inputs) r d is ∙ sym (in_third cell_radii input_radii noise_radii k d (length p.states) (length p.inputs) radii_count zeros_count le)
-
-  pub ranges_count : length (area_of p u) ≡ variables_of p
-  ranges_count = omega (arith, length-append (states_in ++ inputs_in) noises_in, length-append states_in inputs_in, states_count, inputs_count, noises_count)
 
   pub all_radii_count : length (radii_of p u) ≡ variables_of p
   all_radii_count = omega (arith, length-append (cell_radii ++ input_radii) noise_radii, length-append cell_radii input_radii, radii_count, zeros_count, length-map p.noises (λ (w : NoiseVariable). w.high -ℤ noise_centre w))

@@ -1,5 +1,5 @@
 -- The ends of a successor box along the axis of a state.
-use Rattle.std.proofs.Common.{◌≡◌, ℕ, ◌^◌, ◌<◌, List, [], All, length, get_or, sym, ap, ap₂, subst, subst₂, ◌∙◌, Option, arith}
+use Rattle.std.proofs.Common.{◌≡◌, ℕ, ◌^◌, ◌<◌, List, [], length, get_or, sym, ap, ap₂, subst, subst₂, ◌∙◌, Option, arith}
 use Rattle.std.specs.Prelude.{ℤ, pos, nat_abs, ◌+ℤ◌, ◌-ℤ◌, ◌*ℤ◌, ◌≤ℤ◌, FitsSigned}
 use Rattle.std.specs.Int.{w128}
 use Rattle.std.proofs.lemmas.Int.{ints}
@@ -7,30 +7,33 @@ use Rattle.std.proofs.lemmas.List.{get_or-map}
 use Rattle.fixed_expr.specs.Range.{IsInRange}
 use Rattle.fixed_expr.specs.Expression.{Number}
 use Rattle.fixed_expr.specs.Value.{value_of}
-use Rattle.interval_eval.specs.Laws.{NumbersLieInRange, ValuesLieInSpans}
+use Rattle.interval_eval.specs.declared.interval.Interval.{Interval}
+use Rattle.interval_eval.specs.Span.{IsInterval}
 use Rattle.grid_quantiser.specs.declared.axis.Axis.{Axis}
 use Rattle.grid_quantiser.specs.declared.sides.Side.{Side}
 use Rattle.grid_quantiser.specs.Axes.{cells_of}
 use Rattle.grid_quantiser.specs.Sides.{IsSideOf, prolonged, IsSideBefore}
-use Rattle.grid_quantiser.specs.Laws.{CentresAreNear}
 use Rattle.plant_record.specs.Description.{Description, axes_of, vectors_of}
-use Rattle.plant_record.specs.Variables.{IsNoiseVariable}
 use Rattle.plant_record.specs.Soundness.{IsSound}
-use Rattle.successor_box.specs.Boxes.{deviation_at, central_values, low_corner, high_corner}
+use Rattle.successor_box.specs.Boxes.{deviation_at, central_values, reach_of, low_corner, high_corner}
 use Rattle.plant_record.specs.Steps.{equation_at}
 use Rattle.successor_box.specs.Deviations.{HasNoOverflow, deviations_of}
 use Rattle.successor_box.proofs.DeviationRows.{entry_is}
 use Rattle.successor_box.proofs.Centres.{ends_fit}
+use Rattle.successor_box.proofs.Enabled.{reach_ordered}
 
 -- one number of each corner
-pub low_is : (p : Description) (c u i : ℕ) → i < length p.equations → get_or (low_corner p c u) i (pos 0) ≡ value_of (equation_at p i) (central_values p c u) -ℤ deviation_at p u (equation_at p i)
-low_is p c u i lt = get_or-map (λ e. value_of e (central_values p c u) -ℤ deviation_at p u e) p.equations i (Number (pos 0)) (pos 0) lt
+pub low_is : (p : Description) (c u i : ℕ) → i < length p.equations → get_or (low_corner p c u) i (pos 0) ≡ (reach_of p.version p c u (equation_at p i)).lo
+low_is p c u i lt = get_or-map (λ e. (reach_of p.version p c u e).lo) p.equations i (Number (pos 0)) (pos 0) lt
 
-pub high_is : (p : Description) (c u i : ℕ) → i < length p.equations → get_or (high_corner p c u) i (pos 0) ≡ value_of (equation_at p i) (central_values p c u) +ℤ deviation_at p u (equation_at p i)
-high_is p c u i lt = get_or-map (λ e. value_of e (central_values p c u) +ℤ deviation_at p u e) p.equations i (Number (pos 0)) (pos 0) lt
+pub high_is : (p : Description) (c u i : ℕ) → i < length p.equations → get_or (high_corner p c u) i (pos 0) ≡ (reach_of p.version p c u (equation_at p i)).hi
+high_is p c u i lt = get_or-map (λ e. (reach_of p.version p c u e).hi) p.equations i (Number (pos 0)) (pos 0) lt
 
-pub ends_ordered : (p : Description) (c u i : ℕ) → i < length p.equations → get_or (low_corner p c u) i (pos 0) ≤ℤ get_or (high_corner p c u) i (pos 0)
-ends_ordered p c u i lt = omega (arith, ints, low_is p c u i lt, high_is p c u i lt)
+pub ends_ordered : (p : Description) (c u i : ℕ) → IsSound p → i < length p.equations → get_or (low_corner p c u) i (pos 0) ≤ℤ get_or (high_corner p c u) i (pos 0)
+ends_ordered p c u i sound lt = by _ _ (reach_of p.version p c u (equation_at p i)) (low_is p c u i lt) (high_is p c u i lt) (reach_ordered p c u sound (equation_at p i) (sound.formed i (Number (pos 0)) lt))
+  where
+    by : (x y : ℤ) (i : Interval) → x ≡ i.lo → y ≡ i.hi → IsInterval i → x ≤ℤ y
+    by x y i low high order = omega (arith, ints, low, high, order)
 
 -- a side that isn't moved
 pub unmoved : (a : Axis) (low high : ℤ) (side : Option Side) → IsSideOf (prolonged a) low high side → IsSideBefore a 0 low high side
@@ -47,14 +50,14 @@ pub record AreSideEnds (p : Description) (u i : ℕ) (value deviation : ℤ) : T
 fits_signed : (z : ℤ) → IsInRange z → FitsSigned w128 z
 fits_signed z h = let h' : nat_abs z < 2 ^ 127 = h in omega (arith, ints)
 
-pub end_step : NumbersLieInRange → ValuesLieInSpans → CentresAreNear → (p : Description) → IsSound p → HasNoOverflow p → All IsNoiseVariable p.noises → (c u i : ℕ) → c < cells_of (axes_of p) → u < vectors_of p.inputs → i < length p.equations
+pub end_step : (p : Description) → IsSound p → HasNoOverflow p → (c u i : ℕ) → c < cells_of (axes_of p) → u < vectors_of p.inputs → i < length p.equations
     → (value : ℤ) (rows : List (List ℤ)) (deviation : ℤ) → value ≡ value_of (equation_at p i) (central_values p c u) → rows ≡ deviations_of p → deviation ≡ get_or (get_or rows i []) u (pos 0)
     → AreSideEnds p u i value deviation
-end_step numbers spans near p sound fits noises c u i cell input lt value rows deviation at rows-are deviation-is =
+end_step p sound fits c u i cell input lt value rows deviation at rows-are deviation-is =
     let by : deviation ≡ deviation_at p u (equation_at p i) = deviation-is ∙ ap (λ (r : List (List ℤ)). get_or (get_or r i []) u (pos 0)) rows-are ∙ entry_is p i lt u input in
     let low : value -ℤ deviation ≡ value_of (equation_at p i) (central_values p c u) -ℤ deviation_at p u (equation_at p i) = ap₂ (λ (x y : ℤ). x -ℤ y) at by in
     let high : value +ℤ deviation ≡ value_of (equation_at p i) (central_values p c u) +ℤ deviation_at p u (equation_at p i) = ap₂ (λ (x y : ℤ). x +ℤ y) at by in
-    let ends = ends_fit numbers spans near p sound fits noises c u i cell input lt in
+    let ends = ends_fit p sound fits c u i cell input lt in
     record {
       moves_by = by;
       low_fits = fits_signed _ (subst IsInRange (sym low) ends.0);

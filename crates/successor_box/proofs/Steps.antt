@@ -1,61 +1,65 @@
 -- Steps lie in the successor boxes, and stay in the range.
 use Rattle.std.proofs.Common.{ℕ, ◌<◌, ◌≤◌, List, [], ◌∷◌, All, length, map, get_or, sym, subst, arith}
-use Rattle.std.specs.Prelude.{ℤ, ◌+ℤ◌, ◌-ℤ◌, ◌≤ℤ◌}
+use Rattle.std.specs.Prelude.{ℤ}
 use Rattle.std.specs.List.{Contains}
-use Rattle.std.proofs.lemmas.Int.{ints}
 use Rattle.std.proofs.lemmas.List.{length-map}
 use Rattle.std.proofs.lemmas.List.Elements.{All-head, All-tail, All-weaker, All-from_get_or}
 use Rattle.fixed_expr.specs.Expression.{Expression, Number}
 use Rattle.fixed_expr.specs.Value.{IsWellFormed, value_of, StaysInRange}
-use Rattle.interval_eval.specs.Laws.{ValuesStayInRange}
-use Rattle.growth_bound.specs.Deviation.{IsNear}
-use Rattle.growth_bound.specs.Laws.{ValuesMoveByDeviations}
+use Rattle.interval_eval.specs.declared.interval.Interval.{Interval}
+use Rattle.interval_eval.specs.Span.{IsIn}
+use Rattle.interval_eval.proofs.Laws.{values_stay_in_range}
+use Rattle.growth_bound.proofs.Laws.{values_move_by_deviations}
 use Rattle.grid_quantiser.specs.declared.axis.Axis.{Axis}
 use Rattle.grid_quantiser.specs.Axes.{cells_of}
 use Rattle.grid_quantiser.specs.Cells.{IsInDomain, IsPointOf, cell_of}
 use Rattle.grid_quantiser.specs.Boxes.{IsInBox}
-use Rattle.grid_quantiser.specs.Laws.{CentresAreNear}
-use Rattle.plant_record.specs.Description.{Description, axis_of, axes_of, vectors_of}
+use Rattle.plant_record.specs.Description.{Description, axis_of, axes_of, names_of, vectors_of}
 use Rattle.plant_record.specs.Steps.{IsNoise, step_of, values_at, StepStaysInRange}
 use Rattle.plant_record.specs.Soundness.{IsSound}
-use Rattle.successor_box.specs.Boxes.{IsEnabledAt, AreSuccessors, area_of, radii_of, deviation_at, central_values, low_corner, high_corner}
+use Rattle.successor_box.specs.Boxes.{IsEnabledAt, AreSuccessors, area_of, radii_of, central_values, reach_of, low_corner, high_corner}
 use Rattle.successor_box.specs.Deviations.{HasNoOverflow}
 use Rattle.successor_box.proofs.BoxDomains.{box_inside, cell_touches}
+use Rattle.successor_box.proofs.Below.{centres_are_near}
+use Rattle.successor_box.proofs.Reaches.{point_reached}
 use Rattle.successor_box.proofs.CellValues.{area_count, values_in, central_in, values_near}
 
--- values near to their centres lie between the corners
-low_end : (d y z : ℤ) → IsNear d y z → (y -ℤ d) ≤ℤ z
-low_end d y z near = omega (arith, ints, near.0)
-
-in_corners : (d at to : Expression → ℤ) (axes : List Axis) (es : List Expression) → length axes ≤ length es → All (λ e. IsNear (d e) (at e) (to e)) es
-    → IsInBox axes (map (λ e. at e -ℤ d e) es) (map (λ e. at e +ℤ d e) es) (map to es)
-in_corners d at to [] es long near = (tt, tt)
-in_corners d at to (a ∷ axes) [] long near = absurd (omega (arith, long))
-in_corners d at to (a ∷ axes) (e ∷ es) long near =
-    let here = All-head (λ e. IsNear (d e) (at e) (to e)) e es near in
-    let rest = in_corners d at to axes es (omega (arith, long)) (All-tail (λ e. IsNear (d e) (at e) (to e)) e es near) in
-    ((low_end (d e) (at e) (to e) here, rest.0), (here.1, rest.1))
+-- values in their intervals lie between the corners
+in_corners : (reach : Expression → Interval) (to : Expression → ℤ) (axes : List Axis) (es : List Expression) → length axes ≤ length es → All (λ e. IsIn (reach e) (to e)) es
+    → IsInBox axes (map (λ e. (reach e).lo) es) (map (λ e. (reach e).hi) es) (map to es)
+in_corners reach to [] es long each = (tt, tt)
+in_corners reach to (a ∷ axes) [] long each = absurd (omega (arith, long))
+in_corners reach to (a ∷ axes) (e ∷ es) long each =
+    let here = All-head (λ e. IsIn (reach e) (to e)) e es each in
+    let rest = in_corners reach to axes es (omega (arith, long)) (All-tail (λ e. IsIn (reach e) (to e)) e es each) in
+    ((here.0, rest.0), (here.1, rest.1))
 
 pub formed_over : (p : Description) (u : ℕ) → IsSound p → All (λ e. IsWellFormed e (length (area_of p u))) p.equations
 formed_over p u sound = subst (λ (n : ℕ). All (λ e. IsWellFormed e n) p.equations) (sym (area_count p u)) sound.formed
 
-module _ (near : CentresAreNear) (moves : ValuesMoveByDeviations) (p : Description) (c u : ℕ) (x w : List ℤ) (sound : IsSound p) (below : c < cells_of (axes_of p)) (point : IsPointOf (axes_of p) c x) (noise : IsNoise p.noises w) where
+module _ (p : Description) (c u : ℕ) (x w : List ℤ) (sound : IsSound p) (below : c < cells_of (axes_of p)) (point : IsPointOf (axes_of p) c x) (noise : IsNoise p.noises w) where
+  abbrev Reached : Expression → Type 0
+  Reached e = IsIn (reach_of p.version p c u e) (value_of e (values_at p x u w))
+
+  reached : (e : Expression) → IsWellFormed e (length (names_of p)) → Reached e
+  reached e formed =
+      let centre = centres_are_near (axes_of p) c sound.axes below in
+      let over : IsWellFormed e (length (area_of p u)) = subst (λ (n : ℕ). IsWellFormed e n) (sym (area_count p u)) formed in
+      point_reached p c u sound e formed p.version x w point noise
+      (values_move_by_deviations e (area_of p u) (radii_of p u) (central_values p c u) (values_at p x u w) over (central_in p c u x w noise sound.whole centre.0.0) (values_in p c u x w noise sound.whole point.0) (values_near p c u x w noise (centre.1 x point)))
+
   -- the step lies between the corners
   step_in_box : IsInBox (axes_of p) (low_corner p c u) (high_corner p c u) (step_of p x u w)
   step_in_box =
-      let axes = axes_of p in
-      let centre = near axes c sound.axes below in
-      in_corners (deviation_at p u) (λ e. value_of e (central_values p c u)) (λ e. value_of e (values_at p x u w)) axes p.equations (omega (arith, sound.one_each, length-map p.states axis_of))
-      (All-weaker (λ e. IsWellFormed e (length (area_of p u))) (λ e. IsNear (deviation_at p u e) (value_of e (central_values p c u)) (value_of e (values_at p x u w)))
-      (λ e formed. moves e (area_of p u) (radii_of p u) (central_values p c u) (values_at p x u w) formed (central_in p c u x w noise sound.whole centre.0.0) (values_in p c u x w noise sound.whole point.0) (values_near p c u x w noise (centre.1 x point)))
-      p.equations (formed_over p u sound))
+      in_corners (reach_of p.version p c u) (λ e. value_of e (values_at p x u w)) (axes_of p) p.equations (omega (arith, sound.one_each, length-map p.states axis_of))
+      (All-weaker (λ e. IsWellFormed e (length (names_of p))) Reached reached p.equations sound.formed)
 
   pub step_among : IsEnabledAt p c u → IsInDomain (axes_of p) (step_of p x u w) × ((cells : List ℕ) → AreSuccessors p c u cells → Contains cells (cell_of (axes_of p) (step_of p x u w)))
   step_among enabled =
       let inside = box_inside (axes_of p) (low_corner p c u) (high_corner p c u) (step_of p x u w) enabled step_in_box in
       (inside, (λ cells successors. ((successors.enabled enabled).exactly (cell_of (axes_of p) (step_of p x u w))).1 (cell_touches (axes_of p) (low_corner p c u) (high_corner p c u) (step_of p x u w) inside step_in_box)))
 
-pub step_stays : ValuesStayInRange → (p : Description) (u : ℕ) (x w : List ℤ) → IsSound p → HasNoOverflow p → u < vectors_of p.inputs → IsInDomain (axes_of p) x → IsNoise p.noises w → StepStaysInRange p x u w
-step_stays stay p u x w sound fits input inside noise =
+pub step_stays : (p : Description) (u : ℕ) (x w : List ℤ) → IsSound p → HasNoOverflow p → u < vectors_of p.inputs → IsInDomain (axes_of p) x → IsNoise p.noises w → StepStaysInRange p x u w
+step_stays p u x w sound fits input inside noise =
     All-from_get_or (λ e. StaysInRange e (values_at p x u w)) p.equations (Number _) (λ i lt.
-    stay (get_or p.equations i (Number _)) (area_of p u) (values_at p x u w) (formed_over p u sound i (Number _) lt) (values_in p 0 u x w noise sound.whole inside) (fits i u lt input).span)
+    values_stay_in_range (get_or p.equations i (Number _)) (area_of p u) (values_at p x u w) (formed_over p u sound i (Number _) lt) (values_in p 0 u x w noise sound.whole inside) (fits i u lt input).span)

@@ -1,16 +1,21 @@
--- Successor boxes: the step of a cell's centre, enlarged by the growth bound of the cell's radius.
-use Rattle.std.specs.Prelude.{◌≡◌, ℕ, ℤ, pos, ◌+ℤ◌, ◌-ℤ◌, ◌↔◌, List, [], ◌++◌, map, Option, Some, None, IsSome, IfSome}
+-- Successor boxes: the step of a cell's centre, enlarged by the growth bound of the cell's radius, and in version 2 met with
+-- the spans over the cell.
+use Rattle.std.specs.Prelude.{◌≡◌, ℕ, ℤ, pos, ◌+ℤ◌, ◌-ℤ◌, ◌↔◌, List, [], ◌∷◌, ◌++◌, map, Option, Some, None, IsSome, IfSome}
+use Rattle.std.specs.Int.{int_min, int_max}
 use Rattle.fixed_expr.specs.Quotient.{floor_div}
 use Rattle.fixed_expr.specs.Expression.{Expression}
 use Rattle.fixed_expr.specs.Value.{value_of}
 use Rattle.interval_eval.specs.declared.interval.Interval.{Interval}
+use Rattle.interval_eval.specs.Span.{span_of}
 use Rattle.growth_bound.specs.Deviation.{deviation_of}
 use Rattle.grid_quantiser.specs.declared.axis.Axis.{Axis}
 use Rattle.grid_quantiser.specs.declared.boxes.CellBox.{CellBox}
-use Rattle.grid_quantiser.specs.Cells.{centre_of, radius_of}
+use Rattle.grid_quantiser.specs.Cells.{low_of, high_of, centre_of, radius_of}
 use Rattle.grid_quantiser.specs.Boxes.{IsBoxInDomain, AreCellsMeeting, AreCornersMeeting, cells_between}
 use Rattle.plant_record.specs.declared.variables.StateVariable.{StateVariable}
 use Rattle.plant_record.specs.declared.variables.NoiseVariable.{NoiseVariable}
+use Rattle.plant_record.specs.declared.version.PlantVersion.{PlantVersion}
+use Rattle.plant_record.specs.declared.version.PlantVersion.TheVariants.{One, Two}
 use Rattle.plant_record.specs.Description.{Description, axes_of, vector_of}
 use Rattle.plant_record.specs.Steps.{values_at}
 
@@ -24,6 +29,22 @@ area_of p u =
     map (λ (s : StateVariable). record { lo = s.low; hi = s.high }) p.states
     ++ map (λ v. record { lo = v; hi = v }) (vector_of p.inputs u)
     ++ map (λ (w : NoiseVariable). record { lo = w.low; hi = w.high }) p.noises
+
+-- the ranges between two lists of ends
+abbrev pub ranges_between : List ℤ → List ℤ → List Interval
+ranges_between (l ∷ lows) (h ∷ highs) = record { lo = l; hi = h } ∷ ranges_between lows highs
+ranges_between _ _ = []
+
+-- the ranges of the variables, the states lying between two points
+abbrev pub area_between : Description → List ℤ → List ℤ → ℕ → List Interval
+area_between p lows highs u =
+    ranges_between lows highs
+    ++ map (λ v. record { lo = v; hi = v }) (vector_of p.inputs u)
+    ++ map (λ (w : NoiseVariable). record { lo = w.low; hi = w.high }) p.noises
+
+-- the ranges of the variables over a cell: its own numbers, the input's values alone, and the noises' ranges
+abbrev pub cell_area_of : Description → ℕ → ℕ → List Interval
+cell_area_of p c u = area_between p (low_of (axes_of p) c) (high_of (axes_of p) c) u
 
 -- the radii of the variables: of a cell, of an input, which is 0, and of a noise
 abbrev pub radii_of : Description → ℕ → List ℤ
@@ -40,12 +61,28 @@ deviation_at p u e = pos (deviation_of e (area_of p u) (radii_of p u))
 abbrev pub central_values : Description → ℕ → ℕ → List ℤ
 central_values p c u = values_at p (centre_of (axes_of p) c) u (map noise_centre p.noises)
 
+-- the value at the cell's centre, less and plus how far it moves within the cell
+abbrev pub growth_of : Description → ℕ → ℕ → Expression → Interval
+growth_of p c u e = record {
+  lo = value_of e (central_values p c u) -ℤ deviation_at p u e;
+  hi = value_of e (central_values p c u) +ℤ deviation_at p u e;
+}
+
+-- what two intervals have in common
+abbrev pub meet_of : Interval → Interval → Interval
+meet_of a b = record { lo = int_max a.lo b.lo; hi = int_min a.hi b.hi }
+
+-- where an equation leads from a cell under an input: version 2 meets the growth bound with the span over the cell
+abbrev pub reach_of : PlantVersion → Description → ℕ → ℕ → Expression → Interval
+reach_of One p c u e = growth_of p c u e
+reach_of Two p c u e = meet_of (growth_of p c u e) (span_of e (cell_area_of p c u))
+
 -- the ends of the successor box, one for each state
 abbrev pub low_corner : Description → ℕ → ℕ → List ℤ
-low_corner p c u = map (λ e. value_of e (central_values p c u) -ℤ deviation_at p u e) p.equations
+low_corner p c u = map (λ e. (reach_of p.version p c u e).lo) p.equations
 
 abbrev pub high_corner : Description → ℕ → ℕ → List ℤ
-high_corner p c u = map (λ e. value_of e (central_values p c u) +ℤ deviation_at p u e) p.equations
+high_corner p c u = map (λ e. (reach_of p.version p c u e).hi) p.equations
 
 -- the successor box of a cell under an input lies in the domain
 abbrev pub IsEnabledAt : Description → ℕ → ℕ → Type 0

@@ -1,28 +1,29 @@
 // The ranges and the radii of a plant's variables.
 
-ghost use Rattle.std.specs.Prelude.{◌≡◌, ℕ, ◌+◌, ◌-◌, ◌<◌, ◌≤◌, ◌≤ℤ◌, length, take, slice_index_or, pos};
-ghost use Rattle.grid_quantiser.specs.Axes.{cells_of};
-ghost use Rattle.grid_quantiser.specs.Cells.{low_of, high_of, point_of};
+ghost use Rattle.std.specs.Prelude.{◌≡◌, ℕ, ◌+◌, ◌-◌, ◌<◌, ◌≤◌, ◌≤ℤ◌, length, take, slice_index_or, pos, neg_ℤ, ◌-ℤ◌};
+ghost use Rattle.grid_quantiser.specs.Axes.{no_axis, cells_of};
+ghost use Rattle.grid_quantiser.specs.Cells.{radius_of};
+ghost use Rattle.plant_record.specs.Limits.{IsWithinLimits};
 ghost use Rattle.plant_record.specs.Description.{axes_of, vectors_of};
-ghost use Rattle.successor_box.specs.Boxes.{area_of, radii_of};
-ghost use Rattle.successor_box.specs.inside.Area.{AreRanges, AreRadii, no_range, variables_of};
+ghost use Rattle.successor_box.specs.Boxes.{area_between, cell_area_of, radii_of};
+ghost use Rattle.successor_box.specs.inside.Area.{AreRanges, AreRangesBetween, AreRadii, offsets_of, no_range, variables_of};
 
-use crate::noise::noise_radius;
+use crate::noise::{noise_offset, noise_radius};
 use grid_quantiser::Point;
-use grid_quantiser::laws::ends_of_the_domain;
 use interval_eval::Interval;
 use plant_record::Plant;
-use plant_record::laws::{every_plant_is_within_limits, plants_are_sound};
+use plant_record::laws::every_plant_is_within_limits;
 
 /// The most variables that a plant has: 6 states, 3 input variables and 6 noises.
 pub(crate) const VARIABLES_LIMIT: usize = 15;
 
-const NO_RANGE: Interval = Interval { lo: 0, hi: 0 };
+pub(crate) const NO_RANGE: Interval = Interval { lo: 0, hi: 0 };
 
 /// How many variables a plant has.
 pub(crate) fn variables(p: &Plant) -> u32
     ensures count { result ≡ variables_of p.now }
     ensures limit { result ≤ 15 }
+    ensures plant { IsWithinLimits p.now }
 {
     every_plant_is_within_limits(p);
     p.states() + p.input_variables() + p.noises()
@@ -34,29 +35,40 @@ pub(crate) fn ranges(p: &Plant, input: u32) -> [Interval; VARIABLES_LIMIT]
     ensures { AreRanges p.now input result }
 {
     every_plant_is_within_limits(p);
-    plants_are_sound();
     let grid = p.grid();
     let last = grid.cells() - 1;
-    let low = grid.low(0);
-    let high = grid.high(last);
+    ranges_between(p, &grid.low(0), &grid.high(last), input)
+}
+
+/// Where each variable lies while the state is in a cell, under an input vector. Nothing is said of the places past the last.
+pub(crate) fn cell_ranges(p: &Plant, c: u32, input: u32) -> [Interval; VARIABLES_LIMIT]
+    requires cell { c < cells_of (axes_of p.now) }
+    requires input { input < vectors_of p.now.inputs }
+    ensures { take (variables_of p.now) result ≡ cell_area_of p.now c input }
+{
+    let grid = p.grid();
+    ranges_between(p, &grid.low(c), &grid.high(c), input)
+}
+
+/// Where each variable lies, the states from one point to another.
+fn ranges_between(p: &Plant, low: &Point, high: &Point, input: u32) -> [Interval; VARIABLES_LIMIT]
+    requires { input < vectors_of p.now.inputs }
+    ensures { AreRangesBetween p.now (take (length p.now.states) low.now) (take (length p.now.states) high.now) input result }
+{
     let mut ranges = [NO_RANGE; VARIABLES_LIMIT];
     for k in 0..variables(p) {
-        ranges[k as usize] = range(p, &low, &high, input, k);
+        ranges[k as usize] = range(p, low, high, input, k);
     }
     ranges
 }
 
-/// Where a variable lies, in a domain from its least point to its greatest.
+/// Where one variable lies, the states from one point to another.
 fn range(p: &Plant, low: &Point, high: &Point, input: u32, k: u32) -> Interval
-    requires low { low.now ≡ point_of (low_of (axes_of p.now) 0) }
-    requires high { high.now ≡ point_of (high_of (axes_of p.now) (cells_of (axes_of p.now) - 1)) }
     requires input { input < vectors_of p.now.inputs }
     requires variable { k < variables_of p.now }
-    ensures { result ≡ slice_index_or (area_of p.now input) k no_range }
+    ensures { result ≡ slice_index_or (area_between p.now (take (length p.now.states) low.now) (take (length p.now.states) high.now) input) k no_range }
 {
     every_plant_is_within_limits(p);
-    plants_are_sound();
-    ends_of_the_domain();
     let states = p.states();
     let inputs = p.input_variables();
     if k < states {
@@ -75,6 +87,42 @@ fn range(p: &Plant, low: &Point, high: &Point, input: u32, k: u32) -> Interval
     }
     let (lo, hi) = p.noise_range(k - states - inputs);
     Interval { lo, hi }
+}
+
+/// How far the ends of a variable's range over a cell lie from its value at the centre.
+pub(crate) fn offset(p: &Plant, k: u32) -> Interval
+    requires { k < variables_of p.now }
+    ensures { (u : ℕ) → result ≡ slice_index_or (offsets_of p.now u) k no_range }
+{
+    every_plant_is_within_limits(p);
+    let states = p.states();
+    let inputs = p.input_variables();
+    if k < states {
+        return cell_offset(p, k);
+    }
+    if k - states < inputs {
+        return NO_RANGE;
+    }
+    let (low, high) = p.noise_range(k - states - inputs);
+    noise_offset(low, high)
+}
+
+/// The same of a state.
+fn cell_offset(p: &Plant, state: u32) -> Interval
+    requires { state < length p.now.states }
+    ensures low { result.lo ≡ neg_ℤ (radius_of (slice_index_or (axes_of p.now) state no_axis)) }
+    ensures high { result.hi ≡ ((slice_index_or (axes_of p.now) state no_axis).width -ℤ pos 1) -ℤ radius_of (slice_index_or (axes_of p.now) state no_axis) }
+{
+    every_plant_is_within_limits(p);
+    let grid = p.grid();
+    grid.cells();
+    let low = grid.low(0)[state as usize];
+    let high = grid.high(0)[state as usize];
+    let radius = grid.radius(state);
+    Interval {
+        lo: -radius,
+        hi: high - low - radius,
+    }
 }
 
 /// How far each variable is at most from its centre. Nothing is said of the places past the last.

@@ -8,23 +8,23 @@ ghost use Rattle.grid_quantiser.specs.Axes.{no_axis};
 ghost use Rattle.grid_quantiser.specs.Places.{middle_of};
 ghost use Rattle.plant_record.specs.Description.{axes_of, vectors_of, vector_of};
 ghost use Rattle.plant_record.specs.InputPlaces.{input_place};
-ghost use Rattle.successor_box.specs.Boxes.{noise_centre, central_values};
+ghost use Rattle.plant_record.specs.Steps.{equation_at};
+ghost use Rattle.successor_box.specs.Boxes.{noise_centre, central_values, growth_of, meet_of, reach_of};
 ghost use Rattle.successor_box.specs.Deviations.{HasNoOverflow, deviations_of};
 ghost use Rattle.successor_box.specs.Sides.{IsSideBeforeAt, IsPairInRow, HasPairInEachRow};
-ghost use Rattle.successor_box.specs.inside.Area.{variables_of};
+ghost use Rattle.successor_box.specs.inside.Area.{variables_of, no_range};
+ghost use Rattle.successor_box.specs.inside.Blocks.{HoldCentralValues};
 
-use crate::area::{VARIABLES_LIMIT, variables};
-use crate::laws::steps_stay_in_range;
+use crate::area::{NO_RANGE, VARIABLES_LIMIT, variables};
 use crate::noise::noise_centre;
-use crate::sides::prolonged_side_around;
+use crate::sides::{growth, meet};
 use crate::slopes::Slopes;
+use crate::spans::spans;
 use fixed_expr::{Expr, LANES, eval, eval_rows};
 use grid_quantiser::Side;
-use grid_quantiser::laws::{centre_is_near, centres_rest_on_their_places};
-use plant_record::Plant;
-use plant_record::laws::{
-    every_plant_is_within_limits, inputs_rest_on_their_places, plants_are_sound,
-};
+use interval_eval::Interval;
+use plant_record::laws::every_plant_is_within_limits;
+use plant_record::{Plant, PlantVersion};
 
 /// The sides of successor boxes along the axis of a state prolonged by its own length below, from which `moved_side` goes on,
 /// each None where one of the box's ends leaves that too, of a block of
@@ -42,18 +42,66 @@ pub fn prolonged_sides(
     ensures { (j c u : ℕ) → j < LANES → IsPairInRow p.now places.now j c u → IsSideBeforeAt p.now c u state 0 (slice_index_or result j None) }
 {
     every_plant_is_within_limits(p);
-    plants_are_sound();
-    centre_is_near();
-    steps_stay_in_range();
+    let reaches = reaches(p, s, places, state);
+    let mut sides = [None; LANES];
+    for j in 0..LANES {
+        sides[j] = p.grid().prolonged_side(state, reaches[j].lo, reaches[j].hi);
+    }
+    sides
+}
+
+/// Where an equation leads from each pair of a block.
+fn reaches(p: &Plant, s: &Slopes, places: &[[u32; LANES]; 9], state: u32) -> [Interval; LANES]
+    requires slopes { s.now ≡ deviations_of p.now }
+    requires fits { HasNoOverflow p.now }
+    requires pairs { HasPairInEachRow p.now places.now }
+    requires state { state < length p.now.equations }
+    ensures { (j c u : ℕ) → j < LANES → IsPairInRow p.now places.now j c u → slice_index_or result j no_range ≡ reach_of p.now.version p.now c u (equation_at p.now state) }
+{
     let inputs = input_numbers(p, places);
     let mut columns = [[0; LANES]; VARIABLES_LIMIT];
     fill_columns(p, places, &inputs, &mut columns);
-    let next = values_in_rows(p.equation(state), &columns[..variables(p) as usize]);
-    let mut sides = [None; LANES];
-    for j in 0..LANES {
-        sides[j] = prolonged_side_around(p, s, next[j], inputs[j], state);
+    let growths = growths(p, s, places, &inputs, &columns, state);
+    match p.plant_version() {
+        PlantVersion::One => growths,
+        PlantVersion::Two => meets(&growths, &spans(p, places, &columns, state)),
     }
-    sides
+}
+
+/// The value of an equation at the centre of each pair's cell, less and plus how far it moves within the cell.
+fn growths(
+    p: &Plant,
+    s: &Slopes,
+    places: &[[u32; LANES]; 9],
+    inputs: &[u32; LANES],
+    columns: &[[i64; LANES]; VARIABLES_LIMIT],
+    state: u32,
+) -> [Interval; LANES]
+    requires slopes { s.now ≡ deviations_of p.now }
+    requires fits { HasNoOverflow p.now }
+    requires pairs { HasPairInEachRow p.now places.now }
+    requires state { state < length p.now.equations }
+    requires inputs { (j c u : ℕ) → j < LANES → IsPairInRow p.now places.now j c u → slice_index_or inputs.now j 0 ≡ u }
+    requires columns { HoldCentralValues p.now places.now columns.now }
+    ensures { (j c u : ℕ) → j < LANES → IsPairInRow p.now places.now j c u → slice_index_or result j no_range ≡ growth_of p.now c u (equation_at p.now state) }
+{
+    let next = values_in_rows(p.equation(state), &columns[..variables(p) as usize]);
+    let mut growths = [NO_RANGE; LANES];
+    for j in 0..LANES {
+        growths[j] = growth(p, s, next[j], inputs[j], state);
+    }
+    growths
+}
+
+/// What the intervals of each row have in common.
+fn meets(first: &[Interval; LANES], second: &[Interval; LANES]) -> [Interval; LANES]
+    ensures { (j : ℕ) → j < LANES → slice_index_or result j no_range ≡ meet_of (slice_index_or first.now j no_range) (slice_index_or second.now j no_range) }
+{
+    let mut meets = [NO_RANGE; LANES];
+    for j in 0..LANES {
+        meets[j] = meet(first[j], second[j]);
+    }
+    meets
 }
 
 /// The number of each pair's input vector.
@@ -91,7 +139,7 @@ fn fill_columns(
 )
     requires pairs { HasPairInEachRow p.now places.now }
     requires inputs { (j c u : ℕ) → j < LANES → IsPairInRow p.now places.now j c u → slice_index_or inputs.now j 0 ≡ u }
-    ensures { (j c u : ℕ) → j < LANES → IsPairInRow p.now places.now j c u → (k : ℕ) → k < variables_of p.now → slice_index_or (slice_index_or columns.new k []) j (pos 0) ≡ slice_index_or (central_values p.now c u) k (pos 0) }
+    ensures { HoldCentralValues p.now places.now columns.new }
 {
     for k in 0..variables(p) {
         columns[k as usize] = column(p, places, inputs, k);
@@ -106,8 +154,6 @@ fn column(p: &Plant, places: &[[u32; LANES]; 9], inputs: &[u32; LANES], k: u32) 
     ensures { (j c u : ℕ) → j < LANES → IsPairInRow p.now places.now j c u → slice_index_or result j (pos 0) ≡ slice_index_or (central_values p.now c u) k (pos 0) }
 {
     every_plant_is_within_limits(p);
-    plants_are_sound();
-    centres_rest_on_their_places();
     let states = p.states();
     let inputs_count = p.input_variables();
     if k < states {
@@ -126,7 +172,6 @@ fn middles(p: &Plant, state: u32, places: &[u32; LANES]) -> [i64; LANES]
     ensures { (j : ℕ) → j < LANES → slice_index_or result j (pos 0) ≡ middle_of (slice_index_or (axes_of p.now) state no_axis) (slice_index_or places.now j 0) }
 {
     every_plant_is_within_limits(p);
-    plants_are_sound();
     let (first, width) = first_middle(p, state);
     let mut middles = [0; LANES];
     for j in 0..LANES {
@@ -142,7 +187,6 @@ fn first_middle(p: &Plant, state: u32) -> (i64, i64)
     ensures width { result.1 ≡ (slice_index_or (axes_of p.now) state no_axis).width }
 {
     every_plant_is_within_limits(p);
-    plants_are_sound();
     let grid = p.grid();
     grid.cells();
     let low = grid.low(0)[state as usize];
@@ -189,7 +233,6 @@ fn input_value(
     ensures { result ≡ slice_index_or (vector_of p.now.inputs (slice_index_or inputs.now j 0)) variable (pos 0) }
 {
     every_plant_is_within_limits(p);
-    inputs_rest_on_their_places();
     match row_before(places, p.input_values(variable) as usize, j) {
         Some(i) => values[i],
         None => p.input_value(inputs[j], variable) as i64,

@@ -9,7 +9,7 @@ use crate::sides::side;
 use crate::slopes::Slopes;
 use grid_quantiser::{CellBox, Side};
 use plant_record::Plant;
-use plant_record::laws::{every_plant_is_within_limits, plants_are_sound};
+use plant_record::laws::every_plant_is_within_limits;
 
 /// The cells that a cell's points can be in one sample later, under an input vector: None where the
 /// successor box leaves the domain. It takes no memory.
@@ -35,6 +35,5 @@ pub fn box_of_sides(p: &Plant, sides: &[Option<Side>; 6]) -> Option<CellBox>
     ensures { (c u : ℕ) → AreSidesAt p.now c u sides.now → IsBoxOf p.now c u result }
 {
     every_plant_is_within_limits(p);
-    plants_are_sound();
     p.grid().box_with(sides)
 }

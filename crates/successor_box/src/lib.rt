@@ -14,6 +14,7 @@ pub mod laws;
 mod noise;
 mod sides;
 mod slopes;
+mod spans;
 
 pub use blocks::prolonged_sides;
 pub use boxes::{box_of_sides, successors};

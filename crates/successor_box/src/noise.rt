@@ -6,6 +6,7 @@ ghost use Rattle.grid_quantiser.specs.Cells.{point_of};
 ghost use Rattle.successor_box.specs.Boxes.{noise_centre};
 
 use grid_quantiser::Point;
+use interval_eval::Interval;
 use plant_record::Plant;
 use plant_record::laws::every_plant_is_within_limits;
 
@@ -26,6 +27,20 @@ pub(crate) fn noise_radius(low: i128, high: i128) -> i128
     ensures { result ≡ high -ℤ floor_div (low +ℤ high) (pos 2) }
 {
     high - noise_centre(low, high)
+}
+
+/// How far the ends of a noise's range lie from its centre.
+pub(crate) fn noise_offset(low: i128, high: i128) -> Interval
+    requires low { nat_abs low < 10 ^ 18 }
+    requires high { nat_abs high < 10 ^ 18 }
+    ensures low { result.lo ≡ low -ℤ floor_div (low +ℤ high) (pos 2) }
+    ensures high { result.hi ≡ high -ℤ floor_div (low +ℤ high) (pos 2) }
+{
+    let centre = noise_centre(low, high);
+    Interval {
+        lo: low - centre,
+        hi: high - centre,
+    }
 }
 
 /// The centres of all noises.

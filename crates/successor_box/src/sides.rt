@@ -1,20 +1,20 @@
 ghost use Rattle.std.specs.Prelude.{◌≡◌, ◌<◌, ℕ, pos, ◌+ℤ◌, ◌-ℤ◌, length, slice_index_or};
 ghost use Rattle.fixed_expr.specs.Value.{value_of};
+ghost use Rattle.interval_eval.specs.Span.{span_of};
 ghost use Rattle.grid_quantiser.specs.Axes.{no_axis, cells_of};
 ghost use Rattle.plant_record.specs.Description.{axes_of, vectors_of};
 ghost use Rattle.plant_record.specs.Steps.{equation_at};
-ghost use Rattle.successor_box.specs.Boxes.{deviation_at, central_values, low_corner, high_corner};
+ghost use Rattle.successor_box.specs.Boxes.{deviation_at, central_values, cell_area_of, meet_of, reach_of};
 ghost use Rattle.successor_box.specs.Sides.{IsSideAt, IsSideBeforeAt};
 ghost use Rattle.successor_box.specs.Deviations.{HasNoOverflow, deviations_of};
 
-use crate::laws::steps_stay_in_range;
+use crate::area::{cell_ranges, variables};
 use crate::noise::noise_centres;
 use crate::slopes::Slopes;
 use grid_quantiser::Side;
-use grid_quantiser::laws::centre_is_near;
-use interval_eval::laws::{numbers_of_an_interval_lie_in_the_range, values_lie_in_the_span};
-use plant_record::laws::{every_plant_is_within_limits, plants_are_sound};
-use plant_record::{Plant, step_along};
+use interval_eval::{Interval, span};
+use plant_record::laws::every_plant_is_within_limits;
+use plant_record::{Plant, PlantVersion, step_along};
 
 /// The side of a successor box along the axis of a state: None where one of its ends leaves the axis.
 /// It takes no memory.
@@ -27,9 +27,8 @@ pub(crate) fn side(p: &Plant, s: &Slopes, c: u32, input: u32, state: u32) -> Opt
     ensures { IsSideAt p.now c input state result }
 {
     every_plant_is_within_limits(p);
-    plants_are_sound();
-    let (low, high) = ends(p, s, c, input, state);
-    p.grid().side(state, low, high)
+    let reach = reach(p, s, c, input, state);
+    p.grid().side(state, reach.lo, reach.hi)
 }
 
 /// The side of a successor box along the axis of a state, from its side so many places before: None where
@@ -42,68 +41,69 @@ pub fn moved_side(p: &Plant, state: u32, side: Option<Side>, places: u32) -> Opt
     ensures { (c u : ℕ) → IsSideBeforeAt p.now c u state places side → IsSideAt p.now c u state result }
 {
     every_plant_is_within_limits(p);
-    plants_are_sound();
     p.grid().moved_side(state, side, places)
 }
 
-/// The ends of a successor box along the axis of a state.
-#[inline]
-fn ends(p: &Plant, s: &Slopes, c: u32, input: u32, state: u32) -> (i128, i128)
+/// Where an equation leads from a cell.
+fn reach(p: &Plant, s: &Slopes, c: u32, input: u32, state: u32) -> Interval
     requires slopes { s.now ≡ deviations_of p.now }
     requires fits { HasNoOverflow p.now }
     requires cell { c < cells_of (axes_of p.now) }
     requires input { input < vectors_of p.now.inputs }
     requires state { state < length p.now.equations }
-    ensures low { result.0 ≡ slice_index_or (low_corner p.now c input) state (pos 0) }
-    ensures high { result.1 ≡ slice_index_or (high_corner p.now c input) state (pos 0) }
+    ensures { result ≡ reach_of p.now.version p.now c input (equation_at p.now state) }
 {
     let next = next_along(p, c, input, state);
-    ends_around(p, s, next, input, state)
+    let growth = growth(p, s, next, input, state);
+    match p.plant_version() {
+        PlantVersion::One => growth,
+        PlantVersion::Two => meet(growth, cell_span(p, c, input, state)),
+    }
 }
 
-/// The side of the box around one state of the next from a cell's centre, along the axis prolonged by its own length below,
-/// from which `moved_side` goes on: None where one of the box's ends leaves that too.
+/// The value of an equation at a cell's centre, less and plus how far it moves within the cell.
 #[inline]
-pub(crate) fn prolonged_side_around(
-    p: &Plant,
-    s: &Slopes,
-    next: i128,
-    input: u32,
-    state: u32,
-) -> Option<Side>
+pub(crate) fn growth(p: &Plant, s: &Slopes, next: i128, input: u32, state: u32) -> Interval
     requires slopes { s.now ≡ deviations_of p.now }
     requires fits { HasNoOverflow p.now }
     requires input { input < vectors_of p.now.inputs }
     requires state { state < length p.now.equations }
     requires next { (c : ℕ) × (c < cells_of (axes_of p.now)) × (next ≡ value_of (equation_at p.now state) (central_values p.now c input)) }
-    ensures { (c : ℕ) → c < cells_of (axes_of p.now) → next ≡ value_of (equation_at p.now state) (central_values p.now c input) → IsSideBeforeAt p.now c input state 0 result }
+    ensures low { result.lo ≡ next -ℤ deviation_at p.now input (equation_at p.now state) }
+    ensures high { result.hi ≡ next +ℤ deviation_at p.now input (equation_at p.now state) }
 {
     every_plant_is_within_limits(p);
-    plants_are_sound();
-    let (low, high) = ends_around(p, s, next, input, state);
-    p.grid().prolonged_side(state, low, high)
-}
-
-/// The ends of a successor box around one state of the next from a cell's centre.
-#[inline]
-fn ends_around(p: &Plant, s: &Slopes, next: i128, input: u32, state: u32) -> (i128, i128)
-    requires slopes { s.now ≡ deviations_of p.now }
-    requires fits { HasNoOverflow p.now }
-    requires input { input < vectors_of p.now.inputs }
-    requires state { state < length p.now.equations }
-    requires next { (c : ℕ) × (c < cells_of (axes_of p.now)) × (next ≡ value_of (equation_at p.now state) (central_values p.now c input)) }
-    ensures low { result.0 ≡ next -ℤ deviation_at p.now input (equation_at p.now state) }
-    ensures high { result.1 ≡ next +ℤ deviation_at p.now input (equation_at p.now state) }
-{
-    every_plant_is_within_limits(p);
-    plants_are_sound();
-    centre_is_near();
-    values_lie_in_the_span();
-    numbers_of_an_interval_lie_in_the_range();
     let deviation = s.of(state, input);
-    let low = next - deviation;
-    let high = next + deviation;
-    (low, high)
+    Interval {
+        lo: next - deviation,
+        hi: next + deviation,
+    }
+}
+
+/// What two intervals have in common.
+#[inline]
+pub(crate) fn meet(a: Interval, b: Interval) -> Interval
+    ensures { result ≡ meet_of a b }
+{
+    Interval {
+        lo: a.lo.max(b.lo),
+        hi: a.hi.min(b.hi),
+    }
+}
+
+/// The span of an equation over a cell.
+fn cell_span(p: &Plant, c: u32, input: u32, state: u32) -> Interval
+    requires fits { HasNoOverflow p.now }
+    requires cell { c < cells_of (axes_of p.now) }
+    requires input { input < vectors_of p.now.inputs }
+    requires state { state < length p.now.equations }
+    ensures { result ≡ span_of (equation_at p.now state) (cell_area_of p.now c input) }
+{
+    let count = variables(p) as usize;
+    match span(p.equation(state), &cell_ranges(p, c, input)[..count]) {
+        Some(ends) => ends,
+        None => unreachable!(),
+    }
 }
 
 /// One state of the next from the centre of a cell, at the noises' centres.
@@ -116,9 +116,6 @@ fn next_along(p: &Plant, c: u32, input: u32, state: u32) -> i128
     ensures { result ≡ value_of (equation_at p.now state) (central_values p.now c input) }
 {
     every_plant_is_within_limits(p);
-    plants_are_sound();
-    centre_is_near();
-    steps_stay_in_range();
     let centre = p.grid().centre(c);
     match step_along(p, &centre, input, &noise_centres(p), state) {
         Some(next) => next,

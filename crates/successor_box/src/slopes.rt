@@ -16,7 +16,7 @@ use fixed_expr::arithmetic::{difference, sum};
 use growth_bound::span_and_deviation;
 use interval_eval::Interval;
 use plant_record::Plant;
-use plant_record::laws::{every_plant_is_within_limits, plants_are_sound};
+use plant_record::laws::every_plant_is_within_limits;
 use std::alloc::Global;
 use std::marker::Model;
 
@@ -100,7 +100,6 @@ fn deviation_at(
     ensures { SomeIff result (HasNoOverflowAt p.now equation input) (deviation_at p.now input (equation_at p.now equation)) }
 {
     every_plant_is_within_limits(p);
-    plants_are_sound();
     let count = variables(p) as usize;
     deviation_over(
         p.equation(equation),

@@ -1,10 +1,13 @@
 -- The ranges and the radii of a plant's variables, in arrays that are longer.
-use Rattle.std.specs.Prelude.{◌≡◌, ℕ, ◌+◌, ◌<◌, ℤ, pos, List, length, take}
+use Rattle.std.specs.Prelude.{◌≡◌, ℕ, ◌+◌, ◌<◌, ℤ, pos, neg_ℤ, ◌+ℤ◌, ◌-ℤ◌, List, ◌++◌, length, map, take}
 use Rattle.interval_eval.specs.declared.interval.Interval.{Interval}
-use Rattle.plant_record.specs.Description.{Description, vectors_of}
+use Rattle.grid_quantiser.specs.declared.axis.Axis.{Axis}
+use Rattle.grid_quantiser.specs.Cells.{radius_of}
+use Rattle.plant_record.specs.declared.variables.NoiseVariable.{NoiseVariable}
+use Rattle.plant_record.specs.Description.{Description, axes_of, vectors_of, vector_of}
 use Rattle.successor_box.specs.declared.fault.SlopeFault.{SlopeFault}
 use Rattle.successor_box.specs.declared.fault.SlopeFault.TheVariants.{Overflow, Memory}
-use Rattle.successor_box.specs.Boxes.{area_of, radii_of}
+use Rattle.successor_box.specs.Boxes.{noise_centre, area_of, area_between, radii_of}
 use Rattle.successor_box.specs.Deviations.{HasNoOverflowAt}
 
 -- how many variables a plant has
@@ -17,6 +20,21 @@ no_range = record { lo = pos 0; hi = pos 0 }
 -- the front of the array is the area under an input vector
 abbrev pub AreRanges : Description → ℕ → List Interval → Type 0
 AreRanges p u ranges = take (variables_of p) ranges ≡ area_of p u
+
+-- the same of an area in which the states lie between two points
+abbrev pub AreRangesBetween : Description → List ℤ → List ℤ → ℕ → List Interval → Type 0
+AreRangesBetween p lows highs u ranges = take (variables_of p) ranges ≡ area_between p lows highs u
+
+-- the ends of the ranges over a cell, less the values at its centre
+abbrev pub offsets_of : Description → ℕ → List Interval
+offsets_of p u =
+    map (λ (a : Axis). record { lo = neg_ℤ (radius_of a); hi = (a.width -ℤ pos 1) -ℤ radius_of a }) (axes_of p)
+    ++ map (λ _. no_range) (vector_of p.inputs u)
+    ++ map (λ (w : NoiseVariable). record { lo = w.low -ℤ noise_centre w; hi = w.high -ℤ noise_centre w }) p.noises
+
+-- an interval moved by a number
+abbrev pub moved_to : ℤ → Interval → Interval
+moved_to x o = record { lo = x +ℤ o.lo; hi = x +ℤ o.hi }
 
 -- the front of the array is the radii, under each input vector
 abbrev pub AreRadii : Description → List ℤ → Type 0

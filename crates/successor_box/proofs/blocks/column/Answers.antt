@@ -4,6 +4,7 @@ use Rattle.std.proofs.lemmas.Int.{to_z-of_z}
 use Rattle.std.proofs.lemmas.List.{get_or-replicate}
 use Rattle.plant_record.specs.Description.{vectors_of, vector_of}
 use Rattle.plant_record.specs.InputPlaces.{input_place}
+use Rattle.plant_record.proofs.lemmas.SoundPlants.{sound as sound_plant}
 use Rattle.successor_box.specs.Boxes.{noise_centre}
 use Rattle.successor_box.proofs.AlikePairs.{central_input}
 use Rattle.successor_box.proofs.Columns.{place_within, digit_at, state_value, noise_value}
@@ -13,12 +14,12 @@ pub middles-requires-clause-within : goal.middles-requires-clause-within
 middles-requires-clause-within c = λ row lt.
     let p = c.args.p.now in
     let pair = c.requires.pairs row lt in
-    place_within p c.args.places.now row pair.0 pair.1 pair.2 (c.plants_are_sound.ensures p c.every_plant_is_within_limits.ensures.plant) c.args.k (omega (arith, c.if-k-states.true, c.states-states.ensures))
+    place_within p c.args.places.now row pair.0 pair.1 pair.2 (sound_plant p c.every_plant_is_within_limits.ensures.plant) c.args.k (omega (arith, c.if-k-states.true, c.states-states.ensures))
 
 pub returns-then-k-states : goal.returns-then-k-states
 returns-then-k-states c = λ row cell u lt is.
     let p = c.args.p.now in
-    c.middles.ensures row lt ∙ state_value p c.args.places.now row cell u is c.centres_rest_on_their_places.ensures (c.plants_are_sound.ensures p c.every_plant_is_within_limits.ensures.plant) c.args.k (omega (arith, c.if-k-states.true, c.states-states.ensures))
+    c.middles.ensures row lt ∙ state_value p c.args.places.now row cell u is (sound_plant p c.every_plant_is_within_limits.ensures.plant) c.args.k (omega (arith, c.if-k-states.true, c.states-states.ensures))
 
 pub input_values-requires-clause-inputs : goal.input_values-requires-clause-inputs
 input_values-requires-clause-inputs c = λ row lt.

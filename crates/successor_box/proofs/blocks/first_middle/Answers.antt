@@ -7,6 +7,7 @@ use Rattle.grid_quantiser.specs.declared.axis.Axis.{Axis}
 use Rattle.grid_quantiser.specs.Axes.{no_axis}
 use Rattle.grid_quantiser.specs.Cells.{low_of, high_of, radius_of, point_of}
 use Rattle.plant_record.specs.Description.{axis_of, axes_of}
+use Rattle.plant_record.proofs.lemmas.SoundPlants.{sound as sound_plant}
 use Rattle.successor_box.proofs.Columns.{axis_at}
 use Rattle.successor_box.proofs.Middles.{IsFirstCell, first_cell, low_at, high_at}
 use Rattle.successor_box.proofs.blocks.first_middle.Goals as goal
@@ -21,7 +22,7 @@ found c =
     let low = low_at axes k (get_or c.low.result k (pos 0)) lt (ap (λ (xs : List ℤ). get_or xs k (pos 0)) (c.low.ensures ∙ ap (λ (l : List Axis). point_of (low_of l 0)) c.grid-grid.ensures)) in
     let high = high_at axes k (get_or c.high.result k (pos 0)) lt (ap (λ (xs : List ℤ). get_or xs k (pos 0)) (c.high.ensures ∙ ap (λ (l : List Axis). point_of (high_of l 0)) c.grid-grid.ensures)) in
     let radius = c.radius.ensures ∙ ap (λ (l : List Axis). radius_of (get_or l k no_axis)) c.grid-grid.ensures in
-    first_cell (get_or axes k no_axis) _ _ _ (axis_at p (c.plants_are_sound.ensures p c.every_plant_is_within_limits.ensures.plant) k c.requires) low high radius
+    first_cell (get_or axes k no_axis) _ _ _ (axis_at p (sound_plant p c.every_plant_is_within_limits.ensures.plant) k c.requires) low high radius
 
 pub overflow_add-middle : goal.overflow_add-middle
 overflow_add-middle c = let f = found c in rw (to_z-of_z w128 _ f.low_fits, to_z-of_z w128 _ f.radius_fits) f.middle_wide

@@ -2,6 +2,7 @@ use Rattle.std.proofs.Common.{ℕ, ◌<◌, ◌∙◌, get_or, w64, sym, rules, 
 use Rattle.std.specs.Prelude.{ℤ, pos, FitsSigned}
 use Rattle.std.specs.Int.{w128}
 use Rattle.std.proofs.lemmas.Int.{to_z-of_z}
+use Rattle.plant_record.proofs.lemmas.InputPlaces.{inputs_rest}
 use Rattle.successor_box.proofs.InputNumbers.{value_literal}
 use Rattle.successor_box.proofs.Middles.{literal_fits}
 use Rattle.successor_box.proofs.blocks.input_value.Goals as goal
@@ -24,7 +25,7 @@ returns-in-Some c =
     let fits : FitsSigned w64 x = search rules in
     rw (to_z-of_z w64 x fits)
     (c.requires.earlier i lt
-    ∙ c.inputs_rest_on_their_places.ensures inputs c.args.variable (get_or c.args.inputs.now i 0) (get_or c.args.inputs.now j 0) c.requires.variable (c.requires.inputs i before) (c.requires.inputs j row)
+    ∙ inputs_rest inputs c.args.variable (get_or c.args.inputs.now i 0) (get_or c.args.inputs.now j 0) c.requires.variable (c.requires.inputs i before) (c.requires.inputs j row)
     (sym (c.requires.places i before) ∙ c.in-Some.ensures.1 ∙ c.requires.places j row))
 
 pub returns-in-None : goal.returns-in-None

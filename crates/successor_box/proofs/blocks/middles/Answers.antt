@@ -6,6 +6,7 @@ use Rattle.grid_quantiser.specs.declared.axis.Axis.{Axis}
 use Rattle.grid_quantiser.specs.Axes.{no_axis}
 use Rattle.grid_quantiser.specs.Places.{middle_of}
 use Rattle.plant_record.specs.Description.{axes_of}
+use Rattle.plant_record.proofs.lemmas.SoundPlants.{sound as sound_plant}
 use Rattle.successor_box.proofs.Columns.{axis_at}
 use Rattle.successor_box.proofs.Filling.{place_more}
 use Rattle.successor_box.proofs.Middles.{has_room, middle_from}
@@ -27,7 +28,7 @@ one c =
     let place : ℕ = get_or c.args.places.now c.loop-j.j 0 in
     let first : ℤ = c.first_middle-first.result.0 in
     let width : ℤ = c.first_middle-first.result.1 in
-    let axis = axis_at p (c.plants_are_sound.ensures p c.every_plant_is_within_limits.ensures.plant) c.args.state c.requires.state in
+    let axis = axis_at p (sound_plant p c.every_plant_is_within_limits.ensures.plant) c.args.state c.requires.state in
     let room = has_room a place axis (c.requires.within c.loop-j.j c.loop-j-test.true) in
     let at : first +ℤ (width *ℤ pos place) ≡ middle_of a place = middle_from a place first width c.first_middle-first.ensures.middle c.first_middle-first.ensures.width in
     record {

@@ -1,12 +1,13 @@
 use Rattle.plant_record.specs.Description.{axes_of}
 use Rattle.successor_box.specs.Boxes.{low_corner, high_corner}
+use Rattle.successor_box.proofs.Below.{boxes_grow_by_sides}
 use Rattle.successor_box.proofs.PairSides.{box_more, box_on_all}
 use Rattle.successor_box.proofs.laws.sides_make_boxes.Goals as goal
 
 pub returns : goal.returns
 returns c = record {
-  start = λ p cell u. c.boxes_grow_by_sides.ensures.start (low_corner p cell u) (high_corner p cell u);
-  more = λ p k cell u found side sound lt box is. box_more c.boxes_grow_by_sides.ensures p k cell u found side sound lt box is;
-  within = λ p k cell u found sound. c.boxes_grow_by_sides.ensures.within (axes_of p) (low_corner p cell u) (high_corner p cell u) k found sound.axes;
+  start = λ p cell u. boxes_grow_by_sides.start (low_corner p cell u) (high_corner p cell u);
+  more = λ p k cell u found side sound lt box is. box_more p k cell u found side sound lt box is;
+  within = λ p k cell u found sound. boxes_grow_by_sides.within (axes_of p) (low_corner p cell u) (high_corner p cell u) k found sound.axes;
   all = box_on_all;
 }

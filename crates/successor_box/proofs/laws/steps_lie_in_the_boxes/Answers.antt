@@ -2,4 +2,4 @@ use Rattle.successor_box.proofs.Steps.{step_among}
 use Rattle.successor_box.proofs.laws.steps_lie_in_the_boxes.Goals as goal
 
 pub returns : goal.returns
-returns c = λ p cell u x w sound below enabled point noise. step_among c.centre_is_near.ensures c.values_move_by_at_most_the_deviation.ensures p cell u x w sound below point noise enabled
+returns c = λ p cell u x w sound below enabled point noise. step_among p cell u x w sound below point noise enabled

@@ -2,4 +2,4 @@ use Rattle.successor_box.proofs.Steps.{step_stays}
 use Rattle.successor_box.proofs.laws.steps_stay_in_range.Goals as goal
 
 pub returns : goal.returns
-returns c = step_stays c.values_stay_in_the_range.ensures
+returns c = step_stays

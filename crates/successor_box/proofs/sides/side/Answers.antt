@@ -1,15 +1,23 @@
-use Rattle.std.proofs.Common.{get_or, subst₂, rules}
-use Rattle.std.specs.Prelude.{ℤ, FitsSigned}
+use Rattle.std.proofs.Common.{◌≡◌, ◌∙◌, get_or, sym, ap, subst₂, rules}
+use Rattle.std.specs.Prelude.{ℤ, pos, FitsSigned}
 use Rattle.std.specs.Int.{w128}
 use Rattle.std.proofs.lemmas.Int.{to_z-of_z}
+use Rattle.interval_eval.specs.declared.interval.Interval.{Interval}
 use Rattle.grid_quantiser.specs.Axes.{no_axis}
 use Rattle.grid_quantiser.specs.Sides.{IsSideOf}
 use Rattle.plant_record.specs.Description.{axes_of}
+use Rattle.successor_box.specs.Boxes.{low_corner, high_corner}
+use Rattle.successor_box.proofs.SideEnds.{low_is, high_is}
 use Rattle.successor_box.proofs.sides.side.Goals as goal
 
 pub returns : goal.returns
 returns c =
-    let low_fits : FitsSigned w128 c.ends-low.result.0 = search rules in
-    let high_fits : FitsSigned w128 c.ends-low.result.1 = search rules in
-    let is = rw (c.grid.ensures, to_z-of_z w128 c.ends-low.result.0 low_fits, to_z-of_z w128 c.ends-low.result.1 high_fits) at c.side.ensures in
-    subst₂ (λ (low high : ℤ). IsSideOf (get_or (axes_of c.args.p.now) c.args.state no_axis) low high c.side.result) c.ends-low.ensures.low c.ends-low.ensures.high is
+    let p = c.args.p.now in
+    let x : ℤ = c.reach-reach.result.lo in
+    let y : ℤ = c.reach-reach.result.hi in
+    let low_fits : FitsSigned w128 x = search rules in
+    let high_fits : FitsSigned w128 y = search rules in
+    let is = rw (c.grid.ensures, to_z-of_z w128 x low_fits, to_z-of_z w128 y high_fits) at c.side.ensures in
+    let low : x ≡ get_or (low_corner p c.args.c c.args.input) c.args.state (pos 0) = ap (λ (r : Interval). r.lo) c.reach-reach.ensures ∙ sym (low_is p c.args.c c.args.input c.args.state c.requires.state) in
+    let high : y ≡ get_or (high_corner p c.args.c c.args.input) c.args.state (pos 0) = ap (λ (r : Interval). r.hi) c.reach-reach.ensures ∙ sym (high_is p c.args.c c.args.input c.args.state c.requires.state) in
+    subst₂ (λ (low high : ℤ). IsSideOf (get_or (axes_of p) c.args.state no_axis) low high c.side.result) low high is

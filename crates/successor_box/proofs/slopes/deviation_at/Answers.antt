@@ -3,6 +3,7 @@ use Rattle.std.specs.Prelude.{pos}
 use Rattle.std.proofs.lemmas.Option.{get_or_from_slice_get}
 use Rattle.fixed_expr.specs.Expression.{Number, expression_of}
 use Rattle.plant_record.specs.Steps.{equation_at}
+use Rattle.plant_record.proofs.lemmas.SoundPlants.{sound as sound_plant}
 use Rattle.successor_box.proofs.Steps.{formed_over}
 use Rattle.successor_box.proofs.Radii.{radii_not_negative}
 use Rattle.successor_box.proofs.slopes.deviation_at.Goals as goal
@@ -10,7 +11,7 @@ use Rattle.successor_box.proofs.slopes.deviation_at.Goals as goal
 pub deviation_over-requires-clause-well_formed : goal.deviation_over-requires-clause-well_formed
 deviation_over-requires-clause-well_formed c =
     let p = c.args.p.now in
-    let sound = c.plants_are_sound.ensures p c.every_plant_is_within_limits.ensures.plant in
+    let sound = sound_plant p c.every_plant_is_within_limits.ensures.plant in
     let is : equation_at p c.args.equation ≡ expression_of c.equation.result.now = get_or_from_slice_get p.equations c.args.equation (expression_of c.equation.result.now) (Number (pos 0)) c.equation.ensures in
     rw (c.variables-count.ensures.count, c.ranges-2.ensures, ← is) (formed_over p c.args.input sound c.args.equation (Number (pos 0)) c.requires.equation)
 

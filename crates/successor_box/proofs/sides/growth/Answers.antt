@@ -4,16 +4,17 @@ use Rattle.std.specs.Int.{w128}
 use Rattle.std.proofs.lemmas.Int.{to_z-of_z}
 use Rattle.fixed_expr.specs.Value.{value_of}
 use Rattle.plant_record.specs.Steps.{equation_at}
+use Rattle.plant_record.proofs.lemmas.SoundPlants.{sound as sound_plant}
 use Rattle.successor_box.specs.Boxes.{central_values}
 use Rattle.successor_box.proofs.DeviationRows.{row_count}
 use Rattle.successor_box.proofs.SideEnds.{end_step}
-use Rattle.successor_box.proofs.sides.ends_around.Goals as goal
+use Rattle.successor_box.proofs.sides.growth.Goals as goal
 
 pub of-deviation-requires-clause-input : goal.of-deviation-requires-clause-input
 of-deviation-requires-clause-input c = rw c.requires.slopes (rw (row_count c.args.p.now c.args.state c.requires.state) c.requires.input)
 
-pub overflow_sub-low : goal.overflow_sub-low
-overflow_sub-low c =
+pub overflow_sub-result : goal.overflow_sub-result
+overflow_sub-result c =
     let p = c.args.p.now in
     let plant = c.every_plant_is_within_limits.ensures.plant in
     let x : ℤ = c.args.next in
@@ -21,11 +22,11 @@ overflow_sub-low c =
     let next : FitsSigned w128 x = search rules in
     let deviation : FitsSigned w128 d = search rules in
     let value : x ≡ value_of (equation_at p c.args.state) (central_values p c.requires.next.0 c.args.input) = c.requires.next.2 in
-    let step = end_step c.numbers_of_an_interval_lie_in_the_range.ensures c.values_lie_in_the_span.ensures c.centre_is_near.ensures p (c.plants_are_sound.ensures p plant) c.requires.fits plant.noises c.requires.next.0 c.args.input c.args.state c.requires.next.1 c.requires.input c.requires.state x c.args.s.now d value c.requires.slopes c.of-deviation.ensures in
+    let step = end_step p (sound_plant p plant) c.requires.fits c.requires.next.0 c.args.input c.args.state c.requires.next.1 c.requires.input c.requires.state x c.args.s.now d value c.requires.slopes c.of-deviation.ensures in
     rw (to_z-of_z w128 x next, to_z-of_z w128 d deviation) step.low_fits
 
-pub overflow_add-high : goal.overflow_add-high
-overflow_add-high c =
+pub overflow_add-result : goal.overflow_add-result
+overflow_add-result c =
     let p = c.args.p.now in
     let plant = c.every_plant_is_within_limits.ensures.plant in
     let x : ℤ = c.args.next in
@@ -33,7 +34,7 @@ overflow_add-high c =
     let next : FitsSigned w128 x = search rules in
     let deviation : FitsSigned w128 d = search rules in
     let value : x ≡ value_of (equation_at p c.args.state) (central_values p c.requires.next.0 c.args.input) = c.requires.next.2 in
-    let step = end_step c.numbers_of_an_interval_lie_in_the_range.ensures c.values_lie_in_the_span.ensures c.centre_is_near.ensures p (c.plants_are_sound.ensures p plant) c.requires.fits plant.noises c.requires.next.0 c.args.input c.args.state c.requires.next.1 c.requires.input c.requires.state x c.args.s.now d value c.requires.slopes c.of-deviation.ensures in
+    let step = end_step p (sound_plant p plant) c.requires.fits c.requires.next.0 c.args.input c.args.state c.requires.next.1 c.requires.input c.requires.state x c.args.s.now d value c.requires.slopes c.of-deviation.ensures in
     rw (to_z-of_z w128 x next, to_z-of_z w128 d deviation) step.high_fits
 
 pub returns-clause-low : goal.returns-clause-low
@@ -45,7 +46,7 @@ returns-clause-low c =
     let next : FitsSigned w128 x = search rules in
     let deviation : FitsSigned w128 d = search rules in
     let value : x ≡ value_of (equation_at p c.args.state) (central_values p c.requires.next.0 c.args.input) = c.requires.next.2 in
-    let step = end_step c.numbers_of_an_interval_lie_in_the_range.ensures c.values_lie_in_the_span.ensures c.centre_is_near.ensures p (c.plants_are_sound.ensures p plant) c.requires.fits plant.noises c.requires.next.0 c.args.input c.args.state c.requires.next.1 c.requires.input c.requires.state x c.args.s.now d value c.requires.slopes c.of-deviation.ensures in
+    let step = end_step p (sound_plant p plant) c.requires.fits c.requires.next.0 c.args.input c.args.state c.requires.next.1 c.requires.input c.requires.state x c.args.s.now d value c.requires.slopes c.of-deviation.ensures in
     rw (to_z-of_z w128 x next, to_z-of_z w128 d deviation, to_z-of_z w128 (x -ℤ d) step.low_fits) (ap (λ (y : ℤ). x -ℤ y) step.moves_by)
 
 pub returns-clause-high : goal.returns-clause-high
@@ -57,5 +58,5 @@ returns-clause-high c =
     let next : FitsSigned w128 x = search rules in
     let deviation : FitsSigned w128 d = search rules in
     let value : x ≡ value_of (equation_at p c.args.state) (central_values p c.requires.next.0 c.args.input) = c.requires.next.2 in
-    let step = end_step c.numbers_of_an_interval_lie_in_the_range.ensures c.values_lie_in_the_span.ensures c.centre_is_near.ensures p (c.plants_are_sound.ensures p plant) c.requires.fits plant.noises c.requires.next.0 c.args.input c.args.state c.requires.next.1 c.requires.input c.requires.state x c.args.s.now d value c.requires.slopes c.of-deviation.ensures in
+    let step = end_step p (sound_plant p plant) c.requires.fits c.requires.next.0 c.args.input c.args.state c.requires.next.1 c.requires.input c.requires.state x c.args.s.now d value c.requires.slopes c.of-deviation.ensures in
     rw (to_z-of_z w128 x next, to_z-of_z w128 d deviation, to_z-of_z w128 (x +ℤ d) step.high_fits) (ap (λ (y : ℤ). x +ℤ y) step.moves_by)

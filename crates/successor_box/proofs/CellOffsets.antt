@@ -1,0 +1,188 @@
+-- The range of a variable over a cell rests on its value at the cell's centre.
+use Rattle.std.proofs.Common.{◌≡◌, ℕ, zero, suc, ◌+◌, ◌-◌, ◌/◌, ◌%◌, ◌<◌, ◌≤◌, Some, List, [], ◌∷◌, ◌++◌, length, map, take, get_or, refl, sym, ap, ap₂, ◌∙◌, arith}
+use Rattle.std.specs.Prelude.{ℤ, pos, neg_ℤ, ◌+ℤ◌, ◌-ℤ◌, ◌*ℤ◌, slice_get}
+use Rattle.std.specs.Option.{option_map}
+use Rattle.std.proofs.lemmas.Int.{ints}
+use Rattle.std.proofs.lemmas.Option.{none-some, same_Some}
+use Rattle.std.proofs.lemmas.List.{length-append, length-map, length-take-le, get_or-map}
+use Rattle.fixed_expr.specs.Quotient.{floor_div}
+use Rattle.interval_eval.specs.declared.interval.Interval.{Interval}
+use Rattle.grid_quantiser.specs.declared.axis.Axis.{Axis}
+use Rattle.grid_quantiser.specs.Axes.{no_axis, cells_of}
+use Rattle.grid_quantiser.specs.Cells.{low_of, high_of, radius_of, centre_of}
+use Rattle.plant_record.specs.declared.variables.StateVariable.{StateVariable}
+use Rattle.plant_record.specs.declared.variables.NoiseVariable.{NoiseVariable}
+use Rattle.plant_record.specs.Description.{Description, axis_of, axes_of, vector_of}
+use Rattle.successor_box.specs.Boxes.{noise_centre, ranges_between, cell_area_of, central_values}
+use Rattle.successor_box.specs.inside.Area.{no_range, variables_of, offsets_of, moved_to}
+use Rattle.successor_box.proofs.CellValues.{vector_count}
+use Rattle.successor_box.proofs.Centres.{centre_count}
+use Rattle.successor_box.proofs.Ranges.{in_first, in_second, in_third}
+
+-- ---- intervals moved by numbers, one for each
+
+pub moved_all : List ℤ → List Interval → List Interval
+moved_all [] os = []
+moved_all (x ∷ xs) [] = []
+moved_all (x ∷ xs) (o ∷ os) = moved_to x o ∷ moved_all xs os
+
+moved_append : (xs ys : List ℤ) (os ps : List Interval) → length xs ≡ length os → moved_all (xs ++ ys) (os ++ ps) ≡ moved_all xs os ++ moved_all ys ps
+unfolding moved_all
+moved_append [] ys [] ps long = refl
+moved_append [] ys (o ∷ os) ps long = absurd (omega (arith, long))
+moved_append (x ∷ xs) ys [] ps long = absurd (omega (arith, long))
+moved_append (x ∷ xs) ys (o ∷ os) ps long = ap (λ (is : List Interval). moved_to x o ∷ is) (moved_append xs ys os ps (omega (arith, long)))
+
+moved_at : (xs : List ℤ) (os : List Interval) (k : ℕ) → k < length xs → k < length os → get_or (moved_all xs os) k no_range ≡ moved_to (get_or xs k (pos 0)) (get_or os k no_range)
+unfolding moved_all
+moved_at [] os k first second = absurd (omega (arith, first))
+moved_at (x ∷ xs) [] k first second = absurd (omega (arith, second))
+moved_at (x ∷ xs) (o ∷ os) zero first second = refl
+moved_at (x ∷ xs) (o ∷ os) (suc k) first second = moved_at xs os k (omega (arith, first)) (omega (arith, second))
+
+same_moved : (xs ys : List ℤ) (os : List Interval) (k : ℕ) → length xs ≡ length ys → get_or xs k (pos 0) ≡ get_or ys k (pos 0) → get_or (moved_all xs os) k no_range ≡ get_or (moved_all ys os) k no_range
+unfolding moved_all
+same_moved [] [] os k long same = refl
+same_moved [] (y ∷ ys) os k long same = absurd (omega (arith, long))
+same_moved (x ∷ xs) [] os k long same = absurd (omega (arith, long))
+same_moved (x ∷ xs) (y ∷ ys) [] k long same = refl
+same_moved (x ∷ xs) (y ∷ ys) (o ∷ os) zero long same = ap (λ (z : ℤ). moved_to z o) same
+same_moved (x ∷ xs) (y ∷ ys) (o ∷ os) (suc k) long same = same_moved xs ys os k (omega (arith, long)) same
+
+-- ---- states, inputs and noises
+
+abbrev pub axis_offset : Axis → Interval
+axis_offset a = record { lo = neg_ℤ (radius_of a); hi = (a.width -ℤ pos 1) -ℤ radius_of a }
+
+abbrev pub noise_offset : NoiseVariable → Interval
+noise_offset w = record { lo = w.low -ℤ noise_centre w; hi = w.high -ℤ noise_centre w }
+
+between : (x y : ℤ) (i : Interval) → i.lo ≡ x → i.hi ≡ y → ◌≡◌ {A = Interval} i (record { lo = x; hi = y })
+between x y i low high = ap₂ (λ (l h : ℤ). record { lo = l; hi = h }) low high
+
+states_moved : (states : List StateVariable) (c : ℕ) → moved_all (take (length states) (centre_of (map axis_of states) c)) (map axis_offset (map axis_of states)) ≡ ranges_between (low_of (map axis_of states) c) (high_of (map axis_of states) c)
+unfolding moved_all
+states_moved [] c = refl
+states_moved (s ∷ states) c =
+    let axes = map axis_of states in
+    ap₂ (λ (i : Interval) (is : List Interval). i ∷ is)
+    (one ((axis_of s).lo +ℤ ((axis_of s).width *ℤ pos (c / cells_of axes))) (radius_of (axis_of s)) (axis_of s).width)
+    (states_moved states (c % cells_of axes))
+  where
+    one : (x r w : ℤ) → moved_to (x +ℤ r) (record { lo = neg_ℤ r; hi = (w -ℤ pos 1) -ℤ r }) ≡ record { lo = x; hi = x +ℤ (w -ℤ pos 1) }
+    one x r w = between x (x +ℤ (w -ℤ pos 1)) (moved_to (x +ℤ r) (record { lo = neg_ℤ r; hi = (w -ℤ pos 1) -ℤ r })) (omega (arith, ints)) (omega (arith, ints))
+
+inputs_moved : (vs : List ℤ) → moved_all vs (map (λ (_ : ℤ). no_range) vs) ≡ map (λ v. record { lo = v; hi = v }) vs
+unfolding moved_all
+inputs_moved [] = refl
+inputs_moved (v ∷ vs) = ap₂ (λ (i : Interval) (is : List Interval). i ∷ is) (between v v (moved_to v no_range) (omega (arith, ints)) (omega (arith, ints))) (inputs_moved vs)
+
+noises_moved : (noises : List NoiseVariable) → moved_all (take (length noises) (map noise_centre noises)) (map noise_offset noises) ≡ map (λ (w : NoiseVariable). record { lo = w.low; hi = w.high }) noises
+unfolding moved_all
+noises_moved [] = refl
+noises_moved (w ∷ noises) = ap₂ (λ (i : Interval) (is : List Interval). i ∷ is) (one (noise_centre w) w.low w.high) (noises_moved noises)
+  where
+    one : (m low high : ℤ) → moved_to m (record { lo = low -ℤ m; hi = high -ℤ m }) ≡ record { lo = low; hi = high }
+    one m low high = between low high (moved_to m (record { lo = low -ℤ m; hi = high -ℤ m })) (omega (arith, ints)) (omega (arith, ints))
+
+-- ---- all variables
+
+module _ (p : Description) (c u : ℕ) where
+  abbrev centre : List ℤ
+  centre = take (length p.states) (centre_of (axes_of p) c)
+
+  abbrev noise_middles : List ℤ
+  noise_middles = take (length p.noises) (map noise_centre p.noises)
+
+  centre_long : length centre ≡ length p.states
+  centre_long = length-take-le (length p.states) (centre_of (axes_of p) c) (omega (arith, centre_count (axes_of p) c, length-map p.states axis_of))
+
+  pub central_count : length (central_values p c u) ≡ variables_of p
+  central_count =
+      let noises_long : length noise_middles ≡ length p.noises = length-take-le (length p.noises) (map noise_centre p.noises) (omega (arith, length-map p.noises noise_centre)) in
+      omega (arith, length-append (centre ++ vector_of p.inputs u) noise_middles, length-append centre (vector_of p.inputs u), centre_long, vector_count p.inputs u, noises_long)
+
+  abbrev input_offsets : List Interval
+  input_offsets = map (λ (_ : ℤ). no_range) (vector_of p.inputs u)
+
+  states_offset : length (map axis_offset (axes_of p)) ≡ length p.states
+  states_offset = length-map (axes_of p) axis_offset ∙ length-map p.states axis_of
+
+  inputs_offset : length input_offsets ≡ length p.inputs
+  inputs_offset = length-map (vector_of p.inputs u) _ ∙ vector_count p.inputs u
+
+  pub offset_count : length (offsets_of p u) ≡ variables_of p
+  offset_count = omega (arith, length-append (map axis_offset (axes_of p) ++ input_offsets) (map noise_offset p.noises), length-append (map axis_offset (axes_of p)) input_offsets, states_offset, inputs_offset, length-map p.noises noise_offset)
+
+  pub cell_area_is : cell_area_of p c u ≡ moved_all (central_values p c u) (offsets_of p u)
+  cell_area_is =
+      let front : length (centre ++ vector_of p.inputs u) ≡ length (map axis_offset (axes_of p) ++ input_offsets) =
+      omega (arith, length-append centre (vector_of p.inputs u), length-append (map axis_offset (axes_of p)) input_offsets, centre_long, vector_count p.inputs u, states_offset, inputs_offset) in
+      sym (moved_append (centre ++ vector_of p.inputs u) noise_middles (map axis_offset (axes_of p) ++ input_offsets) (map noise_offset p.noises) front
+      ∙ ap₂ (λ (is js : List Interval). is ++ js)
+      (moved_append centre (vector_of p.inputs u) (map axis_offset (axes_of p)) input_offsets (omega (arith, centre_long, states_offset))
+      ∙ ap₂ (λ (is js : List Interval). is ++ js) (states_moved p.states c) (inputs_moved (vector_of p.inputs u)))
+      (noises_moved p.noises))
+
+  pub cell_range : (k : ℕ) → k < variables_of p → get_or (cell_area_of p c u) k no_range ≡ moved_to (get_or (central_values p c u) k (pos 0)) (get_or (offsets_of p u) k no_range)
+  cell_range k lt = ap (λ (area : List Interval). get_or area k no_range) cell_area_is ∙ moved_at (central_values p c u) (offsets_of p u) k (omega (arith, lt, central_count)) (omega (arith, lt, offset_count))
+
+moved_count : (xs : List ℤ) (os : List Interval) (n : ℕ) → length xs ≡ n → length os ≡ n → length (moved_all xs os) ≡ n
+unfolding moved_all
+moved_count [] os n first second = first
+moved_count (x ∷ xs) [] n first second = absurd (omega (arith, first, second))
+moved_count (x ∷ xs) (o ∷ os) n first second = omega (arith, first, second, moved_count xs os (length xs) refl (omega (arith, first, second)))
+
+pub cell_area_long : (p : Description) (c u : ℕ) → length (cell_area_of p c u) ≡ variables_of p
+cell_area_long p c u = ap length (cell_area_is p c u) ∙ moved_count (central_values p c u) (offsets_of p u) (variables_of p) (central_count p c u) (offset_count p c u)
+
+-- inputs have no offset
+pub same_constants : {X : Type 0} (x : X) (ys zs : List ℤ) → length ys ≡ length zs → map (λ (_ : ℤ). x) ys ≡ map (λ (_ : ℤ). x) zs
+same_constants x [] [] long = refl
+same_constants x [] (z ∷ zs) long = absurd (omega (arith, long))
+same_constants x (y ∷ ys) [] long = absurd (omega (arith, long))
+same_constants {X} x (y ∷ ys) (z ∷ zs) long = ap (λ (xs : List X). x ∷ xs) (same_constants x ys zs (omega (arith, long)))
+
+pub same_offsets : (p : Description) (u v : ℕ) → offsets_of p v ≡ offsets_of p u
+same_offsets p u v =
+    ap (λ (os : List Interval). map axis_offset (axes_of p) ++ os ++ map noise_offset p.noises)
+    (same_constants no_range (vector_of p.inputs v) (vector_of p.inputs u) (vector_count p.inputs v ∙ sym (vector_count p.inputs u)))
+
+pub same_cell_range : (p : Description) (c u d v k : ℕ) → get_or (central_values p d v) k (pos 0) ≡ get_or (central_values p c u) k (pos 0) → get_or (cell_area_of p d v) k no_range ≡ get_or (cell_area_of p c u) k no_range
+same_cell_range p c u d v k same =
+    ap (λ (area : List Interval). get_or area k no_range) (cell_area_is p d v ∙ ap (λ (os : List Interval). moved_all (central_values p d v) os) (same_offsets p u v))
+    ∙ same_moved (central_values p d v) (central_values p c u) (offsets_of p u) k (central_count p d v ∙ sym (central_count p c u)) same
+    ∙ sym (ap (λ (area : List Interval). get_or area k no_range) (cell_area_is p c u))
+
+-- ---- the offset of one variable
+
+noise_offset_at : (noises : List NoiseVariable) (k : ℕ) (r : ℤ × ℤ) (d : Interval) → option_map (λ (w : NoiseVariable). (w.low, w.high)) (slice_get noises k) ≡ Some r →
+    ◌≡◌ {A = Interval} (record { lo = r.0 -ℤ floor_div (r.0 +ℤ r.1) (pos 2); hi = r.1 -ℤ floor_div (r.0 +ℤ r.1) (pos 2) }) (get_or (map noise_offset noises) k d)
+noise_offset_at [] k r d is = absurd (none-some r is)
+noise_offset_at (w ∷ noises) zero r d is =
+    let e : (w.low, w.high) ≡ r = same_Some (w.low, w.high) r is in
+    ap (λ (q : ℤ × ℤ). record { lo = q.0 -ℤ floor_div (q.0 +ℤ q.1) (pos 2); hi = q.1 -ℤ floor_div (q.0 +ℤ q.1) (pos 2) }) (sym e)
+noise_offset_at (w ∷ noises) (suc k) r d is = noise_offset_at noises k r d is
+
+module _ (p : Description) (u k : ℕ) where
+  abbrev state_offsets : List Interval
+  state_offsets = map axis_offset (axes_of p)
+
+  abbrev no_offsets : List Interval
+  no_offsets = map (λ (_ : ℤ). no_range) (vector_of p.inputs u)
+
+  pub state_offset : k < length p.states → axis_offset (get_or (axes_of p) k no_axis) ≡ get_or (offsets_of p u) k no_range
+  state_offset lt =
+      sym (in_first state_offsets no_offsets (map noise_offset p.noises) k no_range (omega (arith, lt, states_offset p 0 u))
+      ∙ get_or-map axis_offset (axes_of p) k no_axis no_range (omega (arith, lt, length-map p.states axis_of)))
+
+  pub input_offset : length p.states ≤ k → k < length p.states + length p.inputs → no_range ≡ get_or (offsets_of p u) k no_range
+  input_offset le lt =
+      sym (in_second state_offsets no_offsets (map noise_offset p.noises) k no_range (length p.states) (states_offset p 0 u) le (omega (arith, lt, inputs_offset p 0 u))
+      ∙ get_or-map (λ (_ : ℤ). no_range) (vector_of p.inputs u) (k - length p.states) (pos 0) no_range (omega (arith, le, lt, vector_count p.inputs u)))
+
+  pub noise_offset_is : (r : ℤ × ℤ) → length p.states + length p.inputs ≤ k → option_map (λ (w : NoiseVariable). (w.low, w.high)) (slice_get p.noises (k - length p.states - length p.inputs)) ≡ Some r →
+      ◌≡◌ {A = Interval} (record { lo = r.0 -ℤ floor_div (r.0 +ℤ r.1) (pos 2); hi = r.1 -ℤ floor_div (r.0 +ℤ r.1) (pos 2) }) (get_or (offsets_of p u) k no_range)
+  noise_offset_is r le is =
+      noise_offset_at p.noises (k - length p.states - length p.inputs) r no_range is
+      ∙ sym (in_third state_offsets no_offsets (map noise_offset p.noises) k no_range (length p.states) (length p.inputs) (states_offset p 0 u) (inputs_offset p 0 u) le)

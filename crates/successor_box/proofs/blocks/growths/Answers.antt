@@ -1,0 +1,90 @@
+use Rattle.std.proofs.Common.{◌≡◌, ◌<◌, ℕ, ◌∙◌, take, get_or, sym, ap₂, subst, rules, arith}
+use Rattle.std.specs.Prelude.{ℤ, pos, ◌+ℤ◌, ◌-ℤ◌, FitsSigned}
+use Rattle.std.specs.Int.{w128}
+use Rattle.std.proofs.lemmas.Int.{to_z-of_z}
+use Rattle.std.proofs.lemmas.List.{length-set}
+use Rattle.std.proofs.lemmas.Option.{get_or_from_slice_get}
+use Rattle.fixed_expr.specs.Expression.{Expression, Number, expression_of}
+use Rattle.fixed_expr.specs.Rows.{row_of}
+use Rattle.fixed_expr.specs.Value.{value_of}
+use Rattle.interval_eval.specs.declared.interval.Interval.{Interval}
+use Rattle.plant_record.specs.Description.{vectors_of}
+use Rattle.plant_record.specs.Steps.{equation_at}
+use Rattle.plant_record.proofs.lemmas.SoundPlants.{sound as sound_plant}
+use Rattle.successor_box.specs.Boxes.{central_values, deviation_at, growth_of}
+use Rattle.successor_box.specs.Sides.{IsPairInRow}
+use Rattle.successor_box.specs.inside.Area.{no_range}
+use Rattle.successor_box.proofs.CellColumns.{formed_over_columns}
+use Rattle.successor_box.proofs.Columns.{row_is, stays_at}
+use Rattle.successor_box.proofs.Filling.{place_more}
+use Rattle.successor_box.proofs.Reaches.{growth_is}
+use Rattle.successor_box.proofs.blocks.growths.Goals as goal
+
+pub values_in_rows-next-requires-clause-formed : goal.values_in_rows-next-requires-clause-formed
+values_in_rows-next-requires-clause-formed c =
+    let p = c.args.p.now in
+    let i : ℕ = c.args.state in
+    let sound = sound_plant p c.variables.ensures.plant.plant in
+    let equation : equation_at p i ≡ expression_of c.equation.result.now = get_or_from_slice_get p.equations i (expression_of c.equation.result.now) (Number (pos 0)) c.equation.ensures in
+    rw (← equation) (formed_over_columns p c.args.columns.now c.variables.result i sound c.requires.state c.variables.ensures.count (omega arith))
+
+pub values_in_rows-next-requires-clause-fits : goal.values_in_rows-next-requires-clause-fits
+values_in_rows-next-requires-clause-fits c = λ row lt.
+    let p = c.args.p.now in
+    let i : ℕ = c.args.state in
+    let sound = sound_plant p c.variables.ensures.plant.plant in
+    let pair = c.requires.pairs row lt in
+    let equation : expression_of c.equation.result.now ≡ equation_at p i = sym (get_or_from_slice_get p.equations i (expression_of c.equation.result.now) (Number (pos 0)) c.equation.ensures) in
+    let values : row_of (take c.variables.result c.args.columns.now) row ≡ central_values p pair.0 pair.1 = row_is p pair.0 pair.1 c.args.columns.now c.variables.result row c.variables.ensures.count (omega arith) (c.requires.columns row pair.0 pair.1 lt pair.2) in
+    rw (equation, values) (stays_at p pair.0 pair.1 sound c.requires.fits pair.2.cell pair.2.input i c.requires.state)
+
+pub growth-requires-clause-input : goal.growth-requires-clause-input
+growth-requires-clause-input c =
+    let row : ℕ = c.loop-j.j in
+    let lt : row < 32 = c.loop-j-test.true in
+    let pair = c.requires.pairs row lt in
+    subst (λ (n : ℕ). n < vectors_of c.args.p.now.inputs) (sym (c.requires.inputs row pair.0 pair.1 lt pair.2)) pair.2.input
+
+pub growth-requires-clause-next : goal.growth-requires-clause-next
+growth-requires-clause-next c =
+    let p = c.args.p.now in
+    let i : ℕ = c.args.state in
+    let row : ℕ = c.loop-j.j in
+    let lt : row < 32 = c.loop-j-test.true in
+    let pair = c.requires.pairs row lt in
+    let cell : ℕ = pair.0 in
+    let u : ℕ = pair.1 in
+    let equation : expression_of c.equation.result.now ≡ equation_at p i = sym (get_or_from_slice_get p.equations i (expression_of c.equation.result.now) (Number (pos 0)) c.equation.ensures) in
+    let values : row_of (take c.variables.result c.args.columns.now) row ≡ central_values p cell u = row_is p cell u c.args.columns.now c.variables.result row c.variables.ensures.count (omega arith) (c.requires.columns row cell u lt pair.2) in
+    let number : get_or c.args.inputs.now row 0 ≡ u = c.requires.inputs row cell u lt pair.2 in
+    let x : ℤ = get_or c.values_in_rows-next.result row (pos 0) in
+    let fits : FitsSigned w128 x = search rules in
+    let value : x ≡ value_of (equation_at p i) (central_values p cell u) = c.values_in_rows-next.ensures row lt ∙ ap₂ value_of equation values in
+    let next : x ≡ value_of (equation_at p i) (central_values p cell (get_or c.args.inputs.now row 0)) = subst (λ (n : ℕ). x ≡ value_of (equation_at p i) (central_values p cell n)) (sym number) value in
+    (cell, pair.2.cell, rw (to_z-of_z w128 x fits) next)
+
+pub loop-j-preserved : goal.loop-j-preserved
+loop-j-preserved c =
+    let p = c.args.p.now in
+    let i : ℕ = c.args.state in
+    let row : ℕ = c.loop-j.j in
+    let lt : row < 32 = c.loop-j-test.true in
+    let growths = c.loop-j.growths in
+    let ends : Interval = c.growth.result in
+    let e : Expression = equation_at p i in
+    record {
+      long = length-set growths row ends ∙ c.loop-j.invariant.long;
+      each = place_more (λ (j : ℕ) (r : Interval). (cell u : ℕ) → IsPairInRow p c.args.places.now j cell u → r ≡ growth_of p cell u e) no_range growths row ends (omega arith) c.loop-j.invariant.each (λ cell u is.
+          let equation : expression_of c.equation.result.now ≡ e = sym (get_or_from_slice_get p.equations i (expression_of c.equation.result.now) (Number (pos 0)) c.equation.ensures) in
+          let values : row_of (take c.variables.result c.args.columns.now) row ≡ central_values p cell u = row_is p cell u c.args.columns.now c.variables.result row c.variables.ensures.count (omega arith) (c.requires.columns row cell u lt is) in
+          let x : ℤ = get_or c.values_in_rows-next.result row (pos 0) in
+          let fits : FitsSigned w128 x = search rules in
+          let value : x ≡ value_of e (central_values p cell u) = c.values_in_rows-next.ensures row lt ∙ ap₂ value_of equation values in
+          let number : get_or c.args.inputs.now row 0 ≡ u = c.requires.inputs row cell u lt is in
+          let low : ends.lo ≡ x -ℤ deviation_at p u e = subst (λ (n : ℕ). ends.lo ≡ x -ℤ deviation_at p n e) number (rw (to_z-of_z w128 x fits) at c.growth.ensures.low) in
+          let high : ends.hi ≡ x +ℤ deviation_at p u e = subst (λ (n : ℕ). ends.hi ≡ x +ℤ deviation_at p n e) number (rw (to_z-of_z w128 x fits) at c.growth.ensures.high) in
+          growth_is p cell u e x ends value low high);
+    }
+
+pub returns : goal.returns
+returns c = λ j cell u lt is. let below : j < 32 = lt in c.loop-j.invariant.each j (omega (arith, below)) cell u is

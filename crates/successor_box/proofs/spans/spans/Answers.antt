@@ -1,0 +1,38 @@
+use Rattle.std.proofs.Common.{◌≡◌, ℕ, ◌∙◌, take, sym, ap₂, arith}
+use Rattle.std.specs.Prelude.{pos}
+use Rattle.std.proofs.lemmas.Option.{get_or_from_slice_get}
+use Rattle.fixed_expr.specs.Expression.{Number, expression_of}
+use Rattle.interval_eval.specs.Rows.{area_in}
+use Rattle.interval_eval.specs.Span.{span_of}
+use Rattle.plant_record.specs.Steps.{equation_at}
+use Rattle.plant_record.proofs.lemmas.SoundPlants.{sound as sound_plant}
+use Rattle.successor_box.specs.Boxes.{cell_area_of}
+use Rattle.successor_box.proofs.CellColumns.{cell_stays, formed_over_columns, area_row_is}
+use Rattle.successor_box.proofs.spans.spans.Goals as goal
+
+pub spans_in_rows-requires-clause-formed : goal.spans_in_rows-requires-clause-formed
+spans_in_rows-requires-clause-formed c =
+    let p = c.args.p.now in
+    let i : ℕ = c.args.state in
+    let sound = sound_plant p c.variables.ensures.plant.plant in
+    let equation : expression_of c.equation.result.now ≡ equation_at p i = sym (get_or_from_slice_get p.equations i (expression_of c.equation.result.now) (Number (pos 0)) c.equation.ensures) in
+    rw equation (formed_over_columns p c.cell_columns-ranges.result c.variables.result i sound c.requires.state c.variables.ensures.count (omega arith))
+
+pub spans_in_rows-requires-clause-fits : goal.spans_in_rows-requires-clause-fits
+spans_in_rows-requires-clause-fits c = λ row lt.
+    let p = c.args.p.now in
+    let i : ℕ = c.args.state in
+    let sound = sound_plant p c.variables.ensures.plant.plant in
+    let equation : expression_of c.equation.result.now ≡ equation_at p i = sym (get_or_from_slice_get p.equations i (expression_of c.equation.result.now) (Number (pos 0)) c.equation.ensures) in
+    let pair = c.requires.pairs row lt in
+    let area : area_in (take c.variables.result c.cell_columns-ranges.result) row ≡ cell_area_of p pair.0 pair.1 = area_row_is p pair.0 pair.1 c.cell_columns-ranges.result c.variables.result row c.variables.ensures.count (omega arith) (c.cell_columns-ranges.ensures row pair.0 pair.1 lt pair.2) in
+    rw (equation, area) (cell_stays p pair.0 pair.1 sound pair.2.cell c.requires.fits pair.2.input i c.requires.state)
+
+pub returns : goal.returns
+returns c = λ row cell u lt is.
+    let p = c.args.p.now in
+    let i : ℕ = c.args.state in
+    let sound = sound_plant p c.variables.ensures.plant.plant in
+    let equation : expression_of c.equation.result.now ≡ equation_at p i = sym (get_or_from_slice_get p.equations i (expression_of c.equation.result.now) (Number (pos 0)) c.equation.ensures) in
+    let area : area_in (take c.variables.result c.cell_columns-ranges.result) row ≡ cell_area_of p cell u = area_row_is p cell u c.cell_columns-ranges.result c.variables.result row c.variables.ensures.count (omega arith) (c.cell_columns-ranges.ensures row cell u lt is) in
+    c.spans_in_rows.ensures row lt ∙ ap₂ span_of equation area

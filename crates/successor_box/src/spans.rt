@@ -1,0 +1,163 @@
+//! The spans of an equation over the cells of many pairs, in blocks of rows.
+ghost use Rattle.std.specs.Prelude.{◌≡◌, ℕ, ◌<◌, ◌≤◌, length, slice_index_or, pos, ◌+ℤ◌};
+ghost use Rattle.fixed_expr.specs.declared.lanes.TheConstants.{LANES};
+ghost use Rattle.fixed_expr.specs.Expression.{expression_of};
+ghost use Rattle.fixed_expr.specs.Narrow.{IsNarrow};
+ghost use Rattle.fixed_expr.specs.Value.{IsWellFormed};
+ghost use Rattle.interval_eval.specs.Rows.{interval_in, area_in};
+ghost use Rattle.interval_eval.specs.Span.{SpanStaysInRange, span_of};
+ghost use Rattle.plant_record.specs.Steps.{equation_at};
+ghost use Rattle.successor_box.specs.Boxes.{cell_area_of};
+ghost use Rattle.successor_box.specs.Deviations.{HasNoOverflow};
+ghost use Rattle.successor_box.specs.Sides.{IsPairInRow, HasPairInEachRow};
+ghost use Rattle.successor_box.specs.inside.Area.{variables_of, no_range, offsets_of};
+ghost use Rattle.successor_box.specs.inside.Blocks.{HoldCentralValues, HoldCellRanges};
+
+use crate::area::{NO_RANGE, VARIABLES_LIMIT, offset, variables};
+use fixed_expr::{Expr, LANES};
+use interval_eval::{Interval, IntervalColumn, span, span_rows};
+use plant_record::Plant;
+use plant_record::laws::every_plant_is_within_limits;
+
+const NO_INTERVALS: IntervalColumn = IntervalColumn {
+    lo: [0; LANES],
+    hi: [0; LANES],
+};
+
+/// The span of an equation over the cell of each pair, given by the values of the variables at its centre.
+pub(crate) fn spans(
+    p: &Plant,
+    places: &[[u32; LANES]; 9],
+    columns: &[[i64; LANES]; VARIABLES_LIMIT],
+    state: u32,
+) -> [Interval; LANES]
+    requires fits { HasNoOverflow p.now }
+    requires pairs { HasPairInEachRow p.now places.now }
+    requires state { state < length p.now.equations }
+    requires columns { HoldCentralValues p.now places.now columns.now }
+    ensures { (j c u : ℕ) → j < LANES → IsPairInRow p.now places.now j c u → slice_index_or result j no_range ≡ span_of (equation_at p.now state) (cell_area_of p.now c u) }
+{
+    let ranges = cell_columns(p, places, columns);
+    spans_in_rows(p.equation(state), &ranges[..variables(p) as usize])
+}
+
+/// The ranges of the variables over the cells of the pairs, one column for each. Nothing is said of the columns past the last.
+fn cell_columns(
+    p: &Plant,
+    places: &[[u32; LANES]; 9],
+    columns: &[[i64; LANES]; VARIABLES_LIMIT],
+) -> [IntervalColumn; VARIABLES_LIMIT]
+    requires pairs { HasPairInEachRow p.now places.now }
+    requires columns { HoldCentralValues p.now places.now columns.now }
+    ensures { HoldCellRanges p.now places.now result }
+{
+    let mut ranges = [NO_INTERVALS; VARIABLES_LIMIT];
+    for k in 0..variables(p) {
+        ranges[k as usize] = cell_column(p, places, columns, k);
+    }
+    ranges
+}
+
+/// The ranges of one variable: its values at the centres, moved by how far the ends of its range lie from there.
+fn cell_column(
+    p: &Plant,
+    places: &[[u32; LANES]; 9],
+    columns: &[[i64; LANES]; VARIABLES_LIMIT],
+    k: u32,
+) -> IntervalColumn
+    requires pairs { HasPairInEachRow p.now places.now }
+    requires columns { HoldCentralValues p.now places.now columns.now }
+    requires variable { k < variables_of p.now }
+    ensures { (j c u : ℕ) → j < LANES → IsPairInRow p.now places.now j c u → interval_in result j ≡ slice_index_or (cell_area_of p.now c u) k no_range }
+{
+    every_plant_is_within_limits(p);
+    let offset = offset(p, k);
+    let centres = &columns[k as usize];
+    IntervalColumn {
+        lo: moved(centres, offset.lo as i64),
+        hi: moved(centres, offset.hi as i64),
+    }
+}
+
+/// Each number moved by another.
+fn moved(numbers: &[i64; LANES], by: i64) -> [i64; LANES]
+    requires { (j : ℕ) → j < LANES → IsNarrow (slice_index_or numbers.now j (pos 0) +ℤ by) }
+    ensures { (j : ℕ) → j < LANES → slice_index_or result j (pos 0) ≡ slice_index_or numbers.now j (pos 0) +ℤ by }
+{
+    let mut moved = [0; LANES];
+    for j in 0..LANES {
+        moved[j] = numbers[j] + by;
+    }
+    moved
+}
+
+/// The span of an expression in each row: in 64 bits for all at once, or row by row where that leaves them.
+fn spans_in_rows(e: &Expr, columns: &[IntervalColumn]) -> [Interval; LANES]
+    requires formed { IsWellFormed (expression_of e.now) (length columns.now) }
+    requires few { length columns.now ≤ 15 }
+    requires fits { (j : ℕ) → j < LANES → SpanStaysInRange (expression_of e.now) (area_in columns.now j) }
+    ensures { (j : ℕ) → j < LANES → slice_index_or result j no_range ≡ span_of (expression_of e.now) (area_in columns.now j) }
+{
+    let mut narrow = NO_INTERVALS;
+    match span_rows(e, columns, &mut narrow) {
+        Some(()) => widened(&narrow),
+        None => wide_spans_in_rows(e, columns),
+    }
+}
+
+/// The same intervals in 128 bits.
+#[inline]
+fn widened(narrow: &IntervalColumn) -> [Interval; LANES]
+    ensures { (j : ℕ) → j < LANES → slice_index_or result j no_range ≡ interval_in narrow.now j }
+{
+    let mut wide = [NO_RANGE; LANES];
+    for j in 0..LANES {
+        wide[j] = interval_at(narrow, j);
+    }
+    wide
+}
+
+/// The interval in one row.
+#[inline]
+fn interval_at(column: &IntervalColumn, j: usize) -> Interval
+    requires { j < LANES }
+    ensures { result ≡ interval_in column.now j }
+{
+    Interval {
+        lo: i128::from(column.lo[j]),
+        hi: i128::from(column.hi[j]),
+    }
+}
+
+/// The span of an expression in each row, one row after the other.
+#[cold]
+fn wide_spans_in_rows(e: &Expr, columns: &[IntervalColumn]) -> [Interval; LANES]
+    requires formed { IsWellFormed (expression_of e.now) (length columns.now) }
+    requires few { length columns.now ≤ 15 }
+    requires fits { (j : ℕ) → j < LANES → SpanStaysInRange (expression_of e.now) (area_in columns.now j) }
+    ensures { (j : ℕ) → j < LANES → slice_index_or result j no_range ≡ span_of (expression_of e.now) (area_in columns.now j) }
+{
+    let mut spans = [NO_RANGE; LANES];
+    for j in 0..LANES {
+        spans[j] = span_in_row(e, columns, j);
+    }
+    spans
+}
+
+/// The span of an expression in one row.
+fn span_in_row(e: &Expr, columns: &[IntervalColumn], j: usize) -> Interval
+    requires formed { IsWellFormed (expression_of e.now) (length columns.now) }
+    requires few { length columns.now ≤ 15 }
+    requires row { j < LANES }
+    requires fits { SpanStaysInRange (expression_of e.now) (area_in columns.now j) }
+    ensures { result ≡ span_of (expression_of e.now) (area_in columns.now j) }
+{
+    let mut area = [NO_RANGE; VARIABLES_LIMIT];
+    for k in 0..columns.len() {
+        area[k] = interval_at(&columns[k], j);
+    }
+    match span(e, &area[..columns.len()]) {
+        Some(ends) => ends,
+        None => unreachable!(),
+    }
+}
