@@ -12,6 +12,7 @@ pub mod SourceSteps
 pub mod ShapeRuns
 pub mod ListedShapes
 pub mod PlantGame
+pub mod Refining
 pub mod DigitMoves
 pub mod NextDigits
 pub mod PairDigits

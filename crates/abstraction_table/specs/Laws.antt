@@ -5,6 +5,7 @@ use Rattle.game_core.specs.Game.{Game}
 use Rattle.plant_record.specs.Description.{Description}
 use Rattle.plant_record.specs.Plants.{IsPlant}
 use Rattle.abstraction_table.specs.Abstraction.{IsGameOf, AreEdges}
+use Rattle.abstraction_table.specs.Refinement.{IsRefinement}
 use Rattle.abstraction_table.specs.Solution.{IsSolutionOf}
 
 -- a plant has one game
@@ -22,3 +23,7 @@ OneEdgeCount = (p : Description) (m n : ℕ) → IsPlant p → AreEdges p m → 
 -- the lists of successors of a plant's game have all its edges
 abbrev pub GamesCountTheirEdges : Type 0
 GamesCountTheirEdges = (p : Description) (g : Game) → IsGameOf p g → AreEdges p (sum_by length g.successors)
+
+-- a game refines the plant whose game it is
+abbrev pub GamesRefineTheirPlants : Type 0
+GamesRefineTheirPlants = (p : Description) (g : Game) → IsPlant p → IsGameOf p g → IsRefinement p g

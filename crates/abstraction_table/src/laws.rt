@@ -1,10 +1,10 @@
 //! What holds of the game of every plant.
 
-ghost use Rattle.abstraction_table.specs.Laws.{OneGamePerPlant, OneSolutionPerPlant, OneEdgeCount, GamesCountTheirEdges};
+ghost use Rattle.abstraction_table.specs.Laws.{OneGamePerPlant, OneSolutionPerPlant, OneEdgeCount, GamesCountTheirEdges, GamesRefineTheirPlants};
 
 use game_core::laws::{one_keep_solution, one_solution};
 use plant_record::laws::plants_are_sound;
-use successor_box::laws::enabled_pairs_have_successors;
+use successor_box::laws::{enabled_pairs_have_successors, steps_lie_in_the_boxes};
 
 /// A plant has one game.
 pub fn one_game_per_plant()
@@ -35,3 +35,12 @@ pub fn one_edge_count()
 pub fn games_count_their_edges()
     ensures { GamesCountTheirEdges }
 {}
+
+/// The game of a plant has a successor for each step from each enabled pair.
+pub fn games_refine_their_plants()
+    ensures { GamesRefineTheirPlants }
+{
+    plants_are_sound();
+    steps_lie_in_the_boxes();
+    enabled_pairs_have_successors();
+}

@@ -13,7 +13,7 @@ use Rattle.plant_record.specs.Description.{Description, axes_of, axis_of}
 use Rattle.plant_record.specs.Steps.{step_of}
 use Rattle.successor_box.specs.Laws.{PointsLieWithTheirStates}
 use Rattle.controller_table.specs.Choice.{Chooses, HasRowAt}
-use Rattle.plant_refine.specs.Drives.{LiesInSome, IsClear}
+use Rattle.plant_record.specs.States.{LiesInSome, IsClear}
 use Rattle.plant_refine.specs.Runs.{Moves, IsStateAt, ArrivesFirst}
 use Rattle.plant_refine.specs.inside.Descents.{HasLowerRow, LeadDown}
 use Rattle.plant_refine.proofs.Choosing.{one_row, one_choice_at}

@@ -14,8 +14,8 @@ use Rattle.plant_record.specs.Steps.{step_of, IsNoise}
 use Rattle.successor_box.specs.Boxes.{IsEnabledAt}
 use Rattle.successor_box.specs.Laws.{EnabledPairsHaveSuccessors, PointsLieWithTheirStates}
 use Rattle.controller_table.specs.Choice.{HasRowAt}
-use Rattle.plant_refine.specs.Drives.{LiesInSome}
-use Rattle.plant_refine.specs.Laws.{GamesRefineTheirPlants}
+use Rattle.plant_record.specs.States.{LiesInSome}
+use Rattle.abstraction_table.specs.Laws.{GamesRefineTheirPlants}
 use Rattle.plant_refine.specs.RightRows.{AreRightRowsOf}
 use Rattle.plant_refine.specs.inside.Descents.{HasLowerRow, RightRowsLeadDown}
 use Rattle.plant_refine.proofs.Leading.{Guides, cell_below, clear_at, arrived_at, enabled_at, next_row}

@@ -22,8 +22,8 @@ use Rattle.controller_table.specs.Choice.{Applies, HasRowAt}
 use Rattle.controller_table.specs.Laws.{OneTablePerText}
 use Rattle.controller_table.specs.Tables.{IsTable}
 use Rattle.abstraction_table.specs.Abstraction.{IsGameOf}
-use Rattle.plant_refine.specs.Drives.{IsClear}
-use Rattle.plant_refine.specs.Refinement.{IsRefinement}
+use Rattle.plant_record.specs.States.{IsClear}
+use Rattle.abstraction_table.specs.Refinement.{IsRefinement}
 use Rattle.plant_refine.specs.Stays.{HasSomeRow, Remains, Stays}
 use Rattle.plant_refine.proofs.Boxes.{any_other}
 use Rattle.plant_refine.proofs.RightTables.{row_of_table}

@@ -13,8 +13,8 @@ use Rattle.plant_record.specs.Steps.{step_of, IsNoise}
 use Rattle.plant_record.specs.Marks.{IsGoalCell, IsObstacleCell}
 use Rattle.controller_table.specs.Choice.{HasRowAt}
 use Rattle.abstraction_table.specs.Abstraction.{IsGameOf}
-use Rattle.plant_refine.specs.Drives.{LiesInSome, IsClear}
-use Rattle.plant_refine.specs.Refinement.{IsRefinement}
+use Rattle.plant_record.specs.States.{LiesInSome, IsClear}
+use Rattle.abstraction_table.specs.Refinement.{IsRefinement}
 use Rattle.plant_refine.proofs.Boxes.{any_other}
 
 -- What the rows and their game keep.

@@ -6,7 +6,6 @@ pub mod InBoxes
 pub mod Points
 pub mod Choosing
 pub mod Arriving
-pub mod Refining
 pub mod RightTables
 pub mod KeptTables
 pub mod SolutionTables

@@ -1,21 +1,11 @@
 -- What the engineer paid for: the table, read back from its bytes, brings the plant into the target.
 -- No solver and no game occurs here.
 use Rattle.std.specs.Prelude.{◌≡◌, ℕ, ◌⊎◌, ℤ, List, [], ◌∷◌, length}
-use Rattle.std.specs.List.{Any, All}
-use Rattle.grid_quantiser.specs.Cells.{IsInDomain}
-use Rattle.grid_quantiser.specs.Boxes.{IsInBox}
-use Rattle.plant_record.specs.declared.aims.StateBox.{StateBox}
-use Rattle.plant_record.specs.Description.{Description, axes_of}
+use Rattle.std.specs.List.{All}
+use Rattle.plant_record.specs.Description.{Description}
+use Rattle.plant_record.specs.States.{LiesInSome, IsClear}
 use Rattle.plant_record.specs.Steps.{step_of, IsNoise}
 use Rattle.controller_table.specs.Choice.{IsChoice, HasRank}
-
--- a state in some box of a list
-abbrev pub LiesInSome : Description → List StateBox → List ℤ → Type 0
-LiesInSome p boxes x = Any (λ (b : StateBox). IsInBox (axes_of p) b.low b.high x) boxes
-
--- a state in the domain and in no obstacle box
-abbrev pub IsClear : Description → List ℤ → Type 0
-IsClear p x = IsInDomain (axes_of p) x × (LiesInSome p p.obstacles x → ⊥)
 
 -- from a state the table brings the plant into a target box, whatever these noises are, past no obstacle
 abbrev pub Comes : Description → List ℕ → List ℤ → List (List ℤ) → Type 0

@@ -6,18 +6,12 @@ use Rattle.game_core.specs.Keep.{IsKeepSolution}
 use Rattle.game_core.specs.Right.{AreRight}
 use Rattle.plant_record.specs.declared.aims.GoalKind.TheVariants.{Keep}
 use Rattle.plant_record.specs.Description.{Description}
-use Rattle.plant_record.specs.Plants.{IsPlant}
 use Rattle.controller_table.specs.Tables.{IsTable}
 use Rattle.abstraction_table.specs.Abstraction.{IsGameOf}
 use Rattle.abstraction_table.specs.Solution.{IsSolutionOf}
 use Rattle.plant_refine.specs.Controls.{Controls}
 use Rattle.plant_refine.specs.Drives.{Drives}
-use Rattle.plant_refine.specs.Refinement.{IsRefinement}
 use Rattle.plant_refine.specs.Stays.{Stays}
-
--- a game refines the plant whose game it is
-abbrev pub GamesRefineTheirPlants : Type 0
-GamesRefineTheirPlants = (p : Description) (g : Game) → IsPlant p → IsGameOf p g → IsRefinement p g
 
 -- a table all of whose cells are right drives its plant
 abbrev pub RightTablesDrivePlants : Type 0

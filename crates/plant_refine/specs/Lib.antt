@@ -1,4 +1,3 @@
-pub mod Refinement
 pub mod Drives
 pub mod Stays
 pub mod Controls

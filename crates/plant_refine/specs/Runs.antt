@@ -5,7 +5,7 @@ use Rattle.grid_quantiser.specs.Cells.{point_of}
 use Rattle.plant_record.specs.Description.{Description}
 use Rattle.plant_record.specs.Steps.{step_of}
 use Rattle.controller_table.specs.Choice.{Chooses}
-use Rattle.plant_refine.specs.Drives.{LiesInSome, IsClear}
+use Rattle.plant_record.specs.States.{LiesInSome, IsClear}
 
 -- one sample later, under the input that the rows choose and a noise
 abbrev pub Moves : Description → List (Option Row) → List ℤ → List ℤ → List ℤ → Type 0

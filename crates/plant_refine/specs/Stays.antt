@@ -5,7 +5,7 @@ use Rattle.std.specs.List.{All}
 use Rattle.plant_record.specs.Description.{Description}
 use Rattle.plant_record.specs.Steps.{step_of, IsNoise}
 use Rattle.controller_table.specs.Choice.{IsChoice, HasRank}
-use Rattle.plant_refine.specs.Drives.{IsClear}
+use Rattle.plant_record.specs.States.{IsClear}
 
 -- the bytes are a table in which the state's cell has a row
 abbrev pub HasSomeRow : List ℕ → List ℤ → Type 0

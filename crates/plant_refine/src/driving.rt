@@ -11,8 +11,8 @@ ghost use Rattle.plant_refine.specs.Runs.{Moves, ArrivesFirst};
 ghost use Rattle.plant_refine.specs.inside.Descents.{HasLowerRow, RightRowsLeadDown};
 
 use crate::cells::next_cell;
-use crate::laws::games_refine_their_plants;
 use crate::targets::lies_in_target;
+use abstraction_table::laws::games_refine_their_plants;
 use controller_table::Table;
 use controller_table::laws::every_table_fits;
 use game_core::laws::{right_rows_are_the_solution, rows_lead_to_goals, rows_stand_at_cells};

@@ -1,23 +1,14 @@
 //! What holds of every plant, its game and its table.
 
-ghost use Rattle.plant_refine.specs.Laws.{GamesRefineTheirPlants, RightTablesDrivePlants, KeptTablesKeepPlants, SolutionTablesControlPlants};
+ghost use Rattle.plant_refine.specs.Laws.{RightTablesDrivePlants, KeptTablesKeepPlants, SolutionTablesControlPlants};
 
+use abstraction_table::laws::games_refine_their_plants;
 use controller_table::laws::one_table_per_text;
 use game_core::laws::{
     right_rows_are_the_solution, rows_lead_to_goals, rows_stand_at_cells, solutions_are_right,
 };
 use grid_quantiser::laws::every_state_has_a_cell;
 use plant_record::laws::plants_are_sound;
-use successor_box::laws::{enabled_pairs_have_successors, steps_lie_in_the_boxes};
-
-/// The game of a plant has a successor for each step from each enabled pair.
-pub fn games_refine_their_plants()
-    ensures { GamesRefineTheirPlants }
-{
-    plants_are_sound();
-    steps_lie_in_the_boxes();
-    enabled_pairs_have_successors();
-}
 
 /// A table all of whose cells are right brings its plant into the target, within as many samples as
 /// the ranks say and past no obstacle. After arrival nothing is said.

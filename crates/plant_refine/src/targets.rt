@@ -2,7 +2,7 @@
 
 ghost use Rattle.std.specs.Prelude.{◌↔◌, IsTrue};
 ghost use Rattle.grid_quantiser.specs.Boxes.{IsInBox};
-ghost use Rattle.plant_refine.specs.Drives.{LiesInSome};
+ghost use Rattle.plant_record.specs.States.{LiesInSome};
 
 use grid_quantiser::laws::every_grid_is_within_the_limit;
 use grid_quantiser::{Grid, Point};

@@ -7,7 +7,7 @@ use Rattle.plant_record.specs.Plants.{IsPlant}
 use Rattle.plant_record.specs.Steps.{step_of, IsNoise}
 use Rattle.successor_box.specs.Boxes.{IsEnabledAt}
 use Rattle.controller_table.specs.Choice.{HasRowAt}
-use Rattle.plant_refine.specs.Drives.{LiesInSome, IsClear}
+use Rattle.plant_record.specs.States.{LiesInSome, IsClear}
 use Rattle.plant_refine.specs.RightRows.{AreRightRowsOf}
 
 -- A state with a row of a lower rank.

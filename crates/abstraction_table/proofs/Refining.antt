@@ -10,7 +10,7 @@ use Rattle.plant_record.specs.Soundness.{PlantsAreSound}
 use Rattle.plant_record.specs.Steps.{IsNoise, step_of}
 use Rattle.successor_box.specs.Laws.{StepsLieInTheBoxes, EnabledPairsHaveSuccessors}
 use Rattle.abstraction_table.specs.Abstraction.{IsGameOf}
-use Rattle.plant_refine.specs.Laws.{GamesRefineTheirPlants}
+use Rattle.abstraction_table.specs.Laws.{GamesRefineTheirPlants}
 
 module _ (sound : PlantsAreSound) (steps : StepsLieInTheBoxes) (enabled : EnabledPairsHaveSuccessors) where
   step_leads : (p : Description) (g : Game) → IsPlant p → IsGameOf p g → (c u : ℕ) (x w : List ℤ) → c < g.cells → IsEnabled g c u → IsPointOf (axes_of p) c x → IsNoise p.noises w
