@@ -1,0 +1,137 @@
+-- A script is answered command by command.
+use Rattle.std.proofs.Common.{◌≡◌, ◌⊎◌, ℕ, suc, ◌+◌, ◌<◌, ◌≤◌, List, [], ◌∷◌, ◌++◌, length, refl, ap, sym, ◌∙◌, subst, arith, append_assoc, append-nil, length-append, Option, Some, None}
+use Rattle.std.specs.Prelude.{ℤ, IfSome}
+use Rattle.std.proofs.lemmas.List.Sums.{sum_by-append}
+use Rattle.std.specs.Prelude.{cond, ◌==◌}
+use Rattle.controller_table.specs.Tables.{TableModel}
+use Rattle.controller_table.specs.Refusals.{line_count}
+use Rattle.live_script.specs.declared.command.Command.{Command}
+use Rattle.live_script.specs.declared.command.Command.TheVariants.{Publish, Ask}
+use Rattle.live_script.specs.declared.fault.ScriptFault.{ScriptFault}
+use Rattle.live_script.specs.declared.fault.ScriptFault.TheVariants.{Malformed, Limit, ScriptTooLong, TooManyTables, Memory}
+use Rattle.live_script.specs.Questions.{IsAnswerOf}
+use Rattle.live_script.specs.Scripts.{Spell, FitsBehind, tables_behind, published, SpellBehind, IsShortScript}
+use Rattle.live_script.specs.LiveText.{IsAnswerLine, AreAnswers, IsLiveText, answer_line}
+use Rattle.live_script.specs.Reading.{Unread, IsTaken}
+use Rattle.live_script.specs.Refusals.{IsRefusedBehind, IsScriptRefusedFor}
+use Rattle.live_run.specs.inside.Sessions.{Standing}
+use Rattle.live_run.specs.inside.Answering.{IsLast, IsAnsweredSoFar}
+
+-- ---- one command more
+
+published_table : (commands : List Command) (t : TableModel) → published (commands ++ Publish t ∷ []) ≡ published commands ++ t ∷ []
+published_table [] t = refl
+published_table (Publish u ∷ commands) t = ap (λ (tables : List TableModel). u ∷ tables) (published_table commands t)
+published_table (Ask numbers ∷ commands) t = published_table commands t
+
+published_question : (commands : List Command) (numbers : List ℤ) → published (commands ++ Ask numbers ∷ []) ≡ published commands
+published_question [] numbers = refl
+published_question (Publish u ∷ commands) numbers = ap (λ (tables : List TableModel). u ∷ tables) (published_question commands numbers)
+published_question (Ask others ∷ commands) numbers = published_question commands numbers
+
+behind_first : (n : ℕ) (c : Command) (commands : List Command) → n + length (published (c ∷ commands)) ≡ tables_behind n c + length (published commands)
+behind_first n (Publish t) commands = omega arith
+behind_first n (Ask numbers) commands = refl
+
+spell_more : (n : ℕ) (front first : List ℕ) (commands : List Command) (c : Command) → SpellBehind n front commands → Spell first c → FitsBehind (n + length (published commands)) c → SpellBehind n (front ++ first) (commands ++ c ∷ [])
+spell_more n front first [] c h spells fits = (
+  first,
+  [],
+  ap (λ (x : List ℕ). x ++ first) h ∙ sym (append-nil first),
+  spells,
+  (let same : n + 0 ≡ n = omega arith in subst (λ (k : ℕ). FitsBehind k c) same fits),
+  refl,
+)
+spell_more n front first (d ∷ commands) c h spells fits = (
+  h.0,
+  h.1 ++ first,
+  ap (λ (x : List ℕ). x ++ first) h.2 ∙ append_assoc h.0 h.1 first,
+  h.3,
+  h.4,
+  spell_more (tables_behind n d) h.1 first commands c h.5 spells (subst (λ (k : ℕ). FitsBehind k c) (behind_first n d commands) fits),
+)
+
+table_more : (tables : List TableModel) (commands : List Command) (text : List ℕ) (t : TableModel) → AreAnswers tables commands text → AreAnswers tables (commands ++ Publish t ∷ []) text
+table_more tables [] text t h = h
+table_more tables (Publish u ∷ commands) text t h = table_more (tables ++ u ∷ []) commands text t h
+table_more tables (Ask numbers ∷ commands) text t h = (h.0, h.1, h.2, h.3, table_more tables commands h.1 t h.4)
+
+question_more : (tables : List TableModel) (commands : List Command) (text line : List ℕ) (numbers : List ℤ) → AreAnswers tables commands text → IsAnswerLine (tables ++ published commands) numbers line → AreAnswers tables (commands ++ Ask numbers ∷ []) (text ++ line)
+question_more tables [] text line numbers h is =
+    (line, [], ap (λ (x : List ℕ). x ++ line) h ∙ sym (append-nil line), subst (λ (ts : List TableModel). IsAnswerLine ts numbers line) (append-nil tables) is, refl)
+question_more tables (Publish u ∷ commands) text line numbers h is =
+    question_more (tables ++ u ∷ []) commands text line numbers h (subst (λ (ts : List TableModel). IsAnswerLine ts numbers line) (sym (append_assoc tables (u ∷ []) (published commands))) is)
+question_more tables (Ask others ∷ commands) text line numbers h is =
+    (h.0, h.1 ++ line, ap (λ (x : List ℕ). x ++ line) h.2 ∙ append_assoc h.0 h.1 line, h.3, question_more tables commands h.1 line numbers h.4 is)
+
+-- ---- how far a script is answered
+
+pub nothing_yet : (script : List ℕ) (unread : Unread) (standing : Standing) → unread ≡ record { tables = 0; line = 1; rest = script } → standing ≡ record { count = 0; table = None } → IsAnsweredSoFar script unread standing []
+nothing_yet script unread standing u s = rw (u, s) (record { commands = []; front = []; are = refl; spell = refl; tables = refl; line = refl; answers = refl; count = refl; last = refl })
+
+counted : (front first : List ℕ) → line_count (front ++ first) ≡ line_count front + line_count first
+counted front first = sum_by-append (λ (b : ℕ). cond (b == 10) 1 0) front first
+
+pub table_published : (script : List ℕ) (before after : Unread) (old new : Standing) (text : List ℕ) (t : TableModel) → IsAnsweredSoFar script before old text → IsTaken before (Publish t) after → new ≡ record { count = old.count + 1; table = Some t } → IsAnsweredSoFar script after new text
+table_published script before after old new text t so_far taken now = rw now (record {
+  commands = so_far.commands ++ Publish t ∷ [];
+  front = so_far.front ++ taken.first;
+  are = so_far.are ∙ ap (λ (x : List ℕ). so_far.front ++ x) taken.are ∙ sym (append_assoc so_far.front taken.first after.rest);
+  spell = spell_more 0 so_far.front taken.first so_far.commands (Publish t) so_far.spell taken.spells (omega (arith, taken.fits, so_far.tables));
+  tables = taken.tables ∙ omega (arith, so_far.tables, ap length (published_table so_far.commands t), length-append (published so_far.commands) (t ∷ []));
+  line = taken.line ∙ omega (arith, so_far.line, counted so_far.front taken.first);
+  answers = table_more [] so_far.commands text t so_far.answers;
+  count = omega (arith, so_far.count, ap length (published_table so_far.commands t), length-append (published so_far.commands) (t ∷ []));
+  last = (published so_far.commands, published_table so_far.commands t);
+})
+
+-- behind a question's line there is a table, which answers it
+some_last : (tables : List TableModel) (last : Option TableModel) → IsLast tables last → 0 < length tables → (t : TableModel) × (last ≡ Some t) × ((before : List TableModel) × (tables ≡ before ++ t ∷ []))
+some_last tables None none some = absurd (omega (arith, ap length none, some))
+some_last tables (Some t) h some = (t, refl, h)
+
+pub question_answered : (script : List ℕ) (before after : Unread) (standing new : Standing) (text : List ℕ) (numbers : List ℤ) (answer : Option ℕ) → IsAnsweredSoFar script before standing text → IsTaken before (Ask numbers) after
+    → IfSome standing.table (λ t. IsAnswerOf t numbers answer) → new ≡ standing → IsAnsweredSoFar script after new (text ++ answer_line standing.count answer)
+question_answered script before after standing new text numbers answer so_far taken answers now = rw now (record {
+  commands = so_far.commands ++ Ask numbers ∷ [];
+  front = so_far.front ++ taken.first;
+  are = so_far.are ∙ ap (λ (x : List ℕ). so_far.front ++ x) taken.are ∙ sym (append_assoc so_far.front taken.first after.rest);
+  spell = spell_more 0 so_far.front taken.first so_far.commands (Ask numbers) so_far.spell taken.spells (omega (arith, taken.fits, so_far.tables));
+  tables = taken.tables ∙ so_far.tables ∙ ap length (sym (published_question so_far.commands numbers));
+  line = taken.line ∙ omega (arith, so_far.line, counted so_far.front taken.first);
+  answers = question_more [] so_far.commands text (answer_line standing.count answer) numbers so_far.answers (record {
+    before = last.2.0;
+    table = last.0;
+    last = last.2.1;
+    answer = answer;
+    answers = subst (λ (o : Option TableModel). IfSome o (λ t. IsAnswerOf t numbers answer)) last.1 answers;
+    is = ap (λ (n : ℕ). answer_line n answer) so_far.count;
+  });
+  count = so_far.count ∙ ap length (sym (published_question so_far.commands numbers));
+  last = subst (λ (tables : List TableModel). IsLast tables standing.table) (sym (published_question so_far.commands numbers)) so_far.last;
+})
+  where
+    last : (t : TableModel) × (standing.table ≡ Some t) × ((before : List TableModel) × (published so_far.commands ≡ before ++ t ∷ []))
+    last = some_last (published so_far.commands) standing.table so_far.last (omega (arith, taken.fits, so_far.tables))
+
+pub all_answered : (script : List ℕ) (unread : Unread) (standing : Standing) (text : List ℕ) → IsAnsweredSoFar script unread standing text → IsShortScript script → unread.rest ≡ [] → 0 < unread.tables → IsLiveText script text
+all_answered script unread standing text so_far short ended some = record {
+  commands = so_far.commands;
+  is_script = record {
+    short = short;
+    spell = subst (λ (x : List ℕ). SpellBehind 0 x so_far.commands) (sym (so_far.are ∙ ap (λ (x : List ℕ). so_far.front ++ x) ended ∙ append-nil so_far.front)) so_far.spell;
+    some_table = omega (arith, some, so_far.tables);
+  };
+  answers = so_far.answers;
+}
+
+-- what is refused behind these commands is the script's refusal
+pub refused_behind : (script : List ℕ) (unread : Unread) (standing : Standing) (text : List ℕ) (fault : ScriptFault) → IsAnsweredSoFar script unread standing text → IsShortScript script → IsRefusedBehind unread.tables unread.line unread.rest fault → IsScriptRefusedFor script fault
+refused_behind script unread standing text fault so_far short refused = by_fault fault (rw (← so_far.tables, ← so_far.line) refused)
+  where
+    by_fault : (f : ScriptFault) → IsRefusedBehind (length (published so_far.commands)) (suc (line_count so_far.front)) unread.rest f → IsScriptRefusedFor script f
+    by_fault (Malformed line) h = (short, record { front = so_far.front; rest = unread.rest; are = so_far.are; commands = so_far.commands; spell = so_far.spell; refused = h })
+    by_fault (Limit what) h = (short, record { front = so_far.front; rest = unread.rest; are = so_far.are; commands = so_far.commands; spell = so_far.spell; refused = h })
+    by_fault ScriptTooLong h = absurd h
+    by_fault TooManyTables h = (short, record { front = so_far.front; rest = unread.rest; are = so_far.are; commands = so_far.commands; spell = so_far.spell; refused = h })
+    by_fault Memory h = absurd h

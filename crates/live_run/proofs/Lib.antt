@@ -1,0 +1,4 @@
+pub mod Commands
+pub mod Ending
+pub mod TablesMore
+pub mod Reporting

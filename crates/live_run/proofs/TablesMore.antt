@@ -1,0 +1,95 @@
+-- Readers go on with a table more, and answer by the last one.
+use Rattle.std.proofs.Common.{◌≡◌, ℕ, ◌+◌, ◌^◌, ◌<◌, ◌≤◌, List, [], ◌∷◌, ◌++◌, length, refl, ap, sym, ◌∙◌, subst, arith, length-append, get_or, get_or-set_other, set, Option, Some, None, All, ◌≢◌, inl, inr}
+use Rattle.std.specs.Prelude.{ℤ, IfSome}
+use Rattle.std.specs.Option.{IfNone}
+use Rattle.std.proofs.lemmas.Bool.{lt-ltb, cases_lt}
+use Rattle.std.proofs.lemmas.Grind.{get_or-set_at}
+use Rattle.std.proofs.Math.ListN.{length-set}
+use mathlib.Core.List.{IsPrefix}
+use Rattle.grid_quantiser.specs.Cells.{point_of}
+use Rattle.controller_table.specs.Tables.{TableModel}
+use Rattle.live_table.specs.Publishes.{Published, Listener, with_table, longer, EndsWith, IsChoiceOf, LastChooses, Answers}
+use Rattle.live_table.proofs.Prefixes.{prefix_whole}
+use Rattle.live_script.specs.Questions.{IsAnswerOf}
+use Rattle.live_run.specs.inside.Sessions.{InStep, Fits, GoOnWith}
+
+-- ---- a table more
+
+pub has_room : (readers : Option Published) (count : ℕ) (table : Option TableModel) → Fits readers count table → count < 8 → IfSome readers (λ p. length p.list + 1 < 2 ^ 32)
+has_room None count table fits few = tt
+has_room (Some p) count None fits few = absurd fits
+has_room (Some p) count (Some t) fits few = omega (arith, fits.0, few)
+
+pub fits_more : (before after : Option Published) (opened : Option ℕ) (count : ℕ) (table : Option TableModel) (t : TableModel) → Fits before count table → IfSome opened (λ _. count ≡ 0) → GoOnWith before opened t after → Fits after (count + 1) (Some t)
+fits_more before None opened count table t fits first on = tt
+fits_more None (Some q) None count table t fits first on = absurd on
+fits_more None (Some q) (Some readers) count table t fits first on = (omega (arith, ap length on, first), ([], on))
+fits_more (Some p) (Some q) opened count None t fits first on = absurd fits
+fits_more (Some p) (Some q) opened count (Some u) t fits first on =
+    (omega (arith, ap (λ (r : Published). length r.list) on, length-append p.list (t ∷ []), fits.0), (p.list, ap (λ (r : Published). r.list) on))
+
+-- ---- the last table answers
+
+last_of : (xs ys : List TableModel) (t u : TableModel) → xs ++ t ∷ [] ≡ ys ++ u ∷ [] → t ≡ u
+last_of [] [] t u e = cc
+last_of [] (y ∷ ys) t u e = absurd (omega (arith, ap length e, length-append ys (u ∷ [])))
+last_of (x ∷ xs) [] t u e = absurd (omega (arith, ap length e, length-append xs (t ∷ [])))
+last_of (x ∷ xs) (y ∷ ys) t u e = last_of xs ys t u cc
+
+pub one_last : (list : List TableModel) (t u : TableModel) → EndsWith list t → EndsWith list u → t ≡ u
+one_last list t u h k = last_of h.0 k.0 t u (sym h.1 ∙ k.1)
+
+-- a choice at the state of as many numbers as there are states
+pub chosen_is_answer : (t : TableModel) (numbers : List ℤ) (choice : Option ℕ) → length numbers ≡ length t.plant.states → IsChoiceOf t (point_of numbers) choice → IsAnswerOf t numbers choice
+chosen_is_answer t numbers None size h = record { chosen = tt; none = λ u _. h.none u }
+chosen_is_answer t numbers (Some u) size h = record { chosen = (size, h.chosen); none = tt }
+
+-- other numbers have no answer
+pub no_answer : (t : TableModel) (numbers : List ℤ) → (length numbers ≡ length t.plant.states → ⊥) → IsAnswerOf t numbers None
+no_answer t numbers other = record { chosen = tt; none = λ u same _. other same }
+
+-- what readers answer, who have so many tables
+pub readers_answer : (p : Published) (count : ℕ) (t : TableModel) (numbers : List ℤ) (choice : Option ℕ) → Fits (Some p) count (Some t) → length numbers ≡ length t.plant.states → LastChooses p.list (point_of numbers) choice → IsAnswerOf t numbers choice
+readers_answer p count t numbers choice fits size h =
+    chosen_is_answer t numbers choice size (subst (λ (u : TableModel). IsChoiceOf u (point_of numbers) choice) (one_last p.list h.0 t h.1 fits.1) h.2)
+
+-- ---- readers in step
+
+-- an answer by as many tables as are published is that of the last one
+pub answers_by_last : (p : Published) (before after : Listener) (x : List ℤ) (number : ℕ) (choice : Option ℕ) → InStep p before → Answers before after x number choice → number ≡ length p.list → LastChooses p.list x choice
+answers_by_last p before after x number choice step h all =
+    let told : IsPrefix p.list after.seen = subst (λ (l : List TableModel). IsPrefix l after.seen) step.1 h.goes_on_from_told in
+    let same : p.list ≡ after.seen = prefix_whole p.list after.seen told (omega (arith, h.counts, all)) in
+    subst (λ (l : List TableModel). LastChooses l x choice) (sym same) h.chooses
+
+pub still_in_step : (p : Published) (before after : Listener) → InStep p before → after.told ≡ before.told → after.opening ≡ before.opening → InStep p after
+still_in_step p before after step told opening = (opening ∙ step.0, told ∙ step.1)
+
+-- who was told of less is told of all
+pub in_step_again : (p : Published) (before after : Listener) → before.opening ≡ p.opening → length before.told < length p.list → after ≡ record before { told = longer before.told p.list } → InStep p after
+in_step_again p before after opening less is =
+    (ap (λ (r : Listener). r.opening) is ∙ opening, ap (λ (r : Listener). r.told) is ∙ rw (lt-ltb (length before.told) (length p.list) less) refl)
+
+-- one more reader was told, the others behind it are as before
+pub told_more : (p : Published) (readers : List Listener) (i : ℕ) (v : Listener) → i < length readers → ((k : ℕ) (d : Listener) → k < i → InStep p (get_or readers k d)) → InStep p v → (k : ℕ) (d : Listener) → k < i + 1 → InStep p (get_or (set readers i v) k d)
+told_more p readers i v lt told step k d below = elim (cases_lt k i) [
+  | inl less ↦ (let ne : k ≢ i = λ e. omega (arith, less, e) in rw get_or-set_other (told k d less))
+  | inr most ↦ (let same : k ≡ i = omega (arith, most, below) in subst (InStep p) (sym (get_or-set_at readers i k v d same lt)) step)
+]
+
+pub others_stay : (P : Listener → Type 0) (readers : List Listener) (i : ℕ) (v : Listener) → ((k : ℕ) (d : Listener) → i ≤ k → k < length readers → P (get_or readers k d)) → (k : ℕ) (d : Listener) → i + 1 ≤ k → k < length (set readers i v) → P (get_or (set readers i v) k d)
+others_stay P readers i v left k d above within =
+    let ne : k ≢ i = λ e. omega (arith, above, e) in
+    rw get_or-set_other (left k d (omega (arith, above)) (omega (arith, within, length-set readers i v)))
+
+-- ---- what a session answers
+
+pub by_readers : (p : Published) (held : Option Published) (count : ℕ) (table : Option TableModel) (t : TableModel) (numbers point : List ℤ) (answered : Option (Option ℕ)) (choice : Option ℕ) → Fits held count table → held ≡ Some p → Some t ≡ table
+    → length numbers ≡ length t.plant.states → point ≡ point_of numbers → IfSome answered (λ c. LastChooses p.list point c) → answered ≡ Some choice → IsAnswerOf t numbers choice
+by_readers p held count table t numbers point answered choice fits is table_is size at last some =
+    let mine : Fits (Some p) count (Some t) = subst (λ (z : Option Published × Option TableModel). Fits z.0 count z.1) (λ i. (is i, sym table_is i)) fits in
+    let chosen : LastChooses p.list point choice = subst (λ (a : Option (Option ℕ)). IfSome a (λ c. LastChooses p.list point c)) some last in
+    readers_answer p count t numbers choice mine size (subst (λ (x : List ℤ). LastChooses p.list x choice) at chosen)
+
+pub by_table : (t : TableModel) (numbers point : List ℤ) (choice : Option ℕ) → length numbers ≡ length t.plant.states → point ≡ point_of numbers → IsChoiceOf t point choice → IsAnswerOf t numbers choice
+by_table t numbers point choice size at h = chosen_is_answer t numbers choice size (subst (λ (x : List ℤ). IsChoiceOf t x choice) at h)

@@ -1,0 +1,4 @@
+pub mod Statuses
+pub mod Causes
+pub mod LiveRuns
+pub mod inside

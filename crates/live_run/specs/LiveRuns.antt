@@ -1,0 +1,73 @@
+-- What a run of a live script gives.
+use Rattle.std.specs.Prelude.{◌≡◌, ◌≢◌, ◌⊎◌, ◌↔◌, ℕ, ◌+◌, ◌≤◌, List, [], ◌∷◌, drop, Option, Some, IfSome, IsTrue, codes}
+use Rattle.std.specs.Fmt.{decimal}
+use Rattle.run_devices.specs.Devices.{next_count, Reading, Writing, GainsWhole, GainsPart, TakesAtMost}
+use Rattle.live_script.specs.declared.command.Command.{Command}
+use Rattle.live_script.specs.declared.fault.ScriptFault.{ScriptFault}
+use Rattle.live_script.specs.Scripts.{IsScript}
+use Rattle.live_script.specs.LiveText.{IsLiveText}
+use Rattle.live_script.specs.Refusals.{IsScriptRefusedFor}
+use Rattle.live_run.specs.declared.outcome.LiveOutcome.{LiveOutcome}
+use Rattle.live_run.specs.declared.outcome.LiveOutcome.TheVariants.{Done, Usage, Malformed, Limit, ScriptTooLong, TooManyTables, ReadFault, WriteFault, NoMemory}
+use Rattle.live_run.specs.Causes.{of_script}
+use Rattle.live_run.specs.Statuses.{status_of, line_of, Reports}
+
+-- the words are `live` and how many readers answer
+abbrev pub IsLiveForm : List (List ℕ) → ℕ → Type 0
+IsLiveForm words readers = (words ≡ codes "live" ∷ decimal readers ∷ []) × (1 ≤ readers) × (readers ≤ 64)
+
+-- one byte more than a script may have
+abbrev pub most_read : ℕ
+most_read = 67108864 + 1
+
+-- the answers to a script were written whole
+abbrev pub IsAnswered : List ℕ → Writing → Type 0
+IsAnswered script out = (text : List ℕ) × IsLiveText script text × GainsWhole out text
+
+-- a write failed, and a part of the answers was written
+abbrev pub IsCutOff : List ℕ → Writing → Type 0
+IsCutOff script out = (text : List ℕ) × IsLiveText script text × GainsPart out text
+
+-- What a run of the form gives, by how it ends.
+pub record IsLiveEnd (outcome : LiveOutcome) (source : Reading) (out : Writing) : Type 0 where
+  pub not_usage : outcome ≢ Usage
+  -- what was written
+  pub answered : outcome ≡ Done → IfSome source.before (λ script. IsAnswered script out)
+  pub cut_off : outcome ≡ WriteFault → IfSome source.before (λ script. IsCutOff script out)
+  pub nothing_written : outcome ≢ Done → outcome ≢ WriteFault → out.after ≡ out.before
+  -- what was read, and that a refusal is the script's
+  pub read : outcome ≢ ReadFault → outcome ≢ NoMemory → IfSome source.before (λ script. source.after ≡ Some (drop most_read script))
+  pub never_past : TakesAtMost source.before source.after most_read
+  pub refused : (fault : ScriptFault) → outcome ≡ of_script fault → outcome ≢ NoMemory → IfSome source.before (λ script. IsScriptRefusedFor script fault)
+  -- a device is told to have failed where its count rose by one, and its count stands everywhere else
+  pub read_fault : outcome ≡ ReadFault → source.faults_after ≡ next_count source.faults_before
+  pub no_read_fault : outcome ≢ ReadFault → source.faults_after ≡ source.faults_before
+  pub sound_source : IsTrue source.is_sound → outcome ≢ ReadFault
+  pub write_fault : outcome ≡ WriteFault → out.faults_after ≡ next_count out.faults_before
+  pub no_write_fault : outcome ≢ WriteFault → out.faults_after ≡ out.faults_before
+
+-- Neither device was used.
+pub record AreUntouched (source : Reading) (out : Writing) : Type 0 where
+  pub nothing_read : source.after ≡ source.before
+  pub no_read_fault : source.faults_after ≡ source.faults_before
+  pub nothing_written : out.after ≡ out.before
+  pub no_write_fault : out.faults_after ≡ out.faults_before
+
+-- What a run of some words gives: what their form does, or `usage` where they are of no form.
+pub record Gives (words : List (List ℕ)) (outcome : LiveOutcome) (source : Reading) (out : Writing) : Type 0 where
+  pub usage : (outcome ≡ Usage) ↔ ((readers : ℕ) → IsLiveForm words readers → ⊥)
+  pub untouched : outcome ≡ Usage → AreUntouched source out
+  pub of_form : (readers : ℕ) → IsLiveForm words readers → IsLiveEnd outcome source out
+
+-- A run of some words ends with a status: that of an outcome whose line is reported.
+pub record IsLiveRun (words : List (List ℕ)) (status : ℕ) (source : Reading) (out err : Writing) : Type 0 where
+  pub outcome : LiveOutcome
+  pub status_is : status ≡ status_of outcome
+  pub reported : Reports err (line_of outcome)
+  pub silent : line_of outcome ≡ [] → GainsWhole err []
+  pub gives : Gives words outcome source out
+
+-- whatever a script is to be answered or refused for is told, unless there is no memory
+pub record IsCompleteAnswer (status : ℕ) (script : List ℕ) : Type 0 where
+  pub answered : (commands : List Command) → IsScript script commands → (status ≡ 0) ⊎ (status ≡ 8)
+  pub refused : (fault : ScriptFault) → IsScriptRefusedFor script fault → (status ≡ status_of (of_script fault)) ⊎ (status ≡ 8)

@@ -1,0 +1,35 @@
+-- How far a script is answered. No public clause names this.
+use Rattle.std.specs.Prelude.{◌≡◌, ◌⊎◌, ℕ, suc, List, [], ◌∷◌, ◌++◌, length, Option, Some, None}
+use Rattle.controller_table.specs.Tables.{TableModel}
+use Rattle.controller_table.specs.Refusals.{line_count}
+use Rattle.live_script.specs.declared.command.Command.{Command}
+use Rattle.live_script.specs.declared.fault.ScriptFault.{ScriptFault}
+use Rattle.live_script.specs.Scripts.{published, SpellBehind}
+use Rattle.live_script.specs.LiveText.{AreAnswers}
+use Rattle.live_script.specs.Reading.{Unread}
+use Rattle.live_script.specs.Refusals.{IsScriptRefusedFor}
+use Rattle.live_run.specs.declared.outcome.LiveOutcome.{LiveOutcome}
+use Rattle.live_run.specs.declared.outcome.LiveOutcome.TheVariants.{NoMemory}
+use Rattle.live_run.specs.Causes.{of_script}
+use Rattle.live_run.specs.inside.Sessions.{Standing}
+
+-- the last of the tables, if there is one
+abbrev pub IsLast : List TableModel → Option TableModel → Type 0
+IsLast tables None = tables ≡ []
+IsLast tables (Some t) = (before : List TableModel) × (tables ≡ before ++ t ∷ [])
+
+-- The commands in front of what is unread are answered by this text, and leave this table in force.
+pub record IsAnsweredSoFar (script : List ℕ) (unread : Unread) (standing : Standing) (text : List ℕ) : Type 0 where
+  pub commands : List Command
+  pub front : List ℕ
+  pub are : script ≡ front ++ unread.rest
+  pub spell : SpellBehind 0 front commands
+  pub tables : unread.tables ≡ length (published commands)
+  pub line : unread.line ≡ suc (line_count front)
+  pub answers : AreAnswers [] commands text
+  pub count : standing.count ≡ length (published commands)
+  pub last : IsLast (published commands) standing.table
+
+-- there was no memory, or the script is refused so
+abbrev pub IsRefusal : List ℕ → LiveOutcome → Type 0
+IsRefusal script outcome = (outcome ≡ NoMemory) ⊎ ((fault : ScriptFault) × (outcome ≡ of_script fault) × IsScriptRefusedFor script fault)

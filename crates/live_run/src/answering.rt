@@ -1,0 +1,66 @@
+ghost use Rattle.std.specs.Prelude.{◌≡◌, ◌++◌, ◌≤◌, None, OnOk, IfOk, IfErr};
+ghost use Rattle.live_script.specs.LiveText.{IsLiveText, answer_line};
+ghost use Rattle.live_run.specs.inside.Answering.{IsAnsweredSoFar, IsRefusal};
+
+use crate::outcome::LiveOutcome;
+use crate::session::Session;
+use itoa::Buffer;
+use live_script::{Command, Script};
+use std::alloc::{AllocError, Global};
+use std::sync::Wait;
+
+/// The answers to a script, by so many readers.
+pub(crate) fn answer<R: Wait>(
+    rt: &R,
+    alloc: Global,
+    readers: u32,
+    script: &[u8],
+) -> Result<Vec<u8>, LiveOutcome>
+    requires { (1 ≤ readers) × (readers ≤ 64) }
+    ensures answers { IfOk result (λ text. IsLiveText script.now text.items) }
+    ensures refused { IfErr result (IsRefusal script.now) }
+{
+    let mut session = Session::new(readers);
+    let text = answer_all(rt, alloc, &mut session, script);
+    session.close(rt);
+    text
+}
+
+/// The answers to a script, where no table is published yet.
+fn answer_all<R: Wait>(
+    rt: &R,
+    alloc: Global,
+    session: &mut Session,
+    script: &[u8],
+) -> Result<Vec<u8>, LiveOutcome>
+    requires { session.old ≡ record { count = 0; table = None } }
+    ensures answers { IfOk result (λ text. IsLiveText script.now text.items) }
+    ensures refused { IfErr result (IsRefusal script.now) }
+{
+    let mut unread = Script::new(script)?;
+    let mut text = Vec::new(alloc);
+    while let Some(command) = unread.next_command(alloc)? {
+        match command {
+            Command::Publish(table) => session.publish(rt, alloc, table)?,
+            Command::Ask(question) => {
+                let answer = session.answer(&question);
+                push_line(&mut text, session.count(), answer)?;
+            }
+        }
+    }
+    Ok(text)
+}
+
+/// The line of an answer by the table of this number.
+fn push_line(text: &mut Vec<u8>, number: u32, answer: Option<u32>) -> Result<(), AllocError>
+    ensures { OnOk result (text.new.items ≡ text.old.items ++ answer_line number answer) }
+{
+    let mut buffer = Buffer::new();
+    text.extend_from_slice(buffer.format(number).as_bytes())?;
+    text.extend_from_slice(b" ")?;
+    match answer {
+        Some(input) => text.extend_from_slice(buffer.format(input).as_bytes())?,
+        None => text.extend_from_slice(b"-")?,
+    }
+    text.extend_from_slice(b"\n")
+}

@@ -1,0 +1,150 @@
+ghost use Rattle.std.specs.Prelude.{◌≡◌, ◌+◌, ◌^◌, ◌<◌, ◌≤◌, length, Some, None, OnOk, OnErr, IfSome};
+ghost use Rattle.controller_table.specs.Tables.{TableModel};
+ghost use Rattle.live_script.specs.Questions.{IsAnswerOf};
+ghost use Rattle.live_run.specs.inside.Sessions.{GoOnWith};
+
+use crate::readers::Readers;
+use controller_table::{NoMemory, Table};
+use core::mem::replace_with;
+use live_script::Question;
+use live_table::LiveFault;
+use std::alloc::Global;
+use std::marker::Model;
+use std::sync::Wait;
+
+/// The tables of a script that are published so far, and who answers by them. It isn't `Drop`: `close` ends it.
+///
+/// Seen as how many tables they are, and the last.
+pub(crate) struct Session {
+    workers: u32,
+    count: u32,
+    /// Kept, since its readers may be refused.
+    table: Option<Table>,
+    /// None before the first table, and from a refusal on.
+    readers: Option<Readers>,
+}
+
+impl Model for Session {
+    ghost use Rattle.std.specs.Coded.{codes};
+    ghost use Rattle.fixed_expr.specs.inside.Postfix.{expression_code};
+    ghost use Rattle.std.specs.Prelude.{◌≤◌};
+    ghost use Rattle.live_run.specs.inside.Sessions.{Standing, Fits};
+
+    ghost Value = { Standing };
+
+    ghost coded = { Prim.hlevel (codes, expression_code) };
+
+    ghost view = { λ s. record { count = s.count; table = s.table } };
+
+    ghost invariant = { λ s. (1 ≤ s.workers) × (s.workers ≤ 64) × Fits s.readers s.count s.table };
+}
+
+impl Session {
+    pub(crate) fn new(workers: u32) -> Session
+        requires { (1 ≤ workers) × (workers ≤ 64) }
+        ensures { result ≡ record { count = 0; table = None } }
+    {
+        Session {
+            workers,
+            count: 0,
+            table: None,
+            readers: None,
+        }
+    }
+
+    /// How many tables are published.
+    pub(crate) fn count(&self) -> u32
+        ensures { result ≡ self.now.count }
+    {
+        self.count
+    }
+
+    /// Publishes a table.
+    pub(crate) fn publish<R: Wait>(
+        &mut self,
+        rt: &R,
+        alloc: Global,
+        table: Table,
+    ) -> Result<(), NoMemory>
+        requires { self.old.count < 8 }
+        ensures { OnOk result (self.new ≡ record { count = self.old.count + 1; table = Some table }) }
+    {
+        let copy = table.copy(alloc)?;
+        let first = if self.count == 0 { Some(self.workers) } else { None };
+        replace_with(&mut self.readers, (rt, alloc, copy, first), bring_into_force)?;
+        self.table = Some(table);
+        self.count += 1;
+        Ok(())
+    }
+
+    /// What the last table answers.
+    pub(crate) fn answer(&mut self, question: &Question) -> Option<u32>
+        ensures answer { IfSome self.old.table (λ table. IsAnswerOf table question.now result) }
+        ensures same { self.new ≡ self.old }
+    {
+        let table = self.table.as_ref()?;
+        if question.count() != table.plant().states() {
+            return None;
+        }
+        let point = question.point();
+        let answered = match &mut self.readers {
+            Some(readers) => readers.choice(&point),
+            None => None,
+        };
+        match answered {
+            Some(choice) => choice,
+            None => table.choice(&point),
+        }
+    }
+
+    pub(crate) fn close<R: Wait>(self, rt: &R) {
+        let Session {
+            workers: _,
+            count: _,
+            table: _,
+            readers,
+        } = self;
+        if let Some(readers) = readers {
+            readers.close(rt);
+        }
+    }
+}
+
+/// Brings a table into force among readers that answer by the one before it, or opens so many with it. None from a
+/// refusal on.
+fn bring_into_force<R: Wait>(
+    readers: Option<Readers>,
+    next: (&R, Global, Table, Option<u32>),
+) -> (Option<Readers>, Result<(), NoMemory>)
+    requires room { IfSome readers (λ p. length p.list + 1 < 2 ^ 32) }
+    requires opened { IfSome next.3 (λ readers. (1 ≤ readers) × (readers ≤ 64)) }
+    ensures with_table { GoOnWith readers next.entry.3 next.entry.2 result.0 }
+    ensures refused { OnErr result.1 (result.0 ≡ None) }
+{
+    let (rt, alloc, table, opened) = next;
+    match readers {
+        Some(readers) => (readers.with_table(rt, table), Ok(())),
+        None => open_with(rt, alloc, table, opened),
+    }
+}
+
+/// Opens so many readers with a table. None where none are to be opened, or where that is refused.
+fn open_with<R: Wait>(
+    rt: &R,
+    alloc: Global,
+    table: Table,
+    opened: Option<u32>,
+) -> (Option<Readers>, Result<(), NoMemory>)
+    requires { IfSome opened (λ readers. (1 ≤ readers) × (readers ≤ 64)) }
+    ensures with_table { GoOnWith None opened table result.0 }
+    ensures refused { OnErr result.1 (result.0 ≡ None) }
+{
+    let Some(readers) = opened else {
+        return (None, Ok(()));
+    };
+    match Readers::open(rt, alloc, table, readers) {
+        Ok(readers) => (Some(readers), Ok(())),
+        Err(LiveFault::Memory) => (None, Err(NoMemory)),
+        Err(LiveFault::Refused) => (None, Ok(())),
+    }
+}

@@ -1,0 +1,8 @@
+pub mod KeptMore
+pub mod WordsCut
+pub mod QuestionLines
+pub mod TableLines
+pub mod Counting
+pub mod OneCommand
+pub mod Laws
+pub mod Taking

@@ -1,0 +1,109 @@
+-- Bytes begin with one command at most.
+use Rattle.std.proofs.Common.{◌≡◌, ℕ, ◌≤◌, List, [], ◌∷◌, ◌++◌, length, take, drop, Option, refl, ap, sym, ◌∙◌, subst, arith, append_assoc}
+use Rattle.std.specs.Prelude.{ℤ, codes}
+use Rattle.std.specs.List.{All, concat}
+use Rattle.std.specs.Fmt.{signed_decimal}
+use Rattle.std.proofs.Math.Seq.{take-append_seam, drop-append_seam}
+use Rattle.std.proofs.lemmas.List.Elements.{All-head, All-tail}
+use Rattle.plant_record.specs.Description.{Description}
+use Rattle.plant_record.specs.Numbers.{IsLiteral}
+use Rattle.plant_reading.proofs.lemmas.StatementLaws.{one_statement}
+use Rattle.plant_text.proofs.lemmas.CanonicalFronts as fronts
+use Rattle.controller_table.specs.Tables.{TableModel, IsTable, IsTableIn}
+use Rattle.controller_table.specs.Laws.{OneTablePerText}
+use Rattle.row_runs.specs.declared.run.Version.{Version}
+use Rattle.row_runs.specs.declared.run.Version.TheVariants.{First, Second}
+use Rattle.game_core.specs.declared.game.Row.{Row}
+use Rattle.plant_writing.specs.CanonicalText.{text_of}
+use Rattle.controller_table.specs.TableText.{table_text, version_line, lines_behind}
+use Rattle.controller_table.proofs.OneTable as tables
+use Rattle.controller_table.proofs.ShortTables as short
+use Rattle.live_script.specs.declared.command.Command.{Command}
+use Rattle.live_script.specs.declared.command.Command.TheVariants.{Publish, Ask}
+use Rattle.live_script.specs.Questions.{IsQuestion}
+use Rattle.live_script.specs.Scripts.{publish_line, ask_line, IsPublishOf, Spell}
+use Rattle.live_script.specs.Refusals.{Announce}
+use Rattle.live_script.specs.inside.Words.{spaced}
+use Rattle.live_script.proofs.WordsCut.{one_number_at}
+use Rattle.live_script.proofs.QuestionLines.{line_opened, begins}
+use Rattle.live_script.proofs.TableLines.{one_announced, not_asked}
+
+-- ---- tables
+
+pub one_table : OneTablePerText
+one_table = tables.one_table (fronts.one_plant_at_the_front one_statement)
+
+some_byte : (text : List ℕ) (t : TableModel) → IsTable text t.plant t.rows → 1 ≤ length text
+some_byte text t is = longer is.version (ap length is.text)
+  where
+    longer : (v : Version) → length text ≡ length (table_text v t.plant t.rows) → 1 ≤ length text
+    longer First e = omega (arith, e)
+    longer Second e = omega (arith, e)
+
+-- the line and the text of a table announce the text
+pub announces : (t : TableModel) (bytes rest : List ℕ) (h : IsPublishOf t bytes) → Announce (bytes ++ rest) (length h.text) (h.text ++ rest)
+announces t bytes rest h = record {
+  some = some_byte h.text t h.is_table.0;
+  most = short.tables_are_short h.text t.plant t.rows h.is_table.0;
+  are = ap (λ (x : List ℕ). x ++ rest) h.are ∙ append_assoc (publish_line (length h.text)) h.text rest;
+}
+
+-- as many bytes at the front of the same are the same
+pub one_text : (v w s t : List ℕ) → length v ≡ length w → v ++ s ≡ w ++ t → (v ≡ w) × (s ≡ t)
+one_text v w s t size e = (
+  sym (take-append_seam v s) ∙ ap (take (length v)) e ∙ ap (λ (n : ℕ). take n (w ++ t)) size ∙ take-append_seam w t,
+  sym (drop-append_seam v s) ∙ ap (drop (length v)) e ∙ ap (λ (n : ℕ). drop n (w ++ t)) size ∙ drop-append_seam w t,
+)
+
+same_version : (text : List ℕ) (p q : Description) (rows others : List (Option Row)) (h : IsTable text p rows) (k : IsTable text q others) → h.version ≡ k.version
+same_version text p q rows others h k =
+    (tables.one_version h.version k.version (text_of p ++ concat (lines_behind h.version p.goal rows)) (text_of q ++ concat (lines_behind k.version q.goal others))
+    (sym (append_assoc (version_line h.version) (text_of p) (concat (lines_behind h.version p.goal rows))) ∙ sym h.text ∙ k.text ∙ append_assoc (version_line k.version) (text_of q) (concat (lines_behind k.version q.goal others)))).0
+
+-- one table in one version is read from a text
+same_table : (text : List ℕ) (t u : TableModel) → IsTableIn t.version text t.plant t.rows → IsTableIn u.version text u.plant u.rows → t ≡ u
+same_table text t u h k =
+    let one = one_table text t.plant u.plant t.rows u.rows h.0 k.0 in
+    let version : t.version ≡ u.version = sym h.1 ∙ same_version text t.plant u.plant t.rows u.rows h.0 k.0 ∙ k.1 in
+    λ i. record { version = version i; plant = one.0 i; rows = one.1 i }
+
+-- ---- questions
+
+one_left : (xs ys : List ℤ) (s t : List ℕ) → All IsLiteral xs → All IsLiteral ys → spaced xs ++ 10 ∷ s ≡ spaced ys ++ 10 ∷ t → (xs ≡ ys) × (s ≡ t)
+one_left [] [] s t h k e = (refl, cc)
+one_left [] (y ∷ ys) s t h k e = absurd (cc)
+one_left (x ∷ xs) [] s t h k e = absurd (cc)
+one_left (x ∷ xs) (y ∷ ys) s t h k e =
+    let behind : (signed_decimal x ++ spaced xs) ++ 10 ∷ s ≡ (signed_decimal y ++ spaced ys) ++ 10 ∷ t = cc in
+    let one = one_number_at x y (spaced xs ++ 10 ∷ s) (spaced ys ++ 10 ∷ t) (All-head IsLiteral x xs h) (All-head IsLiteral y ys k) (begins xs s) (begins ys t)
+    (sym (append_assoc (signed_decimal x) (spaced xs) (10 ∷ s)) ∙ behind ∙ append_assoc (signed_decimal y) (spaced ys) (10 ∷ t)) in
+    let rest = one_left xs ys s t (All-tail IsLiteral x xs h) (All-tail IsLiteral y ys k) one.1 in
+    (ap (λ (z : ℤ). z ∷ xs) one.0 ∙ ap (λ (zs : List ℤ). y ∷ zs) rest.0, rest.1)
+
+behind_ask : (v w : List ℕ) → codes "ask" ++ v ≡ codes "ask" ++ w → v ≡ w
+behind_ask v w e = ap (drop 3) e
+
+one_question : (xs ys : List ℤ) (s t : List ℕ) → IsQuestion xs → IsQuestion ys → ask_line xs ++ s ≡ ask_line ys ++ t → (xs ≡ ys) × (s ≡ t)
+one_question xs ys s t h k e =
+    one_left xs ys s t h.each k.each (behind_ask (spaced xs ++ 10 ∷ s) (spaced ys ++ 10 ∷ t) (sym (line_opened xs s) ∙ e ∙ line_opened ys t))
+
+-- ---- commands
+
+-- Two commands at the front of the same bytes, and what stands behind them.
+pub record AreOne (c d : Command) (s t : List ℕ) : Type 0 where
+  pub command : c ≡ d
+  pub rest : s ≡ t
+
+pub one_command : (a b : List ℕ) (c d : Command) (s t : List ℕ) → Spell a c → Spell b d → a ++ s ≡ b ++ t → AreOne c d s t
+one_command a b (Publish t) (Publish u) r s h k e =
+    let size = one_announced (a ++ r) (length h.text) (length k.text) (h.text ++ r) (k.text ++ s) (announces t a r h) (subst (λ (x : List ℕ). Announce x (length k.text) (k.text ++ s)) (sym e) (announces u b s k)) in
+    let text = one_text h.text k.text r s size.0 size.1 in
+    let one = same_table k.text t u (subst (λ (x : List ℕ). IsTableIn t.version x t.plant t.rows) text.0 h.is_table) k.is_table in
+    record { command = ap Publish one; rest = text.1 }
+one_command a b (Publish t) (Ask ys) r s h k e =
+    absurd (not_asked (a ++ r) (length h.text) (h.text ++ r) (announces t a r h) ys s (e ∙ ap (λ (x : List ℕ). x ++ s) k.1))
+one_command a b (Ask xs) (Publish u) r s h k e =
+    absurd (not_asked (b ++ s) (length k.text) (k.text ++ s) (announces u b s k) xs r (sym e ∙ ap (λ (x : List ℕ). x ++ r) h.1))
+one_command a b (Ask xs) (Ask ys) r s h k e =
+    let one = one_question xs ys r s h.0 k.0 (sym (ap (λ (x : List ℕ). x ++ r) h.1) ∙ e ∙ ap (λ (x : List ℕ). x ++ s) k.1) in
+    record { command = ap Ask one.0; rest = one.1 }

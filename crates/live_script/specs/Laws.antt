@@ -1,0 +1,17 @@
+-- What holds of every live script.
+use Rattle.std.specs.Prelude.{◌≡◌, ℕ, List}
+use Rattle.live_script.specs.declared.command.Command.{Command}
+use Rattle.live_script.specs.declared.fault.ScriptFault.{ScriptFault}
+use Rattle.live_script.specs.Scripts.{IsScript}
+use Rattle.live_script.specs.Refusals.{IsScriptRefusedFor}
+
+-- a script has one list of commands
+abbrev pub OneScriptPerText : Type 0
+OneScriptPerText = (bytes : List ℕ) (commands others : List Command) → IsScript bytes commands → IsScript bytes others → commands ≡ others
+
+-- a script has one reason to be refused, and none where it is one
+abbrev pub OneScriptRefusal : Type 0
+OneScriptRefusal = (bytes : List ℕ) (f g : ScriptFault) → IsScriptRefusedFor bytes f → IsScriptRefusedFor bytes g → f ≡ g
+
+abbrev pub ScriptOrRefused : Type 0
+ScriptOrRefused = (bytes : List ℕ) (commands : List Command) (f : ScriptFault) → IsScript bytes commands → IsScriptRefusedFor bytes f → ⊥

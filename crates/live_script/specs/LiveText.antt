@@ -1,0 +1,39 @@
+-- What a live script is answered: a line for each question, by the table published last before it.
+use Rattle.std.specs.Prelude.{◌≡◌, ℕ, ℤ, List, [], ◌∷◌, ◌++◌, length, Option, Some, None, codes}
+use Rattle.std.specs.Fmt.{decimal}
+use Rattle.plant_record.specs.Spelling.{line}
+use Rattle.controller_table.specs.Tables.{TableModel}
+use Rattle.live_script.specs.declared.command.Command.{Command}
+use Rattle.live_script.specs.declared.command.Command.TheVariants.{Publish, Ask}
+use Rattle.live_script.specs.Questions.{IsAnswerOf}
+use Rattle.live_script.specs.Scripts.{IsScript}
+
+abbrev pub answer_word : Option ℕ → List ℕ
+answer_word None = codes "-"
+answer_word (Some u) = decimal u
+
+-- the number of the table that answers, and its answer
+abbrev pub answer_line : ℕ → Option ℕ → List ℕ
+answer_line number answer = line (decimal number ∷ answer_word answer ∷ [])
+
+-- The text is the line for a question behind these tables: the last of them answers, and they tell its number.
+pub record IsAnswerLine (tables : List TableModel) (numbers : List ℤ) (text : List ℕ) : Type 0 where
+  pub before : List TableModel
+  pub table : TableModel
+  pub last : tables ≡ before ++ table ∷ []
+  pub answer : Option ℕ
+  pub answers : IsAnswerOf table numbers answer
+  pub is : text ≡ answer_line (length tables) answer
+
+-- the text is the lines for the questions among commands behind these tables
+abbrev pub AreAnswers : List TableModel → List Command → List ℕ → Type 0
+AreAnswers tables [] text = text ≡ []
+AreAnswers tables (Publish table ∷ commands) text = AreAnswers (tables ++ table ∷ []) commands text
+AreAnswers tables (Ask numbers ∷ commands) text =
+    (first rest : List ℕ) × (text ≡ first ++ rest) × IsAnswerLine tables numbers first × AreAnswers tables commands rest
+
+-- The text answers the script.
+pub record IsLiveText (script : List ℕ) (text : List ℕ) : Type 0 where
+  pub commands : List Command
+  pub is_script : IsScript script commands
+  pub answers : AreAnswers [] commands text

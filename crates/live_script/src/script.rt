@@ -1,0 +1,139 @@
+ghost use Rattle.std.specs.Prelude.{◌≡◌, ◌≢◌, ℕ, ℤ, [], ◌^◌, ◌+◌, ◌<◌, ◌≤◌, List, ◌++◌, length, IfOk, IfErr, IfSome, OnErr};
+ghost use Rattle.std.specs.Option.{IfNone};
+ghost use Rattle.controller_table.specs.Tables.{IsTableIn};
+ghost use Rattle.controller_table.specs.Refusals.{line_count};
+ghost use Rattle.controller_table.specs.inside.Found.{Finds};
+ghost use Rattle.live_script.specs.Questions.{IsQuestion};
+ghost use Rattle.live_script.specs.declared.fault.ScriptFault.TheVariants.{Memory};
+ghost use Rattle.live_script.specs.Scripts.{publish_line, ask_line, IsShortScript};
+ghost use Rattle.live_script.specs.Refusals.{IsRefusedBehind, IsScriptRefusedFor};
+ghost use Rattle.live_script.specs.Reading.{IsTaken};
+
+use crate::command::Command;
+use crate::fault::ScriptFault;
+use crate::question::Question;
+use crate::question_line::question_at;
+use crate::table_line::announced_at;
+use controller_table::{Table, TableFault, read_table};
+use std::alloc::Global;
+use std::marker::Model;
+
+/// The most bytes of a script.
+pub const SCRIPT_LIMIT: usize = 67_108_864;
+
+/// The most tables of a script.
+const TABLES_LIMIT: u32 = 8;
+
+/// What of a script is still to be read. Seen as its bytes, the number of their first line, and how many tables are
+/// published before them.
+#[derive(Drop)]
+pub struct Script<'a> {
+    tables: u32,
+    line: u64,
+    rest: &'a [u8],
+}
+
+impl<'a> Model for Script<'a> {
+    ghost use Rattle.std.specs.Prelude.{◌^◌, ◌+◌, ◌<◌, ◌≤◌, length};
+    ghost use Rattle.live_script.specs.Reading.{Unread};
+
+    ghost Value = { Unread };
+
+    ghost view = { λ s. record { tables = s.tables; line = s.line; rest = s.rest.now } };
+
+    ghost invariant = { λ s. (s.tables ≤ 8) × (s.line + length s.rest.now < 2 ^ 32) };
+}
+
+impl<'a> Script<'a> {
+    /// The script that the bytes are, from its front.
+    pub fn new(bytes: &'a [u8]) -> Result<Script<'a>, ScriptFault>
+        ensures short { IfOk result (λ _. IsShortScript bytes.now) }
+        ensures whole { IfOk result (λ script. script ≡ record { tables = 0; line = 1; rest = bytes.now }) }
+        ensures refused { IfErr result (λ fault. IsScriptRefusedFor bytes.now fault) }
+    {
+        if bytes.len() > SCRIPT_LIMIT {
+            return Err(ScriptFault::ScriptTooLong);
+        }
+        Ok(Script {
+            tables: 0,
+            line: 1,
+            rest: bytes,
+        })
+    }
+
+    /// Takes the next command away. None at the script's end.
+    pub fn next_command(&mut self, alloc: Global) -> Result<Option<Command>, ScriptFault>
+        ensures taken { IfOk result (λ next. IfSome next (λ command. IsTaken self.old command self.new)) }
+        ensures ended { IfOk result (λ next. IfNone next ((self.old.rest ≡ []) × (0 < self.old.tables))) }
+        ensures refused { IfErr result (λ fault. fault ≢ Memory → IsRefusedBehind self.old.tables self.old.line self.old.rest fault) }
+        ensures kept { OnErr result (self.new ≡ self.old) }
+    {
+        if self.rest.is_empty() && self.tables > 0 {
+            return Ok(None);
+        }
+        if let Some((size, behind)) = announced_at(self.rest) {
+            let (table, text, rest) = table_at(alloc, self.tables, self.line, size, behind)?;
+            self.tables += 1;
+            self.line += 1 + line_count(text);
+            self.rest = rest;
+            return Ok(Some(Command::Publish(table)));
+        }
+        let Some((question, rest)) = question_behind(self.tables, self.rest) else {
+            return Err(ScriptFault::Malformed { line: self.line });
+        };
+        self.line += 1;
+        self.rest = rest;
+        Ok(Some(Command::Ask(question)))
+    }
+}
+
+/// The question whose line stands at the front behind so many tables, and what stands behind it.
+fn question_behind(tables: u32, bytes: &[u8]) -> Option<(Question, &[u8])>
+    ensures { Finds (λ r. (r.0, r.1.now)) (λ (y : List ℤ × List ℕ). (0 < tables) × IsQuestion y.0 × (bytes.now ≡ ask_line y.0 ++ y.1)) result }
+{
+    if tables == 0 {
+        return None;
+    }
+    question_at(bytes)
+}
+
+/// The table whose text of so many bytes stands behind the line that announces it, that text, and what stands behind it.
+fn table_at(
+    alloc: Global,
+    tables: u32,
+    line: u64,
+    size: usize,
+    bytes: &[u8],
+) -> Result<(Table, &[u8], &[u8]), ScriptFault>
+    requires tables { tables ≤ 8 }
+    requires line { line < 2 ^ 32 }
+    requires size { (1 ≤ size) × (size ≤ 67108864) }
+    ensures few { IfOk result (λ _. tables < 8) }
+    ensures table { IfOk result (λ r. IsTableIn r.0.version r.1.now r.0.plant r.0.rows) }
+    ensures cut { IfOk result (λ r. (length r.1.now ≡ size) × (bytes.now ≡ r.1.now ++ r.2.now)) }
+    ensures refused { IfErr result (λ fault. fault ≢ Memory → IsRefusedBehind tables line (publish_line size ++ bytes.now) fault) }
+{
+    if tables >= TABLES_LIMIT {
+        return Err(ScriptFault::TooManyTables);
+    }
+    if bytes.len() < size {
+        return Err(ScriptFault::Malformed { line });
+    }
+    let (text, rest) = bytes.split_at(size);
+    match read_table(alloc, text) {
+        Ok(table) => Ok((table, text, rest)),
+        Err(TableFault::Malformed { line: within }) => Err(ScriptFault::Malformed {
+            line: line + u64::from(within),
+        }),
+        Err(TableFault::Limit { what }) => Err(ScriptFault::Limit { what }),
+        Err(TableFault::Memory) => Err(ScriptFault::Memory),
+    }
+}
+
+/// How many lines end in the bytes.
+fn line_count(bytes: &[u8]) -> u64
+    ensures count { result ≡ line_count bytes.now }
+    ensures bound { result ≤ length bytes.now }
+{
+    bytes.iter().filter(|b| **b == b'\n').count() as u64
+}

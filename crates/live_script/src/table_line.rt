@@ -1,0 +1,29 @@
+ghost use Rattle.std.specs.Prelude.{◌≡◌, ◌≤◌, ℕ, List, pos, MatchOption};
+ghost use Rattle.controller_table.specs.inside.Found.{Finds};
+ghost use Rattle.live_script.specs.Refusals.{Announce};
+
+use crate::cuts::behind_front;
+use crate::numbers::number_at;
+use controller_table::TABLE_LIMIT;
+
+/// The size of the table's text that is announced at the front, and what stands behind that line.
+pub(crate) fn announced_at(bytes: &[u8]) -> Option<(usize, &[u8])>
+    ensures { Finds (λ r. (r.0, r.1.now)) (λ (y : ℕ × List ℕ). Announce bytes.now y.0 y.1) result }
+{
+    let number = behind_front(bytes, b"publish ")?;
+    let (number, rest) = number_at(number)?;
+    let behind = behind_front(rest, b"\n")?;
+    let size = size_of(number)?;
+    Some((size, behind))
+}
+
+/// The size of a table's text that may be announced.
+fn size_of(number: i64) -> Option<usize>
+    ensures { MatchOption result ((n : ℕ) → 1 ≤ n → n ≤ 67108864 → number ≡ pos n → ⊥) (λ n. (1 ≤ n) × (n ≤ 67108864) × (number ≡ pos n)) }
+{
+    if 1 <= number && number <= TABLE_LIMIT as i64 {
+        Some(number as usize)
+    } else {
+        None
+    }
+}
