@@ -1,0 +1,2 @@
+pub mod PatrolText
+pub mod Patrols

@@ -1,0 +1,2 @@
+pub mod StayText
+pub mod Settles

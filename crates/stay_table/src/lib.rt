@@ -1,0 +1,7 @@
+//! Texts of reach and stay. A stand-in: the contracts stand, the bodies refuse.
+#![tactic(auto)]
+
+mod writer;
+
+pub use game_core::NoMemory;
+pub use writer::StayWriter;
