@@ -288,6 +288,15 @@ impl Board {
         shared.load::<Looking>(&mut root.seat, place) as u32
     }
 
+    /// Loads a counter's word, so that a cut that follows finds it near. It takes no hand and no root: nothing is done on the
+    /// board, and nothing is told.
+    pub fn touch(&self, counter: u32)
+        requires { counter < length self.now.starts }
+    {
+        let shared = &self.table.shared;
+        let _found = shared.peek(counter as usize);
+    }
+
     /// What is left of a counter, once all hands are back.
     pub fn left(&self, root: &mut Root, counter: u32) -> u64
         requires root { root.old.board ≡ self.now }
