@@ -16,6 +16,6 @@ pub record Sweeps (before after : List (List ℕ)) (items : ℕ) : Type 0 where
   pub grown : after ≡ followed before parts
   pub once : IsPermutation (range_with_len 0 items) (concat parts)
 
--- the member's room is empty
+-- the member has no room: it takes part in no sweep
 abbrev pub IsIdle : {H : Type 0} → Member H → Type 0
 IsIdle m = m.room ≡ None

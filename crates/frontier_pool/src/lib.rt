@@ -17,7 +17,7 @@ mod serial;
 mod toil;
 
 pub use gate::{Gate, Open};
-pub use member::Member;
+pub use member::{Member, Room};
 pub use pool::{hands_for, sweep};
 pub use serial::one_by_one;
 pub use toil::Toil;

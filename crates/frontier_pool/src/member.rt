@@ -6,9 +6,9 @@ use crate::rule::View;
 use atomic_table::Seat;
 use crossbeam_deque::Worker;
 
-// What a member has during a sweep: the seat by which it claims, and its own deque.
+/// What a member has during a sweep: the seat by which it claims, and its own deque. Sweeps alone make one.
 #[derive(Drop)]
-pub(crate) struct Room {
+pub struct Room {
     pub(crate) seat: Seat<(), View>,
     pub(crate) own: Worker<u32>,
 }
@@ -17,8 +17,8 @@ pub(crate) struct Room {
 #[derive(Drop)]
 pub struct Member<H> {
     pub hand: H,
-    // Empty between sweeps.
-    pub(crate) room: Option<Room>,
+    /// None between sweeps.
+    pub room: Option<Room>,
 }
 
 impl<H> Member<H> {
