@@ -23,6 +23,8 @@ pub record IsRound (g : Game) (keeps : Account → Type 0) (list : List ℕ) (mo
 -- what a rule says stands before the first round, with the list that it chooses, and leads from each round to the next, with the list that the round logged
 pub record LeadsOn (g : Game) (fits : BoardModel → Type 0) (first : ℕ → Bool) (keeps : ℕ → Account → Type 0) (stands : ℕ → List ℕ → List Account → Type 0) : Type 0 where
   pub graph : IsGraph g
+  -- a board of the game has a counter for each pair
+  pub counters : (board : BoardModel) → fits board → pairs_of g ≤ length board.starts
   -- who has done nothing keeps the rule, and who notes an item
   pub fresh : (d : ℕ) → keeps d blank
   pub noted : (d : ℕ) (a : Account) (item : ℕ) → keeps d a → keeps d (with_note a item)

@@ -1,5 +1,5 @@
 // The work of one round: each cell of the list cuts the pairs that lead to it.
-ghost use Rattle.std.specs.Prelude.{◌≡◌, ◌<◌};
+ghost use Rattle.std.specs.Prelude.{◌≡◌, ◌<◌, length, All};
 ghost use Rattle.board_crew.specs.inside.Workers.{IsTurn, IsAtWork};
 
 use crate::rule::Rule;
@@ -7,6 +7,9 @@ use crate::worker::Worker;
 use cell_counters::Board;
 use frontier_pool::Toil;
 use game_core::laws::edges_from_both_ends;
+
+// A longer row pays for its loads by its length.
+const SHORT_ROW: usize = 16;
 
 // A round, as its workers see it. An item is a place of the list.
 #[derive(Drop)]
@@ -36,9 +39,33 @@ impl<L: Rule> Toil for Turn<'_, L> {
         self.rule.leads_on();
         edges_from_both_ends();
         let sources = self.rule.sources(self.list[item as usize]);
+        if let Some(later) = self.list.get(item as usize + 2) {
+            touch_first(self.board, self.rule.sources(*later));
+        }
+        touch_row(self.board, sources);
         for pair in sources {
             self.rule.cut(self.board, worker, self.round, *pair);
         }
         worker.note(self.board, item);
+    }
+}
+
+// Loads what the cuts of a short row change: a cut lets no later load begin, and each would wait for memory alone.
+fn touch_row(board: &Board, pairs: &[u32])
+    requires { All (λ pair. pair < length board.now.starts) pairs.now }
+{
+    if pairs.len() <= SHORT_ROW {
+        for pair in pairs {
+            board.touch(*pair);
+        }
+    }
+}
+
+// Loads the first pair of a row, and its counter.
+fn touch_first(board: &Board, pairs: &[u32])
+    requires { All (λ pair. pair < length board.now.starts) pairs.now }
+{
+    if let Some(pair) = pairs.first() {
+        board.touch(*pair);
     }
 }

@@ -1,11 +1,27 @@
-use Rattle.std.proofs.Common.{◌≡◌, ℕ, ◌<◌, take, get_or, slice_index, sym, subst, arith}
+use Rattle.std.proofs.Common.{◌≡◌, ℕ, ◌<◌, ◌≤◌, List, All, length, take, get_or, slice_index, sym, subst, arith}
 use Rattle.std.proofs.lemmas.List.{take_more, take_all}
 use Rattle.std.proofs.lemmas.List.Elements.{Contains-get_or}
 use Rattle.game_core.specs.Counts.{times}
-use Rattle.game_core.specs.Game.{pairs_of}
+use Rattle.game_core.specs.Game.{Game, AreSources, pairs_of}
 use Rattle.board_crew.specs.inside.Workers.{cuts_for}
 use Rattle.board_crew.proofs.Working.{IsUnderWay, sets_out, goes_on, comes_back}
 use Rattle.board_crew.proofs.turn.TurnToil.one.Goals as goal
+
+-- the pairs that lead to a cell have counters
+have_counters : (game : Game) (cell : ℕ) (starts pairs : List ℕ) → pairs_of game ≤ length starts → AreSources game cell pairs → All (λ pair. pair < length starts) pairs
+have_counters game cell starts pairs many h k d lt =
+    let pair = ((h.exactly (get_or pairs k d)).0 (Contains-get_or pairs k d lt)).0 in
+    omega arith
+
+pub touch_first-requires : goal.touch_first-requires
+touch_first-requires g c =
+    let turn = c.args.self.now in
+    have_counters (g.L.Rule.game turn.rule.now) _ turn.board.now.starts c.sources.result.now (c.leads_on.ensures.counters turn.board.now c.requires.sound.of_game) c.sources.ensures
+
+pub touch_row-requires : goal.touch_row-requires
+touch_row-requires g c =
+    let turn = c.args.self.now in
+    have_counters (g.L.Rule.game turn.rule.now) _ turn.board.now.starts c.sources-sources.result.now (c.leads_on.ensures.counters turn.board.now c.requires.sound.of_game) c.sources-sources.ensures
 
 pub cut-requires-clause-pair : goal.cut-requires-clause-pair
 cut-requires-clause-pair g c =
