@@ -22,12 +22,15 @@ module _ (g : Game) (a : IsGraph g) (board : BoardModel) (of_game : IsBoardOf g 
       let n = a.game.one_mark_each in
       ap (λ l. slice_index l c) of_game.words ∙ get_or-map word_at g.marks c Plain 0 (omega arith)
 
+  pub counters_of_board : length board.starts ≡ pairs_of g
+  counters_of_board = ap length of_game.counters ∙ (length-map g.successors length ∙ a.game.one_list_each)
+
   pub words_of_board : length board.least ≡ g.cells
   words_of_board = ap length of_game.words ∙ (length-map g.marks word_at ∙ a.game.one_mark_each)
 
   pub lawful_for : (accounts : List Account) → IsLawful accounts board.starts board.least → IsLawfulFor g accounts
   lawful_for accounts h =
-      let starts : length board.starts ≡ pairs_of g = ap length of_game.counters ∙ (length-map g.successors length ∙ a.game.one_list_each) in
+      let starts = counters_of_board in
       let least = words_of_board in
       record {
         pairs = λ pair lt. subst (λ n. (now : ℕ) × IsLawfulCounter accounts pair n now) (start_of_pair pair lt) (h.counters pair (omega arith));

@@ -12,7 +12,7 @@ use Rattle.board_crew.specs.Rules.{IsRound, LeadsOn}
 use Rattle.reach_avoid.specs.Boards.{IsBoardOf}
 use Rattle.reach_avoid.specs.inside.Rounds.{Laws, rows_told, KeepsRule, IsLawfulFor, is_goal}
 use Rattle.reach_avoid.specs.inside.Standing.{StandsAt}
-use Rattle.reach_avoid.proofs.OnBoards.{lawful_for}
+use Rattle.reach_avoid.proofs.OnBoards.{counters_of_board, lawful_for}
 use Rattle.reach_avoid.proofs.Added.{logs_added}
 use Rattle.reach_avoid.proofs.LeadsOn.{next_rows, round_leads_on}
 use Rattle.reach_avoid.proofs.Begins.{begins, full_after, few_logs}
@@ -31,6 +31,7 @@ module _ (g : Game) (a : IsGraph g) (laws : Laws) where
   pub leads_on : LeadsOn g (IsBoardOf g) (λ c. is_goal (mark_of g c)) (KeepsRule g) (StandsAt g)
   leads_on = record {
     graph = a;
+    counters = λ board of_game. let many = counters_of_board g a board of_game in omega arith;
     fresh = λ rank. record { no_other_cut = All-nil (λ (c : Cut). c.counter < pairs_of g); offers = refl; logs = refl };
     noted = λ rank account item h. record { no_other_cut = h.no_other_cut; offers = h.offers; logs = h.logs };
     begins = record { reached = begins g a laws; full = inl refl };

@@ -12,7 +12,9 @@ word_at Goal = 1
 word_at Obstacle = 0
 word_at Plain = NONE
 
--- a counter for each pair, which begins as the number of its successors, and a least word for each cell
+-- a counter for each pair, which begins as the number of its successors, a least word for each cell, and a place in the
+-- log for each cell
 pub record IsBoardOf (g : Game) (board : BoardModel) : Type 0 where
   pub counters : board.starts ≡ map length g.successors
   pub words : board.least ≡ map word_at g.marks
+  pub log : board.places ≡ g.cells

@@ -1,5 +1,5 @@
 -- What stands before each round, and in a scratch that wasn't used yet.
-use Rattle.std.specs.Prelude.{◌≡◌, ℕ, ◌≤◌, List, length, replicate, Option, None}
+use Rattle.std.specs.Prelude.{◌≡◌, ℕ, ◌≤◌, List, replicate, Option, None}
 use Rattle.cell_counters.specs.declared.account.Account.{Account}
 use Rattle.cell_counters.specs.Tokens.{BoardModel, new_root}
 use Rattle.game_core.specs.declared.game.Row.{Row}
@@ -15,7 +15,6 @@ pub record StandsAt (g : Game) (rank : ℕ) (list : List ℕ) (accounts : List A
 
 -- what a scratch keeps
 pub record IsScratch (board : BoardModel) (count : ℕ) (r : Rounds) (answer : List (Option Row)) : Type 0 where
-  pub places : board.places ≡ length board.least
   pub unused : IsUnused (new_root board) board.places count r
   pub blank : answer ≡ replicate board.places None
   pub some_worker : 1 ≤ count

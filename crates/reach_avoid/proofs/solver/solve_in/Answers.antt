@@ -2,10 +2,9 @@ use Rattle.std.proofs.Common.{◌≡◌, Option, None, length, refl, sym, ◌∙
 use Rattle.std.proofs.lemmas.List.{length-replicate}
 use Rattle.cell_counters.specs.Tokens.{BoardModel, new_root}
 use Rattle.game_core.specs.declared.game.Row.{Row}
-use Rattle.game_core.specs.Game.{Game, IsGraph}
+use Rattle.game_core.specs.Game.{Game}
 use Rattle.board_crew.specs.Rounds.{IsUnused}
 use Rattle.reach_avoid.specs.Boards.{IsBoardOf}
-use Rattle.reach_avoid.proofs.OnBoards.{words_of_board}
 use Rattle.reach_avoid.proofs.Ends.{low_ranks, solved}
 use Rattle.reach_avoid.proofs.solver.solve_in.Goals as goal
 
@@ -13,20 +12,16 @@ use Rattle.reach_avoid.proofs.solver.solve_in.Goals as goal
 of_inside : (game : Game) (inside seen : BoardModel) → inside ≡ seen → IsBoardOf game seen → IsBoardOf game inside
 of_inside game inside seen same h = subst (IsBoardOf game) (sym same) h
 
--- its log has a place for each cell
-places_inside : (game : Game) → IsGraph game → (inside seen : BoardModel) → inside.places ≡ length inside.least → inside ≡ seen → IsBoardOf game seen → inside.places ≡ game.cells
-places_inside game a inside seen places same h = places ∙ words_of_board game a inside (of_inside game inside seen same h)
-
 pub play_all-requires-clause-board : goal.play_all-requires-clause-board
 play_all-requires-clause-board g c κs within = of_inside (g.G.Graph.game c.args.g.now) c.scratch.inside.board c.args.scratch c.scratch.view_is c.requires
 
 pub play_all-requires-clause-places : goal.play_all-requires-clause-places
-play_all-requires-clause-places g c κs within = places_inside (g.G.Graph.game c.args.g.now) c.known_graph.ensures c.scratch.inside.board c.args.scratch c.scratch.invariant.places c.scratch.view_is c.requires
+play_all-requires-clause-places g c κs within = (of_inside (g.G.Graph.game c.args.g.now) c.scratch.inside.board c.args.scratch c.scratch.view_is c.requires).log
 
 pub play_all-requires-clause-unused : goal.play_all-requires-clause-unused
 play_all-requires-clause-unused g c κs within =
     subst (λ n. IsUnused (new_root c.scratch.inside.board) n c.scratch.inside.workers c.scratch.inside.rounds)
-    (places_inside (g.G.Graph.game c.args.g.now) c.known_graph.ensures c.scratch.inside.board c.args.scratch c.scratch.invariant.places c.scratch.view_is c.requires)
+    (of_inside (g.G.Graph.game c.args.g.now) c.scratch.inside.board c.args.scratch c.scratch.view_is c.requires).log
     c.scratch.invariant.unused
 
 pub read_rows-requires-clause-board : goal.read_rows-requires-clause-board
@@ -40,7 +35,7 @@ read_rows-requires-clause-answer g c =
     let no_row : Option Row = None in
     ap length c.scratch.invariant.blank
     ∙ (length-replicate c.scratch.inside.board.places no_row
-    ∙ places_inside (g.G.Graph.game c.args.g.now) c.known_graph.ensures c.scratch.inside.board c.args.scratch c.scratch.invariant.places c.scratch.view_is c.requires)
+    ∙ (of_inside (g.G.Graph.game c.args.g.now) c.scratch.inside.board c.args.scratch c.scratch.view_is c.requires).log)
 
 pub read_rows-requires-clause-ranks : goal.read_rows-requires-clause-ranks
 read_rows-requires-clause-ranks g c =

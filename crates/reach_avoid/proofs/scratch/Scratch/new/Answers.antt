@@ -48,20 +48,15 @@ returns g c =
     record {
       counters = c.in_ok-board.ensures.starts ∙ ap₂ (λ (n : ℕ) (l : List ℕ). take n l) counters c.in_ok-words.ensures ∙ take-append_seam of_pairs of_cells;
       words = c.in_ok-board.ensures.least ∙ ap₂ (λ (n : ℕ) (l : List ℕ). drop n l) counters c.in_ok-words.ensures ∙ drop-append_seam of_pairs of_cells;
+      log = c.in_ok-board.ensures.places ∙ c.cells-cells.ensures;
     }
 
 pub invariant_of-result : goal.invariant_of-result
 invariant_of-result g c =
-    let game = g.G.Graph.game c.args.g.now in
-    let a = g.met.G.Graph.lawful c.args.g.now in
     let board = c.in_ok-board.board in
     let rounds = c.in_ok-rounds.rounds in
-    let is_of = returns g c in
-    let words : length board.least ≡ game.cells = ap length is_of.words ∙ length-map game.marks word_at ∙ a.game.one_mark_each in
-    let cells = c.cells-cells.ensures in
     let places : c.cells-cells.result ≡ board.places = sym c.in_ok-board.ensures.places in
     record {
-      places = omega arith;
       unused = subst (λ root. IsUnused root board.places c.args.workers rounds) c.in_ok-board.ensures.root (subst (λ n. IsUnused c.in_ok-board.root n c.args.workers rounds) places c.in_ok-rounds.ensures);
       blank = c.in_ok-answer.ensures ∙ ap (λ (n : ℕ). replicate n None) places;
       some_worker = c.requires.0;
