@@ -1,5 +1,5 @@
 -- Each round of the rule leads on to the next.
-use Rattle.std.proofs.Common.{inl, ◌≡◌, ℕ, suc, ◌<◌, ◌≤◌, List, ◌++◌, length, refl}
+use Rattle.std.proofs.Common.{inl, ◌≡◌, ℕ, suc, ◌<◌, ◌≤◌, List, ◌++◌, length, arith, refl}
 use Rattle.cell_counters.specs.declared.account.Account.{Account}
 use Rattle.cell_counters.specs.Accounts.{all_logs}
 use Rattle.cell_counters.specs.Tokens.{BoardModel, IsLawful}
@@ -11,7 +11,7 @@ use Rattle.board_crew.specs.Rules.{IsRound, LeadsOn}
 use Rattle.safety_game.specs.Boards.{IsBoardOf}
 use Rattle.safety_game.specs.inside.Rounds.{Laws, KeepsRule}
 use Rattle.safety_game.specs.inside.Standing.{StandsAt}
-use Rattle.safety_game.proofs.OnBoards.{lawful_for}
+use Rattle.safety_game.proofs.OnBoards.{counters_of_board, lawful_for}
 use Rattle.safety_game.proofs.InStep.{nothing_in_step}
 use Rattle.safety_game.proofs.LeadsOn.{round_leads_on}
 use Rattle.safety_game.proofs.Begins.{begins, full_after, few_logs}
@@ -27,6 +27,7 @@ module _ (g : Game) (a : IsGraph g) (laws : Laws) where
   pub leads_on : LeadsOn g (IsBoardOf g) (has_fallen g 0) (λ d. KeepsRule g) (StandsAt g)
   leads_on = record {
     graph = a;
+    counters = λ board of_game. let many = counters_of_board g a board of_game in omega arith;
     fresh = λ d. record { in_step = nothing_in_step g laws.counts; no_offer = refl };
     noted = λ d account item h. record { in_step = h.in_step; no_offer = h.no_offer };
     begins = record { falling = begins g a laws; full = inl refl };
