@@ -24,3 +24,4 @@ mod RowCells
 mod Parts
 mod RowBoxes
 mod CellRows
+pub mod BoxCorners

@@ -104,4 +104,4 @@ module _ (p : Description) (limits : IsWithinLimits p) (boxes : List (Option Cel
         }
 
         pub in_memory : (fans : List ℕ) → AreFansOf (axes_of p) boxes fans → HoldsBoxes (axes_of p) (vectors_of p.inputs) marks boxes fans
-        in_memory fans counted = record { graph = is_graph; ordered = ordered; counted = counted }
+        in_memory fans counted = record { grid = axes; graph = is_graph; ordered = ordered; counted = counted }

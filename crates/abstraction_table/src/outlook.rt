@@ -1,3 +1,6 @@
+ghost use Rattle.std.specs.Prelude.{◌≡◌, ◌<◌, length, slice_index};
+ghost use Rattle.grid_quantiser.specs.Boxes.{IsCellBox, cells_between};
+ghost use Rattle.abstraction_table.specs.inside.Fans.{HasFan};
 ghost use Rattle.abstraction_table.specs.inside.Memory.{HoldsBoxes};
 ghost use Rattle.abstraction_table.specs.inside.Props.{box_props};
 
@@ -31,6 +34,23 @@ impl Outlook {
     {
         self.boxes[pair as usize].get()
     }
+
+    // The cell at a place of a box. A box begins and ends with its corners.
+    #[inline]
+    fn cell_of(&self, b: CellBox, at: u32) -> u32
+        requires ordered { IsCellBox self.now.grid b.first b.last }
+        requires counted { HasFan self.now.grid self.now.fans.counts.items b }
+        requires at { at < length (cells_between self.now.grid b.first b.last) }
+        ensures { result ≡ slice_index (cells_between self.now.grid b.first b.last) at }
+    {
+        if at == 0 {
+            return b.first;
+        }
+        if at + 1 == self.fans.of(Some(b)) {
+            return b.last;
+        }
+        self.grid.nth_of(b, u64::from(at))
+    }
 }
 
 impl Forward for Outlook {
@@ -56,7 +76,7 @@ impl Forward for Outlook {
 
     fn successor(&self, pair: u32, at: u32) -> u32 {
         match self.boxes(pair) {
-            Some(b) => self.grid.nth_of(b, u64::from(at)),
+            Some(b) => self.cell_of(b, at),
             None => unreachable!(),
         }
     }

@@ -1,4 +1,4 @@
-use Rattle.std.proofs.Common.{◌<◌, ◌≤◌, min, max, arith}
+use Rattle.std.proofs.Common.{◌<◌, ◌≤◌, min, arith}
 use Rattle.std.proofs.Math.Nat.{le-max_left, max-le, min-le_right}
 use Rattle.abstraction_table.proofs.SourceBands.{few_bands}
 use Rattle.abstraction_table.proofs.sources.part_of.Goals as goal

@@ -1,0 +1,19 @@
+use Rattle.std.proofs.Common.{◌≡◌, ◌+◌, length, get_or, sym, ap, ◌∙◌}
+use Rattle.grid_quantiser.specs.Boxes.{cells_between}
+use Rattle.abstraction_table.proofs.BoxCorners.{first_corner, last_corner}
+use Rattle.abstraction_table.proofs.outlook.Outlook.cell_of.Goals as goal
+
+pub returns-then-at-eq0 : goal.returns-then-at-eq0
+returns-then-at-eq0 c =
+    let grid = c.args.self.now.grid in
+    let b = c.args.b in
+    sym (first_corner grid b.first b.last c.args.self.now.in_memory.grid c.requires.ordered) ∙ ap (λ i. get_or (cells_between grid b.first b.last) i 0) (sym c.if-at-eq0.true)
+
+pub returns-then-at-of : goal.returns-then-at-of
+returns-then-at-of c =
+    let grid = c.args.self.now.grid in
+    let b = c.args.b in
+    let fan = c.requires.counted.cells in
+    let told = c.of.ensures in
+    let last : c.args.at + 1 ≡ length (cells_between grid b.first b.last) = c.if-at-of.true ∙ (told ∙ fan) in
+    sym (last_corner grid b.first b.last c.args.self.now.in_memory.grid c.requires.ordered c.args.at last)
