@@ -4,3 +4,4 @@ pub mod Padding
 pub mod Lines
 pub mod Ends
 pub mod Steps
+pub mod Starts

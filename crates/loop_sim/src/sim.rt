@@ -1,5 +1,6 @@
-ghost use Rattle.std.specs.Prelude.{◌≡◌, ◌≤◌, ◌∷◌, [], IfSome, IfNone, SomeIff};
+ghost use Rattle.std.specs.Prelude.{◌≡◌, ◌≤◌, ◌∷◌, [], length, take, IfSome, IfNone, SomeIff};
 ghost use Rattle.game_core.specs.declared.game.Row.{Row};
+ghost use Rattle.grid_quantiser.specs.Cells.{point_of};
 ghost use Rattle.controller_table.specs.Choice.{HasRowAt};
 ghost use Rattle.successor_box.specs.Deviations.{HasNoOverflow, deviations_of};
 ghost use Rattle.loop_sim.specs.Trace.{trace_lines};
@@ -32,20 +33,20 @@ impl<'a> Model for Sim<'a> {
 }
 
 impl<'a> Sim<'a> {
-    /// The trace from a state, whose noises begin at the seed, with at most as many samples behind the
-    /// first: None where the table has no row at the state.
+    /// The trace from a state's point, with 0 in the places past the states. Its noises begin at the seed, and at most as
+    /// many samples are behind the first: None where the table has no row at the state.
     pub fn new(t: &'a Table, s: &'a Slopes, x: &Point, seed: u64, steps: u32) -> Option<Sim<'a>>
         requires slopes { s.now ≡ deviations_of t.now.plant }
         requires fits { HasNoOverflow t.now.plant }
         requires steps { steps ≤ 1000000 }
-        ensures { SomeIff result ((row : Row) × HasRowAt t.now.plant t.now.rows x.now row) (trace_lines t.now.plant t.now.rows seed steps 0 x.now) }
+        ensures { SomeIff result ((row : Row) × HasRowAt t.now.plant t.now.rows x.now row) (trace_lines t.now.plant t.now.rows seed steps 0 (point_of (take (length t.now.plant.states) x.now))) }
     {
         row_at(t, x)?;
         Some(Sim {
             table: t,
             stage: Stage::Due(Sample {
                 time: 0,
-                x: *x,
+                x: start_of(t, x),
                 left: steps,
                 state: seed,
                 seed,
@@ -67,4 +68,15 @@ impl<'a> Sim<'a> {
         self.stage = stage;
         Some(line)
     }
+}
+
+// A state as a point, with 0 in the places past the states.
+fn start_of(t: &Table, x: &Point) -> Point
+    ensures { result ≡ point_of (take (length t.now.plant.states) x.now) }
+{
+    let mut at = [0; 6];
+    for i in 0..t.plant().grid().states() as usize {
+        at[i] = x[i];
+    }
+    at
 }
