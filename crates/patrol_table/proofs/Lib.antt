@@ -1,0 +1,2 @@
+pub mod TurnTexts
+pub mod OneText
