@@ -25,7 +25,7 @@ in_pieces c = elim c.if-is_empty.branch [
       let copied = w.if-count-gt0.false in
       let more = w.if-self-turns.false in
       let now = begun c.self.inside.rows.now c.self.inside.turn w.count_runs.result c.args.self.now c.self.inside.line (left_of c.self.inside.runs) w.write_turn.new.line w.new.result c.self.view_is (omega (arith, empty, line)) (w.copy_runs-count.ensures.some (omega (arith, copied)))
-          (omega (arith, more, w.turns.ensures, c.self.invariant)) w.write_turn.ensures.text (w.count_runs.ensures.count ∙ ap (λ (r : List (Option Row)). length (runs_from Second 0 r)) w.turn-rows.ensures) (w.new.ensures ∙ ap (λ (r : List (Option Row)). concat (run_lines Both r)) w.turn-rows.ensures) in
+      (omega (arith, more, w.turns.ensures, c.self.invariant)) w.write_turn.ensures.text (w.count_runs.ensures.count ∙ ap (λ (r : List (Option Row)). length (runs_from Second 0 r)) w.turn-rows.ensures) (w.new.ensures ∙ ap (λ (r : List (Option Row)). concat (run_lines Both r)) w.turn-rows.ensures) in
       subst (λ s. c.args.self.now ≡ s.line ++ (left_of s.runs ++ concat (turn_lines s.turn (drop s.turn s.rows.now)))) (sym w.self-inside-is) now)
   | else-is_empty w ↦ subst (λ s. c.args.self.now ≡ s.line ++ (left_of s.runs ++ concat (turn_lines s.turn (drop s.turn s.rows.now)))) (sym w.self-inside-is) (sym c.self.view_is)
 ]
