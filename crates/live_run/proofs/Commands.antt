@@ -1,5 +1,5 @@
 -- A script is answered command by command.
-use Rattle.std.proofs.Common.{◌≡◌, ◌⊎◌, ℕ, suc, ◌+◌, ◌<◌, ◌≤◌, List, [], ◌∷◌, ◌++◌, length, refl, ap, sym, ◌∙◌, subst, arith, append_assoc, append-nil, length-append, Option, Some, None}
+use Rattle.std.proofs.Common.{inl, inr, ◌≡◌, ◌≢◌, ℕ, suc, ◌+◌, ◌<◌, List, [], ◌∷◌, ◌++◌, length, refl, ap, sym, ◌∙◌, subst, arith, append_assoc, append-nil, length-append, Option, Some, None}
 use Rattle.std.specs.Prelude.{ℤ, IfSome}
 use Rattle.std.proofs.lemmas.List.Sums.{sum_by-append}
 use Rattle.std.specs.Prelude.{cond, ◌==◌}
@@ -15,7 +15,8 @@ use Rattle.live_script.specs.LiveText.{IsAnswerLine, AreAnswers, IsLiveText, ans
 use Rattle.live_script.specs.Reading.{Unread, IsTaken}
 use Rattle.live_script.specs.Refusals.{IsRefusedBehind, IsScriptRefusedFor}
 use Rattle.live_run.specs.inside.Sessions.{Standing}
-use Rattle.live_run.specs.inside.Answering.{IsLast, IsAnsweredSoFar}
+use Rattle.live_run.specs.inside.Answering.{IsLast, IsAnsweredSoFar, IsExecuted, IsRefusal}
+use Rattle.live_run.specs.Causes.{of_script}
 
 -- ---- one command more
 
@@ -72,7 +73,7 @@ nothing_yet script unread standing u s = rw (u, s) (record { commands = []; fron
 counted : (front first : List ℕ) → line_count (front ++ first) ≡ line_count front + line_count first
 counted front first = sum_by-append (λ (b : ℕ). cond (b == 10) 1 0) front first
 
-pub table_published : (script : List ℕ) (before after : Unread) (old new : Standing) (text : List ℕ) (t : TableModel) → IsAnsweredSoFar script before old text → IsTaken before (Publish t) after → new ≡ record { count = old.count + 1; table = Some t } → IsAnsweredSoFar script after new text
+table_published : (script : List ℕ) (before after : Unread) (old new : Standing) (text : List ℕ) (t : TableModel) → IsAnsweredSoFar script before old text → IsTaken before (Publish t) after → new ≡ record { count = old.count + 1; table = Some t } → IsAnsweredSoFar script after new text
 table_published script before after old new text t so_far taken now = rw now (record {
   commands = so_far.commands ++ Publish t ∷ [];
   front = so_far.front ++ taken.first;
@@ -90,7 +91,7 @@ some_last : (tables : List TableModel) (last : Option TableModel) → IsLast tab
 some_last tables None none some = absurd (omega (arith, ap length none, some))
 some_last tables (Some t) h some = (t, refl, h)
 
-pub question_answered : (script : List ℕ) (before after : Unread) (standing new : Standing) (text : List ℕ) (numbers : List ℤ) (answer : Option ℕ) → IsAnsweredSoFar script before standing text → IsTaken before (Ask numbers) after
+question_answered : (script : List ℕ) (before after : Unread) (standing new : Standing) (text : List ℕ) (numbers : List ℤ) (answer : Option ℕ) → IsAnsweredSoFar script before standing text → IsTaken before (Ask numbers) after
     → IfSome standing.table (λ t. IsAnswerOf t numbers answer) → new ≡ standing → IsAnsweredSoFar script after new (text ++ answer_line standing.count answer)
 question_answered script before after standing new text numbers answer so_far taken answers now = rw now (record {
   commands = so_far.commands ++ Ask numbers ∷ [];
@@ -114,6 +115,10 @@ question_answered script before after standing new text numbers answer so_far ta
     last : (t : TableModel) × (standing.table ≡ Some t) × ((before : List TableModel) × (published so_far.commands ≡ before ++ t ∷ []))
     last = some_last (published so_far.commands) standing.table so_far.last (omega (arith, taken.fits, so_far.tables))
 
+pub executed : (script : List ℕ) (before after : Unread) (old new : Standing) (text longer : List ℕ) (c : Command) → IsAnsweredSoFar script before old text → IsTaken before c after → IsExecuted c old new text longer → IsAnsweredSoFar script after new longer
+executed script before after old new text longer (Publish t) so_far taken done = rw done.1 (table_published script before after old new text t so_far taken done.0)
+executed script before after old new text longer (Ask numbers) so_far taken done = rw done.1.2 (question_answered script before after old new text numbers done.1.0 so_far taken done.1.1 done.0)
+
 pub all_answered : (script : List ℕ) (unread : Unread) (standing : Standing) (text : List ℕ) → IsAnsweredSoFar script unread standing text → IsShortScript script → unread.rest ≡ [] → 0 < unread.tables → IsLiveText script text
 all_answered script unread standing text so_far short ended some = record {
   commands = so_far.commands;
@@ -126,7 +131,7 @@ all_answered script unread standing text so_far short ended some = record {
 }
 
 -- what is refused behind these commands is the script's refusal
-pub refused_behind : (script : List ℕ) (unread : Unread) (standing : Standing) (text : List ℕ) (fault : ScriptFault) → IsAnsweredSoFar script unread standing text → IsShortScript script → IsRefusedBehind unread.tables unread.line unread.rest fault → IsScriptRefusedFor script fault
+refused_behind : (script : List ℕ) (unread : Unread) (standing : Standing) (text : List ℕ) (fault : ScriptFault) → IsAnsweredSoFar script unread standing text → IsShortScript script → IsRefusedBehind unread.tables unread.line unread.rest fault → IsScriptRefusedFor script fault
 refused_behind script unread standing text fault so_far short refused = by_fault fault (rw (← so_far.tables, ← so_far.line) refused)
   where
     by_fault : (f : ScriptFault) → IsRefusedBehind (length (published so_far.commands)) (suc (line_count so_far.front)) unread.rest f → IsScriptRefusedFor script f
@@ -135,3 +140,16 @@ refused_behind script unread standing text fault so_far short refused = by_fault
     by_fault ScriptTooLong h = absurd h
     by_fault TooManyTables h = (short, record { front = so_far.front; rest = unread.rest; are = so_far.are; commands = so_far.commands; spell = so_far.spell; refused = h })
     by_fault Memory h = absurd h
+
+-- a fault of the reader is the script's refusal, or want of memory
+pub stopped : (script : List ℕ) (unread : Unread) (standing : Standing) (text : List ℕ) (fault : ScriptFault) → IsAnsweredSoFar script unread standing text → IsShortScript script → (fault ≢ Memory → IsRefusedBehind unread.tables unread.line unread.rest fault)
+    → IsRefusal script (of_script fault)
+stopped script unread standing text (Malformed line) so_far short why = inr (Malformed line, refl, refused_behind script unread standing text (Malformed line) so_far short (why (λ e. cc)))
+stopped script unread standing text (Limit what) so_far short why = inr (Limit what, refl, refused_behind script unread standing text (Limit what) so_far short (why (λ e. cc)))
+stopped script unread standing text ScriptTooLong so_far short why = inr (ScriptTooLong, refl, refused_behind script unread standing text ScriptTooLong so_far short (why (λ e. cc)))
+stopped script unread standing text TooManyTables so_far short why = inr (TooManyTables, refl, refused_behind script unread standing text TooManyTables so_far short (why (λ e. cc)))
+stopped script unread standing text Memory so_far short why = inl refl
+
+-- a command has its place behind the tables that stand
+pub fits_standing : (script : List ℕ) (before after : Unread) (standing : Standing) (text : List ℕ) (c : Command) → IsAnsweredSoFar script before standing text → IsTaken before c after → FitsBehind standing.count c
+fits_standing script before after standing text c so_far taken = subst (λ (n : ℕ). FitsBehind n c) (so_far.tables ∙ sym so_far.count) taken.fits

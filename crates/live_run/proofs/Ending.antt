@@ -1,11 +1,10 @@
 -- How a run of a live script ends.
-use Rattle.std.proofs.Common.{inl, inr, ◌≡◌, ◌⊎◌, ℕ, ◌<◌, ◌≤◌, List, [], length, take, drop, Option, Some, None, refl, ap, sym, ◌∙◌, subst, arith, length-take}
+use Rattle.std.proofs.Common.{inl, inr, ◌≡◌, ◌⊎◌, ℕ, ◌<◌, List, length, take, drop, Option, Some, None, refl, ap, sym, subst, arith, length-take}
 use Rattle.std.specs.Prelude.{IfSome, IfOk, IfErr, Result, Ok, Err}
 use Rattle.std.proofs.lemmas.Bool.{cases_lt}
 use Rattle.std.proofs.lemmas.List.{take_all}
 use Rattle.run_devices.specs.Devices.{Reading, Writing, GainsWhole, GainsPart, TakesAtMost}
 use Rattle.run_devices.specs.Transfers.{ReadUpTo}
-use Rattle.run_devices.specs.declared.transfer.ReadFault.{ReadFault}
 use Rattle.live_script.specs.declared.fault.ScriptFault.{ScriptFault}
 use Rattle.live_script.specs.declared.fault.ScriptFault.TheVariants as scripts
 use Rattle.live_script.specs.Scripts.{IsShortScript}
@@ -14,7 +13,7 @@ use Rattle.live_script.specs.Refusals.{IsScriptRefusedFor}
 use Rattle.live_script.proofs.Laws.{one_script_refusal, script_or_refused}
 use Rattle.live_run.specs.declared.outcome.LiveOutcome.{LiveOutcome}
 use Rattle.live_run.specs.declared.outcome.LiveOutcome.TheVariants.{Done, Usage, Malformed, Limit, ScriptTooLong, TooManyTables, ReadFault as ReadFailed, WriteFault, NoMemory}
-use Rattle.live_run.specs.Causes.{of_script, of_read}
+use Rattle.live_run.specs.Causes.{of_script}
 use Rattle.live_run.specs.Statuses.{status_of}
 use Rattle.live_run.specs.LiveRuns.{most_read, IsAnswered, IsCutOff, IsLiveEnd, IsCompleteAnswer}
 use Rattle.live_run.specs.inside.Answering.{IsRefusal}

@@ -1,14 +1,13 @@
 -- Readers go on with a table more, and answer by the last one.
-use Rattle.std.proofs.Common.{◌≡◌, ℕ, ◌+◌, ◌^◌, ◌<◌, ◌≤◌, List, [], ◌∷◌, ◌++◌, length, refl, ap, sym, ◌∙◌, subst, arith, length-append, get_or, get_or-set_other, set, Option, Some, None, All, ◌≢◌, inl, inr}
+use Rattle.std.proofs.Common.{◌≡◌, ℕ, ◌+◌, ◌^◌, ◌<◌, ◌≤◌, List, [], ◌∷◌, ◌++◌, length, refl, ap, sym, ◌∙◌, subst, arith, length-append, get_or, get_or-set_other, set, Option, Some, None, ◌≢◌, inl, inr}
 use Rattle.std.specs.Prelude.{ℤ, IfSome}
-use Rattle.std.specs.Option.{IfNone}
 use Rattle.std.proofs.lemmas.Bool.{lt-ltb, cases_lt}
 use Rattle.std.proofs.lemmas.Grind.{get_or-set_at}
 use Rattle.std.proofs.Math.ListN.{length-set}
 use mathlib.Core.List.{IsPrefix}
 use Rattle.grid_quantiser.specs.Cells.{point_of}
 use Rattle.controller_table.specs.Tables.{TableModel}
-use Rattle.live_table.specs.Publishes.{Published, Listener, with_table, longer, EndsWith, IsChoiceOf, LastChooses, Answers}
+use Rattle.live_table.specs.Publishes.{Published, Listener, longer, EndsWith, IsChoiceOf, LastChooses, Answers}
 use Rattle.live_table.proofs.Prefixes.{prefix_whole}
 use Rattle.live_script.specs.Questions.{IsAnswerOf}
 use Rattle.live_run.specs.inside.Sessions.{InStep, Fits, GoOnWith}

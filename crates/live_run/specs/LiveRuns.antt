@@ -1,20 +1,21 @@
 -- What a run of a live script gives.
-use Rattle.std.specs.Prelude.{◌≡◌, ◌≢◌, ◌⊎◌, ◌↔◌, ℕ, ◌+◌, ◌≤◌, List, [], ◌∷◌, drop, Option, Some, IfSome, IsTrue, codes}
+use Rattle.std.specs.Prelude.{◌≡◌, ◌≢◌, ◌⊎◌, ◌↔◌, ℕ, ◌+◌, List, [], ◌∷◌, drop, Some, IfSome, IsTrue, codes}
 use Rattle.std.specs.Fmt.{decimal}
 use Rattle.run_devices.specs.Devices.{next_count, Reading, Writing, GainsWhole, GainsPart, TakesAtMost}
+use Rattle.run_words.specs.Form.{AreWorkers}
 use Rattle.live_script.specs.declared.command.Command.{Command}
 use Rattle.live_script.specs.declared.fault.ScriptFault.{ScriptFault}
 use Rattle.live_script.specs.Scripts.{IsScript}
 use Rattle.live_script.specs.LiveText.{IsLiveText}
 use Rattle.live_script.specs.Refusals.{IsScriptRefusedFor}
 use Rattle.live_run.specs.declared.outcome.LiveOutcome.{LiveOutcome}
-use Rattle.live_run.specs.declared.outcome.LiveOutcome.TheVariants.{Done, Usage, Malformed, Limit, ScriptTooLong, TooManyTables, ReadFault, WriteFault, NoMemory}
+use Rattle.live_run.specs.declared.outcome.LiveOutcome.TheVariants.{Done, Usage, ReadFault, WriteFault, NoMemory}
 use Rattle.live_run.specs.Causes.{of_script}
 use Rattle.live_run.specs.Statuses.{status_of, line_of, Reports}
 
 -- the words are `live` and how many readers answer
 abbrev pub IsLiveForm : List (List ℕ) → ℕ → Type 0
-IsLiveForm words readers = (words ≡ codes "live" ∷ decimal readers ∷ []) × (1 ≤ readers) × (readers ≤ 64)
+IsLiveForm words readers = (words ≡ codes "live" ∷ decimal readers ∷ []) × AreWorkers readers
 
 -- one byte more than a script may have
 abbrev pub most_read : ℕ

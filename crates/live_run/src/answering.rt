@@ -1,12 +1,15 @@
-ghost use Rattle.std.specs.Prelude.{◌≡◌, ◌++◌, ◌≤◌, None, OnOk, IfOk, IfErr};
+ghost use Rattle.std.specs.Prelude.{◌≡◌, ◌++◌, None, OnOk, IfOk, IfErr};
+ghost use Rattle.run_words.specs.Form.{AreWorkers};
 ghost use Rattle.live_script.specs.LiveText.{IsLiveText, answer_line};
-ghost use Rattle.live_run.specs.inside.Answering.{IsAnsweredSoFar, IsRefusal};
+ghost use Rattle.live_script.specs.Scripts.{FitsBehind};
+ghost use Rattle.live_run.specs.inside.Answering.{IsExecuted, IsRefusal};
 
 use crate::outcome::LiveOutcome;
 use crate::session::Session;
+use controller_table::NoMemory;
 use itoa::Buffer;
 use live_script::{Command, Script};
-use std::alloc::{AllocError, Global};
+use std::alloc::Global;
 use std::sync::Wait;
 
 /// The answers to a script, by so many readers.
@@ -16,7 +19,7 @@ pub(crate) fn answer<R: Wait>(
     readers: u32,
     script: &[u8],
 ) -> Result<Vec<u8>, LiveOutcome>
-    requires { (1 ≤ readers) × (readers ≤ 64) }
+    requires { AreWorkers readers }
     ensures answers { IfOk result (λ text. IsLiveText script.now text.items) }
     ensures refused { IfErr result (IsRefusal script.now) }
 {
@@ -40,19 +43,33 @@ fn answer_all<R: Wait>(
     let mut unread = Script::new(script)?;
     let mut text = Vec::new(alloc);
     while let Some(command) = unread.next_command(alloc)? {
-        match command {
-            Command::Publish(table) => session.publish(rt, alloc, table)?,
-            Command::Ask(question) => {
-                let answer = session.answer(&question);
-                push_line(&mut text, session.count(), answer)?;
-            }
-        }
+        execute(rt, alloc, session, &mut text, command)?;
     }
     Ok(text)
 }
 
+/// Does what a command asks for.
+fn execute<R: Wait>(
+    rt: &R,
+    alloc: Global,
+    session: &mut Session,
+    text: &mut Vec<u8>,
+    command: Command,
+) -> Result<(), NoMemory>
+    requires { FitsBehind session.old.count command }
+    ensures { OnOk result (IsExecuted command session.old session.new text.old.items text.new.items) }
+{
+    match command {
+        Command::Publish(table) => session.publish(rt, alloc, table),
+        Command::Ask(question) => {
+            let answer = session.answer(&question);
+            push_line(text, session.count(), answer)
+        }
+    }
+}
+
 /// The line of an answer by the table of this number.
-fn push_line(text: &mut Vec<u8>, number: u32, answer: Option<u32>) -> Result<(), AllocError>
+fn push_line(text: &mut Vec<u8>, number: u32, answer: Option<u32>) -> Result<(), NoMemory>
     ensures { OnOk result (text.new.items ≡ text.old.items ++ answer_line number answer) }
 {
     let mut buffer = Buffer::new();
@@ -62,5 +79,6 @@ fn push_line(text: &mut Vec<u8>, number: u32, answer: Option<u32>) -> Result<(),
         Some(input) => text.extend_from_slice(buffer.format(input).as_bytes())?,
         None => text.extend_from_slice(b"-")?,
     }
-    text.extend_from_slice(b"\n")
+    text.extend_from_slice(b"\n")?;
+    Ok(())
 }

@@ -76,9 +76,8 @@ impl LiveOutcome {
             LiveOutcome::Done => 0,
             LiveOutcome::Usage => 2,
             LiveOutcome::Malformed { .. } => 3,
-            LiveOutcome::Limit { .. }
-            | LiveOutcome::ScriptTooLong
-            | LiveOutcome::TooManyTables => 5,
+            LiveOutcome::Limit { .. } | LiveOutcome::ScriptTooLong | LiveOutcome::TooManyTables =>
+                5,
             LiveOutcome::ReadFault => 6,
             LiveOutcome::WriteFault => 7,
             LiveOutcome::NoMemory => 8,

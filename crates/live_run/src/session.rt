@@ -70,8 +70,16 @@ impl Session {
         ensures { OnOk result (self.new ≡ record { count = self.old.count + 1; table = Some table }) }
     {
         let copy = table.copy(alloc)?;
-        let first = if self.count == 0 { Some(self.workers) } else { None };
-        replace_with(&mut self.readers, (rt, alloc, copy, first), bring_into_force)?;
+        let first = if self.count == 0 {
+            Some(self.workers)
+        } else {
+            None
+        };
+        replace_with(
+            &mut self.readers,
+            (rt, alloc, copy, first),
+            bring_into_force,
+        )?;
         self.table = Some(table);
         self.count += 1;
         Ok(())

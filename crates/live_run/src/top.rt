@@ -1,5 +1,6 @@
-ghost use Rattle.std.specs.Prelude.{◌≡◌, ◌≢◌, ℕ, ◌≤◌, List, map, IfSome, IfOk, IfErr};
+ghost use Rattle.std.specs.Prelude.{◌≡◌, ◌≢◌, ℕ, List, map, IfSome, IfOk, IfErr};
 ghost use Rattle.run_devices.specs.Devices.{Rose, reading, writing};
+ghost use Rattle.run_words.specs.Form.{AreWorkers};
 ghost use Rattle.live_run.specs.LiveRuns.{IsLiveForm, IsLiveEnd, Gives, IsLiveRun, IsAnswered, IsCompleteAnswer};
 ghost use Rattle.live_run.specs.inside.Working.{IsWorkedOut, IsTurnedDown};
 
@@ -18,7 +19,7 @@ fn answers<R: Wait, S: Source>(
     readers: u32,
     source: &mut S,
 ) -> Result<Vec<u8>, LiveOutcome>
-    requires { (1 ≤ readers) × (readers ≤ 64) }
+    requires { AreWorkers readers }
     ensures answer { IfOk result (λ text. IsWorkedOut text.items (reading S.left S.faults S.is_sound source.old source.new)) }
     ensures refusal { IfErr result (λ outcome. IsTurnedDown outcome (reading S.left S.faults S.is_sound source.old source.new)) }
 {
@@ -34,7 +35,7 @@ fn carry_out<R: Wait, S: Source, O: Sink>(
     source: &mut S,
     out: &mut O,
 ) -> LiveOutcome
-    requires { (1 ≤ readers) × (readers ≤ 64) }
+    requires { AreWorkers readers }
     ensures { IsLiveEnd result (reading S.left S.faults S.is_sound source.old source.new) (writing O.got O.faults O.room out.old out.new) }
 {
     let text = match answers(rt, alloc, readers, source) {

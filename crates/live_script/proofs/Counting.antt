@@ -10,7 +10,7 @@ use Rattle.plant_record.specs.Numbers.{IsLiteral}
 use Rattle.plant_reading.specs.Separators.{is_separator, is_word}
 use Rattle.plant_reading.proofs.lemmas.NumberBytes.{number_word}
 use Rattle.controller_table.specs.Refusals.{line_count}
-use Rattle.live_script.specs.Questions.{IsQuestion}
+use Rattle.run_words.specs.Form.{AreStateNumbers}
 use Rattle.live_script.specs.Scripts.{publish_line, ask_line}
 use Rattle.live_script.specs.inside.Words.{spaced}
 use Rattle.live_script.proofs.QuestionLines.{line_opened}
@@ -39,7 +39,7 @@ none_in_numbers (z ∷ numbers) each =
     both_counted (signed_decimal z) (spaced numbers)
     ∙ omega (arith, none_in_word (signed_decimal z) (number_word z (All-head IsLiteral z numbers each)), none_in_numbers numbers (All-tail IsLiteral z numbers each))
 
-pub one_in_question : (numbers : List ℤ) → IsQuestion numbers → line_count (ask_line numbers) ≡ 1
+pub one_in_question : (numbers : List ℤ) → AreStateNumbers numbers → line_count (ask_line numbers) ≡ 1
 one_in_question numbers question =
     ap line_count (sym (append-nil (ask_line numbers)) ∙ line_opened numbers [])
     ∙ both_counted (codes "ask") (spaced numbers ++ 10 ∷ [])

@@ -20,7 +20,7 @@ use Rattle.controller_table.proofs.OneTable as tables
 use Rattle.controller_table.proofs.ShortTables as short
 use Rattle.live_script.specs.declared.command.Command.{Command}
 use Rattle.live_script.specs.declared.command.Command.TheVariants.{Publish, Ask}
-use Rattle.live_script.specs.Questions.{IsQuestion}
+use Rattle.run_words.specs.Form.{AreStateNumbers}
 use Rattle.live_script.specs.Scripts.{publish_line, ask_line, IsPublishOf, Spell}
 use Rattle.live_script.specs.Refusals.{Announce}
 use Rattle.live_script.specs.inside.Words.{spaced}
@@ -83,7 +83,7 @@ one_left (x ∷ xs) (y ∷ ys) s t h k e =
 behind_ask : (v w : List ℕ) → codes "ask" ++ v ≡ codes "ask" ++ w → v ≡ w
 behind_ask v w e = ap (drop 3) e
 
-one_question : (xs ys : List ℤ) (s t : List ℕ) → IsQuestion xs → IsQuestion ys → ask_line xs ++ s ≡ ask_line ys ++ t → (xs ≡ ys) × (s ≡ t)
+one_question : (xs ys : List ℤ) (s t : List ℕ) → AreStateNumbers xs → AreStateNumbers ys → ask_line xs ++ s ≡ ask_line ys ++ t → (xs ≡ ys) × (s ≡ t)
 one_question xs ys s t h k e =
     one_left xs ys s t h.each k.each (behind_ask (spaced xs ++ 10 ∷ s) (spaced ys ++ 10 ∷ t) (sym (line_opened xs s) ∙ e ∙ line_opened ys t))
 

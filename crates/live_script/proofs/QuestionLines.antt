@@ -10,7 +10,7 @@ use Rattle.std.proofs.lemmas.List.{length_push}
 use Rattle.std.proofs.lemmas.List.Elements.{All-head, All-tail, All-push, All-nil}
 use Rattle.plant_record.specs.Numbers.{IsLiteral}
 use Rattle.plant_reading.proofs.lemmas.NumberWords.{whole}
-use Rattle.live_script.specs.Questions.{IsQuestion}
+use Rattle.run_words.specs.Form.{AreStateNumbers}
 use Rattle.live_script.specs.Scripts.{ask_line}
 use Rattle.live_script.specs.inside.Words.{BeginsWithSeparator, IsNumberAt, spaced, IsReadSoFar}
 use Rattle.live_script.proofs.WordsCut.{one_number_at}
@@ -88,14 +88,14 @@ first_left rest (z ∷ others) behind some each text =
     }
 
 -- where no number stands behind a space, no question's line is this
-pub no_question_left : (bytes : List ℕ) (numbers : List ℤ) (rest : List ℕ) → IsReadSoFar bytes numbers rest → ((y : ℤ × List ℕ) → (word : List ℕ) × (rest ≡ 32 ∷ word) × IsNumberAt word y → ⊥) → (all : List ℤ) (behind : List ℕ) → IsQuestion all → bytes ≡ ask_line all ++ behind → ⊥
+pub no_question_left : (bytes : List ℕ) (numbers : List ℤ) (rest : List ℕ) → IsReadSoFar bytes numbers rest → ((y : ℤ × List ℕ) → (word : List ℕ) × (rest ≡ 32 ∷ word) × IsNumberAt word y → ⊥) → (all : List ℤ) (behind : List ℕ) → AreStateNumbers all → bytes ≡ ask_line all ++ behind → ⊥
 no_question_left bytes numbers rest so_far none all behind question line =
     let on = so_far.goes_on all behind question line in
     let first = first_left rest on.left behind on.some on.each on.text in
     none (first.number, spaced first.others ++ 10 ∷ behind) first.at
 
 -- a seventh number is in no question
-pub no_seventh : (bytes : List ℕ) (numbers : List ℤ) (rest : List ℕ) → IsReadSoFar bytes numbers rest → 6 ≤ length numbers → (all : List ℤ) (behind : List ℕ) → IsQuestion all → bytes ≡ ask_line all ++ behind → ⊥
+pub no_seventh : (bytes : List ℕ) (numbers : List ℤ) (rest : List ℕ) → IsReadSoFar bytes numbers rest → 6 ≤ length numbers → (all : List ℤ) (behind : List ℕ) → AreStateNumbers all → bytes ≡ ask_line all ++ behind → ⊥
 no_seventh bytes numbers rest so_far full all behind question line =
     let on = so_far.goes_on all behind question line in
     omega (arith, full, question.most, on.some, ap length on.are, length-append numbers on.left)
@@ -108,7 +108,7 @@ text_more bytes numbers rest word after z text at is =
     ∙ ap (λ (x : List ℕ). codes "ask" ++ x) (sym (append_assoc (spaced numbers) (32 ∷ signed_decimal z) after) ∙ ap (λ (x : List ℕ). x ++ after) (sym (spaced_more numbers z)))
 
 -- a line feed ends the question
-pub ended : (bytes : List ℕ) (numbers : List ℤ) (rest after behind : List ℕ) (z : ℤ) → IsReadSoFar bytes numbers rest → length numbers < 6 → (word : List ℕ) × (rest ≡ 32 ∷ word) × IsNumberAt word (z, after) → after ≡ 10 ∷ behind → IsQuestion (numbers ++ z ∷ []) × (bytes ≡ ask_line (numbers ++ z ∷ []) ++ behind)
+pub ended : (bytes : List ℕ) (numbers : List ℤ) (rest after behind : List ℕ) (z : ℤ) → IsReadSoFar bytes numbers rest → length numbers < 6 → (word : List ℕ) × (rest ≡ 32 ∷ word) × IsNumberAt word (z, after) → after ≡ 10 ∷ behind → AreStateNumbers (numbers ++ z ∷ []) × (bytes ≡ ask_line (numbers ++ z ∷ []) ++ behind)
 ended bytes numbers rest after behind z so_far few found feed = (
   record {
     some = omega (arith, length_push numbers z);

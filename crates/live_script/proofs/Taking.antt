@@ -4,7 +4,7 @@ use Rattle.std.specs.Prelude.{ℤ}
 use Rattle.controller_table.specs.Tables.{TableModel, IsTableIn}
 use Rattle.controller_table.specs.Refusals.{line_count}
 use Rattle.live_script.specs.declared.command.Command.TheVariants.{Publish, Ask}
-use Rattle.live_script.specs.Questions.{IsQuestion}
+use Rattle.run_words.specs.Form.{AreStateNumbers}
 use Rattle.live_script.specs.Scripts.{publish_line, ask_line}
 use Rattle.live_script.specs.Refusals.{Announce}
 use Rattle.live_script.specs.Reading.{IsTaken}
@@ -27,7 +27,7 @@ table_taken tables line size bytes behind text rest t count told few is size_is 
     at : bytes ≡ (publish_line (length text) ++ text) ++ rest
     at = told.are ∙ ap (λ (n : ℕ). publish_line n ++ behind) (sym size_is) ∙ ap (λ (x : List ℕ). publish_line (length text) ++ x) cut ∙ sym (append_assoc (publish_line (length text)) text rest)
 
-pub question_taken : (tables line : ℕ) (bytes rest : List ℕ) (numbers : List ℤ) → 0 < tables → IsQuestion numbers → bytes ≡ ask_line numbers ++ rest
+pub question_taken : (tables line : ℕ) (bytes rest : List ℕ) (numbers : List ℤ) → 0 < tables → AreStateNumbers numbers → bytes ≡ ask_line numbers ++ rest
     → IsTaken (record { tables = tables; line = line; rest = bytes }) (Ask numbers) (record { tables = tables; line = line + 1; rest = rest })
 question_taken tables line bytes rest numbers some question at = record {
   first = ask_line numbers;

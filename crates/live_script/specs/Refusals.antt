@@ -6,7 +6,7 @@ use Rattle.controller_table.specs.Refusals.{IsTableRefusedFor, line_count}
 use Rattle.live_script.specs.declared.command.Command.{Command}
 use Rattle.live_script.specs.declared.fault.ScriptFault.{ScriptFault}
 use Rattle.live_script.specs.declared.fault.ScriptFault.TheVariants.{Malformed, Limit, ScriptTooLong, TooManyTables, Memory}
-use Rattle.live_script.specs.Questions.{IsQuestion}
+use Rattle.run_words.specs.Form.{AreStateNumbers}
 use Rattle.live_script.specs.Scripts.{publish_line, ask_line, published, SpellBehind, IsShortScript}
 
 -- The bytes begin with the line before a table's text of 1 to 67,108,864 bytes.
@@ -19,7 +19,7 @@ pub record Announce (bytes : List ℕ) (size : ℕ) (behind : List ℕ) : Type 0
 pub record IsMalformedBehind (tables : ℕ) (bytes : List ℕ) : Type 0 where
   pub unfinished : bytes ≡ [] → tables ≡ 0
   pub no_table : (size : ℕ) (behind : List ℕ) → Announce bytes size behind → (tables < 8 → size ≤ length behind) → ⊥
-  pub no_question : (numbers : List ℤ) (behind : List ℕ) → 0 < tables → IsQuestion numbers → bytes ≡ ask_line numbers ++ behind → ⊥
+  pub no_question : (numbers : List ℤ) (behind : List ℕ) → 0 < tables → AreStateNumbers numbers → bytes ≡ ask_line numbers ++ behind → ⊥
 
 -- Behind so many tables the text of a table is refused.
 pub record IsTableRefusedBehind (tables : ℕ) (bytes : List ℕ) (fault : TableFault) : Type 0 where

@@ -5,7 +5,7 @@ use Rattle.plant_record.specs.Spelling.{line}
 use Rattle.controller_table.specs.Tables.{TableModel, IsTableIn}
 use Rattle.live_script.specs.declared.command.Command.{Command}
 use Rattle.live_script.specs.declared.command.Command.TheVariants.{Publish, Ask}
-use Rattle.live_script.specs.Questions.{IsQuestion}
+use Rattle.run_words.specs.Form.{AreStateNumbers}
 
 -- the line before a table's text of so many bytes
 abbrev pub publish_line : ℕ → List ℕ
@@ -23,7 +23,7 @@ pub record IsPublishOf (table : TableModel) (bytes : List ℕ) : Type 0 where
 -- the bytes spell the command
 abbrev pub Spell : List ℕ → Command → Type 0
 Spell bytes (Publish table) = IsPublishOf table bytes
-Spell bytes (Ask numbers) = IsQuestion numbers × (bytes ≡ ask_line numbers)
+Spell bytes (Ask numbers) = AreStateNumbers numbers × (bytes ≡ ask_line numbers)
 
 -- a command has its place behind so many tables: eight are published at most, and a question has a table to answer it
 abbrev pub FitsBehind : ℕ → Command → Type 0

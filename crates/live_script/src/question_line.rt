@@ -1,6 +1,6 @@
 ghost use Rattle.std.specs.Prelude.{◌≡◌, ℤ, ℕ, List, ◌∷◌, ◌++◌};
 ghost use Rattle.controller_table.specs.inside.Found.{Finds};
-ghost use Rattle.live_script.specs.Questions.{IsQuestion};
+ghost use Rattle.run_words.specs.Form.{AreStateNumbers};
 ghost use Rattle.live_script.specs.Scripts.{ask_line};
 ghost use Rattle.live_script.specs.inside.Words.{IsNumberAt};
 
@@ -10,7 +10,7 @@ use crate::question::Question;
 
 /// The question whose line stands at the front, and what stands behind it.
 pub(crate) fn question_at(bytes: &[u8]) -> Option<(Question, &[u8])>
-    ensures { Finds (λ r. (r.0, r.1.now)) (λ (y : List ℤ × List ℕ). IsQuestion y.0 × (bytes.now ≡ ask_line y.0 ++ y.1)) result }
+    ensures { Finds (λ r. (r.0, r.1.now)) (λ (y : List ℤ × List ℕ). AreStateNumbers y.0 × (bytes.now ≡ ask_line y.0 ++ y.1)) result }
 {
     let mut rest = behind_front(bytes, b"ask")?;
     let mut question = Question::empty();

@@ -3,7 +3,7 @@ ghost use Rattle.std.specs.Option.{IfNone};
 ghost use Rattle.controller_table.specs.Tables.{IsTableIn};
 ghost use Rattle.controller_table.specs.Refusals.{line_count};
 ghost use Rattle.controller_table.specs.inside.Found.{Finds};
-ghost use Rattle.live_script.specs.Questions.{IsQuestion};
+ghost use Rattle.run_words.specs.Form.{AreStateNumbers};
 ghost use Rattle.live_script.specs.declared.fault.ScriptFault.TheVariants.{Memory};
 ghost use Rattle.live_script.specs.Scripts.{publish_line, ask_line, IsShortScript};
 ghost use Rattle.live_script.specs.Refusals.{IsRefusedBehind, IsScriptRefusedFor};
@@ -89,7 +89,7 @@ impl<'a> Script<'a> {
 
 /// The question whose line stands at the front behind so many tables, and what stands behind it.
 fn question_behind(tables: u32, bytes: &[u8]) -> Option<(Question, &[u8])>
-    ensures { Finds (λ r. (r.0, r.1.now)) (λ (y : List ℤ × List ℕ). (0 < tables) × IsQuestion y.0 × (bytes.now ≡ ask_line y.0 ++ y.1)) result }
+    ensures { Finds (λ r. (r.0, r.1.now)) (λ (y : List ℤ × List ℕ). (0 < tables) × AreStateNumbers y.0 × (bytes.now ≡ ask_line y.0 ++ y.1)) result }
 {
     if tables == 0 {
         return None;

@@ -1,11 +1,13 @@
 -- How far a script is answered. No public clause names this.
-use Rattle.std.specs.Prelude.{◌≡◌, ◌⊎◌, ℕ, suc, List, [], ◌∷◌, ◌++◌, length, Option, Some, None}
+use Rattle.std.specs.Prelude.{◌≡◌, ◌⊎◌, ℕ, suc, ◌+◌, List, [], ◌∷◌, ◌++◌, length, Option, Some, None, IfSome}
 use Rattle.controller_table.specs.Tables.{TableModel}
 use Rattle.controller_table.specs.Refusals.{line_count}
 use Rattle.live_script.specs.declared.command.Command.{Command}
+use Rattle.live_script.specs.declared.command.Command.TheVariants.{Publish, Ask}
 use Rattle.live_script.specs.declared.fault.ScriptFault.{ScriptFault}
+use Rattle.live_script.specs.Questions.{IsAnswerOf}
 use Rattle.live_script.specs.Scripts.{published, SpellBehind}
-use Rattle.live_script.specs.LiveText.{AreAnswers}
+use Rattle.live_script.specs.LiveText.{AreAnswers, answer_line}
 use Rattle.live_script.specs.Reading.{Unread}
 use Rattle.live_script.specs.Refusals.{IsScriptRefusedFor}
 use Rattle.live_run.specs.declared.outcome.LiveOutcome.{LiveOutcome}
@@ -29,6 +31,12 @@ pub record IsAnsweredSoFar (script : List ℕ) (unread : Unread) (standing : Sta
   pub answers : AreAnswers [] commands text
   pub count : standing.count ≡ length (published commands)
   pub last : IsLast (published commands) standing.table
+
+-- a command was carried out: its table is the last one, or its line stands behind the text
+abbrev pub IsExecuted : Command → Standing → Standing → List ℕ → List ℕ → Type 0
+IsExecuted (Publish t) before after text new = (after ≡ record { count = before.count + 1; table = Some t }) × (new ≡ text)
+IsExecuted (Ask numbers) before after text new =
+    (after ≡ before) × ((answer : Option ℕ) × IfSome before.table (λ t. IsAnswerOf t numbers answer) × (new ≡ text ++ answer_line before.count answer))
 
 -- there was no memory, or the script is refused so
 abbrev pub IsRefusal : List ℕ → LiveOutcome → Type 0

@@ -1,5 +1,5 @@
 -- What is published so far, and what its readers know of it. No public clause names this.
-use Rattle.std.specs.Prelude.{◌≡◌, ℕ, List, [], ◌∷◌, length, Option, Some, None, All}
+use Rattle.std.specs.Prelude.{◌≡◌, ℕ, [], ◌∷◌, length, Option, Some, None}
 use Rattle.controller_table.specs.Tables.{TableModel}
 use Rattle.live_table.specs.Publishes.{Published, Listener, with_table, EndsWith}
 

@@ -4,7 +4,7 @@ use Rattle.std.specs.List.{All, flat_map}
 use Rattle.std.specs.Fmt.{signed_decimal}
 use Rattle.plant_record.specs.Numbers.{IsLiteral}
 use Rattle.plant_reading.specs.Separators.{is_separator}
-use Rattle.live_script.specs.Questions.{IsQuestion}
+use Rattle.run_words.specs.Form.{AreStateNumbers}
 use Rattle.live_script.specs.Scripts.{ask_line}
 
 -- The first byte is a space or a line feed.
@@ -35,4 +35,4 @@ pub record IsReadSoFar (bytes : List ℕ) (numbers : List ℤ) (rest : List ℕ)
   pub most : length numbers ≤ 6
   pub each : All IsLiteral numbers
   pub text : bytes ≡ codes "ask" ++ (spaced numbers ++ rest)
-  pub goes_on : (all : List ℤ) (behind : List ℕ) → IsQuestion all → bytes ≡ ask_line all ++ behind → GoesOnWith numbers rest all behind
+  pub goes_on : (all : List ℤ) (behind : List ℕ) → AreStateNumbers all → bytes ≡ ask_line all ++ behind → GoesOnWith numbers rest all behind

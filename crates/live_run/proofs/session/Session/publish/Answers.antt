@@ -1,4 +1,4 @@
-use Rattle.std.proofs.Common.{◌≡◌, ℕ, sym, subst, Option, Some, None}
+use Rattle.std.proofs.Common.{◌≡◌, ℕ, sym, subst, Option}
 use Rattle.std.specs.Prelude.{IfSome}
 use Rattle.controller_table.specs.Tables.{TableModel}
 use Rattle.live_table.specs.Publishes.{Published}
@@ -10,7 +10,7 @@ use Rattle.live_run.proofs.session.Session.publish.Goals.{then-self-eq0, else-se
 pub invariant_of-self : goal.invariant_of-self
 invariant_of-self g c =
     let s = c.self.inside in
-    (c.self.invariant.0, c.self.invariant.1, subst (λ (o : Option Published). Fits o s.count s.table) (sym c.in_err-replace_with.ensures.refused) tt)
+    (c.self.invariant.0, c.self.invariant.1, subst (λ (o : Option Published). Fits o s.count s.table) (sym c.in_err-replace_with.ensures.1) tt)
 
 pub invariant_of-self-2 : goal.invariant_of-self-2
 invariant_of-self-2 g c =
@@ -19,5 +19,5 @@ invariant_of-self-2 g c =
       | then-self-eq0 w ↦ subst (λ (o : Option ℕ). IfSome o (λ _. s.count ≡ 0)) (sym w.first-is) w.if-self-eq0.true
       | else-self-eq0 w ↦ subst (λ (o : Option ℕ). IfSome o (λ _. s.count ≡ 0)) (sym w.first-is) tt
     ] in
-    let on : GoOnWith s.readers c.if-self-eq0.first c.args.table c.replace_with.new.dest = subst (λ (t : TableModel). GoOnWith s.readers c.if-self-eq0.first t c.replace_with.new.dest) c.in_ok-copy.ensures c.in_ok-replace_with.ensures.with_table in
+    let on : GoOnWith s.readers c.if-self-eq0.first c.args.table c.replace_with.new.dest = subst (λ (t : TableModel). GoOnWith s.readers c.if-self-eq0.first t c.replace_with.new.dest) c.in_ok-copy.ensures c.in_ok-replace_with.ensures.0 in
     (c.self.invariant.0, c.self.invariant.1, fits_more s.readers c.replace_with.new.dest c.if-self-eq0.first s.count s.table c.args.table c.self.invariant.2 first on)
