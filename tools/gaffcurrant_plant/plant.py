@@ -127,8 +127,17 @@ class Plant:
         values, moves = self.vector(vector), self.deviations(vector)
         middle = self.step(self.centre(cell), values, self.rest)
         area = self.cell_area(self.low(cell), values) if self.version > 1 else None
-        sides = [self.side(i, one, move, area) for i, (one, move) in enumerate(zip(middle, moves))]
-        return [low for low, _ in sides], [high for _, high in sides]
+        return corners([self.side(i, one, move, area) for i, (one, move) in enumerate(zip(middle, moves))])
+
+    def growth(self, cell, vector):
+        """The two corners of the growth bound: the centre's step, less and plus the deviations."""
+        middle = self.step(self.centre(cell), self.vector(vector), self.rest)
+        return corners([(one - move, one + move) for one, move in zip(middle, self.deviations(vector))])
+
+    def span(self, cell, vector):
+        """The two corners of what the equations' spans over a cell are."""
+        area = self.cell_area(self.low(cell), self.vector(vector))
+        return corners([span_of(equation, area) for equation in self.equations])
 
     def cell_area(self, lows, values):
         """The ends of each variable's range over a cell, given by its least point, and under the values of the inputs."""
@@ -212,3 +221,8 @@ class Plant:
             if not self.leaves(low, high):
                 total += self.fan(low, high)
         return total * self.pairs // sample, False
+
+
+def corners(sides):
+    """The least and the greatest point of a box by its ends along each state."""
+    return [low for low, _ in sides], [high for _, high in sides]
