@@ -15,9 +15,9 @@ KINDS = tuple(VERSIONS)
 class Cells:
     """For each cell its rank and its input, NONE where there is no row, no rank or no input; of a patrol text those of one turn."""
 
-    def __init__(self, data, turn=0):
-        front = front_of(data, KINDS)
-        self.plant, self.kind, self.version, self.turn = front.plant, front.kind, front.version, turn
+    def __init__(self, data, turn=0, turns=None):
+        front = turns.front if turns else front_of(data, KINDS)
+        self.plant, self.kind, self.version, self.turn, self.turns = front.plant, front.kind, front.version, turn, turns
         firsts, lasts, ranks, inputs = columns_of(data, front, turn)
         lengths = lasts - firsts + 1
         cells = numpy.arange(lengths.sum()) + numpy.repeat(firsts - numpy.cumsum(lengths) + lengths, lengths)
@@ -33,6 +33,17 @@ class Cells:
             return None
         rank, choice = int(self.ranks[cell]), int(self.inputs[cell])
         return None if rank == NONE else rank, None if choice == NONE else choice
+
+    def of_turn(self, turn):
+        """The cells of another turn of the same patrol."""
+        return self.turns.cells(turn)
+
+    def is_arrival(self, turn, cell):
+        """Whether a cell lies in the target of a turn, and has a row for the next one."""
+        plant = self.plant
+        inside = all(low <= bottom and top <= high
+                     for (low, high), bottom, top in zip(plant.targets[turn], plant.low(cell), plant.high(cell)))
+        return inside and bool(self.of_turn((turn + 1) % len(plant.targets)).won[cell])
 
     def arranged(self, values, axes, fixed):
         """Values of cells over the places of some axes, and behind them over those of the other states that aren't fixed."""
@@ -56,10 +67,18 @@ class Cells:
         return self.arranged(self.won, axes, fixed).mean(axis=-1)
 
 
-def turns_of(data):
-    """How many turns a text has: those of a patrol text, and one of any other."""
-    front = front_of(data, KINDS)
-    return len(front.plant.targets) if front.kind == "patrol" else 1
+class Turns:
+    """The turns of a patrol text; any other text counts as one."""
+
+    def __init__(self, data):
+        self.data, self.front, self.known = data, front_of(data, KINDS), {}
+        self.is_patrol = self.front.kind == "patrol"
+        self.count = len(self.front.plant.targets) if self.is_patrol else 1
+
+    def cells(self, turn):
+        if turn not in self.known:
+            self.known[turn] = Cells(self.data, turn, self)
+        return self.known[turn]
 
 
 def rows_at(data, front, turn):
