@@ -61,6 +61,8 @@ def check(report):
             report.holds(f"why {words} says `{line}`", line in output.splitlines(), output)
     for text, words, lines in TRACES:
         report.expect(f"sim {words} of a {text[:6]} text", (0, ["trace 1", *lines], ""), with_lines(report.tool("sim", "-", *words, data=text.encode())))
+    formats = (report.top / "docs/FORMATS.md").read_text()
+    report.holds("FORMATS has both texts", all(f"```\n{text}```" in formats for text in (STAY, PATROL)))
     check_sim(report)
     check_readers(report)
     for word in ("stay", "patrol"):
