@@ -49,7 +49,7 @@ TRACES = [
     (PATROL, ["2", "0", "7", "--turn", "1"], ["0 1 7 1 1", "visited 1 1", "1 0 10 2 0", "2 0 7 1 0", "stopped 2"]),
     (PATROL.replace("2 3 1 1", "3 3 1 1"), ["9", "0", "7"], ["0 0 7 1 0", "visited 0 1", "1 1 4 2 1", "lost 2 7"]),
 ]
-FIXED, RUNS, SAMPLES = 24, 40, 60
+FIXED, RUNS, SAMPLES = 24, 40, 120
 
 
 def check(report):
@@ -161,12 +161,12 @@ def check_program(report, word):
     report.holds(f"{word}: runs were driven", driven > 40, str(driven))
 
 
-def runs_of(table, draws):
-    """What is wrong with runs from random cells under random and extreme disturbances, and how many there were."""
+def runs_of(table, draws, starts=6):
+    """What is wrong with runs from so many random cells of each turn, under random and extreme disturbances, and how many there were."""
     parts = list(enumerate(table.turns)) if table.kind == "patrol" else [(0, table)]
     faults, count = [], 0
     for turn, part in parts:
-        for cell in draws.sample(sorted(part.rows), min(6, len(part.rows))):
+        for cell in draws.sample(sorted(part.rows), min(starts, len(part.rows))):
             start = [draws.randint(low, high) for low, high in zip(table.plant.low(cell), table.plant.high(cell))]
             judge = patrol_fault if table.kind == "patrol" else stay_fault
             fault = judge(table, start, turn, draws)

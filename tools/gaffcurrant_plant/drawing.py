@@ -169,8 +169,8 @@ def rank_at(cells, state, is_first):
     return max(int(cells.ranks[cell]), 0)
 
 
-def draw_runs(axes, view, cells, runs):
-    """Runs as lines; of a long one only some samples are marked."""
+def draw_runs(axes, view, cells, runs, asked):
+    """Runs as lines; of a long one only some samples are marked. So many are asked for, of which some may be shown in other panels alone."""
     from matplotlib.lines import Line2D
     from matplotlib.patheffects import withStroke
     halo = [withStroke(linewidth=2.0, foreground="white", alpha=0.6)]
@@ -183,7 +183,7 @@ def draw_runs(axes, view, cells, runs):
         axes.plot(*places, **style | {"marker": "", "linewidth": 0.9 if every == 1 else 0.6}, path_effects=halo, zorder=5)
         axes.plot(*places, **style | {"linewidth": 0, "markevery": every}, zorder=5)
         axes.plot(places[0][:1], places[1][:1], marker="s", markersize=5, markerfacecolor="white", markeredgecolor=RUN, zorder=6)
-    label = "run, from the square" if len(runs) == 1 else f"{len(runs)} runs, from the squares"
+    label = "run, from the square" if asked == 1 else f"{asked} runs, from the squares"
     if cells.kind == "patrol":
         label = "a run's ways in this turn, from the squares"
     elif most > 1:
