@@ -4,7 +4,7 @@ import math
 import random
 
 from .counting import TooMuch, edges_of
-from .expression import TOP, Overflow, bounds_of, compiled, span_of, text_of, uses_of
+from .expression import TOP, Overflow, bounds_of, compiled, compiled_span, text_of, uses_of
 
 CELLS, VECTORS, PAIRS, EDGES = 2 ** 20, 4096, 2 ** 22, 2 ** 25
 
@@ -23,7 +23,7 @@ class Plant:
         self.vectors = math.prod(len(values) for _, values in inputs)
         self.pairs = self.cells * self.vectors
         self.rest = [(low + high) // 2 for _, low, high in noises]
-        self.functions = [compiled(node) for node in equations]
+        self.functions, self.spans = [compiled(node) for node in equations], [compiled_span(node) for node in equations]
         self.uses = [uses_of(node) for node in equations]
         self._moves = {}
 
@@ -137,7 +137,7 @@ class Plant:
     def span(self, cell, vector):
         """The two corners of what the equations' spans over a cell are."""
         area = self.cell_area(self.low(cell), self.vector(vector))
-        return corners([span_of(equation, area) for equation in self.equations])
+        return corners([span(area) for span in self.spans])
 
     def cell_area(self, lows, values):
         """The ends of each variable's range over a cell, given by its least point, and under the values of the inputs."""
@@ -148,7 +148,7 @@ class Plant:
         """The ends of a box along one state: about the middle, and from version 2 on within the span over the cell's area."""
         low, high = middle - moves, middle + moves
         if self.version > 1:
-            least, most = span_of(self.equations[equation], area)
+            least, most = self.spans[equation](area)
             low, high = max(low, least), min(high, most)
         return low, high
 
