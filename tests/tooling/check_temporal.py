@@ -2,8 +2,8 @@
 them, and what the program writes beside a few lines of brute force. The games' brute force is that of tests/hostility/oracle.py."""
 
 import random
+import re
 import shutil
-import subprocess
 import tempfile
 from pathlib import Path
 
@@ -121,6 +121,12 @@ def check_readers(report):
                 answers["C in runs"] = c_answers(report, compiler, device, text, Path(room) / f"{number}_runs", "--runs")
             for language, answer in answers.items():
                 report.expect(f"{language} by text {number}", wanted, answer(states))
+
+
+    said = re.search(r"printf '(.*)' \| \./control +# prints (.*), then (.*):", (device / "README.md").read_text())
+    lines = said[1].replace("\\n", "\n").splitlines()
+    report.expect("what the README of the device tells of a patrol", list(said.groups()[1:]),
+                  python_answers(device, (report.top / "examples/docks/docks.patrol").read_text())([list(map(int, line.split())) for line in lines]))
 
 
 def asked(text):
