@@ -66,7 +66,7 @@ def check(report):
     check_seen(report)
     for name in report.examples():
         model = report.top / "examples" / name / f"{name}.model"
-        if model.exists() and re.search("^d ", model.read_text(), re.M):
+        if model.exists() and re.search(r"^d |^next.*[a-z]\(", model.read_text(), re.M):
             report.expect(f"{name}: real steps outside of the noise", [], outside(Real(model.read_text()), read_plant(report.plant_text(name)), 4000)[:3])
 
 
