@@ -16,8 +16,9 @@ class Cells:
     """For each cell its rank and its input, NONE where there is no row, no rank or no input; of a patrol text those of one turn."""
 
     def __init__(self, data, turn=0, turns=None):
-        front = turns.front if turns else front_of(data, KINDS)
-        self.plant, self.kind, self.version, self.turn, self.turns = front.plant, front.kind, front.version, turn, turns
+        self.turn, self.turns = turn, turns or Turns(data)
+        front = self.turns.front
+        self.plant, self.kind, self.version = front.plant, front.kind, front.version
         firsts, lasts, ranks, inputs = columns_of(data, front, turn)
         lengths = lasts - firsts + 1
         cells = numpy.arange(lengths.sum()) + numpy.repeat(firsts - numpy.cumsum(lengths) + lengths, lengths)
