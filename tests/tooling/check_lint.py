@@ -68,6 +68,7 @@ NOTED = [
     (LINE, 4, "next x = x + u + 30", "the box of every input leaves the domain"),
     (LINE, 4, "next x = x + u / 3", "may lead back into the cell itself"),
     (LINE, 6, "obstacle 0 2\ngoal reach", "8 edges: under 0.01 per cent"),
+    (CART, 7, "next v = v + a + w", "with `plant 2` as the first line the boxes would have"),
     (CART, 7, "next v = v + a + w", "step of v: -20 under a = -20; 0 under a = 0; 20 under a = 20; a cell is 10 wide"),
     (CART, 5, "noise w -2 2\nnoise e 0 1", "the noise e stands in no equation"),
 ]
