@@ -1,27 +1,52 @@
-"""From the measured state to the input, by the text of a table. Run with a table's name, it answers states, one a line."""
+"""From the measured state to the input, by a table, a stay text or a patrol text. Run with a text's name, it answers states, one a line."""
 
 import os
 import sys
 from bisect import bisect_right
 
+HEADS = (["table", "1"], ["table", "2"], ["stay", "1"], ["patrol", "1"])
+
+
+class Rows:
+    """Row lines, each about a cell or about a run of cells."""
+
+    def __init__(self, lines):
+        self.first = [int(line[0]) for line in lines]
+        self.last = [int(line[-3]) for line in lines]
+        self.input = [line[-1] for line in lines]
+
+    def input_at(self, cell):
+        """The word of a row's input, or None where the cell has no row."""
+        row = bisect_right(self.first, cell) - 1
+        return None if row < 0 or cell > self.last[row] else self.input[row]
+
 
 class Controller:
-    """A table of version 1, a line for each cell, or of version 2, a line for each run of cells."""
+    """turn: of a patrol, the number of the target that the plant is on its way to; it goes on with the states that are asked for."""
 
     def __init__(self, text):
         lines = [line.split() for line in text.splitlines()]
-        if lines[:1] not in ([["table", "1"]], [["table", "2"]]) or lines[-1] != ["end"]:
-            raise ValueError("this is no table: it begins with `table 1` or `table 2`, and ends with `end`")
+        if not lines or lines[0] not in HEADS or lines[-1] != ["end"]:
+            heads = ", ".join(f"`{' '.join(head)}`" for head in HEADS)
+            raise ValueError(f"this is no table: it begins with one of {heads}, and ends with `end`")
         front = lines[:lines.index(["end"])]
         self.states = [(line[1], *map(int, line[2:5])) for line in front if line[0] == "state"]
         self.inputs = [list(map(int, line[2:])) for line in front if line[0] == "input"]
-        rows = lines[len(front) + 2:-1]
-        self.first = [int(line[0]) for line in rows]
-        self.last = [int(line[-3]) for line in rows]
-        self.input = [line[-1] for line in rows]
+        self.targets = [list(map(int, line[1:])) for line in front if line[0] == "target"]
+        self.is_patrol, self.turn, self.has_begun = lines[0][0] == "patrol", 0, False
+        self.rows = self.rows_of(lines[len(front) + 1:-1])
+
+    def rows_of(self, lines):
+        """The rows of each turn, or the one part of a text that has no turns; each begins with a line that counts its row lines."""
+        parts, at = [], 0
+        while at < len(lines):
+            count = int(lines[at][-1])
+            parts.append(Rows(lines[at + 1:at + 1 + count]))
+            at += 1 + count
+        return parts
 
     def control(self, state):
-        """The values of the inputs; `arrived` in a target, `no row` where the table promises nothing."""
+        """The values of the inputs; `arrived` in the target of a table, `no row` where nothing is promised."""
         if len(state) != len(self.states):
             names = " ".join(name for name, *_ in self.states)
             raise ValueError(f"a state of this table has {len(self.states)} numbers ({names}), here are {len(state)}")
@@ -30,10 +55,23 @@ class Controller:
             if not low <= value <= high:
                 return "no row"
             cell = cell * ((high - low + 1) // width) + (value - low) // width
-        row = bisect_right(self.first, cell) - 1
-        if row < 0 or cell > self.last[row]:
+        if self.is_patrol and self.has_begun and self.rows:
+            self.visit(state, cell)
+        self.has_begun = True
+        row = self.rows[self.turn].input_at(cell) if self.rows else None
+        if row is None:
             return "no row"
-        return "arrived" if self.input[row] == "-" else self.values(int(self.input[row]))
+        return "arrived" if row == "-" else self.values(int(row))
+
+    def visit(self, state, cell):
+        """Begins the next turn where the state's cell lies in the turn's target, and has a row for the next turn."""
+        after = (self.turn + 1) % len(self.rows)
+        ends = zip(self.targets[self.turn][::2], self.targets[self.turn][1::2])
+        firsts = [value - (value - low) % width for value, (_, low, _, width) in zip(state, self.states)]
+        widths = [width for *_, width in self.states]
+        if all(low <= first and first + width - 1 <= high for first, width, (low, high) in zip(firsts, widths, ends)):
+            if self.rows[after].input_at(cell) is not None:
+                self.turn = after
 
     def values(self, number):
         """The values of the inputs in an input vector, of which the first varies slowest."""

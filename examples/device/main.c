@@ -24,11 +24,18 @@ int main(void)
 {
     int64_t state[STATES], input[INPUTS + 1];
     char line[STATES * 32 + 2];
+#ifdef TURNS
+    int has_begun = 0;
+#endif
     while (fgets(line, sizeof line, stdin)) {
         if (!read_state(line, state)) {
             fprintf(stderr, "control: a state of this table is a line of %d whole numbers\n", STATES);
             return 1;
         }
+#ifdef TURNS
+        if (has_begun) visit(state);
+        has_begun = 1;
+#endif
         int answer = control(state, input);
         if (answer == 1)
             for (int i = 0; i < INPUTS; i++) printf("%s%" PRId64, i ? " " : "", input[i]);

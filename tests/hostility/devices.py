@@ -11,7 +11,7 @@ import termios
 import time
 
 from . import oracle
-from .program import CHECK, DEMO, FORMS, PLANT, SECONDS, SIM, SYNTH, TABLE, UPGRADE, WORKERS, Form, differs
+from .program import CHECK, DEMO, FORMS, PATROL, PLANT, SECONDS, SIM, STAY, SYNTH, TABLE, UPGRADE, WORKERS, Form, differs
 
 MALFORMED = Form("synth 1", PLANT[:-4], oracle.synth)
 USAGE = Form("synth", PLANT, lambda _: oracle.ended(2, line=b"usage\n"))
@@ -27,7 +27,7 @@ def cases(program):
                             ("to a file opened for reading", unwritable)):
             yield f"{form.name} {name}", judge(program, form)
         yield f"{form.name} one byte at a time", slowly(program, form)
-    for form in SYNTH + WORKERS + CHECK + UPGRADE + SIM:
+    for form in SYNTH + WORKERS + CHECK + UPGRADE + SIM + STAY[:1] + PATROL[:1]:
         for path in ("/", "/proc/self/mem"):
             yield f"{form.name} from {path}", from_path(program, form, path)
         yield f"{form.name} from a source opened for writing", unreadable(program, form)

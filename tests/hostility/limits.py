@@ -1,7 +1,7 @@
 """Texts of exactly a limit's length, and one byte past it. Each limit of a plant has a case in tests/cases."""
 
-from .oracle import TABLE_LIMIT, ended, synth
-from .program import CHECK, PLANT, SIM, SYNTH, TABLE, WORKERS, differs
+from .oracle import TABLE_LIMIT, ended
+from .program import CHECK, PATROL, PLANT, SIM, STAY, SYNTH, TABLE, WORKERS, differs
 
 PLANT_LIMIT = 65536
 TOO_LONG = ended(5, line=b"limit: table text\n")
@@ -12,11 +12,11 @@ def filled(front, byte, length):
 
 
 def cases(program):
-    for form in (SYNTH[0], WORKERS[0]):
+    for form in (SYNTH[0], WORKERS[0], STAY[0], PATROL[0]):
         for byte in (b" ", b"\n", b"#", b"x", b"\0"):
             for length in (PLANT_LIMIT - 1, PLANT_LIMIT, PLANT_LIMIT + 1, 2 * PLANT_LIMIT):
                 text = filled(PLANT, byte, length)
-                yield f"{form.name} of {length} bytes {byte[0]:02x}", judge(program, form, text, synth(text))
+                yield f"{form.name} of {length} bytes {byte[0]:02x}", judge(program, form, text, form.answer(text))
     for form in (CHECK[0], SIM[0]):
         for front, byte, line in ((b"", b" ", 1), (TABLE, b" ", 16), (TABLE, b"\n", 16), (TABLE[:-4], b"0", 15)):
             malformed = ended(3, line=f"malformed: line {line}\n".encode())

@@ -8,7 +8,7 @@ from gaffcurrant_plant.loop import noises
 from gaffcurrant_plant.plant import EDGES
 from gaffcurrant_plant.reader import Draft, Refused, Wrong, read_plant, words_of
 
-TABLE_LIMIT = 67108864
+TABLE_LIMIT, TURNS = 67108864, 2 ** 22
 STATUS = {"malformed": 3, "overflow": 4, "limit": 5}
 DECIMAL = re.compile(rb"(0|[1-9][0-9]*)\Z")
 
@@ -66,6 +66,59 @@ class Game:
                 return {cell: (None, self.first_into(cell, kept)) for cell in kept}
             kept = left
 
+    # Reach and stay, and patrol, by their definitions, word for word and not by what the solvers do.
+
+    def keeps_within(self, cells):
+        """The cells of a set at which an input leads into the set alone."""
+        return {cell for cell in cells if self.first_into(cell, cells) is not None}
+
+    def held(self):
+        """The goals from which some strategy keeps to goals for every number of samples."""
+        held = self.goals
+        while held != (left := self.keeps_within(held)):
+            held = left
+        return held
+
+    def depths(self, ends):
+        """For each cell the least depth of a strategy that ends in some cells and passes no obstacle, 0 at these."""
+        depths = dict.fromkeys(ends, 0)
+        while found := [cell for cell in range(self.plant.cells) if cell not in depths and cell not in self.obstacles
+                        and self.first_into(cell, depths) is not None]:
+            depths.update(dict.fromkeys(found, max(depths.values(), default=0) + 1))
+        return depths
+
+    def stayed(self):
+        """For each cell from which some strategy comes to held cells its rank, and the least input that leads to lower ranks alone, at rank 0
+        to rank 0."""
+        depths = self.depths(self.held())
+        upto = {rank: {cell for cell, depth in depths.items() if depth <= rank} for rank in set(depths.values())}
+        return {cell: (rank, self.first_into(cell, upto[max(rank - 1, 0)])) for cell, rank in depths.items()}
+
+    def inside(self, target):
+        """The cells that are no obstacles and lie in a target."""
+        ends = {cell: zip(target, self.plant.low(cell), self.plant.high(cell)) for cell in range(self.plant.cells)}
+        return {cell for cell in ends if cell not in self.obstacles and all(a <= low and high <= b for (a, b), low, high in ends[cell])}
+
+    def travels(self, ends):
+        """For each cell from which a strategy that begins with an input ends in some cells the least depth of one, and the least input with
+        which one of that depth begins."""
+        depths, found = self.depths(ends), {}
+        for cell in set(range(self.plant.cells)) - self.obstacles:
+            offers = [(1 + max(depths[successor] for successor in fan), vector) for vector, fan in enumerate(self.fans[cell])
+                      if fan and depths.keys() >= set(fan)]
+            if offers:
+                found[cell] = min(offers)
+        return found
+
+    def patrolled(self):
+        """The rows of each turn. The cells from which d targets can be visited, this turn's first, for d from 0 on until they stay."""
+        targets = [self.inside(target) for target in self.plant.targets]
+        visits, before = [set(range(self.plant.cells)) - self.obstacles for _ in targets], None
+        while visits != before:
+            before = visits
+            visits = [set(self.travels(target & before[(turn + 1) % len(targets)])) for turn, target in enumerate(targets)]
+        return [self.travels(target & visits[(turn + 1) % len(targets)]) for turn, target in enumerate(targets)]
+
     def is_right(self, cell, rows):
         """Whether the row of a cell, or that it has none, is what the rows of its successors ask for."""
         row = rows.get(cell)
@@ -113,10 +166,15 @@ def runs_of(rows):
     return runs
 
 
+def part_text(before, rows):
+    """A line of some words and the number of runs, and the runs."""
+    lines = [f"{first} {last} {row_text(row)}\n" for first, last, row in runs_of(rows)]
+    return f"{before} {len(lines)}\n{''.join(lines)}"
+
+
 def table_text(plant, rows):
     """The table in version 2."""
-    lines = [f"{first} {last} {row_text(row)}\n" for first, last, row in runs_of(rows)]
-    return f"table 2\n{plant.text()}rows {len(lines)}\n{''.join(lines)}end\n".encode()
+    return f"table 2\n{plant.text()}{part_text('rows', rows)}end\n".encode()
 
 
 class TableReader:
@@ -218,13 +276,38 @@ def read_table(data):
 # ---- the words of the program
 
 
-def synth(data):
-    try:
-        plant = read_plant(data)
-        check_edges(plant)
-    except Refused as refusal:
-        return refused(refusal)
-    return ended(0, table_text(plant, Game(plant).solution()))
+def solving(text_of, check_more=lambda plant: None):
+    """What a word answers to a plant text that writes this text of its game."""
+
+    def answer(data):
+        try:
+            plant = read_plant(data)
+            check_edges(plant)
+            check_more(plant)
+        except Refused as refusal:
+            return refused(refusal)
+        return ended(0, text_of(plant, Game(plant)))
+
+    return answer
+
+
+def stay_text(plant, game):
+    return f"stay 1\n{plant.text()}{part_text('rows', game.stayed())}end\n".encode()
+
+
+def patrol_text(plant, game):
+    turns = "".join(part_text(f"turn {turn} rows", rows) for turn, rows in enumerate(game.patrolled()))
+    return f"patrol 1\n{plant.text()}{turns}end\n".encode()
+
+
+def check_turns(plant):
+    if plant.cells * len(plant.targets) > TURNS:
+        raise Refused("limit: turns", "")
+
+
+synth = solving(lambda plant, game: table_text(plant, game.solution()))
+stay = solving(stay_text)
+patrol = solving(patrol_text, check_turns)
 
 
 def check(data):

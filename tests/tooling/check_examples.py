@@ -7,7 +7,9 @@ import subprocess
 import sys
 
 from gaffcurrant_plant.reader import read_plant
-from gaffcurrant_plant.table import read_table
+from gaffcurrant_plant.table import read_text
+
+from .check_temporal import runs_of
 
 STARTS = 60
 
@@ -30,27 +32,51 @@ def check_model(report, name):
 
 
 def check_table(report, name):
-    plant = read_plant(report.plant_text(name))
-    text = report.table_text(name)
+    plant, texts = read_plant(report.plant_text(name)), report.texts(name)
+    report.holds(f"{name}: its README makes a text", texts)
+    path, text = next(iter(texts.items()))
+    if text is None and not path.endswith(".table"):
+        print(f"skipped {name}: the program doesn't make {path} yet")
+        return
     report.holds(f"{name}: is solved", text)
     if not text:
         return
-    table = read_table(text)
-    report.expect(f"{name}: the table has the plant", plant.text(), table.plant.text())
+    table = read_text(text)
+    report.expect(f"{name}: the text has the plant", plant.text(), table.plant.text())
     said = stated(report, name)
     report.expect(f"{name}: the numbers of its README", said, numbers_of(table, said))
-    if plant.goal == "reach":
-        report.expect(f"{name}: runs arrive", [], [fault for fault in faults(table) if fault])
+    check_versions(report, name, texts)
+    if table.kind != "table":
+        faults, count = runs_of(table, random.Random(1), STARTS)
+        report.expect(f"{name}: runs", [], faults[:2])
+        report.holds(f"{name}: runs were driven", count >= STARTS, str(count))
+    elif plant.goal == "reach":
+        report.expect(f"{name}: runs arrive", [], [fault for fault in faults_of(table) if fault])
+
+
+def check_versions(report, name, texts):
+    """The README's lines of both versions: edges, cells with a row, and the greatest rank."""
+    lines = re.findall(r"^\| ([12]) \| ([0-9,]+) \| ([0-9,]+) \| ([0-9]+) \|$", (report.top / "examples" / name / "README.md").read_text(), re.M)
+    wanted = {int(version): [int(number.replace(",", "")) for number in numbers] for version, *numbers in lines}
+    if wanted and (report.has_mpmath() or all(texts.values())):
+        tables = [read_text(text) for text in texts.values()]
+        report.expect(f"{name}: the numbers of both versions", wanted,
+                      {table.plant.version: [table.plant.edges()[0], len(table.rows), max(rank for rank, _ in table.rows.values())] for table in tables})
 
 
 def numbers_of(table, said):
-    """The numbers of a table: for the edges those that are said, where they are counted by a sample alone and a fiftieth off at most."""
+    """The numbers of a text: for the edges those that are said, where they are counted by a sample alone and a fiftieth off at most."""
     plant = table.plant
     edges, exact = plant.edges()
     if not exact and said and abs(said[3] - edges) * 50 <= edges:
         edges = said[3]
-    ranks = [max(rank for rank, _ in table.rows.values())] if plant.goal == "reach" else []
-    return [plant.cells, plant.vectors, plant.pairs, edges, len(table.rows)] + ranks
+    sizes = [plant.cells, plant.vectors, plant.pairs, edges]
+    if table.kind == "patrol":
+        rows = [rank for turn in table.turns for rank, _ in turn.rows.values()]
+        return sizes + [len(table.turns), len(rows), max(rows)]
+    ranks = [rank for rank, _ in table.rows.values()]
+    held = [ranks.count(0)] if table.kind == "stay" else []
+    return sizes + [len(ranks)] + held + ([] if table.keeps else [max(ranks)])
 
 
 def stated(report, name):
@@ -63,7 +89,7 @@ def stated(report, name):
     return [int(word) for word in words[:-1]] if all(re.match(r"[0-9.]+\Z", word) for word in words) else None
 
 
-def faults(table):
+def faults_of(table):
     """Runs from corners of ranked cells under random and extreme disturbances: what is wrong with each, or None."""
     plant, draws = table.plant, random.Random(1)
     cells = sorted(table.rows)

@@ -23,6 +23,8 @@ def check(report):
     narrow = wide.replace("target -0.21 0.21 -0.21 0.21", "target -0.20 0.20 -0.20 0.20")
     report.expect("the double integrator with its target on the cells' bounds, and within them", (2559, 36),
                   (solved(report, wide)[0], solved(report, narrow)[0]))
+    if report.reads_version_2():
+        check_versions(report, guide)
     if report.has_mpmath():
         check_sweep(report, guide)
         pendulum = re.search(r"```\n(version 2.*?)```", guide, re.DOTALL).group(1)
@@ -31,6 +33,30 @@ def check(report):
         plant = read_plant(f"plant 1\nstate e 0 199 10\ninput u 0 100\nnext e = {expression}\ngoal reach\nend\n".encode())
         report.expect(f"the deviation of `{expression}`", [moves], plant.deviations(1))
         report.holds(f"the guide has `{expression}`", expression in guide)
+
+
+def check_versions(report, guide):
+    """The guide's table of plants in both versions, and the double integrator with cells of an even width."""
+    number = r"([0-9,]+)"
+    rows = re.findall(rf"^\| \[(\w+)\]\(\S+\)((?: \| {number}){{6}}) \|$", guide, re.M)
+    report.expect("the guide's plants of both versions", 7, len(rows))
+    for name, said, _ in rows:
+        report.expect(f"{name} in both versions", [int(word) for word in said.replace(",", "").replace("|", "").split()],
+                      both_versions(report, report.plant_text(name)))
+    model = (report.top / "examples/double_integrator/double_integrator.model").read_text()
+    even = re.sub(r"-2\.03 2\.03 0\.07", "-2.08 2.08 0.08", model).replace("-0.21 0.21 -0.21 0.21", "-0.24 0.24 -0.24 0.24")
+    said = re.search(rf"have {number} edges in version 1 and {number} in version 2; {number} and {number} cells are won", guide)
+    report.expect("the double integrator with even widths", [int(word.replace(",", "")) for word in said.groups()],
+                  both_versions(report, report.tool("scale", "-", data=even.encode())[1].encode())[:4])
+
+
+def both_versions(report, text):
+    """Edges, cells with a row and the greatest rank of a plant text, each in version 1 and in version 2."""
+    numbers = []
+    for version in (b"plant 1", b"plant 2"):
+        table = read_table(report.run(("synth", "1"), text.replace(b"plant 1", version))[1])
+        numbers.append((table.plant.edges()[0], len(table.rows), max(rank for rank, _ in table.rows.values())))
+    return [number for pair in zip(*numbers) for number in pair]
 
 
 def check_sweep(report, guide):

@@ -68,6 +68,7 @@ NOTED = [
     (LINE, 4, "next x = x + u + 30", "the box of every input leaves the domain"),
     (LINE, 4, "next x = x + u / 3", "may lead back into the cell itself"),
     (LINE, 6, "obstacle 0 2\ngoal reach", "8 edges: under 0.01 per cent"),
+    (CART, 7, "next v = v + a + w", "with `plant 2` as the first line the boxes would have"),
     (CART, 7, "next v = v + a + w", "step of v: -20 under a = -20; 0 under a = 0; 20 under a = 20; a cell is 10 wide"),
     (CART, 5, "noise w -2 2\nnoise e 0 1", "the noise e stands in no equation"),
 ]
@@ -97,6 +98,9 @@ def check(report):
         status, output, error = report.tool("lint", "-", data=changed(base, number, line))
         report.expect(f"lint of `{line}`", (0, "accepted", ""), (status, output.split("\n")[0], error))
         report.holds(f"lint of `{line}` notes `{note}`", any(note in one for one in output.splitlines()), output)
+    # In version 2 a cell of the line moves into one cell, wherever its centre's bound may reach.
+    second = report.tool("lint", "-", data=changed(LINE, 1, "plant 2"))[1]
+    report.holds("lint of version 2 tells sampled boxes", "a box meets up to 2 places, of sampled boxes up to 1\n" in second, second)
     report.expect("lint of the line example", (0, "accepted\nsize: deviation of x: 1; half a cell is 1; a box meets up to 2 "
                   "places\nsize: step of x: -3 under u = -3; 3 under u = 3; a cell is 3 wide\nsize: 5 cells, 2 input vectors, "
                   "10 pairs, 8 edges: under 0.01 per cent of the 33554432 that are the most\n", ""),

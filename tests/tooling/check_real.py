@@ -66,7 +66,7 @@ def check(report):
     check_seen(report)
     for name in report.examples():
         model = report.top / "examples" / name / f"{name}.model"
-        if model.exists() and re.search("^d ", model.read_text(), re.M):
+        if model.exists() and re.search(r"^d |^next.*[a-z]\(", model.read_text(), re.M):
             report.expect(f"{name}: real steps outside of the noise", [], outside(Real(model.read_text()), read_plant(report.plant_text(name)), 4000)[:3])
 
 
@@ -78,8 +78,17 @@ def check_seen(report):
     report.holds("with a third of its noise the pendulum's real steps lie outside", outside(Real(text), read_plant(halved.encode()), 3000))
     status, output, error = report.tool("scale", "--try", "500", "-", data=text.encode())
     report.expect("scale --try of the pendulum", (0, 2, ""), (status, output.count("the noise allows"), error))
+    check_version(report, text)
     check_cells(report)
     check_long(report)
+
+
+def check_version(report, text):
+    """--version takes the place of the model's line; the sine is made of lines in version 1, and of points in version 2."""
+    own, first, second = (report.tool("scale", *words, "-", data=text.encode())[1] for words in ([], ["--version", "1"], ["--version", "2"]))
+    report.expect("the version of a model's line, and given", ([True, False, True], [True, False, True], [False, True, False]),
+                  tuple([word in plant for plant in (own, first, second)] for word in ("plant 2", "lut(", "max(")))
+    report.expect("the pendulum's real steps outside of version 1", [], outside(Real(text), read_plant(first.encode()), 3000)[:3])
 
 
 def check_long(report):

@@ -73,7 +73,7 @@ def check(report):
         report.holds(f"scale says `{said}`", said in error, error)
     for name in report.examples():
         model = report.top / "examples" / name / f"{name}.model"
-        if model.exists() and not re.search("^d ", model.read_text(), re.M):
+        if model.exists() and not re.search(r"^d |^next.*[a-z]\(", model.read_text(), re.M):
             compare(report, name, model.read_text(), report.plant_text(name).decode(), 1000)
     check_without_noise(report)
 
@@ -91,11 +91,20 @@ class Model:
 
     def __init__(self, text):
         lines = [line.split("#")[0].split() for line in text.splitlines()]
-        self.states = [(one[1], *map(Fraction, one[2:])) for one in lines if one[:1] == ["state"]]
+        self.states = [state_of(one) for one in lines if one[:1] == ["state"]]
         self.inputs = [(one[1], Fraction(one[2]), [Fraction(word) for word in one[3:]]) for one in lines
                        if one[:1] == ["input"]]
         self.noises = [(one[1], Fraction(one[2]), Fraction(one[3])) for one in lines if one[:1] == ["noise"]]
         self.equations = [exact(" ".join(one[3:])) for one in lines if one[:1] == ["next"]] or linear(self, lines)
+
+
+def state_of(words):
+    """Name, ends, width and unit of a line `state`; by the number of cells a cell has 125 units, or a multiple, so that LO is a whole number."""
+    low, high = map(Fraction, words[2:4])
+    if words[4] != "cells":
+        return words[1], low, high, *map(Fraction, words[4:])
+    width = (high - low) / int(words[5])
+    return words[1], low, high, width, width / (125 * (low / width).denominator)
 
 
 def exact(text):

@@ -1,8 +1,9 @@
 """Plants and tables of both versions in the module of tools/, by values worked out by hand."""
 
 import itertools
+import random
 
-from gaffcurrant_plant.expression import Fault, bounds_of, compiled, parse, text_of
+from gaffcurrant_plant.expression import Fault, bounds_of, compiled, compiled_span, parse, span_of, text_of
 from gaffcurrant_plant.reader import Refused, read_plant
 from gaffcurrant_plant.table import read_table, text_of_table
 
@@ -47,12 +48,27 @@ def check(report):
         report.expect(f"canonical text of `{text}`", text, text_of(node, ["x"]))
     for text, area, radius, wanted in BOUNDS:
         report.expect(f"bounds of `{text}`", wanted, bounds_of(parse(text.split(), ["x"], 2), [area], [radius]))
+    check_spans(report)
     for text, said in LUT_FAULTS:
         report.holds(f"`{text}` is refused: {said}", said in fault_of(text), fault_of(text))
     for lines, cell, *sides, rows in PLANTS:
         check_boxes(report, lines, cell, sides, rows)
     check_counts(report)
     check_tables(report)
+
+
+def check_spans(report):
+    """Spans by both ways, and values within them, over random areas."""
+    draws = random.Random(1)
+    for text in ("lut(x * 3, -9:4, 0:0, 7:-20, 30:2) - abs(y) / 2", "x * y - y * x", "min(-x, y / 3) * max(x, abs(y - 2))", "lut(x + y, -5:5, 5:-5) * -x / 4", "abs(x) * abs(y) - 7"):
+        node = parse(text.split(), ["x", "y"], 2)
+        fast, value = compiled_span(node), compiled(node)
+        for _ in range(40):
+            area = [(low, low + draws.randint(0, 6)) for low in (draws.randint(-9, 9), draws.randint(-9, 9))]
+            values = [value([x, y]) for x in range(area[0][0], area[0][1] + 1) for y in range(area[1][0], area[1][1] + 1)]
+            low, high = fast(area)
+            report.expect(f"span of `{text}` over {area}", span_of(node, area), (low, high))
+            report.holds(f"values of `{text}` over {area}", low <= min(values) and max(values) <= high, f"{values} in {low} to {high}")
 
 
 def fault_of(text):

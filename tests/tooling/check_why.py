@@ -77,6 +77,21 @@ DEEP = [
         "no lost cell has an input that leads its middle into a cell that is kept"]),
 ]
 
+# A table of version 2 by hand: 6 to 7 moves to 8 to 9, where the centre 7, less and plus the deviation, gives 8 to 10.
+SECOND = b"""table 2
+plant 2
+state x 0 9 2
+input u 2
+next x = x + u
+target 8 9
+goal reach
+end
+rows 2
+3 3 1 0
+4 4 0 -
+end
+"""
+
 COMPLAINTS = [
     (["0", "0"], 2, "a state of this plant has 1 numbers (x), here are 2"),
     (["15"], 1, "x = 15 is outside 0 to 14"),
@@ -113,6 +128,11 @@ def check(report):
         "  keeps: each successor is kept",
         "input 2 (u = 6)", "  deviation: x 1", "  successor box: x 6 to 8", "  successors: 1",
         "  stopped: it may meet an obstacle: cell 2 (x 6 to 8)"], output.splitlines())
+    _, output, _ = report.tool("why", "-", "7", data=SECOND)
+    report.expect("why of version 2", [
+        "cell 3 (x 6 to 7): its row: rank 1, apply input 0 (u = 2)",
+        "input 0 (u = 2)", "  deviation: x 1", "  growth bound: x 8 to 10; span over the cell: x 8 to 9", "  successor box: x 8 to 9",
+        "  successors: 1", "  wins within 1 sample"], output.splitlines())
     for words, wanted, said in COMPLAINTS:
         status, output, error = report.tool("why", "-", *words, data=HAND)
         report.expect(f"why {words}", (wanted, ""), (status, output))

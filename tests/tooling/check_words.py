@@ -4,14 +4,15 @@ import os
 import subprocess
 import sys
 
-TOOLS = ("lint", "why", "scale", "header", "picture", "diff", "sweep")
+TOOLS = ("lint", "why", "scale", "header", "picture", "diff", "sweep", "sim")
 
 
 def check(report):
     table = report.top / "examples/line/line.table"
     plant = report.top / "examples/line/line.plant"
     model = report.top / "examples/gate/gate.model"
-    right = {"lint": [plant], "why": [table, "7"], "scale": [model], "header": [table], "diff": [table, table], "sweep": [model]}
+    right = {"lint": [plant], "why": [table, "7"], "scale": [model], "header": [table], "diff": [table, table], "sweep": [model],
+             "sim": [table, "3", "0", "7"]}
     for name in TOOLS:
         status, output, error = report.tool(name, "--help")
         report.expect(f"{name} --help", (0, ""), (status, error))

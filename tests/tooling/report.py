@@ -1,11 +1,16 @@
 """Counts what passed and prints what failed; runs programs."""
 
 import importlib.util
+import re
 import subprocess
 import sys
 import tempfile
 from functools import lru_cache
 from pathlib import Path
+
+
+# A command of a README: the version and the model, or no model; the word, the plant and the file that it makes.
+COMMAND = re.compile(r"^(?:tools/scale --version ([12]) (\S+) \| )?\./gaffcurrant (\w+) 1(?: < (\S+))? > (\S+)$", re.M)
 
 
 class Report:
@@ -53,6 +58,16 @@ class Report:
 
     def plant_text(self, name):
         return (self.top / "examples" / name / f"{name}.plant").read_bytes()
+
+    def texts(self, name):
+        """What the commands of an example's README make by the program, by the file's name, the example's own first: None where the program
+        doesn't have the word."""
+        made = {}
+        for version, model, word, plant, path in COMMAND.findall((self.top / "examples" / name / "README.md").read_text()):
+            text = self.tool("scale", "--version", version, self.top / model)[1].encode() if model else (self.top / plant).read_bytes()
+            status, output, _ = self.run((word, "1"), text)
+            made[path] = output if status == 0 else None
+        return made
 
     def table_text(self, name):
         """The table of an example by the program, or None where it isn't solved."""

@@ -1,22 +1,25 @@
 """The rows of a table as arrays, for tables of a million cells. Needs numpy."""
 
+import re
 import warnings
 
 import numpy
 
 from .reader import Refused
-from .table import front_of
+from .rows import VERSIONS, front_of
 
 NONE = -1
+KINDS = tuple(VERSIONS)
 
 
 class Cells:
-    """For each cell its rank and its input, NONE where there is no row, no rank or no input."""
+    """For each cell its rank and its input, NONE where there is no row, no rank or no input; of a patrol text those of one turn."""
 
-    def __init__(self, data):
-        front = front_of(data)
-        self.plant, self.version = front.plant, front.version
-        firsts, lasts, ranks, inputs = self.columns(data, front)
+    def __init__(self, data, turn=0, turns=None):
+        self.turn, self.turns = turn, turns or Turns(data)
+        front = self.turns.front
+        self.plant, self.kind, self.version = front.plant, front.kind, front.version
+        firsts, lasts, ranks, inputs = columns_of(data, front, turn)
         lengths = lasts - firsts + 1
         cells = numpy.arange(lengths.sum()) + numpy.repeat(firsts - numpy.cumsum(lengths) + lengths, lengths)
         self.won = numpy.zeros(self.plant.cells, dtype=bool)
@@ -25,33 +28,23 @@ class Cells:
         self.won[cells] = True
         self.ranks[cells], self.inputs[cells] = numpy.repeat(ranks, lengths), numpy.repeat(inputs, lengths)
 
-    def columns(self, data, front):
-        """The first and last cells, ranks and inputs of the row lines; raises Refused where they are none."""
-        end, wide = len(data) - 4, 2 + front.version
-        if data[end:] != b"end\n" or end < front.at:
-            raise Refused(f"malformed: line {front.line + front.count}", "the table doesn't end with `end`")
-        with warnings.catch_warnings():
-            warnings.simplefilter("error")
-            try:
-                numbers = numpy.fromstring(data[front.at:end].replace(b"-", b"-1"), dtype=numpy.int64, sep=" ")
-            except (DeprecationWarning, ValueError):
-                raise Refused(f"malformed: line {front.line}", "the row lines aren't of their form") from None
-        if numbers.size != wide * front.count or data.count(b"\n", front.at, end) != front.count:
-            raise Refused(f"malformed: line {front.line + front.count}", f"{front.count} row lines are due behind `rows {front.count}`")
-        columns = numbers.reshape(-1, wide).T
-        firsts, lasts, ranks, inputs = columns[0], columns[front.version - 1], columns[-2], columns[-1]
-        if front.count and (numpy.any(firsts[1:] <= lasts[:-1]) or numpy.any(lasts < firsts) or firsts[0] < 0
-                            or lasts[-1] >= self.plant.cells or numpy.any(inputs >= self.plant.vectors)):
-            raise Refused(f"malformed: line {front.line}", "the cells of the row lines don't rise below the number of cells, or "
-                          "an input is none")
-        return firsts, lasts, ranks, inputs
-
     def row_of(self, cell):
         """The row of a cell as a pair, or None."""
         if not self.won[cell]:
             return None
         rank, choice = int(self.ranks[cell]), int(self.inputs[cell])
         return None if rank == NONE else rank, None if choice == NONE else choice
+
+    def of_turn(self, turn):
+        """The cells of another turn of the same patrol."""
+        return self.turns.cells(turn)
+
+    def is_arrival(self, turn, cell):
+        """Whether a cell lies in the target of a turn, and has a row for the next one."""
+        plant = self.plant
+        inside = all(low <= bottom and top <= high
+                     for (low, high), bottom, top in zip(plant.targets[turn], plant.low(cell), plant.high(cell)))
+        return inside and bool(self.of_turn((turn + 1) % len(plant.targets)).won[cell])
 
     def arranged(self, values, axes, fixed):
         """Values of cells over the places of some axes, and behind them over those of the other states that aren't fixed."""
@@ -73,3 +66,61 @@ class Cells:
     def share(self, axes, fixed):
         """Over the places of some axes, the share of the places of the other states that have a row."""
         return self.arranged(self.won, axes, fixed).mean(axis=-1)
+
+
+class Turns:
+    """The turns of a patrol text; any other text counts as one."""
+
+    def __init__(self, data):
+        self.data, self.front, self.known = data, front_of(data, KINDS), {}
+        self.is_patrol = self.front.kind == "patrol"
+        self.count = len(self.front.plant.targets) if self.is_patrol else 1
+
+    def cells(self, turn):
+        if turn not in self.known:
+            self.known[turn] = Cells(self.data, turn, self)
+        return self.known[turn]
+
+
+def rows_at(data, front, turn):
+    """The line, the byte and the number of the first row line, of a patrol text in one turn; raises Refused."""
+    at, line = front.at, front.line
+    for number in range(turn + 1):
+        before = f"turn {number} rows" if front.kind == "patrol" else "rows"
+        counted = re.compile(rf"{before} (0|[1-9][0-9]{{0,8}})\n".encode()).match(data, at)
+        if not counted:
+            raise Refused(f"malformed: line {line}", f"`{before} N` is due")
+        at, line = counted.end(), line + 1
+        if number < turn:
+            for _ in range(int(counted.group(1))):
+                at, line = data.find(b"\n", at) + 1 or len(data), line + 1
+    return line, at, int(counted.group(1))
+
+
+def end_of(data, at):
+    """The byte at which a turn's row lines, or the text's, end."""
+    behind = re.compile(rb"(?:turn |end\n)").search(data, at)
+    return behind.start() if behind else len(data)
+
+
+def columns_of(data, front, turn):
+    """The first and last cells, ranks and inputs of the row lines; raises Refused where they are none."""
+    line, at, count = rows_at(data, front, turn)
+    end, wide = end_of(data, at), 3 + front.in_runs()
+    if not data.endswith(b"\nend\n"):
+        raise Refused(f"malformed: line {line + count}", "the text doesn't end with `end`")
+    with warnings.catch_warnings():
+        warnings.simplefilter("error")
+        try:
+            numbers = numpy.fromstring(data[at:end].replace(b"-", b"-1"), dtype=numpy.int64, sep=" ")
+        except (DeprecationWarning, ValueError):
+            raise Refused(f"malformed: line {line}", "the row lines aren't of their form") from None
+    if numbers.size != wide * count or data.count(b"\n", at, end) != count:
+        raise Refused(f"malformed: line {line + count}", f"{count} row lines are due")
+    columns = numbers.reshape(-1, wide).T
+    firsts, lasts, ranks, inputs = columns[0], columns[wide - 3], columns[-2], columns[-1]
+    if count and (numpy.any(firsts[1:] <= lasts[:-1]) or numpy.any(lasts < firsts) or firsts[0] < 0
+                  or lasts[-1] >= front.plant.cells or numpy.any(inputs >= front.plant.vectors)):
+        raise Refused(f"malformed: line {line}", "the cells of the row lines don't rise below the number of cells, or "
+                      "an input is none")
+    return firsts, lasts, ranks, inputs

@@ -22,12 +22,12 @@ def stop_of(table, cell, vector):
     cells = plant.successors(cell, vector)
     if not cells:
         return Stop(vector, EDGE)
-    lost = [one for one in cells if one not in table.rows]
+    lost = [one for one in cells if not table.has(one)]
     if not lost:
         return None
     if any(plant.is_obstacle(one) for one in lost):
         return Stop(vector, OBSTACLE, lost, len(cells))
-    comes_back = cell in lost and (plant.goal == "reach" or lost == [cell])
+    comes_back = cell in lost and (not table.keeps or lost == [cell])
     return Stop(vector, ITSELF if comes_back else ONWARD, lost, len(cells))
 
 
@@ -39,7 +39,7 @@ class Look:
         stops = [stop_of(table, cell, vector) for vector in range(table.plant.vectors)]
         self.stops = [stop for stop in stops if stop]
         enabled = [stop for stop in self.stops if stop.kind != EDGE]
-        self.is_still = table.plant.goal == "reach" and bool(enabled) and all(cell in stop.lost for stop in enabled)
+        self.is_still = not table.keeps and bool(enabled) and all(cell in stop.lost for stop in enabled)
         self.causes = {}
         for stop in self.stops:
             if stop.kind != ONWARD:
@@ -111,7 +111,7 @@ class Frontier:
         """The inputs that lead the cell's middle into a cell with a row."""
         plant = self.table.plant
         middles = {vector: plant.step(plant.centre(cell), plant.vector(vector), plant.rest) for vector in range(plant.vectors)}
-        return [vector for vector, middle in middles.items() if plant.cell_of(middle) in self.table.rows]
+        return [vector for vector, middle in middles.items() if self.table.has(plant.cell_of(middle))]
 
     def cause_of(self, cell, promising):
         look = self.behind.look(cell)

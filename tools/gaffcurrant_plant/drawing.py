@@ -128,8 +128,8 @@ def rectangle(axes, view, box, **style):
     axes.add_patch(Rectangle((left, low), right - left, high - low, **style))
 
 
-def draw_boxes(axes, view):
-    """Targets and obstacles, and the legend's entries for them."""
+def draw_boxes(axes, view, turn=None):
+    """Targets and obstacles, and the legend's entries for them; in a turn of a patrol its target stands out."""
     from matplotlib.patches import Patch
     entries = []
     target = dict(facecolor="none", edgecolor=TARGET, linewidth=2, zorder=4)
@@ -137,7 +137,9 @@ def draw_boxes(axes, view):
     partly = dict(obstacle, facecolor="none", hatch="//", linestyle=":")
     whole = [box for box in view.plant.obstacles if view.covers(box)]
     others = [box for box in view.plant.obstacles if not view.covers(box)]
-    for boxes, style, label in ((view.plant.targets, target, "target"), (whole, obstacle, "obstacle"),
+    targets = view.plant.targets if turn is None else [view.plant.targets[turn]]
+    later = [] if turn is None else view.plant.targets[:turn] + view.plant.targets[turn + 1:]
+    for boxes, style, label in ((later, dict(target, linewidth=1, linestyle=":"), "target of another turn"), (targets, target, "target"), (whole, obstacle, "obstacle"),
                                 (others, partly, "obstacle for some of the other states")):
         met = [box for box in boxes if view.meets(box)]
         for box in met:
@@ -154,16 +156,21 @@ def along(view, cells, states):
         return places
     if view.plant.goal == "keep":
         return places + [[(k + 0.5) / len(states) for k in range(len(states))]]
-    return places + [[rank_at(cells, state) for state in states]]
+    return places + [[rank_at(cells, state, is_first=k == 0) for k, state in enumerate(states)]]
 
 
-def rank_at(cells, state):
+def rank_at(cells, state, is_first):
+    """The rank at a state of a run; 0 where a patrol has arrived."""
     cell = cells.plant.cell_of(state)
-    return float("nan") if cell is None else max(int(cells.ranks[cell]), 0)
+    if cell is None:
+        return float("nan")
+    if cells.kind == "patrol" and not is_first and cells.is_arrival(cells.turn, cell):
+        return 0
+    return max(int(cells.ranks[cell]), 0)
 
 
-def draw_runs(axes, view, cells, runs):
-    """Runs as lines; of a long one only some samples are marked."""
+def draw_runs(axes, view, cells, runs, asked):
+    """Runs as lines; of a long one only some samples are marked. So many are asked for, of which some may be shown in other panels alone."""
     from matplotlib.lines import Line2D
     from matplotlib.patheffects import withStroke
     halo = [withStroke(linewidth=2.0, foreground="white", alpha=0.6)]
@@ -176,8 +183,10 @@ def draw_runs(axes, view, cells, runs):
         axes.plot(*places, **style | {"marker": "", "linewidth": 0.9 if every == 1 else 0.6}, path_effects=halo, zorder=5)
         axes.plot(*places, **style | {"linewidth": 0, "markevery": every}, zorder=5)
         axes.plot(places[0][:1], places[1][:1], marker="s", markersize=5, markerfacecolor="white", markeredgecolor=RUN, zorder=6)
-    label = "run, from the square" if len(runs) == 1 else f"{len(runs)} runs, from the squares"
-    if most > 1:
+    label = "run, from the square" if asked == 1 else f"{asked} runs, from the squares"
+    if cells.kind == "patrol":
+        label = "a run's ways in this turn, from the squares"
+    elif most > 1:
         label += f", up to {most} samples from mark to mark"
     elif len(view.axes) == 1 and view.plant.goal == "keep":
         label += ", upwards in time"

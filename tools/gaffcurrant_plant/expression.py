@@ -323,6 +323,38 @@ def span_of(node, area):
     return span_of_parts(node, [span_of(part, area) for part in parts_of(node)])
 
 
+# The ends of a node's span, l and h with its number, by those of its parts.
+SPANS = {"neg": "l{0}, h{0} = -h{1}, -l{1}", "abs": "l{0}, h{0} = l{1} if l{1} >= 0 else -h{1} if h{1} <= 0 else 0, max(-l{1}, h{1})",
+         "add": "l{0}, h{0} = l{1} + l{2}, h{1} + h{2}", "sub": "l{0}, h{0} = l{1} - h{2}, h{1} - l{2}",
+         "mul": "e = (l{1} * l{2}, l{1} * h{2}, h{1} * l{2}, h{1} * h{2}); l{0}, h{0} = min(e), max(e)",
+         "min": "l{0}, h{0} = min(l{1}, l{2}), min(h{1}, h{2})", "max": "l{0}, h{0} = max(l{1}, l{2}), max(h{1}, h{2})"}
+
+
+def compiled_span(node):
+    """A function from an area to the ends of the span, for many areas. What stands more than once is worked out once."""
+    lines, numbers = [], {}
+
+    def number(one):
+        if one not in numbers:
+            parts = [number(part) for part in parts_of(one)]
+            numbers[one] = at = len(numbers)
+            if one[0] == "num":
+                lines.append(f"l{at}, h{at} = {one[1]}, {one[1]}")
+            elif one[0] == "var":
+                lines.append(f"l{at}, h{at} = a[{one[1]}]")
+            elif one[0] == "div":
+                lines.append(f"l{at}, h{at} = l{parts[0]} // {one[2]}, h{parts[0]} // {one[2]}")
+            elif one[0] == "lut":
+                lines.append(f"l{at}, h{at} = span_of_parts(('lut', None, {one[2]}), [(l{parts[0]}, h{parts[0]})])")
+            else:
+                lines.append(SPANS[one[0]].format(at, *parts))
+        return numbers[one]
+
+    last, room = number(node), {}
+    exec("\n    ".join(["def span(a):"] + lines + [f"return l{last}, h{last}"]), {"min": min, "max": max, "span_of_parts": span_of_parts}, room)
+    return room["span"]
+
+
 def span_of_parts(node, spans):
     """The ends of the span of a node over those of its parts."""
     kind, (low, high) = node[0], spans[0]

@@ -29,6 +29,35 @@ def run(plant, row_of, start, seed, most):
     return states
 
 
+def patrol_run(plant, row_of, arrives, start, seed, most):
+    """The samples of a run by a patrol as (turn, state), from turn 0: until a cell without a row, or `most` steps. row_of gives the row of a
+    cell in a turn, or None; arrives tells whether a cell is an arrival of a turn."""
+    samples, turn, state = [(0, list(start))], 0, list(start)
+    for _, noise in zip(range(most), noises(plant, seed)):
+        cell = plant.cell_of(state)
+        row = None if cell is None else row_of(turn, cell)
+        if row is None:
+            break
+        state = plant.step(state, plant.vector(row[1]), noise)
+        cell = plant.cell_of(state)
+        if cell is not None and arrives(turn, cell):
+            turn = (turn + 1) % len(plant.targets)
+        samples.append((turn, state))
+    return samples
+
+
+def stretches(samples, turn):
+    """The parts of a run by a patrol in one turn, each up to the sample that has come to the turn's target."""
+    parts, is_on = [], False
+    for at, state in samples:
+        if is_on:
+            parts[-1].append(state)
+        if at == turn and not is_on:
+            parts.append([state])
+        is_on = at == turn
+    return [part for part in parts if len(part) > 1]
+
+
 def read_trace(data, plant):
     """The states of a trace text, or raises Refused."""
     lines = lines_of(data)

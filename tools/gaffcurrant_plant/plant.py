@@ -4,7 +4,7 @@ import math
 import random
 
 from .counting import TooMuch, edges_of
-from .expression import TOP, Overflow, bounds_of, compiled, span_of, text_of, uses_of
+from .expression import TOP, Overflow, bounds_of, compiled, compiled_span, text_of, uses_of
 
 CELLS, VECTORS, PAIRS, EDGES = 2 ** 20, 4096, 2 ** 22, 2 ** 25
 
@@ -23,7 +23,7 @@ class Plant:
         self.vectors = math.prod(len(values) for _, values in inputs)
         self.pairs = self.cells * self.vectors
         self.rest = [(low + high) // 2 for _, low, high in noises]
-        self.functions = [compiled(node) for node in equations]
+        self.functions, self.spans = [compiled(node) for node in equations], [compiled_span(node) for node in equations]
         self.uses = [uses_of(node) for node in equations]
         self._moves = {}
 
@@ -127,8 +127,17 @@ class Plant:
         values, moves = self.vector(vector), self.deviations(vector)
         middle = self.step(self.centre(cell), values, self.rest)
         area = self.cell_area(self.low(cell), values) if self.version > 1 else None
-        sides = [self.side(i, one, move, area) for i, (one, move) in enumerate(zip(middle, moves))]
-        return [low for low, _ in sides], [high for _, high in sides]
+        return corners([self.side(i, one, move, area) for i, (one, move) in enumerate(zip(middle, moves))])
+
+    def growth(self, cell, vector):
+        """The two corners of the growth bound: the centre's step, less and plus the deviations."""
+        middle = self.step(self.centre(cell), self.vector(vector), self.rest)
+        return corners([(one - move, one + move) for one, move in zip(middle, self.deviations(vector))])
+
+    def span(self, cell, vector):
+        """The two corners of what the equations' spans over a cell are."""
+        area = self.cell_area(self.low(cell), self.vector(vector))
+        return corners([span(area) for span in self.spans])
 
     def cell_area(self, lows, values):
         """The ends of each variable's range over a cell, given by its least point, and under the values of the inputs."""
@@ -139,7 +148,7 @@ class Plant:
         """The ends of a box along one state: about the middle, and from version 2 on within the span over the cell's area."""
         low, high = middle - moves, middle + moves
         if self.version > 1:
-            least, most = span_of(self.equations[equation], area)
+            least, most = self.spans[equation](area)
             low, high = max(low, least), min(high, most)
         return low, high
 
@@ -212,3 +221,8 @@ class Plant:
             if not self.leaves(low, high):
                 total += self.fan(low, high)
         return total * self.pairs // sample, False
+
+
+def corners(sides):
+    """The least and the greatest point of a box by its ends along each state."""
+    return [low for low, _ in sides], [high for _, high in sides]

@@ -1,10 +1,7 @@
-"""Reads a table text: its plant and its rows."""
+"""What the program writes of a plant, to be asked for rows, ranks and inputs: a table, a stay text that brings the plant into its target and
+keeps it there, and a patrol text that visits the targets in turn. docs/FORMATS.md gives the texts."""
 
-import re
-
-from .reader import Refused, lines_of, read_lines
-
-NUMBER = re.compile(r"(0|[1-9][0-9]*)\Z")
+from .rows import Lines, front_of
 
 
 class NoRow(LookupError):
@@ -14,8 +11,15 @@ class NoRow(LookupError):
 class Table:
     """rows: for a cell with a row its rank (None with goal keep) and its input (None at rank 0)."""
 
+    kind = "table"
+
     def __init__(self, plant, rows, version=1):
         self.plant, self.rows, self.version = plant, rows, version
+
+    @property
+    def keeps(self):
+        """Whether the plant is to be kept, and has no target to come to."""
+        return self.plant.goal == "keep"
 
     def row(self, state):
         """Rank and input of the row of a state's cell; raises NoRow. A state has a whole number for each of the plant's."""
@@ -37,91 +41,77 @@ class Table:
         number = self.row(state)[1]
         return None if number is None else tuple(self.plant.vector(number))
 
+    def has(self, cell):
+        """Whether a step into a cell goes on well."""
+        return cell in self.rows
 
-class Front:
-    """A table up to its row lines: its version, its plant, how many row lines it says it has, and the line and the byte at
-    which they begin."""
-
-    def __init__(self, version, plant, count, line, at):
-        self.version, self.plant, self.count, self.line, self.at = version, plant, count, line, at
+    def left(self, cell):
+        """How many samples suffice from a cell with a row, or None with goal keep."""
+        return self.rows[cell][0]
 
 
-def front_of(data):
-    """The front of a table text, or raises Refused."""
-    head = re.match(rb"table ([12])\n", data)
-    if not head:
-        what = "a plant text, not a table" if data.lstrip().startswith((b"plant ", b"#")) else "no table"
-        raise Refused("malformed: line 1", f"the text is {what}: a table begins with `table 1` or `table 2`", 1)
-    found = re.search(rb"^end\n", data, re.MULTILINE)
-    if not found:
-        raise Refused(f"malformed: line {len(lines_of(data)) + 1}", "the plant of the table has no end")
-    front = lines_of(data[:found.end()])
-    try:
-        plant = read_lines(front[1:])
-    except Refused as refusal:
-        raise Refused(f"malformed: line {refusal.line + 1}", refusal.reason, refusal.line + 1) from None
-    plant.check_limits(Refused)
-    counted = re.compile(rb"rows (0|[1-9][0-9]{0,8})\n").match(data, found.end())
-    if not counted:
-        raise Refused(f"malformed: line {len(front) + 1}", "behind the plant `rows N` is due", len(front) + 1)
-    return Front(int(head.group(1)), plant, int(counted.group(1)), len(front) + 2, counted.end())
+class Stay(Table):
+    """A stay text: at rank 0 too a row has an input, which keeps the plant in cells of rank 0."""
+
+    kind, keeps = "stay", False
+
+
+class Turn(Table):
+    """The rows of one turn of a patrol, and its arrivals: the cells of its target that have a row for the next turn."""
+
+    kind, keeps = "turn", False
+
+    def __init__(self, plant, rows, number, arrivals):
+        super().__init__(plant, rows)
+        self.number, self.arrivals = number, arrivals
+
+    def has(self, cell):
+        return cell in self.arrivals or cell in self.rows
+
+    def left(self, cell):
+        return 0 if cell in self.arrivals else self.rows[cell][0]
+
+
+class Patrol:
+    """A patrol text: a Turn for each target, in order."""
+
+    kind = "patrol"
+
+    def __init__(self, plant, rows, version=1):
+        self.plant, self.version = plant, version
+        arrivals = [arrivals_of(plant, box, rows[self.behind(number, rows)]) for number, box in enumerate(plant.targets)]
+        self.turns = [Turn(plant, *entry) for entry in zip(rows, range(len(rows)), arrivals)]
+
+    def behind(self, number, turns=None):
+        """The turn behind a turn."""
+        return (number + 1) % len(self.turns if turns is None else turns)
+
+    def turn_after(self, number, state):
+        """The turn after a sample: the one behind where the state has come to the turn's target, else the same."""
+        return self.behind(number) if self.plant.cell_of(state) in self.turns[number].arrivals else number
+
+
+def arrivals_of(plant, box, next_rows):
+    """The cells with a row for the next turn all of whose points lie in a box."""
+    return {cell for cell in next_rows
+            if all(low <= bottom and top <= high for (low, high), bottom, top in zip(box, plant.low(cell), plant.high(cell)))}
 
 
 def read_table(data):
     """The table that the bytes spell, or raises Refused for the first line that is none of a table."""
-    front = front_of(data)
-    lines, count, line = lines_of(data[front.at:]), front.count, front.line
-    rows, before = {}, Run(-1, None)
-    for number, text in enumerate(lines[:count], line):
-        words = text.split(" ")
-        wrong = row_fault(words, front, before)
-        if wrong:
-            raise Refused(f"malformed: line {number}", wrong, number)
-        before = Run(int(words[front.version - 1]), words[-2:])
-        row = tuple(None if word == "-" else int(word) for word in words[-2:])
-        rows.update(dict.fromkeys(range(int(words[0]), before.last + 1), row))
-    rest = lines[count:]
-    if len(lines) < count or rest != ["end"] or not data.endswith(b"end\n"):
-        wrong = line + min(count, len(lines)) + (1 if rest[:1] == ["end"] else 0)
-        raise Refused(f"malformed: line {wrong}", f"{count} row lines and `end` are due behind `rows {count}`", wrong)
-    return Table(front.plant, rows, front.version)
+    return read_text(data, ("table",))
 
 
-class Run:
-    """The last cell of a row line, and its words for rank and input."""
-
-    def __init__(self, last, row):
-        self.last, self.row = last, row
-
-
-def row_fault(words, front, before):
-    """Why the words are no row line behind the one before, or None. In version 2 a line is a run of cells."""
-    plant, runs = front.plant, front.version > 1
-    if len(words) != 2 + front.version or not all(map(NUMBER.match, words[:front.version])):
-        return "a row line has the words FIRST LAST RANK INPUT" if runs else "a row has the words CELL RANK INPUT"
-    first, last = int(words[0]), int(words[front.version - 1])
-    if last >= plant.cells:
-        return f"there are {plant.cells} cells, from 0"
-    if first > last:
-        return "the first cell of a run is at most its last"
-    if first <= before.last:
-        return "cells rise from row line to row line"
-    if runs and first == before.last + 1 and words[-2:] == before.row:
-        return "the run goes on the one before, and would be one with it"
-    return pair_fault(*words[-2:], plant)
-
-
-def pair_fault(rank, choice, plant):
-    """Why two words are no rank and input of a row, or None."""
-    if plant.goal == "reach" and not (NUMBER.match(rank) and int(rank) < plant.cells):
-        return "a rank is below the number of cells"
-    if plant.goal == "keep" and rank != "-":
-        return "a row of a keep table has `-` as its rank"
-    if rank == "0":
-        return None if choice == "-" else "a row of rank 0 has `-` as its input"
-    if not (NUMBER.match(choice) and int(choice) < plant.vectors):
-        return "an input is below the number of input vectors"
-    return None
+def read_text(data, kinds=("table", "stay", "patrol")):
+    """What the bytes spell, a Table, a Stay or a Patrol, or raises Refused for the first line that is none of such a text."""
+    front = front_of(data, kinds)
+    lines = Lines(data, front)
+    if front.kind == "patrol":
+        rows = [lines.rows(f"turn {number} rows ") for number in range(len(front.plant.targets))]
+    else:
+        rows = lines.rows("rows ")
+    lines.finish()
+    return {"table": Table, "stay": Stay, "patrol": Patrol}[front.kind](front.plant, rows, front.version)
 
 
 def runs_of(rows):
@@ -135,8 +125,27 @@ def runs_of(rows):
     return runs
 
 
+def said(lines):
+    """Row lines as they are written."""
+    return [" ".join("-" if word is None else str(word) for word in line) for line in lines]
+
+
 def text_of_table(plant, rows, version=2):
     """The text of a plant and its rows in either version."""
-    lines = runs_of(rows) if version > 1 else [[cell, *rows[cell]] for cell in sorted(rows)]
-    said = [" ".join("-" if word is None else str(word) for word in line) for line in lines]
-    return "\n".join([f"table {version}", plant.text() + f"rows {len(said)}", *said, "end", ""])
+    lines = said(runs_of(rows) if version > 1 else [[cell, *rows[cell]] for cell in sorted(rows)])
+    return "\n".join([f"table {version}", plant.text() + f"rows {len(lines)}", *lines, "end", ""])
+
+
+def text_of_stay(plant, rows):
+    """The stay text of a plant and its rows."""
+    lines = said(runs_of(rows))
+    return "\n".join(["stay 1", plant.text() + f"rows {len(lines)}", *lines, "end", ""])
+
+
+def text_of_patrol(plant, turns):
+    """The patrol text of a plant and its rows, turn by turn."""
+    lines = []
+    for number, rows in enumerate(turns):
+        of_turn = said(runs_of(rows))
+        lines += [f"turn {number} rows {len(of_turn)}"] + of_turn
+    return "\n".join(["patrol 1", plant.text() + "\n".join(lines + ["end", ""])])
