@@ -11,6 +11,7 @@ use Rattle.grid_quantiser.specs.Axes.{cells_of}
 use Rattle.grid_quantiser.specs.Boxes.{LiesInside, IsBoxWith, cells_between}
 use Rattle.game_core.specs.declared.game.Mark.{Mark}
 use Rattle.game_core.specs.declared.game.Mark.TheVariants.{Goal, Obstacle, Plain}
+use Rattle.game_core.specs.declared.game.Row.{Row}
 use Rattle.game_core.specs.Game.{Game, mark_of}
 use Rattle.plant_record.specs.declared.aims.StateBox.{StateBox}
 use Rattle.plant_record.specs.Description.{Description, axes_of}
@@ -19,7 +20,7 @@ use Rattle.abstraction_table.specs.Abstraction.{IsGameOf}
 use Rattle.abstraction_table.specs.inside.Marks.{AreMarked}
 use Rattle.abstraction_table.proofs.Marking.{marked_likewise, box_marked}
 use Rattle.patrol_game.specs.Targets.{target_at, IsInTarget}
-use Rattle.patrol_game.specs.inside.Turns.{marks_for, mark_at, AreFirstMarks}
+use Rattle.patrol_game.specs.inside.Turns.{marks_for, mark_at, AreTargetMarks, AreFirstMarks}
 
 -- all points of a cell lie in a target
 abbrev Lies : Description → ℕ → ℕ → Type 0
@@ -48,10 +49,10 @@ module _ (p : Description) (j : ℕ) (axes : List Axis) (lo hi : List ℤ) (same
       let has = ((subst (IsBoxWith axes Within) is box).exactly (get_or cells k d)).0 (Contains-get_or cells k d lt) in
       omega (arith, has.0, ap cells_of same)
 
-pub first_marks : (p : Description) (g : Game) (j n : ℕ) (between after : List Mark) → IsGameOf p g → j < length p.targets → n ≡ g.cells →
+pub target_marks : (p : Description) (g : Game) (j n : ℕ) (between after : List Mark) → IsGameOf p g → j < length p.targets → n ≡ g.cells →
     AreMarked Goal (λ c. LiesInside (axes_of p) c (target_at p j).low (target_at p j).high) (replicate n Plain) between →
-    AreMarked Obstacle (λ c. mark_of g c ≡ Obstacle) between after → AreFirstMarks p g j after
-first_marks p g j n between after game lj cells goals obstacles = record {
+    AreMarked Obstacle (λ c. mark_of g c ≡ Obstacle) between after → AreTargetMarks p g j after
+target_marks p g j n between after game lj cells goals obstacles = record {
   turn_marks = record {
     one_each = obstacles.long ∙ goals.long ∙ length-replicate n Plain ∙ cells;
     inside = λ c lc e. inside c lc e (obstacles.each c (there c lc)) (goals.each c (here c lc));
@@ -92,13 +93,13 @@ first_marks p g j n between after game lj cells goals obstacles = record {
     all c lc t (inr off) (inr bare) = absurd (bare.0 t.2)
 
 -- one turn more
-pub one_turn_more : (p : Description) (g : Game) (n : ℕ) (lists more : List (List Mark)) (marks : List Mark) → length lists ≡ n → ((j : ℕ) → j < n → AreFirstMarks p g j (marks_for lists j)) → AreFirstMarks p g n marks →
-    more ≡ lists ++ marks ∷ [] → (j : ℕ) → j < n + 1 → AreFirstMarks p g j (marks_for more j)
-one_turn_more p g n lists more marks long before here is j lj =
-    subst (λ (all : List (List Mark)). AreFirstMarks p g j (marks_for all j)) (sym is)
+pub one_turn_more : (p : Description) (g : Game) (kept : List (Option Row)) (n : ℕ) (lists more : List (List Mark)) (marks : List Mark) → length lists ≡ n → ((j : ℕ) → j < n → AreFirstMarks p g kept j (marks_for lists j)) → AreFirstMarks p g kept n marks →
+    more ≡ lists ++ marks ∷ [] → (j : ℕ) → j < n + 1 → AreFirstMarks p g kept j (marks_for more j)
+one_turn_more p g kept n lists more marks long before here is j lj =
+    subst (λ (all : List (List Mark)). AreFirstMarks p g kept j (marks_for all j)) (sym is)
     (elim (cases_lt j n) [
-      | inl earlier ↦ subst (AreFirstMarks p g j) (sym (get_or_append_left lists (marks ∷ []) [] j (omega (arith, earlier, long)))) (before j earlier)
+      | inl earlier ↦ subst (AreFirstMarks p g kept j) (sym (get_or_append_left lists (marks ∷ []) [] j (omega (arith, earlier, long)))) (before j earlier)
       | inr past ↦
           let last : n ≡ j = omega (arith, past, lj) in
-          subst (AreFirstMarks p g j) (sym (get_or_push lists marks [] j (omega (arith, long, last)))) (subst (λ (k : ℕ). AreFirstMarks p g k marks) last here)
+          subst (AreFirstMarks p g kept j) (sym (get_or_push lists marks [] j (omega (arith, long, last)))) (subst (λ (k : ℕ). AreFirstMarks p g kept k marks) last here)
     ])

@@ -13,3 +13,4 @@ pub mod TargetCells
 pub mod FirstMarks
 pub mod Laws
 pub mod Starts
+pub mod KeptCells

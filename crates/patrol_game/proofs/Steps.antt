@@ -2,33 +2,17 @@
 use Rattle.std.proofs.Common.{inl, inr, ◌≡◌, ◌≢◌, ℕ, suc, ◌+◌, ◌<◌, Bool, true, false, cond, List, [], length, set, sum_by, count_by, Option, Some, None, arith, refl, sym, ◌∙◌, ap, subst, length-set, get_or-set_same, get_or-set_other}
 use Rattle.std.proofs.lemmas.Bool.{cases_eq}
 use Rattle.std.proofs.lemmas.List.Sums.{sum_by-set}
-use Rattle.std.proofs.lemmas.List.FromFn.{length-map-range_with_len, get_or-map-range_with_len}
+use Rattle.std.proofs.lemmas.List.FromFn.{get_or-map-range_with_len}
 use Rattle.game_core.specs.declared.game.Mark.{Mark}
-use Rattle.game_core.specs.declared.game.Mark.TheVariants.{Goal, Obstacle, Plain}
+use Rattle.game_core.specs.declared.game.Mark.TheVariants.{Goal, Plain}
 use Rattle.game_core.specs.declared.game.Row.{Row}
 use Rattle.game_core.specs.Game.{Game, IsGame}
 use Rattle.game_core.specs.Solution.{row_of, HasRow}
 use Rattle.patrol_game.specs.Visits.{next_turn, Visits}
 use Rattle.patrol_game.specs.Patrol.{IsTravelRow, rows_for}
 use Rattle.patrol_game.specs.inside.Turns.{Progress, marks_for, mark_at, IsMarked, is_due, AreTurnMarks, AreTravelRows, withdrawn_mark, withdrawn, is_goal, one_if, work_left, IsUnderWay, IsSettledAt}
+use Rattle.patrol_game.proofs.Withdrawing.{kept_goal, kept_row, still_turn_marks}
 use Rattle.patrol_game.proofs.ForEver.{fewer, one_more}
-
-kept_goal : (m : Mark) (o : Option Row) → withdrawn_mark m o ≡ Goal → m ≡ Goal
-kept_goal Goal o e = refl
-kept_goal Obstacle o e = absurd (let f : Obstacle ≡ Goal = e in cc)
-kept_goal Plain o e = absurd (let f : Plain ≡ Goal = e in cc)
-
-kept_row : (m : Mark) (o : Option Row) → withdrawn_mark m o ≡ Goal → (row : Row) × (o ≡ Some row)
-kept_row Goal None e = absurd (let f : Plain ≡ Goal = e in cc)
-kept_row Goal (Some row) e = (row, refl)
-kept_row Obstacle o e = absurd (let f : Obstacle ≡ Goal = e in cc)
-kept_row Plain o e = absurd (let f : Plain ≡ Goal = e in cc)
-
-kept_obstacle : (m : Mark) (o : Option Row) → withdrawn_mark m o ≡ Obstacle → m ≡ Obstacle
-kept_obstacle Goal None e = absurd (let f : Plain ≡ Obstacle = e in cc)
-kept_obstacle Goal (Some row) e = absurd (let f : Goal ≡ Obstacle = e in cc)
-kept_obstacle Obstacle o e = refl
-kept_obstacle Plain o e = absurd (let f : Plain ≡ Obstacle = e in cc)
 
 -- which turns are due afterwards
 due_false : (due : List Bool) (again : Bool) (turn before j : ℕ) → before < length due → is_due (cond again (set (set due turn false) before true) (set due turn false)) j ≡ false → (j ≡ before → again ≡ false) × (j ≢ turn → is_due due j ≡ false)
@@ -93,21 +77,8 @@ module _ (g : Game) (a : IsGame g) (In : ℕ → ℕ → Type 0) (turns turn bef
   turn_marks j lj =
       elim (cases_eq j before) [
         | inr other ↦ subst (AreTurnMarks g (In j)) (sym (marks_other j other)) (h.marked j lj)
-        | inl is ↦ subst (λ (k : ℕ). AreTurnMarks g (In k) (marks_for q.marks k)) (sym is) (subst (AreTurnMarks g (In before)) (sym marks_before) fewer_marks)
+        | inl is ↦ subst (λ (k : ℕ). AreTurnMarks g (In k) (marks_for q.marks k)) (sym is) (subst (AreTurnMarks g (In before)) (sym marks_before) (still_turn_marks g (In before) old s.rows (h.marked before lb)))
       ]
-    where
-      was : AreTurnMarks g (In before) old
-      was = h.marked before lb
-
-      fewer_marks : AreTurnMarks g (In before) new
-      fewer_marks = record {
-        one_each = length-map-range_with_len (λ c. withdrawn_mark (mark_at old c) (row_of s.rows c)) 0 (length old) ∙ many;
-        inside = λ c lc e. was.inside c lc (kept_goal (mark_at old c) (row_of s.rows c) (sym (new_at c lc) ∙ e));
-        obstacles = λ c lc. (
-          λ e. (was.obstacles c lc).0 (kept_obstacle (mark_at old c) (row_of s.rows c) (sym (new_at c lc) ∙ e)),
-          λ m. new_at c lc ∙ ap (λ (m : Mark). withdrawn_mark m (row_of s.rows c)) ((was.obstacles c lc).1 m),
-        );
-      }
 
   -- a cell with one visit more has a row in the turn that was solved
   has_row : (c : ℕ) → c < g.cells → Visits g In turns (suc h.visits) turn c → HasRow s.rows c

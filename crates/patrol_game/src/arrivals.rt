@@ -9,7 +9,7 @@ ghost use Rattle.plant_record.specs.Description.{axes_of};
 ghost use Rattle.abstraction_table.specs.Abstraction.{IsGameOf};
 ghost use Rattle.abstraction_table.specs.inside.Marks.{AreMarked};
 ghost use Rattle.patrol_game.specs.Targets.{target_at};
-ghost use Rattle.patrol_game.specs.inside.Turns.{withdrawn, is_gone, is_goal, AreFirstMarks};
+ghost use Rattle.patrol_game.specs.inside.Turns.{withdrawn, is_gone, is_goal, AreTargetMarks};
 
 use game_core::{Answer, Graph, Mark, NoMemory, Row};
 use grid_quantiser::Runs;
@@ -42,7 +42,7 @@ impl Arrivals {
     ) -> Result<Arrivals, NoMemory>
         requires game { IsGameOf p.now (G.game g.now) }
         requires turn { turn < length p.now.targets }
-        ensures { IfOk result (AreFirstMarks p.now (G.game g.now) turn) }
+        ensures { IfOk result (AreTargetMarks p.now (G.game g.now) turn) }
     {
         let mut marks = vec![in alloc; Mark::Plain; g.cells() as usize].map_err(|_| NoMemory)?;
         mark_target(p, turn, &mut marks);

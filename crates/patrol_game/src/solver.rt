@@ -1,14 +1,16 @@
-// Patrol, by the solver of the reach game under other marks.
+// Patrol, by the solver of the reach game under other marks, among the cells that the solver of the keep game keeps.
 ghost use Rattle.std.specs.Prelude.{◌≤◌, ◌*◌, length, IfOk};
 ghost use Rattle.abstraction_table.specs.Abstraction.{IsGameOf};
 ghost use Rattle.patrol_game.specs.Targets.{IsInTarget};
 ghost use Rattle.patrol_game.specs.Patrol.{IsPatrol};
+ghost use Rattle.patrol_game.specs.inside.Turns.{IsAtStart};
 
 use crate::patrol_rows::PatrolRows;
 use crate::turns::Turns;
 use frontier_pool::Gate;
 use game_core::{Graph, NoMemory};
 use plant_record::Plant;
+use safety_game::keep;
 use std::alloc::Global;
 use std::thread::Threads;
 
@@ -27,9 +29,27 @@ pub fn patrol<R: Threads + Sync, G: Graph + Sync, T: Gate>(
     requires size { (G.game g.now).cells * length p.now.targets ≤ 4194304 }
     ensures { IfOk result (IsPatrol (G.game g.now) (IsInTarget p.now) (length p.now.targets)) }
 {
-    let mut turns = Turns::new(alloc, g, p)?;
+    let mut turns = first_turns(rt, alloc, g, p, workers, gate)?;
     while let Some(turn) = turns.last_due() {
         turns.settle(rt, alloc, g, turn, workers, gate)?;
     }
     Ok(turns.into_rows())
+}
+
+/// The turns to begin with. Arrivals that are lost one after another, as on a line on which nothing comes back, are left out
+/// at once: no visits go on for ever from a cell that isn't kept.
+fn first_turns<R: Threads + Sync, G: Graph + Sync, T: Gate>(
+    rt: &R,
+    alloc: Global,
+    g: &G,
+    p: &Plant,
+    workers: u32,
+    gate: &T,
+) -> Result<Turns, NoMemory>
+    requires game { IsGameOf p.now (G.game g.now) }
+    requires workers { (1 ≤ workers) × (workers ≤ 64) }
+    ensures { IfOk result (IsAtStart p.now (G.game g.now)) }
+{
+    let kept = keep(rt, alloc, g, workers, gate)?.answer;
+    Turns::new(alloc, g, p, &kept)
 }

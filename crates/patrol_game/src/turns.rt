@@ -2,6 +2,7 @@
 ghost use Rattle.std.specs.Prelude.{◌≡◌, ℕ, ◌<◌, ◌≤◌, ◌^◌, true, false, length, IfOk, IfSome};
 ghost use Rattle.std.specs.Option.{IfNone};
 ghost use Rattle.abstraction_table.specs.Abstraction.{IsGameOf};
+ghost use Rattle.game_core.specs.Keep.{IsKeepSolution};
 ghost use Rattle.patrol_game.specs.inside.Turns.{Progress, marks_for, is_due, AreTravelRows, AreTurnMarks, IsAtStart, IsBefore, IsSettledAt};
 
 use crate::arrivals::Arrivals;
@@ -32,9 +33,15 @@ impl Model for Turns {
 }
 
 impl Turns {
-    /// Every turn is due, and its arrivals are all cells of its target that are no obstacles.
-    pub(crate) fn new<G: Graph>(alloc: Global, g: &G, p: &Plant) -> Result<Turns, NoMemory>
-        requires { IsGameOf p.now (G.game g.now) }
+    /// Every turn is due, and its arrivals are the cells of its target that are kept.
+    pub(crate) fn new<G: Graph>(
+        alloc: Global,
+        g: &G,
+        p: &Plant,
+        kept: &Answer,
+    ) -> Result<Turns, NoMemory>
+        requires game { IsGameOf p.now (G.game g.now) }
+        requires kept { IsKeepSolution (G.game g.now) kept.now }
         ensures { IfOk result (IsAtStart p.now (G.game g.now)) }
     {
         let turns = p.targets();
@@ -42,7 +49,8 @@ impl Turns {
         let mut arrivals = Vec::new(alloc);
         let mut rows = Vec::new(alloc);
         for turn in 0..turns {
-            let first = Arrivals::in_target(alloc, g, p, turn)?;
+            let mut first = Arrivals::in_target(alloc, g, p, turn)?;
+            first.withdraw(kept);
             arrivals.push(first).map_err(|_| NoMemory)?;
             let blank = Answer::blank(alloc, 0)?;
             rows.push(blank).map_err(|_| NoMemory)?;

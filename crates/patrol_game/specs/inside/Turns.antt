@@ -5,6 +5,7 @@ use Rattle.game_core.specs.declared.game.Mark.{Mark}
 use Rattle.game_core.specs.declared.game.Mark.TheVariants.{Goal, Obstacle, Plain}
 use Rattle.game_core.specs.declared.game.Row.{Row}
 use Rattle.game_core.specs.Game.{Game, mark_of}
+use Rattle.game_core.specs.Keep.{IsKeepSolution}
 use Rattle.game_core.specs.Solution.{row_of, HasRow}
 use Rattle.plant_record.specs.Description.{Description}
 use Rattle.patrol_game.specs.Targets.{IsInTarget}
@@ -36,10 +37,15 @@ pub record AreTurnMarks (g : Game) (In : ℕ → Type 0) (marks : List Mark) : T
   pub inside : (c : ℕ) → c < g.cells → mark_at marks c ≡ Goal → In c
   pub obstacles : (c : ℕ) → c < g.cells → (mark_at marks c ≡ Obstacle) ↔ (mark_of g c ≡ Obstacle)
 
--- Marks to begin with: all cells of a turn's target are goals.
-pub record AreFirstMarks (p : Description) (g : Game) (j : ℕ) (marks : List Mark) : Type 0 where
+-- Marks in which all cells of a turn's target are goals.
+pub record AreTargetMarks (p : Description) (g : Game) (j : ℕ) (marks : List Mark) : Type 0 where
   pub turn_marks : AreTurnMarks g (IsInTarget p j) marks
   pub all : (c : ℕ) → c < g.cells → IsInTarget p j c → mark_at marks c ≡ Goal
+
+-- Marks to begin with: all cells of a turn's target that have a row are goals.
+pub record AreFirstMarks (p : Description) (g : Game) (kept : List (Option Row)) (j : ℕ) (marks : List Mark) : Type 0 where
+  pub turn_marks : AreTurnMarks g (IsInTarget p j) marks
+  pub all : (c : ℕ) → c < g.cells → IsInTarget p j c → HasRow kept c → mark_at marks c ≡ Goal
 
 -- Rows that lead to the goals among marks by strategies that begin with an input.
 pub record AreTravelRows (g : Game) (marks : List Mark) (rows : List (Option Row)) : Type 0 where
@@ -75,13 +81,15 @@ one_if b = cond b 1 0
 abbrev pub work_left : Progress → ℕ
 work_left p = sum_by (λ marks. count_by is_goal marks) p.marks + sum_by one_if p.due
 
--- A search begins: every turn is due, with all cells of its target as arrivals.
+-- A search begins: every turn is due, and all cells of its target that are kept are its arrivals.
 pub record IsAtStart (p : Description) (g : Game) (t : Progress) : Type 0 where
+  pub kept : List (Option Row)
+  pub keeps : IsKeepSolution g kept
   pub few : length p.targets < 2 ^ 32
   pub mark_lists : length t.marks ≡ length p.targets
   pub row_lists : length t.rows ≡ length p.targets
   pub all_due : t.due ≡ replicate (length p.targets) true
-  pub marked : (j : ℕ) → j < length p.targets → AreFirstMarks p g j (marks_for t.marks j)
+  pub marked : (j : ℕ) → j < length p.targets → AreFirstMarks p g kept j (marks_for t.marks j)
 
 -- The arrivals lie in their targets and hold all cells with so many visits. A turn that isn't due has the rows of its
 -- arrivals, and the arrivals before it have rows for it.

@@ -11,7 +11,10 @@ use Rattle.patrol_game.proofs.TurnsBefore.{next_below}
 use Rattle.patrol_game.proofs.solver.patrol.Goals as goal
 
 pub loop-turn-init : goal.loop-turn-init
-loop-turn-init g c = starts c.args.p.now (g.G.Graph.game c.args.g.now) c.in_ok-turns.turns c.in_ok-turns.ensures
+loop-turn-init g c =
+    let game = g.G.Graph.game c.args.g.now in
+    let lawful : IsGraph game = (g.met.G.Graph g.world.𝓛 g.world.𝓜 g.world.𝓡 ((λ s x. x), (λ x. x), (λ x. x), λ x. x)).lawful c.args.g.now in
+    starts c.args.p.now game c.in_ok-turns.turns lawful.game c.in_ok-turns.ensures
 
 pub loop-turn-smaller : goal.loop-turn-smaller
 loop-turn-smaller g c =

@@ -1,5 +1,7 @@
-use Rattle.std.proofs.Common.{rules}
+use Rattle.std.proofs.Common.{rules, sym, subst}
+use Rattle.patrol_game.specs.inside.Turns.{AreFirstMarks}
 use Rattle.patrol_game.proofs.FirstMarks.{one_turn_more}
+use Rattle.patrol_game.proofs.Withdrawing.{first_from_target}
 use Rattle.patrol_game.proofs.turns.Turns.new.Goals as goal
 
 pub loop-turn-preserved : goal.loop-turn-preserved
@@ -9,5 +11,7 @@ loop-turn-preserved g c =
     record {
       mark_lists = search rules;
       row_lists = search rules;
-      marked = one_turn_more c.args.p.now (g.G.Graph.game c.args.g.now) n c.loop-turn.arrivals.items c.push.new.self.items c.in_ok-first.first before.mark_lists before.marked c.in_ok-first.ensures (search rules);
+      marked = one_turn_more c.args.p.now (g.G.Graph.game c.args.g.now) c.args.kept.now n c.loop-turn.arrivals.items c.push.new.self.items c.withdraw.new.self before.mark_lists before.marked
+          (subst (AreFirstMarks c.args.p.now (g.G.Graph.game c.args.g.now) c.args.kept.now n) (sym c.withdraw.ensures.marks) (first_from_target c.args.p.now (g.G.Graph.game c.args.g.now) c.args.kept.now n c.in_ok-first.first c.in_ok-first.ensures))
+          (search rules);
     }
