@@ -18,6 +18,7 @@ OLD_TABLE = b"table 1\n" + PLANT + b"rows 5\n0 4 1\n1 3 1\n2 2 1\n3 1 1\n4 0 -\n
 KEEP_PLANT = PLANT.replace(b"target 12 14\n", b"").replace(b"reach", b"keep")
 KEEP_TABLE = b"table 2\n" + KEEP_PLANT + b"rows 2\n0 0 - 1\n1 4 - 0\nend\n"
 OLD_KEEP_TABLE = b"table 1\n" + KEEP_PLANT + b"rows 5\n0 - 1\n1 - 0\n2 - 0\n3 - 0\n4 - 0\nend\n"
+SCRIPT = b"".join(b"publish %d\n%sask 1\nask 13\n" % (len(table), table) for table in (OLD_TABLE, KEEP_TABLE, TABLE)) + b"ask -2 3\n"
 CART = b"""plant 1
 state p 0 599 10
 state v -100 99 10
@@ -68,8 +69,9 @@ CHECK = [Form("check", text, oracle.check) for text in TABLES]
 UPGRADE = [Form("upgrade", text, oracle.upgrade) for text in TABLES]
 SIM = [Form("sim 10 0 1", TABLE, oracle.sim(10, 0, 1)), Form("sim 3 0 0", KEEP_TABLE, oracle.sim(3, 0, 0))]
 WORKERS = [Form(f"synth {workers}", text, oracle.synth) for workers in (2, 4) for text in (PLANT, KEEP_PLANT)]
+LIVE = [Form("live 1", SCRIPT, oracle.live), Form("live 3", SCRIPT, oracle.live)]
 DEMO = [Form("demo 1 1", b"", demo), Form("demo 1 2", b"", demo)]
-FORMS = SYNTH + WORKERS + CHECK + UPGRADE + SIM + DEMO
+FORMS = SYNTH + WORKERS + CHECK + UPGRADE + SIM + LIVE + DEMO
 
 
 class Program:
