@@ -11,7 +11,7 @@ import termios
 import time
 
 from . import oracle
-from .program import CHECK, DEMO, FORMS, PATROL, PLANT, SECONDS, SIM, STAY, SYNTH, TABLE, UPGRADE, WORKERS, Form, differs
+from .program import CHECK, DEMO, FORMS, LIVE, PATROL, PLANT, SECONDS, SIM, STAY, SYNTH, TABLE, UPGRADE, WORKERS, Form, differs
 
 MALFORMED = Form("synth 1", PLANT[:-4], oracle.synth)
 USAGE = Form("synth", PLANT, lambda _: oracle.ended(2, line=b"usage\n"))
@@ -27,7 +27,7 @@ def cases(program):
                             ("to a file opened for reading", unwritable)):
             yield f"{form.name} {name}", judge(program, form)
         yield f"{form.name} one byte at a time", slowly(program, form)
-    for form in SYNTH + WORKERS + CHECK + UPGRADE + SIM + STAY[:1] + PATROL[:1]:
+    for form in SYNTH + WORKERS + CHECK + UPGRADE + SIM + STAY[:1] + PATROL[:1] + LIVE:
         for path in ("/", "/proc/self/mem"):
             yield f"{form.name} from {path}", from_path(program, form, path)
         yield f"{form.name} from a source opened for writing", unreadable(program, form)
@@ -41,7 +41,7 @@ def cases(program):
     for taken in (0, 1, PAGE, 100000):
         yield f"synth 1 of 20,000 cells, whose reader goes after {taken} bytes", leaves(program, taken)
     yield "synth 1 of 20,000 cells to a small pipe that doesn't wait", small(program)
-    for form in SYNTH[:1] + WORKERS[:1] + CHECK[:1] + SIM[:1] + DEMO + [USAGE]:
+    for form in SYNTH[:1] + WORKERS[:1] + CHECK[:1] + SIM[:1] + LIVE[:1] + DEMO + [USAGE]:
         for byte in b" \n#\0":
             yield f"{form.name} from 10 GB of {byte:02x}", endless(program, form, bytes([byte]))
 
@@ -214,6 +214,8 @@ def endless(program, form, byte):
             want, most = form.want(), 0
         elif form.words[0] == "synth":
             want, most = oracle.ended(5, line=b"limit: plant text\n"), 65537
+        elif form.words[0] == "live":
+            want, most = oracle.ended(5, line=b"limit: script\n"), oracle.SCRIPT_LIMIT + 1
         else:
             want, most = oracle.ended(5, line=b"limit: table text\n"), oracle.TABLE_LIMIT + 1
         reader, writer = os.pipe()

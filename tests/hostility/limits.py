@@ -1,10 +1,11 @@
 """Texts of exactly a limit's length, and one byte past it. Each limit of a plant has a case in tests/cases."""
 
-from .oracle import TABLE_LIMIT, ended
-from .program import CHECK, PATROL, PLANT, SIM, STAY, SYNTH, TABLE, WORKERS, differs
+from .oracle import SCRIPT_LIMIT, TABLE_LIMIT, ended
+from .program import CHECK, LIVE, PATROL, PLANT, SCRIPT, SIM, STAY, SYNTH, TABLE, WORKERS, differs
 
 PLANT_LIMIT = 65536
 TOO_LONG = ended(5, line=b"limit: table text\n")
+LONG_SCRIPT = ended(5, line=b"limit: script\n")
 
 
 def filled(front, byte, length):
@@ -24,6 +25,12 @@ def cases(program):
                 want = malformed if length <= TABLE_LIMIT else TOO_LONG
                 what = f"{form.name} of {len(front)} bytes of a table, then {byte[0]:02x} up to {length}"
                 yield what, long_text(program, form, (front, byte, length), want)
+    for front, byte, line in ((b"", b" ", 1), (SCRIPT, b"\n", SCRIPT.count(b"\n") + 1), (SCRIPT, b"0", SCRIPT.count(b"\n") + 1)):
+        malformed = ended(3, line=f"malformed: line {line}\n".encode())
+        for length in (SCRIPT_LIMIT - 1, SCRIPT_LIMIT, SCRIPT_LIMIT + 1):
+            want = malformed if length <= SCRIPT_LIMIT else LONG_SCRIPT
+            what = f"{LIVE[0].name} of {len(front)} bytes of a script, then {byte[0]:02x} up to {length}"
+            yield what, long_text(program, LIVE[0], (front, byte, length), want)
 
 
 def judge(program, form, text, want):

@@ -8,9 +8,13 @@ from gaffcurrant_plant.loop import noises
 from gaffcurrant_plant.plant import EDGES
 from gaffcurrant_plant.reader import Draft, Refused, Wrong, read_plant, words_of
 
-TABLE_LIMIT, TURNS = 67108864, 2 ** 22
+TABLE_LIMIT = 67108864
+SCRIPT_LIMIT = 67108864
+TABLES = 8
+TURNS = 2 ** 22
 STATUS = {"malformed": 3, "overflow": 4, "limit": 5}
 DECIMAL = re.compile(rb"(0|[1-9][0-9]*)\Z")
+LITERAL = re.compile(rb"(0|-?[1-9][0-9]{0,17})\Z")
 
 
 def ended(status, output=b"", line=b""):
@@ -273,6 +277,55 @@ def read_table(data):
     return TableReader(data).read()
 
 
+# ---- live scripts
+
+
+class ScriptReader:
+    """Reads a script line by line, and answers its questions by the table that was read last."""
+
+    def __init__(self, data):
+        self.rest, self.line, self.tables = data, 1, []
+
+    def refuse(self, line=None):
+        raise Refused(f"malformed: line {line or self.line}", "")
+
+    def answers(self):
+        if len(self.rest) > SCRIPT_LIMIT:
+            raise Refused("limit: script", "")
+        while self.rest or not self.tables:
+            line, feed, self.rest = self.rest.partition(b"\n")
+            word, *numbers = line.split(b" ") if feed else [b""]
+            if word == b"publish" and len(numbers) == 1 and DECIMAL.match(numbers[0]) and 1 <= int(numbers[0]) <= TABLE_LIMIT:
+                self.publish(int(numbers[0]))
+            elif word == b"ask" and self.tables and 1 <= len(numbers) <= 6 and all(map(LITERAL.match, numbers)):
+                yield f"{len(self.tables)} {number_word(self.choice([int(number) for number in numbers]))}"
+                self.line += 1
+            else:
+                self.refuse()
+
+    def publish(self, size):
+        if len(self.tables) == TABLES:
+            raise Refused("limit: tables", "")
+        text, self.rest = self.rest[:size], self.rest[size:]
+        if len(text) < size:
+            self.refuse()
+        try:
+            self.tables.append(read_table(text))
+        except Refused as refusal:
+            _, malformed, line = refusal.answer.partition("malformed: line ")
+            if malformed:
+                self.refuse(self.line + int(line))
+            raise
+        self.line += 1 + text.count(b"\n")
+
+    def choice(self, state):
+        plant, rows = self.tables[-1]
+        if len(state) != len(plant.states):
+            return None
+        _, vector = rows.get(plant.cell_of(state), (None, None))
+        return vector
+
+
 # ---- the words of the program
 
 
@@ -328,6 +381,13 @@ def upgrade(data):
     except Refused as refusal:
         return refused(refusal)
     return ended(0, table_text(plant, rows))
+
+
+def live(data):
+    try:
+        return ended(0, "".join(line + "\n" for line in ScriptReader(data).answers()).encode())
+    except Refused as refusal:
+        return refused(refusal)
 
 
 def sim(steps, seed, *start):

@@ -20,6 +20,7 @@ KEEP_TABLE = b"table 2\n" + KEEP_PLANT + b"rows 2\n0 0 - 1\n1 4 - 0\nend\n"
 OLD_KEEP_TABLE = b"table 1\n" + KEEP_PLANT + b"rows 5\n0 - 1\n1 - 0\n2 - 0\n3 - 0\n4 - 0\nend\n"
 STAY_PLANT = PLANT.replace(b"-3 3", b"-3 0 3")
 PATROL_PLANT = PLANT.replace(b"target 12 14", b"target 0 2\ntarget 12 14")
+SCRIPT = b"".join(b"publish %d\n%sask 1\nask 13\n" % (len(table), table) for table in (OLD_TABLE, KEEP_TABLE, TABLE)) + b"ask -2 3\n"
 CART = b"""plant 1
 state p 0 599 10
 state v -100 99 10
@@ -72,8 +73,9 @@ SIM = [Form("sim 10 0 1", TABLE, oracle.sim(10, 0, 1)), Form("sim 3 0 0", KEEP_T
 WORKERS = [Form(f"synth {workers}", text, oracle.synth) for workers in (2, 4) for text in (PLANT, KEEP_PLANT)]
 STAY = [Form(f"stay {workers}", STAY_PLANT, oracle.stay) for workers in (1, 2)]
 PATROL = [Form(f"patrol {workers}", PATROL_PLANT, oracle.patrol) for workers in (1, 2)]
+LIVE = [Form("live 1", SCRIPT, oracle.live), Form("live 3", SCRIPT, oracle.live)]
 DEMO = [Form("demo 1 1", b"", demo), Form("demo 1 2", b"", demo)]
-FORMS = SYNTH + WORKERS + CHECK + UPGRADE + SIM + STAY + PATROL + DEMO
+FORMS = SYNTH + WORKERS + CHECK + UPGRADE + SIM + STAY + PATROL + LIVE + DEMO
 
 
 class Program:

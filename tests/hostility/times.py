@@ -12,7 +12,7 @@ from gaffcurrant_plant.expression import walk
 from gaffcurrant_plant.reader import read_plant
 
 from .oracle import TABLE_LIMIT, row_text
-from .program import CART, CHECK, SYNTH, WORKERS
+from .program import CART, CHECK, LIVE, SYNTH, TABLE, WORKERS
 
 FEW = 8
 # Numbers past 64 bits are evaluated one by one, and a quotient of theirs takes two divisions of 128 bits.
@@ -165,6 +165,22 @@ def table_texts():
     yield "60 MB in one row", FEW, lambda: table(million, 1, b"")[:-4] + b"9" * (6 * 10 ** 7)
 
 
+# ---- live scripts, which are answered
+
+
+def published(text):
+    return b"publish %d\n" % len(text) + text
+
+
+def script_texts():
+    yield "a table of 1 MB", FEW, lambda: published(table(72000, 72000, b"end\n"))
+    yield "8 tables of 7 MB", FEW, lambda: published(table(2 ** 20, 420000, b"end\n")) * 8
+    for name, question in (("one number", b"ask 1\n"), ("one number outside the ranges", b"ask 999999999999999999\n"),
+                           ("six numbers", b"ask 1 1 1 1 1 1\n")):
+        for size in (10 ** 6, 6 * 10 ** 7):
+            yield f"{size // 10 ** 6} MB of questions of {name}", FEW, lambda q=question, s=size: published(TABLE) + q * (s // len(q))
+
+
 # ---- plants that are solved
 
 
@@ -269,6 +285,9 @@ def cases(program):
     tables = Table(program, CHECK[0], "bytes", 3)
     for name, most, text in table_texts():
         yield tables.measure(name, text, len, most)
+    scripts = Table(program, LIVE[0], "bytes", 3)
+    for name, most, text in script_texts():
+        yield scripts.measure(name, text, len, most)
     for form in (SYNTH[0], WORKERS[2]):
         games = Table(program, form, "cells, pairs, edges", 1)
         for name, text, edges in plants():

@@ -1,13 +1,16 @@
-//! The program: hands its words and its standard streams to `run`, and ends with the status.
+//! The program: hands its words and its standard streams to `run`, or to `run_live` for the word `live`, and ends
+//! with the status.
 #![tactic(auto)]
 
 mod streams;
 
+use live_run::run_live;
 use std::alloc::{AllocError, Global};
 use std::env;
 use std::io::ErrorKind;
 use std::process::ExitCode;
 use std::rt::Env;
+use std::sync::Wait;
 use std::thread::Threads;
 use streams::{StdErrSink, StdSink, StdSource};
 use synth_run::{Open, run};
@@ -28,16 +31,24 @@ fn main(rt: HostRuntime) -> ExitCode {
         Ok(words) => words,
         Err(_) => return ExitCode::from(NO_MEMORY),
     };
-    ExitCode::from(run(
-        &rt,
-        rt.alloc(),
-        &words,
-        &mut source,
-        &mut out,
-        &mut err,
-        &Open,
-        &mut None,
-    ))
+    let status = carry_out(&rt, rt.alloc(), &words, &mut source, &mut out, &mut err);
+    ExitCode::from(status)
+}
+
+/// Does what the words ask for, and answers the exit status.
+fn carry_out<R: Threads + Wait + Sync>(
+    rt: &R,
+    alloc: Global,
+    words: &[&str],
+    source: &mut StdSource,
+    out: &mut StdSink,
+    err: &mut StdErrSink,
+) -> u8 {
+    if words.first().is_some_and(|word| *word == "live") {
+        run_live(rt, alloc, words, source, out, err)
+    } else {
+        run(rt, alloc, words, source, out, err, &Open, &mut None)
+    }
 }
 
 /// The words behind the program's name, or the status that their lack gives.
