@@ -5,7 +5,8 @@ import os
 import random
 from pathlib import Path
 
-from gaffcurrant_plant.expression import SHAPES, parts_of, value_at
+from gaffcurrant_plant.bounds import SHAPES, value_at
+from gaffcurrant_plant.expression import parts_of
 from gaffcurrant_plant.reader import read_plant
 
 from .oracle import TableReader

@@ -3,7 +3,8 @@
 import itertools
 import random
 
-from gaffcurrant_plant.expression import Fault, bounds_of, compiled, compiled_span, parse, span_of, text_of
+from gaffcurrant_plant.bounds import bounds_of, compiled, compiled_span, span_of
+from gaffcurrant_plant.expression import Fault, parse, text_of
 from gaffcurrant_plant.reader import Refused, read_plant
 from gaffcurrant_plant.table import read_table, text_of_table
 

@@ -1,6 +1,6 @@
 """Plants and tables of Gaffcurrant for Python: solving, choosing inputs, simulating; docs/PYTHON.md tells how.
 
-`solving` has what a notebook needs; `expression` reads and bounds one equation, `reader` reads a plant text and says why a line is
+`solving` has what a notebook needs; `expression` reads one equation and `bounds` bounds it, `reader` reads a plant text and says why a line is
 refused, `plant` has the cells and the boxes, `table` what the program writes of it, `rows` reads the row lines, `loop` runs, `command` what every
 program of tools/ does alike. docs/FORMATS.md gives the texts, docs/DEFINITIONS.md the words."""
 

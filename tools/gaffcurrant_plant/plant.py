@@ -3,8 +3,9 @@
 import math
 import random
 
+from .bounds import TOP, Overflow, bounds_of, compiled, compiled_span
 from .counting import TooMuch, edges_of
-from .expression import TOP, Overflow, bounds_of, compiled, compiled_span, text_of, uses_of
+from .expression import text_of, uses_of
 
 CELLS, VECTORS, PAIRS, EDGES = 2 ** 20, 4096, 2 ** 22, 2 ** 25
 
