@@ -9,7 +9,7 @@ use Rattle.std.proofs.lemmas.List.Folds.{list_all-append}
 use Rattle.std.proofs.lemmas.List.Sums.{fold-append}
 use Rattle.plant_record.specs.Names.{is_digit}
 use Rattle.controller_table.specs.inside.Numbers.{IsNumberTo}
-use Rattle.controller_table.proofs.Cuts.{one_cut, not_both}
+use Rattle.row_runs.proofs.Cuts.{one_cut, not_both}
 
 -- ---- digits
 

@@ -1,7 +1,5 @@
 pub mod Digits
 pub mod Text
-pub mod Lines
-pub mod Cuts
 pub mod RunWords
 pub mod LinesRead
 pub mod Fitting

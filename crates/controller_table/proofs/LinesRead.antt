@@ -11,8 +11,7 @@ use Rattle.row_runs.specs.declared.run.Run.{Run}
 use Rattle.row_runs.specs.declared.run.Version.{Version}
 use Rattle.row_runs.specs.declared.run.Version.TheVariants.{First, Second}
 use Rattle.row_runs.specs.Runs.{HasCells}
-use Rattle.row_runs.specs.RunText.{input_word}
-use Rattle.controller_table.specs.TableText.{count_line}
+use Rattle.row_runs.specs.RunText.{input_word, count_line}
 use Rattle.controller_table.specs.inside.Numbers.{IsNumberTo}
 use Rattle.controller_table.specs.inside.Reading.{IsLastAt, IsRowAt, IsRunAt, row_words, last_words}
 use Rattle.controller_table.proofs.Digits.{one_number}

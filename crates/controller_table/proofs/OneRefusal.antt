@@ -19,14 +19,14 @@ use Rattle.controller_table.specs.declared.fault.TableFault.TheVariants as fault
 use Rattle.row_runs.specs.declared.run.Run.{Run}
 use Rattle.row_runs.specs.declared.run.Version.{Version}
 use Rattle.row_runs.specs.Runs.{MayLead, AreRuns}
-use Rattle.row_runs.specs.RunText.{run_line}
-use Rattle.controller_table.specs.TableText.{words_of, count_line, end_line, version_line, lines_behind}
+use Rattle.row_runs.specs.RunText.{run_line, count_line, end_line}
+use Rattle.controller_table.specs.TableText.{words_of, version_line, lines_behind}
 use Rattle.controller_table.specs.Tables.{RowsFit, IsTable}
 use Rattle.controller_table.specs.RowLines.{IsRunOf, AreRunsOf, AreRowLines, AreWhole, MayStand, IsFirstRefusedBehind}
 use Rattle.controller_table.specs.Refusals.{IsShortTable, line_count, HasNoVersion, IsPlantRefusedFor, AreRowsRefusedAt, IsFirstRefusedInTable, ExceedsTableLimit}
 use Rattle.controller_table.specs.Laws.{OneTableRefusal, TableOrRefused, TablesAreShort}
-use Rattle.controller_table.proofs.Lines.{IsLine, one_line}
-use Rattle.controller_table.proofs.RunWords.{count_is_line}
+use Rattle.row_runs.proofs.Lines.{IsLine, one_line}
+use Rattle.row_runs.proofs.RunWords.{count_is_line}
 use Rattle.controller_table.proofs.OneTable.{one_version, whole_lines, row_lines_are_lines, whole_are_lines}
 use Rattle.controller_table.proofs.Standing.{nothing_next}
 

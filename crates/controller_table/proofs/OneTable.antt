@@ -1,6 +1,6 @@
 -- Bytes are the table of one plant and of one list of rows.
-use Rattle.std.proofs.Common.{inl, inr, ◌≡◌, ℕ, suc, ◌<◌, ◌≤◌, Bool, true, false, ◌&&◌, List, [], ◌∷◌, ◌++◌, length, length-append, map, drop, get_or, Option, Some, None, refl, sym, ap, subst, ◌∙◌, append_assoc, arith}
-use Rattle.std.specs.Prelude.{ℤ, IfSome, ◌==◌, if◌then◌else◌}
+use Rattle.std.proofs.Common.{inl, inr, ◌≡◌, ℕ, ◌<◌, List, [], ◌∷◌, ◌++◌, length, map, drop, get_or, Option, Some, None, refl, sym, ap, subst, ◌∙◌, append_assoc, arith}
+use Rattle.std.specs.Prelude.{ℤ, IfSome}
 use Rattle.std.specs.List.{AllByRecursion, concat}
 use Rattle.std.proofs.lemmas.Bool.{cases_lt}
 use Rattle.std.proofs.lemmas.List.{length-map, get_or_past}
@@ -17,17 +17,19 @@ use Rattle.plant_text.specs.Laws.{OnePlantAtTheFront}
 use Rattle.row_runs.specs.declared.run.Run.{Run}
 use Rattle.row_runs.specs.declared.run.Version.{Version}
 use Rattle.row_runs.specs.declared.run.Version.TheVariants.{First, Second}
-use Rattle.row_runs.specs.Runs.{runs_from, prepend_row, is_same_row, AreRuns, Gives}
-use Rattle.row_runs.specs.RunText.{run_line}
+use Rattle.row_runs.specs.Runs.{runs_from, AreRuns, Gives}
+use Rattle.row_runs.specs.RunText.{run_line, count_line, end_line}
 use Rattle.row_runs.proofs.RunLaws.{runs_tell, tell_apart, forward}
-use Rattle.controller_table.specs.TableText.{words_of, count_line, end_line, version_line, row_lines, lines_behind}
+use Rattle.controller_table.specs.TableText.{words_of, version_line, row_lines, lines_behind}
 use Rattle.controller_table.specs.Tables.{IsRowOf, RowsFit, IsTable}
 use Rattle.controller_table.specs.Choice.{HasRowAt, Applies}
 use Rattle.controller_table.specs.RowLines.{IsRunOf, AreRunsOf, AreRowLines, AreWhole}
 use Rattle.controller_table.specs.Laws.{OneTablePerText, OneChoice, OneRank}
-use Rattle.controller_table.proofs.Lines.{IsLine, one_line}
+use Rattle.row_runs.proofs.Lines.{IsLine, same_lines, lines_then, same_front}
+use Rattle.row_runs.proofs.FewRuns.{few_runs}
+use Rattle.row_runs.proofs.RunWords.{count_is_line, end_is_line}
 use Rattle.controller_table.specs.inside.Reading.{IsSpelled}
-use Rattle.controller_table.proofs.RunWords.{count_is_line, end_is_line, run_is_line, run_same}
+use Rattle.controller_table.proofs.RunWords.{run_is_line, run_same}
 use Rattle.controller_table.proofs.Fitting.{spelled_runs}
 
 -- ---- the first line
@@ -63,20 +65,6 @@ module _ (p : Description) (rows : List (Option Row)) (fit : RowsFit p rows) whe
       let own = runs_tell v rows in
       record { order = own.0; each = All-from_recursion (IsRunOf p) (runs_from v 0 rows) (each_run v (runs_from v 0 rows) own.0 (λ c row given. (own.1 c row).1 given)) }
 
-one_put : (v : Version) (c : ℕ) (row : Row) (runs : List Run) → length (prepend_row v c row runs) ≤ suc (length runs)
-one_put First c row runs = omega arith
-one_put Second c row [] = omega arith
-one_put Second c row (r ∷ runs) = either ((r.first == suc c) && is_same_row row r.row)
-  where
-    either : (b : Bool) → length (if b then record { first = c; last = r.last; row = row } ∷ runs else record { first = c; last = c; row = row } ∷ r ∷ runs) ≤ suc (suc (length runs))
-    either true = omega arith
-    either false = omega arith
-
-pub few_runs : (v : Version) (c : ℕ) (rows : List (Option Row)) → length (runs_from v c rows) ≤ length rows
-few_runs v c [] = omega arith
-few_runs v c (None ∷ rows) = omega (arith, few_runs v (suc c) rows)
-few_runs v c (Some row ∷ rows) = omega (arith, few_runs v (suc c) rows, one_put v c row (runs_from v (suc c) rows))
-
 -- the lines of a table are whole
 pub whole_lines : (v : Version) (p : Description) (rows : List (Option Row)) → RowsFit p rows → AreWhole v p (lines_behind v p.goal rows)
 whole_lines v p rows fit = record {
@@ -88,21 +76,9 @@ whole_lines v p rows fit = record {
 
 -- ---- lines that are told apart
 
-pub same_lines : (ks ls : List (List ℕ)) → AllByRecursion IsLine ks → AllByRecursion IsLine ls → concat ks ≡ concat ls → ks ≡ ls
-same_lines [] [] h k e = refl
-same_lines [] (l ∷ ls) h k e = absurd (let size = length-append l (concat ls) in let one = ap length k.0.are in let last = length-append k.0.front (10 ∷ []) in omega (arith, ap length e, size, one, last))
-same_lines (l ∷ ls) [] h k e = absurd (let size = length-append l (concat ls) in let one = ap length h.0.are in let last = length-append h.0.front (10 ∷ []) in omega (arith, ap length e, size, one, last))
-same_lines (x ∷ ks) (y ∷ ls) h k e =
-    let same = one_line x y (concat ks) (concat ls) h.0 k.0 e in
-    ap (λ (z : List ℕ). z ∷ ks) same.line ∙ ap (λ (z : List (List ℕ)). y ∷ z) (same_lines ks ls h.1 k.1 same.rest)
-
 runs_are_lines : (v : Version) (p : Description) (runs : List Run) → AllByRecursion (IsSpelled v p.goal) runs → AllByRecursion IsLine (map (run_line v (words_of p.goal)) runs)
 runs_are_lines v p [] h = tt
 runs_are_lines v p (r ∷ runs) h = (run_is_line v p.goal r h.0, runs_are_lines v p runs h.1)
-
-pub lines_then : (ks ls : List (List ℕ)) → AllByRecursion IsLine ks → AllByRecursion IsLine ls → AllByRecursion IsLine (ks ++ ls)
-lines_then [] ls h k = k
-lines_then (l ∷ ks) ls h k = (h.0, lines_then ks ls h.1 k)
 
 pub row_lines_are_lines : (v : Version) (p : Description) (lines : List (List ℕ)) → IsWithinLimits p → AreRowLines v p lines → AllByRecursion IsLine lines
 row_lines_are_lines v p lines within h = subst (AllByRecursion IsLine) (sym h.2) (runs_are_lines v p h.0 (spelled_runs v p h.0 within h.1))
@@ -113,17 +89,6 @@ whole_are_lines v p lines within w =
     subst (AllByRecursion IsLine) (sym w.are) (count_is_line (length w.rows) (omega (arith, w.count_bound, cells)), lines_then w.rows (end_line ∷ []) (row_lines_are_lines v p w.rows within w.row_lines) (end_is_line, tt))
 
 -- ---- rows from their runs
-
-same_front : (xs ys : List (List ℕ)) (z : List ℕ) → xs ++ z ∷ [] ≡ ys ++ z ∷ [] → xs ≡ ys
-same_front [] [] z e = refl
-same_front [] (y ∷ []) z e = absurd (let h = e in cc)
-same_front [] (y ∷ x ∷ ys) z e = absurd (let h = e in cc)
-same_front (x ∷ []) [] z e = absurd (let h = e in cc)
-same_front (x ∷ y ∷ xs) [] z e = absurd (let h = e in cc)
-same_front (x ∷ xs) (y ∷ ys) z e =
-    let head : x ≡ y = (let h = e in cc) in
-    let tail : xs ++ z ∷ [] ≡ ys ++ z ∷ [] = (let h = e in cc) in
-    ap (λ (w : List ℕ). w ∷ xs) head ∙ ap (λ (w : List (List ℕ)). y ∷ w) (same_front xs ys z tail)
 
 same_runs : (v : Version) (p : Description) (rs ss : List Run) → AllByRecursion (IsSpelled v p.goal) rs → AllByRecursion (IsSpelled v p.goal) ss → map (run_line v (words_of p.goal)) rs ≡ map (run_line v (words_of p.goal)) ss → rs ≡ ss
 same_runs v p [] [] h k e = refl

@@ -17,7 +17,8 @@ use Rattle.controller_table.specs.declared.fault.TableFault.{TableFault}
 use Rattle.controller_table.specs.declared.fault.TableFault.TheVariants as faults
 use Rattle.row_runs.specs.declared.run.Version.{Version}
 use Rattle.row_runs.specs.declared.run.Version.TheVariants.{First, Second}
-use Rattle.controller_table.specs.TableText.{version_line, lines_behind, end_line}
+use Rattle.controller_table.specs.TableText.{version_line, lines_behind}
+use Rattle.row_runs.specs.RunText.{end_line}
 use Rattle.controller_table.specs.Tables.{RowsFit, IsTableIn}
 use Rattle.controller_table.specs.RowLines.{MayStand, IsFirstRefusedBehind}
 use Rattle.controller_table.specs.Refusals.{IsShortTable, line_count, HasNoVersion, IsTableRefusedFor, ExceedsTableLimit}

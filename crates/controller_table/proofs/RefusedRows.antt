@@ -13,9 +13,9 @@ use Rattle.plant_record.specs.Limits.{IsWithinLimits}
 use Rattle.row_runs.specs.declared.run.Run.{Run}
 use Rattle.row_runs.specs.declared.run.Version.{Version}
 use Rattle.row_runs.specs.Runs.{runs_from, Gives}
-use Rattle.row_runs.specs.RunText.{run_line}
+use Rattle.row_runs.specs.RunText.{run_line, count_line, end_line}
 use Rattle.row_runs.proofs.RunLaws.{runs_tell, one_list}
-use Rattle.controller_table.specs.TableText.{words_of, count_line, end_line, lines_behind}
+use Rattle.controller_table.specs.TableText.{words_of, lines_behind}
 use Rattle.controller_table.specs.Tables.{IsRowOf, RowsFit}
 use Rattle.controller_table.specs.RowLines.{IsRunOf, IsFirstRefusedBehind}
 use Rattle.controller_table.specs.declared.fault.TableFault.{TableFault}

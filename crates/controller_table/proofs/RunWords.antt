@@ -14,11 +14,11 @@ use Rattle.plant_reading.specs.Separators.{is_separator, is_word}
 use Rattle.row_runs.specs.declared.run.Run.{Run}
 use Rattle.row_runs.specs.declared.run.Version.{Version}
 use Rattle.row_runs.specs.declared.run.Version.TheVariants.{First, Second}
-use Rattle.row_runs.specs.RunText.{rank_word, input_word, run_line}
-use Rattle.controller_table.specs.TableText.{words_of, count_line, end_line}
+use Rattle.row_runs.specs.RunText.{rank_word, input_word, run_line, count_line}
+use Rattle.controller_table.specs.TableText.{words_of}
 use Rattle.controller_table.specs.inside.Reading.{IsSpelled, IsSpelledRow, TellsAll, row_words, last_words}
-use Rattle.controller_table.proofs.Cuts.{one_cut}
-use Rattle.controller_table.proofs.Lines.{IsLine, no_feed}
+use Rattle.row_runs.proofs.Cuts.{one_cut}
+use Rattle.row_runs.proofs.Lines.{IsLine, no_feed}
 
 -- ---- words
 
@@ -74,12 +74,6 @@ run_words Second goal r behind = spaced_all (decimal r.first) (decimal r.last) (
 
 pub count_words : (n : ℕ) (behind : List ℕ) → count_line n ++ behind ≡ codes "rows " ++ (decimal n ++ 10 ∷ behind)
 count_words n behind = ap (λ (x : List ℕ). codes "rows " ++ x) (append_assoc (decimal n) (10 ∷ []) behind)
-
-pub count_is_line : (n : ℕ) → n < 2 ^ 64 → IsLine (count_line n)
-count_is_line n lt = record { front = codes "rows " ++ decimal n; no_other = word_no_feed (decimal n) (decimal_word n lt); are = refl }
-
-pub end_is_line : IsLine end_line
-end_is_line = record { front = codes "end"; no_other = refl; are = refl }
 
 both_no_feed : (a b : List ℕ) → list_all no_feed a ≡ true → list_all no_feed b ≡ true → list_all no_feed (a ++ 32 ∷ b) ≡ true
 both_no_feed a b h k = list_all-append no_feed a (32 ∷ b) ∙ rw (h, k) refl

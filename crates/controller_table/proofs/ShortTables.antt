@@ -16,12 +16,13 @@ use Rattle.row_runs.specs.declared.run.Run.{Run}
 use Rattle.row_runs.specs.declared.run.Version.{Version}
 use Rattle.row_runs.specs.declared.run.Version.TheVariants.{First, Second}
 use Rattle.row_runs.specs.Runs.{HasCells, AreRuns, runs_from}
-use Rattle.row_runs.specs.RunText.{run_line, rank_word, input_word}
-use Rattle.controller_table.specs.TableText.{words_of, count_line, end_line, version_line, lines_behind}
+use Rattle.row_runs.specs.RunText.{run_line, rank_word, input_word, count_line, end_line}
+use Rattle.controller_table.specs.TableText.{words_of, version_line, lines_behind}
 use Rattle.controller_table.specs.Tables.{HasFittingRank, RowsFit}
 use Rattle.controller_table.specs.RowLines.{IsRunOf}
 use Rattle.controller_table.specs.Laws.{TablesAreShort}
-use Rattle.controller_table.proofs.OneTable.{fitting_runs, few_runs}
+use Rattle.row_runs.proofs.FewRuns.{few_runs}
+use Rattle.controller_table.proofs.OneTable.{fitting_runs}
 use Rattle.controller_table.proofs.PlantLength.{plant_length}
 use Rattle.controller_table.proofs.Text.{behind_text, runs_text}
 

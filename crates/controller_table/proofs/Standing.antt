@@ -7,8 +7,8 @@ use Rattle.plant_record.specs.Description.{Description, axes_of}
 use Rattle.plant_record.specs.Limits.{IsWithinLimits}
 use Rattle.row_runs.specs.declared.run.Run.{Run}
 use Rattle.row_runs.specs.declared.run.Version.{Version}
-use Rattle.row_runs.specs.RunText.{run_line}
-use Rattle.controller_table.specs.TableText.{words_of, count_line, end_line}
+use Rattle.row_runs.specs.RunText.{run_line, count_line, end_line}
+use Rattle.controller_table.specs.TableText.{words_of}
 use Rattle.controller_table.specs.RowLines.{AreRunsOf, AreRowLines, AreBegun, AreWhole, MayStand}
 use Rattle.controller_table.specs.inside.Reading.{IsSpelled}
 use Rattle.controller_table.proofs.RunWords.{count_same, run_same}

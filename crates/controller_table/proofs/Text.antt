@@ -1,16 +1,17 @@
 -- The text of a table in its pieces.
-use Rattle.std.proofs.Common.{◌≡◌, ℕ, List, [], ◌∷◌, ◌++◌, length, map, Option, sym, ap, ◌∙◌, append_assoc, append-nil}
+use Rattle.std.proofs.Common.{◌≡◌, ℕ, List, [], ◌∷◌, ◌++◌, length, map, Option, ap, ◌∙◌, append-nil}
 use Rattle.std.specs.List.{concat}
 use Rattle.std.proofs.lemmas.List.{length-map}
 use Rattle.std.proofs.lemmas.List.Folds.{concat-append}
 use Rattle.game_core.specs.declared.game.Row.{Row}
 use Rattle.row_runs.specs.declared.run.Version.{Version}
 use Rattle.row_runs.specs.Runs.{runs_from}
-use Rattle.row_runs.specs.RunText.{run_line}
+use Rattle.row_runs.specs.RunText.{run_line, count_line, end_line}
 use Rattle.plant_record.specs.declared.aims.GoalKind.{GoalKind}
 use Rattle.plant_record.specs.Description.{Description}
 use Rattle.plant_writing.specs.CanonicalText.{text_of}
-use Rattle.controller_table.specs.TableText.{written, words_of, count_line, end_line, version_line, lines_behind, table_text}
+use Rattle.row_runs.proofs.FramedRows.{framed_rows}
+use Rattle.controller_table.specs.TableText.{written, words_of, version_line, lines_behind, table_text}
 
 -- the lines of the rows
 abbrev pub runs_text : Version → GoalKind → List (Option Row) → List ℕ
@@ -23,9 +24,4 @@ behind_text v goal rows =
     ∙ ap (λ (x : List ℕ). count_line (length (runs_from v 0 rows)) ++ x) (concat-append lines (end_line ∷ []) ∙ ap (λ (x : List ℕ). concat lines ++ x) (append-nil end_line))
 
 pub whole_text : (p : Description) (rows : List (Option Row)) (n : ℕ) (front lines : List ℕ) → n ≡ length (runs_from written 0 rows) → front ≡ version_line written ++ text_of p ++ count_line n → lines ≡ runs_text written p.goal rows → front ++ (lines ++ end_line) ≡ table_text written p rows
-whole_text p rows n front lines count front_is lines_are =
-    ap (λ (x : List ℕ). x ++ (lines ++ end_line)) front_is
-    ∙ ap (λ (x : List ℕ). (version_line written ++ text_of p ++ count_line n) ++ (x ++ end_line)) lines_are
-    ∙ ap (λ (k : ℕ). (version_line written ++ text_of p ++ count_line k) ++ (runs_text written p.goal rows ++ end_line)) count
-    ∙ append_assoc (version_line written ++ text_of p) (count_line (length (runs_from written 0 rows))) (runs_text written p.goal rows ++ end_line)
-    ∙ ap (λ (x : List ℕ). version_line written ++ text_of p ++ x) (sym (behind_text written p.goal rows))
+whole_text p rows n front lines count front_is lines_are = framed_rows (version_line written) (text_of p) (words_of p.goal) rows n front lines count front_is lines_are

@@ -4,10 +4,10 @@ use Rattle.std.specs.List.{All, concat}
 use Rattle.row_runs.specs.declared.run.Run.{Run}
 use Rattle.row_runs.specs.declared.run.Version.{Version}
 use Rattle.row_runs.specs.Runs.{AreRuns}
-use Rattle.row_runs.specs.RunText.{run_line}
+use Rattle.row_runs.specs.RunText.{run_line, count_line, end_line}
 use Rattle.grid_quantiser.specs.Axes.{cells_of}
 use Rattle.plant_record.specs.Description.{Description, axes_of}
-use Rattle.controller_table.specs.TableText.{words_of, count_line, end_line}
+use Rattle.controller_table.specs.TableText.{words_of}
 use Rattle.controller_table.specs.Tables.{IsRowOf}
 
 -- A run of cells of the plant with a row that they may have.

@@ -1,14 +1,13 @@
 -- The text of a table, by its version: the plant's text, and lines for the runs of its rows.
 use Rattle.std.specs.Prelude.{ℕ, List, [], ◌∷◌, ◌++◌, length, map, Option, codes}
 use Rattle.std.specs.List.{concat}
-use Rattle.std.specs.Fmt.{decimal}
 use Rattle.game_core.specs.declared.game.Row.{Row}
 use Rattle.row_runs.specs.declared.row_words.RowWords.{RowWords}
 use Rattle.row_runs.specs.declared.row_words.RowWords.TheVariants.{InputAboveZero, InputAlone}
 use Rattle.row_runs.specs.declared.run.Version.{Version}
 use Rattle.row_runs.specs.declared.run.Version.TheVariants.{First, Second}
 use Rattle.row_runs.specs.Runs.{runs_from}
-use Rattle.row_runs.specs.RunText.{line, run_line}
+use Rattle.row_runs.specs.RunText.{line, run_line, count_line, end_line}
 use Rattle.plant_record.specs.declared.aims.GoalKind.{GoalKind}
 use Rattle.plant_record.specs.declared.aims.GoalKind.TheVariants.{Reach, Keep}
 use Rattle.plant_record.specs.Description.{Description}
@@ -35,13 +34,6 @@ row_lines version goal rows = map (run_line version (words_of goal)) (runs_from 
 abbrev pub version_line : Version → List ℕ
 version_line First = line (codes "table" ∷ codes "1" ∷ [])
 version_line Second = line (codes "table" ∷ codes "2" ∷ [])
-
--- the line that tells how many row lines follow
-abbrev pub count_line : ℕ → List ℕ
-count_line n = line (codes "rows" ∷ decimal n ∷ [])
-
-abbrev pub end_line : List ℕ
-end_line = line (codes "end" ∷ [])
 
 -- the lines behind the plant's text
 abbrev pub lines_behind : Version → GoalKind → List (Option Row) → List (List ℕ)

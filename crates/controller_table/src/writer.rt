@@ -1,5 +1,6 @@
 ghost use Rattle.std.specs.Prelude.{◌≡◌, ◌<◌, ◌++◌, length, take, drop, min, IfOk};
-ghost use Rattle.controller_table.specs.TableText.{written, table_text, count_line, version_line};
+ghost use Rattle.controller_table.specs.TableText.{written, table_text, version_line};
+ghost use Rattle.row_runs.specs.RunText.{count_line};
 ghost use Rattle.controller_table.specs.Tables.{RowsFit};
 ghost use Rattle.plant_writing.specs.CanonicalText.{text_of};
 
@@ -9,35 +10,23 @@ use crate::words::words_of;
 use game_core::Answer;
 use plant_record::Plant;
 use plant_writing::write_plant;
-use row_runs::{LineText, RunLines, count_runs};
+use row_runs::{FramedText, LineText, RunLines, count_runs};
 use std::alloc::Global;
 use std::marker::Model;
-use text_pieces::{Pieces, copy_front};
-
-/// The last line.
-const END: &[u8] = b"end\n";
+use text_pieces::Pieces;
 
 /// Writes the text of a table piece by piece. Seen as the bytes that are still to come.
 #[derive(Drop)]
 pub struct TableWriter<'a> {
-    /// The lines up to that on the number of runs, and how many of their bytes are written.
-    front: Vec<u8>,
-    at: usize,
-    /// The lines of the runs.
-    lines: RunLines<'a>,
-    /// How many bytes of the last line are written.
-    end_at: usize,
+    text: FramedText<RunLines<'a>>,
 }
 
 impl<'a> Model for TableWriter<'a> {
-    ghost use Rattle.std.specs.Prelude.{List, ℕ, ◌++◌, drop, ◌≤◌, length};
-    ghost use Rattle.controller_table.specs.TableText.{end_line};
+    ghost use Rattle.std.specs.Prelude.{List, ℕ};
 
     ghost Value = { List ℕ };
 
-    ghost view = { λ w. drop w.at w.front.items ++ (w.lines ++ drop w.end_at end_line) };
-
-    ghost invariant = { λ w. (w.at ≤ length w.front.items) × (w.end_at ≤ length end_line) };
+    ghost view = { λ w. w.text };
 }
 
 impl<'a> TableWriter<'a> {
@@ -47,11 +36,9 @@ impl<'a> TableWriter<'a> {
         ensures { IfOk result (λ w. w ≡ table_text written p.now a.now) }
     {
         let front = front_of(alloc, p, count_runs(a))?;
+        let lines = RunLines::new(words_of(p.goal()), a);
         Ok(TableWriter {
-            front,
-            at: 0,
-            lines: RunLines::new(words_of(p.goal()), a),
-            end_at: 0,
+            text: FramedText::new(front, lines),
         })
     }
 
@@ -77,18 +64,7 @@ impl Pieces for TableWriter<'_> {
     ghost left = { λ w. w };
 
     fn copy_some(&mut self, buf: &mut [u8]) -> usize {
-        if self.at < self.front.len() {
-            let count = copy_front(&self.front[self.at..], buf);
-            self.at += count;
-            return count;
-        }
-        let count = self.lines.copy_some(buf);
-        if count > 0 {
-            return count;
-        }
-        let count = copy_front(&END[self.end_at..], buf);
-        self.end_at += count;
-        count
+        self.text.copy_some(buf)
     }
 }
 
@@ -97,9 +73,7 @@ fn front_of(alloc: Global, p: &Plant, runs: u32) -> Result<Vec<u8>, NoMemory>
     ensures { IfOk result (λ front. front.items ≡ version_line written ++ text_of p.now ++ count_line runs) }
 {
     let mut line = LineText::empty();
-    line.begin();
-    line.put_number_before(runs);
-    line.put_before(b"rows ");
+    line.write_count(runs);
     let mut front = Vec::from_slice(alloc, b"table 2\n")?;
     write_plant(alloc, p, &mut front)?;
     front.extend_from_slice(line.as_slice())?;

@@ -8,7 +8,7 @@ use Rattle.plant_reading.specs.Separators.{is_separator, is_word}
 use Rattle.plant_reading.proofs.lemmas.Positions.{place_some, place_none}
 use Rattle.plant_reading.proofs.lemmas.NumberBytes.{number_word}
 use Rattle.plant_reading.proofs.lemmas.NumberWords.{one_number}
-use Rattle.controller_table.proofs.Cuts.{one_cut}
+use Rattle.row_runs.proofs.Cuts.{one_cut}
 use Rattle.live_script.specs.inside.Words.{BeginsWithSeparator}
 
 -- ---- the first separator

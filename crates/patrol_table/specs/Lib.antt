@@ -1,2 +1,3 @@
 pub mod PatrolText
 pub mod Patrols
+pub mod inside

@@ -5,3 +5,8 @@ pub mod NextRows
 pub mod MoreRuns
 pub mod SameRows
 pub mod RunLaws
+pub mod Cuts
+pub mod Lines
+pub mod FewRuns
+pub mod RunWords
+pub mod FramedRows

@@ -1,5 +1,5 @@
 -- The lines that tell runs of rows.
-use Rattle.std.specs.Prelude.{ℕ, ◌==◌, List, [], ◌∷◌, ◌++◌, codes, if◌then◌else◌}
+use Rattle.std.specs.Prelude.{ℕ, ◌==◌, List, [], ◌∷◌, ◌++◌, map, Option, codes, if◌then◌else◌}
 use Rattle.std.specs.List.{join_with_byte}
 use Rattle.std.specs.Fmt.{decimal}
 use Rattle.game_core.specs.declared.game.Row.{Row}
@@ -8,6 +8,7 @@ use Rattle.row_runs.specs.declared.row_words.RowWords.TheVariants.{InputAboveZer
 use Rattle.row_runs.specs.declared.run.Run.{Run}
 use Rattle.row_runs.specs.declared.run.Version.{Version}
 use Rattle.row_runs.specs.declared.run.Version.TheVariants.{First, Second}
+use Rattle.row_runs.specs.Runs.{runs_from}
 
 -- words with a space between two, and a line feed
 abbrev pub line : List (List ℕ) → List ℕ
@@ -28,3 +29,15 @@ abbrev pub run_line : Version → RowWords → Run → List ℕ
 run_line First words r = line (decimal r.first ∷ rank_word words r.row ∷ input_word words r.row ∷ [])
 run_line Second words r =
     line (decimal r.first ∷ decimal r.last ∷ rank_word words r.row ∷ input_word words r.row ∷ [])
+
+-- the lines of the longest runs of cells with one row, in these words
+abbrev pub run_lines : RowWords → List (Option Row) → List (List ℕ)
+run_lines words rows = map (run_line Second words) (runs_from Second 0 rows)
+
+-- the line that tells how many lines of runs follow
+abbrev pub count_line : ℕ → List ℕ
+count_line n = line (codes "rows" ∷ decimal n ∷ [])
+
+-- the last line of a text that has runs
+abbrev pub end_line : List ℕ
+end_line = line (codes "end" ∷ [])

@@ -1,6 +1,6 @@
 ghost use Rattle.std.specs.Prelude.{◌≡◌, ◌+◌, ◌<◌, ◌≤◌, ◌∷◌, ◌++◌, [], length, drop};
 ghost use Rattle.std.specs.Fmt.{decimal};
-ghost use Rattle.row_runs.specs.RunText.{rank_word, input_word, run_line};
+ghost use Rattle.row_runs.specs.RunText.{rank_word, input_word, run_line, count_line};
 ghost use Rattle.row_runs.specs.declared.run.Version.TheVariants.{Second};
 
 use crate::row_words::RowWords;
@@ -99,6 +99,15 @@ impl LineText {
         self.put_number_before(run.last);
         self.put_before(b" ");
         self.put_number_before(run.first);
+    }
+
+    /// The line that tells how many lines of runs follow.
+    pub fn write_count(&mut self, runs: u32)
+        ensures { self.new ≡ count_line runs }
+    {
+        self.begin();
+        self.put_number_before(runs);
+        self.put_before(b"rows ");
     }
 
     fn put_input_before(&mut self, words: RowWords, row: Row)

@@ -1,8 +1,6 @@
-ghost use Rattle.std.specs.Prelude.{◌≡◌, map};
+ghost use Rattle.std.specs.Prelude.{◌≡◌};
 ghost use Rattle.std.specs.List.{concat};
-ghost use Rattle.row_runs.specs.declared.run.Version.TheVariants.{Second};
-ghost use Rattle.row_runs.specs.Runs.{runs_from};
-ghost use Rattle.row_runs.specs.RunText.{run_line};
+ghost use Rattle.row_runs.specs.RunText.{run_lines};
 
 use crate::line_text::LineText;
 use crate::row_words::RowWords;
@@ -35,7 +33,7 @@ impl<'a> Model for RunLines<'a> {
 impl<'a> RunLines<'a> {
     /// The lines of all runs.
     pub fn new(words: RowWords, answer: &'a Answer) -> RunLines<'a>
-        ensures { result ≡ concat (map (run_line Second words) (runs_from Second 0 answer.now)) }
+        ensures { result ≡ concat (run_lines words answer.now) }
     {
         RunLines {
             words,

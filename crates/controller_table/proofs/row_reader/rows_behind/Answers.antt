@@ -2,7 +2,7 @@ use Rattle.std.proofs.Common.{◌≡◌, ◌<◌, ◌≤◌, List, [], ◌∷◌
 use Rattle.std.specs.Prelude.{codes}
 use Rattle.std.proofs.lemmas.Result.{err_from_is_err_and}
 use Rattle.grid_quantiser.specs.Axes.{cells_of}
-use Rattle.controller_table.specs.TableText.{count_line}
+use Rattle.row_runs.specs.RunText.{count_line}
 use Rattle.controller_table.proofs.RefusedRows.{no_count, passed_on, no_end, more_behind, all_read, rows_fit}
 use Rattle.controller_table.proofs.row_reader.rows_behind.Goals as goal
 

@@ -1,0 +1,2 @@
+-- What only private clauses name.
+pub mod Left

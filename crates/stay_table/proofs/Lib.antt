@@ -1,0 +1,5 @@
+pub mod OneText
+pub mod Landing
+pub mod Settling
+pub mod FittingRows
+pub mod Laws
