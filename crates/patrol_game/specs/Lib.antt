@@ -1,3 +1,4 @@
 pub mod Targets
 pub mod Visits
 pub mod Patrol
+pub mod inside

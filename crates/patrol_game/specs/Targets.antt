@@ -1,4 +1,4 @@
--- The targets of a plant, by their numbers.
+-- The targets of a plant by their numbers, one for each turn.
 use Rattle.std.specs.Prelude.{ℕ, ◌<◌, [], length, slice_index_or}
 use Rattle.grid_quantiser.specs.Boxes.{LiesInside}
 use Rattle.plant_record.specs.declared.aims.StateBox.{StateBox}

@@ -1,10 +1,19 @@
-//! Patrol of a plant's targets in turn. A stand-in: the contracts stand, the bodies refuse.
+//! Patrol: visits to the targets of a plant in turn, for ever.
+//!
+//! `patrol` gives the solution of patrol of a plant's game by 1 to 64 workers: for each target those cells from which the
+//! controller can visit this target and then the others in turn for ever, with the least depth of a strategy to the next
+//! visit and the least input with which one of that depth begins. It asks the solver of the reach game turn by turn, and
+//! solves again only the turns whose arrivals have changed. Stands on `plant_record`, `abstraction_table`, `game_core`,
+//! `frontier_pool` and `reach_avoid`.
 #![tactic(auto)]
 
-mod patrolling;
-mod rows;
+mod arrivals;
+mod best_row;
+mod patrol_rows;
+mod solver;
+mod turns;
 
 pub use frontier_pool::{Gate, Open};
-pub use game_core::{Answer, NoMemory};
-pub use patrolling::patrol;
-pub use rows::PatrolRows;
+pub use game_core::{Answer, NoMemory, Row};
+pub use patrol_rows::PatrolRows;
+pub use solver::patrol;

@@ -1,16 +1,19 @@
-ghost use Rattle.std.specs.Prelude.{◌*◌, ◌≤◌, length, IfOk};
+// Patrol, by the solver of the reach game under other marks.
+ghost use Rattle.std.specs.Prelude.{◌≤◌, ◌*◌, length, IfOk};
 ghost use Rattle.abstraction_table.specs.Abstraction.{IsGameOf};
-ghost use Rattle.patrol_game.specs.Patrol.{IsPatrol};
 ghost use Rattle.patrol_game.specs.Targets.{IsInTarget};
+ghost use Rattle.patrol_game.specs.Patrol.{IsPatrol};
 
-use crate::rows::PatrolRows;
+use crate::patrol_rows::PatrolRows;
+use crate::turns::Turns;
 use frontier_pool::Gate;
 use game_core::{Graph, NoMemory};
 use plant_record::Plant;
 use std::alloc::Global;
 use std::thread::Threads;
 
-/// Solves patrol of a plant's targets in turn by 1 to 64 workers. The gate is passed before each cell of each round.
+/// Solves patrol of a plant's game by 1 to 64 workers: for each turn its rows. The gate is passed before each cell of each
+/// round of each solution.
 pub fn patrol<R: Threads + Sync, G: Graph + Sync, T: Gate>(
     rt: &R,
     alloc: Global,
@@ -24,5 +27,9 @@ pub fn patrol<R: Threads + Sync, G: Graph + Sync, T: Gate>(
     requires size { (G.game g.now).cells * length p.now.targets ≤ 4194304 }
     ensures { IfOk result (IsPatrol (G.game g.now) (IsInTarget p.now) (length p.now.targets)) }
 {
-    Err(NoMemory)
+    let mut turns = Turns::new(alloc, g, p)?;
+    while let Some(turn) = turns.last_due() {
+        turns.settle(rt, alloc, g, turn, workers, gate)?;
+    }
+    Ok(turns.into_rows())
 }

@@ -1,0 +1,28 @@
+-- What proofs of the crates above cite.
+use Rattle.std.proofs.Common.{◌≡◌, ◌⊎◌, ℕ, ◌+◌, ◌<◌, ◌≤◌, List, length, Option, Some}
+use Rattle.game_core.specs.declared.game.Row.{Row}
+use Rattle.game_core.specs.Game.{Game, IsGame}
+use Rattle.game_core.specs.Solution.{row_of, HasRowBelow}
+use Rattle.game_core.specs.Strategy.{Trees, Apply, LeadsTo, depth_of}
+use Rattle.plant_record.specs.Description.{Description}
+use Rattle.plant_record.specs.Plants.{IsPlant}
+use Rattle.abstraction_table.specs.Abstraction.{IsGameOf}
+use Rattle.patrol_game.specs.Targets.{IsInTarget}
+use Rattle.patrol_game.specs.Visits.{IsArrival}
+use Rattle.patrol_game.specs.Patrol.{IsPatrol, rows_for}
+use Rattle.patrol_game.proofs.RowBounds as bounds
+use Rattle.patrol_game.proofs.TargetCells as targets
+
+-- whether a cell lies in a target is decided
+pub targets_are_told : (p : Description) (g : Game) → IsPlant p → IsGameOf p g → (j c : ℕ) → j < length p.targets → c < g.cells → IsInTarget p j c ⊎ (IsInTarget p j c → ⊥)
+targets_are_told p g plant game j c lj lc = targets.told p g plant game j c lj lc
+
+-- a row has a rank from 1 to the number of cells, and one of the inputs
+pub rows_are_within : (g : Game) (In : ℕ → ℕ → Type 0) (turns : ℕ) (rows : List (List (Option Row))) → IsGame g → IsPatrol g In turns rows → (j c : ℕ) (row : Row) → j < turns → c < g.cells →
+    row_of (rows_for rows j) c ≡ Some row → (1 ≤ row.rank) × (row.rank ≤ g.cells) × (row.input < g.inputs)
+rows_are_within g In turns rows a h j c row lj lc is = bounds.within g a In turns rows h j lj c row lc is
+
+-- a cell from which a strategy that begins with an input leads to arrivals has a row, of a rank no greater than the strategy's depth
+pub travellers_have_rows : (g : Game) (In : ℕ → ℕ → Type 0) (turns : ℕ) (rows : List (List (Option Row))) → IsGame g → IsPatrol g In turns rows → (j c u : ℕ) (next : Trees) → j < turns → c < g.cells →
+    LeadsTo (IsArrival g In turns j) g (Apply u next) c → HasRowBelow (rows_for rows j) (depth_of (Apply u next) + 1) c
+travellers_have_rows g In turns rows a h j c u next lj lc leads = bounds.row_for g a In turns rows h j lj u next c lc leads

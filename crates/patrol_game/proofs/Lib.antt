@@ -1,0 +1,15 @@
+pub mod Carried
+pub mod TravelRows
+pub mod BestRows
+pub mod TurnRows
+pub mod TurnsBefore
+pub mod ForEver
+pub mod Patrols
+pub mod Steps
+pub mod Ends
+pub mod Withdrawing
+pub mod RowBounds
+pub mod TargetCells
+pub mod FirstMarks
+pub mod Laws
+pub mod Starts

@@ -1,0 +1,131 @@
+// The arrivals of a turn.
+ghost use Rattle.std.specs.Prelude.{◌≡◌, ◌<◌, ◌≤◌, true, false, length, count_by, IfOk};
+ghost use Rattle.std.specs.List.{All, Contains};
+ghost use Rattle.grid_quantiser.specs.Axes.{cells_of};
+ghost use Rattle.grid_quantiser.specs.Boxes.{LiesInside};
+ghost use Rattle.game_core.specs.declared.game.Mark.TheVariants.{Goal, Obstacle};
+ghost use Rattle.game_core.specs.Game.{mark_of};
+ghost use Rattle.plant_record.specs.Description.{axes_of};
+ghost use Rattle.abstraction_table.specs.Abstraction.{IsGameOf};
+ghost use Rattle.abstraction_table.specs.inside.Marks.{AreMarked};
+ghost use Rattle.patrol_game.specs.Targets.{target_at};
+ghost use Rattle.patrol_game.specs.inside.Turns.{withdrawn, is_gone, is_goal, AreFirstMarks};
+
+use game_core::{Answer, Graph, Mark, NoMemory, Row};
+use grid_quantiser::Runs;
+use plant_record::Plant;
+use std::alloc::Global;
+use std::marker::Model;
+
+/// The marks of a turn, in which its arrivals are goals. One mark for each cell.
+#[derive(Drop)]
+pub(crate) struct Arrivals {
+    marks: Vec<Mark>,
+}
+
+impl Model for Arrivals {
+    ghost use Rattle.std.specs.Prelude.{List};
+    ghost use Rattle.game_core.specs.declared.game.Mark.{Mark};
+
+    ghost Value = { List Mark };
+
+    ghost view = { λ a. a.marks.items };
+}
+
+impl Arrivals {
+    /// All cells of a target that are no obstacles.
+    pub(crate) fn in_target<G: Graph>(
+        alloc: Global,
+        g: &G,
+        p: &Plant,
+        turn: u32,
+    ) -> Result<Arrivals, NoMemory>
+        requires game { IsGameOf p.now (G.game g.now) }
+        requires turn { turn < length p.now.targets }
+        ensures { IfOk result (AreFirstMarks p.now (G.game g.now) turn) }
+    {
+        let mut marks = vec![in alloc; Mark::Plain; g.cells() as usize].map_err(|_| NoMemory)?;
+        mark_target(p, turn, &mut marks);
+        mark_obstacles(g, &mut marks);
+        Ok(Arrivals { marks })
+    }
+
+    pub(crate) fn marks(&self) -> &[Mark]
+        ensures { result.now ≡ self.now }
+    {
+        &self.marks
+    }
+
+    /// Arrivals without a row are arrivals no more. Answers whether there was one.
+    pub(crate) fn withdraw(&mut self, rows: &Answer) -> bool
+        requires { length rows.now ≡ length self.old }
+        ensures marks { self.new ≡ withdrawn self.old rows.now }
+        ensures same { result ≡ false → self.new ≡ self.old }
+        ensures fewer { result ≡ true → count_by is_goal self.new < count_by is_goal self.old }
+    {
+        withdraw(&mut self.marks, rows)
+    }
+}
+
+/// Makes goals of the cells that lie in a target.
+fn mark_target(p: &Plant, turn: u32, marks: &mut [Mark])
+    requires turn { turn < length p.now.targets }
+    requires one_each { length marks.old ≡ cells_of (axes_of p.now) }
+    ensures { AreMarked Goal (λ c. LiesInside (axes_of p.now) c (target_at p.now turn).low (target_at p.now turn).high) marks.old marks.new }
+{
+    let grid = p.grid();
+    let (low, high) = p.target(turn);
+    if let Some(target) = grid.within(&low, &high) {
+        mark_goals(grid.runs(target), marks);
+    }
+}
+
+/// Makes goals of cells, run by run.
+fn mark_goals(mut cells: Runs, marks: &mut [Mark])
+    requires { All (λ c. c < length marks.old) cells }
+    ensures { AreMarked Goal (Contains cells) marks.old marks.new }
+{
+    while let Some((first, len)) = cells.next_run() {
+        let first = first as usize;
+        marks[first..first + len as usize].fill(Mark::Goal);
+    }
+}
+
+/// Makes obstacles of the obstacles of a graph.
+fn mark_obstacles<G: Graph>(g: &G, marks: &mut [Mark])
+    requires { length marks.old ≡ (G.game g.now).cells }
+    ensures { AreMarked Obstacle (λ c. mark_of (G.game g.now) c ≡ Obstacle) marks.old marks.new }
+{
+    for c in 0..g.cells() {
+        if g.mark(c) == Mark::Obstacle {
+            marks[c as usize] = Mark::Obstacle;
+        }
+    }
+}
+
+/// Goals without a row are goals no more. Answers whether there was one.
+fn withdraw(marks: &mut [Mark], rows: &Answer) -> bool
+    requires { length rows.now ≡ length marks.old }
+    ensures marks { marks.new ≡ withdrawn marks.old rows.now }
+    ensures same { result ≡ false → marks.new ≡ marks.old }
+    ensures fewer { result ≡ true → count_by is_goal marks.new < count_by is_goal marks.old }
+{
+    let mut found = false;
+    for c in 0..rows.cells() {
+        if is_gone(marks[c as usize], rows.row(c)) {
+            marks[c as usize] = Mark::Plain;
+            found = true;
+        }
+    }
+    found
+}
+
+/// Whether a goal has no row.
+fn is_gone(mark: Mark, row: Option<Row>) -> bool
+    ensures { result ≡ is_gone mark row }
+{
+    match mark {
+        Mark::Goal => row.is_none(),
+        Mark::Obstacle | Mark::Plain => false,
+    }
+}

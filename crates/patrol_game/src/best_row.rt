@@ -1,0 +1,67 @@
+// The row of a cell by the rows of its successors, also where the cell is a goal.
+ghost use Rattle.std.specs.Prelude.{◌≡◌, ℕ, ◌<◌, ◌^◌, length, max, Some};
+ghost use Rattle.game_core.specs.declared.game.Row.{Row};
+ghost use Rattle.game_core.specs.Game.{pairs_of, successors_at};
+ghost use Rattle.game_core.specs.Right.{IsRightPlain};
+ghost use Rattle.game_core.specs.Solution.{row_of};
+ghost use Rattle.patrol_game.specs.inside.BestRows.{IsRankBehind, better};
+
+use game_core::{Answer, Graph, Row};
+
+/// One more than the least rank behind an input, and the least such input.
+pub(crate) fn best_row<G: Graph>(g: &G, rows: &Answer, c: u32) -> Option<Row>
+    requires one_each { length rows.now ≡ (G.game g.now).cells }
+    requires ranks { (s : ℕ) (row : Row) → row_of rows.now s ≡ Some row → row.rank < (G.game g.now).cells }
+    requires cell { c < (G.game g.now).cells }
+    ensures { IsRightPlain (G.game g.now) rows.now c result }
+{
+    let inputs = g.inputs();
+    let first = c * inputs;
+    let mut best = None;
+    for input in 0..inputs {
+        if let Some(rank) = rank_behind(g, rows, first + input) {
+            best = better(
+                best,
+                Row {
+                    rank: rank + 1,
+                    input,
+                },
+            );
+        }
+    }
+    best
+}
+
+/// The greatest rank behind a pair; None where its input isn't enabled, or a successor has no row.
+fn rank_behind<G: Graph>(g: &G, rows: &Answer, pair: u32) -> Option<u32>
+    requires one_each { length rows.now ≡ (G.game g.now).cells }
+    requires pair { pair < pairs_of (G.game g.now) }
+    ensures { IsRankBehind rows.now (successors_at (G.game g.now) pair) result }
+{
+    let fan = g.fan(pair);
+    if fan == 0 {
+        return None;
+    }
+    let mut greatest = 0;
+    for at in 0..fan {
+        let row = rows.row(g.successor(pair, at))?;
+        greatest = greater(greatest, row.rank);
+    }
+    Some(greatest)
+}
+
+/// Of two rows that of the lesser rank, and else the older.
+fn better(best: Option<Row>, row: Row) -> Option<Row>
+    ensures { result ≡ better best row }
+{
+    match best {
+        Some(old) if old.rank <= row.rank => Some(old),
+        Some(_) | None => Some(row),
+    }
+}
+
+fn greater(a: u32, b: u32) -> u32
+    ensures { result ≡ max a b }
+{
+    if a < b { b } else { a }
+}

@@ -1,0 +1,137 @@
+// The search for a patrol, turn by turn.
+ghost use Rattle.std.specs.Prelude.{◌≡◌, ℕ, ◌<◌, ◌≤◌, ◌^◌, true, false, length, IfOk, IfSome};
+ghost use Rattle.std.specs.Option.{IfNone};
+ghost use Rattle.abstraction_table.specs.Abstraction.{IsGameOf};
+ghost use Rattle.patrol_game.specs.inside.Turns.{Progress, marks_for, is_due, AreTravelRows, AreTurnMarks, IsAtStart, IsBefore, IsSettledAt};
+
+use crate::arrivals::Arrivals;
+use crate::best_row::best_row;
+use crate::patrol_rows::PatrolRows;
+use frontier_pool::Gate;
+use game_core::{Answer, Graph, Mark, NoMemory, Remark};
+use plant_record::Plant;
+use reach_avoid::solve;
+use std::alloc::Global;
+use std::marker::Model;
+use std::thread::Threads;
+
+/// For each turn its arrivals, its rows, and whether it is to be solved again.
+#[derive(Drop)]
+pub(crate) struct Turns {
+    arrivals: Vec<Arrivals>,
+    rows: Vec<Answer>,
+    due: Vec<bool>,
+}
+
+impl Model for Turns {
+    ghost use Rattle.patrol_game.specs.inside.Turns.{Progress};
+
+    ghost Value = { Progress };
+
+    ghost view = { λ t. record { marks = t.arrivals.items; rows = t.rows.items; due = t.due.items } };
+}
+
+impl Turns {
+    /// Every turn is due, and its arrivals are all cells of its target that are no obstacles.
+    pub(crate) fn new<G: Graph>(alloc: Global, g: &G, p: &Plant) -> Result<Turns, NoMemory>
+        requires { IsGameOf p.now (G.game g.now) }
+        ensures { IfOk result (IsAtStart p.now (G.game g.now)) }
+    {
+        let turns = p.targets();
+        let due = vec![in alloc; true; turns as usize].map_err(|_| NoMemory)?;
+        let mut arrivals = Vec::new(alloc);
+        let mut rows = Vec::new(alloc);
+        for turn in 0..turns {
+            let first = Arrivals::in_target(alloc, g, p, turn)?;
+            arrivals.push(first).map_err(|_| NoMemory)?;
+            let blank = Answer::blank(alloc, 0)?;
+            rows.push(blank).map_err(|_| NoMemory)?;
+        }
+        Ok(Turns {
+            arrivals,
+            rows,
+            due,
+        })
+    }
+
+    /// The last turn that is due.
+    pub(crate) fn last_due(&self) -> Option<u32>
+        requires { length self.now.due < 2 ^ 32 }
+        ensures some { IfSome result (λ turn. (turn < length self.now.due) × (is_due self.now.due turn ≡ true)) }
+        ensures none { IfNone result ((j : ℕ) → j < length self.now.due → is_due self.now.due j ≡ false) }
+    {
+        for turn in (0..self.due.len() as u32).rev() {
+            if self.due[turn as usize] {
+                return Some(turn);
+            }
+        }
+        None
+    }
+
+    /// Solves a turn: the arrivals before it that have no row for it are withdrawn.
+    pub(crate) fn settle<R: Threads + Sync, G: Graph + Sync, T: Gate>(
+        &mut self,
+        rt: &R,
+        alloc: Global,
+        g: &G,
+        turn: u32,
+        workers: u32,
+        gate: &T,
+    ) -> Result<(), NoMemory>
+        requires turn { turn < length self.old.due }
+        requires one_each { (length self.old.marks ≡ length self.old.due) × (length self.old.rows ≡ length self.old.due) × (length self.old.due < 2 ^ 32) }
+        requires marks { (j : ℕ) → j < length self.old.due → AreTurnMarks (G.game g.now) (λ _. Unit {0}) (marks_for self.old.marks j) }
+        requires workers { (1 ≤ workers) × (workers ≤ 64) }
+        ensures { IfOk result (λ _. (before : ℕ) × IsBefore (length self.old.due) turn before × IsSettledAt (G.game g.now) turn before self.old self.new) }
+    {
+        let rows = travel_rows(rt, alloc, g, &self.arrivals[turn as usize], workers, gate)?;
+        let before = turn_before(turn, self.due.len() as u32);
+        self.due[turn as usize] = false;
+        if self.arrivals[before as usize].withdraw(&rows) {
+            self.due[before as usize] = true;
+        }
+        self.rows[turn as usize] = rows;
+        Ok(())
+    }
+
+    pub(crate) fn into_rows(self) -> PatrolRows
+        requires { length self.rows < 2 ^ 32 }
+        ensures { result ≡ self.rows }
+    {
+        PatrolRows::new(self.rows)
+    }
+}
+
+/// The rows of a turn: to its arrivals, from each cell by at least one input.
+fn travel_rows<R: Threads + Sync, G: Graph + Sync, T: Gate>(
+    rt: &R,
+    alloc: Global,
+    g: &G,
+    arrivals: &Arrivals,
+    workers: u32,
+    gate: &T,
+) -> Result<Answer, NoMemory>
+    requires marks { AreTurnMarks (G.game g.now) (λ _. Unit {0}) arrivals.now }
+    requires workers { (1 ≤ workers) × (workers ≤ 64) }
+    ensures { IfOk result (AreTravelRows (G.game g.now) arrivals.now) }
+{
+    let game = Remark::new(g, arrivals.marks());
+    let solved = solve(rt, alloc, &game, workers, gate)?.answer;
+    let mut rows = Answer::blank(alloc, g.cells())?;
+    for c in 0..g.cells() {
+        let row = match game.mark(c) {
+            Mark::Goal => best_row(&game, &solved, c),
+            Mark::Obstacle | Mark::Plain => solved.row(c),
+        };
+        rows.set(c, row);
+    }
+    Ok(rows)
+}
+
+/// The turn before a turn: the last comes before the first.
+fn turn_before(turn: u32, turns: u32) -> u32
+    requires { turn < turns }
+    ensures { IsBefore turns turn result }
+{
+    if turn == 0 { turns - 1 } else { turn - 1 }
+}
