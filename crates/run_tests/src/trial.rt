@@ -28,7 +28,7 @@ pub const CLEAN: Devices = Devices {
     failing_reads: &[],
     failing_writes: &[],
     at_once: 7,
-    room: 200,
+    room: 300,
     room_for_line: 200,
 };
 

@@ -26,30 +26,58 @@ const ENDS: &[u8] =
 const ENDS_TABLE: &[u8] =
     b"table 2\nplant 1\nstate x 0 14 3\ninput u 0\nnext x = x + u\nobstacle 0 2\nobstacle 12 14\ngoal keep\nend\nrows 1\n1 3 - 0\nend\n";
 
+// The goal is cell 4, which input 1 keeps; input 2 leads each other cell to the next one.
+const LINE: &[u8] =
+    b"plant 1\nstate x 0 14 3\ninput u -3 0 3\nnext x = x + u\ntarget 12 14\ngoal reach\nend\n";
+
+const LINE_TEXT: &[u8] =
+    b"stay 1\nplant 1\nstate x 0 14 3\ninput u -3 0 3\nnext x = x + u\ntarget 12 14\ngoal reach\nend\nrows 5\n0 0 4 2\n1 1 3 2\n2 2 2 2\n3 3 1 2\n4 4 0 1\nend\n";
+
+// The cells 0 and 1 are no goals, the items of the first round. Cell 2 can't go left, cells 3 and 4 can.
+const ROOM: &[u8] =
+    b"plant 1\nstate x 0 14 3\ninput u -3 0 3\nnext x = x + u\ntarget 6 14\ngoal reach\nend\n";
+
+const ROOM_TEXT: &[u8] =
+    b"stay 1\nplant 1\nstate x 0 14 3\ninput u -3 0 3\nnext x = x + u\ntarget 6 14\ngoal reach\nend\nrows 4\n0 0 2 2\n1 1 1 2\n2 2 0 1\n3 4 0 0\nend\n";
+
+// Each input leads a cell to its neighbour, so that a target that was reached is left before it is reached again.
+const DOCKS: &[u8] =
+    b"plant 1\nstate x 0 14 3\ninput u -3 3\nnext x = x + u\ntarget 0 2\ntarget 12 14\ngoal reach\nend\n";
+
+const DOCKS_TEXT: &[u8] =
+    b"patrol 1\nplant 1\nstate x 0 14 3\ninput u -3 3\nnext x = x + u\ntarget 0 2\ntarget 12 14\ngoal reach\nend\nturn 0 rows 5\n0 0 2 1\n1 1 1 0\n2 2 2 0\n3 3 3 0\n4 4 4 0\nturn 1 rows 5\n0 0 4 1\n1 1 3 1\n2 2 2 1\n3 3 1 1\n4 4 2 0\nend\n";
+
+// Two cells lie in each target, the items of a first round.
+const ROUND: &[u8] =
+    b"plant 1\nstate x 0 14 3\ninput u -3 3\nnext x = x + u\ntarget 0 5\ntarget 9 14\ngoal reach\nend\n";
+
+const ROUND_TEXT: &[u8] =
+    b"patrol 1\nplant 1\nstate x 0 14 3\ninput u -3 3\nnext x = x + u\ntarget 0 5\ntarget 9 14\ngoal reach\nend\nturn 0 rows 4\n0 0 1 1\n1 2 1 0\n3 3 2 0\n4 4 3 0\nturn 1 rows 4\n0 0 3 1\n1 1 2 1\n2 3 1 1\n4 4 1 0\nend\n";
+
 // Whether the first two items of a plant meet as told, and its table is written.
 fn do_meet<R: Threads + Sync>(
     rt: &R,
     alloc: Global,
-    workers: &str,
+    words: &[&str],
     turns: u32,
     text: &[u8],
     table: &[u8],
 ) -> Result<[bool; 2], Fail> {
     let gate = Meeting::of(turns);
-    let tried = run_on(rt, alloc, &["synth", workers], text, &CLEAN, &gate)?;
+    let tried = run_on(rt, alloc, words, text, &CLEAN, &gate)?;
     Ok([gate.met(), tried.gave(0, table, b"")])
 }
 
 #[test]
 fn two_workers_meet_where_a_plant_is_won(rt: HostRuntime) -> Result<(), Fail> {
-    let told = do_meet(&rt, rt.alloc(), "2", MANY, CORRIDOR, CORRIDOR_TABLE)?;
+    let told = do_meet(&rt, rt.alloc(), &["synth", "2"], MANY, CORRIDOR, CORRIDOR_TABLE)?;
     assert!(rt; told == [true, true]);
     Ok(())
 }
 
 #[test]
 fn two_workers_meet_where_a_plant_is_kept(rt: HostRuntime) -> Result<(), Fail> {
-    let told = do_meet(&rt, rt.alloc(), "2", MANY, ENDS, ENDS_TABLE)?;
+    let told = do_meet(&rt, rt.alloc(), &["synth", "2"], MANY, ENDS, ENDS_TABLE)?;
     assert!(rt; told == [true, true]);
     Ok(())
 }
@@ -57,7 +85,7 @@ fn two_workers_meet_where_a_plant_is_kept(rt: HostRuntime) -> Result<(), Fail> {
 // The second goal comes to the gate only after the first was let go.
 #[test]
 fn one_worker_meets_nobody(rt: HostRuntime) -> Result<(), Fail> {
-    let told = do_meet(&rt, rt.alloc(), "1", 10, CORRIDOR, CORRIDOR_TABLE)?;
+    let told = do_meet(&rt, rt.alloc(), &["synth", "1"], 10, CORRIDOR, CORRIDOR_TABLE)?;
     assert!(rt; told == [false, true]);
     Ok(())
 }
@@ -83,5 +111,47 @@ fn do_leave_boards<R: Threads + Sync>(rt: &R, alloc: Global) -> Result<bool, Fai
 #[test]
 fn each_number_of_workers_leaves_a_board(rt: HostRuntime) -> Result<(), Fail> {
     assert!(rt; do_leave_boards(&rt, rt.alloc())?);
+    Ok(())
+}
+
+#[test]
+fn two_workers_meet_where_a_plant_is_to_stay(rt: HostRuntime) -> Result<(), Fail> {
+    let told = do_meet(&rt, rt.alloc(), &["stay", "2"], MANY, ROOM, ROOM_TEXT)?;
+    assert!(rt; told == [true, true]);
+    Ok(())
+}
+
+#[test]
+fn two_workers_meet_in_a_patrol(rt: HostRuntime) -> Result<(), Fail> {
+    let told = do_meet(&rt, rt.alloc(), &["patrol", "2"], MANY, ROUND, ROUND_TEXT)?;
+    assert!(rt; told == [true, true]);
+    Ok(())
+}
+
+// Whether one worker and seven write the same text by a word.
+fn do_write<R: Threads + Sync>(
+    rt: &R,
+    alloc: Global,
+    word: &str,
+    text: &[u8],
+    table: &[u8],
+) -> Result<bool, Fail> {
+    let mut good = true;
+    for workers in ["1", "7"] {
+        let tried = run_on(rt, alloc, &[word, workers], text, &CLEAN, &Open)?;
+        good = good && tried.gave(0, table, b"") && !tried.has_board;
+    }
+    Ok(good)
+}
+
+#[test]
+fn stay_text_ends_where_the_plant_can_stay(rt: HostRuntime) -> Result<(), Fail> {
+    assert!(rt; do_write(&rt, rt.alloc(), "stay", LINE, LINE_TEXT)?);
+    Ok(())
+}
+
+#[test]
+fn patrol_text_has_a_turn_for_each_target(rt: HostRuntime) -> Result<(), Fail> {
+    assert!(rt; do_write(&rt, rt.alloc(), "patrol", DOCKS, DOCKS_TEXT)?);
     Ok(())
 }

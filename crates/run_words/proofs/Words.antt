@@ -5,7 +5,7 @@ use Rattle.std.specs.Fmt.{decimal, signed_decimal}
 use Rattle.std.proofs.lemmas.Fmt.{decimal_injective}
 use Rattle.std.proofs.lemmas.List.{length-map}
 use Rattle.run_words.specs.declared.form.Form.{Form}
-use Rattle.run_words.specs.declared.form.Form.TheVariants.{Synth, Check, Upgrade, Sim, Demo}
+use Rattle.run_words.specs.declared.form.Form.TheVariants.{Synth, Check, Upgrade, Sim, Demo, Stay, Patrol}
 use Rattle.run_words.specs.Form.{AreWorkers, IsDemoNumber, IsOfForm}
 use Rattle.run_words.specs.inside.Spelling.{Spell}
 use Rattle.run_words.proofs.Spellings.{one_spelling, as_many}
@@ -32,6 +32,24 @@ one_or_two e = cc
 
 check_or_upgrade : (codes "check" ∷ []) ≡ (codes "upgrade" ∷ []) → ⊥
 check_or_upgrade e = let lengths : 5 ≡ 7 = ap (λ (words : List (List ℕ)). sum_by length words) e in omega (arith, lengths)
+
+-- the words of a form of two words: a command and a number of workers
+abbrev IsOfTwo : List (List ℕ) → List ℕ → ℕ → Type 0
+IsOfTwo words command workers = (words ≡ command ∷ decimal workers ∷ []) × AreWorkers workers
+
+same_workers : (words : List (List ℕ)) (command : List ℕ) (m n : ℕ) → IsOfTwo words command m → IsOfTwo words command n → m ≡ n
+same_workers words command m n h k = decimal_injective m n (omega (arith, h.1.1)) (omega (arith, k.1.1)) (second (sym h.0 ∙ k.0))
+
+-- commands of unlike lengths
+other_command : (words : List (List ℕ)) (a b : List ℕ) (m n : ℕ) → (length a ≡ length b → ⊥) → IsOfTwo words a m → IsOfTwo words b n → ⊥
+other_command words a b m n unlike h k = unlike (ap length (first (sym h.0 ∙ k.0)))
+
+-- two words are not one, nor three, nor those of `sim`
+not_one : (words : List (List ℕ)) (command other : List ℕ) (m : ℕ) → IsOfTwo words command m → words ≡ other ∷ [] → ⊥
+not_one words command other m h k = one_or_two (sym k ∙ h.0)
+
+not_three : (words : List (List ℕ)) (command : List ℕ) (m number workers : ℕ) → IsOfTwo words command m → IsOfForm words (Demo number workers) → ⊥
+not_three words command m number workers h k = two_or_three (sym h.0 ∙ k.0)
 
 behind : {a b c d e f : List ℕ} {rest others : List (List ℕ)} → (a ∷ b ∷ c ∷ rest) ≡ (d ∷ e ∷ f ∷ others) → (b ≡ e) × (c ≡ f) × (rest ≡ others)
 behind e = (cc, cc, cc)
@@ -72,6 +90,30 @@ one_form words (Sim m s xs) (Sim n r ys) h k =
 one_form words (Demo m v) (Demo n w) h k =
     let same = third (sym h.0 ∙ k.0) in
     ap (λ (x : ℕ). Demo x v) (decimal_injective m n (omega (arith, h.1.1)) (omega (arith, k.1.1)) same.1) ∙ ap (λ (x : ℕ). Demo n x) (decimal_injective v w (omega (arith, h.2.1)) (omega (arith, k.2.1)) same.2)
+one_form words (Stay m) (Stay n) h k = ap Stay (same_workers words (codes "stay") m n h k)
+one_form words (Patrol m) (Patrol n) h k = ap Patrol (same_workers words (codes "patrol") m n h k)
+one_form words (Synth m) (Stay n) h k = absurd (other_command words (codes "synth") (codes "stay") m n (λ e. omega (arith, e)) h k)
+one_form words (Synth m) (Patrol n) h k = absurd (other_command words (codes "synth") (codes "patrol") m n (λ e. omega (arith, e)) h k)
+one_form words (Stay m) (Synth n) h k = absurd (other_command words (codes "stay") (codes "synth") m n (λ e. omega (arith, e)) h k)
+one_form words (Stay m) (Patrol n) h k = absurd (other_command words (codes "stay") (codes "patrol") m n (λ e. omega (arith, e)) h k)
+one_form words (Patrol m) (Synth n) h k = absurd (other_command words (codes "patrol") (codes "synth") m n (λ e. omega (arith, e)) h k)
+one_form words (Patrol m) (Stay n) h k = absurd (other_command words (codes "patrol") (codes "stay") m n (λ e. omega (arith, e)) h k)
+one_form words (Stay m) Check h k = absurd (not_one words (codes "stay") (codes "check") m h k)
+one_form words Check (Stay m) h k = absurd (not_one words (codes "stay") (codes "check") m k h)
+one_form words (Stay m) Upgrade h k = absurd (not_one words (codes "stay") (codes "upgrade") m h k)
+one_form words Upgrade (Stay m) h k = absurd (not_one words (codes "stay") (codes "upgrade") m k h)
+one_form words (Stay m) (Demo n w) h k = absurd (not_three words (codes "stay") m n w h k)
+one_form words (Demo n w) (Stay m) h k = absurd (not_three words (codes "stay") m n w k h)
+one_form words (Stay m) (Sim samples seed start) h k = absurd (not_sim words samples seed start (omega (arith, ap length h.0)) k)
+one_form words (Sim samples seed start) (Stay m) h k = absurd (not_sim words samples seed start (omega (arith, ap length k.0)) h)
+one_form words (Patrol m) Check h k = absurd (not_one words (codes "patrol") (codes "check") m h k)
+one_form words Check (Patrol m) h k = absurd (not_one words (codes "patrol") (codes "check") m k h)
+one_form words (Patrol m) Upgrade h k = absurd (not_one words (codes "patrol") (codes "upgrade") m h k)
+one_form words Upgrade (Patrol m) h k = absurd (not_one words (codes "patrol") (codes "upgrade") m k h)
+one_form words (Patrol m) (Demo n w) h k = absurd (not_three words (codes "patrol") m n w h k)
+one_form words (Demo n w) (Patrol m) h k = absurd (not_three words (codes "patrol") m n w k h)
+one_form words (Patrol m) (Sim samples seed start) h k = absurd (not_sim words samples seed start (omega (arith, ap length h.0)) k)
+one_form words (Sim samples seed start) (Patrol m) h k = absurd (not_sim words samples seed start (omega (arith, ap length k.0)) h)
 
 -- ---- numbers of workers and of demo plants
 
@@ -81,11 +123,14 @@ not_zero word zero n some few is = let same : n ≡ 0 = decimal_injective n 0 (o
 
 -- ---- the forms of two words
 
-pub is_form : (command workers : List ℕ) (n : ℕ) → command ≡ codes "synth" → AreWorkers n → workers ≡ decimal n → IsOfForm (command ∷ workers ∷ []) (Synth n)
-is_form command workers n c few w = (rw (c, w) refl, few)
+pub is_of_two : (command workers spelling : List ℕ) (n : ℕ) → command ≡ spelling → AreWorkers n → workers ≡ decimal n → IsOfTwo (command ∷ workers ∷ []) spelling n
+is_of_two command workers spelling n c few w = (rw (c, w) refl, few)
 
-pub no_form : (command workers : List ℕ) → (command ≡ codes "synth" → (n : ℕ) → AreWorkers n → workers ≡ decimal n → ⊥) → (f : Form) → IsOfForm (command ∷ workers ∷ []) f → ⊥
-no_form command workers other (Synth n) h = other (first h.0) n h.1 (second h.0)
+-- no form of two words, by each command
+pub no_form : (command workers : List ℕ) → ((n : ℕ) → AreWorkers n → workers ≡ decimal n → (command ≡ codes "synth" → ⊥) × (command ≡ codes "stay" → ⊥) × (command ≡ codes "patrol" → ⊥)) → (f : Form) → IsOfForm (command ∷ workers ∷ []) f → ⊥
+no_form command workers other (Synth n) h = (other n h.1 (second h.0)).0 (first h.0)
+no_form command workers other (Stay n) h = (other n h.1 (second h.0)).1 (first h.0)
+no_form command workers other (Patrol n) h = (other n h.1 (second h.0)).2 (first h.0)
 no_form command workers other Check h = one_or_two (sym h)
 no_form command workers other Upgrade h = one_or_two (sym h)
 no_form command workers other (Sim samples seed start) h = not_sim (command ∷ workers ∷ []) samples seed start (omega arith) h
@@ -99,6 +144,8 @@ is_demo_form command number workers n w c bounds d few e = (rw (c, d, e) refl, b
 -- a form of three words is `demo`, with the number of a demo plant and a number of workers
 pub no_demo_form : (command number workers : List ℕ) → (command ≡ codes "demo" → (n : ℕ) → IsDemoNumber n → number ≡ decimal n → (w : ℕ) → AreWorkers w → workers ≡ decimal w → ⊥) → (f : Form) → IsOfForm (command ∷ number ∷ workers ∷ []) f → ⊥
 no_demo_form command number workers other (Synth n) h = two_or_three (sym h.0)
+no_demo_form command number workers other (Stay n) h = two_or_three (sym h.0)
+no_demo_form command number workers other (Patrol n) h = two_or_three (sym h.0)
 no_demo_form command number workers other Check h = one_or_three (sym h)
 no_demo_form command number workers other Upgrade h = one_or_three (sym h)
 no_demo_form command number workers other (Demo n w) h = let same = third h.0 in other same.0 n h.1 same.1 w h.2 same.2
@@ -119,6 +166,8 @@ is_sim_form command samples seed numbers m s start c d few e lt spelled some mos
 pub no_sim_form : (command samples seed : List ℕ) (numbers : List (List ℕ)) → 1 ≤ length numbers → ((m s : ℕ) (start : List ℤ) → command ≡ codes "sim" → samples ≡ decimal m → m ≤ 1000000 → seed ≡ decimal s → s < 2 ^ 64 → Spell numbers start → ⊥)
     → (f : Form) → IsOfForm (command ∷ samples ∷ seed ∷ numbers) f → ⊥
 no_sim_form command samples seed numbers some other (Synth n) h = omega (arith, some, ap length h.0)
+no_sim_form command samples seed numbers some other (Stay n) h = omega (arith, some, ap length h.0)
+no_sim_form command samples seed numbers some other (Patrol n) h = omega (arith, some, ap length h.0)
 no_sim_form command samples seed numbers some other Check h = omega (arith, some, ap length h)
 no_sim_form command samples seed numbers some other Upgrade h = omega (arith, some, ap length h)
 no_sim_form command samples seed numbers some other (Demo n w) h = omega (arith, some, ap length h.0)

@@ -4,7 +4,7 @@ use Rattle.std.specs.List.{All}
 use Rattle.std.specs.Fmt.{decimal, signed_decimal}
 use Rattle.plant_record.specs.Numbers.{IsLiteral}
 use Rattle.run_words.specs.declared.form.Form.{Form}
-use Rattle.run_words.specs.declared.form.Form.TheVariants.{Synth, Check, Upgrade, Sim, Demo}
+use Rattle.run_words.specs.declared.form.Form.TheVariants.{Synth, Check, Upgrade, Sim, Demo, Stay, Patrol}
 
 -- The numbers of a state, as they are given for any plant: one to six of at most 18 digits.
 pub record AreStateNumbers (numbers : List ℤ) : Type 0 where
@@ -28,6 +28,8 @@ IsOfForm words Upgrade = words ≡ codes "upgrade" ∷ []
 IsOfForm words (Sim samples seed start) =
     (words ≡ codes "sim" ∷ decimal samples ∷ decimal seed ∷ map signed_decimal start) × (samples ≤ 1000000) × (seed < 2 ^ 64) × AreStateNumbers start
 IsOfForm words (Demo number workers) = (words ≡ codes "demo" ∷ decimal number ∷ decimal workers ∷ []) × IsDemoNumber number × AreWorkers workers
+IsOfForm words (Stay workers) = (words ≡ codes "stay" ∷ decimal workers ∷ []) × AreWorkers workers
+IsOfForm words (Patrol workers) = (words ≡ codes "patrol" ∷ decimal workers ∷ []) × AreWorkers workers
 
 -- the words are of no form
 abbrev pub AreOfNoForm : List (List ℕ) → Type 0

@@ -33,6 +33,14 @@ pub enum Form {
         number: u32,
         workers: u32,
     },
+    /// Bring the plant on the source into its targets and keep it there, solved with so many workers.
+    Stay {
+        workers: u32,
+    },
+    /// Visit the targets of the plant on the source in turn, solved with so many workers.
+    Patrol {
+        workers: u32,
+    },
 }
 
 /// The form that the words are of.
@@ -69,6 +77,10 @@ fn form_of_two(command: &str, workers: &str) -> Option<Form>
     let workers = workers_of(workers)?;
     if is_synth(command) {
         Some(Form::Synth { workers })
+    } else if is_stay(command) {
+        Some(Form::Stay { workers })
+    } else if is_patrol(command) {
+        Some(Form::Patrol { workers })
     } else {
         None
     }
@@ -218,4 +230,16 @@ fn is_synth(word: &str) -> bool
     ensures { IsTrue result ↔ (word.now ≡ codes "synth") }
 {
     word == "synth"
+}
+
+fn is_stay(word: &str) -> bool
+    ensures { IsTrue result ↔ (word.now ≡ codes "stay") }
+{
+    word == "stay"
+}
+
+fn is_patrol(word: &str) -> bool
+    ensures { IsTrue result ↔ (word.now ≡ codes "patrol") }
+{
+    word == "patrol"
 }

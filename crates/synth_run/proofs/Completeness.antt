@@ -2,9 +2,9 @@
 use Rattle.std.proofs.Common.{inl, inr, ◌≡◌, ℕ, List, Option, Some, None, refl, sym, ap, ◌∙◌}
 use Rattle.std.specs.Prelude.{IfSome}
 use Rattle.run_words.specs.declared.form.Form.{Form}
-use Rattle.run_words.specs.declared.form.Form.TheVariants.{Synth, Check, Upgrade, Sim, Demo}
+use Rattle.run_words.specs.declared.form.Form.TheVariants.{Synth, Check, Upgrade, Sim, Demo, Stay, Patrol}
 use Rattle.synth_run.specs.declared.outcome.Outcome.{Outcome}
-use Rattle.synth_run.specs.declared.outcome.Outcome.TheVariants.{Done, Invalid, NoRow, Usage, Malformed, Overflow, Limit, ReadFault, WriteFault, NoMemory}
+use Rattle.synth_run.specs.declared.outcome.Outcome.TheVariants.{Done, Invalid, NoRow, Usage, Malformed, Overflow, Limit, TooManyTurns, ReadFault, WriteFault, NoMemory}
 use Rattle.run_devices.specs.Devices.{next_count}
 use Rattle.run_devices.proofs.Laws.{rose_by_one}
 use Rattle.synth_run.specs.Sources.{NoReadFailed}
@@ -26,6 +26,7 @@ answer_is_complete one form NoRow (Some bytes) usage read write demanded = λ ot
 answer_is_complete one form (Malformed line) (Some bytes) usage read write demanded = λ other demands. inl (ap status_of (one form bytes (Malformed line) other (demanded tt) demands))
 answer_is_complete one form (Overflow i u) (Some bytes) usage read write demanded = λ other demands. inl (ap status_of (one form bytes (Overflow i u) other (demanded tt) demands))
 answer_is_complete one form (Limit what) (Some bytes) usage read write demanded = λ other demands. inl (ap status_of (one form bytes (Limit what) other (demanded tt) demands))
+answer_is_complete one form TooManyTurns (Some bytes) usage read write demanded = λ other demands. inl (ap status_of (one form bytes TooManyTurns other (demanded tt) demands))
 
 -- no read of a form failed where its source didn't count one, and none where the form makes none
 pub read_did_not_fail : (form : Form) (outcome : Outcome) (before after : ℕ) → CanEnd form outcome → (outcome ≡ ReadFault → after ≡ next_count before) → NoReadFailed form before after → outcome ≡ ReadFault → ⊥
@@ -33,6 +34,8 @@ read_did_not_fail (Synth workers) outcome before after can fault none e = none (
 read_did_not_fail Check outcome before after can fault none e = none (rose_by_one before after (fault e))
 read_did_not_fail Upgrade outcome before after can fault none e = none (rose_by_one before after (fault e))
 read_did_not_fail (Sim samples seed start) outcome before after can fault none e = none (rose_by_one before after (fault e))
+read_did_not_fail (Stay workers) outcome before after can fault none e = none (rose_by_one before after (fault e))
+read_did_not_fail (Patrol workers) outcome before after can fault none e = none (rose_by_one before after (fault e))
 read_did_not_fail (Demo number workers) outcome before after can fault none e =
     elim can [
       | inl done ↦ (let clash : Done ≡ ReadFault = sym done ∙ e in cc)

@@ -22,10 +22,10 @@ use Rattle.controller_table.specs.declared.fault.TableFault.TheVariants as table
 use Rattle.controller_table.specs.Refusals.{IsTableRefusedFor}
 use Rattle.controller_table.specs.Laws.{OneTablePerText, OneTableRefusal, TableOrRefused}
 use Rattle.table_check.specs.Verdicts.{IsFirstWithout}
-use Rattle.run_words.specs.declared.form.Form.TheVariants.{Synth, Check, Upgrade, Sim, Demo}
+use Rattle.run_words.specs.declared.form.Form.TheVariants.{Synth, Check, Upgrade, Sim, Demo, Stay, Patrol}
 use Rattle.synth_run.specs.declared.outcome.Outcome.{Outcome}
-use Rattle.synth_run.specs.declared.outcome.Outcome.TheVariants.{Done, Invalid, NoRow, Usage, Malformed, Overflow, Limit, ReadFault, WriteFault, NoMemory}
-use Rattle.synth_run.specs.Demands.{IsRefusal, IsRefused, IsSolvable, HasEdges, ExceedsEdges, PlantDemands, PlantTextDemands, IsRightFor, IsFirstWrong, TableDemands, IsRefusedTable, IsTableThatDemands}
+use Rattle.synth_run.specs.declared.outcome.Outcome.TheVariants.{Done, Invalid, NoRow, Usage, Malformed, Overflow, Limit, TooManyTurns, ReadFault, WriteFault, NoMemory}
+use Rattle.synth_run.specs.Demands.{IsAccepted, IsRefusal, IsRefused, IsSolvable, HasEdges, ExceedsEdges, turns_of, PlantDemands, PatrolDemands, IsRightFor, IsFirstWrong, TableDemands, IsRefusedTable, IsTableThatDemands}
 use Rattle.synth_run.specs.Traces.{HasRowFor, HasNoRowFor, RangeDemands, TraceDemands}
 use Rattle.synth_run.specs.inside.Causes.{of_plant, of_table}
 use Rattle.demo_plants.specs.Demo.{demo_plant_of}
@@ -95,6 +95,7 @@ module _ (count : OneEdgeCount) where
   plant_demands_one p NoRow b plant f g = absurd f
   plant_demands_one p Usage b plant f g = absurd f
   plant_demands_one p (Malformed n) b plant f g = absurd f
+  plant_demands_one p TooManyTurns b plant f g = absurd f
   plant_demands_one p ReadFault b plant f g = absurd f
   plant_demands_one p WriteFault b plant f g = absurd f
   plant_demands_one p NoMemory b plant f g = absurd f
@@ -102,6 +103,7 @@ module _ (count : OneEdgeCount) where
   plant_demands_one p Done NoRow plant f g = absurd g
   plant_demands_one p Done Usage plant f g = absurd g
   plant_demands_one p Done (Malformed n) plant f g = absurd g
+  plant_demands_one p Done TooManyTurns plant f g = absurd g
   plant_demands_one p Done ReadFault plant f g = absurd g
   plant_demands_one p Done WriteFault plant f g = absurd g
   plant_demands_one p Done NoMemory plant f g = absurd g
@@ -109,6 +111,7 @@ module _ (count : OneEdgeCount) where
   plant_demands_one p (Overflow i u) NoRow plant f g = absurd g
   plant_demands_one p (Overflow i u) Usage plant f g = absurd g
   plant_demands_one p (Overflow i u) (Malformed n) plant f g = absurd g
+  plant_demands_one p (Overflow i u) TooManyTurns plant f g = absurd g
   plant_demands_one p (Overflow i u) ReadFault plant f g = absurd g
   plant_demands_one p (Overflow i u) WriteFault plant f g = absurd g
   plant_demands_one p (Overflow i u) NoMemory plant f g = absurd g
@@ -116,6 +119,7 @@ module _ (count : OneEdgeCount) where
   plant_demands_one p (Limit what) NoRow plant f g = absurd g
   plant_demands_one p (Limit what) Usage plant f g = absurd g
   plant_demands_one p (Limit what) (Malformed n) plant f g = absurd g
+  plant_demands_one p (Limit what) TooManyTurns plant f g = absurd g
   plant_demands_one p (Limit what) ReadFault plant f g = absurd g
   plant_demands_one p (Limit what) WriteFault plant f g = absurd g
   plant_demands_one p (Limit what) NoMemory plant f g = absurd g
@@ -130,6 +134,7 @@ no_refusal n s (Malformed line) failed h = absurd (h (λ e. cc))
 no_refusal n s (Overflow i u) failed h = absurd (fits_or_not (demo_plant_of n) i u s.no_overflow (h (λ e. cc)))
 no_refusal n s (Limit what) failed h = absurd (let many = (exceeding (demo_plant_of n) what (h (λ e. cc))).1 in s.edges many.0 many.1.counted many.2)
 no_refusal n s ReadFault failed h = absurd (h (λ e. cc))
+no_refusal n s TooManyTurns failed h = absurd (h (λ e. cc))
 no_refusal n s WriteFault failed h = absurd (h (λ e. cc))
 no_refusal n s NoMemory failed h = refl
 
@@ -150,6 +155,7 @@ faulty Refused told malformed limit line what (Malformed n) h = record { fault =
 faulty Refused told malformed limit line what (Overflow i u) h = absurd h
 faulty Refused told malformed limit line what (Limit kind) h = record { fault = limit kind; refused = h; is = what kind }
 faulty Refused told malformed limit line what ReadFault h = absurd h
+faulty Refused told malformed limit line what TooManyTurns h = absurd h
 faulty Refused told malformed limit line what WriteFault h = absurd h
 faulty Refused told malformed limit line what NoMemory h = absurd h
 
@@ -160,8 +166,10 @@ one_fault Refused told a b one f g = f.is ∙ ap told (one f.fault g.fault f.ref
 faulty_plant : (bytes : List ℕ) (outcome : Outcome) → IsRefused bytes outcome → IsFaulty (IsRefusedFor bytes) of_plant outcome
 faulty_plant bytes outcome h = faulty (IsRefusedFor bytes) of_plant (λ line. plants.Malformed line) (λ what. plants.Limit what) (λ line. refl) (λ what. refl) outcome h
 
-one_demand_of_plants : OnePlantPerText → OneRefusal → ReadOrRefused → OneEdgeCount → (bytes : List ℕ) (a b : Outcome) → PlantTextDemands bytes a → PlantTextDemands bytes b → a ≡ b
-one_demand_of_plants plant refusal read count bytes a b f g =
+-- plant texts demand one thing where their plants do
+one_demand_of_plants : OnePlantPerText → OneRefusal → ReadOrRefused → (Demanded : Description → Outcome → Type 0) → ((p : Description) (a b : Outcome) → IsPlant p → Demanded p a → Demanded p b → a ≡ b) → (bytes : List ℕ) (a b : Outcome)
+    → IsRefused bytes a ⊎ ((p : Description) × IsAccepted bytes p × Demanded p a) → IsRefused bytes b ⊎ ((p : Description) × IsAccepted bytes p × Demanded p b) → a ≡ b
+one_demand_of_plants plant refusal read Demanded one bytes a b f g =
     elim f [
       | inl refused ↦ elim g [
         | inl other ↦ one_fault (IsRefusedFor bytes) of_plant a b (refusal bytes) (faulty_plant bytes a refused) (faulty_plant bytes b other)
@@ -169,9 +177,44 @@ one_demand_of_plants plant refusal read count bytes a b f g =
       ]
       | inr accepted ↦ elim g [
         | inl other ↦ (let y = faulty_plant bytes b other in absurd (read bytes accepted.0 y.fault accepted.1.spells accepted.1.short accepted.1.limits y.refused))
-        | inr also ↦ (let same : accepted.0 ≡ also.0 = plant bytes accepted.0 also.0 accepted.1.spells also.1.spells in plant_demands_one count also.0 a b also.1.limits.plant (subst (λ (p : Description). PlantDemands p a) same accepted.2) also.2)
+        | inr also ↦ (let same : accepted.0 ≡ also.0 = plant bytes accepted.0 also.0 accepted.1.spells also.1.spells in one also.0 a b also.1.limits.plant (subst (λ (p : Description). Demanded p a) same accepted.2) also.2)
       ]
     ]
+
+-- ---- patrols
+
+-- what a plant demands of a patrol: its answer, or that its turns are too many, or what refuses it in any case
+data PatrolEnd (p : Description) (outcome : Outcome) : Type 0 where
+  has_few_turns : outcome ≡ Done → IsSolvable p → turns_of p ≤ 2 ^ 22 → PatrolEnd p outcome
+  has_many_turns : outcome ≡ TooManyTurns → IsSolvable p → 2 ^ 22 < turns_of p → PatrolEnd p outcome
+  is_unsolvable : (outcome ≡ Done → ⊥) → PlantDemands p outcome → PatrolEnd p outcome
+
+patrol_end : (p : Description) (outcome : Outcome) → PatrolDemands p outcome → PatrolEnd p outcome
+patrol_end p Done h = has_few_turns refl h.0 h.1
+patrol_end p (Invalid cell) h = absurd h
+patrol_end p NoRow h = absurd h
+patrol_end p Usage h = absurd h
+patrol_end p (Malformed line) h = absurd h
+patrol_end p (Overflow i u) h = is_unsolvable (λ e. cc) h
+patrol_end p (Limit what) h = is_unsolvable (λ e. cc) h
+patrol_end p TooManyTurns h = has_many_turns refl h.0 h.1
+patrol_end p ReadFault h = absurd h
+patrol_end p WriteFault h = absurd h
+patrol_end p NoMemory h = absurd h
+
+few_or_many_turns : (p : Description) → turns_of p ≤ 2 ^ 22 → 2 ^ 22 < turns_of p → ⊥
+few_or_many_turns p few many = omega (arith, few, many)
+
+one_patrol_end : OneEdgeCount → (p : Description) (a b : Outcome) → IsPlant p → PatrolEnd p a → PatrolEnd p b → a ≡ b
+one_patrol_end count p a b plant (has_few_turns e s few) (has_few_turns k t also) = e ∙ sym k
+one_patrol_end count p a b plant (has_few_turns e s few) (has_many_turns k t many) = absurd (few_or_many_turns p few many)
+one_patrol_end count p a b plant (has_few_turns e s few) (is_unsolvable k g) = absurd (k (sym (plant_demands_one count p Done b plant s g)))
+one_patrol_end count p a b plant (has_many_turns e s many) (has_few_turns k t few) = absurd (few_or_many_turns p few many)
+one_patrol_end count p a b plant (has_many_turns e s many) (has_many_turns k t also) = e ∙ sym k
+one_patrol_end count p a b plant (has_many_turns e s many) (is_unsolvable k g) = absurd (k (sym (plant_demands_one count p Done b plant s g)))
+one_patrol_end count p a b plant (is_unsolvable e h) (has_few_turns k t few) = absurd (e (plant_demands_one count p a Done plant h t))
+one_patrol_end count p a b plant (is_unsolvable e h) (has_many_turns k t many) = absurd (e (plant_demands_one count p a Done plant h t))
+one_patrol_end count p a b plant (is_unsolvable e h) (is_unsolvable k g) = plant_demands_one count p a b plant h g
 
 -- ---- tables
 
@@ -190,6 +233,7 @@ table_end p rows (Malformed line) h = absurd h
 table_end p rows (Overflow i u) h = is_refused (λ e. cc) h
 table_end p rows (Limit what) h = is_refused (λ e. cc) h
 table_end p rows ReadFault h = absurd h
+table_end p rows TooManyTurns h = absurd h
 table_end p rows WriteFault h = absurd h
 table_end p rows NoMemory h = absurd h
 
@@ -276,6 +320,7 @@ one_range_end p NoRow b f g = absurd f
 one_range_end p Usage b f g = absurd f
 one_range_end p (Malformed n) b f g = absurd f
 one_range_end p (Limit what) b f g = absurd f
+one_range_end p TooManyTurns b f g = absurd f
 one_range_end p ReadFault b f g = absurd f
 one_range_end p WriteFault b f g = absurd f
 one_range_end p NoMemory b f g = absurd f
@@ -284,6 +329,7 @@ one_range_end p Done NoRow f g = absurd g
 one_range_end p Done Usage f g = absurd g
 one_range_end p Done (Malformed n) f g = absurd g
 one_range_end p Done (Limit what) f g = absurd g
+one_range_end p Done TooManyTurns f g = absurd g
 one_range_end p Done ReadFault f g = absurd g
 one_range_end p Done WriteFault f g = absurd g
 one_range_end p Done NoMemory f g = absurd g
@@ -292,6 +338,7 @@ one_range_end p (Overflow i u) NoRow f g = absurd g
 one_range_end p (Overflow i u) Usage f g = absurd g
 one_range_end p (Overflow i u) (Malformed n) f g = absurd g
 one_range_end p (Overflow i u) (Limit what) f g = absurd g
+one_range_end p (Overflow i u) TooManyTurns f g = absurd g
 one_range_end p (Overflow i u) ReadFault f g = absurd g
 one_range_end p (Overflow i u) WriteFault f g = absurd g
 one_range_end p (Overflow i u) NoMemory f g = absurd g
@@ -311,6 +358,7 @@ trace_end p rows start (Malformed line) h = absurd h
 trace_end p rows start (Overflow i u) h = overflows i u refl h
 trace_end p rows start (Limit what) h = absurd h
 trace_end p rows start ReadFault h = absurd h
+trace_end p rows start TooManyTurns h = absurd h
 trace_end p rows start WriteFault h = absurd h
 trace_end p rows start NoMemory h = absurd h
 
@@ -335,7 +383,7 @@ one_trace_end p rows start a b (overflows i u e first) (overflows j v k other) =
 -- ---- forms
 
 pub one_demand : OnePlantPerText → OneRefusal → ReadOrRefused → TableLaws → OneDemandPerText
-one_demand plant refusal read laws (Synth workers) bytes a b f g = one_demand_of_plants plant refusal read laws.edges bytes a b f g
+one_demand plant refusal read laws (Synth workers) bytes a b f g = one_demand_of_plants plant refusal read PlantDemands (plant_demands_one laws.edges) bytes a b f g
 one_demand plant refusal read laws Check bytes a b f g =
     one_demand_of_tables laws TableDemands (λ p rows c d well h k. one_table_end laws p rows c d well (table_end p rows c h) (table_end p rows d k)) bytes a b f g
 one_demand plant refusal read laws Upgrade bytes a b f g =
@@ -343,3 +391,6 @@ one_demand plant refusal read laws Upgrade bytes a b f g =
 one_demand plant refusal read laws (Sim samples seed start) bytes a b f g =
     one_demand_of_tables laws (λ p rows outcome. TraceDemands p rows start outcome) (λ p rows c d well h k. one_trace_end p rows start c d (trace_end p rows start c h) (trace_end p rows start d k)) bytes a b f g
 one_demand plant refusal read laws (Demo n workers) bytes a b f g = f ∙ sym g
+one_demand plant refusal read laws (Stay workers) bytes a b f g = one_demand_of_plants plant refusal read PlantDemands (plant_demands_one laws.edges) bytes a b f g
+one_demand plant refusal read laws (Patrol workers) bytes a b f g =
+    one_demand_of_plants plant refusal read PatrolDemands (λ p c d well h k. one_patrol_end laws.edges p c d well (patrol_end p c h) (patrol_end p d k)) bytes a b f g

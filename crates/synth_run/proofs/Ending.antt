@@ -1,11 +1,10 @@
 -- How a run of a form ends.
-use Rattle.std.proofs.Common.{inl, inr, ◌≡◌, ℕ, List, Option, Some, None, refl}
-use Rattle.std.specs.Prelude.{IfSome}
+use Rattle.std.proofs.Common.{inl, inr, ◌≡◌, Option, None, refl}
 use Rattle.cell_counters.specs.Tokens.{BoardModel, RootModel}
 use Rattle.run_devices.specs.Devices.{Reading, Writing, GainsWhole, GainsPart}
 use Rattle.run_devices.specs.Transfers.{IsUntouched}
 use Rattle.run_words.specs.declared.form.Form.{Form}
-use Rattle.run_words.specs.declared.form.Form.TheVariants.{Synth, Check, Upgrade, Sim, Demo}
+use Rattle.run_words.specs.declared.form.Form.TheVariants.{Synth, Check, Upgrade, Sim, Demo, Stay, Patrol}
 use Rattle.synth_run.specs.declared.outcome.Outcome.{Outcome}
 use Rattle.synth_run.specs.declared.outcome.Outcome.TheVariants.{Done, WriteFault, NoMemory}
 use Rattle.synth_run.specs.declared.text.Text.{Text}
@@ -24,6 +23,8 @@ solves_none Check = refl
 solves_none Upgrade = refl
 solves_none (Sim samples seed start) = refl
 solves_none (Demo number workers) = tt
+solves_none (Stay workers) = refl
+solves_none (Patrol workers) = refl
 
 can_end_done : (form : Form) → CanEnd form Done
 can_end_done (Synth workers) = tt
@@ -31,6 +32,8 @@ can_end_done Check = tt
 can_end_done Upgrade = tt
 can_end_done (Sim samples seed start) = tt
 can_end_done (Demo number workers) = inl refl
+can_end_done (Stay workers) = tt
+can_end_done (Patrol workers) = tt
 
 can_end_cut_off : (form : Form) → CanEnd form WriteFault
 can_end_cut_off (Synth workers) = tt
@@ -38,6 +41,8 @@ can_end_cut_off Check = tt
 can_end_cut_off Upgrade = tt
 can_end_cut_off (Sim samples seed start) = tt
 can_end_cut_off (Demo number workers) = inr (inl refl)
+can_end_cut_off (Stay workers) = tt
+can_end_cut_off (Patrol workers) = tt
 
 can_end_without_memory : (form : Form) → CanEnd form NoMemory
 can_end_without_memory (Synth workers) = tt
@@ -45,6 +50,8 @@ can_end_without_memory Check = tt
 can_end_without_memory Upgrade = tt
 can_end_without_memory (Sim samples seed start) = tt
 can_end_without_memory (Demo number workers) = inr (inr refl)
+can_end_without_memory (Stay workers) = tt
+can_end_without_memory (Patrol workers) = tt
 
 -- there is no answer, and nothing is written
 pub ends_turned_down : (form : Form) (outcome : Outcome) (source : Reading) (out : Writing) → IsTurnedDown form outcome source → IsUntouched out → IsRunOf form outcome source out None

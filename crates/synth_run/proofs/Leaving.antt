@@ -6,7 +6,7 @@ use Rattle.game_core.specs.Game.{Game}
 use Rattle.plant_record.specs.declared.aims.GoalKind.{GoalKind}
 use Rattle.plant_record.specs.Description.{Description}
 use Rattle.abstraction_table.specs.Abstraction.{IsGameOf}
-use Rattle.run_words.specs.declared.form.Form.TheVariants.{Synth, Check, Upgrade, Sim, Demo}
+use Rattle.run_words.specs.declared.form.Form.TheVariants.{Synth, Check, Upgrade, Sim, Demo, Stay, Patrol}
 use Rattle.synth_run.specs.declared.resolving.Resolved.{Resolved}
 use Rattle.demo_plants.specs.Demo.{demo_plant_of}
 use Rattle.run_devices.specs.Devices.{Reading}
@@ -42,6 +42,12 @@ upgrade_leaves source = record { leaves = if_told source.before (λ bytes. IsPla
 
 pub sim_leaves : (samples seed : ℕ) (start : List ℤ) (source : Reading) → IsToBeLeft (Sim samples seed start) None source
 sim_leaves samples seed start source = record { leaves = if_told source.before (λ bytes. IsPlayed (Sim samples seed start) bytes None) (λ bytes. refl); leaves_a_game = refl; solves_nothing = refl }
+
+pub stay_leaves : (workers : ℕ) (source : Reading) → IsToBeLeft (Stay workers) None source
+stay_leaves workers source = record { leaves = if_told source.before (λ bytes. IsPlayed (Stay workers) bytes None) (λ bytes. refl); leaves_a_game = refl; solves_nothing = refl }
+
+pub patrol_leaves : (workers : ℕ) (source : Reading) → IsToBeLeft (Patrol workers) None source
+patrol_leaves workers source = record { leaves = if_told source.before (λ bytes. IsPlayed (Patrol workers) bytes None) (λ bytes. refl); leaves_a_game = refl; solves_nothing = refl }
 
 pub demo_leaves : (n workers : ℕ) (played : Option (BoardModel × RootModel)) (source : Reading) → LeavesTheGameOf (demo_plant_of n) played → IsToBeLeft (Demo n workers) played source
 demo_leaves n workers played source h = record { leaves = h; leaves_a_game = h; solves_nothing = tt }

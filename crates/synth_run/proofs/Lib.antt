@@ -5,7 +5,10 @@ pub mod Giving
 pub mod Leaving
 pub mod Limits
 pub mod OneTable
+pub mod OneText
+pub mod PatrolTables
 pub mod Reporting
+pub mod StayTables
 pub mod Simulations
 pub mod Tables
 pub mod Working

@@ -13,9 +13,9 @@ use Rattle.controller_table.specs.Tables.{IsTable}
 use Rattle.controller_table.specs.Refusals.{IsShortTable, IsTableRefusedFor}
 use Rattle.controller_table.specs.Laws.{TablesAreShort}
 use Rattle.run_words.specs.declared.form.Form.{Form}
-use Rattle.run_words.specs.declared.form.Form.TheVariants.{Synth, Check, Upgrade, Sim}
+use Rattle.run_words.specs.declared.form.Form.TheVariants.{Synth, Check, Upgrade, Sim, Stay, Patrol}
 use Rattle.synth_run.specs.declared.outcome.Outcome.{Outcome}
-use Rattle.synth_run.specs.declared.outcome.Outcome.TheVariants.{Done, Invalid, NoRow, Usage, Malformed, Overflow, Limit, ReadFault, WriteFault, NoMemory}
+use Rattle.synth_run.specs.declared.outcome.Outcome.TheVariants.{Done, Invalid, NoRow, Usage, Malformed, Overflow, Limit, TooManyTurns, ReadFault, WriteFault, NoMemory}
 use Rattle.run_devices.specs.Transfers.{ReadUpTo}
 use Rattle.synth_run.specs.Sources.{most_read, LeavesAlone}
 use Rattle.synth_run.specs.Demands.{IsRefusal, IsRefused, IsRefusedTable, Demands}
@@ -52,6 +52,7 @@ passes m n b c line limit Usage h = h
 passes m n b c line limit (Malformed l) h = line l h
 passes m n b c line limit (Overflow i u) h = h
 passes m n b c line limit (Limit what) h = limit what h
+passes m n b c line limit TooManyTurns h = h
 passes m n b c line limit ReadFault h = h
 passes m n b c line limit WriteFault h = h
 passes m n b c line limit NoMemory h = h
@@ -97,6 +98,30 @@ pub record PassesOn (form : Form) : Type 0 where
 
 pub plants_pass_on : (workers : ℕ) → PassesOn (Synth workers)
 plants_pass_on workers = record {
+  ends = λ _. tt;
+  uses = λ _. tt;
+  demands = λ outcome bytes lt h.
+      elim h [
+        | inl refused ↦ inl (refused_of_longer bytes outcome lt refused)
+        | inr plant ↦ absurd (long_front bytes lt plant.1.short)
+      ];
+  answers = λ text bytes lt h. absurd (long_front bytes lt h.1.short);
+}
+
+pub stays_pass_on : (workers : ℕ) → PassesOn (Stay workers)
+stays_pass_on workers = record {
+  ends = λ _. tt;
+  uses = λ _. tt;
+  demands = λ outcome bytes lt h.
+      elim h [
+        | inl refused ↦ inl (refused_of_longer bytes outcome lt refused)
+        | inr plant ↦ absurd (long_front bytes lt plant.1.short)
+      ];
+  answers = λ text bytes lt h. absurd (long_front bytes lt h.1.short);
+}
+
+pub patrols_pass_on : (workers : ℕ) → PassesOn (Patrol workers)
+patrols_pass_on workers = record {
   ends = λ _. tt;
   uses = λ _. tt;
   demands = λ outcome bytes lt h.

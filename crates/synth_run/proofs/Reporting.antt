@@ -1,6 +1,6 @@
 -- What is reported, and clauses on one side of an answer.
 use Rattle.std.proofs.Common.{inl, inr, ◌≡◌, ℕ, List, Result, Ok, Err, sym, subst}
-use Rattle.std.specs.Prelude.{Option, Some, None, IfNone, IfOk, IfErr, OnOk, OnErr}
+use Rattle.std.specs.Prelude.{IfErr, OnOk, OnErr}
 use Rattle.std.specs.Result.{IsErrAnd}
 use Rattle.run_devices.specs.Devices.{Writing, GainsWhole, GainsPart}
 use Rattle.synth_run.specs.Statuses.{Reports}

@@ -2,7 +2,7 @@
 use Rattle.std.proofs.Common.{Bool, refl, drop, ◌≡◌, ℕ, List, inl, inr, sym, subst, ◌∙◌, arith}
 use Rattle.std.specs.Prelude.{Option, Some, None, IfSome}
 use Rattle.run_words.specs.declared.form.Form.{Form}
-use Rattle.run_words.specs.declared.form.Form.TheVariants.{Synth, Check, Upgrade, Sim, Demo}
+use Rattle.run_words.specs.declared.form.Form.TheVariants.{Synth, Check, Upgrade, Sim, Demo, Stay, Patrol}
 use Rattle.demo_plants.specs.Demo.{IsDemoLine}
 use Rattle.synth_run.specs.declared.outcome.Outcome.{Outcome}
 use Rattle.synth_run.specs.declared.outcome.Outcome.TheVariants.{Done, Usage, ReadFault, WriteFault, NoMemory}
@@ -30,6 +30,8 @@ answered_is_demanded Check bytes text h = inr (record { plant = h.0.plant; rows 
 answered_is_demanded Upgrade bytes text h = inr (record { plant = h.plant; rows = h.rows; table = h.table; demands = h.fits })
 answered_is_demanded (Sim samples seed start) bytes text h = inr (record { plant = h.plant; rows = h.rows; table = h.table; demands = (h.fits, h.begins) })
 answered_is_demanded (Demo n workers) bytes text h = refl
+answered_is_demanded (Stay workers) bytes text h = inr (h.0, h.1, h.2)
+answered_is_demanded (Patrol workers) bytes text h = inr (h.0, h.1, h.2)
 
 -- what was read to a limit never went past it
 within_limit : (most : ℕ) (told after : Option (List ℕ)) (read : List ℕ) → ReadUpTo told after most read → TakesAtMost told after most
@@ -63,6 +65,8 @@ demands_no_usage Check bytes h = elim h [ inl refused ↦ refused | inr table �
 demands_no_usage Upgrade bytes h = elim h [ inl refused ↦ refused | inr table ↦ table.demands ]
 demands_no_usage (Sim samples seed start) bytes h = elim h [ inl refused ↦ refused | inr table ↦ table.demands ]
 demands_no_usage (Demo n workers) bytes h = cc
+demands_no_usage (Stay workers) bytes h = elim h [ inl refused ↦ refused | inr accepted ↦ accepted.2 ]
+demands_no_usage (Patrol workers) bytes h = elim h [ inl refused ↦ refused | inr accepted ↦ accepted.2 ]
 
 demands_no_read_fault : (form : Form) (bytes : List ℕ) → Demands form bytes ReadFault → ⊥
 demands_no_read_fault (Synth workers) bytes h = elim h [ inl refused ↦ refused | inr accepted ↦ accepted.2 ]
@@ -70,6 +74,8 @@ demands_no_read_fault Check bytes h = elim h [ inl refused ↦ refused | inr tab
 demands_no_read_fault Upgrade bytes h = elim h [ inl refused ↦ refused | inr table ↦ table.demands ]
 demands_no_read_fault (Sim samples seed start) bytes h = elim h [ inl refused ↦ refused | inr table ↦ table.demands ]
 demands_no_read_fault (Demo n workers) bytes h = cc
+demands_no_read_fault (Stay workers) bytes h = elim h [ inl refused ↦ refused | inr accepted ↦ accepted.2 ]
+demands_no_read_fault (Patrol workers) bytes h = elim h [ inl refused ↦ refused | inr accepted ↦ accepted.2 ]
 
 demands_no_write_fault : (form : Form) (bytes : List ℕ) → Demands form bytes WriteFault → ⊥
 demands_no_write_fault (Synth workers) bytes h = elim h [ inl refused ↦ refused | inr accepted ↦ accepted.2 ]
@@ -77,6 +83,8 @@ demands_no_write_fault Check bytes h = elim h [ inl refused ↦ refused | inr ta
 demands_no_write_fault Upgrade bytes h = elim h [ inl refused ↦ refused | inr table ↦ table.demands ]
 demands_no_write_fault (Sim samples seed start) bytes h = elim h [ inl refused ↦ refused | inr table ↦ table.demands ]
 demands_no_write_fault (Demo n workers) bytes h = cc
+demands_no_write_fault (Stay workers) bytes h = elim h [ inl refused ↦ refused | inr accepted ↦ accepted.2 ]
+demands_no_write_fault (Patrol workers) bytes h = elim h [ inl refused ↦ refused | inr accepted ↦ accepted.2 ]
 
 -- a device's fault, or want of memory
 not_for_memory : (outcome : Outcome) → IsTheTexts outcome → outcome ≡ NoMemory → ⊥

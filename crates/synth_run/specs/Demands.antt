@@ -1,11 +1,12 @@
 -- What a text demands: to be refused for the first reason that applies, or to be answered.
-use Rattle.std.specs.Prelude.{◌≡◌, ◌⊎◌, ℕ, ◌^◌, ◌<◌, ◌≤◌, ℤ, List, Option}
+use Rattle.std.specs.Prelude.{◌≡◌, ◌⊎◌, ℕ, ◌*◌, ◌^◌, ◌<◌, ◌≤◌, ℤ, List, length, Option}
 use Rattle.plant_record.specs.declared.fault.LimitKind.{LimitKind}
 use Rattle.plant_record.specs.declared.fault.LimitKind.TheVariants.{PlantText, TableText, Vectors, Cells, Pairs, Edges}
 use Rattle.plant_text.specs.declared.fault.PlantFault.TheVariants as plants
 use Rattle.plant_record.specs.declared.aims.GoalKind.{GoalKind}
 use Rattle.plant_record.specs.declared.aims.GoalKind.TheVariants.{Reach, Keep}
-use Rattle.plant_record.specs.Description.{Description}
+use Rattle.grid_quantiser.specs.Axes.{cells_of}
+use Rattle.plant_record.specs.Description.{Description, axes_of}
 use Rattle.plant_record.specs.Limits.{IsWithinLimits}
 use Rattle.plant_text.specs.Grammar.{Spells}
 use Rattle.plant_text.specs.Refusals.{IsShort, IsRefusedFor}
@@ -21,9 +22,9 @@ use Rattle.controller_table.specs.Refusals.{IsTableRefusedFor}
 use Rattle.table_check.specs.Verdicts.{IsFirstWithout, HasItsKeepRow}
 use Rattle.synth_run.specs.Traces.{RangeDemands, TraceDemands}
 use Rattle.run_words.specs.declared.form.Form.{Form}
-use Rattle.run_words.specs.declared.form.Form.TheVariants.{Synth, Check, Upgrade, Sim, Demo}
+use Rattle.run_words.specs.declared.form.Form.TheVariants.{Synth, Check, Upgrade, Sim, Demo, Stay, Patrol}
 use Rattle.synth_run.specs.declared.outcome.Outcome.{Outcome}
-use Rattle.synth_run.specs.declared.outcome.Outcome.TheVariants.{Done, Invalid, NoRow, Usage, Malformed, Overflow, Limit, ReadFault, WriteFault, NoMemory}
+use Rattle.synth_run.specs.declared.outcome.Outcome.TheVariants.{Done, Invalid, NoRow, Usage, Malformed, Overflow, Limit, TooManyTurns, ReadFault, WriteFault, NoMemory}
 
 -- ---- a plant within the limits on input vectors, cells and pairs
 
@@ -54,9 +55,28 @@ PlantDemands p Usage = ⊥
 PlantDemands p (Malformed line) = ⊥
 PlantDemands p (Overflow equation input) = IsFirstOverflow p equation input
 PlantDemands p (Limit what) = ExceedsEdges p what
+PlantDemands p TooManyTurns = ⊥
 PlantDemands p ReadFault = ⊥
 PlantDemands p WriteFault = ⊥
 PlantDemands p NoMemory = ⊥
+
+-- how many pairs of a turn and a cell a patrol of a plant's targets has
+abbrev pub turns_of : Description → ℕ
+turns_of p = cells_of (axes_of p) * length p.targets
+
+-- what such a plant demands of a patrol: the same, and where nothing else refuses it, that these pairs aren't too many
+abbrev pub PatrolDemands : Description → Outcome → Type 0
+PatrolDemands p Done = IsSolvable p × (turns_of p ≤ 2 ^ 22)
+PatrolDemands p (Invalid cell) = ⊥
+PatrolDemands p NoRow = ⊥
+PatrolDemands p Usage = ⊥
+PatrolDemands p (Malformed line) = ⊥
+PatrolDemands p (Overflow equation input) = PlantDemands p (Overflow equation input)
+PatrolDemands p (Limit what) = PlantDemands p (Limit what)
+PatrolDemands p TooManyTurns = IsSolvable p × (2 ^ 22 < turns_of p)
+PatrolDemands p ReadFault = ⊥
+PatrolDemands p WriteFault = ⊥
+PatrolDemands p NoMemory = ⊥
 
 -- ---- the refusal of a text
 
@@ -69,6 +89,7 @@ IsRefusal malformed beyond Usage = ⊥
 IsRefusal malformed beyond (Malformed line) = malformed line
 IsRefusal malformed beyond (Overflow equation input) = ⊥
 IsRefusal malformed beyond (Limit what) = beyond what
+IsRefusal malformed beyond TooManyTurns = ⊥
 IsRefusal malformed beyond ReadFault = ⊥
 IsRefusal malformed beyond WriteFault = ⊥
 IsRefusal malformed beyond NoMemory = ⊥
@@ -88,6 +109,10 @@ IsRefused bytes outcome = IsRefusal (λ line. IsRefusedFor bytes (plants.Malform
 -- a plant text is refused, or it spells a plant, which demands it
 abbrev pub PlantTextDemands : List ℕ → Outcome → Type 0
 PlantTextDemands bytes outcome = IsRefused bytes outcome ⊎ ((p : Description) × IsAccepted bytes p × PlantDemands p outcome)
+
+-- a plant text is refused, or it spells a plant, which demands it of a patrol
+abbrev pub PatrolTextDemands : List ℕ → Outcome → Type 0
+PatrolTextDemands bytes outcome = IsRefused bytes outcome ⊎ ((p : Description) × IsAccepted bytes p × PatrolDemands p outcome)
 
 -- ---- the text of a table
 
@@ -112,6 +137,7 @@ TableDemands p rows Usage = ⊥
 TableDemands p rows (Malformed line) = ⊥
 TableDemands p rows (Overflow equation input) = PlantDemands p (Overflow equation input)
 TableDemands p rows (Limit what) = PlantDemands p (Limit what)
+TableDemands p rows TooManyTurns = ⊥
 TableDemands p rows ReadFault = ⊥
 TableDemands p rows WriteFault = ⊥
 TableDemands p rows NoMemory = ⊥
@@ -152,3 +178,5 @@ Demands Check bytes outcome = TableTextDemands bytes outcome
 Demands Upgrade bytes outcome = UpgradeTextDemands bytes outcome
 Demands (Sim samples seed start) bytes outcome = TraceTextDemands start bytes outcome
 Demands (Demo number workers) bytes outcome = outcome ≡ Done
+Demands (Stay workers) bytes outcome = PlantTextDemands bytes outcome
+Demands (Patrol workers) bytes outcome = PatrolTextDemands bytes outcome

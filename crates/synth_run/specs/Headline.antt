@@ -1,16 +1,26 @@
 -- What status 0 means: the text that was written is the answer of the form for the bytes on the source.
-use Rattle.std.specs.Prelude.{◌≡◌, ℕ, List, Option, codes}
+use Rattle.std.specs.Prelude.{◌≡◌, ℕ, List, length, Option, codes}
 use Rattle.game_core.specs.declared.game.Row.{Row}
+use Rattle.game_core.specs.Game.{Game}
 use Rattle.plant_record.specs.Description.{Description}
+use Rattle.abstraction_table.specs.Abstraction.{IsGameOf}
 use Rattle.abstraction_table.specs.Solution.{IsSolutionOf}
+use Rattle.stay_game.specs.Stay.{IsStaySolution}
+use Rattle.stay_table.specs.StayText.{stay_text}
+use Rattle.stay_table.specs.Settles.{Settles}
+use Rattle.patrol_game.specs.Targets.{IsInTarget}
+use Rattle.patrol_game.specs.Patrol.{IsPatrol}
+use Rattle.patrol_table.specs.PatrolText.{patrol_text}
+use Rattle.patrol_table.specs.Patrols.{Patrols}
 use Rattle.controller_table.specs.TableText.{written, table_text}
 use Rattle.controller_table.specs.Tables.{RowsFit, IsTable}
 use Rattle.successor_box.specs.Deviations.{HasNoOverflow}
 use Rattle.plant_refine.specs.Controls.{Controls}
 use Rattle.run_words.specs.declared.form.Form.{Form}
-use Rattle.run_words.specs.declared.form.Form.TheVariants.{Synth, Check, Upgrade, Sim, Demo}
+use Rattle.run_words.specs.declared.form.Form.TheVariants.{Synth, Check, Upgrade, Sim, Demo, Stay, Patrol}
 use Rattle.demo_plants.specs.Demo.{IsDemoLine}
-use Rattle.synth_run.specs.Demands.{IsAccepted, IsSolvable}
+use Rattle.synth_run.specs.declared.outcome.Outcome.TheVariants.{Done}
+use Rattle.synth_run.specs.Demands.{IsAccepted, IsSolvable, PatrolDemands}
 use Rattle.synth_run.specs.Traces.{IsTraceFor}
 
 -- The text is the table of the solution of a plant's game.
@@ -50,12 +60,51 @@ pub record IsUpgradeOf (bytes text : List ℕ) : Type 0 where
   pub fits : HasNoOverflow plant
   pub text_is : text ≡ table_text written plant rows
 
+-- The text is that of the solution of reach and stay of a plant's game: ranks are least depths of strategies in the
+-- abstraction that lead to cells where the controller can keep to the targets for any number of samples, and cells without
+-- a row have none.
+-- From every state of a cell with a row of rank k, under all bounded disturbances and for every length of run, the text
+-- read back brings the plant into a target: it lies in one at sample k and at every later sample, meeting no obstacle at
+-- any sample.
+pub record IsStayTableOf (p : Description) (text : List ℕ) : Type 0 where
+  pub game : Game
+  pub abstraction : IsGameOf p game
+  pub rows : List (Option Row)
+  pub solution : IsStaySolution game rows
+  pub text_is : text ≡ stay_text p rows
+  pub settles : Settles p text
+
+-- the bytes spell a plant that nothing refuses, and the text is that of its reach and stay
+abbrev pub IsStayTableFor : List ℕ → List ℕ → Type 0
+IsStayTableFor bytes text = (p : Description) × IsAccepted bytes p × IsSolvable p × IsStayTableOf p text
+
+-- The text is that of the solution of a patrol of a plant's targets in turn: ranks are least depths, at least 1, of
+-- strategies in the abstraction that lead to cells of the target from which the visits can go on for ever, and cells
+-- without a row for a turn have none.
+-- From every state with a row for the target whose turn it is, of rank k, under all bounded disturbances, the text read
+-- back brings the plant into that target at a sample from 1 to k. There it has a row for the next one, the first following
+-- the last. No state lies in an obstacle box. This holds for every length of run.
+pub record IsPatrolTableOf (p : Description) (text : List ℕ) : Type 0 where
+  pub game : Game
+  pub abstraction : IsGameOf p game
+  pub rows : List (List (Option Row))
+  pub solution : IsPatrol game (IsInTarget p) (length p.targets) rows
+  pub text_is : text ≡ patrol_text p rows
+  pub patrols : Patrols p text
+
+-- the bytes spell a plant that nothing refuses, with few enough turns, and the text is that of its patrol
+abbrev pub IsPatrolTableFor : List ℕ → List ℕ → Type 0
+IsPatrolTableFor bytes text = (p : Description) × IsAccepted bytes p × PatrolDemands p Done × IsPatrolTableOf p text
+
 -- the answer of a form for some bytes: that of `synth` is the plant's one table, whatever the number of workers, that of
 -- `check` is `valid` where the bytes are one, that of `upgrade` is the text of the table that the bytes are, that of `sim`
--- is a trace of it, and that of `demo` is the line of the demo plant
+-- is a trace of it, that of `demo` is the line of the demo plant, and those of `stay` and `patrol` are the texts by which
+-- the plant comes into its targets to stay there, and visits them in turn
 abbrev pub IsAnswer : Form → List ℕ → List ℕ → Type 0
 IsAnswer (Synth workers) bytes text = IsTableFor bytes text
 IsAnswer Check bytes text = IsValid bytes × (text ≡ codes "valid\n")
 IsAnswer Upgrade bytes text = IsUpgradeOf bytes text
 IsAnswer (Sim samples seed start) bytes text = IsTraceFor bytes samples seed start text
 IsAnswer (Demo number workers) bytes text = IsDemoLine number text
+IsAnswer (Stay workers) bytes text = IsStayTableFor bytes text
+IsAnswer (Patrol workers) bytes text = IsPatrolTableFor bytes text

@@ -3,7 +3,7 @@ use Rattle.std.specs.Prelude.{◌≡◌, ℕ, ℤ, List}
 use Rattle.run_words.specs.declared.form.Form.{Form}
 use Rattle.synth_run.specs.declared.outcome.Outcome.{Outcome}
 use Rattle.synth_run.specs.Demands.{Demands}
-use Rattle.synth_run.specs.Headline.{IsTableFor}
+use Rattle.synth_run.specs.Headline.{IsTableFor, IsStayTableFor, IsPatrolTableFor}
 use Rattle.synth_run.specs.Traces.{IsTraceFor}
 
 -- a text demands one thing of a form
@@ -13,6 +13,14 @@ OneDemandPerText = (form : Form) (bytes : List ℕ) (a b : Outcome) → Demands 
 -- bytes have one table
 abbrev pub OneTableForBytes : Type 0
 OneTableForBytes = (bytes a b : List ℕ) → IsTableFor bytes a → IsTableFor bytes b → a ≡ b
+
+-- bytes have one text of reach and stay
+abbrev pub OneStayTextForBytes : Type 0
+OneStayTextForBytes = (bytes a b : List ℕ) → IsStayTableFor bytes a → IsStayTableFor bytes b → a ≡ b
+
+-- bytes have one text of a patrol
+abbrev pub OnePatrolTextForBytes : Type 0
+OnePatrolTextForBytes = (bytes a b : List ℕ) → IsPatrolTableFor bytes a → IsPatrolTableFor bytes b → a ≡ b
 
 -- bytes have one trace, from a start under the noises of a seed
 abbrev pub OneTraceForBytes : Type 0

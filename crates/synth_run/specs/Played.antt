@@ -13,7 +13,7 @@ use Rattle.reach_avoid.specs.Reckoned.{IsReckoned as IsReachReckoned}
 use Rattle.safety_game.specs.Boards.{IsBoardOf as IsKeepBoardOf}
 use Rattle.safety_game.specs.Reckoned.{IsReckoned as IsKeepReckoned}
 use Rattle.run_words.specs.declared.form.Form.{Form}
-use Rattle.run_words.specs.declared.form.Form.TheVariants.{Synth, Check, Upgrade, Sim, Demo}
+use Rattle.run_words.specs.declared.form.Form.TheVariants.{Synth, Check, Upgrade, Sim, Demo, Stay, Patrol}
 use Rattle.synth_run.specs.Demands.{IsAccepted}
 use Rattle.demo_plants.specs.Demo.{demo_plant_of}
 
@@ -48,6 +48,8 @@ IsPlayed Check bytes played = played ≡ None
 IsPlayed Upgrade bytes played = played ≡ None
 IsPlayed (Sim samples seed start) bytes played = played ≡ None
 IsPlayed (Demo number workers) bytes played = LeavesTheGameOf (demo_plant_of number) played
+IsPlayed (Stay workers) bytes played = played ≡ None
+IsPlayed (Patrol workers) bytes played = played ≡ None
 
 -- what a form leaves that was done, whatever its source tells: `synth` the game of a plant within the limits, `demo` that
 -- of its plant, the others nothing
@@ -57,11 +59,15 @@ LeavesAGame Check played = played ≡ None
 LeavesAGame Upgrade played = played ≡ None
 LeavesAGame (Sim samples seed start) played = played ≡ None
 LeavesAGame (Demo number workers) played = LeavesTheGameOf (demo_plant_of number) played
+LeavesAGame (Stay workers) played = played ≡ None
+LeavesAGame (Patrol workers) played = played ≡ None
 
--- `check`, `upgrade` and `sim` solve no game, whatever their source tells
+-- `check`, `upgrade` and `sim` solve no game, and `stay` and `patrol` more than one: they leave none, whatever their source tells
 abbrev pub SolvesNothing : Form → Option (BoardModel × RootModel) → Type 0
 SolvesNothing (Synth workers) played = Unit {0}
 SolvesNothing Check played = played ≡ None
 SolvesNothing Upgrade played = played ≡ None
 SolvesNothing (Sim samples seed start) played = played ≡ None
 SolvesNothing (Demo number workers) played = Unit {0}
+SolvesNothing (Stay workers) played = played ≡ None
+SolvesNothing (Patrol workers) played = played ≡ None

@@ -2,7 +2,7 @@
 use Rattle.std.specs.Prelude.{◌≡◌, ◌≢◌, ◌⊎◌, ◌↔◌, ℕ, List, [], drop, Option, Some, None, IfSome, IsTrue}
 use Rattle.cell_counters.specs.Tokens.{BoardModel, RootModel}
 use Rattle.run_words.specs.declared.form.Form.{Form}
-use Rattle.run_words.specs.declared.form.Form.TheVariants.{Synth, Check, Upgrade, Sim, Demo}
+use Rattle.run_words.specs.declared.form.Form.TheVariants.{Synth, Check, Upgrade, Sim, Demo, Stay, Patrol}
 use Rattle.synth_run.specs.declared.outcome.Outcome.{Outcome}
 use Rattle.synth_run.specs.declared.outcome.Outcome.TheVariants.{Done, Usage, ReadFault, WriteFault, NoMemory}
 use Rattle.run_devices.specs.Devices.{next_count, Reading, Writing, GainsWhole, GainsPart, TakesAtMost}
@@ -32,6 +32,8 @@ CanEnd Check outcome = Unit {0}
 CanEnd Upgrade outcome = Unit {0}
 CanEnd (Sim samples seed start) outcome = Unit {0}
 CanEnd (Demo number workers) outcome = (outcome ≡ Done) ⊎ ((outcome ≡ WriteFault) ⊎ (outcome ≡ NoMemory))
+CanEnd (Stay workers) outcome = Unit {0}
+CanEnd (Patrol workers) outcome = Unit {0}
 
 -- What a run of a form gives, by how it ends.
 pub record IsRunOf (form : Form) (outcome : Outcome) (source : Reading) (out : Writing) (played : Option (BoardModel × RootModel)) : Type 0 where

@@ -2,7 +2,7 @@
 use Rattle.std.specs.Prelude.{◌≡◌, ℕ, ◌+◌, List, [], Option, Some}
 use Rattle.run_devices.specs.Devices.{Rose, Reading}
 use Rattle.run_words.specs.declared.form.Form.{Form}
-use Rattle.run_words.specs.declared.form.Form.TheVariants.{Synth, Check, Upgrade, Sim, Demo}
+use Rattle.run_words.specs.declared.form.Form.TheVariants.{Synth, Check, Upgrade, Sim, Demo, Stay, Patrol}
 
 -- the bytes that a form works on, from what the source tells; `demo` works on none
 abbrev pub given : Form → Option (List ℕ) → Option (List ℕ)
@@ -11,6 +11,8 @@ given Check told = told
 given Upgrade told = told
 given (Sim samples seed start) told = told
 given (Demo number workers) told = Some []
+given (Stay workers) told = told
+given (Patrol workers) told = told
 
 -- how many bytes a form reads at most: one past the limit of its text, or none
 abbrev pub most_read : Form → ℕ
@@ -19,6 +21,8 @@ most_read Check = 67108864 + 1
 most_read Upgrade = 67108864 + 1
 most_read (Sim samples seed start) = 67108864 + 1
 most_read (Demo number workers) = 0
+most_read (Stay workers) = 65536 + 1
+most_read (Patrol workers) = 65536 + 1
 
 -- The source is as it was, and counted no fault.
 pub record IsLeftAlone (source : Reading) : Type 0 where
@@ -32,6 +36,8 @@ LeavesAlone Check source = Unit {0}
 LeavesAlone Upgrade source = Unit {0}
 LeavesAlone (Sim samples seed start) source = Unit {0}
 LeavesAlone (Demo number workers) source = IsLeftAlone source
+LeavesAlone (Stay workers) source = Unit {0}
+LeavesAlone (Patrol workers) source = Unit {0}
 
 -- no read of a form failed, by its source's count of faults; `demo` makes none, whatever the count
 abbrev pub NoReadFailed : Form → ℕ → ℕ → Type 0
@@ -40,3 +46,5 @@ NoReadFailed Check before after = Rose before after → ⊥
 NoReadFailed Upgrade before after = Rose before after → ⊥
 NoReadFailed (Sim samples seed start) before after = Rose before after → ⊥
 NoReadFailed (Demo number workers) before after = Unit {0}
+NoReadFailed (Stay workers) before after = Rose before after → ⊥
+NoReadFailed (Patrol workers) before after = Rose before after → ⊥

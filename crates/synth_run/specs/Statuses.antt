@@ -4,7 +4,7 @@ use Rattle.std.specs.Fmt.{decimal}
 use Rattle.plant_record.specs.declared.fault.LimitKind.{LimitKind}
 use Rattle.plant_record.specs.declared.fault.LimitKind.TheVariants.{PlantText, TableText, Vectors, Cells, Pairs, Edges}
 use Rattle.synth_run.specs.declared.outcome.Outcome.{Outcome}
-use Rattle.synth_run.specs.declared.outcome.Outcome.TheVariants.{Done, Invalid, NoRow, Usage, Malformed, Overflow, Limit, ReadFault, WriteFault, NoMemory}
+use Rattle.synth_run.specs.declared.outcome.Outcome.TheVariants.{Done, Invalid, NoRow, Usage, Malformed, Overflow, Limit, TooManyTurns, ReadFault, WriteFault, NoMemory}
 use Rattle.run_devices.specs.Devices.{Writing, GainsWhole, GainsPart}
 
 -- the exit status
@@ -16,6 +16,7 @@ status_of Usage = 2
 status_of (Malformed line) = 3
 status_of (Overflow equation input) = 4
 status_of (Limit what) = 5
+status_of TooManyTurns = 5
 status_of ReadFault = 6
 status_of WriteFault = 7
 status_of NoMemory = 8
@@ -37,6 +38,7 @@ line_of Usage = codes "usage\n"
 line_of (Malformed line) = codes "malformed: line " ++ decimal line ++ codes "\n"
 line_of (Overflow equation input) = codes "overflow: equation " ++ decimal equation ++ codes " input " ++ decimal input ++ codes "\n"
 line_of (Limit what) = codes "limit: " ++ limit_words what ++ codes "\n"
+line_of TooManyTurns = codes "limit: turns\n"
 line_of ReadFault = codes "read fault\n"
 line_of WriteFault = []
 line_of NoMemory = codes "no memory\n"
@@ -54,6 +56,7 @@ IsTheTexts Usage = ⊥
 IsTheTexts (Malformed line) = Unit {0}
 IsTheTexts (Overflow equation input) = Unit {0}
 IsTheTexts (Limit what) = Unit {0}
+IsTheTexts TooManyTurns = Unit {0}
 IsTheTexts ReadFault = ⊥
 IsTheTexts WriteFault = ⊥
 IsTheTexts NoMemory = ⊥

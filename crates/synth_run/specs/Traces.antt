@@ -8,7 +8,7 @@ use Rattle.controller_table.specs.Tables.{IsTable}
 use Rattle.loop_sim.specs.Trace.{row_at}
 use Rattle.loop_sim.specs.TraceText.{trace_text}
 use Rattle.synth_run.specs.declared.outcome.Outcome.{Outcome}
-use Rattle.synth_run.specs.declared.outcome.Outcome.TheVariants.{Done, Invalid, NoRow, Usage, Malformed, Overflow, Limit, ReadFault, WriteFault, NoMemory}
+use Rattle.synth_run.specs.declared.outcome.Outcome.TheVariants.{Done, Invalid, NoRow, Usage, Malformed, Overflow, Limit, TooManyTurns, ReadFault, WriteFault, NoMemory}
 
 -- The numbers are as many as the plant's states, and as a state they lie in a cell with a row.
 pub record HasRowFor (p : Description) (rows : List (Option Row)) (start : List ℤ) : Type 0 where
@@ -30,6 +30,7 @@ RangeDemands p Usage = ⊥
 RangeDemands p (Malformed line) = ⊥
 RangeDemands p (Overflow equation input) = IsFirstOverflow p equation input
 RangeDemands p (Limit what) = ⊥
+RangeDemands p TooManyTurns = ⊥
 RangeDemands p ReadFault = ⊥
 RangeDemands p WriteFault = ⊥
 RangeDemands p NoMemory = ⊥
@@ -44,6 +45,7 @@ TraceDemands p rows start Usage = ⊥
 TraceDemands p rows start (Malformed line) = ⊥
 TraceDemands p rows start (Overflow equation input) = RangeDemands p (Overflow equation input)
 TraceDemands p rows start (Limit what) = ⊥
+TraceDemands p rows start TooManyTurns = ⊥
 TraceDemands p rows start ReadFault = ⊥
 TraceDemands p rows start WriteFault = ⊥
 TraceDemands p rows start NoMemory = ⊥

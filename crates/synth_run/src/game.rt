@@ -5,13 +5,14 @@ ghost use Rattle.game_core.specs.Game.{IsGraph};
 ghost use Rattle.abstraction_table.specs.Abstraction.{IsGameOf};
 ghost use Rattle.abstraction_table.specs.Table.{game_of, game_ahead};
 ghost use Rattle.synth_run.specs.declared.outcome.Outcome.TheVariants.{Done, NoMemory};
-ghost use Rattle.synth_run.specs.Demands.{PlantDemands, IsSolvable};
+ghost use Rattle.synth_run.specs.Demands.{IsAccepted, PlantTextDemands, PlantDemands, IsSolvable};
 
 use crate::outcome::Outcome;
 use abstraction_table::laws::games_count_their_edges;
 use abstraction_table::{Abstraction, Outlook, build, survey};
 use game_core::Forward;
 use plant_record::Plant;
+use plant_text::read_plant;
 use std::alloc::Global;
 use std::thread::Threads;
 use successor_box::find_slopes;
@@ -32,6 +33,23 @@ pub fn game_of<R: Threads + Sync>(
     let game = build(rt, alloc, plant, &slopes)?;
     graph_is_within_limits(&game);
     Ok(game)
+}
+
+/// The plant that the bytes spell, with its game.
+pub fn game_of_text<R: Threads + Sync>(
+    rt: &R,
+    alloc: Global,
+    bytes: &[u8],
+) -> Result<(Plant, Abstraction), Outcome>
+    ensures accepted { IfOk result (λ made. IsAccepted bytes.now made.0) }
+    ensures game { IfOk result (λ made. IsGameOf made.0 (game_of made.1)) }
+    ensures solvable { IfOk result (λ made. IsSolvable made.0) }
+    ensures demanded { IfErr result (λ outcome. outcome ≢ NoMemory → PlantTextDemands bytes.now outcome) }
+    ensures failed { IfErr result (λ outcome. outcome ≢ Done) }
+{
+    let plant = read_plant(alloc, bytes)?;
+    let game = game_of(rt, alloc, &plant)?;
+    Ok((plant, game))
 }
 
 /// The game of a plant as it is seen ahead, without its reversed edges.

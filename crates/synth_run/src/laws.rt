@@ -1,6 +1,6 @@
 //! What holds of every run.
 
-ghost use Rattle.synth_run.specs.Laws.{OneTableForBytes, OneTraceForBytes, OneDemandPerText};
+ghost use Rattle.synth_run.specs.Laws.{OneTableForBytes, OneStayTextForBytes, OnePatrolTextForBytes, OneTraceForBytes, OneDemandPerText};
 
 use abstraction_table::laws::{one_edge_count, one_game_per_plant, one_solution_per_plant};
 use controller_table::laws::{one_table_per_text, one_table_refusal, table_or_refused};
@@ -22,6 +22,16 @@ pub fn one_table_for_bytes()
     one_plant_per_text();
     one_solution_per_plant();
 }
+
+/// Bytes that spell a plant have one text of reach and stay: `stay` has no choice of what to write.
+pub fn one_stay_text_for_bytes()
+    ensures { OneStayTextForBytes }
+{}
+
+/// Bytes that spell a plant have one text of a patrol: `patrol` has no choice of what to write.
+pub fn one_patrol_text_for_bytes()
+    ensures { OnePatrolTextForBytes }
+{}
 
 /// A table has one trace, from a start under the noises of a seed: `sim` has no choice of what to write.
 pub fn one_trace_for_bytes()

@@ -2,10 +2,11 @@
 //!
 //! `run` goes from the words and bytes that it is given to the bytes that it writes: its clauses say
 //! what each status means, that status 0 of `synth` means the plant's table, that of `check` that the
-//! bytes are such a table, that of `upgrade` the text of the table, that of `sim` a trace of it, and that of
-//! `demo` the demo plant's line.
-//! Stands on `text_pieces`, `plant_text`, `abstraction_table`, `reach_avoid`, `safety_game`,
-//! `controller_table`, `table_check`, `loop_sim`, `plant_refine` and the crates below.
+//! bytes are such a table, that of `upgrade` the text of the table, that of `sim` a trace of it, that of
+//! `demo` the demo plant's line, and those of `stay` and `patrol` a text that settles the plant or
+//! patrols its targets.
+//! Stands on `text_pieces`, `plant_text`, `abstraction_table`, the solvers, `controller_table`, `stay_table`,
+//! `patrol_table`, `table_check`, `loop_sim`, `plant_refine` and the crates below.
 #![tactic(auto)]
 
 mod checking;
@@ -13,7 +14,9 @@ mod demo;
 mod game;
 pub mod laws;
 mod outcome;
+mod patrolling;
 mod resolving;
+mod settling;
 mod simulating;
 mod solving;
 mod text;

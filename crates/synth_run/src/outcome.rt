@@ -24,6 +24,8 @@ pub enum Outcome {
     Malformed { line: u32 },
     Overflow { equation: u32, input: u32 },
     Limit { what: LimitKind },
+    /// A patrol has more pairs of a turn and a cell than the limit.
+    TooManyTurns,
     ReadFault,
     WriteFault,
     NoMemory,
@@ -115,7 +117,7 @@ impl Outcome {
             Outcome::Usage => 2,
             Outcome::Malformed { .. } => 3,
             Outcome::Overflow { .. } => 4,
-            Outcome::Limit { .. } => 5,
+            Outcome::Limit { .. } | Outcome::TooManyTurns => 5,
             Outcome::ReadFault => 6,
             Outcome::WriteFault => 7,
             Outcome::NoMemory => 8,
@@ -149,6 +151,7 @@ impl Outcome {
                 )
             }
             Outcome::Limit { what } => write_pieces(err, &[b"limit: ", words_of(what), b"\n"]),
+            Outcome::TooManyTurns => write_pieces(err, &[b"limit: turns\n"]),
             Outcome::ReadFault => write_pieces(err, &[b"read fault\n"]),
             Outcome::NoMemory => write_pieces(err, &[b"no memory\n"]),
         };

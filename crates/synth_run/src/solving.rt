@@ -1,26 +1,24 @@
 // From the bytes of a plant's text to the solution of its game.
 
-ghost use Rattle.std.specs.Prelude.{◌≡◌, ◌≢◌, Some, IfOk, IfErr};
+ghost use Rattle.std.specs.Prelude.{◌≢◌, Some, IfOk, IfErr};
 ghost use Rattle.run_words.specs.declared.form.Form.{Form};
 ghost use Rattle.synth_run.specs.declared.outcome.Outcome.TheVariants as ends;
 ghost use Rattle.controller_table.specs.TableText.{written, table_text};
 ghost use Rattle.controller_table.specs.Tables.{RowsFit};
-ghost use Rattle.synth_run.specs.Demands.{PlantTextDemands, PlantDemands, IsSolvable};
+ghost use Rattle.synth_run.specs.Demands.{PlantTextDemands};
 ghost use Rattle.run_words.specs.Form.{AreWorkers};
-ghost use Rattle.synth_run.specs.Headline.{IsTableOf, IsTableFor};
-ghost use Rattle.synth_run.specs.Played.{IsPlayed, IsResolvedOn};
+ghost use Rattle.synth_run.specs.Headline.{IsTableFor};
+ghost use Rattle.synth_run.specs.Played.{IsPlayed};
 
-use crate::game::{game_of, graph_is_within_limits};
+use crate::game::{game_of_text, graph_is_within_limits};
 use crate::outcome::Outcome;
-use crate::resolving::{Resolved, resolve};
+use crate::resolving::resolve;
 use cell_counters::{Board, Root};
 use controller_table::laws::{keep_solutions_fit, reach_solutions_fit};
 use frontier_pool::Gate;
 use game_core::Answer;
 use plant_record::Plant;
-use plant_record::laws::every_plant_is_within_limits;
 use plant_refine::laws::solution_tables_control_plants;
-use plant_text::read_plant;
 use std::alloc::Global;
 use std::thread::Threads;
 
@@ -46,36 +44,12 @@ pub fn solve_text<R: Threads + Sync, T: Gate>(
     ensures demanded { IfErr result (λ outcome. outcome ≢ ends.NoMemory → PlantTextDemands bytes.now outcome) }
     ensures failed { IfErr result (λ outcome. outcome ≢ ends.Done) }
 {
-    let plant = read_plant(alloc, bytes)?;
-    let Resolved {
-        answer,
-        board,
-        root,
-    } = solve(rt, alloc, &plant, workers, gate)?;
-    Ok((Solved { plant, answer }, (board, root)))
-}
-
-/// The solution of a plant, with the board on which its game was resolved and the board's root.
-fn solve<R: Threads + Sync, T: Gate>(
-    rt: &R,
-    alloc: Global,
-    plant: &Plant,
-    workers: u32,
-    gate: &T,
-) -> Result<Resolved, Outcome>
-    requires { AreWorkers workers }
-    ensures table { IfOk result (λ resolved. IsSolvable plant.now × IsTableOf plant.now (table_text written plant.now resolved.answer)) }
-    ensures fits { IfOk result (λ resolved. RowsFit plant.now resolved.answer) }
-    ensures played { IfOk result (λ resolved. IsResolvedOn plant.now resolved.board resolved.root) }
-    ensures demanded { IfErr result (λ outcome. outcome ≢ ends.NoMemory → PlantDemands plant.now outcome) }
-    ensures failed { IfErr result (λ outcome. outcome ≢ ends.Done) }
-{
-    every_plant_is_within_limits(plant);
     reach_solutions_fit();
     keep_solutions_fit();
     solution_tables_control_plants();
-    let game = game_of(rt, alloc, plant)?;
+    let (plant, game) = game_of_text(rt, alloc, bytes)?;
     graph_is_within_limits(&game);
     let resolved = resolve(rt, alloc, plant.goal(), &game, workers, gate)?;
-    Ok(resolved)
+    let answer = resolved.answer;
+    Ok((Solved { plant, answer }, (resolved.board, resolved.root)))
 }

@@ -3,14 +3,20 @@
 ghost use Rattle.std.specs.Prelude.{OnOk, IfErr};
 ghost use Rattle.controller_table.specs.TableText.{written, table_text};
 ghost use Rattle.controller_table.specs.Tables.{RowsFit};
+ghost use Rattle.stay_table.specs.StayText.{stay_text};
+ghost use Rattle.patrol_table.specs.PatrolText.{patrol_text};
 ghost use Rattle.run_devices.specs.Devices.{GainsWhole, writing};
 ghost use Rattle.synth_run.specs.inside.Texts.{bytes_of, CanBeWritten};
 ghost use Rattle.run_devices.specs.Transfers.{StopsBy};
 
+use crate::patrolling::Patrolled;
+use crate::settling::Settled;
 use crate::simulating::Simulation;
 use crate::solving::Solved;
 use controller_table::{Table, TableWriter};
+use patrol_table::PatrolWriter;
 use run_devices::{Sink, WriteFault, write_buffered, write_whole};
+use stay_table::StayWriter;
 use std::alloc::Global;
 
 /// What a form writes.
@@ -21,6 +27,8 @@ pub enum Text {
     Line(&'static [u8]),
     Trace(Simulation),
     Summary(Vec<u8>),
+    Stay(Settled),
+    Patrol(Patrolled),
 }
 
 impl Text {
@@ -36,6 +44,8 @@ impl Text {
             Text::Line(bytes) => Ok(write_whole(out, bytes)?),
             Text::Trace(simulation) => write_buffered(alloc, out, &mut simulation.writer()),
             Text::Summary(text) => Ok(write_whole(out, text)?),
+            Text::Stay(settled) => write_stay(alloc, settled, out),
+            Text::Patrol(patrolled) => write_patrol(alloc, patrolled, out),
         }
     }
 }
@@ -58,6 +68,32 @@ fn write_upgraded<O: Sink>(alloc: Global, table: &Table, out: &mut O) -> Result<
     ensures stopped { IfErr result (λ fault. StopsBy fault (writing O.got O.faults O.room out.old out.new) (table_text written table.now.plant table.now.rows)) }
 {
     let mut writer = match TableWriter::of(alloc, table) {
+        Ok(writer) => writer,
+        Err(_) => return Err(WriteFault::Memory),
+    };
+    write_buffered(alloc, out, &mut writer)
+}
+
+fn write_stay<O: Sink>(alloc: Global, settled: &Settled, out: &mut O) -> Result<(), WriteFault>
+    ensures whole { OnOk result (GainsWhole (writing O.got O.faults O.room out.old out.new) (stay_text settled.now.plant settled.now.rows)) }
+    ensures stopped { IfErr result (λ fault. StopsBy fault (writing O.got O.faults O.room out.old out.new) (stay_text settled.now.plant settled.now.rows)) }
+{
+    let mut writer = match StayWriter::new(alloc, &settled.plant, &settled.rows) {
+        Ok(writer) => writer,
+        Err(_) => return Err(WriteFault::Memory),
+    };
+    write_buffered(alloc, out, &mut writer)
+}
+
+fn write_patrol<O: Sink>(
+    alloc: Global,
+    patrolled: &Patrolled,
+    out: &mut O,
+) -> Result<(), WriteFault>
+    ensures whole { OnOk result (GainsWhole (writing O.got O.faults O.room out.old out.new) (patrol_text patrolled.now.plant patrolled.now.rows)) }
+    ensures stopped { IfErr result (λ fault. StopsBy fault (writing O.got O.faults O.room out.old out.new) (patrol_text patrolled.now.plant patrolled.now.rows)) }
+{
+    let mut writer = match PatrolWriter::new(alloc, &patrolled.plant, &patrolled.rows) {
         Ok(writer) => writer,
         Err(_) => return Err(WriteFault::Memory),
     };

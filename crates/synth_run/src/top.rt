@@ -15,6 +15,8 @@ use crate::checking::check_text;
 use crate::demo::solved_line;
 use crate::laws::one_demand_per_text;
 use crate::outcome::Outcome;
+use crate::patrolling::patrol_text;
+use crate::settling::settle_text;
 use crate::simulating::simulate_text;
 use crate::solving::solve_text;
 use crate::text::Text;
@@ -128,6 +130,40 @@ fn demo<R: Threads + Sync, G: Gate>(
     })
 }
 
+/// The stay text of the plant on the source.
+fn stay<R: Threads + Sync, S: Source, G: Gate>(
+    rt: &R,
+    alloc: Global,
+    source: &mut S,
+    workers: u32,
+    gate: &G,
+) -> Result<Text, Outcome>
+    requires { AreWorkers workers }
+    ensures answer { IfOk result (λ text. IsWorkedOut (Form.Stay workers) text (reading S.left S.faults S.is_sound source.old source.new)) }
+    ensures refusal { IfErr result (λ outcome. IsTurnedDown (Form.Stay workers) outcome (reading S.left S.faults S.is_sound source.old source.new)) }
+{
+    let bytes = read_up_to(alloc, source, TEXT_LIMIT + 1)?;
+    let settled = settle_text(rt, alloc, &bytes, workers, gate)?;
+    Ok(Text::Stay(settled))
+}
+
+/// The patrol text of the plant on the source.
+fn patrol<R: Threads + Sync, S: Source, G: Gate>(
+    rt: &R,
+    alloc: Global,
+    source: &mut S,
+    workers: u32,
+    gate: &G,
+) -> Result<Text, Outcome>
+    requires { AreWorkers workers }
+    ensures answer { IfOk result (λ text. IsWorkedOut (Form.Patrol workers) text (reading S.left S.faults S.is_sound source.old source.new)) }
+    ensures refusal { IfErr result (λ outcome. IsTurnedDown (Form.Patrol workers) outcome (reading S.left S.faults S.is_sound source.old source.new)) }
+{
+    let bytes = read_up_to(alloc, source, TEXT_LIMIT + 1)?;
+    let patrolled = patrol_text(rt, alloc, &bytes, workers, gate)?;
+    Ok(Text::Patrol(patrolled))
+}
+
 /// What a form writes, and the game that it leaves.
 fn work_of<R: Threads + Sync, S: Source, G: Gate>(
     rt: &R,
@@ -151,6 +187,8 @@ fn work_of<R: Threads + Sync, S: Source, G: Gate>(
             start,
         } => Ok(Work::of_text(sim(alloc, source, samples, seed, &start)?)),
         Form::Demo { number, workers } => demo(rt, alloc, number, workers, gate),
+        Form::Stay { workers } => Ok(Work::of_text(stay(rt, alloc, source, workers, gate)?)),
+        Form::Patrol { workers } => Ok(Work::of_text(patrol(rt, alloc, source, workers, gate)?)),
     }
 }
 

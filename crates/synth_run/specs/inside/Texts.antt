@@ -4,11 +4,13 @@ use Rattle.game_core.specs.declared.game.Row.{Row}
 use Rattle.successor_box.specs.Deviations.{HasNoOverflow, deviations_of}
 use Rattle.controller_table.specs.TableText.{written, table_text}
 use Rattle.controller_table.specs.Tables.{RowsFit}
+use Rattle.stay_table.specs.StayText.{stay_text}
+use Rattle.patrol_table.specs.PatrolText.{patrol_text}
 use Rattle.loop_sim.specs.Trace.{row_at}
 use Rattle.loop_sim.specs.TraceText.{trace_text}
 use Rattle.synth_run.specs.declared.simulating.Simulation.{Simulation}
 use Rattle.synth_run.specs.declared.text.Text.{Text}
-use Rattle.synth_run.specs.declared.text.Text.TheVariants.{Table, Upgraded, Line, Trace, Summary}
+use Rattle.synth_run.specs.declared.text.Text.TheVariants.{Table, Upgraded, Line, Trace, Summary, Stay, Patrol}
 
 -- the trace of a simulation
 abbrev pub trace_of : Simulation → List ℕ
@@ -29,6 +31,8 @@ bytes_of (Upgraded table) = table_text written table.plant table.rows
 bytes_of (Line bytes) = bytes.now
 bytes_of (Trace simulation) = trace_of simulation
 bytes_of (Summary text) = text.items
+bytes_of (Stay settled) = stay_text settled.plant settled.rows
+bytes_of (Patrol patrolled) = patrol_text patrolled.plant patrolled.rows
 
 -- a table's rows fit its plant
 abbrev pub CanBeWritten : Text → Type 0
@@ -37,3 +41,5 @@ CanBeWritten (Upgraded table) = Unit {0}
 CanBeWritten (Line bytes) = Unit {0}
 CanBeWritten (Trace simulation) = IsReady simulation
 CanBeWritten (Summary text) = Unit {0}
+CanBeWritten (Stay settled) = Unit {0}
+CanBeWritten (Patrol patrolled) = Unit {0}

@@ -1,12 +1,8 @@
-use Rattle.std.proofs.Common.{◌≡◌, true}
-use Rattle.run_words.proofs.Words.{where_none, is_form, no_form}
+use Rattle.run_words.proofs.Words.{where_none, is_of_two, no_form}
 use Rattle.run_words.proofs.form.form_of_two.Goals as goal
 
 pub returns-then-is_synth-clause-found : goal.returns-then-is_synth-clause-found
-returns-then-is_synth-clause-found c = is_form c.args.command.now c.args.workers.now c.in_ok-workers.workers (c.is_synth.ensures.0 c.if-is_synth.true) c.in_ok-workers.ensures.found.0 c.in_ok-workers.ensures.found.1
-
-pub returns-else-is_synth-clause-none : goal.returns-else-is_synth-clause-none
-returns-else-is_synth-clause-none c = no_form c.args.command.now c.args.workers.now (λ a n few w. let yes : c.is_synth.result ≡ true = c.is_synth.ensures.1 a in cc)
+returns-then-is_synth-clause-found c = is_of_two c.args.command.now c.args.workers.now _ c.in_ok-workers.workers (c.is_synth.ensures.0 c.if-is_synth.true) c.in_ok-workers.ensures.found.0 c.in_ok-workers.ensures.found.1
 
 pub returns-in_err-workers-clause-none : goal.returns-in_err-workers-clause-none
-returns-in_err-workers-clause-none c = where_none c.from_residual.result _ (no_form c.args.command.now c.args.workers.now (λ a n few w. c.in_err-workers.ensures.none n few w))
+returns-in_err-workers-clause-none c = where_none c.from_residual.result _ (no_form c.args.command.now c.args.workers.now (λ n few w. absurd (c.in_err-workers.ensures.none n few w)))

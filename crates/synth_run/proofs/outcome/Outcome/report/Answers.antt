@@ -16,3 +16,6 @@ returns-in-NoRow g c = rw c.in-NoRow.is (reports_by c.write_pieces-in-NoRow.resu
 
 pub returns-in-ReadFault : goal.returns-in-ReadFault
 returns-in-ReadFault g c = rw c.in-ReadFault.is (reports_by c.write_pieces-in-ReadFault.result _ _ _ refl c.write_pieces-in-ReadFault.ensures.whole c.write_pieces-in-ReadFault.ensures.part)
+
+pub returns-in-TooManyTurns : goal.returns-in-TooManyTurns
+returns-in-TooManyTurns g c = rw c.in-TooManyTurns.is (reports_by c.write_pieces-in-TooManyTurns.result _ _ _ refl c.write_pieces-in-TooManyTurns.ensures.whole c.write_pieces-in-TooManyTurns.ensures.part)

@@ -1,37 +1,44 @@
 use Rattle.std.proofs.Common.{refl}
 use Rattle.abstraction_table.specs.Table.{game_of}
 use Rattle.controller_table.specs.TableText.{written, table_text}
-use Rattle.synth_run.proofs.Leaving.{resolved_on}
+use Rattle.synth_run.proofs.Leaving.{left, resolved_on}
 use Rattle.synth_run.proofs.Tables.{is_solution, solution_fits}
-use Rattle.synth_run.proofs.solving.solve.Goals as goal
+use Rattle.synth_run.proofs.solving.solve_text.Goals as goal
 
 pub returns-clause-table : goal.returns-clause-table
 returns-clause-table g c =
-    let p = c.args.plant.now in
+    let p = c.in_ok-plant.plant in
+    let accepted = c.in_ok-plant.ensures.accepted in
+    let game = game_of c.in_ok-plant.game in
+    let abstraction = c.in_ok-plant.ensures.game in
     let rows = c.in_ok-resolved.resolved.answer in
-    let game = game_of c.in_ok-game.game in
-    let abstraction = c.in_ok-game.ensures.game in
     let solution = is_solution p game rows c.goal.result c.goal.ensures abstraction c.in_ok-resolved.ensures.solution in
     let fits =
     solution_fits c.reach_solutions_fit.ensures c.keep_solutions_fit.ensures p game rows c.goal.result c.goal.ensures
     (record { graph = c.graph_is_within_limits.ensures; cells = abstraction.cells; inputs = abstraction.inputs })
     c.in_ok-resolved.ensures.solution in (
-      c.in_ok-game.ensures.solvable,
+      p,
+      accepted,
+      c.in_ok-plant.ensures.solvable,
       record {
         rows = rows;
         solution = solution;
         fitting = fits;
         text_is = refl;
-        controls = c.solution_tables_control_plants.ensures (table_text written p rows) p rows (record { limits = c.every_plant_is_within_limits.ensures; fitting = fits; version = written; text = refl }) solution;
+        controls = c.solution_tables_control_plants.ensures (table_text written p rows) p rows (record { limits = accepted.limits; fitting = fits; version = written; text = refl }) solution;
       },
     )
 
 pub returns-clause-fits : goal.returns-clause-fits
 returns-clause-fits g c =
-    let abstraction = c.in_ok-game.ensures.game in
-    solution_fits c.reach_solutions_fit.ensures c.keep_solutions_fit.ensures c.args.plant.now (game_of c.in_ok-game.game) c.in_ok-resolved.resolved.answer c.goal.result c.goal.ensures
+    let abstraction = c.in_ok-plant.ensures.game in
+    solution_fits c.reach_solutions_fit.ensures c.keep_solutions_fit.ensures c.in_ok-plant.plant (game_of c.in_ok-plant.game) c.in_ok-resolved.resolved.answer c.goal.result c.goal.ensures
     (record { graph = c.graph_is_within_limits.ensures; cells = abstraction.cells; inputs = abstraction.inputs })
     c.in_ok-resolved.ensures.solution
 
 pub returns-clause-played : goal.returns-clause-played
-returns-clause-played g c = resolved_on c.args.plant.now (game_of c.in_ok-game.game) c.goal.result c.in_ok-resolved.resolved c.goal.ensures c.in_ok-game.ensures.game c.in_ok-resolved.ensures
+returns-clause-played g c =
+    let p = c.in_ok-plant.plant in
+    let resolved = c.in_ok-resolved.resolved in
+    let on = resolved_on p (game_of c.in_ok-plant.game) c.goal.result resolved c.goal.ensures c.in_ok-plant.ensures.game c.in_ok-resolved.ensures in
+    (p, c.in_ok-plant.ensures.accepted, left p resolved.board resolved.root on)

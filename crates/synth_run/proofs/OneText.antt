@@ -1,0 +1,98 @@
+-- Bytes that spell a plant have one text of reach and stay, and one of a patrol.
+use Rattle.std.proofs.Common.{◌≡◌, ℕ, ◌-◌, ◌<◌, ◌≤◌, List, [], length, Option, Some, None, refl, sym, ap, ap₂, subst, ◌∙◌, arith, ext_get_or, le_antisymm}
+use Rattle.game_core.specs.declared.game.Row.{Row}
+use Rattle.game_core.specs.Game.{Game}
+use Rattle.game_core.specs.Strategy.{IsRankTo}
+use Rattle.game_core.specs.Solution.{row_of, LeadsWithinTo}
+use Rattle.plant_record.specs.Description.{Description}
+use Rattle.plant_text.specs.Laws.{OnePlantPerText}
+use Rattle.abstraction_table.specs.Laws.{OneGamePerPlant}
+use Rattle.stay_game.specs.Held.{IsHeld}
+use Rattle.stay_game.specs.Stay.{IsStayedBy, IsStayRow, IsStaySolution}
+use Rattle.stay_table.specs.StayText.{stay_text}
+use Rattle.patrol_game.specs.Targets.{IsInTarget}
+use Rattle.patrol_game.specs.Patrol.{IsTravelledBy, IsPatrolRow, IsPatrol, rows_for}
+use Rattle.patrol_table.specs.PatrolText.{patrol_text}
+use Rattle.synth_run.specs.Headline.{IsStayTableOf, IsPatrolTableOf}
+use Rattle.synth_run.specs.Laws.{OneStayTextForBytes, OnePatrolTextForBytes}
+
+abbrev some_row : ℕ → ℕ → Option Row
+some_row k u = Some (record { rank = k; input = u })
+
+-- ---- reach and stay
+
+same_rank : (End : ℕ → Type 0) (g : Game) (c j k : ℕ) → IsRankTo End g c j → IsRankTo End g c k → j ≡ k
+same_rank End g c j k a b =
+    let below : j ≤ k = omega (arith, a.least b.reached.0 b.reached.1, b.reached.2) in
+    let above : k ≤ j = omega (arith, b.least a.reached.0 a.reached.1, a.reached.2) in
+    le_antisymm below above
+
+same_stay : (g : Game) (c : ℕ) (p q : Row) → IsStayedBy g c p → IsStayedBy g c q → Some p ≡ Some q
+same_stay g c p q a b =
+    let ranks : p.rank ≡ q.rank = same_rank (IsHeld g) g c p.rank q.rank a.rank b.rank in
+    let below : p.input ≤ q.input = a.least q.input (subst (λ (k : ℕ). LeadsWithinTo (IsHeld g) g c q.input (k - 1)) (sym ranks) b.leads) in
+    let above : q.input ≤ p.input = b.least p.input (subst (λ (k : ℕ). LeadsWithinTo (IsHeld g) g c p.input (k - 1)) ranks a.leads) in
+    ap₂ some_row ranks (le_antisymm below above)
+
+same_stay_row : (g : Game) (c : ℕ) (a b : Option Row) → IsStayRow g c a → IsStayRow g c b → a ≡ b
+same_stay_row g c None None h k = refl
+same_stay_row g c None (Some row) h k = absurd (h k.rank.reached.0 k.rank.reached.1)
+same_stay_row g c (Some row) None h k = absurd (k h.rank.reached.0 h.rank.reached.1)
+same_stay_row g c (Some p) (Some q) h k = same_stay g c p q h k
+
+one_stay_solution : (g : Game) (rows others : List (Option Row)) → IsStaySolution g rows → IsStaySolution g others → rows ≡ others
+one_stay_solution g rows others a b =
+    let la = a.one_each in
+    let lb = b.one_each in
+    ext_get_or None rows others (omega arith) (λ c lt. same_stay_row g c (row_of rows c) (row_of others c) (a.each c (omega arith)) (b.each c (omega arith)))
+
+pub one_stay_text : OnePlantPerText → OneGamePerPlant → OneStayTextForBytes
+one_stay_text one_plant one_game bytes a b first second =
+    let p : Description = second.0 in
+    let table : IsStayTableOf p a = subst (λ (d : Description). IsStayTableOf d a) (one_plant bytes first.0 p first.1.spells second.1.spells) first.3 in
+    let other : IsStayTableOf p b = second.3 in
+    let game : other.game ≡ table.game = one_game p other.game table.game second.1.limits.plant other.abstraction table.abstraction in
+    let rows : table.rows ≡ other.rows = one_stay_solution table.game table.rows other.rows table.solution (subst (λ (g : Game). IsStaySolution g other.rows) game other.solution) in
+    table.text_is ∙ ap (stay_text p) rows ∙ sym other.text_is
+
+-- ---- patrol
+
+same_travel : (End : ℕ → Type 0) (g : Game) (c : ℕ) (p q : Row) → IsTravelledBy End g c p → IsTravelledBy End g c q → Some p ≡ Some q
+same_travel End g c p q a b =
+    let below : p.rank ≤ q.rank = omega (arith, a.least q.input b.reached.0 b.reached.1, b.reached.2) in
+    let above : q.rank ≤ p.rank = omega (arith, b.least p.input a.reached.0 a.reached.1, a.reached.2) in
+    let ranks : p.rank ≡ q.rank = le_antisymm below above in
+    let no_later : p.input ≤ q.input = a.first q.input b.reached.0 b.reached.1 (b.reached.2 ∙ sym ranks) in
+    let no_earlier : q.input ≤ p.input = b.first p.input a.reached.0 a.reached.1 (a.reached.2 ∙ ranks) in
+    ap₂ some_row ranks (le_antisymm no_later no_earlier)
+
+same_patrol_row : (g : Game) (In : ℕ → ℕ → Type 0) (turns j c : ℕ) (a b : Option Row) → IsPatrolRow g In turns j c a → IsPatrolRow g In turns j c b → a ≡ b
+same_patrol_row g In turns j c None None h k = refl
+same_patrol_row g In turns j c None (Some row) h k = absurd (h k.0)
+same_patrol_row g In turns j c (Some row) None h k = absurd (k h.0)
+same_patrol_row g In turns j c (Some p) (Some q) h k = same_travel _ g c p q h.1 k.1
+
+one_patrol : (g : Game) (In : ℕ → ℕ → Type 0) (turns : ℕ) (rows others : List (List (Option Row))) → IsPatrol g In turns rows → IsPatrol g In turns others → rows ≡ others
+one_patrol g In turns rows others a b =
+    let la = a.one_list_each in
+    let lb = b.one_list_each in
+    ext_get_or [] rows others (omega arith)
+    (λ j lt. one_turn j (omega arith))
+  where
+    one_turn : (j : ℕ) → j < turns → rows_for rows j ≡ rows_for others j
+    one_turn j before =
+        let la = a.one_row_each j before in
+        let lb = b.one_row_each j before in
+        ext_get_or None (rows_for rows j) (rows_for others j) (omega arith)
+        (λ c lt. same_patrol_row g In turns j c (row_of (rows_for rows j) c) (row_of (rows_for others j) c) (a.each j c before (omega arith)) (b.each j c before (omega arith)))
+
+pub one_patrol_text : OnePlantPerText → OneGamePerPlant → OnePatrolTextForBytes
+one_patrol_text one_plant one_game bytes a b first second =
+    let p : Description = second.0 in
+    let table : IsPatrolTableOf p a = subst (λ (d : Description). IsPatrolTableOf d a) (one_plant bytes first.0 p first.1.spells second.1.spells) first.3 in
+    let other : IsPatrolTableOf p b = second.3 in
+    let game : other.game ≡ table.game = one_game p other.game table.game second.1.limits.plant other.abstraction table.abstraction in
+    let rows : table.rows ≡ other.rows =
+    one_patrol table.game (IsInTarget p) (length p.targets) table.rows other.rows table.solution (subst (λ (g : Game). IsPatrol g (IsInTarget p) (length p.targets) other.rows) game other.solution)
+    in
+    table.text_is ∙ ap (patrol_text p) rows ∙ sym other.text_is

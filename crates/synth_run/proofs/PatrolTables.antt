@@ -1,0 +1,47 @@
+-- The facts that make a text of a patrol, and what keeps one from being made.
+use Rattle.std.proofs.Common.{inl, inr, ◌≡◌, ℕ, List, length, Option, refl}
+use Rattle.game_core.specs.declared.game.Row.{Row}
+use Rattle.game_core.specs.Game.{Game}
+use Rattle.plant_record.specs.Description.{Description}
+use Rattle.plant_record.specs.Limits.{IsWithinLimits}
+use Rattle.abstraction_table.specs.Abstraction.{IsGameOf}
+use Rattle.patrol_game.specs.Targets.{IsInTarget}
+use Rattle.patrol_game.specs.Patrol.{IsPatrol}
+use Rattle.patrol_table.specs.PatrolText.{patrol_text}
+use Rattle.patrol_table.proofs.Laws.{solution_has_patrol_text, patrol_text_patrols}
+use Rattle.synth_run.specs.declared.outcome.Outcome.{Outcome}
+use Rattle.synth_run.specs.declared.outcome.Outcome.TheVariants.{Done, Invalid, NoRow, Usage, Malformed, Overflow, Limit, TooManyTurns, ReadFault, WriteFault, NoMemory}
+use Rattle.synth_run.specs.Demands.{PlantDemands, PlantTextDemands, PatrolDemands, PatrolTextDemands}
+use Rattle.synth_run.specs.Headline.{IsPatrolTableOf}
+
+-- the text of a plant within the limits and of the solution of its patrol
+pub patrol_table : (p : Description) (g : Game) (rows : List (List (Option Row))) → IsWithinLimits p → IsGameOf p g → IsPatrol g (IsInTarget p) (length p.targets) rows → IsPatrolTableOf p (patrol_text p rows)
+patrol_table p g rows limits abstraction solution = record {
+  game = g;
+  abstraction = abstraction;
+  rows = rows;
+  solution = solution;
+  text_is = refl;
+  patrols = patrol_text_patrols (patrol_text p rows) p g rows (solution_has_patrol_text p g rows limits abstraction solution) abstraction solution;
+}
+
+-- what refuses a plant refuses a patrol of its targets
+patrol_demands : (p : Description) (outcome : Outcome) → (outcome ≡ Done → ⊥) → PlantDemands p outcome → PatrolDemands p outcome
+patrol_demands p Done failed h = absurd (failed refl)
+patrol_demands p (Invalid cell) failed h = h
+patrol_demands p NoRow failed h = h
+patrol_demands p Usage failed h = h
+patrol_demands p (Malformed line) failed h = h
+patrol_demands p (Overflow i u) failed h = h
+patrol_demands p (Limit what) failed h = h
+patrol_demands p TooManyTurns failed h = absurd h
+patrol_demands p ReadFault failed h = h
+patrol_demands p WriteFault failed h = h
+patrol_demands p NoMemory failed h = h
+
+pub patrol_text_demands : (bytes : List ℕ) (outcome : Outcome) → (outcome ≡ Done → ⊥) → PlantTextDemands bytes outcome → PatrolTextDemands bytes outcome
+patrol_text_demands bytes outcome failed h =
+    elim h [
+      | inl refused ↦ inl refused
+      | inr accepted ↦ inr (accepted.0, accepted.1, patrol_demands accepted.0 outcome failed accepted.2)
+    ]

@@ -1,0 +1,55 @@
+// From the bytes of a plant's text to a patrol of its targets in turn.
+
+ghost use Rattle.std.specs.Prelude.{◌≡◌, ◌≢◌, IfOk, IfErr};
+ghost use Rattle.patrol_table.specs.PatrolText.{patrol_text};
+ghost use Rattle.run_words.specs.Form.{AreWorkers};
+ghost use Rattle.synth_run.specs.declared.outcome.Outcome.TheVariants.{Done, NoMemory};
+ghost use Rattle.synth_run.specs.Demands.{turns_of, PatrolTextDemands};
+ghost use Rattle.synth_run.specs.Headline.{IsPatrolTableFor};
+
+use crate::game::game_of_text;
+use crate::outcome::Outcome;
+use frontier_pool::Gate;
+use patrol_game::{PatrolRows, patrol};
+use plant_record::Plant;
+use std::alloc::Global;
+use std::thread::Threads;
+
+/// The most pairs of a turn and a cell.
+const TURNS_LIMIT: u64 = 1 << 22;
+
+/// A plant with the solution of the patrol of its targets.
+#[derive(Drop)]
+pub struct Patrolled {
+    pub plant: Plant,
+    pub rows: PatrolRows,
+}
+
+/// The plant that the bytes spell, with the solution by which it visits its targets in turn.
+pub fn patrol_text<R: Threads + Sync, T: Gate>(
+    rt: &R,
+    alloc: Global,
+    bytes: &[u8],
+    workers: u32,
+    gate: &T,
+) -> Result<Patrolled, Outcome>
+    requires { AreWorkers workers }
+    ensures table { IfOk result (λ patrolled. IsPatrolTableFor bytes.now (patrol_text patrolled.plant patrolled.rows)) }
+    ensures demanded { IfErr result (λ outcome. outcome ≢ NoMemory → PatrolTextDemands bytes.now outcome) }
+    ensures failed { IfErr result (λ outcome. outcome ≢ Done) }
+{
+    let (plant, game) = game_of_text(rt, alloc, bytes)?;
+    let turns = turns_of(&plant);
+    if turns > TURNS_LIMIT {
+        return Err(Outcome::TooManyTurns);
+    }
+    let rows = patrol(rt, alloc, &game, &plant, workers, gate)?;
+    Ok(Patrolled { plant, rows })
+}
+
+/// How many pairs of a turn and a cell there are.
+fn turns_of(plant: &Plant) -> u64
+    ensures { result ≡ turns_of plant.now }
+{
+    u64::from(plant.grid().cells()) * u64::from(plant.targets())
+}
