@@ -10,10 +10,10 @@ ghost use Rattle.synth_run.specs.Headline.{IsPatrolTableFor};
 use crate::game::game_of_text;
 use crate::outcome::Outcome;
 use frontier_pool::Gate;
-use patrol_game::{PatrolRows, patrol};
 use plant_record::Plant;
 use std::alloc::Global;
 use std::thread::Threads;
+use temporal_games::{PatrolRows, patrol};
 
 /// The most pairs of a turn and a cell.
 const TURNS_LIMIT: u64 = 1 << 22;

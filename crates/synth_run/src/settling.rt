@@ -12,9 +12,9 @@ use crate::outcome::Outcome;
 use frontier_pool::Gate;
 use game_core::Answer;
 use plant_record::Plant;
-use stay_game::stay;
 use std::alloc::Global;
 use std::thread::Threads;
+use temporal_games::stay;
 
 /// A plant with the solution of reach and stay of its game.
 #[derive(Drop)]

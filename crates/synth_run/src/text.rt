@@ -14,10 +14,9 @@ use crate::settling::Settled;
 use crate::simulating::Simulation;
 use crate::solving::Solved;
 use controller_table::{Table, TableWriter};
-use patrol_table::PatrolWriter;
 use run_devices::{Sink, WriteFault, write_buffered, write_whole};
-use stay_table::StayWriter;
 use std::alloc::Global;
+use temporal_games::{PatrolWriter, StayWriter};
 
 /// What a form writes.
 #[derive(Drop)]

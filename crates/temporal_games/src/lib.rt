@@ -1,0 +1,11 @@
+//! Games of more than one aim, and their texts.
+//!
+//! Passes on `stay`, whose solution brings a plant into its targets and keeps it there, `patrol`, whose solution visits
+//! them in turn, and the writers of both texts. What they promise stands in `stay_game`, `patrol_game`, `stay_table` and
+//! `patrol_table`.
+#![tactic(auto)]
+
+pub use patrol_game::{PatrolRows, patrol};
+pub use patrol_table::PatrolWriter;
+pub use stay_game::stay;
+pub use stay_table::StayWriter;
