@@ -14,7 +14,7 @@ use Rattle.live_script.specs.declared.fault.ScriptFault.{ScriptFault}
 use Rattle.live_script.specs.declared.fault.ScriptFault.TheVariants.{Malformed, Limit, ScriptTooLong, TooManyTables, Memory}
 use Rattle.live_script.specs.Scripts.{Spell, FitsBehind, tables_behind, published, SpellBehind, IsShortScript, IsScript}
 use Rattle.live_script.specs.Refusals.{Announce, IsMalformedBehind, IsTableRefusedBehind, IsNinthTable, IsRefusedBehind, IsFirstRefusal, IsScriptRefusedFor}
-use Rattle.live_script.specs.Laws.{OneScriptPerText, OneScriptRefusal, ScriptOrRefused}
+use Rattle.live_script.specs.inside.Laws.{OneScriptPerText, OneScriptRefusal, ScriptOrRefused}
 use Rattle.std.specs.Prelude.{codes}
 use Rattle.live_script.specs.inside.Words.{spaced}
 use Rattle.live_script.proofs.QuestionLines.{line_opened}

@@ -1,2 +1,3 @@
 pub mod KeptNumbers
+pub mod Laws
 pub mod Words

@@ -1,4 +1,4 @@
--- What holds of every live script.
+-- What holds of every live script. No public clause names this.
 use Rattle.std.specs.Prelude.{◌≡◌, ℕ, List}
 use Rattle.live_script.specs.declared.command.Command.{Command}
 use Rattle.live_script.specs.declared.fault.ScriptFault.{ScriptFault}
