@@ -2,7 +2,7 @@
 
 ghost use Rattle.std.specs.Prelude.{◌≡◌, ◌<◌, length};
 
-use crate::tables::{KEEP, REACH, state, table_of};
+use crate::tables::{KEEP, REACH, copy_of, state, table_of};
 use controller_table::Table;
 use live_table::{Answered, LiveFault, Publisher, Reader, open};
 use std::alloc::Global;
@@ -45,7 +45,7 @@ fn listen<R: Wait>(
 
 fn opened<R: Wait>(rt: &R, alloc: Global) -> Result<Heard, LiveFault> {
     let second = table_of(alloc, KEEP)?;
-    let first = table_of(alloc, REACH)?;
+    let first = copy_of(alloc, &table_of(alloc, REACH)?)?;
     let (mut publisher, mut readers) = open(rt, alloc, first, 1)?;
     let heard = match readers.pop() {
         Some(mut reader) => listen(rt, &mut publisher, &mut reader, second),

@@ -7,5 +7,3 @@ mod answers;
 mod refusals;
 #[cfg(test)]
 mod tables;
-#[cfg(test)]
-mod threads;

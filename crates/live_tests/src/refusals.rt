@@ -34,9 +34,11 @@ fn a_told_has_a_place_until_it_is_dropped(rt: HostRuntime) -> Result<(), Fail> {
 fn answered_when_closed<R: Wait>(rt: &R, alloc: Global) -> Result<bool, LiveFault> {
     let (publisher, mut readers) = open(rt, alloc, table_of(alloc, REACH)?, 1)?;
     publisher.close(rt);
-    Ok(readers
-        .pop()
-        .is_some_and(|mut reader| reader.choice(&state(1)).is_ok()))
+    Ok(
+        readers
+            .pop()
+            .is_some_and(|mut reader| reader.choice(&state(1)).is_ok()),
+    )
 }
 
 #[test]

@@ -17,6 +17,10 @@ pub fn table_of(alloc: Global, text: &[u8]) -> Result<Table, LiveFault> {
     read_table(alloc, text).map_err(|_| LiveFault::Memory)
 }
 
+pub fn copy_of(alloc: Global, table: &Table) -> Result<Table, LiveFault> {
+    table.copy(alloc).map_err(|_| LiveFault::Memory)
+}
+
 pub fn state(x: i128) -> Point {
     [x, 0, 0, 0, 0, 0]
 }
