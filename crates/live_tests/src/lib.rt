@@ -7,3 +7,5 @@ mod answers;
 mod refusals;
 #[cfg(test)]
 mod tables;
+#[cfg(test)]
+mod threads;
