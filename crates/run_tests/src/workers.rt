@@ -70,7 +70,14 @@ fn do_meet<R: Threads + Sync>(
 
 #[test]
 fn two_workers_meet_where_a_plant_is_won(rt: HostRuntime) -> Result<(), Fail> {
-    let told = do_meet(&rt, rt.alloc(), &["synth", "2"], MANY, CORRIDOR, CORRIDOR_TABLE)?;
+    let told = do_meet(
+        &rt,
+        rt.alloc(),
+        &["synth", "2"],
+        MANY,
+        CORRIDOR,
+        CORRIDOR_TABLE,
+    )?;
     assert!(rt; told == [true, true]);
     Ok(())
 }
@@ -85,7 +92,14 @@ fn two_workers_meet_where_a_plant_is_kept(rt: HostRuntime) -> Result<(), Fail> {
 // The second goal comes to the gate only after the first was let go.
 #[test]
 fn one_worker_meets_nobody(rt: HostRuntime) -> Result<(), Fail> {
-    let told = do_meet(&rt, rt.alloc(), &["synth", "1"], 10, CORRIDOR, CORRIDOR_TABLE)?;
+    let told = do_meet(
+        &rt,
+        rt.alloc(),
+        &["synth", "1"],
+        10,
+        CORRIDOR,
+        CORRIDOR_TABLE,
+    )?;
     assert!(rt; told == [false, true]);
     Ok(())
 }
