@@ -1,4 +1,3 @@
 pub mod Commands
 pub mod Ending
 pub mod TablesMore
-pub mod Reporting

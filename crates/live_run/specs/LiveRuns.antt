@@ -1,7 +1,7 @@
 -- What a run of a live script gives.
 use Rattle.std.specs.Prelude.{◌≡◌, ◌≢◌, ◌⊎◌, ◌↔◌, ℕ, ◌+◌, List, [], ◌∷◌, drop, Some, IfSome, IsTrue, codes}
 use Rattle.std.specs.Fmt.{decimal}
-use Rattle.run_devices.specs.Devices.{next_count, Reading, Writing, GainsWhole, GainsPart, TakesAtMost}
+use Rattle.run_devices.specs.Devices.{next_count, Reading, Writing, GainsWhole, GainsPart, TakesAtMost, Reports, AreUnused}
 use Rattle.run_words.specs.Form.{AreWorkers}
 use Rattle.live_script.specs.declared.command.Command.{Command}
 use Rattle.live_script.specs.declared.fault.ScriptFault.{ScriptFault}
@@ -11,7 +11,7 @@ use Rattle.live_script.specs.Refusals.{IsScriptRefusedFor}
 use Rattle.live_run.specs.declared.outcome.LiveOutcome.{LiveOutcome}
 use Rattle.live_run.specs.declared.outcome.LiveOutcome.TheVariants.{Done, Usage, ReadFault, WriteFault, NoMemory}
 use Rattle.live_run.specs.Causes.{of_script}
-use Rattle.live_run.specs.Statuses.{status_of, line_of, Reports}
+use Rattle.live_run.specs.Statuses.{status_of, line_of}
 
 -- the words are `live` and how many readers answer
 abbrev pub IsLiveForm : List (List ℕ) → ℕ → Type 0
@@ -47,17 +47,10 @@ pub record IsLiveEnd (outcome : LiveOutcome) (source : Reading) (out : Writing) 
   pub write_fault : outcome ≡ WriteFault → out.faults_after ≡ next_count out.faults_before
   pub no_write_fault : outcome ≢ WriteFault → out.faults_after ≡ out.faults_before
 
--- Neither device was used.
-pub record AreUntouched (source : Reading) (out : Writing) : Type 0 where
-  pub nothing_read : source.after ≡ source.before
-  pub no_read_fault : source.faults_after ≡ source.faults_before
-  pub nothing_written : out.after ≡ out.before
-  pub no_write_fault : out.faults_after ≡ out.faults_before
-
 -- What a run of some words gives: what their form does, or `usage` where they are of no form.
 pub record Gives (words : List (List ℕ)) (outcome : LiveOutcome) (source : Reading) (out : Writing) : Type 0 where
   pub usage : (outcome ≡ Usage) ↔ ((readers : ℕ) → IsLiveForm words readers → ⊥)
-  pub untouched : outcome ≡ Usage → AreUntouched source out
+  pub unused : outcome ≡ Usage → AreUnused source out
   pub of_form : (readers : ℕ) → IsLiveForm words readers → IsLiveEnd outcome source out
 
 -- A run of some words ends with a status: that of an outcome whose line is reported.

@@ -1,9 +1,7 @@
 -- How a run of a live script can end, and how it says so.
-use Rattle.std.specs.Prelude.{◌⊎◌, ℕ, List, [], ◌++◌, codes}
+use Rattle.std.specs.Prelude.{ℕ, List, [], ◌++◌, codes}
 use Rattle.std.specs.Fmt.{decimal}
-use Rattle.plant_record.specs.declared.fault.LimitKind.{LimitKind}
-use Rattle.plant_record.specs.declared.fault.LimitKind.TheVariants.{PlantText, TableText, Vectors, Cells, Pairs, Edges}
-use Rattle.run_devices.specs.Devices.{Writing, GainsWhole, GainsPart}
+use Rattle.run_words.specs.Limits.{limit_words}
 use Rattle.live_run.specs.declared.outcome.LiveOutcome.{LiveOutcome}
 use Rattle.live_run.specs.declared.outcome.LiveOutcome.TheVariants.{Done, Usage, Malformed, Limit, ScriptTooLong, TooManyTables, ReadFault, WriteFault, NoMemory}
 
@@ -19,14 +17,6 @@ status_of ReadFault = 6
 status_of WriteFault = 7
 status_of NoMemory = 8
 
-abbrev pub limit_words : LimitKind → List ℕ
-limit_words PlantText = codes "plant text"
-limit_words TableText = codes "table text"
-limit_words Vectors = codes "vectors"
-limit_words Cells = codes "cells"
-limit_words Pairs = codes "pairs"
-limit_words Edges = codes "edges"
-
 -- the line on the error sink
 abbrev pub line_of : LiveOutcome → List ℕ
 line_of Done = []
@@ -38,7 +28,3 @@ line_of TooManyTables = codes "limit: tables\n"
 line_of ReadFault = codes "read fault\n"
 line_of WriteFault = []
 line_of NoMemory = codes "no memory\n"
-
--- a line was appended whole and no fault was counted, or one was, and a part of the line was appended
-abbrev pub Reports : Writing → List ℕ → Type 0
-Reports sink line = GainsWhole sink line ⊎ GainsPart sink line

@@ -1,7 +1,7 @@
 ghost use Rattle.std.specs.Prelude.{◌≡◌};
-ghost use Rattle.run_devices.specs.Devices.{writing};
+ghost use Rattle.run_devices.specs.Devices.{writing, Reports};
 ghost use Rattle.live_run.specs.declared.outcome.LiveOutcome.TheVariants as ends;
-ghost use Rattle.live_run.specs.Statuses.{status_of, line_of, limit_words, Reports};
+ghost use Rattle.live_run.specs.Statuses.{status_of, line_of};
 ghost use Rattle.live_run.specs.Causes.{of_script, of_read};
 
 use controller_table::NoMemory;
@@ -9,6 +9,7 @@ use itoa::Buffer;
 use live_script::ScriptFault;
 use plant_record::LimitKind;
 use run_devices::{ReadFault, Sink, write_pieces};
+use run_words::limit_words;
 use std::alloc::AllocError;
 
 /// How a run of a live script ended.
@@ -96,25 +97,14 @@ impl LiveOutcome {
                 let line = buffer.format(line).as_bytes();
                 write_pieces(err, &[b"malformed: line ", line, b"\n"])
             }
-            LiveOutcome::Limit { what } => write_pieces(err, &[b"limit: ", words_of(what), b"\n"]),
+            LiveOutcome::Limit { what } => write_pieces(
+                err,
+                &[b"limit: ", limit_words(what), b"\n"],
+            ),
             LiveOutcome::ScriptTooLong => write_pieces(err, &[b"limit: script\n"]),
             LiveOutcome::TooManyTables => write_pieces(err, &[b"limit: tables\n"]),
             LiveOutcome::ReadFault => write_pieces(err, &[b"read fault\n"]),
             LiveOutcome::NoMemory => write_pieces(err, &[b"no memory\n"]),
         };
-    }
-}
-
-/// The words of a limit.
-fn words_of(what: LimitKind) -> &'static [u8]
-    ensures { result.now ≡ limit_words what }
-{
-    match what {
-        LimitKind::PlantText => b"plant text",
-        LimitKind::TableText => b"table text",
-        LimitKind::Vectors => b"vectors",
-        LimitKind::Cells => b"cells",
-        LimitKind::Pairs => b"pairs",
-        LimitKind::Edges => b"edges",
     }
 }

@@ -6,8 +6,8 @@ ghost use Rattle.live_run.specs.inside.Sessions.{GoOnWith};
 use crate::readers::Readers;
 use controller_table::{NoMemory, Table};
 use core::mem::replace_with;
-use live_script::Question;
 use live_table::LiveFault;
+use run_words::StateNumbers;
 use std::alloc::Global;
 use std::marker::Model;
 use std::sync::Wait;
@@ -86,7 +86,7 @@ impl Session {
     }
 
     /// What the last table answers.
-    pub(crate) fn answer(&mut self, question: &Question) -> Option<u32>
+    pub(crate) fn answer(&mut self, question: &StateNumbers) -> Option<u32>
         ensures answer { IfSome self.old.table (λ table. IsAnswerOf table question.now result) }
         ensures same { self.new ≡ self.old }
     {

@@ -1,4 +1,3 @@
-pub mod KeptMore
 pub mod WordsCut
 pub mod QuestionLines
 pub mod TableLines

@@ -1,3 +1,2 @@
-pub mod KeptNumbers
 pub mod Laws
 pub mod Words

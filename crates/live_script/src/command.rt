@@ -1,5 +1,5 @@
-use crate::question::Question;
 use controller_table::Table;
+use run_words::StateNumbers;
 
 /// What a script asks for.
 #[derive(Drop)]
@@ -7,5 +7,5 @@ pub enum Command {
     /// Bring this table into force.
     Publish(Table),
     /// Tell what the table in force chooses.
-    Ask(Question),
+    Ask(StateNumbers),
 }

@@ -6,14 +6,14 @@ ghost use Rattle.live_script.specs.inside.Words.{IsNumberAt};
 
 use crate::cuts::behind_front;
 use crate::numbers::number_at;
-use crate::question::Question;
+use run_words::StateNumbers;
 
 /// The question whose line stands at the front, and what stands behind it.
-pub(crate) fn question_at(bytes: &[u8]) -> Option<(Question, &[u8])>
+pub(crate) fn question_at(bytes: &[u8]) -> Option<(StateNumbers, &[u8])>
     ensures { Finds (λ r. (r.0, r.1.now)) (λ (y : List ℤ × List ℕ). AreStateNumbers y.0 × (bytes.now ≡ ask_line y.0 ++ y.1)) result }
 {
     let mut rest = behind_front(bytes, b"ask")?;
-    let mut question = Question::empty();
+    let mut question = StateNumbers::empty();
     while question.count() < 6 {
         let (number, behind) = number_behind_space(rest)?;
         question.push(i128::from(number));

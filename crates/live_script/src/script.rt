@@ -11,10 +11,10 @@ ghost use Rattle.live_script.specs.Reading.{IsTaken};
 
 use crate::command::Command;
 use crate::fault::ScriptFault;
-use crate::question::Question;
 use crate::question_line::question_at;
 use crate::table_line::announced_at;
 use controller_table::{Table, TableFault, read_table};
+use run_words::StateNumbers;
 use std::alloc::Global;
 use std::marker::Model;
 
@@ -88,7 +88,7 @@ impl<'a> Script<'a> {
 }
 
 /// The question whose line stands at the front behind so many tables, and what stands behind it.
-fn question_behind(tables: u32, bytes: &[u8]) -> Option<(Question, &[u8])>
+fn question_behind(tables: u32, bytes: &[u8]) -> Option<(StateNumbers, &[u8])>
     ensures { Finds (λ r. (r.0, r.1.now)) (λ (y : List ℤ × List ℕ). (0 < tables) × AreStateNumbers y.0 × (bytes.now ≡ ask_line y.0 ++ y.1)) result }
 {
     if tables == 0 {

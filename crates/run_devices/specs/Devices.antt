@@ -62,3 +62,14 @@ pub record GainsPart (sink : Writing) (text : List ℕ) : Type 0 where
   pub gained : Gains sink.before sink.after (take count text)
   pub fault : sink.faults_after ≡ next_count sink.faults_before
   pub no_room : sink.room < length text
+
+-- a line was appended whole and no fault was counted, or one was, and a part of the line was appended
+abbrev pub Reports : Writing → List ℕ → Type 0
+Reports sink line = GainsWhole sink line ⊎ GainsPart sink line
+
+-- Neither device was used.
+pub record AreUnused (source : Reading) (out : Writing) : Type 0 where
+  pub nothing_read : source.after ≡ source.before
+  pub no_read_fault : source.faults_after ≡ source.faults_before
+  pub nothing_written : out.after ≡ out.before
+  pub no_write_fault : out.faults_after ≡ out.faults_before

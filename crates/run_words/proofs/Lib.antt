@@ -1,4 +1,4 @@
 pub mod Laws
 pub mod Spellings
-pub mod Starts
+pub mod MoreNumbers
 pub mod Words

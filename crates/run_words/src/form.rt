@@ -5,7 +5,7 @@ ghost use Rattle.run_words.specs.Form.{IsDemoNumber, AreWorkers, IsOfForm};
 ghost use Rattle.run_words.specs.inside.Spelling.{Spell};
 ghost use Rattle.run_words.specs.declared.form.Form.{Form};
 
-use crate::start::Start;
+use crate::state_numbers::StateNumbers;
 use itoa::Buffer;
 
 /// More than a number of 18 digits.
@@ -26,7 +26,7 @@ pub enum Form {
     Sim {
         samples: u32,
         seed: u64,
-        start: Start,
+        start: StateNumbers,
     },
     /// Solve the demo plant of a number with so many workers.
     Demo {
@@ -142,12 +142,12 @@ fn demo_number_of(word: &str) -> Option<u32>
 }
 
 /// The start whose numbers the words spell.
-fn start_of(words: &[&str]) -> Option<Start>
+fn start_of(words: &[&str]) -> Option<StateNumbers>
     requires { length words.now ≤ 6 }
     ensures found { IfSome result (Spell (map (λ w. w.now) words.now)) }
     ensures none { IfNone result ((numbers : List ℤ) → Spell (map (λ w. w.now) words.now) numbers → ⊥) }
 {
-    let mut start = Start::empty();
+    let mut start = StateNumbers::empty();
     for word in words {
         start.push(state_number_of(word)?);
     }

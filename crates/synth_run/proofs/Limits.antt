@@ -1,6 +1,6 @@
 -- A source that is read to one byte past the limit of its text.
 use Rattle.std.proofs.Common.{inl, inr, ◌≡◌, ℕ, ◌<◌, List, length, take, drop, Option, Some, None, subst, arith, length-take}
-use Rattle.std.specs.Prelude.{ℤ, IfSome}
+use Rattle.std.specs.Prelude.{◌⊎◌, ℤ, IfSome}
 use Rattle.std.proofs.lemmas.Bool.{cases_lt}
 use Rattle.plant_record.specs.declared.fault.LimitKind.{LimitKind}
 use Rattle.plant_record.specs.declared.fault.LimitKind.TheVariants.{PlantText, TableText, Vectors, Cells, Pairs, Edges}
@@ -18,7 +18,8 @@ use Rattle.synth_run.specs.declared.outcome.Outcome.{Outcome}
 use Rattle.synth_run.specs.declared.outcome.Outcome.TheVariants.{Done, Invalid, NoRow, Usage, Malformed, Overflow, Limit, TooManyTurns, ReadFault, WriteFault, NoMemory}
 use Rattle.run_devices.specs.Transfers.{ReadUpTo}
 use Rattle.synth_run.specs.Sources.{most_read, LeavesAlone}
-use Rattle.synth_run.specs.Demands.{IsRefusal, IsRefused, IsRefusedTable, Demands}
+use Rattle.synth_run.specs.Traces.{RangeDemands, TraceDemands}
+use Rattle.synth_run.specs.Demands.{PlantDemands, PatrolDemands, TableDemands, IsRefusal, IsAccepted, IsRefused, IsRefusedTable, IsTableThatDemands, Demands}
 use Rattle.synth_run.specs.Headline.{IsAnswer}
 use Rattle.synth_run.specs.Runs.{CanEnd}
 use Rattle.run_devices.specs.Devices.{Reading}
@@ -96,15 +97,21 @@ pub record PassesOn (form : Form) : Type 0 where
   pub demands : (outcome : Outcome) (bytes : List ℕ) → most_read form < length bytes → Demands form (take (most_read form) bytes) outcome → Demands form bytes outcome
   pub answers : (text bytes : List ℕ) → most_read form < length bytes → IsAnswer form (take (most_read form) bytes) text → IsAnswer form bytes text
 
+plant_of_longer :
+    (Demanded : Description → Type 0) (bytes : List ℕ) (outcome : Outcome) → 65537 < length bytes
+    → IsRefused (take 65537 bytes) outcome ⊎ ((p : Description) × IsAccepted (take 65537 bytes) p × Demanded p)
+    → IsRefused bytes outcome ⊎ ((p : Description) × IsAccepted bytes p × Demanded p)
+plant_of_longer Demanded bytes outcome lt h =
+    elim h [
+      | inl refused ↦ inl (refused_of_longer bytes outcome lt refused)
+      | inr plant ↦ absurd (long_front bytes lt plant.1.short)
+    ]
+
 pub plants_pass_on : (workers : ℕ) → PassesOn (Synth workers)
 plants_pass_on workers = record {
   ends = λ _. tt;
   uses = λ _. tt;
-  demands = λ outcome bytes lt h.
-      elim h [
-        | inl refused ↦ inl (refused_of_longer bytes outcome lt refused)
-        | inr plant ↦ absurd (long_front bytes lt plant.1.short)
-      ];
+  demands = λ outcome bytes lt h. plant_of_longer (λ p. PlantDemands p outcome) bytes outcome lt h;
   answers = λ text bytes lt h. absurd (long_front bytes lt h.1.short);
 }
 
@@ -112,11 +119,7 @@ pub stays_pass_on : (workers : ℕ) → PassesOn (Stay workers)
 stays_pass_on workers = record {
   ends = λ _. tt;
   uses = λ _. tt;
-  demands = λ outcome bytes lt h.
-      elim h [
-        | inl refused ↦ inl (refused_of_longer bytes outcome lt refused)
-        | inr plant ↦ absurd (long_front bytes lt plant.1.short)
-      ];
+  demands = λ outcome bytes lt h. plant_of_longer (λ p. PlantDemands p outcome) bytes outcome lt h;
   answers = λ text bytes lt h. absurd (long_front bytes lt h.1.short);
 }
 
@@ -124,26 +127,28 @@ pub patrols_pass_on : (workers : ℕ) → PassesOn (Patrol workers)
 patrols_pass_on workers = record {
   ends = λ _. tt;
   uses = λ _. tt;
-  demands = λ outcome bytes lt h.
-      elim h [
-        | inl refused ↦ inl (refused_of_longer bytes outcome lt refused)
-        | inr plant ↦ absurd (long_front bytes lt plant.1.short)
-      ];
+  demands = λ outcome bytes lt h. plant_of_longer (λ p. PatrolDemands p outcome) bytes outcome lt h;
   answers = λ text bytes lt h. absurd (long_front bytes lt h.1.short);
 }
 
 no_table_front : TablesAreShort → (bytes : List ℕ) (p : Description) (rows : List (Option Row)) → 67108865 < length bytes → IsTable (take 67108865 bytes) p rows → ⊥
 no_table_front short bytes p rows lt table = long_table_front bytes lt (short (take 67108865 bytes) p rows table)
 
+table_of_longer :
+    TablesAreShort → (Demanded : Description → List (Option Row) → Type 0) (bytes : List ℕ) (outcome : Outcome) → 67108865 < length bytes
+    → IsRefusedTable (take 67108865 bytes) outcome ⊎ IsTableThatDemands Demanded (take 67108865 bytes)
+    → IsRefusedTable bytes outcome ⊎ IsTableThatDemands Demanded bytes
+table_of_longer short Demanded bytes outcome lt h =
+    elim h [
+      | inl refused ↦ inl (refused_table_of_longer bytes outcome lt refused)
+      | inr table ↦ absurd (no_table_front short bytes table.plant table.rows lt table.table)
+    ]
+
 pub tables_pass_on : TablesAreShort → PassesOn Check
 tables_pass_on short = record {
   ends = λ _. tt;
   uses = λ _. tt;
-  demands = λ outcome bytes lt h.
-      elim h [
-        | inl refused ↦ inl (refused_table_of_longer bytes outcome lt refused)
-        | inr table ↦ absurd (no_table_front short bytes table.plant table.rows lt table.table)
-      ];
+  demands = λ outcome bytes lt h. table_of_longer short (λ p rows. TableDemands p rows outcome) bytes outcome lt h;
   answers = λ text bytes lt h. absurd (no_table_front short bytes h.0.plant h.0.rows lt h.0.table);
 }
 
@@ -151,11 +156,7 @@ pub upgrades_pass_on : TablesAreShort → PassesOn Upgrade
 upgrades_pass_on short = record {
   ends = λ _. tt;
   uses = λ _. tt;
-  demands = λ outcome bytes lt h.
-      elim h [
-        | inl refused ↦ inl (refused_table_of_longer bytes outcome lt refused)
-        | inr table ↦ absurd (no_table_front short bytes table.plant table.rows lt table.table)
-      ];
+  demands = λ outcome bytes lt h. table_of_longer short (λ p rows. RangeDemands p outcome) bytes outcome lt h;
   answers = λ text bytes lt h. absurd (no_table_front short bytes h.plant h.rows lt h.table);
 }
 
@@ -163,10 +164,6 @@ pub traces_pass_on : TablesAreShort → (samples seed : ℕ) (start : List ℤ) 
 traces_pass_on short samples seed start = record {
   ends = λ _. tt;
   uses = λ _. tt;
-  demands = λ outcome bytes lt h.
-      elim h [
-        | inl refused ↦ inl (refused_table_of_longer bytes outcome lt refused)
-        | inr table ↦ absurd (no_table_front short bytes table.plant table.rows lt table.table)
-      ];
+  demands = λ outcome bytes lt h. table_of_longer short (λ p rows. TraceDemands p rows start outcome) bytes outcome lt h;
   answers = λ text bytes lt h. absurd (no_table_front short bytes h.plant h.rows lt h.table);
 }

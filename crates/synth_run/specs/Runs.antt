@@ -5,13 +5,13 @@ use Rattle.run_words.specs.declared.form.Form.{Form}
 use Rattle.run_words.specs.declared.form.Form.TheVariants.{Synth, Check, Upgrade, Sim, Demo, Stay, Patrol}
 use Rattle.synth_run.specs.declared.outcome.Outcome.{Outcome}
 use Rattle.synth_run.specs.declared.outcome.Outcome.TheVariants.{Done, Usage, ReadFault, WriteFault, NoMemory}
-use Rattle.run_devices.specs.Devices.{next_count, Reading, Writing, GainsWhole, GainsPart, TakesAtMost}
+use Rattle.run_devices.specs.Devices.{next_count, Reading, Writing, GainsWhole, GainsPart, TakesAtMost, Reports, AreUnused}
 use Rattle.run_words.specs.Form.{IsOfForm, AreOfNoForm}
 use Rattle.synth_run.specs.Sources.{given, most_read, LeavesAlone}
 use Rattle.synth_run.specs.Demands.{Demands}
 use Rattle.synth_run.specs.Headline.{IsAnswer}
 use Rattle.synth_run.specs.Played.{IsPlayed, LeavesAGame, SolvesNothing}
-use Rattle.synth_run.specs.Statuses.{status_of, line_of, IsTheTexts, Reports}
+use Rattle.synth_run.specs.Statuses.{status_of, line_of, IsTheTexts}
 
 -- the answer of a form for some bytes was written whole
 abbrev pub IsAnswered : Form → List ℕ → Writing → Type 0
@@ -59,13 +59,6 @@ pub record IsRunOf (form : Form) (outcome : Outcome) (source : Reading) (out : W
   pub sound_source : IsTrue source.is_sound → outcome ≢ ReadFault
   pub write_fault : outcome ≡ WriteFault → out.faults_after ≡ next_count out.faults_before
   pub no_write_fault : outcome ≢ WriteFault → out.faults_after ≡ out.faults_before
-
--- Neither device was used.
-pub record AreUnused (source : Reading) (out : Writing) : Type 0 where
-  pub nothing_read : source.after ≡ source.before
-  pub no_read_fault : source.faults_after ≡ source.faults_before
-  pub nothing_written : out.after ≡ out.before
-  pub no_write_fault : out.faults_after ≡ out.faults_before
 
 -- What a run of some words gives: what their form does, or `usage` where they are of no form.
 pub record Gives (words : List (List ℕ)) (outcome : Outcome) (source : Reading) (out : Writing) (played : Option (BoardModel × RootModel)) : Type 0 where

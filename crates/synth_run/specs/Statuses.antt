@@ -1,11 +1,9 @@
 -- How a run can end, and how it says so.
-use Rattle.std.specs.Prelude.{◌⊎◌, ℕ, List, [], ◌++◌, codes}
+use Rattle.std.specs.Prelude.{ℕ, List, [], ◌++◌, codes}
 use Rattle.std.specs.Fmt.{decimal}
-use Rattle.plant_record.specs.declared.fault.LimitKind.{LimitKind}
-use Rattle.plant_record.specs.declared.fault.LimitKind.TheVariants.{PlantText, TableText, Vectors, Cells, Pairs, Edges}
 use Rattle.synth_run.specs.declared.outcome.Outcome.{Outcome}
 use Rattle.synth_run.specs.declared.outcome.Outcome.TheVariants.{Done, Invalid, NoRow, Usage, Malformed, Overflow, Limit, TooManyTurns, ReadFault, WriteFault, NoMemory}
-use Rattle.run_devices.specs.Devices.{Writing, GainsWhole, GainsPart}
+use Rattle.run_words.specs.Limits.{limit_words}
 
 -- the exit status
 abbrev pub status_of : Outcome → ℕ
@@ -21,14 +19,6 @@ status_of ReadFault = 6
 status_of WriteFault = 7
 status_of NoMemory = 8
 
-abbrev pub limit_words : LimitKind → List ℕ
-limit_words PlantText = codes "plant text"
-limit_words TableText = codes "table text"
-limit_words Vectors = codes "vectors"
-limit_words Cells = codes "cells"
-limit_words Pairs = codes "pairs"
-limit_words Edges = codes "edges"
-
 -- the line on the error sink
 abbrev pub line_of : Outcome → List ℕ
 line_of Done = []
@@ -42,10 +32,6 @@ line_of TooManyTurns = codes "limit: turns\n"
 line_of ReadFault = codes "read fault\n"
 line_of WriteFault = []
 line_of NoMemory = codes "no memory\n"
-
--- a line was appended whole and no fault was counted, or one was, and a part of the line was appended
-abbrev pub Reports : Writing → List ℕ → Type 0
-Reports sink line = GainsWhole sink line ⊎ GainsPart sink line
 
 -- the text alone decides that the run ends so, and not the words, a device or want of memory
 abbrev pub IsTheTexts : Outcome → Type 0

@@ -29,5 +29,5 @@ pub use outcome::Outcome;
 pub use run_devices::{
     CleanSource, CountSink, Failed, MemorySink, MemorySource, NoMemory, Sink, Source,
 };
-pub use run_words::{Form, Start};
+pub use run_words::{Form, StateNumbers};
 pub use top::run;

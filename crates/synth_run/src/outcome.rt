@@ -1,7 +1,7 @@
 ghost use Rattle.std.specs.Prelude.{◌≡◌};
-ghost use Rattle.run_devices.specs.Devices.{writing};
+ghost use Rattle.run_devices.specs.Devices.{writing, Reports};
 ghost use Rattle.synth_run.specs.declared.outcome.Outcome.TheVariants as ends;
-ghost use Rattle.synth_run.specs.Statuses.{status_of, line_of, limit_words, Reports};
+ghost use Rattle.synth_run.specs.Statuses.{status_of, line_of};
 ghost use Rattle.synth_run.specs.inside.Causes.{of_plant, of_table, of_slopes, of_build, of_read};
 
 use abstraction_table::BuildFault;
@@ -10,6 +10,7 @@ use itoa::Buffer;
 use plant_record::LimitKind;
 use plant_text::PlantFault;
 use run_devices::{NoMemory, ReadFault, Sink, write_pieces};
+use run_words::limit_words;
 use successor_box::SlopeFault;
 
 /// How a run ended.
@@ -150,24 +151,10 @@ impl Outcome {
                     &[b"overflow: equation ", equation, b" input ", input, b"\n"],
                 )
             }
-            Outcome::Limit { what } => write_pieces(err, &[b"limit: ", words_of(what), b"\n"]),
+            Outcome::Limit { what } => write_pieces(err, &[b"limit: ", limit_words(what), b"\n"]),
             Outcome::TooManyTurns => write_pieces(err, &[b"limit: turns\n"]),
             Outcome::ReadFault => write_pieces(err, &[b"read fault\n"]),
             Outcome::NoMemory => write_pieces(err, &[b"no memory\n"]),
         };
-    }
-}
-
-/// The words of a limit.
-fn words_of(what: LimitKind) -> &'static [u8]
-    ensures { result.now ≡ limit_words what }
-{
-    match what {
-        LimitKind::PlantText => b"plant text",
-        LimitKind::TableText => b"table text",
-        LimitKind::Vectors => b"vectors",
-        LimitKind::Cells => b"cells",
-        LimitKind::Pairs => b"pairs",
-        LimitKind::Edges => b"edges",
     }
 }

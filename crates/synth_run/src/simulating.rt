@@ -13,7 +13,7 @@ use game_core::Row;
 use grid_quantiser::Point;
 use loop_sim::laws::rows_stand_at_states;
 use loop_sim::{TraceWriter, row_at};
-use run_words::Start;
+use run_words::StateNumbers;
 use std::alloc::Global;
 use successor_box::{Slopes, find_slopes};
 
@@ -55,7 +55,7 @@ pub fn simulate_text(
     bytes: &[u8],
     samples: u32,
     seed: u64,
-    start: &Start,
+    start: &StateNumbers,
 ) -> Result<Simulation, Outcome>
     requires { samples ≤ 1000000 }
     ensures trace { IfOk result (λ simulation. IsTraceFor bytes.now samples seed start.now (trace_of simulation)) }
@@ -75,7 +75,7 @@ pub fn simulate_text(
 }
 
 /// The slopes of a table's plant, where the table has a row for the start.
-fn slopes_of(alloc: Global, table: &Table, start: &Start) -> Result<Slopes, Outcome>
+fn slopes_of(alloc: Global, table: &Table, start: &StateNumbers) -> Result<Slopes, Outcome>
     ensures slopes { IfOk result (λ slopes. slopes ≡ deviations_of table.now.plant) }
     ensures done { OnOk result (TraceDemands table.now.plant table.now.rows start.now Done) }
     ensures demanded { IfErr result (λ outcome. outcome ≢ NoMemory → TraceDemands table.now.plant table.now.rows start.now outcome) }
@@ -89,7 +89,7 @@ fn slopes_of(alloc: Global, table: &Table, start: &Start) -> Result<Slopes, Outc
 }
 
 /// The row of the cell in which a start lies.
-fn row_for(table: &Table, start: &Start) -> Option<Row>
+fn row_for(table: &Table, start: &StateNumbers) -> Option<Row>
     ensures found { IfSome result (λ _. HasRowFor table.now.plant table.now.rows start.now) }
     ensures none { IfNone result (HasNoRowFor table.now.plant table.now.rows start.now) }
 {

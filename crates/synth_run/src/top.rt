@@ -26,7 +26,7 @@ use controller_table::TABLE_LIMIT;
 use frontier_pool::Gate;
 use plant_text::TEXT_LIMIT;
 use run_devices::{Sink, Source, WriteFault, read_up_to};
-use run_words::{Form, Start, form_of};
+use run_words::{Form, StateNumbers, form_of};
 use std::alloc::Global;
 use std::thread::Threads;
 
@@ -97,7 +97,7 @@ fn sim<S: Source>(
     source: &mut S,
     samples: u32,
     seed: u64,
-    start: &Start,
+    start: &StateNumbers,
 ) -> Result<Text, Outcome>
     requires { samples ≤ 1000000 }
     ensures answer { IfOk result (λ text. IsWorkedOut (Form.Sim samples seed start.now) text (reading S.left S.faults S.is_sound source.old source.new)) }

@@ -1,5 +1,5 @@
 use Rattle.std.proofs.Common.{refl, append_assoc, append-nil}
-use Rattle.live_run.proofs.Reporting.{reports_by}
+use Rattle.run_devices.proofs.Laws.{reports_by}
 use Rattle.live_run.proofs.outcome.LiveOutcome.report.Goals as goal
 
 pub returns-in-Malformed : goal.returns-in-Malformed

@@ -1,4 +1,4 @@
-use Rattle.std.proofs.Common.{◌≡◌, ℕ, false, true, List, [], length, inl, refl, sym, ap, ◌∙◌, arith}
+use Rattle.std.proofs.Common.{◌≡◌, ℕ, false, true, List, [], length, inl, refl, sym, ap, ◌∙◌, arith, rules}
 use Rattle.std.specs.Prelude.{◌==◌}
 use Rattle.live_script.proofs.Taking.{table_taken, question_taken}
 use Rattle.live_script.proofs.script.Script.next_command.Goals as goal
@@ -26,5 +26,7 @@ returns-in_default-question_behind-clause-refused c = λ _.
 
 pub returns-clause-taken : goal.returns-clause-taken
 returns-clause-taken c =
-    let found = c.in-Some-question_behind.ensures in
-    rw (← c.self.view_is) (question_taken c.self.inside.tables c.self.inside.line c.self.inside.rest.now c.in-Some-question_behind.rest.now c.in-Some-question_behind.question found.0 found.1 found.2)
+    let s = c.self.inside in
+    let found = c.in-Some-question_behind in
+    let taken = question_taken s.tables s.line s.rest.now found.rest.now found.question found.ensures.0 found.ensures.1 found.ensures.2 in
+    rw (← c.self.view_is) (search (rules, taken))

@@ -1,5 +1,5 @@
 use Rattle.std.proofs.Common.{refl, append_assoc, append-nil}
-use Rattle.synth_run.proofs.Reporting.{reports_by}
+use Rattle.run_devices.proofs.Laws.{reports_by}
 use Rattle.synth_run.proofs.outcome.Outcome.report.Goals as goal
 
 pub returns-in-Malformed : goal.returns-in-Malformed

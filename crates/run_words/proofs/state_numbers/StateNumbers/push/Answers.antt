@@ -1,8 +1,8 @@
 use Rattle.std.proofs.Common.{◌++◌, ◌∷◌, [], ℤ, List, ap, ◌∙◌}
 use Rattle.std.specs.Int.{w128}
 use Rattle.std.proofs.lemmas.Int.{to_z-of_z}
-use Rattle.run_words.proofs.Starts.{has_room, pushed, stored_more}
-use Rattle.run_words.proofs.start.Start.push.Goals as goal
+use Rattle.run_words.proofs.MoreNumbers.{has_room, pushed, stored_more}
+use Rattle.run_words.proofs.state_numbers.StateNumbers.push.Goals as goal
 
 pub invariant_of-self : goal.invariant_of-self
 invariant_of-self c =

@@ -1,7 +1,7 @@
--- A start keeps its numbers in six places.
+-- The numbers of a state are kept in six places.
 use Rattle.std.specs.Prelude.{◌≡◌, ℕ, ◌≤◌, ℤ, List, length, take, refl}
 use Rattle.grid_quantiser.specs.Cells.{point_of}
-use Rattle.run_words.specs.declared.start.Start.TheInside.{Inside}
+use Rattle.run_words.specs.declared.state_numbers.StateNumbers.TheInside.{Inside}
 
 -- Six places keep up to six numbers, beside how many they are.
 pub record IsStored (six : List ℤ) (count : ℕ) : Type 0 where

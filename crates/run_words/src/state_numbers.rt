@@ -4,17 +4,17 @@ ghost use Rattle.grid_quantiser.specs.Cells.{point_of};
 use grid_quantiser::Point;
 use std::marker::Model;
 
-/// The numbers of the state in which a trace begins, six at most. Seen as their list.
+/// The numbers of a state, six at most. Seen as their list.
 #[derive(Clone, Copy, Debug, PartialEq, Eq)]
-pub struct Start {
+pub struct StateNumbers {
     six: Point,
     count: u32,
 }
 
-impl Model for Start {
+impl Model for StateNumbers {
     ghost use Rattle.std.specs.Prelude.{ℤ, List, length, take};
     ghost use Rattle.grid_quantiser.specs.Cells.{point_of};
-    ghost use Rattle.run_words.specs.inside.StoredStart.{IsStored, restored};
+    ghost use Rattle.run_words.specs.inside.StoredNumbers.{IsStored, restored};
 
     ghost Value = { List ℤ };
 
@@ -27,12 +27,12 @@ impl Model for Start {
     ghost inverse_ok = { λ s stored. restored s stored };
 }
 
-impl Start {
+impl StateNumbers {
     /// No number yet.
-    pub fn empty() -> Start
+    pub fn empty() -> StateNumbers
         ensures { result ≡ [] }
     {
-        Start {
+        StateNumbers {
             six: [0; 6],
             count: 0,
         }

@@ -1,26 +1,26 @@
--- A question with one more number.
+-- The numbers of a state with one more.
 use Rattle.std.proofs.Common.{◌≡◌, ℕ, suc, ◌+◌, ◌-◌, ◌<◌, List, [], ◌∷◌, ◌++◌, length, take, set, replicate, sym, ap, ◌∙◌, append_assoc, length-append, arith}
 use Rattle.std.specs.Prelude.{ℤ, pos}
 use Rattle.std.proofs.lemmas.List.{take_more_set, set_at, length_push, length-replicate}
 use Rattle.grid_quantiser.specs.Cells.{point_of}
-use Rattle.live_script.specs.inside.KeptNumbers.{AreKept}
+use Rattle.run_words.specs.inside.StoredNumbers.{IsStored}
 
-six_places : (six : List ℤ) (count : ℕ) → AreKept six count → length six ≡ 6
+six_places : (six : List ℤ) (count : ℕ) → IsStored six count → length six ≡ 6
 six_places six count s =
     let xs : List ℤ = take count six in
     omega (arith, ap length s.rest, length-append xs (replicate (6 - length xs) (pos 0)), length-replicate (6 - length xs) (pos 0), s.count_is, s.few)
 
 -- fewer than six numbers leave a place
-pub has_room : (six : List ℤ) (count : ℕ) (numbers : List ℤ) → AreKept six count → take count six ≡ numbers → length numbers < 6 → count < 6
+pub has_room : (six : List ℤ) (count : ℕ) (numbers : List ℤ) → IsStored six count → take count six ≡ numbers → length numbers < 6 → count < 6
 has_room six count numbers s view few = omega (arith, few, s.count_is, ap length view)
 
 -- the number stands behind the others
-pub pushed : (six : List ℤ) (count : ℕ) (n : ℤ) → AreKept six count → count < 6 → take (count + 1) (set six count n) ≡ take count six ++ n ∷ []
+pub pushed : (six : List ℤ) (count : ℕ) (n : ℤ) → IsStored six count → count < 6 → take (count + 1) (set six count n) ≡ take count six ++ n ∷ []
 pushed six count n s lt = take_more_set six count n (omega (arith, lt, six_places six count s))
 
 -- and is kept with them
-pub kept_more : (six : List ℤ) (count : ℕ) (n : ℤ) → AreKept six count → count < 6 → AreKept (set six count n) (count + 1)
-kept_more six count n s lt = record {
+pub stored_more : (six : List ℤ) (count : ℕ) (n : ℤ) → IsStored six count → count < 6 → IsStored (set six count n) (count + 1)
+stored_more six count n s lt = record {
   few = omega (arith, lt);
   rest =
       ap (λ (zs : List ℤ). set zs count n) (s.rest ∙ ap (λ (zs : List ℤ). xs ++ zs) left)
