@@ -1,14 +1,15 @@
 -- A plant in the cells of its game: where a state lies, and where a step lands.
-use Rattle.std.proofs.Common.{inl, inr, ◌≡◌, ◌≢◌, ℕ, ◌<◌, List, [], length, Option, Some, None, refl, sym, subst}
+use Rattle.std.proofs.Common.{inl, inr, ◌≡◌, ◌≢◌, ℕ, ◌<◌, List, length, Option, Some, None, refl}
 use Rattle.std.specs.Prelude.{ℤ}
 use Rattle.std.specs.List.{All, Any, Contains}
 use Rattle.std.proofs.lemmas.Bool.{cases_lt}
 use Rattle.std.proofs.lemmas.List.{get_or_past}
-use Rattle.std.proofs.lemmas.List.Elements.{All-get_or, All-nil, All-contains}
+use Rattle.std.proofs.lemmas.List.Elements.{All-contains}
 use Rattle.game_core.specs.declared.game.Row.{Row}
 use Rattle.game_core.specs.declared.game.Mark.TheVariants.{Goal, Obstacle}
-use Rattle.game_core.specs.Game.{Game, IsGame, IsEnabled, mark_of, pair_of, successors_at, successors_of}
+use Rattle.game_core.specs.Game.{Game, IsEnabled, mark_of, pair_of, successors_of}
 use Rattle.game_core.specs.Solution.{row_of}
+use Rattle.game_core.proofs.Rows.{successors_below}
 use Rattle.grid_quantiser.specs.Boxes.{IsInBox, Touches, LiesInside}
 use Rattle.grid_quantiser.specs.Cells.{IsInDomain, cell_of}
 use Rattle.plant_record.specs.declared.aims.StateBox.{StateBox}
@@ -26,13 +27,6 @@ use Rattle.abstraction_table.proofs.Refining.{games_refine}
 
 any_other : (P Q : StateBox → Type 0) (boxes : List StateBox) → ((b : StateBox) → P b → Q b) → Any P boxes → Any Q boxes
 any_other P Q boxes f a = (a.0, a.1, a.2, a.3, f a.1 a.4)
-
-successors_below : (g : Game) → IsGame g → (pair : ℕ) → All (λ s. s < g.cells) (successors_at g pair)
-successors_below g h pair =
-    elim (cases_lt pair (length g.successors)) [
-      | inl lt ↦ All-get_or (All (λ s. s < g.cells)) g.successors pair [] lt h.within
-      | inr ge ↦ subst (All (λ s. s < g.cells)) (sym (get_or_past g.successors pair [] ge)) (All-nil (λ s. s < g.cells))
-    ]
 
 -- a row stands at a cell
 pub below_from_row : (rows : List (Option Row)) (c : ℕ) (row : Row) → row_of rows c ≡ Some row → c < length rows

@@ -13,6 +13,7 @@ pub mod ShapeRuns
 pub mod ListedShapes
 pub mod PlantGame
 pub mod Refining
+pub mod Landing
 pub mod DigitMoves
 pub mod NextDigits
 pub mod PairDigits

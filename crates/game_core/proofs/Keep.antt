@@ -18,14 +18,14 @@ use Rattle.game_core.specs.Fallen.{is_obstacle, is_useless, is_helpless, has_fal
 use Rattle.game_core.proofs.Rows.{successors_below}
 
 -- subtrees for cells, one by one
-keep_trees_for : (g : Game) (d : ℕ) (cells : List ℕ) → All (HasKeepTree g d) cells → (next : Trees) × StandEach g next d cells
+pub keep_trees_for : (g : Game) (d : ℕ) (cells : List ℕ) → All (HasKeepTree g d) cells → (next : Trees) × StandEach g next d cells
 keep_trees_for g d [] h = (NoTrees, refl)
 keep_trees_for g d (c ∷ cells) h =
     let first = All-head (HasKeepTree g d) c cells h in
     let rest = keep_trees_for g d cells (All-tail (HasKeepTree g d) c cells h) in
     (AndTree first.0 rest.0, (first.1, rest.1))
 
-each_has_tree : (g : Game) (d : ℕ) (next : Trees) (cells : List ℕ) → StandEach g next d cells → All (HasKeepTree g d) cells
+pub each_has_tree : (g : Game) (d : ℕ) (next : Trees) (cells : List ℕ) → StandEach g next d cells → All (HasKeepTree g d) cells
 each_has_tree g d NoTrees cells h = subst (All (HasKeepTree g d)) (sym h) (All-nil (HasKeepTree g d))
 each_has_tree g d (AndTree t rest) [] h = absurd h
 each_has_tree g d (AndTree t rest) (c ∷ cells) h = All-cons (HasKeepTree g d) c cells (t, h.0) (each_has_tree g d rest cells h.1)

@@ -2,6 +2,7 @@ pub mod Trees
 pub mod Rows
 pub mod Reach
 pub mod Promises
+pub mod Carried
 pub mod Counts
 pub mod Queues
 pub mod Edges

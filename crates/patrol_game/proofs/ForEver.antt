@@ -3,7 +3,7 @@ use Rattle.std.proofs.Common.{ℕ, zero, suc, ◌<◌}
 use Rattle.game_core.specs.Game.{Game, IsGame}
 use Rattle.game_core.specs.Strategy.{Apply}
 use Rattle.patrol_game.specs.Visits.{next_turn, Travels, Visits}
-use Rattle.patrol_game.proofs.Carried.{weaker}
+use Rattle.game_core.proofs.Carried.{weaker}
 
 pub travels_weaker : (g : Game) (E F : ℕ → Type 0) → IsGame g → ((s : ℕ) → s < g.cells → E s → F s) → (c : ℕ) → c < g.cells → Travels E g c → Travels F g c
 travels_weaker g E F a ends c lt t = (t.0, t.1, weaker g E F a ends (Apply t.0 t.1) c lt t.2)

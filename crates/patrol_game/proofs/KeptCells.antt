@@ -3,20 +3,13 @@ use Rattle.std.proofs.Common.{inl, inr, ◌≡◌, ℕ, zero, suc, ◌<◌, ◌�
 use Rattle.std.proofs.lemmas.List.Elements.{All-head, All-tail, All-nil, All-cons}
 use Rattle.game_core.specs.declared.game.Row.{Row}
 use Rattle.game_core.specs.Game.{Game, IsGame, pair_of, successors_of}
-use Rattle.game_core.specs.Keep.{StandEach, HasKeepTree, IsKept, IsKeepRow, IsKeepSolution}
+use Rattle.game_core.specs.Keep.{HasKeepTree, IsKept, IsKeepRow, IsKeepSolution}
 use Rattle.game_core.specs.Solution.{row_of, HasRow}
 use Rattle.game_core.specs.Strategy.{Tree, Leaf, Apply, Trees, NoTrees, AndTree, LeadsTo, LeadEachTo}
 use Rattle.game_core.proofs.InTime.{kept_or_falls_in_time}
+use Rattle.game_core.proofs.Keep.{keep_trees_for}
 use Rattle.game_core.proofs.Rows.{successors_below}
 use Rattle.patrol_game.specs.Visits.{next_turn, Visits}
-
--- one keep tree for each of some cells
-keep_trees : (g : Game) (d : ℕ) (cells : List ℕ) → All (HasKeepTree g d) cells → (next : Trees) × StandEach g next d cells
-keep_trees g d [] h = (NoTrees, refl)
-keep_trees g d (c ∷ cells) h =
-    let first = All-head (HasKeepTree g d) c cells h in
-    let rest = keep_trees g d cells (All-tail (HasKeepTree g d) c cells h) in
-    (AndTree first.0 rest.0, (first.1, rest.1))
 
 module _ (g : Game) (a : IsGame g) where
   -- where a strategy leads to cells with keep trees of depths up to d, its cells have them
@@ -25,7 +18,7 @@ module _ (g : Game) (a : IsGame g) where
     keep_tree E d ends Leaf c e le lt l = ends e c le lt l
     keep_tree E d ends (Apply u next) c zero le lt l = (Leaf, l.0)
     keep_tree E d ends (Apply u next) c (suc e) le lt l =
-        let trees = keep_trees g e (successors_of g c u) (keep_each E d ends next (successors_of g c u) e (omega (arith, le)) (successors_below g a (pair_of g c u)) l.2) in
+        let trees = keep_trees_for g e (successors_of g c u) (keep_each E d ends next (successors_of g c u) e (omega (arith, le)) (successors_below g a (pair_of g c u)) l.2) in
         (Apply u trees.0, (l.0, l.1, trees.1))
 
     keep_each : (E : ℕ → Type 0) (d : ℕ) → ((e s : ℕ) → e ≤ d → s < g.cells → E s → HasKeepTree g e s) → (next : Trees) (cells : List ℕ) (e : ℕ) → e ≤ d → All (λ s. s < g.cells) cells → LeadEachTo E g next cells → All (HasKeepTree g e) cells
@@ -44,7 +37,7 @@ module _ (g : Game) (a : IsGame g) where
     visits_keep (suc d) j c zero le lt v = (Leaf, v.2.0)
     visits_keep (suc d) j c (suc e) le lt v =
         let cells = successors_of g c v.0 in
-        let trees = keep_trees g e cells (keep_each (λ s. In j s × Visits g In turns d (next_turn turns j) s) d (λ e s le ls there. visits_keep d (next_turn turns j) s e le ls there.1) v.1 cells e (omega (arith, le)) (successors_below g a (pair_of g c v.0)) v.2.2) in
+        let trees = keep_trees_for g e cells (keep_each (λ s. In j s × Visits g In turns d (next_turn turns j) s) d (λ e s le ls there. visits_keep d (next_turn turns j) s e le ls there.1) v.1 cells e (omega (arith, le)) (successors_below g a (pair_of g c v.0)) v.2.2) in
         (Apply v.0 trees.0, (v.2.0, v.2.1, trees.1))
 
     visitors_are_kept : (j c : ℕ) → c < g.cells → Visits g In turns g.cells j c → IsKept g c

@@ -1,4 +1,3 @@
-pub mod Carried
 pub mod TravelRows
 pub mod BestRows
 pub mod TurnRows

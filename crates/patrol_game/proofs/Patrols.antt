@@ -7,7 +7,7 @@ use Rattle.game_core.specs.Strategy.{Apply}
 use Rattle.game_core.specs.Solution.{row_of, HasRow}
 use Rattle.patrol_game.specs.Visits.{next_turn, Travels, Visits, VisitsOn, IsArrival}
 use Rattle.patrol_game.specs.Patrol.{IsTravelledBy, IsTravelRow, IsPatrolRow, IsPatrol, rows_for}
-use Rattle.patrol_game.proofs.Carried.{weaker}
+use Rattle.game_core.proofs.Carried.{weaker}
 use Rattle.patrol_game.proofs.ForEver.{travels_weaker, for_ever, one_more}
 
 -- rows for ends that are the same cells are the same rows

@@ -10,7 +10,7 @@ use Rattle.game_core.specs.Solution.{row_of, IsReachSolution}
 use Rattle.game_core.specs.Right.{IsRightAt, IsRightPlain, AreRight}
 use Rattle.patrol_game.specs.Patrol.{IsTravelRow}
 use Rattle.patrol_game.specs.inside.Turns.{mark_at, AreTurnMarks}
-use Rattle.patrol_game.proofs.Carried.{remarked_game, carried}
+use Rattle.game_core.proofs.Carried.{remarked_game, carried}
 use Rattle.patrol_game.proofs.TravelRows.{travel_row}
 
 module _ (g : Game) (a : IsGame g) (marks : List Mark) (m : AreTurnMarks g (λ c. Unit {0}) marks) (rows : List (Option Row)) (h : IsReachSolution (remarked g marks) rows) where

@@ -17,7 +17,7 @@ use Rattle.patrol_game.specs.Targets.{IsInTarget}
 use Rattle.patrol_game.specs.Visits.{next_turn, VisitsOn, IsArrival}
 use Rattle.patrol_game.specs.Patrol.{IsTravelledBy, IsPatrolRow, IsPatrol, rows_for}
 use Rattle.patrol_game.proofs.Laws.{targets_are_told, travellers_have_rows}
-use Rattle.stay_table.proofs.Landing.{below_from_row, refines, clear_at, lands}
+use Rattle.abstraction_table.proofs.Landing.{below_from_row, refines, clear_at, lands}
 use Rattle.patrol_table.specs.PatrolText.{IsPatrolText, HasPatrolRow, IsArrivalIn}
 use Rattle.patrol_table.specs.Patrols.{LandsWell, Goes, Patrols}
 use Rattle.patrol_table.proofs.OneText.{one_patrol_text}

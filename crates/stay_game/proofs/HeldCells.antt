@@ -6,23 +6,11 @@ use Rattle.game_core.specs.declared.game.Mark.{Mark}
 use Rattle.game_core.specs.declared.game.Mark.TheVariants.{Goal, Obstacle, Plain}
 use Rattle.game_core.specs.Game.{Game, IsGame, IsEnabled, mark_of, pair_of, successors_of, remarked}
 use Rattle.game_core.specs.Strategy.{Tree, Leaf, Apply, Trees, NoTrees, AndTree}
-use Rattle.game_core.specs.Keep.{StandsOn, StandEach, HasKeepTree, IsKept}
+use Rattle.game_core.specs.Keep.{HasKeepTree, IsKept}
+use Rattle.game_core.proofs.Keep.{keep_trees_for, each_has_tree}
+use Rattle.game_core.proofs.Rows.{successors_below}
 use Rattle.stay_game.specs.Held.{HoldsFor, IsHeld}
 use Rattle.stay_game.specs.inside.StayMarks.{hold_mark, goals_alone}
-use Rattle.stay_game.proofs.Trees.{successors_below}
-
--- subtrees for cells, one by one
-pub keep_trees_for : (g : Game) (d : ℕ) (cells : List ℕ) → All (HasKeepTree g d) cells → (next : Trees) × StandEach g next d cells
-keep_trees_for g d [] h = (NoTrees, refl)
-keep_trees_for g d (c ∷ cells) h =
-    let first = All-head (HasKeepTree g d) c cells h in
-    let rest = keep_trees_for g d cells (All-tail (HasKeepTree g d) c cells h) in
-    (AndTree first.0 rest.0, (first.1, rest.1))
-
-pub each_has_tree : (g : Game) (d : ℕ) (next : Trees) (cells : List ℕ) → StandEach g next d cells → All (HasKeepTree g d) cells
-each_has_tree g d NoTrees cells h = subst (All (HasKeepTree g d)) (sym h) (All-nil (HasKeepTree g d))
-each_has_tree g d (AndTree t rest) [] h = absurd h
-each_has_tree g d (AndTree t rest) (c ∷ cells) h = All-cons (HasKeepTree g d) c cells (t, h.0) (each_has_tree g d rest cells h.1)
 
 goal_if_clear : (m : Mark) → hold_mark m ≢ Obstacle → m ≡ Goal
 goal_if_clear Goal clear = refl

@@ -13,7 +13,8 @@ use Rattle.game_core.specs.Solution.{row_of, LeadsWithinTo, IsReachRow, IsChosen
 use Rattle.stay_game.specs.Held.{HoldsFor, IsHeld}
 use Rattle.stay_game.specs.Stay.{IsStayedBy, IsStayRow, IsStaySolution}
 use Rattle.stay_game.specs.inside.StayMarks.{goals_alone, end_mark, marks_to_reach, either_row, rows_over}
-use Rattle.stay_game.proofs.Trees.{AreMarksFor, successors_below, to_wins, from_rank, to_within, from_within}
+use Rattle.game_core.proofs.Rows.{successors_below}
+use Rattle.stay_game.proofs.Trees.{AreMarksFor, to_wins, from_rank, to_within, from_within}
 use Rattle.stay_game.proofs.HeldCells.{held_if_kept, kept_if_held}
 
 end_goal : (m : Mark) (row : Row) → end_mark m (Some row) ≡ Goal

@@ -16,10 +16,11 @@ use Rattle.game_core.proofs.RankBound.{rank_below}
 use Rattle.plant_record.specs.Description.{Description}
 use Rattle.stay_game.specs.Held.{IsHeld}
 use Rattle.stay_game.specs.Stay.{IsStayedBy, IsStayRow, IsStaySolution}
-use Rattle.stay_game.proofs.Trees.{AreMarksFor, remarked_game, from_wins, to_rank, to_within, from_within}
+use Rattle.game_core.proofs.Carried.{remarked_game}
+use Rattle.stay_game.proofs.Trees.{AreMarksFor, from_wins, to_rank, to_within, from_within}
 use Rattle.abstraction_table.specs.Abstraction.{IsGameOf}
 use Rattle.stay_table.specs.StayText.{IsStayRowOf, StayRowsFit}
-use Rattle.stay_table.proofs.Landing.{below_from_row}
+use Rattle.abstraction_table.proofs.Landing.{below_from_row}
 
 -- the mark of a cell that is no end
 abbrev way_mark : Mark → Mark

@@ -17,7 +17,7 @@ use Rattle.abstraction_table.specs.Abstraction.{IsGameOf}
 use Rattle.abstraction_table.specs.Refinement.{IsRefinement}
 use Rattle.stay_table.specs.StayText.{IsStayText}
 use Rattle.stay_table.specs.Settles.{IsUnderWay, Holds, Settles}
-use Rattle.stay_table.proofs.Landing.{below_from_row, refines, clear_at, in_target, lands}
+use Rattle.abstraction_table.proofs.Landing.{below_from_row, refines, clear_at, in_target, lands}
 use Rattle.stay_table.proofs.OneText.{one_stay_text}
 
 clear_of : (g : Game) (c : ℕ) (t : Tree) → LeadsTo (IsHeld g) g t c → mark_of g c ≢ Obstacle

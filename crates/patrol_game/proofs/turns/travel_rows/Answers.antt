@@ -9,7 +9,7 @@ use Rattle.game_core.proofs.RankBound.{rank_below}
 use Rattle.game_core.proofs.Right.{solutions_are_right}
 use Rattle.patrol_game.specs.Patrol.{IsTravelRow}
 use Rattle.patrol_game.specs.inside.Turns.{mark_at}
-use Rattle.patrol_game.proofs.Carried.{remarked_game}
+use Rattle.game_core.proofs.Carried.{remarked_game}
 use Rattle.patrol_game.proofs.TurnRows.{at_arrival, elsewhere, one_row_more}
 use Rattle.patrol_game.proofs.turns.travel_rows.Goals as goal
 use Rattle.patrol_game.proofs.turns.travel_rows.Goals.{in-Goal, in-Obstacle}
