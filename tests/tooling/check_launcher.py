@@ -43,11 +43,11 @@ class Small:
         (room / "kit/rt").chmod(0o755)
         self.calls = room / "calls"
 
-    def run(self, *words, top=None):
-        """Status, output, error, and the calls of the kit."""
+    def run(self, *words, top=None, before=()):
+        """Status, output, error, and the calls of the kit. The words before are those of a program that runs the launcher."""
         self.calls.write_text("")
         path = f"{self.room / 'kit'}:{os.environ['PATH']}"
-        done = subprocess.run([(top or self.top) / "gaffcurrant", *words], capture_output=True, text=True, check=False,
+        done = subprocess.run([*before, (top or self.top) / "gaffcurrant", *words], capture_output=True, text=True, check=False,
                               env=os.environ | {"PATH": path, "CALLS": str(self.calls)}, stdin=subprocess.DEVNULL)
         return done.returncode, done.stdout, done.stderr, self.calls.read_text().splitlines()
 
@@ -66,6 +66,7 @@ def check(report):
         check_first(report, small)
         check_content(report, small)
         check_fault(report, small)
+        check_order(report, small)
     check_forms(report)
 
 
@@ -94,6 +95,15 @@ def check_first(report, small):
     status, output, error, _ = small.run("demo", "0")
     report.expect("launcher hands on usage", (2, "demo 0\n", "usage"), (status, output, error.split("\n")[0]))
     report.holds("launcher tells the forms behind usage", "demo N W" in error)
+
+
+def check_order(report, small):
+    """One processor takes the crates first from which the longest chain leads up: low 360 seconds, middle 260, short 120."""
+    (small.top / "crates/short/src").mkdir(parents=True)
+    (small.top / "crates.txt").write_text("short: itoa\nlow: itoa\nmiddle: low\nsynth_cli: short middle\n")
+    status, output, _, calls = small.run("synth", "1", before=("taskset", "-c", str(min(os.sched_getaffinity(0)))))
+    wanted = (0, "synth 1\n", ["low lib", "middle lib", "short lib", "synth_cli run"])
+    report.expect("launcher builds the longest chain first", wanted, (status, output, calls))
 
 
 def check_content(report, small):
