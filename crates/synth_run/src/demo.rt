@@ -6,7 +6,7 @@ ghost use Rattle.demo_plants.specs.Demo.{IsDemoLine, demo_plant_of};
 ghost use Rattle.synth_run.specs.Played.{IsResolvedOn};
 ghost use Rattle.synth_run.specs.declared.outcome.Outcome.TheVariants.{NoMemory};
 
-use crate::game::game_of;
+use crate::game::outlook_of;
 use crate::outcome::Outcome;
 use crate::resolving::{Resolved, resolve};
 use cell_counters::{Board, Root};
@@ -33,12 +33,13 @@ pub fn solved_line<R: Threads + Sync, T: Gate>(
 {
     demo_plants_are_solvable();
     let plant = demo_plant(alloc, n)?;
-    let game = game_of(rt, alloc, &plant)?;
+    let ahead = outlook_of(rt, alloc, &plant)?;
     let Resolved {
+        game,
         answer,
         board,
         root,
-    } = resolve(rt, alloc, GoalKind::Reach, &game, workers, gate)?;
+    } = resolve(rt, alloc, GoalKind::Reach, ahead, workers, gate)?;
     let line = demo_line(alloc, n, &game, &answer)?;
     Ok((line, (board, root)))
 }

@@ -1,19 +1,11 @@
-use Rattle.std.proofs.Common.{length, ap, arith}
-use Rattle.std.proofs.lemmas.List.{length-map}
-use Rattle.successor_box.specs.Boxes.{cells_in}
-use Rattle.abstraction_table.proofs.PlantGame.{total}
+use Rattle.std.proofs.Common.{List, Option, sym, subst}
+use Rattle.grid_quantiser.specs.declared.boxes.CellBox.{CellBox}
+use Rattle.game_core.specs.Game.{Game}
+use Rattle.abstraction_table.specs.Abstraction.{IsGameOf, AreBoxesOf}
 use Rattle.abstraction_table.proofs.building.build.Goals as goal
 
-pub find_sources-requires-clause-ordered : goal.find_sources-requires-clause-ordered
-find_sources-requires-clause-ordered g c = λ κs within. rw c.deref.ensures.value c.in_ok-ahead.ahead.in_memory.ordered
+pub returns-clause-game : goal.returns-clause-game
+returns-clause-game g c = subst (λ (game : Game). IsGameOf c.args.p.now game) (sym c.in_ok-abstraction.ensures.game) c.in_ok-ahead.ensures.game
 
-pub find_sources-requires-clause-pairs : goal.find_sources-requires-clause-pairs
-find_sources-requires-clause-pairs g c = λ κs within.
-    let o = c.in_ok-ahead.ahead in
-    let graph = o.in_memory.graph in
-    omega (arith, ap length c.deref.ensures.value, length-map o.boxes.items (cells_in o.grid), graph.game.one_list_each, graph.pairs_bound)
-
-pub find_sources-requires-clause-edges : goal.find_sources-requires-clause-edges
-find_sources-requires-clause-edges g c = λ κs within.
-    let o = c.in_ok-ahead.ahead in
-    rw c.deref.ensures.value (omega (arith, total o.grid o.boxes.items, o.in_memory.graph.edges_bound))
+pub returns-clause-boxes : goal.returns-clause-boxes
+returns-clause-boxes g c = subst (λ (boxes : List (Option CellBox)). AreBoxesOf c.args.p.now boxes) (sym c.in_ok-abstraction.ensures.boxes) c.in_ok-ahead.ensures.boxes
