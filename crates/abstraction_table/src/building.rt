@@ -70,8 +70,9 @@ pub fn with_sources<R: Threads + Sync>(
     ensures game { IfOk result (λ a. game_of a ≡ game_ahead ahead) }
     ensures boxes { IfOk result (λ a. boxes_of a ≡ boxes_ahead ahead) }
 {
-    let sources = find_sources(rt, alloc, &ahead.grid, &ahead.boxes, &ahead.fans)
-        .map_err(|_| NoMemory)?;
+    let sources = find_sources(rt, alloc, &ahead.grid, &ahead.boxes, &ahead.fans).map_err(
+        |_| NoMemory,
+    )?;
     Ok(Abstraction { ahead, sources })
 }
 

@@ -8,7 +8,7 @@ ghost use Rattle.synth_run.specs.declared.outcome.Outcome.TheVariants.{NoMemory}
 
 use crate::game::outlook_of;
 use crate::outcome::Outcome;
-use crate::resolving::{Resolved, resolve};
+use crate::resolving::resolve;
 use cell_counters::{Board, Root};
 use demo_plants::laws::demo_plants_are_solvable;
 use demo_plants::{demo_line, demo_plant};
@@ -34,12 +34,7 @@ pub fn solved_line<R: Threads + Sync, T: Gate>(
     demo_plants_are_solvable();
     let plant = demo_plant(alloc, n)?;
     let ahead = outlook_of(rt, alloc, &plant)?;
-    let Resolved {
-        game,
-        answer,
-        board,
-        root,
-    } = resolve(rt, alloc, GoalKind::Reach, ahead, workers, gate)?;
-    let line = demo_line(alloc, n, &game, &answer)?;
-    Ok((line, (board, root)))
+    let resolved = resolve(rt, alloc, GoalKind::Reach, ahead, workers, gate)?;
+    let line = demo_line(alloc, n, &resolved.game, &resolved.answer)?;
+    Ok((line, (resolved.board, resolved.root)))
 }
