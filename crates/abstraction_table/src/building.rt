@@ -70,9 +70,8 @@ pub fn with_sources<R: Threads + Sync>(
     ensures game { IfOk result (λ a. game_of a ≡ game_ahead ahead) }
     ensures boxes { IfOk result (λ a. boxes_of a ≡ boxes_ahead ahead) }
 {
-    let sources = find_sources(rt, alloc, &ahead.grid, &ahead.boxes, &ahead.fans).map_err(
-        |_| NoMemory,
-    )?;
+    let found = find_sources(rt, alloc, &ahead.grid, &ahead.boxes, &ahead.fans);
+    let sources = found.map_err(|_| NoMemory)?;
     Ok(Abstraction { ahead, sources })
 }
 
