@@ -12,6 +12,7 @@ use crate::fault::BuildFault;
 use crate::marks::find_marks;
 use crate::outlook::Outlook;
 use crate::sources::find_sources;
+use game_core::NoMemory;
 use grid_quantiser::laws::{cells_of_a_box, every_grid_is_within_the_limit};
 use plant_record::Plant;
 use plant_record::laws::{every_plant_is_within_limits, plants_are_sound};
@@ -59,6 +60,21 @@ pub fn survey<R: Threads + Sync>(
     })
 }
 
+/// The abstraction whose game is the one that is seen ahead: the pairs that lead to each cell are found, and kept as well. What can
+/// be done side by side is handed to `rayon`.
+pub fn with_sources<R: Threads + Sync>(
+    rt: &R,
+    alloc: Global,
+    ahead: Outlook,
+) -> Result<Abstraction, NoMemory>
+    ensures game { IfOk result (λ a. game_of a ≡ game_ahead ahead) }
+    ensures boxes { IfOk result (λ a. boxes_of a ≡ boxes_ahead ahead) }
+{
+    let found = find_sources(rt, alloc, &ahead.grid, &ahead.boxes, &ahead.fans);
+    let sources = found.map_err(|_| NoMemory)?;
+    Ok(Abstraction { ahead, sources })
+}
+
 /// The abstraction of a plant. What can be done side by side is handed to `rayon`.
 pub fn build<R: Threads + Sync>(
     rt: &R,
@@ -73,6 +89,6 @@ pub fn build<R: Threads + Sync>(
     ensures fault { IfErr result (IsFaultOf p.now) }
 {
     let ahead = survey(rt, alloc, p, s)?;
-    let sources = find_sources(rt, alloc, &ahead.grid, &ahead.boxes, &ahead.fans)?;
-    Ok(Abstraction { ahead, sources })
+    let abstraction = with_sources(rt, alloc, ahead)?;
+    Ok(abstraction)
 }

@@ -1,7 +1,7 @@
 ghost use Rattle.std.specs.Prelude.{◌≡◌};
 ghost use Rattle.abstraction_table.specs.declared.fault.BuildFault.TheVariants.{Memory};
 
-use edge_rows::NoMemory;
+use game_core::NoMemory;
 use std::alloc::AllocError;
 
 /// Why a plant has no abstraction.

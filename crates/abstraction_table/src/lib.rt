@@ -3,7 +3,8 @@
 //! The layer above hands in a plant with its deviations, and gets the plant's game, or the exact
 //! number of its edges where these are too many. What `survey` gives is the game as it is seen
 //! ahead, a `Forward`: it keeps a box of cells for each pair, whose cells are the pair's successors.
-//! What `build` gives is a `Graph`, which keeps for each cell the pairs that lead to it as well.
+//! What `build` gives is a `Graph`, which keeps for each cell the pairs that lead to it as well;
+//! `with_sources` makes it of what is seen ahead.
 //! Stands on `successor_box`, `game_core`, `edge_rows` and the crates below.
 #![tactic(auto)]
 
@@ -26,6 +27,6 @@ mod sides;
 mod sources;
 
 pub use abstraction::Abstraction;
-pub use building::{build, survey};
+pub use building::{build, survey, with_sources};
 pub use fault::BuildFault;
 pub use outlook::Outlook;

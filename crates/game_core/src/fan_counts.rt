@@ -2,11 +2,11 @@
 ghost use Rattle.std.specs.Prelude.{◌≡◌, map, length, IfOk};
 
 use crate::answer::NoMemory;
-use crate::game::Graph;
+use crate::game::Forward;
 use std::alloc::Global;
 
-/// How many successors each pair of a graph has: the numbers with which its counters begin.
-pub fn fans<G: Graph>(alloc: Global, g: &G) -> Result<Vec<u64>, NoMemory>
+/// How many successors each pair of a game in memory has: the numbers with which its counters begin.
+pub fn fans<G: Forward>(alloc: Global, g: &G) -> Result<Vec<u64>, NoMemory>
     ensures { IfOk result (λ v. v.items ≡ map length (G.game g.now).successors) }
 {
     let pairs = g.cells() * g.inputs();

@@ -5,7 +5,7 @@ ghost use Rattle.reach_avoid.specs.Boards.{IsBoardOf, word_at};
 
 use board_crew::Rounds;
 use cell_counters::{Board, NONE, Root};
-use game_core::{Answer, Graph, Mark, NoMemory, fans};
+use game_core::{Answer, Forward, Mark, NoMemory, fans};
 use std::alloc::Global;
 use std::marker::Model;
 
@@ -34,8 +34,9 @@ impl Model for Scratch {
 
 impl Scratch {
     /// Takes 8 bytes for a pair, on the board, and 32 for a cell: 16 on the board, 4 on the list and 12 in the answer.
-    /// While the board is made it takes 16 for a pair and 32 for a cell.
-    pub fn new<G: Graph>(alloc: Global, g: &G, workers: u32) -> Result<Scratch, NoMemory>
+    /// While the board is made it takes 16 for a pair and 32 for a cell. What leads to a cell isn't asked for, so that can be found
+    /// afterwards.
+    pub fn new<G: Forward>(alloc: Global, g: &G, workers: u32) -> Result<Scratch, NoMemory>
         requires { (1 ≤ workers) × (workers ≤ 64) }
         ensures { IfOk result (IsBoardOf (G.game g.now)) }
     {
@@ -73,7 +74,7 @@ fn new_board(
 
 // The numbers with which the board begins: the counters' of the pairs, then the least words' of the cells. There is room for
 // what the board puts behind them, the log of the cells and its length.
-fn first_words<G: Graph>(alloc: Global, g: &G) -> Result<Vec<u64>, NoMemory>
+fn first_words<G: Forward>(alloc: Global, g: &G) -> Result<Vec<u64>, NoMemory>
     ensures { IfOk result (λ v. v.items ≡ map length (G.game g.now).successors ++ map word_at (G.game g.now).marks) }
 {
     let mut words = fans(alloc, g)?;

@@ -6,7 +6,7 @@ ghost use Rattle.safety_game.specs.Boards.{IsBoardOf, enabled_at};
 
 use board_crew::Rounds;
 use cell_counters::{Board, Root};
-use game_core::{Answer, Graph, NoMemory, fans};
+use game_core::{Answer, Forward, NoMemory, fans};
 use std::alloc::Global;
 use std::marker::Model;
 
@@ -34,8 +34,9 @@ impl Model for Scratch {
 }
 
 impl Scratch {
-    /// Takes 16 bytes for a pair and 32 for a cell while the board is made, and 8 and 32 then.
-    pub fn new<G: Graph>(alloc: Global, g: &G, workers: u32) -> Result<Scratch, NoMemory>
+    /// Takes 16 bytes for a pair and 32 for a cell while the board is made, and 8 and 32 then. What leads to a cell isn't asked for,
+    /// so that can be found afterwards.
+    pub fn new<G: Forward>(alloc: Global, g: &G, workers: u32) -> Result<Scratch, NoMemory>
         requires { (1 ≤ workers) × (workers ≤ 64) }
         ensures { IfOk result (IsBoardOf (G.game g.now)) }
     {
@@ -68,7 +69,7 @@ fn new_board(alloc: Global, starts: Vec<u64>, places: u32) -> Result<(Board, Roo
 
 // The numbers with which the counters begin: for each pair its successors, then for each cell its enabled inputs. There is
 // room for what the board puts behind them, the log of the cells and its length.
-fn starts<G: Graph>(alloc: Global, g: &G) -> Result<Vec<u64>, NoMemory>
+fn starts<G: Forward>(alloc: Global, g: &G) -> Result<Vec<u64>, NoMemory>
     ensures { IfOk result (λ v. v.items ≡ map length (G.game g.now).successors ++ map (enabled_at (G.game g.now)) (range_with_len 0 (G.game g.now).cells)) }
 {
     let mut starts = fans(alloc, g)?;
@@ -83,7 +84,7 @@ fn starts<G: Graph>(alloc: Global, g: &G) -> Result<Vec<u64>, NoMemory>
 }
 
 // How many inputs of a cell are enabled.
-fn count_enabled<G: Graph>(g: &G, c: u32) -> u64
+fn count_enabled<G: Forward>(g: &G, c: u32) -> u64
     requires { c < (G.game g.now).cells }
     ensures { result ≡ enabled_at (G.game g.now) c }
 {

@@ -2,10 +2,10 @@
 use Rattle.std.proofs.Common.{◌≡◌, ℕ, ◌<◌, List, length, take, refl, subst}
 use Rattle.std.specs.Prelude.{ℤ, Option, Some, None, IfSome}
 use Rattle.cell_counters.specs.Tokens.{BoardModel, RootModel}
-use Rattle.game_core.specs.Game.{Game}
 use Rattle.plant_record.specs.declared.aims.GoalKind.{GoalKind}
 use Rattle.plant_record.specs.Description.{Description}
 use Rattle.abstraction_table.specs.Abstraction.{IsGameOf}
+use Rattle.abstraction_table.specs.Table.{game_of}
 use Rattle.run_words.specs.declared.form.Form.TheVariants.{Synth, Check, Upgrade, Sim, Demo, Stay, Patrol}
 use Rattle.synth_run.specs.declared.resolving.Resolved.{Resolved}
 use Rattle.demo_plants.specs.Demo.{demo_plant_of}
@@ -16,14 +16,14 @@ use Rattle.synth_run.proofs.Limits.{of_whole, long_front}
 use Rattle.synth_run.proofs.Working.{IsReadWhole}
 
 -- a plant's game, resolved for the plant's goal
-pub resolved_on : (p : Description) (g : Game) (goal : GoalKind) (resolved : Resolved) → goal ≡ p.goal → IsGameOf p g → IsResolved goal g resolved → IsResolvedOn p resolved.board resolved.root
-resolved_on p g goal resolved same abstraction h = record {
-  game = g;
+pub resolved_on : (p : Description) (goal : GoalKind) (resolved : Resolved) → goal ≡ p.goal → IsGameOf p (game_of resolved.game) → IsResolved goal resolved → IsResolvedOn p resolved.board resolved.root
+resolved_on p goal resolved same abstraction h = record {
+  game = game_of resolved.game;
   abstraction = abstraction;
-  of_game = subst (λ (k : GoalKind). IsBoardFor k g resolved.board) same h.of_game;
+  of_game = subst (λ (k : GoalKind). IsBoardFor k (game_of resolved.game) resolved.board) same h.of_game;
   at = h.at;
   settled = h.settled;
-  reckoned = subst (λ (k : GoalKind). IsReckonedFor k g resolved.root.accounts) same h.reckoned;
+  reckoned = subst (λ (k : GoalKind). IsReckonedFor k (game_of resolved.game) resolved.root.accounts) same h.reckoned;
 }
 
 -- a board and its root that are kept

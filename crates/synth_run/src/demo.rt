@@ -6,9 +6,9 @@ ghost use Rattle.demo_plants.specs.Demo.{IsDemoLine, demo_plant_of};
 ghost use Rattle.synth_run.specs.Played.{IsResolvedOn};
 ghost use Rattle.synth_run.specs.declared.outcome.Outcome.TheVariants.{NoMemory};
 
-use crate::game::game_of;
+use crate::game::outlook_of;
 use crate::outcome::Outcome;
-use crate::resolving::{Resolved, resolve};
+use crate::resolving::resolve;
 use cell_counters::{Board, Root};
 use demo_plants::laws::demo_plants_are_solvable;
 use demo_plants::{demo_line, demo_plant};
@@ -33,12 +33,8 @@ pub fn solved_line<R: Threads + Sync, T: Gate>(
 {
     demo_plants_are_solvable();
     let plant = demo_plant(alloc, n)?;
-    let game = game_of(rt, alloc, &plant)?;
-    let Resolved {
-        answer,
-        board,
-        root,
-    } = resolve(rt, alloc, GoalKind::Reach, &game, workers, gate)?;
-    let line = demo_line(alloc, n, &game, &answer)?;
-    Ok((line, (board, root)))
+    let ahead = outlook_of(rt, alloc, &plant)?;
+    let resolved = resolve(rt, alloc, GoalKind::Reach, ahead, workers, gate)?;
+    let line = demo_line(alloc, n, &resolved.game, &resolved.answer)?;
+    Ok((line, (resolved.board, resolved.root)))
 }

@@ -70,6 +70,23 @@ pub fn outlook_of<R: Threads + Sync>(
     Ok(game)
 }
 
+/// The plant that the bytes spell, with its game as it is seen ahead.
+pub fn outlook_of_text<R: Threads + Sync>(
+    rt: &R,
+    alloc: Global,
+    bytes: &[u8],
+) -> Result<(Plant, Outlook), Outcome>
+    ensures accepted { IfOk result (λ made. IsAccepted bytes.now made.0) }
+    ensures game { IfOk result (λ made. IsGameOf made.0 (game_ahead made.1)) }
+    ensures solvable { IfOk result (λ made. IsSolvable made.0) }
+    ensures demanded { IfErr result (λ outcome. outcome ≢ NoMemory → PlantTextDemands bytes.now outcome) }
+    ensures failed { IfErr result (λ outcome. outcome ≢ Done) }
+{
+    let plant = read_plant(alloc, bytes)?;
+    let game = outlook_of(rt, alloc, &plant)?;
+    Ok((plant, game))
+}
+
 /// A graph in memory keeps the limits.
 pub fn graph_is_within_limits<G: Forward>(_graph: &G)
     ensures { IsGraph (G.game _graph.now) }

@@ -1,51 +1,64 @@
 // The game of a plant, resolved by workers at a board.
 
-ghost use Rattle.std.specs.Prelude.{IfOk};
+ghost use Rattle.std.specs.Prelude.{◌≡◌, IfOk};
+ghost use Rattle.abstraction_table.specs.Table.{game_of, game_ahead};
 ghost use Rattle.run_words.specs.Form.{AreWorkers};
 ghost use Rattle.synth_run.specs.inside.Resolving.{IsResolved};
 
+use abstraction_table::{Abstraction, Outlook, with_sources};
 use cell_counters::{Board, Root};
 use frontier_pool::Gate;
-use game_core::{Answer, Graph, NoMemory};
+use game_core::{Answer, NoMemory};
 use plant_record::GoalKind;
 use std::alloc::Global;
 use std::thread::Threads;
 
-/// The solution of a game, with the board on which it was resolved and the board's root.
+/// A game with its solution, the board on which it was resolved and the board's root.
 #[derive(Drop)]
 pub struct Resolved {
+    pub game: Abstraction,
     pub answer: Answer,
     pub board: Board,
     pub root: Root,
 }
 
-/// Resolves a game for a goal by 1 to 64 workers.
+/// Resolves the game that is seen ahead for a goal by 1 to 64 workers.
+///
+/// The board is made before the reversed edges are found, so that they and the list of the board's numbers, which is given back by
+/// then, are never in memory together.
 ///
 /// What is asked for before the first round may be refused. A round of several hands asks for more: where there is none,
 /// one hand does the round, and nothing is refused.
-pub fn resolve<R: Threads + Sync, G: Graph + Sync, T: Gate>(
+pub fn resolve<R: Threads + Sync, T: Gate>(
     rt: &R,
     alloc: Global,
     goal: GoalKind,
-    game: &G,
+    ahead: Outlook,
     workers: u32,
     gate: &T,
 ) -> Result<Resolved, NoMemory>
     requires { AreWorkers workers }
-    ensures { IfOk result (IsResolved goal (G.game game.now)) }
+    ensures game { IfOk result (λ resolved. game_of resolved.game ≡ game_ahead ahead) }
+    ensures resolved { IfOk result (IsResolved goal) }
 {
     match goal {
         GoalKind::Reach => {
-            let solved = reach_avoid::solve(rt, alloc, game, workers, gate)?;
+            let scratch = reach_avoid::Scratch::new(alloc, &ahead, workers)?;
+            let game = with_sources(rt, alloc, ahead)?;
+            let solved = reach_avoid::solve_in(rt, alloc, &game, scratch, gate);
             Ok(Resolved {
+                game,
                 answer: solved.answer,
                 board: solved.board,
                 root: solved.root,
             })
         }
         GoalKind::Keep => {
-            let kept = safety_game::keep(rt, alloc, game, workers, gate)?;
+            let scratch = safety_game::Scratch::new(alloc, &ahead, workers)?;
+            let game = with_sources(rt, alloc, ahead)?;
+            let kept = safety_game::keep_in(rt, alloc, &game, scratch, gate);
             Ok(Resolved {
+                game,
                 answer: kept.answer,
                 board: kept.board,
                 root: kept.root,

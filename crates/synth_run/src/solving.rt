@@ -10,7 +10,7 @@ ghost use Rattle.run_words.specs.Form.{AreWorkers};
 ghost use Rattle.synth_run.specs.Headline.{IsTableFor};
 ghost use Rattle.synth_run.specs.Played.{IsPlayed};
 
-use crate::game::{game_of_text, graph_is_within_limits};
+use crate::game::{graph_is_within_limits, outlook_of_text};
 use crate::outcome::Outcome;
 use crate::resolving::resolve;
 use cell_counters::{Board, Root};
@@ -47,9 +47,9 @@ pub fn solve_text<R: Threads + Sync, T: Gate>(
     reach_solutions_fit();
     keep_solutions_fit();
     solution_tables_control_plants();
-    let (plant, game) = game_of_text(rt, alloc, bytes)?;
-    graph_is_within_limits(&game);
-    let resolved = resolve(rt, alloc, plant.goal(), &game, workers, gate)?;
+    let (plant, ahead) = outlook_of_text(rt, alloc, bytes)?;
+    let resolved = resolve(rt, alloc, plant.goal(), ahead, workers, gate)?;
+    graph_is_within_limits(&resolved.game);
     let answer = resolved.answer;
     Ok((Solved { plant, answer }, (resolved.board, resolved.root)))
 }

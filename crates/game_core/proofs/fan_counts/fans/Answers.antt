@@ -13,8 +13,8 @@ one_more xss fans i n lf lx e h =
 
 pub loop-pair-preserved : goal.loop-pair-preserved
 loop-pair-preserved g c =
-    let game = g.G.Graph.game c.args.g.now in
-    let one_list_each = (g.met.G.Graph.lawful c.args.g.now).game.one_list_each in
+    let game = g.G.Forward.game c.args.g.now in
+    let one_list_each = (g.met.G.Forward.lawful c.args.g.now).game.one_list_each in
     let pairs : c.cells.result * c.inputs.result ≡ pairs_of game = ap₂ ◌*◌ c.cells.ensures c.inputs.ensures in
     let below = c.loop-pair-test.true in
     let size = c.loop-pair.invariant.0 in
@@ -23,8 +23,8 @@ loop-pair-preserved g c =
 
 pub returns : goal.returns
 returns g c =
-    let game = g.G.Graph.game c.args.g.now in
-    let one_list_each = (g.met.G.Graph.lawful c.args.g.now).game.one_list_each in
+    let game = g.G.Forward.game c.args.g.now in
+    let one_list_each = (g.met.G.Forward.lawful c.args.g.now).game.one_list_each in
     let pairs : c.cells.result * c.inputs.result ≡ pairs_of game = ap₂ ◌*◌ c.cells.ensures c.inputs.ensures in
     let past = c.loop-pair-test.false in
     let size = c.loop-pair.invariant.0 in

@@ -5,5 +5,5 @@ use Rattle.game_core.proofs.fan_counts.fans.Given as goal
 -- the fans so far
 abbrev pub invariant-loop-pair : goal.invariant-loop-pair
 invariant-loop-pair g l =
-    let game = g.G.Graph.game l.g in
+    let game = g.G.Forward.game l.g in
     (length l.fans.items ≡ pairs_of game) × (take l.pair l.fans.items ≡ take l.pair (map length game.successors))

@@ -27,7 +27,7 @@ all_words marks n many =
 
 pub loop-c-preserved : goal.loop-c-preserved
 loop-c-preserved g c =
-    let game = g.G.Graph.game c.args.g.now in
+    let game = g.G.Forward.game c.args.g.now in
     let before = c.loop-c.invariant in
     record {
       so_far = one_more (map length game.successors) (word_of game.marks) c.loop-c.c c.first_word.result c.loop-c.words.items c.push_reserved.new.self.items before.so_far (c.first_word.ensures ∙ ap word_at c.mark.ensures) c.push_reserved.ensures.items;
@@ -37,8 +37,8 @@ loop-c-preserved g c =
 
 pub returns : goal.returns
 returns g c =
-    let game = g.G.Graph.game c.args.g.now in
-    let one_mark_each = (g.met.G.Graph.lawful c.args.g.now).game.one_mark_each in
+    let game = g.G.Forward.game c.args.g.now in
+    let one_mark_each = (g.met.G.Forward.lawful c.args.g.now).game.one_mark_each in
     let cells = c.cells-cells.ensures in
     let past = c.loop-c-test.false in
     let at_end = c.loop-c.auto.c-end in

@@ -11,7 +11,7 @@ use Rattle.safety_game.proofs.scratch.count_enabled.Goals.{then-fan-gt0, else-fa
 
 pub overflow_add-count : goal.overflow_add-count
 overflow_add-count g c =
-    let game = g.G.Graph.game c.args.g.now in
+    let game = g.G.Forward.game c.args.g.now in
     let first = c.args.c * game.inputs in
     let count = c.loop-input.invariant in
     let most = count_by-le-length (λ pair. nat_lt 0 (length (successors_at game pair))) (range_with_len first c.loop-input.input) in
@@ -22,7 +22,7 @@ overflow_add-count g c =
 
 pub loop-input-preserved : goal.loop-input-preserved
 loop-input-preserved g c =
-    let game = g.G.Graph.game c.args.g.now in
+    let game = g.G.Forward.game c.args.g.now in
     let pair = c.args.c * game.inputs + c.loop-input.input in
     let more = count_more (λ pair. nat_lt 0 (length (successors_at game pair))) (c.args.c * game.inputs) c.loop-input.input in
     let fan : length (successors_at game pair) ≡ c.fan.result = ap (λ n. length (successors_at game (c.args.c * n + c.loop-input.input))) (sym c.inputs.ensures) ∙ sym c.fan.ensures in

@@ -6,5 +6,5 @@ use Rattle.safety_game.proofs.scratch.count_enabled.Given as goal
 -- the enabled ones among the inputs so far
 abbrev pub invariant-loop-input : goal.invariant-loop-input
 invariant-loop-input g l =
-    let game = g.G.Graph.game l.g in
+    let game = g.G.Forward.game l.g in
     l.count ≡ count_by (λ pair. nat_lt 0 (length (successors_at game pair))) (range_with_len (l.c * game.inputs) l.input)

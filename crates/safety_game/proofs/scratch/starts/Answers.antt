@@ -13,7 +13,7 @@ one_more fans f n m was now before is pushed =
 
 pub loop-c-preserved : goal.loop-c-preserved
 loop-c-preserved g c =
-    let game = g.G.Graph.game c.args.g.now in
+    let game = g.G.Forward.game c.args.g.now in
     let before = c.loop-c.invariant in
     record {
       so_far = one_more (map length game.successors) (enabled_at game) c.loop-c.c c.count_enabled.result c.loop-c.starts.items c.push_reserved.new.self.items before.so_far c.count_enabled.ensures c.push_reserved.ensures.items;

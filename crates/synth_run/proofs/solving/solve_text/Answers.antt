@@ -1,4 +1,6 @@
-use Rattle.std.proofs.Common.{refl}
+use Rattle.std.proofs.Common.{refl, sym, subst}
+use Rattle.game_core.specs.Game.{Game}
+use Rattle.abstraction_table.specs.Abstraction.{IsGameOf}
 use Rattle.abstraction_table.specs.Table.{game_of}
 use Rattle.controller_table.specs.TableText.{written, table_text}
 use Rattle.synth_run.proofs.Leaving.{left, resolved_on}
@@ -9,14 +11,14 @@ pub returns-clause-table : goal.returns-clause-table
 returns-clause-table g c =
     let p = c.in_ok-plant.plant in
     let accepted = c.in_ok-plant.ensures.accepted in
-    let game = game_of c.in_ok-plant.game in
-    let abstraction = c.in_ok-plant.ensures.game in
+    let game = game_of c.in_ok-resolved.resolved.game in
+    let abstraction = subst (λ (h : Game). IsGameOf p h) (sym c.in_ok-resolved.ensures.game) c.in_ok-plant.ensures.game in
     let rows = c.in_ok-resolved.resolved.answer in
-    let solution = is_solution p game rows c.goal.result c.goal.ensures abstraction c.in_ok-resolved.ensures.solution in
+    let solution = is_solution p game rows c.goal.result c.goal.ensures abstraction c.in_ok-resolved.ensures.resolved.solution in
     let fits =
     solution_fits c.reach_solutions_fit.ensures c.keep_solutions_fit.ensures p game rows c.goal.result c.goal.ensures
     (record { graph = c.graph_is_within_limits.ensures; cells = abstraction.cells; inputs = abstraction.inputs })
-    c.in_ok-resolved.ensures.solution in (
+    c.in_ok-resolved.ensures.resolved.solution in (
       p,
       accepted,
       c.in_ok-plant.ensures.solvable,
@@ -31,14 +33,17 @@ returns-clause-table g c =
 
 pub returns-clause-fits : goal.returns-clause-fits
 returns-clause-fits g c =
-    let abstraction = c.in_ok-plant.ensures.game in
-    solution_fits c.reach_solutions_fit.ensures c.keep_solutions_fit.ensures c.in_ok-plant.plant (game_of c.in_ok-plant.game) c.in_ok-resolved.resolved.answer c.goal.result c.goal.ensures
+    let p = c.in_ok-plant.plant in
+    let resolved = c.in_ok-resolved.resolved in
+    let abstraction = subst (λ (h : Game). IsGameOf p h) (sym c.in_ok-resolved.ensures.game) c.in_ok-plant.ensures.game in
+    solution_fits c.reach_solutions_fit.ensures c.keep_solutions_fit.ensures p (game_of resolved.game) resolved.answer c.goal.result c.goal.ensures
     (record { graph = c.graph_is_within_limits.ensures; cells = abstraction.cells; inputs = abstraction.inputs })
-    c.in_ok-resolved.ensures.solution
+    c.in_ok-resolved.ensures.resolved.solution
 
 pub returns-clause-played : goal.returns-clause-played
 returns-clause-played g c =
     let p = c.in_ok-plant.plant in
     let resolved = c.in_ok-resolved.resolved in
-    let on = resolved_on p (game_of c.in_ok-plant.game) c.goal.result resolved c.goal.ensures c.in_ok-plant.ensures.game c.in_ok-resolved.ensures in
+    let abstraction = subst (λ (h : Game). IsGameOf p h) (sym c.in_ok-resolved.ensures.game) c.in_ok-plant.ensures.game in
+    let on = resolved_on p c.goal.result resolved c.goal.ensures abstraction c.in_ok-resolved.ensures.resolved in
     (p, c.in_ok-plant.ensures.accepted, left p resolved.board resolved.root on)

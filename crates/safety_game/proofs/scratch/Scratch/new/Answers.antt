@@ -5,8 +5,8 @@ use Rattle.safety_game.proofs.scratch.Scratch.new.Goals as goal
 
 pub new_board-requires-clause-room : goal.new_board-requires-clause-room
 new_board-requires-clause-room g c =
-    let game = g.G.Graph.game c.args.g.now in
-    let a = g.met.G.Graph.lawful c.args.g.now in
+    let game = g.G.Forward.game c.args.g.now in
+    let a = g.met.G.Forward.lawful c.args.g.now in
     let many = starts_many game a c.in_ok-starts.starts.items c.in_ok-starts.ensures in
     let len = c.in_ok-starts.starts.ok.0 in
     let cells = c.cells-cells.ensures in
