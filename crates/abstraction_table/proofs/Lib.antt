@@ -25,3 +25,4 @@ mod Parts
 mod RowBoxes
 mod CellRows
 pub mod BoxCorners
+pub mod PassingBoxes
