@@ -26,3 +26,4 @@ mod Parts
 mod RowBoxes
 mod CellRows
 pub mod BoxCorners
+pub mod PassingBoxes

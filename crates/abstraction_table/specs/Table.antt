@@ -3,21 +3,26 @@ use Rattle.std.specs.Prelude.{List, Option}
 use Rattle.grid_quantiser.specs.declared.boxes.CellBox.{CellBox}
 use Rattle.game_core.specs.Game.{Game}
 use Rattle.abstraction_table.specs.declared.abstraction.Abstraction.{Abstraction}
+use Rattle.abstraction_table.specs.declared.boxed_game.BoxedGame.{BoxedGame}
 use Rattle.abstraction_table.specs.declared.outlook.Outlook.{Outlook}
 use Rattle.abstraction_table.specs.BoxGame.{box_game}
 
+-- the game by the boxes of its pairs
+abbrev pub game_in : BoxedGame → Game
+game_in b = box_game b.grid b.inputs b.marks.items b.boxes.items
+
 -- the game that is seen ahead
 abbrev pub game_ahead : Outlook → Game
-game_ahead o = box_game o.grid o.inputs o.marks.items o.boxes.items
+game_ahead o = game_in o.ahead
 
 -- the boxes of all pairs
 abbrev pub boxes_ahead : Outlook → List (Option CellBox)
-boxes_ahead o = o.boxes.items
+boxes_ahead o = o.ahead.boxes.items
 
 -- the game
 abbrev pub game_of : Abstraction → Game
-game_of a = game_ahead a.ahead
+game_of a = game_in a.ahead
 
 -- the boxes of all pairs
 abbrev pub boxes_of : Abstraction → List (Option CellBox)
-boxes_of a = boxes_ahead a.ahead
+boxes_of a = a.ahead.boxes.items

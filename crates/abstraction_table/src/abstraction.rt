@@ -1,15 +1,15 @@
 ghost use Rattle.abstraction_table.specs.inside.Sources.{AreSourceBands};
 ghost use Rattle.abstraction_table.specs.inside.Props.{box_props};
 
-use crate::outlook::Outlook;
+use crate::boxed_game::BoxedGame;
 use crate::sources::Sources;
-use game_core::{Forward, Graph, Mark};
+use game_core::{Graph, Mark};
 use grid_quantiser::CellBox;
 
 /// The game of a plant, from both ends of its edges.
 #[derive(Drop)]
 pub struct Abstraction {
-    pub(crate) ahead: Outlook,
+    pub(crate) ahead: BoxedGame,
     pub(crate) sources: Sources,
     ghost in_memory: { AreSourceBands ahead.grid ahead.boxes.items sources.size sources.bands.items } by { Prim.hlevel box_props },
 }

@@ -3,17 +3,21 @@ ghost use Rattle.std.specs.Prelude.{◌≡◌, IfOk, IfErr};
 ghost use Rattle.successor_box.specs.Deviations.{HasNoOverflow, deviations_of};
 ghost use Rattle.abstraction_table.specs.Abstraction.{IsGameOf, AreBoxesOf};
 ghost use Rattle.abstraction_table.specs.Faults.{IsFaultOf};
-ghost use Rattle.abstraction_table.specs.Table.{game_of, boxes_of, game_ahead, boxes_ahead};
+ghost use Rattle.abstraction_table.specs.Table.{game_in, game_of, boxes_of, game_ahead, boxes_ahead};
 
 use crate::abstraction::Abstraction;
+use crate::boxed_game::BoxedGame;
 use crate::boxes::find_boxes;
 use crate::fans::find_fans;
 use crate::fault::BuildFault;
 use crate::marks::find_marks;
 use crate::outlook::Outlook;
+use crate::shapes::find_shapes;
 use crate::sources::find_sources;
 use game_core::NoMemory;
-use grid_quantiser::laws::{cells_of_a_box, every_grid_is_within_the_limit};
+use grid_quantiser::laws::{
+    boxes_are_moved_shapes, cells_of_a_box, every_grid_is_within_the_limit,
+};
 use plant_record::Plant;
 use plant_record::laws::{every_plant_is_within_limits, plants_are_sound};
 use std::alloc::Global;
@@ -38,26 +42,10 @@ pub fn survey<R: Threads + Sync>(
     ensures boxes { IfOk result (λ o. AreBoxesOf p.now (boxes_ahead o)) }
     ensures fault { IfErr result (IsFaultOf p.now) }
 {
-    every_plant_is_within_limits(p);
-    plants_are_sound();
-    cells_of_a_box();
-    boxes_hold_the_successors();
-    let grid = *p.grid();
-    every_grid_is_within_the_limit(&grid);
-    let boxes = find_boxes(rt, alloc, p, s)?;
-    let fans = find_fans(alloc, &grid, &boxes)?;
-    let edges = fans.edges;
-    if edges > EDGES_LIMIT {
-        return Err(BuildFault::TooManyEdges { edges });
-    }
-    let marks = find_marks(alloc, p)?;
-    Ok(Outlook {
-        grid,
-        inputs: p.vectors(),
-        marks,
-        boxes,
-        fans,
-    })
+    boxes_are_moved_shapes();
+    let ahead = find_game(rt, alloc, p, s)?;
+    let shapes = find_shapes(alloc, &ahead.grid, &ahead.fans)?;
+    Ok(Outlook { ahead, shapes })
 }
 
 /// The abstraction whose game is the one that is seen ahead: the pairs that lead to each cell are found, and kept as well. What can
@@ -65,12 +53,20 @@ pub fn survey<R: Threads + Sync>(
 pub fn with_sources<R: Threads + Sync>(
     rt: &R,
     alloc: Global,
-    ahead: Outlook,
+    outlook: Outlook,
 ) -> Result<Abstraction, NoMemory>
-    ensures game { IfOk result (λ a. game_of a ≡ game_ahead ahead) }
-    ensures boxes { IfOk result (λ a. boxes_of a ≡ boxes_ahead ahead) }
+    ensures game { IfOk result (λ a. game_of a ≡ game_ahead outlook) }
+    ensures boxes { IfOk result (λ a. boxes_of a ≡ boxes_ahead outlook) }
 {
-    let found = find_sources(rt, alloc, &ahead.grid, &ahead.boxes, &ahead.fans);
+    let ahead = outlook.ahead;
+    let found = find_sources(
+        rt,
+        alloc,
+        &ahead.grid,
+        &ahead.boxes,
+        ahead.fans.edges,
+        &outlook.shapes,
+    );
     let sources = found.map_err(|_| NoMemory)?;
     Ok(Abstraction { ahead, sources })
 }
@@ -88,7 +84,42 @@ pub fn build<R: Threads + Sync>(
     ensures boxes { IfOk result (λ a. AreBoxesOf p.now (boxes_of a)) }
     ensures fault { IfErr result (IsFaultOf p.now) }
 {
-    let ahead = survey(rt, alloc, p, s)?;
-    let abstraction = with_sources(rt, alloc, ahead)?;
+    let outlook = survey(rt, alloc, p, s)?;
+    let abstraction = with_sources(rt, alloc, outlook)?;
     Ok(abstraction)
+}
+
+/// The game of a plant by the boxes of its pairs.
+fn find_game<R: Threads + Sync>(
+    rt: &R,
+    alloc: Global,
+    p: &Plant,
+    s: &Slopes,
+) -> Result<BoxedGame, BuildFault>
+    requires slopes { s.now ≡ deviations_of p.now }
+    requires fits { HasNoOverflow p.now }
+    ensures game { IfOk result (λ g. IsGameOf p.now (game_in g)) }
+    ensures boxes { IfOk result (λ g. AreBoxesOf p.now g.boxes.items) }
+    ensures fault { IfErr result (IsFaultOf p.now) }
+{
+    every_plant_is_within_limits(p);
+    plants_are_sound();
+    cells_of_a_box();
+    boxes_hold_the_successors();
+    let grid = *p.grid();
+    every_grid_is_within_the_limit(&grid);
+    let boxes = find_boxes(rt, alloc, p, s)?;
+    let fans = find_fans(alloc, &grid, &boxes)?;
+    let edges = fans.edges;
+    if edges > EDGES_LIMIT {
+        return Err(BuildFault::TooManyEdges { edges });
+    }
+    let marks = find_marks(alloc, p)?;
+    Ok(BoxedGame {
+        grid,
+        inputs: p.vectors(),
+        marks,
+        boxes,
+        fans,
+    })
 }

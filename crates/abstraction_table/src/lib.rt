@@ -11,6 +11,7 @@
 mod abstraction;
 mod band;
 mod blocks;
+mod boxed_game;
 mod boxes;
 mod building;
 mod digits;

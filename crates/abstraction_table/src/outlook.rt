@@ -1,24 +1,17 @@
-ghost use Rattle.std.specs.Prelude.{◌≡◌, ◌<◌, length, slice_index};
-ghost use Rattle.grid_quantiser.specs.Boxes.{IsCellBox, cells_between};
-ghost use Rattle.abstraction_table.specs.inside.Fans.{HasFan};
-ghost use Rattle.abstraction_table.specs.inside.Memory.{HoldsBoxes};
 ghost use Rattle.abstraction_table.specs.inside.Props.{box_props};
+ghost use Rattle.abstraction_table.specs.inside.Shapes.{HaveRuns};
 
-use crate::fans::Fans;
-use crate::pair_box::PairBox;
-use game_core::{Forward, Mark};
-use grid_quantiser::{CellBox, Grid};
+use crate::boxed_game::BoxedGame;
+use crate::shapes::{Shapes, all_pass};
+use game_core::{CellTest, Forward, Mark};
+use grid_quantiser::CellBox;
 
-/// The game of a plant as it is seen ahead. A pair's successors are the cells of its box, in rising
-/// order; they are not listed in memory.
+/// The game of a plant as it is seen ahead, with the runs of its boxes.
 #[derive(Drop)]
 pub struct Outlook {
-    pub(crate) grid: Grid,
-    pub(crate) inputs: u32,
-    pub(crate) marks: Vec<Mark>,
-    pub(crate) boxes: Vec<PairBox>,
-    pub(crate) fans: Fans,
-    ghost in_memory: { HoldsBoxes grid inputs marks.items boxes.items fans.counts.items } by { Prim.hlevel box_props },
+    pub(crate) ahead: BoxedGame,
+    pub(crate) shapes: Shapes,
+    ghost listed: { HaveRuns ahead.grid shapes ahead.boxes.items } by { Prim.hlevel box_props },
 }
 
 impl Outlook {
@@ -32,24 +25,7 @@ impl Outlook {
         requires { pair < pairs_of (game_ahead self.now) }
         ensures { result ≡ box_at (boxes_ahead self.now) pair }
     {
-        self.boxes[pair as usize].get()
-    }
-
-    // The cell at a place of a box. A box begins and ends with its corners.
-    #[inline]
-    fn cell_of(&self, b: CellBox, at: u32) -> u32
-        requires ordered { IsCellBox self.now.grid b.first b.last }
-        requires counted { HasFan self.now.grid self.now.fans.counts.items b }
-        requires at { at < length (cells_between self.now.grid b.first b.last) }
-        ensures { result ≡ slice_index (cells_between self.now.grid b.first b.last) at }
-    {
-        if at == 0 {
-            return b.first;
-        }
-        if at + 1 == self.fans.of(Some(b)) {
-            return b.last;
-        }
-        self.grid.nth_of(b, u64::from(at))
+        self.ahead.boxes(pair)
     }
 }
 
@@ -59,27 +35,34 @@ impl Forward for Outlook {
     ghost game = { game_ahead };
 
     fn cells(&self) -> u32 {
-        self.grid.cells()
+        self.ahead.cells()
     }
 
     fn inputs(&self) -> u32 {
-        self.inputs
+        self.ahead.inputs()
     }
 
     fn mark(&self, c: u32) -> Mark {
-        self.marks[c as usize]
+        self.ahead.mark(c)
     }
 
     fn fan(&self, pair: u32) -> u32 {
-        self.fans.of(self.boxes(pair))
+        self.ahead.fan(pair)
     }
 
     fn successor(&self, pair: u32, at: u32) -> u32 {
-        match self.boxes(pair) {
-            Some(b) => self.cell_of(b, at),
-            None => unreachable!(),
-        }
+        self.ahead.successor(pair, at)
     }
 
-    ghost lawful = { λ o. o.in_memory.graph };
+    // The corners of a box come first, since they mostly tell that not all of its cells pass.
+    fn leads_only_to<T: CellTest>(&self, pair: u32, test: &T) -> bool {
+        let Some(b) = self.boxes(pair) else {
+            return false;
+        };
+        test.passes(b.last)
+            && test.passes(b.first)
+            && all_pass(b.first, self.shapes.runs_of(b), test)
+    }
+
+    ghost lawful = { λ o. o.ahead.in_memory.graph };
 }

@@ -1,11 +1,13 @@
 //! The runs of the cells of boxes, listed once for all boxes of one shape.
-ghost use Rattle.std.specs.Prelude.{◌≡◌, ◌+◌, ◌-◌, ◌^◌, ◌<◌, ◌≤◌, length, sum, IfOk};
+ghost use Rattle.std.specs.Prelude.{◌≡◌, ◌+◌, ◌-◌, ◌^◌, ◌<◌, ◌≤◌, ◌↔◌, IsTrue, length, sum, IfOk};
+ghost use Rattle.std.specs.List.{All, range_with_len};
 ghost use Rattle.grid_quantiser.specs.Axes.{cells_of};
 ghost use Rattle.grid_quantiser.specs.Boxes.{IsCellBox, cells_between};
 ghost use Rattle.abstraction_table.specs.inside.Fans.{AreShapes};
-ghost use Rattle.abstraction_table.specs.inside.Shapes.{IsListed, runs_at, HasRunsAt, HaveRunsAt, ListsRuns, KeepsRuns};
+ghost use Rattle.abstraction_table.specs.inside.Shapes.{cells_from, EndsBy, IsListed, runs_at, HasRunsAt, HaveRunsAt, ListsRuns, KeepsRuns};
 
 use crate::fans::Fans;
+use game_core::CellTest;
 use grid_quantiser::laws::every_grid_is_within_the_limit;
 use grid_quantiser::{CellBox, Grid, Runs};
 use std::alloc::{AllocError, Global};
@@ -99,4 +101,34 @@ fn list_runs(mut cells: Runs, runs: &mut Vec<Run>) -> Result<(), AllocError>
         runs.push(Run { start, len })?;
     }
     Ok(())
+}
+
+/// Whether each cell of runs, counted from a first cell, passes a test.
+#[inline]
+pub(crate) fn all_pass<T: CellTest>(first: u32, runs: &[Run], test: &T) -> bool
+    requires within { All (EndsBy (T.cells test.now) first) runs.now }
+    requires few { T.cells test.now ≤ 2 ^ 20 }
+    ensures { IsTrue result ↔ All (T.passes test.now) (cells_from first runs.now) }
+{
+    for run in runs {
+        if !run_passes(first + run.start, run.len, test) {
+            return false;
+        }
+    }
+    true
+}
+
+/// Whether so many cells from a first one on all pass a test.
+#[inline]
+fn run_passes<T: CellTest>(first: u32, len: u32, test: &T) -> bool
+    requires within { first + len ≤ T.cells test.now }
+    requires few { T.cells test.now ≤ 2 ^ 20 }
+    ensures { IsTrue result ↔ All (T.passes test.now) (range_with_len first len) }
+{
+    for c in first..first + len {
+        if !test.passes(c) {
+            return false;
+        }
+    }
+    true
 }

@@ -3,19 +3,17 @@ ghost use Rattle.std.specs.Prelude.{◌≡◌, ℕ, ◌-◌, ◌*◌, ◌/◌, �
 ghost use Rattle.std.specs.List.{All};
 ghost use Rattle.grid_quantiser.specs.Axes.{cells_of};
 ghost use Rattle.edge_rows.specs.Rows.{row_at};
-ghost use Rattle.abstraction_table.specs.inside.Fans.{AreFansOf};
 ghost use Rattle.abstraction_table.specs.inside.Shapes.{HaveRuns};
 ghost use Rattle.abstraction_table.specs.inside.Sources.{IsBox, AreBandRows, AreSourceBands, band_of};
 ghost use Rattle.abstraction_table.specs.inside.Tallies.{edges_of};
 
 use crate::band::Band;
-use crate::fans::Fans;
 use crate::filling::fill_band;
 use crate::pair_box::PairBox;
-use crate::shapes::find_shapes;
+use crate::shapes::Shapes;
 use edge_rows::{NoMemory, Rows};
 use grid_quantiser::Grid;
-use grid_quantiser::laws::{boxes_are_moved_shapes, every_grid_is_within_the_limit};
+use grid_quantiser::laws::every_grid_is_within_the_limit;
 use rayon::current_num_threads;
 use rayon::prelude::*;
 use std::alloc::Global;
@@ -59,20 +57,18 @@ pub(crate) fn find_sources<R: Threads + Sync>(
     alloc: Global,
     grid: &Grid,
     boxes: &[PairBox],
-    fans: &Fans,
+    edges: u64,
+    shapes: &Shapes,
 ) -> Result<Sources, NoMemory>
     requires ordered { All (IsBox grid.now) boxes.now }
-    requires fans { AreFansOf grid.now boxes.now fans.now.counts.items }
+    requires runs { HaveRuns grid.now shapes.now boxes.now }
     requires pairs { length boxes.now ≤ 2 ^ 22 }
     requires edges { edges_of grid.now boxes.now ≤ 2 ^ 25 }
     ensures { IfOk result (λ s. AreSourceBands grid.now boxes.now s.size s.bands.items) }
 {
     every_grid_is_within_the_limit(grid);
-    boxes_are_moved_shapes();
-    let shapes = find_shapes(alloc, grid, fans)?;
-    let shapes = &shapes;
     let cells = grid.cells();
-    let size = band_size(rt, cells, boxes.len(), fans.edges);
+    let size = band_size(rt, cells, boxes.len(), edges);
     let bands = (0..cells.div_ceil(size))
         .into_par_iter()
         .with_min_len(1)

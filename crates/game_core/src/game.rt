@@ -1,4 +1,5 @@
-ghost use Rattle.std.specs.Prelude.{◌≡◌, ◌<◌, length, slice_index};
+ghost use Rattle.std.specs.Prelude.{◌≡◌, ◌≢◌, ℕ, ◌<◌, ◌↔◌, IsTrue, [], length, slice_index};
+ghost use Rattle.std.specs.List.{All};
 ghost use Rattle.game_core.specs.Game.{Game, IsGraph, AreSources, mark_of, successors_at, pairs_of};
 
 /// What a cell is to the controller.
@@ -52,6 +53,17 @@ pub trait Graph {
     ghost lawful: { (g : Self) → IsGraph (game g) };
 }
 
+/// A test of cells, which are numbered from 0.
+pub trait CellTest {
+    ghost cells: { Self → ℕ };
+
+    ghost passes: { Self → ℕ → Type 0 };
+
+    fn passes(&self, c: u32) -> bool
+        requires { c < cells self.now }
+        ensures { IsTrue result ↔ passes self.now c };
+}
+
 /// What may come next in a game in memory: its cells ahead, and not those from which one comes. A pair
 /// of a cell and an input has the number `cell * inputs + input`.
 pub trait Forward {
@@ -78,6 +90,12 @@ pub trait Forward {
         requires at { at < length (successors_at (game self.now) pair) }
         ensures { result ≡ slice_index (successors_at (game self.now) pair) at };
 
+    /// Whether a pair has successors, and each of them passes a test.
+    fn leads_only_to<T: CellTest>(&self, pair: u32, test: &T) -> bool
+        requires pair { pair < pairs_of (game self.now) }
+        requires cells { T.cells test.now ≡ (game self.now).cells }
+        ensures { IsTrue result ↔ ((successors_at (game self.now) pair ≢ []) × All (T.passes test.now) (successors_at (game self.now) pair)) };
+
     ghost lawful: { (g : Self) → IsGraph (game g) };
 }
 
@@ -103,6 +121,16 @@ impl<G: Graph> Forward for G {
 
     fn successor(&self, pair: u32, at: u32) -> u32 {
         Graph::successor(self, pair, at)
+    }
+
+    fn leads_only_to<T: CellTest>(&self, pair: u32, test: &T) -> bool {
+        let fan = Graph::fan(self, pair);
+        for at in 0..fan {
+            if !test.passes(Graph::successor(self, pair, at)) {
+                return false;
+            }
+        }
+        fan > 0
     }
 
     ghost lawful = { G.lawful };

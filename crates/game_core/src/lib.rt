@@ -19,7 +19,7 @@ mod tally;
 
 pub use answer::{Answer, NoMemory};
 pub use fan_counts::fans;
-pub use game::{Forward, Graph, Mark, Row};
+pub use game::{CellTest, Forward, Graph, Mark, Row};
 pub use plain::{keep_plain, solve_plain};
 pub use remark::Remark;
 pub use tally::Tally;

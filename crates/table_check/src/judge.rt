@@ -9,7 +9,7 @@ ghost use Rattle.table_check.specs.inside.Below.{LeadsBelow, NoneLeadsBelow};
 
 use controller_table::Table;
 use controller_table::laws::every_table_fits;
-use game_core::{Forward, Mark, Row};
+use game_core::{CellTest, Forward, Mark, Row};
 
 /// A reach table, to be judged cell by cell against a game over its cells and inputs.
 #[derive(Drop)]
@@ -86,30 +86,34 @@ impl<'a, G: Forward> Judge<'a, G> {
         true
     }
 
-    /// Whether a pair has successors, all with rows of ranks below the bound. The corners of a box come first, since
-    /// they mostly tell that it isn't so.
+    /// Whether a pair has successors, all with rows of ranks below the bound.
     fn leads_below(&self, pair: u32, bound: u32) -> bool
         requires { pair < pairs_of (G.game self.now.graph.now) }
         ensures { IsTrue result ↔ LeadsBelow (G.game self.now.graph.now) self.now.table.now.rows pair bound }
     {
-        let fan = self.graph.fan(pair);
-        if fan == 0 || !self.has_row_below(self.graph.successor(pair, fan - 1), bound) {
-            return false;
-        }
-        for at in 0..fan - 1 {
-            if !self.has_row_below(self.graph.successor(pair, at), bound) {
-                return false;
-            }
-        }
-        true
+        let below = RankBelow {
+            table: self.table,
+            bound,
+        };
+        self.graph.leads_only_to(pair, &below)
     }
+}
 
-    fn has_row_below(&self, c: u32, bound: u32) -> bool
-        requires { c < (G.game self.now.graph.now).cells }
-        ensures { IsTrue result ↔ HasRowBelow self.now.table.now.rows bound c }
-    {
+/// Whether a cell has a row of a rank below the bound.
+#[derive(Drop)]
+struct RankBelow<'a> {
+    table: &'a Table,
+    bound: u32,
+}
+
+impl<'a> CellTest for RankBelow<'a> {
+    ghost cells = { λ below. cells_of (axes_of below.table.now.plant) };
+
+    ghost passes = { λ below. HasRowBelow below.table.now.rows below.bound };
+
+    fn passes(&self, c: u32) -> bool {
         match self.table.row(c) {
-            Some(row) => row.rank < bound,
+            Some(row) => row.rank < self.bound,
             None => false,
         }
     }

@@ -1,5 +1,5 @@
 -- Facts on boxes are propositions, so a struct may keep them.
-use Rattle.std.specs.Prelude.{ℕ, ◌%◌, List, [], ◌∷◌, Option, Some, None}
+use Rattle.std.specs.Prelude.{ℕ, ◌%◌, List, [], ◌∷◌, Option, Some, None, IfSome}
 use native.Mathlib.Bridge.{le_prop}
 use Rattle.std.proofs.Props.{props}
 use mathlib.Core.HLevel.{Unit-prop}
@@ -7,7 +7,9 @@ use Rattle.grid_quantiser.specs.declared.axis.Axis.{Axis}
 use Rattle.grid_quantiser.specs.declared.boxes.CellBox.{CellBox}
 use Rattle.grid_quantiser.specs.Axes.{cells_of}
 use Rattle.grid_quantiser.specs.Boxes.{IsCellBox}
+use Rattle.abstraction_table.specs.declared.shapes.Shapes.{Shapes}
 use Rattle.abstraction_table.specs.inside.Fans.{HasFan, FanIsKnown}
+use Rattle.abstraction_table.specs.inside.Shapes.{HasRunsOf}
 use Rattle.abstraction_table.specs.inside.Sources.{IsBox}
 
 pub IsCellBox-prop : (axes : List Axis) (first last : ℕ) → IsProp (IsCellBox axes first last)
@@ -25,4 +27,11 @@ pub FanIsKnown-prop : (axes : List Axis) (fans : List ℕ) (b : Option CellBox) 
 FanIsKnown-prop axes fans None = Unit-prop
 FanIsKnown-prop axes fans (Some b) = HasFan-prop axes fans b
 
-pub ruleset box_props = (props, IsCellBox-prop, IsBox-prop, FanIsKnown-prop)
+HasRunsOf-prop : (axes : List Axis) (s : Shapes) (b : CellBox) → IsProp (HasRunsOf axes s b)
+HasRunsOf-prop axes s b = Prim.hlevel props
+
+pub HasRuns-prop : (axes : List Axis) (s : Shapes) (b : Option CellBox) → IsProp (IfSome b (HasRunsOf axes s))
+HasRuns-prop axes s None = Unit-prop
+HasRuns-prop axes s (Some b) = HasRunsOf-prop axes s b
+
+pub ruleset box_props = (props, IsCellBox-prop, IsBox-prop, FanIsKnown-prop, HasRuns-prop)

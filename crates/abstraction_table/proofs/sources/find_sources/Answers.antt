@@ -7,7 +7,6 @@ use Rattle.edge_rows.specs.declared.fill.NoMemory.{NoMemory}
 use Rattle.grid_quantiser.specs.Axes.{cells_of}
 use Rattle.rayon.specs.Numbers.{nat_range}
 use Rattle.abstraction_table.specs.inside.Sources.{AreBandRows}
-use Rattle.abstraction_table.proofs.ListedShapes.{have_runs}
 use Rattle.abstraction_table.proofs.Mapped.{below_end}
 use Rattle.abstraction_table.proofs.SourceBands.{all_ok, band_begins, are_bands}
 use Rattle.abstraction_table.proofs.sources.find_sources.Goals as goal
@@ -18,11 +17,9 @@ collect-requires-clause-ready g c = λ κs outlives.
     let size = c.band_size-size.result in
     let cells = c.cells-cells.ensures in
     let bands = c.div_ceil.result in
-    let grid = c.every_grid_is_within_the_limit.ensures in
-    let runs = have_runs c.args.grid.now c.in_ok-shapes.shapes c.args.boxes.now c.args.fans.now.counts.items c.boxes_are_moved_shapes.ensures grid.axes c.requires.ordered c.in_ok-shapes.ensures c.requires.fans in
     rw (c.map.ensures.base, c.map.ensures.f, c.with_min_len.ensures.base, ends.0, ends.1) (λ k d lt.
     let here = band_begins c.cells-cells.result size (get_or (nat_range 0 bands) k d) c.band_size-size.ensures.some (omega (arith, below_end bands k d lt, c.div_ceil.ensures)) in
-    ((c.requires.ordered, (runs, (c.requires.pairs, (c.requires.edges, (cells.count, (omega (arith, cells.count, cells.limit), here)))))), λ y is. tt))
+    ((c.requires.ordered, (c.requires.runs, (c.requires.pairs, (c.requires.edges, (cells.count, (omega (arith, cells.count, cells.limit), here)))))), λ y is. tt))
 
 pub returns : goal.returns
 returns g c =

@@ -1,7 +1,7 @@
 use Rattle.std.proofs.Common.{◌≡◌, ◌+◌, length, get_or, sym, ap, ◌∙◌}
 use Rattle.grid_quantiser.specs.Boxes.{cells_between}
 use Rattle.abstraction_table.proofs.BoxCorners.{first_corner, last_corner}
-use Rattle.abstraction_table.proofs.outlook.Outlook.cell_of.Goals as goal
+use Rattle.abstraction_table.proofs.boxed_game.BoxedGame.cell_of.Goals as goal
 
 pub returns-then-at-eq0 : goal.returns-then-at-eq0
 returns-then-at-eq0 c =

@@ -1,0 +1,103 @@
+-- A test that is asked of the cells of runs, and of the corners of a box.
+use Rattle.std.proofs.Common.{◌≡◌, ◌≢◌, ℕ, ◌+◌, ◌-◌, ◌<◌, ◌≤◌, List, [], ◌++◌, All, length, take, drop, get_or, Option, Some, None, sym, ap, subst, ◌∙◌, arith}
+use Rattle.std.specs.Prelude.{IfSome}
+use Rattle.std.specs.List.{range_with_len}
+use Rattle.std.proofs.lemmas.List.{length-map}
+use Rattle.std.proofs.lemmas.List.FromFn.{length-range_with_len, get_or-range_with_len}
+use Rattle.rayon.proofs.ListFacts.{All-parts}
+use Rattle.grid_quantiser.specs.declared.axis.Axis.{Axis}
+use Rattle.grid_quantiser.specs.declared.boxes.CellBox.{CellBox}
+use Rattle.grid_quantiser.specs.Axes.{cells_of}
+use Rattle.grid_quantiser.specs.Boxes.{IsCellBox, cells_between}
+use Rattle.game_core.specs.declared.game.Mark.{Mark}
+use Rattle.game_core.specs.Game.{Game, pairs_of, successors_at}
+use Rattle.successor_box.specs.Boxes.{cells_in}
+use Rattle.abstraction_table.specs.declared.shapes.Run.{Run}
+use Rattle.abstraction_table.specs.declared.shapes.Shapes.{Shapes}
+use Rattle.abstraction_table.specs.BoxGame.{box_game}
+use Rattle.abstraction_table.specs.inside.Fans.{HasFan, FanIsKnown}
+use Rattle.abstraction_table.specs.inside.Memory.{HoldsBoxes}
+use Rattle.abstraction_table.specs.inside.Shapes.{cells_from, EndsBy, runs_at, HasRunsOf}
+use Rattle.abstraction_table.specs.inside.Sources.{IsBox}
+use Rattle.abstraction_table.proofs.BoxCorners.{first_corner, last_corner}
+use Rattle.abstraction_table.proofs.LeadingPairs.{successors_are}
+use Rattle.abstraction_table.proofs.ShapeRuns.{runs_end, runs_split}
+
+-- ---- cells that follow one another
+
+module _ (P : ℕ → Type 0) (first len : ℕ) where
+  pub range_passes : ((c : ℕ) → first ≤ c → c < first + len → P c) → All P (range_with_len first len)
+  range_passes each = λ k d lt.
+      let inside : k < len = omega (arith, lt, length-range_with_len first len) in
+      subst P (sym (get_or-range_with_len first len k d inside)) (each (first + k) (omega arith) (omega (arith, inside)))
+
+  pub passes_in_range : All P (range_with_len first len) → (c : ℕ) → first ≤ c → c < first + len → P c
+  passes_in_range all c low below =
+      let inside : c - first < len = omega (arith, low, below) in
+      let place : first + (c - first) ≡ c = omega (arith, low) in
+      subst P (get_or-range_with_len first len (c - first) 0 inside ∙ place) (all (c - first) 0 (omega (arith, inside, length-range_with_len first len)))
+
+-- what passes at the cells of runs passes at those of each
+pub run_passes_too : (P : ℕ → Type 0) (first : ℕ) (runs : List Run) (k : ℕ) (d : Run) → k < length runs → All P (cells_from first runs) → All P (range_with_len (first + (get_or runs k d).start) (get_or runs k d).len)
+run_passes_too P first runs k d below all =
+    let before = cells_from first (take k runs) in
+    let here = range_with_len (first + (get_or runs k d).start) (get_or runs k d).len in
+    let parts = subst (All P) (runs_split first runs k d below) all in
+    let so_far = (All-parts P (before ++ here) (cells_from first (drop (k + 1) runs)) parts).0 in
+    (All-parts P before here so_far).1
+
+-- ---- the box of a pair
+
+module _ (axes : List Axis) (inputs : ℕ) (marks : List Mark) (boxes : List (Option CellBox)) (fans : List ℕ) (held : HoldsBoxes axes inputs marks boxes fans) (pair : ℕ) (below : pair < pairs_of (box_game axes inputs marks boxes)) where
+  abbrev game : Game
+  game = box_game axes inputs marks boxes
+
+  abbrev cells : List ℕ
+  cells = successors_at game pair
+
+  pub inside : pair < length boxes
+  inside = omega (arith, below, held.graph.game.one_list_each, length-map boxes (cells_in axes))
+
+  cells_below : All (λ c. c < cells_of axes) cells
+  cells_below = held.graph.game.within pair [] (omega (arith, below, held.graph.game.one_list_each))
+
+  module _ (b : CellBox) (is : get_or boxes pair None ≡ Some b) where
+    cells_are : cells ≡ cells_between axes b.first b.last
+    cells_are = successors_are axes inputs marks boxes pair ∙ ap (cells_in axes) is
+
+    corners : IsCellBox axes b.first b.last
+    corners = subst (IsBox axes) is (held.ordered pair None inside)
+
+    fan : HasFan axes fans b
+    fan = subst (FanIsKnown axes fans) is (held.counted.each pair None inside)
+
+    some : 1 ≤ length cells
+    some = omega (arith, fan.some, fan.cells, ap length cells_are)
+
+    pub leads : cells ≢ []
+    leads none = absurd (omega (arith, some, ap length none))
+
+    -- what passes at all successors passes at the corners
+    pub first_passes : (P : ℕ → Type 0) → All P cells → P b.first
+    first_passes P all = subst P (ap (λ xs. get_or xs 0 0) cells_are ∙ first_corner axes b.first b.last held.grid corners) (all 0 0 some)
+
+    pub last_passes : (P : ℕ → Type 0) → All P cells → P b.last
+    last_passes P all =
+        let at : length cells - 1 + 1 ≡ length (cells_between axes b.first b.last) = omega (arith, some, ap length cells_are) in
+        subst P (ap (λ xs. get_or xs (length cells - 1) 0) cells_are ∙ last_corner axes b.first b.last held.grid corners (length cells - 1) at) (all (length cells - 1) 0 (omega (arith, some)))
+
+    pub first_below : b.first < cells_of axes
+    first_below = first_passes (λ c. c < cells_of axes) cells_below
+
+    pub last_below : b.last < cells_of axes
+    last_below = last_passes (λ c. c < cells_of axes) cells_below
+
+    module _ (s : Shapes) (has : IfSome (get_or boxes pair None) (HasRunsOf axes s)) where
+      runs : HasRunsOf axes s b
+      runs = subst (λ (o : Option CellBox). IfSome o (HasRunsOf axes s)) is has
+
+      pub cells_by_runs : cells ≡ cells_from b.first (runs_at s (b.last - b.first))
+      cells_by_runs = cells_are ∙ runs.cells
+
+      pub runs_end_below : All (EndsBy (cells_of axes) b.first) (runs_at s (b.last - b.first))
+      runs_end_below = runs_end (cells_of axes) b.first (runs_at s (b.last - b.first)) runs.some (subst (All (λ c. c < cells_of axes)) cells_by_runs cells_below)

@@ -1,0 +1,93 @@
+ghost use Rattle.std.specs.Prelude.{◌≡◌, ◌<◌, length, slice_index};
+ghost use Rattle.grid_quantiser.specs.Boxes.{IsCellBox, cells_between};
+ghost use Rattle.abstraction_table.specs.inside.Fans.{HasFan};
+ghost use Rattle.abstraction_table.specs.inside.Memory.{HoldsBoxes};
+ghost use Rattle.abstraction_table.specs.inside.Props.{box_props};
+
+use crate::fans::Fans;
+use crate::pair_box::PairBox;
+use game_core::Mark;
+use grid_quantiser::{CellBox, Grid};
+
+/// The game of a plant by the boxes of its pairs. A pair's successors are the cells of its box, in rising
+/// order; they are not listed in memory.
+#[derive(Drop)]
+pub(crate) struct BoxedGame {
+    pub(crate) grid: Grid,
+    pub(crate) inputs: u32,
+    pub(crate) marks: Vec<Mark>,
+    pub(crate) boxes: Vec<PairBox>,
+    pub(crate) fans: Fans,
+    ghost in_memory: { HoldsBoxes grid inputs marks.items boxes.items fans.counts.items } by { Prim.hlevel box_props },
+}
+
+impl BoxedGame {
+    ghost use Rattle.std.specs.Prelude.{◌≡◌, ◌<◌, length, slice_index};
+    ghost use Rattle.game_core.specs.Game.{pairs_of, mark_of, successors_at};
+    ghost use Rattle.abstraction_table.specs.Abstraction.{box_at};
+    ghost use Rattle.abstraction_table.specs.Table.{game_in};
+
+    pub(crate) fn cells(&self) -> u32
+        ensures { result ≡ (game_in self.now).cells }
+    {
+        self.grid.cells()
+    }
+
+    pub(crate) fn inputs(&self) -> u32
+        ensures { result ≡ (game_in self.now).inputs }
+    {
+        self.inputs
+    }
+
+    pub(crate) fn mark(&self, c: u32) -> Mark
+        requires { c < (game_in self.now).cells }
+        ensures { result ≡ mark_of (game_in self.now) c }
+    {
+        self.marks[c as usize]
+    }
+
+    /// The box of a pair: None where its input isn't enabled.
+    pub(crate) fn boxes(&self, pair: u32) -> Option<CellBox>
+        requires { pair < pairs_of (game_in self.now) }
+        ensures { result ≡ box_at self.now.boxes.items pair }
+    {
+        self.boxes[pair as usize].get()
+    }
+
+    /// How many successors a pair has.
+    pub(crate) fn fan(&self, pair: u32) -> u32
+        requires { pair < pairs_of (game_in self.now) }
+        ensures { result ≡ length (successors_at (game_in self.now) pair) }
+    {
+        self.fans.of(self.boxes(pair))
+    }
+
+    /// The successors of a pair, in rising order.
+    pub(crate) fn successor(&self, pair: u32, at: u32) -> u32
+        requires pair { pair < pairs_of (game_in self.now) }
+        requires at { at < length (successors_at (game_in self.now) pair) }
+        ensures { result ≡ slice_index (successors_at (game_in self.now) pair) at }
+    {
+        match self.boxes(pair) {
+            Some(b) => self.cell_of(b, at),
+            None => unreachable!(),
+        }
+    }
+
+    // The cell at a place of a box. A box begins and ends with its corners.
+    #[inline]
+    fn cell_of(&self, b: CellBox, at: u32) -> u32
+        requires ordered { IsCellBox self.now.grid b.first b.last }
+        requires counted { HasFan self.now.grid self.now.fans.counts.items b }
+        requires at { at < length (cells_between self.now.grid b.first b.last) }
+        ensures { result ≡ slice_index (cells_between self.now.grid b.first b.last) at }
+    {
+        if at == 0 {
+            return b.first;
+        }
+        if at + 1 == self.fans.of(Some(b)) {
+            return b.last;
+        }
+        self.grid.nth_of(b, u64::from(at))
+    }
+}
