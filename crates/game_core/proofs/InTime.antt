@@ -8,9 +8,9 @@ use Rattle.game_core.specs.declared.game.Mark.{Mark}
 use Rattle.game_core.specs.declared.game.Mark.TheVariants.{Goal, Obstacle, Plain}
 use Rattle.game_core.specs.Game.{Game, IsGame, IsEnabled, mark_of, pair_of, successors_of}
 use Rattle.game_core.specs.Keep.{HasKeepTree, IsKept}
-use Rattle.game_core.specs.Fallen.{is_obstacle, is_useless, is_helpless, has_fallen, KeptOrFallsInTime}
+use Rattle.game_core.specs.Fallen.{is_obstacle, is_useless, is_helpless, has_fallen, KeptOrFallsInTime, DeepKeepTreesKeep}
 use Rattle.game_core.proofs.Counts.{either_false, none_of, not_every, alike_from_counts, below_end, count_every, none_from_count}
-use Rattle.game_core.proofs.Keep.{IsClosed, closed_is_kept, no_keep_tree}
+use Rattle.game_core.proofs.Keep.{IsClosed, closed_is_kept, less_deep, no_keep_tree}
 use Rattle.game_core.proofs.Rows.{successors_below}
 
 -- an input of a cell that isn't helpless leads to cells alone that don't pass the test
@@ -106,3 +106,11 @@ kept_or_falls_in_time g a c lt = by_cells g.cells refl
               let alike = alike_from_counts (has_fallen g n) (λ c. true) (λ c e. refl) (range_with_len 0 g.cells) (omega arith) in
               fell n (omega arith) (below_end (λ c. has_fallen g n c ≡ true) g.cells c lt alike)
         ]
+
+-- the keep tree of a cell that isn't kept could be cut to a depth at which there is none
+pub deep_keep_trees_keep : DeepKeepTreesKeep
+deep_keep_trees_keep g a c n lt deep tree =
+    elim (kept_or_falls_in_time g a c lt) [
+      | inl kept ↦ kept
+      | inr (d, le, none) ↦ absurd (none (less_deep g d n c (omega arith) tree))
+    ]

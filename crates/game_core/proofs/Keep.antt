@@ -1,5 +1,5 @@
 -- Keep trees stand on the cells of closed sets and on no cell that falls, and a game has one keep solution.
-use Rattle.std.proofs.Common.{inl, inr, ◌≡◌, ◌≢◌, ℕ, zero, suc, ◌<◌, Bool, true, false, ◌==◌, List, [], ◌∷◌, length, get_or, Option, Some, None, All, arith, refl, sym, ◌∙◌, ap₂, subst, ext_get_or, le_antisymm}
+use Rattle.std.proofs.Common.{inl, inr, ◌≡◌, ◌≢◌, ℕ, zero, suc, ◌+◌, ◌-◌, ◌<◌, ◌≤◌, Bool, true, false, ◌==◌, List, [], ◌∷◌, length, get_or, Option, Some, None, All, arith, refl, sym, ◌∙◌, ap₂, subst, ext_get_or, le_antisymm}
 use Rattle.std.specs.List.{Any, list_any, range_with_len}
 use Rattle.std.proofs.lemmas.Bool.{or_cases}
 use Rattle.std.proofs.lemmas.Bool.Decides.{Decides-eqb}
@@ -68,7 +68,7 @@ passes_after g test c u e enabled =
     nothing [] e = refl
     nothing (x ∷ xs) e = absurd (omega arith)
 
--- where a keep tree stands, one that is less deep stands as well
+-- where a keep tree stands, one whose depth is less by 1 stands as well
 shorter : (g : Game) (d c : ℕ) (t : Tree) → StandsOn g t (suc d) c → HasKeepTree g d c
 shorter g d c Leaf s = absurd s
 shorter g zero c (Apply u next) s = (Leaf, s.0)
@@ -76,6 +76,16 @@ shorter g (suc d) c (Apply u next) s =
     let each = All-weaker (HasKeepTree g (suc d)) (HasKeepTree g d) (λ c t. shorter g d c t.0 t.1) (successors_of g c u) (each_has_tree g (suc d) next (successors_of g c u) s.2) in
     let trees = keep_trees_for g d (successors_of g c u) each in
     (Apply u trees.0, (s.0, s.1, trees.1))
+
+-- where a keep tree stands, one that is less deep stands as well
+cut_short : (g : Game) (d e c : ℕ) → HasKeepTree g (e + d) c → HasKeepTree g d c
+cut_short g d zero c t = subst (λ n. HasKeepTree g n c) {x = zero + d} {y = d} (omega arith) t
+cut_short g d (suc e) c t =
+    let deeper = subst (λ n. HasKeepTree g n c) {x = suc e + d} {y = suc (e + d)} (omega arith) t in
+    cut_short g d e c (shorter g (e + d) c deeper.0 deeper.1)
+
+pub less_deep : (g : Game) (d e c : ℕ) → d ≤ e → HasKeepTree g e c → HasKeepTree g d c
+less_deep g d e c le t = cut_short g d (e - d) c (subst (λ n. HasKeepTree g n c) {x = e} {y = (e - d) + d} (omega arith) t)
 
 -- no keep tree of depth d + 1 stands on a cell that has fallen by round d
 pub no_keep_tree : (g : Game) (d c : ℕ) → has_fallen g d c ≡ true → HasKeepTree g (suc d) c → ⊥

@@ -56,3 +56,8 @@ pub record AreSettled (g : Game) (rows : List (Option Row)) : Type 0 where
 abbrev pub KeptOrFallsInTime : Type 0
 KeptOrFallsInTime =
     (g : Game) → IsGame g → (c : ℕ) → c < g.cells → IsKept g c ⊎ ((d : ℕ) × (d ≤ g.cells) × (HasKeepTree g d c → ⊥))
+
+-- a cell is kept that has a keep tree whose depth is not below the number of cells
+abbrev pub DeepKeepTreesKeep : Type 0
+DeepKeepTreesKeep =
+    (g : Game) → IsGame g → (c n : ℕ) → c < g.cells → g.cells ≤ n → HasKeepTree g n c → IsKept g c

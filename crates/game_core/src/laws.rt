@@ -1,7 +1,7 @@
 //! Laws about the definitions, for callers and tests.
 ghost use Rattle.std.specs.Prelude.{◌≡◌, List, Option};
 ghost use Rattle.game_core.specs.declared.game.Row.{Row};
-ghost use Rattle.game_core.specs.Fallen.{AreSettled, KeptOrFallsInTime};
+ghost use Rattle.game_core.specs.Fallen.{AreSettled, KeptOrFallsInTime, DeepKeepTreesKeep};
 ghost use Rattle.game_core.specs.Game.{Game, IsGame};
 ghost use Rattle.game_core.specs.Counts.{CountsTell, EdgesFromBothEnds};
 ghost use Rattle.game_core.specs.Keep.{IsKeepSolution};
@@ -31,6 +31,11 @@ pub fn settled_rows_are_the_keep_solution()
 /// A cell that isn't kept has no keep tree of some depth that is at most the number of cells.
 pub fn kept_or_falls_in_time()
     ensures { KeptOrFallsInTime }
+{}
+
+/// A keep tree whose depth is not below the number of cells makes a cell kept: no deeper one has to be looked for.
+pub fn deep_keep_trees_keep()
+    ensures { DeepKeepTreesKeep }
 {}
 
 /// A row stands at a cell.

@@ -12,3 +12,8 @@ pub mod StayTables
 pub mod Simulations
 pub mod Tables
 pub mod Working
+pub mod Undeniable
+pub mod SomeGame
+pub mod SomePlant
+pub mod SomeTable
+pub mod SomeDemand

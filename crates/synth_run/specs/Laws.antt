@@ -10,6 +10,10 @@ use Rattle.synth_run.specs.Traces.{IsTraceFor}
 abbrev pub OneDemandPerText : Type 0
 OneDemandPerText = (form : Form) (bytes : List ℕ) (a b : Outcome) → Demands form bytes a → Demands form bytes b → a ≡ b
 
+-- no text demands nothing of a form
+abbrev pub SomeDemandPerText : Type 0
+SomeDemandPerText = (form : Form) (bytes : List ℕ) → ((outcome : Outcome) → Demands form bytes outcome → ⊥) → ⊥
+
 -- bytes have one table
 abbrev pub OneTableForBytes : Type 0
 OneTableForBytes = (bytes a b : List ℕ) → IsTableFor bytes a → IsTableFor bytes b → a ≡ b

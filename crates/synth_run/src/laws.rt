@@ -1,6 +1,6 @@
 //! What holds of every run.
 
-ghost use Rattle.synth_run.specs.Laws.{OneTableForBytes, OneStayTextForBytes, OnePatrolTextForBytes, OneTraceForBytes, OneDemandPerText};
+ghost use Rattle.synth_run.specs.Laws.{OneTableForBytes, OneStayTextForBytes, OnePatrolTextForBytes, OneTraceForBytes, OneDemandPerText, SomeDemandPerText};
 
 use abstraction_table::laws::{one_edge_count, one_game_per_plant, one_solution_per_plant};
 use controller_table::laws::{one_table_per_text, one_table_refusal, table_or_refused};
@@ -54,3 +54,8 @@ pub fn one_demand_per_text()
     one_game_per_plant();
     solutions_are_right();
 }
+
+/// No text demands nothing: each is refused for some reason, or is to be answered.
+pub fn some_demand_per_text()
+    ensures { SomeDemandPerText }
+{}
