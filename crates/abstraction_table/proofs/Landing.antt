@@ -1,7 +1,7 @@
 -- A plant in the cells of its game: where a state lies, and where a step lands.
 use Rattle.std.proofs.Common.{inl, inr, ◌≡◌, ◌≢◌, ℕ, ◌<◌, List, length, Option, Some, None, refl}
 use Rattle.std.specs.Prelude.{ℤ}
-use Rattle.std.specs.List.{All, Any, Contains}
+use Rattle.std.specs.List.{Any, Contains}
 use Rattle.std.proofs.lemmas.Bool.{cases_lt}
 use Rattle.std.proofs.lemmas.List.{get_or_past}
 use Rattle.std.proofs.lemmas.List.Elements.{All-contains}

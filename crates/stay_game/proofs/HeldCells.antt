@@ -1,11 +1,10 @@
 -- A cell is held exactly where it is kept once all but goals are obstacles.
-use Rattle.std.proofs.Common.{◌≡◌, ◌≢◌, ℕ, zero, suc, ◌<◌, List, [], ◌∷◌, length, get_or, map, All, arith, refl, sym, ◌∙◌, ap, subst}
+use Rattle.std.proofs.Common.{◌≡◌, ◌≢◌, ℕ, zero, suc, ◌<◌, get_or, All, arith, refl, sym, ◌∙◌, ap}
 use Rattle.std.proofs.lemmas.List.FromFn.{get_or-map-range_with_len}
-use Rattle.std.proofs.lemmas.List.Elements.{All-head, All-tail, All-nil, All-cons}
 use Rattle.game_core.specs.declared.game.Mark.{Mark}
 use Rattle.game_core.specs.declared.game.Mark.TheVariants.{Goal, Obstacle, Plain}
-use Rattle.game_core.specs.Game.{Game, IsGame, IsEnabled, mark_of, pair_of, successors_of, remarked}
-use Rattle.game_core.specs.Strategy.{Tree, Leaf, Apply, Trees, NoTrees, AndTree}
+use Rattle.game_core.specs.Game.{Game, IsGame, mark_of, pair_of, successors_of}
+use Rattle.game_core.specs.Strategy.{Leaf, Apply}
 use Rattle.game_core.specs.Keep.{HasKeepTree, IsKept}
 use Rattle.game_core.proofs.Keep.{keep_trees_for, each_has_tree}
 use Rattle.game_core.proofs.Rows.{successors_below}

@@ -1,16 +1,14 @@
 -- The rows of the two solvers, put together, are the solution of reach and stay.
-use Rattle.std.proofs.Common.{◌≡◌, ◌≢◌, ℕ, zero, suc, ◌-◌, ◌<◌, ◌≤◌, List, length, get_or, map, Option, Some, None, All, arith, refl, sym, ◌∙◌, ap, subst}
-use Rattle.std.specs.Prelude.{◌↔◌}
-use Rattle.std.specs.List.{range_with_len}
+use Rattle.std.proofs.Common.{◌≡◌, ℕ, zero, suc, ◌-◌, ◌<◌, List, get_or, Option, Some, None, arith, refl, sym, ◌∙◌, ap, subst}
 use Rattle.std.proofs.lemmas.List.FromFn.{length-map-range_with_len, get_or-map-range_with_len}
 use Rattle.game_core.specs.declared.game.Mark.{Mark}
 use Rattle.game_core.specs.declared.game.Mark.TheVariants.{Goal, Obstacle, Plain}
 use Rattle.game_core.specs.declared.game.Row.{Row}
-use Rattle.game_core.specs.Game.{Game, IsGame, IsEnabled, mark_of, pair_of, successors_of, remarked}
+use Rattle.game_core.specs.Game.{Game, IsGame, mark_of, pair_of, successors_of, remarked}
 use Rattle.game_core.specs.Strategy.{Tree, Leaf, Apply, LeadsTo, depth_of, IsRankTo, IsRank}
-use Rattle.game_core.specs.Keep.{IsKept, IsKeptBy, IsKeepRow, IsKeepSolution}
+use Rattle.game_core.specs.Keep.{IsKeptBy, IsKeepRow, IsKeepSolution}
 use Rattle.game_core.specs.Solution.{row_of, LeadsWithinTo, IsReachRow, IsChosenInput, IsReachSolution}
-use Rattle.stay_game.specs.Held.{HoldsFor, IsHeld}
+use Rattle.stay_game.specs.Held.{IsHeld}
 use Rattle.stay_game.specs.Stay.{IsStayedBy, IsStayRow, IsStaySolution}
 use Rattle.stay_game.specs.inside.StayMarks.{goals_alone, end_mark, marks_to_reach, either_row, rows_over}
 use Rattle.game_core.proofs.Rows.{successors_below}

@@ -1,6 +1,6 @@
 -- Clauses on one side of an answer.
-use Rattle.std.proofs.Common.{inl, inr, ◌≡◌, ℕ, List, Result, Ok, Err, sym, subst}
-use Rattle.std.specs.Prelude.{IfErr, OnOk, OnErr}
+use Rattle.std.proofs.Common.{◌≡◌, Result, Ok, Err, sym, subst}
+use Rattle.std.specs.Prelude.{IfErr, OnOk}
 use Rattle.std.specs.Result.{IsErrAnd}
 
 pub on_ok_both : {A E : Type 0} (r : Result A E) (P Q R : Type 0) → (P → Q → R) → OnOk r P → OnOk r Q → OnOk r R

@@ -1,4 +1,4 @@
-use Rattle.std.proofs.Common.{◌≡◌, None, length, arith}
+use Rattle.std.proofs.Common.{None, length, arith}
 use Rattle.std.proofs.lemmas.List.FromFn.{fill_by_all}
 use Rattle.game_core.specs.Solution.{row_of}
 use Rattle.stay_game.specs.inside.StayMarks.{either_row}

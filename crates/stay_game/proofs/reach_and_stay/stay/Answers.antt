@@ -1,4 +1,4 @@
-use Rattle.std.proofs.Common.{◌≡◌, ℕ, List, length, Option, ap, sym, subst, ◌∙◌}
+use Rattle.std.proofs.Common.{ℕ, List, length, Option, ap, sym, subst, ◌∙◌}
 use Rattle.std.proofs.lemmas.List.FromFn.{length-map-range_with_len}
 use Rattle.game_core.specs.declared.game.Mark.{Mark}
 use Rattle.game_core.specs.declared.game.Row.{Row}
