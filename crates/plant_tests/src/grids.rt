@@ -234,3 +234,16 @@ fn sides_of_the_plane() -> bool {
 fn a_side_has_the_places_of_both_its_ends(rt: HostRuntime) {
     assert!(rt; sides_of_the_plane());
 }
+
+/// Cell 13 of the plane stands at the places 3 of six and 1 of four, and there is no third axis.
+fn cell_of_the_plane_has_two_places() -> bool {
+    let Ok(grid) = Grid::new(&PLANE) else {
+        return false;
+    };
+    grid.places(13) == [3, 1, 0, 0, 0, 0]
+}
+
+#[test]
+fn a_cell_has_no_place_past_the_last_axis(rt: HostRuntime) {
+    assert!(rt; cell_of_the_plane_has_two_places());
+}

@@ -40,6 +40,13 @@ const ROOM: &[u8] =
 const ROOM_TEXT: &[u8] =
     b"stay 1\nplant 1\nstate x 0 14 3\ninput u -3 0 3\nnext x = x + u\ntarget 6 14\ngoal reach\nend\nrows 4\n0 0 2 2\n1 1 1 2\n2 2 0 1\n3 4 0 0\nend\n";
 
+// Every cell is a goal and stays where it is: none falls, and the goals are the items of the first round.
+const HOME: &[u8] =
+    b"plant 1\nstate x 0 14 3\ninput u 0\nnext x = x + u\ntarget 0 14\ngoal reach\nend\n";
+
+const HOME_TEXT: &[u8] =
+    b"stay 1\nplant 1\nstate x 0 14 3\ninput u 0\nnext x = x + u\ntarget 0 14\ngoal reach\nend\nrows 1\n0 4 0 0\nend\n";
+
 // Each input leads a cell to its neighbour, so that a target that was reached is left before it is reached again.
 const DOCKS: &[u8] =
     b"plant 1\nstate x 0 14 3\ninput u -3 3\nnext x = x + u\ntarget 0 2\ntarget 12 14\ngoal reach\nend\n";
@@ -53,6 +60,13 @@ const ROUND: &[u8] =
 
 const ROUND_TEXT: &[u8] =
     b"patrol 1\nplant 1\nstate x 0 14 3\ninput u -3 3\nnext x = x + u\ntarget 0 5\ntarget 9 14\ngoal reach\nend\nturn 0 rows 4\n0 0 1 1\n1 2 1 0\n3 3 2 0\n4 4 3 0\nturn 1 rows 4\n0 0 3 1\n1 1 2 1\n2 3 1 1\n4 4 1 0\nend\n";
+
+// Two obstacles, the items of the first round: they fall. The cells between them are the target, and stay in it.
+const YARD: &[u8] =
+    b"plant 1\nstate x 0 14 3\ninput u 0\nnext x = x + u\ntarget 3 11\nobstacle 0 2\nobstacle 12 14\ngoal reach\nend\n";
+
+const YARD_TEXT: &[u8] =
+    b"patrol 1\nplant 1\nstate x 0 14 3\ninput u 0\nnext x = x + u\ntarget 3 11\nobstacle 0 2\nobstacle 12 14\ngoal reach\nend\nturn 0 rows 1\n1 3 1 0\nend\n";
 
 // Whether the first two items of a plant meet as told, and its table is written.
 fn do_meet<R: Threads + Sync>(
@@ -136,8 +150,22 @@ fn two_workers_meet_where_a_plant_is_to_stay(rt: HostRuntime) -> Result<(), Fail
 }
 
 #[test]
+fn two_workers_meet_on_the_way_to_stay(rt: HostRuntime) -> Result<(), Fail> {
+    let told = do_meet(&rt, rt.alloc(), &["stay", "2"], MANY, HOME, HOME_TEXT)?;
+    assert!(rt; told == [true, true]);
+    Ok(())
+}
+
+#[test]
 fn two_workers_meet_in_a_patrol(rt: HostRuntime) -> Result<(), Fail> {
     let told = do_meet(&rt, rt.alloc(), &["patrol", "2"], MANY, ROUND, ROUND_TEXT)?;
+    assert!(rt; told == [true, true]);
+    Ok(())
+}
+
+#[test]
+fn two_workers_meet_where_cells_fall_before_a_patrol(rt: HostRuntime) -> Result<(), Fail> {
+    let told = do_meet(&rt, rt.alloc(), &["patrol", "2"], MANY, YARD, YARD_TEXT)?;
     assert!(rt; told == [true, true]);
     Ok(())
 }
