@@ -89,7 +89,7 @@ rows_refused v bytes rest behind p count lines line short are f within from refu
     )
 
 -- the number of a refused line is small
-few_lines : (v : Version) (p : Description) (lines : List (List ℕ)) → MayStand v p lines → length lines ≤ cells_of (axes_of p) + 2
+pub few_lines : (v : Version) (p : Description) (lines : List (List ℕ)) → MayStand v p lines → length lines ≤ cells_of (axes_of p) + 2
 few_lines v p lines may = elim may [
   | inl none ↦ (let e = ap length none in omega (arith, e))
   | inr more ↦ elim more [

@@ -27,7 +27,7 @@ use Rattle.controller_table.specs.Tables.{RowsFit, IsTable}
 use Rattle.controller_table.specs.RowLines.{IsRunOf, AreRunsOf, AreWhole, MayStand, IsFirstRefusedBehind}
 use Rattle.controller_table.specs.Refusals.{IsShortTable, line_count}
 use Rattle.controller_table.specs.inside.ReadRows.{AreRead}
-use Rattle.controller_table.proofs.ReadTable.{table_read, rows_refused}
+use Rattle.controller_table.proofs.ReadTable.{table_read, rows_refused, few_lines}
 use Rattle.controller_table.proofs.RefusedRows.{all_read, rows_fit}
 use Rattle.synth_run.specs.declared.outcome.Outcome.{Outcome}
 use Rattle.synth_run.specs.declared.outcome.Outcome.TheVariants.{Malformed, Limit}
@@ -102,15 +102,6 @@ record MayGoOn (v : Version) (p : Description) (bytes : List ℕ) (lines : List 
   stand : MayStand v p lines
   rest : List ℕ
   are : bytes ≡ concat lines ++ rest
-
-few_lines : (v : Version) (p : Description) (lines : List (List ℕ)) → MayStand v p lines → length lines ≤ cells_of (axes_of p) + 2
-few_lines v p lines may = elim may [
-  | inl none ↦ (let e = ap length none in omega (arith, e))
-  | inr more ↦ elim more [
-    | inl begun ↦ (let e = ap length begun.are in omega (arith, e, begun.so_far, begun.count_bound))
-    | inr whole ↦ (let e = ap length whole.are in let last = length-append whole.rows (end_line ∷ []) in omega (arith, e, last, whole.count_bound))
-  ]
-]
 
 with_line : (lines : List (List ℕ)) (line rest behind bytes : List ℕ) → bytes ≡ concat lines ++ rest → rest ≡ line ++ behind → bytes ≡ concat (lines ++ line ∷ []) ++ behind
 with_line lines line rest behind bytes are cut =
