@@ -7,20 +7,22 @@ import subprocess
 import tempfile
 from pathlib import Path
 
-# Notes each call. `rt run` makes a program that prints its words and ends with the status that stands in the first word's file, else 0.
+# Notes each crate that it proves. `rt ci` makes a program that prints its words and ends with the status that stands in the first word's file,
+# else 0.
 KIT = """#!/usr/bin/env bash
-crate=$(basename "$PWD")
-echo "$crate $1" >>"$CALLS"
-[[ -e src/broken ]] && { echo "no proof"; exit 1; }
-mkdir -p out
-if [[ $1 == try ]]; then cat; exit 0; fi
-if [[ $1 == run ]]; then
-  printf '%s\\n' '#!/usr/bin/env bash' 'echo "$@"' '[[ $1 == check ]] && exit 7' '[[ $1 == demo ]] && echo usage >&2 && exit 2' 'exit 0' >out/synth_cli
-  chmod +x out/synth_cli
-fi
+if [[ $1 == try ]]; then echo "${PWD##*/} try" >>"$CALLS"; cat; exit 0; fi
+compgen -G "crates/*/must-fail" >>"$CALLS"
+while IFS=": " read -r crate _; do
+  echo "$crate $1" >>"$CALLS"
+  [[ -e crates/$crate/src/broken ]] && { echo "error: no proof"; echo "rt: $crate NOT PROVED"; exit 1; }
+  echo "rt: $crate proved"
+done <crates.txt
+mkdir -p crates/synth_cli/out
+printf '%s\\n' '#!/usr/bin/env bash' 'echo "$@"' '[[ $1 == check ]] && exit 7' '[[ $1 == demo ]] && echo usage >&2 && exit 2' 'exit 0' >crates/synth_cli/out/synth_cli
+chmod +x crates/synth_cli/out/synth_cli
 """
 CRATES = "# lowest first\nlow: itoa\nmiddle tests_may=Threads: low\naside: low\nsynth_cli: middle low\n"
-BUILDS = ["low lib", "middle lib", "synth_cli run"]
+BUILDS = ["low ci", "middle ci", "synth_cli ci"]
 
 
 class Small:
@@ -31,6 +33,8 @@ class Small:
         for crate in ("low", "middle", "aside", "synth_cli"):
             (self.top / "crates" / crate / "src").mkdir(parents=True)
             (self.top / "crates" / crate / "src" / "lib.rt").write_text(crate)
+        (self.top / "crates/low/must-fail").mkdir()
+        (self.top / "HANDLES").write_text("Handles allowed: none.\n")
         (self.top / "crates/low/specs").mkdir()
         (self.top / "crates/low/specs/Lib.antt").write_text("specs")
         (self.top / "crates.txt").write_text(CRATES)
@@ -43,11 +47,11 @@ class Small:
         (room / "kit/rt").chmod(0o755)
         self.calls = room / "calls"
 
-    def run(self, *words, top=None, before=()):
-        """Status, output, error, and the calls of the kit. The words before are those of a program that runs the launcher."""
+    def run(self, *words, top=None):
+        """Status, output, error, and the calls of the kit."""
         self.calls.write_text("")
         path = f"{self.room / 'kit'}:{os.environ['PATH']}"
-        done = subprocess.run([*before, (top or self.top) / "gaffcurrant", *words], capture_output=True, text=True, check=False,
+        done = subprocess.run([(top or self.top) / "gaffcurrant", *words], capture_output=True, text=True, check=False,
                               env=os.environ | {"PATH": path, "CALLS": str(self.calls)}, stdin=subprocess.DEVNULL)
         return done.returncode, done.stdout, done.stderr, self.calls.read_text().splitlines()
 
@@ -66,7 +70,6 @@ def check(report):
         check_first(report, small)
         check_content(report, small)
         check_fault(report, small)
-        check_order(report, small)
     check_forms(report)
 
 
@@ -84,26 +87,19 @@ def check_words(report, small):
 def check_first(report, small):
     """The first build: its order, how far it is, and the time that is left by the known seconds."""
     status, output, error, calls = small.run("synth", "1")
-    report.expect("launcher builds lowest first", (0, "synth 1\n", BUILDS), (status, output, calls))
-    told = re.findall(r"(\d) of (\d) crates, about (\d+) minutes? left; proving (\w+)", error)
-    # low, middle and synth_cli stand on one another: 100 + 200 + 60 seconds are 6 minutes.
-    report.expect("launcher tells how far it is", [("0", "3", "6", "low"), ("1", "3", "low"), ("2", "3", "low")],
-                  told[:1] + [(done, of, "low") for done, of, _, _ in told[1:]])
+    report.expect("launcher proves what the program stands on", (0, "synth 1\n", BUILDS), (status, output, calls))
+    told = re.findall(r"(\d) of (\d) crates, about (\d+) minutes? left; (.*)", error)
+    # 100 + 200 + 60 seconds of one processor.
+    whole = -(-360 // (60 * len(os.sched_getaffinity(0))))
+    report.expect("launcher tells how far it is", [("0", "3", str(whole), "the first are being proved"), ("1", "3", "low is proved"),
+                                                   ("2", "3", "middle is proved"), ("3", "3", "0", "synth_cli is proved")],
+                  told[:1] + [(done, of, what) for done, of, _, what in told[1:-1]] + told[-1:])
     status, output, error, _ = small.run("check")
     report.expect("launcher at a full device", (7, 1), (status, error.count("\n")))
     report.holds("launcher tells a full device", "device is full" in error, error)
     status, output, error, _ = small.run("demo", "0")
     report.expect("launcher hands on usage", (2, "demo 0\n", "usage"), (status, output, error.split("\n")[0]))
     report.holds("launcher tells the forms behind usage", "demo N W" in error)
-
-
-def check_order(report, small):
-    """One processor takes the crates first from which the longest chain leads up: low 360 seconds, middle 260, short 120."""
-    (small.top / "crates/short/src").mkdir(parents=True)
-    (small.top / "crates.txt").write_text("short: itoa\nlow: itoa\nmiddle: low\nsynth_cli: short middle\n")
-    status, output, _, calls = small.run("synth", "1", before=("taskset", "-c", str(min(os.sched_getaffinity(0)))))
-    wanted = (0, "synth 1\n", ["low lib", "middle lib", "short lib", "synth_cli run"])
-    report.expect("launcher builds the longest chain first", wanted, (status, output, calls))
 
 
 def check_content(report, small):
@@ -146,7 +142,7 @@ def check_fault(report, small):
     for _ in range(2):
         status, output, error, calls = small.run("synth", "1")
         report.expect("launcher at a failed proof", (70, "", BUILDS[:2]), (status, output, calls))
-        report.holds("launcher tells the failed proof", "no proof\n" in error and "middle wasn't built" in error, error)
+        report.holds("launcher tells the failed proof", "no proof\n" in error and "middle NOT PROVED\n" in error and "wasn't built" in error, error)
     broken.unlink()
     report.expect("launcher behind a failed proof", False, small.built())
     (small.top / "crates/middle/src/lib.rt").write_text("mended")
