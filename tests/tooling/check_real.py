@@ -28,13 +28,7 @@ MODELS = {
                             "d d = 12 - v + s\nd v = u*10/(5 + v) - 0.002*v^2 + exp(-v/4)/3 + s/2\n" + GOAL,
     "powers and friction": "version 2\nsample 0.2\nstate x 1 3 cells 21\nstate y 1 4 0.1 0.01\ninput u 0.1 -0.5 0.5\nd x = u*x^-2 - y^1.5/9 + x/3\n"
                            "d y = max(x - y, -1)/2 - u*abs(y - 2)\n" + GOAL,
-    "a boat with drag": "version 2\nsample 0.25\nstate x 0 40 cells 40\nstate v -4 4 cells 32\ninput u 0.1 -1 0 1\nnoise f -0.02 0.02\nd x = v\n"
-                        "d v = u - 0.4*v*abs(v) + f\n" + GOAL,
-    "a damped pendulum": "version 2\nsample 0.2\nstate a -2 2 cells 40\nstate w -4 4 cells 40\ninput u 0.1 -1 0 1\nd a = w\nd w = 4*u - 4*sin(a) - 3*w\n" + GOAL,
-    "a boat in version 1": "sample 0.25\nsteps 3\nstate v -4 4 cells 32\ninput u 0.1 -1 0 1\nd v = u - 0.4*v*abs(v)\n" + GOAL,
 }
-# How many steps a sample has, where it isn't one.
-STEPS = {"powers and friction": "2", "a boat with drag": "3", "a damped pendulum": "2", "a boat in version 1": "3"}
 
 COMPLAINTS = [
     ("state x 0 1 0.1 0.1\nnext x = x / x\n", "a quotient's divisor may lie between 0 and 1"),
@@ -53,8 +47,6 @@ COMPLAINTS = [
     ("version 3\n", "line 1: `version` takes a whole number from 1 to 2"),
     ("state x 0 1 cells 0.5\n", "line 1: `state NAME LO HI cells N`"),
     ("pieces 2\nstate x 0 1 cells\n", "line 2: 1 numbers are due"),
-    ("steps 9\n", "line 1: `steps` takes a whole number from 1 to 8"),
-    ("version 2\nsample 1\nsteps 8\nstate x 0 1 0.1 0.1\nd x = sin(x)\n", "the plant would be refused"),
 ]
 
 
@@ -63,21 +55,29 @@ def check(report):
         print("skipped: mpmath isn't there, so functions and differential equations of models aren't tried")
         return
     for what, text in MODELS.items():
-        status, output, error = report.tool("scale", "-", data=text.encode())
-        report.expect(f"scale of {what}", (0, ""), (status, error))
-        if not status:
-            faults = outside(Real(text), read_plant(output.encode()), POINTS)
-            report.expect(f"{what}: real steps outside of the noise", [], faults[:3])
-        report.expect(f"{what}: the steps of a sample", re.findall(r"by a Taylor polynomial of order \d, in (\d) steps", output), [STEPS[what]] if what in STEPS else [])
-    for model, said in COMPLAINTS:
-        status, output, error = report.tool("scale", "-", data=(model + GOAL).encode())
-        report.expect(f"scale of {model[:60]!r}", (1, "", 1), (status, output, error.count("\n")))
-        report.holds(f"scale of {model[:60]!r} says `{said}`", said in error, error)
+        check_points(report, what, text)
+    check_complaints(report, COMPLAINTS)
     check_seen(report)
     for name in report.examples():
         model = report.top / "examples" / name / f"{name}.model"
         if model.exists() and re.search(r"^d |^next.*[a-z]\(", model.read_text(), re.M):
             report.expect(f"{name}: real steps outside of the noise", [], outside(Real(model.read_text()), read_plant(report.plant_text(name)), 4000)[:3])
+
+
+def check_points(report, what, text):
+    """A model is scaled, and no real step lies outside of its noise; answers the plant text."""
+    status, output, error = report.tool("scale", "-", data=text.encode())
+    report.expect(f"scale of {what}", (0, ""), (status, error))
+    if not status:
+        report.expect(f"{what}: real steps outside of the noise", [], outside(Real(text), read_plant(output.encode()), POINTS)[:3])
+    return output
+
+
+def check_complaints(report, complaints):
+    for model, said in complaints:
+        status, output, error = report.tool("scale", "-", data=(model + GOAL).encode())
+        report.expect(f"scale of {model[:60]!r}", (1, "", 1), (status, output, error.count("\n")))
+        report.holds(f"scale of {model[:60]!r} says `{said}`", said in error, error)
 
 
 def check_seen(report):

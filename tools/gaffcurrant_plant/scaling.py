@@ -9,6 +9,7 @@ from . import polynomial
 from .command import Trouble
 from .curves import Curve, as_lines, as_lut, combined, hull, product, unit_for
 from .formula import polynomial_of
+from .reader import TEXT_LIMIT, too_long
 
 NEVER = (Fraction(0), Fraction(0))
 # Units of a state behind a step of a sample, in one of the state's own.
@@ -95,6 +96,9 @@ class Room:
     def behind_step(self, name, step, unit, equation, ends):
         """The name of a variable that stands for a state behind a step of a sample, whose real value lies between the ends."""
         whole = Whole(self, equation, unit / FINER, ends)
+        # Each step writes those before it several times.
+        if len(whole.text) > TEXT_LIMIT:
+            raise too_long()
         key = f"@step {step} {name}"
         self.variables[key] = Variable("step", whole.unit, whole.low, whole.high, whole.error, bracketed(whole.text))
         return key
