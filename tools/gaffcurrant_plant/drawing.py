@@ -169,18 +169,22 @@ def rank_at(cells, state, is_first):
     return max(int(cells.ranks[cell]), 0)
 
 
+def halo():
+    """What sets a line apart from dark cells."""
+    from matplotlib.patheffects import withStroke
+    return [withStroke(linewidth=2.0, foreground="white", alpha=0.6)]
+
+
 def draw_runs(axes, view, cells, runs, asked):
     """Runs as lines; of a long one only some samples are marked. So many are asked for, of which some may be shown in other panels alone."""
     from matplotlib.lines import Line2D
-    from matplotlib.patheffects import withStroke
-    halo = [withStroke(linewidth=2.0, foreground="white", alpha=0.6)]
     style = dict(color=RUN, linewidth=0.9, marker="o", markersize=2.4, markeredgewidth=0)
     most = 1
     for states in runs:
         places = along(view, cells, states)
         every = -(-len(states) // MARKED)
         most = max(most, every)
-        axes.plot(*places, **style | {"marker": "", "linewidth": 0.9 if every == 1 else 0.6}, path_effects=halo, zorder=5)
+        axes.plot(*places, **style | {"marker": "", "linewidth": 0.9 if every == 1 else 0.6}, path_effects=halo(), zorder=5)
         axes.plot(*places, **style | {"linewidth": 0, "markevery": every}, zorder=5)
         axes.plot(places[0][:1], places[1][:1], marker="s", markersize=5, markerfacecolor="white", markeredgecolor=RUN, zorder=6)
     label = "run, from the square" if asked == 1 else f"{asked} runs, from the squares"
