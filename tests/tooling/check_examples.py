@@ -21,6 +21,9 @@ def check(report):
     for script, words in (("vehicle/compare", []), ("pendulum/compare", ["2000"])):
         done = subprocess.run([sys.executable, str(report.top / "examples" / script), *words], capture_output=True, check=False)
         report.expect(f"examples/{script}", (0, b""), (done.returncode, done.stderr))
+        with open("/dev/full", "wb") as full:
+            done = subprocess.run([sys.executable, str(report.top / "examples" / script), "9"], stdout=full, stderr=subprocess.PIPE, check=False)
+        report.expect(f"examples/{script} to a full device", (1, 1), (done.returncode, done.stderr.count(b"\n")))
 
 
 def check_model(report, name):

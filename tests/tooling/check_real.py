@@ -8,9 +8,10 @@ import re
 
 from gaffcurrant_plant.reader import read_plant
 
-# In all; GAFFCURRANT_POINTS=600000 tries a hundred thousand of each model.
+# Of each model.
 POINTS = int(os.environ.get("GAFFCURRANT_POINTS", 100_000))
 NEAR = 1e-6
+ALMOST_ONE = 0.999999
 SUBSTEPS = 4
 
 GOAL = "goal keep\n"
@@ -54,15 +55,8 @@ def check(report):
         print("skipped: mpmath isn't there, so functions and differential equations of models aren't tried")
         return
     for what, text in MODELS.items():
-        status, output, error = report.tool("scale", "-", data=text.encode())
-        report.expect(f"scale of {what}", (0, ""), (status, error))
-        if not status:
-            faults = outside(Real(text), read_plant(output.encode()), POINTS // len(MODELS))
-            report.expect(f"{what}: real steps outside of the noise", [], faults[:3])
-    for model, said in COMPLAINTS:
-        status, output, error = report.tool("scale", "-", data=(model + GOAL).encode())
-        report.expect(f"scale of {model[:60]!r}", (1, "", 1), (status, output, error.count("\n")))
-        report.holds(f"scale of {model[:60]!r} says `{said}`", said in error, error)
+        check_points(report, what, text)
+    check_complaints(report, COMPLAINTS)
     check_seen(report)
     for name in report.examples():
         model = report.top / "examples" / name / f"{name}.model"
@@ -70,9 +64,25 @@ def check(report):
             report.expect(f"{name}: real steps outside of the noise", [], outside(Real(model.read_text()), read_plant(report.plant_text(name)), 4000)[:3])
 
 
+def check_points(report, what, text):
+    """A model is scaled, and no real step lies outside of its noise; answers the plant text."""
+    status, output, error = report.tool("scale", "-", data=text.encode())
+    report.expect(f"scale of {what}", (0, ""), (status, error))
+    if not status:
+        report.expect(f"{what}: real steps outside of the noise", [], outside(Real(text), read_plant(output.encode()), POINTS)[:3])
+    return output
+
+
+def check_complaints(report, complaints):
+    for model, said in complaints:
+        status, output, error = report.tool("scale", "-", data=(model + GOAL).encode())
+        report.expect(f"scale of {model[:60]!r}", (1, "", 1), (status, output, error.count("\n")))
+        report.holds(f"scale of {model[:60]!r} says `{said}`", said in error, error)
+
+
 def check_seen(report):
     """The comparison sees what the noise is for: with half of it, real steps lie outside. And --try finds none with all of it."""
-    text = MODELS["a pendulum of version 2"]
+    text = MODELS["a pendulum of version 2"].replace("sample 0.1\n", "sample 0.1\norder 3\nsteps 1\n")
     plant = report.tool("scale", "-", data=text.encode())[1]
     halved = re.sub(r"(noise \w+) (-?\d+) (-?\d+)", lambda found: f"{found[1]} {int(found[2]) // 3} {int(found[3]) // 3}", plant)
     report.holds("with a third of its noise the pendulum's real steps lie outside", outside(Real(text), read_plant(halved.encode()), 3000))
@@ -106,7 +116,7 @@ def check_cells(report):
 
 
 class Real:
-    """A model as functions of Python over floats."""
+    """A model as a function of Python over floats."""
 
     def __init__(self, text):
         lines = [line.split() for line in text.splitlines() if line.strip()]
@@ -116,28 +126,40 @@ class Real:
         self.units = {words[1]: float(words[2]) for words in lines if words[0] == "input"}
         self.noises = [(words[1], float(words[2]), float(words[3])) for words in lines if words[0] == "noise"]
         sides = ["".join(words[3:]).replace("^", "**") for words in lines if words[0] in ("d", "next")]
-        names = ", ".join(self.names + list(self.units) + [name for name, *_ in self.noises])
         room = {name: getattr(math, name) for name in ("sin", "cos", "tan", "sqrt", "exp", "log")}
-        self.sides = eval(f"lambda {names}: ({', '.join(sides)},)", room)
+        exec("\n    ".join(self.lines_of_plain(sides) if self.time is None else self.lines_of_path(sides)), room)
+        self.after = room["after"]
 
-    def step(self, state, inputs, draws):
-        noise = self.noise(draws)
-        if self.time is None:
-            return self.sides(*state, *inputs, *noise)
+    def lines_of_plain(self, sides):
+        names = self.names + list(self.units) + [name for name, *_ in self.noises]
+        return [f"def after({', '.join(names)}):", f"return {', '.join(sides)},"]
+
+    def lines_of_path(self, sides):
+        """The lines of a function that follows the differential equations by Runge and Kutta's method of order four, in SUBSTEPS steps. Halfway the
+        noises take other values."""
+        noises = [name for name, *_ in self.noises]
+        lines = [f"def after({', '.join(self.names + list(self.units) + noises + [f'{name}_late' for name in noises])}):"]
         step = self.time / SUBSTEPS
         for k in range(SUBSTEPS):
             if k == SUBSTEPS // 2:
-                noise = self.noise(draws)
-            rest = (*inputs, *noise)
-            one = self.sides(*state, *rest)
-            two = self.sides(*[x + step / 2 * d for x, d in zip(state, one)], *rest)
-            three = self.sides(*[x + step / 2 * d for x, d in zip(state, two)], *rest)
-            four = self.sides(*[x + step * d for x, d in zip(state, three)], *rest)
-            state = [x + step / 6 * (a + 2 * b + 2 * c + d) for x, a, b, c, d in zip(state, one, two, three, four)]
-        return state
+                lines += [f"{name} = {name}_late" for name in noises]
+            lines += [f"{name}_0 = {name}" for name in self.names]
+            for stage, share in enumerate((0, step / 2, step / 2, step)):
+                lines += [f"{name} = {name}_0 + {share!r} * {name}_{stage}" for name in self.names if stage]
+                lines += [f"{name}_{stage + 1} = {side}" for name, side in zip(self.names, sides)]
+            lines += [f"{name} = {name}_0 + {step / 6!r} * ({name}_1 + 2 * {name}_2 + 2 * {name}_3 + {name}_4)" for name in self.names]
+        return lines + [f"return {', '.join(self.names)},"]
 
-    def noise(self, draws):
-        return [draws.choice((low, high, draws.uniform(low, high))) for _, low, high in self.noises]
+    def step(self, state, inputs, draws):
+        """The state after a sample under random noises."""
+        noises = [drawn(draws, low, high) for _, low, high in self.noises * (1 if self.time is None else 2)]
+        return self.after(*state, *inputs, *noises)
+
+
+def drawn(draws, low, high):
+    """An end of a range in half of the draws, else any number of it."""
+    at = draws.random()
+    return low if at < 0.25 else high if at < 0.5 else low + (high - low) * draws.random()
 
 
 def outside(real, plant, count):
@@ -145,13 +167,13 @@ def outside(real, plant, count):
     draws, faults = random.Random(4), []
     ranges = {name: (low, high) for name, low, high in plant.noises}
     ends = [ranges.get(f"r_{name}", (0, 0)) for name in real.names]
-    sizes = units_of(real, plant)
+    sizes, still = units_of(real, plant), [0] * len(plant.noises)
+    vectors = [(plant.vector(k), [value * unit for value, unit in zip(plant.vector(k), real.units.values())]) for k in range(plant.vectors)]
     for _ in range(count):
-        whole = [draws.choice((low, high, draws.randint(low, high), draws.randint(low, high))) for _, low, high, _ in plant.states]
-        state = [(value + draws.choice((0.0, 0.999999, draws.random()))) * size for value, size in zip(whole, sizes)]
-        vector = plant.vector(draws.randrange(plant.vectors))
-        inputs = [value * unit for value, unit in zip(vector, real.units.values())]
-        after, step = real.step(state, inputs, draws), plant.step(whole, vector, [0] * len(plant.noises))
+        whole = [round(drawn(draws, low, high)) for _, low, high, _ in plant.states]
+        state = [(value + drawn(draws, 0.0, ALMOST_ONE)) * size for value, size in zip(whole, sizes)]
+        vector, inputs = draws.choice(vectors)
+        after, step = real.step(state, inputs, draws), plant.step(whole, vector, still)
         for name, one, other, size, (low, high) in zip(real.names, after, step, sizes, ends):
             if not low - NEAR <= one / size - other < high + 1 + NEAR:
                 faults.append(f"{name} at {state}, {inputs}: {one / size} for {other}, noise {low} to {high}")

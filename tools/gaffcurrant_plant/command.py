@@ -54,6 +54,8 @@ def start(name, main):
     try:
         if sys.stdout is None:
             raise Trouble("standard output is closed")
+        # Units have signs that an encoding of the system may lack.
+        sys.stdout.reconfigure(encoding="utf-8", errors="backslashreplace")
         status = main(sys.argv[1:]) or 0
         sys.stdout.flush()
     except Trouble as trouble:

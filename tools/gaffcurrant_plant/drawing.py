@@ -58,7 +58,7 @@ class Colouring:
         return "number of the input" if self.by_input else "rank: samples that suffice"
 
 
-def draw_cells(figure, axes, view, colouring):
+def draw_cells(figure, axes, view, colouring, equal=False):
     """The cells' colours; answers the legend's entries for few inputs, and draws a bar for all else."""
     from matplotlib.patches import Patch
     palette, limits = colouring.palette(), colouring.limits()
@@ -71,7 +71,7 @@ def draw_cells(figure, axes, view, colouring):
         return [Patch(facecolor=palette(i), label=view.input_said(number)) for i, number in enumerate(colouring.present)]
     if colouring.present or colouring.is_share:
         if len(view.axes) == 2 or colouring.by_input:
-            draw_bar(figure, axes, limits, colouring.label(), not colouring.is_share)
+            draw_bar(figure, axes, limits, colouring.label(), not colouring.is_share, beside=equal)
     return []
 
 
@@ -91,9 +91,11 @@ def draw_columns(axes, view, colouring, palette, limits):
     axes.bar(at, heights, (end - low) / columns, align="edge", color=colour, linewidth=0, zorder=1)
 
 
-def draw_bar(figure, axes, limits, label, is_whole, gap=0.02):
+def draw_bar(figure, axes, limits, label, is_whole, gap=0.02, beside=False):
+    """The colours' bar: in room taken from the axes, or, where these don't fill theirs, right beside them."""
     from matplotlib import cm, colors
-    bar = figure.colorbar(cm.ScalarMappable(colors.Normalize(*limits), sequence()), ax=axes, pad=gap)
+    place = {"cax": axes.inset_axes([1.03, 0, 0.045, 1])} if beside else {"ax": axes, "pad": gap}
+    bar = figure.colorbar(cm.ScalarMappable(colors.Normalize(*limits), sequence()), **place)
     bar.set_label(label, fontsize=9)
     bar.ax.tick_params(labelsize=8)
     if is_whole:
@@ -169,18 +171,22 @@ def rank_at(cells, state, is_first):
     return max(int(cells.ranks[cell]), 0)
 
 
+def halo():
+    """What sets a line apart from dark cells."""
+    from matplotlib.patheffects import withStroke
+    return [withStroke(linewidth=2.0, foreground="white", alpha=0.6)]
+
+
 def draw_runs(axes, view, cells, runs, asked):
     """Runs as lines; of a long one only some samples are marked. So many are asked for, of which some may be shown in other panels alone."""
     from matplotlib.lines import Line2D
-    from matplotlib.patheffects import withStroke
-    halo = [withStroke(linewidth=2.0, foreground="white", alpha=0.6)]
     style = dict(color=RUN, linewidth=0.9, marker="o", markersize=2.4, markeredgewidth=0)
     most = 1
     for states in runs:
         places = along(view, cells, states)
         every = -(-len(states) // MARKED)
         most = max(most, every)
-        axes.plot(*places, **style | {"marker": "", "linewidth": 0.9 if every == 1 else 0.6}, path_effects=halo, zorder=5)
+        axes.plot(*places, **style | {"marker": "", "linewidth": 0.9 if every == 1 else 0.6}, path_effects=halo(), zorder=5)
         axes.plot(*places, **style | {"linewidth": 0, "markevery": every}, zorder=5)
         axes.plot(places[0][:1], places[1][:1], marker="s", markersize=5, markerfacecolor="white", markeredgecolor=RUN, zorder=6)
     label = "run, from the square" if asked == 1 else f"{asked} runs, from the squares"

@@ -1,5 +1,7 @@
 """Makes a film of runs over a picture with matplotlib: FILE.gif by Pillow, FILE.mp4 by ffmpeg where that is there."""
 
+import subprocess
+
 from . import drawing
 from .command import Trouble
 
@@ -14,7 +16,7 @@ def write_film(figure, axes, view, cells, runs, path, dpi):
     places = [drawing.along(view, cells, states) for states in runs]
     longest = max(map(len, runs))
     step = -(-longest // FRAMES)
-    trails = [axes.plot([], [], color=drawing.RUN, linewidth=1.1, zorder=20)[0] for _ in runs]
+    trails = [axes.plot([], [], color=drawing.RUN, linewidth=1.1, path_effects=drawing.halo(), zorder=20)[0] for _ in runs]
     heads = [axes.plot([], [], marker="o", markersize=6, color=drawing.TARGET, markeredgecolor="white", zorder=21)[0] for _ in runs]
 
     def show(sample):
@@ -29,4 +31,7 @@ def write_film(figure, axes, view, cells, runs, path, dpi):
     film = animation.FuncAnimation(figure, show, frames=samples, blit=False)
     if path.endswith(".mp4") and not animation.writers.is_available("ffmpeg"):
         raise Trouble("a film FILE.mp4 needs ffmpeg (Debian: apt-get install ffmpeg); FILE.gif needs nothing more")
-    film.save(path, writer="ffmpeg" if path.endswith(".mp4") else "pillow", fps=RATE, dpi=dpi)
+    try:
+        film.save(path, writer="ffmpeg" if path.endswith(".mp4") else "pillow", fps=RATE, dpi=dpi)
+    except subprocess.CalledProcessError:
+        raise Trouble(f"{path}: ffmpeg couldn't write the film") from None

@@ -1,5 +1,5 @@
-"""Samples differential equations x' = f(x, u, w) with the input held: the step by a Taylor polynomial of f, and a bound of all that it
-leaves out.
+"""Samples differential equations x' = f(x, u, w) with the input held, in one step or in several: each by a Taylor polynomial of f, with a bound
+of all that it leaves out.
 
 The bound is that of Taylor's theorem with its remainder over an enclosure of the states on the way, which is found as in the proof of Picard
 and Lindeloef: a box B with D + [0, T] f(B) within B holds every solution from D up to the time T (R. E. Moore, Interval Analysis, 1966; N. S.
@@ -12,28 +12,31 @@ import math
 from fractions import Fraction
 
 from .command import Trouble
-from .formula import add, derivative, is_smooth, mul, number, value_of, with_values
+from .formula import add, derivative, is_smooth, mul, number, replaced, value_of
 
 MOST_BOXES, MOST_TRIALS, TERMS, FASTEST = 96, 30, 24, 100
 TINY = Fraction(1, 10 ** 12)
 
 
 class Flow:
-    """The right sides of the states' equations, the ranges of all variables, and the sampling time."""
+    """The right sides of the states' equations, the ranges of all variables, and the steps of a sample: polynomials has for each state that of a
+    step, course for each step the ends of what these leave out, and of the states behind it."""
 
-    def __init__(self, model, maths):
-        self.model, self.maths, self.time = model, maths, model.sample
+    def __init__(self, model, maths, order, count):
+        self.model, self.maths, self.order, self.count = model, maths, order, count
+        self.time = model.sample / count
         self.names = [state[0] for state in model.states]
         self.sides = model.flows
-        self.middles = {name: (low + high) / 2 for name, low, high in model.noises}
-        self.held = [with_values(side, self.middles) for side in self.sides]
-        is_plain = all(map(is_smooth, self.sides))
-        self.order = model.order or (2 if is_plain else 1)
-        if self.order > 1 and not is_plain:
+        middles = {name: number((low + high) / 2) for name, low, high in model.noises}
+        self.held = [replaced(side, middles) for side in self.sides]
+        if self.order > 1 and not all(map(is_smooth, self.sides)):
             raise Trouble("with min, max or abs a differential equation is sampled by order 1 alone")
         self.derivatives = [self.held]
         for _ in range(self.order):
             self.derivatives.append([self.along(node) for node in self.derivatives[-1]])
+        self.polynomials = [self.polynomial(i, name) for i, name in enumerate(self.names)]
+        self.slopes = [[derivative(node, name) for name in self.names] for node in self.polynomials]
+        self.course = [tuple(map(self.hulls, zip(*step))) for step in zip(*map(self.course_from, self.areas()))]
 
     def along(self, node):
         """The derivative of a node along the solutions."""
@@ -42,20 +45,41 @@ class Flow:
             total = add(total, mul(derivative(node, name), side))
         return total
 
-    def steps(self):
-        """For each state its Taylor polynomial."""
-        steps = []
-        for i, name in enumerate(self.names):
-            total = ("var", name)
-            for k in range(self.order):
-                total = add(total, mul(number(self.time ** (k + 1) / math.factorial(k + 1)), self.derivatives[k][i]))
-            steps.append(total)
-        return steps
+    def polynomial(self, i, name):
+        """The Taylor polynomial of a state's step."""
+        total = ("var", name)
+        for k in range(self.order):
+            total = add(total, mul(number(self.time ** (k + 1) / math.factorial(k + 1)), self.derivatives[k][i]))
+        return total
 
-    def rests(self):
-        """For each state the ends of what its Taylor polynomial leaves out, over the whole domain and all inputs and disturbances."""
-        found = [self.rests_in(area) for area in self.areas()]
-        return [(min(one[i][0] for one in found), max(one[i][1] for one in found)) for i in range(len(self.names))]
+    def hulls(self, found):
+        """For each state the least and the greatest of the ends that were found from all areas."""
+        return [(min(low for low, _ in ends), max(high for _, high in ends)) for ends in zip(*found)]
+
+    def course_from(self, area):
+        """For each step from an area, with its inputs and disturbances: the ends of what the polynomials leave out, and of the states behind it."""
+        course = []
+        for step in range(self.count):
+            box, end = self.enclosure(area)
+            rests = self.rests_in(box)
+            course.append((rests, [self.maths.ends(end[name]) for name in self.names]))
+            if step + 1 < self.count:
+                area = self.narrowed(area, end, rests)
+                course[-1] = rests, [self.maths.ends(area[name]) for name in self.names]
+        return course
+
+    def narrowed(self, area, end, rests):
+        """The common part of a box of the states behind a step and of what the polynomials give from the area, by the mean value theorem: the value
+        at the middle, and the derivatives times the way from it."""
+        maths = self.maths
+        middle = {name: maths.number(sum(maths.ends(area[name])) / 2) for name in self.names}
+        at_middle, narrow = area | middle, dict(end)
+        for polynomial, slopes, name, rest in zip(self.polynomials, self.slopes, self.names, rests):
+            moved = value_of(polynomial, at_middle, maths) + maths.between(*rest)
+            for other, slope in zip(self.names, slopes):
+                moved += value_of(slope, area, maths) * (area[other] - middle[other])
+            narrow[name] = maths.common(end[name], moved)
+        return narrow
 
     def areas(self):
         """The domain in boxes, with each input vector, or with the inputs' ranges where these are too many."""
@@ -73,14 +97,14 @@ class Flow:
                 yield area | {name: maths.between(*ends) for (name, *_), ends in zip(model.inputs, vector)} | noises
 
     def enclosure(self, area):
-        """A box of states that holds the solutions from an area up to the sampling time, found in one step of time or in several."""
+        """A box that holds the solutions from an area up to the end of a step, and one that holds their ends, found in one part or in several."""
         for parts in (1, 4, 16):
             try:
-                box, begin = None, area
+                box, end = None, area
                 for _ in range(parts):
-                    one, begin = self.short_enclosure(begin, self.time / parts)
+                    one, end = self.short_enclosure(end, self.time / parts)
                     box = one if box is None else {name: self.maths.hull(box[name], one[name]) for name in one}
-                return box
+                return box, end
             except Trouble as trouble:
                 fault = trouble
         raise fault
@@ -98,15 +122,16 @@ class Flow:
                 box[name] = one + (one - area[name]) / 20 + maths.between(-TINY, TINY)
         raise Trouble("the sampling time is too long: no box was found that holds the solutions up to it")
 
-    def rests_in(self, area):
-        maths, box = self.maths, self.enclosure(area)
+    def rests_in(self, box):
+        """For each state the ends of what the polynomial of a step leaves out, where a box holds the solutions."""
+        maths = self.maths
         share = number(self.time ** (self.order + 1) / math.factorial(self.order + 1))
         rests = [maths.ends(value_of(mul(share, node), box, maths)) for node in self.derivatives[self.order]]
         moved = self.disturbed(box)
         return [(low - more, high + more) for (low, high), more in zip(rests, moved)]
 
     def disturbed(self, box):
-        """By how much disturbances move each state within a sample."""
+        """By how much disturbances move each state within a step."""
         maths, size = self.maths, len(self.names)
         pushes = [sum((bound(maths, derivative(side, name), box) * (high - low) / 2 for name, low, high in self.model.noises), Fraction(0))
                   for side in self.sides]

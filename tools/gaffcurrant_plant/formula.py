@@ -182,11 +182,11 @@ def is_smooth(node):
     return node[0] not in ("min", "max", "abs") and all(map(is_smooth, parts_of(node)))
 
 
-def with_values(node, values):
-    """The node with numbers in the place of some variables."""
+def replaced(node, nodes):
+    """The node with others in the place of some variables."""
     if node[0] == "var":
-        return number(values[node[1]]) if node[1] in values else node
-    parts = [with_values(part, values) for part in parts_of(node)]
+        return nodes.get(node[1], node)
+    parts = [replaced(part, nodes) for part in parts_of(node)]
     if node[0] == "add":
         return add(*parts)
     if node[0] == "mul":

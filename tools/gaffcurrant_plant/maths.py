@@ -55,6 +55,10 @@ class Intervals:
     def hull(self, *intervals):
         return self.iv.mpf([min(one.a for one in intervals), max(one.b for one in intervals)])
 
+    def common(self, one, other):
+        """The common part of two intervals that both hold a value."""
+        return self.iv.mpf([max(one.a, other.a), min(one.b, other.b)])
+
     def ends(self, interval):
         """The two ends as fractions; raises Trouble where one is infinite."""
         return tuple(map(fraction_of, interval._mpi_))

@@ -20,7 +20,7 @@ class Model:
     lines and linear systems, as formulas or polynomials; flows: of `d` lines; boxes: a keyword and two ends for each state."""
 
     def __init__(self):
-        self.denominator = self.sample = self.order = self.pieces = None
+        self.denominator = self.sample = self.order = self.steps = self.pieces = None
         self.version = 1
         self.states, self.inputs, self.noises = [], [], []
         self.equations, self.flows, self.rows = [], [], {"A": [], "B": [], "c": [], "w": []}
@@ -108,7 +108,7 @@ def read_line(model, words):
         model.words[rest[0]] = rest[1]
     elif keyword in ("state", "input", "noise"):
         read_variable(model, keyword, rest)
-    elif keyword in ("version", "order", "pieces"):
+    elif keyword in CHOICES:
         read_choice(model, keyword, rest)
     elif keyword in ("next", "d"):
         equations = model.equations if keyword == "next" else model.flows
@@ -132,7 +132,7 @@ def read_line(model, words):
 
 
 # The least and the greatest number behind a keyword.
-CHOICES = {"version": (1, 2), "order": (1, 3), "pieces": (2, 31)}
+CHOICES = {"version": (1, 2), "order": (1, 3), "steps": (1, 8), "pieces": (2, 31)}
 
 
 def read_choice(model, keyword, rest):

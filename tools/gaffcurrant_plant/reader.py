@@ -32,6 +32,10 @@ class Refused(Exception):
         self.answer, self.reason, self.line = answer, reason, line
 
 
+def too_long():
+    return Refused("limit: plant text", f"the text has more than {TEXT_LIMIT} bytes")
+
+
 class Wrong(Exception):
     """Why a line doesn't fit, in words."""
 
@@ -290,7 +294,7 @@ def comment_in(words):
 def read_plant(data):
     """The plant that the bytes spell, or raises Refused, by the order of refusals, an overflow included."""
     if len(data) > TEXT_LIMIT:
-        raise Refused("limit: plant text", f"the text has more than {TEXT_LIMIT} bytes")
+        raise too_long()
     plant = read_lines(lines_of(data))
     plant.check_limits(Refused)
     plant.check_overflow(Refused)

@@ -9,8 +9,11 @@ from . import polynomial
 from .command import Trouble
 from .curves import Curve, as_lines, as_lut, combined, hull, product, unit_for
 from .formula import polynomial_of
+from .reader import TEXT_LIMIT, too_long
 
 NEVER = (Fraction(0), Fraction(0))
+# Units of a state behind a step of a sample, in one of the state's own.
+FINER = 10
 
 
 def size(interval):
@@ -90,6 +93,16 @@ class Room:
         return Variable("curve", unit, ends(one.low for one in wholes), ends(one.high for one in wholes), hull([one.error for one in wholes]),
                         f"{kind}({texts})")
 
+    def behind_step(self, name, step, unit, equation, ends):
+        """The name of a variable that stands for a state behind a step of a sample, whose real value lies between the ends."""
+        whole = Whole(self, equation, unit / FINER, ends)
+        # Each step writes those before it several times.
+        if len(whole.text) > TEXT_LIMIT:
+            raise too_long()
+        key = f"@step {step} {name}"
+        self.variables[key] = Variable("step", whole.unit, whole.low, whole.high, whole.error, bracketed(whole.text))
+        return key
+
     def range_of(self, argument):
         """The ends of the real value of a polynomial."""
         total = NEVER
@@ -117,9 +130,9 @@ def single_of(argument):
 
 
 class Whole:
-    """A polynomial as a whole number of units: its text, ends and error."""
+    """A polynomial as a whole number of units: its text, ends and error. The ends of its real value may be given."""
 
-    def __init__(self, room, argument, unit=None):
+    def __init__(self, room, argument, unit=None, ends=None):
         single = single_of(argument)
         self.unit = unit or room.own_unit(argument)
         variable = room.variables[single] if single else None
@@ -128,7 +141,7 @@ class Whole:
             return
         scaled = finest(room, argument, self.unit)
         self.text, self.error = scaled.text(), scaled.error()
-        low, high = (end / self.unit for end in room.range_of(argument))
+        low, high = (end / self.unit for end in ends or room.range_of(argument))
         self.low, self.high = math.floor(low - self.error[1]), math.ceil(high - self.error[0])
 
 
@@ -147,7 +160,8 @@ class Scaled:
     def __init__(self, room, equation, unit, denominator, name=None):
         self.room, self.name, self.unit, self.denominator = room, name, unit, denominator
         self.coefficients, self.rounding = {}, Fraction(0)
-        self.has_curves = any(room.variables[one].kind == "curve" for monomial in equation for one in monomial)
+        kinds = {room.variables[one].kind for monomial in equation for one in monomial}
+        self.has_curves, self.has_steps = "curve" in kinds, "step" in kinds
         self.quantising = self.disturbance = NEVER
         for monomial, coefficient in equation.items():
             self.take(monomial, coefficient)
@@ -196,7 +210,7 @@ class Scaled:
         """The whole numbers by which the real next state, rounded down, may differ from the plant's."""
         low, high = self.error()
         # A real state lies below the next whole number: so the greatest end isn't taken where quantising reaches up.
-        is_open = self.quantising[1] > 0 and not self.has_curves
+        is_open = self.quantising[1] > 0 and not self.has_curves and not self.has_steps
         return math.floor(low), math.ceil(high) - 1 if is_open else math.floor(high)
 
     def text(self):
@@ -244,6 +258,11 @@ class Scaled:
             return str(coefficient)
         words = " * ".join(self.room.variables[name].text for name in names)
         return {1: words, -1: "-" + words}.get(coefficient) or f"{coefficient} * {words}"
+
+
+def bracketed(text):
+    """A text that may stand as a factor."""
+    return text if text.isidentifier() else f"({text})"
 
 
 def times(scale, ranges):
