@@ -7,8 +7,10 @@
 
 mod devices;
 mod memory;
+mod streams;
 mod transfer;
 
 pub use devices::{Failed, Sink, Source};
 pub use memory::{CleanSource, CountSink, MemorySink, MemorySource, NoMemory};
+pub use streams::{ReaderSource, StdErrSink, StdSink, StdSource, WriterSink};
 pub use transfer::{ReadFault, WriteFault, read_up_to, write_buffered, write_pieces, write_whole};

@@ -1,10 +1,12 @@
-//! Tests of the top call, on devices that fail and by several workers.
+//! Tests of the top call, on devices that fail and by several workers, and of live tables.
 #![tactic(auto)]
 
 #[cfg(test)]
 mod demo;
 #[cfg(test)]
 mod devices;
+#[cfg(test)]
+mod live;
 #[cfg(test)]
 mod meeting;
 #[cfg(test)]

@@ -2,17 +2,15 @@
 //! with the status.
 #![tactic(auto)]
 
-mod streams;
-
 use live_run::run_live;
 use std::alloc::{AllocError, Global};
 use std::env;
+use run_devices::{StdErrSink, StdSink, StdSource};
 use std::io::ErrorKind;
 use std::process::ExitCode;
 use std::rt::Env;
 use std::sync::Wait;
 use std::thread::Threads;
-use streams::{StdErrSink, StdSink, StdSource};
 use synth_run::{Open, run};
 
 const NO_MEMORY: u8 = 8;

@@ -1,5 +1,5 @@
 use Rattle.std.proofs.Common.{◌≡◌, length, All}
-use Rattle.live_tests.proofs.threads.pupils_of.Given as goal
+use Rattle.run_tests.proofs.live.threads.pupils_of.Given as goal
 
 abbrev pub invariant-loop-reader : goal.invariant-loop-reader
 invariant-loop-reader l = (l.publisher ≡ l.fn.publisher) × All (λ r. r.opening ≡ l.fn.publisher.opening) l.readers.items

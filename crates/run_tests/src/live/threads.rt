@@ -3,7 +3,7 @@
 ghost use Rattle.std.specs.Prelude.{◌≡◌, ◌+◌, ◌<◌, length, vec_len, All};
 ghost use denote.Param.Send.{IsSync};
 
-use crate::tables::{KEEP, REACH, state, table_of};
+use crate::live::tables::{KEEP, REACH, state, table_of};
 use live_table::{LiveFault, Publisher, Reader, Told, open};
 use std::alloc::Global;
 use std::sync::Wait;

@@ -1,6 +1,6 @@
 // What is refused, though there is memory.
 
-use crate::tables::{REACH, state, table_of};
+use crate::live::tables::{REACH, state, table_of};
 use live_table::{LiveFault, Publisher, open};
 use std::alloc::Global;
 use std::sync::Wait;

@@ -1,7 +1,7 @@
 use Rattle.std.proofs.Common.{◌≡◌, List, All, sym, ◌∙◌, subst}
 use Rattle.std.proofs.lemmas.List.Elements.{All-take}
 use Rattle.live_table.specs.Publishes.{Listener}
-use Rattle.live_tests.proofs.threads.pupils_of.Goals as goal
+use Rattle.run_tests.proofs.live.threads.pupils_of.Goals as goal
 
 pub loop-reader-preserved : goal.loop-reader-preserved
 loop-reader-preserved c = (

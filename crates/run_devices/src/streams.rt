@@ -2,21 +2,38 @@
 
 ghost use Rattle.std.specs.Prelude.{◌≡◌};
 
+use crate::devices::{Failed, Sink, Source};
 use std::io::{Read, Stderr, Stdin, Stdout, Write};
-use synth_run::{Failed, Sink, Source};
+use std::marker::Model;
 
-/// A source over a reader.
+/// A source over a reader. Seen as the reader and the number of calls that failed.
 #[derive(Drop)]
 pub struct ReaderSource<R> {
     reader: R,
     faults: u64,
 }
 
-/// A sink over a writer.
+impl<R> Model for ReaderSource<R> {
+    ghost use Rattle.std.specs.Prelude.{ℕ};
+
+    ghost Value = { R × ℕ };
+
+    ghost view = { λ s. (s.reader, s.faults) };
+}
+
+/// A sink over a writer. Seen as the writer and the number of calls that failed.
 #[derive(Drop)]
 pub struct WriterSink<W> {
     writer: W,
     faults: u64,
+}
+
+impl<W> Model for WriterSink<W> {
+    ghost use Rattle.std.specs.Prelude.{ℕ};
+
+    ghost Value = { W × ℕ };
+
+    ghost view = { λ s. (s.writer, s.faults) };
 }
 
 /// Standard input.
@@ -29,25 +46,25 @@ pub type StdSink = WriterSink<Stdout>;
 pub type StdErrSink = WriterSink<Stderr>;
 
 impl<R> ReaderSource<R> {
-    pub(crate) fn new(reader: R) -> ReaderSource<R>
-        ensures { result ≡ record { reader = reader; faults = 0 } }
+    pub fn new(reader: R) -> ReaderSource<R>
+        ensures { result ≡ (reader, 0) }
     {
         ReaderSource { reader, faults: 0 }
     }
 }
 
 impl<W> WriterSink<W> {
-    pub(crate) fn new(writer: W) -> WriterSink<W>
-        ensures { result ≡ record { writer = writer; faults = 0 } }
+    pub fn new(writer: W) -> WriterSink<W>
+        ensures { result ≡ (writer, 0) }
     {
         WriterSink { writer, faults: 0 }
     }
 }
 
 impl<R: Read> Source for ReaderSource<R> {
-    ghost left = { λ s. R.remaining s.reader };
+    ghost left = { λ s. R.remaining s.0 };
 
-    ghost faults = { λ s. s.faults };
+    ghost faults = { λ s. s.1 };
 
     fn read(&mut self, buf: &mut [u8]) -> Result<usize, Failed> {
         match self.reader.read(buf) {
@@ -61,9 +78,9 @@ impl<R: Read> Source for ReaderSource<R> {
 }
 
 impl<W: Write> Sink for WriterSink<W> {
-    ghost got = { λ s. W.contents s.writer };
+    ghost got = { λ s. W.contents s.0 };
 
-    ghost faults = { λ s. s.faults };
+    ghost faults = { λ s. s.1 };
 
     // A writer that takes nothing of a piece would be asked for ever.
     fn write(&mut self, piece: &[u8]) -> Result<usize, Failed> {

@@ -1,5 +1,5 @@
 use Rattle.std.proofs.Common.{◌+◌, ◌≤◌, length}
-use Rattle.live_tests.proofs.threads.publish_all.Given as goal
+use Rattle.run_tests.proofs.live.threads.publish_all.Given as goal
 
 abbrev pub invariant-loop : goal.invariant-loop
 invariant-loop g l = length l.publisher.list ≤ 99 + l.counter

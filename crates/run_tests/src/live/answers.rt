@@ -2,7 +2,7 @@
 
 ghost use Rattle.std.specs.Prelude.{◌≡◌, ◌<◌, length};
 
-use crate::tables::{KEEP, REACH, copy_of, state, table_of};
+use crate::live::tables::{KEEP, REACH, copy_of, state, table_of};
 use controller_table::Table;
 use live_table::{Answered, LiveFault, Publisher, Reader, open};
 use std::alloc::Global;
