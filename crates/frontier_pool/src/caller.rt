@@ -3,7 +3,7 @@ ghost use Rattle.std.specs.Prelude.{◌≡◌, ℕ, ◌+◌, ◌<◌, [], ◌∷
 ghost use Rattle.frontier_pool.specs.Sweeps.{IsIdle};
 ghost use Rattle.frontier_pool.specs.inside.Rules.{no_items, times_in};
 ghost use Rattle.frontier_pool.specs.inside.Gains.{Gained};
-ghost use Rattle.frontier_pool.specs.inside.Members.{IsCaller, HasAll, IsReady, IsSeated, parts_of, hands};
+ghost use Rattle.frontier_pool.specs.inside.Members.{IsCaller, HasDealt, HasAll, IsReady, IsSeated, parts_of, hands};
 
 use crate::gate::Gate;
 use crate::member::{Member, Room};
@@ -43,12 +43,31 @@ pub(crate) fn fill_rooms<H>(
 {
     let mut stealers = Vec::with_capacity(alloc, members.len())?;
     for member in members.iter_mut() {
-        let own = Worker::new_fifo(alloc, share)?;
-        stealers.push(own.stealer()?)?;
-        let seat = claimed.split_seat::<Dealing>(caller);
-        member.settle(Room { seat, own });
+        stealers.push(fill_room(alloc, claimed, caller, member, share)?)?;
     }
     Ok(stealers)
+}
+
+// Gives a member a seat and a deque with room for its share, and makes a stealer for the deque.
+fn fill_room<H>(
+    alloc: Global,
+    claimed: &Shared<(), View, u32, Once>,
+    caller: &mut Seat<(), View>,
+    member: &mut Member<H>,
+    share: usize,
+) -> Result<Stealer<u32>, AllocError>
+    requires at { caller.old.table_id ≡ claimed.now.table_id }
+    requires first { caller.old.id ≡ 0 }
+    requires some { 0 < claimed.now.table_id.words }
+    ensures dealt { IfOk result (λ s. HasDealt caller.old caller.new) }
+    ensures ready { IfOk result (λ s. IsReady claimed.now.table_id member.new) }
+    ensures hand { member.new.hand ≡ member.old.hand }
+{
+    let own = Worker::new_fifo(alloc, share)?;
+    let stealer = own.stealer()?;
+    let seat = claimed.split_seat::<Dealing>(caller);
+    member.settle(Room { seat, own });
+    Ok(stealer)
 }
 
 // Takes each member's room back: its deque is dropped, and its seat joined with the caller's.

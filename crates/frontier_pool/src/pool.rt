@@ -1,14 +1,17 @@
 // A sweep, and how many hands a round is worth.
-ghost use Rattle.std.specs.Prelude.{◌≡◌, ℕ, ◌+◌, ◌/◌, ◌<◌, ◌≤◌, length, map, min, max, All, OnOk, OnErr};
+ghost use Rattle.std.specs.Prelude.{◌≡◌, ℕ, ◌+◌, ◌/◌, ◌<◌, ◌≤◌, [], ◌∷◌, length, map, min, max, All, OnOk, OnErr};
 ghost use Rattle.frontier_pool.specs.Sweeps.{Sweeps, IsIdle};
-ghost use Rattle.frontier_pool.specs.inside.Members.{IsReady, Worked, HaveWorked, hands};
+ghost use Rattle.frontier_pool.specs.inside.Rules.{no_items};
+ghost use Rattle.frontier_pool.specs.inside.Members.{IsCaller, IsReady, Worked, HaveWorked, hands};
 
 use crate::caller::{empty_rooms, fill_rooms, forget_rooms, open};
 use crate::gate::Gate;
 use crate::member::Member;
 use crate::round::Round;
+use crate::rule::View;
 use crate::serial::one_by_one;
 use crate::toil::Toil;
+use atomic_table::Seat;
 use std::alloc::{AllocError, Global};
 use std::thread;
 use std::thread::Threads;
@@ -106,11 +109,30 @@ fn share_out<R: Threads + Sync, T: Toil, G: Gate>(
         items,
         members: count as u32,
     };
-    work_all(rt, &round, members);
-    empty_rooms(&table.shared, &mut caller, members);
-    let first = &mut members[0];
-    round.finish(&mut caller, &mut first.hand);
+    hold_round(rt, &round, &mut caller, members);
     Ok(())
+}
+
+// The members do what they find, and the caller takes their rooms back and does the rest.
+fn hold_round<R: Threads + Sync, T: Toil, G: Gate>(
+    rt: &R,
+    round: &Round<'_, T, G>,
+    caller: &mut Seat<(), View>,
+    members: &mut [Member<T::Hand>],
+)
+    requires count { (length members.old ≡ round.now.members) × (length members.old ≤ 64) }
+    requires some { 0 < round.now.items }
+    requires caller { IsCaller round.now.claimed.now.table_id (1 + length members.old) (no_items ∷ []) caller.old }
+    requires ready { All (IsReady round.now.claimed.now.table_id) members.old }
+    requires sound { All (λ m. T.sound round.now.toil.now m.hand) members.old }
+    ensures swept { Sweeps (map (λ m. T.done m.hand) members.old) (map (λ m. T.done m.hand) members.new) round.now.items }
+    ensures sound { All (λ m. T.sound round.now.toil.now m.hand) members.new }
+    ensures idle { All IsIdle members.new }
+{
+    work_all(rt, round, members);
+    empty_rooms(round.claimed, caller, members);
+    let first = &mut members[0];
+    round.finish(caller, &mut first.hand);
 }
 
 // All members work, each in a thread where one can be made.

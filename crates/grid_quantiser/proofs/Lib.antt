@@ -1,6 +1,7 @@
 pub mod General
 pub mod Suffixes
 pub mod AxisNumbers
+pub mod AxisOffsets
 pub mod SixAxes
 pub mod PointSteps
 pub mod Domain

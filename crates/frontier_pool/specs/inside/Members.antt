@@ -5,7 +5,7 @@ use Rattle.atomic_table.specs.Seated.{TableId}
 use Rattle.frontier_pool.specs.declared.member.Member.{Member}
 use Rattle.frontier_pool.specs.declared.member.Room.{Room}
 use Rattle.frontier_pool.specs.declared.rule.Part.{Part}
-use Rattle.frontier_pool.specs.inside.Rules.{grown, fresh, IsAlone}
+use Rattle.frontier_pool.specs.inside.Rules.{grown, fresh, one_more, IsAlone}
 use Rattle.frontier_pool.specs.inside.Gains.{SeatOf}
 
 -- the caller's seat, with these parts of so many that were made
@@ -13,6 +13,12 @@ pub record IsCaller (table : TableId) (made : ℕ) (parts : List Part) (seat : S
   pub at : seat.table_id ≡ table
   pub first : seat.id ≡ 0
   pub me : seat.me ≡ (record { made = made; parts = parts }, [])
+
+-- the caller's seat, after one more member has its own
+pub record HasDealt (was now : SeatOf) : Type 0 where
+  pub table : now.table_id ≡ was.table_id
+  pub id : now.id ≡ was.id
+  pub me : now.me ≡ (one_more was.me.0, was.me.1)
 
 -- a seat of the table that may claim items
 pub record MayClaim (table : TableId) (seat : SeatOf) : Type 0 where

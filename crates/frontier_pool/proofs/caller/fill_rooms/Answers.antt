@@ -1,8 +1,6 @@
-use Rattle.std.proofs.Common.{◌≡◌, ◌+◌, [], ◌∷◌, length, refl, ap, sym, subst, arith, ◌∙◌}
-use Rattle.std.proofs.lemmas.List.{set-get_or}
+use Rattle.std.proofs.Common.{◌≡◌, ◌+◌, [], ◌∷◌, length, refl, subst, arith, ◌∙◌}
 use Rattle.frontier_pool.specs.inside.Rules.{no_items}
-use Rattle.frontier_pool.specs.inside.Members.{IsCaller, HasSeat, IsReady, hands}
-use Rattle.frontier_pool.proofs.Steps.{deal_splits}
+use Rattle.frontier_pool.specs.inside.Members.{IsCaller, IsReady}
 use Rattle.frontier_pool.proofs.Lists.{hands-set, below-set}
 use Rattle.frontier_pool.proofs.Rooms.{caller_deals}
 use Rattle.frontier_pool.proofs.caller.fill_rooms.Goals as goal
@@ -10,28 +8,26 @@ use Rattle.frontier_pool.proofs.caller.fill_rooms.Goals as goal
 pub loop-member-init : goal.loop-member-init
 loop-member-init g c = record { caller = c.requires.caller; ready = λ k d below. absurd (omega arith); same = refl }
 
-pub returns-in_err-own-clause-hands : goal.returns-in_err-own-clause-hands
-returns-in_err-own-clause-hands g c = ap hands (set-get_or c.loop-member.members c.loop-member.member-index c.member-item.result) ∙ c.loop-member.invariant.same
+pub fill_room-requires-clause-at : goal.fill_room-requires-clause-at
+fill_room-requires-clause-at g c = c.loop-member.invariant.caller.at
 
-pub returns-in_err-stealer-clause-hands : goal.returns-in_err-stealer-clause-hands
-returns-in_err-stealer-clause-hands g c = ap hands (set-get_or c.loop-member.members c.loop-member.member-index c.member-item.result) ∙ c.loop-member.invariant.same
+pub fill_room-requires-clause-first : goal.fill_room-requires-clause-first
+fill_room-requires-clause-first g c = c.loop-member.invariant.caller.first
+
+pub returns-in_err-fill_room-clause-hands : goal.returns-in_err-fill_room-clause-hands
+returns-in_err-fill_room-clause-hands g c = hands-set c.loop-member.members c.loop-member.member-index c.fill_room.new.member c.member-item.result c.fill_room.ensures.hand ∙ c.loop-member.invariant.same
 
 pub returns-in_err-push-clause-hands : goal.returns-in_err-push-clause-hands
-returns-in_err-push-clause-hands g c = ap hands (set-get_or c.loop-member.members c.loop-member.member-index c.member-item.result) ∙ c.loop-member.invariant.same
-
-pub split_seat-seat-requires : goal.split_seat-seat-requires
-split_seat-seat-requires g c = (c.loop-member.invariant.caller.at, c.requires.some, deal_splits _ _ _ c.loop-member.invariant.caller.first)
+returns-in_err-push-clause-hands g c = hands-set c.loop-member.members c.loop-member.member-index c.fill_room.new.member c.member-item.result c.fill_room.ensures.hand ∙ c.loop-member.invariant.same
 
 pub loop-member-preserved : goal.loop-member-preserved
 loop-member-preserved g c =
     let before = c.loop-member in
-    let split = c.split_seat-seat.ensures in
-    let table = c.args.claimed.now.table_id in
+    let dealt = c.in_ok-fill_room.ensures.dealt in
     record {
-      caller = caller_deals _ _ _ _ _ before.invariant.caller split.0 split.1 split.2;
-      ready = below-set (IsReady table) before.members before.member-index c.settle.new.self (omega arith) before.invariant.ready
-          (subst (HasSeat table []) (sym c.settle.ensures.room) (record { at = split.3 ∙ before.invariant.caller.at; me = split.4 }));
-      same = hands-set before.members before.member-index c.settle.new.self c.member-item.result c.settle.ensures.hand ∙ before.invariant.same;
+      caller = caller_deals _ _ _ _ _ before.invariant.caller dealt.table dealt.id dealt.me;
+      ready = below-set (IsReady c.args.claimed.now.table_id) before.members before.member-index c.fill_room.new.member (omega arith) before.invariant.ready c.in_ok-fill_room.ensures.ready;
+      same = hands-set before.members before.member-index c.fill_room.new.member c.member-item.result c.fill_room.ensures.hand ∙ before.invariant.same;
     }
 
 pub returns-clause-caller : goal.returns-clause-caller
