@@ -5,7 +5,7 @@ ghost use Rattle.plant_record.specs.Spelling.{version_word, goal_word};
 ghost use Rattle.plant_record.specs.Numbers.{IsLiteral};
 ghost use Rattle.plant_reading.specs.Words.{words_of};
 ghost use Rattle.plant_reading.specs.inside.WordReaders.{Finds};
-ghost use Rattle.plant_reading.specs.inside.LineReaders.{HasWholeCells, StartsWithEnds, SpellsVersion, SpellsState, SpellsInput, SpellsNoise, SpellsValues, SpellsGoal};
+ghost use Rattle.plant_reading.specs.inside.LineReaders.{HasWholeCells, StartsWithEnds, SpellsVersion, SpellsState, SpellsCells, SpellsInput, SpellsNoise, SpellsValues, SpellsGoal};
 
 use crate::fault::ReadFault;
 use crate::words::blanks::next_word;
@@ -42,13 +42,7 @@ pub fn state_in(alloc: Global, bytes: &[u8]) -> Result<StateVariable, ReadFault>
     ensures { Finds (λ s. s) (SpellsState (words_of bytes.now)) result }
 {
     let (name, rest) = name_in(bytes)?;
-    let (low, rest) = number_in(rest)?;
-    let (high, rest) = number_in(rest)?;
-    let (width, rest) = number_in(rest)?;
-    expect_end(rest)?;
-    if !has_whole_cells(low, high, width) {
-        return Err(ReadFault::Malformed);
-    }
+    let (low, high, width) = cells_in(rest)?;
     let name = Name::new(alloc, name)?;
     Ok(StateVariable {
         name,
@@ -58,12 +52,25 @@ pub fn state_in(alloc: Global, bytes: &[u8]) -> Result<StateVariable, ReadFault>
     })
 }
 
+/// `LOW HIGH WIDTH`.
+fn cells_in(bytes: &[u8]) -> Result<(i128, i128, i128), ReadFault>
+    ensures { Finds (λ r. (r.0, r.1, r.2)) (SpellsCells (words_of bytes.now)) result }
+{
+    let (low, high, rest) = ends_in(bytes)?;
+    let (width, rest) = number_in(rest)?;
+    expect_end(rest)?;
+    if !has_whole_cells(low, high, width) {
+        return Err(ReadFault::Malformed);
+    }
+    Ok((low, high, width))
+}
+
 fn has_whole_cells(low: i128, high: i128, width: i128) -> bool
     requires low { IsLiteral low }
     requires high { IsLiteral high }
     ensures { IsTrue result ↔ HasWholeCells low high width }
 {
-    low <= high && 1 <= width && divides(width.unsigned_abs(), numbers_along(low, high))
+    1 <= width && divides(width.unsigned_abs(), numbers_along(low, high))
 }
 
 /// How many numbers lie from one to the other, both included.

@@ -12,10 +12,10 @@ ghost use Rattle.plant_reading.specs.SyntaxTrees.{AreTokensOf};
 ghost use Rattle.plant_reading.specs.inside.ExpressionItems.{nodes_made, open_behind};
 ghost use Rattle.plant_reading.specs.inside.TokenReaders.{Gives};
 ghost use Rattle.plant_record.specs.Parts.{variable_names};
-ghost use Rattle.plant_reading.specs.inside.ExpressionMachine.{pendings_of, machine_of, closed, tabled, halved, begun, continued, stepped, IsEnd, counts_behind, AreWithinLimits};
+ghost use Rattle.plant_reading.specs.inside.ExpressionMachine.{pendings_of, machine_of, closed, tabled, halved, begun, continued, summed, stepped, IsEnd, counts_behind, AreWithinLimits};
 
 use crate::fault::ReadFault;
-use crate::frames::{Frame, Stack};
+use crate::frames::{Frame, Stack, boxed};
 use crate::items::{Bracket, Item, next_item};
 use fixed_expr::{Curve, Expr};
 use plant_record::Variables;
@@ -74,11 +74,20 @@ fn counts_behind(counts: Counts, item: &Item) -> Option<Counts>
 fn closed(alloc: Global, stack: &mut Stack, sum: Expr) -> Result<Expr, ReadFault>
     ensures { Gives (λ e. (expression_of e, pendings_of stack.new)) result (closed (expression_of sum) (pendings_of stack.old)) }
 {
-    match stack.pop() {
-        Some(Frame::Opened(Bracket::Plain)) => Ok(sum),
-        Some(Frame::Opened(Bracket::Size)) => Ok(Expr::Abs(Box::new(alloc, sum)?)),
-        Some(Frame::LeastOf(a)) => Ok(Expr::Min(Box::new(alloc, a)?, Box::new(alloc, sum)?)),
-        Some(Frame::GreatestOf(a)) => Ok(Expr::Max(Box::new(alloc, a)?, Box::new(alloc, sum)?)),
+    let Some(frame) = stack.pop() else {
+        return Err(ReadFault::Malformed);
+    };
+    match frame {
+        Frame::Opened(Bracket::Plain) => Ok(sum),
+        Frame::Opened(Bracket::Size) => Ok(Expr::Abs(Box::new(alloc, sum)?)),
+        Frame::LeastOf(a) => {
+            let (a, b) = boxed(alloc, a, sum)?;
+            Ok(Expr::Min(a, b))
+        }
+        Frame::GreatestOf(a) => {
+            let (a, b) = boxed(alloc, a, sum)?;
+            Ok(Expr::Max(a, b))
+        }
         _ => Err(ReadFault::Malformed),
     }
 }
@@ -88,8 +97,8 @@ fn closed(alloc: Global, stack: &mut Stack, sum: Expr) -> Result<Expr, ReadFault
 fn tabled(alloc: Global, stack: &mut Stack, sum: Expr, curve: Curve) -> Result<Expr, ReadFault>
     ensures { Gives (λ e. (expression_of e, pendings_of stack.new)) result (tabled curve (expression_of sum) (pendings_of stack.old)) }
 {
-    match stack.pop() {
-        Some(Frame::Opened(Bracket::Table)) => Ok(Expr::Lut(Box::new(alloc, sum)?, curve)),
+    match stack.pop_bracket() {
+        Some(Bracket::Table) => Ok(Expr::Lut(Box::new(alloc, sum)?, curve)),
         _ => Err(ReadFault::Malformed),
     }
 }
@@ -98,14 +107,12 @@ fn tabled(alloc: Global, stack: &mut Stack, sum: Expr, curve: Curve) -> Result<E
 fn halved(stack: &mut Stack, sum: Expr) -> Result<(), ReadFault>
     ensures { Gives (λ _. pendings_of stack.new) result (halved (expression_of sum) (pendings_of stack.old)) }
 {
-    let Some(Frame::Opened(bracket)) = stack.pop() else {
-        return Err(ReadFault::Malformed);
+    let frame = match stack.pop_bracket() {
+        Some(Bracket::Least) => Frame::LeastOf(sum),
+        Some(Bracket::Greatest) => Frame::GreatestOf(sum),
+        _ => return Err(ReadFault::Malformed),
     };
-    match bracket {
-        Bracket::Least => Ok(stack.push(Frame::LeastOf(sum))?),
-        Bracket::Greatest => Ok(stack.push(Frame::GreatestOf(sum))?),
-        Bracket::Plain | Bracket::Size | Bracket::Table => Err(ReadFault::Malformed),
-    }
+    Ok(stack.push(frame)?)
 }
 
 /// Takes an item where an operand may begin. Returns the term that it ends, if any.
@@ -139,33 +146,46 @@ fn continued(
     ensures { Gives (λ t. (option_map expression_of t, pendings_of stack.new)) result (continued item (expression_of term) (pendings_of stack.old)) }
 {
     match item {
-        Item::Plus => {
-            let sum = stack.end_term(alloc, term)?;
-            stack.push(Frame::AddTo(sum))?;
-            Ok(None)
-        }
-        Item::Minus => {
-            let sum = stack.end_term(alloc, term)?;
-            stack.push(Frame::TakeFrom(sum))?;
-            Ok(None)
-        }
         Item::Times => {
             stack.push(Frame::Multiply(term))?;
             Ok(None)
         }
         Item::Over(k) => Ok(Some(Expr::Div(Box::new(alloc, term)?, i128::from(k)))),
-        Item::Comma => {
+        other => {
             let sum = stack.end_term(alloc, term)?;
+            summed(alloc, stack, sum, other)
+        }
+    }
+}
+
+/// Takes an item behind a sum.
+#[tactic(auto, unfolding(crate::specs::inside::ExpressionMachine::summed))]
+fn summed(
+    alloc: Global,
+    stack: &mut Stack,
+    sum: Expr,
+    item: Item,
+) -> Result<Option<Expr>, ReadFault>
+    ensures { Gives (λ t. (option_map expression_of t, pendings_of stack.new)) result (summed item (expression_of sum) (pendings_of stack.old)) }
+{
+    match item {
+        Item::Plus => {
+            stack.push(Frame::AddTo(sum))?;
+            Ok(None)
+        }
+        Item::Minus => {
+            stack.push(Frame::TakeFrom(sum))?;
+            Ok(None)
+        }
+        Item::Comma => {
             halved(stack, sum)?;
             Ok(None)
         }
         Item::Close => {
-            let sum = stack.end_term(alloc, term)?;
             let factor = closed(alloc, stack, sum)?;
             Ok(Some(stack.end_factor(alloc, factor)?))
         }
         Item::Points(curve) => {
-            let sum = stack.end_term(alloc, term)?;
             let factor = tabled(alloc, stack, sum, curve)?;
             Ok(Some(stack.end_factor(alloc, factor)?))
         }

@@ -17,7 +17,7 @@ use plant_record::Variables;
 use std::alloc::Global;
 
 /// What stands before an open bracket.
-#[derive(Clone, Copy, Debug, PartialEq, Eq)]
+#[derive(Clone, Copy)]
 pub enum Bracket {
     Plain,
     Least,
@@ -27,7 +27,7 @@ pub enum Bracket {
     Table,
 }
 
-#[derive(Debug, Drop)]
+#[derive(Drop)]
 pub enum Item {
     Number(u64),
     Variable(u32),

@@ -91,7 +91,6 @@ fn push_table(
 }
 
 /// Each point with the comma before it.
-#[tactic(auto, using(crate::proofs::lemmas::WrittenLines::pieces_more))]
 fn push_points(text: &mut Vec<u8>, points: &[(i128, i128)]) -> Result<(), AllocError>
     ensures { OnOk result (text.new.items ≡ text.old.items ++ flat_map point_text points.now) }
 {

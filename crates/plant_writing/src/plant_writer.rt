@@ -63,7 +63,6 @@ pub fn goal_line(goal: GoalKind) -> &'static [u8]
     }
 }
 
-#[tactic(auto, using(crate::proofs::lemmas::WrittenLines::pieces_more))]
 fn push_states(text: &mut Vec<u8>, states: &[StateVariable]) -> Result<(), AllocError>
     ensures { OnOk result (text.new.items ≡ text.old.items ++ flat_map state_line states.now) }
 {
@@ -85,7 +84,6 @@ pub fn push_state(text: &mut Vec<u8>, state: &StateVariable) -> Result<(), Alloc
     Ok(())
 }
 
-#[tactic(auto, using(crate::proofs::lemmas::WrittenLines::pieces_more))]
 fn push_inputs(text: &mut Vec<u8>, inputs: &[InputVariable]) -> Result<(), AllocError>
     ensures { OnOk result (text.new.items ≡ text.old.items ++ flat_map input_line inputs.now) }
 {
@@ -105,7 +103,6 @@ pub fn push_input(text: &mut Vec<u8>, input: &InputVariable) -> Result<(), Alloc
     Ok(())
 }
 
-#[tactic(auto, using(crate::proofs::lemmas::WrittenLines::pieces_more))]
 fn push_values(text: &mut Vec<u8>, values: &[i128]) -> Result<(), AllocError>
     ensures { OnOk result (text.new.items ≡ text.old.items ++ flat_map (λ z. 32 ∷ signed_decimal z) values.now) }
 {
@@ -115,7 +112,6 @@ fn push_values(text: &mut Vec<u8>, values: &[i128]) -> Result<(), AllocError>
     Ok(())
 }
 
-#[tactic(auto, using(crate::proofs::lemmas::WrittenLines::pieces_more))]
 fn push_noises(text: &mut Vec<u8>, noises: &[NoiseVariable]) -> Result<(), AllocError>
     ensures { OnOk result (text.new.items ≡ text.old.items ++ flat_map noise_line noises.now) }
 {
@@ -165,7 +161,6 @@ pub fn push_equation(
     Ok(())
 }
 
-#[tactic(auto, using(crate::proofs::lemmas::WrittenLines::pieces_more))]
 fn push_boxes(
     text: &mut Vec<u8>,
     keyword: &[u8],

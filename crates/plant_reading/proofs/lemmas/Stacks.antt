@@ -5,9 +5,9 @@ use Rattle.std.proofs.lemmas.List.{map-append, reverse-append, append-nil, nil_f
 use Rattle.plant_reading.specs.declared.frames.Frame.{Frame}
 use Rattle.plant_reading.specs.declared.frames.Stack.{Stack}
 use Rattle.fixed_expr.specs.Expression.{Expression}
-use Rattle.plant_reading.specs.declared.frames.Frame.TheVariants as frame
+use Rattle.plant_reading.specs.declared.items.Bracket.{Bracket}
 use Rattle.plant_reading.specs.declared.items.Bracket.TheVariants as bracket
-use Rattle.plant_reading.specs.inside.ExpressionMachine.{Pending, pending_of, pendings_of, tabled}
+use Rattle.plant_reading.specs.inside.ExpressionMachine.{Pending, Sign, AddTo, TakeFrom, Multiply, Opened, LeastOf, GreatestOf, NoBracketWaits, bracket_in, pending_of, pendings_of, tabled}
 
 pub empty_stack : (s : Stack) → s.frames.items ≡ [] → pendings_of s ≡ []
 unfolding pendings_of
@@ -29,18 +29,39 @@ popped s t None e none =
     (empty_stack s nil, empty_stack t (sym same ∙ nil))
 popped s t (Some f) e some = pushed t s f e
 
--- where no bracket of a table waits last, points stand nowhere
-pub not_tabled : (points : List (ℤ × ℤ)) (c : Expression) (old new : List Pending) (r : Option Frame) → MatchOption r ((old ≡ []) × (new ≡ [])) (λ f. old ≡ pending_of f ∷ new) → (r ≡ Some (frame.Opened bracket.Table) → ⊥) → tabled points c old ≡ None
+-- the bracket that waited last, if any
+abbrev pub BracketPopped : List Pending → List Pending → Option Bracket → Type 0
+BracketPopped old new r = MatchOption r (NoBracketWaits old) (λ b. old ≡ Opened b ∷ new)
+
+pub bracket_popped : (p : Pending) (old new : List Pending) (r : Option Bracket) → old ≡ p ∷ new → r ≡ bracket_in p → BracketPopped old new r
+bracket_popped Sign old new r e is = rw is (λ b R same. cc)
+bracket_popped (AddTo a) old new r e is = rw is (λ b R same. cc)
+bracket_popped (TakeFrom a) old new r e is = rw is (λ b R same. cc)
+bracket_popped (Multiply a) old new r e is = rw is (λ b R same. cc)
+bracket_popped (Opened b) old new r e is = rw is e
+bracket_popped (LeastOf a) old new r e is = rw is (λ b R same. cc)
+bracket_popped (GreatestOf a) old new r e is = rw is (λ b R same. cc)
+
+pub none_popped : (old new : List Pending) (r : Option Bracket) → old ≡ [] → r ≡ None → BracketPopped old new r
+none_popped old new r e is = rw is (λ b R same. cc)
+
+no_table : (points : List (ℤ × ℤ)) (c : Expression) (S : List Pending) → NoBracketWaits S → tabled points c S ≡ None
 unfolding tabled
-not_tabled points c old new None e other = rw e.0 refl
-not_tabled points c old new (Some frame.Sign) e other = rw e refl
-not_tabled points c old new (Some (frame.AddTo a)) e other = rw e refl
-not_tabled points c old new (Some (frame.TakeFrom a)) e other = rw e refl
-not_tabled points c old new (Some (frame.Multiply a)) e other = rw e refl
-not_tabled points c old new (Some (frame.Opened bracket.Plain)) e other = rw e refl
-not_tabled points c old new (Some (frame.Opened bracket.Least)) e other = rw e refl
-not_tabled points c old new (Some (frame.Opened bracket.Greatest)) e other = rw e refl
-not_tabled points c old new (Some (frame.Opened bracket.Size)) e other = rw e refl
-not_tabled points c old new (Some (frame.Opened bracket.Table)) e other = absurd (other refl)
-not_tabled points c old new (Some (frame.LeastOf a)) e other = rw e refl
-not_tabled points c old new (Some (frame.GreatestOf a)) e other = rw e refl
+no_table points c [] h = refl
+no_table points c (Sign ∷ S) h = refl
+no_table points c (AddTo a ∷ S) h = refl
+no_table points c (TakeFrom a ∷ S) h = refl
+no_table points c (Multiply a ∷ S) h = refl
+no_table points c (Opened b ∷ S) h = absurd (h b S refl)
+no_table points c (LeastOf a ∷ S) h = refl
+no_table points c (GreatestOf a ∷ S) h = refl
+
+-- where no bracket of a table waits last, points stand nowhere
+pub not_tabled : (points : List (ℤ × ℤ)) (c : Expression) (old new : List Pending) (r : Option Bracket) → BracketPopped old new r → (r ≡ Some bracket.Table → ⊥) → tabled points c old ≡ None
+unfolding tabled
+not_tabled points c old new None none other = no_table points c old none
+not_tabled points c old new (Some bracket.Plain) e other = rw e refl
+not_tabled points c old new (Some bracket.Least) e other = rw e refl
+not_tabled points c old new (Some bracket.Greatest) e other = rw e refl
+not_tabled points c old new (Some bracket.Size) e other = rw e refl
+not_tabled points c old new (Some bracket.Table) e other = absurd (other refl)

@@ -10,7 +10,7 @@ use Rattle.plant_reading.specs.SyntaxTrees.{Syntax, Literal, Named, Minus, Plus,
 use Rattle.plant_reading.specs.inside.ExpressionItems.{items_onto, IsItem, AreItems}
 use Rattle.plant_reading.specs.inside.TokenReaders.{◌>>=◌}
 use Rattle.fixed_expr.specs.Curves.{IsCurve}
-use Rattle.plant_reading.specs.inside.ExpressionMachine.{Pending, Sign, AddTo, TakeFrom, Multiply, Opened, LeastOf, GreatestOf, Machine, factor_ended, term_ended, closed, tabled, halved, complete, begun, continued, stepped, state_after}
+use Rattle.plant_reading.specs.inside.ExpressionMachine.{Pending, Sign, AddTo, TakeFrom, Multiply, Opened, LeastOf, GreatestOf, Machine, factor_ended, term_ended, closed, tabled, halved, complete, begun, continued, summed, stepped, state_after}
 
 -- A tree of at least a level means an expression, and its items stand behind others, the last first.
 pub record Spans (m n : ℕ) (e : Expression) (before items : List Item) : Type 0 where
@@ -222,7 +222,7 @@ closed_next m y items None h = tt
 closed_next m y items (Some x) h = factor_stands m x.0 x.1 h.0 (y ∷ items) h.1 h.2
 
 continued_stands : (m : ℕ) (x : Item) (c : Expression) (S : List Pending) (items : List Item) → IsItem m x → Stands m (Some c, S) items → IfStands (λ (n : Machine). Stands m n (x ∷ items)) (continued x c S)
-unfolding continued
+unfolding continued summed
 continued_stands m item.Plus c S items valid h = let t = term_stands m c S h.0 items h.1 h.2 in (t.0, items, t.1, t.2, refl)
 continued_stands m item.Minus c S items valid h = let t = term_stands m c S h.0 items h.1 h.2 in (t.0, items, t.1, t.2, refl)
 continued_stands m item.Times c S items valid h = (h.0, items, h.1, h.2, refl)

@@ -2,10 +2,9 @@
 use Rattle.std.proofs.Common.{◌≡◌, ℕ, List, [], ◌∷◌}
 use Rattle.std.specs.Prelude.{ℤ, ◌≤ℤ◌}
 use Rattle.std.specs.Fmt.{signed_decimal}
-use Rattle.plant_record.specs.declared.variables.StateVariable.{StateVariable}
 use Rattle.plant_record.specs.Numbers.{IsLiteral}
 use Rattle.plant_reading.specs.inside.WordReaders.{StartsWithNumber}
-use Rattle.plant_reading.specs.inside.LineReaders.{StartsWithEnds, SpellsState, HasWholeCells}
+use Rattle.plant_reading.specs.inside.LineReaders.{StartsWithEnds, SpellsCells, HasWholeCells}
 use Rattle.plant_reading.proofs.lemmas.NumberWords.{one_number}
 
 -- numbers that are read one after the other, and are out of order, are no ends
@@ -15,13 +14,11 @@ no_ends words rest others low high l h out y e =
     let high-is : y.0.1 ≡ high = one_number y.0.1 high e.0.1 h.0 (cc (e.1, l.1, h.1)) in
     out (rw (low-is, high-is) at e.0.2)
 
--- the same of a state with no whole cells
-pub no_state : (words : List (List ℕ)) (name : List ℕ) (low high width : ℤ) → words ≡ name ∷ signed_decimal low ∷ signed_decimal high ∷ signed_decimal width ∷ [] → IsLiteral low → IsLiteral high → IsLiteral width
-    → (HasWholeCells low high width → ⊥) → (s : StateVariable) → SpellsState words s → ⊥
-no_state words name low high width e l h w out s spelled =
-    let is = spelled.1 in
-    let low-is : s.low ≡ low = one_number s.low low is.low l (cc (e, spelled.0)) in
-    let high-is : s.high ≡ high = one_number s.high high is.high h (cc (e, spelled.0)) in
-    let width-is : s.width ≡ width = one_number s.width width is.width w (cc (e, spelled.0)) in
-    let cells : HasWholeCells s.low s.high s.width = (is.ordered, is.some_width, is.whole_cells) in
-    out (rw (low-is, high-is, width-is) at cells)
+-- the same of a state's range and width that make no whole cells
+pub no_cells : (words : List (List ℕ)) (low high width : ℤ) → words ≡ signed_decimal low ∷ signed_decimal high ∷ signed_decimal width ∷ [] → IsLiteral low → IsLiteral high → IsLiteral width
+    → (HasWholeCells low high width → ⊥) → (y : ℤ × ℤ × ℤ) → SpellsCells words y → ⊥
+no_cells words low high width e l h w out y spelled =
+    let low-is : y.0 ≡ low = one_number y.0 low spelled.1.0 l (cc (e, spelled.0)) in
+    let high-is : y.1 ≡ high = one_number y.1 high spelled.1.1 h (cc (e, spelled.0)) in
+    let width-is : y.2 ≡ width = one_number y.2 width spelled.2 w (cc (e, spelled.0)) in
+    out (rw (low-is, high-is, width-is) at spelled.3)

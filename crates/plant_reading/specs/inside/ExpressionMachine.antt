@@ -38,6 +38,20 @@ pending_of (frame.GreatestOf a) = GreatestOf (expression_of a)
 unfoldable pub pendings_of : Stack → List Pending
 pendings_of stack = reverse (map pending_of stack.frames.items)
 
+-- the bracket that is open, if one waits
+abbrev pub bracket_in : Pending → Option Bracket
+bracket_in Sign = None
+bracket_in (AddTo a) = None
+bracket_in (TakeFrom a) = None
+bracket_in (Multiply a) = None
+bracket_in (Opened b) = Some b
+bracket_in (LeastOf a) = None
+bracket_in (GreatestOf a) = None
+
+-- what waits last is no open bracket
+abbrev pub NoBracketWaits : List Pending → Type 0
+NoBracketWaits S = (b : Bracket) (R : List Pending) → S ≡ Opened b ∷ R → ⊥
+
 -- the operand that is complete, if any, and what waits
 abbrev pub Machine : Type 0
 Machine = Option Expression × List Pending
@@ -98,16 +112,20 @@ begun item.Minus S = Some (None, Sign ∷ S)
 begun (item.Open b) S = Some (None, Opened b ∷ S)
 begun _ S = None
 
+-- an item behind a sum
+unfoldable pub summed : Item → Expression → List Pending → Option Machine
+summed item.Plus c S = Some (None, AddTo c ∷ S)
+summed item.Minus c S = Some (None, TakeFrom c ∷ S)
+summed item.Comma c S = option_map (λ R. (None, R)) (halved c S)
+summed item.Close c S = option_map (λ x. complete (factor_ended x.0 x.1)) (closed c S)
+summed (item.Points points) c S = option_map (λ x. complete (factor_ended x.0 x.1)) (tabled points c S)
+summed _ c S = None
+
 -- an item behind a term
 unfoldable pub continued : Item → Expression → List Pending → Option Machine
-continued item.Plus c S = Some (None, AddTo (term_ended c S).0 ∷ (term_ended c S).1)
-continued item.Minus c S = Some (None, TakeFrom (term_ended c S).0 ∷ (term_ended c S).1)
 continued item.Times c S = Some (None, Multiply c ∷ S)
 continued (item.Over k) c S = Some (Some (Quotient c (pos k)), S)
-continued item.Comma c S = option_map (λ R. (None, R)) (halved (term_ended c S).0 (term_ended c S).1)
-continued item.Close c S = option_map (λ x. complete (factor_ended x.0 x.1)) (closed (term_ended c S).0 (term_ended c S).1)
-continued (item.Points points) c S = option_map (λ x. complete (factor_ended x.0 x.1)) (tabled points (term_ended c S).0 (term_ended c S).1)
-continued _ c S = None
+continued x c S = summed x (term_ended c S).0 (term_ended c S).1
 
 abbrev pub stepped : Item → Option Expression → List Pending → Option Machine
 stepped x None S = begun x S

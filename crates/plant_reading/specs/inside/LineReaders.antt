@@ -34,7 +34,12 @@ SpellsGoal words kind = words ≡ goal_word kind ∷ []
 
 -- a state's range is divided into whole cells
 abbrev pub HasWholeCells : ℤ → ℤ → ℤ → Type 0
-HasWholeCells low high width = (low ≤ℤ high) × (pos 1 ≤ℤ width) × (nat_abs ((high -ℤ low) +ℤ pos 1) % nat_abs width ≡ 0)
+HasWholeCells low high width = (pos 1 ≤ℤ width) × (nat_abs ((high -ℤ low) +ℤ pos 1) % nat_abs width ≡ 0)
+
+-- the range of a state and the width of its cells
+abbrev pub SpellsCells : List (List ℕ) → ℤ × ℤ × ℤ → Type 0
+SpellsCells words y =
+    (words ≡ signed_decimal y.0 ∷ signed_decimal y.1 ∷ signed_decimal y.2 ∷ []) × AreEnds y.0 y.1 × IsLiteral y.2 × HasWholeCells y.0 y.1 y.2
 
 -- two numbers in order at the front of the words
 abbrev pub StartsWithEnds : List (List ℕ) → (ℤ × ℤ) × List (List ℕ) → Type 0

@@ -14,7 +14,7 @@ use Rattle.plant_record.specs.declared.aims.StateBox.{StateBox}
 use Rattle.plant_record.specs.Description.{Description, names_of}
 use Rattle.plant_writing.specs.CanonicalText.{text_of, state_line, input_line, noise_line, equation_line, equation_lines, box_line}
 use Rattle.plant_record.specs.Spelling.{end_words, goal_word, line, version_word}
-use Rattle.plant_writing.specs.ExpressionText.{expression_text}
+use Rattle.plant_writing.specs.ExpressionText.{expression_text, point_text}
 
 -- a word with a space before it
 abbrev pub spaced : List ℕ → List ℕ
@@ -33,6 +33,10 @@ pieces_more f text xs i x lt x-is =
     (ap (λ (y : List ℕ). flat_map f (take i xs) ++ y) (sym (append-nil (f x)))
     ∙ sym (ap (flat_map f) (take_more xs i x lt) ∙ flat_map-append f (take i xs) (get_or xs i x ∷ []) ∙ ap (λ (y : _). flat_map f (take i xs) ++ (f y ++ [])) (sym x-is)))
 
+-- all pieces
+pub pieces_all : {X : Type 0} (f : X → List ℕ) (text : List ℕ) (xs : List X) (i : ℕ) → length xs ≤ i → text ++ flat_map f (take i xs) ≡ text ++ flat_map f xs
+pieces_all f text xs i le = ap (λ (ys : List _). text ++ flat_map f ys) (take_all i xs le)
+
 pub state_parts : (text : List ℕ) (s : StateVariable)
     → (((((text ++ codes "state ") ++ s.name) ++ 32 ∷ signed_decimal s.low) ++ 32 ∷ signed_decimal s.high) ++ 32 ∷ signed_decimal s.width) ++ codes "\n" ≡ text ++ state_line s
 state_parts text s = simp append_assoc
@@ -40,6 +44,9 @@ state_parts text s = simp append_assoc
 pub noise_parts : (text : List ℕ) (w : NoiseVariable)
     → ((((text ++ codes "noise ") ++ w.name) ++ 32 ∷ signed_decimal w.low) ++ 32 ∷ signed_decimal w.high) ++ codes "\n" ≡ text ++ noise_line w
 noise_parts text w = simp append_assoc
+
+pub point_parts : (text : List ℕ) (p : ℤ × ℤ) → (((text ++ codes ", ") ++ signed_decimal p.0) ++ codes ":") ++ signed_decimal p.1 ≡ text ++ point_text p
+point_parts text p = simp append_assoc
 
 input_words : (i : InputVariable) → codes "input " ++ (i.name ++ flat_map (λ z. 32 ∷ signed_decimal z) i.values) ≡ join_with_byte 32 (codes "input" ∷ i.name ∷ map signed_decimal i.values)
 input_words i =
