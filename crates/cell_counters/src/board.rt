@@ -14,7 +14,7 @@ use std::marker::{Brand, Model};
 use std::snapshot::Snapshot;
 
 /// There was no memory for the board.
-#[derive(Debug, Drop)]
+#[derive(Drop)]
 pub struct NoMemory;
 
 impl From<AllocError> for NoMemory {

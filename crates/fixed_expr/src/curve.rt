@@ -9,7 +9,7 @@ use std::alloc::{AllocError, Global};
 use std::marker::Model;
 
 /// There was no memory left.
-#[derive(Clone, Copy, Debug, PartialEq, Eq)]
+#[derive(Clone, Copy, PartialEq, Eq)]
 pub struct NoMemory;
 
 impl From<AllocError> for NoMemory {
@@ -20,7 +20,7 @@ impl From<AllocError> for NoMemory {
 
 /// A function that goes straight from point to point, and stays as it is before the first and behind
 /// the last. Seen as its points.
-#[derive(Debug, Drop)]
+#[derive(Drop)]
 pub struct Curve {
     points: Vec<(i128, i128)>,
 }

@@ -7,7 +7,7 @@ pub trait Gate: Sync {
 }
 
 /// The gate that holds nobody up.
-#[derive(Clone, Copy, Debug)]
+#[derive(Clone, Copy)]
 pub struct Open;
 
 impl Gate for Open {

@@ -3,7 +3,7 @@ ghost use Rattle.std.specs.List.{All};
 ghost use Rattle.game_core.specs.Game.{Game, IsGraph, AreSources, mark_of, successors_at, pairs_of};
 
 /// What a cell is to the controller.
-#[derive(Clone, Copy, Debug, PartialEq, Eq)]
+#[derive(Clone, Copy, PartialEq, Eq)]
 pub enum Mark {
     /// To be reached.
     Goal,
@@ -14,7 +14,7 @@ pub enum Mark {
 }
 
 /// What a table says of one cell: the samples that suffice, and the input to apply.
-#[derive(Clone, Copy, Debug, PartialEq, Eq)]
+#[derive(Clone, Copy, PartialEq, Eq)]
 pub struct Row {
     pub rank: u32,
     pub input: u32,

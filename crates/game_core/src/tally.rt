@@ -1,5 +1,5 @@
 /// What a solver counted: the cuts, the offers and the rounds.
-#[derive(Clone, Copy, Debug, PartialEq, Eq)]
+#[derive(Clone, Copy, PartialEq, Eq)]
 pub struct Tally {
     pub cuts: u64,
     pub offers: u64,

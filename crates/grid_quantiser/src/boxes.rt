@@ -9,7 +9,7 @@ use crate::grid::{Grid, Point};
 use crate::runs::split;
 
 /// A box of cells of a grid, by the numbers of its lowest and its highest corner.
-#[derive(Clone, Copy, Debug, PartialEq, Eq)]
+#[derive(Clone, Copy, PartialEq, Eq)]
 pub struct CellBox {
     pub first: u32,
     pub last: u32,

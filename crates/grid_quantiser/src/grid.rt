@@ -10,12 +10,12 @@ use std::marker::Model;
 pub type Point = [i128; 6];
 
 /// The grid would have more than 2^20 cells.
-#[derive(Clone, Copy, Debug, PartialEq, Eq)]
+#[derive(Clone, Copy, PartialEq, Eq)]
 pub struct TooManyCells;
 
 /// A uniform grid: its axes, in order. The cells are numbered from 0, the first state varying
 /// slowest.
-#[derive(Clone, Copy, Debug, PartialEq, Eq)]
+#[derive(Clone, Copy, PartialEq, Eq)]
 pub struct Grid {
     axes: [Axis; 6],
     states: u32,

@@ -8,7 +8,7 @@ use crate::boxes::CellBox;
 use crate::grid::Grid;
 
 /// Places of an axis, from the first to the last.
-#[derive(Clone, Copy, Debug, PartialEq, Eq)]
+#[derive(Clone, Copy, PartialEq, Eq)]
 pub struct Side {
     pub first: u32,
     pub last: u32,

@@ -10,7 +10,7 @@ use fixed_expr::arithmetic::{
 };
 
 /// The numbers from `lo` to `hi`, both included.
-#[derive(Clone, Copy, Debug, PartialEq, Eq)]
+#[derive(Clone, Copy, PartialEq, Eq)]
 pub struct Interval {
     pub lo: i128,
     pub hi: i128,

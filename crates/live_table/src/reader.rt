@@ -12,7 +12,7 @@ use grid_quantiser::Point;
 use std::marker::Model;
 
 /// What the table in force chooses, and how many tables had been published by then.
-#[derive(Clone, Copy, Debug, PartialEq, Eq)]
+#[derive(Clone, Copy, PartialEq, Eq)]
 pub struct Answered {
     pub number: u32,
     pub choice: Option<u32>,

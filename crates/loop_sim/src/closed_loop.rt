@@ -16,7 +16,7 @@ use plant_record::{GoalKind, step};
 use successor_box::laws::steps_stay_in_range;
 
 /// A sample of a closed loop.
-#[derive(Clone, Copy, Debug)]
+#[derive(Clone, Copy)]
 pub(crate) struct Sample {
     pub time: u32,
     pub x: Point,
@@ -28,7 +28,7 @@ pub(crate) struct Sample {
 }
 
 /// What comes next in a trace.
-#[derive(Clone, Copy, Debug)]
+#[derive(Clone, Copy)]
 pub(crate) enum Stage {
     /// The lines of a sample, and what is behind them.
     Due(Sample),

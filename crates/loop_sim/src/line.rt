@@ -2,7 +2,7 @@ use game_core::Row;
 use grid_quantiser::Point;
 
 /// A line of a trace. Times count samples from 0.
-#[derive(Clone, Copy, Debug, PartialEq, Eq)]
+#[derive(Clone, Copy, PartialEq, Eq)]
 pub enum SimLine {
     /// The state of a sample, and the row of its cell.
     At { time: u32, x: Point, row: Row },

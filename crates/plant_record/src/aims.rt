@@ -3,14 +3,14 @@
 use grid_quantiser::Point;
 
 /// A box of states: the least and the greatest number of each. Places past the states are 0.
-#[derive(Clone, Copy, Debug, PartialEq, Eq)]
+#[derive(Clone, Copy, PartialEq, Eq)]
 pub struct StateBox {
     pub low: Point,
     pub high: Point,
 }
 
 /// What the controller is to do.
-#[derive(Clone, Copy, Debug, PartialEq, Eq)]
+#[derive(Clone, Copy, PartialEq, Eq)]
 pub enum GoalKind {
     /// Bring the plant into a target.
     Reach,

@@ -10,7 +10,7 @@ use std::alloc::{AllocError, Global};
 use std::marker::Model;
 
 /// The name of a variable.
-#[derive(Debug, Drop)]
+#[derive(Drop)]
 pub struct Name {
     bytes: Vec<u8>,
 }
@@ -44,7 +44,7 @@ impl Name {
 }
 
 /// The values that an input variable may take.
-#[derive(Debug, Drop)]
+#[derive(Drop)]
 pub struct Values {
     numbers: Vec<i128>,
 }
@@ -78,7 +78,7 @@ impl Values {
 }
 
 /// A state, with its range and the width of a cell.
-#[derive(Debug, Drop)]
+#[derive(Drop)]
 pub struct StateVariable {
     pub name: Name,
     pub low: i128,
@@ -87,14 +87,14 @@ pub struct StateVariable {
 }
 
 /// An input, with the values that it may take.
-#[derive(Debug, Drop)]
+#[derive(Drop)]
 pub struct InputVariable {
     pub name: Name,
     pub values: Values,
 }
 
 /// A disturbance, with its range.
-#[derive(Debug, Drop)]
+#[derive(Drop)]
 pub struct NoiseVariable {
     pub name: Name,
     pub low: i128,
@@ -102,7 +102,7 @@ pub struct NoiseVariable {
 }
 
 /// The variables of a plant: its states first, then its inputs, then its noises.
-#[derive(Debug, Drop)]
+#[derive(Drop)]
 pub struct Variables {
     pub states: Vec<StateVariable>,
     pub inputs: Vec<InputVariable>,

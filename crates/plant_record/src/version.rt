@@ -2,7 +2,7 @@ ghost use Rattle.std.specs.Prelude.{◌≡◌};
 ghost use Rattle.plant_record.specs.Versions.{version_number};
 
 /// By which rules a plant's text is read, and its boxes are made.
-#[derive(Clone, Copy, Debug, PartialEq, Eq)]
+#[derive(Clone, Copy, PartialEq, Eq)]
 pub enum PlantVersion {
     /// No equation has a table of points. A box is the growth bound round the centre's step.
     One,

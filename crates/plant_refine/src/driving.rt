@@ -23,7 +23,7 @@ use successor_box::Slopes;
 use successor_box::laws::{enabled_pairs_have_successors, points_lie_with_their_states};
 
 /// Where a driven plant comes into a target, and at which sample, counted from 0 at the start.
-#[derive(Clone, Copy, Debug, PartialEq, Eq)]
+#[derive(Clone, Copy, PartialEq, Eq)]
 pub struct Driven {
     pub arrived_at: u32,
     pub at: Point,

@@ -1,5 +1,5 @@
 /// Which words tell a row.
-#[derive(Clone, Copy, Debug, PartialEq, Eq)]
+#[derive(Clone, Copy, PartialEq, Eq)]
 pub enum RowWords {
     /// The rank, and the input above rank 0: `4 1`, `0 -`.
     InputAboveZero,

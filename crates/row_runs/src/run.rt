@@ -1,7 +1,7 @@
 use game_core::Row;
 
 /// How lines tell rows.
-#[derive(Clone, Copy, Debug, PartialEq, Eq)]
+#[derive(Clone, Copy, PartialEq, Eq)]
 pub enum Version {
     /// Cell by cell.
     First,
@@ -10,7 +10,7 @@ pub enum Version {
 }
 
 /// Cells that follow one another, with one row.
-#[derive(Clone, Copy, Debug, PartialEq, Eq)]
+#[derive(Clone, Copy, PartialEq, Eq)]
 pub struct Run {
     pub first: u32,
     pub last: u32,

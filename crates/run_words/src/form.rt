@@ -12,7 +12,7 @@ use itoa::Buffer;
 const NUMBER_LIMIT: u64 = 1_000_000_000_000_000_000;
 
 /// What the words ask for.
-#[derive(Clone, Copy, Debug, PartialEq, Eq)]
+#[derive(Clone, Copy, PartialEq, Eq)]
 pub enum Form {
     /// Solve the plant on the source with so many workers.
     Synth {

@@ -5,7 +5,7 @@ use grid_quantiser::Point;
 use std::marker::Model;
 
 /// The numbers of a state, six at most. Seen as their list.
-#[derive(Clone, Copy, Debug, PartialEq, Eq)]
+#[derive(Clone, Copy, PartialEq, Eq)]
 pub struct StateNumbers {
     six: Point,
     count: u32,

@@ -14,7 +14,7 @@ use run_words::limit_words;
 use successor_box::SlopeFault;
 
 /// How a run ended.
-#[derive(Clone, Copy, Debug, PartialEq, Eq)]
+#[derive(Clone, Copy, PartialEq, Eq)]
 pub enum Outcome {
     Done,
     /// The first cell of a table whose row isn't right.

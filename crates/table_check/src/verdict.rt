@@ -1,5 +1,5 @@
 /// What is said of a table's rows.
-#[derive(Clone, Copy, Debug, PartialEq, Eq)]
+#[derive(Clone, Copy, PartialEq, Eq)]
 pub enum Verdict {
     /// They are the solution.
     Valid,
