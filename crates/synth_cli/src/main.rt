@@ -3,9 +3,9 @@
 #![tactic(auto)]
 
 use live_run::run_live;
+use run_devices::{StdErrSink, StdSink, StdSource};
 use std::alloc::{AllocError, Global};
 use std::env;
-use run_devices::{StdErrSink, StdSink, StdSource};
 use std::io::ErrorKind;
 use std::process::ExitCode;
 use std::rt::Env;
