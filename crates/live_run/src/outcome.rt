@@ -13,7 +13,7 @@ use run_words::limit_words;
 use std::alloc::AllocError;
 
 /// How a run of a live script ended.
-#[derive(Clone, Copy, PartialEq, Eq)]
+#[derive(Clone, Copy)]
 pub enum LiveOutcome {
     Done,
     Usage,

@@ -70,14 +70,10 @@ impl Session {
         ensures { OnOk result (self.new ≡ record { count = self.old.count + 1; table = Some table }) }
     {
         let copy = table.copy(alloc)?;
-        let first = if self.count == 0 {
-            Some(self.workers)
-        } else {
-            None
-        };
+        let opened = opened_with(self.count, self.workers);
         replace_with(
             &mut self.readers,
-            (rt, alloc, copy, first),
+            (rt, alloc, copy, opened),
             bring_into_force,
         )?;
         self.table = Some(table);
@@ -116,6 +112,15 @@ impl Session {
             readers.close(rt);
         }
     }
+}
+
+/// How many readers are opened with a table behind so many: all with the first.
+fn opened_with(count: u32, workers: u32) -> Option<u32>
+    requires { (1 ≤ workers) × (workers ≤ 64) }
+    ensures first { IfSome result (λ _. count ≡ 0) }
+    ensures workers { IfSome result (λ readers. (1 ≤ readers) × (readers ≤ 64)) }
+{
+    if count == 0 { Some(workers) } else { None }
 }
 
 /// Brings a table into force among readers that answer by the one before it, or opens so many with it. None from a

@@ -45,7 +45,6 @@ fn publisher_of<R: Wait>(
     requires { (1 ≤ readers) × (readers ≤ 64) }
     ensures { IfOk result (λ p. p.list ≡ first ∷ []) }
 {
-    let (history, prefix) = History::open(&first);
     let Ok(sides) = Writer::new(
         alloc,
         LiveSide { in_force: None },
@@ -54,6 +53,7 @@ fn publisher_of<R: Wait>(
     ) else {
         return Err(LiveFault::Memory);
     };
+    let (history, prefix) = History::open(&first);
     let in_force = InForce::new(first, prefix.again());
     let sides = show(sides, rt, in_force);
     Ok(Publisher {

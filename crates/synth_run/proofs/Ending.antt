@@ -1,5 +1,5 @@
 -- How a run of a form ends.
-use Rattle.std.proofs.Common.{inl, inr, ◌≡◌, Option, None, refl}
+use Rattle.std.proofs.Common.{inl, inr, ◌≡◌, Option, None, refl, sym, subst}
 use Rattle.cell_counters.specs.Tokens.{BoardModel, RootModel}
 use Rattle.run_devices.specs.Devices.{Reading, Writing, GainsWhole, GainsPart}
 use Rattle.run_devices.specs.Transfers.{IsUntouched}
@@ -14,7 +14,7 @@ use Rattle.synth_run.specs.Runs.{CanEnd, IsAnswered, IsCutOff, IsRunOf}
 use Rattle.synth_run.specs.Sources.{given}
 use Rattle.synth_run.specs.inside.Resolving.{IsToBeLeft}
 use Rattle.synth_run.specs.inside.Texts.{bytes_of}
-use Rattle.synth_run.specs.inside.Working.{IsWorkedOut, IsTurnedDown}
+use Rattle.synth_run.specs.inside.Working.{IsWorkedOut, IsTurnedDown, IsWrittenOut, IsLeftAfter}
 use Rattle.synth_run.proofs.Working.{if_some_more}
 
 solves_none : (form : Form) → SolvesNothing form None
@@ -77,7 +77,7 @@ ends_turned_down form outcome source out h untouched = record {
 }
 
 -- the whole answer is written
-pub ends_done : (form : Form) (text : Text) (source : Reading) (out : Writing) (played : Option (BoardModel × RootModel)) → IsWorkedOut form text source → IsToBeLeft form played source → GainsWhole out (bytes_of text) → IsRunOf form Done source out played
+ends_done : (form : Form) (text : Text) (source : Reading) (out : Writing) (played : Option (BoardModel × RootModel)) → IsWorkedOut form text source → IsToBeLeft form played source → GainsWhole out (bytes_of text) → IsRunOf form Done source out played
 ends_done form text source out played h left whole = record {
   not_usage = λ e. cc;
   can_end = can_end_done form;
@@ -100,7 +100,7 @@ ends_done form text source out played h left whole = record {
 }
 
 -- a write fails within the answer
-pub ends_cut_off : (form : Form) (text : Text) (source : Reading) (out : Writing) → IsWorkedOut form text source → GainsPart out (bytes_of text) → IsRunOf form WriteFault source out None
+ends_cut_off : (form : Form) (text : Text) (source : Reading) (out : Writing) → IsWorkedOut form text source → GainsPart out (bytes_of text) → IsRunOf form WriteFault source out None
 ends_cut_off form text source out h part = record {
   not_usage = λ e. cc;
   can_end = can_end_cut_off form;
@@ -123,7 +123,7 @@ ends_cut_off form text source out h part = record {
 }
 
 -- there is no memory for writing the answer
-pub ends_without_memory : (form : Form) (text : Text) (source : Reading) (out : Writing) → IsWorkedOut form text source → IsUntouched out → IsRunOf form NoMemory source out None
+ends_without_memory : (form : Form) (text : Text) (source : Reading) (out : Writing) → IsWorkedOut form text source → IsUntouched out → IsRunOf form NoMemory source out None
 ends_without_memory form text source out h untouched = record {
   not_usage = λ e. cc;
   can_end = can_end_without_memory form;
@@ -144,3 +144,12 @@ ends_without_memory form text source out h untouched = record {
   write_fault = λ e. absurd (let clash : NoMemory ≡ WriteFault = e in cc);
   no_write_fault = λ _. untouched.no_fault;
 }
+
+pub ends_written_out : (form : Form) (text : Text) (source : Reading) (out : Writing) (played left : Option (BoardModel × RootModel)) (outcome : Outcome) → IsWorkedOut form text source → IsToBeLeft form played source → IsWrittenOut text outcome out → IsLeftAfter outcome played left → IsRunOf form outcome source out left
+ends_written_out form text source out played left Done h to_leave end after =
+    subst (λ (l : Option (BoardModel × RootModel)). IsRunOf form Done source out l) (sym (after.all refl)) (ends_done form text source out played h to_leave end)
+ends_written_out form text source out played left WriteFault h to_leave end after =
+    subst (λ (l : Option (BoardModel × RootModel)). IsRunOf form WriteFault source out l) (sym (after.nothing (λ e. cc))) (ends_cut_off form text source out h end)
+ends_written_out form text source out played left NoMemory h to_leave end after =
+    subst (λ (l : Option (BoardModel × RootModel)). IsRunOf form NoMemory source out l) (sym (after.nothing (λ e. cc))) (ends_without_memory form text source out h end)
+ends_written_out form text source out played left outcome h to_leave end after = absurd end

@@ -9,7 +9,7 @@ ghost use Rattle.synth_run.specs.declared.outcome.Outcome.TheVariants as ends;
 ghost use Rattle.demo_plants.specs.Demo.{IsDemoLine, demo_plant_of};
 ghost use Rattle.synth_run.specs.inside.Resolving.{IsToBeLeft};
 ghost use Rattle.synth_run.specs.inside.Texts.{bytes_of, CanBeWritten};
-ghost use Rattle.synth_run.specs.inside.Working.{IsWorkedOut, IsTurnedDown};
+ghost use Rattle.synth_run.specs.inside.Working.{IsWorkedOut, IsTurnedDown, IsWrittenOut, IsLeftAfter};
 
 use crate::checking::check_text;
 use crate::demo::solved_line;
@@ -204,14 +204,35 @@ fn carry_out<R: Threads + Sync, S: Source, O: Sink, G: Gate>(
     requires { (words : List (List ℕ)) × IsOfForm words form }
     ensures { IsRunOf form result.0 (reading S.left S.faults S.is_sound source.old source.new) (writing O.got O.faults O.room out.old out.new) result.1 }
 {
-    let Work { text, played } = match work_of(rt, alloc, form, source, gate) {
-        Ok(work) => work,
-        Err(outcome) => return (outcome, None),
-    };
+    match work_of(rt, alloc, form, source, gate) {
+        Ok(work) => {
+            let Work { text, played } = work;
+            let outcome = write_out(alloc, &text, out);
+            (outcome, left_after(outcome, played))
+        }
+        Err(outcome) => (outcome, None),
+    }
+}
+
+/// Writes what was worked out.
+fn write_out<O: Sink>(alloc: Global, text: &Text, out: &mut O) -> Outcome
+    requires { CanBeWritten text.now }
+    ensures { IsWrittenOut text.now result (writing O.got O.faults O.room out.old out.new) }
+{
     match text.write(alloc, out) {
-        Ok(()) => (Outcome::Done, played),
-        Err(WriteFault::Device) => (Outcome::WriteFault, None),
-        Err(WriteFault::Memory) => (Outcome::NoMemory, None),
+        Ok(()) => Outcome::Done,
+        Err(WriteFault::Device) => Outcome::WriteFault,
+        Err(WriteFault::Memory) => Outcome::NoMemory,
+    }
+}
+
+/// What is left of a game: all of it where the whole answer was written, else nothing.
+fn left_after(outcome: Outcome, played: Option<(Board, Root)>) -> Option<(Board, Root)>
+    ensures { IsLeftAfter outcome played result }
+{
+    match outcome {
+        Outcome::Done => played,
+        _ => None,
     }
 }
 

@@ -1,9 +1,11 @@
 -- What a form has worked out from its source before anything is written.
-use Rattle.std.specs.Prelude.{◌≡◌, ◌≢◌, IfSome, IsTrue}
+use Rattle.std.specs.Prelude.{◌≡◌, ◌≢◌, Option, None, IfSome, IsTrue}
+use Rattle.cell_counters.specs.Tokens.{BoardModel, RootModel}
 use Rattle.run_words.specs.declared.form.Form.{Form}
 use Rattle.synth_run.specs.declared.outcome.Outcome.{Outcome}
 use Rattle.synth_run.specs.declared.outcome.Outcome.TheVariants.{Done, Usage, ReadFault, WriteFault, NoMemory}
-use Rattle.run_devices.specs.Devices.{next_count, Reading, TakesAtMost}
+use Rattle.run_devices.specs.Devices.{next_count, Reading, Writing, GainsWhole, GainsPart, TakesAtMost}
+use Rattle.run_devices.specs.Transfers.{IsUntouched}
 use Rattle.synth_run.specs.Sources.{given, most_read, LeavesAlone}
 use Rattle.synth_run.specs.Demands.{Demands}
 use Rattle.synth_run.specs.Headline.{IsAnswer}
@@ -35,3 +37,15 @@ pub record IsTurnedDown (form : Form) (outcome : Outcome) (source : Reading) : T
   pub fault : outcome ≡ ReadFault → source.faults_after ≡ next_count source.faults_before
   pub no_fault : outcome ≢ ReadFault → source.faults_after ≡ source.faults_before
   pub sound : IsTrue source.is_sound → outcome ≢ ReadFault
+
+-- how the writing of a text ends
+abbrev pub IsWrittenOut : Text → Outcome → Writing → Type 0
+IsWrittenOut text Done out = GainsWhole out (bytes_of text)
+IsWrittenOut text WriteFault out = GainsPart out (bytes_of text)
+IsWrittenOut text NoMemory out = IsUntouched out
+IsWrittenOut text outcome out = ⊥
+
+-- what is left of a game behind an end: all of it, or nothing
+pub record IsLeftAfter (outcome : Outcome) (played left : Option (BoardModel × RootModel)) : Type 0 where
+  pub all : outcome ≡ Done → left ≡ played
+  pub nothing : outcome ≢ Done → left ≡ None

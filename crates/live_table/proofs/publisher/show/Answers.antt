@@ -9,3 +9,6 @@ show_as-requires g c =
     let now = c.open-open.result.0 in
     turns _ _ now.shown.value (record { in_force = Some c.args.in_force })
     (subst (λ (z : Option Published). Begins z (Some c.args.in_force)) (sym (ap (λ p. p.value.in_force) c.open-open.ensures.values.0)) c.requires)
+
+pub returns : goal.returns
+returns g c = record { shown = ap (λ s. s.in_force) c.show_as.ensures.values.0; is = c.show_as.ensures.rule.1.1 }

@@ -1,11 +1,9 @@
-use Rattle.std.proofs.Common.{◌≡◌, ℕ, sym, subst, Option}
-use Rattle.std.specs.Prelude.{IfSome}
+use Rattle.std.proofs.Common.{◌≡◌, sym, subst, Option}
 use Rattle.controller_table.specs.Tables.{TableModel}
 use Rattle.live_table.specs.Publishes.{Published}
 use Rattle.live_run.specs.inside.Sessions.{Fits, GoOnWith}
 use Rattle.live_run.proofs.TablesMore.{fits_more}
 use Rattle.live_run.proofs.session.Session.publish.Goals as goal
-use Rattle.live_run.proofs.session.Session.publish.Goals.{then-self-eq0, else-self-eq0}
 
 pub invariant_of-self : goal.invariant_of-self
 invariant_of-self g c =
@@ -15,9 +13,6 @@ invariant_of-self g c =
 pub invariant_of-self-2 : goal.invariant_of-self-2
 invariant_of-self-2 g c =
     let s = c.self.inside in
-    let first : IfSome c.if-self-eq0.first (λ _. s.count ≡ 0) = elim c.if-self-eq0.branch [
-      | then-self-eq0 w ↦ subst (λ (o : Option ℕ). IfSome o (λ _. s.count ≡ 0)) (sym w.first-is) w.if-self-eq0.true
-      | else-self-eq0 w ↦ subst (λ (o : Option ℕ). IfSome o (λ _. s.count ≡ 0)) (sym w.first-is) tt
-    ] in
-    let on : GoOnWith s.readers c.if-self-eq0.first c.args.table c.replace_with.new.dest = subst (λ (t : TableModel). GoOnWith s.readers c.if-self-eq0.first t c.replace_with.new.dest) c.in_ok-copy.ensures c.in_ok-replace_with.ensures.0 in
-    (c.self.invariant.0, c.self.invariant.1, fits_more s.readers c.replace_with.new.dest c.if-self-eq0.first s.count s.table c.args.table c.self.invariant.2 first on)
+    let opened = c.opened_with-opened.result in
+    let on : GoOnWith s.readers opened c.args.table c.replace_with.new.dest = subst (λ (t : TableModel). GoOnWith s.readers opened t c.replace_with.new.dest) c.in_ok-copy.ensures c.in_ok-replace_with.ensures.0 in
+    (c.self.invariant.0, c.self.invariant.1, fits_more s.readers c.replace_with.new.dest opened s.count s.table c.args.table c.self.invariant.2 c.opened_with-opened.ensures.first on)
