@@ -25,5 +25,7 @@ mod RowCells
 mod Parts
 mod RowBoxes
 mod CellRows
+mod Fitting
+mod AddedTerms
 pub mod BoxCorners
 pub mod PassingBoxes

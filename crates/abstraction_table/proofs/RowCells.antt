@@ -107,6 +107,15 @@ module _ (p : Description) (plant : IsPlant p) where
             ]
       ]
 
+  pub last_among : last_state p < length p.states + length p.inputs
+  last_among = omega (arith, plant.some_state)
+
+  -- the place along the last state is at most the cell
+  pub last_place_few : (c n first : ℕ) → AreInRow p c n → first ≡ place_in p c 0 (last_state p) → first ≤ c
+  last_place_few c n first row is =
+      let last : last_state p < length p.states = omega (arith, plant.some_state) in
+      omega (arith, is, state_place p c 0 (last_state p) last, last_place (axes_of p) (last_state p) c long, div-add-mod' c (row_of p))
+
   -- a cell further in the row is in the row
   pub further_in_row : (c k n : ℕ) → AreInRow p c n → k < n → IsInRowOf p c (c + k)
   further_in_row c k n row lt = (omega (arith, row.within, lt), (row_step c k (row_of p) (omega (arith, row.row, lt))).0)

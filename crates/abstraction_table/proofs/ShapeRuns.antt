@@ -60,6 +60,10 @@ listed_more before now cells left later r h run =
       few = omega (arith, h.few, run.some, ap length run.parts, length-append (range_with_len r.start r.len) later, length-range_with_len r.start r.len, length-append h.more (r ∷ []));
     }
 
+-- a run takes cells away from those that are left
+pub left_shorter : (left later : List ℕ) (start len : ℕ) → BeginsWithRun left later start len → length later < length left
+left_shorter left later start len run = omega (arith, run.some, ap length run.parts, length-append (range_with_len start len) later, length-range_with_len start len)
+
 pub listed_all : (before now : List Run) (cells left : List ℕ) → ListsSoFar before now cells left → left ≡ [] → ListsRuns before now cells
 listed_all before now cells left h none = record {
   more = h.more;

@@ -1,10 +1,70 @@
-use Rattle.std.proofs.Common.{◌+◌, arith}
+use Rattle.std.proofs.Common.{◌≡◌, ℕ, ◌+◌, ◌/◌, ◌%◌, ◌<◌, ◌∙◌, List, [], length, set, get_or, get_or-set_other, get_or-set_same, below_more, refl, sym, ap, subst}
+use Rattle.std.proofs.lemmas.List.{length-set}
 use Rattle.std.proofs.lemmas.Nat.{mod_below}
+use Rattle.fixed_expr.specs.declared.lanes.TheConstants.{LANES}
 use Rattle.plant_record.specs.Description.{vectors_of}
+use Rattle.successor_box.specs.Sides.{place_in}
 use Rattle.abstraction_table.specs.inside.Digits.{pair_at}
 use Rattle.abstraction_table.proofs.PairDigits.{some_vectors}
 use Rattle.abstraction_table.proofs.EquationDigits.{cell_below}
+use Rattle.abstraction_table.proofs.Fitting.{nothing_below, below_apart, variables_fit, variable_in, variable_below, variable_fits, row_offset_fits, variable_done}
 use Rattle.abstraction_table.proofs.blocks.places_from.Goals as goal
+
+pub overflow_add-variable-end : goal.overflow_add-variable-end
+overflow_add-variable-end c =
+    let p = c.args.p.now in
+    let plant = c.every_plant_is_within_limits.ensures.plant in
+    variables_fit (length p.states) (length p.inputs) c.states.result c.input_variables.result c.states.ensures c.input_variables.ensures plant.states_bound plant.inputs_bound
+
+pub loop-variable-init : goal.loop-variable-init
+loop-variable-init c = record { nine = refl; each = λ k none. nothing_below k none }
+
+pub places_in-requires-clause-state : goal.places_in-requires-clause-state
+places_in-requires-clause-state c = c.requires.state
+
+pub places_in-requires-clause-digits : goal.places_in-requires-clause-digits
+places_in-requires-clause-digits c = c.requires.digits
+
+pub places_in-requires-clause-variable : goal.places_in-requires-clause-variable
+places_in-requires-clause-variable c =
+    let p = c.args.p.now in
+    let plant = c.every_plant_is_within_limits.ensures.plant in
+    variable_in (length p.states) (length p.inputs) c.states.result c.input_variables.result c.states.ensures c.input_variables.ensures plant.states_bound plant.inputs_bound c.loop-variable.variable c.loop-variable-test.true
+
+pub overflow_cast-places : goal.overflow_cast-places
+overflow_cast-places c =
+    let p = c.args.p.now in
+    let plant = c.every_plant_is_within_limits.ensures.plant in
+    variable_fits (length p.states) (length p.inputs) c.states.result c.input_variables.result c.states.ensures c.input_variables.ensures plant.states_bound plant.inputs_bound c.loop-variable.variable c.loop-variable-test.true
+
+pub offset_bounds-places-variable : goal.offset_bounds-places-variable
+offset_bounds-places-variable c =
+    let p = c.args.p.now in
+    let plant = c.every_plant_is_within_limits.ensures.plant in
+    row_offset_fits (length p.states) (length p.inputs) c.states.result c.input_variables.result c.states.ensures c.input_variables.ensures plant.states_bound plant.inputs_bound c.loop-variable.variable c.loop-variable-test.true
+
+pub bounds-places-variable : goal.bounds-places-variable
+bounds-places-variable c =
+    let p = c.args.p.now in
+    let plant = c.every_plant_is_within_limits.ensures.plant in
+    variable_below (length p.states) (length p.inputs) c.states.result c.input_variables.result c.states.ensures c.input_variables.ensures plant.states_bound plant.inputs_bound c.loop-variable.variable c.loop-variable-test.true
+
+pub loop-variable-preserved : goal.loop-variable-preserved
+loop-variable-preserved c =
+    let p = c.args.p.now in
+    let plant = c.every_plant_is_within_limits.ensures.plant in
+    let v : ℕ = c.loop-variable.variable in
+    let places : List (List ℕ) = c.loop-variable.places in
+    let found : List ℕ = c.places_in.result in
+    let pair : ℕ → ℕ = λ (j : ℕ). pair_at c.args.digits.now.each.items (c.args.place + j) in
+    let nine = c.loop-variable.invariant.nine in
+    let within : v < length places = subst (λ (n : ℕ). v < n) (sym nine) (variable_below (length p.states) (length p.inputs) c.states.result c.input_variables.result c.states.ensures c.input_variables.ensures plant.states_bound plant.inputs_bound v c.loop-variable-test.true) in
+    record {
+      nine = length-set places v found ∙ nine;
+      each = below_more (λ (k : ℕ). (j : ℕ) → j < LANES → get_or (get_or (set places v found) k []) j 0 ≡ place_in p (pair j / vectors_of p.inputs) (pair j % vectors_of p.inputs) k) v
+          (λ k lt j lane. ap (λ (row : List ℕ). get_or row j 0) (get_or-set_other places v k found [] (below_apart k v lt)) ∙ c.loop-variable.invariant.each k lt j lane)
+          (λ j lane. ap (λ (row : List ℕ). get_or row j 0) (get_or-set_same places v found [] within) ∙ c.places_in.ensures j lane);
+    }
 
 pub returns : goal.returns
 returns c = λ j lt.
@@ -16,5 +76,5 @@ returns c = λ j lt.
     record {
       cell = cell_below p plant sound c.args.state digits c.args.digits.now.places c.requires.digits some (c.args.place + j);
       input = mod_below (pair_at digits (c.args.place + j)) (vectors_of p.inputs) some;
-      each = λ k within. c.loop-variable.invariant.each k (omega (arith, within, c.loop-variable-test.false, c.states.ensures, c.input_variables.ensures)) j lt;
+      each = λ k within. c.loop-variable.invariant.each k (variable_done (length p.states) (length p.inputs) c.states.result c.input_variables.result c.states.ensures c.input_variables.ensures plant.states_bound plant.inputs_bound k c.loop-variable.variable within c.loop-variable-test.false) j lt;
     }

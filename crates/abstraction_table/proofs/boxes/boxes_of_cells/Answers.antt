@@ -1,4 +1,4 @@
-use Rattle.std.proofs.Common.{◌≡◌, ℕ, ◌+◌, ◌-◌, ◌*◌, ◌/◌, ◌%◌, ◌<◌, ◌≤◌, ◌∙◌, List, None, length, min, drop, get_or, sym, ap, subst, arith}
+use Rattle.std.proofs.Common.{◌≡◌, ℕ, ◌+◌, ◌-◌, ◌*◌, ◌/◌, ◌%◌, ◌<◌, ◌≤◌, ◌∙◌, List, None, length, min, drop, get_or, refl, sym, ap, subst, arith}
 use Rattle.std.proofs.Math.Nat.{min-le_left, min-le_right}
 use Rattle.std.proofs.lemmas.List.{length-map, length-take-le, length-drop, get_or-take, get_or-drop, get_or_default}
 use Rattle.std.proofs.lemmas.List.Elements.{All-get_or}
@@ -12,7 +12,12 @@ use Rattle.successor_box.specs.Boxes.{IsBoxOf}
 use Rattle.abstraction_table.specs.inside.Rows.{last_state, row_of, AreInRow}
 use Rattle.abstraction_table.proofs.RowBoxes.{later_cell, cell_count}
 use Rattle.abstraction_table.proofs.CellRows.{span, rows_within, cell_before, rows_long, left_after, found_after}
+use Rattle.abstraction_table.proofs.Fitting.{least, nothing_below, inputs_fit, states_some, last_in, done_fits, number_fits, number_fits_wide, from_fits, from_offset_fits, to_fits, from_before, fewer_left, rest_within}
 use Rattle.abstraction_table.proofs.boxes.boxes_of_cells.Goals as goal
+
+-- a row has a cell
+some_row : (p : Description) → IsPlant p → IsSound p → (row : ℕ) → row ≡ row_of p → 0 < row
+some_row p plant sound row is = omega (arith, is, (All-get_or IsAxis (axes_of p) (last_state p) no_axis (omega (arith, plant.some_state, length-map p.states axis_of)) sound.axes.each).some_cell)
 
 -- a piece of a row
 piece_of : (p : Description) → IsPlant p → IsSound p → (c n done cells end row : ℕ) → cells ≡ n → row ≡ row_of p → c + n ≤ cells_of (axes_of p) → end ≡ min cells (done + row - (c + done) % row) → done < cells →
@@ -31,6 +36,108 @@ piece_of p plant sound c n done cells end row count is within end-is lt =
         row = subst (λ (r : ℕ). (c + done) % r + (end - done) ≤ r) is (omega (arith, below, short, past));
       },
     )
+
+pub overflow_cast-inputs : goal.overflow_cast-inputs
+overflow_cast-inputs c = inputs_fit c.vectors-inputs.result (vectors_of c.args.p.now.inputs) c.vectors-inputs.ensures.count c.every_plant_is_within_limits.ensures.vectors
+
+pub nonzero_div-cells : goal.nonzero_div-cells
+nonzero_div-cells c = c.vectors-inputs.ensures.some
+
+pub overflow_sub-states : goal.overflow_sub-states
+overflow_sub-states c = let plant = c.every_plant_is_within_limits.ensures.plant in states_some (length c.args.p.now.states) c.states.result c.states.ensures plant.some_state plant.states_bound
+
+pub count-row-requires : goal.count-row-requires
+count-row-requires c = let plant = c.every_plant_is_within_limits.ensures.plant in last_in (length c.args.p.now.states) c.states.result c.states.ensures plant.some_state plant.states_bound (length c.grid.result.now) (ap length c.grid.ensures ∙ length-map c.args.p.now.states axis_of)
+
+pub loop-done-init : goal.loop-done-init
+loop-done-init c = record { long = refl; within = least (length c.args.boxes.now / c.vectors-inputs.result); found = λ k u none input. nothing_below k none; left = λ i from. refl }
+
+pub overflow_add-c : goal.overflow_add-c
+overflow_add-c c =
+    let p = c.args.p.now in
+    let within = c.every_plant_is_within_limits.ensures in
+    let cells = c.requires.cells in
+    number_fits_wide (length c.args.boxes.now) cells.0 c.vectors-inputs.result (vectors_of p.inputs) c.args.c (cells_of (axes_of p)) cells.1 c.vectors-inputs.ensures.count c.vectors-inputs.ensures.some cells.2 within.pairs c.loop-done.done c.loop-done-test.true within.cells
+
+pub nonzero_rem-c : goal.nonzero_rem-c
+nonzero_rem-c c =
+    let p = c.args.p.now in
+    let plant = c.every_plant_is_within_limits.ensures.plant in
+    some_row p plant (c.plants_are_sound.ensures p plant) c.count-row.result
+    (c.count-row.ensures ∙ ap (λ (k : ℕ). (get_or c.grid.result.now (k - 1) no_axis).count) c.states.ensures ∙ ap (λ (axes : List Axis). (get_or axes (length p.states - 1) no_axis).count) c.grid.ensures)
+
+pub overflow_sub-done : goal.overflow_sub-done
+overflow_sub-done c =
+    let p = c.args.p.now in
+    let plant = c.every_plant_is_within_limits.ensures.plant in
+    rest_within (c.args.c + c.loop-done.done) c.loop-done.done c.count-row.result
+    (some_row p plant (c.plants_are_sound.ensures p plant) c.count-row.result
+    (c.count-row.ensures ∙ ap (λ (k : ℕ). (get_or c.grid.result.now (k - 1) no_axis).count) c.states.ensures ∙ ap (λ (axes : List Axis). (get_or axes (length p.states - 1) no_axis).count) c.grid.ensures))
+
+pub overflow_cast-done : goal.overflow_cast-done
+overflow_cast-done c =
+    let p = c.args.p.now in
+    let within = c.every_plant_is_within_limits.ensures in
+    let cells = c.requires.cells in
+    done_fits (length c.args.boxes.now) cells.0 c.vectors-inputs.result (vectors_of p.inputs) c.args.c (cells_of (axes_of p)) cells.1 c.vectors-inputs.ensures.count c.vectors-inputs.ensures.some cells.2 within.pairs c.loop-done.done c.loop-done-test.true within.cells
+
+pub overflow_add-c-in-loop-done : goal.overflow_add-c-in-loop-done
+overflow_add-c-in-loop-done c =
+    let p = c.args.p.now in
+    let within = c.every_plant_is_within_limits.ensures in
+    let cells = c.requires.cells in
+    number_fits (length c.args.boxes.now) cells.0 c.vectors-inputs.result (vectors_of p.inputs) c.args.c (cells_of (axes_of p)) cells.1 c.vectors-inputs.ensures.count c.vectors-inputs.ensures.some cells.2 within.pairs c.loop-done.done c.loop-done-test.true within.cells
+
+pub overflow_mul-done : goal.overflow_mul-done
+overflow_mul-done c =
+    let p = c.args.p.now in
+    let within = c.every_plant_is_within_limits.ensures in
+    let cells = c.requires.cells in
+    from_fits (length c.args.boxes.now) cells.0 c.vectors-inputs.result (vectors_of p.inputs) c.args.c (cells_of (axes_of p)) cells.1 c.vectors-inputs.ensures.count c.vectors-inputs.ensures.some cells.2 within.pairs c.loop-done.done c.loop-done-test.true
+
+pub offset_bounds-boxes-done : goal.offset_bounds-boxes-done
+offset_bounds-boxes-done c =
+    let p = c.args.p.now in
+    let within = c.every_plant_is_within_limits.ensures in
+    let cells = c.requires.cells in
+    from_offset_fits (length c.args.boxes.now) cells.0 c.vectors-inputs.result (vectors_of p.inputs) c.args.c (cells_of (axes_of p)) cells.1 c.vectors-inputs.ensures.count c.vectors-inputs.ensures.some cells.2 within.pairs c.loop-done.done c.loop-done-test.true
+
+pub overflow_mul-end : goal.overflow_mul-end
+overflow_mul-end c =
+    let p = c.args.p.now in
+    let plant = c.every_plant_is_within_limits.ensures.plant in
+    let sound = c.plants_are_sound.ensures p plant in
+    let v : ℕ = c.vectors-inputs.result in
+    let done : ℕ = c.loop-done.done in
+    let end : ℕ = c.min-end.result in
+    let n : ℕ = c.requires.cells.0 in
+    let inputs = c.vectors-inputs.ensures.count in
+    let cells = cell_count (length c.args.boxes.now) n v (vectors_of p.inputs) c.requires.cells.1 inputs c.vectors-inputs.ensures.some in
+    let piece = piece_of p plant sound c.args.c n done (length c.args.boxes.now / v) end c.count-row.result cells
+    (c.count-row.ensures ∙ ap (λ (k : ℕ). (get_or c.grid.result.now (k - 1) no_axis).count) c.states.ensures ∙ ap (λ (axes : List Axis). (get_or axes (length p.states - 1) no_axis).count) c.grid.ensures)
+    c.requires.cells.2 c.min-end.ensures c.loop-done-test.true
+    in
+    to_fits (length c.args.boxes.now) n v (vectors_of p.inputs) c.args.c (cells_of (axes_of p)) c.requires.cells.1 inputs c.vectors-inputs.ensures.some c.requires.cells.2 c.every_plant_is_within_limits.ensures.pairs end piece.1
+
+pub slice_bounds-boxes_in_row-count : goal.slice_bounds-boxes_in_row-count
+slice_bounds-boxes_in_row-count c =
+    let p = c.args.p.now in
+    let plant = c.every_plant_is_within_limits.ensures.plant in
+    let sound = c.plants_are_sound.ensures p plant in
+    let v : ℕ = c.vectors-inputs.result in
+    let done : ℕ = c.loop-done.done in
+    let end : ℕ = c.min-end.result in
+    let n : ℕ = c.requires.cells.0 in
+    let inputs = c.vectors-inputs.ensures.count in
+    let cells = cell_count (length c.args.boxes.now) n v (vectors_of p.inputs) c.requires.cells.1 inputs c.vectors-inputs.ensures.some in
+    let piece = piece_of p plant sound c.args.c n done (length c.args.boxes.now / v) end c.count-row.result cells
+    (c.count-row.ensures ∙ ap (λ (k : ℕ). (get_or c.grid.result.now (k - 1) no_axis).count) c.states.ensures ∙ ap (λ (axes : List Axis). (get_or axes (length p.states - 1) no_axis).count) c.grid.ensures)
+    c.requires.cells.2 c.min-end.ensures c.loop-done-test.true
+    in
+    from_before done end v piece.0
+
+pub boxes_in_row-requires-clause-tables : goal.boxes_in_row-requires-clause-tables
+boxes_in_row-requires-clause-tables c = c.requires.tables
 
 pub boxes_in_row-requires-clause-row : goal.boxes_in_row-requires-clause-row
 boxes_in_row-requires-clause-row c =
@@ -108,6 +215,26 @@ loop-done-preserved c =
       found = found_after p c.args.c n v done end boxes row long piece.0 piece.1 row_long so_far.found found;
       left = λ i from. left_after p c.args.c n v done end boxes row long piece.0 piece.1 row_long i from ∙ so_far.left i (omega (arith, from, later_cell done end v piece.0));
     }
+
+pub loop-done-smaller : goal.loop-done-smaller
+loop-done-smaller c =
+    let p = c.args.p.now in
+    let plant = c.every_plant_is_within_limits.ensures.plant in
+    let sound = c.plants_are_sound.ensures p plant in
+    let v : ℕ = c.vectors-inputs.result in
+    let done : ℕ = c.loop-done.done in
+    let end : ℕ = c.min-end.result in
+    let n : ℕ = c.requires.cells.0 in
+    let inputs = c.vectors-inputs.ensures.count in
+    let cells = cell_count (length c.args.boxes.now) n v (vectors_of p.inputs) c.requires.cells.1 inputs c.vectors-inputs.ensures.some in
+    let piece = piece_of p plant sound c.args.c n done (length c.args.boxes.now / v) end c.count-row.result cells
+    (c.count-row.ensures ∙ ap (λ (k : ℕ). (get_or c.grid.result.now (k - 1) no_axis).count) c.states.ensures ∙ ap (λ (axes : List Axis). (get_or axes (length p.states - 1) no_axis).count) c.grid.ensures)
+    c.requires.cells.2 c.min-end.ensures c.loop-done-test.true
+    in
+    fewer_left (length c.args.boxes.now / v) done end n cells piece.0 piece.1
+
+pub returns-clause-long : goal.returns-clause-long
+returns-clause-long c = c.loop-done.invariant.long
 
 pub returns-clause-each : goal.returns-clause-each
 returns-clause-each c =

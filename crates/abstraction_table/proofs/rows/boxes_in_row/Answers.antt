@@ -1,12 +1,71 @@
 use Rattle.std.proofs.Common.{◌≡◌, ◌≢◌, ℕ, ◌+◌, ◌-◌, ◌*◌, ◌/◌, ◌<◌, ◌≤◌, ◌∙◌, None, length, drop, ◌++◌, get_or, sym, ap, subst, arith}
-use Rattle.std.proofs.lemmas.List.{length-set, length-append, length-take-le, length-drop, get_or_append_left, get_or-set_other}
+use Rattle.std.proofs.lemmas.List.{length-set, length-append, length-take-le, length-drop, get_or-take, get_or_append_left, get_or-set_other}
 use Rattle.std.proofs.lemmas.Nat.{mul-le}
-use Rattle.plant_record.specs.Description.{vectors_of}
+use Rattle.grid_quantiser.specs.Axes.{cells_of}
+use Rattle.plant_record.specs.Description.{axes_of, vectors_of}
 use Rattle.successor_box.specs.Boxes.{IsBoxOf}
-use Rattle.successor_box.specs.Sides.{IsBoxAlong}
+use Rattle.successor_box.specs.Sides.{place_in, IsBoxAlong}
 use Rattle.abstraction_table.specs.inside.Rows.{last_state}
 use Rattle.abstraction_table.proofs.RowBoxes.{AreDone, later_cell, after_long, first_after, done_after, cell_count, cell_within, cell_places, cell_starts}
+use Rattle.abstraction_table.proofs.RowCells.{last_among, last_place_few}
+use Rattle.abstraction_table.proofs.Fitting.{least, inputs_fit, states_fit, states_some, last_below, last_fits, part_long, first_in, cell_in, copied_in, cell_fits, place_fits, start_fits, end_fits, offset_fits, before_end}
 use Rattle.abstraction_table.proofs.rows.boxes_in_row.Goals as goal
+
+-- ---- before the loop
+
+pub overflow_cast-inputs : goal.overflow_cast-inputs
+overflow_cast-inputs c = inputs_fit c.vectors-inputs.result (vectors_of c.args.p.now.inputs) c.vectors-inputs.ensures.count c.every_plant_is_within_limits.ensures.vectors
+
+pub overflow_cast-last : goal.overflow_cast-last
+overflow_cast-last c = let plant = c.every_plant_is_within_limits.ensures.plant in states_fit (length c.args.p.now.states) c.states.result c.states.ensures plant.some_state plant.states_bound
+
+pub overflow_sub-last : goal.overflow_sub-last
+overflow_sub-last c = let plant = c.every_plant_is_within_limits.ensures.plant in states_some (length c.args.p.now.states) c.states.result c.states.ensures plant.some_state plant.states_bound
+
+pub offset_bounds-places-last : goal.offset_bounds-places-last
+offset_bounds-places-last c = let plant = c.every_plant_is_within_limits.ensures.plant in last_fits (length c.args.p.now.states) c.states.result c.states.ensures plant.some_state plant.states_bound
+
+pub bounds-places-last : goal.bounds-places-last
+bounds-places-last c = let plant = c.every_plant_is_within_limits.ensures.plant in last_below (length c.args.p.now.states) c.states.result c.states.ensures plant.some_state plant.states_bound
+
+pub slice_bounds-add_early-end : goal.slice_bounds-add_early-end
+slice_bounds-add_early-end c =
+    let p = c.args.p.now in
+    let within = c.every_plant_is_within_limits.ensures in
+    let row = c.requires.row in
+    first_in (length c.args.boxes.now) row.0 c.vectors-inputs.result (vectors_of p.inputs) c.args.c (cells_of (axes_of p)) row.1 c.vectors-inputs.ensures.count c.vectors-inputs.ensures.some row.2.within within.pairs row.2.some
+
+pub slice_bounds-add_early-end-2 : goal.slice_bounds-add_early-end-2
+slice_bounds-add_early-end-2 c =
+    let p = c.args.p.now in
+    let within = c.every_plant_is_within_limits.ensures in
+    let row = c.requires.row in
+    let wide : c.vectors-inputs.result ≤ length c.args.boxes.now = first_in (length c.args.boxes.now) row.0 c.vectors-inputs.result (vectors_of p.inputs) c.args.c (cells_of (axes_of p)) row.1 c.vectors-inputs.ensures.count c.vectors-inputs.ensures.some row.2.within within.pairs row.2.some in
+    sym (length-take-le c.vectors-inputs.result c.args.boxes.now wide)
+
+pub add_early-early-requires-clause-tables : goal.add_early-early-requires-clause-tables
+add_early-early-requires-clause-tables c = c.requires.tables
+
+pub add_early-early-requires-clause-one_each : goal.add_early-early-requires-clause-one_each
+add_early-early-requires-clause-one_each c =
+    let p = c.args.p.now in
+    let within = c.every_plant_is_within_limits.ensures in
+    let row = c.requires.row in
+    let wide : c.vectors-inputs.result ≤ length c.args.boxes.now = first_in (length c.args.boxes.now) row.0 c.vectors-inputs.result (vectors_of p.inputs) c.args.c (cells_of (axes_of p)) row.1 c.vectors-inputs.ensures.count c.vectors-inputs.ensures.some row.2.within within.pairs row.2.some in
+    length-take-le c.vectors-inputs.result c.args.boxes.now wide ∙ c.vectors-inputs.ensures.count
+
+pub add_early-early-requires-clause-start : goal.add_early-early-requires-clause-start
+add_early-early-requires-clause-start c =
+    let p = c.args.p.now in
+    let within = c.every_plant_is_within_limits.ensures in
+    let row = c.requires.row in
+    let wide : c.vectors-inputs.result ≤ length c.args.boxes.now = first_in (length c.args.boxes.now) row.0 c.vectors-inputs.result (vectors_of p.inputs) c.args.c (cells_of (axes_of p)) row.1 c.vectors-inputs.ensures.count c.vectors-inputs.ensures.some row.2.within within.pairs row.2.some in
+    λ k d short.
+    let lt : k < c.vectors-inputs.result = subst (λ (m : ℕ). k < m) (length-take-le c.vectors-inputs.result c.args.boxes.now wide) short in
+    get_or-take c.vectors-inputs.result c.args.boxes.now k d lt ∙ c.requires.start k d (before_end k c.vectors-inputs.result (length c.args.boxes.now) lt wide)
+
+pub overflow_step-cell : goal.overflow_step-cell
+overflow_step-cell c = c.vectors-inputs.ensures.some
 
 pub add_early-early-requires-clause-cell : goal.add_early-early-requires-clause-cell
 add_early-early-requires-clause-cell c = let row = c.requires.row.2 in (c.args.c, omega (arith, row.some, row.within), c.places_of-places.ensures)
@@ -35,6 +94,92 @@ loop-cell-init c =
           (c.add_early-early.ensures.along c.args.c d (omega (arith, c.requires.row.2.some, c.requires.row.2.within)) c.places_of-places.ensures row u (omega (arith, input, same)));
       done = λ k u from input short. absurd (omega (arith, short, all, long, mul-le n v k v (omega (arith, from, ap (λ (m : ℕ). m / v) all, cells)) (omega arith)));
     }
+
+-- ---- in the loop
+
+pub overflow_step-cell-in-loop-cell : goal.overflow_step-cell-in-loop-cell
+overflow_step-cell-in-loop-cell c = c.loop-cell-test.true
+
+pub overflow_cast-places : goal.overflow_cast-places
+overflow_cast-places c =
+    let p = c.args.p.now in
+    let within = c.every_plant_is_within_limits.ensures in
+    let row = c.requires.row in
+    cell_fits (length c.args.boxes.now) row.0 c.vectors-inputs.result (vectors_of p.inputs) c.args.c (cells_of (axes_of p)) row.1 c.vectors-inputs.ensures.count c.vectors-inputs.ensures.some row.2.within within.pairs c.loop-cell.cell c.loop-cell.invariant.few c.loop-cell-test.true within.cells
+
+pub overflow_add-places : goal.overflow_add-places
+overflow_add-places c =
+    let p = c.args.p.now in
+    let within = c.every_plant_is_within_limits.ensures in
+    let row = c.requires.row in
+    let last : c.states.result - 1 ≡ last_state p = ap (λ (k : ℕ). k - 1) c.states.ensures in
+    let begin : get_or c.places_of-places.result (c.states.result - 1) 0 ≡ place_in p c.args.c 0 (last_state p) = ap (λ (k : ℕ). get_or c.places_of-places.result k 0) last ∙ c.places_of-places.ensures (last_state p) (last_among p within.plant) in
+    let early = last_place_few p within.plant c.args.c row.0 (get_or c.places_of-places.result (c.states.result - 1) 0) row.2 begin in
+    place_fits (length c.args.boxes.now) row.0 c.vectors-inputs.result (vectors_of p.inputs) c.args.c (cells_of (axes_of p)) row.1 c.vectors-inputs.ensures.count c.vectors-inputs.ensures.some row.2.within within.pairs c.loop-cell.cell c.loop-cell.invariant.few c.loop-cell-test.true (get_or c.places_of-places.result (c.states.result - 1) 0) early within.cells
+
+pub offset_bounds-places-last-in-loop-cell : goal.offset_bounds-places-last-in-loop-cell
+offset_bounds-places-last-in-loop-cell c = let plant = c.every_plant_is_within_limits.ensures.plant in last_fits (length c.args.p.now.states) c.states.result c.states.ensures plant.some_state plant.states_bound
+
+pub bounds-places-last-in-loop-cell : goal.bounds-places-last-in-loop-cell
+bounds-places-last-in-loop-cell c = let plant = c.every_plant_is_within_limits.ensures.plant in last_below (length c.args.p.now.states) c.states.result c.states.ensures plant.some_state plant.states_bound
+
+pub overflow_mul-at : goal.overflow_mul-at
+overflow_mul-at c =
+    let p = c.args.p.now in
+    let within = c.every_plant_is_within_limits.ensures in
+    let row = c.requires.row in
+    start_fits (length c.args.boxes.now) row.0 c.vectors-inputs.result (vectors_of p.inputs) c.args.c (cells_of (axes_of p)) row.1 c.vectors-inputs.ensures.count c.vectors-inputs.ensures.some row.2.within within.pairs c.loop-cell.cell c.loop-cell.invariant.few c.loop-cell-test.true
+
+pub copy_within-requires-clause-start_le_end : goal.copy_within-requires-clause-start_le_end
+copy_within-requires-clause-start_le_end c = least c.vectors-inputs.result
+
+pub copy_within-requires-clause-in_bounds : goal.copy_within-requires-clause-in_bounds
+copy_within-requires-clause-in_bounds c =
+    let p = c.args.p.now in
+    let within = c.every_plant_is_within_limits.ensures in
+    let row = c.requires.row in
+    subst (λ (m : ℕ). c.vectors-inputs.result ≤ m) (sym c.loop-cell.invariant.long)
+    (first_in (length c.args.boxes.now) row.0 c.vectors-inputs.result (vectors_of p.inputs) c.args.c (cells_of (axes_of p)) row.1 c.vectors-inputs.ensures.count c.vectors-inputs.ensures.some row.2.within within.pairs row.2.some)
+
+pub copy_within-requires-clause-dest_in_bounds : goal.copy_within-requires-clause-dest_in_bounds
+copy_within-requires-clause-dest_in_bounds c =
+    let p = c.args.p.now in
+    let within = c.every_plant_is_within_limits.ensures in
+    let row = c.requires.row in
+    subst (λ (m : ℕ). (c.loop-cell.cell - 1) * c.vectors-inputs.result + (c.vectors-inputs.result - 0) ≤ m) (sym c.loop-cell.invariant.long)
+    (copied_in (length c.args.boxes.now) row.0 c.vectors-inputs.result (vectors_of p.inputs) c.args.c (cells_of (axes_of p)) row.1 c.vectors-inputs.ensures.count c.vectors-inputs.ensures.some row.2.within within.pairs c.loop-cell.cell c.loop-cell.invariant.few c.loop-cell-test.true)
+
+pub overflow_add-at : goal.overflow_add-at
+overflow_add-at c =
+    let p = c.args.p.now in
+    let within = c.every_plant_is_within_limits.ensures in
+    let row = c.requires.row in
+    end_fits (length c.args.boxes.now) row.0 c.vectors-inputs.result (vectors_of p.inputs) c.args.c (cells_of (axes_of p)) row.1 c.vectors-inputs.ensures.count c.vectors-inputs.ensures.some row.2.within within.pairs c.loop-cell.cell c.loop-cell.invariant.few c.loop-cell-test.true
+
+pub offset_bounds-boxes-at : goal.offset_bounds-boxes-at
+offset_bounds-boxes-at c =
+    let p = c.args.p.now in
+    let within = c.every_plant_is_within_limits.ensures in
+    let row = c.requires.row in
+    offset_fits (length c.args.boxes.now) row.0 c.vectors-inputs.result (vectors_of p.inputs) c.args.c (cells_of (axes_of p)) row.1 c.vectors-inputs.ensures.count c.vectors-inputs.ensures.some row.2.within within.pairs c.loop-cell.cell c.loop-cell.invariant.few c.loop-cell-test.true
+
+pub add_late-requires-clause-tables : goal.add_late-requires-clause-tables
+add_late-requires-clause-tables c = c.requires.tables
+
+pub add_late-requires-clause-from : goal.add_late-requires-clause-from
+add_late-requires-clause-from c = c.add_early-early.ensures.states
+
+pub add_late-requires-clause-one_each : goal.add_late-requires-clause-one_each
+add_late-requires-clause-one_each c =
+    let p = c.args.p.now in
+    let within = c.every_plant_is_within_limits.ensures in
+    let row = c.requires.row in
+    let room = cell_in (length c.args.boxes.now) row.0 c.vectors-inputs.result (vectors_of p.inputs) c.args.c (cells_of (axes_of p)) row.1 c.vectors-inputs.ensures.count c.vectors-inputs.ensures.some row.2.within within.pairs c.loop-cell.cell c.loop-cell.invariant.few c.loop-cell-test.true in
+    part_long ((c.loop-cell.cell - 1) * c.vectors-inputs.result) c.vectors-inputs.result c.copy_within.new.self (subst (λ (m : ℕ). (c.loop-cell.cell - 1) * c.vectors-inputs.result + c.vectors-inputs.result ≤ m) (sym (c.copy_within.ensures.len ∙ c.loop-cell.invariant.long)) room)
+    ∙ c.vectors-inputs.ensures.count
+
+pub returns-clause-long : goal.returns-clause-long
+returns-clause-long c = c.loop-cell.invariant.long
 
 pub add_late-requires-clause-cell : goal.add_late-requires-clause-cell
 add_late-requires-clause-cell c =

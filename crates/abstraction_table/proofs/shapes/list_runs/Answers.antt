@@ -1,7 +1,10 @@
 use Rattle.std.proofs.Common.{List, sym, subst}
 use Rattle.abstraction_table.specs.declared.shapes.Run.{Run}
-use Rattle.abstraction_table.proofs.ShapeRuns.{ListsSoFar, listed_more}
+use Rattle.abstraction_table.proofs.ShapeRuns.{ListsSoFar, listed_none, listed_more, listed_all, left_shorter}
 use Rattle.abstraction_table.proofs.shapes.list_runs.Goals as goal
+
+pub loop-start-init : goal.loop-start-init
+loop-start-init c = listed_none c.args.runs.now.items c.args.cells
 
 pub loop-start-preserved : goal.loop-start-preserved
 loop-start-preserved c =
@@ -10,3 +13,9 @@ loop-start-preserved c =
     let run : Run = record { start = c.in-Some.start; len = c.in-Some.len } in
     subst (λ (now : List Run). ListsSoFar c.args.runs.now.items now c.args.cells later) (sym c.in_ok-push.ensures.items)
     (listed_more c.args.runs.now.items c.loop-start.runs.items c.args.cells left later run c.loop-start.invariant c.in-Some.ensures.run)
+
+pub loop-start-smaller : goal.loop-start-smaller
+loop-start-smaller c = left_shorter c.loop-start.cells c.next_run.new.self c.in-Some.start c.in-Some.len c.in-Some.ensures.run
+
+pub returns : goal.returns
+returns c = listed_all c.args.runs.now.items c.loop-start.runs.items c.args.cells c.loop-start.cells c.loop-start.invariant c.in_default.ensures.none

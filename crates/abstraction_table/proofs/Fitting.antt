@@ -1,0 +1,142 @@
+-- Numbers that fit, as those of a plant within the limits are small.
+use Rattle.std.proofs.Common.{◌≡◌, ◌≢◌, ℕ, ◌+◌, ◌-◌, ◌*◌, ◌/◌, ◌%◌, ◌^◌, ◌<◌, ◌≤◌, ◌∙◌, List, Option, Fits, w32, w64, length, take, drop, sym, ap, arith}
+use Rattle.std.proofs.lemmas.List.{length-take-le, length-drop}
+use Rattle.std.proofs.lemmas.Nat.{mul-le, mod_below}
+use Rattle.grid_quantiser.specs.declared.boxes.CellBox.{CellBox}
+use Rattle.abstraction_table.proofs.RowBoxes.{later_cell, cell_count}
+
+pub least : (n : ℕ) → 0 ≤ n
+least n = omega arith
+
+pub nothing_below : {A : Type 0} (k : ℕ) → k < 0 → A
+nothing_below k none = absurd (omega (arith, none))
+
+pub inputs_fit : (v w : ℕ) → v ≡ w → w ≤ 4096 → Fits w64 v
+inputs_fit v w same few = omega (arith, same, few)
+
+-- the number of states, and the last state
+module _ (states n : ℕ) (is : n ≡ states) (some : 1 ≤ states) (few : states ≤ 6) where
+  pub states_fit : Fits w64 n
+  states_fit = omega (arith, is, few)
+
+  pub states_some : 1 ≤ n
+  states_some = omega (arith, is, some)
+
+  pub last_below : n - 1 < 9
+  last_below = omega (arith, is, few)
+
+  pub last_fits : Fits w64 ((n - 1) * 4)
+  last_fits = omega (arith, is, few)
+
+  pub last_in : (axes : ℕ) → axes ≡ states → n - 1 < axes
+  last_in axes long = omega (arith, is, long, some)
+
+-- a part that is as long as one cell has inputs
+pub part_long : (from v : ℕ) (boxes : List (Option CellBox)) → from + v ≤ length boxes → length (take (from + v - from) (drop from boxes)) ≡ v
+part_long from v boxes within =
+    let whole : from + v - from ≡ v = omega arith in length-take-le (from + v - from) (drop from boxes) (omega (arith, whole, length-drop from boxes, within)) ∙ whole
+
+-- boxes, as many as there are inputs for each of so many cells from one on
+module _ (boxes n v w c cells : ℕ) (long : boxes ≡ n * w) (same : v ≡ w) (some : 1 ≤ v) (within : c + n ≤ cells) (pairs : cells * w ≤ 2 ^ 22) where
+  boxes_few : boxes ≤ 2 ^ 22
+  boxes_few = omega (arith, long, pairs, mul-le n w cells w (omega (arith, within)) (omega arith))
+
+  cells_are : boxes / v ≡ n
+  cells_are = cell_count boxes n v w long same some
+
+  long_by : boxes ≡ n * v
+  long_by = long ∙ ap (λ (m : ℕ). n * m) (sym same)
+
+  pub first_in : 1 ≤ n → v ≤ boxes
+  first_in any = omega (arith, long_by, later_cell 0 n v any)
+
+  -- the boxes of the last cell that is left, as cells are taken from the end
+  module _ (cell : ℕ) (few : cell ≤ boxes / v) (left : 0 < cell) where
+    cell_below : cell - 1 < n
+    cell_below = omega (arith, few, left, cells_are)
+
+    pub cell_in : (cell - 1) * v + v ≤ boxes
+    cell_in = omega (arith, long_by, later_cell (cell - 1) n v cell_below)
+
+    pub copied_in : (cell - 1) * v + (v - 0) ≤ boxes
+    copied_in = omega (arith, cell_in)
+
+    pub cell_fits : cells ≤ 2 ^ 20 → Fits w32 (cell - 1)
+    cell_fits limit = omega (arith, limit, cell_below, within)
+
+    pub place_fits : (first : ℕ) → first ≤ c → cells ≤ 2 ^ 20 → Fits w32 (first + (cell - 1))
+    place_fits first early limit = omega (arith, limit, cell_below, within, early)
+
+    pub start_fits : Fits w64 ((cell - 1) * v)
+    start_fits = omega (arith, boxes_few, cell_in)
+
+    pub end_fits : Fits w64 ((cell - 1) * v + v)
+    end_fits = omega (arith, boxes_few, cell_in)
+
+    pub offset_fits : Fits w64 ((cell - 1) * v * 8)
+    offset_fits = omega (arith, boxes_few, cell_in)
+
+  -- the boxes of the cells from one of these on
+  module _ (done : ℕ) (lt : done < boxes / v) where
+    done_below : done < n
+    done_below = omega (arith, lt, cells_are)
+
+    done_in : done * v + v ≤ boxes
+    done_in = omega (arith, long_by, later_cell done n v done_below)
+
+    pub done_fits : cells ≤ 2 ^ 20 → Fits w32 done
+    done_fits limit = omega (arith, limit, done_below, within)
+
+    pub number_fits : cells ≤ 2 ^ 20 → Fits w32 (c + done)
+    number_fits limit = omega (arith, limit, done_below, within)
+
+    pub number_fits_wide : cells ≤ 2 ^ 20 → Fits w64 (c + done)
+    number_fits_wide limit = omega (arith, limit, done_below, within)
+
+    pub from_fits : Fits w64 (done * v)
+    from_fits = omega (arith, boxes_few, done_in)
+
+    pub from_offset_fits : Fits w64 (done * v * 8)
+    from_offset_fits = omega (arith, boxes_few, done_in)
+
+  pub to_fits : (end : ℕ) → end ≤ n → Fits w64 (end * v)
+  to_fits end le = omega (arith, boxes_few, long_by, mul-le end v n v le (omega arith))
+
+pub from_before : (done end v : ℕ) → done < end → done * v ≤ end * v
+from_before done end v lt = omega (arith, later_cell done end v lt)
+
+pub fewer_left : (cells done end n : ℕ) → cells ≡ n → done < end → end ≤ n → cells - end < cells - done
+fewer_left cells done end n count lt le = omega (arith, count, lt, le)
+
+pub rest_within : (place done row : ℕ) → 0 < row → place % row ≤ done + row
+rest_within place done row some = omega (arith, mod_below place row some)
+
+pub before_end : (k v boxes : ℕ) → k < v → v ≤ boxes → k < boxes
+before_end k v boxes lt le = omega (arith, lt, le)
+
+pub place_offset_fits : (n : ℕ) → n < 9 → Fits w64 (n * 4)
+place_offset_fits n few = omega (arith, few)
+
+pub below_apart : (k n : ℕ) → k < n → k ≢ n
+below_apart k n lt = omega (arith, lt)
+
+-- the states and the input variables
+module _ (states inputs n m : ℕ) (states_are : n ≡ states) (inputs_are : m ≡ inputs) (few_states : states ≤ 6) (few_inputs : inputs ≤ 3) where
+  pub variables_fit : Fits w32 (n + m)
+  variables_fit = omega (arith, states_are, inputs_are, few_states, few_inputs)
+
+  module _ (variable : ℕ) (lt : variable < n + m) where
+    pub variable_in : variable < states + inputs
+    variable_in = omega (arith, states_are, inputs_are, lt)
+
+    pub variable_below : variable < 9
+    variable_below = omega (arith, variable_in, few_states, few_inputs)
+
+    pub variable_fits : Fits w64 variable
+    variable_fits = omega (arith, variable_below)
+
+    pub row_offset_fits : Fits w64 (variable * 128)
+    row_offset_fits = omega (arith, variable_below)
+
+  pub variable_done : (k variable : ℕ) → k < states + inputs → n + m ≤ variable → k < variable
+  variable_done k variable within done = omega (arith, states_are, inputs_are, within, done)
