@@ -5,7 +5,7 @@ use game_core::NoMemory;
 use std::alloc::AllocError;
 
 /// Why a plant has no abstraction.
-#[derive(Clone, Copy, PartialEq, Eq)]
+#[derive(Clone, Copy, Debug, PartialEq, Eq)]
 pub enum BuildFault {
     /// All pairs together have more than 2^25 successors: so many.
     TooManyEdges { edges: u64 },

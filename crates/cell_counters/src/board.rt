@@ -14,7 +14,7 @@ use std::marker::{Brand, Model};
 use std::snapshot::Snapshot;
 
 /// There was no memory for the board.
-#[derive(Drop)]
+#[derive(Debug, Drop)]
 pub struct NoMemory;
 
 impl From<AllocError> for NoMemory {

@@ -5,7 +5,7 @@ use plant_record::LimitKind;
 use std::alloc::AllocError;
 
 /// There was no memory left.
-#[derive(Clone, Copy, PartialEq, Eq)]
+#[derive(Clone, Copy, Debug, PartialEq, Eq)]
 pub struct NoMemory;
 
 impl From<AllocError> for NoMemory {
@@ -27,7 +27,7 @@ impl From<game_core::NoMemory> for NoMemory {
 }
 
 /// Why no table was read.
-#[derive(Clone, Copy, PartialEq, Eq)]
+#[derive(Clone, Copy, Debug, PartialEq, Eq)]
 pub enum TableFault {
     /// The first line that doesn't fit behind those before it, counted from 1.
     Malformed { line: u32 },

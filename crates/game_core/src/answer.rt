@@ -6,7 +6,7 @@ use std::alloc::Global;
 use std::marker::Model;
 
 /// There was no memory left.
-#[derive(Clone, Copy, PartialEq, Eq)]
+#[derive(Clone, Copy, Debug, PartialEq, Eq)]
 pub struct NoMemory;
 
 /// One optional row for each cell of a game.

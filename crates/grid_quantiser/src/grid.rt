@@ -10,7 +10,7 @@ use std::marker::Model;
 pub type Point = [i128; 6];
 
 /// The grid would have more than 2^20 cells.
-#[derive(Clone, Copy, PartialEq, Eq)]
+#[derive(Clone, Copy, Debug, PartialEq, Eq)]
 pub struct TooManyCells;
 
 /// A uniform grid: its axes, in order. The cells are numbered from 0, the first state varying

@@ -1,7 +1,7 @@
 use plant_record::LimitKind;
 
 /// Why a script is no more to be read.
-#[derive(Clone, Copy, PartialEq, Eq)]
+#[derive(Clone, Copy, Debug, PartialEq, Eq)]
 pub enum ScriptFault {
     /// The first line that doesn't fit behind those before it, counted from 1 through the whole script.
     Malformed { line: u64 },

@@ -1,6 +1,6 @@
 /// Why a call of a live table was refused. No clause says when `Refused` comes: `left_right` doesn't tell why it
 /// refuses, nor `logbook` that a word has one user.
-#[derive(Clone, Copy, PartialEq, Eq)]
+#[derive(Clone, Copy, Debug, PartialEq, Eq)]
 pub enum LiveFault {
     /// There was no memory left.
     Memory,

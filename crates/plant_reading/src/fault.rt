@@ -4,7 +4,7 @@ ghost use Rattle.plant_reading.specs.declared.fault.ReadFault.TheVariants as rea
 use std::alloc::{AllocError, AllocFailed};
 
 /// Why a line or a text was not read.
-#[derive(Clone, Copy, PartialEq, Eq)]
+#[derive(Clone, Copy, Debug, PartialEq, Eq)]
 pub enum ReadFault {
     /// What stands there fits nothing.
     Malformed,

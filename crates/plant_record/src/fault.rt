@@ -1,7 +1,7 @@
 use std::alloc::AllocError;
 
 /// There was no memory left.
-#[derive(Clone, Copy, PartialEq, Eq)]
+#[derive(Clone, Copy, Debug, PartialEq, Eq)]
 pub struct NoMemory;
 
 impl From<AllocError> for NoMemory {
@@ -11,7 +11,7 @@ impl From<AllocError> for NoMemory {
 }
 
 /// What there is too much of.
-#[derive(Clone, Copy, PartialEq, Eq)]
+#[derive(Clone, Copy, Debug, PartialEq, Eq)]
 pub enum LimitKind {
     /// More than 65,536 bytes of a plant text.
     PlantText,

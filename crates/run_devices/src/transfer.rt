@@ -15,7 +15,7 @@ use text_pieces::Pieces;
 const PIECE: usize = 32_768;
 
 /// Why a source wasn't read.
-#[derive(Clone, Copy, PartialEq, Eq)]
+#[derive(Clone, Copy, Debug, PartialEq, Eq)]
 pub enum ReadFault {
     Device,
     Memory,
@@ -38,7 +38,7 @@ impl From<Failed> for ReadFault {
 }
 
 /// Why a text wasn't written whole.
-#[derive(Clone, Copy, PartialEq, Eq)]
+#[derive(Clone, Copy, Debug, PartialEq, Eq)]
 pub enum WriteFault {
     /// A write failed.
     Device,

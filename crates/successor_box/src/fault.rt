@@ -4,7 +4,7 @@ ghost use Rattle.successor_box.specs.declared.fault.SlopeFault.TheVariants.{Memo
 use std::alloc::{AllocError, AllocFailed};
 
 /// Why no deviations were found.
-#[derive(Clone, Copy, PartialEq, Eq)]
+#[derive(Clone, Copy, Debug, PartialEq, Eq)]
 pub enum SlopeFault {
     /// The first equation, and for it the first input vector, at which a number leaves the range.
     Overflow { equation: u32, input: u32 },
