@@ -1,5 +1,6 @@
 pub mod LaneSteps
 mod Columns
+mod Listing
 pub mod Narrowness
 pub mod Values
 pub mod MovingValues

@@ -2,3 +2,4 @@ pub mod Postfix
 pub mod Progress
 pub mod Passed
 pub mod Alike
+pub mod Listing

@@ -13,6 +13,9 @@ pub mod lanes;
 mod mentions;
 mod moves;
 pub mod narrow;
+mod number_stack;
+mod operation;
+mod operations;
 mod rows;
 mod wide;
 
@@ -20,4 +23,5 @@ pub use curve::{Curve, NoMemory};
 pub use evaluate::eval;
 pub use expr::Expr;
 pub use lanes::LANES;
+pub use operations::Operations;
 pub use rows::eval_rows;

@@ -12,7 +12,7 @@ use controller_table::laws::every_table_fits;
 use game_core::Row;
 use grid_quantiser::Point;
 use plant_record::laws::plants_are_sound;
-use plant_record::{GoalKind, step};
+use plant_record::{Equations, GoalKind};
 use successor_box::laws::steps_stay_in_range;
 
 /// A sample of a closed loop.
@@ -46,25 +46,27 @@ pub fn row_at(t: &Table, x: &Point) -> Option<Row>
 }
 
 /// The first line of a sample, and what is behind it.
-pub(crate) fn first_line(t: &Table, sample: Sample) -> (SimLine, Stage)
+pub(crate) fn first_line(t: &Table, equations: &Equations<'_>, sample: &Sample) -> (SimLine, Stage)
     requires fits { ∥ HasNoOverflow t.now.plant ∥₁ }
-    requires sample { IsSample t.now.plant sample }
-    ensures lines { trace_lines t.now.plant t.now.rows sample.seed sample.left sample.time sample.x ≡ result.0 ∷ lines_left t.now result.1 }
+    requires equations { equations.now ≡ t.now.plant }
+    requires sample { IsSample t.now.plant sample.now }
+    ensures lines { trace_lines t.now.plant t.now.rows sample.now.seed sample.now.left sample.now.time sample.now.x ≡ result.0 ∷ lines_left t.now result.1 }
     ensures stage { IsStage t.now.plant result.1 }
 {
-    let Sample { time, x, .. } = sample;
+    let Sample { time, x, .. } = *sample;
     match row_at(t, &x) {
-        Some(row) => (SimLine::At { time, x, row }, behind(t, sample, row)),
+        Some(row) => (SimLine::At { time, x, row }, behind(t, equations, sample, row)),
         None => (SimLine::Lost { time, x }, Stage::Over),
     }
 }
 
 /// What is behind the first line of a sample.
-fn behind(t: &Table, sample: Sample, row: Row) -> Stage
+fn behind(t: &Table, equations: &Equations<'_>, sample: &Sample, row: Row) -> Stage
     requires fits { ∥ HasNoOverflow t.now.plant ∥₁ }
-    requires sample { IsSample t.now.plant sample }
-    requires row { row_at t.now.plant t.now.rows sample.x ≡ Some row }
-    ensures lines { lines_left t.now result ≡ lines_behind t.now sample row }
+    requires equations { equations.now ≡ t.now.plant }
+    requires sample { IsSample t.now.plant sample.now }
+    requires row { row_at t.now.plant t.now.rows sample.now.x ≡ Some row }
+    ensures lines { lines_left t.now result ≡ lines_behind t.now sample.now row }
     ensures stage { IsStage t.now.plant result }
 {
     let time = sample.time;
@@ -73,7 +75,7 @@ fn behind(t: &Table, sample: Sample, row: Row) -> Stage
     } else if sample.left == 0 {
         Stage::Ending(SimLine::Stopped { time })
     } else {
-        Stage::Due(next_sample(t, sample, row))
+        Stage::Due(next_sample(t, equations, sample, row))
     }
 }
 
@@ -88,20 +90,21 @@ fn has_arrived(goal: GoalKind, row: Row) -> bool
 }
 
 /// The sample behind one that is not the last.
-fn next_sample(t: &Table, sample: Sample, row: Row) -> Sample
+fn next_sample(t: &Table, equations: &Equations<'_>, sample: &Sample, row: Row) -> Sample
     requires fits { ∥ HasNoOverflow t.now.plant ∥₁ }
-    requires sample { IsSample t.now.plant sample }
-    requires row { row_at t.now.plant t.now.rows sample.x ≡ Some row }
-    requires left { 0 < sample.left }
+    requires equations { equations.now ≡ t.now.plant }
+    requires sample { IsSample t.now.plant sample.now }
+    requires row { row_at t.now.plant t.now.rows sample.now.x ≡ Some row }
+    requires left { 0 < sample.now.left }
     ensures sample { IsSample t.now.plant result }
-    ensures lines { trace_lines t.now.plant t.now.rows result.seed result.left result.time result.x ≡ lines_on t.now sample.seed sample.left sample.time sample.x row }
+    ensures lines { trace_lines t.now.plant t.now.rows result.seed result.left result.time result.x ≡ lines_on t.now sample.now.seed sample.now.left sample.now.time sample.now.x row }
 {
     every_table_fits(t);
     plants_are_sound();
     steps_stay_in_range();
     let p = t.plant();
     let (noises, state) = draw(p, sample.state);
-    let Some(x) = step(p, &sample.x, row.input, &noises) else {
+    let Some(x) = equations.step(&sample.x, row.input, &noises) else {
         unreachable!()
     };
     Sample {

@@ -9,6 +9,7 @@ use crate::closed_loop::{Sample, Stage, first_line, row_at};
 use crate::line::SimLine;
 use controller_table::Table;
 use grid_quantiser::Point;
+use plant_record::Equations;
 use std::marker::Model;
 use successor_box::Slopes;
 
@@ -16,11 +17,12 @@ use successor_box::Slopes;
 #[derive(Drop)]
 pub struct Sim<'a> {
     table: &'a Table,
+    equations: Equations<'a>,
     stage: Stage,
 }
 
 impl<'a> Model for Sim<'a> {
-    ghost use Rattle.std.specs.Prelude.{List};
+    ghost use Rattle.std.specs.Prelude.{◌≡◌, List};
     ghost use Rattle.successor_box.specs.Deviations.{HasNoOverflow};
     ghost use Rattle.loop_sim.specs.declared.line.SimLine.{SimLine};
     ghost use Rattle.loop_sim.specs.inside.Stages.{lines_left, IsStage};
@@ -29,7 +31,7 @@ impl<'a> Model for Sim<'a> {
 
     ghost view = { λ s. lines_left s.table.now s.stage };
 
-    ghost invariant = { λ s. ∥ HasNoOverflow s.table.now.plant ∥₁ × IsStage s.table.now.plant s.stage };
+    ghost invariant = { λ s. ∥ HasNoOverflow s.table.now.plant ∥₁ × (s.equations ≡ s.table.now.plant) × IsStage s.table.now.plant s.stage };
 }
 
 impl<'a> Sim<'a> {
@@ -44,6 +46,7 @@ impl<'a> Sim<'a> {
         row_at(t, x)?;
         Some(Sim {
             table: t,
+            equations: Equations::of(t.plant()),
             stage: Stage::Due(Sample {
                 time: 0,
                 x: start_of(t, x),
@@ -61,7 +64,7 @@ impl<'a> Sim<'a> {
         ensures stays { IfNone result (self.new ≡ []) }
     {
         let (line, stage) = match self.stage {
-            Stage::Due(sample) => first_line(self.table, sample),
+            Stage::Due(sample) => first_line(self.table, &self.equations, &sample),
             Stage::Ending(line) => (line, Stage::Over),
             Stage::Over => return None,
         };

@@ -5,6 +5,7 @@
 #![tactic(auto)]
 
 mod aims;
+mod equations;
 mod fault;
 pub mod laws;
 mod marks;
@@ -16,6 +17,7 @@ mod variables;
 mod version;
 
 pub use aims::{GoalKind, StateBox};
+pub use equations::Equations;
 pub use fault::{LimitKind, NoMemory};
 pub use plant::Plant;
 pub use plant_parts::PlantParts;

@@ -34,7 +34,7 @@ pub fn step_along(p: &Plant, x: &Point, input: u32, noise: &Point, state: u32) -
 }
 
 /// How many variables there are.
-fn variables(p: &Plant) -> usize
+pub(crate) fn variables(p: &Plant) -> usize
     ensures count { result ≡ length (names_of p.now) }
     ensures bound { result ≤ 15 }
 {
@@ -43,7 +43,7 @@ fn variables(p: &Plant) -> usize
 }
 
 /// The values of the variables, and 0 in the places past them.
-fn values_at(p: &Plant, x: &Point, input: u32, noise: &Point) -> [i128; 15]
+pub(crate) fn values_at(p: &Plant, x: &Point, input: u32, noise: &Point) -> [i128; 15]
     requires { input < vectors_of p.now.inputs }
     ensures { take (length (names_of p.now)) result ≡ values_at p.now x.now input noise.now }
 {

@@ -19,23 +19,24 @@ point_more ys i v count lt =
     ∙ ap (λ (n : ℕ). (ys ++ v ∷ []) ++ replicate n (pos 0)) less
 
 -- the equations stay in range, and next holds their values and 0 behind them
-abbrev pub AreTaken : List ℤ → List Expr → List ℤ → Type 0
-AreTaken values equations next =
-    All (λ e. StaysInRange (expression_of e) values) equations × (next ≡ point_of (map (λ e. value_of (expression_of e) values) equations))
+abbrev pub AreTaken : {A : Type 0} → (A → Expression) → List ℤ → List A → List ℤ → Type 0
+AreTaken expression values equations next =
+    All (λ e. StaysInRange (expression e) values) equations × (next ≡ point_of (map (λ e. value_of (expression e) values) equations))
 
-pub taken_more : (values : List ℤ) (equations : List Expr) (next : List ℤ) (i : ℕ) (e : Expr) (v : ℤ) → length equations ≤ 6 → i < length equations → e ≡ get_or equations i e → StaysInRange (expression_of e) values → v ≡ value_of (expression_of e) values
-    → AreTaken values (take i equations) next → AreTaken values (take (i + 1) equations) (set next i v)
-taken_more values equations next i e v few lt e-is stays v-is so_far =
-    let value = λ (x : Expr). value_of (expression_of x) values in
-    let count : length (map value (take i equations)) ≡ i = length-map (take i equations) value ∙ length-take-le i equations (omega (arith, lt)) in (
-      All-more (λ x. StaysInRange (expression_of x) values) equations i e lt so_far.0 (subst (λ (x : Expr). StaysInRange (expression_of x) values) e-is stays),
-      ap (λ ys. set ys i v) so_far.1 ∙ point_more (map value (take i equations)) i v count (omega (arith, lt, few))
-          ∙ ap (λ y. point_of (map value (take i equations) ++ y ∷ [])) (v-is ∙ ap value e-is)
-          ∙ sym (ap point_of (map_more value equations i e lt)),
-    )
+module _ {A : Type 0} (expression : A → Expression) (values : List ℤ) (equations : List A) (next : List ℤ) (i : ℕ) where
+  pub taken_more : (e : A) (v : ℤ) → length equations ≤ 6 → i < length equations → e ≡ get_or equations i e → StaysInRange (expression e) values → v ≡ value_of (expression e) values
+      → AreTaken expression values (take i equations) next → AreTaken expression values (take (i + 1) equations) (set next i v)
+  taken_more e v few lt e-is stays v-is so_far =
+      let value = λ (x : A). value_of (expression x) values in
+      let count : length (map value (take i equations)) ≡ i = length-map (take i equations) value ∙ length-take-le i equations (omega (arith, lt)) in (
+        All-more (λ x. StaysInRange (expression x) values) equations i e lt so_far.0 (subst (λ (x : A). StaysInRange (expression x) values) e-is stays),
+        ap (λ ys. set ys i v) so_far.1 ∙ point_more (map value (take i equations)) i v count (omega (arith, lt, few))
+            ∙ ap (λ y. point_of (map value (take i equations) ++ y ∷ [])) (v-is ∙ ap value e-is)
+            ∙ sym (ap point_of (map_more value equations i e lt)),
+      )
 
-pub taken_all : (values : List ℤ) (equations : List Expr) (next : List ℤ) (i : ℕ) → length equations ≤ i → AreTaken values (take i equations) next → AreTaken values equations next
-taken_all values equations next i le so_far = subst (λ (es : List Expr). AreTaken values es next) (take_all i equations le) so_far
+  pub taken_all : length equations ≤ i → AreTaken expression values (take i equations) next → AreTaken expression values equations next
+  taken_all le so_far = subst (λ (es : List A). AreTaken expression values es next) (take_all i equations le) so_far
 
 -- what holds of the expressions holds of where they lie in memory
 all_below : (P : Expression → Type 0) (equations : List Expr) → All P (map expression_of equations) → All (λ e. P (expression_of e)) equations

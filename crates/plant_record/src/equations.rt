@@ -1,0 +1,76 @@
+ghost use Rattle.std.specs.Prelude.{◌≡◌, ◌<◌, ◌≤◌, length, map, SomeIff};
+ghost use Rattle.std.specs.List.{All};
+ghost use Rattle.fixed_expr.specs.Value.{IsWellFormed, StaysInRange, value_of};
+ghost use Rattle.grid_quantiser.specs.Cells.{point_of};
+ghost use Rattle.plant_record.specs.Description.{vectors_of};
+ghost use Rattle.plant_record.specs.Steps.{step_of, StepStaysInRange};
+
+use crate::laws::every_plant_is_within_limits;
+use crate::plant::Plant;
+use crate::transition::{values_at, variables};
+use fixed_expr::Operations;
+use grid_quantiser::Point;
+use std::marker::Model;
+
+/// The equations of a plant, made ready for many steps. Seen as the plant.
+#[derive(Drop)]
+pub struct Equations<'a> {
+    plant: &'a Plant,
+    operations: Operations<'a>,
+}
+
+impl<'a> Model for Equations<'a> {
+    ghost use Rattle.std.specs.Coded.{codes};
+    ghost use Rattle.fixed_expr.specs.inside.Postfix.{expression_code};
+    ghost use Rattle.plant_record.specs.Description.{Description};
+    ghost use Rattle.std.specs.Prelude.{◌≡◌};
+
+    ghost Value = { Description };
+
+    ghost coded = { Prim.hlevel (codes, expression_code) };
+
+    ghost view = { λ e. e.plant.now };
+
+    ghost invariant = { λ e. e.operations ≡ e.plant.now.equations };
+}
+
+impl<'a> Equations<'a> {
+    /// It takes no memory.
+    pub fn of(p: &'a Plant) -> Equations<'a>
+        ensures { result ≡ p.now }
+    {
+        Equations {
+            plant: p,
+            operations: Operations::of(p.equations()),
+        }
+    }
+
+    /// The state one sample later, as `step` gives it. It takes no memory.
+    pub fn step(&self, x: &Point, input: u32, noise: &Point) -> Option<Point>
+        requires { input < vectors_of self.now.inputs }
+        ensures { SomeIff result (StepStaysInRange self.now x.now input noise.now) (point_of (step_of self.now x.now input noise.now)) }
+    {
+        let p = self.plant;
+        every_plant_is_within_limits(p);
+        let values = values_at(p, x, input, noise);
+        next_point(
+            &self.operations,
+            p.states() as usize,
+            &values[..variables(p)],
+        )
+    }
+}
+
+/// The values of the equations, one for each state.
+fn next_point(equations: &Operations<'_>, count: usize, values: &[i128]) -> Option<Point>
+    requires count { count ≡ length equations.now }
+    requires few { length equations.now ≤ 6 }
+    requires formed { All (λ e. IsWellFormed e (length values.now)) equations.now }
+    ensures { SomeIff result (All (λ e. StaysInRange e values.now) equations.now) (point_of (map (λ e. value_of e values.now) equations.now)) }
+{
+    let mut next = [0; 6];
+    for i in 0..count {
+        next[i] = equations.eval(i, values)?;
+    }
+    Some(next)
+}
