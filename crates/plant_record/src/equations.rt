@@ -5,7 +5,6 @@ ghost use Rattle.grid_quantiser.specs.Cells.{point_of};
 ghost use Rattle.plant_record.specs.Description.{vectors_of};
 ghost use Rattle.plant_record.specs.Steps.{step_of, StepStaysInRange};
 
-use crate::laws::every_plant_is_within_limits;
 use crate::plant::Plant;
 use crate::transition::{values_at, variables};
 use fixed_expr::Operations;
@@ -23,6 +22,7 @@ impl<'a> Model for Equations<'a> {
     ghost use Rattle.std.specs.Coded.{codes};
     ghost use Rattle.fixed_expr.specs.inside.Postfix.{expression_code};
     ghost use Rattle.plant_record.specs.Description.{Description};
+    ghost use Rattle.plant_record.specs.Limits.{IsWithinLimits};
     ghost use Rattle.std.specs.Prelude.{◌≡◌};
 
     ghost Value = { Description };
@@ -31,7 +31,7 @@ impl<'a> Model for Equations<'a> {
 
     ghost view = { λ e. e.plant.now };
 
-    ghost invariant = { λ e. e.operations ≡ e.plant.now.equations };
+    ghost invariant = { λ e. (e.operations ≡ e.plant.now.equations) × IsWithinLimits e.plant.now };
 }
 
 impl<'a> Equations<'a> {
@@ -51,7 +51,6 @@ impl<'a> Equations<'a> {
         ensures { SomeIff result (StepStaysInRange self.now x.now input noise.now) (point_of (step_of self.now x.now input noise.now)) }
     {
         let p = self.plant;
-        every_plant_is_within_limits(p);
         let values = values_at(p, x, input, noise);
         next_point(
             &self.operations,

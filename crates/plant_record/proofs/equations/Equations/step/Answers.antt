@@ -8,7 +8,7 @@ use Rattle.plant_record.proofs.equations.Equations.step.Goals as goal
 pub next_point-requires-clause-formed : goal.next_point-requires-clause-formed
 next_point-requires-clause-formed c =
     let p = c.self.inside.plant.now in
-    let limits = c.every_plant_is_within_limits.ensures in
+    let limits = c.self.invariant.1 in
     let six : AreSix p c.args.x.now c.args.noise.now = record { states = c.told-x; noises = c.told-noise; limits = limits } in
     let values : take c.variables.result c.values_at-values.result ≡ values_at p c.args.x.now c.args.input c.args.noise.now =
     ap (λ n. take n c.values_at-values.result) c.variables.ensures.count ∙ c.values_at-values.ensures
@@ -16,7 +16,7 @@ next_point-requires-clause-formed c =
     let count : length (take c.variables.result c.values_at-values.result) ≡ length (names_of p) =
     ap length values ∙ values_count p c.args.x.now c.args.noise.now c.args.input six
     in
-    rw (count, c.self.invariant) (all_formed (length (names_of p)) p.equations limits.plant.equations)
+    rw (count, c.self.invariant.0) (all_formed (length (names_of p)) p.equations limits.plant.equations)
 
 pub returns : goal.returns
 returns c =
@@ -24,4 +24,4 @@ returns c =
     let values : take c.variables.result c.values_at-values.result ≡ values_at p c.args.x.now c.args.input c.args.noise.now =
     ap (λ n. take n c.values_at-values.result) c.variables.ensures.count ∙ c.values_at-values.ensures
     in
-    rw (← c.self.view_is, ← values, ← c.self.invariant) c.next_point.ensures
+    rw (← c.self.view_is, ← values, ← c.self.invariant.0) c.next_point.ensures
