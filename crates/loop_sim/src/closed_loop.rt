@@ -55,7 +55,10 @@ pub(crate) fn first_line(t: &Table, equations: &Equations<'_>, sample: &Sample) 
 {
     let Sample { time, x, .. } = *sample;
     match row_at(t, &x) {
-        Some(row) => (SimLine::At { time, x, row }, behind(t, equations, sample, row)),
+        Some(row) => (
+            SimLine::At { time, x, row },
+            behind(t, equations, sample, row),
+        ),
         None => (SimLine::Lost { time, x }, Stage::Over),
     }
 }
