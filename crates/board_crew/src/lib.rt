@@ -8,6 +8,7 @@
 #![tactic(auto)]
 
 mod crew;
+mod fan_list;
 mod first;
 pub mod laws;
 mod logged;
@@ -17,6 +18,7 @@ mod rule;
 mod turn;
 mod worker;
 
+pub use fan_list::list_fans;
 pub use rounds::Rounds;
 pub use rule::Rule;
 pub use worker::Worker;
