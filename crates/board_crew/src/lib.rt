@@ -4,10 +4,12 @@
 //! lead to the cells of the list, each cell by exactly one of them, and do what the rule adds. Then all hands are taken
 //! in, and what they logged is the next list. `play_all` goes on until a list is empty, and what the rule says of such a
 //! list stands then.
+//! `list_fans` gives the numbers with which the counters of pairs begin.
 //! It stands on `game_core`, `cell_counters` and `frontier_pool`, and knows no rule of a game.
 #![tactic(auto)]
 
 mod crew;
+mod fan_list;
 mod first;
 pub mod laws;
 mod logged;
@@ -17,6 +19,7 @@ mod rule;
 mod turn;
 mod worker;
 
+pub use fan_list::list_fans;
 pub use rounds::Rounds;
 pub use rule::Rule;
 pub use worker::Worker;

@@ -55,7 +55,7 @@ fn nothing_is_kept_of_a_way_that_ends(rt: HostRuntime) -> Result<(), Fail> {
 fn two_workers_meet_at_the_obstacles(rt: HostRuntime) -> Result<(), Fail> {
     let game = game_of(&rt, ENDS)?;
     let gate = Meeting::of(MANY);
-    let scratch = Scratch::new(rt.alloc(), &game, 2)?;
+    let scratch = Scratch::new(&rt, rt.alloc(), &game, 2)?;
     let kept = keep_in(&rt, rt.alloc(), &game, scratch, &gate);
     let tally = Tally {
         cuts: 2,

@@ -42,7 +42,7 @@ fn each_number_of_workers_solves(rt: HostRuntime) -> Result<(), Fail> {
 fn two_workers_meet_in_round_0(rt: HostRuntime) -> Result<(), Fail> {
     let game = game_of(&rt, CORRIDOR)?;
     let gate = Meeting::of(MANY);
-    let scratch = Scratch::new(rt.alloc(), &game, 2)?;
+    let scratch = Scratch::new(&rt, rt.alloc(), &game, 2)?;
     let solved = solve_in(&rt, rt.alloc(), &game, scratch, &gate);
     let rows = [row(2, 0), row(1, 1), row(1, 0), row(0, 0), row(0, 0)];
     assert!(rt; gate.met() && are_rows(&solved.answer, &rows));

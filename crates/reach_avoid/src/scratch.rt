@@ -3,11 +3,12 @@ ghost use Rattle.std.specs.Prelude.{◌≡◌, ◌+◌, ◌^◌, ◌<◌, ◌≤
 ghost use Rattle.cell_counters.specs.Tokens.{new_root};
 ghost use Rattle.reach_avoid.specs.Boards.{IsBoardOf, word_at};
 
-use board_crew::Rounds;
+use board_crew::{Rounds, list_fans};
 use cell_counters::{Board, NONE, Root};
-use game_core::{Answer, Forward, Mark, NoMemory, fans};
+use game_core::{Answer, Forward, Mark, NoMemory};
 use std::alloc::Global;
 use std::marker::Model;
+use std::thread::Threads;
 
 /// The memory in which a graph is solved by so many workers.
 ///
@@ -36,11 +37,16 @@ impl Scratch {
     /// Takes 8 bytes for a pair, on the board, and 32 for a cell: 16 on the board, 4 on the list and 12 in the answer.
     /// While the board is made it takes 16 for a pair and 32 for a cell. What leads to a cell isn't asked for, so that can be found
     /// afterwards.
-    pub fn new<G: Forward>(alloc: Global, g: &G, workers: u32) -> Result<Scratch, NoMemory>
+    pub fn new<R: Threads + Sync, G: Forward + Sync>(
+        rt: &R,
+        alloc: Global,
+        g: &G,
+        workers: u32,
+    ) -> Result<Scratch, NoMemory>
         requires { (1 ≤ workers) × (workers ≤ 64) }
         ensures { IfOk result (IsBoardOf (G.game g.now)) }
     {
-        let words = first_words(alloc, g)?;
+        let words = first_words(rt, alloc, g)?;
         let cells = g.cells();
         let (board, root) = new_board(alloc, words, cells * g.inputs(), cells)?;
         let rounds = Rounds::new(alloc, root, cells, workers)?;
@@ -74,10 +80,14 @@ fn new_board(
 
 // The numbers with which the board begins: the counters' of the pairs, then the least words' of the cells. There is room for
 // what the board puts behind them, the log of the cells and its length.
-fn first_words<G: Forward>(alloc: Global, g: &G) -> Result<Vec<u64>, NoMemory>
+fn first_words<R: Threads + Sync, G: Forward + Sync>(
+    rt: &R,
+    alloc: Global,
+    g: &G,
+) -> Result<Vec<u64>, NoMemory>
     ensures { IfOk result (λ v. v.items ≡ map length (G.game g.now).successors ++ map word_at (G.game g.now).marks) }
 {
-    let mut words = fans(alloc, g)?;
+    let mut words = list_fans(rt, alloc, g)?;
     let cells = g.cells();
     if words.try_reserve_exact(2 * cells as usize + 1).is_err() {
         return Err(NoMemory);

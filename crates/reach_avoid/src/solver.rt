@@ -28,7 +28,7 @@ pub fn solve<R: Threads + Sync, G: Graph + Sync, T: Gate>(
     requires { (1 ≤ workers) × (workers ≤ 64) }
     ensures { IfOk result (IsSolved (G.game g.now)) }
 {
-    let scratch = Scratch::new(alloc, g, workers)?;
+    let scratch = Scratch::new(rt, alloc, g, workers)?;
     Ok(solve_in(rt, alloc, g, scratch, gate))
 }
 

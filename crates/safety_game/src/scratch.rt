@@ -4,11 +4,12 @@ ghost use Rattle.std.specs.List.{range_with_len};
 ghost use Rattle.cell_counters.specs.Tokens.{new_root};
 ghost use Rattle.safety_game.specs.Boards.{IsBoardOf, enabled_at};
 
-use board_crew::Rounds;
+use board_crew::{Rounds, list_fans};
 use cell_counters::{Board, Root};
-use game_core::{Answer, Forward, NoMemory, fans};
+use game_core::{Answer, Forward, NoMemory};
 use std::alloc::Global;
 use std::marker::Model;
+use std::thread::Threads;
 
 /// The memory in which a graph is solved by so many workers.
 ///
@@ -36,11 +37,16 @@ impl Model for Scratch {
 impl Scratch {
     /// Takes 16 bytes for a pair and 32 for a cell while the board is made, and 8 and 32 then. What leads to a cell isn't asked for,
     /// so that can be found afterwards.
-    pub fn new<G: Forward>(alloc: Global, g: &G, workers: u32) -> Result<Scratch, NoMemory>
+    pub fn new<R: Threads + Sync, G: Forward + Sync>(
+        rt: &R,
+        alloc: Global,
+        g: &G,
+        workers: u32,
+    ) -> Result<Scratch, NoMemory>
         requires { (1 ≤ workers) × (workers ≤ 64) }
         ensures { IfOk result (IsBoardOf (G.game g.now)) }
     {
-        let starts = starts(alloc, g)?;
+        let starts = starts(rt, alloc, g)?;
         let cells = g.cells();
         let (board, root) = new_board(alloc, starts, cells)?;
         let rounds = Rounds::new(alloc, root, cells, workers)?;
@@ -69,10 +75,14 @@ fn new_board(alloc: Global, starts: Vec<u64>, places: u32) -> Result<(Board, Roo
 
 // The numbers with which the counters begin: for each pair its successors, then for each cell its enabled inputs. There is
 // room for what the board puts behind them, the log of the cells and its length.
-fn starts<G: Forward>(alloc: Global, g: &G) -> Result<Vec<u64>, NoMemory>
+fn starts<R: Threads + Sync, G: Forward + Sync>(
+    rt: &R,
+    alloc: Global,
+    g: &G,
+) -> Result<Vec<u64>, NoMemory>
     ensures { IfOk result (λ v. v.items ≡ map length (G.game g.now).successors ++ map (enabled_at (G.game g.now)) (range_with_len 0 (G.game g.now).cells)) }
 {
-    let mut starts = fans(alloc, g)?;
+    let mut starts = list_fans(rt, alloc, g)?;
     let cells = g.cells();
     if starts.try_reserve_exact(2 * cells as usize + 1).is_err() {
         return Err(NoMemory);

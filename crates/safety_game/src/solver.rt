@@ -27,7 +27,7 @@ pub fn keep<R: Threads + Sync, G: Graph + Sync, T: Gate>(
     requires { (1 ≤ workers) × (workers ≤ 64) }
     ensures { IfOk result (IsKeepSolved (G.game g.now)) }
 {
-    let scratch = Scratch::new(alloc, g, workers)?;
+    let scratch = Scratch::new(rt, alloc, g, workers)?;
     Ok(keep_in(rt, alloc, g, scratch, gate))
 }
 

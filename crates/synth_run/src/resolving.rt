@@ -43,7 +43,7 @@ pub fn resolve<R: Threads + Sync, T: Gate>(
 {
     match goal {
         GoalKind::Reach => {
-            let scratch = reach_avoid::Scratch::new(alloc, &ahead, workers)?;
+            let scratch = reach_avoid::Scratch::new(rt, alloc, &ahead, workers)?;
             let game = with_sources(rt, alloc, ahead)?;
             let solved = reach_avoid::solve_in(rt, alloc, &game, scratch, gate);
             Ok(Resolved {
@@ -54,7 +54,7 @@ pub fn resolve<R: Threads + Sync, T: Gate>(
             })
         }
         GoalKind::Keep => {
-            let scratch = safety_game::Scratch::new(alloc, &ahead, workers)?;
+            let scratch = safety_game::Scratch::new(rt, alloc, &ahead, workers)?;
             let game = with_sources(rt, alloc, ahead)?;
             let kept = safety_game::keep_in(rt, alloc, &game, scratch, gate);
             Ok(Resolved {

@@ -38,7 +38,7 @@ loop-c-preserved g c =
 pub returns : goal.returns
 returns g c =
     let game = g.G.Forward.game c.args.g.now in
-    let one_mark_each = (g.met.G.Forward.lawful c.args.g.now).game.one_mark_each in
+    let one_mark_each = ((g.met.G.Forward g.world.𝓛 g.world.𝓜 g.world.𝓡 ((λ s x. x), (λ x. x), (λ x. x), λ x. x)).lawful c.args.g.now).game.one_mark_each in
     let cells = c.cells-cells.ensures in
     let past = c.loop-c-test.false in
     let at_end = c.loop-c.auto.c-end in

@@ -21,7 +21,7 @@ many g a items is =
 pub new_board-requires-clause-room : goal.new_board-requires-clause-room
 new_board-requires-clause-room g c =
     let game = g.G.Forward.game c.args.g.now in
-    let a = g.met.G.Forward.lawful c.args.g.now in
+    let a : IsGraph game = (g.met.G.Forward g.world.𝓛 g.world.𝓜 g.world.𝓡 ((λ s x. x), (λ x. x), (λ x. x), λ x. x)).lawful c.args.g.now in
     let counted = many game a c.in_ok-words.words.items c.in_ok-words.ensures in
     let len = c.in_ok-words.words.ok.0 in
     let cells = c.cells-cells.ensures in
@@ -32,7 +32,7 @@ new_board-requires-clause-room g c =
 pub new_board-requires-clause-counters : goal.new_board-requires-clause-counters
 new_board-requires-clause-counters g c =
     let game = g.G.Forward.game c.args.g.now in
-    let counted = many game (g.met.G.Forward.lawful c.args.g.now) c.in_ok-words.words.items c.in_ok-words.ensures in
+    let counted = many game ((g.met.G.Forward g.world.𝓛 g.world.𝓜 g.world.𝓡 ((λ s x. x), (λ x. x), (λ x. x), λ x. x)).lawful c.args.g.now) c.in_ok-words.words.items c.in_ok-words.ensures in
     let len = c.in_ok-words.words.ok.0 in
     let pairs : c.cells-cells.result * c.inputs.result ≡ pairs_of game = ap₂ (λ (n m : ℕ). n * m) c.cells-cells.ensures c.inputs.ensures in
     omega arith
@@ -40,7 +40,7 @@ new_board-requires-clause-counters g c =
 pub returns : goal.returns
 returns g c =
     let game = g.G.Forward.game c.args.g.now in
-    let a = g.met.G.Forward.lawful c.args.g.now in
+    let a : IsGraph game = (g.met.G.Forward g.world.𝓛 g.world.𝓜 g.world.𝓡 ((λ s x. x), (λ x. x), (λ x. x), λ x. x)).lawful c.args.g.now in
     let of_pairs : List ℕ = map length game.successors in
     let of_cells : List ℕ = map word_at game.marks in
     let counters : c.cells-cells.result * c.inputs.result ≡ length of_pairs =

@@ -1,12 +1,13 @@
 use Rattle.std.proofs.Common.{◌≡◌, ℕ, None, replicate, sym, ◌∙◌, ap, subst, arith}
 use Rattle.board_crew.specs.Rounds.{IsUnused}
+use Rattle.game_core.specs.Game.{IsGraph}
 use Rattle.safety_game.proofs.OnBoards.{starts_many}
 use Rattle.safety_game.proofs.scratch.Scratch.new.Goals as goal
 
 pub new_board-requires-clause-room : goal.new_board-requires-clause-room
 new_board-requires-clause-room g c =
     let game = g.G.Forward.game c.args.g.now in
-    let a = g.met.G.Forward.lawful c.args.g.now in
+    let a : IsGraph game = (g.met.G.Forward g.world.𝓛 g.world.𝓜 g.world.𝓡 ((λ s x. x), (λ x. x), (λ x. x), λ x. x)).lawful c.args.g.now in
     let many = starts_many game a c.in_ok-starts.starts.items c.in_ok-starts.ensures in
     let len = c.in_ok-starts.starts.ok.0 in
     let cells = c.cells-cells.ensures in
