@@ -1,9 +1,9 @@
 //! `Divisor`: a divisor and its reciprocal.
-ghost use Rattle.std.specs.Prelude.{◌≡◌, ◌/◌, ◌≤◌};
+ghost use Rattle.std.specs.Prelude.{◌≡◌, ◌/◌, ◌^◌, ◌<◌, ◌≤◌};
 
 use std::marker::Model;
 
-/// A divisor from 1 on. Seen as the number.
+/// A divisor from 1 to 2^63 - 1. Seen as the number.
 #[derive(Clone, Copy)]
 pub struct Divisor {
     by: u64,
@@ -29,7 +29,8 @@ impl Model for Divisor {
 impl Divisor {
     #[inline]
     pub fn new(by: u64) -> Divisor
-        requires { 1 ≤ by }
+        requires some { 1 ≤ by }
+        requires few { by < 2 ^ 63 }
         ensures { result ≡ by }
     {
         Divisor {
@@ -41,7 +42,8 @@ impl Divisor {
     /// The quotient, rounded down, as `/` gives it.
     #[inline]
     pub fn quotient(&self, x: u64) -> u64
-        ensures { result ≡ x / self.now }
+        ensures quotient { result ≡ x / self.now }
+        ensures few { self.now < 2 ^ 63 }
     {
         // Too small by one at most (Granlund and Montgomery, Division by Invariant Integers using Multiplication, 1994).
         let near = (u128::from(x) * u128::from(self.reciprocal) >> 64) as u64;
