@@ -7,6 +7,8 @@ ghost use Rattle.fixed_expr.specs.Curves.{curve_value};
 ghost use Rattle.fixed_expr.specs.Lanes.{at, AnswersLanes, HoldsNarrow};
 
 use crate::curve::Curve;
+use crate::narrow::floor_quotient;
+use fixed_divisor::Divisor;
 
 /// How many rows are evaluated at once.
 pub const LANES: usize = 32;
@@ -87,8 +89,9 @@ pub fn divide_by(found: &mut [i64; LANES], divisor: i64)
     requires { pos 1 ≤ℤ divisor }
     ensures { HoldsNarrow found.new (λ k. floor_div (at found.old k) divisor) }
 {
+    let divisor = Divisor::new(divisor as u64);
     'lanes: for k in 0..LANES {
-        found[k] = found[k].div_euclid(divisor);
+        found[k] = floor_quotient(found[k], divisor);
     }
 }
 
