@@ -7,9 +7,12 @@ ghost use Rattle.plant_record.specs.Steps.{step_of, StepStaysInRange};
 
 use crate::plant::Plant;
 use crate::transition::{values_at, variables};
-use fixed_expr::Operations;
+use fixed_expr::{CASES, Operations};
 use grid_quantiser::Point;
 use std::marker::Model;
+
+/// How many values the input vectors of the cases have at most.
+const INPUT_ROWS: usize = 3 * CASES;
 
 /// The equations of a plant, made ready for many steps. Seen as the plant.
 #[derive(Drop)]
@@ -39,9 +42,12 @@ impl<'a> Equations<'a> {
     pub fn of(p: &'a Plant) -> Equations<'a>
         ensures { result ≡ p.now }
     {
+        let width = p.input_variables() as usize;
+        let rows = input_rows(p);
+        let operations = Operations::of(p.equations(), p.states() as usize, width, &rows);
         Equations {
             plant: p,
-            operations: Operations::of(p.equations()),
+            operations,
         }
     }
 
@@ -54,14 +60,35 @@ impl<'a> Equations<'a> {
         let values = values_at(p, x, input, noise);
         next_point(
             &self.operations,
+            input as usize,
             p.states() as usize,
             &values[..variables(p)],
         )
     }
 }
 
+/// The first input vectors, one behind the other.
+fn input_rows(p: &Plant) -> [i128; INPUT_ROWS] {
+    let mut rows = [0; INPUT_ROWS];
+    let mut at = 0;
+    for input in 0..p.vectors().min(CASES as u32) {
+        for variable in 0..p.input_variables() {
+            if at < INPUT_ROWS {
+                rows[at] = p.input_value(input, variable);
+                at += 1;
+            }
+        }
+    }
+    rows
+}
+
 /// The values of the equations, one for each state.
-fn next_point(equations: &Operations<'_>, count: usize, values: &[i128]) -> Option<Point>
+fn next_point(
+    equations: &Operations<'_>,
+    case: usize,
+    count: usize,
+    values: &[i128],
+) -> Option<Point>
     requires count { count ≡ length equations.now }
     requires few { length equations.now ≤ 6 }
     requires formed { All (λ e. IsWellFormed e (length values.now)) equations.now }
@@ -69,7 +96,7 @@ fn next_point(equations: &Operations<'_>, count: usize, values: &[i128]) -> Opti
 {
     let mut next = [0; 6];
     for i in 0..count {
-        next[i] = equations.eval(i, values)?;
+        next[i] = equations.eval(case, i, values)?;
     }
     Some(next)
 }
