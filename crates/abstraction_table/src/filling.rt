@@ -138,7 +138,8 @@ fn put_box(
     }
 }
 
-/// Adds one to the count of each place of runs that begin at a place.
+/// Adds one to the count of each place of runs that begin at a place. The runs of a box have one length,
+/// by which the case is chosen once a box: a loop over few cells costs more than what it does.
 #[inline]
 fn count_inside(first: u32, runs: &[Run], counts: &mut [u32])
     requires within { All (EndsBy (length counts.old) first) runs.now }
@@ -168,7 +169,7 @@ fn count_alike<const LEN: u32>(first: u32, runs: &[Run], counts: &mut [u32])
     }
 }
 
-/// Puts a pair at each place of runs that begin at a place.
+/// Puts a pair at each place of runs that begin at a place. The case is chosen once a box, as where they are counted.
 #[inline]
 fn put_inside(first: u32, runs: &[Run], pair: u32, fill: &mut RowFill)
     requires within { All (EndsBy (length fill.old.rows) first) runs.now }
@@ -228,7 +229,7 @@ fn put_runs(first: u32, runs: &[Run], band: Band, pair: u32, fill: &mut RowFill)
     }
 }
 
-/// How many cells the first of some runs has. All runs of a box have as many.
+/// How many cells the first of some runs has.
 #[inline]
 fn first_len(runs: &[Run]) -> u32 {
     match runs {
@@ -237,7 +238,7 @@ fn first_len(runs: &[Run]) -> u32 {
     }
 }
 
-/// Puts a value behind those of each of these rows, with no loop where they are `LEN`.
+/// Puts a pair at the end of each of these rows, with no loop where they are `LEN`.
 #[inline]
 fn put_run_of<const LEN: u32>(first: u32, len: u32, pair: u32, fill: &mut RowFill)
     requires within { first + len ≤ length fill.old.rows }
