@@ -1,4 +1,4 @@
-use Rattle.std.proofs.Common.{◌+◌, ◌-◌, refl, ap, arith}
+use Rattle.std.proofs.Common.{◌+◌, refl, ap, arith}
 use Rattle.std.specs.Vec.{with_item}
 use Rattle.edge_rows.specs.Rows.{Filling, appended}
 use Rattle.edge_rows.specs.inside.FillFields.{IsFilledAs}
