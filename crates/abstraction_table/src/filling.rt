@@ -2,7 +2,7 @@
 ghost use Rattle.std.specs.Prelude.{◌≡◌, ◌+◌, ◌^◌, ◌<◌, ◌≤◌, map, length, sum, IfOk, IfSome};
 ghost use Rattle.std.specs.List.{All, range_with_len};
 ghost use Rattle.grid_quantiser.specs.Axes.{cells_of};
-ghost use Rattle.edge_rows.specs.Rows.{unfilled};
+ghost use Rattle.edge_rows.specs.Rows.{unfilled, HaveRoom, appended_run};
 ghost use Rattle.successor_box.specs.Boxes.{cells_in};
 ghost use Rattle.abstraction_table.specs.inside.Shapes.{cells_from, EndsBy, HasRunsOf, HaveRuns};
 ghost use Rattle.abstraction_table.specs.inside.Sources.{IsBox, AreBandRows};
@@ -138,7 +138,8 @@ fn put_box(
     }
 }
 
-/// Adds one to the count of each place of runs that begin at a place.
+/// Adds one to the count of each place of runs that begin at a place. The runs of a box have one length,
+/// by which the case is chosen once a box: a loop over few cells costs more than what it does.
 #[inline]
 fn count_inside(first: u32, runs: &[Run], counts: &mut [u32])
     requires within { All (EndsBy (length counts.old) first) runs.now }
@@ -146,12 +147,29 @@ fn count_inside(first: u32, runs: &[Run], counts: &mut [u32])
     requires room { CountsFit counts.old (cells_from first runs.now) }
     ensures { AreCounted counts.old counts.new (cells_from first runs.now) }
 {
-    for run in runs {
-        count_run(first + run.start, run.len, counts);
+    match first_len(runs) {
+        1 => count_alike::<1>(first, runs, counts),
+        2 => count_alike::<2>(first, runs, counts),
+        3 => count_alike::<3>(first, runs, counts),
+        4 => count_alike::<4>(first, runs, counts),
+        _ => count_alike::<0>(first, runs, counts),
     }
 }
 
-/// Puts a pair at each place of runs that begin at a place.
+/// Adds one to the count of each place of runs that begin at a place, of runs of `LEN` cells with no loop.
+#[inline]
+fn count_alike<const LEN: u32>(first: u32, runs: &[Run], counts: &mut [u32])
+    requires within { All (EndsBy (length counts.old) first) runs.now }
+    requires few { length counts.old < 2 ^ 32 }
+    requires room { CountsFit counts.old (cells_from first runs.now) }
+    ensures { AreCounted counts.old counts.new (cells_from first runs.now) }
+{
+    for run in runs {
+        count_run_of::<LEN>(first + run.start, run.len, counts);
+    }
+}
+
+/// Puts a pair at each place of runs that begin at a place. The case is chosen once a box, as where they are counted.
 #[inline]
 fn put_inside(first: u32, runs: &[Run], pair: u32, fill: &mut RowFill)
     requires within { All (EndsBy (length fill.old.rows) first) runs.now }
@@ -159,8 +177,25 @@ fn put_inside(first: u32, runs: &[Run], pair: u32, fill: &mut RowFill)
     requires room { HasRoomFor fill.old (cells_from first runs.now) }
     ensures { ArePut pair fill.old fill.new (cells_from first runs.now) }
 {
+    match first_len(runs) {
+        1 => put_alike::<1>(first, runs, pair, fill),
+        2 => put_alike::<2>(first, runs, pair, fill),
+        3 => put_alike::<3>(first, runs, pair, fill),
+        4 => put_alike::<4>(first, runs, pair, fill),
+        _ => put_alike::<0>(first, runs, pair, fill),
+    }
+}
+
+/// Puts a pair at each place of runs that begin at a place, of runs of `LEN` cells with no loop.
+#[inline]
+fn put_alike<const LEN: u32>(first: u32, runs: &[Run], pair: u32, fill: &mut RowFill)
+    requires within { All (EndsBy (length fill.old.rows) first) runs.now }
+    requires few { length fill.old.rows < 2 ^ 32 }
+    requires room { HasRoomFor fill.old (cells_from first runs.now) }
+    ensures { ArePut pair fill.old fill.new (cells_from first runs.now) }
+{
     for run in runs {
-        fill.put_run(first + run.start, run.len, pair);
+        put_run_of::<LEN>(first + run.start, run.len, pair, fill);
     }
 }
 
@@ -191,6 +226,44 @@ fn put_runs(first: u32, runs: &[Run], band: Band, pair: u32, fill: &mut RowFill)
     for run in runs {
         let (place, len) = band.clip(first + run.start, run.len);
         fill.put_run(place, len, pair);
+    }
+}
+
+/// How many cells the first of some runs has.
+#[inline]
+fn first_len(runs: &[Run]) -> u32 {
+    match runs {
+        [run, ..] => run.len,
+        [] => 0,
+    }
+}
+
+/// Puts a pair at the end of each of these rows, with no loop where they are `LEN`.
+#[inline]
+fn put_run_of<const LEN: u32>(first: u32, len: u32, pair: u32, fill: &mut RowFill)
+    requires within { first + len ≤ length fill.old.rows }
+    requires room { HaveRoom fill.old first len }
+    ensures rows { fill.new.rows ≡ appended_run fill.old.rows first len pair }
+    ensures lengths { fill.new.lengths ≡ fill.old.lengths }
+{
+    if len == LEN {
+        fill.put_run(first, LEN, pair);
+    } else {
+        fill.put_run(first, len, pair);
+    }
+}
+
+/// Adds one to the count of each of these places, with no loop where they are `LEN`.
+#[inline]
+fn count_run_of<const LEN: u32>(first: u32, len: u32, counts: &mut [u32])
+    requires within { first + len ≤ length counts.old }
+    requires room { CountsFit counts.old (range_with_len first len) }
+    ensures { AreCounted counts.old counts.new (range_with_len first len) }
+{
+    if len == LEN {
+        count_run(first, LEN, counts);
+    } else {
+        count_run(first, len, counts);
     }
 }
 

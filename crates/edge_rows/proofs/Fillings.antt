@@ -1,12 +1,15 @@
 -- What a filling's fields are after each step.
-use Rattle.std.proofs.Common.{◌≡◌, ℕ, ◌+◌, ◌-◌, ◌<◌, ◌≤◌, ◌^◌, List, [], length, take, drop, get_or, set, Some, None, refl, sym, ap, subst, ◌∙◌, arith}
-use Rattle.std.proofs.lemmas.List.{get_or_default}
-use Rattle.edge_rows.specs.Rows.{Filling, appended, changed_run, appended_run, HasRoom, HaveRoom}
+use Rattle.std.proofs.Common.{◌≡◌, ℕ, ◌+◌, ◌-◌, ◌<◌, ◌≤◌, ◌^◌, List, [], map, length, take, drop, get_or, set, sum, Some, None, refl, sym, ap, subst, ◌∙◌, arith}
+use Rattle.std.proofs.lemmas.List.{length-map, get_or_default, take_all}
+use Rattle.std.proofs.lemmas.List.Sums.{sum_by_more}
+use Rattle.std.proofs.lemmas.Slice.Zip.{AllZip-long}
+use Rattle.std.proofs.Math.ListN.{get_or-map}
+use Rattle.edge_rows.specs.Rows.{Filling, appended, changed_run, appended_run, HasRoom, HaveRoom, places_left}
 use Rattle.edge_rows.specs.inside.Layout.{gaps, rows_between}
 use Rattle.edge_rows.specs.inside.Runs.{AreFree, written}
 use Rattle.edge_rows.specs.inside.FillFields.{filling_of, IsFilledAs, IsFilling}
 use Rattle.edge_rows.specs.declared.fill.RowFill.TheInside.{Inside}
-use Rattle.edge_rows.proofs.Laid.{end_of, length-ends, length-laid, end_at, gaps-starts, read_back, end_within, end_free, laid-put, ends-put, fits-put, written-put, written-le, some_left}
+use Rattle.edge_rows.proofs.Laid.{end_of, length-starts, length-ends, length-laid, start_at, end_at, gaps-starts, read_back, fits-at, end_within, end_free, laid-put, ends-put, fits-put}
 use Rattle.edge_rows.proofs.RunsLaid.{IsRunPut, run_put}
 
 module _ (g : Inside) (f : Filling) (l : IsFilledAs g f) where
@@ -28,9 +31,6 @@ module _ (g : Inside) (ok : IsFilling g) (f : Filling) (is : filling_of g ≡ f)
   pub end_listed : r < length g.ends.items
   end_listed = omega (arith, room.0, ap length had.ends, length-ends 0 f.rows f.lengths had.within.fits)
 
-  pub left_more : 0 < g.left
-  left_more = omega (arith, had.left, some_left f.rows f.lengths r had.within.fits room.1)
-
   module _ (end : ℕ) (read : end ≡ get_or g.ends.items r end) where
     end_read : end ≡ get_or g.ends.items r 0
     end_read = read ∙ get_or_default g.ends.items r end 0 end_listed
@@ -47,16 +47,15 @@ module _ (g : Inside) (ok : IsFilling g) (f : Filling) (is : filling_of g ≡ f)
       (λ i. get_or (had.places i) (end_is i) None) ∙ end_free f.rows f.lengths r had.within.fits room.0 room.1,
     )
 
-    pub put_lies : (h : Inside) (v : ℕ) → h.block ≡ set g.block end (Some v) → h.starts.items ≡ g.starts.items → h.ends.items ≡ set g.ends.items r (end + 1) → h.left ≡ g.left - 1
+    pub put_lies : (h : Inside) (v : ℕ) → h.block ≡ set g.block end (Some v) → h.starts.items ≡ g.starts.items → h.ends.items ≡ set g.ends.items r (end + 1)
         → IsFilledAs h (record { rows = appended f.rows r v; lengths = f.lengths })
-    put_lies h v block starts ends left =
+    put_lies h v block starts ends =
         let next : end + 1 ≡ 0 + end_of f.rows f.lengths r + 1 = omega (arith, end_is) in
         record {
           within = record { fits = fits-put f.rows f.lengths r v had.within.fits room.1; small = had.within.small };
           places = block ∙ (λ i. set (had.places i) (end_is i) (Some v)) ∙ laid-put f.rows f.lengths r v had.within.fits room.0 room.1;
           starts = starts ∙ had.starts;
           ends = ends ∙ (λ i. set (had.ends i) r (next i)) ∙ ends-put 0 f.rows f.lengths r v had.within.fits room.0;
-          left = omega (arith, left, left_more, had.left, written-put f.rows r v room.0);
         }
 
 -- a filling f, and rows of it that have room
@@ -77,16 +76,68 @@ module _ (g : Inside) (ok : IsFilling g) (f : Filling) (is : filling_of g ≡ f)
   pub block_small : length g.block < 2 ^ 32
   block_small = omega (arith, ap length stored.places, length-laid f.rows f.lengths stored.within.fits, stored.within.small.1)
 
-  pub run_left : n ≤ g.left
-  run_left = omega (arith, stored.left, run.count, written-le (appended_run f.rows r n v) f.lengths run.fits)
-
-  pub run_lies : (h : Inside) → h.block ≡ written g.block (take n (drop r g.ends.items)) v → h.starts.items ≡ g.starts.items → h.ends.items ≡ changed_run (λ end. end + 1) g.ends.items r n → h.left ≡ g.left - n
+  pub run_lies : (h : Inside) → h.block ≡ written g.block (take n (drop r g.ends.items)) v → h.starts.items ≡ g.starts.items → h.ends.items ≡ changed_run (λ end. end + 1) g.ends.items r n
       → IsFilledAs h (record { rows = appended_run f.rows r n v; lengths = f.lengths })
-  run_lies h block starts ends left =
+  run_lies h block starts ends =
       record {
         within = record { fits = run.fits; small = stored.within.small };
         places = block ∙ (λ i. written (stored.places i) (take n (drop r (stored.ends i))) v) ∙ run.places;
         starts = starts ∙ stored.starts;
         ends = ends ∙ (λ i. changed_run (λ end. end + 1) (stored.ends i) r n) ∙ run.ends;
-        left = omega (arith, left, run_left, stored.left, run.count);
       }
+
+-- a filling f, and what one of its rows has left
+abbrev pub LeftSoFar : Filling → ℕ → ℕ → Type 0
+LeftSoFar f r left = left + sum (take r (map length f.rows)) ≡ sum (take r f.lengths)
+
+module _ (g : Inside) (ok : IsFilling g) (f : Filling) (is : filling_of g ≡ f) where
+  held : IsFilledAs g f
+  held = subst (IsFilledAs g) is ok
+
+  ends_long : length g.ends.items ≡ length f.rows
+  ends_long = ap length held.ends ∙ length-ends 0 f.rows f.lengths held.within.fits
+
+  rows_long : length f.rows ≡ length f.lengths
+  rows_long = sym (AllZip-long (λ xs n. length xs ≤ n) f.rows f.lengths held.within.fits)
+
+  -- once all rows are looked at
+  pub left_of_all : (r left : ℕ) → length g.ends.items ≤ r → LeftSoFar f r left → left ≡ places_left f
+  left_of_all r left whole so_far =
+      omega (arith, so_far, ap sum (take_all r (map length f.rows) (omega (arith, whole, ends_long, length-map f.rows length))), ap sum (take_all r f.lengths (omega (arith, whole, ends_long, rows_long))))
+
+  module _ (r : ℕ) (lt : r < length g.ends.items) where
+    pub next_listed : r + 1 < length g.starts.items
+    next_listed = omega (arith, lt, ends_long, rows_long, ap length held.starts, length-starts 0 f.lengths)
+
+    module _ (end next : ℕ) (read_end : end ≡ get_or g.ends.items r end) (read_next : next ≡ get_or g.starts.items (r + 1) next) where
+      row_end : end ≡ end_of f.rows f.lengths r
+      row_end =
+          omega (arith, read_end ∙ get_or_default g.ends.items r end 0 lt, ap (λ l. get_or l r 0) held.ends, end_at 0 f.rows f.lengths r held.within.fits (omega (arith, lt, ends_long)))
+
+      next_start : next ≡ sum (take (r + 1) f.lengths)
+      next_start =
+          omega (
+            arith,
+            read_next ∙ get_or_default g.starts.items (r + 1) next 0 next_listed,
+            ap (λ l. get_or l (r + 1) 0) held.starts,
+            start_at 0 f.lengths (r + 1) (omega (arith, lt, ends_long, rows_long)),
+          )
+
+      here : sum (take (r + 1) f.lengths) ≡ sum (take r f.lengths) + get_or f.lengths r 0
+      here = omega (arith, sum_by_more (λ k. k) f.lengths r 0 (omega (arith, lt, ends_long, rows_long)))
+
+      pub forward : end ≤ next
+      forward = omega (arith, row_end, next_start, here, fits-at f.rows f.lengths r held.within.fits)
+
+      pub left_of_one_more : (left : ℕ) → LeftSoFar f r left → LeftSoFar f (r + 1) (left + (next - end))
+      left_of_one_more left so_far =
+          omega (
+            arith,
+            so_far,
+            row_end,
+            next_start,
+            here,
+            fits-at f.rows f.lengths r held.within.fits,
+            sum_by_more (λ k. k) (map length f.rows) r 0 (omega (arith, lt, ends_long, length-map f.rows length)),
+            get_or-map length f.rows r [],
+          )

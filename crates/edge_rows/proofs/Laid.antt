@@ -119,6 +119,13 @@ run_at (xs ∷ rows) [] r f lt = absurd f
 run_at (xs ∷ rows) (n ∷ ns) zero f lt = take_at (map Some xs) (replicate (n - length xs) None ++ laid rows ns) (length xs) (length-map xs Some)
 run_at (xs ∷ rows) (n ∷ ns) (suc r) f lt = ap (λ l. take (length (row_at rows r)) l) (past_row xs n (laid rows ns) (sum (take r ns)) (sum (n ∷ take r ns)) f.0 (sum-cons n (take r ns))) ∙ run_at rows ns r f.1 (omega arith)
 
+pub fits-at : (rows : List (List ℕ)) (ns : List ℕ) (r : ℕ) → Fits rows ns → length (row_at rows r) ≤ get_or ns r 0
+fits-at [] [] r f = omega arith
+fits-at [] (n ∷ ns) r f = absurd f
+fits-at (xs ∷ rows) [] r f = absurd f
+fits-at (xs ∷ rows) (n ∷ ns) zero f = f.0
+fits-at (xs ∷ rows) (n ∷ ns) (suc r) f = fits-at rows ns r f.1
+
 -- the next place of a row that has room
 
 pub end_within : (rows : List (List ℕ)) (ns : List ℕ) (r : ℕ) → length (row_at rows r) < get_or ns r 0 → end_of rows ns r < sum ns
@@ -178,12 +185,6 @@ fits-put (xs ∷ rows) [] r v f lt = absurd f
 fits-put (xs ∷ rows) (n ∷ ns) zero v f lt = (omega (arith, length-append xs (v ∷ [])), f.1)
 fits-put (xs ∷ rows) (n ∷ ns) (suc r) v f lt = (f.0, fits-put rows ns r v f.1 lt)
 
-pub written-put : (rows : List (List ℕ)) (r v : ℕ) → r < length rows → sum (map length (appended rows r v)) ≡ suc (sum (map length rows))
-written-put [] r v lt = absurd (omega arith)
-written-put (xs ∷ rows) zero v lt = omega (arith, sum-cons (length (xs ++ v ∷ [])) (map length rows), sum-cons (length xs) (map length rows), length-append xs (v ∷ []))
-written-put (xs ∷ rows) (suc r) v lt =
-    omega (arith, sum-cons (length xs) (map length (appended rows r v)), sum-cons (length xs) (map length rows), written-put rows r v (omega arith))
-
 -- a filling with nothing left
 
 pub written-le : (rows : List (List ℕ)) (ns : List ℕ) → Fits rows ns → sum (map length rows) ≤ sum ns
@@ -201,13 +202,6 @@ all_full (xs ∷ rows) (n ∷ ns) f le =
     let first : length xs ≡ n = omega (arith, f.0, parts, sum-cons n ns, sum-cons (length xs) (map length rows)) in
     let rest = all_full rows ns f.1 (omega (arith, f.0, parts, sum-cons n ns, sum-cons (length xs) (map length rows))) in
     λ i. first i ∷ rest i
-
-pub some_left : (rows : List (List ℕ)) (ns : List ℕ) (r : ℕ) → Fits rows ns → length (row_at rows r) < get_or ns r 0 → sum (map length rows) < sum ns
-some_left [] [] r f lt = absurd (omega arith)
-some_left [] (n ∷ ns) r f lt = absurd f
-some_left (xs ∷ rows) [] r f lt = absurd f
-some_left (xs ∷ rows) (n ∷ ns) zero f lt = omega (arith, written-le rows ns f.1, sum-cons n ns, sum-cons (length xs) (map length rows))
-some_left (xs ∷ rows) (n ∷ ns) (suc r) f lt = omega (arith, f.0, some_left rows ns r f.1 lt, sum-cons n ns, sum-cons (length xs) (map length rows))
 
 pub written-ge : (rows : List (List ℕ)) (ns : List ℕ) → ((r : ℕ) → r < length ns → length (row_at rows r) ≡ get_or ns r 0) → sum ns ≤ sum (map length rows)
 written-ge rows [] h = omega arith
@@ -229,10 +223,6 @@ ends-full at (xs ∷ rows) = ap (λ l. (at + length xs) ∷ l) (ends-full (at + 
 pub fits-unfilled : (ns : List ℕ) → Fits (unfilled ns) ns
 fits-unfilled [] = tt
 fits-unfilled (n ∷ ns) = (omega arith, fits-unfilled ns)
-
-pub written-unfilled : (ns : List ℕ) → sum (map length (unfilled ns)) ≡ 0
-written-unfilled [] = refl
-written-unfilled (n ∷ ns) = omega (arith, written-unfilled ns, sum-cons 0 (map length (unfilled ns)))
 
 pub laid-unfilled : (ns : List ℕ) → replicate (sum ns) None ≡ laid (unfilled ns) ns
 laid-unfilled [] = refl

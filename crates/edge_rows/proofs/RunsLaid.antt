@@ -1,10 +1,10 @@
 -- Values that are put in one row after another.
-use Rattle.std.proofs.Common.{◌≡◌, ℕ, zero, suc, ◌+◌, ◌<◌, ◌≤◌, List, [], ◌∷◌, ◌++◌, map, length, take, drop, get_or, set, sum, refl, sym, ap, subst, ◌∙◌, arith, take_at}
+use Rattle.std.proofs.Common.{◌≡◌, ℕ, zero, suc, ◌+◌, ◌<◌, ◌≤◌, List, [], ◌∷◌, ◌++◌, map, length, take, drop, get_or, set, refl, sym, ap, subst, ◌∙◌, arith, take_at}
 use Rattle.std.proofs.lemmas.List.{drop_more, drop-set-lt, get_or-set_other, length-set, length-map, length-append, take-append-drop}
 use Rattle.edge_rows.specs.Rows.{row_at, appended, changed_run, appended_run}
 use Rattle.edge_rows.specs.inside.Layout.{laid, ends_from}
 use Rattle.edge_rows.specs.inside.Runs.{AreFree, written}
-use Rattle.edge_rows.proofs.Laid.{Fits, end_of, length-ends, length-laid, end_at, end_within, end_free, laid-put, ends-put, fits-put, written-put}
+use Rattle.edge_rows.proofs.Laid.{Fits, end_of, length-ends, length-laid, end_at, end_within, end_free, laid-put, ends-put, fits-put}
 
 -- one more item that is changed
 pub run_none : {X : Type 0} (change : X → X) (xs : List X) (r : ℕ) → changed_run change xs r 0 ≡ xs
@@ -52,7 +52,6 @@ pub record IsRunPut (rows : List (List ℕ)) (ns : List ℕ) (r n v : ℕ) : Typ
   pub places : written (laid rows ns) (ends_of rows ns r n) v ≡ laid (appended_run rows r n v) ns
   pub ends : changed_run (λ end. end + 1) (ends_from 0 rows ns) r n ≡ ends_from 0 (appended_run rows r n v) ns
   pub fits : Fits (appended_run rows r n v) ns
-  pub count : sum (map length (appended_run rows r n v)) ≡ n + sum (map length rows)
 
 module _ (rows : List (List ℕ)) (ns : List ℕ) (r n v : ℕ) (fits : Fits rows ns) (at : r < length rows) (room : HaveRoomIn rows ns r (suc n)) where
   abbrev after : List (List ℕ)
@@ -92,7 +91,6 @@ module _ (rows : List (List ℕ)) (ns : List ℕ) (r n v : ℕ) (fits : Fits row
         places = ap (λ es. written (laid rows ns) es v) ends_split ∙ ap (λ slots. written slots (ends_of after ns (r + 1) n) v) placed ∙ later.places ∙ ap (λ rs. laid rs ns) (sym runs);
         ends = run_more (λ end. end + 1) 0 (ends_from 0 rows ns) r n long ∙ ap (λ k. changed_run (λ end. end + 1) (set (ends_from 0 rows ns) r (k + 1)) (r + 1) n) end_is ∙ ap (λ es. changed_run (λ end. end + 1) es (r + 1) n) ends_after ∙ later.ends ∙ ap (λ rs. ends_from 0 rs ns) (sym runs);
         fits = subst (λ rs. Fits rs ns) (sym runs) later.fits;
-        count = ap (λ rs. sum (map length rs)) runs ∙ omega (arith, later.count, written-put rows r v at);
       }
 
 pub run_put : (rows : List (List ℕ)) (ns : List ℕ) (r n v : ℕ) → Fits rows ns → r + n ≤ length rows → HaveRoomIn rows ns r n → IsRunPut rows ns r n v
@@ -103,7 +101,6 @@ run_put rows ns r zero v fits within room =
       places = ap (λ rs. laid rs ns) (sym whole);
       ends = run_none (λ end. end + 1) (ends_from 0 rows ns) r ∙ ap (λ rs. ends_from 0 rs ns) (sym whole);
       fits = subst (λ rs. Fits rs ns) (sym whole) fits;
-      count = ap (λ rs. sum (map length rs)) whole ∙ omega arith;
     }
 run_put rows ns r (suc n) v fits within room =
     let at : r < length rows = omega (arith, within) in

@@ -27,7 +27,6 @@ pub struct RowFill {
     starts: Vec<u32>,
     // The first place of each row that is not written.
     ends: Vec<u32>,
-    left: u64,
 }
 
 impl Model for RowFill {
@@ -59,6 +58,7 @@ fn starts_of(alloc: Global, lengths: &[u32]) -> Result<Vec<u32>, AllocError>
 }
 
 // Writes a value at each of these places, and goes on to the place behind each.
+#[inline(always)]
 fn write_each(block: &mut Block, ends: &mut [u32], value: u32)
     requires free { AreFree block.old ends.old value }
     requires small { length block.old < 2 ^ 32 }
@@ -89,7 +89,6 @@ impl RowFill {
             block,
             starts,
             ends,
-            left: u64::from(places),
         })
     }
 
@@ -103,11 +102,11 @@ impl RowFill {
         let end = self.ends[row];
         self.block.write(end as usize, value);
         self.ends[row] = end + 1;
-        self.left -= 1;
     }
 
     /// Writes the next place of each of `count` rows from `first` on. Whether there are such rows is
-    /// tested once for all of them.
+    /// tested once for all of them, and where the caller names a number the places are written with no loop.
+    #[inline(always)]
     pub fn put_run(&mut self, first: u32, count: u32, value: u32)
         requires within { first + count ≤ length self.old.rows }
         requires room { HaveRoom self.old first count }
@@ -117,14 +116,17 @@ impl RowFill {
         let from = first as usize;
         let to = from + count as usize;
         write_each(&mut self.block, &mut self.ends[from..to], value);
-        self.left -= u64::from(count);
     }
 
     /// How many places are not yet written.
     pub fn left(&self) -> u64
         ensures { result ≡ places_left self.now }
     {
-        self.left
+        let mut left = 0;
+        for row in 0..self.ends.len() {
+            left += u64::from(self.starts[row + 1] - self.ends[row]);
+        }
+        left
     }
 
     /// The rows, all of whose places are written.
@@ -137,7 +139,6 @@ impl RowFill {
             block,
             starts,
             ends: _,
-            left: _,
         } = self;
         Rows { block, starts }
     }

@@ -1,5 +1,5 @@
 -- What holds of the fields of a filling.
-use Rattle.std.specs.Prelude.{◌≡◌, ◌+◌, map, length, sum}
+use Rattle.std.specs.Prelude.{◌≡◌}
 use Rattle.edge_rows.specs.Rows.{Filling}
 use Rattle.edge_rows.specs.inside.Layout.{laid, starts_from, ends_from, gaps, rows_between, IsWithin}
 use Rattle.edge_rows.specs.declared.fill.RowFill.TheInside.{Inside}
@@ -10,7 +10,6 @@ pub record IsFilledAs (fields : Inside) (f : Filling) : Type 0 where
   pub places : fields.block ≡ laid f.rows f.lengths
   pub starts : fields.starts.items ≡ starts_from 0 f.lengths
   pub ends : fields.ends.items ≡ ends_from 0 f.rows f.lengths
-  pub left : fields.left + sum (map length f.rows) ≡ sum f.lengths
 
 -- what the fields hold
 abbrev pub filling_of : Inside → Filling

@@ -2,9 +2,10 @@ use Rattle.std.proofs.Common.{◌≡◌, suc, length, take, get_or, replicate, s
 use Rattle.std.proofs.lemmas.List.{get_or_default, take_all}
 use Rattle.edge_rows.specs.Rows.{Filling, unfilled}
 use Rattle.edge_rows.specs.inside.FillFields.{IsFilledAs}
-use Rattle.edge_rows.proofs.Laid.{length-starts, start_at, fits-unfilled, written-unfilled, laid-unfilled, ends-unfilled}
+use Rattle.edge_rows.proofs.Laid.{length-starts, start_at, fits-unfilled, laid-unfilled, ends-unfilled}
 use Rattle.edge_rows.proofs.Fillings.{shown, kept}
 use Rattle.edge_rows.proofs.fill.RowFill.new.Goals as goal
+use Rattle.edge_rows.proofs.fill.RowFill.new.Goals.{In_ok-block}
 
 pub slice_bounds-to_vec-end : goal.slice_bounds-to_vec-end
 slice_bounds-to_vec-end c =
@@ -14,7 +15,7 @@ slice_bounds-to_vec-end c =
 pub index-places-requires : goal.index-places-requires
 index-places-requires c = omega (arith, c.in_ok-starts.starts.ok.0, ap length c.in_ok-starts.ensures, length-starts 0 c.args.lengths.now)
 
-fresh : (c : goal.After-from) → IsFilledAs (record { block = c.in_ok-block.block; starts = c.in_ok-starts.starts; ends = c.in_ok-ends.ends; left = c.from.result })
+fresh : (c : In_ok-block) → IsFilledAs (record { block = c.in_ok-block.block; starts = c.in_ok-starts.starts; ends = c.in_ok-ends.ends })
     (record { rows = unfilled c.args.lengths.now; lengths = c.args.lengths.now })
 fresh c =
     let ns = c.args.lengths.now in let all = c.in_ok-starts.starts.items in
@@ -27,7 +28,6 @@ fresh c =
       places = c.in_ok-block.ensures ∙ ap (λ k. replicate k None) last ∙ laid-unfilled ns;
       starts = c.in_ok-starts.ensures;
       ends = c.in_ok-ends.ensures.items_if_clones_equal (λ x y e. e) ∙ ap (take (length ns)) (c.deref.ensures.value ∙ c.in_ok-starts.ensures) ∙ ends-unfilled 0 ns;
-      left = omega (arith, c.from.ensures, last, written-unfilled ns);
     }
 
 pub invariant_of-result : goal.invariant_of-result

@@ -4,7 +4,7 @@ use Rattle.std.specs.Vec.{with_items}
 use Rattle.edge_rows.specs.Rows.{Filling, appended_run}
 use Rattle.edge_rows.specs.inside.Runs.{written}
 use Rattle.edge_rows.specs.inside.FillFields.{IsFilledAs}
-use Rattle.edge_rows.proofs.Fillings.{shown, kept, run_listed, run_free, run_left, run_lies, block_small}
+use Rattle.edge_rows.proofs.Fillings.{shown, kept, run_listed, run_free, run_lies, block_small}
 use Rattle.edge_rows.proofs.RunsLaid.{items_after}
 use Rattle.edge_rows.proofs.fill.RowFill.put_run.Goals as goal
 
@@ -21,16 +21,11 @@ pub write_each-requires-clause-small : goal.write_each-requires-clause-small
 write_each-requires-clause-small c =
     block_small c.self.inside c.self.invariant c.args.self.now c.self.view_is c.args.first c.args.count c.args.value c.requires.within c.requires.room
 
-pub overflow_sub-self : goal.overflow_sub-self
-overflow_sub-self c =
-    omega (arith, c.from.ensures, run_left c.self.inside c.self.invariant c.args.self.now c.self.view_is c.args.first c.args.count c.args.value c.requires.within c.requires.room)
-
-after : (c : goal.After-self-2-1)
+after : (c : goal.After-self-1)
     → IsFilledAs (record {
       block = c.write_each.new.block;
       starts = c.self.inside.starts;
       ends = with_items c.self.inside.ends (take c.args.first c.deref_mut.result.now ++ (c.write_each.new.ends ++ post_of c.args.first (c.args.first + c.args.count - c.args.first) c.deref_mut.result.now));
-      left = c.self.inside.left - c.from.result;
     })
     (record { rows = appended_run c.args.self.now.rows c.args.first c.args.count c.args.value; lengths = c.args.self.now.lengths })
 after c =
@@ -43,7 +38,6 @@ after c =
     (c.write_each.ensures.block ∙ (λ i. written c.self.inside.block (take (count i) (drop c.args.first (c.deref_mut.ensures.value i))) c.args.value))
     refl
     (items_after (λ end. end + 1) ends.items now c.write_each.new.ends c.args.first c.args.count k ends.len c.deref_mut.ensures.value count c.write_each.ensures.ends many)
-    (ap (λ n. c.self.inside.left - n) c.from.ensures)
 
 pub invariant_of-self : goal.invariant_of-self
 invariant_of-self c = kept _ _ (after c)
