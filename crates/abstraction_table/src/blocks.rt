@@ -69,9 +69,7 @@ fn fill_block(
     every_plant_is_within_limits(p);
     plants_are_sound();
     let places = places_from(p, state, digits, place);
-    let sides = prolonged_sides(p, s, &places, state);
-    let count = block.len();
-    block.copy_from_slice(&sides[..count]);
+    prolonged_sides(p, s, &places, state, block);
 }
 
 /// The places of these pairs in each state and each input variable.

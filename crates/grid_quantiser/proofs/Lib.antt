@@ -23,3 +23,4 @@ pub mod AxisCounts
 pub mod BoxShapes
 pub mod ShareNumbers
 pub mod ShareCells
+pub mod RulerSides

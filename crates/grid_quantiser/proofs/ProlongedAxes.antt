@@ -1,8 +1,9 @@
 -- Places on an axis that is prolonged by its own length below, and sides that are moved from there.
-use Rattle.std.proofs.Common.{◌≡◌, ◌⊎◌, ℕ, ◌+◌, ◌-◌, ◌*◌, ◌/◌, ◌^◌, ◌<◌, ◌≤◌, arith, refl, ap, sym, subst, List, All, length, get_or, ◌∙◌, ℤ, pos, nat_abs, ◌+ℤ◌, ◌-ℤ◌, ◌*ℤ◌, ◌<ℤ◌, ◌≤ℤ◌, Option, None, Some, IfSome, inl, inr}
-use Rattle.std.proofs.lemmas.Int.{ints}
+use Rattle.std.proofs.Common.{◌≡◌, ◌⊎◌, ℕ, ◌+◌, ◌-◌, ◌*◌, ◌/◌, ◌^◌, ◌<◌, ◌≤◌, arith, refl, ap, ap₂, sym, subst, List, All, length, get_or, w64, FitsSigned, ◌∙◌, ℤ, pos, nat_abs, ◌+ℤ◌, ◌-ℤ◌, ◌*ℤ◌, ◌<ℤ◌, ◌≤ℤ◌, Option, None, Some, IfSome, inl, inr}
+use Rattle.std.proofs.lemmas.Int.{ints, to_z-of_z}
+use Rattle.std.specs.Int.{w128}
 use Rattle.std.specs.Int.Signed.{pos-nat_abs, yes_non_neg}
-use Rattle.std.proofs.Math.Nat.{mul_comm, mul-add, add-mul-div_left, mul-le-mul_left}
+use Rattle.std.proofs.Math.Nat.{div-eq_of_lt, mul_comm, mul-add, add-mul-div_left, mul-le-mul_left}
 use Rattle.std.proofs.lemmas.Bool.{false≢true}
 use Rattle.std.proofs.lemmas.List.Elements.{All-get_or}
 use Rattle.std.proofs.lemmas.Nat.{mul-le, div-add-mod', mod_below}
@@ -11,17 +12,15 @@ use Rattle.grid_quantiser.specs.declared.sides.Side.{Side}
 use Rattle.grid_quantiser.specs.Axes.{IsAxis, end_of, no_axis, AreAxes}
 use Rattle.grid_quantiser.specs.Cells.{place_of}
 use Rattle.grid_quantiser.specs.Sides.{IsOnAxis, IsSideOf, prolonged, IsSideBefore}
+use Rattle.grid_quantiser.specs.inside.Rulers.{axis_between, HasEnds}
 use Rattle.grid_quantiser.proofs.General.{quotients_ordered}
-use Rattle.grid_quantiser.proofs.AxisNumbers.{some_width, widths_is, offset_is, place_below}
+use Rattle.grid_quantiser.proofs.AxisOffsets.{kept, low_fits, on_fits, end_low, end_high, apart_kept}
+use Rattle.grid_quantiser.proofs.RulerSides.{held}
+use Rattle.grid_quantiser.proofs.AxisNumbers.{width_is, some_width, widths_is, offset_is, place_below}
 
 -- one axis of a grid
 pub axis_at : (axes given : List Axis) (i : ℕ) → axes ≡ given → AreAxes axes → i < length given → IsAxis (get_or given i no_axis)
 axis_at axes given i same grid within = All-get_or IsAxis given i no_axis within (subst (λ (l : List Axis). All IsAxis l) same grid.each)
-
--- a place on an axis is one on the prolonged axis
-pub within_both : (n : ℕ) (place : Option ℕ) → IfSome place (λ p. p < n) → IfSome place (λ p. p < n + n)
-within_both n None below = tt
-within_both n (Some p) below = omega (arith, below)
 
 module _ (a : Axis) (axis : IsAxis a) where
   abbrev width : ℕ
@@ -42,32 +41,51 @@ module _ (a : Axis) (axis : IsAxis a) where
   pub count_fits : a.count < 2 ^ 62
   count_fits = omega (arith, ints, mul-le 1 a.count width a.count (some_width a axis) (omega arith), widths_is a axis a.count, axis.low_bound, axis.high_bound)
 
-  -- ---- the place of a number
+  -- ---- its ruler
 
-  -- one of the axis itself
-  pub place_above : (x : ℤ) → a.lo ≤ℤ x → place_of (prolonged a) x ≡ a.count + place_of a x
-  place_above x low =
-      let before : (prolonged a).lo ≤ℤ x = omega (arith, ints, low, widths_is a axis a.count) in
-      let split : distance x ≡ nat_abs (x -ℤ a.lo) + width * a.count = omega (arith, ints, distance_is x before, offset_is a x low) in
-      ap (λ (n : ℕ). n / width) split ∙ omega (arith, add-mul-div_left (nat_abs (x -ℤ a.lo)) a.count (some_width a axis))
+  module _ (width_now : ℕ) (same_width : width_now ≡ nat_abs a.width) where
+    pub between_ends : axis_between (prolonged a).lo (end_of a) width_now ≡ prolonged a
+    between_ends =
+        let apart : nat_abs (end_of a -ℤ (prolonged a).lo) ≡ 0 + width * (a.count + a.count) = omega (arith, ints, widths_is a axis a.count, mul-add width a.count a.count) in
+        let places : nat_abs (end_of a -ℤ (prolonged a).lo) / width_now ≡ a.count + a.count =
+        ap₂ (λ (d n : ℕ). d / n) apart same_width ∙ omega (arith, add-mul-div_left 0 (a.count + a.count) (some_width a axis), div-eq_of_lt (some_width a axis)) in
+        ap₂ (λ (w : ℤ) (n : ℕ). record { lo = (prolonged a).lo; width = w; count = n }) (ap (λ (n : ℕ). pos n) same_width ∙ sym (width_is a axis)) places
 
-  pub on_above : (x : ℤ) → a.lo ≤ℤ x → IsOnAxis a x → IsOnAxis (prolonged a) x
-  on_above x low is = (omega (arith, ints, low, widths_is a axis a.count), omega (arith, ints, is.1, same_end))
+    pub has_ends : a.count ≤ 2 ^ 20 → HasEnds (prolonged a).lo (end_of a) width_now
+    has_ends few = record {
+      some_width = omega (arith, same_width, some_width a axis);
+      whole = ap end_of between_ends ∙ same_end;
+      few = omega (arith, ap (λ (b : Axis). b.count) between_ends, few);
+      ordered = omega (arith, ints, widths_is a axis a.count);
+      low_bound = omega (arith, ints, axis.low_bound, axis.high_bound);
+      high_bound = axis.high_bound;
+    }
 
-  -- one below it, which lies on the axis after its own length
-  abbrev pub ahead : ℤ → ℤ
-  ahead x = x +ℤ (a.width *ℤ pos a.count)
+  -- its ends, as they are computed
+  module _ (end : ℤ) (is : end ≡ end_of a) where
+    low_computed : kept a.lo -ℤ kept (kept end -ℤ kept a.lo) ≡ (prolonged a).lo
+    low_computed =
+        ap (λ (z : ℤ). kept a.lo -ℤ z) (apart_kept a axis end (end_low a axis end is) (end_high a axis end is))
+        ∙ ap (λ (z : ℤ). z -ℤ (end -ℤ a.lo)) (to_z-of_z w128 a.lo (low_fits a axis))
+        ∙ omega (arith, ints, is)
 
-  pub place_under : (x : ℤ) → place_of (prolonged a) x ≡ place_of a (ahead x)
-  place_under x =
-      let same : x -ℤ (prolonged a).lo ≡ ahead x -ℤ a.lo = omega (arith, ints) in
-      ap (λ (z : ℤ). nat_abs z / width) same
+    low_narrow : FitsSigned w64 (prolonged a).lo
+    low_narrow = omega (arith, ints, axis.low_bound, axis.high_bound, widths_is a axis a.count)
 
-  pub on_under : (x : ℤ) → x <ℤ a.lo → IsOnAxis a (ahead x) → IsOnAxis (prolonged a) x
-  on_under x under is = (omega (arith, ints, is.0), omega (arith, ints, under, same_end, widths_is a axis a.count))
+    low_wide : FitsSigned w128 (prolonged a).lo
+    low_wide = omega (arith, ints, axis.low_bound, axis.high_bound, widths_is a axis a.count)
 
-  pub under_on : (x : ℤ) → x <ℤ a.lo → IsOnAxis (prolonged a) x → IsOnAxis a (ahead x)
-  under_on x under is = (omega (arith, ints, is.0), omega (arith, ints, under))
+    pub low_fits_wide : FitsSigned w128 (kept a.lo -ℤ kept (kept end -ℤ kept a.lo))
+    low_fits_wide = subst (FitsSigned w128) (sym low_computed) low_wide
+
+    pub low_held : held (kept (kept a.lo -ℤ kept (kept end -ℤ kept a.lo))) ≡ (prolonged a).lo
+    low_held = ap held (ap kept low_computed ∙ to_z-of_z w128 (prolonged a).lo low_wide) ∙ to_z-of_z w64 (prolonged a).lo low_narrow
+
+    end_narrow : FitsSigned w64 (end_of a)
+    end_narrow = omega (arith, ints, axis.low_bound, axis.high_bound, widths_is a axis a.count)
+
+    pub end_held : held (kept end) ≡ end_of a
+    end_held = ap held (to_z-of_z w128 end (on_fits a axis end (end_low a axis end is) (end_high a axis end is)) ∙ is) ∙ to_z-of_z w64 (end_of a) end_narrow
 
   -- ---- a number so many places before another
 

@@ -3,3 +3,4 @@ pub mod Restored
 pub mod Spots
 pub mod RunFields
 pub mod Shares
+pub mod Rulers

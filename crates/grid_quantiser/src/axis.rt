@@ -1,4 +1,7 @@
-ghost use Rattle.std.specs.Prelude.{◌≡◌, ◌+◌, ◌<◌, ◌≤◌, ◌↔◌, ℕ, ℤ, pos, ◌+ℤ◌, ◌*ℤ◌, ◌≤ℤ◌, ◌<ℤ◌, IsSome, IfSome};
+ghost use Rattle.std.specs.Prelude.{◌≡◌, ◌+◌, ◌<◌, ◌^◌, ◌≤◌, ◌↔◌, ℕ, ℤ, pos, ◌+ℤ◌, ◌*ℤ◌, ◌≤ℤ◌, ◌<ℤ◌, IsSome, IfSome};
+
+use crate::ruler::Ruler;
+use fixed_divisor::Divisor;
 
 /// One state of a grid: `count` cells of `width` numbers each, from `lo` on.
 #[derive(Clone, Copy, PartialEq, Eq)]
@@ -63,19 +66,19 @@ impl Axis {
         Some((x - self.lo) as u64 / self.width as u64)
     }
 
-    /// The place of a number on the axis prolonged by its own length below.
-    #[inline]
-    pub(crate) fn prolonged_place(&self, x: i128) -> Option<u64>
-        requires { IsAxis self.now }
-        ensures inside { IsSome result ↔ IsOnAxis (prolonged self.now) x }
-        ensures place { IfSome result (λ place. place ≡ place_of (prolonged self.now) x) }
-        ensures below { IfSome result (λ place. place < self.now.count + self.now.count) }
+    /// The ruler of the axis prolonged by its own length below.
+    pub(crate) fn prolonged_ruler(&self) -> Ruler
+        requires axis { IsAxis self.now }
+        requires few { self.now.count ≤ 2 ^ 20 }
+        ensures { result ≡ prolonged self.now }
     {
-        if x < self.lo {
-            let length = self.start(self.count) - self.lo;
-            return self.place(x + length);
+        let end = self.start(self.count);
+        let lo = self.lo - (end - self.lo);
+        Ruler {
+            lo: lo as i64,
+            end: end as i64,
+            width: Divisor::new(self.width as u64),
         }
-        Some(self.count + self.place(x)?)
     }
 
     /// A number of a place.

@@ -6,6 +6,7 @@ ghost use Rattle.grid_quantiser.specs.Sides.{IsSideOf, prolonged, IsSideBefore, 
 
 use crate::boxes::CellBox;
 use crate::grid::Grid;
+use crate::ruler::Ruler;
 
 /// Places of an axis, from the first to the last.
 #[derive(Clone, Copy, PartialEq, Eq)]
@@ -27,17 +28,12 @@ impl Grid {
         Some(Side { first, last })
     }
 
-    /// The places of the numbers from `low` to `high` on an axis prolonged by its own length below, from
-    /// which `moved_side` goes on: None where one of the two is outside of that too.
-    #[inline]
-    pub fn prolonged_side(&self, axis: u32, low: i128, high: i128) -> Option<Side>
+    /// The ruler of an axis prolonged by its own length below, from whose sides `moved_side` goes on.
+    pub fn prolonged_ruler(&self, axis: u32) -> Ruler
         requires { axis < length self.now }
-        ensures { IsSideOf (prolonged (slice_index_or self.now axis no_axis)) low high result }
+        ensures { result ≡ prolonged (slice_index_or self.now axis no_axis) }
     {
-        let axis = self.axes()[axis as usize];
-        let first = axis.prolonged_place(low)? as u32;
-        let last = axis.prolonged_place(high)? as u32;
-        Some(Side { first, last })
+        self.axes()[axis as usize].prolonged_ruler()
     }
 
     /// The side on an axis of what lies so many places after what has this side on the prolonged axis:

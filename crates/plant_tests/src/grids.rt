@@ -226,8 +226,8 @@ fn sides_of_the_plane() -> bool {
     grid.states() == 2
         && grid.side(0, 35, 41) == Some(Side { first: 3, last: 4 })
         && grid.side(0, 35, 60) == None
-        && grid.prolonged_side(0, -5, 3) == Some(Side { first: 5, last: 6 })
-        && grid.prolonged_side(0, -61, 3) == None
+        && grid.prolonged_ruler(0).side(-5, 3) == Some(Side { first: 5, last: 6 })
+        && grid.prolonged_ruler(0).side(-61, 3) == None
 }
 
 #[test]

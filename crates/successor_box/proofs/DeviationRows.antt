@@ -18,3 +18,7 @@ module _ (p : Description) (i : ℕ) (lt : i < length p.equations) where
 
   pub entry_is : (u : ℕ) → u < vectors_of p.inputs → get_or (get_or (deviations_of p) i []) u (pos 0) ≡ deviation_at p u (equation_at p i)
   entry_is u below = ap (λ (row : List ℤ). get_or row u (pos 0)) row_is ∙ get_or-map-range_with_len (λ u. deviation_at p u (equation_at p i)) 0 (vectors_of p.inputs) u u (pos 0) below (omega arith)
+
+  -- an entry of a row that is at hand
+  pub entry_at : (rows : List (List ℤ)) (row : List ℤ) (u : ℕ) → rows ≡ deviations_of p → row ≡ get_or rows i [] → get_or row u (pos 0) ≡ get_or (get_or (deviations_of p) i []) u (pos 0)
+  entry_at rows row u same is = ap (λ (xs : List ℤ). get_or xs u (pos 0)) (is ∙ ap (λ (r : List (List ℤ)). get_or r i []) same)

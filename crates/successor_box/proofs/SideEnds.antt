@@ -11,11 +11,14 @@ use Rattle.interval_eval.specs.declared.interval.Interval.{Interval}
 use Rattle.interval_eval.specs.Span.{IsInterval}
 use Rattle.grid_quantiser.specs.declared.axis.Axis.{Axis}
 use Rattle.grid_quantiser.specs.declared.sides.Side.{Side}
-use Rattle.grid_quantiser.specs.Axes.{cells_of}
+use Rattle.grid_quantiser.specs.Axes.{no_axis, cells_of}
 use Rattle.grid_quantiser.specs.Sides.{IsSideOf, prolonged, IsSideBefore}
 use Rattle.plant_record.specs.Description.{Description, axes_of, vectors_of}
 use Rattle.plant_record.specs.Soundness.{IsSound}
-use Rattle.successor_box.specs.Boxes.{deviation_at, central_values, reach_of, low_corner, high_corner}
+use Rattle.plant_record.specs.declared.version.PlantVersion.{PlantVersion}
+use Rattle.plant_record.specs.declared.version.PlantVersion.TheVariants.{One}
+use Rattle.successor_box.specs.Sides.{IsSideBeforeAt}
+use Rattle.successor_box.specs.Boxes.{deviation_at, central_values, growth_of, reach_of, low_corner, high_corner}
 use Rattle.plant_record.specs.Steps.{equation_at}
 use Rattle.successor_box.specs.Deviations.{HasNoOverflow, deviations_of}
 use Rattle.successor_box.proofs.DeviationRows.{entry_is}
@@ -40,6 +43,28 @@ pub unmoved : (a : Axis) (low high : ℤ) (side : Option Side) → IsSideOf (pro
 unmoved a low high side is =
     let same : (x : ℤ) → x ≡ x -ℤ (a.width *ℤ pos 0) = λ x. omega (arith, ints) in
     subst₂ (λ (x y : ℤ). IsSideOf (prolonged a) x y side) (same low) (same high) is
+
+-- the side between the ends of where an equation leads
+pub side_of_reach : (p : Description) (c u i : ℕ) (reach : Interval) (side : Option Side) → i < length p.equations → reach ≡ reach_of p.version p c u (equation_at p i)
+    → IsSideOf (prolonged (get_or (axes_of p) i no_axis)) reach.lo reach.hi side → IsSideBeforeAt p c u i 0 side
+side_of_reach p c u i reach side lt is found =
+    let low : reach.lo ≡ get_or (low_corner p c u) i (pos 0) = ap (λ (r : Interval). r.lo) is ∙ sym (low_is p c u i lt) in
+    let high : reach.hi ≡ get_or (high_corner p c u) i (pos 0) = ap (λ (r : Interval). r.hi) is ∙ sym (high_is p c u i lt) in
+    subst₂ (λ (low high : ℤ). IsSideBefore (get_or (axes_of p) i no_axis) 0 low high side) low high (unmoved (get_or (axes_of p) i no_axis) reach.lo reach.hi side found)
+
+-- the same in version 1, around the value at the centre
+pub side_of_growth : (p : Description) (c u i : ℕ) (value deviation : ℤ) (side : Option Side) → i < length p.equations → p.version ≡ One
+    → value ≡ value_of (equation_at p i) (central_values p c u) → deviation ≡ deviation_at p u (equation_at p i)
+    → IsSideOf (prolonged (get_or (axes_of p) i no_axis)) (value -ℤ deviation) (value +ℤ deviation) side → IsSideBeforeAt p c u i 0 side
+side_of_growth p c u i value deviation side lt version at by found =
+    let e = equation_at p i in
+    let reach : Interval = record { lo = value -ℤ deviation; hi = value +ℤ deviation } in
+    let growth : reach ≡ growth_of p c u e = ap₂ (λ (x d : ℤ). record { lo = x -ℤ d; hi = x +ℤ d }) at by in
+    side_of_reach p c u i reach side lt (growth ∙ sym (ap (λ (v : PlantVersion). reach_of v p c u e) version)) found
+
+-- a deviation is no less than 0
+pub deviation_some : (p : Description) (u i : ℕ) (deviation : ℤ) → deviation ≡ deviation_at p u (equation_at p i) → pos 0 ≤ℤ deviation
+deviation_some p u i deviation is = omega (arith, ints, is)
 
 -- a number of the centre's step fits, less and plus the deviation
 pub record AreSideEnds (p : Description) (u i : ℕ) (value deviation : ℤ) : Type 0 where

@@ -6,6 +6,7 @@ ghost use Rattle.fixed_expr.specs.Rows.{row_of};
 ghost use Rattle.fixed_expr.specs.Value.{IsWellFormed, StaysInRange, value_of};
 ghost use Rattle.grid_quantiser.specs.Axes.{no_axis};
 ghost use Rattle.grid_quantiser.specs.Places.{middle_of};
+ghost use Rattle.plant_record.specs.declared.version.PlantVersion.TheVariants.{One};
 ghost use Rattle.plant_record.specs.Description.{axes_of, vectors_of, vector_of};
 ghost use Rattle.plant_record.specs.InputPlaces.{input_place};
 ghost use Rattle.plant_record.specs.Steps.{equation_at};
@@ -27,44 +28,137 @@ use plant_record::laws::every_plant_is_within_limits;
 use plant_record::{Plant, PlantVersion};
 
 /// The sides of successor boxes along the axis of a state prolonged by its own length below, from which `moved_side` goes on,
-/// each None where one of the box's ends leaves that too, of a block of
-/// pairs with these places: a row for each state, and then for each input variable. It takes no memory.
+/// each None where one of the box's ends leaves that too, of the first pairs of a block
+/// with these places: a row for each state, and then for each input variable. It takes no memory.
 pub fn prolonged_sides(
     p: &Plant,
     s: &Slopes,
     places: &[[u32; LANES]; 9],
     state: u32,
-) -> [Option<Side>; LANES]
+    sides: &mut [Option<Side>],
+)
     requires slopes { s.now ≡ deviations_of p.now }
     requires fits { HasNoOverflow p.now }
     requires pairs { HasPairInEachRow p.now places.now }
     requires state { state < length p.now.equations }
-    ensures { (j c u : ℕ) → j < LANES → IsPairInRow p.now places.now j c u → IsSideBeforeAt p.now c u state 0 (slice_index_or result j None) }
-{
-    every_plant_is_within_limits(p);
-    let reaches = reaches(p, s, places, state);
-    let mut sides = [None; LANES];
-    for j in 0..LANES {
-        sides[j] = p.grid().prolonged_side(state, reaches[j].lo, reaches[j].hi);
-    }
-    sides
-}
-
-/// Where an equation leads from each pair of a block.
-fn reaches(p: &Plant, s: &Slopes, places: &[[u32; LANES]; 9], state: u32) -> [Interval; LANES]
-    requires slopes { s.now ≡ deviations_of p.now }
-    requires fits { HasNoOverflow p.now }
-    requires pairs { HasPairInEachRow p.now places.now }
-    requires state { state < length p.now.equations }
-    ensures { (j c u : ℕ) → j < LANES → IsPairInRow p.now places.now j c u → slice_index_or result j no_range ≡ reach_of p.now.version p.now c u (equation_at p.now state) }
+    requires few { length sides.old ≤ LANES }
+    ensures long { length sides.new ≡ length sides.old }
+    ensures each { (j c u : ℕ) → j < length sides.old → IsPairInRow p.now places.now j c u → IsSideBeforeAt p.now c u state 0 (slice_index_or sides.new j None) }
 {
     let inputs = input_numbers(p, places);
     let mut columns = [[0; LANES]; VARIABLES_LIMIT];
     fill_columns(p, places, &inputs, &mut columns);
-    let growths = growths(p, s, places, &inputs, &columns, state);
+    match p.plant_version() {
+        PlantVersion::One => growth_sides(p, s, places, &inputs, &columns, state, sides),
+        PlantVersion::Two => reach_sides(p, s, places, &inputs, &columns, state, sides),
+    }
+}
+
+/// The sides between the ends of the growth bounds: at once from values in 64 bits, which most equations never leave.
+fn growth_sides(
+    p: &Plant,
+    s: &Slopes,
+    places: &[[u32; LANES]; 9],
+    inputs: &[u32; LANES],
+    columns: &[[i64; LANES]; VARIABLES_LIMIT],
+    state: u32,
+    sides: &mut [Option<Side>],
+)
+    requires slopes { s.now ≡ deviations_of p.now }
+    requires fits { HasNoOverflow p.now }
+    requires version { p.now.version ≡ One }
+    requires pairs { HasPairInEachRow p.now places.now }
+    requires state { state < length p.now.equations }
+    requires inputs { (j c u : ℕ) → j < LANES → IsPairInRow p.now places.now j c u → slice_index_or inputs.now j 0 ≡ u }
+    requires columns { HoldCentralValues p.now places.now columns.now }
+    requires few { length sides.old ≤ LANES }
+    ensures long { length sides.new ≡ length sides.old }
+    ensures each { (j c u : ℕ) → j < length sides.old → IsPairInRow p.now places.now j c u → IsSideBeforeAt p.now c u state 0 (slice_index_or sides.new j None) }
+{
+    let mut values = [0; LANES];
+    match eval_rows(p.equation(state), &columns[..variables(p) as usize], &mut values) {
+        Some(()) => narrow_sides(p, s, places, inputs, &values, state, sides),
+        None => reach_sides(p, s, places, inputs, columns, state, sides),
+    }
+}
+
+/// The sides between the ends of the growth bounds around these values.
+fn narrow_sides(
+    p: &Plant,
+    s: &Slopes,
+    places: &[[u32; LANES]; 9],
+    inputs: &[u32; LANES],
+    values: &[i64; LANES],
+    state: u32,
+    sides: &mut [Option<Side>],
+)
+    requires slopes { s.now ≡ deviations_of p.now }
+    requires version { p.now.version ≡ One }
+    requires pairs { HasPairInEachRow p.now places.now }
+    requires state { state < length p.now.equations }
+    requires inputs { (j c u : ℕ) → j < LANES → IsPairInRow p.now places.now j c u → slice_index_or inputs.now j 0 ≡ u }
+    requires values { (j c u : ℕ) → j < LANES → IsPairInRow p.now places.now j c u → slice_index_or values.now j (pos 0) ≡ value_of (equation_at p.now state) (central_values p.now c u) }
+    requires few { length sides.old ≤ LANES }
+    ensures long { length sides.new ≡ length sides.old }
+    ensures each { (j c u : ℕ) → j < length sides.old → IsPairInRow p.now places.now j c u → IsSideBeforeAt p.now c u state 0 (slice_index_or sides.new j None) }
+{
+    every_plant_is_within_limits(p);
+    let ruler = p.grid().prolonged_ruler(state);
+    let deviations = s.along(state);
+    for j in 0..sides.len() {
+        sides[j] = ruler.side_around(i128::from(values[j]), deviations[inputs[j] as usize]);
+    }
+}
+
+/// The sides between the ends of where an equation leads.
+fn reach_sides(
+    p: &Plant,
+    s: &Slopes,
+    places: &[[u32; LANES]; 9],
+    inputs: &[u32; LANES],
+    columns: &[[i64; LANES]; VARIABLES_LIMIT],
+    state: u32,
+    sides: &mut [Option<Side>],
+)
+    requires slopes { s.now ≡ deviations_of p.now }
+    requires fits { HasNoOverflow p.now }
+    requires pairs { HasPairInEachRow p.now places.now }
+    requires state { state < length p.now.equations }
+    requires inputs { (j c u : ℕ) → j < LANES → IsPairInRow p.now places.now j c u → slice_index_or inputs.now j 0 ≡ u }
+    requires columns { HoldCentralValues p.now places.now columns.now }
+    requires few { length sides.old ≤ LANES }
+    ensures long { length sides.new ≡ length sides.old }
+    ensures each { (j c u : ℕ) → j < length sides.old → IsPairInRow p.now places.now j c u → IsSideBeforeAt p.now c u state 0 (slice_index_or sides.new j None) }
+{
+    every_plant_is_within_limits(p);
+    let reaches = reaches(p, s, places, inputs, columns, state);
+    let ruler = p.grid().prolonged_ruler(state);
+    for j in 0..sides.len() {
+        sides[j] = ruler.side(reaches[j].lo, reaches[j].hi);
+    }
+}
+
+/// Where an equation leads from each pair of a block.
+fn reaches(
+    p: &Plant,
+    s: &Slopes,
+    places: &[[u32; LANES]; 9],
+    inputs: &[u32; LANES],
+    columns: &[[i64; LANES]; VARIABLES_LIMIT],
+    state: u32,
+) -> [Interval; LANES]
+    requires slopes { s.now ≡ deviations_of p.now }
+    requires fits { HasNoOverflow p.now }
+    requires pairs { HasPairInEachRow p.now places.now }
+    requires state { state < length p.now.equations }
+    requires inputs { (j c u : ℕ) → j < LANES → IsPairInRow p.now places.now j c u → slice_index_or inputs.now j 0 ≡ u }
+    requires columns { HoldCentralValues p.now places.now columns.now }
+    ensures { (j c u : ℕ) → j < LANES → IsPairInRow p.now places.now j c u → slice_index_or result j no_range ≡ reach_of p.now.version p.now c u (equation_at p.now state) }
+{
+    let growths = growths(p, s, places, inputs, columns, state);
     match p.plant_version() {
         PlantVersion::One => growths,
-        PlantVersion::Two => meets(&growths, &spans(p, places, &columns, state)),
+        PlantVersion::Two => meets(&growths, &spans(p, places, columns, state)),
     }
 }
 

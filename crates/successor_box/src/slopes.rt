@@ -45,6 +45,15 @@ impl Slopes {
     {
         self.rows[equation as usize][input as usize]
     }
+
+    /// How far an equation moves within a cell, by input vector.
+    #[inline]
+    pub(crate) fn along(&self, equation: u32) -> &[i128]
+        requires { equation < length self.now }
+        ensures { result.now ≡ slice_index_or self.now equation [] }
+    {
+        &self.rows[equation as usize]
+    }
 }
 
 /// The deviations of a plant's equations. It takes memory for a number for each equation and input
