@@ -7,3 +7,4 @@ pub mod MovingValues
 pub mod Pieces
 pub mod PointsPassed
 pub mod Laws
+pub mod RowValues
