@@ -1,10 +1,10 @@
--- The digits of an equation, one by one from the last variable on, and what they say of pairs.
-use Rattle.std.proofs.Common.{◌≡◌, ◌⊎◌, ℕ, ◌+◌, ◌*◌, ◌/◌, ◌%◌, ◌^◌, ◌<◌, ◌≤◌, true, false, not, ◌&&◌, eqb, List, [], ◌∷◌, ◌++◌, All, length, drop, get_or, refl, sym, ap, ap₂, subst, ◌∙◌, arith, inl, inr}
+-- The digits of an equation, one by one, and what they say of pairs.
+use Rattle.std.proofs.Common.{◌≡◌, ◌⊎◌, ℕ, ◌+◌, ◌-◌, ◌*◌, ◌/◌, ◌%◌, ◌^◌, ◌<◌, ◌≤◌, true, false, not, ◌&&◌, eqb, List, [], ◌∷◌, ◌++◌, All, length, drop, get_or, refl, sym, ap, ap₂, subst, ◌∙◌, arith, inl, inr}
 use Rattle.std.specs.Prelude.{IsTrue, IsFalse, sum_by}
-use Rattle.std.proofs.Math.Nat.{mul_comm, add-mul, div-eq_of_lt, zero-mod}
+use Rattle.std.proofs.Math.Nat.{mul_assoc, mul_comm, add-mul, div-eq_of_lt, zero-mod}
 use Rattle.std.proofs.Math.Seq.{get_or-append_seam}
 use Rattle.std.proofs.lemmas.Bool.{cases_lt, cases_Bool, both_ways, and_right, and_from, eq-eqb, cond-true, cond-false}
-use Rattle.std.proofs.lemmas.Nat.{mul-le, div_below, mod_below, div-add-mod'}
+use Rattle.std.proofs.lemmas.Nat.{mul-le, div_below, div-mul-add, mod_below, div-add-mod'}
 use Rattle.std.proofs.lemmas.List.{length-append, get_or_append_left, drop_all}
 use Rattle.std.proofs.lemmas.List.Elements.{All-get_or, All-head, All-tail, All-drop, All-push, All-weaker}
 use Rattle.std.proofs.lemmas.List.Sums.{sum_by-cons}
@@ -18,8 +18,8 @@ use Rattle.plant_record.specs.Steps.{equation_at}
 use Rattle.successor_box.specs.Sides.{place_in, moves_along, moved_by, rests_on, AreAlikeIn}
 use Rattle.abstraction_table.specs.declared.digits.Digit.{Digit}
 use Rattle.abstraction_table.specs.Abstraction.{pairs_of, pair_of}
-use Rattle.abstraction_table.specs.inside.Digits.{counts_of, combinations, place_at, pair_at, Moves, IsDigitOf, HasDigit, AreDigitsFrom}
-use Rattle.abstraction_table.proofs.DigitMoves.{lower_digit, moves_none, moves_wider, moves_more, sum_is}
+use Rattle.abstraction_table.specs.inside.Digits.{counts_of, combinations, place_at, pair_at, Moves, IsDigitOf, HasDigit, IsMultiple, AreDigitsBetween, AreDigitsOf}
+use Rattle.abstraction_table.proofs.DigitMoves.{lower_digit, upper_digit, moves_none, moves_wider, moves_more, sum_is, multiple_sum, multiple, with_own, own_below, moves_below}
 use Rattle.abstraction_table.proofs.PairDigits.{some_combinations, factor_from, state_place, fewer, counts_long, all_combinations, some_counts, next_combinations, pair_digit, place_parts}
 
 abbrev in_pair : Digit → ℕ
@@ -51,134 +51,318 @@ module _ (p : Description) (plant : IsPlant p) (sound : IsSound p) (i : ℕ) whe
   pub pair_weights : (digits : List Digit) → All (IsDigitOf p) digits → All (λ (d : Digit). (0 < d.count) × (0 < d.in_pair)) digits
   pair_weights digits each = All-weaker (IsDigitOf p) (λ (d : Digit). (0 < d.count) × (0 < d.in_pair)) (λ d h. (h.some, omega (arith, h.in_pair, some_from (d.variable + 1)))) digits each
 
-  -- before the last variable
+  -- behind the last variable
   pub none_from : from variables ≡ 1
   none_from = ap combinations (drop_all variables (counts_of p) (omega (arith, counts_long p)))
 
-  pub digits_none : AreDigitsFrom p i variables [] 1
-  digits_none = record {
+  -- before the last variable of some
+  pub digits_none : (last : ℕ) → AreDigitsBetween p i last last [] 1
+  digits_none last = record {
     each = λ k d lt. absurd (omega (arith, lt));
     all = λ k past within. absurd (omega (arith, past, within));
-    others = λ k past within free place. small_digit 0 (from (k + 1)) (get_or (counts_of p) k 0) (some_from (k + 1));
+    others = λ k past within. absurd (omega (arith, past, within));
     packed = moves_none in_pair in_table;
-    spread = subst (Moves in_table in_pair []) (sym none_from) (moves_none in_table in_pair);
+    spread = subst (Moves in_table in_pair []) (let once : from last * 1 ≡ from last = omega arith in once) (moves_wider in_table in_pair [] 1 (from last) (some_from last) (moves_none in_table in_pair));
+    above = λ k d lt. absurd (omega (arith, lt));
+    whole = (1, omega arith);
     some = omega arith;
-    few = omega (arith, none_from);
+    few = omega arith;
   }
 
-  -- one variable more makes no more than all pairs
-  pub few_more : (k places : ℕ) → k < variables → places ≤ from (k + 1) → pairs_of p ≤ 2 ^ 22 → places * get_or (counts_of p) k 0 < 2 ^ 32
-  few_more k places lt few limit =
-      let count : ℕ = get_or (counts_of p) k 0 in
-      omega (arith, limit, mul-le places count (from (k + 1)) count few (omega arith), next_combinations p k lt, mul_comm count (from (k + 1)), fewer k (counts_of p) (some_counts p plant sound), all_combinations p)
-
-  -- ---- one variable more
-  module _ (k places : ℕ) (digits : List Digit) (lt : k < variables) (so_far : AreDigitsFrom p i (k + 1) digits places) where
+  -- ---- the digit of a variable
+  module _ (k places : ℕ) (lt : k < variables) where
     abbrev count : ℕ
     count = get_or (counts_of p) k 0
 
-    some_count : 1 ≤ count
+    pub some_count : 1 ≤ count
     some_count = All-get_or IsSome (counts_of p) k 0 (omega (arith, lt, counts_long p)) (some_counts p plant sound)
 
-    next : from k ≡ count * from (k + 1)
+    pub next : from k ≡ count * from (k + 1)
     next = next_combinations p k lt
 
-    -- no side rests on it
-    pub digits_same : rests_on p i k ≡ false → AreDigitsFrom p i k digits places
-    digits_same none = record {
-      each = so_far.each;
-      all = all;
-      others = others;
-      packed = so_far.packed;
-      spread = subst (Moves in_table in_pair digits) (sym next) (moves_wider in_table in_pair digits (from (k + 1)) count some_count so_far.spread);
-      some = so_far.some;
-      few = omega (arith, so_far.few, next, mul-le 1 (from (k + 1)) count (from (k + 1)) some_count (omega arith));
-    }
-      where
-        all : (j : ℕ) → k ≤ j → j < variables → IsTrue (rests_on p i j) → HasDigit digits j
-        all j past within stands =
-            elim (cases_lt k j) [
-              | inl later ↦ so_far.all j (omega (arith, later)) within stands
-              | inr here ↦
-                  let at : j ≡ k = omega (arith, past, here) in
-                  absurd (both_ways (rests_on p i k) none (ap (rests_on p i) (sym at) ∙ stands))
-            ]
+    pub weight_behind : from k / count ≡ from (k + 1)
+    weight_behind =
+        let whole : count * from (k + 1) ≡ from (k + 1) * count + 0 = omega (arith, mul_comm count (from (k + 1))) in
+        ap (λ (n : ℕ). n / count) (next ∙ whole) ∙ div-mul-add (from (k + 1)) count 0 some_count
 
-        -- it is below the digits so far, and so has the first place
-        others : (j : ℕ) → k ≤ j → j < variables → IsFalse (rests_on p i j) → (place : ℕ) → pair_at digits place / from (j + 1) % get_or (counts_of p) j 0 ≡ 0
-        others j past within free place =
-            elim (cases_lt k j) [
-              | inl later ↦ so_far.others j (omega (arith, later)) within free place
-              | inr here ↦
-                  let at : k + 1 ≡ j + 1 = omega (arith, past, here) in
-                  small_digit (pair_at digits place) (from (j + 1)) (get_or (counts_of p) j 0) (omega (arith, so_far.spread.below place, ap from at))
-            ]
-
-    -- sides rest on it
-    module _ (rests : rests_on p i k ≡ true) (d : Digit) (variable : d.variable ≡ k) (count_is : d.count ≡ count) (pair_is : d.in_pair ≡ from (k + 1)) (table_is : d.in_table ≡ places) where
+    module _ (some_places : 1 ≤ places) (d : Digit) (variable : d.variable ≡ k) (count_is : d.count ≡ count) (pair_is : d.in_pair ≡ from (k + 1)) (table_is : d.in_table ≡ places) where
       is_digit : IsDigitOf p d
       is_digit = record {
         variable = omega (arith, lt, variable);
         count = count_is ∙ ap (λ (j : ℕ). get_or (counts_of p) j 0) (sym variable);
         some = omega (arith, some_count, count_is);
         in_pair = pair_is ∙ ap (λ (j : ℕ). from (j + 1)) (sym variable);
-        some_place = omega (arith, so_far.some, table_is);
+        some_place = omega (arith, some_places, table_is);
       }
 
       some_here : 0 < d.count
       some_here = omega (arith, some_count, count_is)
 
-      kept : (j : ℕ) → HasDigit digits j → HasDigit (digits ++ d ∷ []) j
-      kept j has = (has.0, omega (arith, has.1, length-append digits (d ∷ [])), λ z. ap (λ (e : Digit). e.variable) (get_or_append_left digits (d ∷ []) z has.0 has.1) ∙ has.2 z)
+      spread_is : d.count * d.in_pair ≡ from k
+      spread_is = ap₂ (λ (m n : ℕ). m * n) count_is pair_is ∙ sym next
 
-      added : HasDigit (digits ++ d ∷ []) k
-      added = (length digits, omega (arith, length-append digits (d ∷ [])), λ z. ap (λ (e : Digit). e.variable) (get_or-append_seam digits d [] z) ∙ variable)
+      module _ (digits : List Digit) (each : All (IsDigitOf p) digits) where
+        kept : (j : ℕ) → HasDigit digits j → HasDigit (digits ++ d ∷ []) j
+        kept j has = (has.0, omega (arith, has.1, length-append digits (d ∷ [])), λ z. ap (λ (e : Digit). e.variable) (get_or_append_left digits (d ∷ []) z has.0 has.1) ∙ has.2 z)
 
-      all_more : (j : ℕ) → k ≤ j → j < variables → IsTrue (rests_on p i j) → HasDigit (digits ++ d ∷ []) j
-      all_more j past within stands =
+        added : HasDigit (digits ++ d ∷ []) k
+        added = (length digits, omega (arith, length-append digits (d ∷ [])), λ z. ap (λ (e : Digit). e.variable) (get_or-append_seam digits d [] z) ∙ variable)
+
+        each_more : All (IsDigitOf p) (digits ++ d ∷ [])
+        each_more = All-push (IsDigitOf p) digits d each is_digit
+
+        packed_more : Moves in_pair in_table digits places → Moves in_pair in_table (digits ++ d ∷ []) (places * count)
+        packed_more packed =
+            let whole : d.count * places ≡ places * count = ap (λ (n : ℕ). n * places) count_is ∙ mul_comm count places in
+            subst (Moves in_pair in_table (digits ++ d ∷ [])) whole (moves_more in_pair in_table digits places d some_here table_is (table_weights digits each) packed)
+
+  -- ---- one variable more before the others
+  module _ (k last places : ℕ) (digits : List Digit) (within : k < last) (known : last ≤ variables) (so_far : AreDigitsBetween p i (k + 1) last digits places) where
+    lt : k < variables
+    lt = omega (arith, within, known)
+
+    abbrev m : ℕ
+    m = get_or (counts_of p) k 0
+
+    at_next : from k ≡ m * from (k + 1)
+    at_next = next k places lt
+
+    whole_more : IsMultiple (from last) (from k)
+    whole_more = (m * so_far.whole.0, at_next ∙ ap (λ (n : ℕ). m * n) so_far.whole.1 ∙ sym (mul_assoc m so_far.whole.0 (from last)))
+
+    -- no side rests on it
+    pub digits_same : rests_on p i k ≡ false → AreDigitsBetween p i k last digits places
+    digits_same none = record {
+      each = so_far.each;
+      all = all;
+      others = others;
+      packed = so_far.packed;
+      spread = subst (Moves in_table in_pair digits) (sym at_next) (moves_wider in_table in_pair digits (from (k + 1)) m (some_count k places lt) so_far.spread);
+      above = so_far.above;
+      whole = whole_more;
+      some = so_far.some;
+      few = omega (arith, so_far.few, at_next, mul-le 1 (from (k + 1)) m (from (k + 1)) (some_count k places lt) (omega arith));
+    }
+      where
+        all : (j : ℕ) → k ≤ j → j < last → IsTrue (rests_on p i j) → HasDigit digits j
+        all j past before stands =
+            elim (cases_lt k j) [
+              | inl later ↦ so_far.all j (omega (arith, later)) before stands
+              | inr here ↦
+                  let at : j ≡ k = omega (arith, past, here) in
+                  absurd (both_ways (rests_on p i k) none (ap (rests_on p i) (sym at) ∙ stands))
+            ]
+
+        -- it is below the digits so far, and so has the first place
+        others : (j : ℕ) → k ≤ j → j < last → IsFalse (rests_on p i j) → (place : ℕ) → pair_at digits place / from (j + 1) % get_or (counts_of p) j 0 ≡ 0
+        others j past before free place =
+            elim (cases_lt k j) [
+              | inl later ↦ so_far.others j (omega (arith, later)) before free place
+              | inr here ↦
+                  let at : k + 1 ≡ j + 1 = omega (arith, past, here) in
+                  small_digit (pair_at digits place) (from (j + 1)) (get_or (counts_of p) j 0) (omega (arith, so_far.spread.below place, ap from at))
+            ]
+
+    -- sides rest on it
+    module _ (rests : rests_on p i k ≡ true) (d : Digit) (variable : d.variable ≡ k) (count_is : d.count ≡ m) (pair_is : d.in_pair ≡ from (k + 1)) (table_is : d.in_table ≡ places) where
+      some_d : 0 < d.count
+      some_d = some_here k places lt so_far.some d variable count_is pair_is table_is
+
+      all_more : (j : ℕ) → k ≤ j → j < last → IsTrue (rests_on p i j) → HasDigit (digits ++ d ∷ []) j
+      all_more j past before stands =
           elim (cases_lt k j) [
-            | inl later ↦ kept j (so_far.all j (omega (arith, later)) within stands)
-            | inr here ↦ let at : k ≡ j = omega (arith, past, here) in subst (HasDigit (digits ++ d ∷ [])) at added
+            | inl later ↦ kept k places lt so_far.some d variable count_is pair_is table_is digits so_far.each j (so_far.all j (omega (arith, later)) before stands)
+            | inr here ↦ let at : k ≡ j = omega (arith, past, here) in subst (HasDigit (digits ++ d ∷ [])) at (added k places lt so_far.some d variable count_is pair_is table_is digits so_far.each)
           ]
 
-      others_more : (j : ℕ) → k ≤ j → j < variables → IsFalse (rests_on p i j) → (place : ℕ) → pair_at (digits ++ d ∷ []) place / from (j + 1) % get_or (counts_of p) j 0 ≡ 0
-      others_more j past within free place =
+      others_more : (j : ℕ) → k ≤ j → j < last → IsFalse (rests_on p i j) → (place : ℕ) → pair_at (digits ++ d ∷ []) place / from (j + 1) % get_or (counts_of p) j 0 ≡ 0
+      others_more j past before free place =
           elim (cases_lt k j) [
             | inl later ↦
                 let c : ℕ = get_or (counts_of p) j 0 in
                 let t : ℕ = from (j + 1) in
                 let q : ℕ = place / in_table d % d.count in
                 let s : ℕ = pair_at digits place in
-                let known : j < length (counts_of p) = omega (arith, within, counts_long p) in
-                let f = factor_from (counts_of p) (k + 1) j (omega (arith, later)) known in
-                let some_c : 0 < c = All-get_or IsSome (counts_of p) j 0 known (some_counts p plant sound) in
-                ap (λ (n : ℕ). n / t % c) (sum_is in_table in_pair digits (from (k + 1)) d some_here pair_is (pair_weights digits so_far.each) so_far.spread place ∙ ap (λ (n : ℕ). q * n + s) f.1)
+                let there : j < length (counts_of p) = omega (arith, before, known, counts_long p) in
+                let f = factor_from (counts_of p) (k + 1) j (omega (arith, later)) there in
+                let some_c : 0 < c = All-get_or IsSome (counts_of p) j 0 there (some_counts p plant sound) in
+                ap (λ (n : ℕ). n / t % c) (sum_is in_table in_pair digits (from (k + 1)) d some_d pair_is (pair_weights digits so_far.each) so_far.spread place ∙ ap (λ (n : ℕ). q * n + s) f.1)
                 ∙ lower_digit q f.0 c t s some_c (some_from (j + 1))
-                ∙ so_far.others j (omega (arith, later)) within free place
+                ∙ so_far.others j (omega (arith, later)) before free place
             | inr here ↦
                 let at : k ≡ j = omega (arith, past, here) in
                 absurd (both_ways (rests_on p i k) (ap (rests_on p i) at ∙ free) rests)
           ]
 
-      packed_is : d.count * places ≡ places * count
-      packed_is = ap (λ (n : ℕ). n * places) count_is ∙ mul_comm count places
+      spread_more : d.count * from (k + 1) ≡ from k
+      spread_more = ap (λ (n : ℕ). n * from (k + 1)) count_is ∙ sym at_next
 
-      spread_is : d.count * from (k + 1) ≡ from k
-      spread_is = ap (λ (n : ℕ). n * from (k + 1)) count_is ∙ sym next
-
-      pub digits_more : AreDigitsFrom p i k (digits ++ d ∷ []) (places * count)
+      pub digits_more : AreDigitsBetween p i k last (digits ++ d ∷ []) (places * m)
       digits_more = record {
-        each = All-push (IsDigitOf p) digits d so_far.each is_digit;
+        each = each_more k places lt so_far.some d variable count_is pair_is table_is digits so_far.each;
         all = all_more;
         others = others_more;
-        packed = subst (Moves in_pair in_table (digits ++ d ∷ [])) packed_is (moves_more in_pair in_table digits places d some_here table_is (table_weights digits so_far.each) so_far.packed);
-        spread = subst (Moves in_table in_pair (digits ++ d ∷ [])) spread_is (moves_more in_table in_pair digits (from (k + 1)) d some_here pair_is (pair_weights digits so_far.each) so_far.spread);
-        some = mul-le 1 1 places count so_far.some some_count;
-        few = omega (arith, mul-le places count (from (k + 1)) count so_far.few (omega arith), next, mul_comm count (from (k + 1)));
+        packed = packed_more k places lt so_far.some d variable count_is pair_is table_is digits so_far.each so_far.packed;
+        spread = subst (Moves in_table in_pair (digits ++ d ∷ [])) spread_more (moves_more in_table in_pair digits (from (k + 1)) d some_d pair_is (pair_weights digits so_far.each) so_far.spread);
+        above = All-push (λ (e : Digit). IsMultiple (from last) e.in_pair) digits d so_far.above (so_far.whole.0, pair_is ∙ so_far.whole.1);
+        whole = whole_more;
+        some = mul-le 1 1 places m so_far.some (some_count k places lt);
+        few = omega (arith, mul-le m (places * from last) m (from (k + 1)) (omega arith) so_far.few, at_next, mul_assoc m places (from last), mul_comm m places);
       }
 
+  -- ---- one variable more behind the others
+  module _ (k places : ℕ) (digits : List Digit) (known : k < variables) (so_far : AreDigitsBetween p i 0 k digits places) where
+    abbrev n : ℕ
+    n = get_or (counts_of p) k 0
+
+    at_last : from k ≡ n * from (k + 1)
+    at_last = next k places known
+
+    -- a multiple of all from the variable on is one of those behind it
+    finer : (x : ℕ) → IsMultiple (from k) x → IsMultiple (from (k + 1)) x
+    finer x multiple = (multiple.0 * n, multiple.1 ∙ ap (λ (t : ℕ). multiple.0 * t) at_last ∙ sym (mul_assoc multiple.0 n (from (k + 1))))
+
+    above_more : All (λ (e : Digit). IsMultiple (from (k + 1)) e.in_pair) digits
+    above_more = All-weaker (λ (e : Digit). IsMultiple (from k) e.in_pair) (λ (e : Digit). IsMultiple (from (k + 1)) e.in_pair) (λ e multiple. finer e.in_pair multiple) digits so_far.above
+
+    whole_finer : IsMultiple (from (k + 1)) (from 0)
+    whole_finer = finer (from 0) so_far.whole
+
+    -- no side rests on it
+    pub digits_still : rests_on p i k ≡ false → AreDigitsBetween p i 0 (k + 1) digits places
+    digits_still none = record {
+      each = so_far.each;
+      all = all;
+      others = others;
+      packed = so_far.packed;
+      spread = so_far.spread;
+      above = above_more;
+      whole = whole_finer;
+      some = so_far.some;
+      few = omega (arith, so_far.few, mul-le places (from (k + 1)) places (from k) (omega arith) (omega (arith, at_last, mul-le 1 (from (k + 1)) n (from (k + 1)) (some_count k places known) (omega arith))));
+    }
+      where
+        all : (j : ℕ) → 0 ≤ j → j < k + 1 → IsTrue (rests_on p i j) → HasDigit digits j
+        all j past within stands =
+            elim (cases_lt j k) [
+              | inl before ↦ so_far.all j past before stands
+              | inr here ↦
+                  let at : j ≡ k = omega (arith, within, here) in
+                  absurd (both_ways (rests_on p i k) none (ap (rests_on p i) (sym at) ∙ stands))
+            ]
+
+        -- the digits so far are above it
+        at_first : (place : ℕ) → pair_at digits place / from (k + 1) % n ≡ 0
+        at_first place =
+            let h = multiple_sum in_table in_pair (from k) digits so_far.above place in
+            let once : h.0 * from k ≡ h.0 * (1 * (n * from (k + 1))) + 0 = ap (λ (t : ℕ). h.0 * t) at_last ∙ omega arith in
+            ap (λ (x : ℕ). x / from (k + 1) % n) (h.1 ∙ once)
+            ∙ lower_digit h.0 1 n (from (k + 1)) 0 (some_count k places known) (some_from (k + 1))
+            ∙ small_digit 0 (from (k + 1)) n (some_from (k + 1))
+
+        others : (j : ℕ) → 0 ≤ j → j < k + 1 → IsFalse (rests_on p i j) → (place : ℕ) → pair_at digits place / from (j + 1) % get_or (counts_of p) j 0 ≡ 0
+        others j past within free place =
+            elim (cases_lt j k) [
+              | inl before ↦ so_far.others j past before free place
+              | inr here ↦
+                  let at : k ≡ j = omega (arith, within, here) in
+                  subst (λ (l : ℕ). pair_at digits place / from (l + 1) % get_or (counts_of p) l 0 ≡ 0) at (at_first place)
+            ]
+
+    -- sides rest on it
+    module _ (rests : rests_on p i k ≡ true) (d : Digit) (variable : d.variable ≡ k) (count_is : d.count ≡ n) (pair_is : d.in_pair ≡ from (k + 1)) (table_is : d.in_table ≡ places) where
+      some_own : 0 < d.count
+      some_own = some_here k places known so_far.some d variable count_is pair_is table_is
+
+      weight_is : d.count * d.in_pair ≡ from k
+      weight_is = spread_is k places known so_far.some d variable count_is pair_is table_is
+
+      some_weight : 0 < d.in_pair
+      some_weight = omega (arith, pair_is, some_from (k + 1))
+
+      whole_own : IsMultiple (d.count * d.in_pair) (from 0)
+      whole_own = subst (λ (t : ℕ). IsMultiple t (from 0)) (sym weight_is) so_far.whole
+
+      above_own : All (λ (e : Digit). IsMultiple (d.count * d.in_pair) e.in_pair) digits
+      above_own = subst (λ (t : ℕ). All (λ (e : Digit). IsMultiple t e.in_pair) digits) (sym weight_is) so_far.above
+
+      all_still : (j : ℕ) → 0 ≤ j → j < k + 1 → IsTrue (rests_on p i j) → HasDigit (digits ++ d ∷ []) j
+      all_still j past within stands =
+          elim (cases_lt j k) [
+            | inl before ↦ kept k places known so_far.some d variable count_is pair_is table_is digits so_far.each j (so_far.all j past before stands)
+            | inr here ↦ let at : k ≡ j = omega (arith, within, here) in subst (HasDigit (digits ++ d ∷ [])) at (added k places known so_far.some d variable count_is pair_is table_is digits so_far.each)
+          ]
+
+      -- those from a variable before are a multiple of those from this one
+      multiple_from : (j : ℕ) → j < k → IsMultiple (d.count * d.in_pair) (from (j + 1))
+      multiple_from j before =
+          elim (cases_lt (j + 1) k) [
+            | inl lt ↦
+                let end : k - 1 + 1 ≡ k = omega (arith, lt) in
+                let f = factor_from (counts_of p) (j + 1) (k - 1) (omega (arith, lt)) (omega (arith, lt, known, counts_long p)) in (
+                  f.0 * get_or (counts_of p) (k - 1) 0,
+                  f.1
+                      ∙ sym (mul_assoc f.0 (get_or (counts_of p) (k - 1) 0) (from (k - 1 + 1)))
+                      ∙ ap (λ (t : ℕ). f.0 * get_or (counts_of p) (k - 1) 0 * t) (ap from end ∙ sym weight_is),
+                )
+            | inr past ↦
+                let at : j + 1 ≡ k = omega (arith, before, past) in
+                (1, ap from at ∙ sym weight_is ∙ (let once : d.count * d.in_pair ≡ 1 * (d.count * d.in_pair) = omega arith in once))
+          ]
+
+      others_still : (j : ℕ) → 0 ≤ j → j < k + 1 → IsFalse (rests_on p i j) → (place : ℕ) → pair_at (digits ++ d ∷ []) place / from (j + 1) % get_or (counts_of p) j 0 ≡ 0
+      others_still j past within free place =
+          elim (cases_lt j k) [
+            | inl before ↦
+                let c : ℕ = get_or (counts_of p) j 0 in
+                let w : ℕ = d.count * d.in_pair in
+                let r : ℕ = place / in_table d % d.count * d.in_pair in
+                let h = multiple in_table in_pair digits (from 0) d some_own some_weight whole_own above_own so_far.spread place in
+                let g = multiple_from j before in
+                ap (λ (x : ℕ). x / from (j + 1) % c) (with_own in_table in_pair digits (from 0) d some_own some_weight whole_own above_own so_far.spread place)
+                ∙ ap (λ (t : ℕ). (h.0 * w + r) / t % c) g.1
+                ∙ upper_digit h.0 w g.0 r c (own_below in_table in_pair digits (from 0) d some_own some_weight whole_own above_own so_far.spread place)
+                ∙ ap₂ (λ (x t : ℕ). x / t % c) (sym h.1) (sym g.1)
+                ∙ so_far.others j past before free place
+            | inr here ↦
+                let at : k ≡ j = omega (arith, within, here) in
+                absurd (both_ways (rests_on p i k) (ap (rests_on p i) at ∙ free) rests)
+          ]
+
+      pub digits_below : AreDigitsBetween p i 0 (k + 1) (digits ++ d ∷ []) (places * n)
+      digits_below = record {
+        each = each_more k places known so_far.some d variable count_is pair_is table_is digits so_far.each;
+        all = all_still;
+        others = others_still;
+        packed = packed_more k places known so_far.some d variable count_is pair_is table_is digits so_far.each so_far.packed;
+        spread = moves_below in_table in_pair digits (from 0) d some_own some_weight whole_own above_own so_far.spread;
+        above = All-push (λ (e : Digit). IsMultiple (from (k + 1)) e.in_pair) digits d above_more (1, pair_is ∙ (let once : from (k + 1) ≡ 1 * from (k + 1) = omega arith in once));
+        whole = whole_finer;
+        some = mul-le 1 1 places n so_far.some (some_count k places known);
+        few = omega (arith, so_far.few, ap (λ (t : ℕ). places * t) at_last, mul_assoc places n (from (k + 1)));
+      }
+
+  -- a digit's weight is no more than all pairs
+  pub weight_fits : (k : ℕ) → k < variables → pairs_of p ≤ 2 ^ 22 → from (k + 1) * get_or (counts_of p) k 0 < 2 ^ 32
+  weight_fits k known limit =
+      omega (arith, limit, next_combinations p k known, mul_comm (get_or (counts_of p) k 0) (from (k + 1)), fewer k (counts_of p) (some_counts p plant sound), all_combinations p)
+
+  -- one variable more makes no more than all pairs
+  pub few_more : (k last places : ℕ) (digits : List Digit) → k < last → last ≤ variables → AreDigitsBetween p i (k + 1) last digits places → pairs_of p ≤ 2 ^ 22 → places * get_or (counts_of p) k 0 < 2 ^ 32
+  few_more k last places digits within known so_far limit =
+      let count : ℕ = get_or (counts_of p) k 0 in
+      let lt : k < variables = omega (arith, within, known) in
+      let few : places ≤ from (k + 1) = omega (arith, so_far.few, mul-le places 1 places (from last) (omega arith) (some_from last)) in
+      omega (arith, limit, mul-le places count (from (k + 1)) count few (omega arith), next_combinations p k lt, mul_comm count (from (k + 1)), fewer k (counts_of p) (some_counts p plant sound), all_combinations p)
+
+  pub few_still : (k places : ℕ) (digits : List Digit) → k < variables → AreDigitsBetween p i 0 k digits places → pairs_of p ≤ 2 ^ 22 → places * get_or (counts_of p) k 0 < 2 ^ 32
+  few_still k places digits known so_far limit =
+      let count : ℕ = get_or (counts_of p) k 0 in
+      let least : places * count * 1 ≤ places * count * from (k + 1) = mul-le (places * count) 1 (places * count) (from (k + 1)) (omega arith) (some_from (k + 1)) in
+      omega (arith, limit, least, so_far.few, ap (λ (t : ℕ). places * t) (next_combinations p k known), mul_assoc places count (from (k + 1)), all_combinations p)
+
   -- ---- what the digits say of pairs
-  module _ (digits : List Digit) (places : ℕ) (are : AreDigitsFrom p i 0 digits places) where
+  module _ (digits : List Digit) (places : ℕ) (are : AreDigitsOf p i digits places) where
     abbrev vectors : ℕ
     vectors = vectors_of p.inputs
 
@@ -186,7 +370,7 @@ module _ (p : Description) (plant : IsPlant p) (sound : IsSound p) (i : ℕ) whe
     place_below n = are.packed.below n
 
     pub few_places : places ≤ pairs_of p
-    few_places = omega (arith, are.few, all_combinations p)
+    few_places = omega (arith, are.few, ap (λ (t : ℕ). places * t) none_from, all_combinations p)
 
     pub pair_below : (place : ℕ) → pair_at digits place < pairs_of p
     pair_below place = omega (arith, are.spread.below place, all_combinations p)

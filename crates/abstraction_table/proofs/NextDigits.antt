@@ -40,3 +40,9 @@ module _ (t m n digit left : ℕ) (is : IsDigitAt t m n digit left) where
     digit_starts some_m below past =
         let next = over (n / t) m some_m (omega (arith, below, past, is.digit_is)) in
         record { digit_is = omega (arith, next.rest_is, ap (λ (q : ℕ). q % m) next_place.quotient_is); left_is = omega (arith, next_place.rest_is) }
+
+-- a digit is the same at all numbers before its next
+pub digit_lasts : (t m n j : ℕ) → n % t + j < t → (n + j) / t % m ≡ n / t % m
+digit_lasts t m n j within =
+    let whole : n + j ≡ n / t * t + (n % t + j) = omega (arith, div-add-mod' n t) in
+    ap (λ (q : ℕ). q % m) (ap (λ (k : ℕ). k / t) whole ∙ div-mul-add (n / t) t (n % t + j) within)

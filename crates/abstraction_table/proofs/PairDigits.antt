@@ -93,6 +93,12 @@ module _ (p : Description) where
   pub all_combinations : combinations (counts_of p) ≡ pairs_of p
   all_combinations = combinations-append counts_along value_counts ∙ ap₂ (λ (m n : ℕ). m * n) (of_axes (axes_of p)) (of_inputs p.inputs)
 
+  -- those of the input variables alone
+  pub input_combinations : combinations (drop (length p.states) (counts_of p)) ≡ vectors_of p.inputs
+  input_combinations =
+      let at : length p.states ≡ length counts_along + 0 = omega (arith, along_long) in
+      ap (λ (i : ℕ). combinations (drop i (counts_of p))) at ∙ ap combinations (drop-append-add counts_along value_counts 0) ∙ of_inputs p.inputs
+
   pub some_counts : IsPlant p → IsSound p → All (λ n. 1 ≤ n) (counts_of p)
   some_counts plant sound =
       All-append (λ (n : ℕ). 1 ≤ n) counts_along value_counts

@@ -16,7 +16,7 @@ use Rattle.successor_box.specs.Laws.{SidesRestOnPlaces}
 use Rattle.abstraction_table.specs.declared.digits.Digit.{Digit}
 use Rattle.abstraction_table.specs.declared.sides.SideTable.{SideTable}
 use Rattle.abstraction_table.specs.Abstraction.{pairs_of, pair_of}
-use Rattle.abstraction_table.specs.inside.Digits.{place_at, pair_at, IsDigitOf, AreDigitsFrom}
+use Rattle.abstraction_table.specs.inside.Digits.{place_at, pair_at, IsDigitOf, AreDigitsOf}
 use Rattle.abstraction_table.specs.inside.Sides.{ArePlacesOf, first_in, first_of, side_in, HasPlaceFor, BringAs, HoldsSidesAlong, IsSideFor}
 use Rattle.abstraction_table.proofs.PairDigits.{state_place}
 use Rattle.abstraction_table.proofs.EquationDigits.{place_below, few_places, cell_below, alike, place_is}
@@ -34,7 +34,7 @@ tables_more p tables n t long each here i d lt =
     ]
 
 -- what was found for each place is a table of all sides
-module _ (rest : SidesRestOnPlaces) (p : Description) (plant : IsPlant p) (sound : IsSound p) (limit : pairs_of p ≤ 2 ^ 22) (i : ℕ) (lt : i < length p.equations) (t : SideTable) (places : ℕ) (are : AreDigitsFrom p i 0 t.digits.items places)
+module _ (rest : SidesRestOnPlaces) (p : Description) (plant : IsPlant p) (sound : IsSound p) (limit : pairs_of p ≤ 2 ^ 22) (i : ℕ) (lt : i < length p.equations) (t : SideTable) (places : ℕ) (are : AreDigitsOf p i t.digits.items places)
     (inputs_long : length t.inputs.items ≡ vectors_of p.inputs) (inputs_are : (u : ℕ) → u < vectors_of p.inputs → get_or t.inputs.items u 0 ≡ place_at t.digits.items u)
     (moves : t.moves ≡ moves_along p i) (sides_long : length t.sides.items ≡ places) (sides_are : (place : ℕ) → place < places → IsSideFor p i t.digits.items place (get_or t.sides.items place None)) where
   place_of_pair : (c u : ℕ) → u < vectors_of p.inputs → first_of p t c + get_or t.inputs.items u 0 ≡ place_at t.digits.items (pair_of p c u)

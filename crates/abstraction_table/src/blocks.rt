@@ -4,7 +4,7 @@ ghost use Rattle.fixed_expr.specs.declared.lanes.TheConstants.{LANES};
 ghost use Rattle.plant_record.specs.Description.{vectors_of};
 ghost use Rattle.successor_box.specs.Deviations.{HasNoOverflow, deviations_of};
 ghost use Rattle.successor_box.specs.Sides.{place_in, IsPairInRow};
-ghost use Rattle.abstraction_table.specs.inside.Digits.{AreDigitsFrom, IsDigitAt, pair_at};
+ghost use Rattle.abstraction_table.specs.inside.Digits.{AreDigitsOf, IsDigitAt, pair_at};
 ghost use Rattle.abstraction_table.specs.inside.Sides.{IsSideFor};
 
 use crate::digits::{Digit, Digits};
@@ -30,7 +30,7 @@ pub(crate) fn fill_chunk(
     requires slopes { s.now ≡ deviations_of p.now }
     requires fits { HasNoOverflow p.now }
     requires state { state < length p.now.equations }
-    requires digits { AreDigitsFrom p.now state 0 digits.now.each.items digits.now.places }
+    requires digits { AreDigitsOf p.now state digits.now.each.items digits.now.places }
     requires room { place + length chunk.old < 2 ^ 32 }
     ensures long { length chunk.new ≡ length chunk.old }
     ensures each { (j : ℕ) → j < length chunk.old → IsSideFor p.now state digits.now.each.items (place + j) (slice_index_or chunk.new j None) }
@@ -61,7 +61,7 @@ fn fill_block(
     requires slopes { s.now ≡ deviations_of p.now }
     requires fits { HasNoOverflow p.now }
     requires state { state < length p.now.equations }
-    requires digits { AreDigitsFrom p.now state 0 digits.now.each.items digits.now.places }
+    requires digits { AreDigitsOf p.now state digits.now.each.items digits.now.places }
     requires few { length block.old ≤ LANES }
     ensures long { length block.new ≡ length block.old }
     ensures each { (j : ℕ) → j < length block.old → IsSideFor p.now state digits.now.each.items (place + j) (slice_index_or block.new j None) }
@@ -75,7 +75,7 @@ fn fill_block(
 /// The places of these pairs in each state and each input variable.
 fn places_from(p: &Plant, state: u32, digits: &Digits, place: u32) -> [[u32; LANES]; 9]
     requires state { state < length p.now.equations }
-    requires digits { AreDigitsFrom p.now state 0 digits.now.each.items digits.now.places }
+    requires digits { AreDigitsOf p.now state digits.now.each.items digits.now.places }
     ensures { (j : ℕ) → j < LANES → IsPairInRow p.now result j (pair_at digits.now.each.items (place + j) / vectors_of p.now.inputs) (pair_at digits.now.each.items (place + j) % vectors_of p.now.inputs) }
 {
     every_plant_is_within_limits(p);
@@ -90,7 +90,7 @@ fn places_from(p: &Plant, state: u32, digits: &Digits, place: u32) -> [[u32; LAN
 /// The places of these pairs in one variable.
 fn places_in(p: &Plant, state: u32, digits: &Digits, variable: u32, place: u32) -> [u32; LANES]
     requires state { state < length p.now.equations }
-    requires digits { AreDigitsFrom p.now state 0 digits.now.each.items digits.now.places }
+    requires digits { AreDigitsOf p.now state digits.now.each.items digits.now.places }
     requires variable { variable < length p.now.states + length p.now.inputs }
     ensures { (j : ℕ) → j < LANES → slice_index_or result j 0 ≡ place_in p.now (pair_at digits.now.each.items (place + j) / vectors_of p.now.inputs) (pair_at digits.now.each.items (place + j) % vectors_of p.now.inputs) variable }
 {
@@ -109,9 +109,12 @@ fn digit_at(d: &Digit, place: u32) -> [u32; LANES]
     requires counted { (0 < d.now.count) × (0 < d.now.in_table) }
     ensures { (j : ℕ) → j < LANES → slice_index_or result j 0 ≡ (place + j) / d.now.in_table % d.now.count }
 {
-    let mut digits = [0; LANES];
     let mut digit = place / d.in_table % d.count;
     let mut left = d.in_table - place % d.in_table;
+    if left >= LANES as u32 {
+        return [digit; LANES];
+    }
+    let mut digits = [0; LANES];
     for j in 0..LANES {
         digits[j] = digit;
         (digit, left) = next_digit(d, digit, left);

@@ -1,8 +1,8 @@
 //! The digits of a pair on which the sides along a state's axis rest.
-ghost use Rattle.std.specs.Prelude.{◌≡◌, ◌+◌, ◌^◌, ◌<◌, length, slice_index, IfOk};
+ghost use Rattle.std.specs.Prelude.{◌≡◌, ◌+◌, ◌*◌, ◌^◌, ◌<◌, [], length, slice_index, IfOk, IsTrue, IsFalse};
 ghost use Rattle.std.specs.List.{All};
 ghost use Rattle.successor_box.specs.Sides.{rests_on};
-ghost use Rattle.abstraction_table.specs.inside.Digits.{AreDigitsFrom, counts_of, place_at};
+ghost use Rattle.abstraction_table.specs.inside.Digits.{AreDigitsBetween, AreDigitsOf, IsWithDigit, IsAsBefore, counts_of, place_at};
 
 use plant_record::Plant;
 use plant_record::laws::{every_plant_is_within_limits, plants_are_sound};
@@ -25,33 +25,84 @@ pub(crate) struct Digits {
     pub(crate) places: u32,
 }
 
-/// The digits of a state's equation: one for each variable in it on which sides rest, the last one first.
+/// The digits of a state's equation: one for each variable in it on which sides rest. Those of the states are below those
+/// of the input variables, and that of the last state is the lowest: from one place to the next mostly it alone varies.
 pub(crate) fn find_digits(alloc: Global, p: &Plant, state: u32) -> Result<Digits, AllocError>
     requires { state < length p.now.equations }
-    ensures { IfOk result (λ digits. AreDigitsFrom p.now state 0 digits.each.items digits.places) }
+    ensures { IfOk result (λ digits. AreDigitsOf p.now state digits.each.items digits.places) }
 {
     every_plant_is_within_limits(p);
     plants_are_sound();
-    let mut each = Vec::new(alloc);
-    let mut in_pair = 1;
-    let mut in_table = 1;
-    for variable in (0..p.states() + p.input_variables()).rev() {
-        let count = count_of(p, variable);
+    let mut digits = Digits {
+        each: Vec::new(alloc),
+        places: 1,
+    };
+    digits.add_states(p, state)?;
+    digits.add_input_variables(p, state)?;
+    Ok(digits)
+}
+
+impl Digits {
+    /// Adds the digits of the states, the last one first.
+    fn add_states(&mut self, p: &Plant, state: u32) -> Result<(), AllocError>
+        requires state { state < length p.now.equations }
+        requires none { self.old.each.items ≡ [] }
+        requires one { self.old.places ≡ 1 }
+        ensures { IfOk result (λ _. AreDigitsBetween p.now state 0 (length p.now.states) self.new.each.items self.new.places) }
+    {
+        every_plant_is_within_limits(p);
+        plants_are_sound();
+        let mut in_pair = p.vectors();
+        for variable in (0..p.states()).rev() {
+            let count = count_of(p, variable);
+            self.add(p, state, variable, count, in_pair)?;
+            in_pair *= count;
+        }
+        Ok(())
+    }
+
+    /// Adds the digits of the input variables, the first one first.
+    fn add_input_variables(&mut self, p: &Plant, state: u32) -> Result<(), AllocError>
+        requires state { state < length p.now.equations }
+        requires states { AreDigitsBetween p.now state 0 (length p.now.states) self.old.each.items self.old.places }
+        ensures { IfOk result (λ _. AreDigitsOf p.now state self.new.each.items self.new.places) }
+    {
+        every_plant_is_within_limits(p);
+        plants_are_sound();
+        let mut in_pair = p.vectors();
+        for variable in p.states()..p.states() + p.input_variables() {
+            let count = count_of(p, variable);
+            in_pair /= count;
+            self.add(p, state, variable, count, in_pair)?;
+        }
+        Ok(())
+    }
+
+    /// Adds the digit of a variable above the others in the table, if sides rest on it.
+    fn add(
+        &mut self,
+        p: &Plant,
+        state: u32,
+        variable: u32,
+        count: u32,
+        in_pair: u32,
+    ) -> Result<(), AllocError>
+        requires state { state < length p.now.equations }
+        requires fits { self.old.places * count < 2 ^ 32 }
+        ensures rests { IfOk result (λ _. IsTrue (rests_on p.now state variable) → IsWithDigit variable count in_pair self.old self.new) }
+        ensures free { IfOk result (λ _. IsFalse (rests_on p.now state variable) → IsAsBefore self.old self.new) }
+    {
         if has_digit(p, state, variable) {
-            each.push(Digit {
+            self.each.push(Digit {
                 variable,
                 count,
                 in_pair,
-                in_table,
+                in_table: self.places,
             })?;
-            in_table *= count;
+            self.places *= count;
         }
-        in_pair *= count;
+        Ok(())
     }
-    Ok(Digits {
-        each,
-        places: in_table,
-    })
 }
 
 /// Whether the sides along a state's axis rest on a variable: it stands in the state's equation, and isn't

@@ -3,7 +3,7 @@ ghost use Rattle.std.specs.Prelude.{◌≡◌, ℕ, ◌+◌, ◌*◌, ◌/◌, �
 ghost use Rattle.std.specs.List.{All};
 ghost use Rattle.plant_record.specs.Description.{vectors_of};
 ghost use Rattle.successor_box.specs.Deviations.{HasNoOverflow, deviations_of};
-ghost use Rattle.abstraction_table.specs.inside.Digits.{AreDigitsFrom, place_at};
+ghost use Rattle.abstraction_table.specs.inside.Digits.{AreDigitsOf, place_at};
 ghost use Rattle.abstraction_table.specs.inside.Rows.{StaysAlongRows};
 ghost use Rattle.abstraction_table.specs.inside.Sides.{first_in, side_in, HasPlaceFor, HoldsSidesAlong, HoldSides, IsSideFor};
 
@@ -128,7 +128,7 @@ fn find_inputs(
     state: u32,
     digits: &Digits,
 ) -> Result<Vec<u32>, AllocError>
-    requires { AreDigitsFrom p.now state 0 digits.now.each.items digits.now.places }
+    requires { AreDigitsOf p.now state digits.now.each.items digits.now.places }
     ensures long { IfOk result (λ inputs. length inputs.items ≡ vectors_of p.now.inputs) }
     ensures each { IfOk result (λ inputs. (u : ℕ) → u < vectors_of p.now.inputs → slice_index_or inputs.items u 0 ≡ place_at digits.now.each.items u) }
 {
@@ -154,7 +154,7 @@ fn find_sides<R: Threads + Sync>(
     requires slopes { s.now ≡ deviations_of p.now }
     requires fits { HasNoOverflow p.now }
     requires state { state < length p.now.equations }
-    requires digits { AreDigitsFrom p.now state 0 digits.now.each.items digits.now.places }
+    requires digits { AreDigitsOf p.now state digits.now.each.items digits.now.places }
     ensures long { IfOk result (λ sides. length sides.items ≡ digits.now.places) }
     ensures each { IfOk result (λ sides. (place : ℕ) → place < digits.now.places → IsSideFor p.now state digits.now.each.items place (slice_index_or sides.items place None)) }
 {
@@ -169,7 +169,7 @@ fn find_sides<R: Threads + Sync>(
             requires slopes { s.now ≡ deviations_of p.now }
             requires fits { HasNoOverflow p.now }
             requires state { state < length p.now.equations }
-            requires digits { AreDigitsFrom p.now state 0 digits.now.each.items digits.now.places }
+            requires digits { AreDigitsOf p.now state digits.now.each.items digits.now.places }
             requires room { place + length chunk.now < 2 ^ 32 }
             ensures { (j : ℕ) → j < length chunk.entry.now → IsSideFor p.entry.now state digits.entry.now.each.items (place + j) (slice_index_or chunk.exit.now j None) }
         {

@@ -8,3 +8,4 @@ pub mod Pieces
 pub mod PointsPassed
 pub mod Laws
 mod Standing
+pub mod RowValues

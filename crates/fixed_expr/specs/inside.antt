@@ -3,3 +3,4 @@ pub mod Progress
 pub mod Passed
 pub mod Alike
 pub mod Listing
+pub mod RowValues

@@ -1,79 +1,212 @@
 // Values in 64 bits, in many rows at once: several times as fast a value as in one row.
 
-ghost use Rattle.std.specs.Prelude.{length};
+ghost use Rattle.std.specs.Prelude.{◌≡◌, ℕ, ◌<◌, pos, neg_ℤ, nat_abs, ◌≤ℤ◌, length, IsTrue};
+ghost use Rattle.fixed_expr.specs.declared.lanes.TheConstants.{LANES};
+ghost use Rattle.fixed_expr.specs.Curves.{curve_value};
 ghost use Rattle.fixed_expr.specs.Expression.{expression_of};
+ghost use Rattle.fixed_expr.specs.Lanes.{at, Holds, AnswersLanes};
+ghost use Rattle.fixed_expr.specs.Quotient.{floor_div};
 ghost use Rattle.fixed_expr.specs.Value.{IsWellFormed};
 ghost use Rattle.fixed_expr.specs.Rows.{AnswersRows};
+ghost use Rattle.fixed_expr.specs.inside.Listing.{combined, combined_number};
+ghost use Rattle.fixed_expr.specs.inside.RowValues.{value_in, AreNumbers, AnswersNumbers, AnswersValues};
 
+use crate::curve::Curve;
 use crate::expr::Expr;
 use crate::lanes::{
     LANES, add_to, copy_to, divide_by, look_up, lower_to, make_absolute, multiply_by, negate,
     raise_to, subtract_from,
 };
 use crate::narrow::narrow;
+use crate::operation::{Binary, combine};
+
+/// The values of an expression in many rows: one that is the same in all of them, or those in a list.
+#[derive(Clone, Copy)]
+enum Values {
+    Alike(i64),
+    Listed,
+}
 
 /// The values of an expression in each of `LANES` rows of values of its variables, given by
 /// columns: None where the value of some node in some row, or a divisor, leaves 64 bits. Each level
 /// of the expression takes a frame of the stack, with 8 bytes for each row in it.
-#[tactic(auto, using(crate::proofs::Columns::variable_in_row))]
 pub fn eval_rows(e: &Expr, columns: &[[i64; LANES]], found: &mut [i64; LANES]) -> Option<()>
     requires { IsWellFormed (expression_of e.now) (length columns.now) }
     ensures { AnswersRows result (expression_of e.now) columns.now found.new }
 {
-    let mut other = [0; LANES];
+    let values = find_values(e, columns, found)?;
+    list(values, found);
+    Some(())
+}
+
+/// The values of an expression: mostly few variables differ from row to row, and what rests on the others alone is worked
+/// out once.
+#[cycle(values)]
+#[tactic(auto, using(crate::proofs::Columns::variable_in_row))]
+fn find_values(e: &Expr, columns: &[[i64; LANES]], found: &mut [i64; LANES]) -> Option<Values>
+    requires { IsWellFormed (expression_of e.now) (length columns.now) }
+    ensures { AnswersValues result (expression_of e.now) columns.now found.new }
+{
     match e {
-        Expr::Num(k) => {
-            found.fill(narrow(*k)?);
-            Some(())
-        }
-        Expr::Var(i) => {
-            copy_to(found, &columns[*i as usize]);
-            Some(())
-        }
+        Expr::Num(k) => Some(Values::Alike(narrow(*k)?)),
+        Expr::Var(i) => Some(column_values(&columns[*i as usize], found)),
+        Expr::Add(a, b) => find_combined(Binary::Add, a, b, columns, found),
+        Expr::Sub(a, b) => find_combined(Binary::Subtract, a, b, columns, found),
+        Expr::Mul(a, b) => find_combined(Binary::Multiply, a, b, columns, found),
+        Expr::Min(a, b) => find_combined(Binary::TakeLesser, a, b, columns, found),
+        Expr::Max(a, b) => find_combined(Binary::TakeGreater, a, b, columns, found),
         Expr::Neg(a) => {
-            eval_rows(a, columns, found)?;
-            negate(found)
-        }
-        Expr::Add(a, b) => {
-            eval_rows(a, columns, found)?;
-            eval_rows(b, columns, &mut other)?;
-            add_to(found, &other)
-        }
-        Expr::Sub(a, b) => {
-            eval_rows(a, columns, found)?;
-            eval_rows(b, columns, &mut other)?;
-            subtract_from(found, &other)
-        }
-        Expr::Mul(a, b) => {
-            eval_rows(a, columns, found)?;
-            eval_rows(b, columns, &mut other)?;
-            multiply_by(found, &other)
+            let values = find_values(a, columns, found)?;
+            negate_values(values, found)
         }
         Expr::Div(a, k) => {
             let divisor = narrow(*k)?;
-            eval_rows(a, columns, found)?;
-            divide_by(found, divisor);
-            Some(())
-        }
-        Expr::Min(a, b) => {
-            eval_rows(a, columns, found)?;
-            eval_rows(b, columns, &mut other)?;
-            lower_to(found, &other);
-            Some(())
-        }
-        Expr::Max(a, b) => {
-            eval_rows(a, columns, found)?;
-            eval_rows(b, columns, &mut other)?;
-            raise_to(found, &other);
-            Some(())
+            let values = find_values(a, columns, found)?;
+            Some(divide_values(values, divisor, found))
         }
         Expr::Abs(a) => {
-            eval_rows(a, columns, found)?;
-            make_absolute(found)
+            let values = find_values(a, columns, found)?;
+            make_values_absolute(values, found)
         }
         Expr::Lut(a, curve) => {
-            eval_rows(a, columns, found)?;
+            let values = find_values(a, columns, found)?;
+            Some(look_values_up(values, curve, found))
+        }
+    }
+}
+
+/// The values of a variable.
+fn column_values(column: &[i64; LANES], found: &mut [i64; LANES]) -> Values
+    ensures { AreNumbers result found.new (λ k. at column.now k) }
+{
+    if are_alike(column) {
+        return Values::Alike(column[0]);
+    }
+    copy_to(found, column);
+    Values::Listed
+}
+
+/// Whether all numbers are the same.
+fn are_alike(column: &[i64; LANES]) -> bool
+    ensures { IsTrue result → (k : ℕ) → k < LANES → at column.now k ≡ at column.now 0 }
+{
+    for k in 1..LANES {
+        if column[k] != column[0] {
+            return false;
+        }
+    }
+    true
+}
+
+/// The values of two expressions combined.
+#[cycle(values)]
+fn find_combined(
+    binary: Binary,
+    a: &Expr,
+    b: &Expr,
+    columns: &[[i64; LANES]],
+    found: &mut [i64; LANES],
+) -> Option<Values>
+    requires first { IsWellFormed (expression_of a.now) (length columns.now) }
+    requires second { IsWellFormed (expression_of b.now) (length columns.now) }
+    ensures { AnswersValues result (combined binary (expression_of a.now) (expression_of b.now)) columns.now found.new }
+{
+    let mut other = [0; LANES];
+    let left = find_values(a, columns, found)?;
+    let right = find_values(b, columns, &mut other)?;
+    combine_values(binary, left, right, found, &mut other)
+}
+
+fn combine_values(
+    binary: Binary,
+    left: Values,
+    right: Values,
+    found: &mut [i64; LANES],
+    other: &mut [i64; LANES],
+) -> Option<Values>
+    ensures { AnswersNumbers result found.new (λ k. combined_number binary (value_in left found.old k) (value_in right other.old k)) }
+{
+    if let (Values::Alike(x), Values::Alike(y)) = (left, right) {
+        return Some(Values::Alike(combine(binary, x, y)?));
+    }
+    list(left, found);
+    list(right, other);
+    combine_lanes(binary, found, other)?;
+    Some(Values::Listed)
+}
+
+fn negate_values(values: Values, found: &mut [i64; LANES]) -> Option<Values>
+    ensures { AnswersNumbers result found.new (λ k. neg_ℤ (value_in values found.old k)) }
+{
+    match values {
+        Values::Alike(z) => Some(Values::Alike(z.checked_neg()?)),
+        Values::Listed => {
+            negate(found)?;
+            Some(Values::Listed)
+        }
+    }
+}
+
+fn make_values_absolute(values: Values, found: &mut [i64; LANES]) -> Option<Values>
+    ensures { AnswersNumbers result found.new (λ k. pos (nat_abs (value_in values found.old k))) }
+{
+    match values {
+        Values::Alike(z) => Some(Values::Alike(z.checked_abs()?)),
+        Values::Listed => {
+            make_absolute(found)?;
+            Some(Values::Listed)
+        }
+    }
+}
+
+fn divide_values(values: Values, divisor: i64, found: &mut [i64; LANES]) -> Values
+    requires { pos 1 ≤ℤ divisor }
+    ensures { AreNumbers result found.new (λ k. floor_div (value_in values found.old k) divisor) }
+{
+    match values {
+        Values::Alike(z) => Values::Alike(z.div_euclid(divisor)),
+        Values::Listed => {
+            divide_by(found, divisor);
+            Values::Listed
+        }
+    }
+}
+
+/// The values of a table.
+fn look_values_up(values: Values, curve: &Curve, found: &mut [i64; LANES]) -> Values
+    ensures { AreNumbers result found.new (λ k. curve_value curve.now (value_in values found.old k)) }
+{
+    match values {
+        Values::Alike(z) => Values::Alike(curve.narrow_value(z)),
+        Values::Listed => {
             look_up(found, curve);
+            Values::Listed
+        }
+    }
+}
+
+/// Lists a value that is the same in all rows.
+fn list(values: Values, rows: &mut [i64; LANES])
+    ensures { Holds rows.new (λ k. value_in values rows.old k) }
+{
+    if let Values::Alike(z) = values {
+        rows.fill(z);
+    }
+}
+
+fn combine_lanes(binary: Binary, found: &mut [i64; LANES], other: &[i64; LANES]) -> Option<()>
+    ensures { AnswersLanes result found.new (λ k. combined_number binary (at found.old k) (at other.now k)) }
+{
+    match binary {
+        Binary::Add => add_to(found, other),
+        Binary::Subtract => subtract_from(found, other),
+        Binary::Multiply => multiply_by(found, other),
+        Binary::TakeLesser => {
+            lower_to(found, other);
+            Some(())
+        }
+        Binary::TakeGreater => {
+            raise_to(found, other);
             Some(())
         }
     }

@@ -6,6 +6,7 @@ use Rattle.plant_record.specs.declared.variables.InputVariable.{InputVariable}
 use Rattle.plant_record.specs.Description.{Description, axes_of}
 use Rattle.successor_box.specs.Sides.{rests_on}
 use Rattle.abstraction_table.specs.declared.digits.Digit.{Digit}
+use Rattle.abstraction_table.specs.declared.digits.Digits.{Digits}
 
 -- how many places each state and each input variable has
 abbrev pub counts_of : Description → List ℕ
@@ -51,13 +52,33 @@ pub record IsDigitOf (p : Description) (d : Digit) : Type 0 where
 abbrev pub HasDigit : List Digit → ℕ → Type 0
 HasDigit digits k = (j : ℕ) × (j < length digits) × ((d : Digit) → (slice_index_or digits j d).variable ≡ k)
 
--- The digits of an equation from a variable on, and how many places they make. The pairs of all places are at the first
--- place in a variable without a digit.
-pub record AreDigitsFrom (p : Description) (i from : ℕ) (digits : List Digit) (places : ℕ) : Type 0 where
+-- a number is so many times another
+abbrev pub IsMultiple : ℕ → ℕ → Type 0
+IsMultiple t n = (g : ℕ) × (n ≡ g * t)
+
+-- The digits of an equation among the variables from `first` to before `last`, and how many places they make. The pairs of
+-- all places are at the first place in a variable without a digit.
+pub record AreDigitsBetween (p : Description) (i first last : ℕ) (digits : List Digit) (places : ℕ) : Type 0 where
   pub each : All (IsDigitOf p) digits
-  pub all : (k : ℕ) → from ≤ k → k < length p.states + length p.inputs → IsTrue (rests_on p i k) → HasDigit digits k
+  pub all : (k : ℕ) → first ≤ k → k < last → IsTrue (rests_on p i k) → HasDigit digits k
   pub packed : Moves (λ (d : Digit). d.in_pair) (λ (d : Digit). d.in_table) digits places
-  pub spread : Moves (λ (d : Digit). d.in_table) (λ (d : Digit). d.in_pair) digits (combinations (drop from (counts_of p)))
-  pub others : (k : ℕ) → from ≤ k → k < length p.states + length p.inputs → IsFalse (rests_on p i k) → (place : ℕ) → pair_at digits place / combinations (drop (k + 1) (counts_of p)) % slice_index_or (counts_of p) k 0 ≡ 0
+  pub spread : Moves (λ (d : Digit). d.in_table) (λ (d : Digit). d.in_pair) digits (combinations (drop first (counts_of p)))
+  pub others : (k : ℕ) → first ≤ k → k < last → IsFalse (rests_on p i k) → (place : ℕ) → pair_at digits place / combinations (drop (k + 1) (counts_of p)) % slice_index_or (counts_of p) k 0 ≡ 0
+  pub above : All (λ (d : Digit). IsMultiple (combinations (drop last (counts_of p))) d.in_pair) digits
+  pub whole : IsMultiple (combinations (drop last (counts_of p))) (combinations (drop first (counts_of p)))
   pub some : 1 ≤ places
-  pub few : places ≤ combinations (drop from (counts_of p))
+  pub few : places * combinations (drop last (counts_of p)) ≤ combinations (drop first (counts_of p))
+
+-- the digits of an equation
+abbrev pub AreDigitsOf : Description → ℕ → List Digit → ℕ → Type 0
+AreDigitsOf p i digits places = AreDigitsBetween p i 0 (length p.states + length p.inputs) digits places
+
+-- a variable has a digit, above the others
+pub record IsWithDigit (variable count in_pair : ℕ) (old new : Digits) : Type 0 where
+  pub each : new.each.items ≡ old.each.items ++ (record { variable = variable; count = count; in_pair = in_pair; in_table = old.places }) ∷ []
+  pub places : new.places ≡ old.places * count
+
+-- the same digits
+pub record IsAsBefore (old new : Digits) : Type 0 where
+  pub each : new.each.items ≡ old.each.items
+  pub places : new.places ≡ old.places

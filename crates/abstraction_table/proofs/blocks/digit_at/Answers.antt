@@ -1,8 +1,16 @@
-use Rattle.std.proofs.Common.{◌≡◌, ◌≢◌, ℕ, ◌+◌, ◌/◌, ◌%◌, ◌<◌, ◌∙◌, length, set, get_or, get_or-set_other, get_or-set_same, below_more, refl, ap, subst, arith}
-use Rattle.std.proofs.lemmas.List.{length-set}
+use Rattle.std.proofs.Common.{◌≡◌, ◌≢◌, ℕ, ◌+◌, ◌/◌, ◌%◌, ◌<◌, ◌∙◌, length, set, get_or, get_or-set_other, get_or-set_same, below_more, refl, sym, ap, subst, arith}
+use Rattle.std.proofs.lemmas.List.{length-set, get_or-replicate}
 use Rattle.std.proofs.lemmas.Nat.{mod_below}
 use Rattle.abstraction_table.specs.inside.Digits.{IsDigitAt}
+use Rattle.abstraction_table.proofs.NextDigits.{digit_lasts}
 use Rattle.abstraction_table.proofs.blocks.digit_at.Goals as goal
+
+pub returns-then-left : goal.returns-then-left
+returns-then-left c = λ j lt.
+    let t : ℕ = c.args.d.now.in_table in
+    let place : ℕ = c.args.place in
+    let below : j < 32 = lt in
+    get_or-replicate 32 j (place / t % c.args.d.now.count) 0 below ∙ sym (digit_lasts t c.args.d.now.count place j (omega (arith, below, mod_below place t c.requires.counted.1, c.if-left.true)))
 
 pub loop-j-init : goal.loop-j-init
 loop-j-init c =

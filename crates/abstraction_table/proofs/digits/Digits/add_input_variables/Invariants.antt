@@ -1,0 +1,10 @@
+use Rattle.std.proofs.Common.{◌≡◌, drop}
+use Rattle.abstraction_table.specs.inside.Digits.{counts_of, combinations, AreDigitsBetween}
+use Rattle.abstraction_table.proofs.digits.Digits.add_input_variables.Given as goal
+
+-- the digits so far
+abbrev pub invariant-loop-variable : goal.invariant-loop-variable
+invariant-loop-variable l = record {
+  pairs : l.in_pair ≡ combinations (drop l.variable (counts_of l.p));
+  so_far : AreDigitsBetween l.p l.state 0 l.variable l.self.each.items l.self.places;
+}

@@ -1,0 +1,75 @@
+-- Values in many rows, from those of the parts.
+use Rattle.std.proofs.Common.{◌≡◌, ℕ, ◌<◌, List, Option, Some, None, refl, sym, ap₂, subst, ◌∙◌}
+use Rattle.std.specs.Prelude.{ℤ}
+use Rattle.fixed_expr.specs.declared.lanes.TheConstants.{LANES}
+use Rattle.fixed_expr.specs.declared.operation.Binary.{Binary}
+use Rattle.fixed_expr.specs.declared.operation.Binary.TheVariants.{Add, Subtract, Multiply, TakeLesser, TakeGreater}
+use Rattle.fixed_expr.specs.Expression.{Expression}
+use Rattle.fixed_expr.specs.Lanes.{AreNarrow}
+use Rattle.fixed_expr.specs.Narrow.{IsNarrow, StaysNarrow}
+use Rattle.fixed_expr.specs.Rows.{row_of, StaysNarrowInRows}
+use Rattle.fixed_expr.specs.Value.{value_of}
+use Rattle.fixed_expr.specs.inside.Listing.{combined, combined_number}
+use Rattle.fixed_expr.specs.inside.RowValues.{AnswersNumbers, AnswersValues}
+use Rattle.fixed_expr.specs.declared.rows.Values.{Values}
+
+-- ---- in one row
+
+value_combined : (binary : Binary) (a b : Expression) (row : List ℤ) → value_of (combined binary a b) row ≡ combined_number binary (value_of a row) (value_of b row)
+value_combined Add a b row = refl
+value_combined Subtract a b row = refl
+value_combined Multiply a b row = refl
+value_combined TakeLesser a b row = refl
+value_combined TakeGreater a b row = refl
+
+stays_combined : (binary : Binary) (a b : Expression) (row : List ℤ) → StaysNarrow a row → StaysNarrow b row → IsNarrow (combined_number binary (value_of a row) (value_of b row)) → StaysNarrow (combined binary a b) row
+stays_combined Add a b row first second narrow = (first, second, narrow)
+stays_combined Subtract a b row first second narrow = (first, second, narrow)
+stays_combined Multiply a b row first second narrow = (first, second, narrow)
+stays_combined TakeLesser a b row first second narrow = (first, second, narrow)
+stays_combined TakeGreater a b row first second narrow = (first, second, narrow)
+
+record StaysInParts (binary : Binary) (a b : Expression) (row : List ℤ) : Type 0 where
+  pub first : StaysNarrow a row
+  pub second : StaysNarrow b row
+  pub whole : IsNarrow (combined_number binary (value_of a row) (value_of b row))
+
+parts_of : (binary : Binary) (a b : Expression) (row : List ℤ) → StaysNarrow (combined binary a b) row → StaysInParts binary a b row
+parts_of Add a b row stays = record { first = stays.0; second = stays.1; whole = stays.2 }
+parts_of Subtract a b row stays = record { first = stays.0; second = stays.1; whole = stays.2 }
+parts_of Multiply a b row stays = record { first = stays.0; second = stays.1; whole = stays.2 }
+parts_of TakeLesser a b row stays = record { first = stays.0; second = stays.1; whole = stays.2 }
+parts_of TakeGreater a b row stays = record { first = stays.0; second = stays.1; whole = stays.2 }
+
+-- ---- in all rows
+
+abbrev Tells : (ℕ → ℤ) → Expression → List (List ℤ) → Type 0
+Tells x e columns = (k : ℕ) → k < LANES → x k ≡ value_of e (row_of columns k)
+
+module _ (binary : Binary) (a b : Expression) (columns : List (List ℤ)) where
+  abbrev whole : Expression
+  whole = combined binary a b
+
+  pub not_first : ¬ (StaysNarrowInRows a columns) → ¬ (StaysNarrowInRows whole columns)
+  not_first none stays = none (λ k lt. (parts_of binary a b (row_of columns k) (stays k lt)).first)
+
+  pub not_second : ¬ (StaysNarrowInRows b columns) → ¬ (StaysNarrowInRows whole columns)
+  not_second none stays = none (λ k lt. (parts_of binary a b (row_of columns k) (stays k lt)).second)
+
+  -- what the numbers of the parts come to
+  module _ (x y : ℕ → ℤ) (stays_first : StaysNarrowInRows a columns) (first : Tells x a columns) (stays_second : StaysNarrowInRows b columns) (second : Tells y b columns) where
+    abbrev z : ℕ → ℤ
+    z k = combined_number binary (x k) (y k)
+
+    both : (k : ℕ) → k < LANES → z k ≡ combined_number binary (value_of a (row_of columns k)) (value_of b (row_of columns k))
+    both k lt = ap₂ (combined_number binary) (first k lt) (second k lt)
+
+    narrow_in : StaysNarrowInRows whole columns → AreNarrow z
+    narrow_in stays k lt = subst IsNarrow (sym (both k lt)) (parts_of binary a b (row_of columns k) (stays k lt)).whole
+
+    stays_in : AreNarrow z → StaysNarrowInRows whole columns
+    stays_in narrow k lt = stays_combined binary a b (row_of columns k) (stays_first k lt) (stays_second k lt) (subst IsNarrow (both k lt) (narrow k lt))
+
+    pub combined_answer : (answer : Option Values) (rows : List ℤ) → AnswersNumbers answer rows z → AnswersValues answer whole columns rows
+    combined_answer None rows none = λ stays. none (narrow_in stays)
+    combined_answer (Some values) rows are = (stays_in are.0, λ k lt. are.1 k lt ∙ both k lt ∙ sym (value_combined binary a b (row_of columns k)))
