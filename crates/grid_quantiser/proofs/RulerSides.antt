@@ -1,11 +1,10 @@
 -- The sides that a ruler finds.
-use Rattle.std.proofs.Common.{◌≡◌, ◌⊎◌, ℕ, ◌^◌, ◌<◌, true, false, arith, refl, ap, ap₂, sym, subst, ◌∙◌, w64, FitsSigned, to_z, of_z, rules, ℤ, pos, neg_ℤ, ◌+ℤ◌, ◌-ℤ◌, ◌<ℤ◌, ◌≤ℤ◌, None, Some, inl, inr}
+use Rattle.std.proofs.Common.{◌≡◌, ℕ, ◌<◌, true, false, arith, refl, ap, ap₂, sym, subst, ◌∙◌, w64, FitsSigned, to_z, of_z, rules, ℤ, pos, ◌+ℤ◌, ◌-ℤ◌, ◌<ℤ◌, ◌≤ℤ◌, None, Some}
 use lib.Signed.{le_z, lt_z}
 use Rattle.std.specs.Int.{w128}
 use Rattle.std.proofs.lemmas.Bool.{false≢true}
 use Rattle.std.proofs.lemmas.Int.{ints, to_z-of_z}
 use Rattle.grid_quantiser.specs.declared.axis.Axis.{Axis}
-use Rattle.grid_quantiser.specs.declared.sides.Side.{Side}
 use Rattle.grid_quantiser.specs.Axes.{end_of}
 use Rattle.grid_quantiser.specs.Cells.{place_of}
 use Rattle.grid_quantiser.specs.Sides.{IsOnAxis, IsSideOf}

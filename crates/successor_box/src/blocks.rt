@@ -76,7 +76,11 @@ fn growth_sides(
     ensures each { (j c u : ℕ) → j < length sides.old → IsPairInRow p.now places.now j c u → IsSideBeforeAt p.now c u state 0 (slice_index_or sides.new j None) }
 {
     let mut values = [0; LANES];
-    match eval_rows(p.equation(state), &columns[..variables(p) as usize], &mut values) {
+    match eval_rows(
+        p.equation(state),
+        &columns[..variables(p) as usize],
+        &mut values,
+    ) {
         Some(()) => narrow_sides(p, s, places, inputs, &values, state, sides),
         None => reach_sides(p, s, places, inputs, columns, state, sides),
     }

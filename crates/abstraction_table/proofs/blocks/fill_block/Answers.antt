@@ -1,4 +1,4 @@
-use Rattle.std.proofs.Common.{◌≡◌, ℕ, ◌+◌, ◌/◌, ◌%◌, ◌<◌, None, get_or, sym, subst, arith}
+use Rattle.std.proofs.Common.{ℕ, ◌+◌, ◌/◌, ◌%◌, ◌<◌, None, get_or, sym, subst, arith}
 use Rattle.plant_record.specs.Description.{vectors_of}
 use Rattle.successor_box.specs.Sides.{IsSideBeforeAt}
 use Rattle.abstraction_table.specs.inside.Digits.{pair_at}

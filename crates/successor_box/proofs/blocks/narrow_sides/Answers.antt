@@ -1,16 +1,16 @@
 use Rattle.std.proofs.Common.{◌≡◌, ◌<◌, ℕ, ◌∙◌, List, [], Option, None, length, get_or, sym, ap, subst, w64, rules, arith}
-use Rattle.std.specs.Prelude.{ℤ, pos, ◌≤ℤ◌, FitsSigned}
+use Rattle.std.specs.Prelude.{ℤ, pos, FitsSigned}
 use Rattle.std.specs.Int.{w128}
 use Rattle.std.proofs.lemmas.Int.{to_z-of_z}
 use Rattle.std.proofs.lemmas.List.{length-map, length-set}
 use Rattle.grid_quantiser.specs.declared.sides.Side.{Side}
-use Rattle.plant_record.specs.Description.{axis_of, axes_of, vectors_of}
+use Rattle.plant_record.specs.Description.{axis_of, vectors_of}
 use Rattle.plant_record.specs.Steps.{equation_at}
 use Rattle.successor_box.specs.Boxes.{deviation_at}
 use Rattle.successor_box.specs.Deviations.{deviations_of}
 use Rattle.successor_box.specs.Sides.{IsPairInRow, IsSideBeforeAt}
 use Rattle.successor_box.proofs.DeviationRows.{row_count, entry_at, entry_is}
-use Rattle.successor_box.proofs.Filling.{place_more, nothing_yet}
+use Rattle.successor_box.proofs.Filling.{place_more}
 use Rattle.successor_box.proofs.SideEnds.{side_of_growth, deviation_some}
 use Rattle.successor_box.proofs.blocks.narrow_sides.Goals as goal
 

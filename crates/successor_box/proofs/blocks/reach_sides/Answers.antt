@@ -8,7 +8,7 @@ use Rattle.grid_quantiser.specs.declared.sides.Side.{Side}
 use Rattle.plant_record.specs.Description.{axis_of}
 use Rattle.successor_box.specs.Sides.{IsPairInRow, IsSideBeforeAt}
 use Rattle.successor_box.specs.inside.Area.{no_range}
-use Rattle.successor_box.proofs.Filling.{place_more, nothing_yet}
+use Rattle.successor_box.proofs.Filling.{place_more}
 use Rattle.successor_box.proofs.SideEnds.{side_of_reach}
 use Rattle.successor_box.proofs.blocks.reach_sides.Goals as goal
 
