@@ -6,7 +6,7 @@ ghost use Rattle.controller_table.specs.Tables.{RowsFit};
 ghost use Rattle.stay_table.specs.StayText.{stay_text};
 ghost use Rattle.patrol_table.specs.PatrolText.{patrol_text};
 ghost use Rattle.run_devices.specs.Devices.{GainsWhole, writing};
-ghost use Rattle.synth_run.specs.inside.Texts.{bytes_of, CanBeWritten};
+ghost use Rattle.synth_run.specs.inside.Texts.{bytes_of, trace_of, IsReady, CanBeWritten};
 ghost use Rattle.run_devices.specs.Transfers.{StopsBy};
 
 use crate::patrolling::Patrolled;
@@ -17,6 +17,9 @@ use controller_table::{Table, TableWriter};
 use run_devices::{Sink, WriteFault, write_buffered, write_whole};
 use std::alloc::Global;
 use temporal_games::{PatrolWriter, StayWriter};
+
+/// How many bytes of the stack the writer of a trace takes at most.
+const TRACE_STACK: usize = 1 << 20;
 
 /// What a form writes.
 #[derive(Drop)]
@@ -41,7 +44,7 @@ impl Text {
             Text::Table(solved) => write_table(alloc, solved, out),
             Text::Upgraded(table) => write_upgraded(alloc, table, out),
             Text::Line(bytes) => Ok(write_whole(out, bytes)?),
-            Text::Trace(simulation) => write_buffered(alloc, out, &mut simulation.writer()),
+            Text::Trace(simulation) => write_trace(alloc, simulation, out),
             Text::Summary(text) => Ok(write_whole(out, text)?),
             Text::Stay(settled) => write_stay(alloc, settled, out),
             Text::Patrol(patrolled) => write_patrol(alloc, patrolled, out),
@@ -71,6 +74,39 @@ fn write_upgraded<O: Sink>(alloc: Global, table: &Table, out: &mut O) -> Result<
         Err(_) => return Err(WriteFault::Memory),
     };
     write_buffered(alloc, out, &mut writer)
+}
+
+/// Writes a trace. Its writer takes half a megabyte of the stack: so much memory is asked for first, and given back, so that where there is
+/// less the answer is want of memory.
+fn write_trace<O: Sink>(
+    alloc: Global,
+    simulation: &Simulation,
+    out: &mut O,
+) -> Result<(), WriteFault>
+    requires { IsReady simulation.now }
+    ensures whole { OnOk result (GainsWhole (writing O.got O.faults O.room out.old out.new) (trace_of simulation.now)) }
+    ensures stopped { IfErr result (λ fault. StopsBy fault (writing O.got O.faults O.room out.old out.new) (trace_of simulation.now)) }
+{
+    let room: Vec<u8> = match Vec::with_capacity(alloc, TRACE_STACK) {
+        Ok(room) => room,
+        Err(_) => return Err(WriteFault::Memory),
+    };
+    drop(room);
+    write_samples(alloc, simulation, out)
+}
+
+/// Stands by itself, since what calls it would take as much of the stack for every word.
+#[inline(never)]
+fn write_samples<O: Sink>(
+    alloc: Global,
+    simulation: &Simulation,
+    out: &mut O,
+) -> Result<(), WriteFault>
+    requires { IsReady simulation.now }
+    ensures whole { OnOk result (GainsWhole (writing O.got O.faults O.room out.old out.new) (trace_of simulation.now)) }
+    ensures stopped { IfErr result (λ fault. StopsBy fault (writing O.got O.faults O.room out.old out.new) (trace_of simulation.now)) }
+{
+    write_buffered(alloc, out, &mut simulation.writer())
 }
 
 fn write_stay<O: Sink>(alloc: Global, settled: &Settled, out: &mut O) -> Result<(), WriteFault>
