@@ -1,6 +1,7 @@
 pub mod LaneSteps
 mod Columns
 mod Listing
+mod Pool
 pub mod Narrowness
 pub mod Values
 pub mod MovingValues

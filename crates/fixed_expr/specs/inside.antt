@@ -2,5 +2,6 @@ pub mod Postfix
 pub mod Progress
 pub mod Passed
 pub mod Alike
+pub mod Pool
 pub mod Listing
 pub mod RowValues

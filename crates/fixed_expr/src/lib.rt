@@ -16,6 +16,7 @@ mod moves;
 pub mod narrow;
 mod number_stack;
 mod operation;
+mod operation_pool;
 mod operations;
 mod rows;
 mod wide;
