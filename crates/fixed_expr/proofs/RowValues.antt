@@ -15,14 +15,14 @@ use Rattle.fixed_expr.specs.declared.rows.Values.{Values}
 
 -- ---- in one row
 
-value_combined : (binary : Binary) (a b : Expression) (row : List ℤ) → value_of (combined binary a b) row ≡ combined_number binary (value_of a row) (value_of b row)
+pub value_combined : (binary : Binary) (a b : Expression) (row : List ℤ) → value_of (combined binary a b) row ≡ combined_number binary (value_of a row) (value_of b row)
 value_combined Add a b row = refl
 value_combined Subtract a b row = refl
 value_combined Multiply a b row = refl
 value_combined TakeLesser a b row = refl
 value_combined TakeGreater a b row = refl
 
-stays_combined : (binary : Binary) (a b : Expression) (row : List ℤ) → StaysNarrow a row → StaysNarrow b row → IsNarrow (combined_number binary (value_of a row) (value_of b row)) → StaysNarrow (combined binary a b) row
+pub stays_combined : (binary : Binary) (a b : Expression) (row : List ℤ) → StaysNarrow a row → StaysNarrow b row → IsNarrow (combined_number binary (value_of a row) (value_of b row)) → StaysNarrow (combined binary a b) row
 stays_combined Add a b row first second narrow = (first, second, narrow)
 stays_combined Subtract a b row first second narrow = (first, second, narrow)
 stays_combined Multiply a b row first second narrow = (first, second, narrow)
