@@ -1,6 +1,6 @@
 -- Values in many rows, from those of the parts.
 use Rattle.std.proofs.Common.{◌≡◌, ℕ, ◌<◌, List, Option, Some, None, refl, sym, ap₂, subst, ◌∙◌}
-use Rattle.std.specs.Prelude.{ℤ}
+use Rattle.std.specs.Prelude.{ℤ, SomeIff}
 use Rattle.fixed_expr.specs.declared.lanes.TheConstants.{LANES}
 use Rattle.fixed_expr.specs.declared.operation.Binary.{Binary}
 use Rattle.fixed_expr.specs.declared.operation.Binary.TheVariants.{Add, Subtract, Multiply, TakeLesser, TakeGreater}
@@ -29,17 +29,26 @@ stays_combined Multiply a b row first second narrow = (first, second, narrow)
 stays_combined TakeLesser a b row first second narrow = (first, second, narrow)
 stays_combined TakeGreater a b row first second narrow = (first, second, narrow)
 
-record StaysInParts (binary : Binary) (a b : Expression) (row : List ℤ) : Type 0 where
+pub record StaysInParts (binary : Binary) (a b : Expression) (row : List ℤ) : Type 0 where
   pub first : StaysNarrow a row
   pub second : StaysNarrow b row
   pub whole : IsNarrow (combined_number binary (value_of a row) (value_of b row))
 
-parts_of : (binary : Binary) (a b : Expression) (row : List ℤ) → StaysNarrow (combined binary a b) row → StaysInParts binary a b row
+pub parts_of : (binary : Binary) (a b : Expression) (row : List ℤ) → StaysNarrow (combined binary a b) row → StaysInParts binary a b row
 parts_of Add a b row stays = record { first = stays.0; second = stays.1; whole = stays.2 }
 parts_of Subtract a b row stays = record { first = stays.0; second = stays.1; whole = stays.2 }
 parts_of Multiply a b row stays = record { first = stays.0; second = stays.1; whole = stays.2 }
 parts_of TakeLesser a b row stays = record { first = stays.0; second = stays.1; whole = stays.2 }
 parts_of TakeGreater a b row stays = record { first = stays.0; second = stays.1; whole = stays.2 }
+
+-- the parts' numbers combined
+pub whole_answer : (binary : Binary) (a b : Expression) (row : List ℤ) (x y : ℤ) (o : Option ℤ) → StaysNarrow a row → x ≡ value_of a row → StaysNarrow b row → y ≡ value_of b row → SomeIff o (IsNarrow (combined_number binary x y)) (combined_number binary x y) → SomeIff o (StaysNarrow (combined binary a b) row) (value_of (combined binary a b) row)
+whole_answer binary a b row x y None first is_first second is_second none =
+    let same = ap₂ (combined_number binary) is_first is_second in
+    λ stays. none (subst IsNarrow (sym same) (parts_of binary a b row stays).whole)
+whole_answer binary a b row x y (Some z) first is_first second is_second found =
+    let same = ap₂ (combined_number binary) is_first is_second in
+    (stays_combined binary a b row first second (subst IsNarrow same found.0), found.1 ∙ same ∙ sym (value_combined binary a b row))
 
 -- ---- in all rows
 

@@ -1,0 +1,10 @@
+use Rattle.std.proofs.Common.{◌+◌, ◌*◌}
+use Rattle.fixed_expr.specs.Expression.{expression_of}
+use Rattle.fixed_expr.specs.inside.RowValues.{nodes_of}
+use Rattle.fixed_expr.proofs.narrow.+narrow_values.Given as goal
+
+abbrev pub decreases-eval_narrow : goal.decreases-eval_narrow
+decreases-eval_narrow l = 2 * nodes_of (expression_of l.e.now)
+
+abbrev pub decreases-eval_combined : goal.decreases-eval_combined
+decreases-eval_combined l = 2 * (nodes_of (expression_of l.a.now) + nodes_of (expression_of l.b.now)) + 1
