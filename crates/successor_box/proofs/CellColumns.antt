@@ -97,9 +97,12 @@ module _ (p : Description) (c u : ℕ) (sound : IsSound p) (cell : c < cells_of 
       nested_spans_stay_in_range (equation_at p i) (cell_area_of p c u) (area_of p u) (formed_over p u sound i (Number (pos 0)) lt) (cell_intervals p c u sound) (cell_parts p c u sound cell) (fits i u lt input).span
 
 -- an equation is well-formed over as many columns as there are variables
-pub formed_over_columns : {X : Type 0} (p : Description) (columns : List X) (n i : ℕ) → IsSound p → i < length p.equations → n ≡ variables_of p → n ≤ length columns → IsWellFormed (equation_at p i) (length (take n columns))
-formed_over_columns p columns n i sound lt all within =
-    subst (IsWellFormed (equation_at p i)) (sym (length-take-le n columns within ∙ all ∙ sym (cell_area_long p 0 0) ∙ cell_area_count p 0 0)) (sound.formed i (Number (pos 0)) lt)
+pub formed_over_columns : (p : Description) (n i : ℕ) → IsSound p → i < length p.equations → n ≡ variables_of p → IsWellFormed (equation_at p i) n
+formed_over_columns p n i sound lt all = subst (IsWellFormed (equation_at p i)) (sym (all ∙ sym (cell_area_long p 0 0) ∙ cell_area_count p 0 0)) (sound.formed i (Number (pos 0)) lt)
+
+-- so many are at most 15
+pub few_variables : (p : Description) (n : ℕ) → IsPlant p → n ≡ variables_of p → n ≤ 15
+few_variables p n plant all = omega (arith, all, plant.states_bound, plant.inputs_bound, plant.noises_bound)
 
 -- a row of columns that hold the ranges
 pub area_row_is : (p : Description) (c u : ℕ) (columns : List IntervalColumn) (n row : ℕ) → n ≡ variables_of p → n ≤ length columns → ((k : ℕ) → k < variables_of p → interval_in (get_or columns k no_column) row ≡ get_or (cell_area_of p c u) k no_range) → area_in (take n columns) row ≡ cell_area_of p c u

@@ -1,8 +1,8 @@
 -- The values of the variables of the pairs in a block's rows.
-use Rattle.std.proofs.Common.{◌≡◌, ℕ, ◌+◌, ◌-◌, ◌/◌, ◌<◌, ◌≤◌, List, [], length, map, take, drop, get_or, sym, ap, subst, ◌∙◌, arith}
+use Rattle.std.proofs.Common.{◌≡◌, ℕ, ◌+◌, ◌-◌, ◌/◌, ◌<◌, ◌≤◌, List, [], length, map, drop, get_or, sym, ap, subst, ◌∙◌, arith}
 use Rattle.std.specs.Prelude.{ℤ, pos}
 use Rattle.std.proofs.lemmas.Bool.{cond_below, cond_above}
-use Rattle.std.proofs.lemmas.List.{length-map, length-take-le, get_or-map, get_or-take, ext_get_or}
+use Rattle.std.proofs.lemmas.List.{length-map, get_or-map, get_or-take, ext_get_or}
 use Rattle.std.proofs.lemmas.List.Elements.{All-get_or}
 use Rattle.std.proofs.lemmas.Nat.{mod_below}
 use Rattle.fixed_expr.specs.Expression.{Number}
@@ -59,14 +59,13 @@ module _ (p : Description) (c u : ℕ) where
   noise_value k past lt = sym (central_noise p c u k past ∙ get_or-take (length p.noises) (map noise_centre p.noises) (k - length p.states - length p.inputs) (pos 0) (omega (arith, past, lt)))
 
   -- a row of columns that hold them
-  pub row_is : (columns : List (List ℤ)) (n row : ℕ) → n ≡ variables_of p → n ≤ length columns → ((k : ℕ) → k < variables_of p → get_or (get_or columns k []) row (pos 0) ≡ get_or (central_values p c u) k (pos 0)) → row_of (take n columns) row ≡ central_values p c u
-  row_is columns n row all within each =
+  pub row_is : (columns : List (List ℤ)) (row : ℕ) → length columns ≡ variables_of p → ((k : ℕ) → k < variables_of p → get_or (get_or columns k []) row (pos 0) ≡ get_or (central_values p c u) k (pos 0)) → row_of columns row ≡ central_values p c u
+  row_is columns row all each =
       let at : List ℤ → ℤ = λ (column : List ℤ). get_or column row (pos 0) in
-      let front : length (take n columns) ≡ n = length-take-le n columns within in
-      let long : length (map at (take n columns)) ≡ length (central_values p c u) = length-map (take n columns) at ∙ front ∙ all ∙ sym (central_count p c u) in
-      ext_get_or (pos 0) (map at (take n columns)) (central_values p c u) long (λ k lt.
-      let below : k < n = omega (arith, lt, length-map (take n columns) at, front) in
-      get_or-map at (take n columns) k [] (pos 0) (omega (arith, below, front)) ∙ ap at (get_or-take n columns k [] below) ∙ each k (omega (arith, below, all)))
+      let long : length (map at columns) ≡ length (central_values p c u) = length-map columns at ∙ all ∙ sym (central_count p c u) in
+      ext_get_or (pos 0) (map at columns) (central_values p c u) long (λ k lt.
+      let below : k < length columns = omega (arith, lt, length-map columns at) in
+      get_or-map at columns k [] (pos 0) below ∙ each k (omega (arith, below, all)))
 
   -- no node of an equation leaves the range at them
   pub stays_at : IsSound p → HasNoOverflow p → c < cells_of (axes_of p) → u < vectors_of p.inputs → (i : ℕ) → i < length p.equations → StaysInRange (equation_at p i) (central_values p c u)

@@ -9,12 +9,13 @@ ghost use Rattle.grid_quantiser.specs.Places.{middle_of};
 ghost use Rattle.plant_record.specs.declared.version.PlantVersion.TheVariants.{One};
 ghost use Rattle.plant_record.specs.Description.{axes_of, vectors_of, vector_of};
 ghost use Rattle.plant_record.specs.InputPlaces.{input_place};
+ghost use Rattle.plant_record.specs.Limits.{IsWithinLimits};
 ghost use Rattle.plant_record.specs.Steps.{equation_at};
 ghost use Rattle.successor_box.specs.Boxes.{noise_centre, central_values, growth_of, meet_of, reach_of};
 ghost use Rattle.successor_box.specs.Deviations.{HasNoOverflow, deviations_of};
 ghost use Rattle.successor_box.specs.Sides.{IsSideBeforeAt, IsPairInRow, HasPairInEachRow};
 ghost use Rattle.successor_box.specs.inside.Area.{variables_of, no_range};
-ghost use Rattle.successor_box.specs.inside.Blocks.{HoldCentralValues};
+ghost use Rattle.successor_box.specs.inside.Blocks.{HoldInputNumbers, HoldCentralValues, HoldSides};
 
 use crate::area::{NO_RANGE, VARIABLES_LIMIT, variables};
 use crate::noise::noise_centre;
@@ -24,7 +25,6 @@ use crate::spans::spans;
 use fixed_expr::{Expr, LANES, eval, eval_rows};
 use grid_quantiser::Side;
 use interval_eval::Interval;
-use plant_record::laws::every_plant_is_within_limits;
 use plant_record::{Plant, PlantVersion};
 
 /// The sides of successor boxes along the axis of a state prolonged by its own length below, from which `moved_side` goes on,
@@ -45,12 +45,14 @@ pub fn prolonged_sides(
     ensures long { length sides.new ≡ length sides.old }
     ensures each { (j c u : ℕ) → j < length sides.old → IsPairInRow p.now places.now j c u → IsSideBeforeAt p.now c u state 0 (slice_index_or sides.new j None) }
 {
+    let count = variables(p) as usize;
     let inputs = input_numbers(p, places);
     let mut columns = [[0; LANES]; VARIABLES_LIMIT];
-    fill_columns(p, places, &inputs, &mut columns);
+    let columns = &mut columns[..count];
+    fill_columns(p, places, &inputs, columns);
     match p.plant_version() {
-        PlantVersion::One => growth_sides(p, s, places, &inputs, &columns, state, sides),
-        PlantVersion::Two => reach_sides(p, s, places, &inputs, &columns, state, sides),
+        PlantVersion::One => growth_sides(p, s, places, &inputs, columns, state, sides),
+        PlantVersion::Two => reach_sides(p, s, places, &inputs, columns, state, sides),
     }
 }
 
@@ -60,27 +62,24 @@ fn growth_sides(
     s: &Slopes,
     places: &[[u32; LANES]; 9],
     inputs: &[u32; LANES],
-    columns: &[[i64; LANES]; VARIABLES_LIMIT],
+    columns: &[[i64; LANES]],
     state: u32,
     sides: &mut [Option<Side>],
 )
+    requires plant { IsWithinLimits p.now }
     requires slopes { s.now ≡ deviations_of p.now }
     requires fits { HasNoOverflow p.now }
     requires version { p.now.version ≡ One }
     requires pairs { HasPairInEachRow p.now places.now }
     requires state { state < length p.now.equations }
-    requires inputs { (j c u : ℕ) → j < LANES → IsPairInRow p.now places.now j c u → slice_index_or inputs.now j 0 ≡ u }
+    requires inputs { HoldInputNumbers p.now places.now inputs.now }
     requires columns { HoldCentralValues p.now places.now columns.now }
     requires few { length sides.old ≤ LANES }
     ensures long { length sides.new ≡ length sides.old }
-    ensures each { (j c u : ℕ) → j < length sides.old → IsPairInRow p.now places.now j c u → IsSideBeforeAt p.now c u state 0 (slice_index_or sides.new j None) }
+    ensures each { HoldSides p.now places.now state sides.new }
 {
     let mut values = [0; LANES];
-    match eval_rows(
-        p.equation(state),
-        &columns[..variables(p) as usize],
-        &mut values,
-    ) {
+    match eval_rows(p.equation(state), columns, &mut values) {
         Some(()) => narrow_sides(p, s, places, inputs, &values, state, sides),
         None => reach_sides(p, s, places, inputs, columns, state, sides),
     }
@@ -96,17 +95,17 @@ fn narrow_sides(
     state: u32,
     sides: &mut [Option<Side>],
 )
+    requires plant { IsWithinLimits p.now }
     requires slopes { s.now ≡ deviations_of p.now }
     requires version { p.now.version ≡ One }
     requires pairs { HasPairInEachRow p.now places.now }
     requires state { state < length p.now.equations }
-    requires inputs { (j c u : ℕ) → j < LANES → IsPairInRow p.now places.now j c u → slice_index_or inputs.now j 0 ≡ u }
+    requires inputs { HoldInputNumbers p.now places.now inputs.now }
     requires values { (j c u : ℕ) → j < LANES → IsPairInRow p.now places.now j c u → slice_index_or values.now j (pos 0) ≡ value_of (equation_at p.now state) (central_values p.now c u) }
     requires few { length sides.old ≤ LANES }
     ensures long { length sides.new ≡ length sides.old }
-    ensures each { (j c u : ℕ) → j < length sides.old → IsPairInRow p.now places.now j c u → IsSideBeforeAt p.now c u state 0 (slice_index_or sides.new j None) }
+    ensures each { HoldSides p.now places.now state sides.new }
 {
-    every_plant_is_within_limits(p);
     let ruler = p.grid().prolonged_ruler(state);
     let deviations = s.along(state);
     for j in 0..sides.len() {
@@ -120,21 +119,21 @@ fn reach_sides(
     s: &Slopes,
     places: &[[u32; LANES]; 9],
     inputs: &[u32; LANES],
-    columns: &[[i64; LANES]; VARIABLES_LIMIT],
+    columns: &[[i64; LANES]],
     state: u32,
     sides: &mut [Option<Side>],
 )
+    requires plant { IsWithinLimits p.now }
     requires slopes { s.now ≡ deviations_of p.now }
     requires fits { HasNoOverflow p.now }
     requires pairs { HasPairInEachRow p.now places.now }
     requires state { state < length p.now.equations }
-    requires inputs { (j c u : ℕ) → j < LANES → IsPairInRow p.now places.now j c u → slice_index_or inputs.now j 0 ≡ u }
+    requires inputs { HoldInputNumbers p.now places.now inputs.now }
     requires columns { HoldCentralValues p.now places.now columns.now }
     requires few { length sides.old ≤ LANES }
     ensures long { length sides.new ≡ length sides.old }
-    ensures each { (j c u : ℕ) → j < length sides.old → IsPairInRow p.now places.now j c u → IsSideBeforeAt p.now c u state 0 (slice_index_or sides.new j None) }
+    ensures each { HoldSides p.now places.now state sides.new }
 {
-    every_plant_is_within_limits(p);
     let reaches = reaches(p, s, places, inputs, columns, state);
     let ruler = p.grid().prolonged_ruler(state);
     for j in 0..sides.len() {
@@ -148,14 +147,15 @@ fn reaches(
     s: &Slopes,
     places: &[[u32; LANES]; 9],
     inputs: &[u32; LANES],
-    columns: &[[i64; LANES]; VARIABLES_LIMIT],
+    columns: &[[i64; LANES]],
     state: u32,
 ) -> [Interval; LANES]
+    requires plant { IsWithinLimits p.now }
     requires slopes { s.now ≡ deviations_of p.now }
     requires fits { HasNoOverflow p.now }
     requires pairs { HasPairInEachRow p.now places.now }
     requires state { state < length p.now.equations }
-    requires inputs { (j c u : ℕ) → j < LANES → IsPairInRow p.now places.now j c u → slice_index_or inputs.now j 0 ≡ u }
+    requires inputs { HoldInputNumbers p.now places.now inputs.now }
     requires columns { HoldCentralValues p.now places.now columns.now }
     ensures { (j c u : ℕ) → j < LANES → IsPairInRow p.now places.now j c u → slice_index_or result j no_range ≡ reach_of p.now.version p.now c u (equation_at p.now state) }
 {
@@ -172,18 +172,19 @@ fn growths(
     s: &Slopes,
     places: &[[u32; LANES]; 9],
     inputs: &[u32; LANES],
-    columns: &[[i64; LANES]; VARIABLES_LIMIT],
+    columns: &[[i64; LANES]],
     state: u32,
 ) -> [Interval; LANES]
+    requires plant { IsWithinLimits p.now }
     requires slopes { s.now ≡ deviations_of p.now }
     requires fits { HasNoOverflow p.now }
     requires pairs { HasPairInEachRow p.now places.now }
     requires state { state < length p.now.equations }
-    requires inputs { (j c u : ℕ) → j < LANES → IsPairInRow p.now places.now j c u → slice_index_or inputs.now j 0 ≡ u }
+    requires inputs { HoldInputNumbers p.now places.now inputs.now }
     requires columns { HoldCentralValues p.now places.now columns.now }
     ensures { (j c u : ℕ) → j < LANES → IsPairInRow p.now places.now j c u → slice_index_or result j no_range ≡ growth_of p.now c u (equation_at p.now state) }
 {
-    let next = values_in_rows(p.equation(state), &columns[..variables(p) as usize]);
+    let next = values_in_rows(p.equation(state), columns);
     let mut growths = [NO_RANGE; LANES];
     for j in 0..LANES {
         growths[j] = growth(p, s, next[j], inputs[j], state);
@@ -204,10 +205,10 @@ fn meets(first: &[Interval; LANES], second: &[Interval; LANES]) -> [Interval; LA
 
 /// The number of each pair's input vector.
 fn input_numbers(p: &Plant, places: &[[u32; LANES]; 9]) -> [u32; LANES]
-    requires { HasPairInEachRow p.now places.now }
-    ensures { (j c u : ℕ) → j < LANES → IsPairInRow p.now places.now j c u → slice_index_or result j 0 ≡ u }
+    requires plant { IsWithinLimits p.now }
+    requires pairs { HasPairInEachRow p.now places.now }
+    ensures { HoldInputNumbers p.now places.now result }
 {
-    every_plant_is_within_limits(p);
     let mut numbers = [0; LANES];
     for k in 0..p.input_variables() {
         let row = &places[(p.states() + k) as usize];
@@ -228,15 +229,16 @@ fn with_digit(numbers: &[u32; LANES], count: u32, digits: &[u32; LANES]) -> [u32
     longer
 }
 
-/// Puts the values of the variables into columns, one for each. Nothing is said of the columns past the last.
+/// Puts the values of the variables into columns, one for each.
 fn fill_columns(
     p: &Plant,
     places: &[[u32; LANES]; 9],
     inputs: &[u32; LANES],
-    columns: &mut [[i64; LANES]; VARIABLES_LIMIT],
+    columns: &mut [[i64; LANES]],
 )
+    requires long { length columns.old ≡ variables_of p.now }
     requires pairs { HasPairInEachRow p.now places.now }
-    requires inputs { (j c u : ℕ) → j < LANES → IsPairInRow p.now places.now j c u → slice_index_or inputs.now j 0 ≡ u }
+    requires inputs { HoldInputNumbers p.now places.now inputs.now }
     ensures { HoldCentralValues p.now places.now columns.new }
 {
     for k in 0..variables(p) {
@@ -246,12 +248,12 @@ fn fill_columns(
 
 /// The values of one variable.
 fn column(p: &Plant, places: &[[u32; LANES]; 9], inputs: &[u32; LANES], k: u32) -> [i64; LANES]
+    requires plant { IsWithinLimits p.now }
     requires pairs { HasPairInEachRow p.now places.now }
-    requires inputs { (j c u : ℕ) → j < LANES → IsPairInRow p.now places.now j c u → slice_index_or inputs.now j 0 ≡ u }
+    requires inputs { HoldInputNumbers p.now places.now inputs.now }
     requires variable { k < variables_of p.now }
     ensures { (j c u : ℕ) → j < LANES → IsPairInRow p.now places.now j c u → slice_index_or result j (pos 0) ≡ slice_index_or (central_values p.now c u) k (pos 0) }
 {
-    every_plant_is_within_limits(p);
     let states = p.states();
     let inputs_count = p.input_variables();
     if k < states {
@@ -265,11 +267,11 @@ fn column(p: &Plant, places: &[[u32; LANES]; 9], inputs: &[u32; LANES], k: u32) 
 
 /// The middles of places along the axis of a state.
 fn middles(p: &Plant, state: u32, places: &[u32; LANES]) -> [i64; LANES]
+    requires plant { IsWithinLimits p.now }
     requires state { state < length p.now.states }
     requires within { (j : ℕ) → j < LANES → slice_index_or places.now j 0 < (slice_index_or (axes_of p.now) state no_axis).count }
     ensures { (j : ℕ) → j < LANES → slice_index_or result j (pos 0) ≡ middle_of (slice_index_or (axes_of p.now) state no_axis) (slice_index_or places.now j 0) }
 {
-    every_plant_is_within_limits(p);
     let (first, width) = first_middle(p, state);
     let mut middles = [0; LANES];
     for j in 0..LANES {
@@ -280,11 +282,11 @@ fn middles(p: &Plant, state: u32, places: &[u32; LANES]) -> [i64; LANES]
 
 /// The middle of the first place along the axis of a state, and how far one place is from the next.
 fn first_middle(p: &Plant, state: u32) -> (i64, i64)
-    requires { state < length p.now.states }
+    requires plant { IsWithinLimits p.now }
+    requires state { state < length p.now.states }
     ensures middle { result.0 ≡ middle_of (slice_index_or (axes_of p.now) state no_axis) 0 }
     ensures width { result.1 ≡ (slice_index_or (axes_of p.now) state no_axis).width }
 {
-    every_plant_is_within_limits(p);
     let grid = p.grid();
     grid.cells();
     let low = grid.low(0)[state as usize];
@@ -300,6 +302,7 @@ fn input_values(
     inputs: &[u32; LANES],
     places: &[u32; LANES],
 ) -> [i64; LANES]
+    requires plant { IsWithinLimits p.now }
     requires variable { variable < length p.now.inputs }
     requires inputs { (j : ℕ) → j < LANES → slice_index_or inputs.now j 0 < vectors_of p.now.inputs }
     requires places { (j : ℕ) → j < LANES → slice_index_or places.now j 0 ≡ input_place p.now.inputs variable (slice_index_or inputs.now j 0) }
@@ -323,6 +326,7 @@ fn input_value(
     values: &[i64; LANES],
     j: usize,
 ) -> i64
+    requires plant { IsWithinLimits p.now }
     requires variable { variable < length p.now.inputs }
     requires inputs { (j : ℕ) → j < LANES → slice_index_or inputs.now j 0 < vectors_of p.now.inputs }
     requires places { (j : ℕ) → j < LANES → slice_index_or places.now j 0 ≡ input_place p.now.inputs variable (slice_index_or inputs.now j 0) }
@@ -330,7 +334,6 @@ fn input_value(
     requires earlier { (i : ℕ) → i < j → slice_index_or values.now i (pos 0) ≡ slice_index_or (vector_of p.now.inputs (slice_index_or inputs.now i 0)) variable (pos 0) }
     ensures { result ≡ slice_index_or (vector_of p.now.inputs (slice_index_or inputs.now j 0)) variable (pos 0) }
 {
-    every_plant_is_within_limits(p);
     match row_before(places, p.input_values(variable) as usize, j) {
         Some(i) => values[i],
         None => p.input_value(inputs[j], variable) as i64,
@@ -354,10 +357,10 @@ fn row_before(places: &[u32; LANES], count: usize, j: usize) -> Option<usize>
 
 /// The middle of a noise's range.
 fn noise_middle(p: &Plant, k: u32) -> i64
-    requires { k < length p.now.noises }
+    requires plant { IsWithinLimits p.now }
+    requires noise { k < length p.now.noises }
     ensures { result ≡ slice_index_or (map noise_centre p.now.noises) k (pos 0) }
 {
-    every_plant_is_within_limits(p);
     let (low, high) = p.noise_range(k);
     noise_centre(low, high) as i64
 }

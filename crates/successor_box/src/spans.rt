@@ -28,7 +28,7 @@ const NO_INTERVALS: IntervalColumn = IntervalColumn {
 pub(crate) fn spans(
     p: &Plant,
     places: &[[u32; LANES]; 9],
-    columns: &[[i64; LANES]; VARIABLES_LIMIT],
+    columns: &[[i64; LANES]],
     state: u32,
 ) -> [Interval; LANES]
     requires fits { HasNoOverflow p.now }
@@ -45,7 +45,7 @@ pub(crate) fn spans(
 fn cell_columns(
     p: &Plant,
     places: &[[u32; LANES]; 9],
-    columns: &[[i64; LANES]; VARIABLES_LIMIT],
+    columns: &[[i64; LANES]],
 ) -> [IntervalColumn; VARIABLES_LIMIT]
     requires pairs { HasPairInEachRow p.now places.now }
     requires columns { HoldCentralValues p.now places.now columns.now }
@@ -62,7 +62,7 @@ fn cell_columns(
 fn cell_column(
     p: &Plant,
     places: &[[u32; LANES]; 9],
-    columns: &[[i64; LANES]; VARIABLES_LIMIT],
+    columns: &[[i64; LANES]],
     k: u32,
 ) -> IntervalColumn
     requires pairs { HasPairInEachRow p.now places.now }

@@ -14,12 +14,12 @@ pub middles-requires-clause-within : goal.middles-requires-clause-within
 middles-requires-clause-within c = λ row lt.
     let p = c.args.p.now in
     let pair = c.requires.pairs row lt in
-    place_within p c.args.places.now row pair.0 pair.1 pair.2 (sound_plant p c.every_plant_is_within_limits.ensures.plant) c.args.k (omega (arith, c.if-k-states.true, c.states-states.ensures))
+    place_within p c.args.places.now row pair.0 pair.1 pair.2 (sound_plant p c.requires.plant.plant) c.args.k (omega (arith, c.if-k-states.true, c.states-states.ensures))
 
 pub returns-then-k-states : goal.returns-then-k-states
 returns-then-k-states c = λ row cell u lt is.
     let p = c.args.p.now in
-    c.middles.ensures row lt ∙ state_value p c.args.places.now row cell u is (sound_plant p c.every_plant_is_within_limits.ensures.plant) c.args.k (omega (arith, c.if-k-states.true, c.states-states.ensures))
+    c.middles.ensures row lt ∙ state_value p c.args.places.now row cell u is (sound_plant p c.requires.plant.plant) c.args.k (omega (arith, c.if-k-states.true, c.states-states.ensures))
 
 pub input_values-requires-clause-inputs : goal.input_values-requires-clause-inputs
 input_values-requires-clause-inputs c = λ row lt.

@@ -19,4 +19,7 @@ loop-k-preserved c =
     }
 
 pub returns : goal.returns
-returns c = λ row cell u lt is k within. c.loop-k.invariant.each k (omega (arith, within)) row cell u lt is
+returns c = record {
+  long = c.loop-k.invariant.long ∙ c.requires.long;
+  each = λ row cell u lt is k within. c.loop-k.invariant.each k (omega (arith, within)) row cell u lt is;
+}

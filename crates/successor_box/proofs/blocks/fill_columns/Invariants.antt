@@ -8,6 +8,6 @@ use Rattle.successor_box.proofs.blocks.fill_columns.Given as goal
 -- the columns so far
 abbrev pub invariant-loop-k : goal.invariant-loop-k
 invariant-loop-k l = record {
-  long : length l.columns ≡ 15;
+  long : length l.columns ≡ length l.fn.columns;
   each : (i : ℕ) → i < l.k → (row c u : ℕ) → row < LANES → IsPairInRow l.p l.places row c u → get_or (get_or l.columns i []) row (pos 0) ≡ get_or (central_values l.p c u) i (pos 0);
 }

@@ -18,11 +18,11 @@ found c =
     let p = c.args.p.now in
     let k : ℕ = c.args.state in
     let axes = axes_of p in
-    let lt : k < length axes = omega (arith, c.requires, length-map p.states axis_of) in
+    let lt : k < length axes = omega (arith, c.requires.state, length-map p.states axis_of) in
     let low = low_at axes k (get_or c.low.result k (pos 0)) lt (ap (λ (xs : List ℤ). get_or xs k (pos 0)) (c.low.ensures ∙ ap (λ (l : List Axis). point_of (low_of l 0)) c.grid-grid.ensures)) in
     let high = high_at axes k (get_or c.high.result k (pos 0)) lt (ap (λ (xs : List ℤ). get_or xs k (pos 0)) (c.high.ensures ∙ ap (λ (l : List Axis). point_of (high_of l 0)) c.grid-grid.ensures)) in
     let radius = c.radius.ensures ∙ ap (λ (l : List Axis). radius_of (get_or l k no_axis)) c.grid-grid.ensures in
-    first_cell (get_or axes k no_axis) _ _ _ (axis_at p (sound_plant p c.every_plant_is_within_limits.ensures.plant) k c.requires) low high radius
+    first_cell (get_or axes k no_axis) _ _ _ (axis_at p (sound_plant p c.requires.plant.plant) k c.requires.state) low high radius
 
 pub overflow_add-middle : goal.overflow_add-middle
 overflow_add-middle c = let f = found c in rw (to_z-of_z w128 _ f.low_fits, to_z-of_z w128 _ f.radius_fits) f.middle_wide

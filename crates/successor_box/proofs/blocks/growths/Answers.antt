@@ -1,4 +1,4 @@
-use Rattle.std.proofs.Common.{◌≡◌, ◌<◌, ℕ, ◌∙◌, take, get_or, sym, ap₂, subst, rules, arith}
+use Rattle.std.proofs.Common.{◌≡◌, ◌<◌, ℕ, ◌∙◌, length, get_or, sym, ap₂, subst, rules, arith}
 use Rattle.std.specs.Prelude.{ℤ, pos, ◌+ℤ◌, ◌-ℤ◌, FitsSigned}
 use Rattle.std.specs.Int.{w128}
 use Rattle.std.proofs.lemmas.Int.{to_z-of_z}
@@ -14,7 +14,7 @@ use Rattle.plant_record.proofs.lemmas.SoundPlants.{sound as sound_plant}
 use Rattle.successor_box.specs.Boxes.{central_values, deviation_at, growth_of}
 use Rattle.successor_box.specs.Sides.{IsPairInRow}
 use Rattle.successor_box.specs.inside.Area.{no_range}
-use Rattle.successor_box.proofs.CellColumns.{formed_over_columns}
+use Rattle.successor_box.proofs.CellColumns.{formed_over_columns, few_variables}
 use Rattle.successor_box.proofs.Columns.{row_is, stays_at}
 use Rattle.successor_box.proofs.Filling.{place_more}
 use Rattle.successor_box.proofs.Reaches.{growth_is}
@@ -24,18 +24,21 @@ pub values_in_rows-next-requires-clause-formed : goal.values_in_rows-next-requir
 values_in_rows-next-requires-clause-formed c =
     let p = c.args.p.now in
     let i : ℕ = c.args.state in
-    let sound = sound_plant p c.variables.ensures.plant.plant in
+    let sound = sound_plant p c.requires.plant.plant in
     let equation : equation_at p i ≡ expression_of c.equation.result.now = get_or_from_slice_get p.equations i (expression_of c.equation.result.now) (Number (pos 0)) c.equation.ensures in
-    rw (← equation) (formed_over_columns p c.args.columns.now c.variables.result i sound c.requires.state c.variables.ensures.count (omega arith))
+    rw (← equation) (formed_over_columns p (length c.args.columns.now) i sound c.requires.state c.requires.columns.long)
+
+pub values_in_rows-next-requires-clause-few : goal.values_in_rows-next-requires-clause-few
+values_in_rows-next-requires-clause-few c = few_variables c.args.p.now (length c.args.columns.now) c.requires.plant.plant c.requires.columns.long
 
 pub values_in_rows-next-requires-clause-fits : goal.values_in_rows-next-requires-clause-fits
 values_in_rows-next-requires-clause-fits c = λ row lt.
     let p = c.args.p.now in
     let i : ℕ = c.args.state in
-    let sound = sound_plant p c.variables.ensures.plant.plant in
+    let sound = sound_plant p c.requires.plant.plant in
     let pair = c.requires.pairs row lt in
     let equation : expression_of c.equation.result.now ≡ equation_at p i = sym (get_or_from_slice_get p.equations i (expression_of c.equation.result.now) (Number (pos 0)) c.equation.ensures) in
-    let values : row_of (take c.variables.result c.args.columns.now) row ≡ central_values p pair.0 pair.1 = row_is p pair.0 pair.1 c.args.columns.now c.variables.result row c.variables.ensures.count (omega arith) (c.requires.columns row pair.0 pair.1 lt pair.2) in
+    let values : row_of c.args.columns.now row ≡ central_values p pair.0 pair.1 = row_is p pair.0 pair.1 c.args.columns.now row c.requires.columns.long (c.requires.columns.each row pair.0 pair.1 lt pair.2) in
     rw (equation, values) (stays_at p pair.0 pair.1 sound c.requires.fits pair.2.cell pair.2.input i c.requires.state)
 
 pub growth-requires-clause-input : goal.growth-requires-clause-input
@@ -55,7 +58,7 @@ growth-requires-clause-next c =
     let cell : ℕ = pair.0 in
     let u : ℕ = pair.1 in
     let equation : expression_of c.equation.result.now ≡ equation_at p i = sym (get_or_from_slice_get p.equations i (expression_of c.equation.result.now) (Number (pos 0)) c.equation.ensures) in
-    let values : row_of (take c.variables.result c.args.columns.now) row ≡ central_values p cell u = row_is p cell u c.args.columns.now c.variables.result row c.variables.ensures.count (omega arith) (c.requires.columns row cell u lt pair.2) in
+    let values : row_of c.args.columns.now row ≡ central_values p cell u = row_is p cell u c.args.columns.now row c.requires.columns.long (c.requires.columns.each row cell u lt pair.2) in
     let number : get_or c.args.inputs.now row 0 ≡ u = c.requires.inputs row cell u lt pair.2 in
     let x : ℤ = get_or c.values_in_rows-next.result row (pos 0) in
     let fits : FitsSigned w128 x = search rules in
@@ -76,7 +79,7 @@ loop-j-preserved c =
       long = length-set growths row ends ∙ c.loop-j.invariant.long;
       each = place_more (λ (j : ℕ) (r : Interval). (cell u : ℕ) → IsPairInRow p c.args.places.now j cell u → r ≡ growth_of p cell u e) no_range growths row ends (omega arith) c.loop-j.invariant.each (λ cell u is.
           let equation : expression_of c.equation.result.now ≡ e = sym (get_or_from_slice_get p.equations i (expression_of c.equation.result.now) (Number (pos 0)) c.equation.ensures) in
-          let values : row_of (take c.variables.result c.args.columns.now) row ≡ central_values p cell u = row_is p cell u c.args.columns.now c.variables.result row c.variables.ensures.count (omega arith) (c.requires.columns row cell u lt is) in
+          let values : row_of c.args.columns.now row ≡ central_values p cell u = row_is p cell u c.args.columns.now row c.requires.columns.long (c.requires.columns.each row cell u lt is) in
           let x : ℤ = get_or c.values_in_rows-next.result row (pos 0) in
           let fits : FitsSigned w128 x = search rules in
           let value : x ≡ value_of e (central_values p cell u) = c.values_in_rows-next.ensures row lt ∙ ap₂ value_of equation values in

@@ -12,14 +12,14 @@ loop-k-init c = λ row cell u lt is. get_or-replicate 32 row 0 0 lt ∙ number_n
 pub with_digit-numbers-requires : goal.with_digit-numbers-requires
 with_digit-numbers-requires c = λ row lt.
     let p = c.args.p.now in
-    let pair = c.requires row lt in
+    let pair = c.requires.pairs row lt in
     let u : ℕ = pair.1 in
     let k : ℕ = c.loop-k.k in
     let within : k < length p.inputs = omega (arith, c.loop-k-test.true, c.input_variables-k-end.ensures) in
     let so_far = c.loop-k.invariant row pair.0 u lt pair.2 in
     let digit = ap (λ (n : ℕ). get_or (get_or c.args.places.now (n + k) []) row 0) c.states.ensures ∙ digit_at p c.args.places.now row pair.0 u pair.2 k within in
     let more = ap₂ (λ (n d : ℕ). n * c.input_values.result + d) so_far digit ∙ ap (λ (m : ℕ). u / vectors_of (drop k p.inputs) * m + input_place p.inputs k u) c.input_values.ensures in
-    omega (arith, more, number_below p.inputs k u within, pair.2.input, c.every_plant_is_within_limits.ensures.vectors)
+    omega (arith, more, number_below p.inputs k u within, pair.2.input, c.requires.plant.vectors)
 
 pub loop-k-preserved : goal.loop-k-preserved
 loop-k-preserved c = λ row cell u lt is.

@@ -11,7 +11,7 @@ pub overflow_cast-result : goal.overflow_cast-result
 overflow_cast-result c =
     let x : ℤ = c.input_value.result in
     let wide : FitsSigned w128 x = search rules in
-    rw (to_z-of_z w128 x wide, c.input_value.ensures) (literal_fits _ (value_literal c.args.p.now.inputs (get_or c.args.inputs.now c.args.j 0) c.args.variable c.every_plant_is_within_limits.ensures.plant.inputs))
+    rw (to_z-of_z w128 x wide, c.input_value.ensures) (literal_fits _ (value_literal c.args.p.now.inputs (get_or c.args.inputs.now c.args.j 0) c.args.variable c.requires.plant.plant.inputs))
 
 pub returns-in-Some : goal.returns-in-Some
 returns-in-Some c =
@@ -32,5 +32,5 @@ pub returns-in-None : goal.returns-in-None
 returns-in-None c =
     let x : ℤ = c.input_value.result in
     let wide : FitsSigned w128 x = search rules in
-    let narrow : FitsSigned w64 x = rw c.input_value.ensures (literal_fits _ (value_literal c.args.p.now.inputs (get_or c.args.inputs.now c.args.j 0) c.args.variable c.every_plant_is_within_limits.ensures.plant.inputs)) in
+    let narrow : FitsSigned w64 x = rw c.input_value.ensures (literal_fits _ (value_literal c.args.p.now.inputs (get_or c.args.inputs.now c.args.j 0) c.args.variable c.requires.plant.plant.inputs)) in
     rw (to_z-of_z w128 x wide, to_z-of_z w64 x narrow) c.input_value.ensures

@@ -28,7 +28,7 @@ one c =
     let place : ℕ = get_or c.args.places.now c.loop-j.j 0 in
     let first : ℤ = c.first_middle-first.result.0 in
     let width : ℤ = c.first_middle-first.result.1 in
-    let axis = axis_at p (sound_plant p c.every_plant_is_within_limits.ensures.plant) c.args.state c.requires.state in
+    let axis = axis_at p (sound_plant p c.requires.plant.plant) c.args.state c.requires.state in
     let room = has_room a place axis (c.requires.within c.loop-j.j c.loop-j-test.true) in
     let at : first +ℤ (width *ℤ pos place) ≡ middle_of a place = middle_from a place first width c.first_middle-first.ensures.middle c.first_middle-first.ensures.width in
     record {

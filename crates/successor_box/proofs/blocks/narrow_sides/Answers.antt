@@ -17,7 +17,7 @@ use Rattle.successor_box.proofs.blocks.narrow_sides.Goals as goal
 pub prolonged_ruler-ruler-requires : goal.prolonged_ruler-ruler-requires
 prolonged_ruler-ruler-requires c =
     let p = c.args.p.now in
-    let axes : length p.equations ≡ length c.grid.result.now = c.every_plant_is_within_limits.ensures.plant.one_each ∙ sym (length-map p.states axis_of) ∙ sym (ap length c.grid.ensures) in
+    let axes : length p.equations ≡ length c.grid.result.now = c.requires.plant.plant.one_each ∙ sym (length-map p.states axis_of) ∙ sym (ap length c.grid.ensures) in
     subst (λ (n : ℕ). c.args.state < n) axes c.requires.state
 
 pub bounds-deviations-inputs : goal.bounds-deviations-inputs

@@ -16,7 +16,7 @@ found c =
     let low_fits : FitsSigned w128 low = search rules in
     let high_fits : FitsSigned w128 high = search rules in
     let is = rw (to_z-of_z w128 low low_fits, to_z-of_z w128 high high_fits) at c.noise_centre.ensures in
-    let range = noise_bounds c.args.p.now.noises c.args.k c.noise_range-low.result c.every_plant_is_within_limits.ensures.plant.noises c.noise_range-low.ensures in
+    let range = noise_bounds c.args.p.now.noises c.args.k c.noise_range-low.result c.requires.plant.plant.noises c.noise_range-low.ensures in
     let same : low ≤ℤ low = omega (arith, ints) in
     let m = middle low high low same range.ordered in
     rw is (between_literals low high (floor_div (low +ℤ high) (pos 2)) range.low range.high m.above_low m.below_high)

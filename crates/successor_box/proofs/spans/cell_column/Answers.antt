@@ -15,7 +15,7 @@ overflow_cast-offset c =
     let o : Interval = c.offset-offset.result in
     let first : 0 < 32 = omega arith in
     let pair = c.requires.pairs 0 first in
-    let range = range_of_column p pair.0 pair.1 (sound_plant p plant) pair.2.cell plant k c.requires.variable (get_or (get_or c.args.columns.now k []) 0 (pos 0)) o (c.requires.columns 0 pair.0 pair.1 first pair.2 k c.requires.variable) (c.offset-offset.ensures pair.1) in
+    let range = range_of_column p pair.0 pair.1 (sound_plant p plant) pair.2.cell plant k c.requires.variable (get_or (get_or c.args.columns.now k []) 0 (pos 0)) o (c.requires.columns.each 0 pair.0 pair.1 first pair.2 k c.requires.variable) (c.offset-offset.ensures pair.1) in
     let wide : FitsSigned w128 o.lo = search rules in
     rw (to_z-of_z w128 o.lo wide) range.low_offset
 
@@ -26,7 +26,7 @@ moved-requires c = λ row lt.
     let k : ℕ = c.args.k in
     let o : Interval = c.offset-offset.result in
     let pair = c.requires.pairs row lt in
-    let range = range_of_column p pair.0 pair.1 (sound_plant p plant) pair.2.cell plant k c.requires.variable (get_or (get_or c.args.columns.now k []) row (pos 0)) o (c.requires.columns row pair.0 pair.1 lt pair.2 k c.requires.variable) (c.offset-offset.ensures pair.1) in
+    let range = range_of_column p pair.0 pair.1 (sound_plant p plant) pair.2.cell plant k c.requires.variable (get_or (get_or c.args.columns.now k []) row (pos 0)) o (c.requires.columns.each row pair.0 pair.1 lt pair.2 k c.requires.variable) (c.offset-offset.ensures pair.1) in
     let wide : FitsSigned w128 o.lo = search rules in
     rw (to_z-of_z w128 o.lo wide, to_z-of_z w64 o.lo range.low_offset) range.low
 
@@ -38,7 +38,7 @@ overflow_cast-offset-2 c =
     let o : Interval = c.offset-offset.result in
     let first : 0 < 32 = omega arith in
     let pair = c.requires.pairs 0 first in
-    let range = range_of_column p pair.0 pair.1 (sound_plant p plant) pair.2.cell plant k c.requires.variable (get_or (get_or c.args.columns.now k []) 0 (pos 0)) o (c.requires.columns 0 pair.0 pair.1 first pair.2 k c.requires.variable) (c.offset-offset.ensures pair.1) in
+    let range = range_of_column p pair.0 pair.1 (sound_plant p plant) pair.2.cell plant k c.requires.variable (get_or (get_or c.args.columns.now k []) 0 (pos 0)) o (c.requires.columns.each 0 pair.0 pair.1 first pair.2 k c.requires.variable) (c.offset-offset.ensures pair.1) in
     let wide : FitsSigned w128 o.hi = search rules in
     rw (to_z-of_z w128 o.hi wide) range.high_offset
 
@@ -49,7 +49,7 @@ moved-requires-2 c = λ row lt.
     let k : ℕ = c.args.k in
     let o : Interval = c.offset-offset.result in
     let pair = c.requires.pairs row lt in
-    let range = range_of_column p pair.0 pair.1 (sound_plant p plant) pair.2.cell plant k c.requires.variable (get_or (get_or c.args.columns.now k []) row (pos 0)) o (c.requires.columns row pair.0 pair.1 lt pair.2 k c.requires.variable) (c.offset-offset.ensures pair.1) in
+    let range = range_of_column p pair.0 pair.1 (sound_plant p plant) pair.2.cell plant k c.requires.variable (get_or (get_or c.args.columns.now k []) row (pos 0)) o (c.requires.columns.each row pair.0 pair.1 lt pair.2 k c.requires.variable) (c.offset-offset.ensures pair.1) in
     let wide : FitsSigned w128 o.hi = search rules in
     rw (to_z-of_z w128 o.hi wide, to_z-of_z w64 o.hi range.high_offset) range.high
 
@@ -59,7 +59,7 @@ returns c = λ row cell u lt is.
     let plant = c.every_plant_is_within_limits.ensures.plant in
     let k : ℕ = c.args.k in
     let o : Interval = c.offset-offset.result in
-    let range = range_of_column p cell u (sound_plant p plant) is.cell plant k c.requires.variable (get_or (get_or c.args.columns.now k []) row (pos 0)) o (c.requires.columns row cell u lt is k c.requires.variable) (c.offset-offset.ensures u) in
+    let range = range_of_column p cell u (sound_plant p plant) is.cell plant k c.requires.variable (get_or (get_or c.args.columns.now k []) row (pos 0)) o (c.requires.columns.each row cell u lt is k c.requires.variable) (c.offset-offset.ensures u) in
     let low_wide : FitsSigned w128 o.lo = search rules in
     let high_wide : FitsSigned w128 o.hi = search rules in
     let low = rw (to_z-of_z w128 o.lo low_wide, to_z-of_z w64 o.lo range.low_offset) at c.moved.ensures row lt in

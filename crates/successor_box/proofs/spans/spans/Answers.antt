@@ -1,5 +1,6 @@
-use Rattle.std.proofs.Common.{◌≡◌, ℕ, ◌∙◌, take, sym, ap₂, arith}
+use Rattle.std.proofs.Common.{◌≡◌, ℕ, ◌∙◌, length, take, sym, ap₂, arith}
 use Rattle.std.specs.Prelude.{pos}
+use Rattle.std.proofs.lemmas.List.{length-take-le}
 use Rattle.std.proofs.lemmas.Option.{get_or_from_slice_get}
 use Rattle.fixed_expr.specs.Expression.{Number, expression_of}
 use Rattle.interval_eval.specs.Rows.{area_in}
@@ -16,7 +17,8 @@ spans_in_rows-requires-clause-formed c =
     let i : ℕ = c.args.state in
     let sound = sound_plant p c.variables.ensures.plant.plant in
     let equation : expression_of c.equation.result.now ≡ equation_at p i = sym (get_or_from_slice_get p.equations i (expression_of c.equation.result.now) (Number (pos 0)) c.equation.ensures) in
-    rw equation (formed_over_columns p c.cell_columns-ranges.result c.variables.result i sound c.requires.state c.variables.ensures.count (omega arith))
+    let front : length (take c.variables.result c.cell_columns-ranges.result) ≡ c.variables.result = length-take-le c.variables.result c.cell_columns-ranges.result (omega arith) in
+    rw equation (formed_over_columns p (length (take c.variables.result c.cell_columns-ranges.result)) i sound c.requires.state (front ∙ c.variables.ensures.count))
 
 pub spans_in_rows-requires-clause-fits : goal.spans_in_rows-requires-clause-fits
 spans_in_rows-requires-clause-fits c = λ row lt.
