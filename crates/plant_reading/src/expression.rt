@@ -15,7 +15,7 @@ ghost use Rattle.plant_record.specs.Parts.{variable_names};
 ghost use Rattle.plant_reading.specs.inside.ExpressionMachine.{pendings_of, machine_of, closed, tabled, halved, begun, continued, summed, stepped, IsEnd, counts_behind, AreWithinLimits};
 
 use crate::fault::ReadFault;
-use crate::frames::{Frame, Stack, boxed};
+use crate::frames::{Frame, Stack};
 use crate::items::{Bracket, Item, next_item};
 use fixed_expr::{Curve, Expr};
 use plant_record::Variables;
@@ -71,41 +71,40 @@ fn counts_behind(counts: Counts, item: &Item) -> Option<Counts>
 }
 
 /// Where a bracket closes: what it makes of the sum in it.
-fn closed(alloc: Global, stack: &mut Stack, sum: Expr) -> Result<Expr, ReadFault>
-    ensures { Gives (λ e. (expression_of e, pendings_of stack.new)) result (closed (expression_of sum) (pendings_of stack.old)) }
+fn closed(alloc: Global, stack: &mut Stack, sum: Box<Expr>) -> Result<Box<Expr>, ReadFault>
+    ensures { Gives (λ e. (expression_of e.value, pendings_of stack.new)) result (closed (expression_of sum.value) (pendings_of stack.old)) }
 {
     let Some(frame) = stack.pop() else {
         return Err(ReadFault::Malformed);
     };
     match frame {
         Frame::Opened(Bracket::Plain) => Ok(sum),
-        Frame::Opened(Bracket::Size) => Ok(Expr::Abs(Box::new(alloc, sum)?)),
-        Frame::LeastOf(a) => {
-            let (a, b) = boxed(alloc, a, sum)?;
-            Ok(Expr::Min(a, b))
-        }
-        Frame::GreatestOf(a) => {
-            let (a, b) = boxed(alloc, a, sum)?;
-            Ok(Expr::Max(a, b))
-        }
+        Frame::Opened(Bracket::Size) => Ok(Box::new(alloc, Expr::Abs(sum))?),
+        Frame::LeastOf(a) => Ok(Box::new(alloc, Expr::Min(a, sum))?),
+        Frame::GreatestOf(a) => Ok(Box::new(alloc, Expr::Max(a, sum))?),
         _ => Err(ReadFault::Malformed),
     }
 }
 
 /// Behind the points of a table: what they make of the sum before them.
 #[tactic(auto, unfolding(crate::specs::inside::ExpressionMachine::tabled))]
-fn tabled(alloc: Global, stack: &mut Stack, sum: Expr, curve: Curve) -> Result<Expr, ReadFault>
-    ensures { Gives (λ e. (expression_of e, pendings_of stack.new)) result (tabled curve (expression_of sum) (pendings_of stack.old)) }
+fn tabled(
+    alloc: Global,
+    stack: &mut Stack,
+    sum: Box<Expr>,
+    curve: Curve,
+) -> Result<Box<Expr>, ReadFault>
+    ensures { Gives (λ e. (expression_of e.value, pendings_of stack.new)) result (tabled curve (expression_of sum.value) (pendings_of stack.old)) }
 {
     match stack.pop_bracket() {
-        Some(Bracket::Table) => Ok(Expr::Lut(Box::new(alloc, sum)?, curve)),
+        Some(Bracket::Table) => Ok(Box::new(alloc, Expr::Lut(sum, curve))?),
         _ => Err(ReadFault::Malformed),
     }
 }
 
 /// Behind the first of two sums in a bracket.
-fn halved(stack: &mut Stack, sum: Expr) -> Result<(), ReadFault>
-    ensures { Gives (λ _. pendings_of stack.new) result (halved (expression_of sum) (pendings_of stack.old)) }
+fn halved(stack: &mut Stack, sum: Box<Expr>) -> Result<(), ReadFault>
+    ensures { Gives (λ _. pendings_of stack.new) result (halved (expression_of sum.value) (pendings_of stack.old)) }
 {
     let frame = match stack.pop_bracket() {
         Some(Bracket::Least) => Frame::LeastOf(sum),
@@ -117,12 +116,18 @@ fn halved(stack: &mut Stack, sum: Expr) -> Result<(), ReadFault>
 
 /// Takes an item where an operand may begin. Returns the term that it ends, if any.
 #[tactic(auto, unfolding(crate::specs::inside::ExpressionMachine::begun))]
-fn begun(alloc: Global, stack: &mut Stack, item: Item) -> Result<Option<Expr>, ReadFault>
-    ensures { Gives (λ t. (option_map expression_of t, pendings_of stack.new)) result (begun item (pendings_of stack.old)) }
+fn begun(alloc: Global, stack: &mut Stack, item: Item) -> Result<Option<Box<Expr>>, ReadFault>
+    ensures { Gives (λ t. (option_map (λ e. expression_of e.value) t, pendings_of stack.new)) result (begun item (pendings_of stack.old)) }
 {
     match item {
-        Item::Number(k) => Ok(Some(stack.end_factor(alloc, Expr::Num(i128::from(k)))?)),
-        Item::Variable(i) => Ok(Some(stack.end_factor(alloc, Expr::Var(i))?)),
+        Item::Number(k) => {
+            let number = Box::new(alloc, Expr::Num(i128::from(k)))?;
+            Ok(Some(stack.end_factor(alloc, number)?))
+        }
+        Item::Variable(i) => {
+            let variable = Box::new(alloc, Expr::Var(i))?;
+            Ok(Some(stack.end_factor(alloc, variable)?))
+        }
         Item::Minus => {
             stack.push(Frame::Sign)?;
             Ok(None)
@@ -140,17 +145,17 @@ fn begun(alloc: Global, stack: &mut Stack, item: Item) -> Result<Option<Expr>, R
 fn continued(
     alloc: Global,
     stack: &mut Stack,
-    term: Expr,
+    term: Box<Expr>,
     item: Item,
-) -> Result<Option<Expr>, ReadFault>
-    ensures { Gives (λ t. (option_map expression_of t, pendings_of stack.new)) result (continued item (expression_of term) (pendings_of stack.old)) }
+) -> Result<Option<Box<Expr>>, ReadFault>
+    ensures { Gives (λ t. (option_map (λ e. expression_of e.value) t, pendings_of stack.new)) result (continued item (expression_of term.value) (pendings_of stack.old)) }
 {
     match item {
         Item::Times => {
             stack.push(Frame::Multiply(term))?;
             Ok(None)
         }
-        Item::Over(k) => Ok(Some(Expr::Div(Box::new(alloc, term)?, i128::from(k)))),
+        Item::Over(k) => Ok(Some(Box::new(alloc, Expr::Div(term, i128::from(k)))?)),
         other => {
             let sum = stack.end_term(alloc, term)?;
             summed(alloc, stack, sum, other)
@@ -163,10 +168,10 @@ fn continued(
 fn summed(
     alloc: Global,
     stack: &mut Stack,
-    sum: Expr,
+    sum: Box<Expr>,
     item: Item,
-) -> Result<Option<Expr>, ReadFault>
-    ensures { Gives (λ t. (option_map expression_of t, pendings_of stack.new)) result (summed item (expression_of sum) (pendings_of stack.old)) }
+) -> Result<Option<Box<Expr>>, ReadFault>
+    ensures { Gives (λ t. (option_map (λ e. expression_of e.value) t, pendings_of stack.new)) result (summed item (expression_of sum.value) (pendings_of stack.old)) }
 {
     match item {
         Item::Plus => {
@@ -197,7 +202,7 @@ fn summed(
 #[derive(Drop)]
 struct Reader {
     stack: Stack,
-    term: Option<Expr>,
+    term: Option<Box<Expr>>,
     counts: Counts,
 }
 
@@ -234,6 +239,29 @@ impl Reader {
         Ok(())
     }
 
+    /// Takes all items of an expression.
+    fn take_all(
+        &mut self,
+        alloc: Global,
+        variables: &Variables,
+        bytes: &[u8],
+    ) -> Result<(), ReadFault>
+        requires few { length (variable_names variables.now) ≤ 15 }
+        requires differ { AllPairs (λ a b. a ≢ b) (variable_names variables.now) }
+        requires names { All IsName (variable_names variables.now) }
+        requires machine { machine_of self.old ≡ (None, []) }
+        requires counts { self.old.counts ≡ record { nodes = 0; brackets = 0 } }
+        ensures taken { OnOk result ((e : Expression) → IsEnd (machine_of self.new) e ↔ AreTokensOf (variable_names variables.now) (flat_map tokens_of (words_of bytes.now)) e) }
+        ensures refused { result ≡ Err ReadFault.Malformed → (e : Expression) → AreTokensOf (variable_names variables.now) (flat_map tokens_of (words_of bytes.now)) e → ⊥ }
+    {
+        let mut rest = bytes;
+        while let Some((item, after)) = next_item(alloc, variables, rest)? {
+            self.take(alloc, item)?;
+            rest = after;
+        }
+        Ok(())
+    }
+
     fn end(self, alloc: Global) -> Result<Expr, ReadFault>
         ensures whole { IfOk result (λ e. IsEnd (machine_of self) (expression_of e)) }
         ensures refused { result ≡ Err ReadFault.Malformed → (e : Expression) → IsEnd (machine_of self) e → ⊥ }
@@ -250,7 +278,7 @@ impl Reader {
         if !stack.is_empty() || !is_within(&e, DEPTH_LIMIT) {
             return Err(ReadFault::Malformed);
         }
-        Ok(e)
+        Ok(Box::into_inner(e))
     }
 }
 
@@ -278,10 +306,6 @@ pub fn expression_in(alloc: Global, variables: &Variables, rest: &[u8]) -> Resul
     ensures refused { result ≡ Err ReadFault.Malformed → (e : Expression) → AreTokensOf (variable_names variables.now) (flat_map tokens_of (words_of rest.now)) e → ⊥ }
 {
     let mut reader = Reader::new(alloc);
-    let mut rest = rest;
-    while let Some((item, after)) = next_item(alloc, variables, rest)? {
-        reader.take(alloc, item)?;
-        rest = after;
-    }
+    reader.take_all(alloc, variables, rest)?;
     reader.end(alloc)
 }

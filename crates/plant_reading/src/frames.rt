@@ -12,12 +12,12 @@ use std::alloc::{AllocError, Global};
 #[derive(Drop)]
 pub enum Frame {
     Sign,
-    AddTo(Expr),
-    TakeFrom(Expr),
-    Multiply(Expr),
+    AddTo(Box<Expr>),
+    TakeFrom(Box<Expr>),
+    Multiply(Box<Expr>),
     Opened(Bracket),
-    LeastOf(Expr),
-    GreatestOf(Expr),
+    LeastOf(Box<Expr>),
+    GreatestOf(Box<Expr>),
 }
 
 impl Frame {
@@ -36,13 +36,6 @@ impl Frame {
 #[derive(Drop)]
 pub struct Stack {
     frames: Vec<Frame>,
-}
-
-/// The two operands of an operator, in boxes.
-pub fn boxed(alloc: Global, a: Expr, b: Expr) -> Result<(Box<Expr>, Box<Expr>), AllocError>
-    ensures { IfOk result (λ x. (x.0.value ≡ a) × (x.1.value ≡ b)) }
-{
-    Ok((Box::new(alloc, a)?, Box::new(alloc, b)?))
 }
 
 impl Stack {
@@ -76,22 +69,21 @@ impl Stack {
     pub fn pop_bracket(&mut self) -> Option<Bracket>
         ensures { MatchOption result (NoBracketWaits (pendings_of self.old)) (λ b. pendings_of self.old ≡ Opened b ∷ pendings_of self.new) }
     {
-        let frame = self.pop()?;
-        frame.bracket()
+        match self.pop() {
+            Some(frame) => frame.bracket(),
+            None => None,
+        }
     }
 
     /// Ends a factor: the signs before it and a product take it.
-    pub fn end_factor(&mut self, alloc: Global, factor: Expr) -> Result<Expr, AllocError>
-        ensures { IfOk result (λ e. factor_ended (expression_of factor) (pendings_of self.old) ≡ (expression_of e, pendings_of self.new)) }
+    pub fn end_factor(&mut self, alloc: Global, factor: Box<Expr>) -> Result<Box<Expr>, AllocError>
+        ensures { IfOk result (λ e. factor_ended (expression_of factor.value) (pendings_of self.old) ≡ (expression_of e.value, pendings_of self.new)) }
     {
         let mut factor = factor;
         while let Some(frame) = self.pop() {
             match frame {
-                Frame::Sign => factor = Expr::Neg(Box::new(alloc, factor)?),
-                Frame::Multiply(a) => {
-                    let (a, b) = boxed(alloc, a, factor)?;
-                    return Ok(Expr::Mul(a, b));
-                }
+                Frame::Sign => factor = Box::new(alloc, Expr::Neg(factor))?,
+                Frame::Multiply(a) => return Ok(Box::new(alloc, Expr::Mul(a, factor))?),
                 other => {
                     self.push(other)?;
                     return Ok(factor);
@@ -102,21 +94,15 @@ impl Stack {
     }
 
     /// Ends a term: a sum or a difference takes it.
-    pub fn end_term(&mut self, alloc: Global, term: Expr) -> Result<Expr, AllocError>
-        ensures { IfOk result (λ e. term_ended (expression_of term) (pendings_of self.old) ≡ (expression_of e, pendings_of self.new)) }
+    pub fn end_term(&mut self, alloc: Global, term: Box<Expr>) -> Result<Box<Expr>, AllocError>
+        ensures { IfOk result (λ e. term_ended (expression_of term.value) (pendings_of self.old) ≡ (expression_of e.value, pendings_of self.new)) }
     {
         let Some(frame) = self.pop() else {
             return Ok(term);
         };
         match frame {
-            Frame::AddTo(a) => {
-                let (a, b) = boxed(alloc, a, term)?;
-                Ok(Expr::Add(a, b))
-            }
-            Frame::TakeFrom(a) => {
-                let (a, b) = boxed(alloc, a, term)?;
-                Ok(Expr::Sub(a, b))
-            }
+            Frame::AddTo(a) => Ok(Box::new(alloc, Expr::Add(a, term))?),
+            Frame::TakeFrom(a) => Ok(Box::new(alloc, Expr::Sub(a, term))?),
             other => {
                 self.push(other)?;
                 Ok(term)

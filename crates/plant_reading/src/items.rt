@@ -180,8 +180,8 @@ pub fn next_item<'a>(
     ensures item { Gives (λ r. option_map (λ x. (x.0, tokens_in x.1.now)) r) result (next_item (variable_names variables.now) (tokens_in bytes.now)) }
     ensures shorter { IfOk result (λ r. IfSome r (λ x. length x.1.now < length bytes.now)) }
 {
-    let Some((token, rest)) = next_token(bytes) else {
-        return Ok(None);
-    };
-    Ok(Some(item_behind(alloc, variables, token, rest)?))
+    match next_token(bytes) {
+        Some((token, rest)) => Ok(Some(item_behind(alloc, variables, token, rest)?)),
+        None => Ok(None),
+    }
 }

@@ -51,21 +51,43 @@ pub enum Keyword {
     End,
 }
 
+const KEYWORDS: [Keyword; 9] = [
+    Keyword::Plant,
+    Keyword::State,
+    Keyword::Input,
+    Keyword::Noise,
+    Keyword::Next,
+    Keyword::Target,
+    Keyword::Obstacle,
+    Keyword::Goal,
+    Keyword::End,
+];
+
+fn text_of(keyword: Keyword) -> &'static [u8]
+    ensures { result.now ≡ keyword_text keyword }
+{
+    match keyword {
+        Keyword::Plant => b"plant",
+        Keyword::State => b"state",
+        Keyword::Input => b"input",
+        Keyword::Noise => b"noise",
+        Keyword::Next => b"next",
+        Keyword::Target => b"target",
+        Keyword::Obstacle => b"obstacle",
+        Keyword::Goal => b"goal",
+        Keyword::End => b"end",
+    }
+}
+
 fn keyword_of(word: &[u8]) -> Result<Keyword, ReadFault>
     ensures { Finds (λ k. k) (λ k. word.now ≡ keyword_text k) result }
 {
-    match word {
-        b"plant" => Ok(Keyword::Plant),
-        b"state" => Ok(Keyword::State),
-        b"input" => Ok(Keyword::Input),
-        b"noise" => Ok(Keyword::Noise),
-        b"next" => Ok(Keyword::Next),
-        b"target" => Ok(Keyword::Target),
-        b"obstacle" => Ok(Keyword::Obstacle),
-        b"goal" => Ok(Keyword::Goal),
-        b"end" => Ok(Keyword::End),
-        _ => Err(ReadFault::Malformed),
+    for keyword in KEYWORDS {
+        if word == text_of(keyword) {
+            return Ok(keyword);
+        }
     }
+    Err(ReadFault::Malformed)
 }
 
 /// The statement of a line.

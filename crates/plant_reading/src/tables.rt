@@ -1,6 +1,6 @@
 // The points of a table.
 
-ghost use Rattle.std.specs.Prelude.{◌≡◌, ◌<◌, ◌^◌, codes, length, nat_abs, IfOk, IfSome};
+ghost use Rattle.std.specs.Prelude.{◌≡◌, ◌<◌, ◌≤◌, ◌^◌, ◌&&◌, nat_le, if◌then◌else◌, codes, length, nat_abs, Some, None, IfOk, IfSome};
 ghost use Rattle.std.specs.List.{All};
 ghost use Rattle.std.specs.Str.{bytes_eq};
 ghost use Rattle.std.specs.Option.{option_map};
@@ -24,11 +24,20 @@ pub fn curve_in(alloc: Global, bytes: &[u8]) -> Result<(Curve, &[u8]), ReadFault
     ensures no_longer { IfOk result (λ x. length x.1.now < length bytes.now) }
 {
     let (points, rest) = points_in(alloc, bytes)?;
-    if points.len() < 2 || !rises(&points) {
+    Ok((curve_through(alloc, &points)?, rest))
+}
+
+/// The table with these points.
+fn curve_through(alloc: Global, points: &[(i128, i128)]) -> Result<Curve, ReadFault>
+    requires few { length points.now ≤ 32 }
+    requires short { All IsShort points.now }
+    ensures { Gives (λ curve. curve) result (if nat_le 2 (length points.now) && rises points.now then Some points.now else None) }
+{
+    if points.len() < 2 || !rises(points) {
         return Err(ReadFault::Malformed);
     }
-    match Curve::new(alloc, &points) {
-        Ok(curve) => Ok((curve, rest)),
+    match Curve::new(alloc, points) {
+        Ok(curve) => Ok(curve),
         Err(_) => Err(ReadFault::Memory),
     }
 }
@@ -76,12 +85,9 @@ fn is_comma(token: &[u8]) -> bool
 fn rises(points: &[(i128, i128)]) -> bool
     ensures { result ≡ rises points.now }
 {
-    let Some((p, rest)) = points.split_first() else {
-        return true;
-    };
-    match rest.first() {
-        Some(q) => p.0 < q.0 && rises(rest),
-        None => true,
+    match points {
+        [p, q, ..] => p.0 < q.0 && rises(&points[1..]),
+        _ => true,
     }
 }
 
@@ -93,7 +99,8 @@ pub fn point_in(bytes: &[u8]) -> Option<((i128, i128), &[u8])>
     ensures shorter { IfSome result (λ x. length x.1.now < length bytes.now) }
 {
     let (x, rest) = signed_in(bytes)?;
-    let (y, rest) = signed_in(behind_colon(rest)?)?;
+    let rest = behind_colon(rest)?;
+    let (y, rest) = signed_in(rest)?;
     Some(((x, y), rest))
 }
 
@@ -117,10 +124,10 @@ fn signed_in(bytes: &[u8]) -> Option<(i128, &[u8])>
     ensures shorter { IfSome result (λ x. length x.1.now < length bytes.now) }
 {
     let (token, rest) = next_token(bytes)?;
-    if matches!(token, b"-") {
-        return negative_in(rest);
+    match token {
+        b"-" => negative_in(rest),
+        _ => Some((i128::from(literal_of(token)?), rest)),
     }
-    Some((i128::from(literal_of(token)?), rest))
 }
 
 /// A number below 0 behind its sign, and the bytes after it.

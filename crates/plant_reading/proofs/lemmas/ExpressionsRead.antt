@@ -10,14 +10,14 @@ use Rattle.plant_reading.specs.declared.items.Item.{Item}
 use Rattle.plant_record.specs.Names.{IsName}
 use Rattle.plant_reading.specs.SyntaxTrees.{Syntax, AreTokensOf, meaning_of, yield_of}
 use Rattle.plant_record.specs.Equations.{nodes_of, depth_of}
-use Rattle.plant_reading.specs.inside.ExpressionItems.{AreNames, items_before, turned, spelling_of, IsItem, AreItems, nodes_made, nodes_in, open_behind, most_open, open_after, next_item}
+use Rattle.plant_reading.specs.inside.ExpressionItems.{AreNames, items_before, turned, spelling_of, AreItems, nodes_made, nodes_in, open_behind, most_open, open_after, next_item}
 use Rattle.plant_reading.specs.inside.TokenReaders.{◌>>=◌}
 use Rattle.plant_reading.specs.declared.expression.Counts.{Counts}
 use Rattle.plant_reading.specs.inside.ExpressionMachine.{Pending, Machine, stepped, steps, state_after, IsEnd, counts_behind, AreWithinLimits}
 use Rattle.plant_reading.proofs.lemmas.TreesAreTaken.{whole}
 use Rattle.plant_reading.proofs.lemmas.TermsAreTrees.{sum_spans}
 use Rattle.plant_reading.proofs.lemmas.Literals.{then_some}
-use Rattle.plant_reading.proofs.lemmas.ItemSpelling.{IsBefore, item_again, no_point, next_takes, next_ends}
+use Rattle.plant_reading.proofs.lemmas.ItemSpelling.{item_again, no_point, next_takes, next_ends}
 use Rattle.plant_reading.proofs.lemmas.ItemsOfTrees.{spelled, yield_is, turned_is, nodes_are, open_are, tree_items, turned_nodes, turned_open, turned_bound, open_bound, StaysOpen}
 
 -- the tokens of items, of which the last comes first, before others
@@ -261,6 +261,7 @@ end_spelled names tokens rest (Some term, S) c e k read end =
       brackets = omega (arith, taken_open, open_are t 0 [], turned_bound k.items [] k.bounded (open_bound k.items k.bounded));
     }
 
-pub result_spelled : (names tokens rest : List (List ℕ)) (n : Machine) (c : Counts) (r : Result Expr ReadFault) → Taken names tokens rest n c → next_item names rest ≡ Some None → IfOk r (λ e. IsEnd n (expression_of e)) → IfOk r (λ e. AreTokensOf names tokens (expression_of e))
-result_spelled names tokens rest n c (Ok e) k read end = end_spelled names tokens rest n c (expression_of e) k read end
-result_spelled names tokens rest n c (Err f) k read end = tt
+-- what a reader's end gives
+pub result_spelled : (names tokens : List (List ℕ)) (n : Machine) (r : Result Expr ReadFault) → ((e : Expression) → IsEnd n e → AreTokensOf names tokens e) → IfOk r (λ e. IsEnd n (expression_of e)) → IfOk r (λ e. AreTokensOf names tokens (expression_of e))
+result_spelled names tokens n (Ok e) spelled end = spelled (expression_of e) end
+result_spelled names tokens n (Err f) spelled end = tt

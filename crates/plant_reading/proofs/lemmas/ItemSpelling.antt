@@ -1,5 +1,5 @@
 -- An item that is read is spelled so, and what is spelled so is read.
-use Rattle.std.proofs.Common.{◌≡◌, ◌≢◌, ℕ, zero, suc, ◌^◌, ◌<◌, ◌≤◌, Bool, true, false, cond, eqb, leb, ltb, List, [], ◌∷◌, ◌++◌, length, get_or, Option, Some, None, refl, sym, ap, subst, ◌∙◌, arith, ◌⊎◌, ◌&&◌, not, inl, inr, append_assoc}
+use Rattle.std.proofs.Common.{◌≡◌, ◌≢◌, ℕ, zero, suc, ◌^◌, ◌<◌, ◌≤◌, Bool, true, false, cond, eqb, leb, List, [], ◌∷◌, ◌++◌, length, get_or, Option, Some, None, refl, sym, ap, subst, ◌∙◌, arith, not, inl, inr, append_assoc}
 use Rattle.std.specs.Prelude.{codes, ℤ, pos, neg_ℤ, slice_get}
 use Rattle.fixed_expr.specs.Curves.{IsCurve}
 use Rattle.std.specs.List.{All, AllPairs, Contains, list_all, flat_map}
@@ -15,7 +15,7 @@ use Rattle.plant_reading.specs.declared.items.Item.{Item}
 use Rattle.plant_reading.specs.declared.items.Item.TheVariants as item
 use Rattle.plant_record.specs.Names.{is_letter, is_digit, is_name_byte, is_reserved, IsName}
 use Rattle.plant_reading.specs.inside.ExpressionItems.{AreNames, opening_of, spelling_of, IsItem, AreItems, function_of, symbol_of, place_in, leaf_of, item_of, divided, opened, comma_behind, plain_behind, item_behind, next_item}
-use Rattle.plant_reading.specs.inside.TokenReaders.{or_else, ◌>>=◌, literal_of, negative_of, signed_of, behind_colon, point_of, curve_of}
+use Rattle.plant_reading.specs.inside.TokenReaders.{◌>>=◌, literal_of, negative_of, signed_of, behind_colon, point_of, curve_of}
 use Rattle.plant_reading.proofs.lemmas.NumberBytes.{no_name, letter_no_digit}
 use Rattle.plant_reading.proofs.lemmas.Literals.{same, is_same, differs, first_differs, if_some, or_else_some, map_some, then_some, literal_again, literal_takes, digit_first, nonzero_if, cond_cases, not_literal}
 use Rattle.plant_reading.proofs.lemmas.TablePoints.{pair_tokens, curve_again, curve_takes}

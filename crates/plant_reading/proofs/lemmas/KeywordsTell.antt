@@ -1,16 +1,19 @@
 -- A line that begins with a keyword states something of that kind.
-use Rattle.std.proofs.Common.{◌≡◌, ℕ, ◌+◌, ◌*◌, List, [], ◌∷◌, get_or, ap, arith}
+use Rattle.std.proofs.Common.{◌≡◌, ℕ, ◌+◌, ◌*◌, ◌<◌, ◌≤◌, true, false, List, [], ◌∷◌, get_or, below_more, refl, sym, ap, ◌∙◌, arith}
 use Rattle.std.specs.Prelude.{codes}
 use Rattle.std.specs.List.{flat_map}
+use Rattle.std.specs.Str.{bytes_eq}
 use Rattle.fixed_expr.specs.Expression.{Expression}
 use Rattle.plant_record.specs.declared.version.PlantVersion.{PlantVersion}
 use Rattle.plant_record.specs.Spelling.{version_word}
 use Rattle.plant_reading.specs.declared.statements.Keyword.{Keyword}
 use Rattle.plant_reading.specs.declared.statements.Keyword.TheVariants as keywords
+use Rattle.plant_reading.specs.declared.statements.TheConstants.{KEYWORDS}
 use Rattle.plant_reading.specs.inside.Keywords.{keyword_text}
 use Rattle.plant_reading.specs.Tokens.{tokens_of}
 use Rattle.plant_reading.specs.SyntaxTrees.{AreTokensOf}
 use Rattle.plant_reading.specs.Statements.{Statement, Version, State, Input, Noise, Next, Target, Obstacle, Goal, End, States}
+use Rattle.plant_reading.proofs.lemmas.Literals.{is_same}
 
 -- the first two bytes of the first word, which tell the keywords apart
 abbrev pub front_of : List (List ℕ) → ℕ × ℕ
@@ -65,3 +68,24 @@ has_keyword names n words w ws (Target b) h e = (keywords.Target, cc (h.0, e))
 has_keyword names n words w ws (Obstacle b) h e = (keywords.Obstacle, cc (h.0, e))
 has_keyword names n words w ws (Goal kind) h e = (keywords.Goal, cc (h, e))
 has_keyword names n words w ws End h e = (keywords.End, cc (h, e))
+
+-- each keyword stands in the list
+place_of : (k : Keyword) → (i : ℕ) × (i < 9) × (get_or KEYWORDS i keywords.Plant ≡ k)
+place_of keywords.Plant = (0, omega arith, refl)
+place_of keywords.State = (1, omega arith, refl)
+place_of keywords.Input = (2, omega arith, refl)
+place_of keywords.Noise = (3, omega arith, refl)
+place_of keywords.Next = (4, omega arith, refl)
+place_of keywords.Target = (5, omega arith, refl)
+place_of keywords.Obstacle = (6, omega arith, refl)
+place_of keywords.Goal = (7, omega arith, refl)
+place_of keywords.End = (8, omega arith, refl)
+
+-- a word that differs from the next keyword too
+pub none_more : (word text : List ℕ) (n : ℕ) → ((i : ℕ) → i < n → word ≡ keyword_text (get_or KEYWORDS i keywords.Plant) → ⊥) → text ≡ keyword_text (get_or KEYWORDS n keywords.Plant) → bytes_eq word text ≡ false → (i : ℕ) → i < n + 1 → word ≡ keyword_text (get_or KEYWORDS i keywords.Plant) → ⊥
+none_more word text n none is differs =
+    below_more (λ (i : ℕ). word ≡ keyword_text (get_or KEYWORDS i keywords.Plant) → ⊥) n none (λ e. let again : bytes_eq word text ≡ true = is_same word text (e ∙ sym is) in absurd cc)
+
+-- a word that is none of them is no keyword
+pub no_keyword : (word : List ℕ) (n : ℕ) → 9 ≤ n → ((i : ℕ) → i < n → word ≡ keyword_text (get_or KEYWORDS i keywords.Plant) → ⊥) → (k : Keyword) → word ≡ keyword_text k → ⊥
+no_keyword word n all none k e = let at = place_of k in none at.0 (omega (arith, all, at.1)) (e ∙ sym (ap keyword_text at.2))

@@ -1,7 +1,7 @@
 -- Where the first item stands that passes a test.
-use Rattle.std.proofs.Common.{◌≡◌, ℕ, ◌<◌, ◌≤◌, Bool, true, false, cond, List, length, Some, None, refl, sym, arith, not, unwrap_or, ltb}
-use Rattle.std.specs.List.{position, position_or_len}
-use Rattle.std.proofs.lemmas.Bool.{ltb-true, ltb-false}
+use Rattle.std.proofs.Common.{◌≡◌, ℕ, ◌<◌, ◌≤◌, Bool, true, false, cond, List, [], ◌∷◌, length, Some, None, refl, sym, ◌∙◌, arith, not, unwrap_or, ltb, inl, inr}
+use Rattle.std.specs.List.{position, position_or_len, prefix_len}
+use Rattle.std.proofs.lemmas.Bool.{cases_Bool, ltb-true, ltb-false}
 use Rattle.std.proofs.lemmas.List.Sums.{prefix_len-le-length}
 
 some_if : {A : Type 0} (b : Bool) (x y : A) → cond b (Some x) None ≡ Some y → (b ≡ true) × (x ≡ y)
@@ -26,3 +26,15 @@ or_len p xs false e = rw e (omega (arith, ltb-false _ _ e, prefix_len-le-length 
 
 pub place_or_len : (p : ℕ → Bool) (xs : List ℕ) → unwrap_or (position p xs) (length xs) ≡ position_or_len p xs
 place_or_len p xs = or_len p xs (ltb (position_or_len p xs) (length xs)) refl
+
+-- the items before the first that fails a test
+before_failing : (p : ℕ → Bool) (xs : List ℕ) → position_or_len (λ x. not (p x)) xs ≡ prefix_len p xs
+before_failing p [] = refl
+before_failing p (x ∷ xs) =
+    elim (cases_Bool (p x)) [
+      | inl e ↦ rw (e, before_failing p xs) refl
+      | inr e ↦ rw e refl
+    ]
+
+pub failing_or_len : (p : ℕ → Bool) (xs : List ℕ) → unwrap_or (position (λ x. not (p x)) xs) (length xs) ≡ prefix_len p xs
+failing_or_len p xs = place_or_len (λ x. not (p x)) xs ∙ before_failing p xs

@@ -1,5 +1,5 @@
 -- Points that are read are spelled so, and what is spelled so is read.
-use Rattle.std.proofs.Common.{◌≡◌, ◌≢◌, ◌⊎◌, ℕ, zero, suc, ◌+◌, ◌-◌, ◌^◌, ◌<◌, ◌≤◌, Bool, true, false, cond, eqb, leb, List, [], ◌∷◌, ◌++◌, length, Option, Some, None, refl, sym, ap, subst, ◌∙◌, append_assoc, length-append, arith, ◌&&◌, inl, inr, to_z, of_z}
+use Rattle.std.proofs.Common.{◌≡◌, ◌≢◌, ℕ, zero, suc, ◌-◌, ◌^◌, ◌<◌, ◌≤◌, Bool, true, false, cond, eqb, leb, List, [], ◌∷◌, ◌++◌, length, Option, Some, None, refl, sym, ap, subst, ◌∙◌, append_assoc, length-append, arith, ◌&&◌, inl, inr, to_z, of_z}
 use Rattle.std.specs.Prelude.{codes, ℤ, pos, negsuc, neg_ℤ, nat_abs, ◌-ℤ◌, ◌<ℤ◌, int_lt, All, FitsSigned}
 use Rattle.std.specs.List.{flat_map}
 use Rattle.std.specs.Option.{option_map}
@@ -218,6 +218,12 @@ rise [] e = tt
 rise (p ∷ points) e = rise_from p points e
 
 -- 2 to 32 short points that rise are those of a curve
+-- fewer than 2 points rise
+pub short_rises : (points : List (ℤ × ℤ)) → length points < 2 → rises points ≡ true
+short_rises [] few = refl
+short_rises (p ∷ []) few = refl
+short_rises (p ∷ q ∷ points) few = absurd (omega (arith, few))
+
 pub curve_is : (points : List (ℤ × ℤ)) → 2 ≤ length points → length points ≤ 32 → rises points ≡ true → All IsShort points → IsCurve points
 curve_is points some few rising short = record { some = some; few = few; rising = rise points rising; short = short }
 

@@ -27,12 +27,12 @@ pub data Pending : Type 0 where
 
 abbrev pub pending_of : Frame → Pending
 pending_of frame.Sign = Sign
-pending_of (frame.AddTo a) = AddTo (expression_of a)
-pending_of (frame.TakeFrom a) = TakeFrom (expression_of a)
-pending_of (frame.Multiply a) = Multiply (expression_of a)
+pending_of (frame.AddTo a) = AddTo (expression_of a.value)
+pending_of (frame.TakeFrom a) = TakeFrom (expression_of a.value)
+pending_of (frame.Multiply a) = Multiply (expression_of a.value)
 pending_of (frame.Opened b) = Opened b
-pending_of (frame.LeastOf a) = LeastOf (expression_of a)
-pending_of (frame.GreatestOf a) = GreatestOf (expression_of a)
+pending_of (frame.LeastOf a) = LeastOf (expression_of a.value)
+pending_of (frame.GreatestOf a) = GreatestOf (expression_of a.value)
 
 -- what waits, the last first
 unfoldable pub pendings_of : Stack → List Pending
@@ -57,7 +57,7 @@ abbrev pub Machine : Type 0
 Machine = Option Expression × List Pending
 
 abbrev pub machine_of : Reader → Machine
-machine_of r = (option_map expression_of r.term, pendings_of r.stack)
+machine_of r = (option_map (λ e. expression_of e.value) r.term, pendings_of r.stack)
 
 -- a factor ends: signs and a product take it
 abbrev pub factor_ended : Expression → List Pending → Expression × List Pending

@@ -17,7 +17,7 @@ pub fn next_word(bytes: &[u8]) -> Option<(&[u8], &[u8])>
     Some(word.split_at(word_end(word)))
 }
 
-fn first_byte_of_word(bytes: &[u8]) -> Option<usize>
+pub fn first_byte_of_word(bytes: &[u8]) -> Option<usize>
     ensures place { result ≡ position (λ b. not (is_blank b)) bytes.now }
     ensures within { IfSome result (λ n. n < length bytes.now) }
 {

@@ -1,13 +1,13 @@
 // The tokens of a line: blanks set them apart, and each is as long as it can be.
 
-ghost use Rattle.std.specs.Prelude.{◌≡◌, ◌<◌, ◌≤◌, length, [], ◌∷◌, IfSome, MatchOption};
+ghost use Rattle.std.specs.Prelude.{◌≡◌, ◌<◌, ◌≤◌, length, position, not, [], ◌∷◌, IfSome, MatchOption};
 ghost use Rattle.std.specs.List.{prefix_len};
 ghost use Rattle.plant_record.specs.Names.{is_digit};
 ghost use Rattle.plant_reading.specs.Words.{is_blank};
 ghost use Rattle.plant_reading.specs.Tokens.{goes_on};
 ghost use Rattle.plant_reading.specs.inside.LineTokens.{tokens_in};
 
-use crate::words::blanks::is_blank;
+use crate::words::blanks::first_byte_of_word;
 use crate::words::names::{is_letter, is_name_byte};
 
 fn is_digit(b: u8) -> bool
@@ -26,14 +26,21 @@ fn blanks_before(bytes: &[u8]) -> usize
     ensures blanks { result ≡ prefix_len is_blank bytes.now }
     ensures within { result ≤ length bytes.now }
 {
-    bytes.iter().take_while(|b| is_blank(**b)).count()
+    first_byte_of_word(bytes).unwrap_or(bytes.len())
+}
+
+fn token_end(first: u8, after: &[u8]) -> Option<usize>
+    ensures place { result ≡ position (λ b. not (goes_on (first ∷ []) b)) after.now }
+    ensures within { IfSome result (λ n. n < length after.now) }
+{
+    after.iter().position(|b| !goes_on(first, *b))
 }
 
 fn more_of_token(first: u8, after: &[u8]) -> usize
     ensures more { result ≡ prefix_len (goes_on (first ∷ [])) after.now }
     ensures within { result ≤ length after.now }
 {
-    after.iter().take_while(|b| goes_on(first, **b)).count()
+    token_end(first, after).unwrap_or(after.len())
 }
 
 /// The first token and the bytes after it.

@@ -7,7 +7,7 @@ use Rattle.plant_reading.proofs.expression.tabled.Goals as goal
 
 pub returns-in_default : goal.returns-in_default
 returns-in_default c =
-    not_tabled c.args.curve (expression_of c.args.sum) (pendings_of c.args.stack.now) (pendings_of c.pop_bracket.new.self) c.pop_bracket.result c.pop_bracket.ensures
+    not_tabled c.args.curve (expression_of c.args.sum.value) (pendings_of c.args.stack.now) (pendings_of c.pop_bracket.new.self) c.pop_bracket.result c.pop_bracket.ensures
     (λ e. elim c.in_default.branch [
       | in_default-via-in-Some+in_default w ↦ absurd (search rules)
       | in_default-via-in_default w ↦ absurd (search rules)
