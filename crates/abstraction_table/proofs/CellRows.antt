@@ -7,7 +7,7 @@ use Rattle.grid_quantiser.specs.declared.boxes.CellBox.{CellBox}
 use Rattle.plant_record.specs.Description.{Description}
 use Rattle.successor_box.specs.Boxes.{IsBoxOf}
 use Rattle.abstraction_table.proofs.RowBoxes.{later_cell}
-use Rattle.abstraction_table.proofs.Parts.{written_long, written_before, written_in, written_behind}
+use Rattle.abstraction_table.proofs.WrittenParts.{written_long, written_before, written_in, written_behind}
 
 -- the boxes of the cells from one on to another
 pub span : (done end v : ℕ) → done < end → end * v - done * v ≡ (end - done) * v

@@ -19,13 +19,18 @@ pub mod NextDigits
 pub mod PairDigits
 pub mod EquationDigits
 pub mod SideTables
+pub mod PartTables
 pub mod Marking
 pub mod PlantMarks
 mod RowCells
-mod Parts
+mod WrittenParts
 mod RowBoxes
 mod CellRows
 mod Fitting
 mod AddedTerms
+mod BoxSums
+mod ListedParts
+mod ListedRows
+pub mod ProlongedSides
 pub mod BoxCorners
 pub mod PassingBoxes

@@ -6,18 +6,19 @@ use Rattle.std.proofs.lemmas.List.{get_or-take, get_or-drop}
 use Rattle.std.proofs.lemmas.Nat.{div-mul-add, mul-le}
 use Rattle.grid_quantiser.specs.declared.boxes.CellBox.{CellBox}
 use Rattle.grid_quantiser.specs.Axes.{cells_of}
+use Rattle.grid_quantiser.specs.SideBoxes.{one_cell}
 use Rattle.plant_record.specs.Description.{Description, axes_of, vectors_of}
 use Rattle.plant_record.specs.Plants.{IsPlant}
 use Rattle.successor_box.specs.Boxes.{IsBoxOf}
-use Rattle.successor_box.specs.Sides.{place_in, IsBoxAlong}
+use Rattle.successor_box.specs.Sides.{place_in}
 use Rattle.abstraction_table.specs.inside.Rows.{last_state, AreInRow, IsInRowOf}
-use Rattle.abstraction_table.specs.inside.Sides.{ArePlacesOf, AreBoxesAlong}
+use Rattle.abstraction_table.specs.inside.Parts.{ArePlacesOf, IsSumAlong, AreSumsAlong}
 use Rattle.abstraction_table.proofs.RowCells.{places_in_row, further_in_row}
-use Rattle.abstraction_table.proofs.Parts.{written_long, written_before, written_in, written_behind}
+use Rattle.abstraction_table.proofs.WrittenParts.{written_long, written_before, written_in, written_behind}
 
 -- the first cell's boxes hold what is the same along the row
 abbrev pub AreFirst : Description → ℕ → ℕ → ℕ → List (Option CellBox) → Type 0
-AreFirst p c states inputs boxes = (d u : ℕ) → IsInRowOf p c d → u < inputs → IsBoxAlong p states d u (get_or boxes u None)
+AreFirst p c states inputs boxes = (d u : ℕ) → IsInRowOf p c d → u < inputs → IsSumAlong p states d u one_cell (get_or boxes u None)
 
 -- the boxes of the cells from one of the row on are found
 abbrev pub AreDone : Description → ℕ → ℕ → ℕ → List (Option CellBox) → Type 0
@@ -47,7 +48,7 @@ module _ (p : Description) (c n states v w cell : ℕ) (whole : w ≡ v) (boxes 
   pub first_after : 0 < cell → AreFirst p c states v after
   first_after some d u row input =
       let before : u < cell * v = omega (arith, later_cell 0 cell v some, input) in
-      subst (IsBoxAlong p states d u) (sym (written_before (cell * v) w copied late None within late_long u before ∙ below u before)) (first d u row input)
+      subst (IsSumAlong p states d u one_cell) (sym (written_before (cell * v) w copied late None within late_long u before ∙ below u before)) (first d u row input)
 
   pub done_after : AreDone p c v cell after
   done_after k u from input short =
@@ -75,8 +76,8 @@ module _ (p : Description) (plant : IsPlant p) (c n states v cell last : ℕ) (s
       subst (λ (k : ℕ). ArePlacesOf p (c + cell) (set places k (get_or start last 0 + cell))) (sym last_is)
       (places_in_row p plant c cell n (get_or start last 0) places row lt (omega (arith, nine, plant.states_bound)) begin others)
 
-  pub cell_starts : AreBoxesAlong p states (c + cell) (take (cell * v + v - cell * v) (drop (cell * v) copied))
+  pub cell_starts : AreSumsAlong p states (c + cell) one_cell (take (cell * v + v - cell * v) (drop (cell * v) copied))
   cell_starts u below =
       let input : u < v = omega (arith, below, inputs) in
       let read = get_or-take (cell * v + v - cell * v) (drop (cell * v) copied) u None (omega (arith, input)) ∙ get_or-drop (cell * v) copied u None in
-      subst (IsBoxAlong p states (c + cell) u) (sym (read ∙ moved u input)) (first (c + cell) u (further_in_row p plant c cell n row lt) input)
+      subst (IsSumAlong p states (c + cell) u one_cell) (sym (read ∙ moved u input)) (first (c + cell) u (further_in_row p plant c cell n row lt) input)

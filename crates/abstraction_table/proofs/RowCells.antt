@@ -14,9 +14,9 @@ use Rattle.plant_record.specs.Description.{Description, axis_of, axes_of}
 use Rattle.plant_record.specs.Plants.{IsPlant}
 use Rattle.successor_box.specs.Sides.{place_in, moves_along}
 use Rattle.abstraction_table.specs.declared.digits.Digit.{Digit}
-use Rattle.abstraction_table.specs.declared.sides.SideTable.{SideTable}
+use Rattle.abstraction_table.specs.declared.parts.PartTable.{PartTable}
 use Rattle.abstraction_table.specs.inside.Rows.{last_state, row_of, AreInRow, IsInRowOf, StaysAlongRows}
-use Rattle.abstraction_table.specs.inside.Sides.{ArePlacesOf, BringAs, HoldsSidesAlong}
+use Rattle.abstraction_table.specs.inside.Parts.{ArePlacesOf, BringAs, HoldsPartsAlong}
 use Rattle.abstraction_table.proofs.PairDigits.{state_place, no_input_place}
 
 -- the cells along the later axes are whole rows
@@ -80,7 +80,7 @@ module _ (p : Description) (plant : IsPlant p) where
   same_moves i c d false lt same stays = refl
 
   -- what brings to a table what a cell does, does so for its whole row
-  pub brings_in_row : (i : ℕ) (t : SideTable) (places : List ℕ) (c d : ℕ) → i < length p.states → HoldsSidesAlong p i t → StaysAlongRows (last_state p) i t → IsInRowOf p c d → BringAs p i t places c → BringAs p i t places d
+  pub brings_in_row : (i : ℕ) (t : PartTable) (places : List ℕ) (c d : ℕ) → i < length p.states → HoldsPartsAlong p i t → StaysAlongRows (last_state p) i t → IsInRowOf p c d → BringAs p i t places c → BringAs p i t places d
   brings_in_row i t places c d lt held stays row brought = record {
     cell = row.0;
     first = brought.first ∙ same_first c d t.digits.items row.1 stays.digits;

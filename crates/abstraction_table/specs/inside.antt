@@ -4,9 +4,11 @@ pub mod Fans
 pub mod Marks
 pub mod Memory
 pub mod Packed
+pub mod Parts
 pub mod Props
 pub mod Rows
 pub mod Shapes
 pub mod Sides
 pub mod Sources
+pub mod Sums
 pub mod Tallies

@@ -7,11 +7,11 @@ ghost use Rattle.plant_record.specs.Description.{axes_of, vectors_of};
 ghost use Rattle.successor_box.specs.Deviations.{HasNoOverflow, deviations_of};
 ghost use Rattle.abstraction_table.specs.Abstraction.{AreBoxesOf};
 ghost use Rattle.abstraction_table.specs.inside.Rows.{AreBoxesFrom};
-ghost use Rattle.abstraction_table.specs.inside.Sides.{HoldSides};
+ghost use Rattle.abstraction_table.specs.inside.Parts.{HoldParts};
 
 use crate::pair_box::PairBox;
+use crate::parts::{PartTable, find_tables};
 use crate::rows::boxes_in_row;
-use crate::sides::{SideTable, find_tables};
 use grid_quantiser::CellBox;
 use plant_record::Plant;
 use plant_record::laws::{every_plant_is_within_limits, plants_are_sound};
@@ -23,7 +23,7 @@ use successor_box::Slopes;
 /// About how many pairs one call finds the boxes of: to start a thread takes as long as some thousands of them.
 const CHUNK_PAIRS: usize = 4096;
 
-/// The box of each pair of a cell and an input. The sides along each axis are found first, once for
+/// The box of each pair of a cell and an input. What the sides along each axis add to it is found first, once for
 /// all pairs that share one.
 pub(crate) fn find_boxes<R: Threads + Sync>(
     rt: &R,
@@ -50,7 +50,7 @@ pub(crate) fn find_boxes<R: Threads + Sync>(
         &mut boxes,
         cells_in_chunk(inputs) * inputs,
         |at: usize, boxes: &mut [PairBox]|
-            requires tables { HoldSides p.now tables.now }
+            requires tables { HoldParts p.now tables.now }
             requires inputs { inputs ≡ vectors_of p.now.inputs }
             requires some_input { 0 < inputs }
             requires cells { (n : ℕ) × (length boxes.now ≡ n * inputs) × (at / inputs + n ≤ cells_of (axes_of p.now)) }
@@ -74,8 +74,8 @@ fn cells_in_chunk(inputs: usize) -> usize
 }
 
 /// The boxes of cells from one on, row by row.
-fn boxes_of_cells(p: &Plant, tables: &[SideTable], c: u32, boxes: &mut [PairBox])
-    requires tables { HoldSides p.now tables.now }
+fn boxes_of_cells(p: &Plant, tables: &[PartTable], c: u32, boxes: &mut [PairBox])
+    requires tables { HoldParts p.now tables.now }
     requires cells { (n : ℕ) × (length boxes.old ≡ n * vectors_of p.now.inputs) × (c + n ≤ cells_of (axes_of p.now)) }
     requires start { All (λ b. b ≡ one_cell) boxes.old }
     ensures long { length boxes.new ≡ length boxes.old }

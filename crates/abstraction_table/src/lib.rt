@@ -22,6 +22,7 @@ pub mod laws;
 mod marks;
 mod outlook;
 mod pair_box;
+mod parts;
 mod rows;
 mod shapes;
 mod sides;

@@ -1,10 +1,13 @@
 //! The box of a pair as it is kept: two numbers, of which the first is the greater where there is no box.
-ghost use Rattle.std.specs.Prelude.{◌≡◌, ◌^◌, ◌<◌, ◌≤◌, IfSome};
-ghost use Rattle.grid_quantiser.specs.declared.axis.Axis.{Axis};
-ghost use Rattle.grid_quantiser.specs.SideBoxes.{with_side};
+ghost use Rattle.std.specs.Prelude.{◌≡◌, ◌*◌, ◌^◌, ◌<◌, ◌≤◌, IfSome, IsTrue};
+ghost use Rattle.grid_quantiser.specs.SideBoxes.{one_cell};
+ghost use Rattle.abstraction_table.specs.inside.Sums.{part, plus};
 
 use grid_quantiser::{CellBox, Side};
 use std::marker::Model;
+
+/// The first number where there is no box. It is past the last cell of every sum, so what is added to it stays none.
+const NONE: u32 = 0x1000_0000;
 
 /// The box of a pair, or none, in 8 bytes.
 #[derive(Clone, Copy)]
@@ -41,7 +44,10 @@ impl PairBox {
                 first: b.first,
                 last: b.last,
             },
-            None => PairBox { first: 1, last: 0 },
+            None => PairBox {
+                first: NONE,
+                last: 0,
+            },
         }
     }
 
@@ -59,21 +65,42 @@ impl PairBox {
         })
     }
 
-    /// The box with a side along one more axis, of so many places: none where the side is missing.
+    /// Whether it is the one cell on no axis, which adds nothing.
     #[inline]
-    pub(crate) fn with_side(self, count: u32, side: Option<Side>) -> PairBox
-        requires { (a : Axis) × (a.count ≡ count) × IfSome (with_side a self side) (λ b. (b.first ≤ b.last) × (b.last < 2 ^ 32)) }
-        ensures { (a : Axis) → a.count ≡ count → result ≡ with_side a self side }
+    pub(crate) fn is_one_cell(&self) -> bool
+        ensures { IsTrue result → self.now ≡ one_cell }
     {
-        let Some(b) = self.get() else {
-            return self;
-        };
+        self.first == 0 && self.last == 0
+    }
+
+    /// What a side adds to a box, along an axis of which one place makes so many cells: none where the side is missing.
+    #[inline]
+    pub(crate) fn part(side: Option<Side>, stride: u32) -> PairBox
+        requires { IfSome side (λ s. (s.first ≤ s.last) × (s.last * stride < 2 ^ 28)) }
+        ensures { result ≡ part stride side }
+    {
         let Some(side) = side else {
             return PairBox::new(None);
         };
         PairBox::new(Some(CellBox {
-            first: b.first * count + side.first,
-            last: b.last * count + side.last,
+            first: side.first * stride,
+            last: side.last * stride,
         }))
+    }
+
+    /// The sum of two boxes, end by end: none where one of the two is missing.
+    #[inline]
+    pub(crate) fn plus(self, other: PairBox) -> PairBox
+        requires one { IfSome self (λ b. b.last < 2 ^ 28) }
+        requires other { IfSome other (λ b. b.last < 2 ^ 28) }
+        ensures { result ≡ plus self other }
+    {
+        let first = self.first + other.first;
+        let last = self.last + other.last;
+        if last < first {
+            PairBox::new(None)
+        } else {
+            PairBox { first, last }
+        }
     }
 }

@@ -1,26 +1,27 @@
 //! The boxes of the cells in a row.
-ghost use Rattle.std.specs.Prelude.{◌≡◌, ℕ, ◌+◌, ◌*◌, ◌<◌, ◌≤◌, length, slice_index, slice_index_or, None};
+ghost use Rattle.std.specs.Prelude.{◌≡◌, ℕ, ◌+◌, ◌*◌, ◌^◌, ◌<◌, ◌≤◌, length, slice_index, slice_index_or, Option, None, IsTrue, IfSome};
 ghost use Rattle.std.specs.List.{All};
-ghost use Rattle.grid_quantiser.specs.Axes.{no_axis, cells_of};
+ghost use Rattle.grid_quantiser.specs.declared.boxes.CellBox.{CellBox};
+ghost use Rattle.grid_quantiser.specs.Axes.{cells_of};
 ghost use Rattle.grid_quantiser.specs.SideBoxes.{one_cell};
 ghost use Rattle.plant_record.specs.Description.{axes_of, vectors_of};
+ghost use Rattle.plant_record.specs.Limits.{IsWithinLimits};
 ghost use Rattle.successor_box.specs.Boxes.{IsBoxOf};
-ghost use Rattle.successor_box.specs.Sides.{IsSideBeforeAt};
+ghost use Rattle.abstraction_table.specs.inside.Sums.{plus};
 ghost use Rattle.abstraction_table.specs.inside.Rows.{AreInRow, IsInRowOf, AreBoxesFrom};
-ghost use Rattle.abstraction_table.specs.inside.Sides.{ArePlacesOf, BringAs, AreBoxesAlong, HoldsSidesAlong, HoldSides, HasPlaceFor, side_in, IsMovedFrom};
+ghost use Rattle.abstraction_table.specs.inside.Parts.{ArePlacesOf, Brings, BringAs, IsPartAt, AreSumsAlong, HoldsPartsAlong, HoldParts};
 
 use crate::pair_box::PairBox;
-use crate::sides::SideTable;
-use grid_quantiser::Side;
+use crate::parts::{PartTable, Parts};
+use grid_quantiser::CellBox;
 use plant_record::Plant;
 use plant_record::laws::{every_plant_is_within_limits, plants_are_sound};
 use successor_box::laws::sides_make_boxes;
-use successor_box::moved_side;
 
 /// The boxes of cells in a row, one for each input, which differ in the place along the last state alone. What the
 /// first states bring is the same along the row, and is found once: the first cell's boxes keep it for the others.
-pub(crate) fn boxes_in_row(p: &Plant, tables: &[SideTable], c: u32, boxes: &mut [PairBox])
-    requires tables { HoldSides p.now tables.now }
+pub(crate) fn boxes_in_row(p: &Plant, tables: &[PartTable], c: u32, boxes: &mut [PairBox])
+    requires tables { HoldParts p.now tables.now }
     requires row { (n : ℕ) × (length boxes.old ≡ n * vectors_of p.now.inputs) × AreInRow p.now c n }
     requires start { All (λ b. b ≡ one_cell) boxes.old }
     ensures long { length boxes.new ≡ length boxes.old }
@@ -41,15 +42,15 @@ pub(crate) fn boxes_in_row(p: &Plant, tables: &[SideTable], c: u32, boxes: &mut 
     }
 }
 
-/// Adds the sides of the first states, as far as they are the same all along a row, and tells how many.
-fn add_early(p: &Plant, tables: &[SideTable], places: &[u32; 9], boxes: &mut [PairBox]) -> usize
-    requires tables { HoldSides p.now tables.now }
+/// Adds the parts of the first states, as far as they are the same all along a row, and tells how many.
+fn add_early(p: &Plant, tables: &[PartTable], places: &[u32; 9], boxes: &mut [PairBox]) -> usize
+    requires tables { HoldParts p.now tables.now }
     requires cell { (c : ℕ) × (c < cells_of (axes_of p.now)) × ArePlacesOf p.now c places.now }
     requires one_each { length boxes.old ≡ vectors_of p.now.inputs }
     requires start { All (λ b. b ≡ one_cell) boxes.old }
     ensures long { length boxes.new ≡ length boxes.old }
     ensures states { result ≤ length p.now.equations }
-    ensures along { (c d : ℕ) → c < cells_of (axes_of p.now) → ArePlacesOf p.now c places.now → IsInRowOf p.now c d → AreBoxesAlong p.now result d boxes.new }
+    ensures along { (c d : ℕ) → c < cells_of (axes_of p.now) → ArePlacesOf p.now c places.now → IsInRowOf p.now c d → AreSumsAlong p.now result d one_cell boxes.new }
 {
     every_plant_is_within_limits(p);
     plants_are_sound();
@@ -57,103 +58,136 @@ fn add_early(p: &Plant, tables: &[SideTable], places: &[u32; 9], boxes: &mut [Pa
     let last = p.states() - 1;
     let mut state: usize = 0;
     while state < tables.len() && tables[state].stays_along_rows(state as u32, last) {
-        add_sides(p, &tables[state], state as u32, places, boxes);
+        add_parts(p, &tables[state], state as u32, places, boxes);
         state += 1;
     }
     state
 }
 
-/// Adds the sides of the states from one on to the boxes of a cell.
-fn add_late(p: &Plant, tables: &[SideTable], from: usize, places: &[u32; 9], boxes: &mut [PairBox])
-    requires tables { HoldSides p.now tables.now }
+/// Adds the parts of the states from one on to the boxes of a cell. Those that rest on no input are summed apart, and
+/// added to all boxes once.
+fn add_late(p: &Plant, tables: &[PartTable], from: usize, places: &[u32; 9], boxes: &mut [PairBox])
+    requires tables { HoldParts p.now tables.now }
     requires from { from ≤ length p.now.equations }
-    requires cell { (c : ℕ) × (c < cells_of (axes_of p.now)) × ArePlacesOf p.now c places.now × AreBoxesAlong p.now from c boxes.old }
+    requires cell { (c : ℕ) × (c < cells_of (axes_of p.now)) × ArePlacesOf p.now c places.now × AreSumsAlong p.now from c one_cell boxes.old }
     requires one_each { length boxes.old ≡ vectors_of p.now.inputs }
     ensures long { length boxes.new ≡ length boxes.old }
-    ensures each { (c : ℕ) → c < cells_of (axes_of p.now) → ArePlacesOf p.now c places.now → AreBoxesAlong p.now from c boxes.old → (u : ℕ) → u < vectors_of p.now.inputs → IsBoxOf p.now c u (slice_index_or boxes.new u None) }
+    ensures each { (c : ℕ) → c < cells_of (axes_of p.now) → ArePlacesOf p.now c places.now → AreSumsAlong p.now from c one_cell boxes.old → (u : ℕ) → u < vectors_of p.now.inputs → IsBoxOf p.now c u (slice_index_or boxes.new u None) }
 {
     every_plant_is_within_limits(p);
     plants_are_sound();
     sides_make_boxes();
+    let mut base = PairBox::new(Some(CellBox { first: 0, last: 0 }));
     for state in from..tables.len() {
-        add_sides(p, &tables[state], state as u32, places, boxes);
+        base = add_state(p, &tables[state], state as u32, places, base, boxes);
     }
+    add_base(base, boxes);
 }
 
-/// Adds the sides of a state to the boxes of a cell on the axes of the states before, one for each input.
-fn add_sides(p: &Plant, table: &SideTable, state: u32, places: &[u32; 9], boxes: &mut [PairBox])
-    requires table { HoldsSidesAlong p.now state table.now }
+/// Adds the parts of a state to the boxes of a cell, or to the sum of what is the same under all inputs.
+#[inline]
+fn add_state(
+    p: &Plant,
+    table: &PartTable,
+    state: u32,
+    places: &[u32; 9],
+    base: PairBox,
+    boxes: &mut [PairBox],
+) -> PairBox
+    requires plant { IsWithinLimits p.now }
+    requires table { HoldsPartsAlong p.now state table.now }
     requires state { state < length p.now.equations }
-    requires cell { (c : ℕ) × BringAs p.now state table.now places.now c × AreBoxesAlong p.now state c boxes.old }
+    requires cell { (c : ℕ) × BringAs p.now state table.now places.now c × AreSumsAlong p.now state c base boxes.old }
     requires one_each { length boxes.old ≡ vectors_of p.now.inputs }
     ensures long { length boxes.new ≡ length boxes.old }
-    ensures added { (c : ℕ) → BringAs p.now state table.now places.now c → AreBoxesAlong p.now state c boxes.old → AreBoxesAlong p.now (state + 1) c boxes.new }
+    ensures added { (c : ℕ) → BringAs p.now state table.now places.now c → AreSumsAlong p.now state c base boxes.old → AreSumsAlong p.now (state + 1) c result boxes.new }
 {
-    every_plant_is_within_limits(p);
-    plants_are_sound();
-    sides_make_boxes();
+    if !table.free {
+        add_parts(p, table, state, places, boxes);
+        return base;
+    }
+    base.plus(free_part(p, table, state, places))
+}
+
+/// The part of a state that rests on no input.
+#[inline]
+fn free_part(p: &Plant, table: &PartTable, state: u32, places: &[u32; 9]) -> PairBox
+    requires plant { IsWithinLimits p.now }
+    requires table { HoldsPartsAlong p.now state table.now }
+    requires state { state < length p.now.equations }
+    requires cell { (c : ℕ) × BringAs p.now state table.now places.now c }
+    requires free { IsTrue table.now.free }
+    ensures { (c u : ℕ) → BringAs p.now state table.now places.now c → u < vectors_of p.now.inputs → IsPartAt p.now c u state result }
+{
     let first = table.first(places);
-    let moves = table.moved_by(places[state as usize]);
-    let count = p.grid().count(state);
-    let mut side = side_under(p, table, state, first, moves, 0);
+    let own = table.moved_by(places[state as usize]);
+    table.part(p, state, first, own, 0)
+}
+
+/// Adds the parts of a state to the boxes of a cell, one for each input.
+fn add_parts(p: &Plant, table: &PartTable, state: u32, places: &[u32; 9], boxes: &mut [PairBox])
+    requires plant { IsWithinLimits p.now }
+    requires table { HoldsPartsAlong p.now state table.now }
+    requires state { state < length p.now.equations }
+    requires cell { (c : ℕ) × (base : Option CellBox) × BringAs p.now state table.now places.now c × AreSumsAlong p.now state c base boxes.old }
+    requires one_each { length boxes.old ≡ vectors_of p.now.inputs }
+    ensures long { length boxes.new ≡ length boxes.old }
+    ensures added { (c : ℕ) (base : Option CellBox) → BringAs p.now state table.now places.now c → AreSumsAlong p.now state c base boxes.old → AreSumsAlong p.now (state + 1) c base boxes.new }
+{
+    let first = table.first(places);
+    match &table.parts {
+        Parts::Listed(parts) => add_listed(&table.inputs, &parts[first as usize..], boxes),
+        Parts::Moved(_) => {
+            let own = table.moved_by(places[state as usize]);
+            add_moved(p, table, state, first, own, boxes)
+        }
+    }
+}
+
+/// Adds parts to boxes, by the place that each input has among them.
+fn add_listed(inputs: &[u32], parts: &[PairBox], boxes: &mut [PairBox])
+    requires one_each { length boxes.old ≡ length inputs.now }
+    requires places { All (λ n. n < length parts.now) inputs.now }
+    requires parts { All (λ n. IfSome (slice_index_or parts.now n None) (λ b. b.last < 2 ^ 28)) inputs.now }
+    requires boxes { All (λ b. IfSome b (λ b. b.last < 2 ^ 28)) boxes.old }
+    ensures long { length boxes.new ≡ length boxes.old }
+    ensures each { (u : ℕ) → u < length boxes.old → slice_index_or boxes.new u None ≡ plus (slice_index_or boxes.old u None) (slice_index_or parts.now (slice_index inputs.now u) None) }
+{
+    for i in 0..boxes.len() {
+        boxes[i] = boxes[i].plus(parts[inputs[i] as usize]);
+    }
+}
+
+/// Adds the parts of a state, found one by one, to the boxes of a cell that brings `first` and moves the sides so many places.
+fn add_moved(p: &Plant, table: &PartTable, state: u32, first: u32, own: u32, boxes: &mut [PairBox])
+    requires plant { IsWithinLimits p.now }
+    requires table { HoldsPartsAlong p.now state table.now }
+    requires state { state < length p.now.equations }
+    requires cell { (c : ℕ) × (base : Option CellBox) × Brings p.now state table.now first own c × AreSumsAlong p.now state c base boxes.old }
+    requires one_each { length boxes.old ≡ vectors_of p.now.inputs }
+    ensures long { length boxes.new ≡ length boxes.old }
+    ensures added { (c : ℕ) (base : Option CellBox) → Brings p.now state table.now first own c → AreSumsAlong p.now state c base boxes.old → AreSumsAlong p.now (state + 1) c base boxes.new }
+{
     for input in 0..p.vectors() {
-        side = side_after(p, table, state, first, moves, side, input);
-        boxes[input as usize] = boxes[input as usize].with_side(count, side.side);
+        let part = table.part(p, state, first, own, input);
+        boxes[input as usize] = boxes[input as usize].plus(part);
     }
 }
 
-/// A side of a cell's box, which is that of each input that brings so much to its place.
-#[derive(Clone, Copy)]
-pub(crate) struct MovedSide {
-    pub(crate) place: u32,
-    pub(crate) side: Option<Side>,
-}
-
-/// The side of a cell's box under an input, from that under an earlier one, which mostly brings the same.
+/// Adds to all boxes of a cell what is the same under all inputs.
 #[inline]
-fn side_after(
-    p: &Plant,
-    table: &SideTable,
-    state: u32,
-    first: u32,
-    moves: u32,
-    earlier: MovedSide,
-    input: u32,
-) -> MovedSide
-    requires state { state < length p.now.equations }
-    requires moves { moves < (slice_index_or (axes_of p.now) state no_axis).count }
-    requires place { HasPlaceFor table.now first input }
-    requires before { (c : ℕ) × (u : ℕ) × IsSideBeforeAt p.now c u state moves (side_in table.now first input) }
-    requires earlier { IsMovedFrom p.now state table.now first moves earlier.place earlier.side }
-    ensures input { result.place ≡ slice_index table.now.inputs.items input }
-    ensures side { IsMovedFrom p.now state table.now first moves result.place result.side }
+fn add_base(base: PairBox, boxes: &mut [PairBox])
+    requires base { IfSome base (λ b. b.last < 2 ^ 28) }
+    requires boxes { All (λ b. IfSome b (λ b. b.last < 2 ^ 28)) boxes.old }
+    ensures long { length boxes.new ≡ length boxes.old }
+    ensures each { (u : ℕ) → u < length boxes.old → slice_index_or boxes.new u None ≡ plus base (slice_index_or boxes.old u None) }
 {
-    if table.inputs[input as usize] == earlier.place {
-        return earlier;
+    if base.is_one_cell() {
+        return;
     }
-    side_under(p, table, state, first, moves, input)
-}
-
-/// The side of a cell's box under an input.
-#[inline]
-fn side_under(
-    p: &Plant,
-    table: &SideTable,
-    state: u32,
-    first: u32,
-    moves: u32,
-    input: u32,
-) -> MovedSide
-    requires state { state < length p.now.equations }
-    requires moves { moves < (slice_index_or (axes_of p.now) state no_axis).count }
-    requires place { HasPlaceFor table.now first input }
-    requires before { (c : ℕ) × (u : ℕ) × IsSideBeforeAt p.now c u state moves (side_in table.now first input) }
-    ensures input { result.place ≡ slice_index table.now.inputs.items input }
-    ensures side { IsMovedFrom p.now state table.now first moves result.place result.side }
-{
-    let place = table.inputs[input as usize];
-    let side = moved_side(p, state, table.side(first, input), moves);
-    MovedSide { place, side }
+    for i in 0..boxes.len() {
+        boxes[i] = base.plus(boxes[i]);
+    }
 }
 
 /// The places of a cell along the axes, and 0 for each input variable.

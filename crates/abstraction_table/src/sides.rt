@@ -1,11 +1,9 @@
 //! The sides of all boxes, state by state.
-ghost use Rattle.std.specs.Prelude.{◌≡◌, ℕ, ◌+◌, ◌*◌, ◌/◌, ◌^◌, ◌<◌, length, slice_index_or, None, if◌then◌else◌, IsTrue, IfOk};
-ghost use Rattle.std.specs.List.{All};
+ghost use Rattle.std.specs.Prelude.{◌≡◌, ℕ, ◌+◌, ◌^◌, ◌<◌, length, slice_index_or, None, IfOk};
 ghost use Rattle.plant_record.specs.Description.{vectors_of};
 ghost use Rattle.successor_box.specs.Deviations.{HasNoOverflow, deviations_of};
 ghost use Rattle.abstraction_table.specs.inside.Digits.{AreDigitsOf, place_at};
-ghost use Rattle.abstraction_table.specs.inside.Rows.{StaysAlongRows};
-ghost use Rattle.abstraction_table.specs.inside.Sides.{first_in, side_in, HasPlaceFor, HoldsSidesAlong, HoldSides, IsSideFor};
+ghost use Rattle.abstraction_table.specs.inside.Sides.{HoldsSidesAlong, IsSideFor};
 
 use crate::blocks::{CHUNK, fill_chunk};
 use crate::digits::{Digit, Digits, find_digits, place_of};
@@ -29,73 +27,8 @@ pub(crate) struct SideTable {
     pub(crate) moves: bool,
 }
 
-impl SideTable {
-    /// What the places of a cell bring to the place of its sides.
-    #[inline]
-    pub(crate) fn first(&self, places: &[u32; 9]) -> u32
-        requires variables { All (λ d. d.variable < 9) self.now.digits.items }
-        requires fits { first_in self.now places.now < 2 ^ 32 }
-        ensures { result ≡ first_in self.now places.now }
-    {
-        let mut first = 0;
-        for d in &self.digits {
-            first += places[d.variable as usize] * d.in_table;
-        }
-        first
-    }
-
-    /// How many places a cell moves the sides, by its own place along the axis.
-    #[inline]
-    pub(crate) fn moved_by(&self, place: u32) -> u32
-        ensures { result ≡ (if self.now.moves then place else 0) }
-    {
-        if self.moves { place } else { 0 }
-    }
-
-    /// Whether a state's sides are the same all along each row: they rest on no place along the last state, nor
-    /// move with it.
-    pub(crate) fn stays_along_rows(&self, state: u32, last: u32) -> bool
-        ensures { IsTrue result → StaysAlongRows last state self.now }
-    {
-        for d in &self.digits {
-            if d.variable == last {
-                return false;
-            }
-        }
-        !(self.moves && state == last)
-    }
-
-    /// The side of the box of a cell that brings `first`, under an input.
-    #[inline]
-    pub(crate) fn side(&self, first: u32, input: u32) -> Option<Side>
-        requires { HasPlaceFor self.now first input }
-        ensures { result ≡ side_in self.now first input }
-    {
-        self.sides[first as usize + self.inputs[input as usize] as usize]
-    }
-}
-
-/// The sides of all boxes, one table for each state.
-pub(crate) fn find_tables<R: Threads + Sync>(
-    rt: &R,
-    alloc: Global,
-    p: &Plant,
-    s: &Slopes,
-) -> Result<Vec<SideTable>, AllocError>
-    requires slopes { s.now ≡ deviations_of p.now }
-    requires fits { HasNoOverflow p.now }
-    ensures { IfOk result (λ tables. HoldSides p.now tables.items) }
-{
-    every_plant_is_within_limits(p);
-    let mut tables = Vec::new(alloc);
-    for state in 0..p.states() {
-        tables.push(find_table(rt, alloc, p, s, state)?)?;
-    }
-    Ok(tables)
-}
-
 /// The sides along the axis of one state.
-fn find_table<R: Threads + Sync>(
+pub(crate) fn find_table<R: Threads + Sync>(
     rt: &R,
     alloc: Global,
     p: &Plant,

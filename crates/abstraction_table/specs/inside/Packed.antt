@@ -1,5 +1,5 @@
 -- A box, or none, as two numbers.
-use Rattle.std.specs.Prelude.{◌≡◌, ℕ, ◌<◌, ltb, Option, Some, None, if◌then◌else◌}
+use Rattle.std.specs.Prelude.{◌≡◌, ℕ, ◌^◌, ◌<◌, ltb, Option, Some, None, if◌then◌else◌}
 use Rattle.std.proofs.Common.{refl, sym, Bool, true, false}
 use Rattle.std.proofs.lemmas.Bool.{ltb-true}
 use Rattle.grid_quantiser.specs.declared.boxes.CellBox.{CellBox}
@@ -9,13 +9,13 @@ use Rattle.abstraction_table.specs.declared.pair_box.PairBox.TheInside.{Inside}
 abbrev pub box_in : ℕ → ℕ → Option CellBox
 box_in first last = if ltb last first then None else Some (record { first = first; last = last })
 
--- where there is no box the numbers are 1 and 0
+-- where there is no box the first number is past the last cell of every sum, and the other is 0
 abbrev pub IsPacked : ℕ → ℕ → Type 0
-IsPacked first last = last < first → (first ≡ 1) × (last ≡ 0)
+IsPacked first last = last < first → (first ≡ 2 ^ 28) × (last ≡ 0)
 
 -- the numbers of a box, or of none
 abbrev pub first_in : Option CellBox → ℕ
-first_in None = 1
+first_in None = 2 ^ 28
 first_in (Some b) = b.first
 
 abbrev pub last_in : Option CellBox → ℕ

@@ -6,7 +6,7 @@ use Rattle.grid_quantiser.specs.Axes.{no_axis, cells_of}
 use Rattle.plant_record.specs.Description.{Description, axes_of, vectors_of}
 use Rattle.successor_box.specs.Boxes.{IsBoxOf}
 use Rattle.abstraction_table.specs.declared.digits.Digit.{Digit}
-use Rattle.abstraction_table.specs.declared.sides.SideTable.{SideTable}
+use Rattle.abstraction_table.specs.declared.parts.PartTable.{PartTable}
 
 -- the last state
 abbrev pub last_state : Description → ℕ
@@ -26,8 +26,8 @@ pub record AreInRow (p : Description) (c n : ℕ) : Type 0 where
 abbrev pub IsInRowOf : Description → ℕ → ℕ → Type 0
 IsInRowOf p c d = (d < cells_of (axes_of p)) × (d / row_of p ≡ c / row_of p)
 
--- The sides of a state's table rest on no place along the last state, nor move with it.
-pub record StaysAlongRows (last i : ℕ) (t : SideTable) : Type 0 where
+-- The parts of a state's table rest on no place along the last state, nor move with it.
+pub record StaysAlongRows (last i : ℕ) (t : PartTable) : Type 0 where
   pub digits : All (λ (d : Digit). d.variable ≢ last) t.digits.items
   pub moves : IsTrue t.moves → i ≢ last
 

@@ -2,12 +2,12 @@ use Rattle.std.proofs.Common.{◌≡◌, ℕ, ◌-◌, ◌<◌, ◌∙◌, None,
 use Rattle.std.proofs.lemmas.List.{get_or_default}
 use Rattle.std.proofs.lemmas.List.Elements.{All-get_or}
 use Rattle.grid_quantiser.specs.SideBoxes.{one_cell}
-use Rattle.successor_box.specs.Sides.{IsBoxAlong}
-use Rattle.abstraction_table.specs.declared.sides.SideTable.{SideTable}
+use Rattle.abstraction_table.specs.declared.parts.PartTable.{PartTable}
 use Rattle.abstraction_table.specs.inside.Rows.{last_state, StaysAlongRows}
-use Rattle.abstraction_table.specs.inside.Sides.{HoldsSidesAlong}
+use Rattle.abstraction_table.specs.inside.Parts.{IsSumAlong, HoldsPartsAlong}
+use Rattle.abstraction_table.proofs.BoxSums.{sum_start}
 use Rattle.abstraction_table.proofs.RowCells.{brings_in_row}
-use Rattle.abstraction_table.proofs.SideTables.{brings}
+use Rattle.abstraction_table.proofs.PartTables.{brings}
 use Rattle.abstraction_table.proofs.rows.add_early.Goals as goal
 
 pub loop-state-init : goal.loop-state-init
@@ -16,19 +16,19 @@ loop-state-init c = record {
   within = omega arith;
   along = λ cell other below are row u input.
       let is = All-get_or (λ b. b ≡ one_cell) c.args.boxes.now u None (omega (arith, input, c.requires.one_each)) c.requires.start in
-      subst (IsBoxAlong c.args.p.now 0 other u) (sym is) (c.sides_make_boxes.ensures.start c.args.p.now other u);
+      subst (IsSumAlong c.args.p.now 0 other u one_cell) (sym is) (sum_start c.sides_make_boxes.ensures c.args.p.now other u);
 }
 
-pub add_sides-requires-clause-cell : goal.add_sides-requires-clause-cell
-add_sides-requires-clause-cell c =
+pub add_parts-requires-clause-cell : goal.add_parts-requires-clause-cell
+add_parts-requires-clause-cell c =
     let p = c.args.p.now in
     let cell = c.requires.cell in
     let sound = c.plants_are_sound.ensures p c.every_plant_is_within_limits.ensures.plant in
     let state : ℕ = c.loop-state.state in
     let equation : state < length p.equations = omega (arith, c.loop-state-test.true, c.requires.tables.one_each) in
-    let t : SideTable = c.index-tables-state-in-loop-state.result in
-    let held = subst (HoldsSidesAlong p state) (sym c.index-tables-state-in-loop-state.is) (c.requires.tables.each state t equation) in
-    (cell.0, brings p sound state t cell.0 c.args.places.now equation held cell.1 cell.2, c.loop-state.invariant.along cell.0 cell.0 cell.1 cell.2 (cell.1, refl))
+    let t : PartTable = c.index-tables-state-in-loop-state.result in
+    let held = subst (HoldsPartsAlong p state) (sym c.index-tables-state-in-loop-state.is) (c.requires.tables.each state t equation) in
+    (cell.0, one_cell, brings p sound state t cell.0 c.args.places.now equation held cell.1 cell.2, c.loop-state.invariant.along cell.0 cell.0 cell.1 cell.2 (cell.1, refl))
 
 pub loop-state-preserved : goal.loop-state-preserved
 loop-state-preserved c =
@@ -38,17 +38,17 @@ loop-state-preserved c =
     let state : ℕ = c.loop-state.state in
     let lt : state < length c.args.tables.now = c.loop-state-test.true in
     let equation : state < length p.equations = omega (arith, lt, c.requires.tables.one_each) in
-    let t : SideTable = c.index-tables-state-in-loop-state.result in
-    let held = subst (HoldsSidesAlong p state) (sym c.index-tables-state-in-loop-state.is) (c.requires.tables.each state t equation) in
+    let t : PartTable = c.index-tables-state-in-loop-state.result in
+    let held = subst (HoldsPartsAlong p state) (sym c.index-tables-state-in-loop-state.is) (c.requires.tables.each state t equation) in
     let one : c.index-tables-state.result ≡ t = c.index-tables-state.is ∙ get_or_default c.args.tables.now state c.index-tables-state.result t lt ∙ sym c.index-tables-state-in-loop-state.is in
     let stays : StaysAlongRows (last_state p) state t =
-    subst₂ (λ (last : ℕ) (table : SideTable). StaysAlongRows last state table) (ap (λ (n : ℕ). n - 1) c.states-last.ensures) one (c.stays_along_rows.ensures c.if-stays_along_rows.true)
+    subst₂ (λ (last : ℕ) (table : PartTable). StaysAlongRows last state table) (ap (λ (n : ℕ). n - 1) c.states-last.ensures) one (c.stays_along_rows.ensures c.if-stays_along_rows.true)
     in
     record {
-      long = c.add_sides.ensures.long ∙ c.loop-state.invariant.long;
+      long = c.add_parts.ensures.long ∙ c.loop-state.invariant.long;
       within = omega (arith, lt);
       along = λ cell other below are row.
-          c.add_sides.ensures.added other
+          c.add_parts.ensures.added other one_cell
           (brings_in_row p plant state t c.args.places.now cell other (omega (arith, equation, sound.one_each)) held stays row (brings p sound state t cell c.args.places.now equation held below are))
           (c.loop-state.invariant.along cell other below are row);
     }

@@ -1,8 +1,9 @@
 use Rattle.std.proofs.Common.{◌≡◌, ℕ, ◌<◌, ◌≤◌, ◌-◌, length}
 use Rattle.grid_quantiser.specs.Axes.{cells_of}
+use Rattle.grid_quantiser.specs.SideBoxes.{one_cell}
 use Rattle.plant_record.specs.Description.{axes_of}
 use Rattle.abstraction_table.specs.inside.Rows.{IsInRowOf}
-use Rattle.abstraction_table.specs.inside.Sides.{ArePlacesOf, AreBoxesAlong}
+use Rattle.abstraction_table.specs.inside.Parts.{ArePlacesOf, AreSumsAlong}
 use Rattle.abstraction_table.proofs.rows.add_early.Given as goal
 
 -- the boxes on the axes of the states so far, of all cells of the row
@@ -10,7 +11,7 @@ abbrev pub invariant-loop-state : goal.invariant-loop-state
 invariant-loop-state l = record {
   long : length l.boxes ≡ length l.fn.boxes;
   within : l.state ≤ length l.tables;
-  along : (c d : ℕ) → c < cells_of (axes_of l.p) → ArePlacesOf l.p c l.places → IsInRowOf l.p c d → AreBoxesAlong l.p l.state d l.boxes;
+  along : (c d : ℕ) → c < cells_of (axes_of l.p) → ArePlacesOf l.p c l.places → IsInRowOf l.p c d → AreSumsAlong l.p l.state d one_cell l.boxes;
 }
 
 abbrev pub decreases-loop-state : goal.decreases-loop-state

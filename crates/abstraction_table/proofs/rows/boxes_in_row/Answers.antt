@@ -2,9 +2,11 @@ use Rattle.std.proofs.Common.{◌≡◌, ◌≢◌, ℕ, ◌+◌, ◌-◌, ◌*�
 use Rattle.std.proofs.lemmas.List.{length-set, length-append, length-take-le, length-drop, get_or-take, get_or_append_left, get_or-set_other}
 use Rattle.std.proofs.lemmas.Nat.{mul-le}
 use Rattle.grid_quantiser.specs.Axes.{cells_of}
+use Rattle.grid_quantiser.specs.SideBoxes.{one_cell}
 use Rattle.plant_record.specs.Description.{axes_of, vectors_of}
 use Rattle.successor_box.specs.Boxes.{IsBoxOf}
-use Rattle.successor_box.specs.Sides.{place_in, IsBoxAlong}
+use Rattle.successor_box.specs.Sides.{place_in}
+use Rattle.abstraction_table.specs.inside.Parts.{IsSumAlong}
 use Rattle.abstraction_table.specs.inside.Rows.{last_state}
 use Rattle.abstraction_table.proofs.RowBoxes.{AreDone, later_cell, after_long, first_after, done_after, cell_count, cell_within, cell_places, cell_starts}
 use Rattle.abstraction_table.proofs.RowCells.{last_among, last_place_few}
@@ -90,7 +92,7 @@ loop-cell-init c =
       nine = omega arith;
       places = λ k within other. c.places_of-places.ensures k within;
       first = λ have d u row input.
-          subst (IsBoxAlong p c.add_early-early.result d u) (sym (get_or_append_left early (drop v boxes) None u (omega (arith, input, early_long))))
+          subst (IsSumAlong p c.add_early-early.result d u one_cell) (sym (get_or_append_left early (drop v boxes) None u (omega (arith, input, early_long))))
           (c.add_early-early.ensures.along c.args.c d (omega (arith, c.requires.row.2.some, c.requires.row.2.within)) c.places_of-places.ensures row u (omega (arith, input, same)));
       done = λ k u from input short. absurd (omega (arith, short, all, long, mul-le n v k v (omega (arith, from, ap (λ (m : ℕ). m / v) all, cells)) (omega arith)));
     }

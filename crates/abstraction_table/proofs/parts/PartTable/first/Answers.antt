@@ -3,7 +3,7 @@ use Rattle.std.specs.List.{All}
 use Rattle.abstraction_table.specs.declared.digits.Digit.{Digit}
 use Rattle.abstraction_table.proofs.AddedTerms.{no_digit, one_term_more, term_fits, total_fits, all_terms}
 use Rattle.abstraction_table.proofs.Fitting.{place_offset_fits}
-use Rattle.abstraction_table.proofs.sides.SideTable.first.Goals as goal
+use Rattle.abstraction_table.proofs.parts.PartTable.first.Goals as goal
 
 -- what a digit brings
 abbrev brought : List ℕ → Digit → ℕ

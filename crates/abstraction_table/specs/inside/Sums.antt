@@ -1,0 +1,20 @@
+-- Boxes as sums.
+use Rattle.std.specs.Prelude.{ℕ, ◌+◌, ◌*◌, Option, None, Some}
+use Rattle.grid_quantiser.specs.declared.boxes.CellBox.{CellBox}
+use Rattle.grid_quantiser.specs.declared.sides.Side.{Side}
+
+-- what a side adds to a box, where one place along its axis makes so many cells
+abbrev pub part : ℕ → Option Side → Option CellBox
+part stride None = None
+part stride (Some s) = Some (record { first = s.first * stride; last = s.last * stride })
+
+-- the sum of two boxes, end by end
+abbrev pub plus : Option CellBox → Option CellBox → Option CellBox
+plus None b = None
+plus (Some a) None = None
+plus (Some a) (Some b) = Some (record { first = a.first + b.first; last = a.last + b.last })
+
+-- a box on the earlier axes, in a grid of which one of its cells makes so many
+abbrev pub enlarged : ℕ → Option CellBox → Option CellBox
+enlarged n None = None
+enlarged n (Some b) = Some (record { first = b.first * n; last = b.last * n })
