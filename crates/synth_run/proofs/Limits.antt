@@ -1,6 +1,6 @@
 -- A source that is read to one byte past the limit of its text.
 use Rattle.std.proofs.Common.{inl, inr, ◌≡◌, ℕ, ◌<◌, List, length, take, drop, Option, Some, None, subst, arith, length-take}
-use Rattle.std.specs.Prelude.{◌⊎◌, ℤ, IfSome}
+use Rattle.std.specs.Prelude.{◌⊎◌, IfSome}
 use Rattle.std.proofs.lemmas.Bool.{cases_lt}
 use Rattle.plant_record.specs.declared.fault.LimitKind.{LimitKind}
 use Rattle.plant_record.specs.declared.fault.LimitKind.TheVariants.{PlantText, TableText, Vectors, Cells, Pairs, Edges}
@@ -13,29 +13,27 @@ use Rattle.controller_table.specs.Tables.{IsTable}
 use Rattle.controller_table.specs.Refusals.{IsShortTable, IsTableRefusedFor}
 use Rattle.controller_table.specs.Laws.{TablesAreShort}
 use Rattle.run_words.specs.declared.form.Form.{Form}
-use Rattle.run_words.specs.declared.form.Form.TheVariants.{Synth, Check, Upgrade, Sim, Stay, Patrol}
+use Rattle.run_words.specs.declared.form.Form.TheVariants.{Synth, Check, Upgrade, Sim, Demo, Stay, Patrol}
 use Rattle.synth_run.specs.declared.outcome.Outcome.{Outcome}
 use Rattle.synth_run.specs.declared.outcome.Outcome.TheVariants.{Done, Invalid, NoRow, Usage, Malformed, Overflow, Limit, TooManyTurns, ReadFault, WriteFault, NoMemory}
 use Rattle.run_devices.specs.Transfers.{ReadUpTo}
-use Rattle.synth_run.specs.Sources.{most_read, LeavesAlone}
+use Rattle.synth_run.specs.Sources.{most_read}
 use Rattle.synth_run.specs.Traces.{RangeDemands, TraceDemands}
 use Rattle.synth_run.specs.Demands.{PlantDemands, PatrolDemands, TableDemands, IsRefusal, IsAccepted, IsRefused, IsRefusedTable, IsTableThatDemands, Demands}
 use Rattle.synth_run.specs.Headline.{IsAnswer}
-use Rattle.synth_run.specs.Runs.{CanEnd}
-use Rattle.run_devices.specs.Devices.{Reading}
 use Rattle.std.proofs.lemmas.List.{take_all}
 
 -- ---- what was read stands for the whole text
 
 -- what holds of the bytes that were read holds of the whole text, where it passes from a front of so many bytes to the
 -- longer text
-pub of_whole : (Holds : List ℕ → Type 0) (most : ℕ) (told after : Option (List ℕ)) (read : List ℕ) → ReadUpTo told after most read → ((bytes : List ℕ) → most < length bytes → Holds (take most bytes) → Holds bytes) → Holds read → IfSome told Holds
-of_whole Holds most None after read up_to longer h = tt
-of_whole Holds most (Some bytes) after read up_to longer h =
-    let front : Holds (take most bytes) = subst Holds up_to.0 h in
+pub of_front : (Holds : List ℕ → Type 0) (most : ℕ) (told : Option (List ℕ)) (read : List ℕ) → IfSome told (λ bytes. read ≡ take most bytes) → ((bytes : List ℕ) → most < length bytes → Holds (take most bytes) → Holds bytes) → Holds read → IfSome told Holds
+of_front Holds most None read front longer h = tt
+of_front Holds most (Some bytes) read front longer h =
+    let begun : Holds (take most bytes) = subst Holds front h in
     elim (cases_lt most (length bytes)) [
-      | inl lt ↦ longer bytes lt front
-      | inr le ↦ subst Holds (take_all most bytes le) front
+      | inl lt ↦ longer bytes lt begun
+      | inr le ↦ subst Holds (take_all most bytes le) begun
     ]
 
 pub read_to_the_limit : (most : ℕ) (told after : Option (List ℕ)) (read : List ℕ) → ReadUpTo told after most read → IfSome told (λ bytes. after ≡ Some (drop most bytes))
@@ -89,11 +87,8 @@ refused_table_of_longer bytes outcome lt h = passes _ _ _ _ (λ line h. absurd (
 
 -- ---- forms
 
--- A form that reads its source: what its text demands as far as it is read, and how it is answered, holds of the whole text
--- if it is longer.
+-- What a text demands of a form as far as it is read, and how it is answered, holds of the whole text if it is longer.
 pub record PassesOn (form : Form) : Type 0 where
-  pub ends : (outcome : Outcome) → CanEnd form outcome
-  pub uses : (source : Reading) → LeavesAlone form source
   pub demands : (outcome : Outcome) (bytes : List ℕ) → most_read form < length bytes → Demands form (take (most_read form) bytes) outcome → Demands form bytes outcome
   pub answers : (text bytes : List ℕ) → most_read form < length bytes → IsAnswer form (take (most_read form) bytes) text → IsAnswer form bytes text
 
@@ -106,30 +101,6 @@ plant_of_longer Demanded bytes outcome lt h =
       | inl refused ↦ inl (refused_of_longer bytes outcome lt refused)
       | inr plant ↦ absurd (long_front bytes lt plant.1.short)
     ]
-
-pub plants_pass_on : (workers : ℕ) → PassesOn (Synth workers)
-plants_pass_on workers = record {
-  ends = λ _. tt;
-  uses = λ _. tt;
-  demands = λ outcome bytes lt h. plant_of_longer (λ p. PlantDemands p outcome) bytes outcome lt h;
-  answers = λ text bytes lt h. absurd (long_front bytes lt h.1.short);
-}
-
-pub stays_pass_on : (workers : ℕ) → PassesOn (Stay workers)
-stays_pass_on workers = record {
-  ends = λ _. tt;
-  uses = λ _. tt;
-  demands = λ outcome bytes lt h. plant_of_longer (λ p. PlantDemands p outcome) bytes outcome lt h;
-  answers = λ text bytes lt h. absurd (long_front bytes lt h.1.short);
-}
-
-pub patrols_pass_on : (workers : ℕ) → PassesOn (Patrol workers)
-patrols_pass_on workers = record {
-  ends = λ _. tt;
-  uses = λ _. tt;
-  demands = λ outcome bytes lt h. plant_of_longer (λ p. PatrolDemands p outcome) bytes outcome lt h;
-  answers = λ text bytes lt h. absurd (long_front bytes lt h.1.short);
-}
 
 no_table_front : TablesAreShort → (bytes : List ℕ) (p : Description) (rows : List (Option Row)) → 67108865 < length bytes → IsTable (take 67108865 bytes) p rows → ⊥
 no_table_front short bytes p rows lt table = long_table_front bytes lt (short (take 67108865 bytes) p rows table)
@@ -144,26 +115,29 @@ table_of_longer short Demanded bytes outcome lt h =
       | inr table ↦ absurd (no_table_front short bytes table.plant table.rows lt table.table)
     ]
 
-pub tables_pass_on : TablesAreShort → PassesOn Check
-tables_pass_on short = record {
-  ends = λ _. tt;
-  uses = λ _. tt;
+pub passes_on : TablesAreShort → (form : Form) → PassesOn form
+passes_on short (Synth workers) = record {
+  demands = λ outcome bytes lt h. plant_of_longer (λ p. PlantDemands p outcome) bytes outcome lt h;
+  answers = λ text bytes lt h. absurd (long_front bytes lt h.1.short);
+}
+passes_on short Check = record {
   demands = λ outcome bytes lt h. table_of_longer short (λ p rows. TableDemands p rows outcome) bytes outcome lt h;
   answers = λ text bytes lt h. absurd (no_table_front short bytes h.0.plant h.0.rows lt h.0.table);
 }
-
-pub upgrades_pass_on : TablesAreShort → PassesOn Upgrade
-upgrades_pass_on short = record {
-  ends = λ _. tt;
-  uses = λ _. tt;
+passes_on short Upgrade = record {
   demands = λ outcome bytes lt h. table_of_longer short (λ p rows. RangeDemands p outcome) bytes outcome lt h;
   answers = λ text bytes lt h. absurd (no_table_front short bytes h.plant h.rows lt h.table);
 }
-
-pub traces_pass_on : TablesAreShort → (samples seed : ℕ) (start : List ℤ) → PassesOn (Sim samples seed start)
-traces_pass_on short samples seed start = record {
-  ends = λ _. tt;
-  uses = λ _. tt;
+passes_on short (Sim samples seed start) = record {
   demands = λ outcome bytes lt h. table_of_longer short (λ p rows. TraceDemands p rows start outcome) bytes outcome lt h;
   answers = λ text bytes lt h. absurd (no_table_front short bytes h.plant h.rows lt h.table);
+}
+passes_on short (Demo number workers) = record { demands = λ outcome bytes lt h. h; answers = λ text bytes lt h. h }
+passes_on short (Stay workers) = record {
+  demands = λ outcome bytes lt h. plant_of_longer (λ p. PlantDemands p outcome) bytes outcome lt h;
+  answers = λ text bytes lt h. absurd (long_front bytes lt h.1.short);
+}
+passes_on short (Patrol workers) = record {
+  demands = λ outcome bytes lt h. plant_of_longer (λ p. PatrolDemands p outcome) bytes outcome lt h;
+  answers = λ text bytes lt h. absurd (long_front bytes lt h.1.short);
 }

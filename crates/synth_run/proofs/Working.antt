@@ -1,27 +1,26 @@
 -- What a form has worked out from what it read.
-use Rattle.std.proofs.Common.{Bool, refl, drop, ◌≡◌, ℕ, List, inl, inr, sym, subst, ◌∙◌, arith}
-use Rattle.std.specs.Prelude.{Option, Some, None, IfSome}
+use Rattle.std.proofs.Common.{Bool, refl, take, drop, ◌≡◌, ℕ, List, [], inl, inr, sym, subst, ◌∙◌, arith}
+use Rattle.std.specs.Prelude.{Option, Some, None, IfSome, IsTrue}
 use Rattle.run_words.specs.declared.form.Form.{Form}
 use Rattle.run_words.specs.declared.form.Form.TheVariants.{Synth, Check, Upgrade, Sim, Demo, Stay, Patrol}
-use Rattle.demo_plants.specs.Demo.{IsDemoLine}
+use Rattle.controller_table.proofs.ShortTables.{tables_are_short}
+use Rattle.run_devices.specs.declared.transfer.ReadFault.{ReadFault as Fault}
+use Rattle.run_devices.specs.declared.transfer.ReadFault.TheVariants as reads
 use Rattle.synth_run.specs.declared.outcome.Outcome.{Outcome}
 use Rattle.synth_run.specs.declared.outcome.Outcome.TheVariants.{Done, Usage, ReadFault, WriteFault, NoMemory}
 use Rattle.synth_run.specs.declared.text.Text.{Text}
-use Rattle.run_devices.specs.Devices.{Reading, TakesAtMost}
+use Rattle.run_devices.specs.Devices.{next_count, Reading, TakesAtMost}
 use Rattle.synth_run.specs.inside.Texts.{bytes_of, CanBeWritten}
 use Rattle.run_devices.specs.Transfers.{ReadUpTo}
 use Rattle.synth_run.specs.inside.Working.{IsWorkedOut, IsTurnedDown}
-use Rattle.synth_run.specs.Sources.{given, most_read}
+use Rattle.synth_run.specs.Sources.{given, most_read, LeavesAlone}
 use Rattle.synth_run.specs.Demands.{Demands}
 use Rattle.synth_run.specs.Headline.{IsAnswer}
+use Rattle.synth_run.specs.Runs.{CanEnd}
 use Rattle.synth_run.specs.Statuses.{IsTheTexts}
-use Rattle.synth_run.proofs.Limits.{PassesOn, of_whole, read_to_the_limit}
-
--- A form's source was read to one byte past the limit of its text, and what the source tells is the text.
-pub record IsReadWhole (form : Form) (source : Reading) (read : List ℕ) : Type 0 where
-  pub told : given form source.before ≡ source.before
-  pub up_to : ReadUpTo source.before source.after (most_read form) read
-  pub no_fault : source.faults_after ≡ source.faults_before
+use Rattle.synth_run.specs.inside.Causes.{of_read}
+use Rattle.synth_run.specs.inside.Making.{IsReadFor, IsDeclined}
+use Rattle.synth_run.proofs.Limits.{of_front, passes_on, read_to_the_limit}
 
 -- a text that has an answer demands it
 answered_is_demanded : (form : Form) (bytes text : List ℕ) → IsAnswer form bytes text → Demands form bytes Done
@@ -33,30 +32,24 @@ answered_is_demanded (Demo n workers) bytes text h = refl
 answered_is_demanded (Stay workers) bytes text h = inr (h.0, h.1, h.2)
 answered_is_demanded (Patrol workers) bytes text h = inr (h.0, h.1, h.2)
 
--- what was read to a limit never went past it
-within_limit : (most : ℕ) (told after : Option (List ℕ)) (read : List ℕ) → ReadUpTo told after most read → TakesAtMost told after most
-within_limit most None after read up_to = tt
-within_limit most (Some bytes) after read up_to = (most, omega arith, up_to.1)
-
 pub if_some_more : (told : Option (List ℕ)) (P Q : List ℕ → Type 0) → ((bytes : List ℕ) → P bytes → Q bytes) → IfSome told P → IfSome told Q
 if_some_more None P Q more h = tt
 if_some_more (Some bytes) P Q more h = more bytes h
 
 -- an answer for what was read is the form's
-pub worked_out : (form : Form) → PassesOn form → (source : Reading) (read : List ℕ) (text : Text) → IsReadWhole form source read → CanBeWritten text → IsAnswer form read (bytes_of text) → IsWorkedOut form text source
-worked_out form passes source read text whole fits answer = record {
+pub worked_out : (form : Form) (source : Reading) (read : List ℕ) (text : Text) → IsReadFor form read source → CanBeWritten text → IsAnswer form read (bytes_of text) → IsWorkedOut form text source
+worked_out form source read text whole fits answer = record {
   can_be_written = fits;
-  answer = subst (λ (told : Option (List ℕ)). IfSome told (λ bytes. IsAnswer form bytes (bytes_of text))) (sym whole.told) answers;
-  demanded = subst (λ (told : Option (List ℕ)). IfSome told (λ bytes. Demands form bytes Done)) (sym whole.told)
-      (if_some_more source.before (λ bytes. IsAnswer form bytes (bytes_of text)) (λ bytes. Demands form bytes Done) (λ bytes. answered_is_demanded form bytes (bytes_of text)) answers);
-  read = read_to_the_limit (most_read form) source.before source.after read whole.up_to;
-  never_past = within_limit (most_read form) source.before source.after read whole.up_to;
-  leaves_alone = passes.uses source;
+  answer = answers;
+  demanded = if_some_more (given form source.before) (λ bytes. IsAnswer form bytes (bytes_of text)) (λ bytes. Demands form bytes Done) (λ bytes. answered_is_demanded form bytes (bytes_of text)) answers;
+  read = whole.read;
+  never_past = whole.never_past;
+  leaves_alone = whole.leaves_alone;
   no_fault = whole.no_fault;
 }
   where
-    answers : IfSome source.before (λ bytes. IsAnswer form bytes (bytes_of text))
-    answers = of_whole (λ bytes. IsAnswer form bytes (bytes_of text)) (most_read form) source.before source.after read whole.up_to (passes.answers (bytes_of text)) answer
+    answers : IfSome (given form source.before) (λ bytes. IsAnswer form bytes (bytes_of text))
+    answers = of_front (λ bytes. IsAnswer form bytes (bytes_of text)) (most_read form) (given form source.before) read whole.front ((passes_on tables_are_short form).answers (bytes_of text)) answer
 
 -- no text demands these
 demands_no_usage : (form : Form) (bytes : List ℕ) → Demands form bytes Usage → ⊥
@@ -90,25 +83,96 @@ demands_no_write_fault (Patrol workers) bytes h = elim h [ inl refused ↦ refus
 not_for_memory : (outcome : Outcome) → IsTheTexts outcome → outcome ≡ NoMemory → ⊥
 not_for_memory outcome texts e = subst IsTheTexts e texts
 
--- what was read of a source demands this end, or there was no memory
-pub turned_down : (form : Form) → PassesOn form → (source : Reading) (read : List ℕ) (outcome : Outcome) → IsReadWhole form source read → (outcome ≡ Done → ⊥) → ((outcome ≡ NoMemory → ⊥) → Demands form read outcome) → IsTurnedDown form outcome source
-turned_down form passes source read outcome whole not_done demands = record {
-  not_done = not_done;
-  not_usage = λ e. demands_no_usage form read (subst (Demands form read) e (demands (λ m. let clash : NoMemory ≡ Usage = sym m ∙ e in cc)));
-  not_write_fault = λ e. demands_no_write_fault form read (subst (Demands form read) e (demands (λ m. let clash : NoMemory ≡ WriteFault = sym m ∙ e in cc)));
-  can_end = passes.ends outcome;
-  demanded = λ texts. subst (λ (told : Option (List ℕ)). IfSome told (λ bytes. Demands form bytes outcome)) (sym whole.told)
-      (of_whole (λ bytes. Demands form bytes outcome) (most_read form) source.before source.after read whole.up_to (passes.demands outcome) (demands (not_for_memory outcome texts)));
-  read = λ _ _. read_to_the_limit (most_read form) source.before source.after read whole.up_to;
-  never_past = within_limit (most_read form) source.before source.after read whole.up_to;
-  leaves_alone = passes.uses source;
+-- what was read demands this end, or there was no memory
+pub turned_down : (form : Form) (source : Reading) (read : List ℕ) (outcome : Outcome) → IsReadFor form read source → IsDeclined form read outcome → IsTurnedDown form outcome source
+turned_down form source read outcome whole h = record {
+  not_done = h.not_done;
+  not_usage = λ e. demands_no_usage form read (subst (Demands form read) e (h.demanded (λ m. let clash : NoMemory ≡ Usage = sym m ∙ e in cc)));
+  not_write_fault = λ e. demands_no_write_fault form read (subst (Demands form read) e (h.demanded (λ m. let clash : NoMemory ≡ WriteFault = sym m ∙ e in cc)));
+  can_end = h.can_end;
+  demanded = λ texts. of_front (λ bytes. Demands form bytes outcome) (most_read form) (given form source.before) read whole.front ((passes_on tables_are_short form).demands outcome) (h.demanded (not_for_memory outcome texts));
+  read = λ _ _. whole.read;
+  never_past = whole.never_past;
+  leaves_alone = whole.leaves_alone;
   fault = λ e. absurd (no_read_fault e);
   no_fault = λ _. whole.no_fault;
   sound = λ _. no_read_fault;
 }
   where
     no_read_fault : outcome ≡ ReadFault → ⊥
-    no_read_fault e = demands_no_read_fault form read (subst (Demands form read) e (demands (λ m. let clash : NoMemory ≡ ReadFault = sym m ∙ e in cc)))
+    no_read_fault e = demands_no_read_fault form read (subst (Demands form read) e (h.demanded (λ m. let clash : NoMemory ≡ ReadFault = sym m ∙ e in cc)))
+
+-- ---- reading
+
+-- A form works on all that its source tells.
+record WorksOnAll (form : Form) : Type 0 where
+  given_is : (told : Option (List ℕ)) → given form told ≡ told
+  uses : (source : Reading) → LeavesAlone form source
+  ends : (outcome : Outcome) → CanEnd form outcome
+
+works_on_all : (form : Form) → ((number workers : ℕ) → form ≡ Demo number workers → ⊥) → WorksOnAll form
+works_on_all (Synth workers) other = record { given_is = λ _. refl; uses = λ _. tt; ends = λ _. tt }
+works_on_all Check other = record { given_is = λ _. refl; uses = λ _. tt; ends = λ _. tt }
+works_on_all Upgrade other = record { given_is = λ _. refl; uses = λ _. tt; ends = λ _. tt }
+works_on_all (Sim samples seed start) other = record { given_is = λ _. refl; uses = λ _. tt; ends = λ _. tt }
+works_on_all (Demo number workers) other = absurd (other number workers refl)
+works_on_all (Stay workers) other = record { given_is = λ _. refl; uses = λ _. tt; ends = λ _. tt }
+works_on_all (Patrol workers) other = record { given_is = λ _. refl; uses = λ _. tt; ends = λ _. tt }
+
+front_of : (most : ℕ) (told after : Option (List ℕ)) (read : List ℕ) → ReadUpTo told after most read → IfSome told (λ bytes. read ≡ take most bytes)
+front_of most None after read up_to = tt
+front_of most (Some bytes) after read up_to = up_to.0
+
+-- a source was read to the limit of a form's text
+pub is_read : (form : Form) → ((number workers : ℕ) → form ≡ Demo number workers → ⊥) → (source : Reading) (read : List ℕ)
+    → ReadUpTo source.before source.after (most_read form) read → TakesAtMost source.before source.after (most_read form) → source.faults_after ≡ source.faults_before → IsReadFor form read source
+is_read form other source read up_to within no_fault =
+    let all : WorksOnAll form = works_on_all form other in
+    record {
+      front = subst (λ (told : Option (List ℕ)). IfSome told (λ bytes. read ≡ take (most_read form) bytes)) (sym (all.given_is source.before)) (front_of (most_read form) source.before source.after read up_to);
+      read = read_to_the_limit (most_read form) source.before source.after read up_to;
+      never_past = within;
+      leaves_alone = all.uses source;
+      no_fault = no_fault;
+    }
+
+-- a read failed, or there was no memory for what was read
+pub is_unread : (form : Form) → ((number workers : ℕ) → form ≡ Demo number workers → ⊥) → (source : Reading) (fault : Fault)
+    → TakesAtMost source.before source.after (most_read form)
+    → (fault ≡ reads.Device → source.faults_after ≡ next_count source.faults_before)
+    → ((fault ≡ reads.Device → ⊥) → source.faults_after ≡ source.faults_before)
+    → (IsTrue source.is_sound → fault ≡ reads.Device → ⊥)
+    → IsTurnedDown form (of_read fault) source
+is_unread form other source reads.Device within failed stood sound =
+    let all : WorksOnAll form = works_on_all form other in
+    record {
+      not_done = λ e. cc;
+      not_usage = λ e. cc;
+      not_write_fault = λ e. cc;
+      can_end = all.ends ReadFault;
+      demanded = λ texts. absurd texts;
+      read = λ other _. absurd (other refl);
+      never_past = within;
+      leaves_alone = all.uses source;
+      fault = λ _. failed refl;
+      no_fault = λ other. absurd (other refl);
+      sound = λ is_sound _. sound is_sound refl;
+    }
+is_unread form other source reads.Memory within failed stood sound =
+    let all : WorksOnAll form = works_on_all form other in
+    record {
+      not_done = λ e. cc;
+      not_usage = λ e. cc;
+      not_write_fault = λ e. cc;
+      can_end = all.ends NoMemory;
+      demanded = λ texts. absurd texts;
+      read = λ _ some. absurd (some refl);
+      never_past = within;
+      leaves_alone = all.uses source;
+      fault = λ e. absurd (let clash : NoMemory ≡ ReadFault = e in cc);
+      no_fault = λ _. stood (λ e. cc);
+      sound = λ _ e. cc;
+    }
 
 -- ---- demo plants
 
@@ -120,23 +184,9 @@ none_taken : (told : Option (List ℕ)) → TakesAtMost told told 0
 none_taken None = tt
 none_taken (Some bytes) = (0, omega arith, refl)
 
--- the line of a demo plant is the form's answer, and its source stays as it was
-pub demo_worked_out : (n workers : ℕ) (told : Option (List ℕ)) (faults : ℕ) (sound : Bool) (text : Text) → CanBeWritten text → IsDemoLine n (bytes_of text)
-    → IsWorkedOut (Demo n workers) text (record { before = told; after = told; faults_before = faults; faults_after = faults; is_sound = sound })
-demo_worked_out n workers told faults sound text fits line = record { can_be_written = fits; answer = line; demanded = refl; read = unread told; never_past = none_taken told; leaves_alone = record { bytes = refl; faults = refl }; no_fault = refl }
+-- the source of a demo plant stays as it was
+pub demo_is_read : (number workers : ℕ) (told : Option (List ℕ)) (faults : ℕ) (sound : Bool) → IsReadFor (Demo number workers) [] (record { before = told; after = told; faults_before = faults; faults_after = faults; is_sound = sound })
+demo_is_read number workers told faults sound = record { front = refl; read = unread told; never_past = none_taken told; leaves_alone = record { bytes = refl; faults = refl }; no_fault = refl }
 
-pub demo_turned_down : (n workers : ℕ) (told : Option (List ℕ)) (faults : ℕ) (sound : Bool) (outcome : Outcome) → outcome ≡ NoMemory
-    → IsTurnedDown (Demo n workers) outcome (record { before = told; after = told; faults_before = faults; faults_after = faults; is_sound = sound })
-demo_turned_down n workers told faults sound outcome memory = record {
-  not_done = λ e. let clash : NoMemory ≡ Done = sym memory ∙ e in cc;
-  not_usage = λ e. let clash : NoMemory ≡ Usage = sym memory ∙ e in cc;
-  not_write_fault = λ e. let clash : NoMemory ≡ WriteFault = sym memory ∙ e in cc;
-  can_end = inr (inr memory);
-  demanded = λ texts. absurd (not_for_memory outcome texts memory);
-  read = λ _ some. absurd (some memory);
-  never_past = none_taken told;
-  leaves_alone = record { bytes = refl; faults = refl };
-  fault = λ e. absurd (let clash : NoMemory ≡ ReadFault = sym memory ∙ e in cc);
-  no_fault = λ _. refl;
-  sound = λ _ e. let clash : NoMemory ≡ ReadFault = sym memory ∙ e in cc;
-}
+pub demo_declined : (number workers : ℕ) (bytes : List ℕ) (outcome : Outcome) → outcome ≡ NoMemory → IsDeclined (Demo number workers) bytes outcome
+demo_declined number workers bytes outcome memory = record { not_done = λ e. let clash : NoMemory ≡ Done = sym memory ∙ e in cc; can_end = inr (inr memory); demanded = λ some. absurd (some memory) }

@@ -3,12 +3,15 @@
 ghost use Rattle.std.specs.Prelude.{◌≡◌, IfOk, IfErr};
 ghost use Rattle.run_words.specs.Form.{IsDemoNumber, AreWorkers};
 ghost use Rattle.demo_plants.specs.Demo.{IsDemoLine, demo_plant_of};
+ghost use Rattle.abstraction_table.specs.Abstraction.{IsGameOf};
+ghost use Rattle.abstraction_table.specs.Table.{game_ahead};
 ghost use Rattle.synth_run.specs.Played.{IsResolvedOn};
 ghost use Rattle.synth_run.specs.declared.outcome.Outcome.TheVariants.{NoMemory};
 
 use crate::game::outlook_of;
 use crate::outcome::Outcome;
 use crate::resolving::resolve;
+use abstraction_table::Outlook;
 use cell_counters::{Board, Root};
 use demo_plants::laws::demo_plants_are_solvable;
 use demo_plants::{demo_line, demo_plant};
@@ -31,10 +34,19 @@ pub fn solved_line<R: Threads + Sync, T: Gate>(
     ensures played { IfOk result (λ made. IsResolvedOn (demo_plant_of n) made.1.0 made.1.1) }
     ensures memory { IfErr result (λ outcome. outcome ≡ NoMemory) }
 {
-    demo_plants_are_solvable();
-    let plant = demo_plant(alloc, n)?;
-    let ahead = outlook_of(rt, alloc, &plant)?;
+    let ahead = demo_ahead(rt, alloc, n)?;
     let resolved = resolve(rt, alloc, GoalKind::Reach, ahead, workers, gate)?;
     let line = demo_line(alloc, n, &resolved.game, &resolved.answer)?;
     Ok((line, (resolved.board, resolved.root)))
+}
+
+/// The game of the n-th demo plant as it is seen ahead.
+fn demo_ahead<R: Threads + Sync>(rt: &R, alloc: Global, n: u32) -> Result<Outlook, Outcome>
+    requires { IsDemoNumber n }
+    ensures game { IfOk result (λ ahead. IsGameOf (demo_plant_of n) (game_ahead ahead)) }
+    ensures memory { IfErr result (λ outcome. outcome ≡ NoMemory) }
+{
+    demo_plants_are_solvable();
+    let plant = demo_plant(alloc, n)?;
+    outlook_of(rt, alloc, &plant)
 }

@@ -1,4 +1,6 @@
-ghost use Rattle.std.specs.Prelude.{◌≡◌};
+ghost use Rattle.std.specs.Fmt.{decimal};
+ghost use Rattle.std.specs.List.{flat_map};
+ghost use Rattle.std.specs.Prelude.{◌≡◌, ◌++◌, codes};
 ghost use Rattle.run_devices.specs.Devices.{writing, Reports};
 ghost use Rattle.synth_run.specs.declared.outcome.Outcome.TheVariants as ends;
 ghost use Rattle.synth_run.specs.Statuses.{status_of, line_of};
@@ -129,32 +131,47 @@ impl Outcome {
     pub fn report<E: Sink>(self, err: &mut E)
         ensures { Reports (writing E.got E.faults E.room err.old err.new) (line_of self) }
     {
-        let mut first = Buffer::new();
-        let mut second = Buffer::new();
-        let _ = match self {
-            Outcome::Done | Outcome::WriteFault => Ok(()),
-            Outcome::Invalid { cell } => {
-                let cell = first.format(cell).as_bytes();
-                write_pieces(err, &[b"invalid: cell ", cell, b"\n"])
-            }
-            Outcome::NoRow => write_pieces(err, &[b"no row\n"]),
-            Outcome::Usage => write_pieces(err, &[b"usage\n"]),
-            Outcome::Malformed { line } => {
-                let line = first.format(line).as_bytes();
-                write_pieces(err, &[b"malformed: line ", line, b"\n"])
-            }
-            Outcome::Overflow { equation, input } => {
-                let equation = first.format(equation).as_bytes();
-                let input = second.format(input).as_bytes();
-                write_pieces(
-                    err,
-                    &[b"overflow: equation ", equation, b" input ", input, b"\n"],
-                )
-            }
-            Outcome::Limit { what } => write_pieces(err, &[b"limit: ", limit_words(what), b"\n"]),
-            Outcome::TooManyTurns => write_pieces(err, &[b"limit: turns\n"]),
-            Outcome::ReadFault => write_pieces(err, &[b"read fault\n"]),
-            Outcome::NoMemory => write_pieces(err, &[b"no memory\n"]),
-        };
+        match self {
+            Outcome::Done | Outcome::WriteFault => {}
+            Outcome::Invalid { cell } => report_number(err, b"invalid: cell ", cell),
+            Outcome::NoRow => report_pieces(err, &[b"no row\n"]),
+            Outcome::Usage => report_pieces(err, &[b"usage\n"]),
+            Outcome::Malformed { line } => report_number(err, b"malformed: line ", line),
+            Outcome::Overflow { equation, input } => report_overflow(err, equation, input),
+            Outcome::Limit { what } => report_pieces(err, &[b"limit: ", limit_words(what), b"\n"]),
+            Outcome::TooManyTurns => report_pieces(err, &[b"limit: turns\n"]),
+            Outcome::ReadFault => report_pieces(err, &[b"read fault\n"]),
+            Outcome::NoMemory => report_pieces(err, &[b"no memory\n"]),
+        }
     }
+}
+
+/// Writes a line in pieces.
+fn report_pieces<E: Sink>(err: &mut E, pieces: &[&[u8]])
+    ensures { Reports (writing E.got E.faults E.room err.old err.new) (flat_map (λ piece. piece.now) pieces.now) }
+{
+    let _ = write_pieces(err, pieces);
+}
+
+/// Writes a line of words and a number.
+fn report_number<E: Sink>(err: &mut E, words: &[u8], number: u32)
+    ensures { Reports (writing E.got E.faults E.room err.old err.new) (words.now ++ decimal number ++ codes "\n") }
+{
+    let mut buffer = Buffer::new();
+    let digits = buffer.format(number).as_bytes();
+    report_pieces(err, &[words, digits, b"\n"]);
+}
+
+/// Writes the line of an overflow.
+fn report_overflow<E: Sink>(err: &mut E, equation: u32, input: u32)
+    ensures { Reports (writing E.got E.faults E.room err.old err.new) (line_of (ends.Overflow equation input)) }
+{
+    let mut first = Buffer::new();
+    let mut second = Buffer::new();
+    let equation = first.format(equation).as_bytes();
+    let input = second.format(input).as_bytes();
+    report_pieces(
+        err,
+        &[b"overflow: equation ", equation, b" input ", input, b"\n"],
+    );
 }

@@ -2,6 +2,7 @@
 
 ghost use Rattle.std.specs.Prelude.{◌≡◌, IfOk};
 ghost use Rattle.abstraction_table.specs.Table.{game_of, game_ahead};
+ghost use Rattle.plant_record.specs.declared.aims.GoalKind.TheVariants.{Reach, Keep};
 ghost use Rattle.run_words.specs.Form.{AreWorkers};
 ghost use Rattle.synth_run.specs.inside.Resolving.{IsResolved};
 
@@ -42,27 +43,53 @@ pub fn resolve<R: Threads + Sync, T: Gate>(
     ensures resolved { IfOk result (IsResolved goal) }
 {
     match goal {
-        GoalKind::Reach => {
-            let scratch = reach_avoid::Scratch::new(rt, alloc, &ahead, workers)?;
-            let game = with_sources(rt, alloc, ahead)?;
-            let solved = reach_avoid::solve_in(rt, alloc, &game, scratch, gate);
-            Ok(Resolved {
-                game,
-                answer: solved.answer,
-                board: solved.board,
-                root: solved.root,
-            })
-        }
-        GoalKind::Keep => {
-            let scratch = safety_game::Scratch::new(rt, alloc, &ahead, workers)?;
-            let game = with_sources(rt, alloc, ahead)?;
-            let kept = safety_game::keep_in(rt, alloc, &game, scratch, gate);
-            Ok(Resolved {
-                game,
-                answer: kept.answer,
-                board: kept.board,
-                root: kept.root,
-            })
-        }
+        GoalKind::Reach => solve_ahead(rt, alloc, ahead, workers, gate),
+        GoalKind::Keep => keep_ahead(rt, alloc, ahead, workers, gate),
     }
+}
+
+/// The game that is to reach.
+fn solve_ahead<R: Threads + Sync, T: Gate>(
+    rt: &R,
+    alloc: Global,
+    ahead: Outlook,
+    workers: u32,
+    gate: &T,
+) -> Result<Resolved, NoMemory>
+    requires { AreWorkers workers }
+    ensures game { IfOk result (λ resolved. game_of resolved.game ≡ game_ahead ahead) }
+    ensures resolved { IfOk result (IsResolved Reach) }
+{
+    let scratch = reach_avoid::Scratch::new(rt, alloc, &ahead, workers)?;
+    let game = with_sources(rt, alloc, ahead)?;
+    let solved = reach_avoid::solve_in(rt, alloc, &game, scratch, gate);
+    Ok(Resolved {
+        game,
+        answer: solved.answer,
+        board: solved.board,
+        root: solved.root,
+    })
+}
+
+/// The game that is to be kept.
+fn keep_ahead<R: Threads + Sync, T: Gate>(
+    rt: &R,
+    alloc: Global,
+    ahead: Outlook,
+    workers: u32,
+    gate: &T,
+) -> Result<Resolved, NoMemory>
+    requires { AreWorkers workers }
+    ensures game { IfOk result (λ resolved. game_of resolved.game ≡ game_ahead ahead) }
+    ensures resolved { IfOk result (IsResolved Keep) }
+{
+    let scratch = safety_game::Scratch::new(rt, alloc, &ahead, workers)?;
+    let game = with_sources(rt, alloc, ahead)?;
+    let kept = safety_game::keep_in(rt, alloc, &game, scratch, gate);
+    Ok(Resolved {
+        game,
+        answer: kept.answer,
+        board: kept.board,
+        root: kept.root,
+    })
 }

@@ -40,13 +40,21 @@ impl Text {
         match self {
             Text::Table(solved) => write_table(alloc, solved, out),
             Text::Upgraded(table) => write_upgraded(alloc, table, out),
-            Text::Line(bytes) => Ok(write_whole(out, bytes)?),
+            Text::Line(bytes) => write_bytes(bytes, out),
             Text::Trace(simulation) => write_trace(alloc, simulation, out),
-            Text::Summary(text) => Ok(write_whole(out, text)?),
+            Text::Summary(text) => write_bytes(text, out),
             Text::Stay(settled) => write_stay(alloc, settled, out),
             Text::Patrol(patrolled) => write_patrol(alloc, patrolled, out),
         }
     }
+}
+
+fn write_bytes<O: Sink>(bytes: &[u8], out: &mut O) -> Result<(), WriteFault>
+    ensures whole { OnOk result (GainsWhole (writing O.got O.faults O.room out.old out.new) bytes.now) }
+    ensures stopped { IfErr result (λ fault. StopsBy fault (writing O.got O.faults O.room out.old out.new) bytes.now) }
+{
+    write_whole(out, bytes)?;
+    Ok(())
 }
 
 fn write_table<O: Sink>(alloc: Global, solved: &Solved, out: &mut O) -> Result<(), WriteFault>

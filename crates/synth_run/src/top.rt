@@ -1,14 +1,12 @@
 ghost use Rattle.std.specs.Prelude.{◌≡◌, ℕ, ◌≤◌, List, map, None, IfSome, IfOk, IfErr};
 ghost use Rattle.run_devices.specs.Devices.{Rose, reading, writing};
 ghost use Rattle.run_words.specs.Form.{AreWorkers, IsOfForm, IsDemoNumber};
-ghost use Rattle.synth_run.specs.Sources.{given, NoReadFailed};
-ghost use Rattle.synth_run.specs.Played.{LeavesTheGameOf};
+ghost use Rattle.synth_run.specs.Sources.{given, most_read, NoReadFailed};
 ghost use Rattle.synth_run.specs.Runs.{Gives, IsRun, IsRunOf, IsAnswered, IsCompleteAnswer};
 ghost use Rattle.run_words.specs.declared.form.Form.{Form};
-ghost use Rattle.synth_run.specs.declared.outcome.Outcome.TheVariants as ends;
-ghost use Rattle.demo_plants.specs.Demo.{IsDemoLine, demo_plant_of};
+ghost use Rattle.synth_run.specs.inside.Making.{IsReadFor, IsMade, IsDeclined};
 ghost use Rattle.synth_run.specs.inside.Resolving.{IsToBeLeft};
-ghost use Rattle.synth_run.specs.inside.Texts.{bytes_of, CanBeWritten};
+ghost use Rattle.synth_run.specs.inside.Texts.{CanBeWritten};
 ghost use Rattle.synth_run.specs.inside.Working.{IsWorkedOut, IsTurnedDown, IsWrittenOut, IsLeftAfter};
 
 use crate::checking::check_text;
@@ -46,69 +44,60 @@ impl Work {
     }
 }
 
-/// The table of the plant on the source.
-fn synth<R: Threads + Sync, S: Source, G: Gate>(
+/// The table of the plant that the bytes spell.
+fn synth<R: Threads + Sync, G: Gate>(
     rt: &R,
     alloc: Global,
-    source: &mut S,
+    bytes: &[u8],
     workers: u32,
     gate: &G,
 ) -> Result<Work, Outcome>
     requires { AreWorkers workers }
-    ensures answer { IfOk result (λ work. IsWorkedOut (Form.Synth workers) work.text (reading S.left S.faults S.is_sound source.old source.new)) }
-    ensures played { IfOk result (λ work. IsToBeLeft (Form.Synth workers) work.played (reading S.left S.faults S.is_sound source.old source.new)) }
-    ensures refusal { IfErr result (λ outcome. IsTurnedDown (Form.Synth workers) outcome (reading S.left S.faults S.is_sound source.old source.new)) }
+    ensures made { IfOk result (λ work. IsMade (Form.Synth workers) bytes.now work.text work.played) }
+    ensures declined { IfErr result (IsDeclined (Form.Synth workers) bytes.now) }
 {
-    let bytes = read_up_to(alloc, source, TEXT_LIMIT + 1)?;
-    let (solved, played) = solve_text(rt, alloc, &bytes, workers, gate)?;
+    let (solved, played) = solve_text(rt, alloc, bytes, workers, gate)?;
     Ok(Work {
         text: Text::Table(solved),
         played: Some(played),
     })
 }
 
-/// That the table on the source is valid.
-fn check<R: Threads + Sync, S: Source>(
-    rt: &R,
-    alloc: Global,
-    source: &mut S,
-) -> Result<Text, Outcome>
-    ensures answer { IfOk result (λ text. IsWorkedOut Form.Check text (reading S.left S.faults S.is_sound source.old source.new)) }
-    ensures refusal { IfErr result (λ outcome. IsTurnedDown Form.Check outcome (reading S.left S.faults S.is_sound source.old source.new)) }
+/// That the table that the bytes are is valid.
+fn check<R: Threads + Sync>(rt: &R, alloc: Global, bytes: &[u8]) -> Result<Work, Outcome>
+    ensures made { IfOk result (λ work. IsMade Form.Check bytes.now work.text work.played) }
+    ensures declined { IfErr result (IsDeclined Form.Check bytes.now) }
 {
-    let bytes = read_up_to(alloc, source, TABLE_LIMIT + 1)?;
-    check_text(rt, alloc, &bytes)?;
-    Ok(Text::Line(b"valid\n"))
+    check_text(rt, alloc, bytes)?;
+    Ok(Work::of_text(Text::Line(b"valid\n")))
 }
 
-/// The table on the source, to be written anew.
-fn upgrade<S: Source>(alloc: Global, source: &mut S) -> Result<Text, Outcome>
-    ensures answer { IfOk result (λ text. IsWorkedOut Form.Upgrade text (reading S.left S.faults S.is_sound source.old source.new)) }
-    ensures refusal { IfErr result (λ outcome. IsTurnedDown Form.Upgrade outcome (reading S.left S.faults S.is_sound source.old source.new)) }
+/// The table that the bytes are, to be written anew.
+fn upgrade(alloc: Global, bytes: &[u8]) -> Result<Work, Outcome>
+    ensures made { IfOk result (λ work. IsMade Form.Upgrade bytes.now work.text work.played) }
+    ensures declined { IfErr result (IsDeclined Form.Upgrade bytes.now) }
 {
-    let bytes = read_up_to(alloc, source, TABLE_LIMIT + 1)?;
-    let table = upgrade_text(alloc, &bytes)?;
-    Ok(Text::Upgraded(table))
+    let table = upgrade_text(alloc, bytes)?;
+    Ok(Work::of_text(Text::Upgraded(table)))
 }
 
-/// The trace of the table on the source.
-fn sim<S: Source>(
+/// The trace of the table that the bytes are.
+fn sim(
     alloc: Global,
-    source: &mut S,
+    bytes: &[u8],
     samples: u32,
     seed: u64,
     start: &StateNumbers,
-) -> Result<Text, Outcome>
+) -> Result<Work, Outcome>
     requires { samples ≤ 1000000 }
-    ensures answer { IfOk result (λ text. IsWorkedOut (Form.Sim samples seed start.now) text (reading S.left S.faults S.is_sound source.old source.new)) }
-    ensures refusal { IfErr result (λ outcome. IsTurnedDown (Form.Sim samples seed start.now) outcome (reading S.left S.faults S.is_sound source.old source.new)) }
+    ensures made { IfOk result (λ work. IsMade (Form.Sim samples seed start.now) bytes.now work.text work.played) }
+    ensures declined { IfErr result (IsDeclined (Form.Sim samples seed start.now) bytes.now) }
 {
-    let table = read_up_to(alloc, source, TABLE_LIMIT + 1)?;
-    let simulation = simulate_text(alloc, &table, samples, seed, start)?;
-    Ok(Text::Trace(simulation))
+    let simulation = simulate_text(alloc, bytes, samples, seed, start)?;
+    Ok(Work::of_text(Text::Trace(simulation)))
 }
 
-/// The line of a demo plant.
+/// The line of a demo plant, whatever the bytes are.
 fn demo<R: Threads + Sync, G: Gate>(
     rt: &R,
     alloc: Global,
@@ -118,10 +107,8 @@ fn demo<R: Threads + Sync, G: Gate>(
 ) -> Result<Work, Outcome>
     requires number { IsDemoNumber number }
     requires workers { AreWorkers workers }
-    ensures written { IfOk result (λ work. CanBeWritten work.text) }
-    ensures line { IfOk result (λ work. IsDemoLine number (bytes_of work.text)) }
-    ensures played { IfOk result (λ work. LeavesTheGameOf (demo_plant_of number) work.played) }
-    ensures memory { IfErr result (λ outcome. outcome ≡ ends.NoMemory) }
+    ensures made { IfOk result (λ work. (bytes : List ℕ) → IsMade (Form.Demo number workers) bytes work.text work.played) }
+    ensures declined { IfErr result (λ outcome. (bytes : List ℕ) → IsDeclined (Form.Demo number workers) bytes outcome) }
 {
     let (line, played) = solved_line(rt, alloc, number, workers, gate)?;
     Ok(Work {
@@ -130,38 +117,86 @@ fn demo<R: Threads + Sync, G: Gate>(
     })
 }
 
-/// The stay text of the plant on the source.
-fn stay<R: Threads + Sync, S: Source, G: Gate>(
+/// The stay text of the plant that the bytes spell.
+fn stay<R: Threads + Sync, G: Gate>(
     rt: &R,
     alloc: Global,
-    source: &mut S,
+    bytes: &[u8],
     workers: u32,
     gate: &G,
-) -> Result<Text, Outcome>
+) -> Result<Work, Outcome>
     requires { AreWorkers workers }
-    ensures answer { IfOk result (λ text. IsWorkedOut (Form.Stay workers) text (reading S.left S.faults S.is_sound source.old source.new)) }
-    ensures refusal { IfErr result (λ outcome. IsTurnedDown (Form.Stay workers) outcome (reading S.left S.faults S.is_sound source.old source.new)) }
+    ensures made { IfOk result (λ work. IsMade (Form.Stay workers) bytes.now work.text work.played) }
+    ensures declined { IfErr result (IsDeclined (Form.Stay workers) bytes.now) }
 {
-    let bytes = read_up_to(alloc, source, TEXT_LIMIT + 1)?;
-    let settled = settle_text(rt, alloc, &bytes, workers, gate)?;
-    Ok(Text::Stay(settled))
+    let settled = settle_text(rt, alloc, bytes, workers, gate)?;
+    Ok(Work::of_text(Text::Stay(settled)))
 }
 
-/// The patrol text of the plant on the source.
-fn patrol<R: Threads + Sync, S: Source, G: Gate>(
+/// The patrol text of the plant that the bytes spell.
+fn patrol<R: Threads + Sync, G: Gate>(
     rt: &R,
     alloc: Global,
-    source: &mut S,
+    bytes: &[u8],
     workers: u32,
     gate: &G,
-) -> Result<Text, Outcome>
+) -> Result<Work, Outcome>
     requires { AreWorkers workers }
-    ensures answer { IfOk result (λ text. IsWorkedOut (Form.Patrol workers) text (reading S.left S.faults S.is_sound source.old source.new)) }
-    ensures refusal { IfErr result (λ outcome. IsTurnedDown (Form.Patrol workers) outcome (reading S.left S.faults S.is_sound source.old source.new)) }
+    ensures made { IfOk result (λ work. IsMade (Form.Patrol workers) bytes.now work.text work.played) }
+    ensures declined { IfErr result (IsDeclined (Form.Patrol workers) bytes.now) }
 {
-    let bytes = read_up_to(alloc, source, TEXT_LIMIT + 1)?;
-    let patrolled = patrol_text(rt, alloc, &bytes, workers, gate)?;
-    Ok(Text::Patrol(patrolled))
+    let patrolled = patrol_text(rt, alloc, bytes, workers, gate)?;
+    Ok(Work::of_text(Text::Patrol(patrolled)))
+}
+
+/// What a form makes of the bytes that it works on.
+fn work_on<R: Threads + Sync, G: Gate>(
+    rt: &R,
+    alloc: Global,
+    form: Form,
+    bytes: &[u8],
+    gate: &G,
+) -> Result<Work, Outcome>
+    requires { (words : List (List ℕ)) × IsOfForm words form }
+    ensures made { IfOk result (λ work. IsMade form bytes.now work.text work.played) }
+    ensures declined { IfErr result (IsDeclined form bytes.now) }
+{
+    match form {
+        Form::Synth { workers } => synth(rt, alloc, bytes, workers, gate),
+        Form::Check => check(rt, alloc, bytes),
+        Form::Upgrade => upgrade(alloc, bytes),
+        Form::Sim {
+            samples,
+            seed,
+            start,
+        } => sim(alloc, bytes, samples, seed, &start),
+        Form::Demo { number, workers } => demo(rt, alloc, number, workers, gate),
+        Form::Stay { workers } => stay(rt, alloc, bytes, workers, gate),
+        Form::Patrol { workers } => patrol(rt, alloc, bytes, workers, gate),
+    }
+}
+
+/// How many bytes a form reads at most: one past the limit of its text, or none.
+fn most_read(form: &Form) -> usize
+    ensures { result ≡ most_read form.now }
+{
+    match form {
+        Form::Synth { .. } | Form::Stay { .. } | Form::Patrol { .. } => TEXT_LIMIT + 1,
+        Form::Check | Form::Upgrade | Form::Sim { .. } => TABLE_LIMIT + 1,
+        Form::Demo { .. } => 0,
+    }
+}
+
+/// The bytes that a form works on. `demo` works on none, and leaves its source alone.
+fn read_for<S: Source>(alloc: Global, form: &Form, source: &mut S) -> Result<Vec<u8>, Outcome>
+    ensures read { IfOk result (λ bytes. IsReadFor form.now bytes.items (reading S.left S.faults S.is_sound source.old source.new)) }
+    ensures refusal { IfErr result (λ outcome. IsTurnedDown form.now outcome (reading S.left S.faults S.is_sound source.old source.new)) }
+{
+    if let Form::Demo { .. } = form {
+        return Ok(Vec::new(alloc));
+    }
+    let bytes = read_up_to(alloc, source, most_read(form))?;
+    Ok(bytes)
 }
 
 /// What a form writes, and the game that it leaves.
@@ -177,19 +212,8 @@ fn work_of<R: Threads + Sync, S: Source, G: Gate>(
     ensures played { IfOk result (λ work. IsToBeLeft form work.played (reading S.left S.faults S.is_sound source.old source.new)) }
     ensures refusal { IfErr result (λ outcome. IsTurnedDown form outcome (reading S.left S.faults S.is_sound source.old source.new)) }
 {
-    match form {
-        Form::Synth { workers } => synth(rt, alloc, source, workers, gate),
-        Form::Check => Ok(Work::of_text(check(rt, alloc, source)?)),
-        Form::Upgrade => Ok(Work::of_text(upgrade(alloc, source)?)),
-        Form::Sim {
-            samples,
-            seed,
-            start,
-        } => Ok(Work::of_text(sim(alloc, source, samples, seed, &start)?)),
-        Form::Demo { number, workers } => demo(rt, alloc, number, workers, gate),
-        Form::Stay { workers } => Ok(Work::of_text(stay(rt, alloc, source, workers, gate)?)),
-        Form::Patrol { workers } => Ok(Work::of_text(patrol(rt, alloc, source, workers, gate)?)),
-    }
+    let bytes = read_for(alloc, &form, source)?;
+    work_on(rt, alloc, form, &bytes, gate)
 }
 
 /// Works the answer of a form out, and writes it. The game is left only where the whole answer was written.
