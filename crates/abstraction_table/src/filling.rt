@@ -138,8 +138,8 @@ fn put_box(
     }
 }
 
-/// Adds one to the count of each place of runs that begin at a place. The runs of a box have one length,
-/// by which the case is chosen once a box: a loop over few cells costs more than what it does.
+/// Adds one to the count of each place of runs that begin at a place. The case is chosen once a box, by its first run:
+/// a loop over few cells costs more than what it does.
 #[inline]
 fn count_inside(first: u32, runs: &[Run], counts: &mut [u32])
     requires within { All (EndsBy (length counts.old) first) runs.now }

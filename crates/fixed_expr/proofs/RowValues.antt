@@ -59,12 +59,6 @@ module _ (binary : Binary) (a b : Expression) (columns : List (List ℤ)) where
   abbrev whole : Expression
   whole = combined binary a b
 
-  pub not_first : ¬ (StaysNarrowInRows a columns) → ¬ (StaysNarrowInRows whole columns)
-  not_first none stays = none (λ k lt. (parts_of binary a b (row_of columns k) (stays k lt)).first)
-
-  pub not_second : ¬ (StaysNarrowInRows b columns) → ¬ (StaysNarrowInRows whole columns)
-  not_second none stays = none (λ k lt. (parts_of binary a b (row_of columns k) (stays k lt)).second)
-
   -- what the numbers of the parts come to
   module _ (x y : ℕ → ℤ) (stays_first : StaysNarrowInRows a columns) (first : Tells x a columns) (stays_second : StaysNarrowInRows b columns) (second : Tells y b columns) where
     abbrev z : ℕ → ℤ

@@ -63,6 +63,7 @@ const KEYWORDS: [Keyword; 9] = [
     Keyword::End,
 ];
 
+/// The word itself.
 fn text_of(keyword: Keyword) -> &'static [u8]
     ensures { result.now ≡ keyword_text keyword }
 {
