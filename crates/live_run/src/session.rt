@@ -1,4 +1,4 @@
-ghost use Rattle.std.specs.Prelude.{◌≡◌, ◌+◌, ◌^◌, ◌<◌, ◌≤◌, length, Some, None, OnOk, OnErr, IfSome};
+ghost use Rattle.std.specs.Prelude.{◌≡◌, ◌+◌, ◌^◌, ◌<◌, ◌≤◌, length, Some, None, OnOk, OnErr, IfSome, IfNone};
 ghost use Rattle.controller_table.specs.Tables.{TableModel};
 ghost use Rattle.live_script.specs.Questions.{IsAnswerOf};
 ghost use Rattle.live_run.specs.inside.Sessions.{GoOnWith};
@@ -118,6 +118,7 @@ impl Session {
 fn opened_with(count: u32, workers: u32) -> Option<u32>
     requires { (1 ≤ workers) × (workers ≤ 64) }
     ensures first { IfSome result (λ _. count ≡ 0) }
+    ensures later { IfNone result (count ≡ 0 → ⊥) }
     ensures workers { IfSome result (λ readers. (1 ≤ readers) × (readers ≤ 64)) }
 {
     if count == 0 { Some(workers) } else { None }

@@ -18,6 +18,9 @@ use run_devices::{Sink, WriteFault, write_buffered, write_whole};
 use std::alloc::Global;
 use temporal_games::{PatrolWriter, StayWriter};
 
+/// How many bytes are asked for before a trace is written: more than its writer takes of the stack.
+const TRACE_STACK: usize = 1 << 18;
+
 /// What a form writes.
 #[derive(Drop)]
 pub enum Text {
@@ -81,7 +84,28 @@ fn write_upgraded<O: Sink>(alloc: Global, table: &Table, out: &mut O) -> Result<
     write_buffered(alloc, out, &mut writer)
 }
 
+/// Writes a trace. So much memory as its writer takes of the stack is asked for first, and given back: where there is less, the
+/// answer is want of memory.
 fn write_trace<O: Sink>(
+    alloc: Global,
+    simulation: &Simulation,
+    out: &mut O,
+) -> Result<(), WriteFault>
+    requires { IsReady simulation.now }
+    ensures whole { OnOk result (GainsWhole (writing O.got O.faults O.room out.old out.new) (trace_of simulation.now)) }
+    ensures stopped { IfErr result (λ fault. StopsBy fault (writing O.got O.faults O.room out.old out.new) (trace_of simulation.now)) }
+{
+    let room: Vec<u8> = match Vec::with_capacity(alloc, TRACE_STACK) {
+        Ok(room) => room,
+        Err(_) => return Err(WriteFault::Memory),
+    };
+    drop(room);
+    write_samples(alloc, simulation, out)
+}
+
+/// Stands by itself, since what calls it would take as much of the stack for every word.
+#[inline(never)]
+fn write_samples<O: Sink>(
     alloc: Global,
     simulation: &Simulation,
     out: &mut O,
