@@ -14,9 +14,9 @@ use Rattle.grid_quantiser.specs.Sides.{IsSideOf}
 use Rattle.grid_quantiser.proofs.Suffixes.{cells_of-drop}
 use Rattle.plant_record.specs.Description.{Description, axis_of, axes_of}
 use Rattle.plant_record.specs.Soundness.{IsSound}
-use Rattle.successor_box.specs.Boxes.{IsBoxOf}
-use Rattle.successor_box.specs.Laws.{SidesMakeBoxes}
-use Rattle.successor_box.proofs.PairSides.{box_more}
+use Rattle.successor_box.specs.Boxes.{IsBoxOf, low_corner, high_corner}
+use Rattle.successor_box.proofs.Below.{boxes_grow_by_sides}
+use Rattle.successor_box.proofs.PairSides.{box_more, box_on_all}
 use Rattle.abstraction_table.specs.inside.Sums.{part, plus, enlarged}
 use Rattle.abstraction_table.specs.inside.Parts.{stride_of, IsPartAt, IsSumAlong}
 use Rattle.abstraction_table.proofs.ProlongedSides.{side_ordered}
@@ -148,17 +148,17 @@ module _ (p : Description) (sound : IsSound p) (i : ℕ) (lt : i < length p.equa
       }
 
 -- the sum on no axis
-pub sum_start : SidesMakeBoxes → (p : Description) (c u : ℕ) → IsSumAlong p 0 c u one_cell one_cell
-sum_start law p c u = record {
+pub sum_start : (p : Description) (c u : ℕ) → IsSumAlong p 0 c u one_cell one_cell
+sum_start p c u = record {
   found = one_cell;
-  along = law.start p c u;
+  along = boxes_grow_by_sides.start (low_corner p c u) (high_corner p c u);
   sum = ap₂ box (let e : 0 + 0 ≡ 0 * cells_of (axes_of p) = omega arith in e) (let e : 0 + 0 ≡ 0 * cells_of (axes_of p) = omega arith in e);
   base_few = let e : 0 ≤ 0 * 2 ^ 20 = omega arith in e;
   rest_few = let e : 0 ≤ 0 * 2 ^ 20 = omega arith in e;
 }
 
 -- the sum on all axes
-pub sum_all : SidesMakeBoxes → (p : Description) (c u : ℕ) (base rest : Option CellBox) → IsSound p → IsSumAlong p (length p.equations) c u base rest → IsBoxOf p c u (plus base rest)
-sum_all law p c u base rest sound so_far =
+pub sum_all : (p : Description) (c u : ℕ) (base rest : Option CellBox) → IsSound p → IsSumAlong p (length p.equations) c u base rest → IsBoxOf p c u (plus base rest)
+sum_all p c u base rest sound so_far =
     let none : drop (length p.equations) (axes_of p) ≡ [] = drop_all (length p.equations) (axes_of p) (omega (arith, sound.one_each, length-map p.states axis_of)) in
-    subst (IsBoxOf p c u) (sym (so_far.sum ∙ ap (λ (axes : List Axis). enlarged (cells_of axes) so_far.found) none ∙ enlarged_once so_far.found)) (law.all p c u so_far.found sound so_far.along)
+    subst (IsBoxOf p c u) (sym (so_far.sum ∙ ap (λ (axes : List Axis). enlarged (cells_of axes) so_far.found) none ∙ enlarged_once so_far.found)) (box_on_all p c u so_far.found sound so_far.along)

@@ -8,11 +8,13 @@ use Rattle.grid_quantiser.specs.declared.axis.Axis.{Axis}
 use Rattle.grid_quantiser.specs.declared.boxes.CellBox.{CellBox}
 use Rattle.grid_quantiser.specs.Axes.{cells_of, AreAxes}
 use Rattle.grid_quantiser.specs.Boxes.{IsCellBox, cells_between}
-use Rattle.grid_quantiser.specs.Laws.{IsMovedShape, BoxesAreMovedShapes}
+use Rattle.grid_quantiser.specs.Laws.{IsMovedShape}
+use Rattle.grid_quantiser.proofs.Suffixes.{some_cells}
 use Rattle.successor_box.specs.Boxes.{cells_in}
 use Rattle.abstraction_table.specs.inside.Fans.{fan_of, IsCounted, AreShapes, KeepsFans, FanIsKnown, AreFansOf}
 use Rattle.abstraction_table.specs.inside.Sources.{IsBox}
 use Rattle.abstraction_table.specs.inside.Tallies.{edges_of}
+use Rattle.abstraction_table.proofs.BelowBoxes.{boxes_are_moved_shapes}
 use Rattle.abstraction_table.proofs.Tallying.{by_cell}
 
 -- the last corner of a box is a cell
@@ -23,16 +25,16 @@ last_below (a ∷ axes) f l some cells box = by_cell (cells_of axes) 0
     (λ other. let positive : 0 < cells_of axes = omega (arith, other) in (div-lt_iff_lt-mul positive).0 box.1)
 
 -- the distance from the first cell of a box to its last is less than there are cells
-distance_below : (axes : List Axis) (b : CellBox) → AreAxes axes → 1 ≤ cells_of axes → IsMovedShape axes b.first b.last → b.last - b.first < cells_of axes
-distance_below axes b grid some moved = last_below axes 0 (b.last - b.first) grid.some_state some moved.shape
+distance_below : (axes : List Axis) (b : CellBox) → AreAxes axes → IsMovedShape axes b.first b.last → b.last - b.first < cells_of axes
+distance_below axes b grid moved = last_below axes 0 (b.last - b.first) grid.some_state (some_cells axes grid.each) moved.shape
 
 -- a box has as many cells as its shape
 pub as_many : (axes : List Axis) (b : CellBox) → IsMovedShape axes b.first b.last → length (cells_between axes b.first b.last) ≡ length (cells_between axes 0 (b.last - b.first))
 as_many axes b moved = ap length moved.cells ∙ length-map (cells_between axes 0 (b.last - b.first)) (λ c. b.first + c)
 
 -- a box that is there is its shape, moved
-pub is_moved : BoxesAreMovedShapes → (axes : List Axis) (o : Option CellBox) (b : CellBox) → o ≡ Some b → AreAxes axes → IsBox axes o → IsMovedShape axes b.first b.last
-is_moved laws axes o b is grid ordered = laws axes b.first b.last grid (subst (IsBox axes) is ordered)
+pub is_moved : (axes : List Axis) (o : Option CellBox) (b : CellBox) → o ≡ Some b → AreAxes axes → IsBox axes o → IsMovedShape axes b.first b.last
+is_moved axes o b is grid ordered = boxes_are_moved_shapes axes b.first b.last grid (subst (IsBox axes) is ordered)
 
 -- ---- one more shape
 
@@ -66,13 +68,13 @@ pub record IsAdded (axes : List Axis) (before after : List ℕ) (b : CellBox) : 
   pub counted : IsCounted axes after (b.last - b.first)
   pub kept : KeepsFans axes before after
 
-module _ (laws : BoxesAreMovedShapes) (axes : List Axis) (o : Option CellBox) (b : CellBox) (is : o ≡ Some b) (grid : AreAxes axes) (some_cell : 1 ≤ cells_of axes) (ordered : IsBox axes o) where
+module _ (axes : List Axis) (o : Option CellBox) (b : CellBox) (is : o ≡ Some b) (grid : AreAxes axes) (ordered : IsBox axes o) where
   pub box_below : b.last - b.first < cells_of axes
-  box_below = distance_below axes b grid some_cell (is_moved laws axes o b is grid ordered)
+  box_below = distance_below axes b grid (is_moved axes o b is grid ordered)
 
   pub is_added : (before : List ℕ) (cells : ℕ) → length before ≡ cells_of axes → AreShapes axes before → 1 ≤ cells → cells ≡ length (cells_between axes b.first b.last) → IsAdded axes before (set before (b.last - b.first) cells) b
   is_added before cells long shapes some count =
-      let moved = is_moved laws axes o b is grid ordered in
+      let moved = is_moved axes o b is grid ordered in
       let within : b.last - b.first < length before = omega (arith, box_below, long) in
       record {
         counted = counted_here axes before (b.last - b.first) cells within moved.shape some (count ∙ as_many axes b moved);
@@ -107,21 +109,21 @@ fans_more axes boxes n before after edges cells below h long keep counted count 
 }
 
 -- the count for a shape is that for the boxes that have it
-has_fan : (axes : List Axis) (fans : List ℕ) (o : Option CellBox) → BoxesAreMovedShapes → AreAxes axes → 1 ≤ cells_of axes → length fans ≡ cells_of axes → IsBox axes o →
+has_fan : (axes : List Axis) (fans : List ℕ) (o : Option CellBox) → AreAxes axes → length fans ≡ cells_of axes → IsBox axes o →
     IfSome o (λ (b : CellBox). IsCounted axes fans (b.last - b.first)) → FanIsKnown axes fans o
-has_fan axes fans None laws grid some long ordered counted = tt
-has_fan axes fans (Some b) laws grid some long ordered counted =
-    let moved = laws axes b.first b.last grid ordered in
-    record { ordered = moved.ordered; within = omega (arith, distance_below axes b grid some moved, long); some = counted.some; cells = counted.cells ∙ sym (as_many axes b moved) }
+has_fan axes fans None grid long ordered counted = tt
+has_fan axes fans (Some b) grid long ordered counted =
+    let moved = boxes_are_moved_shapes axes b.first b.last grid ordered in
+    record { ordered = moved.ordered; within = omega (arith, distance_below axes b grid moved, long); some = counted.some; cells = counted.cells ∙ sym (as_many axes b moved) }
 
-pub fans_all : (axes : List Axis) (boxes : List (Option CellBox)) (n : ℕ) (fans : List ℕ) (edges : ℕ) → BoxesAreMovedShapes → AreAxes axes → 1 ≤ cells_of axes → All (IsBox axes) boxes →
+pub fans_all : (axes : List Axis) (boxes : List (Option CellBox)) (n : ℕ) (fans : List ℕ) (edges : ℕ) → AreAxes axes → All (IsBox axes) boxes →
     length boxes ≤ n → FansSoFar axes boxes n fans edges → AreFansOf axes boxes fans
-fans_all axes boxes n fans edges laws grid some ordered whole h = record {
+fans_all axes boxes n fans edges grid ordered whole h = record {
   one_each = h.one_each;
   shapes = h.shapes;
   each = λ k d lt.
       subst (FanIsKnown axes fans) (get_or_default boxes k None d lt)
-      (has_fan axes fans (get_or boxes k None) laws grid some h.one_each (ordered k None lt) (h.counted k (omega (arith, lt, whole))));
+      (has_fan axes fans (get_or boxes k None) grid h.one_each (ordered k None lt) (h.counted k (omega (arith, lt, whole))));
   few = omega (arith, h.few, h.edges_so_far, ap (edges_of axes) (take_all n boxes whole));
 }
 

@@ -17,7 +17,7 @@ use Rattle.plant_record.specs.Soundness.{IsSound}
 use Rattle.plant_record.specs.Steps.{equation_at}
 use Rattle.successor_box.specs.Sides.{place_in, moves_along, moved_by, rests_on, AreAlikeIn}
 use Rattle.abstraction_table.specs.declared.digits.Digit.{Digit}
-use Rattle.abstraction_table.specs.Abstraction.{pairs_of, pair_of}
+use Rattle.plant_game.specs.Abstraction.{pairs_of, pair_of}
 use Rattle.abstraction_table.specs.inside.Digits.{counts_of, combinations, place_at, pair_at, Moves, IsDigitOf, HasDigit, IsMultiple, AreDigitsBetween, AreDigitsOf}
 use Rattle.abstraction_table.proofs.DigitMoves.{lower_digit, upper_digit, moves_none, moves_wider, moves_more, sum_is, multiple_sum, multiple, with_own, own_below, moves_below}
 use Rattle.abstraction_table.proofs.PairDigits.{some_combinations, factor_from, state_place, fewer, counts_long, all_combinations, some_counts, next_combinations, pair_digit, place_parts}

@@ -1,9 +1,7 @@
+pub mod BelowBoxes
 pub mod Mapped
 pub mod PairBoxes
-pub mod EdgeCounts
 pub mod CountedFans
-pub mod OneGame
-pub mod OneSolution
 pub mod Tallying
 pub mod BandPlaces
 pub mod SourceBands
@@ -12,16 +10,12 @@ pub mod SourceSteps
 pub mod ShapeRuns
 pub mod ListedShapes
 pub mod PlantGame
-pub mod Refining
-pub mod Landing
 pub mod DigitMoves
 pub mod NextDigits
 pub mod PairDigits
 pub mod EquationDigits
 pub mod SideTables
 pub mod PartTables
-pub mod Marking
-pub mod PlantMarks
 mod RowCells
 mod WrittenParts
 mod RowBoxes

@@ -10,7 +10,7 @@ use Rattle.grid_quantiser.specs.declared.axis.Axis.{Axis}
 use Rattle.grid_quantiser.specs.declared.boxes.CellBox.{CellBox}
 use Rattle.grid_quantiser.specs.Axes.{cells_of, AreAxes}
 use Rattle.grid_quantiser.specs.Boxes.{cells_between}
-use Rattle.grid_quantiser.specs.Laws.{IsMovedShape, BoxesAreMovedShapes, BoxesHaveCells, CellsLieBetweenCorners}
+use Rattle.grid_quantiser.specs.Laws.{IsMovedShape}
 use Rattle.successor_box.specs.Boxes.{cells_in}
 use Rattle.abstraction_table.specs.declared.shapes.Run.{Run}
 use Rattle.abstraction_table.specs.declared.shapes.Span.{Span}
@@ -19,6 +19,7 @@ use Rattle.abstraction_table.specs.inside.Fans.{FanIsKnown, AreFansOf}
 use Rattle.abstraction_table.specs.inside.Shapes.{cells_from, EndsBy, span_at, runs_at, HasRunsAt, HasRunsOf, HaveRuns, HaveRunsAt, KeepsRuns, ListsRuns}
 use Rattle.abstraction_table.specs.inside.Sources.{IsBox}
 use Rattle.abstraction_table.specs.inside.Tallies.{places_in}
+use Rattle.abstraction_table.proofs.BelowBoxes.{boxes_have_cells, cells_lie_between_corners, boxes_are_moved_shapes}
 use Rattle.abstraction_table.proofs.Tallying.{by_cell}
 use Rattle.abstraction_table.proofs.BandPlaces.{places-append, run_inside}
 use Rattle.abstraction_table.proofs.ShapeRuns.{cells-append, one_run_more, runs_end}
@@ -141,20 +142,20 @@ pub shapes_all : (axes : List Axis) (fans : List ℕ) (n : ℕ) (s : Shapes) →
 shapes_all axes fans n s whole h k some =
     elim (cases_lt k (length fans)) [ inl below ↦ h.has k (omega (arith, below, whole)) some | inr past ↦ absurd (omega (arith, get_or_past fans k 0 past, some)) ]
 
-runs_found : (axes : List Axis) (s : Shapes) (fans : List ℕ) (o : Option CellBox) → BoxesAreMovedShapes → AreAxes axes → IsBox axes o → HaveRunsAt axes s fans → FanIsKnown axes fans o → IfSome o (HasRunsOf axes s)
-runs_found axes s fans None laws grid ordered has known = tt
-runs_found axes s fans (Some b) laws grid ordered has known = box_runs axes s b (laws axes b.first b.last grid ordered) (has (b.last - b.first) known.some)
+runs_found : (axes : List Axis) (s : Shapes) (fans : List ℕ) (o : Option CellBox) → AreAxes axes → IsBox axes o → HaveRunsAt axes s fans → FanIsKnown axes fans o → IfSome o (HasRunsOf axes s)
+runs_found axes s fans None grid ordered has known = tt
+runs_found axes s fans (Some b) grid ordered has known = box_runs axes s b (boxes_are_moved_shapes axes b.first b.last grid ordered) (has (b.last - b.first) known.some)
 
 -- where the runs of all shapes that are counted are listed, each box has its own
-pub have_runs : (axes : List Axis) (s : Shapes) (boxes : List (Option CellBox)) (fans : List ℕ) → BoxesAreMovedShapes → AreAxes axes → All (IsBox axes) boxes → HaveRunsAt axes s fans → AreFansOf axes boxes fans → HaveRuns axes s boxes
-have_runs axes s boxes fans laws grid ordered has counted = λ k d lt. runs_found axes s fans (get_or boxes k d) laws grid (ordered k d lt) has (counted.each k d lt)
+pub have_runs : (axes : List Axis) (s : Shapes) (boxes : List (Option CellBox)) (fans : List ℕ) → AreAxes axes → All (IsBox axes) boxes → HaveRunsAt axes s fans → AreFansOf axes boxes fans → HaveRuns axes s boxes
+have_runs axes s boxes fans grid ordered has counted = λ k d lt. runs_found axes s fans (get_or boxes k d) grid (ordered k d lt) has (counted.each k d lt)
 
 -- the runs of a box end by the limit on cells
-pub box_runs_end : BoxesHaveCells → (axes : List Axis) (s : Shapes) (o : Option CellBox) (b : CellBox) → o ≡ Some b → AreAxes axes → cells_of axes ≤ 2 ^ 20 → IsBox axes o → IfSome o (HasRunsOf axes s) →
+pub box_runs_end : (axes : List Axis) (s : Shapes) (o : Option CellBox) (b : CellBox) → o ≡ Some b → AreAxes axes → cells_of axes ≤ 2 ^ 20 → IsBox axes o → IfSome o (HasRunsOf axes s) →
     (runs : List Run) → runs ≡ runs_at s (b.last - b.first) → All (EndsBy (2 ^ 20) b.first) runs
-box_runs_end laws axes s o b is grid limit ordered has runs same =
+box_runs_end axes s o b is grid limit ordered has runs same =
     let h : HasRunsOf axes s b = subst (λ (o : Option CellBox). IfSome o (HasRunsOf axes s)) is has in
-    let cells = laws axes b.first b.last grid (subst (IsBox axes) is ordered) in
+    let cells = boxes_have_cells axes b.first b.last grid (subst (IsBox axes) is ordered) in
     let below : All (λ c. c < 2 ^ 20) (cells_between axes b.first b.last) = λ k d lt. omega (arith, cells.within k d lt, limit) in
     rw same (runs_end (2 ^ 20) b.first (runs_at s (b.last - b.first)) h.some (subst (All (λ c. c < 2 ^ 20)) h.cells below))
 
@@ -197,11 +198,11 @@ pub record IsInside (axes : List Axis) (o : Option CellBox) (from len first : �
   pub ends : All (EndsBy len (first - from)) runs
   pub places : places_in from len (cells_in axes o) ≡ cells_from (first - from) runs
 
-pub box_inside : CellsLieBetweenCorners → (axes : List Axis) (s : Shapes) (o : Option CellBox) (b : CellBox) → o ≡ Some b → AreAxes axes → IsBox axes o → IfSome o (HasRunsOf axes s) →
+pub box_inside : (axes : List Axis) (s : Shapes) (o : Option CellBox) (b : CellBox) → o ≡ Some b → AreAxes axes → IsBox axes o → IfSome o (HasRunsOf axes s) →
     (from len : ℕ) → (from ≤ b.first) × (b.last < from + len) → (runs : List Run) → runs ≡ runs_at s (b.last - b.first) → IsInside axes o from len b.first runs
-box_inside laws axes s o b is grid ordered has from len held runs same =
+box_inside axes s o b is grid ordered has from len held runs same =
     let h : HasRunsOf axes s b = subst (λ (o : Option CellBox). IfSome o (HasRunsOf axes s)) is has in
-    let cells = laws axes b.first b.last grid (subst (IsBox axes) is ordered) in
+    let cells = cells_lie_between_corners axes b.first b.last grid (subst (IsBox axes) is ordered) in
     let below : All (λ c. c < from + len) (cells_between axes b.first b.last) = λ k d lt. omega (arith, (cells k d lt).1, held.1) in
     let ends = runs_end (from + len) b.first (runs_at s (b.last - b.first)) h.some (subst (All (λ c. c < from + len)) h.cells below) in
     rw (same, is) (record {

@@ -9,7 +9,7 @@ use Rattle.grid_quantiser.specs.declared.boxes.CellBox.{CellBox}
 use Rattle.grid_quantiser.specs.Axes.{cells_of}
 use Rattle.plant_record.specs.Description.{Description, axes_of, vectors_of}
 use Rattle.successor_box.specs.Boxes.{IsBoxOf}
-use Rattle.abstraction_table.specs.Abstraction.{pairs_of, pair_of, AreBoxesOf}
+use Rattle.plant_game.specs.Abstraction.{pairs_of, pair_of, AreBoxesOf}
 use Rattle.abstraction_table.specs.inside.Rows.{AreBoxesFrom}
 use Rattle.abstraction_table.proofs.RowBoxes.{later_cell}
 use Rattle.abstraction_table.proofs.CellRows.{span, cell_before}

@@ -8,19 +8,20 @@ use Rattle.std.proofs.lemmas.List.Sums.{sum_by_more, sum_by_more_le, get_or-le-s
 use Rattle.grid_quantiser.specs.declared.axis.Axis.{Axis}
 use Rattle.grid_quantiser.specs.declared.boxes.CellBox.{CellBox}
 use Rattle.grid_quantiser.specs.Axes.{cells_of, AreAxes}
-use Rattle.grid_quantiser.specs.Laws.{AreRisingCells, BoxesHaveCells}
+use Rattle.grid_quantiser.specs.Laws.{AreRisingCells}
 use Rattle.game_core.specs.Counts.{times}
 use Rattle.edge_rows.specs.Rows.{Filling, row_at}
 use Rattle.successor_box.specs.Boxes.{cells_in}
 use Rattle.abstraction_table.specs.inside.Sources.{IsBox, sources_among}
 use Rattle.abstraction_table.specs.inside.Tallies.{AreCounted, CountsFit, ArePut, HasRoomFor, places_in, edges_of, AreCountsAmong}
+use Rattle.abstraction_table.proofs.BelowBoxes.{boxes_have_cells}
 use Rattle.abstraction_table.proofs.BandPlaces.{places-times, places-length}
 use Rattle.abstraction_table.proofs.LeadingPairs.{sources_more, count_more, count_rises}
 
 -- the cells of a box, or none, are few, rise, and are cells
-pub box_cells : BoxesHaveCells → (axes : List Axis) (b : Option CellBox) → AreAxes axes → IsBox axes b → AreRisingCells axes (cells_in axes b)
-box_cells cells axes None grid box = record { rising = λ k lt. absurd (omega (arith, lt)); within = λ k d lt. absurd (omega (arith, lt)); few = omega arith }
-box_cells cells axes (Some b) grid box = cells axes b.first b.last grid box
+pub box_cells : (axes : List Axis) (b : Option CellBox) → AreAxes axes → IsBox axes b → AreRisingCells axes (cells_in axes b)
+box_cells axes None grid box = record { rising = λ k lt. absurd (omega (arith, lt)); within = λ k d lt. absurd (omega (arith, lt)); few = omega arith }
+box_cells axes (Some b) grid box = boxes_have_cells axes b.first b.last grid box
 
 -- a box that is read is the one that is kept there
 pub kept_box : (boxes : List (Option CellBox)) (k : ℕ) (read kept : Option CellBox) → read ≡ kept → kept ≡ get_or boxes k kept → k < length boxes → read ≡ get_or boxes k None
@@ -42,7 +43,7 @@ count_within : (counts : List ℕ) (c : ℕ) → get_or counts c 0 ≤ sum count
 count_within counts c =
     elim (cases_lt c (length counts)) [ inl below ↦ get_or-le-sum_by (λ n. n) counts c 0 below | inr past ↦ omega (arith, get_or_past counts c 0 past) ]
 
-module _ (laws : BoxesHaveCells) (axes : List Axis) (boxes : List (Option CellBox)) (grid : AreAxes axes) (ordered : All (IsBox axes) boxes) (k : ℕ) (below : k < length boxes) where
+module _ (axes : List Axis) (boxes : List (Option CellBox)) (grid : AreAxes axes) (ordered : All (IsBox axes) boxes) (k : ℕ) (below : k < length boxes) where
   abbrev cells : List ℕ
   cells = cells_in axes (get_or boxes k None)
 
@@ -50,7 +51,7 @@ module _ (laws : BoxesHaveCells) (axes : List Axis) (boxes : List (Option CellBo
   box_here = ordered k None below
 
   rising : IsStrictlyIncreasing cells
-  rising = (box_cells laws axes (get_or boxes k None) grid box_here).rising
+  rising = (box_cells axes (get_or boxes k None) grid box_here).rising
 
   module _ (from len : ℕ) where
     abbrev places : List ℕ
@@ -87,7 +88,7 @@ module _ (laws : BoxesHaveCells) (axes : List Axis) (boxes : List (Option CellBo
     }
 
 -- the number of edges fits
-pub edges_fit : BoxesHaveCells → (axes : List Axis) (boxes : List (Option CellBox)) → AreAxes axes → All (IsBox axes) boxes → cells_of axes ≤ 2 ^ 20 → length boxes ≤ 2 ^ 22 → edges_of axes boxes < 2 ^ 64
-edges_fit laws axes boxes grid ordered cells pairs =
-    let each = All-weaker (IsBox axes) (λ b. length (cells_in axes b) ≤ 2 ^ 20) (λ b box. let few = (box_cells laws axes b grid box).few in omega (arith, few, cells)) boxes ordered in
+pub edges_fit : (axes : List Axis) (boxes : List (Option CellBox)) → AreAxes axes → All (IsBox axes) boxes → cells_of axes ≤ 2 ^ 20 → length boxes ≤ 2 ^ 22 → edges_of axes boxes < 2 ^ 64
+edges_fit axes boxes grid ordered cells pairs =
+    let each = All-weaker (IsBox axes) (λ b. length (cells_in axes b) ≤ 2 ^ 20) (λ b box. let few = (box_cells axes b grid box).few in omega (arith, few, cells)) boxes ordered in
     omega (arith, sum_by-le (λ b. length (cells_in axes b)) (2 ^ 20) boxes each, pairs)

@@ -5,12 +5,9 @@ use Rattle.std.proofs.lemmas.Bool.{cases_eq, eq-eqb, ne_eqb}
 use Rattle.std.proofs.lemmas.List.{drop_more, drop-set-lt, take-append-drop, take_more_set, length-append, length-replicate, length-set, length-take, length-take-le, length-drop, get_or_default, get_or-append_right, get_or-take, get_or-drop, get_or-set_same, get_or-set_other, replicate-append-replicate, set-append_right}
 use Rattle.std.proofs.lemmas.List.Edits.{map_over_more}
 use Rattle.std.proofs.lemmas.List.Elements.{All-tail}
-use Rattle.std.proofs.lemmas.List.FromFn.{length-range_with_len, get_or-range_with_len}
 use Rattle.std.proofs.lemmas.List.Sums.{sum_by-append, sum_by_push, sum_by-set}
-use Rattle.rayon.proofs.ListFacts.{All-parts}
 use Rattle.rayon.specs.Shown.{run-append}
 use Rattle.game_core.specs.Counts.{times}
-use Rattle.grid_quantiser.specs.Runs.{BeginsWithRun}
 use Rattle.edge_rows.specs.Rows.{Filling, row_at, appended, changed_run, appended_run, HaveRoom}
 use Rattle.abstraction_table.specs.inside.Tallies.{AreCounted, CountsFit, ArePut, HasRoomFor}
 
@@ -185,21 +182,3 @@ put_run pair before after r (suc n) within rows lengths =
 pub run_has_room : (f : Filling) (r n : ℕ) → r + n ≤ length f.rows → HasRoomFor f (range_with_len r n) → HaveRoom f r n
 run_has_room f r n within room = λ c low high.
     let below : c < length f.rows = omega (arith, within, high) in (below, omega (arith, room c below, in_run c r n low high))
-
--- ---- runs that are gone through one by one
-
--- the cells of the next run lie where all cells do
-pub run_below : (n : ℕ) (done cells later : List ℕ) (first len : ℕ) → All (λ c. c < n) (done ++ cells) → BeginsWithRun cells later first len → first + len ≤ n
-run_below n done cells later first len within run =
-    let left : All (λ c. c < n) cells = (All-parts (λ c. c < n) done cells within).1 in
-    let here : All (λ c. c < n) (range_with_len first len) = (All-parts (λ c. c < n) (range_with_len first len) later (subst (λ (xs : List ℕ). All (λ c. c < n) xs) run.parts left)).0 in
-    let last : len - 1 < len = omega (arith, run.some) in
-    omega (arith, run.some, here (len - 1) 0 (omega (arith, last, length-range_with_len first len)), get_or-range_with_len first len (len - 1) 0 last)
-
--- less is left
-pub run_shorter : (cells later : List ℕ) (first len : ℕ) → BeginsWithRun cells later first len → length later < length cells
-run_shorter cells later first len run = omega (arith, run.some, ap length run.parts, length-append (range_with_len first len) later, length-range_with_len first len)
-
--- the cells that are done, and the run
-pub run_done : (all done cells later : List ℕ) (first len : ℕ) → all ≡ done ++ cells → BeginsWithRun cells later first len → all ≡ (done ++ range_with_len first len) ++ later
-run_done all done cells later first len parts run = parts ∙ ap (λ (xs : List ℕ). done ++ xs) run.parts ∙ sym (append_assoc done (range_with_len first len) later)

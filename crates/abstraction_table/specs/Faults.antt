@@ -3,7 +3,7 @@ use Rattle.std.specs.Prelude.{◌^◌, ◌<◌}
 use Rattle.plant_record.specs.Description.{Description}
 use Rattle.abstraction_table.specs.declared.fault.BuildFault.{BuildFault}
 use Rattle.abstraction_table.specs.declared.fault.BuildFault.TheVariants.{TooManyEdges, Memory}
-use Rattle.abstraction_table.specs.Abstraction.{AreEdges}
+use Rattle.plant_game.specs.Abstraction.{AreEdges}
 
 -- what a fault says of the plant: the number of its edges, which is past the limit
 abbrev pub IsFaultOf : Description → BuildFault → Type 0

@@ -1,7 +1,6 @@
 -- What only private clauses and proofs name.
 pub mod Digits
 pub mod Fans
-pub mod Marks
 pub mod Memory
 pub mod Packed
 pub mod Parts

@@ -17,7 +17,7 @@ pub struct Abstraction {
 impl Abstraction {
     ghost use Rattle.std.specs.Prelude.{◌≡◌, ◌<◌};
     ghost use Rattle.game_core.specs.Game.{pairs_of};
-    ghost use Rattle.abstraction_table.specs.Abstraction.{box_at};
+    ghost use Rattle.plant_game.specs.Abstraction.{box_at};
     ghost use Rattle.abstraction_table.specs.Table.{game_of, boxes_of};
 
     /// The box of a pair: None where its input isn't enabled.

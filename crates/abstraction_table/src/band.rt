@@ -1,12 +1,11 @@
 //! Bands of cells.
 ghost use Rattle.std.specs.Prelude.{◌≡◌, ◌+◌, ◌^◌, ◌<◌, ◌≤◌, ◌↔◌, [], Some, IsTrue, IfSome, IfNone};
 ghost use Rattle.std.specs.List.{range_with_len};
-ghost use Rattle.grid_quantiser.specs.Axes.{cells_of};
+ghost use Rattle.grid_quantiser.specs.Axes.{cells_of, AreAxes};
 ghost use Rattle.successor_box.specs.Boxes.{cells_in};
 ghost use Rattle.abstraction_table.specs.inside.Sources.{IsBox};
 ghost use Rattle.abstraction_table.specs.inside.Tallies.{places_in};
 
-use grid_quantiser::laws::{cells_lie_between_corners, every_grid_is_within_the_limit};
 use grid_quantiser::{CellBox, Grid};
 
 /// Cells that follow one another. The first of them has the place 0.
@@ -20,13 +19,13 @@ impl Band {
     /// A box, unless its corners show that it has no cell here.
     #[inline]
     pub(crate) fn reached(&self, grid: &Grid, b: Option<CellBox>) -> Option<CellBox>
+        requires grid { AreAxes grid.now }
+        requires limit { cells_of grid.now ≤ 2 ^ 20 }
         requires ordered { IsBox grid.now b }
         requires within { self.now.from + self.now.len ≤ cells_of grid.now }
         ensures same { IfSome result (λ reached. b ≡ Some reached) }
         ensures none { IfNone result (places_in self.now.from self.now.len (cells_in grid.now b) ≡ []) }
     {
-        cells_lie_between_corners();
-        every_grid_is_within_the_limit(grid);
         let b = b?;
         if b.last < self.from || self.from + self.len <= b.first {
             return None;

@@ -2,6 +2,7 @@
 ghost use Rattle.std.specs.Prelude.{◌≡◌, ℕ, ◌+◌, ◌*◌, ◌/◌, ◌%◌, ◌^◌, ◌≤◌, ◌<◌, length, slice_index_or, None};
 ghost use Rattle.fixed_expr.specs.declared.lanes.TheConstants.{LANES};
 ghost use Rattle.plant_record.specs.Description.{vectors_of};
+ghost use Rattle.plant_record.specs.Limits.{IsWithinLimits};
 ghost use Rattle.successor_box.specs.Deviations.{HasNoOverflow, deviations_of};
 ghost use Rattle.successor_box.specs.Sides.{place_in, IsPairInRow};
 ghost use Rattle.abstraction_table.specs.inside.Digits.{AreDigitsOf, IsDigitAt, pair_at};
@@ -11,7 +12,6 @@ use crate::digits::{Digit, Digits};
 use fixed_expr::LANES;
 use grid_quantiser::Side;
 use plant_record::Plant;
-use plant_record::laws::{every_plant_is_within_limits, plants_are_sound};
 use successor_box::{Slopes, prolonged_sides};
 
 /// To start a thread takes as long as to find so many sides.
@@ -27,6 +27,7 @@ pub(crate) fn fill_chunk(
     place: u32,
     chunk: &mut [Option<Side>],
 )
+    requires plant { IsWithinLimits p.now }
     requires slopes { s.now ≡ deviations_of p.now }
     requires fits { HasNoOverflow p.now }
     requires state { state < length p.now.equations }
@@ -58,6 +59,7 @@ fn fill_block(
     place: u32,
     block: &mut [Option<Side>],
 )
+    requires plant { IsWithinLimits p.now }
     requires slopes { s.now ≡ deviations_of p.now }
     requires fits { HasNoOverflow p.now }
     requires state { state < length p.now.equations }
@@ -66,20 +68,17 @@ fn fill_block(
     ensures long { length block.new ≡ length block.old }
     ensures each { (j : ℕ) → j < length block.old → IsSideFor p.now state digits.now.each.items (place + j) (slice_index_or block.new j None) }
 {
-    every_plant_is_within_limits(p);
-    plants_are_sound();
     let places = places_from(p, state, digits, place);
     prolonged_sides(p, s, &places, state, block);
 }
 
 /// The places of these pairs in each state and each input variable.
 fn places_from(p: &Plant, state: u32, digits: &Digits, place: u32) -> [[u32; LANES]; 9]
+    requires plant { IsWithinLimits p.now }
     requires state { state < length p.now.equations }
     requires digits { AreDigitsOf p.now state digits.now.each.items digits.now.places }
     ensures { (j : ℕ) → j < LANES → IsPairInRow p.now result j (pair_at digits.now.each.items (place + j) / vectors_of p.now.inputs) (pair_at digits.now.each.items (place + j) % vectors_of p.now.inputs) }
 {
-    every_plant_is_within_limits(p);
-    plants_are_sound();
     let mut places = [[0; LANES]; 9];
     for variable in 0..p.states() + p.input_variables() {
         places[variable as usize] = places_in(p, state, digits, variable, place);
@@ -89,13 +88,12 @@ fn places_from(p: &Plant, state: u32, digits: &Digits, place: u32) -> [[u32; LAN
 
 /// The places of these pairs in one variable.
 fn places_in(p: &Plant, state: u32, digits: &Digits, variable: u32, place: u32) -> [u32; LANES]
+    requires plant { IsWithinLimits p.now }
     requires state { state < length p.now.equations }
     requires digits { AreDigitsOf p.now state digits.now.each.items digits.now.places }
     requires variable { variable < length p.now.states + length p.now.inputs }
     ensures { (j : ℕ) → j < LANES → slice_index_or result j 0 ≡ place_in p.now (pair_at digits.now.each.items (place + j) / vectors_of p.now.inputs) (pair_at digits.now.each.items (place + j) % vectors_of p.now.inputs) variable }
 {
-    every_plant_is_within_limits(p);
-    plants_are_sound();
     for d in &digits.each {
         if d.variable == variable {
             return digit_at(d, place);

@@ -24,7 +24,7 @@ pub(crate) struct BoxedGame {
 impl BoxedGame {
     ghost use Rattle.std.specs.Prelude.{◌≡◌, ◌<◌, length, slice_index};
     ghost use Rattle.game_core.specs.Game.{pairs_of, mark_of, successors_at};
-    ghost use Rattle.abstraction_table.specs.Abstraction.{box_at};
+    ghost use Rattle.plant_game.specs.Abstraction.{box_at};
     ghost use Rattle.abstraction_table.specs.Table.{game_in};
 
     pub(crate) fn cells(&self) -> u32

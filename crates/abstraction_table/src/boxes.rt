@@ -4,8 +4,9 @@ ghost use Rattle.std.specs.List.{All};
 ghost use Rattle.grid_quantiser.specs.Axes.{cells_of};
 ghost use Rattle.grid_quantiser.specs.SideBoxes.{one_cell};
 ghost use Rattle.plant_record.specs.Description.{axes_of, vectors_of};
+ghost use Rattle.plant_record.specs.Limits.{IsWithinLimits};
 ghost use Rattle.successor_box.specs.Deviations.{HasNoOverflow, deviations_of};
-ghost use Rattle.abstraction_table.specs.Abstraction.{AreBoxesOf};
+ghost use Rattle.plant_game.specs.Abstraction.{AreBoxesOf};
 ghost use Rattle.abstraction_table.specs.inside.Rows.{AreBoxesFrom};
 ghost use Rattle.abstraction_table.specs.inside.Parts.{HoldParts};
 
@@ -14,7 +15,6 @@ use crate::parts::{PartTable, find_tables};
 use crate::rows::boxes_in_row;
 use grid_quantiser::CellBox;
 use plant_record::Plant;
-use plant_record::laws::{every_plant_is_within_limits, plants_are_sound};
 use rayon::prelude::*;
 use std::alloc::{AllocError, Global};
 use std::thread::Threads;
@@ -31,11 +31,11 @@ pub(crate) fn find_boxes<R: Threads + Sync>(
     p: &Plant,
     s: &Slopes,
 ) -> Result<Vec<PairBox>, AllocError>
+    requires plant { IsWithinLimits p.now }
     requires slopes { s.now ≡ deviations_of p.now }
     requires fits { HasNoOverflow p.now }
     ensures { IfOk result (λ boxes. AreBoxesOf p.now boxes.items) }
 {
-    every_plant_is_within_limits(p);
     let tables = find_tables(rt, alloc, p, s)?;
     let tables = tables.as_slice();
     let inputs = p.vectors() as usize;
@@ -50,6 +50,7 @@ pub(crate) fn find_boxes<R: Threads + Sync>(
         &mut boxes,
         cells_in_chunk(inputs) * inputs,
         |at: usize, boxes: &mut [PairBox]|
+            requires plant { IsWithinLimits p.now }
             requires tables { HoldParts p.now tables.now }
             requires inputs { inputs ≡ vectors_of p.now.inputs }
             requires some_input { 0 < inputs }
@@ -57,7 +58,6 @@ pub(crate) fn find_boxes<R: Threads + Sync>(
             requires start { All (λ b. b ≡ one_cell) boxes.now }
             ensures { AreBoxesFrom p.entry.now (at / inputs) boxes.exit.now }
         {
-            every_plant_is_within_limits(p);
             boxes_of_cells(p, tables, (at / inputs) as u32, boxes);
         },
     );
@@ -75,14 +75,13 @@ fn cells_in_chunk(inputs: usize) -> usize
 
 /// The boxes of cells from one on, row by row.
 fn boxes_of_cells(p: &Plant, tables: &[PartTable], c: u32, boxes: &mut [PairBox])
+    requires plant { IsWithinLimits p.now }
     requires tables { HoldParts p.now tables.now }
     requires cells { (n : ℕ) × (length boxes.old ≡ n * vectors_of p.now.inputs) × (c + n ≤ cells_of (axes_of p.now)) }
     requires start { All (λ b. b ≡ one_cell) boxes.old }
     ensures long { length boxes.new ≡ length boxes.old }
     ensures each { AreBoxesFrom p.now c boxes.new }
 {
-    every_plant_is_within_limits(p);
-    plants_are_sound();
     let inputs = p.vectors() as usize;
     let cells = boxes.len() / inputs;
     let row = p.grid().count(p.states() - 1) as usize;

@@ -1,7 +1,7 @@
 //! Building the abstraction of a plant.
 ghost use Rattle.std.specs.Prelude.{◌≡◌, IfOk, IfErr};
 ghost use Rattle.successor_box.specs.Deviations.{HasNoOverflow, deviations_of};
-ghost use Rattle.abstraction_table.specs.Abstraction.{IsGameOf, AreBoxesOf};
+ghost use Rattle.plant_game.specs.Abstraction.{IsGameOf, AreBoxesOf};
 ghost use Rattle.abstraction_table.specs.Faults.{IsFaultOf};
 ghost use Rattle.abstraction_table.specs.Table.{game_in, game_of, boxes_of, game_ahead, boxes_ahead};
 
@@ -10,20 +10,16 @@ use crate::boxed_game::BoxedGame;
 use crate::boxes::find_boxes;
 use crate::fans::find_fans;
 use crate::fault::BuildFault;
-use crate::marks::find_marks;
 use crate::outlook::Outlook;
 use crate::shapes::find_shapes;
 use crate::sources::find_sources;
 use game_core::NoMemory;
-use grid_quantiser::laws::{
-    boxes_are_moved_shapes, cells_of_a_box, every_grid_is_within_the_limit,
-};
+use plant_game::find_marks;
 use plant_record::Plant;
-use plant_record::laws::{every_plant_is_within_limits, plants_are_sound};
+use plant_record::laws::every_plant_is_within_limits;
 use std::alloc::Global;
 use std::thread::Threads;
 use successor_box::Slopes;
-use successor_box::laws::boxes_hold_the_successors;
 
 /// The most edges of an abstraction.
 const EDGES_LIMIT: u64 = 1 << 25;
@@ -42,7 +38,6 @@ pub fn survey<R: Threads + Sync>(
     ensures boxes { IfOk result (λ o. AreBoxesOf p.now (boxes_ahead o)) }
     ensures fault { IfErr result (IsFaultOf p.now) }
 {
-    boxes_are_moved_shapes();
     let ahead = find_game(rt, alloc, p, s)?;
     let shapes = find_shapes(alloc, &ahead.grid, &ahead.fans)?;
     Ok(Outlook { ahead, shapes })
@@ -103,11 +98,7 @@ fn find_game<R: Threads + Sync>(
     ensures fault { IfErr result (IsFaultOf p.now) }
 {
     every_plant_is_within_limits(p);
-    plants_are_sound();
-    cells_of_a_box();
-    boxes_hold_the_successors();
     let grid = *p.grid();
-    every_grid_is_within_the_limit(&grid);
     let boxes = find_boxes(rt, alloc, p, s)?;
     let fans = find_fans(alloc, &grid, &boxes)?;
     let edges = fans.edges;

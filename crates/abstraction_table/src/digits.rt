@@ -1,11 +1,11 @@
 //! The digits of a pair on which the sides along a state's axis rest.
 ghost use Rattle.std.specs.Prelude.{◌≡◌, ◌+◌, ◌*◌, ◌^◌, ◌<◌, [], length, slice_index, IfOk, IsTrue, IsFalse};
 ghost use Rattle.std.specs.List.{All};
+ghost use Rattle.plant_record.specs.Limits.{IsWithinLimits};
 ghost use Rattle.successor_box.specs.Sides.{rests_on};
 ghost use Rattle.abstraction_table.specs.inside.Digits.{AreDigitsBetween, AreDigitsOf, IsWithDigit, IsAsBefore, counts_of, place_at};
 
 use plant_record::Plant;
-use plant_record::laws::{every_plant_is_within_limits, plants_are_sound};
 use std::alloc::{AllocError, Global};
 
 /// A state or an input variable that stands in an equation: how many places it has, and what one place
@@ -28,11 +28,10 @@ pub(crate) struct Digits {
 /// The digits of a state's equation: one for each variable in it on which sides rest. Those of the states are below those
 /// of the input variables, and that of the last state is the lowest: from one place to the next mostly it alone varies.
 pub(crate) fn find_digits(alloc: Global, p: &Plant, state: u32) -> Result<Digits, AllocError>
-    requires { state < length p.now.equations }
+    requires plant { IsWithinLimits p.now }
+    requires state { state < length p.now.equations }
     ensures { IfOk result (λ digits. AreDigitsOf p.now state digits.each.items digits.places) }
 {
-    every_plant_is_within_limits(p);
-    plants_are_sound();
     let mut digits = Digits {
         each: Vec::new(alloc),
         places: 1,
@@ -45,13 +44,12 @@ pub(crate) fn find_digits(alloc: Global, p: &Plant, state: u32) -> Result<Digits
 impl Digits {
     /// Adds the digits of the states, the last one first.
     fn add_states(&mut self, p: &Plant, state: u32) -> Result<(), AllocError>
+        requires plant { IsWithinLimits p.now }
         requires state { state < length p.now.equations }
         requires none { self.old.each.items ≡ [] }
         requires one { self.old.places ≡ 1 }
         ensures { IfOk result (λ _. AreDigitsBetween p.now state 0 (length p.now.states) self.new.each.items self.new.places) }
     {
-        every_plant_is_within_limits(p);
-        plants_are_sound();
         let mut in_pair = p.vectors();
         for variable in (0..p.states()).rev() {
             let count = count_of(p, variable);
@@ -63,12 +61,11 @@ impl Digits {
 
     /// Adds the digits of the input variables, the first one first.
     fn add_input_variables(&mut self, p: &Plant, state: u32) -> Result<(), AllocError>
+        requires plant { IsWithinLimits p.now }
         requires state { state < length p.now.equations }
         requires states { AreDigitsBetween p.now state 0 (length p.now.states) self.old.each.items self.old.places }
         ensures { IfOk result (λ _. AreDigitsOf p.now state self.new.each.items self.new.places) }
     {
-        every_plant_is_within_limits(p);
-        plants_are_sound();
         let mut in_pair = p.vectors();
         for variable in p.states()..p.states() + p.input_variables() {
             let count = count_of(p, variable);

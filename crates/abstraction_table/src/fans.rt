@@ -1,16 +1,13 @@
 //! How many cells boxes have.
 ghost use Rattle.std.specs.Prelude.{◌≡◌, ◌+◌, ◌-◌, ◌^◌, ◌<◌, ◌≤◌, length, sum, IfOk, IfSome};
 ghost use Rattle.std.specs.List.{All};
-ghost use Rattle.grid_quantiser.specs.Axes.{cells_of};
+ghost use Rattle.grid_quantiser.specs.Axes.{cells_of, AreAxes};
 ghost use Rattle.successor_box.specs.Boxes.{cells_in};
 ghost use Rattle.abstraction_table.specs.inside.Fans.{fan_of, IsCounted, AreShapes, KeepsFans, AreFansOf};
 ghost use Rattle.abstraction_table.specs.inside.Sources.{IsBox};
 ghost use Rattle.abstraction_table.specs.inside.Tallies.{edges_of};
 
 use crate::pair_box::PairBox;
-use grid_quantiser::laws::{
-    boxes_are_moved_shapes, cells_of_a_box, every_grid_is_within_the_limit,
-};
 use grid_quantiser::{CellBox, Grid};
 use std::alloc::{AllocError, Global};
 
@@ -41,6 +38,8 @@ impl Fans {
     /// Counts the cells of a box, where those of its shape aren't counted yet.
     #[inline]
     fn count(&mut self, grid: &Grid, b: Option<CellBox>) -> u32
+        requires grid { AreAxes grid.now }
+        requires limit { cells_of grid.now ≤ 2 ^ 20 }
         requires ordered { IsBox grid.now b }
         requires distances { length self.old.counts.items ≡ cells_of grid.now }
         requires shapes { AreShapes grid.now self.old.counts.items }
@@ -50,8 +49,6 @@ impl Fans {
         ensures cells { result ≡ length (cells_in grid.now b) }
         ensures few { sum self.new.counts.items ≤ sum self.old.counts.items + result }
     {
-        every_grid_is_within_the_limit(grid);
-        boxes_are_moved_shapes();
         let Some(b) = b else {
             return 0;
         };
@@ -68,14 +65,12 @@ impl Fans {
 
 /// How many cells the boxes of each shape have, and all boxes together.
 pub(crate) fn find_fans(alloc: Global, grid: &Grid, boxes: &[PairBox]) -> Result<Fans, AllocError>
+    requires grid { AreAxes grid.now }
     requires ordered { All (IsBox grid.now) boxes.now }
     requires limit { length boxes.now ≤ 2 ^ 22 }
     ensures fans { IfOk result (λ fans. AreFansOf grid.now boxes.now fans.counts.items) }
     ensures edges { IfOk result (λ fans. fans.edges ≡ edges_of grid.now boxes.now) }
 {
-    cells_of_a_box();
-    boxes_are_moved_shapes();
-    every_grid_is_within_the_limit(grid);
     let mut fans = Fans {
         counts: vec![in alloc; 0; grid.cells() as usize]?,
         edges: 0,

@@ -1,7 +1,7 @@
 //! The pairs that lead to each cell of a band.
 ghost use Rattle.std.specs.Prelude.{◌≡◌, ◌+◌, ◌^◌, ◌<◌, ◌≤◌, map, length, sum, IfOk, IfSome};
 ghost use Rattle.std.specs.List.{All, range_with_len};
-ghost use Rattle.grid_quantiser.specs.Axes.{cells_of};
+ghost use Rattle.grid_quantiser.specs.Axes.{cells_of, AreAxes};
 ghost use Rattle.edge_rows.specs.Rows.{unfilled, HaveRoom, appended_run};
 ghost use Rattle.successor_box.specs.Boxes.{cells_in};
 ghost use Rattle.abstraction_table.specs.inside.Shapes.{cells_from, EndsBy, HasRunsOf, HaveRuns};
@@ -11,11 +11,7 @@ ghost use Rattle.abstraction_table.specs.inside.Tallies.{places_in, AreCounted, 
 use crate::band::Band;
 use crate::pair_box::PairBox;
 use crate::shapes::{Run, Shapes};
-use edge_rows::laws::full_rows_leave_no_place;
 use edge_rows::{NoMemory, RowFill, Rows};
-use grid_quantiser::laws::{
-    cells_lie_between_corners, cells_of_a_box, every_grid_is_within_the_limit,
-};
 use grid_quantiser::{CellBox, Grid};
 use std::alloc::{AllocError, Global};
 
@@ -27,6 +23,8 @@ pub(crate) fn fill_band(
     boxes: &[PairBox],
     band: Band,
 ) -> Result<Rows, NoMemory>
+    requires grid { AreAxes grid.now }
+    requires limit { cells_of grid.now ≤ 2 ^ 20 }
     requires ordered { All (IsBox grid.now) boxes.now }
     requires runs { HaveRuns grid.now shapes.now boxes.now }
     requires pairs { length boxes.now ≤ 2 ^ 22 }
@@ -34,11 +32,9 @@ pub(crate) fn fill_band(
     requires within { band.from + band.len ≤ cells_of grid.now }
     ensures { IfOk result (λ rows. AreBandRows grid.now boxes.now band.from band.len rows) }
 {
-    every_grid_is_within_the_limit(grid);
     let counts = count_sources(alloc, grid, shapes, boxes, band)?;
     let mut fill = RowFill::new(alloc, &counts)?;
     put_sources(grid, shapes, boxes, band, &mut fill);
-    full_rows_leave_no_place(&fill);
     Ok(fill.finish())
 }
 
@@ -50,6 +46,8 @@ fn count_sources(
     boxes: &[PairBox],
     band: Band,
 ) -> Result<Vec<u32>, AllocError>
+    requires grid { AreAxes grid.now }
+    requires limit { cells_of grid.now ≤ 2 ^ 20 }
     requires ordered { All (IsBox grid.now) boxes.now }
     requires runs { HaveRuns grid.now shapes.now boxes.now }
     requires pairs { length boxes.now ≤ 2 ^ 22 }
@@ -58,8 +56,6 @@ fn count_sources(
     ensures counts { IfOk result (λ counts. AreCountsAmong grid.now boxes.now band.from band.len (length boxes.now) counts.items) }
     ensures total { IfOk result (λ counts. sum counts.items ≤ edges_of grid.now boxes.now) }
 {
-    cells_of_a_box();
-    every_grid_is_within_the_limit(grid);
     let mut counts = vec![in alloc; 0; band.len as usize]?;
     for b in boxes {
         count_box(grid, shapes, b.get(), band, &mut counts);
@@ -69,6 +65,8 @@ fn count_sources(
 
 /// Puts each pair, in rising order, at the places of its box in a band.
 fn put_sources(grid: &Grid, shapes: &Shapes, boxes: &[PairBox], band: Band, fill: &mut RowFill)
+    requires grid { AreAxes grid.now }
+    requires limit { cells_of grid.now ≤ 2 ^ 20 }
     requires ordered { All (IsBox grid.now) boxes.now }
     requires runs { HaveRuns grid.now shapes.now boxes.now }
     requires pairs { length boxes.now ≤ 2 ^ 22 }
@@ -78,8 +76,6 @@ fn put_sources(grid: &Grid, shapes: &Shapes, boxes: &[PairBox], band: Band, fill
     ensures rows { AreBandRows grid.now boxes.now band.from band.len fill.new.rows }
     ensures lengths { fill.new.lengths ≡ fill.old.lengths }
 {
-    cells_of_a_box();
-    every_grid_is_within_the_limit(grid);
     for pair in 0..boxes.len() {
         put_box(grid, shapes, boxes[pair].get(), band, pair as u32, fill);
     }
@@ -88,6 +84,8 @@ fn put_sources(grid: &Grid, shapes: &Shapes, boxes: &[PairBox], band: Band, fill
 /// Adds one to the count of each place of a box in a band.
 #[inline]
 fn count_box(grid: &Grid, shapes: &Shapes, b: Option<CellBox>, band: Band, counts: &mut [u32])
+    requires grid { AreAxes grid.now }
+    requires limit { cells_of grid.now ≤ 2 ^ 20 }
     requires ordered { IsBox grid.now b }
     requires runs { IfSome b (HasRunsOf grid.now shapes.now) }
     requires within { band.from + band.len ≤ cells_of grid.now }
@@ -95,9 +93,6 @@ fn count_box(grid: &Grid, shapes: &Shapes, b: Option<CellBox>, band: Band, count
     requires room { CountsFit counts.old (places_in band.from band.len (cells_in grid.now b)) }
     ensures { AreCounted counts.old counts.new (places_in band.from band.len (cells_in grid.now b)) }
 {
-    cells_of_a_box();
-    cells_lie_between_corners();
-    every_grid_is_within_the_limit(grid);
     if let Some(b) = band.reached(grid, b) {
         let runs = shapes.runs_of(b);
         if band.holds(b) {
@@ -118,6 +113,8 @@ fn put_box(
     pair: u32,
     fill: &mut RowFill,
 )
+    requires grid { AreAxes grid.now }
+    requires limit { cells_of grid.now ≤ 2 ^ 20 }
     requires ordered { IsBox grid.now b }
     requires runs { IfSome b (HasRunsOf grid.now shapes.now) }
     requires within { band.from + band.len ≤ cells_of grid.now }
@@ -125,9 +122,6 @@ fn put_box(
     requires room { HasRoomFor fill.old (places_in band.from band.len (cells_in grid.now b)) }
     ensures { ArePut pair fill.old fill.new (places_in band.from band.len (cells_in grid.now b)) }
 {
-    cells_of_a_box();
-    cells_lie_between_corners();
-    every_grid_is_within_the_limit(grid);
     if let Some(b) = band.reached(grid, b) {
         let runs = shapes.runs_of(b);
         if band.holds(b) {

@@ -5,7 +5,7 @@
 //! ahead, a `Forward`: it keeps a box of cells for each pair, whose cells are the pair's successors.
 //! What `build` gives is a `Graph`, which keeps for each cell the pairs that lead to it as well;
 //! `with_sources` makes it of what is seen ahead.
-//! Stands on `successor_box`, `game_core`, `edge_rows` and the crates below.
+//! Stands on `plant_game`, `edge_rows` and the crates below.
 #![tactic(auto)]
 
 mod abstraction;
@@ -18,8 +18,6 @@ mod digits;
 mod fans;
 mod fault;
 mod filling;
-pub mod laws;
-mod marks;
 mod outlook;
 mod pair_box;
 mod parts;

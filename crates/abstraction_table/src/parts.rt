@@ -15,7 +15,6 @@ use crate::pair_box::PairBox;
 use crate::sides::{SideTable, find_table};
 use grid_quantiser::Side;
 use plant_record::Plant;
-use plant_record::laws::every_plant_is_within_limits;
 use std::alloc::{AllocError, Global};
 use std::thread::Threads;
 use successor_box::Slopes;
@@ -119,11 +118,11 @@ pub(crate) fn find_tables<R: Threads + Sync>(
     p: &Plant,
     s: &Slopes,
 ) -> Result<Vec<PartTable>, AllocError>
+    requires plant { IsWithinLimits p.now }
     requires slopes { s.now ≡ deviations_of p.now }
     requires fits { HasNoOverflow p.now }
     ensures { IfOk result (λ tables. HoldParts p.now tables.items) }
 {
-    every_plant_is_within_limits(p);
     let mut tables = Vec::new(alloc);
     let mut stride = p.grid().cells();
     for state in 0..p.states() {

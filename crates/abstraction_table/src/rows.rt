@@ -15,20 +15,17 @@ use crate::pair_box::PairBox;
 use crate::parts::{PartTable, Parts};
 use grid_quantiser::CellBox;
 use plant_record::Plant;
-use plant_record::laws::{every_plant_is_within_limits, plants_are_sound};
-use successor_box::laws::sides_make_boxes;
 
 /// The boxes of cells in a row, one for each input, which differ in the place along the last state alone. What the
 /// first states bring is the same along the row, and is found once: the first cell's boxes keep it for the others.
 pub(crate) fn boxes_in_row(p: &Plant, tables: &[PartTable], c: u32, boxes: &mut [PairBox])
+    requires plant { IsWithinLimits p.now }
     requires tables { HoldParts p.now tables.now }
     requires row { (n : ℕ) × (length boxes.old ≡ n * vectors_of p.now.inputs) × AreInRow p.now c n }
     requires start { All (λ b. b ≡ one_cell) boxes.old }
     ensures long { length boxes.new ≡ length boxes.old }
     ensures each { AreBoxesFrom p.now c boxes.new }
 {
-    every_plant_is_within_limits(p);
-    plants_are_sound();
     let inputs = p.vectors() as usize;
     let last = p.states() as usize - 1;
     let mut places = places_of(p, c);
@@ -44,6 +41,7 @@ pub(crate) fn boxes_in_row(p: &Plant, tables: &[PartTable], c: u32, boxes: &mut 
 
 /// Adds the parts of the first states, as far as they are the same all along a row, and tells how many.
 fn add_early(p: &Plant, tables: &[PartTable], places: &[u32; 9], boxes: &mut [PairBox]) -> usize
+    requires plant { IsWithinLimits p.now }
     requires tables { HoldParts p.now tables.now }
     requires cell { (c : ℕ) × (c < cells_of (axes_of p.now)) × ArePlacesOf p.now c places.now }
     requires one_each { length boxes.old ≡ vectors_of p.now.inputs }
@@ -52,9 +50,6 @@ fn add_early(p: &Plant, tables: &[PartTable], places: &[u32; 9], boxes: &mut [Pa
     ensures states { result ≤ length p.now.equations }
     ensures along { (c d : ℕ) → c < cells_of (axes_of p.now) → ArePlacesOf p.now c places.now → IsInRowOf p.now c d → AreSumsAlong p.now result d one_cell boxes.new }
 {
-    every_plant_is_within_limits(p);
-    plants_are_sound();
-    sides_make_boxes();
     let last = p.states() - 1;
     let mut state: usize = 0;
     while state < tables.len() && tables[state].stays_along_rows(state as u32, last) {
@@ -67,6 +62,7 @@ fn add_early(p: &Plant, tables: &[PartTable], places: &[u32; 9], boxes: &mut [Pa
 /// Adds the parts of the states from one on to the boxes of a cell. Those that rest on no input are summed apart, and
 /// added to all boxes once.
 fn add_late(p: &Plant, tables: &[PartTable], from: usize, places: &[u32; 9], boxes: &mut [PairBox])
+    requires plant { IsWithinLimits p.now }
     requires tables { HoldParts p.now tables.now }
     requires from { from ≤ length p.now.equations }
     requires cell { (c : ℕ) × (c < cells_of (axes_of p.now)) × ArePlacesOf p.now c places.now × AreSumsAlong p.now from c one_cell boxes.old }
@@ -74,9 +70,6 @@ fn add_late(p: &Plant, tables: &[PartTable], from: usize, places: &[u32; 9], box
     ensures long { length boxes.new ≡ length boxes.old }
     ensures each { (c : ℕ) → c < cells_of (axes_of p.now) → ArePlacesOf p.now c places.now → AreSumsAlong p.now from c one_cell boxes.old → (u : ℕ) → u < vectors_of p.now.inputs → IsBoxOf p.now c u (slice_index_or boxes.new u None) }
 {
-    every_plant_is_within_limits(p);
-    plants_are_sound();
-    sides_make_boxes();
     let mut base = PairBox::new(Some(CellBox { first: 0, last: 0 }));
     for state in from..tables.len() {
         base = add_state(p, &tables[state], state as u32, places, base, boxes);
@@ -193,9 +186,9 @@ fn add_base(base: PairBox, boxes: &mut [PairBox])
 /// The places of a cell along the axes, and 0 for each input variable.
 #[inline]
 fn places_of(p: &Plant, c: u32) -> [u32; 9]
+    requires plant { IsWithinLimits p.now }
     ensures { ArePlacesOf p.now c result }
 {
-    every_plant_is_within_limits(p);
     let along = p.grid().places(c);
     let mut places = [0; 9];
     for state in 0..p.states() {

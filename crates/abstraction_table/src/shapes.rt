@@ -8,7 +8,6 @@ ghost use Rattle.abstraction_table.specs.inside.Shapes.{cells_from, EndsBy, IsLi
 
 use crate::fans::Fans;
 use game_core::CellTest;
-use grid_quantiser::laws::every_grid_is_within_the_limit;
 use grid_quantiser::{CellBox, Grid, Runs};
 use std::alloc::{AllocError, Global};
 
@@ -80,7 +79,6 @@ pub(crate) fn find_shapes(alloc: Global, grid: &Grid, fans: &Fans) -> Result<Sha
     requires few { sum fans.now.counts.items ≤ 2 ^ 25 }
     ensures { IfOk result (λ shapes. HaveRunsAt grid.now shapes fans.now.counts.items) }
 {
-    every_grid_is_within_the_limit(grid);
     let mut shapes = Shapes {
         spans: vec![in alloc; NO_SPAN; grid.cells() as usize]?,
         runs: Vec::new(alloc),

@@ -1,6 +1,7 @@
 //! The sides of all boxes, state by state.
 ghost use Rattle.std.specs.Prelude.{◌≡◌, ℕ, ◌+◌, ◌^◌, ◌<◌, length, slice_index_or, None, IfOk};
 ghost use Rattle.plant_record.specs.Description.{vectors_of};
+ghost use Rattle.plant_record.specs.Limits.{IsWithinLimits};
 ghost use Rattle.successor_box.specs.Deviations.{HasNoOverflow, deviations_of};
 ghost use Rattle.abstraction_table.specs.inside.Digits.{AreDigitsOf, place_at};
 ghost use Rattle.abstraction_table.specs.inside.Sides.{HoldsSidesAlong, IsSideFor};
@@ -9,12 +10,10 @@ use crate::blocks::{CHUNK, fill_chunk};
 use crate::digits::{Digit, Digits, find_digits, place_of};
 use grid_quantiser::Side;
 use plant_record::Plant;
-use plant_record::laws::{every_plant_is_within_limits, plants_are_sound};
 use rayon::prelude::*;
 use std::alloc::{AllocError, Global};
 use std::thread::Threads;
 use successor_box::Slopes;
-use successor_box::laws::sides_rest_on_places;
 
 /// The sides along the axis of a state: one for each combination of the places in the variables of the
 /// state's equation, since those of all pairs rest on these. Where the equation moves with the state itself,
@@ -35,14 +34,12 @@ pub(crate) fn find_table<R: Threads + Sync>(
     s: &Slopes,
     state: u32,
 ) -> Result<SideTable, AllocError>
+    requires plant { IsWithinLimits p.now }
     requires slopes { s.now ≡ deviations_of p.now }
     requires fits { HasNoOverflow p.now }
     requires state { state < length p.now.equations }
     ensures { IfOk result (λ table. HoldsSidesAlong p.now state table) }
 {
-    every_plant_is_within_limits(p);
-    plants_are_sound();
-    sides_rest_on_places();
     let digits = find_digits(alloc, p, state)?;
     let inputs = find_inputs(alloc, p, state, &digits)?;
     let sides = find_sides(rt, alloc, p, s, state, &digits)?;
@@ -61,12 +58,11 @@ fn find_inputs(
     state: u32,
     digits: &Digits,
 ) -> Result<Vec<u32>, AllocError>
-    requires { AreDigitsOf p.now state digits.now.each.items digits.now.places }
+    requires plant { IsWithinLimits p.now }
+    requires digits { AreDigitsOf p.now state digits.now.each.items digits.now.places }
     ensures long { IfOk result (λ inputs. length inputs.items ≡ vectors_of p.now.inputs) }
     ensures each { IfOk result (λ inputs. (u : ℕ) → u < vectors_of p.now.inputs → slice_index_or inputs.items u 0 ≡ place_at digits.now.each.items u) }
 {
-    every_plant_is_within_limits(p);
-    plants_are_sound();
     let vectors = p.vectors();
     let mut inputs = Vec::with_capacity(alloc, vectors as usize)?;
     for input in 0..vectors {
@@ -84,6 +80,7 @@ fn find_sides<R: Threads + Sync>(
     state: u32,
     digits: &Digits,
 ) -> Result<Vec<Option<Side>>, AllocError>
+    requires plant { IsWithinLimits p.now }
     requires slopes { s.now ≡ deviations_of p.now }
     requires fits { HasNoOverflow p.now }
     requires state { state < length p.now.equations }
@@ -91,14 +88,13 @@ fn find_sides<R: Threads + Sync>(
     ensures long { IfOk result (λ sides. length sides.items ≡ digits.now.places) }
     ensures each { IfOk result (λ sides. (place : ℕ) → place < digits.now.places → IsSideFor p.now state digits.now.each.items place (slice_index_or sides.items place None)) }
 {
-    every_plant_is_within_limits(p);
-    plants_are_sound();
     let mut sides = vec![in alloc; None; digits.places as usize]?;
     par_chunks_mut_for_each(
         rt,
         &mut sides,
         CHUNK,
         |place: usize, chunk: &mut [Option<Side>]|
+            requires plant { IsWithinLimits p.now }
             requires slopes { s.now ≡ deviations_of p.now }
             requires fits { HasNoOverflow p.now }
             requires state { state < length p.now.equations }

@@ -1,7 +1,7 @@
 //! The pairs that lead to each cell.
 ghost use Rattle.std.specs.Prelude.{◌≡◌, ℕ, ◌-◌, ◌*◌, ◌/◌, ◌%◌, ◌^◌, ◌<◌, ◌≤◌, min, length, IfOk};
 ghost use Rattle.std.specs.List.{All};
-ghost use Rattle.grid_quantiser.specs.Axes.{cells_of};
+ghost use Rattle.grid_quantiser.specs.Axes.{cells_of, AreAxes};
 ghost use Rattle.edge_rows.specs.Rows.{row_at};
 ghost use Rattle.abstraction_table.specs.inside.Shapes.{HaveRuns};
 ghost use Rattle.abstraction_table.specs.inside.Sources.{IsBox, AreBandRows, AreSourceBands, band_of};
@@ -13,7 +13,6 @@ use crate::pair_box::PairBox;
 use crate::shapes::Shapes;
 use edge_rows::{NoMemory, Rows};
 use grid_quantiser::Grid;
-use grid_quantiser::laws::every_grid_is_within_the_limit;
 use rayon::current_num_threads;
 use rayon::prelude::*;
 use std::alloc::Global;
@@ -60,13 +59,13 @@ pub(crate) fn find_sources<R: Threads + Sync>(
     edges: u64,
     shapes: &Shapes,
 ) -> Result<Sources, NoMemory>
+    requires grid { AreAxes grid.now }
     requires ordered { All (IsBox grid.now) boxes.now }
     requires runs { HaveRuns grid.now shapes.now boxes.now }
     requires pairs { length boxes.now ≤ 2 ^ 22 }
     requires edges { edges_of grid.now boxes.now ≤ 2 ^ 25 }
     ensures { IfOk result (λ s. AreSourceBands grid.now boxes.now s.size s.bands.items) }
 {
-    every_grid_is_within_the_limit(grid);
     let cells = grid.cells();
     let size = band_size(rt, cells, boxes.len(), edges);
     let bands = (0..cells.div_ceil(size))
@@ -74,6 +73,7 @@ pub(crate) fn find_sources<R: Threads + Sync>(
         .with_min_len(1)
         .map(
             |k: u32| -> Result<Rows, NoMemory>
+                requires grid { AreAxes grid.now }
                 requires ordered { All (IsBox grid.now) boxes.now }
                 requires runs { HaveRuns grid.now shapes.now boxes.now }
                 requires pairs { length boxes.now ≤ 2 ^ 22 }

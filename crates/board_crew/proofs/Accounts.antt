@@ -1,5 +1,5 @@
 -- What accounts hold together, said of one counter or word and of all.
-use Rattle.std.proofs.Common.{◌≡◌, ℕ, ◌==◌, List, [], ◌∷◌, ◌++◌, filter, length, get_or, reverse, All, IsPermutation, count_by, sum_by, refl, sym, ◌∙◌, ap}
+use Rattle.std.proofs.Common.{◌≡◌, ℕ, ◌==◌, List, [], ◌∷◌, ◌++◌, map, filter, length, get_or, reverse, All, IsPermutation, count_by, sum_by, refl, sym, ◌∙◌, ap}
 use Rattle.std.specs.List.{flat_map}
 use Rattle.std.proofs.lemmas.List.{map-append, length-map}
 use Rattle.std.proofs.lemmas.List.Concat.{flat_map-append}
@@ -13,12 +13,16 @@ use Rattle.cell_counters.specs.Accounts.{answers, all_answers, cut_count, offers
 use Rattle.cell_counters.specs.Laws.{answered}
 use Rattle.cell_counters.specs.Tokens.{HandModel}
 use Rattle.frontier_pool.specs.declared.member.Member.{Member}
-use Rattle.game_core.specs.Counts.{one_if, times, CountsTell}
-use Rattle.board_crew.specs.Crew.{accounts_of, notes_of, cuts_in, offers_in}
-use Rattle.board_crew.specs.Laws.{counters_of, lefts_of, cut_to, claimed}
+use Rattle.game_core.specs.Counts.{one_if, times}
+use Rattle.game_core.proofs.Times.{same}
+use Rattle.board_crew.specs.Crew.{accounts_of, notes_of, cuts_in, offers_in, counters_of, cut_to, claimed}
 use Rattle.board_crew.proofs.Sums.{sum_map, count_map, count_both, sum_flat, sum_alike}
 
-pub answers_are : (counter : ℕ) (accounts : List Account) → all_answers counter accounts ≡ lefts_of (filter (λ (c : Cut). c.counter == counter) (cuts_in accounts))
+-- what these cuts left
+abbrev lefts_of : List Cut → List ℕ
+lefts_of cuts = map (λ (c : Cut). c.left) cuts
+
+answers_are : (counter : ℕ) (accounts : List Account) → all_answers counter accounts ≡ lefts_of (filter (λ (c : Cut). c.counter == counter) (cuts_in accounts))
 answers_are counter [] = refl
 answers_are counter (a ∷ more) =
     ap (λ l. answers counter a ++ l) (answers_are counter more)
@@ -70,10 +74,10 @@ cuts_by_notes counter f accounts each =
     ∙ (sum_alike (λ (a : Account). times counter (counters_of a.cuts)) (λ (a : Account). sum_by f a.notes) accounts each
     ∙ sym (sum_flat f (λ (a : Account). a.notes) accounts)))
 
-pub notes_reversed : CountsTell → (members : List (Member HandModel)) → IsPermutation (notes_of members) (notes_in (reverse (accounts_of members)))
-notes_reversed tell members =
+pub notes_reversed : (members : List (Member HandModel)) → IsPermutation (notes_of members) (notes_in (reverse (accounts_of members)))
+notes_reversed members =
     let more = reverse (accounts_of members) in
-    tell.same (notes_of members) (notes_in more) (λ n.
+    same (notes_of members) (notes_in more) (λ n.
     sum_flat (λ x. one_if (x == n)) (λ (m : Member HandModel). m.hand.account.notes) members
     ∙ sym (sum_flat (λ x. one_if (x == n)) (λ (a : Account). a.notes) more
     ∙ (sum_by-IsPermutation (λ (a : Account). times n a.notes) (accounts_of members) more (IsPermutation-reverse (accounts_of members))

@@ -1,14 +1,13 @@
 -- The workers of a round together.
-use Rattle.std.proofs.Common.{◌≡◌, ℕ, ◌+◌, ◌%◌, ◌^◌, reverse, append_assoc, length-append, List, [], ◌∷◌, ◌++◌, map, length, get_or, set, All, IsPermutation, arith, refl, sym, ◌∙◌, ap, subst}
+use Rattle.std.proofs.Common.{◌≡◌, ℕ, ◌+◌, ◌%◌, ◌^◌, reverse, append_assoc, length-append, List, [], ◌∷◌, ◌++◌, map, length, get_or, set, All, IsPermutation, arith, refl, sym, ◌∙◌, ap, ap₂, subst}
 use Rattle.std.specs.List.{concat, range_with_len}
-use Rattle.std.proofs.lemmas.List.{map_push, reverse-append, append-nil}
-use Rattle.std.proofs.lemmas.List.Elements.{All-map}
+use Rattle.std.proofs.lemmas.List.{length-map, map_push, reverse-append, append-nil}
+use Rattle.std.proofs.lemmas.List.Elements.{All-head, All-tail}
 use Rattle.std.proofs.lemmas.List.Sorted.{IsPermutation-refl}
 use Rattle.cell_counters.specs.Tokens.{BoardModel, HandModel}
 use Rattle.cell_counters.specs.declared.account.Account.{Account}
 use Rattle.frontier_pool.specs.declared.member.Member.{Member}
-use Rattle.frontier_pool.specs.Sweeps.{Sweeps}
-use Rattle.frontier_pool.specs.Laws.{NewHandsShare}
+use Rattle.frontier_pool.specs.Sweeps.{followed, Sweeps}
 use Rattle.game_core.specs.declared.tally.Tally.{Tally}
 use Rattle.board_crew.specs.Crew.{IsFresh, IsTalliedBy, accounts_of, notes_of, cuts_in, offers_in}
 use Rattle.board_crew.specs.inside.Workers.{IsCounted}
@@ -35,12 +34,19 @@ pub notes_joined : (members : List (Member HandModel)) → concat (notes_each me
 notes_joined [] = refl
 notes_joined (m ∷ members) = ap (λ l. m.hand.account.notes ++ l) (notes_joined members)
 
--- new workers have noted nothing, and so what they noted in a sweep is all its items, each once
-pub notes_swept : NewHandsShare → (board : BoardModel) (before after : List (Member HandModel)) (items : ℕ) → All (IsFresh board) before → Sweeps (notes_each before) (notes_each after) items → IsPermutation (range_with_len 0 items) (notes_of after)
-notes_swept share board before after items fresh swept =
-    subst (IsPermutation (range_with_len 0 items)) (notes_joined after)
-    (share (notes_each before) (notes_each after) items swept
-    (All-map (λ (l : List ℕ). l ≡ []) (λ (m : Member HandModel). m.hand.account.notes) before (λ i d lt. ap (λ (h : HandModel). h.account.notes) (fresh i d lt))))
+-- new workers have noted nothing: what they note in a sweep is their part of it
+parts_alone : (board : BoardModel) (before : List (Member HandModel)) (parts : List (List ℕ)) → length parts ≡ length before → All (IsFresh board) before → followed (notes_each before) parts ≡ parts
+parts_alone board [] [] each fresh = refl
+parts_alone board [] (p ∷ parts) each fresh = absurd (omega arith)
+parts_alone board (m ∷ before) [] each fresh = absurd (omega arith)
+parts_alone board (m ∷ before) (p ∷ parts) each fresh =
+    ap₂ (λ (h : HandModel) (l : List (List ℕ)). (h.account.notes ++ p) ∷ l) (All-head (IsFresh board) m before fresh) (parts_alone board before parts (omega arith) (All-tail (IsFresh board) m before fresh))
+
+-- so together they note all its items, each once
+pub notes_swept : (board : BoardModel) (before after : List (Member HandModel)) (items : ℕ) → All (IsFresh board) before → Sweeps (notes_each before) (notes_each after) items → IsPermutation (range_with_len 0 items) (notes_of after)
+notes_swept board before after items fresh swept =
+    let each : length swept.parts ≡ length before = swept.each ∙ length-map before (λ (m : Member HandModel). m.hand.account.notes) in
+    subst (IsPermutation (range_with_len 0 items)) (sym (ap concat (swept.grown ∙ parts_alone board before swept.parts each fresh)) ∙ notes_joined after) swept.once
 
 -- taking hands in, the last one first
 abbrev pub IsOfBoard : BoardModel → Member HandModel → Type 0

@@ -8,14 +8,15 @@ use Rattle.std.proofs.lemmas.List.FromFn.{length-range_with_len}
 use Rattle.std.proofs.lemmas.List.Sorted.{IsPermutation-reverse, IsPermutation-trans, All-permutation, sum_by-IsPermutation}
 use Rattle.cell_counters.specs.declared.account.Account.{Account}
 use Rattle.cell_counters.specs.Accounts.{IsLawfulLog, all_logs, log_count, cell_at}
-use Rattle.cell_counters.specs.Laws.{NewPlaces}
 use Rattle.cell_counters.specs.Tokens.{BoardModel, HandModel, IsLawful}
+use Rattle.cell_counters.proofs.Consequences.{new_places}
 use Rattle.frontier_pool.specs.declared.member.Member.{Member}
-use Rattle.game_core.specs.Counts.{one_if, times, CountsTell}
+use Rattle.game_core.specs.Counts.{one_if, times}
 use Rattle.game_core.specs.Game.{Game, successors_at}
-use Rattle.board_crew.specs.Crew.{accounts_of, notes_of, logged_cells, IsTalliedBy}
+use Rattle.game_core.proofs.Counts.{sum_places}
+use Rattle.game_core.proofs.Times.{from_both_sides}
+use Rattle.board_crew.specs.Crew.{accounts_of, notes_of, logged_cells, IsTalliedBy, counters_of}
 use Rattle.board_crew.specs.declared.rounds.Rounds.{Rounds}
-use Rattle.board_crew.specs.Laws.{counters_of}
 use Rattle.board_crew.specs.Rules.{IsRound, LeadsOn}
 use Rattle.board_crew.specs.inside.Workers.{cuts_for, IsAtWork, HaveWorked}
 use Rattle.board_crew.specs.inside.Standing.{StandsAt, to_go}
@@ -42,7 +43,7 @@ pub record Played (g : Game) (fits : BoardModel → Type 0) (keeps : Account →
   pub seats : workers ≤ vec_capacity new.members
   pub room : g.cells ≤ vec_capacity new.list
 
-module _ (g : Game) (fits : BoardModel → Type 0) (first : ℕ → Bool) (keeps : ℕ → Account → Type 0) (stands : ℕ → List ℕ → List Account → Type 0) (tell : CountsTell) (places : NewPlaces) (leads : LeadsOn g fits first keeps stands) (board : BoardModel) (fit : fits board) where
+module _ (g : Game) (fits : BoardModel → Type 0) (first : ℕ → Bool) (keeps : ℕ → Account → Type 0) (stands : ℕ → List ℕ → List Account → Type 0) (board : BoardModel) (leads : LeadsOn g board first keeps stands) where
   module _ (d : ℕ) (list : List ℕ) (accounts : List Account) (members : List (Member HandModel)) (early : d ≤ g.cells) (some' : 0 < length list) (was : stands d list accounts) (worked : HaveWorked g fits (keeps d) board list members) (swept : IsPermutation (range_with_len 0 (length list)) (notes_of members)) (lawful : IsLawful (accounts ++ reverse (accounts_of members)) board.starts board.least) where
     abbrev more : List Account
     more = reverse (accounts_of members)
@@ -59,12 +60,12 @@ module _ (g : Game) (fits : BoardModel → Type 0) (first : ℕ → Bool) (keeps
       each = of_each (keeps d) (λ h w. w.kept);
       cuts = λ pair lt.
           cuts_by_notes pair (cuts_for g list pair) more (of_each (λ (a : Account). times pair (counters_of a.cuts) ≡ sum_by (cuts_for g list pair) a.notes) (λ h w. w.cuts pair lt))
-          ∙ (sum_by-IsPermutation (cuts_for g list pair) (range_with_len 0 (length list)) (notes_in more) (IsPermutation-trans (range_with_len 0 (length list)) (notes_of members) (notes_in more) swept (notes_reversed tell members))
-          ∙ (tell.places (λ c. times c (successors_at g pair)) list ∙ tell.from_both_sides list (successors_at g pair)));
+          ∙ (sum_by-IsPermutation (cuts_for g list pair) (range_with_len 0 (length list)) (notes_in more) (IsPermutation-trans (range_with_len 0 (length list)) (notes_of members) (notes_in more) swept (notes_reversed members))
+          ∙ (sum_places (λ c. times c (successors_at g pair)) 0 list ∙ from_both_sides list (successors_at g pair)));
     }
 
     leads_to : (next : List ℕ) → ((c : ℕ) → times c next ≡ times c (logged_cells (all_logs more))) → stands (suc d) next (accounts ++ more)
-    leads_to next same = leads.next board d list next accounts more fit early some' was round lawful same
+    leads_to next same = leads.next d list next accounts more early some' was round lawful same
 
     -- each cell is logged once at most
     pub few : log_count (accounts ++ more) ≤ g.cells
@@ -82,7 +83,7 @@ module _ (g : Game) (fits : BoardModel → Type 0) (first : ℕ → Bool) (keeps
         let many : log_count (accounts ++ more) - log_count accounts ≡ log_count more = (let e = logs_more in omega arith) in
         leads_to (cells_since (log_count accounts) (accounts ++ more)) (λ c.
         ap (λ n. times c (cells n)) many
-        ∙ sym (sum_by-IsPermutation (λ x. one_if (x == c)) (cells (log_count more)) (logged_cells (all_logs more)) (places accounts more before new_log)))
+        ∙ sym (sum_by-IsPermutation (λ x. one_if (x == c)) (cells (log_count more)) (logged_cells (all_logs more)) (new_places accounts more before new_log)))
 
   module _ (workers : ℕ) (old : Rounds) (was : StandsAt stands board g.cells workers old) (some' : 0 < length old.list.items) where
     pub early : old.tally.rounds ≤ g.cells

@@ -6,8 +6,7 @@ use Rattle.cell_counters.specs.Tokens.{BoardModel, HandModel, blank, with_note}
 use Rattle.frontier_pool.specs.declared.member.Member.{Member}
 use Rattle.game_core.specs.Counts.{one_if, times}
 use Rattle.game_core.specs.Game.{Game, pairs_of}
-use Rattle.board_crew.specs.Crew.{IsFresh}
-use Rattle.board_crew.specs.Laws.{counters_of}
+use Rattle.board_crew.specs.Crew.{IsFresh, counters_of}
 use Rattle.board_crew.specs.Rules.{CutsOnce}
 use Rattle.board_crew.specs.inside.Workers.{cuts_for, IsAtWork, HaveWorked}
 

@@ -1,5 +1,5 @@
 -- The workers at a board, and all that their accounts hold together.
-use Rattle.std.specs.Prelude.{◌≡◌, ℕ, ◌%◌, ◌^◌, List, map, length}
+use Rattle.std.specs.Prelude.{◌≡◌, ℕ, ◌%◌, ◌^◌, ◌==◌, List, map, filter, length}
 use Rattle.std.specs.List.{flat_map}
 use Rattle.cell_counters.specs.declared.account.Cut.{Cut}
 use Rattle.cell_counters.specs.declared.account.Offer.{Offer}
@@ -16,6 +16,18 @@ cuts_in accounts = flat_map (λ (a : Account). a.cuts) accounts
 -- all offers in these accounts
 abbrev pub offers_in : List Account → List Offer
 offers_in accounts = flat_map (λ (a : Account). a.offers) accounts
+
+-- the numbers of the counters that were cut
+abbrev pub counters_of : List Cut → List ℕ
+counters_of cuts = map (λ (c : Cut). c.counter) cuts
+
+-- the counters of which a cut left v
+abbrev pub cut_to : ℕ → List Cut → List ℕ
+cut_to v cuts = counters_of (filter (λ (c : Cut). c.left == v) cuts)
+
+-- the words on which an offer was first
+abbrev pub claimed : List Offer → List ℕ
+claimed offers = map (λ (o : Offer). o.word) (filter (λ (o : Offer). o.first) offers)
 
 -- the cells that were logged
 abbrev pub logged_cells : List Log → List ℕ

@@ -6,8 +6,7 @@ use Rattle.cell_counters.specs.Accounts.{cut_count, all_logs, log_count}
 use Rattle.cell_counters.specs.Tokens.{BoardModel, HandModel, IsLawful, blank, with_note}
 use Rattle.game_core.specs.Counts.{times, one_if}
 use Rattle.game_core.specs.Game.{Game, IsGraph, pairs_of, successors_at}
-use Rattle.board_crew.specs.Crew.{logged_cells}
-use Rattle.board_crew.specs.Laws.{counters_of}
+use Rattle.board_crew.specs.Crew.{logged_cells, counters_of}
 
 -- of so many pairs a hand has cut this one once, and no other; it has noted nothing
 pub record CutsOnce (pairs pair : ℕ) (before after : HandModel) : Type 0 where
@@ -20,11 +19,11 @@ pub record IsRound (g : Game) (keeps : Account → Type 0) (list : List ℕ) (mo
   pub each : All keeps more
   pub cuts : (pair : ℕ) → pair < pairs_of g → cut_count pair more ≡ sum_by (λ s. times s list) (successors_at g pair)
 
--- what a rule says stands before the first round, with the list that it chooses, and leads from each round to the next, with the list that the round logged
-pub record LeadsOn (g : Game) (fits : BoardModel → Type 0) (first : ℕ → Bool) (keeps : ℕ → Account → Type 0) (stands : ℕ → List ℕ → List Account → Type 0) : Type 0 where
+-- what a rule says stands before the first round, with the list that it chooses, and leads from each round on a board to the next, with the list that the round logged
+pub record LeadsOn (g : Game) (board : BoardModel) (first : ℕ → Bool) (keeps : ℕ → Account → Type 0) (stands : ℕ → List ℕ → List Account → Type 0) : Type 0 where
   pub graph : IsGraph g
-  -- a board of the game has a counter for each pair
-  pub counters : (board : BoardModel) → fits board → pairs_of g ≤ length board.starts
+  -- the board has a counter for each pair
+  pub counters : pairs_of g ≤ length board.starts
   -- who has done nothing keeps the rule, and who notes an item
   pub fresh : (d : ℕ) → keeps d blank
   pub noted : (d : ℕ) (a : Account) (item : ℕ) → keeps d a → keeps d (with_note a item)
@@ -33,5 +32,5 @@ pub record LeadsOn (g : Game) (fits : BoardModel → Type 0) (first : ℕ → Bo
   -- a list has cells, and no more were logged than there are
   pub within : (d : ℕ) (list : List ℕ) (accounts : List Account) → stands d list accounts → All (λ c. c < g.cells) list
   pub few : (d : ℕ) (list : List ℕ) (accounts : List Account) → stands d list accounts → log_count accounts ≤ g.cells
-  pub next : (board : BoardModel) (d : ℕ) (list next : List ℕ) (accounts more : List Account) → fits board → d ≤ g.cells → 0 < length list → stands d list accounts → IsRound g (keeps d) list more
+  pub next : (d : ℕ) (list next : List ℕ) (accounts more : List Account) → d ≤ g.cells → 0 < length list → stands d list accounts → IsRound g (keeps d) list more
       → IsLawful (accounts ++ more) board.starts board.least → ((c : ℕ) → times c next ≡ times c (logged_cells (all_logs more))) → stands (suc d) next (accounts ++ more)

@@ -11,7 +11,6 @@
 mod crew;
 mod fan_list;
 mod first;
-pub mod laws;
 mod logged;
 mod room;
 mod rounds;

@@ -15,11 +15,8 @@ use crate::room::room_for;
 use crate::rule::Rule;
 use crate::turn::Turn;
 use crate::worker::Worker;
-use cell_counters::laws::{new_places, nothing_done};
 use cell_counters::{Board, Root};
-use frontier_pool::laws::new_hands_share;
 use frontier_pool::{Gate, Member, hands_for};
-use game_core::laws::counts_tell;
 use game_core::{NoMemory, Tally};
 use std::alloc::Global;
 use std::thread::Threads;
@@ -78,8 +75,6 @@ impl Rounds {
         ensures over { IsOver board.now (L.game rule.now).cells self.new }
         ensures stands { L.stands rule.now self.new.tally.rounds [] self.new.root.accounts }
     {
-        rule.leads_on();
-        nothing_done();
         gather(board, &mut self.root, &mut self.list, rule);
         'rounds: while !self.list.is_empty() {
             self.play(rt, alloc, board, rule, workers, gate);
@@ -104,9 +99,6 @@ impl Rounds {
         ensures stands { StandsAt (L.stands rule.now) board.now (L.game rule.now).cells workers self.new }
         ensures nearer { to_go (L.game rule.now).cells self.new < to_go (L.game rule.now).cells self.old }
     {
-        rule.leads_on();
-        counts_tell();
-        new_places();
         let items = self.list.len() as u32;
         let cuts = expected_cuts(rule, &self.list);
         let hands = hands_for(self.tally.rounds, items, cuts, workers);
@@ -155,7 +147,5 @@ fn do_items<R: Threads + Sync, L: Rule, T: Gate>(
     ensures members { vec_len members.new ≡ vec_len members.old }
     ensures room { vec_capacity members.new ≡ vec_capacity members.old }
 {
-    turn.rule.leads_on();
-    new_hands_share();
     work(rt, alloc, turn, members.as_mut_slice(), gate);
 }

@@ -55,7 +55,6 @@ pub trait Rule: Sync {
         ensures once { CutsOnce (pairs_of (game self.now)) pair worker.old worker.new }
         ensures keeps { keeps self.now round worker.old.account → keeps self.now round worker.new.account };
 
-    /// Each round leads on to the next. The call does nothing, and ensures its law.
-    fn leads_on(&self)
-        ensures { LeadsOn (game self.now) (fits self.now) (first self.now) (keeps self.now) (stands self.now) };
+    // On a board that fits, each round leads on to the next.
+    ghost leads_on: { (rule : Self) (board : BoardModel) → fits rule board → LeadsOn (game rule) board (first rule) (keeps rule) (stands rule) };
 }

@@ -6,7 +6,6 @@ use crate::rule::Rule;
 use crate::worker::Worker;
 use cell_counters::Board;
 use frontier_pool::Toil;
-use game_core::laws::edges_from_both_ends;
 
 // A longer row pays for its loads by its length.
 const SHORT_ROW: usize = 16;
@@ -36,8 +35,6 @@ impl<L: Rule> Toil for Turn<'_, L> {
     }
 
     fn one(&self, worker: &mut Worker, item: u32) {
-        self.rule.leads_on();
-        edges_from_both_ends();
         let sources = self.rule.sources(self.list[item as usize]);
         if let Some(later) = self.list.get(item as usize + 2) {
             touch_first(self.board, self.rule.sources(*later));

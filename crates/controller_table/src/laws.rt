@@ -5,40 +5,27 @@ ghost use Rattle.controller_table.specs.Tables.{RowsFit};
 ghost use Rattle.controller_table.specs.Laws.{OneTablePerText, OneChoice, OneRank, OneTableRefusal, TableOrRefused, TablesAreShort, ReachSolutionsFit, KeepSolutionsFit};
 
 use crate::table::Table;
-use game_core::laws::ranks_are_below_the_cells;
-use plant_text::laws::{
-    every_plant_is_within_limits, front_read_or_refused, one_front_refusal, one_plant_at_the_front,
-};
+use plant_text::laws::every_plant_is_within_limits;
 
 /// No bytes are the table of two plants, or of one plant with other rows, or in two versions.
 pub fn one_table_per_text()
     ensures { OneTablePerText }
-{
-    one_plant_at_the_front();
-}
+{}
 
 /// A table chooses one input at a state.
 pub fn one_choice()
     ensures { OneChoice }
-{
-    one_table_per_text();
-}
+{}
 
 /// A table has one rank at a state.
 pub fn one_rank()
     ensures { OneRank }
-{
-    one_table_per_text();
-}
+{}
 
 /// A text has one reason to be refused as a table.
 pub fn one_table_refusal()
     ensures { OneTableRefusal }
-{
-    one_plant_at_the_front();
-    one_front_refusal();
-    front_read_or_refused();
-}
+{}
 
 /// A table's text has at most as many bytes as are read.
 pub fn tables_are_short()
@@ -48,19 +35,12 @@ pub fn tables_are_short()
 /// No table is refused.
 pub fn table_or_refused()
     ensures { TableOrRefused }
-{
-    one_plant_at_the_front();
-    one_front_refusal();
-    front_read_or_refused();
-    tables_are_short();
-}
+{}
 
 /// The rows of the reach solution of a game over a plant's cells and input vectors fit the plant.
 pub fn reach_solutions_fit()
     ensures { ReachSolutionsFit }
-{
-    ranks_are_below_the_cells();
-}
+{}
 
 /// So do those of the keep solution.
 pub fn keep_solutions_fit()

@@ -13,7 +13,6 @@ use crate::front::behind_front;
 use crate::row_reader::rows_behind;
 use crate::table::Table;
 use plant_record::LimitKind;
-use plant_record::laws::every_plant_is_within_limits;
 use plant_text::{Front, PlantFault, read_front};
 use row_runs::Version;
 use std::alloc::Global;
@@ -37,7 +36,6 @@ pub fn read_table(alloc: Global, bytes: &[u8]) -> Result<Table, TableFault>
         return Err(TableFault::Malformed { line: 1 });
     };
     let Front { plant, length } = plant_in(alloc, rest)?;
-    every_plant_is_within_limits(&plant);
     let lines = line_count(&bytes[..VERSION_LENGTH + length]);
     match rows_behind(alloc, version, &plant, &rest[length..]) {
         Ok(answer) => Ok(Table::new(version, plant, answer)),

@@ -5,4 +5,5 @@ pub mod Sizes
 pub mod Texts
 pub mod Overflows
 pub mod FewEdges
+pub mod Solvable
 pub mod GreatestRank

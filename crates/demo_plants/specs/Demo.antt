@@ -13,8 +13,8 @@ use Rattle.plant_record.specs.declared.version.PlantVersion.TheVariants.{One}
 use Rattle.plant_record.specs.Description.{Description, axes_of}
 use Rattle.game_core.specs.declared.game.Row.{Row}
 use Rattle.game_core.specs.Solution.{rank_in, greatest}
-use Rattle.abstraction_table.specs.Abstraction.{pairs_of, AreEdges}
-use Rattle.abstraction_table.specs.Solution.{IsSolutionOf}
+use Rattle.plant_game.specs.Abstraction.{pairs_of, AreEdges}
+use Rattle.plant_game.specs.Solution.{IsSolutionOf}
 
 -- the place of the cart
 abbrev pub place : ℕ → StateVariable

@@ -8,7 +8,7 @@ use Rattle.plant_writing.specs.CanonicalText.{text_of}
 use Rattle.plant_text.specs.Grammar.{Spells}
 use Rattle.plant_text.specs.Refusals.{IsShort}
 use Rattle.successor_box.specs.Deviations.{HasNoOverflow}
-use Rattle.abstraction_table.specs.Abstraction.{pairs_of, AreEdges}
+use Rattle.plant_game.specs.Abstraction.{pairs_of, AreEdges}
 use Rattle.run_words.specs.Form.{IsDemoNumber}
 use Rattle.demo_plants.specs.Demo.{demo_plant_of, demo_text, IsDemoLine}
 

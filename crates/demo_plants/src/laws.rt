@@ -2,9 +2,6 @@
 
 ghost use Rattle.demo_plants.specs.Laws.{DemoPlantsAreWithinLimits, DemoTextsSpell, DemoPlantsHaveNoOverflow, DemoPlantsHaveFewEdges, DemoPlantsAreSolvable, OneDemoLine};
 
-use abstraction_table::laws::{one_edge_count, one_solution_per_plant};
-use plant_text::laws::canonical_texts_spell;
-
 /// A demo plant is within the limits on input vectors, cells and pairs.
 pub fn demo_plants_are_within_limits()
     ensures { DemoPlantsAreWithinLimits }
@@ -13,10 +10,7 @@ pub fn demo_plants_are_within_limits()
 /// The text of a demo plant is its canonical text, which spells it.
 pub fn demo_texts_spell()
     ensures { DemoTextsSpell }
-{
-    demo_plants_are_within_limits();
-    canonical_texts_spell();
-}
+{}
 
 /// No equation of a demo plant overflows, under any input vector.
 pub fn demo_plants_have_no_overflow()
@@ -26,24 +20,14 @@ pub fn demo_plants_have_no_overflow()
 /// A demo plant has at most nine edges for each pair of a cell and an input vector.
 pub fn demo_plants_have_few_edges()
     ensures { DemoPlantsHaveFewEdges }
-{
-    demo_plants_are_within_limits();
-}
+{}
 
 /// No slope and no number of edges refuses a demo plant.
 pub fn demo_plants_are_solvable()
     ensures { DemoPlantsAreSolvable }
-{
-    demo_plants_are_within_limits();
-    demo_plants_have_no_overflow();
-    demo_plants_have_few_edges();
-}
+{}
 
 /// A demo plant has one line.
 pub fn one_demo_line()
     ensures { OneDemoLine }
-{
-    demo_plants_are_within_limits();
-    one_solution_per_plant();
-    one_edge_count();
-}
+{}

@@ -3,7 +3,7 @@
 //! The layer above asks for a plant by its number, from 1 to 500, solves it, and gets the line that sums
 //! the solution up. Both are told exactly: the plant as a description, the line by the plant's solution.
 //! The laws say that nothing refuses a demo plant, and that it has one line. Stands on `plant_text`,
-//! `abstraction_table` and the crates below, and on `run_words` for the numbers.
+//! `plant_game` and the crates below, and on `run_words` for the numbers.
 #![tactic(auto)]
 
 pub mod laws;

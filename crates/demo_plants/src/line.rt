@@ -3,11 +3,10 @@
 ghost use Rattle.std.specs.Prelude.{◌≡◌, map, length, count_by, sum_by, IfOk};
 ghost use Rattle.std.specs.Option.{is_some};
 ghost use Rattle.game_core.specs.Solution.{IsReachSolution, rank_in, greatest};
-ghost use Rattle.abstraction_table.specs.Abstraction.{IsGameOf};
+ghost use Rattle.plant_game.specs.Abstraction.{IsGameOf};
 ghost use Rattle.demo_plants.specs.Demo.{demo_plant_of, IsDemoLine};
 
 use crate::parts::push_part;
-use abstraction_table::laws::games_count_their_edges;
 use game_core::{Answer, Graph};
 use run_devices::NoMemory;
 use std::alloc::Global;
@@ -23,7 +22,6 @@ pub fn demo_line<G: Graph>(
     requires solved { IsReachSolution (G.game game.now) answer.now }
     ensures { IfOk result (λ text. IsDemoLine n text.items) }
 {
-    games_count_their_edges();
     let mut text = Vec::new(alloc);
     push_part(&mut text, b"demo ", n)?;
     push_part(&mut text, b" cells ", game.cells())?;

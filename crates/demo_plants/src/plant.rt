@@ -5,10 +5,8 @@ ghost use Rattle.std.specs.Fmt.{decimal};
 ghost use Rattle.run_words.specs.Form.{IsDemoNumber};
 ghost use Rattle.demo_plants.specs.Demo.{demo_plant_of, demo_text};
 
-use crate::laws::{demo_plants_are_within_limits, demo_texts_spell};
 use crate::parts::push_part;
 use plant_record::Plant;
-use plant_text::laws::canonical_texts_read_back;
 use plant_text::{PlantFault, read_plant};
 use run_devices::NoMemory;
 use std::alloc::{AllocError, Global};
@@ -18,9 +16,6 @@ pub fn demo_plant(alloc: Global, n: u32) -> Result<Plant, NoMemory>
     requires { IsDemoNumber n }
     ensures { IfOk result (λ p. p ≡ demo_plant_of n) }
 {
-    demo_texts_spell();
-    demo_plants_are_within_limits();
-    canonical_texts_read_back();
     let text = demo_text(alloc, n)?;
     match read_plant(alloc, &text) {
         Ok(plant) => Ok(plant),

@@ -1,17 +1,19 @@
 -- Values in many rows, from those of the parts.
-use Rattle.std.proofs.Common.{◌≡◌, ℕ, ◌<◌, List, Option, Some, None, refl, sym, ap₂, subst, ◌∙◌}
-use Rattle.std.specs.Prelude.{ℤ, SomeIff}
+use Rattle.std.proofs.Common.{◌≡◌, ℕ, ◌<◌, List, Option, Some, None, refl, sym, ap, ap₂, subst, ◌∙◌, arith, to_z, of_z, w64}
+use Rattle.std.specs.Prelude.{ℤ, pos, negsuc, SomeIff, FitsSigned}
+use Rattle.std.proofs.lemmas.Int.{ints, to_z-of_z}
 use Rattle.fixed_expr.specs.declared.lanes.TheConstants.{LANES}
 use Rattle.fixed_expr.specs.declared.operation.Binary.{Binary}
 use Rattle.fixed_expr.specs.declared.operation.Binary.TheVariants.{Add, Subtract, Multiply, TakeLesser, TakeGreater}
 use Rattle.fixed_expr.specs.Expression.{Expression}
-use Rattle.fixed_expr.specs.Lanes.{AreNarrow}
+use Rattle.fixed_expr.specs.Lanes.{at, AreNarrow, Holds, HoldsNarrow}
 use Rattle.fixed_expr.specs.Narrow.{IsNarrow, StaysNarrow}
 use Rattle.fixed_expr.specs.Rows.{row_of, StaysNarrowInRows}
 use Rattle.fixed_expr.specs.Value.{value_of}
 use Rattle.fixed_expr.specs.inside.Listing.{combined, combined_number}
-use Rattle.fixed_expr.specs.inside.RowValues.{AnswersNumbers, AnswersValues}
+use Rattle.fixed_expr.specs.inside.RowValues.{value_in, AreNumbers, AnswersNumbers, AnswersValues}
 use Rattle.fixed_expr.specs.declared.rows.Values.{Values}
+use Rattle.fixed_expr.specs.declared.rows.Values.TheVariants.{Alike}
 
 -- ---- in one row
 
@@ -76,3 +78,45 @@ module _ (binary : Binary) (a b : Expression) (columns : List (List ℤ)) where
     pub combined_answer : (answer : Option Values) (rows : List ℤ) → AnswersNumbers answer rows z → AnswersValues answer whole columns rows
     combined_answer None rows none = λ stays. none (narrow_in stays)
     combined_answer (Some values) rows are = (stays_in are.0, λ k lt. are.1 k lt ∙ both k lt ∙ sym (value_combined binary a b (row_of columns k)))
+
+-- ---- in all lanes
+
+module _ (binary : Binary) (x y : ℕ → ℤ) (left right : List ℤ) (is_left : Holds left x) (is_right : Holds right y) where
+  abbrev in_lane : ℕ → ℤ
+  in_lane k = combined_number binary (at left k) (at right k)
+
+  same : (k : ℕ) → k < LANES → in_lane k ≡ combined_number binary (x k) (y k)
+  same k lt = ap₂ (combined_number binary) (is_left k lt) (is_right k lt)
+
+  pub lanes_hold : (found : List ℤ) → HoldsNarrow found in_lane → HoldsNarrow found (λ k. combined_number binary (x k) (y k))
+  lanes_hold found are = (λ k lt. subst IsNarrow (same k lt) (are.0 k lt), λ k lt. are.1 k lt ∙ same k lt)
+
+  pub lanes_leave : ¬ (AreNarrow in_lane) → ¬ (AreNarrow (λ k. combined_number binary (x k) (y k)))
+  lanes_leave leave narrow = leave (λ k lt. subst IsNarrow (sym (same k lt)) (narrow k lt))
+
+-- ---- from values that are the same in all rows
+
+abbrev passed : ℤ → ℤ
+passed z = to_z w64 (of_z w64 z)
+
+pub narrow_passed : (z : ℤ) → IsNarrow z → passed z ≡ z
+narrow_passed (pos n) narrow = omega (arith, ints, narrow.1)
+narrow_passed (negsuc n) narrow = omega (arith, ints, narrow.0)
+
+module _ (binary : Binary) (left right : Values) (found other : List ℤ) (x y : ℤ) (is_left : left ≡ Alike x) (is_right : right ≡ Alike y) (first : FitsSigned w64 x) (second : FitsSigned w64 y) where
+  abbrev in_row : ℕ → ℤ
+  in_row k = combined_number binary (value_in left found k) (value_in right other k)
+
+  in_all : (k : ℕ) → combined_number binary (passed x) (passed y) ≡ in_row k
+  in_all k =
+      ap₂ (combined_number binary)
+      (to_z-of_z w64 x first ∙ sym (ap (λ (v : Values). value_in v found k) is_left))
+      (to_z-of_z w64 y second ∙ sym (ap (λ (v : Values). value_in v other k) is_right))
+
+  pub alike_hold : (z : ℤ) → IsNarrow (combined_number binary (passed x) (passed y)) × (z ≡ combined_number binary (passed x) (passed y)) → AreNumbers (Alike (passed z)) found in_row
+  alike_hold z h =
+      let narrow : IsNarrow z = subst IsNarrow (sym h.1) h.0 in
+      (λ k lt. subst IsNarrow (in_all k) h.0, λ k lt. narrow_passed z narrow ∙ h.1 ∙ in_all k)
+
+  pub alike_leave : ¬ (IsNarrow (combined_number binary (passed x) (passed y))) → ¬ (AreNarrow in_row)
+  alike_leave leave narrow = leave (subst IsNarrow (sym (in_all 0)) (narrow 0 (omega arith)))

@@ -8,4 +8,5 @@ pub mod Nesting
 pub mod MovingSpans
 pub mod IntervalColumns
 pub mod AreaColumns
+pub mod Nodes
 pub mod Laws

@@ -13,6 +13,10 @@ covers_same known a is = record { all = a; is = is; opening = refl; begins = pre
 pub covers_less : (known : Option Published) (a b : Published) → Covers known b → a.opening ≡ b.opening → IsPrefix a.list b.list → Covers known a
 covers_less known a b h o p = record { all = h.all; is = h.is; opening = o ∙ h.opening; begins = prefix_trans a.list b.list h.all.list p h.begins }
 
+-- lists that one seat covers are of one opening
+pub covers_one : (known : Option Published) (a b : Published) → Covers known a → Covers known b → a.opening ≡ b.opening
+covers_one known a b h k = cc (h.is, h.opening, k.is, k.opening)
+
 -- a list that is covered begins what a look finds
 pub covers_found : (known now : Option Published) (a f : Published) → Covers known a → Begins known now → now ≡ Some f → (a.opening ≡ f.opening) × IsPrefix a.list f.list
 covers_found known now a f h begins is =

@@ -8,10 +8,10 @@ use Rattle.game_core.specs.declared.game.Row.{Row}
 use Rattle.grid_quantiser.specs.Cells.{cell_of, point_of}
 use Rattle.plant_record.specs.Description.{Description, axes_of, vector_of}
 use Rattle.plant_record.specs.Limits.{IsWithinLimits}
-use Rattle.plant_record.specs.Soundness.{PlantsAreSound}
+use Rattle.plant_record.proofs.lemmas.SoundPlants.{sound}
 use Rattle.plant_record.specs.Steps.{IsNoise, step_of, StepStaysInRange}
 use Rattle.successor_box.specs.Deviations.{HasNoOverflow}
-use Rattle.successor_box.specs.Laws.{StepsStayInRange}
+use Rattle.successor_box.proofs.Steps.{step_stays}
 use Rattle.controller_table.specs.Tables.{TableModel, IsRowOf, RowsFit}
 use Rattle.loop_sim.specs.Noise.{generator, noises_at, noises_from}
 use Rattle.loop_sim.specs.Trace.{row_at, trace_lines}
@@ -32,11 +32,11 @@ pub row_fits : (p : Description) (rows : List (Option Row)) (x : List ℤ) (row 
 row_fits p rows x row fit e = row_is p rows (cell_of (axes_of p) x) row fit.each (has_row p rows x row e).is
 
 -- the noises that are drawn keep the step in the range
-pub stays : StepsStayInRange → PlantsAreSound → (p : Description) (rows : List (Option Row)) (x w : List ℤ) (row : Row) (before : ℕ) → IsWithinLimits p → RowsFit p rows → HasNoOverflow p → row_at p rows x ≡ Some row → w ≡ point_of (noises_from p.noises before 0)
+pub stays : (p : Description) (rows : List (Option Row)) (x w : List ℤ) (row : Row) (before : ℕ) → IsWithinLimits p → RowsFit p rows → HasNoOverflow p → row_at p rows x ≡ Some row → w ≡ point_of (noises_from p.noises before 0)
     → StepStaysInRange p x row.input w
-stays steps sound p rows x w row before limits fit overflow e drawn =
+stays p rows x w row before limits fit overflow e drawn =
     let noises : List ℤ = noises_from p.noises before 0 in
-    steps p row.input x w (sound p limits.plant) overflow (row_fits p rows x row fit e).input (has_row p rows x row e).inside (subst (IsNoise p.noises) (sym drawn) (noises_lie p.noises (replicate (6 - length noises) (pos 0)) before 0 limits.plant.noises))
+    step_stays p row.input x w (sound p limits.plant) overflow (row_fits p rows x row fit e).input (has_row p rows x row e).inside (subst (IsNoise p.noises) (sym drawn) (noises_lie p.noises (replicate (6 - length noises) (pos 0)) before 0 limits.plant.noises))
 
 -- what lies past the noises is not looked at
 same_step : (p : Description) (x w past : List ℤ) (u : ℕ) → length p.noises ≤ length w → step_of p x u (w ++ past) ≡ step_of p x u w

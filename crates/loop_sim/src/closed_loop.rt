@@ -1,19 +1,18 @@
 // A closed loop, sample by sample.
 
 ghost use Rattle.std.specs.Prelude.{◌≡◌, ◌<◌, ◌∷◌, Some};
+ghost use Rattle.plant_record.specs.Limits.{IsWithinLimits};
 ghost use Rattle.successor_box.specs.Deviations.{HasNoOverflow};
+ghost use Rattle.controller_table.specs.Tables.{RowsFit};
 ghost use Rattle.loop_sim.specs.Trace.{row_at, has_arrived, trace_lines};
 ghost use Rattle.loop_sim.specs.inside.Stages.{IsSample, IsStage, lines_left, lines_behind, lines_on};
 
 use crate::line::SimLine;
 use crate::noise::draw;
 use controller_table::Table;
-use controller_table::laws::every_table_fits;
 use game_core::Row;
 use grid_quantiser::Point;
-use plant_record::laws::plants_are_sound;
 use plant_record::{Equations, GoalKind};
-use successor_box::laws::steps_stay_in_range;
 
 /// A sample of a closed loop.
 #[derive(Clone, Copy)]
@@ -47,6 +46,8 @@ pub fn row_at(t: &Table, x: &Point) -> Option<Row>
 
 /// The first line of a sample, and what is behind it.
 pub(crate) fn first_line(t: &Table, equations: &Equations<'_>, sample: &Sample) -> (SimLine, Stage)
+    requires plant { IsWithinLimits t.now.plant }
+    requires rows { RowsFit t.now.plant t.now.rows }
     requires fits { ∥ HasNoOverflow t.now.plant ∥₁ }
     requires equations { equations.now ≡ t.now.plant }
     requires sample { IsSample t.now.plant sample.now }
@@ -65,6 +66,8 @@ pub(crate) fn first_line(t: &Table, equations: &Equations<'_>, sample: &Sample) 
 
 /// What is behind the first line of a sample.
 fn behind(t: &Table, equations: &Equations<'_>, sample: &Sample, row: Row) -> Stage
+    requires plant { IsWithinLimits t.now.plant }
+    requires rows { RowsFit t.now.plant t.now.rows }
     requires fits { ∥ HasNoOverflow t.now.plant ∥₁ }
     requires equations { equations.now ≡ t.now.plant }
     requires sample { IsSample t.now.plant sample.now }
@@ -94,6 +97,8 @@ fn has_arrived(goal: GoalKind, row: Row) -> bool
 
 /// The sample behind one that is not the last.
 fn next_sample(t: &Table, equations: &Equations<'_>, sample: &Sample, row: Row) -> Sample
+    requires plant { IsWithinLimits t.now.plant }
+    requires rows { RowsFit t.now.plant t.now.rows }
     requires fits { ∥ HasNoOverflow t.now.plant ∥₁ }
     requires equations { equations.now ≡ t.now.plant }
     requires sample { IsSample t.now.plant sample.now }
@@ -102,9 +107,6 @@ fn next_sample(t: &Table, equations: &Equations<'_>, sample: &Sample, row: Row) 
     ensures sample { IsSample t.now.plant result }
     ensures lines { trace_lines t.now.plant t.now.rows result.seed result.left result.time result.x ≡ lines_on t.now sample.now.seed sample.now.left sample.now.time sample.now.x row }
 {
-    every_table_fits(t);
-    plants_are_sound();
-    steps_stay_in_range();
     let p = t.plant();
     let (noises, state) = draw(p, sample.state);
     let Some(x) = equations.step(&sample.x, row.input, &noises) else {

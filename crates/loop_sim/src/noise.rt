@@ -2,11 +2,11 @@
 
 ghost use Rattle.std.specs.Prelude.{◌≡◌, ◌+◌, ◌/◌, ◌%◌, ◌^◌, ◌<◌, nat_abs, pos, ◌+ℤ◌, ◌-ℤ◌, length};
 ghost use Rattle.grid_quantiser.specs.Cells.{point_of};
+ghost use Rattle.plant_record.specs.Limits.{IsWithinLimits};
 ghost use Rattle.loop_sim.specs.Noise.{generator, next_state, noises_from};
 
 use grid_quantiser::Point;
 use plant_record::Plant;
-use plant_record::laws::every_plant_is_within_limits;
 
 const MULTIPLIER: u64 = 6364136223846793005;
 
@@ -15,10 +15,10 @@ const INCREMENT: u64 = 1442695040888963407;
 /// The noises that follow a state of the generator, one for each noise of the plant, and the state
 /// behind them.
 pub(crate) fn draw(p: &Plant, before: u64) -> (Point, u64)
+    requires plant { IsWithinLimits p.now }
     ensures noises { result.0 ≡ point_of (noises_from p.now.noises before 0) }
     ensures state { result.1 ≡ generator before (length p.now.noises) }
 {
-    every_plant_is_within_limits(p);
     let mut noises = [0; 6];
     let mut state = before;
     for k in 0..p.noises() {

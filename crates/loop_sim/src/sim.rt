@@ -8,6 +8,7 @@ ghost use Rattle.loop_sim.specs.Trace.{trace_lines};
 use crate::closed_loop::{Sample, Stage, first_line, row_at};
 use crate::line::SimLine;
 use controller_table::Table;
+use controller_table::laws::every_table_fits;
 use grid_quantiser::Point;
 use plant_record::Equations;
 use std::marker::Model;
@@ -23,7 +24,9 @@ pub struct Sim<'a> {
 
 impl<'a> Model for Sim<'a> {
     ghost use Rattle.std.specs.Prelude.{◌≡◌, List};
+    ghost use Rattle.plant_record.specs.Limits.{IsWithinLimits};
     ghost use Rattle.successor_box.specs.Deviations.{HasNoOverflow};
+    ghost use Rattle.controller_table.specs.Tables.{RowsFit};
     ghost use Rattle.loop_sim.specs.declared.line.SimLine.{SimLine};
     ghost use Rattle.loop_sim.specs.inside.Stages.{lines_left, IsStage};
 
@@ -31,7 +34,7 @@ impl<'a> Model for Sim<'a> {
 
     ghost view = { λ s. lines_left s.table.now s.stage };
 
-    ghost invariant = { λ s. ∥ HasNoOverflow s.table.now.plant ∥₁ × (s.equations ≡ s.table.now.plant) × IsStage s.table.now.plant s.stage };
+    ghost invariant = { λ s. ∥ HasNoOverflow s.table.now.plant ∥₁ × (s.equations ≡ s.table.now.plant) × IsStage s.table.now.plant s.stage × IsWithinLimits s.table.now.plant × RowsFit s.table.now.plant s.table.now.rows };
 }
 
 impl<'a> Sim<'a> {
@@ -43,6 +46,7 @@ impl<'a> Sim<'a> {
         requires steps { steps ≤ 1000000 }
         ensures { SomeIff result ((row : Row) × HasRowAt t.now.plant t.now.rows x.now row) (trace_lines t.now.plant t.now.rows seed steps 0 (point_of (take (length t.now.plant.states) x.now))) }
     {
+        every_table_fits(t);
         row_at(t, x)?;
         Some(Sim {
             table: t,

@@ -10,7 +10,6 @@ use controller_table::words_of;
 use game_core::Row;
 use itoa::Buffer;
 use plant_record::Plant;
-use plant_record::laws::every_plant_is_within_limits;
 use row_runs::LineText;
 
 /// The first line of a trace.
@@ -37,10 +36,9 @@ fn write_sample(text: &mut LineText, p: &Plant, time: u32, x: &[i128; 6], row: R
     ensures text { text.new ≡ line_text p.now (SimLine.At time x.now row) }
     ensures some { 0 < length text.new }
 {
-    every_plant_is_within_limits(p);
     text.begin();
     text.put_row_before(words_of(p.goal()), row);
-    put_state_before(text, &x[..p.states() as usize]);
+    put_state_before(text, &x[..p.grid().states() as usize]);
     text.put_number_before(time);
 }
 
@@ -48,9 +46,8 @@ fn write_loss(text: &mut LineText, p: &Plant, time: u32, x: &[i128; 6])
     ensures text { text.new ≡ line_text p.now (SimLine.Lost time x.now) }
     ensures some { 0 < length text.new }
 {
-    every_plant_is_within_limits(p);
     text.begin();
-    put_state_before(text, &x[..p.states() as usize]);
+    put_state_before(text, &x[..p.grid().states() as usize]);
     text.put_number_before(time);
     text.put_before(b"lost ");
 }

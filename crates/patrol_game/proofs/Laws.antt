@@ -6,7 +6,7 @@ use Rattle.game_core.specs.Solution.{row_of, HasRowBelow}
 use Rattle.game_core.specs.Strategy.{Trees, Apply, LeadsTo, depth_of}
 use Rattle.plant_record.specs.Description.{Description}
 use Rattle.plant_record.specs.Plants.{IsPlant}
-use Rattle.abstraction_table.specs.Abstraction.{IsGameOf}
+use Rattle.plant_game.specs.Abstraction.{IsGameOf}
 use Rattle.patrol_game.specs.Targets.{IsInTarget}
 use Rattle.patrol_game.specs.Visits.{IsArrival}
 use Rattle.patrol_game.specs.Patrol.{IsPatrol, rows_for}

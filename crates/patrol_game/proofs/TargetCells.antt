@@ -11,10 +11,11 @@ use Rattle.game_core.specs.Game.{Game, mark_of}
 use Rattle.plant_record.specs.Description.{Description, axes_of}
 use Rattle.plant_record.specs.Marks.{IsObstacleCell}
 use Rattle.plant_record.specs.Plants.{IsPlant}
-use Rattle.abstraction_table.specs.Abstraction.{IsGameOf}
+use Rattle.plant_game.specs.Abstraction.{IsGameOf}
 use Rattle.grid_quantiser.proofs.CellPoints.{ends_from_inside, inside_from_ends}
 use Rattle.plant_record.proofs.lemmas.SoundPlants.{sound}
-use Rattle.patrol_game.specs.Targets.{target_at, IsInTarget}
+use Rattle.plant_game.specs.Marks.{target_at}
+use Rattle.patrol_game.specs.Targets.{IsInTarget}
 
 at_most_told : (axes : List Axis) (xs ys : List ℤ) → IsAtMost axes xs ys ⊎ (IsAtMost axes xs ys → ⊥)
 at_most_told [] xs ys = inl tt

@@ -1,14 +1,9 @@
 -- The targets of a plant by their numbers, one for each turn.
-use Rattle.std.specs.Prelude.{ℕ, ◌<◌, [], length, slice_index_or}
-use Rattle.grid_quantiser.specs.Boxes.{LiesInside}
-use Rattle.plant_record.specs.declared.aims.StateBox.{StateBox}
-use Rattle.plant_record.specs.Description.{Description, axes_of}
+use Rattle.std.specs.Prelude.{ℕ, ◌<◌, length}
+use Rattle.plant_record.specs.Description.{Description}
 use Rattle.plant_record.specs.Marks.{IsObstacleCell}
-
--- the target of a turn
-abbrev pub target_at : Description → ℕ → StateBox
-target_at p j = slice_index_or p.targets j (record { low = []; high = [] })
+use Rattle.plant_game.specs.Marks.{LiesInTarget}
 
 -- a cell that is no obstacle, all points of which lie in target j
 abbrev pub IsInTarget : Description → ℕ → ℕ → Type 0
-IsInTarget p j c = (j < length p.targets) × (IsObstacleCell p c → ⊥) × LiesInside (axes_of p) c (target_at p j).low (target_at p j).high
+IsInTarget p j c = (j < length p.targets) × (IsObstacleCell p c → ⊥) × LiesInTarget p j c

@@ -1,18 +1,13 @@
 // The arrivals of a turn.
 ghost use Rattle.std.specs.Prelude.{◌≡◌, ◌<◌, ◌≤◌, true, false, length, count_by, IfOk};
-ghost use Rattle.std.specs.List.{All, Contains};
-ghost use Rattle.grid_quantiser.specs.Axes.{cells_of};
-ghost use Rattle.grid_quantiser.specs.Boxes.{LiesInside};
-ghost use Rattle.game_core.specs.declared.game.Mark.TheVariants.{Goal, Obstacle};
+ghost use Rattle.game_core.specs.declared.game.Mark.TheVariants.{Obstacle};
 ghost use Rattle.game_core.specs.Game.{mark_of};
-ghost use Rattle.plant_record.specs.Description.{axes_of};
-ghost use Rattle.abstraction_table.specs.Abstraction.{IsGameOf};
-ghost use Rattle.abstraction_table.specs.inside.Marks.{AreMarked};
-ghost use Rattle.patrol_game.specs.Targets.{target_at};
+ghost use Rattle.plant_game.specs.Abstraction.{IsGameOf};
+ghost use Rattle.plant_game.specs.Marks.{AreMarked};
 ghost use Rattle.patrol_game.specs.inside.Turns.{withdrawn, is_gone, is_goal, AreTargetMarks};
 
 use game_core::{Answer, Graph, Mark, NoMemory, Row};
-use grid_quantiser::Runs;
+use plant_game::mark_target;
 use plant_record::Plant;
 use std::alloc::Global;
 use std::marker::Model;
@@ -64,30 +59,6 @@ impl Arrivals {
         ensures fewer { result ≡ true → count_by is_goal self.new < count_by is_goal self.old }
     {
         withdraw(&mut self.marks, rows)
-    }
-}
-
-/// Makes goals of the cells that lie in a target.
-fn mark_target(p: &Plant, turn: u32, marks: &mut [Mark])
-    requires turn { turn < length p.now.targets }
-    requires one_each { length marks.old ≡ cells_of (axes_of p.now) }
-    ensures { AreMarked Goal (λ c. LiesInside (axes_of p.now) c (target_at p.now turn).low (target_at p.now turn).high) marks.old marks.new }
-{
-    let grid = p.grid();
-    let (low, high) = p.target(turn);
-    if let Some(target) = grid.within(&low, &high) {
-        mark_goals(grid.runs(target), marks);
-    }
-}
-
-/// Makes goals of cells, run by run.
-fn mark_goals(mut cells: Runs, marks: &mut [Mark])
-    requires { All (λ c. c < length marks.old) cells }
-    ensures { AreMarked Goal (Contains cells) marks.old marks.new }
-{
-    while let Some((first, len)) = cells.next_run() {
-        let first = first as usize;
-        marks[first..first + len as usize].fill(Mark::Goal);
     }
 }
 

@@ -4,7 +4,7 @@
 //! controller can visit this target and then the others in turn for ever, with the least depth of a strategy to the next
 //! visit and the least input with which one of that depth begins. It leaves out the cells that aren't kept, asks the solver
 //! of the reach game turn by turn, and solves again only the turns whose arrivals have changed. Stands on `plant_record`,
-//! `abstraction_table`, `game_core`, `frontier_pool`, `safety_game` and `reach_avoid`.
+//! `plant_game`, `game_core`, `frontier_pool`, `safety_game` and `reach_avoid`.
 #![tactic(auto)]
 
 mod arrivals;

@@ -1,6 +1,6 @@
 // Patrol, by the solver of the reach game under other marks, among the cells that the solver of the keep game keeps.
 ghost use Rattle.std.specs.Prelude.{◌≤◌, ◌*◌, length, IfOk};
-ghost use Rattle.abstraction_table.specs.Abstraction.{IsGameOf};
+ghost use Rattle.plant_game.specs.Abstraction.{IsGameOf};
 ghost use Rattle.patrol_game.specs.Targets.{IsInTarget};
 ghost use Rattle.patrol_game.specs.Patrol.{IsPatrol};
 ghost use Rattle.patrol_game.specs.inside.Turns.{IsAtStart};

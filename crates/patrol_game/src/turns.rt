@@ -1,7 +1,7 @@
 // The search for a patrol, turn by turn.
 ghost use Rattle.std.specs.Prelude.{◌≡◌, ℕ, ◌<◌, ◌≤◌, ◌^◌, true, false, length, IfOk, IfSome};
 ghost use Rattle.std.specs.Option.{IfNone};
-ghost use Rattle.abstraction_table.specs.Abstraction.{IsGameOf};
+ghost use Rattle.plant_game.specs.Abstraction.{IsGameOf};
 ghost use Rattle.game_core.specs.Keep.{IsKeepSolution};
 ghost use Rattle.patrol_game.specs.inside.Turns.{Progress, marks_for, is_due, AreTravelRows, AreTurnMarks, IsAtStart, IsBefore, IsSettledAt};
 

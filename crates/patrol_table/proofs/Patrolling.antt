@@ -11,13 +11,13 @@ use Rattle.grid_quantiser.specs.Cells.{IsInDomain, cell_of}
 use Rattle.plant_record.specs.Description.{Description, axes_of}
 use Rattle.plant_record.specs.States.{IsClear}
 use Rattle.plant_record.specs.Steps.{step_of, IsNoise}
-use Rattle.abstraction_table.specs.Abstraction.{IsGameOf}
-use Rattle.abstraction_table.specs.Refinement.{IsRefinement}
+use Rattle.plant_game.specs.Abstraction.{IsGameOf}
+use Rattle.plant_game.specs.Refinement.{IsRefinement}
 use Rattle.patrol_game.specs.Targets.{IsInTarget}
 use Rattle.patrol_game.specs.Visits.{next_turn, VisitsOn, IsArrival}
 use Rattle.patrol_game.specs.Patrol.{IsTravelledBy, IsPatrolRow, IsPatrol, rows_for}
 use Rattle.patrol_game.proofs.Laws.{targets_are_told, travellers_have_rows}
-use Rattle.abstraction_table.proofs.Landing.{below_from_row, refines, clear_at, lands}
+use Rattle.plant_game.proofs.GameLaws.{below_from_row, refines, clear_at, lands}
 use Rattle.patrol_table.specs.PatrolText.{IsPatrolText, HasPatrolRow, IsArrivalIn}
 use Rattle.patrol_table.specs.Patrols.{LandsWell, Goes, Patrols}
 use Rattle.patrol_table.proofs.OneText.{one_patrol_text}

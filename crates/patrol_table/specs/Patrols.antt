@@ -8,7 +8,7 @@ use Rattle.std.specs.Prelude.{◌⊎◌, ℕ, ◌-◌, ◌≤◌, ℤ, List, [],
 use Rattle.std.specs.List.{All}
 use Rattle.game_core.specs.declared.game.Row.{Row}
 use Rattle.patrol_game.specs.Visits.{next_turn}
-use Rattle.patrol_game.specs.Targets.{target_at}
+use Rattle.plant_game.specs.Marks.{target_at}
 use Rattle.patrol_table.specs.PatrolText.{HasPatrolRow, IsArrivalIn}
 
 -- where a step lands: at an arrival, within its target, from which it goes on to the next; or not yet, with samples left

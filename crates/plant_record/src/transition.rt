@@ -4,9 +4,9 @@ ghost use Rattle.fixed_expr.specs.Expression.{expression_of};
 ghost use Rattle.fixed_expr.specs.Value.{IsWellFormed, StaysInRange, value_of};
 ghost use Rattle.grid_quantiser.specs.Cells.{point_of};
 ghost use Rattle.plant_record.specs.Description.{names_of, vectors_of};
+ghost use Rattle.plant_record.specs.Limits.{IsWithinLimits};
 ghost use Rattle.plant_record.specs.Steps.{equation_at, values_at, step_of, StepStaysInRange};
 
-use crate::laws::every_plant_is_within_limits;
 use crate::plant::Plant;
 use fixed_expr::{Expr, eval};
 use grid_quantiser::Point;
@@ -28,18 +28,17 @@ pub fn step_along(p: &Plant, x: &Point, input: u32, noise: &Point, state: u32) -
     requires state { state < length p.now.equations }
     ensures { SomeIff result (StaysInRange (equation_at p.now state) (values_at p.now x.now input noise.now)) (value_of (equation_at p.now state) (values_at p.now x.now input noise.now)) }
 {
-    every_plant_is_within_limits(p);
     let values = values_at(p, x, input, noise);
     eval(p.equation(state), &values[..variables(p)])
 }
 
-/// How many variables there are.
+/// How many variables there are: a state for each equation, the inputs and the noises.
 pub(crate) fn variables(p: &Plant) -> usize
     ensures count { result ≡ length (names_of p.now) }
     ensures bound { result ≤ 15 }
+    ensures plant { IsWithinLimits p.now }
 {
-    every_plant_is_within_limits(p);
-    (p.states() + p.input_variables() + p.noises()) as usize
+    p.equations().len() + (p.input_variables() + p.noises()) as usize
 }
 
 /// The values of the variables, and 0 in the places past them.
@@ -47,7 +46,6 @@ pub(crate) fn values_at(p: &Plant, x: &Point, input: u32, noise: &Point) -> [i12
     requires { input < vectors_of p.now.inputs }
     ensures { take (length (names_of p.now)) result ≡ values_at p.now x.now input noise.now }
 {
-    every_plant_is_within_limits(p);
     let mut values = [0; 15];
     for i in 0..variables(p) {
         values[i] = value_at(p, x, input, noise, i);
@@ -57,11 +55,11 @@ pub(crate) fn values_at(p: &Plant, x: &Point, input: u32, noise: &Point) -> [i12
 
 /// The value of one variable.
 fn value_at(p: &Plant, x: &Point, input: u32, noise: &Point, i: usize) -> i128
+    requires plant { IsWithinLimits p.now }
     requires input { input < vectors_of p.now.inputs }
     requires variable { i < length (names_of p.now) }
     ensures { result ≡ slice_index_or (values_at p.now x.now input noise.now) i (pos 0) }
 {
-    every_plant_is_within_limits(p);
     let states = p.states() as usize;
     let noises = states + p.input_variables() as usize;
     if i < states {

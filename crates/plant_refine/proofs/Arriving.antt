@@ -11,7 +11,7 @@ use Rattle.grid_quantiser.specs.Axes.{cells_of}
 use Rattle.grid_quantiser.specs.Cells.{IsInDomain, cell_of, place_of, point_of}
 use Rattle.plant_record.specs.Description.{Description, axes_of, axis_of}
 use Rattle.plant_record.specs.Steps.{step_of}
-use Rattle.successor_box.specs.Laws.{PointsLieWithTheirStates}
+use Rattle.successor_box.proofs.Padding.{point_lies}
 use Rattle.controller_table.specs.Choice.{Chooses, HasRowAt}
 use Rattle.plant_record.specs.States.{LiesInSome, IsClear}
 use Rattle.plant_refine.specs.Runs.{Moves, IsStateAt, ArrivesFirst}
@@ -30,15 +30,15 @@ cell_take (a ∷ axes) [] = refl
 cell_take (a ∷ axes) (x ∷ xs) = ap (λ (n : ℕ). place_of a x * cells_of axes + n) (cell_take axes xs)
 
 -- a row stands at the start as at the state
-at_start : PointsLieWithTheirStates → (p : Description) (rows : List (Option Row)) (x : List ℤ) (row : Row) → HasRowAt p rows x row → HasRowAt p rows (point_of (take (length p.states) x)) row
-at_start points p rows x row has =
+at_start : (p : Description) (rows : List (Option Row)) (x : List ℤ) (row : Row) → HasRowAt p rows x row → HasRowAt p rows (point_of (take (length p.states) x)) row
+at_start p rows x row has =
     let count : length (axes_of p) ≡ length p.states = length-map p.states axis_of in
     let inside = inside_take (axes_of p) x has.inside in
     let start : List ℤ = take (length p.states) x in
     let in_start : IsInDomain (axes_of p) start = subst (λ (n : ℕ). IsInDomain (axes_of p) (take n x)) count inside.0 in
     let cell : cell_of (axes_of p) start ≡ cell_of (axes_of p) x = subst (λ (n : ℕ). cell_of (axes_of p) (take n x) ≡ cell_of (axes_of p) x) count (cell_take (axes_of p) x) in
     let long : length start ≡ length p.states = length-take-le (length p.states) x (omega (arith, count, inside.1)) in
-    let same = points p start (omega (arith, long)) in
+    let same = point_lies p start (omega (arith, long)) in
     record { inside = same.0.1 in_start; is = ap (row_of rows) (same.1 ∙ cell) ∙ has.is }
 
 -- How far the run has come at a sample before which it lies in no target.
@@ -73,9 +73,9 @@ module _ {p : Description} {rows : List (Option Row)} (down : LeadDown p rows) (
             subst (IsClear p) (one_state n y z at (subst (λ (m : ℕ). IsStateAt p rows x ws m z) same h)) (down.clear y row has)
       ]
 
-  pub begins : PointsLieWithTheirStates → (row : Row) → HasRowAt p rows x row → (y : List ℤ) → y ≡ point_of (take (length p.states) x) → IsUnderWay p rows x ws 0 y
-  begins points row has y is =
-      let there : HasRowAt p rows y row = subst (λ (s : List ℤ). HasRowAt p rows s row) (sym is) (at_start points p rows x row has) in
+  pub begins : (row : Row) → HasRowAt p rows x row → (y : List ℤ) → y ≡ point_of (take (length p.states) x) → IsUnderWay p rows x ws 0 y
+  begins row has y is =
+      let there : HasRowAt p rows y row = subst (λ (s : List ℤ). HasRowAt p rows s row) (sym is) (at_start p rows x row has) in
       record {
         state = is;
         row = row;

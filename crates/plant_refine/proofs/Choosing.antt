@@ -2,7 +2,8 @@
 use Rattle.std.proofs.Common.{◌≡◌, ℕ, ◌<◌, List, Option, Some, None, refl, sym, subst, ap, ◌∙◌}
 use Rattle.std.specs.Prelude.{ℤ}
 use Rattle.game_core.specs.declared.game.Row.{Row}
-use Rattle.game_core.specs.Solution.{row_of, RowsStandAtCells}
+use Rattle.game_core.specs.Solution.{row_of}
+use Rattle.game_core.proofs.Rows.{below_from_row}
 use Rattle.grid_quantiser.specs.Axes.{cells_of}
 use Rattle.grid_quantiser.specs.Cells.{cell_of, point_of}
 use Rattle.plant_record.specs.declared.aims.GoalKind.{GoalKind}
@@ -55,10 +56,10 @@ leads_lower p rows x w y u row down input noise is has =
     subst (λ (r : Row). HasLowerRow p rows r.rank y) same (subst (HasLowerRow p rows input.row.rank) there lower)
 
 -- the rank of a row of a reach table is below the number of cells
-pub rank_below : (p q : Description) (rows : List (Option Row)) (x : List ℤ) (row : Row) → q ≡ p → p.goal ≡ Reach → RowsStandAtCells → RowsFit q rows → HasRowAt p rows x row → row.rank < cells_of (axes_of p)
-rank_below p q rows x row same goal stand fit has =
+pub rank_below : (p q : Description) (rows : List (Option Row)) (x : List ℤ) (row : Row) → q ≡ p → p.goal ≡ Reach → RowsFit q rows → HasRowAt p rows x row → row.rank < cells_of (axes_of p)
+rank_below p q rows x row same goal fit has =
     let c : ℕ = cell_of (axes_of p) x in
     let fits : RowsFit p rows = subst (λ (r : Description). RowsFit r rows) same fit in
-    let is : IsRowOf p row = subst (λ (o : Option Row). IfSome o (IsRowOf p)) has.is (fits.each c None (stand rows c row has.is)) in
+    let is : IsRowOf p row = subst (λ (o : Option Row). IfSome o (IsRowOf p)) has.is (fits.each c None (below_from_row rows c row has.is)) in
     let rank : HasFittingRank Reach (cells_of (axes_of p)) row = subst (λ (g : GoalKind). HasFittingRank g (cells_of (axes_of p)) row) goal is.rank in
     rank.0

@@ -7,23 +7,25 @@ use Rattle.game_core.specs.declared.game.Row.{Row}
 use Rattle.game_core.specs.declared.game.Mark.TheVariants.{Obstacle}
 use Rattle.game_core.specs.Game.{Game, mark_of, successors_of}
 use Rattle.game_core.specs.Keep.{StandsOn, IsKept, IsKeptBy, IsKeepRow, IsKeepSolution}
-use Rattle.game_core.specs.Solution.{row_of, RowsStandAtCells}
+use Rattle.game_core.specs.Solution.{row_of}
 use Rattle.game_core.specs.Strategy.{Tree, Leaf, Apply}
+use Rattle.game_core.proofs.Rows.{below_from_row}
 use Rattle.grid_quantiser.specs.Cells.{IsInDomain, cell_of}
 use Rattle.grid_quantiser.specs.Boxes.{IsInBox, Touches}
-use Rattle.grid_quantiser.specs.Laws.{StatesHaveCells}
+use Rattle.grid_quantiser.proofs.Domain.{cell_below}
 use Rattle.plant_record.specs.declared.aims.GoalKind.{GoalKind}
 use Rattle.plant_record.specs.declared.aims.GoalKind.TheVariants.{Keep}
 use Rattle.plant_record.specs.Description.{Description, axes_of}
 use Rattle.plant_record.specs.Marks.{IsObstacleCell}
-use Rattle.plant_record.specs.Soundness.{IsSound}
 use Rattle.plant_record.specs.Steps.{step_of, IsNoise}
+use Rattle.plant_record.proofs.lemmas.SoundPlants.{sound}
 use Rattle.controller_table.specs.Choice.{Applies, HasRowAt}
-use Rattle.controller_table.specs.Laws.{OneTablePerText}
 use Rattle.controller_table.specs.Tables.{IsTable}
-use Rattle.abstraction_table.specs.Abstraction.{IsGameOf}
+use Rattle.plant_game.specs.Abstraction.{IsGameOf}
 use Rattle.plant_record.specs.States.{IsClear}
-use Rattle.abstraction_table.specs.Refinement.{IsRefinement}
+use Rattle.plant_game.specs.Refinement.{IsRefinement}
+use Rattle.plant_game.proofs.GameLaws.{refines}
+use Rattle.plant_refine.specs.Laws.{KeptTablesKeepPlants}
 use Rattle.plant_refine.specs.Stays.{HasSomeRow, Remains, Stays}
 use Rattle.plant_refine.proofs.Boxes.{any_other}
 use Rattle.plant_refine.proofs.RightTables.{row_of_table}
@@ -37,19 +39,16 @@ no_obstacle g c (Apply u next) h = absurd h
 pub record Keeps (bytes : List ℕ) (p : Description) (g : Game) (rows : List (Option Row)) : Type 0 where
   pub goal : p.goal ≡ Keep
   pub table : IsTable bytes p rows
-  pub sound : IsSound p
   pub abstraction : IsGameOf p g
   pub solution : IsKeepSolution g rows
   pub refined : IsRefinement p g
-  pub cells : StatesHaveCells
-  pub stand : RowsStandAtCells
 
 module _ {bytes : List ℕ} {p : Description} {g : Game} {rows : List (Option Row)} (k : Keeps bytes p g rows) where
-  cell_below : (c : ℕ) (row : Row) → row_of rows c ≡ Some row → c < g.cells
-  cell_below c row is = omega (arith, k.stand rows c row is, k.solution.one_each)
+  row_below : (c : ℕ) (row : Row) → row_of rows c ≡ Some row → c < g.cells
+  row_below c row is = omega (arith, below_from_row rows c row is, k.solution.one_each)
 
   kept_by : (c : ℕ) (row : Row) → row_of rows c ≡ Some row → IsKeptBy g c row
-  kept_by c row is = subst (IsKeepRow g c) is (k.solution.each c (cell_below c row is))
+  kept_by c row is = subst (IsKeepRow g c) is (k.solution.each c (row_below c row is))
 
   -- a kept cell has a row
   row_at : (c : ℕ) → c < g.cells → IsKept g c → (row : Row) × (row_of rows c ≡ Some row)
@@ -66,7 +65,7 @@ module _ {bytes : List ℕ} {p : Description} {g : Game} {rows : List (Option Ro
         let c : ℕ = cell_of (axes_of p) x in
         let touched : IsObstacleCell p c = any_other (λ b. IsInBox (axes_of p) b.low b.high x) (λ b. Touches (axes_of p) c b.low b.high) p.obstacles (λ b inside. (x, (has.inside, refl), inside)) met in
         let tree = (kept_by c row has.is).kept 0 in
-        no_obstacle g c tree.0 tree.1 ((k.abstraction.obstacles c (cell_below c row has.is)).1 touched),
+        no_obstacle g c tree.0 tree.1 ((k.abstraction.obstacles c (row_below c row has.is)).1 touched),
   )
 
   some_row : (x : List ℤ) (row : Row) → HasRowAt p rows x row → HasSomeRow bytes x
@@ -79,12 +78,12 @@ module _ {bytes : List ℕ} {p : Description} {g : Game} {rows : List (Option Ro
   remains [] x row has noises = (clear_at x row has, some_row x row has)
   remains (w ∷ ws) x row has noises =
       let c : ℕ = cell_of (axes_of p) x in
-      let lt : c < g.cells = cell_below c row has.is in
+      let lt : c < g.cells = row_below c row has.is in
       let leads = (kept_by c row has.is).leads in
       let next : List ℤ = step_of p x row.input w in
       let inside : IsInDomain (axes_of p) next = k.refined.inside c row.input x w lt leads.0 (has.inside, refl) noises.0 in
       let kept : IsKept g (cell_of (axes_of p) next) = All-contains (IsKept g) (successors_of g c row.input) (cell_of (axes_of p) next) leads.1 (k.refined.among c row.input x w lt leads.0 (has.inside, refl) noises.0) in
-      let there = row_at (cell_of (axes_of p) next) (omega (arith, k.cells (axes_of p) next k.sound.axes inside, k.abstraction.cells)) kept in (
+      let there = row_at (cell_of (axes_of p) next) (omega (arith, cell_below (axes_of p) next (sound p k.table.limits.plant).axes.each inside, k.abstraction.cells)) kept in (
         clear_at x row has,
         some_row x row has,
         (
@@ -94,7 +93,11 @@ module _ {bytes : List ℕ} {p : Description} {g : Game} {rows : List (Option Ro
         ),
       )
 
-  pub table_keeps : OneTablePerText → Stays p bytes
-  table_keeps one x ws ranked noises =
-      let row = row_of_table one bytes p rows x ranked.0 k.table ranked.1 in
+  pub table_keeps : Stays p bytes
+  table_keeps x ws ranked noises =
+      let row = row_of_table bytes p rows x ranked.0 k.table ranked.1 in
       remains ws x row.0 row.1 (recursion_from_All (IsNoise p.noises) ws noises)
+
+pub tables_keep : KeptTablesKeepPlants
+tables_keep bytes p g rows goal table game solution =
+    table_keeps (record { goal = goal; table = table; abstraction = game; solution = solution; refined = refines p g table.limits.plant game })

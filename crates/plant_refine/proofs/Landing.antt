@@ -4,12 +4,13 @@ use Rattle.std.specs.Prelude.{ℤ}
 use Rattle.std.specs.List.{Contains}
 use Rattle.std.proofs.lemmas.List.{length-map}
 use Rattle.grid_quantiser.specs.Cells.{IsInDomain, cell_of, point_of}
-use Rattle.grid_quantiser.specs.Laws.{StatesHaveCells}
+use Rattle.grid_quantiser.proofs.Domain.{cell_below}
 use Rattle.plant_record.specs.Description.{Description, axes_of}
 use Rattle.plant_record.specs.Steps.{IsNoise, step_of}
 use Rattle.plant_record.specs.Soundness.{IsSound}
 use Rattle.successor_box.specs.Boxes.{IsEnabledAt, AreSuccessors}
-use Rattle.successor_box.specs.Laws.{StepsLieInTheBoxes, PointsLieWithTheirStates}
+use Rattle.successor_box.proofs.Padding.{point_lies}
+use Rattle.successor_box.proofs.Steps.{step_among}
 
 pub record Lands (p : Description) (c u : ℕ) (y : List ℤ) : Type 0 where
   pub inside : IsInDomain (axes_of p) y
@@ -17,10 +18,10 @@ pub record Lands (p : Description) (c u : ℕ) (y : List ℤ) : Type 0 where
   pub cell : cell_of (axes_of p) (point_of y) ≡ cell_of (axes_of p) y
   pub among : (cells : List ℕ) → AreSuccessors p c u cells → Contains cells (cell_of (axes_of p) y)
 
-pub lands : StatesHaveCells → StepsLieInTheBoxes → PointsLieWithTheirStates → (p : Description) (u : ℕ) (x w : List ℤ) → IsSound p → IsInDomain (axes_of p) x → IsEnabledAt p (cell_of (axes_of p) x) u → IsNoise p.noises w
+pub lands : (p : Description) (u : ℕ) (x w : List ℤ) → IsSound p → IsInDomain (axes_of p) x → IsEnabledAt p (cell_of (axes_of p) x) u → IsNoise p.noises w
     → Lands p (cell_of (axes_of p) x) u (step_of p x u w)
-lands cells steps points p u x w sound inside enabled noise =
-    let step = steps p (cell_of (axes_of p) x) u x w sound (cells (axes_of p) x sound.axes inside) enabled (inside, refl) noise in
+lands p u x w sound inside enabled noise =
+    let step = step_among p (cell_of (axes_of p) x) u x w sound (cell_below (axes_of p) x sound.axes.each inside) (inside, refl) noise enabled in
     let count : length (step_of p x u w) ≡ length p.equations = length-map p.equations _ in
-    let same = points p (step_of p x u w) (omega (arith, sound.one_each)) in
+    let same = point_lies p (step_of p x u w) (omega (arith, sound.one_each)) in
     record { inside = step.0; point_inside = same.0.1 step.0; cell = same.1; among = step.1 }

@@ -5,16 +5,17 @@ use Rattle.std.proofs.lemmas.List.Elements.{All-contains}
 use Rattle.game_core.specs.declared.game.Row.{Row}
 use Rattle.game_core.specs.declared.game.Mark.TheVariants.{Goal, Obstacle}
 use Rattle.game_core.specs.Game.{Game, IsEnabled, mark_of, successors_of}
-use Rattle.game_core.specs.Solution.{row_of, HasRowBelow, LeadsToGoals, RowsStandAtCells}
+use Rattle.game_core.specs.Solution.{row_of, HasRowBelow, LeadsToGoals}
+use Rattle.game_core.proofs.Rows.{below_from_row}
 use Rattle.grid_quantiser.specs.Cells.{IsInDomain, cell_of}
 use Rattle.grid_quantiser.specs.Boxes.{IsInBox, Touches, LiesInside}
 use Rattle.plant_record.specs.Description.{Description, axes_of}
 use Rattle.plant_record.specs.Steps.{step_of, IsNoise}
 use Rattle.plant_record.specs.Marks.{IsGoalCell, IsObstacleCell}
 use Rattle.controller_table.specs.Choice.{HasRowAt}
-use Rattle.abstraction_table.specs.Abstraction.{IsGameOf}
+use Rattle.plant_game.specs.Abstraction.{IsGameOf}
 use Rattle.plant_record.specs.States.{LiesInSome, IsClear}
-use Rattle.abstraction_table.specs.Refinement.{IsRefinement}
+use Rattle.plant_game.specs.Refinement.{IsRefinement}
 use Rattle.plant_refine.proofs.Boxes.{any_other}
 
 -- What the rows and their game keep.
@@ -23,11 +24,10 @@ pub record Guides (p : Description) (g : Game) (rows : List (Option Row)) : Type
   pub leads : LeadsToGoals g rows
   pub refined : IsRefinement p g
   pub one_each : length rows ≡ g.cells
-  pub stand : RowsStandAtCells
 
 module _ {p : Description} {g : Game} {rows : List (Option Row)} (h : Guides p g rows) where
   pub cell_below : (c : ℕ) (row : Row) → row_of rows c ≡ Some row → c < g.cells
-  cell_below c row is = omega (arith, h.stand rows c row is, h.one_each)
+  cell_below c row is = omega (arith, below_from_row rows c row is, h.one_each)
 
   pub clear_at : (x : List ℤ) (row : Row) → HasRowAt p rows x row → IsClear p x
   clear_at x row has = (

@@ -10,9 +10,13 @@ use Rattle.plant_record.specs.declared.aims.GoalKind.TheVariants.{Reach, Keep}
 use Rattle.plant_record.specs.Description.{Description}
 use Rattle.plant_record.specs.Steps.{step_of, IsNoise}
 use Rattle.controller_table.specs.Choice.{Applies, HasRowAt, HasRank}
-use Rattle.controller_table.specs.Laws.{OneTablePerText}
+use Rattle.plant_reading.proofs.lemmas.StatementLaws.{one_statement}
+use Rattle.plant_text.proofs.lemmas.CanonicalFronts.{one_plant_at_the_front}
 use Rattle.controller_table.specs.Tables.{IsTable}
+use Rattle.controller_table.proofs.OneTable.{one_table}
 use Rattle.plant_refine.specs.Drives.{Comes, Drives}
+use Rattle.plant_refine.specs.Laws.{RightTablesDrivePlants}
+use Rattle.plant_refine.proofs.Down.{guides}
 use Rattle.plant_refine.proofs.Leading.{Guides, clear_at, arrived_at, next_row}
 
 applies : (goal : GoalKind) (k u : ℕ) → Applies goal (record { rank = suc k; input = u }) u
@@ -20,9 +24,9 @@ applies Reach k u = (omega arith, refl)
 applies Keep k u = refl
 
 -- the row that the bytes have at a state is that of the table
-pub row_of_table : OneTablePerText → (bytes : List ℕ) (p : Description) (rows : List (Option Row)) (x : List ℤ) (k : ℕ) → IsTable bytes p rows → HasRank bytes x k → (row : Row) × HasRowAt p rows x row × (row.rank ≡ k)
-row_of_table one bytes p rows x k table h =
-    let same = one bytes h.plant p h.rows rows h.table table in
+pub row_of_table : (bytes : List ℕ) (p : Description) (rows : List (Option Row)) (x : List ℤ) (k : ℕ) → IsTable bytes p rows → HasRank bytes x k → (row : Row) × HasRowAt p rows x row × (row.rank ≡ k)
+row_of_table bytes p rows x k table h =
+    let same = one_table (one_plant_at_the_front one_statement) bytes h.plant p h.rows rows h.table table in
     let has : HasRowAt p h.rows x h.row = subst (λ (q : Description). HasRowAt q h.rows x h.row) same.0 h.has in
     (h.row, subst (λ (r : List (Option Row)). HasRowAt p r x h.row) same.1 has, h.ranked)
 
@@ -43,7 +47,10 @@ module _ {p : Description} {g : Game} {rows : List (Option Row)} (h : Guides p g
         ),
       )
 
-  pub table_drives : OneTablePerText → Drives p bytes
-  table_drives one x k ws rank len noises =
-      let row = row_of_table one bytes p rows x k table rank in
+  pub table_drives : Drives p bytes
+  table_drives x k ws rank len noises =
+      let row = row_of_table bytes p rows x k table rank in
       comes ws x row.0.rank row.0.input row.1 (omega (arith, row.2, len)) (recursion_from_All (IsNoise p.noises) ws noises)
+
+pub tables_drive : RightTablesDrivePlants
+tables_drive bytes p g rows table game right = table_drives (guides p rows table.limits.plant (record { game = g; abstraction = game; right = right })) bytes table

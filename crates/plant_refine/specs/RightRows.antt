@@ -4,7 +4,7 @@ use Rattle.game_core.specs.declared.game.Row.{Row}
 use Rattle.game_core.specs.Game.{Game}
 use Rattle.game_core.specs.Right.{AreRight}
 use Rattle.plant_record.specs.Description.{Description}
-use Rattle.abstraction_table.specs.Abstraction.{IsGameOf}
+use Rattle.plant_game.specs.Abstraction.{IsGameOf}
 
 -- Rows all of whose cells are right in the game of the plant.
 pub record AreRightRowsOf (p : Description) (rows : List (Option Row)) : Type 0 where

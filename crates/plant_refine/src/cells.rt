@@ -7,13 +7,9 @@ ghost use Rattle.successor_box.specs.Boxes.{IsEnabledAt, AreSuccessors};
 ghost use Rattle.successor_box.specs.Deviations.{HasNoOverflow, deviations_of};
 
 use grid_quantiser::Point;
-use grid_quantiser::laws::every_state_has_a_cell;
-use plant_record::laws::{every_plant_is_within_limits, plants_are_sound};
+use plant_record::laws::every_plant_is_within_limits;
 use plant_record::{Plant, step};
 use successor_box::Slopes;
-use successor_box::laws::{
-    points_lie_with_their_states, steps_lie_in_the_boxes, steps_stay_in_range,
-};
 
 /// The state one sample later and its cell, which is a successor of the pair.
 pub fn next_cell(p: &Plant, s: &Slopes, x: &Point, input: u32, noise: &Point) -> (Point, u32)
@@ -29,11 +25,6 @@ pub fn next_cell(p: &Plant, s: &Slopes, x: &Point, input: u32, noise: &Point) ->
     ensures successor { (cells : List ℕ) → AreSuccessors p.now (cell_of (axes_of p.now) x.now) input cells → Contains cells result.1 }
 {
     every_plant_is_within_limits(p);
-    plants_are_sound();
-    every_state_has_a_cell();
-    steps_stay_in_range();
-    steps_lie_in_the_boxes();
-    points_lie_with_their_states();
     let Some(next) = step(p, x, input, noise) else {
         unreachable!()
     };

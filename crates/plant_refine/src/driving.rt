@@ -3,24 +3,21 @@ ghost use Rattle.std.specs.List.{All};
 ghost use Rattle.game_core.specs.declared.game.Row.{Row};
 ghost use Rattle.grid_quantiser.specs.Cells.{point_of};
 ghost use Rattle.plant_record.specs.declared.aims.GoalKind.TheVariants.{Reach};
+ghost use Rattle.plant_record.specs.Limits.{IsWithinLimits};
 ghost use Rattle.plant_record.specs.Steps.{IsNoise};
 ghost use Rattle.successor_box.specs.Deviations.{HasNoOverflow, deviations_of};
 ghost use Rattle.controller_table.specs.Choice.{HasRowAt};
 ghost use Rattle.plant_refine.specs.RightRows.{AreRightRowsOf};
 ghost use Rattle.plant_refine.specs.Runs.{Moves, ArrivesFirst};
-ghost use Rattle.plant_refine.specs.inside.Descents.{HasLowerRow, RightRowsLeadDown};
+ghost use Rattle.plant_refine.specs.inside.Descents.{HasLowerRow};
 
 use crate::cells::next_cell;
 use crate::targets::lies_in_target;
-use abstraction_table::laws::games_refine_their_plants;
 use controller_table::Table;
 use controller_table::laws::every_table_fits;
-use game_core::laws::{right_rows_are_the_solution, rows_lead_to_goals, rows_stand_at_cells};
 use grid_quantiser::Point;
 use plant_record::Plant;
-use plant_record::laws::{every_plant_is_within_limits, plants_are_sound};
 use successor_box::Slopes;
-use successor_box::laws::{enabled_pairs_have_successors, points_lie_with_their_states};
 
 /// Where a driven plant comes into a target, and at which sample, counted from 0 at the start.
 #[derive(Clone, Copy, PartialEq, Eq)]
@@ -41,11 +38,7 @@ pub fn drive(p: &Plant, s: &Slopes, t: &Table, x: &Point, noises: &[Point]) -> D
     ensures arrives { ArrivesFirst p.now t.now.rows x.now noises.now result.arrived_at result.at }
     ensures bound { (row : Row) → HasRowAt p.now t.now.rows x.now row → result.arrived_at ≤ row.rank }
 {
-    every_plant_is_within_limits(p);
     every_table_fits(t);
-    rows_stand_at_cells();
-    points_lie_with_their_states();
-    right_rows_lead_down();
     let mut at = start_of(p, x);
     for (sample, noise) in noises.iter().enumerate() {
         if lies_in_target(p, &at) {
@@ -64,6 +57,7 @@ pub fn drive(p: &Plant, s: &Slopes, t: &Table, x: &Point, noises: &[Point]) -> D
 
 /// The state one sample later, under the table's choice.
 fn next_state(p: &Plant, s: &Slopes, t: &Table, x: &Point, noise: &Point) -> Point
+    requires limits { IsWithinLimits p.now }
     requires slopes { s.now ≡ deviations_of p.now }
     requires fits { HasNoOverflow p.now }
     requires plant { t.now.plant ≡ p.now }
@@ -74,9 +68,6 @@ fn next_state(p: &Plant, s: &Slopes, t: &Table, x: &Point, noise: &Point) -> Poi
     ensures moves { Moves p.now t.now.rows x.now noise.now result }
     ensures lower { (row : Row) → HasRowAt p.now t.now.rows x.now row → HasLowerRow p.now t.now.rows row.rank result }
 {
-    every_plant_is_within_limits(p);
-    every_table_fits(t);
-    right_rows_lead_down();
     let Some(input) = t.choice(x) else {
         unreachable!()
     };
@@ -86,25 +77,12 @@ fn next_state(p: &Plant, s: &Slopes, t: &Table, x: &Point, noise: &Point) -> Poi
 
 /// A state as a point, with 0 in the places past the states.
 fn start_of(p: &Plant, x: &Point) -> Point
+    requires plant { IsWithinLimits p.now }
     ensures { result ≡ point_of (take (length p.now.states) x.now) }
 {
-    every_plant_is_within_limits(p);
     let mut at = [0; 6];
     for i in 0..p.states() as usize {
         at[i] = x[i];
     }
     at
-}
-
-/// Right rows lead a plant to lower ranks, and at rank 0 it lies in a target.
-fn right_rows_lead_down()
-    ensures { RightRowsLeadDown }
-{
-    plants_are_sound();
-    games_refine_their_plants();
-    right_rows_are_the_solution();
-    rows_lead_to_goals();
-    rows_stand_at_cells();
-    enabled_pairs_have_successors();
-    points_lie_with_their_states();
 }

@@ -4,7 +4,7 @@
 //! state with its cell, which is a successor: so the quantiser is a feedback refinement relation
 //! from the plant to its game, which a law says. A right table drives the plant into its target, and
 //! one of the keep solution keeps it for ever: two more laws say so of the table's bytes, and `drive`
-//! does it. Stands on `abstraction_table`, `controller_table` and the crates below.
+//! does it. Stands on `plant_game`, `controller_table` and the crates below.
 #![tactic(auto)]
 
 mod cells;

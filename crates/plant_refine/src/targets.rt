@@ -4,7 +4,6 @@ ghost use Rattle.std.specs.Prelude.{◌↔◌, IsTrue};
 ghost use Rattle.grid_quantiser.specs.Boxes.{IsInBox};
 ghost use Rattle.plant_record.specs.States.{LiesInSome};
 
-use grid_quantiser::laws::every_grid_is_within_the_limit;
 use grid_quantiser::{Grid, Point};
 use plant_record::Plant;
 
@@ -25,7 +24,6 @@ pub(crate) fn lies_in_target(p: &Plant, x: &Point) -> bool
 fn lies_in(grid: &Grid, low: &Point, high: &Point, x: &Point) -> bool
     ensures { IsTrue result ↔ IsInBox grid.now low.now high.now x.now }
 {
-    every_grid_is_within_the_limit(grid);
     for i in 0..grid.states() as usize {
         if x[i] < low[i] || high[i] < x[i] {
             return false;

@@ -1,4 +1,5 @@
 -- What only private clauses and proofs name.
+pub mod CanonicalNext
 pub mod DraftsInMemory
 pub mod FormedEquations
 pub mod PartRules

@@ -12,6 +12,8 @@ ghost use Rattle.plant_text.specs.inside.PartRules.{KeepsRules};
 ghost use Rattle.plant_reading.specs.StatementsRead.{statement_of};
 ghost use Rattle.plant_text.specs.inside.DraftsInMemory.{part_of};
 ghost use Rattle.plant_text.specs.CanonicalFronts.{IsInOrder, ExtendsCanonically};
+ghost use Rattle.plant_text.specs.inside.FormedEquations.{HasFormedEquation};
+ghost use Rattle.plant_text.specs.inside.CanonicalNext.{IsCanonicalNext};
 
 use crate::equations::has_no_table;
 use crate::statement_writer::is_canonical;
@@ -84,12 +86,7 @@ impl Draft {
         ensures refused { result ≡ Err Malformed → (r : Part) → ExtendsCanonically (part_of self.old) line.now r → ⊥ }
     {
         let statement = statement_in(alloc, &self.variables, line)?;
-        if !self.fits_in_order(&statement) {
-            return Err(ReadFault::Malformed);
-        }
-        if !is_canonical(&self.variables, &statement, line, scratch)? {
-            return Err(ReadFault::Malformed);
-        }
+        self.check_canonical(&statement, line, scratch)?;
         self.add(statement)
     }
 
@@ -157,6 +154,28 @@ impl Draft {
         ensures { IsTrue result ↔ (FitsAfter (part_of self.now) (statement_of statement.now) × IsInOrder (part_of self.now) (statement_of statement.now)) }
     {
         self.fits(statement) && self.is_in_order(statement)
+    }
+
+    /// Refuses a statement that has no place behind the lines so far or in the canonical order, or
+    /// whose canonical line is another one.
+    fn check_canonical(
+        &self,
+        statement: &Statement<'_>,
+        line: &[u8],
+        scratch: &mut Vec<u8>,
+    ) -> Result<(), ReadFault>
+        requires rules { KeepsRules (part_of self.now) }
+        requires formed { HasFormedEquation (length (names_in (part_of self.now))) (statement_of statement.now) }
+        ensures taken { OnOk result (IsCanonicalNext (part_of self.now) line.now (statement_of statement.now)) }
+        ensures refused { result ≡ Err Malformed → IsCanonicalNext (part_of self.now) line.now (statement_of statement.now) → ⊥ }
+    {
+        if !self.fits_in_order(statement) {
+            return Err(ReadFault::Malformed);
+        }
+        if !is_canonical(&self.variables, statement, line, scratch)? {
+            return Err(ReadFault::Malformed);
+        }
+        Ok(())
     }
 
     /// Whether no obstacle stands before a target.

@@ -56,11 +56,7 @@ pub fn canonical_texts_spell()
 /// `read_plant` answers that plant, or want of memory.
 pub fn canonical_texts_read_back()
     ensures { CanonicalTextsReadBack }
-{
-    canonical_texts_spell();
-    one_plant_per_text();
-    read_or_refused();
-}
+{}
 
 /// A number's text has no space and no line feed.
 pub fn numbers_are_words()

@@ -1,17 +1,15 @@
 // The canonical text of a plant.
 
-ghost use Rattle.std.specs.Prelude.{◌≡◌, ◌≤◌, ◌++◌, [], ◌∷◌, length, codes, IfOk, OnOk, OnErr};
-ghost use Rattle.std.specs.List.{flat_map};
+ghost use Rattle.std.specs.Prelude.{◌≡◌, ◌≤◌, ◌++◌, [], ◌∷◌, length, map, codes, IfOk, OnOk, OnErr};
+ghost use Rattle.std.specs.List.{All, flat_map};
 ghost use Rattle.std.specs.Fmt.{signed_decimal};
 ghost use Rattle.fixed_expr.specs.Expression.{expression_of};
 ghost use Rattle.fixed_expr.specs.Value.{IsWellFormed};
-ghost use Rattle.plant_record.specs.Description.{names_of};
 ghost use Rattle.plant_writing.specs.CanonicalText.{text_of, state_line, input_line, noise_line, equation_line, equation_lines, box_line};
 ghost use Rattle.plant_record.specs.Spelling.{line, version_word, goal_word};
 
 use crate::expression_writer::{Level, push_expression, push_number};
 use fixed_expr::Expr;
-use plant_record::laws::every_plant_is_within_limits;
 use plant_record::{
     GoalKind, InputVariable, Names, NoMemory, NoiseVariable, Plant, PlantVersion, StateBox,
     StateVariable,
@@ -31,15 +29,14 @@ pub fn write_plant(alloc: Global, p: &Plant, to: &mut Vec<u8>) -> Result<(), NoM
 fn text_of(alloc: Global, p: &Plant) -> Result<Vec<u8>, AllocError>
     ensures { IfOk result (λ text. text.items ≡ text_of p.now) }
 {
-    every_plant_is_within_limits(p);
-    let states = p.state_list().len();
+    let states = p.state_list();
     let mut text = Vec::from_slice(alloc, version_line(p.plant_version()))?;
-    push_states(&mut text, p.state_list())?;
+    push_states(&mut text, states)?;
     push_inputs(&mut text, p.input_list())?;
     push_noises(&mut text, p.noise_list())?;
-    push_equations(&mut text, p)?;
-    push_boxes(&mut text, b"target", states, p.target_list())?;
-    push_boxes(&mut text, b"obstacle", states, p.obstacle_list())?;
+    push_equations(&mut text, &p.names(), states, p.equations())?;
+    push_boxes(&mut text, b"target", states.len(), p.target_list())?;
+    push_boxes(&mut text, b"obstacle", states.len(), p.obstacle_list())?;
     text.extend_from_slice(goal_line(p.goal()))?;
     text.extend_from_slice(b"end\n")?;
     Ok(text)
@@ -132,13 +129,18 @@ pub fn push_noise(text: &mut Vec<u8>, noise: &NoiseVariable) -> Result<(), Alloc
     Ok(())
 }
 
-fn push_equations(text: &mut Vec<u8>, p: &Plant) -> Result<(), AllocError>
-    ensures { OnOk result (text.new.items ≡ text.old.items ++ equation_lines (names_of p.now) p.now.states p.now.equations) }
+fn push_equations(
+    text: &mut Vec<u8>,
+    names: &Names<'_>,
+    states: &[StateVariable],
+    equations: &[Expr],
+) -> Result<(), AllocError>
+    requires one_each { length equations.now ≡ length states.now }
+    requires formed { All (λ e. IsWellFormed (expression_of e) (length names.now)) equations.now }
+    ensures { OnOk result (text.new.items ≡ text.old.items ++ equation_lines names.now states.now (map expression_of equations.now)) }
 {
-    every_plant_is_within_limits(p);
-    let names = p.names();
-    for i in 0..p.states() {
-        push_equation(text, &names, p.name(i).as_bytes(), p.equation(i))?;
+    for (i, equation) in equations.iter().enumerate() {
+        push_equation(text, names, states[i].name.as_bytes(), equation)?;
     }
     Ok(())
 }

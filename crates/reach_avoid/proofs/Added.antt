@@ -9,8 +9,7 @@ use Rattle.cell_counters.specs.declared.account.Log.{Log}
 use Rattle.cell_counters.specs.declared.account.Account.{Account}
 use Rattle.cell_counters.specs.Accounts.{answers, all_answers, cut_count, all_logs}
 use Rattle.game_core.specs.Game.{Game, pairs_of}
-use Rattle.board_crew.specs.Crew.{cuts_in, offers_in, logged_cells}
-use Rattle.board_crew.specs.Laws.{claimed, counters_of}
+use Rattle.board_crew.specs.Crew.{cuts_in, offers_in, logged_cells, claimed, counters_of}
 use Rattle.reach_avoid.specs.Reckoned.{bid_of, bid_at}
 use Rattle.reach_avoid.specs.inside.Rounds.{last_cuts, KeepsRule}
 

@@ -13,6 +13,7 @@ use Rattle.cell_counters.specs.declared.account.Offer.{Offer}
 use Rattle.cell_counters.specs.declared.account.Log.{Log}
 use Rattle.cell_counters.specs.declared.account.Account.{Account}
 use Rattle.cell_counters.specs.Accounts.{all_offers, first_count, all_logs, log_count, IsLawfulLeast}
+use Rattle.cell_counters.proofs.Consequences.{nothing_done}
 use Rattle.game_core.specs.Counts.{times, one_if}
 use Rattle.game_core.specs.declared.game.Mark.{Mark}
 use Rattle.game_core.specs.declared.game.Mark.TheVariants.{Goal, Obstacle, Plain}
@@ -20,10 +21,11 @@ use Rattle.game_core.specs.declared.game.Row.{Row}
 use Rattle.game_core.specs.Game.{Game, IsGraph, mark_of, pairs_of, successors_at}
 use Rattle.game_core.specs.Solution.{row_of}
 use Rattle.game_core.specs.Tally.{all_pairs}
-use Rattle.board_crew.specs.Crew.{offers_in, logged_cells}
-use Rattle.board_crew.specs.Laws.{claimed}
+use Rattle.game_core.proofs.Times.{counts_tell}
+use Rattle.board_crew.specs.Crew.{offers_in, logged_cells, claimed}
+use Rattle.board_crew.proofs.Accounts.{firsts_are}
 use Rattle.reach_avoid.specs.Boards.{word_at}
-use Rattle.reach_avoid.specs.inside.Rounds.{Laws, row_in, word_after, rows_told, below_in, rank_is, taken_in, is_done, bids_done, IsLawfulFor, IsBid, IsReached, is_goal, goals_of, IsFull, IsNext}
+use Rattle.reach_avoid.specs.inside.Rounds.{row_in, word_after, rows_told, below_in, rank_is, taken_in, is_done, bids_done, IsLawfulFor, IsBid, IsReached, is_goal, goals_of, IsFull, IsNext}
 use Rattle.reach_avoid.proofs.Words.{row_from_word, no_row_from_word, row_told, word_of_row}
 use Rattle.reach_avoid.proofs.Ranks.{done_parts}
 use Rattle.reach_avoid.proofs.Games.{few_successors}
@@ -46,7 +48,7 @@ below_zero : (o : Option Row) → below_in 0 o ≡ false
 below_zero None = refl
 below_zero (Some row) = le-ltb row.rank 0 (omega arith)
 
-module _ (g : Game) (a : IsGraph g) (laws : Laws) where
+module _ (g : Game) (a : IsGraph g) where
   none_taken : (pair : ℕ) → taken_in g (rows_told g []) 0 pair ≡ 0
   none_taken pair = sum_zeros (λ s. one_if (below_in 0 (row_of (rows_told g []) s))) (successors_at g pair) (λ i d lt. ap one_if (below_zero (row_of (rows_told g []) (get_or (successors_at g pair) i d))))
 
@@ -61,10 +63,10 @@ module _ (g : Game) (a : IsGraph g) (laws : Laws) where
   first_row c lt m e = row_told g [] c lt ∙ ap (λ m. row_in (word_at m)) e
 
   first_cells : (c : ℕ) → c < g.cells → times c (goals_of g) ≡ one_if (rank_is 0 (row_of (rows_told g []) c))
-  first_cells c lt = laws.counts.filtered (λ c. is_goal (mark_of g c)) c (range_with_len 0 g.cells) ∙ by_mark (mark_of g c) refl
+  first_cells c lt = counts_tell.filtered (λ c. is_goal (mark_of g c)) c (range_with_len 0 g.cells) ∙ by_mark (mark_of g c) refl
     where
       by_mark : (m : Mark) → mark_of g c ≡ m → cond (is_goal m) (times c (range_with_len 0 g.cells)) 0 ≡ one_if (rank_is 0 (row_of (rows_told g []) c))
-      by_mark Goal m = laws.counts.in_range c 0 g.cells (omega arith) (omega arith) ∙ sym (ap (λ o. one_if (rank_is 0 o)) (first_row c lt Goal m ∙ row_from_word 1 (omega arith) (omega arith)))
+      by_mark Goal m = counts_tell.in_range c 0 g.cells (omega arith) (omega arith) ∙ sym (ap (λ o. one_if (rank_is 0 o)) (first_row c lt Goal m ∙ row_from_word 1 (omega arith) (omega arith)))
       by_mark Obstacle m = sym (ap (λ o. one_if (rank_is 0 o)) (first_row c lt Obstacle m ∙ no_row_from_word 0 (inl refl)))
       by_mark Plain m = sym (ap (λ o. one_if (rank_is 0 o)) (first_row c lt Plain m ∙ no_row_from_word NONE (inr refl)))
 
@@ -83,8 +85,8 @@ module _ (g : Game) (a : IsGraph g) (laws : Laws) where
   pub begins : IsReached g 0 (goals_of g) []
   begins = record {
     lawful = record {
-      pairs = λ pair lt. (length (successors_at g pair), laws.nothing_done.0 pair (length (successors_at g pair)) (let few = few_successors g a pair lt in omega arith));
-      cells = λ c lt. (word_at (mark_of g c), laws.nothing_done.1 c (word_at (mark_of g c)));
+      pairs = λ pair lt. (length (successors_at g pair), nothing_done.0 pair (length (successors_at g pair)) (let few = few_successors g a pair lt in omega arith));
+      cells = λ c lt. (word_at (mark_of g c), nothing_done.1 c (word_at (mark_of g c)));
     };
     cuts = λ pair lt. sym (none_taken pair);
     no_other_cut = All-nil (λ (c : Cut). c.counter < pairs_of g);
@@ -109,7 +111,7 @@ module _ (g : Game) (a : IsGraph g) (laws : Laws) where
       inr (c, row.0, next.stays c row.0 row.1, ap suc row.2)
     where
       first_counted : (list : List ℕ) → 0 < length list → 0 < times (get_or list 0 0) list
-      first_counted list lt = laws.counts.counted (get_or list 0 0) list (Contains-get_or list 0 0 lt)
+      first_counted list lt = counts_tell.counted (get_or list 0 0) list (Contains-get_or list 0 0 lt)
 
       row_of_rank : (o : Option Row) → 0 < one_if (rank_is rank o) → (row : Row) × (o ≡ Some row) × (row.rank ≡ rank)
       row_of_rank None lt = absurd (omega arith)
@@ -126,13 +128,13 @@ module _ (g : Game) (a : IsGraph g) (laws : Laws) where
       All-map (λ c. c < g.cells) (λ (o : Offer). o.word) (filter (λ (o : Offer). o.first) (offers_in accounts))
       (All-filter (λ (o : Offer). o.first) (λ (o : Offer). o.word < g.cells) (offers_in accounts)
       (All-weaker (IsBid g) (λ (o : Offer). o.word < g.cells) (λ o b. b.word) (offers_in accounts) valued)) in
-      let all = laws.counts.of_all_below g.cells (claimed (offers_in accounts)) within in
+      let all = counts_tell.of_all_below g.cells (claimed (offers_in accounts)) within in
       let many : log_count accounts ≡ length (claimed (offers_in accounts)) = sym (length-map (all_logs accounts) (λ (l : Log). l.cell)) ∙ ap length logs in
       let in' = All-range g.cells in
       let le = sum_by-le (λ c. times c (claimed (offers_in accounts))) 1 (range_with_len 0 g.cells) (λ i d lt.
       let c = get_or (range_with_len 0 g.cells) i d in
       let one = at_most_one (word_at (mark_of g c)) c (lawful.cells c (in' i d lt)) in
-      let e = laws.accounts.firsts c accounts in
+      let e = firsts_are c accounts in
       omega arith) in
       let len = length-range_with_len 0 g.cells in
       omega arith

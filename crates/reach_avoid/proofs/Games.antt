@@ -10,7 +10,7 @@ use Rattle.cell_counters.specs.declared.account.Account.{Account}
 use Rattle.cell_counters.specs.Accounts.{all_offers, values}
 use Rattle.game_core.specs.Game.{Game, IsGraph, pairs_of, successors_at}
 use Rattle.board_crew.specs.Crew.{offers_in}
-use Rattle.board_crew.specs.Laws.{AccountsTell}
+use Rattle.board_crew.proofs.Accounts.{offers_are}
 use Rattle.reach_avoid.specs.Reckoned.{bid_of, bid_at}
 use Rattle.reach_avoid.specs.inside.Rounds.{IsBid}
 
@@ -57,10 +57,10 @@ module _ (g : Game) (a : IsGraph g) where
       record { word = omega arith; some = omega arith; less = omega arith }
 
   -- the values of a rank lie together
-  pub values_of_rank : AccountsTell → (rank c : ℕ) (accounts : List Account) → All (IsBidOf g rank) (offers_in accounts) → All (λ v. (1 + rank * 4096 ≤ v) × (v < 1 + rank * 4096 + 4096)) (values (all_offers c accounts))
-  values_of_rank tell rank c accounts h =
+  pub values_of_rank : (rank c : ℕ) (accounts : List Account) → All (IsBidOf g rank) (offers_in accounts) → All (λ v. (1 + rank * 4096 ≤ v) × (v < 1 + rank * 4096 + 4096)) (values (all_offers c accounts))
+  values_of_rank rank c accounts h =
       All-map (λ v. (1 + rank * 4096 ≤ v) × (v < 1 + rank * 4096 + 4096)) (λ (o : Offer). o.value) (all_offers c accounts)
-      (subst (λ l. All (λ (o : Offer). (1 + rank * 4096 ≤ o.value) × (o.value < 1 + rank * 4096 + 4096)) l) (sym (tell.offers c accounts))
+      (subst (λ l. All (λ (o : Offer). (1 + rank * 4096 ≤ o.value) × (o.value < 1 + rank * 4096 + 4096)) l) (sym (offers_are c accounts))
       (All-filter (λ (o : Offer). o.word == c) (λ (o : Offer). (1 + rank * 4096 ≤ o.value) × (o.value < 1 + rank * 4096 + 4096)) (offers_in accounts)
       (All-weaker (IsBidOf g rank) (λ (o : Offer). (1 + rank * 4096 ≤ o.value) × (o.value < 1 + rank * 4096 + 4096)) (λ o b. in_range o b) (offers_in accounts) h)))
     where
@@ -71,9 +71,9 @@ module _ (g : Game) (a : IsGraph g) where
           let most = a.inputs_bound in
           (omega arith, omega arith)
 
-pub values_valued : AccountsTell → (g : Game) (c : ℕ) (accounts : List Account) → All (IsBid g) (offers_in accounts) → All (λ v. (1 ≤ v) × (v < NONE)) (values (all_offers c accounts))
-values_valued tell g c accounts h =
+pub values_valued : (g : Game) (c : ℕ) (accounts : List Account) → All (IsBid g) (offers_in accounts) → All (λ v. (1 ≤ v) × (v < NONE)) (values (all_offers c accounts))
+values_valued g c accounts h =
     All-map (λ v. (1 ≤ v) × (v < NONE)) (λ (o : Offer). o.value) (all_offers c accounts)
-    (subst (λ l. All (λ (o : Offer). (1 ≤ o.value) × (o.value < NONE)) l) (sym (tell.offers c accounts))
+    (subst (λ l. All (λ (o : Offer). (1 ≤ o.value) × (o.value < NONE)) l) (sym (offers_are c accounts))
     (All-filter (λ (o : Offer). o.word == c) (λ (o : Offer). (1 ≤ o.value) × (o.value < NONE)) (offers_in accounts)
     (All-weaker (IsBid g) (λ (o : Offer). (1 ≤ o.value) × (o.value < NONE)) (λ o b. (let s = b.some in omega arith, b.less)) (offers_in accounts) h)))

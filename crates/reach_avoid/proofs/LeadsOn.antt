@@ -12,6 +12,7 @@ use Rattle.cell_counters.specs.declared.account.Log.{Log}
 use Rattle.cell_counters.specs.declared.account.Account.{Account}
 use Rattle.cell_counters.specs.Accounts.{all_answers, cut_count, all_offers, first_count, values, all_logs}
 use Rattle.cell_counters.specs.Laws.{answered}
+use Rattle.cell_counters.proofs.Consequences.{new_answers, new_firsts}
 use Rattle.game_core.specs.Counts.{times, one_if}
 use Rattle.game_core.specs.declared.game.Mark.{Mark}
 use Rattle.game_core.specs.declared.game.Mark.TheVariants.{Goal, Obstacle, Plain}
@@ -19,12 +20,13 @@ use Rattle.game_core.specs.declared.game.Row.{Row}
 use Rattle.game_core.specs.Game.{Game, IsGraph, mark_of, pairs_of, successors_at}
 use Rattle.game_core.specs.Solution.{row_of, rank_in}
 use Rattle.game_core.specs.Tally.{all_pairs, rank_by}
-use Rattle.board_crew.specs.Crew.{cuts_in, offers_in, logged_cells}
-use Rattle.board_crew.specs.Laws.{claimed}
+use Rattle.game_core.proofs.Times.{counts_tell}
+use Rattle.board_crew.specs.Crew.{cuts_in, offers_in, logged_cells, claimed}
 use Rattle.board_crew.specs.Rules.{IsRound}
+use Rattle.board_crew.proofs.Accounts.{cuts_to_are, firsts_are}
 use Rattle.reach_avoid.specs.Boards.{word_at}
 use Rattle.reach_avoid.specs.Reckoned.{bid_of, bid_at}
-use Rattle.reach_avoid.specs.inside.Rounds.{Laws, row_in, least_from, word_after, rows_told, below_in, rank_is, taken_in, is_done, bids_done, IsLawfulFor, IsBid, IsReached, last_cuts, KeepsRule, IsNext}
+use Rattle.reach_avoid.specs.inside.Rounds.{row_in, least_from, word_after, rows_told, below_in, rank_is, taken_in, is_done, bids_done, IsLawfulFor, IsBid, IsReached, last_cuts, KeepsRule, IsNext}
 use Rattle.reach_avoid.proofs.Added.{cuts_in-append, offers_in-append, all_logs-append, cut_count-append, claimed-append, offers_added, logs_added, cuts_stay_below}
 use Rattle.reach_avoid.proofs.Words.{least_from-le, least_from-keeps, least_from-range, row_from_word, no_row_from_word, row_told, cell_of_row, word_after-le, word_of_row, word_after-more}
 use Rattle.reach_avoid.proofs.Ranks.{done_parts, not_done, taken_after, done_stays, rank_by-stays, rank_by-new}
@@ -37,7 +39,7 @@ map_alike f h (x ∷ xs) e = ap₂ ◌∷◌ (e 0 x (omega arith)) (map_alike f 
 empty_not_done : (n m : ℕ) → n ≡ 0 → (nat_lt 0 n && (m == n)) ≡ false
 empty_not_done n m e = ap (λ b. b && (m == n)) (le-ltb 0 n (omega arith))
 
-module _ (g : Game) (a : IsGraph g) (rank : ℕ) (small : rank < 2 ^ 31) (list : List ℕ) (accounts more : List Account) (laws : Laws) (was : IsReached g rank list accounts) (r : IsRound g (KeepsRule g rank) list more) (lawful : IsLawfulFor g (accounts ++ more)) where
+module _ (g : Game) (a : IsGraph g) (rank : ℕ) (small : rank < 2 ^ 31) (list : List ℕ) (accounts more : List Account) (was : IsReached g rank list accounts) (r : IsRound g (KeepsRule g rank) list more) (lawful : IsLawfulFor g (accounts ++ more)) where
   abbrev rows : List (Option Row)
   rows = rows_told g accounts
 
@@ -65,7 +67,7 @@ module _ (g : Game) (a : IsGraph g) (rank : ℕ) (small : rank < 2 ^ 31) (list :
       let w = word_of_row g accounts c row e in
       let rank' = w.rank in
       let low = was.highest c row e in
-      let range = values_of_rank g a laws.accounts (suc rank) c more bids in
+      let range = values_of_rank g a (suc rank) c more bids in
       let kept = least_from-keeps (word_after g accounts c) (values (all_offers c more)) (λ i d li. let v = range i d li in let v0 = v.0 in omega arith) in
       row_told g (accounts ++ more) c lt ∙ (ap row_in (word_after-more g accounts more c ∙ kept) ∙ (sym (row_told g accounts c lt) ∙ e))
 
@@ -86,7 +88,7 @@ module _ (g : Game) (a : IsGraph g) (rank : ℕ) (small : rank < 2 ^ 31) (list :
   -- a free word falls to a value of the next rank, where there is an offer
   falls : (c : ℕ) → c < g.cells → word_after g accounts c ≡ NONE → 0 < length (all_offers c more) → (row : Row) × (row_of new c ≡ Some row) × (row.rank ≡ suc rank)
   falls c lt free some' =
-      let range = values_of_rank g a laws.accounts (suc rank) c more bids in
+      let range = values_of_rank g a (suc rank) c more bids in
       let many = length-map (all_offers c more) (λ (o : Offer). o.value) in
       let w = least_from-range (word_after g accounts c) (1 + suc rank * 4096) (1 + suc rank * 4096 + 4096) (values (all_offers c more)) (omega arith) range (omega arith) in
       let low = w.0 in
@@ -145,14 +147,14 @@ module _ (g : Game) (a : IsGraph g) (rank : ℕ) (small : rank < 2 ^ 31) (list :
   new_cuts pair lt =
       let in' = successors_within g a pair lt in
       r.cuts pair lt
-      ∙ laws.counts.alike (λ s. times s list) (λ s. one_if (rank_is rank (row_of rows s))) (successors_at g pair) (λ i d li. was.cells (get_or (successors_at g pair) i d) (in' i d li))
+      ∙ counts_tell.alike (λ s. times s list) (λ s. one_if (rank_is rank (row_of rows s))) (successors_at g pair) (λ i d li. was.cells (get_or (successors_at g pair) i d) (in' i d li))
 
   cuts : (pair : ℕ) → pair < pairs_of g → cut_count pair (accounts ++ more) ≡ taken_in g new (suc rank) pair
   cuts pair lt =
       let e = cut_count-append pair accounts more in
       let before = was.cuts pair lt in
       let now = new_cuts pair lt in
-      let after = taken_after laws.counts g rank rows new next_rows pair in
+      let after = taken_after g rank rows new next_rows pair in
       omega arith
 
   -- a pair is used up in this round exactly where it is done now and wasn't before
@@ -165,7 +167,7 @@ module _ (g : Game) (a : IsGraph g) (rank : ℕ) (small : rank < 2 ^ 31) (list :
             let b : one_if (is_done g rows rank pair) ≡ 0 = ap one_if (empty_not_done (length (successors_at g pair)) (taken_in g rows rank pair) e) in
             let n : one_if (is_done g new (suc rank) pair) ≡ 0 = ap one_if (empty_not_done (length (successors_at g pair)) (taken_in g new (suc rank) pair) e) in
             let few = count_by-le-length (λ answer. answer == 0) (all_answers pair more) in
-            let is = laws.accounts.cuts_to pair 0 more in
+            let is = cuts_to_are pair 0 more in
             let cut = new_cuts pair lt in
             let most = count_by-le-length (λ s. rank_is rank (row_of rows s)) (successors_at g pair) in
             omega arith
@@ -180,8 +182,8 @@ module _ (g : Game) (a : IsGraph g) (rank : ℕ) (small : rank < 2 ^ 31) (list :
           let most = count_by-le-length (λ s. below_in (suc rank) (row_of new s)) (successors_at g pair) in
           let first = was.lawful.pairs pair lt in
           let second = lawful.pairs pair lt in
-          let law = laws.new_answers accounts more pair fan first.0 second.0 first.1 second.1 (omega arith) (omega arith) 0 some' in
-          let is = laws.accounts.cuts_to pair 0 more in
+          let law = new_answers accounts more pair fan first.0 second.0 first.1 second.1 (omega arith) (omega arith) 0 some' in
+          let is = cuts_to_are pair 0 more in
           cases b n eb en law before after is most
         where
           cases : (b n : Bool) → is_done g rows rank pair ≡ b → is_done g new (suc rank) pair ≡ n
@@ -194,7 +196,7 @@ module _ (g : Game) (a : IsGraph g) (rank : ℕ) (small : rank < 2 ^ 31) (list :
               → taken_in g new (suc rank) pair ≤ length (successors_at g pair)
               → times pair last + one_if b ≡ one_if n
           cases true true eb en law before after is most = let all = (done_parts g rows rank pair eb).1 in let e = law.1 (omega arith) in omega arith
-          cases true false eb en law before after is most = absurd (let stay = done_stays laws.counts g rank rows new next_rows pair eb in cc)
+          cases true false eb en law before after is most = absurd (let stay = done_stays g rank rows new next_rows pair eb in cc)
           cases false true eb en law before after is most =
               let open' = not_done g rows rank pair eb some' in
               let all = (done_parts g new (suc rank) pair en).1 in
@@ -215,20 +217,20 @@ module _ (g : Game) (a : IsGraph g) (rank : ℕ) (small : rank < 2 ^ 31) (list :
   same_times : (n : ℕ) → times n done_now ≡ times n (done_before ++ last)
   same_times n =
       let both = sum_by-append (λ x. one_if (x == n)) done_before last in
-      let now = laws.counts.filtered (is_done g new (suc rank)) n (all_pairs g) in
-      let before = laws.counts.filtered (is_done g rows rank) n (all_pairs g) in
+      let now = counts_tell.filtered (is_done g new (suc rank)) n (all_pairs g) in
+      let before = counts_tell.filtered (is_done g rows rank) n (all_pairs g) in
       elim (cases_lt n (pairs_of g)) [
         | inl lt ↦
-            let one = laws.counts.in_range n 0 (pairs_of g) (omega arith) (omega arith) in
+            let one = counts_tell.in_range n 0 (pairs_of g) (omega arith) (omega arith) in
             let o = once n lt in
             let a = one_of (is_done g new (suc rank) n) (times n (all_pairs g)) one in
             let b = one_of (is_done g rows rank n) (times n (all_pairs g)) one in
             omega arith
         | inr ge ↦
-            let none' = laws.counts.out_of_range n 0 (pairs_of g) (inr (omega arith)) in
+            let none' = counts_tell.out_of_range n 0 (pairs_of g) (inr (omega arith)) in
             let a = none_of (is_done g new (suc rank) n) (times n (all_pairs g)) none' in
             let b = none_of (is_done g rows rank n) (times n (all_pairs g)) none' in
-            let c = laws.counts.absent n last (λ i d li e. let l = below_pairs i d li in omega arith) in
+            let c = counts_tell.absent n last (λ i d li e. let l = below_pairs i d li in omega arith) in
             omega arith
       ]
     where
@@ -249,16 +251,16 @@ module _ (g : Game) (a : IsGraph g) (rank : ℕ) (small : rank < 2 ^ 31) (list :
   old_bids : map bid_now done_before ≡ map bid_before done_before
   old_bids =
       let passes = filter_passes (is_done g rows rank) (all_pairs g) in
-      map_alike bid_now bid_before done_before (λ i d lt. ap (λ k. bid_at g k (get_or done_before i d)) (rank_by-stays laws.counts g rank rows new next_rows (get_or done_before i d) (passes i d lt)))
+      map_alike bid_now bid_before done_before (λ i d lt. ap (λ k. bid_at g k (get_or done_before i d)) (rank_by-stays g rank rows new next_rows (get_or done_before i d) (passes i d lt)))
 
   new_bids : map bid_now last ≡ map (bid_at g (suc rank)) last
   new_bids =
       map_alike bid_now (bid_at g (suc rank)) last (λ i d lt.
       let pair = get_or last i d in
       let below = below_pairs i d lt in
-      let some' = laws.counts.counted pair last (Contains-get_or last i d lt) in
+      let some' = counts_tell.counted pair last (Contains-get_or last i d lt) in
       let tests = fresh (is_done g rows rank pair) (is_done g new (suc rank) pair) (times pair last) some' (once pair below) in
-      ap (λ k. bid_at g k pair) (rank_by-new laws.counts g rank rows new next_rows pair tests.0 tests.1))
+      ap (λ k. bid_at g k pair) (rank_by-new g rank rows new next_rows pair tests.0 tests.1))
     where
       fresh : (b n : Bool) (k : ℕ) → 0 < k → k + one_if b ≡ one_if n → (b ≡ false) × (n ≡ true)
       fresh true true k lt e = absurd (omega arith)
@@ -268,7 +270,7 @@ module _ (g : Game) (a : IsGraph g) (rank : ℕ) (small : rank < 2 ^ 31) (list :
 
   offers : IsPermutation (bids_done g new (suc rank)) (map bid_of (offers_in (accounts ++ more)))
   offers =
-      let pairs = IsPermutation-map bid_now done_now (done_before ++ last) (laws.counts.same done_now (done_before ++ last) same_times) in
+      let pairs = IsPermutation-map bid_now done_now (done_before ++ last) (counts_tell.same done_now (done_before ++ last) same_times) in
       let parts : map bid_now (done_before ++ last) ≡ map bid_before done_before ++ map (bid_at g (suc rank)) last = map-append bid_now done_before last ∙ ap₂ ◌++◌ old_bids new_bids in
       let made : map bid_of (offers_in (accounts ++ more)) ≡ map bid_of (offers_in accounts) ++ map (bid_at g (suc rank)) last =
       ap (map bid_of) (offers_in-append accounts more) ∙ (map-append bid_of (offers_in accounts) (offers_in more) ∙ ap (λ l. map bid_of (offers_in accounts) ++ l) (offers_added g rank more r.each)) in
@@ -290,12 +292,12 @@ module _ (g : Game) (a : IsGraph g) (rank : ℕ) (small : rank < 2 ^ 31) (list :
   claims c lt = by_mark (mark_of g c) refl
     where
       old_values : All (λ v. (1 ≤ v) × (v < NONE)) (values (all_offers c accounts))
-      old_values = values_valued laws.accounts g c accounts was.valued
+      old_values = values_valued g c accounts was.valued
 
       plain : mark_of g c ≡ Plain → first_count (all_offers c more) ≡ one_if (rank_is (suc rank) (row_of new c))
       plain m =
           let start : word_at (mark_of g c) ≡ NONE = ap word_at m in
-          let firsts = laws.new_firsts accounts more c (word_at (mark_of g c)) (was.lawful.cells c lt).0 (lawful.cells c lt).0 (was.lawful.cells c lt).1 (lawful.cells c lt).1 in
+          let firsts = new_firsts accounts more c (word_at (mark_of g c)) (was.lawful.cells c lt).0 (lawful.cells c lt).0 (was.lawful.cells c lt).1 (lawful.cells c lt).1 in
           let many = length-map (all_offers c accounts) (λ (o : Offer). o.value) in
           elim (cases_lt 0 (length (all_offers c accounts))) [
             | inl had ↦
@@ -319,13 +321,13 @@ module _ (g : Game) (a : IsGraph g) (rank : ℕ) (small : rank < 2 ^ 31) (list :
       by_mark Plain m = plain m
       by_mark Goal m =
           let start : word_at (mark_of g c) ≡ 1 = ap word_at m in
-          let firsts = laws.new_firsts accounts more c (word_at (mark_of g c)) (was.lawful.cells c lt).0 (lawful.cells c lt).0 (was.lawful.cells c lt).1 (lawful.cells c lt).1 in
+          let firsts = new_firsts accounts more c (word_at (mark_of g c)) (was.lawful.cells c lt).0 (lawful.cells c lt).0 (was.lawful.cells c lt).1 (lawful.cells c lt).1 in
           let w : word_after g accounts c ≡ 1 = ap (λ n. least_from n (values (all_offers c accounts))) start ∙ least_from-keeps 1 (values (all_offers c accounts)) (λ i d li. (old_values i d li).0) in
           let is = row_told g accounts c lt ∙ (ap row_in w ∙ row_from_word 1 (omega arith) (omega arith)) in
           firsts.2 (λ e. absurd (omega arith)) ∙ sym (keeps_rank c _ is)
       by_mark Obstacle m =
           let start : word_at (mark_of g c) ≡ 0 = ap word_at m in
-          let firsts = laws.new_firsts accounts more c (word_at (mark_of g c)) (was.lawful.cells c lt).0 (lawful.cells c lt).0 (was.lawful.cells c lt).1 (lawful.cells c lt).1 in
+          let firsts = new_firsts accounts more c (word_at (mark_of g c)) (was.lawful.cells c lt).0 (lawful.cells c lt).0 (was.lawful.cells c lt).1 (lawful.cells c lt).1 in
           let le = least_from-le (word_at (mark_of g c)) (values (all_offers c accounts)) in
           firsts.2 (λ e. absurd (omega arith)) ∙ sym (no_rank c (shut c lt (omega arith)))
 
@@ -349,10 +351,10 @@ module _ (g : Game) (a : IsGraph g) (rank : ℕ) (small : rank < 2 ^ 31) (list :
         ∙ (ap₂ ◌++◌ was.logs (logs_added g rank more r.each)
         ∙ sym (ap claimed (offers_in-append accounts more) ∙ claimed-append (offers_in accounts) (offers_in more))));
     highest = highest;
-    cells = λ c lt. same c ∙ (laws.accounts.firsts c more ∙ claims c lt);
+    cells = λ c lt. same c ∙ (firsts_are c more ∙ claims c lt);
     within = λ i d lt.
         let c = get_or next i d in
-        let some' = laws.counts.counted c next (Contains-get_or next i d lt) in
+        let some' = counts_tell.counted c next (Contains-get_or next i d lt) in
         let e = same c in
-        All-contains (λ c. c < g.cells) (claimed (offers_in more)) c claimed_within (laws.counts.found c (claimed (offers_in more)) (omega arith));
+        All-contains (λ c. c < g.cells) (claimed (offers_in more)) c claimed_within (counts_tell.found c (claimed (offers_in more)) (omega arith));
   }

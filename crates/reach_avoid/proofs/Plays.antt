@@ -10,32 +10,35 @@ use Rattle.game_core.specs.Game.{Game, IsGraph, pairs_of, mark_of}
 use Rattle.board_crew.specs.Crew.{logged_cells}
 use Rattle.board_crew.specs.Rules.{IsRound, LeadsOn}
 use Rattle.reach_avoid.specs.Boards.{IsBoardOf}
-use Rattle.reach_avoid.specs.inside.Rounds.{Laws, rows_told, KeepsRule, IsLawfulFor, is_goal}
-use Rattle.reach_avoid.specs.inside.Standing.{StandsAt}
+use Rattle.reach_avoid.specs.inside.Rounds.{rows_told, KeepsRule, IsLawfulFor, is_goal}
+use Rattle.reach_avoid.specs.inside.Standing.{StandsAt, IsPlayable}
 use Rattle.reach_avoid.proofs.OnBoards.{counters_of_board, lawful_for}
 use Rattle.reach_avoid.proofs.Added.{logs_added}
 use Rattle.reach_avoid.proofs.LeadsOn.{next_rows, round_leads_on}
 use Rattle.reach_avoid.proofs.Begins.{begins, full_after, few_logs}
 
-module _ (g : Game) (a : IsGraph g) (laws : Laws) where
-  next_stand : (board : BoardModel) (rank : ℕ) (list next : List ℕ) (accounts more : List Account) → IsBoardOf g board → rank ≤ g.cells → 0 < length list → StandsAt g rank list accounts → IsRound g (KeepsRule g rank) list more
+module _ (g : Game) (a : IsGraph g) (board : BoardModel) (of_game : IsBoardOf g board) where
+  next_stand : (rank : ℕ) (list next : List ℕ) (accounts more : List Account) → rank ≤ g.cells → 0 < length list → StandsAt g rank list accounts → IsRound g (KeepsRule g rank) list more
       → IsLawful (accounts ++ more) board.starts board.least → ((c : ℕ) → times c next ≡ times c (logged_cells (all_logs more))) → StandsAt g (suc rank) next (accounts ++ more)
-  next_stand board rank list next accounts more of_game early some' was round lawful same =
+  next_stand rank list next accounts more early some' was round lawful same =
       let low : rank < 2 ^ 31 = (let b = a.cells_bound in omega arith) in
       let after : IsLawfulFor g (accounts ++ more) = lawful_for g a board of_game (accounts ++ more) lawful in
       record {
-        reached = round_leads_on g a rank low list accounts more laws was.reached round after next (λ c. same c ∙ ap (times c) (logs_added g rank more round.each));
-        full = full_after g a laws rank list accounts (rows_told g (accounts ++ more)) was.reached (next_rows g a rank low list accounts more laws was.reached round after) some';
+        reached = round_leads_on g a rank low list accounts more was.reached round after next (λ c. same c ∙ ap (times c) (logs_added g rank more round.each));
+        full = full_after g a rank list accounts (rows_told g (accounts ++ more)) was.reached (next_rows g a rank low list accounts more was.reached round after) some';
       }
 
-  pub leads_on : LeadsOn g (IsBoardOf g) (λ c. is_goal (mark_of g c)) (KeepsRule g) (StandsAt g)
+  leads_on : LeadsOn g board (λ c. is_goal (mark_of g c)) (KeepsRule g) (StandsAt g)
   leads_on = record {
     graph = a;
-    counters = λ board of_game. let many = counters_of_board g a board of_game in omega arith;
+    counters = let many = counters_of_board g a board of_game in omega arith;
     fresh = λ rank. record { no_other_cut = All-nil (λ (c : Cut). c.counter < pairs_of g); offers = refl; logs = refl };
     noted = λ rank account item h. record { no_other_cut = h.no_other_cut; offers = h.offers; logs = h.logs };
-    begins = record { reached = begins g a laws; full = inl refl };
+    begins = record { reached = begins g a; full = inl refl };
     within = λ rank list accounts h. h.reached.within;
-    few = λ rank list accounts h. few_logs g a laws accounts h.reached.lawful h.reached.valued h.reached.logs;
+    few = λ rank list accounts h. few_logs g a accounts h.reached.lawful h.reached.valued h.reached.logs;
     next = next_stand;
   }
+
+  pub playable : IsPlayable g board
+  playable = record { of_game = of_game; leads = leads_on }

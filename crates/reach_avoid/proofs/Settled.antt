@@ -13,7 +13,7 @@ use Rattle.cell_counters.specs.declared.account.Cut.{Cut}
 use Rattle.cell_counters.specs.declared.account.Offer.{Offer}
 use Rattle.cell_counters.specs.declared.account.Account.{Account}
 use Rattle.cell_counters.specs.Accounts.{all_offers, values}
-use Rattle.game_core.specs.Counts.{times, one_if, CountsTell}
+use Rattle.game_core.specs.Counts.{times, one_if}
 use Rattle.game_core.specs.declared.game.Mark.{Mark}
 use Rattle.game_core.specs.declared.game.Mark.TheVariants.{Goal, Obstacle, Plain}
 use Rattle.game_core.specs.declared.game.Row.{Row}
@@ -21,10 +21,12 @@ use Rattle.game_core.specs.Game.{Game, IsGraph, mark_of, pair_of, pairs_of, succ
 use Rattle.game_core.specs.Solution.{row_of, rank_in, rank_at, greatest, greatest_rank, HasRow}
 use Rattle.game_core.specs.Right.{IsBestInput, IsLost, IsRightRanked, IsRightPlain, IsRightAt, AreRight}
 use Rattle.game_core.specs.Tally.{all_pairs, ranked_in, is_resolved, rank_by, rounds_to}
+use Rattle.game_core.proofs.Times.{counts_tell}
 use Rattle.board_crew.specs.Crew.{cuts_in, offers_in}
+use Rattle.board_crew.proofs.Accounts.{cuts_are, offers_are}
 use Rattle.reach_avoid.specs.Boards.{word_at}
 use Rattle.reach_avoid.specs.Reckoned.{bid_of, bid_at, IsReckonedBy}
-use Rattle.reach_avoid.specs.inside.Rounds.{Laws, row_in, least_from, word_after, rows_told, below_in, rank_is, taken_in, is_done, IsReached, IsFull}
+use Rattle.reach_avoid.specs.inside.Rounds.{row_in, least_from, word_after, rows_told, below_in, rank_is, taken_in, is_done, IsReached, IsFull}
 use Rattle.reach_avoid.proofs.Words.{least_from-le, least_from-lower, least_from-among, least_from-keeps, row_from_word, no_row_from_word, row_told, cell_of_row, word_of_row}
 use Rattle.reach_avoid.proofs.Ranks.{greatest_of, greatest_rank-le}
 use Rattle.reach_avoid.proofs.Games.{input_of_pair, values_valued}
@@ -71,11 +73,11 @@ greatest_rank-lt rows (suc k) cells some' h =
     let le = greatest_rank-le rows k cells (λ i d lt. let r = h i d lt in omega arith) in
     omega arith
 
-module _ (sums : CountsTell) (g : Game) (rows : List (Option Row)) where
+module _ (g : Game) (rows : List (Option Row)) where
   resolved_parts : (pair : ℕ) → is_resolved g rows pair ≡ true → (0 < length (successors_at g pair)) × All (HasRow rows) (successors_at g pair)
   resolved_parts pair e =
       let both = and_parts (nat_lt 0 (length (successors_at g pair))) (ranked_in g rows pair == length (successors_at g pair)) e in
-      let all = sums.each_passes (λ s. is_some (row_of rows s)) (successors_at g pair) (eqb-true (ranked_in g rows pair) (length (successors_at g pair)) both.1) in
+      let all = counts_tell.each_passes (λ s. is_some (row_of rows s)) (successors_at g pair) (eqb-true (ranked_in g rows pair) (length (successors_at g pair)) both.1) in
       (ltb-true 0 (length (successors_at g pair)) both.0, λ i d lt. some_row (row_of rows (get_or (successors_at g pair) i d)) (all i d lt))
 
   resolved_from : (pair : ℕ) → 0 < length (successors_at g pair) → ranked_in g rows pair ≡ length (successors_at g pair) → is_resolved g rows pair ≡ true
@@ -83,9 +85,9 @@ module _ (sums : CountsTell) (g : Game) (rows : List (Option Row)) where
       and_from (nat_lt 0 (length (successors_at g pair))) (ranked_in g rows pair == length (successors_at g pair)) (lt-ltb 0 (length (successors_at g pair)) lt) (eq-eqb (ranked_in g rows pair) (length (successors_at g pair)) e)
 
   resolved_all : (pair : ℕ) → 0 < length (successors_at g pair) → All (HasRow rows) (successors_at g pair) → is_resolved g rows pair ≡ true
-  resolved_all pair lt all = resolved_from pair lt (sums.all_pass (λ s. is_some (row_of rows s)) (successors_at g pair) (λ i d li. let r = all i d li in ap is_some r.1))
+  resolved_all pair lt all = resolved_from pair lt (counts_tell.all_pass (λ s. is_some (row_of rows s)) (successors_at g pair) (λ i d li. let r = all i d li in ap is_some r.1))
 
-module _ (g : Game) (a : IsGraph g) (rank : ℕ) (accounts : List Account) (laws : Laws) (was : IsReached g rank [] accounts) where
+module _ (g : Game) (a : IsGraph g) (rank : ℕ) (accounts : List Account) (was : IsReached g rank [] accounts) where
   abbrev rows : List (Option Row)
   rows = rows_told g accounts
 
@@ -109,7 +111,7 @@ module _ (g : Game) (a : IsGraph g) (rank : ℕ) (accounts : List Account) (laws
       by_row (Some row) e = lt-ltb row.rank rank (all_below s row e)
 
   taken_is_ranked : (pair : ℕ) → taken_in g rows rank pair ≡ ranked_in g rows pair
-  taken_is_ranked pair = laws.counts.alike (λ s. one_if (below_in rank (row_of rows s))) (λ s. one_if (is_some (row_of rows s))) (successors_at g pair) (λ i d lt. ap one_if (below_is_some (get_or (successors_at g pair) i d)))
+  taken_is_ranked pair = counts_tell.alike (λ s. one_if (below_in rank (row_of rows s))) (λ s. one_if (is_some (row_of rows s))) (successors_at g pair) (λ i d lt. ap one_if (below_is_some (get_or (successors_at g pair) i d)))
 
   done_is_resolved : (pair : ℕ) → is_done g rows rank pair ≡ is_resolved g rows pair
   done_is_resolved pair = ap (λ n. nat_lt 0 (length (successors_at g pair)) && (n == length (successors_at g pair))) (taken_is_ranked pair)
@@ -142,8 +144,8 @@ module _ (g : Game) (a : IsGraph g) (rank : ℕ) (accounts : List Account) (laws
   word_below : (pair : ℕ) → pair < pairs_of g → is_resolved g rows pair ≡ true → (word_after g accounts (pair / g.inputs) ≤ 1 + rank_by g rows pair * 4096 + pair % g.inputs) × (word_after g accounts (pair / g.inputs) < NONE)
   word_below pair lt e =
       let c = pair / g.inputs in
-      let once : times pair resolved ≡ 1 = laws.counts.filtered (is_resolved g rows) pair (all_pairs g) ∙ (ap (λ b. cond b (times pair (all_pairs g)) 0) e ∙ laws.counts.in_range pair 0 (pairs_of g) (omega arith) (omega arith)) in
-      let there = Contains-permutation (map bid resolved) (map bid_of (offers_in accounts)) (bid pair) bids (contains_map bid resolved pair (laws.counts.found pair resolved (omega arith))) in
+      let once : times pair resolved ≡ 1 = counts_tell.filtered (is_resolved g rows) pair (all_pairs g) ∙ (ap (λ b. cond b (times pair (all_pairs g)) 0) e ∙ counts_tell.in_range pair 0 (pairs_of g) (omega arith) (omega arith)) in
+      let there = Contains-permutation (map bid resolved) (map bid_of (offers_in accounts)) (bid pair) bids (contains_map bid resolved pair (counts_tell.found pair resolved (omega arith))) in
       let i = there.0 in
       let nothing : Offer = record { word = 0; value = 0; first = false } in
       let li : i < length (offers_in accounts) = (let l = there.1 in let len = length-map (offers_in accounts) bid_of in omega arith) in
@@ -151,7 +153,7 @@ module _ (g : Game) (a : IsGraph g) (rank : ℕ) (accounts : List Account) (laws
       let is : bid_of o ≡ bid pair = sym (get_or-map bid_of (offers_in accounts) i nothing (bid pair) li) ∙ there.2 in
       let word : o.word ≡ c = ap (λ p. p.0) is in
       let value : o.value ≡ 1 + rank_by g rows pair * 4096 + pair % g.inputs = ap (λ p. p.1) is in
-      let stands : Contains (all_offers c accounts) o = subst (λ l. Contains l o) (sym (laws.accounts.offers c accounts)) (contains_filter (λ (o : Offer). o.word == c) (offers_in accounts) o (Contains-get_or (offers_in accounts) i nothing li) (eq-eqb o.word c word)) in
+      let stands : Contains (all_offers c accounts) o = subst (λ l. Contains l o) (sym (offers_are c accounts)) (contains_filter (λ (o : Offer). o.word == c) (offers_in accounts) o (Contains-get_or (offers_in accounts) i nothing li) (eq-eqb o.word c word)) in
       let le = All-contains (λ v. word_after g accounts c ≤ v) (values (all_offers c accounts)) o.value (least_from-lower (word_at (mark_of g c)) (values (all_offers c accounts))) (contains_map (λ (o : Offer). o.value) (all_offers c accounts) o stands) in
       let less = (was.valued i nothing li).less in
       (omega arith, omega arith)
@@ -191,7 +193,7 @@ module _ (g : Game) (a : IsGraph g) (rank : ℕ) (accounts : List Account) (laws
             let li : i < length (all_offers c accounts) = (let l = has.1 in let len = length-map (all_offers c accounts) (λ (o : Offer). o.value) in omega arith) in
             let o = get_or (all_offers c accounts) i nothing in
             let value : o.value ≡ word_after g accounts c = sym (get_or-map (λ (o : Offer). o.value) (all_offers c accounts) i nothing (word_after g accounts c) li) ∙ has.2 in
-            let both = subst (λ l. All (λ (o : Offer). (o.word == c) ≡ true) l × All (Contains (offers_in accounts)) l) (sym (laws.accounts.offers c accounts))
+            let both = subst (λ l. All (λ (o : Offer). (o.word == c) ≡ true) l × All (Contains (offers_in accounts)) l) (sym (offers_are c accounts))
             (filter_passes (λ (o : Offer). o.word == c) (offers_in accounts), All-filter (λ (o : Offer). o.word == c) (Contains (offers_in accounts)) (offers_in accounts) (All-contains_itself (offers_in accounts))) in
             let word : o.word ≡ c = eqb-true o.word c (both.0 i nothing li) in
             let by = offered_by o (both.1 i nothing li) in
@@ -211,7 +213,7 @@ module _ (g : Game) (a : IsGraph g) (rank : ℕ) (accounts : List Account) (laws
   right_goal : (c : ℕ) → c < g.cells → mark_of g c ≡ Goal → row_of rows c ≡ Some (record { rank = 0; input = 0 })
   right_goal c lt m =
       let start : word_at (mark_of g c) ≡ 1 = ap word_at m in
-      let old = values_valued laws.accounts g c accounts was.valued in
+      let old = values_valued g c accounts was.valued in
       let w : word_after g accounts c ≡ 1 = ap (λ n. least_from n (values (all_offers c accounts))) start ∙ least_from-keeps 1 (values (all_offers c accounts)) (λ i d li. (old i d li).0) in
       row_told g accounts c lt ∙ (ap row_in w ∙ row_from_word 1 (omega arith) (omega arith))
 
@@ -228,7 +230,7 @@ module _ (g : Game) (a : IsGraph g) (rank : ℕ) (accounts : List Account) (laws
       elim (least_from-among (word_at (mark_of g c)) (values (all_offers c accounts))) [
         | inl e ↦ omega arith
         | inr has ↦
-            let v = All-contains (λ v. (1 ≤ v) × (v < NONE)) (values (all_offers c accounts)) (word_after g accounts c) (values_valued laws.accounts g c accounts was.valued) has in
+            let v = All-contains (λ v. (1 ≤ v) × (v < NONE)) (values (all_offers c accounts)) (word_after g accounts c) (values_valued g c accounts was.valued) has in
             let v0 = v.0 in
             omega arith
       ]
@@ -238,31 +240,31 @@ module _ (g : Game) (a : IsGraph g) (rank : ℕ) (accounts : List Account) (laws
       let pair = pair_of g c v in
       elim (cases_lt (ranked_in g rows pair) (length (successors_at g pair))) [
         | inl less ↦
-            let f = laws.counts.one_fails (λ s. is_some (row_of rows s)) (successors_at g pair) less in
+            let f = counts_tell.one_fails (λ s. is_some (row_of rows s)) (successors_at g pair) less in
             (f.0, f.1, no_row (row_of rows f.0) f.2)
         | inr ge ↦
             let most = count_by-le-length (λ s. is_some (row_of rows s)) (successors_at g pair) in
-            let e = resolved_from laws.counts g rows pair (unfilled (successors_at g pair) enabled.1) (omega arith) in
+            let e = resolved_from g rows pair (unfilled (successors_at g pair) enabled.1) (omega arith) in
             let low = word_below_input c v lt enabled.0 e in
             absurd (let is = row_from_word (word_after g accounts c) (word_above c m) low.1 in let told' = row_told g accounts c lt in cc)
       ]
 
   best : (c k u : ℕ) → c < g.cells → u < g.inputs → is_resolved g rows (pair_of g c u) ≡ true → greatest_rank rows (successors_of g c u) ≡ k → word_after g accounts c ≡ 1 + suc k * 4096 + u → IsBestInput g rows c u k
   best c k u lt in' e full w =
-      let parts = resolved_parts laws.counts g rows (pair_of g c u) e in
+      let parts = resolved_parts g rows (pair_of g c u) e in
       let most = a.inputs_bound in
       record {
         leads = record { enabled = (in', filled (successors_of g c u) parts.0); ranked = parts.1; greatest = full };
         none_further = λ v enabled below.
             let some' = unfilled (successors_of g c v) enabled.1 in
-            let all = resolved_all laws.counts g rows (pair_of g c v) some' (λ i d li. let r = below i d li in (r.row, r.is)) in
+            let all = resolved_all g rows (pair_of g c v) some' (λ i d li. let r = below i d li in (r.row, r.is)) in
             let low = greatest_rank-lt rows k (successors_of g c v) some' (λ i d li. let r = below i d li in let b = r.below in let e' : rank_at rows (get_or (successors_of g c v) i d) ≡ r.row.rank = ap rank_in r.is in omega arith) in
             let le = (word_below_input c v lt enabled.0 all).0 in
             let small = enabled.0 in
             absurd (omega arith);
         none_lesser = λ v less leads.
             let some' = unfilled (successors_of g c v) leads.enabled.1 in
-            let all = resolved_all laws.counts g rows (pair_of g c v) some' leads.ranked in
+            let all = resolved_all g rows (pair_of g c v) some' leads.ranked in
             let same = leads.greatest in
             let le = (word_below_input c v lt leads.enabled.0 all).0 in
             absurd (omega arith);
@@ -303,10 +305,10 @@ module _ (g : Game) (a : IsGraph g) (rank : ℕ) (accounts : List Account) (laws
       let counters = map (λ (c : Cut). c.counter) (cuts_in accounts) in
       let in' = All-range (pairs_of g) in
       sym (length-map (cuts_in accounts) (λ (c : Cut). c.counter))
-      ∙ (sym (laws.counts.of_all_below (pairs_of g) counters (All-map (λ n. n < pairs_of g) (λ (c : Cut). c.counter) (cuts_in accounts) was.no_other_cut))
-      ∙ laws.counts.alike (λ pair. times pair counters) (ranked_in g rows) (all_pairs g) (λ i d lt.
+      ∙ (sym (counts_tell.of_all_below (pairs_of g) counters (All-map (λ n. n < pairs_of g) (λ (c : Cut). c.counter) (cuts_in accounts) was.no_other_cut))
+      ∙ counts_tell.alike (λ pair. times pair counters) (ranked_in g rows) (all_pairs g) (λ i d lt.
       let pair = get_or (all_pairs g) i d in
-      sym (laws.accounts.cuts pair accounts) ∙ (was.cuts pair (in' i d lt) ∙ taken_is_ranked pair)))
+      sym (cuts_are pair accounts) ∙ (was.cuts pair (in' i d lt) ∙ taken_is_ranked pair)))
 
   pub offers_count : length (offers_in accounts) ≡ count_by (is_resolved g rows) (all_pairs g)
   offers_count =
@@ -316,8 +318,8 @@ module _ (g : Game) (a : IsGraph g) (rank : ℕ) (accounts : List Account) (laws
 
   pub few_cuts : length (cuts_in accounts) ≤ 2 ^ 25
   few_cuts =
-      let le = laws.counts.lesser (ranked_in g rows) (λ pair. length (successors_at g pair)) (all_pairs g) (λ i d lt. count_by-le-length (λ s. is_some (row_of rows s)) (successors_at g (get_or (all_pairs g) i d))) in
-      let all = laws.counts.places_of_lists length g.successors in
+      let le = counts_tell.lesser (ranked_in g rows) (λ pair. length (successors_at g pair)) (all_pairs g) (λ i d lt. count_by-le-length (λ s. is_some (row_of rows s)) (successors_at g (get_or (all_pairs g) i d))) in
+      let all = counts_tell.places_of_lists length g.successors in
       let many = a.game.one_list_each in
       let same : sum_by (λ pair. length (successors_at g pair)) (all_pairs g) ≡ sum_by length g.successors = ap (λ n. sum_by (λ pair. length (successors_at g pair)) (range_with_len 0 n)) (sym many) ∙ all in
       let most = a.edges_bound in

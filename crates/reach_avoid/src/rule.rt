@@ -5,7 +5,6 @@ ghost use Rattle.reach_avoid.specs.Boards.{IsBoardOf};
 ghost use Rattle.reach_avoid.specs.inside.Rounds.{is_goal};
 ghost use Rattle.reach_avoid.specs.inside.Workers.{Bids, Cuts};
 
-use crate::known::known_laws;
 use board_crew::{Rule, Worker};
 use cell_counters::{Board, Root};
 use game_core::{Graph, Mark};
@@ -22,11 +21,11 @@ pub(crate) struct Reach<'a, G: Graph> {
 impl<G: Graph + Sync> Rule for Reach<'_, G> {
     ghost use Rattle.game_core.specs.Game.{mark_of};
     ghost use Rattle.reach_avoid.specs.inside.Rounds.{KeepsRule};
-    ghost use Rattle.reach_avoid.specs.inside.Standing.{StandsAt};
+    ghost use Rattle.reach_avoid.specs.inside.Standing.{StandsAt, IsPlayable};
 
     ghost game = { λ rule. G.game rule.graph.now };
 
-    ghost fits = { λ rule. IsBoardOf (G.game rule.graph.now) };
+    ghost fits = { λ rule. IsPlayable (G.game rule.graph.now) };
 
     ghost first = { λ rule c. is_goal (mark_of (G.game rule.graph.now) c) };
 
@@ -50,9 +49,7 @@ impl<G: Graph + Sync> Rule for Reach<'_, G> {
         self.cut_and_bid(board, worker, round, pair);
     }
 
-    fn leads_on(&self) {
-        known_laws();
-    }
+    ghost leads_on = { λ rule board fit. fit.leads };
 }
 
 impl<G: Graph> Reach<'_, G> {

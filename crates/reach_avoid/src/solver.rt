@@ -6,13 +6,11 @@ ghost use Rattle.reach_avoid.specs.Boards.{IsBoardOf};
 ghost use Rattle.reach_avoid.specs.Solved.{IsSolved};
 ghost use Rattle.reach_avoid.specs.inside.Rounds.{rows_told, row_in};
 
-use crate::known::{known_graph, known_laws};
 use crate::outcome::Solved;
 use crate::rule::Reach;
 use crate::scratch::Scratch;
 use cell_counters::{Board, NONE, Root};
 use frontier_pool::Gate;
-use game_core::laws::right_rows_are_the_solution;
 use game_core::{Answer, Graph, NoMemory, Row};
 use std::alloc::Global;
 use std::thread::Threads;
@@ -43,9 +41,6 @@ pub fn solve_in<R: Threads + Sync, G: Graph + Sync, T: Gate>(
     requires { IsBoardOf (G.game g.now) scratch }
     ensures { IsSolved (G.game g.now) result }
 {
-    known_graph(g);
-    known_laws();
-    right_rows_are_the_solution();
     let Scratch {
         board,
         mut rounds,

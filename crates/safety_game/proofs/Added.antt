@@ -4,7 +4,6 @@ use Rattle.std.proofs.lemmas.List.{map-append}
 use Rattle.std.proofs.lemmas.List.Concat.{flat_map-append}
 use Rattle.std.proofs.lemmas.List.Elements.{All-head, All-tail, All-weaker}
 use Rattle.board_crew.specs.Crew.{cuts_in, offers_in, logged_cells}
-use Rattle.game_core.specs.Counts.{CountsTell}
 use Rattle.cell_counters.specs.declared.account.Log.{Log}
 use Rattle.cell_counters.specs.declared.account.Account.{Account}
 use Rattle.cell_counters.specs.Accounts.{answers, all_answers, cut_count, all_logs}
@@ -27,10 +26,10 @@ logged_cells-append xs ys = ap logged_cells (all_logs-append xs ys) ∙ map-appe
 pub cut_count-append : (counter : ℕ) (xs ys : List Account) → cut_count counter (xs ++ ys) ≡ cut_count counter xs + cut_count counter ys
 cut_count-append counter xs ys = ap length (flat_map-append (answers counter) xs ys) ∙ length-append (all_answers counter xs) (all_answers counter ys)
 
-module _ (g : Game) (tell : CountsTell) where
+module _ (g : Game) where
   pub none_offered : (more : List Account) → All (KeepsRule g) more → offers_in more ≡ []
   none_offered [] h = refl
   none_offered (a ∷ more) h = ap₂ ◌++◌ (All-head (KeepsRule g) a more h).no_offer (none_offered more (All-tail (KeepsRule g) a more h))
 
   pub round_in_step : (more : List Account) → All (KeepsRule g) more → IsInStep g (cuts_in more) (logged_cells (all_logs more))
-  round_in_step more h = all_in_step g tell more (All-weaker (KeepsRule g) (λ (a : Account). IsInStep g a.cuts (logged_cells a.logs)) (λ a w. w.in_step) more h)
+  round_in_step more h = all_in_step g more (All-weaker (KeepsRule g) (λ (a : Account). IsInStep g a.cuts (logged_cells a.logs)) (λ a w. w.in_step) more h)

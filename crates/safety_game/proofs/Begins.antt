@@ -13,10 +13,12 @@ use Rattle.cell_counters.specs.declared.account.Cut.{Cut}
 use Rattle.cell_counters.specs.declared.account.Log.{Log}
 use Rattle.cell_counters.specs.declared.account.Account.{Account}
 use Rattle.cell_counters.specs.Accounts.{all_logs, log_count}
+use Rattle.cell_counters.proofs.Consequences.{nothing_done}
 use Rattle.game_core.specs.Fallen.{is_obstacle, has_fallen}
 use Rattle.game_core.specs.Game.{Game, IsGraph, mark_of, pairs_of, successors_at}
+use Rattle.game_core.proofs.Times.{counts_tell}
 use Rattle.safety_game.specs.Boards.{pairs_at, enabled_at}
-use Rattle.safety_game.specs.inside.Rounds.{Laws, fell_before, gone_in, is_hit, hits_at, AreFalling, first_fallen, IsFull}
+use Rattle.safety_game.specs.inside.Rounds.{fell_before, gone_in, is_hit, hits_at, AreFalling, first_fallen, IsFull}
 use Rattle.safety_game.proofs.Counting.{count_none, All-range}
 use Rattle.safety_game.proofs.Falls.{falls_by_hits, hits_by_fall}
 use Rattle.safety_game.proofs.Pairs.{few_enabled, few_successors}
@@ -44,13 +46,13 @@ module _ (g : Game) where
           let e = none_gone pair in
           ap (λ b. not (is_obstacle (mark_of g (pair / g.inputs))) && b) (le-ltb 0 (gone_in g 0 pair) (omega arith)) ∙ and-false (not (is_obstacle (mark_of g (pair / g.inputs))))
 
-  module _ (a : IsGraph g) (laws : Laws) where
+  module _ (a : IsGraph g) where
     -- the list of the first round
     first_cells : (c : ℕ) → c < g.cells → times c (first_fallen g) ≡ one_if (has_fallen g 0 c)
-    first_cells c lt = laws.counts.filtered (has_fallen g 0) c (range_with_len 0 g.cells) ∙ by_test (has_fallen g 0 c)
+    first_cells c lt = counts_tell.filtered (has_fallen g 0) c (range_with_len 0 g.cells) ∙ by_test (has_fallen g 0 c)
       where
         by_test : (b : Bool) → cond b (times c (range_with_len 0 g.cells)) 0 ≡ one_if b
-        by_test true = laws.counts.in_range c 0 g.cells (omega arith) (omega arith)
+        by_test true = counts_tell.in_range c 0 g.cells (omega arith) (omega arith)
         by_test false = refl
 
     -- a cell that is no obstacle falls in round 0 where it has no enabled input
@@ -58,15 +60,15 @@ module _ (g : Game) where
     falls_first c clear = by_test (has_fallen g 0 c) refl
       where
         by_test : (b : Bool) → has_fallen g 0 c ≡ b → (enabled_at g c == 0) ≡ b
-        by_test true e = let le = hits_by_fall g laws.counts 0 c clear e in let none = none_hit c in eq-eqb (enabled_at g c) 0 (omega arith)
-        by_test false e = ne_eqb (enabled_at g c) 0 (λ z. absurd (let f = falls_by_hits g laws.counts 0 c (omega arith) in cc))
+        by_test true e = let le = hits_by_fall g 0 c clear e in let none = none_hit c in eq-eqb (enabled_at g c) 0 (omega arith)
+        by_test false e = ne_eqb (enabled_at g c) 0 (λ z. absurd (let f = falls_by_hits g 0 c (omega arith) in cc))
 
     -- before any round nothing is cut
     pub begins : AreFalling g 0 (first_fallen g) []
     begins = record {
       lawful = record {
-        pairs = λ pair lt. (length (successors_at g pair), laws.nothing_done.0 pair (length (successors_at g pair)) (let few = few_successors g a pair lt in omega arith));
-        cells = λ c lt. (enabled_at g c, laws.nothing_done.0 (pairs_of g + c) (enabled_at g c) (let few = few_enabled g c in let most = a.inputs_bound in omega arith));
+        pairs = λ pair lt. (length (successors_at g pair), nothing_done.0 pair (length (successors_at g pair)) (let few = few_successors g a pair lt in omega arith));
+        cells = λ c lt. (enabled_at g c, nothing_done.0 (pairs_of g + c) (enabled_at g c) (let few = few_enabled g c in let most = a.inputs_bound in omega arith));
       };
       cuts = λ pair lt. sym (none_gone pair);
       cell_cuts = λ c lt. sym (none_hit c);
@@ -84,14 +86,14 @@ module _ (g : Game) where
       full_after some' =
           let c = get_or list 0 0 in
           let lt = was.within 0 0 some' in
-          let tests = fresh (fell_before g d c) (has_fallen g d c) (times c list) (laws.counts.counted c list (Contains-get_or list 0 0 some')) (was.cells c lt) in
+          let tests = fresh (fell_before g d c) (has_fallen g d c) (times c list) (counts_tell.counted c list (Contains-get_or list 0 0 some')) (was.cells c lt) in
           inr (d, c, refl, lt, tests.1, tests.0)
 
       -- each cell is logged at most once
       pub few_logs : log_count accounts ≤ g.cells
       few_logs =
           let logged = logged_cells (all_logs accounts) in
-          let all = laws.counts.of_all_below g.cells logged was.logged in
+          let all = counts_tell.of_all_below g.cells logged was.logged in
           let many : length logged ≡ log_count accounts = length-map (all_logs accounts) (λ (l : Log). l.cell) in
           let in' = All-range g.cells in
           let le = sum_by-le (λ c. times c logged) 1 (range_with_len 0 g.cells) (λ i e li.

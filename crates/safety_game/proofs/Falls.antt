@@ -5,9 +5,10 @@ use Rattle.std.proofs.Math.Bool.{or-true}
 use Rattle.std.proofs.lemmas.Bool.{or_cases, and_parts, and_from, lt-ltb, le-ltb, ltb-true}
 use Rattle.std.proofs.lemmas.List.FromFn.{length-range_with_len, get_or-range_with_len}
 use Rattle.std.proofs.lemmas.List.Sums.{count_by-le-length, sum_by-le-sum_by, list_all-from_AllPass, AllPass-from_list_all}
-use Rattle.game_core.specs.Counts.{one_if, CountsTell}
+use Rattle.game_core.specs.Counts.{one_if}
 use Rattle.game_core.specs.Fallen.{is_obstacle, is_useless, is_helpless, has_fallen}
 use Rattle.game_core.specs.Game.{Game, mark_of, pair_of, successors_at, successors_of}
+use Rattle.game_core.proofs.Times.{counts_tell}
 use Rattle.safety_game.specs.Boards.{pairs_at, enabled_at}
 use Rattle.safety_game.specs.inside.Rounds.{fell_before, gone_in, is_hit, hits_at}
 use Rattle.safety_game.proofs.Counting.{one_if_le, any_counts, count_none}
@@ -47,11 +48,11 @@ module _ (g : Game) (test : ℕ → Bool) where
         let here : not (is_obstacle (mark_of g (pair_of g c u / g.inputs))) ≡ true = ap (λ c. not (is_obstacle (mark_of g c))) (cell_of g c u lt) ∙ ap not clear in
         and_from (not (is_obstacle (mark_of g (pair_of g c u / g.inputs)))) (nat_lt 0 (count_by test (successors_of g c u))) here (sym (any_counts test (successors_of g c u)) ∙ any)
 
-    pub helpless_counts : (sums : CountsTell) → is_obstacle (mark_of g c) ≡ false → is_helpless g test c ≡ true → enabled_at g c ≤ count_by (touched g test) (pairs_at g c)
-    helpless_counts sums clear e =
+    pub helpless_counts : is_obstacle (mark_of g c) ≡ false → is_helpless g test c ≡ true → enabled_at g c ≤ count_by (touched g test) (pairs_at g c)
+    helpless_counts clear e =
         let useless = AllPass-from_list_all (is_useless g test c) (range_with_len 0 g.inputs) e in
         let len = length-range_with_len 0 g.inputs in
-        sums.lesser (λ pair. one_if (is_enabled g pair)) (λ pair. one_if (touched g test pair)) (pairs_at g c)
+        counts_tell.lesser (λ pair. one_if (is_enabled g pair)) (λ pair. one_if (touched g test pair)) (pairs_at g c)
         (All-pairs_at g (λ pair. one_if (is_enabled g pair) ≤ one_if (touched g test pair)) c (λ u lt.
         let at : get_or (range_with_len 0 g.inputs) u u ≡ u = (let i = get_or-range_with_len 0 g.inputs u u lt in omega arith) in
         let here : is_useless g test c u ≡ true = subst (λ u. is_useless g test c u ≡ true) at (useless u u (omega arith)) in
@@ -64,9 +65,9 @@ module _ (g : Game) (test : ℕ → Bool) where
         let any = (and_parts (not (is_obstacle (mark_of g (pair_of g c u / g.inputs)))) (nat_lt 0 (count_by test (successors_of g c u))) f).1 in
         ap (λ b. (length (successors_of g c u) == 0) || b) (any_counts test (successors_of g c u) ∙ any) ∙ or-true (length (successors_of g c u) == 0)
 
-    pub counts_helpless : CountsTell → enabled_at g c ≤ count_by (touched g test) (pairs_at g c) → is_helpless g test c ≡ true
-    counts_helpless tell le =
-        let alike = tell.pass_alike (touched g test) (is_enabled g) touched_enabled (pairs_at g c) le in
+    pub counts_helpless : enabled_at g c ≤ count_by (touched g test) (pairs_at g c) → is_helpless g test c ≡ true
+    counts_helpless le =
+        let alike = counts_tell.pass_alike (touched g test) (is_enabled g) touched_enabled (pairs_at g c) le in
         let len = length-range_with_len 0 g.inputs in
         list_all-from_AllPass (is_useless g test c) (range_with_len 0 g.inputs) (λ i d lt.
         let u = get_or (range_with_len 0 g.inputs) i d in
@@ -110,16 +111,16 @@ module _ (g : Game) where
   gone_few d pair = count_by-le-length (fell_before g d) (successors_at g pair)
 
   -- a cell has fallen where all its enabled pairs are hit, and the other way round
-  pub falls_by_hits : CountsTell → (d c : ℕ) → enabled_at g c ≤ hits_at g d c → has_fallen g d c ≡ true
-  falls_by_hits tell zero c le = ap (λ b. is_obstacle (mark_of g c) || b) (counts_helpless g (λ s. false) c tell le) ∙ or-true (is_obstacle (mark_of g c))
-  falls_by_hits tell (suc d) c le = ap (λ b. has_fallen g d c || b) (counts_helpless g (has_fallen g d) c tell le) ∙ or-true (has_fallen g d c)
+  pub falls_by_hits : (d c : ℕ) → enabled_at g c ≤ hits_at g d c → has_fallen g d c ≡ true
+  falls_by_hits zero c le = ap (λ b. is_obstacle (mark_of g c) || b) (counts_helpless g (λ s. false) c le) ∙ or-true (is_obstacle (mark_of g c))
+  falls_by_hits (suc d) c le = ap (λ b. has_fallen g d c || b) (counts_helpless g (has_fallen g d) c le) ∙ or-true (has_fallen g d c)
 
-  pub hits_by_fall : (sums : CountsTell) (d c : ℕ) → is_obstacle (mark_of g c) ≡ false → has_fallen g d c ≡ true → enabled_at g c ≤ hits_at g d c
-  hits_by_fall sums zero c clear e = helpless_counts g (λ s. false) c sums clear (right_of (is_obstacle (mark_of g c)) (is_helpless g (λ s. false) c) clear e)
-  hits_by_fall sums (suc d) c clear e =
+  pub hits_by_fall : (d c : ℕ) → is_obstacle (mark_of g c) ≡ false → has_fallen g d c ≡ true → enabled_at g c ≤ hits_at g d c
+  hits_by_fall zero c clear e = helpless_counts g (λ s. false) c clear (right_of (is_obstacle (mark_of g c)) (is_helpless g (λ s. false) c) clear e)
+  hits_by_fall (suc d) c clear e =
       elim (or_cases (has_fallen g d c) (is_helpless g (has_fallen g d) c) e) [
-        | inl before ↦ let le = hits_by_fall sums d c clear before in let more = hits_grow d c in omega arith
-        | inr helpless ↦ helpless_counts g (has_fallen g d) c sums clear helpless
+        | inl before ↦ let le = hits_by_fall d c clear before in let more = hits_grow d c in omega arith
+        | inr helpless ↦ helpless_counts g (has_fallen g d) c clear helpless
       ]
 
   -- an obstacle falls at once, and none of its pairs is hit

@@ -3,15 +3,15 @@ use Rattle.std.proofs.Common.{inl, inr, ◌≡◌, ◌≢◌, ℕ, ◌+◌, ◌-
 use Rattle.std.proofs.lemmas.Bool.{cases_eq}
 use Rattle.std.proofs.lemmas.List.{map-append}
 use Rattle.std.proofs.lemmas.List.Elements.{All-nil, All-cons, All-append, All-head, All-tail, filter-append}
-use Rattle.board_crew.specs.Crew.{cuts_in, logged_cells}
-use Rattle.game_core.specs.Counts.{one_if, CountsTell, times}
-use Rattle.board_crew.specs.Laws.{counters_of, cut_to}
+use Rattle.board_crew.specs.Crew.{cuts_in, logged_cells, counters_of, cut_to}
+use Rattle.game_core.specs.Counts.{one_if, times}
 use Rattle.cell_counters.specs.declared.account.Cut.{Cut}
 use Rattle.cell_counters.specs.declared.account.Log.{Log}
 use Rattle.cell_counters.specs.declared.account.Account.{Account}
 use Rattle.cell_counters.specs.Accounts.{all_logs}
 use Rattle.game_core.specs.Fallen.{is_obstacle}
 use Rattle.game_core.specs.Game.{Game, mark_of, pairs_of, successors_at}
+use Rattle.game_core.proofs.Times.{counts_tell}
 use Rattle.safety_game.specs.Boards.{pairs_at}
 use Rattle.safety_game.specs.inside.Rounds.{firsts_in, hits_in, IsInStep}
 use Rattle.safety_game.specs.inside.Workers.{is_blow}
@@ -50,15 +50,15 @@ other_cut_to n v counter left ne = one_cut_to n v counter left ∙ (ap (λ m. co
     none true = refl
     none false = refl
 
-module _ (g : Game) (sums : CountsTell) where
+module _ (g : Game) where
   pub hits-append : (xs ys : List Cut) (c : ℕ) → hits_in g (xs ++ ys) c ≡ hits_in g xs c + hits_in g ys c
   hits-append xs ys c = by_mark (is_obstacle (mark_of g c))
     where
       all : sum_by (firsts_in g (xs ++ ys)) (pairs_at g c) ≡ sum_by (firsts_in g xs) (pairs_at g c) + sum_by (firsts_in g ys) (pairs_at g c)
       all =
-          sums.alike (firsts_in g (xs ++ ys)) (λ pair. firsts_in g xs pair + firsts_in g ys pair) (pairs_at g c)
+          counts_tell.alike (firsts_in g (xs ++ ys)) (λ pair. firsts_in g xs pair + firsts_in g ys pair) (pairs_at g c)
           (λ i d lt. let p = get_or (pairs_at g c) i d in times_cut_to p (length (successors_at g p) - 1) xs ys)
-          ∙ sums.added (firsts_in g xs) (firsts_in g ys) (pairs_at g c)
+          ∙ counts_tell.added (firsts_in g xs) (firsts_in g ys) (pairs_at g c)
 
       by_mark : (b : Bool) → cond b 0 (sum_by (firsts_in g (xs ++ ys)) (pairs_at g c)) ≡ cond b 0 (sum_by (firsts_in g xs) (pairs_at g c)) + cond b 0 (sum_by (firsts_in g ys) (pairs_at g c))
       by_mark true = refl
@@ -106,7 +106,7 @@ module _ (g : Game) (sums : CountsTell) where
       (all_in_step more (All-tail (λ (a : Account). IsInStep g a.cuts (logged_cells a.logs)) a more h)))
 
 -- the cut of one pair, and of its cell after a blow
-module _ (g : Game) (sums : CountsTell) (some' : 0 < g.inputs) (pair left : ℕ) (lt : pair < pairs_of g) where
+module _ (g : Game) (some' : 0 < g.inputs) (pair left : ℕ) (lt : pair < pairs_of g) where
   abbrev is_first : Bool
   is_first = left == length (successors_at g pair) - 1
 
@@ -127,7 +127,7 @@ module _ (g : Game) (sums : CountsTell) (some' : 0 < g.inputs) (pair left : ℕ)
   -- how many firsts of pairs of a cell that cut is
   firsts_at : (c : ℕ) → sum_by (firsts_in g (cut pair left ∷ [])) (pairs_at g c) ≡ cond is_first (times pair (pairs_at g c)) 0
   firsts_at c =
-      sums.alike (firsts_in g (cut pair left ∷ [])) (λ q. cond is_first (one_if (q == pair)) 0) (pairs_at g c) (λ i d li. firsts_of_one (get_or (pairs_at g c) i d))
+      counts_tell.alike (firsts_in g (cut pair left ∷ [])) (λ q. cond is_first (one_if (q == pair)) 0) (pairs_at g c) (λ i d li. firsts_of_one (get_or (pairs_at g c) i d))
       ∙ by_test is_first
     where
       by_test : (b : Bool) → sum_by (λ q. cond b (one_if (q == pair)) 0) (pairs_at g c) ≡ cond b (times pair (pairs_at g c)) 0
@@ -148,7 +148,7 @@ module _ (g : Game) (sums : CountsTell) (some' : 0 < g.inputs) (pair left : ℕ)
       by_mark false e true h =
           firsts_at c
           ∙ (ap (λ f. cond f (times pair (pairs_at g c)) 0) h
-          ∙ away g sums some' pair c (λ same.
+          ∙ away g some' pair c (λ same.
           let clear : is_obstacle (mark_of g (pair / g.inputs)) ≡ false = ap (λ c. is_obstacle (mark_of g c)) same ∙ e in
           let blow : is_blow g pair left ≡ true = ap (λ f. f && not (is_obstacle (mark_of g (pair / g.inputs)))) h ∙ ap not clear in
           cc))
@@ -177,8 +177,8 @@ module _ (g : Game) (sums : CountsTell) (some' : 0 < g.inputs) (pair left : ℕ)
         | inl e ↦
             let clear : is_obstacle (mark_of g c) ≡ false = ap (λ c. is_obstacle (mark_of g c)) (sym e) ∙ parts.1 in
             ap (λ b. cond b 0 (sum_by (firsts_in g (cut pair left ∷ [])) (pairs_at g c))) clear
-            ∙ (first ∙ (ap (λ c. times pair (pairs_at g c)) (sym e) ∙ (at_home g sums some' pair ∙ sym (here (pair / g.inputs) c e))))
-        | inr ne ↦ other (is_obstacle (mark_of g c)) (first ∙ away g sums some' pair c ne) ∙ sym (elsewhere (pair / g.inputs) c ne)
+            ∙ (first ∙ (ap (λ c. times pair (pairs_at g c)) (sym e) ∙ (at_home g some' pair ∙ sym (here (pair / g.inputs) c e))))
+        | inr ne ↦ other (is_obstacle (mark_of g c)) (first ∙ away g some' pair c ne) ∙ sym (elsewhere (pair / g.inputs) c ne)
       ]
     where
       other : (b : Bool) → sum_by (firsts_in g (cut pair left ∷ [])) (pairs_at g c) ≡ 0 → cond b 0 (sum_by (firsts_in g (cut pair left ∷ [])) (pairs_at g c)) ≡ 0
@@ -196,7 +196,7 @@ module _ (g : Game) (sums : CountsTell) (some' : 0 < g.inputs) (pair left : ℕ)
     second_hits : (c : ℕ) → c < g.cells → hits_in g second c ≡ 0
     second_hits c lc =
         let below = pairs_below g c lc in
-        no_hits g sums second c (λ i d li.
+        no_hits g second c (λ i d li.
         let p = get_or (pairs_at g c) i d in
         other_cut_to p (length (successors_at g p) - 1) (pairs_of g + cell) cell_left (λ e. let l = below i d li in absurd (omega arith)))
 
@@ -219,7 +219,7 @@ module _ (g : Game) (sums : CountsTell) (some' : 0 < g.inputs) (pair left : ℕ)
           let no_pair = elsewhere pair (pairs_of g + c) (no_cell c) in
           let cell_is = one_counter (pairs_of g + c) (pairs_of g + cell) cell_left in
           let same = same_counter c in
-          let hits = hits-append g sums (cut pair left ∷ []) second c in
+          let hits = hits-append g (cut pair left ∷ []) second c in
           let first = blow_hits blow c in
           let rest = second_hits c lc in
           omega arith;

@@ -7,9 +7,10 @@ use Rattle.std.proofs.lemmas.List.FromFn.{length-map-range_with_len, get_or-map-
 use Rattle.cell_counters.specs.declared.account.Account.{Account}
 use Rattle.cell_counters.specs.Accounts.{IsLawfulCounter, cut_count}
 use Rattle.cell_counters.specs.Tokens.{BoardModel, RootModel, IsLawful, new_root}
+use Rattle.cell_counters.proofs.Consequences.{counts_down}
 use Rattle.game_core.specs.Game.{Game, IsGraph, pairs_of, successors_at}
 use Rattle.safety_game.specs.Boards.{enabled_at, IsBoardOf}
-use Rattle.safety_game.specs.inside.Rounds.{Laws, IsLawfulFor, is_whole}
+use Rattle.safety_game.specs.inside.Rounds.{IsLawfulFor, is_whole}
 use Rattle.safety_game.proofs.Pairs.{few_enabled, few_successors}
 
 -- how many numbers a board begins with
@@ -56,21 +57,21 @@ module _ (g : Game) (a : IsGraph g) (board : BoardModel) (of_game : IsBoardOf g 
       }
 
   -- what is left of a cell while nothing is done, and of a pair
-  pub left_at_first : Laws → (root : RootModel) → root ≡ new_root board → (c n : ℕ) → c < g.cells → IsLawfulCounter root.accounts (pairs_of g + c) (slice_index board.starts (pairs_of g + c)) n → n ≡ enabled_at g c
-  left_at_first laws root is c n lt h =
+  pub left_at_first : (root : RootModel) → root ≡ new_root board → (c n : ℕ) → c < g.cells → IsLawfulCounter root.accounts (pairs_of g + c) (slice_index board.starts (pairs_of g + c)) n → n ≡ enabled_at g c
+  left_at_first root is c n lt h =
       let few = few_enabled g c in
       let most = a.inputs_bound in
       let lawful : IsLawfulCounter [] (pairs_of g + c) (enabled_at g c) n =
       subst (λ start. IsLawfulCounter [] (pairs_of g + c) start n) (start_of_cell c lt)
       (subst (λ (r : RootModel). IsLawfulCounter r.accounts (pairs_of g + c) (slice_index board.starts (pairs_of g + c)) n) is h) in
       let none : cut_count (pairs_of g + c) [] ≡ 0 = refl in
-      let left = (laws.counts_down [] (pairs_of g + c) (enabled_at g c) n lawful (omega arith) (omega arith)).0 in
+      let left = (counts_down [] (pairs_of g + c) (enabled_at g c) n lawful (omega arith) (omega arith)).0 in
       omega arith
 
-  pub left_of_pair : Laws → (accounts : List Account) (pair n : ℕ) → pair < pairs_of g → cut_count pair accounts ≤ length (successors_at g pair) → IsLawfulCounter accounts pair (slice_index board.starts pair) n → n ≡ length (successors_at g pair) - cut_count pair accounts
-  left_of_pair laws accounts pair n lt few h =
+  pub left_of_pair : (accounts : List Account) (pair n : ℕ) → pair < pairs_of g → cut_count pair accounts ≤ length (successors_at g pair) → IsLawfulCounter accounts pair (slice_index board.starts pair) n → n ≡ length (successors_at g pair) - cut_count pair accounts
+  left_of_pair accounts pair n lt few h =
       let most = few_successors g a pair lt in
-      (laws.counts_down accounts pair (length (successors_at g pair)) n (subst (λ start. IsLawfulCounter accounts pair start n) (start_of_pair pair lt) h) (omega arith) few).0
+      (counts_down accounts pair (length (successors_at g pair)) n (subst (λ start. IsLawfulCounter accounts pair start n) (start_of_pair pair lt) h) (omega arith) few).0
 
 -- a pair is whole where as much is left as it began with
 pub whole_told : (g : Game) (accounts : List Account) (pair fan left : ℕ) → fan ≡ length (successors_at g pair) → cut_count pair accounts ≤ length (successors_at g pair) → left ≡ length (successors_at g pair) - cut_count pair accounts → 0 < fan → (left == fan) ≡ is_whole g accounts pair

@@ -9,29 +9,32 @@ use Rattle.game_core.specs.Game.{Game, IsGraph}
 use Rattle.board_crew.specs.Crew.{logged_cells}
 use Rattle.board_crew.specs.Rules.{IsRound, LeadsOn}
 use Rattle.safety_game.specs.Boards.{IsBoardOf}
-use Rattle.safety_game.specs.inside.Rounds.{Laws, KeepsRule}
-use Rattle.safety_game.specs.inside.Standing.{StandsAt}
+use Rattle.safety_game.specs.inside.Rounds.{KeepsRule}
+use Rattle.safety_game.specs.inside.Standing.{StandsAt, IsPlayable}
 use Rattle.safety_game.proofs.OnBoards.{counters_of_board, lawful_for}
 use Rattle.safety_game.proofs.InStep.{nothing_in_step}
 use Rattle.safety_game.proofs.LeadsOn.{round_leads_on}
 use Rattle.safety_game.proofs.Begins.{begins, full_after, few_logs}
 
-module _ (g : Game) (a : IsGraph g) (laws : Laws) where
-  next_stand : (board : BoardModel) (d : ℕ) (list next : List ℕ) (accounts more : List Account) → IsBoardOf g board → d ≤ g.cells → 0 < length list → StandsAt g d list accounts → IsRound g (KeepsRule g) list more
+module _ (g : Game) (a : IsGraph g) (board : BoardModel) (of_game : IsBoardOf g board) where
+  next_stand : (d : ℕ) (list next : List ℕ) (accounts more : List Account) → d ≤ g.cells → 0 < length list → StandsAt g d list accounts → IsRound g (KeepsRule g) list more
       → IsLawful (accounts ++ more) board.starts board.least → ((c : ℕ) → times c next ≡ times c (logged_cells (all_logs more))) → StandsAt g (suc d) next (accounts ++ more)
-  next_stand board d list next accounts more of_game early some' was round lawful same = record {
-    falling = round_leads_on g a d list accounts more laws was.falling round (lawful_for g a board of_game (accounts ++ more) lawful) next same;
-    full = full_after g a laws d list accounts was.falling some';
+  next_stand d list next accounts more early some' was round lawful same = record {
+    falling = round_leads_on g a d list accounts more was.falling round (lawful_for g a board of_game (accounts ++ more) lawful) next same;
+    full = full_after g a d list accounts was.falling some';
   }
 
-  pub leads_on : LeadsOn g (IsBoardOf g) (has_fallen g 0) (λ d. KeepsRule g) (StandsAt g)
+  leads_on : LeadsOn g board (has_fallen g 0) (λ d. KeepsRule g) (StandsAt g)
   leads_on = record {
     graph = a;
-    counters = λ board of_game. let many = counters_of_board g a board of_game in omega arith;
-    fresh = λ d. record { in_step = nothing_in_step g laws.counts; no_offer = refl };
+    counters = let many = counters_of_board g a board of_game in omega arith;
+    fresh = λ d. record { in_step = nothing_in_step g; no_offer = refl };
     noted = λ d account item h. record { in_step = h.in_step; no_offer = h.no_offer };
-    begins = record { falling = begins g a laws; full = inl refl };
+    begins = record { falling = begins g a; full = inl refl };
     within = λ d list accounts h. h.falling.within;
-    few = λ d list accounts h. few_logs g a laws d list accounts h.falling;
+    few = λ d list accounts h. few_logs g a d list accounts h.falling;
     next = next_stand;
   }
+
+  pub playable : IsPlayable g board
+  playable = record { of_game = of_game; leads = leads_on }

@@ -6,9 +6,9 @@ use Rattle.std.proofs.lemmas.List.{length-map}
 use Rattle.std.proofs.lemmas.List.Elements.{All-map}
 use Rattle.std.proofs.lemmas.List.FromFn.{length-range_with_len}
 use Rattle.std.proofs.lemmas.List.Sums.{count_by-le-length}
-use Rattle.board_crew.specs.Crew.{cuts_in}
+use Rattle.board_crew.specs.Crew.{cuts_in, counters_of}
 use Rattle.game_core.specs.Counts.{one_if, times}
-use Rattle.board_crew.specs.Laws.{counters_of}
+use Rattle.board_crew.proofs.Accounts.{cuts_are}
 use Rattle.cell_counters.specs.declared.account.Cut.{Cut}
 use Rattle.cell_counters.specs.declared.account.Account.{Account}
 use Rattle.cell_counters.specs.Accounts.{cut_count}
@@ -19,9 +19,10 @@ use Rattle.game_core.specs.Fallen.{is_obstacle, has_fallen, IsSettled, AreSettle
 use Rattle.game_core.specs.Game.{Game, IsGraph, mark_of, pair_of, pairs_of, successors_at, successors_of}
 use Rattle.game_core.specs.Solution.{row_of, HasRow}
 use Rattle.game_core.specs.Tally.{all_pairs, unkept_in, is_lost, FellBefore}
+use Rattle.game_core.proofs.Times.{counts_tell}
 use Rattle.safety_game.specs.Boards.{pairs_at}
 use Rattle.safety_game.specs.Reckoned.{lost_at, IsReckonedBy}
-use Rattle.safety_game.specs.inside.Rounds.{Laws, fell_before, gone_in, is_hit, hits_at, AreFalling, IsFull, is_whole, IsRowTold, AreRowsTold}
+use Rattle.safety_game.specs.inside.Rounds.{fell_before, gone_in, is_hit, hits_at, AreFalling, IsFull, is_whole, IsRowTold, AreRowsTold}
 use Rattle.safety_game.proofs.Counting.{one_if_le, one_if_same, count_none, All-range, range_split, range_shift, range_rows}
 use Rattle.safety_game.proofs.Pairs.{cell_of, pair_below, pairs_below, All-pairs_at, All-at_input, successors_within}
 use Rattle.safety_game.proofs.Falls.{is_enabled, touched_enabled, fell_later, falls_by_hits, hits_by_fall, obstacle_falls}
@@ -51,7 +52,7 @@ fell_in : (g : Game) (d c : ℕ) → fell_before g d c ≡ true → (k : ℕ) ×
 fell_in g zero c e = absurd (let f : false ≡ true = e in cc)
 fell_in g (suc d) c e = (d, omega arith, e)
 
-module _ (g : Game) (a : IsGraph g) (d : ℕ) (accounts : List Account) (laws : Laws) (was : AreFalling g d [] accounts) (rows : List (Option Row)) (told : AreRowsTold g accounts rows) where
+module _ (g : Game) (a : IsGraph g) (d : ℕ) (accounts : List Account) (was : AreFalling g d [] accounts) (rows : List (Option Row)) (told : AreRowsTold g accounts rows) where
   -- no cell falls any more
   over : (c : ℕ) → c < g.cells → fell_before g d c ≡ has_fallen g d c
   over c lt = one_if_same (fell_before g d c) (has_fallen g d c) (let e = was.cells c lt in let z : times c [] ≡ 0 = refl in omega arith)
@@ -82,7 +83,7 @@ module _ (g : Game) (a : IsGraph g) (d : ℕ) (accounts : List Account) (laws : 
       elim (cases_Bool (is_obstacle (mark_of g c))) [
         | inl blocked ↦ obstacle_falls g d c blocked
         | inr clear ↦
-            falls_by_hits g laws.counts d c (laws.counts.lesser (λ pair. one_if (is_enabled g pair)) (λ pair. one_if (is_hit g d pair)) (pairs_at g c)
+            falls_by_hits g d c (counts_tell.lesser (λ pair. one_if (is_enabled g pair)) (λ pair. one_if (is_hit g d pair)) (pairs_at g c)
             (All-pairs_at g (λ pair. one_if (is_enabled g pair) ≤ one_if (is_hit g d pair)) c (λ u lu.
             one_if_le (is_enabled g (pair_of g c u)) (is_hit g d (pair_of g c u)) (hit_if c u lt lu clear (none u lu)))))
       ]
@@ -94,8 +95,8 @@ module _ (g : Game) (a : IsGraph g) (d : ℕ) (accounts : List Account) (laws : 
         | inr stands ↦ stands
         | inl fell ↦
             let pair = pair_of g c row.input in
-            let all = hits_by_fall g laws.counts d c (clear_if (mark_of g c) is.0) fell in
-            let alike = laws.counts.pass_alike (is_hit g d) (is_enabled g) (touched_enabled g (fell_before g d)) (pairs_at g c) all in
+            let all = hits_by_fall g d c (clear_if (mark_of g c) is.0) fell in
+            let alike = counts_tell.pass_alike (is_hit g d) (is_enabled g) (touched_enabled g (fell_before g d)) (pairs_at g c) all in
             let here : is_hit g d pair ≡ is_enabled g pair = All-at_input g (λ pair. is_hit g d pair ≡ is_enabled g pair) c alike row.input is.2 in
             let parts = whole_parts pair (pair_below g c row.input lt is.2) is.3 in
             let enabled : is_enabled g pair ≡ true = lt-ltb 0 (length (successors_at g pair)) parts.0 in
@@ -125,7 +126,7 @@ module _ (g : Game) (a : IsGraph g) (d : ℕ) (accounts : List Account) (laws : 
       let lp = pair_below g c u lt lu in
       let parts = whole_parts pair lp e in
       let below = successors_within g a pair lp in
-      let none = laws.counts.none_passes (fell_before g d) (successors_at g pair) parts.1 in
+      let none = counts_tell.none_passes (fell_before g d) (successors_at g pair) parts.1 in
       ((lu, filled (successors_of g c u) parts.0), λ i e' li. has_row (get_or (successors_at g pair) i e') (below i e' li) (none i e' li))
 
   leads_whole : (c u : ℕ) → c < g.cells → LeadsToRows g rows c u → is_whole g accounts (pair_of g c u) ≡ true
@@ -155,12 +156,12 @@ module _ (g : Game) (a : IsGraph g) (d : ℕ) (accounts : List Account) (laws : 
   unkept : (pair : ℕ) → pair < pairs_of g → gone_in g d pair ≡ unkept_in g rows pair
   unkept pair lt =
       let below = successors_within g a pair lt in
-      laws.counts.alike (λ s. one_if (fell_before g d s)) (λ s. one_if (not (is_some (row_of rows s)))) (successors_at g pair) (λ i e li. ap one_if (fell_is (get_or (successors_at g pair) i e) (below i e li)))
+      counts_tell.alike (λ s. one_if (fell_before g d s)) (λ s. one_if (not (is_some (row_of rows s)))) (successors_at g pair) (λ i e li. ap one_if (fell_is (get_or (successors_at g pair) i e) (below i e li)))
 
   lost : (c : ℕ) → c < g.cells → hits_at g d c ≡ lost_at g rows c
   lost c lt =
       let below = pairs_below g c lt in
-      laws.counts.alike (λ pair. one_if (is_hit g d pair)) (λ pair. one_if (is_lost g rows pair)) (pairs_at g c) (λ i e li.
+      counts_tell.alike (λ pair. one_if (is_hit g d pair)) (λ pair. one_if (is_lost g rows pair)) (pairs_at g c) (λ i e li.
       let pair = get_or (pairs_at g c) i e in
       ap (λ n. one_if (not (is_obstacle (mark_of g (pair / g.inputs))) && nat_lt 0 n)) (unkept pair (below i e li)))
 
@@ -179,18 +180,18 @@ module _ (g : Game) (a : IsGraph g) (d : ℕ) (accounts : List Account) (laws : 
   pub cuts_count : length (cuts_in accounts) ≡ sum_by (unkept_in g rows) (all_pairs g) + count_by (is_lost g rows) (all_pairs g)
   cuts_count =
       let len = length-map (cuts_in accounts) (λ (c : Cut). c.counter) in
-      let all = laws.counts.of_all_below (pairs_of g + g.cells) counters (All-map (λ n. n < pairs_of g + g.cells) (λ (c : Cut). c.counter) (cuts_in accounts) was.no_other_cut) in
+      let all = counts_tell.of_all_below (pairs_of g + g.cells) counters (All-map (λ n. n < pairs_of g + g.cells) (λ (c : Cut). c.counter) (cuts_in accounts) was.no_other_cut) in
       let split = range_split (λ i. times i counters) 0 (pairs_of g) g.cells in
       let shift = range_shift (λ i. times i counters) (pairs_of g) 0 g.cells in
       let from : sum_by (λ i. times i counters) (range_with_len (0 + pairs_of g) g.cells) ≡ sum_by (λ i. times i counters) (range_with_len (pairs_of g + 0) g.cells) = ap (λ n. sum_by (λ i. times i counters) (range_with_len n g.cells)) {x = 0 + pairs_of g} {y = pairs_of g + 0} (omega arith) in
       let in' = All-range (pairs_of g) in
-      let of_pairs = laws.counts.alike (λ i. times i counters) (unkept_in g rows) (all_pairs g) (λ i e li.
+      let of_pairs = counts_tell.alike (λ i. times i counters) (unkept_in g rows) (all_pairs g) (λ i e li.
       let pair = get_or (all_pairs g) i e in
-      sym (laws.accounts.cuts pair accounts) ∙ reckoned.cuts pair (in' i e li)) in
+      sym (cuts_are pair accounts) ∙ reckoned.cuts pair (in' i e li)) in
       let in'' = All-range g.cells in
-      let of_cells = laws.counts.alike (λ c. times (pairs_of g + c) counters) (lost_at g rows) (range_with_len 0 g.cells) (λ i e li.
+      let of_cells = counts_tell.alike (λ c. times (pairs_of g + c) counters) (lost_at g rows) (range_with_len 0 g.cells) (λ i e li.
       let c = get_or (range_with_len 0 g.cells) i e in
-      sym (laws.accounts.cuts (pairs_of g + c) accounts) ∙ reckoned.cell_cuts c (in'' i e li)) in
+      sym (cuts_are (pairs_of g + c) accounts) ∙ reckoned.cell_cuts c (in'' i e li)) in
       let rows' = range_rows (λ pair. one_if (is_lost g rows pair)) g.inputs 0 g.cells in
       let begin : sum_by (λ pair. one_if (is_lost g rows pair)) (range_with_len (0 * g.inputs) (g.cells * g.inputs)) ≡ count_by (is_lost g rows) (all_pairs g) = ap (λ n. sum_by (λ pair. one_if (is_lost g rows pair)) (range_with_len n (g.cells * g.inputs))) {x = 0 * g.inputs} {y = 0} (omega arith) in
       omega arith
@@ -198,8 +199,8 @@ module _ (g : Game) (a : IsGraph g) (d : ℕ) (accounts : List Account) (laws : 
   pub few_cuts : length (cuts_in accounts) < 2 ^ 26
   few_cuts =
       let is = cuts_count in
-      let le = laws.counts.lesser (unkept_in g rows) (λ pair. length (successors_at g pair)) (all_pairs g) (λ i e li. count_by-le-length (λ s. not (is_some (row_of rows s))) (successors_at g (get_or (all_pairs g) i e))) in
-      let all = laws.counts.places_of_lists length g.successors in
+      let le = counts_tell.lesser (unkept_in g rows) (λ pair. length (successors_at g pair)) (all_pairs g) (λ i e li. count_by-le-length (λ s. not (is_some (row_of rows s))) (successors_at g (get_or (all_pairs g) i e))) in
+      let all = counts_tell.places_of_lists length g.successors in
       let same : sum_by (λ pair. length (successors_at g pair)) (all_pairs g) ≡ sum_by (λ pair. length (successors_at g pair)) (range_with_len 0 (length g.successors)) = ap (λ n. sum_by (λ pair. length (successors_at g pair)) (range_with_len 0 n)) (sym a.game.one_list_each) in
       let edges = a.edges_bound in
       let less = count_by-le-length (is_lost g rows) (all_pairs g) in

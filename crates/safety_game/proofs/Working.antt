@@ -1,12 +1,11 @@
 -- A worker that cuts a pair keeps the rule.
 use Rattle.std.proofs.Common.{◌≡◌, ℕ, ◌+◌, ◌/◌, ◌<◌, ◌==◌, Bool, true, false, cond, List, [], ◌∷◌, ◌++◌, arith, sym, ◌∙◌, ap, subst, append_assoc}
 use Rattle.std.proofs.lemmas.List.{append-nil}
-use Rattle.board_crew.specs.Crew.{logged_cells}
-use Rattle.board_crew.specs.Laws.{counters_of}
+use Rattle.board_crew.specs.Crew.{logged_cells, counters_of}
 use Rattle.board_crew.specs.Rules.{CutsOnce}
 use Rattle.cell_counters.specs.declared.account.Cut.{Cut}
 use Rattle.cell_counters.specs.Tokens.{HandModel}
-use Rattle.game_core.specs.Counts.{times, one_if, CountsTell}
+use Rattle.game_core.specs.Counts.{times, one_if}
 use Rattle.game_core.specs.Game.{Game, pairs_of}
 use Rattle.safety_game.specs.inside.Rounds.{IsInStep, KeepsRule}
 use Rattle.safety_game.specs.inside.Workers.{Takes, HitsAfter, Cuts}
@@ -25,7 +24,7 @@ pub record HasCut (g : Game) (pair : ℕ) (was now : HandModel) : Type 0 where
   pub in_step : IsInStep g more logged
   pub once : (p : ℕ) → p < pairs_of g → times p (counters_of more) ≡ one_if (pair == p)
 
-module _ (g : Game) (sums : CountsTell) (some' : 0 < g.inputs) (pair : ℕ) (lt : pair < pairs_of g) (inside : pair / g.inputs < g.cells) where
+module _ (g : Game) (some' : 0 < g.inputs) (pair : ℕ) (lt : pair < pairs_of g) (inside : pair / g.inputs < g.cells) where
   -- no blow
   quiet : (was between now : HandModel) → Takes g pair was between false → HitsAfter g (pair / g.inputs) false between now → HasCut g pair was now
   quiet was between now t same =
@@ -39,7 +38,7 @@ module _ (g : Game) (sums : CountsTell) (some' : 0 < g.inputs) (pair : ℕ) (lt 
         offers = ap (λ (h : HandModel). h.account.offers) is;
         cuts = cuts;
         logs = ap (λ (h : HandModel). logged_cells h.account.logs) is ∙ sym (append-nil (logged_cells was.account.logs));
-        in_step = quiet_in_step g sums some' pair t.left lt (sym t.told);
+        in_step = quiet_in_step g some' pair t.left lt (sym t.told);
         once = λ p lp. one_counter p pair t.left;
       }
 
@@ -60,7 +59,7 @@ module _ (g : Game) (sums : CountsTell) (some' : 0 < g.inputs) (pair : ℕ) (lt 
         offers = h.offers ∙ ap (λ (w : HandModel). w.account.offers) t.taken;
         cuts = cuts;
         logs = h.logs ∙ ap (λ (w : HandModel). logged_cells w.account.logs ++ cond (h.left == 0) (cell ∷ []) []) t.taken;
-        in_step = blow_in_step g sums some' pair t.left lt h.left inside (sym t.told);
+        in_step = blow_in_step g some' pair t.left lt h.left inside (sym t.told);
         once = λ p lp.
             let both : times p (counters_of (first ∷ second ∷ [])) ≡ times p (counters_of (first ∷ [])) + times p (counters_of (second ∷ [])) = times_counters p (first ∷ []) (second ∷ []) in
             let a = one_counter p pair t.left in
@@ -92,6 +91,6 @@ module _ (g : Game) (sums : CountsTell) (some' : 0 < g.inputs) (pair : ℕ) (lt 
         in_step =
             subst (λ l. IsInStep g l (logged_cells now.account.logs)) (sym one.cuts)
             (subst (IsInStep g (was.account.cuts ++ one.more)) (sym one.logs)
-            (in_step-append g sums was.account.cuts one.more (logged_cells was.account.logs) one.logged h.in_step one.in_step));
+            (in_step-append g was.account.cuts one.more (logged_cells was.account.logs) one.logged h.in_step one.in_step));
         no_offer = one.offers ∙ h.no_offer;
       }

@@ -6,7 +6,6 @@
 //! stands on `game_core`, `cell_counters`, `frontier_pool` and `board_crew`.
 #![tactic(auto)]
 
-mod known;
 mod outcome;
 mod rule;
 mod scratch;

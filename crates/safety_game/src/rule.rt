@@ -4,7 +4,6 @@ ghost use Rattle.game_core.specs.Game.{IsGraph, pairs_of, successors_at};
 ghost use Rattle.safety_game.specs.Boards.{IsBoardOf};
 ghost use Rattle.safety_game.specs.inside.Workers.{Takes, Hits, Cuts};
 
-use crate::known::known_laws;
 use board_crew::{Rule, Worker};
 use cell_counters::{Board, Root};
 use game_core::{Graph, Mark};
@@ -23,11 +22,11 @@ pub(crate) struct Keep<'a, G: Graph> {
 impl<G: Graph + Sync> Rule for Keep<'_, G> {
     ghost use Rattle.game_core.specs.Fallen.{has_fallen};
     ghost use Rattle.safety_game.specs.inside.Rounds.{KeepsRule};
-    ghost use Rattle.safety_game.specs.inside.Standing.{StandsAt};
+    ghost use Rattle.safety_game.specs.inside.Standing.{StandsAt, IsPlayable};
 
     ghost game = { λ rule. G.game rule.graph.now };
 
-    ghost fits = { λ rule. IsBoardOf (G.game rule.graph.now) };
+    ghost fits = { λ rule. IsPlayable (G.game rule.graph.now) };
 
     ghost first = { λ rule. has_fallen (G.game rule.graph.now) 0 };
 
@@ -44,19 +43,15 @@ impl<G: Graph + Sync> Rule for Keep<'_, G> {
     }
 
     fn is_first(&self, board: &Board, root: &mut Root, c: u32) -> bool {
-        known_laws();
         let enabled = board.left(root, self.pairs + c);
         self.graph.mark(c) == Mark::Obstacle || enabled == 0
     }
 
     fn cut(&self, board: &Board, worker: &mut Worker, _round: u32, pair: u32) {
-        known_laws();
         self.cut_and_hit(board, worker, pair);
     }
 
-    fn leads_on(&self) {
-        known_laws();
-    }
+    ghost leads_on = { λ rule board fit. fit.leads };
 }
 
 impl<G: Graph> Keep<'_, G> {

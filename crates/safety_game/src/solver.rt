@@ -5,13 +5,11 @@ ghost use Rattle.safety_game.specs.Boards.{IsBoardOf};
 ghost use Rattle.safety_game.specs.Kept.{IsKeepSolved};
 ghost use Rattle.safety_game.specs.inside.Rounds.{is_whole, IsRowTold, AreRowsTold, AreFewCuts};
 
-use crate::known::{known_graph, known_laws};
 use crate::outcome::Kept;
 use crate::rule::Keep;
 use crate::scratch::Scratch;
 use cell_counters::{Board, Root};
 use frontier_pool::Gate;
-use game_core::laws::settled_rows_are_the_keep_solution;
 use game_core::{Answer, Graph, Mark, NoMemory, Row};
 use std::alloc::Global;
 use std::thread::Threads;
@@ -42,9 +40,6 @@ pub fn keep_in<R: Threads + Sync, G: Graph + Sync, T: Gate>(
     requires { IsBoardOf (G.game g.now) scratch }
     ensures { IsKeepSolved (G.game g.now) result }
 {
-    known_graph(g);
-    known_laws();
-    settled_rows_are_the_keep_solution();
     let Scratch {
         board,
         mut rounds,
@@ -113,8 +108,6 @@ fn is_whole<G: Graph>(g: &G, board: &Board, root: &mut Root, pair: u32) -> bool
     ensures root { root.new ≡ root.old }
     ensures whole { result ≡ is_whole (G.game g.now) root.old.accounts pair }
 {
-    known_graph(g);
-    known_laws();
     let fan = u64::from(g.fan(pair));
     let left = board.left(root, pair);
     fan > 0 && left == fan

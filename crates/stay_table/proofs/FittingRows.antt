@@ -18,9 +18,9 @@ use Rattle.stay_game.specs.Held.{IsHeld}
 use Rattle.stay_game.specs.Stay.{IsStayedBy, IsStayRow, IsStaySolution}
 use Rattle.game_core.proofs.Carried.{remarked_game}
 use Rattle.stay_game.proofs.Trees.{AreMarksFor, from_wins, to_rank, to_within, from_within}
-use Rattle.abstraction_table.specs.Abstraction.{IsGameOf}
+use Rattle.plant_game.specs.Abstraction.{IsGameOf}
 use Rattle.stay_table.specs.StayText.{IsStayRowOf, StayRowsFit}
-use Rattle.abstraction_table.proofs.Landing.{below_from_row}
+use Rattle.plant_game.proofs.GameLaws.{below_from_row}
 
 -- the mark of a cell that is no end
 abbrev way_mark : Mark → Mark

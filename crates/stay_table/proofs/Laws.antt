@@ -5,7 +5,7 @@ use Rattle.game_core.specs.Game.{Game}
 use Rattle.plant_record.specs.Description.{Description}
 use Rattle.plant_record.specs.Limits.{IsWithinLimits}
 use Rattle.stay_game.specs.Stay.{IsStaySolution}
-use Rattle.abstraction_table.specs.Abstraction.{IsGameOf}
+use Rattle.plant_game.specs.Abstraction.{IsGameOf}
 use Rattle.stay_table.specs.StayText.{stay_text, IsStayText}
 use Rattle.stay_table.specs.Settles.{Settles}
 use Rattle.stay_table.proofs.FittingRows.{stay_rows_fit}

@@ -13,11 +13,11 @@ use Rattle.plant_record.specs.Description.{Description, axes_of}
 use Rattle.plant_record.specs.Steps.{step_of, IsNoise}
 use Rattle.stay_game.specs.Held.{IsHeld}
 use Rattle.stay_game.specs.Stay.{IsStayedBy, IsStayRow, IsStaySolution}
-use Rattle.abstraction_table.specs.Abstraction.{IsGameOf}
-use Rattle.abstraction_table.specs.Refinement.{IsRefinement}
+use Rattle.plant_game.specs.Abstraction.{IsGameOf}
+use Rattle.plant_game.specs.Refinement.{IsRefinement}
 use Rattle.stay_table.specs.StayText.{IsStayText}
 use Rattle.stay_table.specs.Settles.{IsUnderWay, Holds, Settles}
-use Rattle.abstraction_table.proofs.Landing.{below_from_row, refines, clear_at, in_target, lands}
+use Rattle.plant_game.proofs.GameLaws.{below_from_row, refines, clear_at, in_target, lands}
 use Rattle.stay_table.proofs.OneText.{one_stay_text}
 
 clear_of : (g : Game) (c : ℕ) (t : Tree) → LeadsTo (IsHeld g) g t c → mark_of g c ≢ Obstacle

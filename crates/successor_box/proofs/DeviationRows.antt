@@ -1,13 +1,18 @@
 -- The entries of a plant's deviations.
-use Rattle.std.proofs.Common.{◌≡◌, ℕ, ◌<◌, List, [], length, get_or, ap, ◌∙◌, arith}
+use Rattle.std.proofs.Common.{◌≡◌, ℕ, ◌<◌, List, [], length, map, get_or, sym, ap, ◌∙◌, arith}
 use Rattle.std.specs.Prelude.{ℤ, pos}
-use Rattle.std.proofs.lemmas.List.{get_or-map}
+use Rattle.std.proofs.lemmas.List.{length-map, get_or-map}
 use Rattle.std.proofs.lemmas.List.FromFn.{length-map-range_with_len, get_or-map-range_with_len}
-use Rattle.fixed_expr.specs.Expression.{Number}
+use Rattle.fixed_expr.specs.declared.expr.Expr.{Expr}
+use Rattle.fixed_expr.specs.Expression.{Expression, Number, expression_of}
 use Rattle.plant_record.specs.Description.{Description, vectors_of}
 use Rattle.successor_box.specs.Boxes.{deviation_at}
 use Rattle.plant_record.specs.Steps.{equation_at}
 use Rattle.successor_box.specs.Deviations.{deviations_along, deviations_of}
+
+-- as many equations as lie in memory
+pub equations_count : (found : List Expr) (equations : List Expression) → map expression_of found ≡ equations → length found ≡ length equations
+equations_count found equations same = sym (length-map found expression_of) ∙ ap length same
 
 module _ (p : Description) (i : ℕ) (lt : i < length p.equations) where
   row_is : get_or (deviations_of p) i [] ≡ deviations_along p (equation_at p i)

@@ -12,29 +12,27 @@ use crate::noise::{noise_offset, noise_radius};
 use grid_quantiser::Point;
 use interval_eval::Interval;
 use plant_record::Plant;
-use plant_record::laws::every_plant_is_within_limits;
 
 /// The most variables that a plant has: 6 states, 3 input variables and 6 noises.
 pub(crate) const VARIABLES_LIMIT: usize = 15;
 
 pub(crate) const NO_RANGE: Interval = Interval { lo: 0, hi: 0 };
 
-/// How many variables a plant has.
+/// How many variables a plant has: a state for each equation, the inputs and the noises.
 pub(crate) fn variables(p: &Plant) -> u32
     ensures count { result ≡ variables_of p.now }
     ensures limit { result ≤ 15 }
     ensures plant { IsWithinLimits p.now }
 {
-    every_plant_is_within_limits(p);
-    p.states() + p.input_variables() + p.noises()
+    p.equations().len() as u32 + p.input_variables() + p.noises()
 }
 
 /// Where each variable lies under an input vector. Nothing is said of the places past the last.
 pub(crate) fn ranges(p: &Plant, input: u32) -> [Interval; VARIABLES_LIMIT]
-    requires { input < vectors_of p.now.inputs }
+    requires plant { IsWithinLimits p.now }
+    requires input { input < vectors_of p.now.inputs }
     ensures { AreRanges p.now input result }
 {
-    every_plant_is_within_limits(p);
     let grid = p.grid();
     let last = grid.cells() - 1;
     ranges_between(p, &grid.low(0), &grid.high(last), input)
@@ -64,11 +62,11 @@ fn ranges_between(p: &Plant, low: &Point, high: &Point, input: u32) -> [Interval
 
 /// Where one variable lies, the states from one point to another.
 fn range(p: &Plant, low: &Point, high: &Point, input: u32, k: u32) -> Interval
+    requires plant { IsWithinLimits p.now }
     requires input { input < vectors_of p.now.inputs }
     requires variable { k < variables_of p.now }
     ensures { result ≡ slice_index_or (area_between p.now (take (length p.now.states) low.now) (take (length p.now.states) high.now) input) k no_range }
 {
-    every_plant_is_within_limits(p);
     let states = p.states();
     let inputs = p.input_variables();
     if k < states {
@@ -91,10 +89,10 @@ fn range(p: &Plant, low: &Point, high: &Point, input: u32, k: u32) -> Interval
 
 /// How far the ends of a variable's range over a cell lie from its value at the centre.
 pub(crate) fn offset(p: &Plant, k: u32) -> Interval
-    requires { k < variables_of p.now }
+    requires plant { IsWithinLimits p.now }
+    requires variable { k < variables_of p.now }
     ensures { (u : ℕ) → result ≡ slice_index_or (offsets_of p.now u) k no_range }
 {
-    every_plant_is_within_limits(p);
     let states = p.states();
     let inputs = p.input_variables();
     if k < states {
@@ -109,13 +107,12 @@ pub(crate) fn offset(p: &Plant, k: u32) -> Interval
 
 /// The same of a state.
 fn cell_offset(p: &Plant, state: u32) -> Interval
-    requires { state < length p.now.states }
+    requires plant { IsWithinLimits p.now }
+    requires state { state < length p.now.states }
     ensures low { result.lo ≡ neg_ℤ (radius_of (slice_index_or (axes_of p.now) state no_axis)) }
     ensures high { result.hi ≡ ((slice_index_or (axes_of p.now) state no_axis).width -ℤ pos 1) -ℤ radius_of (slice_index_or (axes_of p.now) state no_axis) }
 {
-    every_plant_is_within_limits(p);
     let grid = p.grid();
-    grid.cells();
     let low = grid.low(0)[state as usize];
     let high = grid.high(0)[state as usize];
     let radius = grid.radius(state);
@@ -138,10 +135,10 @@ pub(crate) fn radii(p: &Plant) -> [i128; VARIABLES_LIMIT]
 
 /// How far a variable is at most from its centre: an input not at all.
 fn radius(p: &Plant, k: u32) -> i128
-    requires { k < variables_of p.now }
+    requires plant { IsWithinLimits p.now }
+    requires variable { k < variables_of p.now }
     ensures { (u : ℕ) → result ≡ slice_index_or (radii_of p.now u) k (pos 0) }
 {
-    every_plant_is_within_limits(p);
     let states = p.states();
     let inputs = p.input_variables();
     if k < states {

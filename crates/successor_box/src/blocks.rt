@@ -288,7 +288,6 @@ fn first_middle(p: &Plant, state: u32) -> (i64, i64)
     ensures width { result.1 ≡ (slice_index_or (axes_of p.now) state no_axis).width }
 {
     let grid = p.grid();
-    grid.cells();
     let low = grid.low(0)[state as usize];
     let high = grid.high(0)[state as usize];
     let middle = low + grid.radius(state);

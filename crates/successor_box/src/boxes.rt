@@ -20,10 +20,9 @@ pub fn successors(p: &Plant, s: &Slopes, c: u32, input: u32) -> Option<CellBox>
     requires input { input < vectors_of p.now.inputs }
     ensures { IsBoxOf p.now c input result }
 {
-    every_plant_is_within_limits(p);
     let mut sides = [None; 6];
-    for state in 0..p.states() {
-        sides[state as usize] = side(p, s, c, input, state);
+    for state in 0..p.equations().len() {
+        sides[state] = side(p, s, c, input, state as u32);
     }
     box_of_sides(p, &sides)
 }

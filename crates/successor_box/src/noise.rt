@@ -3,12 +3,12 @@
 ghost use Rattle.std.specs.Prelude.{◌≡◌, ◌<◌, ◌*◌, ◌^◌, nat_abs, pos, ◌+ℤ◌, ◌-ℤ◌, map};
 ghost use Rattle.fixed_expr.specs.Quotient.{floor_div};
 ghost use Rattle.grid_quantiser.specs.Cells.{point_of};
+ghost use Rattle.plant_record.specs.Limits.{IsWithinLimits};
 ghost use Rattle.successor_box.specs.Boxes.{noise_centre};
 
 use grid_quantiser::Point;
 use interval_eval::Interval;
 use plant_record::Plant;
-use plant_record::laws::every_plant_is_within_limits;
 
 /// The middle of a noise's range, rounded down.
 #[inline]
@@ -46,9 +46,9 @@ pub(crate) fn noise_offset(low: i128, high: i128) -> Interval
 /// The centres of all noises.
 #[inline]
 pub(crate) fn noise_centres(p: &Plant) -> Point
+    requires plant { IsWithinLimits p.now }
     ensures { result ≡ point_of (map noise_centre p.now.noises) }
 {
-    every_plant_is_within_limits(p);
     let mut centres = [0; 6];
     for k in 0..p.noises() {
         let (low, high) = p.noise_range(k);

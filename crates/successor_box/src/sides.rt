@@ -3,6 +3,7 @@ ghost use Rattle.fixed_expr.specs.Value.{value_of};
 ghost use Rattle.interval_eval.specs.Span.{span_of};
 ghost use Rattle.grid_quantiser.specs.Axes.{no_axis, cells_of};
 ghost use Rattle.plant_record.specs.Description.{axes_of, vectors_of};
+ghost use Rattle.plant_record.specs.Limits.{IsWithinLimits};
 ghost use Rattle.plant_record.specs.Steps.{equation_at};
 ghost use Rattle.successor_box.specs.Boxes.{deviation_at, central_values, cell_area_of, meet_of, reach_of};
 ghost use Rattle.successor_box.specs.Sides.{IsSideAt, IsSideBeforeAt};
@@ -19,6 +20,7 @@ use plant_record::{Plant, PlantVersion, step_along};
 /// The side of a successor box along the axis of a state: None where one of its ends leaves the axis.
 /// It takes no memory.
 pub(crate) fn side(p: &Plant, s: &Slopes, c: u32, input: u32, state: u32) -> Option<Side>
+    requires plant { IsWithinLimits p.now }
     requires slopes { s.now ≡ deviations_of p.now }
     requires fits { HasNoOverflow p.now }
     requires cell { c < cells_of (axes_of p.now) }
@@ -26,7 +28,6 @@ pub(crate) fn side(p: &Plant, s: &Slopes, c: u32, input: u32, state: u32) -> Opt
     requires state { state < length p.now.equations }
     ensures { IsSideAt p.now c input state result }
 {
-    every_plant_is_within_limits(p);
     let reach = reach(p, s, c, input, state);
     p.grid().side(state, reach.lo, reach.hi)
 }
@@ -46,6 +47,7 @@ pub fn moved_side(p: &Plant, state: u32, side: Option<Side>, places: u32) -> Opt
 
 /// Where an equation leads from a cell.
 fn reach(p: &Plant, s: &Slopes, c: u32, input: u32, state: u32) -> Interval
+    requires plant { IsWithinLimits p.now }
     requires slopes { s.now ≡ deviations_of p.now }
     requires fits { HasNoOverflow p.now }
     requires cell { c < cells_of (axes_of p.now) }
@@ -64,6 +66,7 @@ fn reach(p: &Plant, s: &Slopes, c: u32, input: u32, state: u32) -> Interval
 /// The value of an equation at a cell's centre, less and plus how far it moves within the cell.
 #[inline]
 pub(crate) fn growth(p: &Plant, s: &Slopes, next: i128, input: u32, state: u32) -> Interval
+    requires plant { IsWithinLimits p.now }
     requires slopes { s.now ≡ deviations_of p.now }
     requires fits { HasNoOverflow p.now }
     requires input { input < vectors_of p.now.inputs }
@@ -72,7 +75,6 @@ pub(crate) fn growth(p: &Plant, s: &Slopes, next: i128, input: u32, state: u32) 
     ensures low { result.lo ≡ next -ℤ deviation_at p.now input (equation_at p.now state) }
     ensures high { result.hi ≡ next +ℤ deviation_at p.now input (equation_at p.now state) }
 {
-    every_plant_is_within_limits(p);
     let deviation = s.of(state, input);
     Interval {
         lo: next - deviation,
@@ -109,13 +111,13 @@ fn cell_span(p: &Plant, c: u32, input: u32, state: u32) -> Interval
 /// One state of the next from the centre of a cell, at the noises' centres.
 #[inline]
 fn next_along(p: &Plant, c: u32, input: u32, state: u32) -> i128
+    requires plant { IsWithinLimits p.now }
     requires fits { HasNoOverflow p.now }
     requires cell { c < cells_of (axes_of p.now) }
     requires input { input < vectors_of p.now.inputs }
     requires state { state < length p.now.equations }
     ensures { result ≡ value_of (equation_at p.now state) (central_values p.now c input) }
 {
-    every_plant_is_within_limits(p);
     let centre = p.grid().centre(c);
     match step_along(p, &centre, input, &noise_centres(p), state) {
         Some(next) => next,

@@ -16,7 +16,6 @@ use fixed_expr::arithmetic::{difference, sum};
 use growth_bound::span_and_deviation;
 use interval_eval::Interval;
 use plant_record::Plant;
-use plant_record::laws::every_plant_is_within_limits;
 use std::alloc::Global;
 use std::marker::Model;
 
@@ -63,11 +62,10 @@ pub fn find_slopes(alloc: Global, p: &Plant) -> Result<Slopes, SlopeFault>
     ensures fits { IfOk result (λ _. HasNoOverflow p.now) }
     ensures overflow { IfErr result (λ f. IsOverflow p.now f) }
 {
-    every_plant_is_within_limits(p);
     let radii = radii(p);
     let mut rows = Vec::new(alloc);
-    for equation in 0..p.states() {
-        rows.push(deviations_along(alloc, p, &radii, equation)?)?;
+    for equation in 0..p.equations().len() {
+        rows.push(deviations_along(alloc, p, &radii, equation as u32)?)?;
     }
     Ok(Slopes { rows })
 }
@@ -108,7 +106,6 @@ fn deviation_at(
     requires radii { AreRadii p.now radii.now }
     ensures { SomeIff result (HasNoOverflowAt p.now equation input) (deviation_at p.now input (equation_at p.now equation)) }
 {
-    every_plant_is_within_limits(p);
     let count = variables(p) as usize;
     deviation_over(
         p.equation(equation),

@@ -6,6 +6,7 @@ ghost use Rattle.fixed_expr.specs.Narrow.{IsNarrow};
 ghost use Rattle.fixed_expr.specs.Value.{IsWellFormed};
 ghost use Rattle.interval_eval.specs.Rows.{interval_in, area_in};
 ghost use Rattle.interval_eval.specs.Span.{SpanStaysInRange, span_of};
+ghost use Rattle.plant_record.specs.Limits.{IsWithinLimits};
 ghost use Rattle.plant_record.specs.Steps.{equation_at};
 ghost use Rattle.successor_box.specs.Boxes.{cell_area_of};
 ghost use Rattle.successor_box.specs.Deviations.{HasNoOverflow};
@@ -17,7 +18,6 @@ use crate::area::{NO_RANGE, VARIABLES_LIMIT, offset, variables};
 use fixed_expr::{Expr, LANES};
 use interval_eval::{Interval, IntervalColumn, span, span_rows};
 use plant_record::Plant;
-use plant_record::laws::every_plant_is_within_limits;
 
 const NO_INTERVALS: IntervalColumn = IntervalColumn {
     lo: [0; LANES],
@@ -65,12 +65,12 @@ fn cell_column(
     columns: &[[i64; LANES]],
     k: u32,
 ) -> IntervalColumn
+    requires plant { IsWithinLimits p.now }
     requires pairs { HasPairInEachRow p.now places.now }
     requires columns { HoldCentralValues p.now places.now columns.now }
     requires variable { k < variables_of p.now }
     ensures { (j c u : ℕ) → j < LANES → IsPairInRow p.now places.now j c u → interval_in result j ≡ slice_index_or (cell_area_of p.now c u) k no_range }
 {
-    every_plant_is_within_limits(p);
     let offset = offset(p, k);
     let centres = &columns[k as usize];
     IntervalColumn {

@@ -9,24 +9,24 @@ use Rattle.run_devices.specs.Devices.{next_count}
 use Rattle.run_devices.proofs.Laws.{rose_by_one}
 use Rattle.synth_run.specs.Sources.{NoReadFailed}
 use Rattle.synth_run.specs.Demands.{Demands}
-use Rattle.synth_run.specs.Laws.{OneDemandPerText}
 use Rattle.synth_run.specs.Statuses.{status_of, IsTheTexts}
 use Rattle.synth_run.specs.Runs.{CanEnd, IsCompleteAnswer}
+use Rattle.synth_run.proofs.Demanded.{one_demand}
 
-pub answer_is_complete : OneDemandPerText → (form : Form) (outcome : Outcome) (told : Option (List ℕ)) → (outcome ≡ Usage → ⊥) → (outcome ≡ ReadFault → ⊥) → (outcome ≡ WriteFault → ⊥)
+pub answer_is_complete : (form : Form) (outcome : Outcome) (told : Option (List ℕ)) → (outcome ≡ Usage → ⊥) → (outcome ≡ ReadFault → ⊥) → (outcome ≡ WriteFault → ⊥)
     → (IsTheTexts outcome → IfSome told (λ bytes. Demands form bytes outcome)) → IfSome told (IsCompleteAnswer form (status_of outcome))
-answer_is_complete one form outcome None usage read write demanded = tt
-answer_is_complete one form Usage (Some bytes) usage read write demanded = absurd (usage refl)
-answer_is_complete one form ReadFault (Some bytes) usage read write demanded = absurd (read refl)
-answer_is_complete one form WriteFault (Some bytes) usage read write demanded = absurd (write refl)
-answer_is_complete one form NoMemory (Some bytes) usage read write demanded = λ other demands. inr refl
-answer_is_complete one form Done (Some bytes) usage read write demanded = λ other demands. inl (ap status_of (one form bytes Done other (demanded tt) demands))
-answer_is_complete one form (Invalid cell) (Some bytes) usage read write demanded = λ other demands. inl (ap status_of (one form bytes (Invalid cell) other (demanded tt) demands))
-answer_is_complete one form NoRow (Some bytes) usage read write demanded = λ other demands. inl (ap status_of (one form bytes NoRow other (demanded tt) demands))
-answer_is_complete one form (Malformed line) (Some bytes) usage read write demanded = λ other demands. inl (ap status_of (one form bytes (Malformed line) other (demanded tt) demands))
-answer_is_complete one form (Overflow i u) (Some bytes) usage read write demanded = λ other demands. inl (ap status_of (one form bytes (Overflow i u) other (demanded tt) demands))
-answer_is_complete one form (Limit what) (Some bytes) usage read write demanded = λ other demands. inl (ap status_of (one form bytes (Limit what) other (demanded tt) demands))
-answer_is_complete one form TooManyTurns (Some bytes) usage read write demanded = λ other demands. inl (ap status_of (one form bytes TooManyTurns other (demanded tt) demands))
+answer_is_complete form outcome None usage read write demanded = tt
+answer_is_complete form Usage (Some bytes) usage read write demanded = absurd (usage refl)
+answer_is_complete form ReadFault (Some bytes) usage read write demanded = absurd (read refl)
+answer_is_complete form WriteFault (Some bytes) usage read write demanded = absurd (write refl)
+answer_is_complete form NoMemory (Some bytes) usage read write demanded = λ other demands. inr refl
+answer_is_complete form Done (Some bytes) usage read write demanded = λ other demands. inl (ap status_of (one_demand form bytes Done other (demanded tt) demands))
+answer_is_complete form (Invalid cell) (Some bytes) usage read write demanded = λ other demands. inl (ap status_of (one_demand form bytes (Invalid cell) other (demanded tt) demands))
+answer_is_complete form NoRow (Some bytes) usage read write demanded = λ other demands. inl (ap status_of (one_demand form bytes NoRow other (demanded tt) demands))
+answer_is_complete form (Malformed line) (Some bytes) usage read write demanded = λ other demands. inl (ap status_of (one_demand form bytes (Malformed line) other (demanded tt) demands))
+answer_is_complete form (Overflow i u) (Some bytes) usage read write demanded = λ other demands. inl (ap status_of (one_demand form bytes (Overflow i u) other (demanded tt) demands))
+answer_is_complete form (Limit what) (Some bytes) usage read write demanded = λ other demands. inl (ap status_of (one_demand form bytes (Limit what) other (demanded tt) demands))
+answer_is_complete form TooManyTurns (Some bytes) usage read write demanded = λ other demands. inl (ap status_of (one_demand form bytes TooManyTurns other (demanded tt) demands))
 
 -- no read of a form failed where its source didn't count one, and none where the form makes none
 pub read_did_not_fail : (form : Form) (outcome : Outcome) (before after : ℕ) → CanEnd form outcome → (outcome ≡ ReadFault → after ≡ next_count before) → NoReadFailed form before after → outcome ≡ ReadFault → ⊥

@@ -10,17 +10,15 @@ use Rattle.plant_record.specs.declared.aims.GoalKind.TheVariants.{Reach, Keep}
 use Rattle.plant_record.specs.Description.{Description}
 use Rattle.plant_record.specs.Plants.{IsPlant}
 use Rattle.plant_text.specs.Refusals.{IsRefusedFor}
-use Rattle.plant_text.specs.Laws.{OnePlantPerText, OneRefusal, ReadOrRefused}
 use Rattle.successor_box.specs.Deviations.{HasNoOverflow, IsFirstOverflow}
 use Rattle.game_core.specs.declared.game.Row.{Row}
 use Rattle.game_core.specs.Game.{Game, IsGame}
-use Rattle.game_core.specs.Right.{AreRight}
-use Rattle.game_core.specs.Solution.{IsReachSolution}
-use Rattle.abstraction_table.specs.Solution.{Solves, IsSolutionOf}
-use Rattle.abstraction_table.specs.Laws.{OneEdgeCount, OneGamePerPlant}
+use Rattle.game_core.proofs.Right.{solutions_are_right}
+use Rattle.plant_game.specs.Solution.{Solves, IsSolutionOf}
+use Rattle.plant_game.proofs.EdgeCounts.{one_edge_count}
+use Rattle.plant_game.proofs.OneGame.{one_game}
 use Rattle.controller_table.specs.declared.fault.TableFault.TheVariants as tables
 use Rattle.controller_table.specs.Refusals.{IsTableRefusedFor}
-use Rattle.controller_table.specs.Laws.{OneTablePerText, OneTableRefusal, TableOrRefused}
 use Rattle.table_check.specs.Verdicts.{IsFirstWithout}
 use Rattle.run_words.specs.declared.form.Form.TheVariants.{Synth, Check, Upgrade, Sim, Demo, Stay, Patrol}
 use Rattle.synth_run.specs.declared.outcome.Outcome.{Outcome}
@@ -31,6 +29,7 @@ use Rattle.synth_run.specs.inside.Causes.{of_plant, of_table}
 use Rattle.demo_plants.specs.Demo.{demo_plant_of}
 use Rattle.demo_plants.specs.Laws.{IsSolvableDemo}
 use Rattle.synth_run.specs.Laws.{OneDemandPerText}
+use Rattle.synth_run.proofs.Below.{one_plant_per_text, one_refusal, read_or_refused, one_table_per_text, one_table_refusal, table_or_refused}
 
 -- no earlier equation or input overflows than the first
 no_earlier : (p : Description) (i u j v : ℕ) → IsFirstOverflow p i u → IsFirstOverflow p j v → j < i → ⊥
@@ -77,52 +76,51 @@ exceeding p Cells e = absurd e
 exceeding p Pairs e = absurd e
 exceeding p Edges e = (refl, e)
 
-module _ (count : OneEdgeCount) where
-  few_or_many : (p : Description) (m n : ℕ) → IsPlant p → HasEdges p m → HasEdges p n → m ≤ 2 ^ 25 → 2 ^ 25 < n → ⊥
-  few_or_many p m n plant f g few many = let same : m ≡ n = count p m n plant f.counted g.counted in omega (arith, same, few, many)
+few_or_many : (p : Description) (m n : ℕ) → IsPlant p → HasEdges p m → HasEdges p n → m ≤ 2 ^ 25 → 2 ^ 25 < n → ⊥
+few_or_many p m n plant f g few many = let same : m ≡ n = one_edge_count p m n plant f.counted g.counted in omega (arith, same, few, many)
 
-  plant_demands_one : (p : Description) (a b : Outcome) → IsPlant p → PlantDemands p a → PlantDemands p b → a ≡ b
-  plant_demands_one p Done Done plant f g = refl
-  plant_demands_one p Done (Overflow i u) plant f g = absurd (fits_or_not p i u f.1.fits g)
-  plant_demands_one p Done (Limit what) plant f g = let many = (exceeding p what g).1 in absurd (few_or_many p f.0 many.0 plant f.1 many.1 f.2 many.2)
-  plant_demands_one p (Overflow i u) Done plant f g = absurd (fits_or_not p i u g.1.fits f)
-  plant_demands_one p (Overflow i u) (Overflow j v) plant f g = same_overflow p i u j v f g
-  plant_demands_one p (Overflow i u) (Limit what) plant f g = let many = (exceeding p what g).1 in absurd (fits_or_not p i u many.1.fits f)
-  plant_demands_one p (Limit what) Done plant f g = let many = (exceeding p what f).1 in absurd (few_or_many p g.0 many.0 plant g.1 many.1 g.2 many.2)
-  plant_demands_one p (Limit what) (Overflow i u) plant f g = let many = (exceeding p what f).1 in absurd (fits_or_not p i u many.1.fits g)
-  plant_demands_one p (Limit what) (Limit other) plant f g = ap Limit ((exceeding p what f).0 ∙ sym (exceeding p other g).0)
-  plant_demands_one p (Invalid c) b plant f g = absurd f
-  plant_demands_one p NoRow b plant f g = absurd f
-  plant_demands_one p Usage b plant f g = absurd f
-  plant_demands_one p (Malformed n) b plant f g = absurd f
-  plant_demands_one p TooManyTurns b plant f g = absurd f
-  plant_demands_one p ReadFault b plant f g = absurd f
-  plant_demands_one p WriteFault b plant f g = absurd f
-  plant_demands_one p NoMemory b plant f g = absurd f
-  plant_demands_one p Done (Invalid c) plant f g = absurd g
-  plant_demands_one p Done NoRow plant f g = absurd g
-  plant_demands_one p Done Usage plant f g = absurd g
-  plant_demands_one p Done (Malformed n) plant f g = absurd g
-  plant_demands_one p Done TooManyTurns plant f g = absurd g
-  plant_demands_one p Done ReadFault plant f g = absurd g
-  plant_demands_one p Done WriteFault plant f g = absurd g
-  plant_demands_one p Done NoMemory plant f g = absurd g
-  plant_demands_one p (Overflow i u) (Invalid c) plant f g = absurd g
-  plant_demands_one p (Overflow i u) NoRow plant f g = absurd g
-  plant_demands_one p (Overflow i u) Usage plant f g = absurd g
-  plant_demands_one p (Overflow i u) (Malformed n) plant f g = absurd g
-  plant_demands_one p (Overflow i u) TooManyTurns plant f g = absurd g
-  plant_demands_one p (Overflow i u) ReadFault plant f g = absurd g
-  plant_demands_one p (Overflow i u) WriteFault plant f g = absurd g
-  plant_demands_one p (Overflow i u) NoMemory plant f g = absurd g
-  plant_demands_one p (Limit what) (Invalid c) plant f g = absurd g
-  plant_demands_one p (Limit what) NoRow plant f g = absurd g
-  plant_demands_one p (Limit what) Usage plant f g = absurd g
-  plant_demands_one p (Limit what) (Malformed n) plant f g = absurd g
-  plant_demands_one p (Limit what) TooManyTurns plant f g = absurd g
-  plant_demands_one p (Limit what) ReadFault plant f g = absurd g
-  plant_demands_one p (Limit what) WriteFault plant f g = absurd g
-  plant_demands_one p (Limit what) NoMemory plant f g = absurd g
+plant_demands_one : (p : Description) (a b : Outcome) → IsPlant p → PlantDemands p a → PlantDemands p b → a ≡ b
+plant_demands_one p Done Done plant f g = refl
+plant_demands_one p Done (Overflow i u) plant f g = absurd (fits_or_not p i u f.1.fits g)
+plant_demands_one p Done (Limit what) plant f g = let many = (exceeding p what g).1 in absurd (few_or_many p f.0 many.0 plant f.1 many.1 f.2 many.2)
+plant_demands_one p (Overflow i u) Done plant f g = absurd (fits_or_not p i u g.1.fits f)
+plant_demands_one p (Overflow i u) (Overflow j v) plant f g = same_overflow p i u j v f g
+plant_demands_one p (Overflow i u) (Limit what) plant f g = let many = (exceeding p what g).1 in absurd (fits_or_not p i u many.1.fits f)
+plant_demands_one p (Limit what) Done plant f g = let many = (exceeding p what f).1 in absurd (few_or_many p g.0 many.0 plant g.1 many.1 g.2 many.2)
+plant_demands_one p (Limit what) (Overflow i u) plant f g = let many = (exceeding p what f).1 in absurd (fits_or_not p i u many.1.fits g)
+plant_demands_one p (Limit what) (Limit other) plant f g = ap Limit ((exceeding p what f).0 ∙ sym (exceeding p other g).0)
+plant_demands_one p (Invalid c) b plant f g = absurd f
+plant_demands_one p NoRow b plant f g = absurd f
+plant_demands_one p Usage b plant f g = absurd f
+plant_demands_one p (Malformed n) b plant f g = absurd f
+plant_demands_one p TooManyTurns b plant f g = absurd f
+plant_demands_one p ReadFault b plant f g = absurd f
+plant_demands_one p WriteFault b plant f g = absurd f
+plant_demands_one p NoMemory b plant f g = absurd f
+plant_demands_one p Done (Invalid c) plant f g = absurd g
+plant_demands_one p Done NoRow plant f g = absurd g
+plant_demands_one p Done Usage plant f g = absurd g
+plant_demands_one p Done (Malformed n) plant f g = absurd g
+plant_demands_one p Done TooManyTurns plant f g = absurd g
+plant_demands_one p Done ReadFault plant f g = absurd g
+plant_demands_one p Done WriteFault plant f g = absurd g
+plant_demands_one p Done NoMemory plant f g = absurd g
+plant_demands_one p (Overflow i u) (Invalid c) plant f g = absurd g
+plant_demands_one p (Overflow i u) NoRow plant f g = absurd g
+plant_demands_one p (Overflow i u) Usage plant f g = absurd g
+plant_demands_one p (Overflow i u) (Malformed n) plant f g = absurd g
+plant_demands_one p (Overflow i u) TooManyTurns plant f g = absurd g
+plant_demands_one p (Overflow i u) ReadFault plant f g = absurd g
+plant_demands_one p (Overflow i u) WriteFault plant f g = absurd g
+plant_demands_one p (Overflow i u) NoMemory plant f g = absurd g
+plant_demands_one p (Limit what) (Invalid c) plant f g = absurd g
+plant_demands_one p (Limit what) NoRow plant f g = absurd g
+plant_demands_one p (Limit what) Usage plant f g = absurd g
+plant_demands_one p (Limit what) (Malformed n) plant f g = absurd g
+plant_demands_one p (Limit what) TooManyTurns plant f g = absurd g
+plant_demands_one p (Limit what) ReadFault plant f g = absurd g
+plant_demands_one p (Limit what) WriteFault plant f g = absurd g
+plant_demands_one p (Limit what) NoMemory plant f g = absurd g
 
 -- nothing refuses a demo plant, so that only want of memory keeps it from its line
 pub no_refusal : (n : ℕ) → IsSolvableDemo n → (outcome : Outcome) → (outcome ≡ Done → ⊥) → ((outcome ≡ NoMemory → ⊥) → PlantDemands (demo_plant_of n) outcome) → outcome ≡ NoMemory
@@ -167,17 +165,17 @@ faulty_plant : (bytes : List ℕ) (outcome : Outcome) → IsRefused bytes outcom
 faulty_plant bytes outcome h = faulty (IsRefusedFor bytes) of_plant (λ line. plants.Malformed line) (λ what. plants.Limit what) (λ line. refl) (λ what. refl) outcome h
 
 -- plant texts demand one thing where their plants do
-one_demand_of_plants : OnePlantPerText → OneRefusal → ReadOrRefused → (Demanded : Description → Outcome → Type 0) → ((p : Description) (a b : Outcome) → IsPlant p → Demanded p a → Demanded p b → a ≡ b) → (bytes : List ℕ) (a b : Outcome)
+one_demand_of_plants : (Demanded : Description → Outcome → Type 0) → ((p : Description) (a b : Outcome) → IsPlant p → Demanded p a → Demanded p b → a ≡ b) → (bytes : List ℕ) (a b : Outcome)
     → IsRefused bytes a ⊎ ((p : Description) × IsAccepted bytes p × Demanded p a) → IsRefused bytes b ⊎ ((p : Description) × IsAccepted bytes p × Demanded p b) → a ≡ b
-one_demand_of_plants plant refusal read Demanded one bytes a b f g =
+one_demand_of_plants Demanded one bytes a b f g =
     elim f [
       | inl refused ↦ elim g [
-        | inl other ↦ one_fault (IsRefusedFor bytes) of_plant a b (refusal bytes) (faulty_plant bytes a refused) (faulty_plant bytes b other)
-        | inr accepted ↦ (let x = faulty_plant bytes a refused in absurd (read bytes accepted.0 x.fault accepted.1.spells accepted.1.short accepted.1.limits x.refused))
+        | inl other ↦ one_fault (IsRefusedFor bytes) of_plant a b (one_refusal bytes) (faulty_plant bytes a refused) (faulty_plant bytes b other)
+        | inr accepted ↦ (let x = faulty_plant bytes a refused in absurd (read_or_refused bytes accepted.0 x.fault accepted.1.spells accepted.1.short accepted.1.limits x.refused))
       ]
       | inr accepted ↦ elim g [
-        | inl other ↦ (let y = faulty_plant bytes b other in absurd (read bytes accepted.0 y.fault accepted.1.spells accepted.1.short accepted.1.limits y.refused))
-        | inr also ↦ (let same : accepted.0 ≡ also.0 = plant bytes accepted.0 also.0 accepted.1.spells also.1.spells in one also.0 a b also.1.limits.plant (subst (λ (p : Description). Demanded p a) same accepted.2) also.2)
+        | inl other ↦ (let y = faulty_plant bytes b other in absurd (read_or_refused bytes accepted.0 y.fault accepted.1.spells accepted.1.short accepted.1.limits y.refused))
+        | inr also ↦ (let same : accepted.0 ≡ also.0 = one_plant_per_text bytes accepted.0 also.0 accepted.1.spells also.1.spells in one also.0 a b also.1.limits.plant (subst (λ (p : Description). Demanded p a) same accepted.2) also.2)
       ]
     ]
 
@@ -205,16 +203,16 @@ patrol_end p NoMemory h = absurd h
 few_or_many_turns : (p : Description) → turns_of p ≤ 2 ^ 22 → 2 ^ 22 < turns_of p → ⊥
 few_or_many_turns p few many = omega (arith, few, many)
 
-one_patrol_end : OneEdgeCount → (p : Description) (a b : Outcome) → IsPlant p → PatrolEnd p a → PatrolEnd p b → a ≡ b
-one_patrol_end count p a b plant (has_few_turns e s few) (has_few_turns k t also) = e ∙ sym k
-one_patrol_end count p a b plant (has_few_turns e s few) (has_many_turns k t many) = absurd (few_or_many_turns p few many)
-one_patrol_end count p a b plant (has_few_turns e s few) (is_unsolvable k g) = absurd (k (sym (plant_demands_one count p Done b plant s g)))
-one_patrol_end count p a b plant (has_many_turns e s many) (has_few_turns k t few) = absurd (few_or_many_turns p few many)
-one_patrol_end count p a b plant (has_many_turns e s many) (has_many_turns k t also) = e ∙ sym k
-one_patrol_end count p a b plant (has_many_turns e s many) (is_unsolvable k g) = absurd (k (sym (plant_demands_one count p Done b plant s g)))
-one_patrol_end count p a b plant (is_unsolvable e h) (has_few_turns k t few) = absurd (e (plant_demands_one count p a Done plant h t))
-one_patrol_end count p a b plant (is_unsolvable e h) (has_many_turns k t many) = absurd (e (plant_demands_one count p a Done plant h t))
-one_patrol_end count p a b plant (is_unsolvable e h) (is_unsolvable k g) = plant_demands_one count p a b plant h g
+one_patrol_end : (p : Description) (a b : Outcome) → IsPlant p → PatrolEnd p a → PatrolEnd p b → a ≡ b
+one_patrol_end p a b plant (has_few_turns e s few) (has_few_turns k t also) = e ∙ sym k
+one_patrol_end p a b plant (has_few_turns e s few) (has_many_turns k t many) = absurd (few_or_many_turns p few many)
+one_patrol_end p a b plant (has_few_turns e s few) (is_unsolvable k g) = absurd (k (sym (plant_demands_one p Done b plant s g)))
+one_patrol_end p a b plant (has_many_turns e s many) (has_few_turns k t few) = absurd (few_or_many_turns p few many)
+one_patrol_end p a b plant (has_many_turns e s many) (has_many_turns k t also) = e ∙ sym k
+one_patrol_end p a b plant (has_many_turns e s many) (is_unsolvable k g) = absurd (k (sym (plant_demands_one p Done b plant s g)))
+one_patrol_end p a b plant (is_unsolvable e h) (has_few_turns k t few) = absurd (e (plant_demands_one p a Done plant h t))
+one_patrol_end p a b plant (is_unsolvable e h) (has_many_turns k t many) = absurd (e (plant_demands_one p a Done plant h t))
+one_patrol_end p a b plant (is_unsolvable e h) (is_unsolvable k g) = plant_demands_one p a b plant h g
 
 -- ---- tables
 
@@ -251,57 +249,48 @@ one_first Fact n b c f g =
       ]
     ]
 
--- What the demands of tables stand on.
-pub record TableLaws : Type 0 where
-  pub edges : OneEdgeCount
-  pub table : OneTablePerText
-  pub refusal : OneTableRefusal
-  pub read : TableOrRefused
-  pub game : OneGamePerPlant
-  pub right : (g : Game) (rows : List (Option Row)) → IsGame g → IsReachSolution g rows → AreRight g rows
-
-one_wrong : TableLaws → (p : Description) (rows : List (Option Row)) (b c : ℕ) → IsPlant p → IsFirstWrong p rows b → IsFirstWrong p rows c → b ≡ c
-one_wrong laws p rows b c plant f g =
+one_wrong : (p : Description) (rows : List (Option Row)) (b c : ℕ) → IsPlant p → IsFirstWrong p rows b → IsFirstWrong p rows c → b ≡ c
+one_wrong p rows b c plant f g =
     one_first (IsRightFor p.goal g.game rows) g.game.cells b c
-    (subst (λ (h : Game). IsFirstWithout (IsRightFor p.goal h rows) h.cells b) (laws.game p f.game g.game plant f.abstraction g.abstraction) f.wrong)
+    (subst (λ (h : Game). IsFirstWithout (IsRightFor p.goal h rows) h.cells b) (one_game p f.game g.game plant f.abstraction g.abstraction) f.wrong)
     g.wrong
 
 -- each row of a solution is right for its goal
-each_right : TableLaws → (goal : GoalKind) (g : Game) (rows : List (Option Row)) (c : ℕ) → IsGame g → Solves goal g rows → c < g.cells → IsRightFor goal g rows c
-each_right laws Reach g rows c game solution lt = (laws.right g rows game solution).each c lt
-each_right laws Keep g rows c game solution lt = (rows, solution, refl)
+each_right : (goal : GoalKind) (g : Game) (rows : List (Option Row)) (c : ℕ) → IsGame g → Solves goal g rows → c < g.cells → IsRightFor goal g rows c
+each_right Reach g rows c game solution lt = (solutions_are_right g rows game solution).each c lt
+each_right Keep g rows c game solution lt = (rows, solution, refl)
 
 -- the solution has no wrong row
-no_wrong : TableLaws → (p : Description) (rows : List (Option Row)) (c : ℕ) → IsPlant p → IsSolutionOf p rows → IsFirstWrong p rows c → ⊥
-no_wrong laws p rows c plant solution wrong =
-    let same : wrong.game ≡ solution.game = laws.game p wrong.game solution.game plant wrong.abstraction solution.abstraction in
+no_wrong : (p : Description) (rows : List (Option Row)) (c : ℕ) → IsPlant p → IsSolutionOf p rows → IsFirstWrong p rows c → ⊥
+no_wrong p rows c plant solution wrong =
+    let same : wrong.game ≡ solution.game = one_game p wrong.game solution.game plant wrong.abstraction solution.abstraction in
     let first : IsFirstWithout (IsRightFor p.goal solution.game rows) solution.game.cells c = subst (λ (h : Game). IsFirstWithout (IsRightFor p.goal h rows) h.cells c) same wrong.wrong in
-    first.without (each_right laws p.goal solution.game rows c solution.abstraction.game solution.solution first.inside)
+    first.without (each_right p.goal solution.game rows c solution.abstraction.game solution.solution first.inside)
 
-one_table_end : TableLaws → (p : Description) (rows : List (Option Row)) (a b : Outcome) → IsPlant p → TableEnd p rows a → TableEnd p rows b → a ≡ b
-one_table_end laws p rows a b plant (is_valid e s h) (is_valid k t g) = e ∙ sym k
-one_table_end laws p rows a b plant (is_valid e s h) (is_invalid c k t g) = absurd (no_wrong laws p rows c plant h g)
-one_table_end laws p rows a b plant (is_valid e s h) (is_refused k g) = absurd (k (sym (plant_demands_one laws.edges p Done b plant s g)))
-one_table_end laws p rows a b plant (is_invalid c e s h) (is_valid k t g) = absurd (no_wrong laws p rows c plant g h)
-one_table_end laws p rows a b plant (is_invalid c e s h) (is_invalid d k t g) = e ∙ ap Invalid (one_wrong laws p rows c d plant h g) ∙ sym k
-one_table_end laws p rows a b plant (is_invalid c e s h) (is_refused k g) = absurd (k (sym (plant_demands_one laws.edges p Done b plant s g)))
-one_table_end laws p rows a b plant (is_refused e h) (is_valid k t g) = absurd (e (plant_demands_one laws.edges p a Done plant h t))
-one_table_end laws p rows a b plant (is_refused e h) (is_invalid d k t g) = absurd (e (plant_demands_one laws.edges p a Done plant h t))
-one_table_end laws p rows a b plant (is_refused e h) (is_refused k g) = plant_demands_one laws.edges p a b plant h g
+one_table_end : (p : Description) (rows : List (Option Row)) (a b : Outcome) → IsPlant p → TableEnd p rows a → TableEnd p rows b → a ≡ b
+one_table_end p rows a b plant (is_valid e s h) (is_valid k t g) = e ∙ sym k
+one_table_end p rows a b plant (is_valid e s h) (is_invalid c k t g) = absurd (no_wrong p rows c plant h g)
+one_table_end p rows a b plant (is_valid e s h) (is_refused k g) = absurd (k (sym (plant_demands_one p Done b plant s g)))
+one_table_end p rows a b plant (is_invalid c e s h) (is_valid k t g) = absurd (no_wrong p rows c plant g h)
+one_table_end p rows a b plant (is_invalid c e s h) (is_invalid d k t g) = e ∙ ap Invalid (one_wrong p rows c d plant h g) ∙ sym k
+one_table_end p rows a b plant (is_invalid c e s h) (is_refused k g) = absurd (k (sym (plant_demands_one p Done b plant s g)))
+one_table_end p rows a b plant (is_refused e h) (is_valid k t g) = absurd (e (plant_demands_one p a Done plant h t))
+one_table_end p rows a b plant (is_refused e h) (is_invalid d k t g) = absurd (e (plant_demands_one p a Done plant h t))
+one_table_end p rows a b plant (is_refused e h) (is_refused k g) = plant_demands_one p a b plant h g
 
 -- tables demand one thing where their plants and rows do
-one_demand_of_tables : TableLaws → (Demanded : Description → List (Option Row) → Outcome → Type 0)
+one_demand_of_tables : (Demanded : Description → List (Option Row) → Outcome → Type 0)
     → ((p : Description) (rows : List (Option Row)) (a b : Outcome) → IsPlant p → Demanded p rows a → Demanded p rows b → a ≡ b)
     → (bytes : List ℕ) (a b : Outcome) → IsRefusedTable bytes a ⊎ IsTableThatDemands (λ p rows. Demanded p rows a) bytes → IsRefusedTable bytes b ⊎ IsTableThatDemands (λ p rows. Demanded p rows b) bytes → a ≡ b
-one_demand_of_tables laws Demanded one bytes a b f g =
+one_demand_of_tables Demanded one bytes a b f g =
     elim f [
       | inl refused ↦ elim g [
-        | inl other ↦ one_fault (IsTableRefusedFor bytes) of_table a b (laws.refusal bytes) (faulty_table bytes a refused) (faulty_table bytes b other)
-        | inr table ↦ (let x = faulty_table bytes a refused in absurd (laws.read bytes table.plant table.rows x.fault table.table x.refused))
+        | inl other ↦ one_fault (IsTableRefusedFor bytes) of_table a b (one_table_refusal bytes) (faulty_table bytes a refused) (faulty_table bytes b other)
+        | inr table ↦ (let x = faulty_table bytes a refused in absurd (table_or_refused bytes table.plant table.rows x.fault table.table x.refused))
       ]
       | inr table ↦ elim g [
-        | inl other ↦ (let y = faulty_table bytes b other in absurd (laws.read bytes table.plant table.rows y.fault table.table y.refused))
-        | inr also ↦ (let same = laws.table bytes table.plant also.plant table.rows also.rows table.table also.table in one also.plant also.rows a b also.table.limits.plant
+        | inl other ↦ (let y = faulty_table bytes b other in absurd (table_or_refused bytes table.plant table.rows y.fault table.table y.refused))
+        | inr also ↦ (let same = one_table_per_text bytes table.plant also.plant table.rows also.rows table.table also.table in one also.plant also.rows a b also.table.limits.plant
             (subst (λ (q : Description). Demanded q also.rows a) same.0 (subst (λ (r : List (Option Row)). Demanded table.plant r a) same.1 table.demands))
             also.demands)
       ]
@@ -382,15 +371,15 @@ one_trace_end p rows start a b (overflows i u e first) (overflows j v k other) =
 
 -- ---- forms
 
-pub one_demand : OnePlantPerText → OneRefusal → ReadOrRefused → TableLaws → OneDemandPerText
-one_demand plant refusal read laws (Synth workers) bytes a b f g = one_demand_of_plants plant refusal read PlantDemands (plant_demands_one laws.edges) bytes a b f g
-one_demand plant refusal read laws Check bytes a b f g =
-    one_demand_of_tables laws TableDemands (λ p rows c d well h k. one_table_end laws p rows c d well (table_end p rows c h) (table_end p rows d k)) bytes a b f g
-one_demand plant refusal read laws Upgrade bytes a b f g =
-    one_demand_of_tables laws (λ p rows outcome. RangeDemands p outcome) (λ p rows c d well h k. one_range_end p c d h k) bytes a b f g
-one_demand plant refusal read laws (Sim samples seed start) bytes a b f g =
-    one_demand_of_tables laws (λ p rows outcome. TraceDemands p rows start outcome) (λ p rows c d well h k. one_trace_end p rows start c d (trace_end p rows start c h) (trace_end p rows start d k)) bytes a b f g
-one_demand plant refusal read laws (Demo n workers) bytes a b f g = f ∙ sym g
-one_demand plant refusal read laws (Stay workers) bytes a b f g = one_demand_of_plants plant refusal read PlantDemands (plant_demands_one laws.edges) bytes a b f g
-one_demand plant refusal read laws (Patrol workers) bytes a b f g =
-    one_demand_of_plants plant refusal read PatrolDemands (λ p c d well h k. one_patrol_end laws.edges p c d well (patrol_end p c h) (patrol_end p d k)) bytes a b f g
+pub one_demand : OneDemandPerText
+one_demand (Synth workers) bytes a b f g = one_demand_of_plants PlantDemands plant_demands_one bytes a b f g
+one_demand Check bytes a b f g =
+    one_demand_of_tables TableDemands (λ p rows c d well h k. one_table_end p rows c d well (table_end p rows c h) (table_end p rows d k)) bytes a b f g
+one_demand Upgrade bytes a b f g =
+    one_demand_of_tables (λ p rows outcome. RangeDemands p outcome) (λ p rows c d well h k. one_range_end p c d h k) bytes a b f g
+one_demand (Sim samples seed start) bytes a b f g =
+    one_demand_of_tables (λ p rows outcome. TraceDemands p rows start outcome) (λ p rows c d well h k. one_trace_end p rows start c d (trace_end p rows start c h) (trace_end p rows start d k)) bytes a b f g
+one_demand (Demo n workers) bytes a b f g = f ∙ sym g
+one_demand (Stay workers) bytes a b f g = one_demand_of_plants PlantDemands plant_demands_one bytes a b f g
+one_demand (Patrol workers) bytes a b f g =
+    one_demand_of_plants PatrolDemands (λ p c d well h k. one_patrol_end p c d well (patrol_end p c h) (patrol_end p d k)) bytes a b f g

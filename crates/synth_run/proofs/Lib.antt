@@ -1,3 +1,4 @@
+pub mod Below
 pub mod Completeness
 pub mod Demanded
 pub mod Ending

@@ -5,8 +5,7 @@ use Rattle.game_core.specs.Game.{Game}
 use Rattle.game_core.specs.Strategy.{IsRankTo}
 use Rattle.game_core.specs.Solution.{row_of, LeadsWithinTo}
 use Rattle.plant_record.specs.Description.{Description}
-use Rattle.plant_text.specs.Laws.{OnePlantPerText}
-use Rattle.abstraction_table.specs.Laws.{OneGamePerPlant}
+use Rattle.plant_game.proofs.OneGame.{one_game}
 use Rattle.stay_game.specs.Held.{IsHeld}
 use Rattle.stay_game.specs.Stay.{IsStayedBy, IsStayRow, IsStaySolution}
 use Rattle.stay_table.specs.StayText.{stay_text}
@@ -15,6 +14,7 @@ use Rattle.patrol_game.specs.Patrol.{IsTravelledBy, IsPatrolRow, IsPatrol, rows_
 use Rattle.patrol_table.specs.PatrolText.{patrol_text}
 use Rattle.synth_run.specs.Headline.{IsStayTableOf, IsPatrolTableOf}
 use Rattle.synth_run.specs.Laws.{OneStayTextForBytes, OnePatrolTextForBytes}
+use Rattle.synth_run.proofs.Below.{one_plant_per_text}
 
 abbrev some_row : ℕ → ℕ → Option Row
 some_row k u = Some (record { rank = k; input = u })
@@ -46,10 +46,10 @@ one_stay_solution g rows others a b =
     let lb = b.one_each in
     ext_get_or None rows others (omega arith) (λ c lt. same_stay_row g c (row_of rows c) (row_of others c) (a.each c (omega arith)) (b.each c (omega arith)))
 
-pub one_stay_text : OnePlantPerText → OneGamePerPlant → OneStayTextForBytes
-one_stay_text one_plant one_game bytes a b first second =
+pub one_stay_text : OneStayTextForBytes
+one_stay_text bytes a b first second =
     let p : Description = second.0 in
-    let table : IsStayTableOf p a = subst (λ (d : Description). IsStayTableOf d a) (one_plant bytes first.0 p first.1.spells second.1.spells) first.3 in
+    let table : IsStayTableOf p a = subst (λ (d : Description). IsStayTableOf d a) (one_plant_per_text bytes first.0 p first.1.spells second.1.spells) first.3 in
     let other : IsStayTableOf p b = second.3 in
     let game : other.game ≡ table.game = one_game p other.game table.game second.1.limits.plant other.abstraction table.abstraction in
     let rows : table.rows ≡ other.rows = one_stay_solution table.game table.rows other.rows table.solution (subst (λ (g : Game). IsStaySolution g other.rows) game other.solution) in
@@ -86,10 +86,10 @@ one_patrol g In turns rows others a b =
         ext_get_or None (rows_for rows j) (rows_for others j) (omega arith)
         (λ c lt. same_patrol_row g In turns j c (row_of (rows_for rows j) c) (row_of (rows_for others j) c) (a.each j c before (omega arith)) (b.each j c before (omega arith)))
 
-pub one_patrol_text : OnePlantPerText → OneGamePerPlant → OnePatrolTextForBytes
-one_patrol_text one_plant one_game bytes a b first second =
+pub one_patrol_text : OnePatrolTextForBytes
+one_patrol_text bytes a b first second =
     let p : Description = second.0 in
-    let table : IsPatrolTableOf p a = subst (λ (d : Description). IsPatrolTableOf d a) (one_plant bytes first.0 p first.1.spells second.1.spells) first.3 in
+    let table : IsPatrolTableOf p a = subst (λ (d : Description). IsPatrolTableOf d a) (one_plant_per_text bytes first.0 p first.1.spells second.1.spells) first.3 in
     let other : IsPatrolTableOf p b = second.3 in
     let game : other.game ≡ table.game = one_game p other.game table.game second.1.limits.plant other.abstraction table.abstraction in
     let rows : table.rows ≡ other.rows =

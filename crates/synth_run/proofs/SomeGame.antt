@@ -1,14 +1,9 @@
 -- No plant within the limits lacks a game: its boxes are those of its cells' corners, and a cell has one of three marks.
 use Rattle.std.proofs.Common.{inl, inr, ℕ, ◌/◌, ◌%◌, ◌<◌, List, get_or, Option, Some, None, refl, subst, arith}
-use Rattle.std.proofs.lemmas.List.Elements.{All-from_get_or}
 use Rattle.std.proofs.lemmas.Nat.{div-add-mod', mod_below, same_from_place}
 use Rattle.grid_quantiser.specs.declared.boxes.CellBox.{CellBox}
 use Rattle.grid_quantiser.specs.Axes.{cells_of}
 use Rattle.grid_quantiser.specs.Cells.{cell_of}
-use Rattle.grid_quantiser.specs.Boxes.{cells_between}
-use Rattle.grid_quantiser.specs.Laws.{BoxesHaveCells}
-use Rattle.grid_quantiser.proofs.BoxCells.{between_limit, between_below}
-use Rattle.grid_quantiser.proofs.BetweenCells.{rising_between}
 use Rattle.grid_quantiser.proofs.MeetingCells.{meeting_corners}
 use Rattle.game_core.specs.declared.game.Mark.{Mark}
 use Rattle.game_core.specs.declared.game.Mark.TheVariants.{Goal, Obstacle, Plain}
@@ -20,11 +15,11 @@ use Rattle.plant_record.specs.Soundness.{IsSound}
 use Rattle.plant_record.proofs.lemmas.SoundPlants.{sound}
 use Rattle.successor_box.specs.Boxes.{IsBoxOf, low_corner, high_corner}
 use Rattle.successor_box.proofs.BoxDomains.{by_box_in_domain}
-use Rattle.successor_box.proofs.Enabled.{box_successors, corners_ordered}
-use Rattle.abstraction_table.specs.Abstraction.{IsGameOf, AreBoxesOf, pairs_of, pair_of}
-use Rattle.abstraction_table.specs.inside.Marks.{IsMarkAt, AreMarksOf, LiesInTarget}
+use Rattle.successor_box.proofs.Enabled.{corners_ordered}
+use Rattle.plant_game.specs.Abstraction.{IsGameOf, AreBoxesOf, pairs_of, pair_of}
+use Rattle.plant_game.specs.Marks.{IsMarkAt, AreMarksOf, LiesInSomeTarget}
 use Rattle.abstraction_table.proofs.PairBoxes.{pair_below}
-use Rattle.abstraction_table.proofs.PlantGame.{Laws, is_game_of}
+use Rattle.abstraction_table.proofs.PlantGame.{is_game_of}
 use Rattle.synth_run.proofs.Undeniable.{either, chosen}
 
 -- ---- boxes
@@ -62,7 +57,7 @@ some_mark : (p : Description) (c : ℕ) → ((mark : Mark) × IsMarkAt p c mark 
 some_mark p c deny =
     either (IsObstacleCell p c) (λ blocked. elim blocked [
       | inl obstacle ↦ deny (Obstacle, (((λ e. absurd (cc)), (λ goal. absurd (goal.0 obstacle))), ((λ e. obstacle), (λ is. refl))))
-      | inr clear ↦ either (LiesInTarget p c) (λ aimed. elim aimed [
+      | inr clear ↦ either (LiesInSomeTarget p c) (λ aimed. elim aimed [
         | inl target ↦ deny (Goal, (((λ e. (clear, target)), (λ is. refl)), ((λ e. absurd (cc)), (λ is. absurd (clear is)))))
         | inr outside ↦ deny (Plain, (((λ e. absurd (cc)), (λ goal. absurd (outside goal.1))), ((λ e. absurd (cc)), (λ is. absurd (clear is)))))
       ])
@@ -73,16 +68,6 @@ some_marks p deny = chosen Plain (IsMarkAt p) (cells_of (axes_of p)) (λ c lt. s
 
 -- ---- the game
 
-boxes_have_cells : BoxesHaveCells
-boxes_have_cells axes first last grid box = record {
-  rising = rising_between axes first last grid.each box;
-  within = All-from_get_or (λ s. s < cells_of axes) (cells_between axes first last) 0 (λ i lt. between_below axes first last i grid.each box lt);
-  few = between_limit axes first last box;
-}
-
-laws : Laws
-laws = record { sound = sound; cells = boxes_have_cells; successors = box_successors }
-
 pub some_game : (p : Description) → IsWithinLimits p → ((g : Game) × IsGameOf p g → ⊥) → ⊥
 some_game p limits deny =
-    some_boxes p (sound p limits.plant) (λ boxes. some_marks p (λ marks. deny (_, is_game_of p limits boxes.0 boxes.1 laws marks.0 marks.1)))
+    some_boxes p (sound p limits.plant) (λ boxes. some_marks p (λ marks. deny (_, is_game_of p limits boxes.0 boxes.1 marks.0 marks.1)))

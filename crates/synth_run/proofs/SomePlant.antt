@@ -17,8 +17,8 @@ use Rattle.plant_text.specs.inside.PartRules.{KeepsRules}
 use Rattle.plant_text.proofs.lemmas.RulesKept.{rules_of_nothing, rules_led}
 use Rattle.plant_text.proofs.lemmas.LinesLead.{spelled_is_plant}
 use Rattle.successor_box.specs.Deviations.{HasNoOverflow, HasNoOverflowAt, IsFirstOverflow}
-use Rattle.abstraction_table.specs.Abstraction.{AreEdges}
-use Rattle.abstraction_table.proofs.EdgeCounts.{games_count_their_edges}
+use Rattle.plant_game.specs.Abstraction.{AreEdges}
+use Rattle.plant_game.proofs.EdgeCounts.{games_count_their_edges}
 use Rattle.synth_run.specs.declared.outcome.Outcome.{Outcome}
 use Rattle.synth_run.specs.declared.outcome.Outcome.TheVariants.{Done, Malformed, Overflow, Limit, TooManyTurns}
 use Rattle.synth_run.specs.Demands.{IsAccepted, IsRefused, IsSolvable, ExceedsEdges, turns_of, PlantDemands, PatrolDemands}

@@ -4,7 +4,7 @@ use Rattle.game_core.specs.declared.game.Row.{Row}
 use Rattle.game_core.specs.Game.{Game}
 use Rattle.plant_record.specs.Description.{Description}
 use Rattle.plant_record.specs.Limits.{IsWithinLimits}
-use Rattle.abstraction_table.specs.Abstraction.{IsGameOf}
+use Rattle.plant_game.specs.Abstraction.{IsGameOf}
 use Rattle.stay_game.specs.Stay.{IsStaySolution}
 use Rattle.stay_table.specs.StayText.{stay_text}
 use Rattle.stay_table.proofs.Laws.{solution_has_stay_text, stay_text_settles}

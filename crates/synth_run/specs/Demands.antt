@@ -14,8 +14,8 @@ use Rattle.successor_box.specs.Deviations.{HasNoOverflow, IsFirstOverflow}
 use Rattle.game_core.specs.declared.game.Row.{Row}
 use Rattle.game_core.specs.Game.{Game}
 use Rattle.game_core.specs.Right.{IsRight}
-use Rattle.abstraction_table.specs.Abstraction.{IsGameOf, AreEdges}
-use Rattle.abstraction_table.specs.Solution.{IsSolutionOf}
+use Rattle.plant_game.specs.Abstraction.{IsGameOf, AreEdges}
+use Rattle.plant_game.specs.Solution.{IsSolutionOf}
 use Rattle.controller_table.specs.declared.fault.TableFault.TheVariants as tables
 use Rattle.controller_table.specs.Tables.{IsTable}
 use Rattle.controller_table.specs.Refusals.{IsTableRefusedFor}

@@ -3,8 +3,8 @@ use Rattle.std.specs.Prelude.{◌≡◌, ℕ, List, length, Option, codes}
 use Rattle.game_core.specs.declared.game.Row.{Row}
 use Rattle.game_core.specs.Game.{Game}
 use Rattle.plant_record.specs.Description.{Description}
-use Rattle.abstraction_table.specs.Abstraction.{IsGameOf}
-use Rattle.abstraction_table.specs.Solution.{IsSolutionOf}
+use Rattle.plant_game.specs.Abstraction.{IsGameOf}
+use Rattle.plant_game.specs.Solution.{IsSolutionOf}
 use Rattle.stay_game.specs.Stay.{IsStaySolution}
 use Rattle.stay_table.specs.StayText.{stay_text}
 use Rattle.stay_table.specs.Settles.{Settles}

@@ -3,7 +3,7 @@
 ghost use Rattle.std.specs.Prelude.{◌≡◌, ◌≢◌, IfOk, IfErr, OnOk};
 ghost use Rattle.synth_run.specs.declared.outcome.Outcome.TheVariants as ends;
 ghost use Rattle.plant_record.specs.declared.aims.GoalKind.TheVariants.{Reach, Keep};
-ghost use Rattle.abstraction_table.specs.Solution.{IsSolutionOf};
+ghost use Rattle.plant_game.specs.Solution.{IsSolutionOf};
 ghost use Rattle.synth_run.specs.Demands.{TableTextDemands, TableDemands, IsSolvable};
 ghost use Rattle.synth_run.specs.Headline.{IsValid};
 ghost use Rattle.synth_run.specs.inside.Judging.{IsJudged};
@@ -12,7 +12,6 @@ use crate::game::{game_of, outlook_of};
 use crate::outcome::Outcome;
 use controller_table::{Table, read_table};
 use plant_record::GoalKind;
-use plant_refine::laws::solution_tables_control_plants;
 use std::alloc::Global;
 use std::thread::Threads;
 use table_check::{Verdict, check_keep, check_reach};
@@ -23,7 +22,6 @@ pub fn check_text<R: Threads + Sync>(rt: &R, alloc: Global, bytes: &[u8]) -> Res
     ensures demanded { IfErr result (λ outcome. outcome ≢ ends.NoMemory → TableTextDemands bytes.now outcome) }
     ensures failed { IfErr result (λ outcome. outcome ≢ ends.Done) }
 {
-    solution_tables_control_plants();
     let table = read_table(alloc, bytes)?;
     check_table(rt, alloc, &table)
 }

@@ -3,7 +3,7 @@
 ghost use Rattle.std.specs.Prelude.{◌≡◌, IfOk, IfErr};
 ghost use Rattle.run_words.specs.Form.{IsDemoNumber, AreWorkers};
 ghost use Rattle.demo_plants.specs.Demo.{IsDemoLine, demo_plant_of};
-ghost use Rattle.abstraction_table.specs.Abstraction.{IsGameOf};
+ghost use Rattle.plant_game.specs.Abstraction.{IsGameOf};
 ghost use Rattle.abstraction_table.specs.Table.{game_ahead};
 ghost use Rattle.synth_run.specs.Played.{IsResolvedOn};
 ghost use Rattle.synth_run.specs.declared.outcome.Outcome.TheVariants.{NoMemory};
@@ -13,7 +13,6 @@ use crate::outcome::Outcome;
 use crate::resolving::resolve;
 use abstraction_table::Outlook;
 use cell_counters::{Board, Root};
-use demo_plants::laws::demo_plants_are_solvable;
 use demo_plants::{demo_line, demo_plant};
 use frontier_pool::Gate;
 use plant_record::GoalKind;
@@ -46,7 +45,6 @@ fn demo_ahead<R: Threads + Sync>(rt: &R, alloc: Global, n: u32) -> Result<Outloo
     ensures game { IfOk result (λ ahead. IsGameOf (demo_plant_of n) (game_ahead ahead)) }
     ensures memory { IfErr result (λ outcome. outcome ≡ NoMemory) }
 {
-    demo_plants_are_solvable();
     let plant = demo_plant(alloc, n)?;
     outlook_of(rt, alloc, &plant)
 }

@@ -1,16 +1,13 @@
 // The game of a plant, or what the plant demands in its place.
 
 ghost use Rattle.std.specs.Prelude.{◌≢◌, IfOk, IfErr};
-ghost use Rattle.game_core.specs.Game.{IsGraph};
-ghost use Rattle.abstraction_table.specs.Abstraction.{IsGameOf};
+ghost use Rattle.plant_game.specs.Abstraction.{IsGameOf};
 ghost use Rattle.abstraction_table.specs.Table.{game_of, game_ahead};
 ghost use Rattle.synth_run.specs.declared.outcome.Outcome.TheVariants.{Done, NoMemory};
 ghost use Rattle.synth_run.specs.Demands.{IsAccepted, PlantTextDemands, PlantDemands, IsSolvable};
 
 use crate::outcome::Outcome;
-use abstraction_table::laws::games_count_their_edges;
 use abstraction_table::{Abstraction, Outlook, build, survey};
-use game_core::Forward;
 use plant_record::Plant;
 use plant_text::read_plant;
 use std::alloc::Global;
@@ -28,10 +25,8 @@ pub fn game_of<R: Threads + Sync>(
     ensures demanded { IfErr result (λ outcome. outcome ≢ NoMemory → PlantDemands plant.now outcome) }
     ensures failed { IfErr result (λ outcome. outcome ≢ Done) }
 {
-    games_count_their_edges();
     let slopes = find_slopes(alloc, plant)?;
     let game = build(rt, alloc, plant, &slopes)?;
-    graph_is_within_limits(&game);
     Ok(game)
 }
 
@@ -63,10 +58,8 @@ pub fn outlook_of<R: Threads + Sync>(
     ensures demanded { IfErr result (λ outcome. outcome ≢ NoMemory → PlantDemands plant.now outcome) }
     ensures failed { IfErr result (λ outcome. outcome ≢ Done) }
 {
-    games_count_their_edges();
     let slopes = find_slopes(alloc, plant)?;
     let game = survey(rt, alloc, plant, &slopes)?;
-    graph_is_within_limits(&game);
     Ok(game)
 }
 
@@ -86,8 +79,3 @@ pub fn outlook_of_text<R: Threads + Sync>(
     let game = outlook_of(rt, alloc, &plant)?;
     Ok((plant, game))
 }
-
-/// A graph in memory keeps the limits.
-pub fn graph_is_within_limits<G: Forward>(_graph: &G)
-    ensures { IsGraph (G.game _graph.now) }
-{}

@@ -2,11 +2,6 @@
 
 ghost use Rattle.synth_run.specs.Laws.{OneTableForBytes, OneStayTextForBytes, OnePatrolTextForBytes, OneTraceForBytes, OneDemandPerText, SomeDemandPerText};
 
-use abstraction_table::laws::{one_edge_count, one_game_per_plant, one_solution_per_plant};
-use controller_table::laws::{one_table_per_text, one_table_refusal, table_or_refused};
-use game_core::laws::solutions_are_right;
-use plant_text::laws::{one_plant_per_text, one_refusal, read_or_refused};
-
 /// What holds of every demo plant.
 pub mod demo {
     pub use demo_plants::laws::{
@@ -18,10 +13,7 @@ pub mod demo {
 /// Bytes that spell a plant have one table: `synth` has no choice of what to write.
 pub fn one_table_for_bytes()
     ensures { OneTableForBytes }
-{
-    one_plant_per_text();
-    one_solution_per_plant();
-}
+{}
 
 /// Bytes that spell a plant have one text of reach and stay: `stay` has no choice of what to write.
 pub fn one_stay_text_for_bytes()
@@ -36,24 +28,12 @@ pub fn one_patrol_text_for_bytes()
 /// A table has one trace, from a start under the noises of a seed: `sim` has no choice of what to write.
 pub fn one_trace_for_bytes()
     ensures { OneTraceForBytes }
-{
-    one_table_per_text();
-}
+{}
 
 /// A text demands one thing: one refusal, or one answer.
 pub fn one_demand_per_text()
     ensures { OneDemandPerText }
-{
-    one_plant_per_text();
-    one_refusal();
-    read_or_refused();
-    one_edge_count();
-    one_table_per_text();
-    one_table_refusal();
-    table_or_refused();
-    one_game_per_plant();
-    solutions_are_right();
-}
+{}
 
 /// No text demands nothing: each is refused for some reason, or is to be answered.
 pub fn some_demand_per_text()

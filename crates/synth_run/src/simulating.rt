@@ -11,7 +11,6 @@ use crate::outcome::Outcome;
 use controller_table::{Table, read_table};
 use game_core::Row;
 use grid_quantiser::Point;
-use loop_sim::laws::rows_stand_at_states;
 use loop_sim::{TraceWriter, row_at};
 use run_words::StateNumbers;
 use std::alloc::Global;
@@ -35,7 +34,6 @@ impl Simulation {
         requires { IsReady self.now }
         ensures { result ≡ trace_of self.now }
     {
-        rows_stand_at_states();
         match TraceWriter::new(
             &self.table,
             &self.slopes,

@@ -10,15 +10,13 @@ ghost use Rattle.run_words.specs.Form.{AreWorkers};
 ghost use Rattle.synth_run.specs.Headline.{IsTableFor};
 ghost use Rattle.synth_run.specs.Played.{IsPlayed};
 
-use crate::game::{graph_is_within_limits, outlook_of_text};
+use crate::game::outlook_of_text;
 use crate::outcome::Outcome;
 use crate::resolving::resolve;
 use cell_counters::{Board, Root};
-use controller_table::laws::{keep_solutions_fit, reach_solutions_fit};
 use frontier_pool::Gate;
 use game_core::Answer;
 use plant_record::Plant;
-use plant_refine::laws::solution_tables_control_plants;
 use std::alloc::Global;
 use std::thread::Threads;
 
@@ -44,12 +42,8 @@ pub fn solve_text<R: Threads + Sync, T: Gate>(
     ensures demanded { IfErr result (λ outcome. outcome ≢ ends.NoMemory → PlantTextDemands bytes.now outcome) }
     ensures failed { IfErr result (λ outcome. outcome ≢ ends.Done) }
 {
-    reach_solutions_fit();
-    keep_solutions_fit();
-    solution_tables_control_plants();
     let (plant, ahead) = outlook_of_text(rt, alloc, bytes)?;
     let resolved = resolve(rt, alloc, plant.goal(), ahead, workers, gate)?;
-    graph_is_within_limits(&resolved.game);
     let answer = resolved.answer;
     Ok((Solved { plant, answer }, (resolved.board, resolved.root)))
 }

@@ -11,7 +11,6 @@ ghost use Rattle.synth_run.specs.inside.Working.{IsWorkedOut, IsTurnedDown, IsWr
 
 use crate::checking::check_text;
 use crate::demo::solved_line;
-use crate::laws::one_demand_per_text;
 use crate::outcome::Outcome;
 use crate::patrolling::patrol_text;
 use crate::settling::settle_text;
@@ -304,7 +303,6 @@ pub fn run<R: Threads + Sync, S: Source, O: Sink, E: Sink, G: Gate>(
     // Where no device fails, only want of memory keeps a text from what it demands.
     ensures complete { (form : Form) → IsOfForm (map (λ w. w.now) words.now) form → NoReadFailed form (S.faults source.old) (S.faults source.new) → (Rose (O.faults out.old) (O.faults out.new) → ⊥) → IfSome (given form (S.left source.old)) (IsCompleteAnswer form result) }
 {
-    one_demand_per_text();
     let (outcome, resolved) = outcome_of(rt, alloc, words, source, out, gate);
     *played = resolved;
     outcome.report(err);

@@ -5,10 +5,10 @@ ghost use Rattle.plant_record.specs.Description.{axes_of, vectors_of};
 ghost use Rattle.game_core.specs.Game.{pair_of, pairs_of, mark_of};
 ghost use Rattle.game_core.specs.Solution.{row_of, HasRowBelow};
 ghost use Rattle.game_core.specs.Right.{IsLost, IsRight, IsRightPlain, IsRightRanked};
+ghost use Rattle.controller_table.specs.Tables.{RowsFit};
 ghost use Rattle.table_check.specs.inside.Below.{LeadsBelow, NoneLeadsBelow};
 
 use controller_table::Table;
-use controller_table::laws::every_table_fits;
 use game_core::{CellTest, Forward, Mark, Row};
 
 /// A reach table, to be judged cell by cell against a game over its cells and inputs.
@@ -34,10 +34,10 @@ impl<'a, G: Forward> Judge<'a, G> {
 
     /// Whether a cell's row is right.
     pub(crate) fn is_right(&self, c: u32) -> bool
-        requires { c < (G.game self.now.graph.now).cells }
+        requires fit { RowsFit self.now.table.now.plant self.now.table.now.rows }
+        requires cell { c < (G.game self.now.graph.now).cells }
         ensures { IsTrue result ↔ IsRight (G.game self.now.graph.now) self.now.table.now.rows c }
     {
-        every_table_fits(self.table);
         let row = self.table.row(c);
         match self.graph.mark(c) {
             Mark::Obstacle => row.is_none(),
@@ -64,10 +64,10 @@ impl<'a, G: Forward> Judge<'a, G> {
 
     /// Whether a plain cell is right to have no row. No rank is as great as the number of cells.
     fn is_lost(&self, c: u32) -> bool
-        requires { c < (G.game self.now.graph.now).cells }
+        requires fit { RowsFit self.now.table.now.plant self.now.table.now.rows }
+        requires cell { c < (G.game self.now.graph.now).cells }
         ensures { IsTrue result ↔ IsLost (G.game self.now.graph.now) self.now.table.now.rows c }
     {
-        every_table_fits(self.table);
         self.none_leads_below(c, 0, self.graph.inputs(), self.graph.cells())
     }
 

@@ -8,7 +8,6 @@ ghost use Rattle.table_check.specs.Verdicts.{IsVerdict, IsKeepVerdict};
 use crate::verdict::Verdict;
 use controller_table::Table;
 use controller_table::laws::every_table_fits;
-use game_core::laws::one_keep_solution;
 use game_core::{Answer, Graph, NoMemory, keep_plain};
 use std::alloc::Global;
 
@@ -19,7 +18,6 @@ pub fn check_keep<G: Graph>(alloc: Global, g: &G, t: &Table) -> Result<Verdict, 
     requires inputs { (G.game g.now).inputs ≡ vectors_of t.now.plant.inputs }
     ensures { IfOk result (IsKeepVerdict (G.game g.now) t.now.rows) }
 {
-    one_keep_solution();
     every_table_fits(t);
     let kept = keep_plain(alloc, g)?;
     Ok(compare(t, &kept))

@@ -9,7 +9,6 @@ use crate::verdict::Verdict;
 use controller_table::Table;
 use controller_table::laws::every_table_fits;
 use game_core::Forward;
-use game_core::laws::{right_rows_are_the_solution, solutions_are_right};
 
 /// The verdict on the rows of a reach table, by the rows of each cell's successors alone.
 pub fn check_reach<G: Forward>(g: &G, t: &Table) -> Verdict
@@ -18,8 +17,6 @@ pub fn check_reach<G: Forward>(g: &G, t: &Table) -> Verdict
     requires inputs { (G.game g.now).inputs ≡ vectors_of t.now.plant.inputs }
     ensures { IsReachVerdict (G.game g.now) t.now.rows result }
 {
-    right_rows_are_the_solution();
-    solutions_are_right();
     every_table_fits(t);
     let judge = Judge::new(g, t);
     for c in 0..g.cells() {

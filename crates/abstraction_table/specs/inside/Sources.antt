@@ -7,7 +7,7 @@ use Rattle.grid_quantiser.specs.Axes.{cells_of}
 use Rattle.grid_quantiser.specs.Boxes.{IsCellBox}
 use Rattle.edge_rows.specs.Rows.{row_at}
 use Rattle.successor_box.specs.Boxes.{cells_in}
-use Rattle.abstraction_table.specs.Abstraction.{box_at}
+use Rattle.plant_game.specs.Abstraction.{box_at}
 
 -- the corners of a box are in order
 abbrev pub IsBox : List Axis → Option CellBox → Type 0

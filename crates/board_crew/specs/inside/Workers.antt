@@ -5,7 +5,7 @@ use Rattle.cell_counters.specs.Tokens.{BoardModel, HandModel}
 use Rattle.frontier_pool.specs.declared.member.Member.{Member}
 use Rattle.game_core.specs.Counts.{times}
 use Rattle.game_core.specs.Game.{Game, pairs_of, successors_at}
-use Rattle.board_crew.specs.Laws.{counters_of}
+use Rattle.board_crew.specs.Crew.{counters_of}
 
 -- these counts are those of an account, modulo 2^64
 pub record IsCounted (a : Account) (cuts offers : ℕ) : Type 0 where

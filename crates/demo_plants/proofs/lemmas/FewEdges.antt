@@ -7,9 +7,10 @@ use Rattle.fixed_expr.specs.Value.{value_of}
 use Rattle.grid_quantiser.specs.Axes.{cells_of}
 use Rattle.plant_record.specs.Description.{axes_of, count_of, vectors_of}
 use Rattle.successor_box.specs.Boxes.{IsEnabledAt, AreSuccessors, central_values}
-use Rattle.abstraction_table.specs.Abstraction.{pairs_of, pair_of, AreEdges}
+use Rattle.plant_game.specs.Abstraction.{pairs_of, pair_of, AreEdges}
 use Rattle.demo_plants.specs.Demo.{demo_plant_of, place, place_step, speed_step}
-use Rattle.demo_plants.specs.Laws.{DemoPlantsAreWithinLimits, DemoPlantsHaveFewEdges}
+use Rattle.demo_plants.specs.Laws.{DemoPlantsHaveFewEdges}
+use Rattle.demo_plants.proofs.lemmas.Sizes.{within_limits}
 use Rattle.demo_plants.proofs.lemmas.FewSuccessors.{few_cells}
 
 few_where_enabled : (n c u : ℕ) (cells : List ℕ) → AreSuccessors (demo_plant_of n) c u cells → IsEnabledAt (demo_plant_of n) c u → length cells ≤ 9
@@ -47,7 +48,7 @@ each_list n m edges i d lt =
     let same : get_or edges.lists (pair_of (demo_plant_of n) c u) [] ≡ get_or edges.lists i d = ap (λ (k : ℕ). get_or edges.lists k []) here ∙ get_or_default edges.lists i [] d lt in
     omega (arith, few, ap length same)
 
-pub few_edges : DemoPlantsAreWithinLimits → DemoPlantsHaveFewEdges
-few_edges limits n m size edges =
+pub few_edges : DemoPlantsHaveFewEdges
+few_edges n m size edges =
     let le = sum_by-le length 9 edges.lists (each_list n m edges) in
-    omega (arith, le, edges.total, edges.one_each, (limits n size).pairs)
+    omega (arith, le, edges.total, edges.one_each, (within_limits n size).pairs)

@@ -13,7 +13,7 @@ use Rattle.plant_record.specs.Boxes.{IsStateBox}
 use Rattle.plant_record.specs.Equations.{IsEquation, HasNoTable}
 use Rattle.plant_record.specs.Plants.{IsPlant}
 use Rattle.plant_record.specs.Limits.{IsWithinLimits}
-use Rattle.abstraction_table.specs.Abstraction.{pairs_of}
+use Rattle.plant_game.specs.Abstraction.{pairs_of}
 use Rattle.run_words.specs.Form.{IsDemoNumber}
 use Rattle.demo_plants.specs.Demo.{demo_plant_of, place, speed, acceleration, wind, demo_target, fast_forwards, fast_backwards, place_step, speed_step}
 use Rattle.demo_plants.specs.Laws.{DemoPlantsAreWithinLimits}

@@ -7,10 +7,11 @@ use Rattle.std.proofs.lemmas.Fmt.{length-decimal-le}
 use Rattle.plant_writing.specs.CanonicalText.{text_of, state_line, box_line}
 use Rattle.plant_text.specs.Grammar.{Spells}
 use Rattle.plant_text.specs.Refusals.{IsShort}
-use Rattle.plant_text.specs.Laws.{CanonicalTextsSpell}
+use Rattle.plant_text.proofs.lemmas.SpelledCanonically.{canonical_texts_spell}
 use Rattle.run_words.specs.Form.{IsDemoNumber}
 use Rattle.demo_plants.specs.Demo.{demo_plant_of, demo_text, place, demo_target, fast_forwards, fast_backwards}
-use Rattle.demo_plants.specs.Laws.{DemoPlantsAreWithinLimits, DemoTextsSpell}
+use Rattle.demo_plants.specs.Laws.{DemoTextsSpell}
+use Rattle.demo_plants.proofs.lemmas.Sizes.{within_limits}
 
 -- a number behind one piece, with two more pieces behind it
 one_number : (a d b c : List ℕ) → a ++ (d ++ (b ++ c)) ≡ a ++ ((d ++ b) ++ c)
@@ -90,9 +91,9 @@ short n size =
     let g = few_digits (300 * n + 9) (omega (arith, few)) in
     simp length-append (omega (arith, a, b, c, d, e, f, g))
 
-pub texts_spell : DemoPlantsAreWithinLimits → CanonicalTextsSpell → DemoTextsSpell
-texts_spell limits spell n size = record {
+pub texts_spell : DemoTextsSpell
+texts_spell n size = record {
   canonical = canonical n;
-  spells = let spelled = spell (demo_plant_of n) (limits n size).limits.plant in subst (λ (text : List ℕ). Spells text (demo_plant_of n)) (sym (canonical n)) spelled;
+  spells = let spelled = canonical_texts_spell (demo_plant_of n) (within_limits n size).limits.plant in subst (λ (text : List ℕ). Spells text (demo_plant_of n)) (sym (canonical n)) spelled;
   short = short n size;
 }

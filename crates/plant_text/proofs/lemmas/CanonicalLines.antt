@@ -16,10 +16,11 @@ use Rattle.plant_reading.specs.Words.{words_of}
 use Rattle.plant_reading.specs.Tokens.{tokens_of}
 use Rattle.plant_reading.specs.Statements.{Statement, Version, State, Input, Noise, Next, Target, Obstacle, Goal, End, States}
 use Rattle.plant_text.specs.Grammar.{Part, names_in, FitsAfter, extended}
-use Rattle.plant_text.specs.CanonicalFronts.{statement_line, IsInOrder, ExtendsCanonically}
+use Rattle.plant_text.specs.CanonicalFronts.{statement_line, ExtendsCanonically}
 use Rattle.plant_text.specs.inside.PartRules.{KeepsRules}
 use Rattle.plant_reading.specs.inside.StatementLaws.{OneStatement}
 use Rattle.plant_text.specs.inside.FormedEquations.{HasFormedEquation}
+use Rattle.plant_text.specs.inside.CanonicalNext.{IsCanonicalNext}
 use Rattle.plant_record.proofs.lemmas.SoundPlants.{well_formed}
 use Rattle.plant_text.proofs.lemmas.RulesKept.{equation_spelled}
 use Rattle.plant_reading.proofs.lemmas.PutTogether.{is_printable, IsDarkWord, printable_joined}
@@ -75,14 +76,13 @@ printable_line q line (Obstacle b) k says fits e =
 printable_line q line (Goal kind) k says fits e = printable_words line (codes "goal") (goal_word kind ∷ []) (record { dark = refl; some = omega arith }) (goal_dark kind, tt) e
 printable_line q line End k says fits e = printable_words line (codes "end") [] (record { dark = refl; some = omega arith }) tt e
 
-pub extends_canonically : (q : Part) (line : List ℕ) (s : Statement) (r : Part) → States (names_in q) (length q.states) (words_of line) s → FitsAfter q s → IsInOrder q s → line ++ codes "\n" ≡ statement_line (names_in q) (length q.states) s
-    → r ≡ extended q s → ExtendsCanonically q line r
-extends_canonically q line s r says fits order spelled is = record { stated = record { statement = s; states = says; fits = fits; leads_to = is }; spelling = spelled; order = order }
+pub extends_canonically : (q : Part) (line : List ℕ) (s : Statement) (r : Part) → States (names_in q) (length q.states) (words_of line) s → IsCanonicalNext q line s → r ≡ extended q s → ExtendsCanonically q line r
+extends_canonically q line s r says next is = record { stated = record { statement = s; states = says; fits = next.fits; leads_to = is }; spelling = next.spelling; order = next.order }
 
 -- a line that states something in another place, spelling or order leads nowhere
-pub leads_nowhere : OneStatement → (q : Part) (line : List ℕ) (s : Statement) → KeepsRules q → States (names_in q) (length q.states) (words_of line) s
-    → (FitsAfter q s × IsInOrder q s → line ++ codes "\n" ≡ statement_line (names_in q) (length q.states) s → ⊥) → (r : Part) → ExtendsCanonically q line r → ⊥
+pub leads_nowhere : OneStatement → (q : Part) (line : List ℕ) (s : Statement) → KeepsRules q → States (names_in q) (length q.states) (words_of line) s → (IsCanonicalNext q line s → ⊥) → (r : Part) → ExtendsCanonically q line r → ⊥
 leads_nowhere one q line s k says unfit r e =
     let t = e.stated.statement in
     let same : t ≡ s = one (names_in q) (length q.states) (words_of line) t s k.names_differ k.names e.stated.states says in
-    unfit (subst (λ (x : Statement). FitsAfter q x × IsInOrder q x) same (e.stated.fits, e.order)) (subst (λ (x : Statement). line ++ codes "\n" ≡ statement_line (names_in q) (length q.states) x) same e.spelling)
+    let next : IsCanonicalNext q line t = record { fits = e.stated.fits; order = e.order; spelling = e.spelling } in
+    unfit (subst (λ (x : Statement). IsCanonicalNext q line x) same next)

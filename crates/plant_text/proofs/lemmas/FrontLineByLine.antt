@@ -1,11 +1,9 @@
 -- From line to line of a canonical text, and the plant that it holds.
-use Rattle.std.proofs.Common.{inl, inr, ◌≡◌, ℕ, ◌+◌, ◌-◌, ◌<◌, ◌≤◌, true, false, List, [], ◌∷◌, ◌++◌, length, take, None, refl, sym, ap, subst, ◌∙◌, arith, append_assoc, append-nil, length-append}
+use Rattle.std.proofs.Common.{◌≡◌, ℕ, ◌+◌, ◌-◌, ◌<◌, ◌≤◌, false, List, [], ◌∷◌, ◌++◌, length, take, None, refl, sym, ap, subst, ◌∙◌, arith, append_assoc, append-nil, length-append}
 use Rattle.std.specs.Prelude.{codes, ◌==◌, position}
-use Rattle.std.proofs.lemmas.Bool.{cases_Bool}
 use Rattle.std.proofs.Math.Seq.{take-append_seam}
 use Rattle.plant_record.specs.Description.{Description}
 use Rattle.plant_reading.specs.Lines.{lines_of, with_line_feeds}
-use Rattle.plant_record.specs.Plants.{IsPlant}
 use Rattle.plant_writing.specs.CanonicalText.{text_of}
 use Rattle.plant_text.specs.Grammar.{Part, nothing_yet, IsWhole}
 use Rattle.plant_text.specs.CanonicalFronts.{ExtendsCanonically, LeadsCanonically, IsFirstRefusedAtFront, IsFront}

@@ -1,9 +1,13 @@
 -- Lists.
-use Rattle.std.proofs.Common.{◌≡◌, ℕ, ◌<◌, List, [], ◌∷◌, ◌++◌, length, refl, sym, ap, ◌∙◌, append_assoc, append-nil, arith, length-append, ◌≢◌, Contains, subst, ◌≤◌, get_or}
+use Rattle.std.proofs.Common.{◌≡◌, ℕ, ◌<◌, List, [], ◌∷◌, ◌++◌, length, refl, sym, ap, ◌∙◌, append_assoc, append-nil, arith, length-append, ◌≢◌, Contains, subst, ◌≤◌, get_or, map}
 use Rattle.std.specs.Prelude.{slice_index_or, AllPairs}
 use Rattle.std.specs.List.{flat_map}
 use Rattle.std.proofs.lemmas.Grind.{flat_map-append}
-use Rattle.std.proofs.lemmas.List.{get_or_append_left, get_or_at}
+use Rattle.std.proofs.lemmas.List.{get_or_append_left, get_or_at, get_or-map, length-map}
+use Rattle.plant_record.specs.declared.variables.StateVariable.{StateVariable}
+use Rattle.plant_record.specs.declared.variables.InputVariable.{InputVariable}
+use Rattle.plant_record.specs.declared.variables.NoiseVariable.{NoiseVariable}
+use Rattle.plant_record.specs.Description.{names_over}
 use Rattle.std.proofs.lemmas.List.Elements.{Contains-get_or}
 use Rattle.std.proofs.lemmas.List.Quantifiers.{all_pairs_push}
 
@@ -14,6 +18,12 @@ flat_map_one_more f xs x = flat_map-append f xs (x ∷ []) ∙ ap (λ (y : List 
 -- what stands in the first of three lists
 pub among_the_first : (a b c : List (List ℕ)) (i : ℕ) → i < length a → slice_index_or (a ++ b ++ c) i [] ≡ slice_index_or a i []
 among_the_first a b c i lt = get_or_append_left (a ++ b) c [] i (omega (arith, lt, length-append a b)) ∙ get_or_append_left a b [] i lt
+
+-- the name of a state among all names
+pub named_at : (states : List StateVariable) (inputs : List InputVariable) (noises : List NoiseVariable) (i : ℕ) (s : StateVariable) → i < length states → s ≡ get_or states i s → get_or (names_over states inputs noises) i [] ≡ s.name
+named_at states inputs noises i s lt at =
+    among_the_first (map (λ (x : StateVariable). x.name) states) (map (λ (x : InputVariable). x.name) inputs) (map (λ (x : NoiseVariable). x.name) noises) i (omega (arith, lt, length-map states (λ (x : StateVariable). x.name)))
+    ∙ get_or-map (λ (x : StateVariable). x.name) states i s [] lt ∙ ap (λ (x : StateVariable). x.name) (sym at)
 
 -- a list with something at its end isn't empty
 pub some_last : {X : Type 0} (xs : List X) (x : X) → xs ++ x ∷ [] ≡ [] → ⊥

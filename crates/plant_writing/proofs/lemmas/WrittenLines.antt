@@ -6,7 +6,8 @@ use Rattle.std.specs.Fmt.{signed_decimal}
 use Rattle.std.proofs.lemmas.List.{append-nil, take_more, take_all, length-map, length-append, get_or_append_left, get_or-map}
 use Rattle.std.proofs.lemmas.List.Folds.{flat_map-map}
 use Rattle.std.proofs.lemmas.List.Concat.{flat_map-append}
-use Rattle.fixed_expr.specs.Expression.{Expression, Number}
+use Rattle.fixed_expr.specs.declared.expr.Expr.{Expr}
+use Rattle.fixed_expr.specs.Expression.{Expression, expression_of}
 use Rattle.plant_record.specs.declared.variables.StateVariable.{StateVariable}
 use Rattle.plant_record.specs.declared.variables.InputVariable.{InputVariable}
 use Rattle.plant_record.specs.declared.variables.NoiseVariable.{NoiseVariable}
@@ -88,14 +89,15 @@ box_more text keyword i low high l h =
 
 -- ---- equations
 
-lines_more : (names : List (List ℕ)) (states : List StateVariable) (equations : List Expression) (i : ℕ) (s : StateVariable) (e : Expression) → i < length states → i < length equations
-    → equation_lines names (take (suc i) states) (take (suc i) equations) ≡ equation_lines names (take i states) (take i equations) ++ equation_line names (get_or states i s).name (get_or equations i e)
+lines_more : (names : List (List ℕ)) (states : List StateVariable) (equations : List Expr) (i : ℕ) (s : StateVariable) (e : Expr) → i < length states → i < length equations
+    → equation_lines names (take (suc i) states) (map expression_of (take (suc i) equations))
+    ≡ equation_lines names (take i states) (map expression_of (take i equations)) ++ equation_line names (get_or states i s).name (expression_of (get_or equations i e))
 lines_more names [] equations i s e lt lt' = absurd (omega (arith, lt))
 lines_more names (s' ∷ states) [] i s e lt lt' = absurd (omega (arith, lt'))
-lines_more names (s' ∷ states) (e' ∷ equations) zero s e lt lt' = append-nil (equation_line names s'.name e')
+lines_more names (s' ∷ states) (e' ∷ equations) zero s e lt lt' = append-nil (equation_line names s'.name (expression_of e'))
 lines_more names (s' ∷ states) (e' ∷ equations) (suc i) s e lt lt' =
-    ap (λ (x : List ℕ). equation_line names s'.name e' ++ x) (lines_more names states equations i s e (omega (arith, lt)) (omega (arith, lt')))
-    ∙ sym (append_assoc (equation_line names s'.name e') (equation_lines names (take i states) (take i equations)) (equation_line names (get_or states i s).name (get_or equations i e)))
+    ap (λ (x : List ℕ). equation_line names s'.name (expression_of e') ++ x) (lines_more names states equations i s e (omega (arith, lt)) (omega (arith, lt')))
+    ∙ sym (append_assoc (equation_line names s'.name (expression_of e')) (equation_lines names (take i states) (map expression_of (take i equations))) (equation_line names (get_or states i s).name (expression_of (get_or equations i e))))
 
 pub equation_parts : (text : List ℕ) (names : List (List ℕ)) (name : List ℕ) (e : Expression)
     → ((((text ++ codes "next ") ++ name) ++ codes " = ") ++ expression_text names 1 e) ++ codes "\n" ≡ text ++ equation_line names name e
@@ -103,9 +105,6 @@ equation_parts text names name e = with_body (expression_text names 1 e)
   where
     with_body : (body : List ℕ) → ((((text ++ codes "next ") ++ name) ++ codes " = ") ++ body) ++ codes "\n" ≡ text ++ line (codes "next" ∷ name ∷ codes "=" ∷ body ∷ [])
     with_body body = simp append_assoc
-
-no_state : StateVariable
-no_state = record { name = []; low = pos 0; high = pos 0; width = pos 0 }
 
 -- the first names are those of the states
 pub name_of_state : (p : Description) (i : ℕ) (s : StateVariable) → i < length p.states → get_or (names_of p) i [] ≡ (get_or p.states i s).name
@@ -119,20 +118,14 @@ name_of_state p i s lt =
     ∙ get_or-map (λ (x : StateVariable). x.name) p.states i s [] lt
 
 -- one line more
-pub equations_more : (text : List ℕ) (p : Description) (i : ℕ) → length p.equations ≡ length p.states → i < length p.states
-    → (text ++ equation_lines (names_of p) (take i p.states) (take i p.equations)) ++ equation_line (names_of p) (get_or (names_of p) i []) (get_or p.equations i (Number (pos 0)))
-    ≡ text ++ equation_lines (names_of p) (take (i + 1) p.states) (take (i + 1) p.equations)
-equations_more text p i same lt =
-    let before = equation_lines (names_of p) (take i p.states) (take i p.equations) in
-    let e = get_or p.equations i (Number (pos 0)) in
-    append_assoc text before (equation_line (names_of p) (get_or (names_of p) i []) e)
-    ∙ ap (λ (x : List ℕ). text ++ (before ++ equation_line (names_of p) x e)) (name_of_state p i no_state lt)
-    ∙ ap (λ (x : List ℕ). text ++ x) (sym (ap (λ n. equation_lines (names_of p) (take n p.states) (take n p.equations)) (add-one i) ∙ lines_more (names_of p) p.states p.equations i no_state (Number (pos 0)) lt (omega (arith, lt, same))))
-
-pub equations_all : (p : Description) (i : ℕ) → length p.equations ≡ length p.states → length p.states ≤ i → equation_lines (names_of p) (take i p.states) (take i p.equations) ≡ equation_lines (names_of p) p.states p.equations
-equations_all p i same le =
-    ap (λ (x : List StateVariable). equation_lines (names_of p) x (take i p.equations)) (take_all i p.states le)
-    ∙ ap (λ (x : List Expression). equation_lines (names_of p) p.states x) (take_all i p.equations (omega (arith, le, same)))
+pub equations_more : (text : List ℕ) (names : List (List ℕ)) (states : List StateVariable) (equations : List Expr) (i : ℕ) (s : StateVariable) (e : Expr) → length equations ≡ length states → i < length equations → e ≡ get_or equations i e
+    → (text ++ equation_lines names (take i states) (map expression_of (take i equations))) ++ equation_line names (get_or states i s).name (expression_of e)
+    ≡ text ++ equation_lines names (take (i + 1) states) (map expression_of (take (i + 1) equations))
+equations_more text names states equations i s e same lt e-is =
+    let before = equation_lines names (take i states) (map expression_of (take i equations)) in
+    append_assoc text before (equation_line names (get_or states i s).name (expression_of e))
+    ∙ ap (λ (f : Expr). text ++ (before ++ equation_line names (get_or states i s).name (expression_of f))) e-is
+    ∙ ap (λ (x : List ℕ). text ++ x) (sym (ap (λ n. equation_lines names (take n states) (map expression_of (take n equations))) (add-one i) ∙ lines_more names states equations i s e (omega (arith, lt, same)) lt))
 
 -- ---- the whole
 

@@ -6,28 +6,16 @@ use Rattle.cell_counters.specs.declared.account.Cut.{Cut}
 use Rattle.cell_counters.specs.declared.account.Offer.{Offer}
 use Rattle.cell_counters.specs.declared.account.Account.{Account}
 use Rattle.cell_counters.specs.Accounts.{IsLawfulCounter, IsLawfulLeast, cut_count, all_offers, values, all_logs}
-use Rattle.cell_counters.specs.Laws.{NothingDone, NewAnswers, NewFirsts, NewPlaces}
 use Rattle.game_core.specs.declared.game.Mark.{Mark}
 use Rattle.game_core.specs.declared.game.Mark.TheVariants.{Goal, Obstacle, Plain}
 use Rattle.game_core.specs.declared.game.Row.{Row}
-use Rattle.game_core.specs.Counts.{times, CountsTell, EdgesFromBothEnds, one_if}
+use Rattle.game_core.specs.Counts.{times, one_if}
 use Rattle.game_core.specs.Game.{Game, mark_of, pairs_of, successors_at}
 use Rattle.game_core.specs.Solution.{row_of}
 use Rattle.game_core.specs.Tally.{all_pairs, rank_by}
-use Rattle.board_crew.specs.Crew.{cuts_in, offers_in, logged_cells}
-use Rattle.board_crew.specs.Laws.{claimed, cut_to, AccountsTell}
+use Rattle.board_crew.specs.Crew.{cuts_in, offers_in, logged_cells, claimed, cut_to}
 use Rattle.reach_avoid.specs.Boards.{word_at}
 use Rattle.reach_avoid.specs.Reckoned.{bid_of, bid_at}
-
--- the laws of the crates below on which the rounds rest
-pub record Laws : Type 0 where
-  pub counts : CountsTell
-  pub edges : EdgesFromBothEnds
-  pub nothing_done : NothingDone
-  pub new_answers : NewAnswers
-  pub new_firsts : NewFirsts
-  pub new_places : NewPlaces
-  pub accounts : AccountsTell
 
 -- the row that a word tells
 abbrev pub row_in : ℕ → Option Row

@@ -3,15 +3,22 @@ use Rattle.std.specs.Prelude.{◌≡◌, ℕ, ◌≤◌, List, replicate, Option
 use Rattle.cell_counters.specs.declared.account.Account.{Account}
 use Rattle.cell_counters.specs.Tokens.{BoardModel, new_root}
 use Rattle.game_core.specs.declared.game.Row.{Row}
-use Rattle.game_core.specs.Game.{Game}
+use Rattle.game_core.specs.Game.{Game, mark_of}
 use Rattle.board_crew.specs.declared.rounds.Rounds.{Rounds}
 use Rattle.board_crew.specs.Rounds.{IsUnused}
-use Rattle.reach_avoid.specs.inside.Rounds.{rows_told, IsReached, IsFull}
+use Rattle.board_crew.specs.Rules.{LeadsOn}
+use Rattle.reach_avoid.specs.Boards.{IsBoardOf}
+use Rattle.reach_avoid.specs.inside.Rounds.{rows_told, IsReached, IsFull, KeepsRule, is_goal}
 
 -- the cells of all lesser ranks are taken, those of this rank are on the list, and some cell has the rank before
 pub record StandsAt (g : Game) (rank : ℕ) (list : List ℕ) (accounts : List Account) : Type 0 where
   pub reached : IsReached g rank list accounts
   pub full : IsFull (rows_told g accounts) rank
+
+-- a board of the game, on which each round leads on to the next
+pub record IsPlayable (g : Game) (board : BoardModel) : Type 0 where
+  pub of_game : IsBoardOf g board
+  pub leads : LeadsOn g board (λ c. is_goal (mark_of g c)) (KeepsRule g) (StandsAt g)
 
 -- what a scratch keeps
 pub record IsScratch (board : BoardModel) (count : ℕ) (r : Rounds) (answer : List (Option Row)) : Type 0 where

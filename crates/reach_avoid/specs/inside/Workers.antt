@@ -2,8 +2,7 @@
 use Rattle.std.specs.Prelude.{◌≡◌, ℕ, suc, ◌==◌, cond, [], ◌∷◌, ◌++◌, map}
 use Rattle.cell_counters.specs.Tokens.{HandModel}
 use Rattle.game_core.specs.Game.{Game}
-use Rattle.board_crew.specs.Crew.{logged_cells}
-use Rattle.board_crew.specs.Laws.{claimed}
+use Rattle.board_crew.specs.Crew.{logged_cells, claimed}
 use Rattle.reach_avoid.specs.Reckoned.{bid_of, bid_at}
 
 -- a worker has bid for a pair, and logged the pair's cell where it was the first to bid on it

@@ -1,29 +1,17 @@
 -- What stands between the rounds of a keep game, and what a round adds.
 use Rattle.std.specs.Prelude.{◌≡◌, ◌≢◌, ℕ, zero, suc, ◌+◌, ◌-◌, ◌/◌, ◌<◌, ◌≤◌, ◌⊎◌, Bool, true, false, not, ◌&&◌, ◌==◌, nat_lt, cond, List, [], filter, length, sum_by, count_by, Option, Some, None, All}
 use Rattle.std.specs.List.{range_with_len}
-use Rattle.board_crew.specs.Crew.{cuts_in, offers_in, logged_cells}
-use Rattle.game_core.specs.Counts.{one_if, times, CountsTell, EdgesFromBothEnds}
-use Rattle.board_crew.specs.Laws.{AccountsTell, counters_of, cut_to}
+use Rattle.board_crew.specs.Crew.{cuts_in, offers_in, logged_cells, counters_of, cut_to}
+use Rattle.game_core.specs.Counts.{one_if, times}
 use Rattle.cell_counters.specs.declared.account.Cut.{Cut}
 use Rattle.cell_counters.specs.declared.account.Account.{Account}
 use Rattle.cell_counters.specs.Accounts.{IsLawfulCounter, cut_count, all_logs}
-use Rattle.cell_counters.specs.Laws.{CountsDown, NothingDone, NewAnswers, NewPlaces}
 use Rattle.game_core.specs.declared.game.Mark.TheVariants.{Obstacle}
 use Rattle.game_core.specs.declared.game.Row.{Row}
 use Rattle.game_core.specs.Fallen.{is_obstacle, has_fallen}
 use Rattle.game_core.specs.Game.{Game, mark_of, pair_of, pairs_of, successors_at}
 use Rattle.game_core.specs.Solution.{row_of}
 use Rattle.safety_game.specs.Boards.{pairs_at, enabled_at}
-
--- the laws of the crates below on which the rounds rest
-pub record Laws : Type 0 where
-  pub counts : CountsTell
-  pub edges : EdgesFromBothEnds
-  pub nothing_done : NothingDone
-  pub counts_down : CountsDown
-  pub new_answers : NewAnswers
-  pub new_places : NewPlaces
-  pub accounts : AccountsTell
 
 -- a cell fell in a round before d
 abbrev pub fell_before : Game → ℕ → ℕ → Bool

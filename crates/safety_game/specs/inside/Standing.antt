@@ -3,15 +3,23 @@ use Rattle.std.specs.Prelude.{◌≡◌, ℕ, ◌≤◌, List, replicate, Option
 use Rattle.cell_counters.specs.declared.account.Account.{Account}
 use Rattle.cell_counters.specs.Tokens.{BoardModel, new_root}
 use Rattle.game_core.specs.declared.game.Row.{Row}
+use Rattle.game_core.specs.Fallen.{has_fallen}
 use Rattle.game_core.specs.Game.{Game}
 use Rattle.board_crew.specs.declared.rounds.Rounds.{Rounds}
 use Rattle.board_crew.specs.Rounds.{IsUnused}
-use Rattle.safety_game.specs.inside.Rounds.{AreFalling, IsFull}
+use Rattle.board_crew.specs.Rules.{LeadsOn}
+use Rattle.safety_game.specs.Boards.{IsBoardOf}
+use Rattle.safety_game.specs.inside.Rounds.{AreFalling, IsFull, KeepsRule}
 
 -- the cells that fell before are taken, those that fall in this round are on the list, and some cell fell in the round before
 pub record StandsAt (g : Game) (d : ℕ) (list : List ℕ) (accounts : List Account) : Type 0 where
   pub falling : AreFalling g d list accounts
   pub full : IsFull g d
+
+-- a board of the game, on which each round leads on to the next
+pub record IsPlayable (g : Game) (board : BoardModel) : Type 0 where
+  pub of_game : IsBoardOf g board
+  pub leads : LeadsOn g board (has_fallen g 0) (λ d. KeepsRule g) (StandsAt g)
 
 -- what a scratch keeps
 pub record IsScratch (board : BoardModel) (count : ℕ) (r : Rounds) (answer : List (Option Row)) : Type 0 where

@@ -4,8 +4,8 @@ use Rattle.game_core.specs.declared.game.Row.{Row}
 use Rattle.game_core.specs.Game.{Game}
 use Rattle.plant_record.specs.declared.aims.GoalKind.{GoalKind}
 use Rattle.plant_record.specs.Description.{Description}
-use Rattle.abstraction_table.specs.Abstraction.{IsGameOf}
-use Rattle.abstraction_table.specs.Solution.{Solves}
+use Rattle.plant_game.specs.Abstraction.{IsGameOf}
+use Rattle.plant_game.specs.Solution.{Solves}
 use Rattle.table_check.specs.declared.verdict.Verdict.{Verdict}
 use Rattle.table_check.specs.Verdicts.{IsVerdict}
 use Rattle.synth_run.specs.Demands.{IsRightFor}

@@ -2,7 +2,7 @@
 use Rattle.std.specs.Prelude.{◌≡◌, Option, IfSome}
 use Rattle.cell_counters.specs.Tokens.{BoardModel, RootModel}
 use Rattle.plant_record.specs.declared.aims.GoalKind.{GoalKind}
-use Rattle.abstraction_table.specs.Solution.{Solves}
+use Rattle.plant_game.specs.Solution.{Solves}
 use Rattle.abstraction_table.specs.Table.{game_of}
 use Rattle.run_words.specs.declared.form.Form.{Form}
 use Rattle.synth_run.specs.declared.resolving.Resolved.{Resolved}

@@ -1,5 +1,6 @@
 use Rattle.std.proofs.Common.{ℕ, ◌+◌, ◌/◌, ◌%◌, ◌<◌, None, get_or, sym, subst, arith}
 use Rattle.plant_record.specs.Description.{vectors_of}
+use Rattle.plant_record.proofs.lemmas.SoundPlants.{sound as sound_plant}
 use Rattle.successor_box.specs.Sides.{IsSideBeforeAt}
 use Rattle.abstraction_table.specs.inside.Digits.{pair_at}
 use Rattle.abstraction_table.proofs.PairDigits.{some_vectors}
@@ -12,8 +13,8 @@ prolonged_sides-requires-clause-pairs c = λ row lt. (_, _, c.places_from-places
 pub returns-clause-each : goal.returns-clause-each
 returns-clause-each c = λ j below.
     let p = c.args.p.now in
-    let plant = c.every_plant_is_within_limits.ensures.plant in
-    let sound = c.plants_are_sound.ensures p plant in
+    let plant = c.requires.plant.plant in
+    let sound = sound_plant p plant in
     let digits = c.args.digits.now.each.items in
     let pair : ℕ = pair_at digits (c.args.place + j) in
     let v : ℕ = vectors_of p.inputs in

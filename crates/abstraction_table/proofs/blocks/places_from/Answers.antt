@@ -3,6 +3,7 @@ use Rattle.std.proofs.lemmas.List.{length-set}
 use Rattle.std.proofs.lemmas.Nat.{mod_below}
 use Rattle.fixed_expr.specs.declared.lanes.TheConstants.{LANES}
 use Rattle.plant_record.specs.Description.{vectors_of}
+use Rattle.plant_record.proofs.lemmas.SoundPlants.{sound as sound_plant}
 use Rattle.successor_box.specs.Sides.{place_in}
 use Rattle.abstraction_table.specs.inside.Digits.{pair_at}
 use Rattle.abstraction_table.proofs.PairDigits.{some_vectors}
@@ -13,7 +14,7 @@ use Rattle.abstraction_table.proofs.blocks.places_from.Goals as goal
 pub overflow_add-variable-end : goal.overflow_add-variable-end
 overflow_add-variable-end c =
     let p = c.args.p.now in
-    let plant = c.every_plant_is_within_limits.ensures.plant in
+    let plant = c.requires.plant.plant in
     variables_fit (length p.states) (length p.inputs) c.states.result c.input_variables.result c.states.ensures c.input_variables.ensures plant.states_bound plant.inputs_bound
 
 pub loop-variable-init : goal.loop-variable-init
@@ -28,31 +29,31 @@ places_in-requires-clause-digits c = c.requires.digits
 pub places_in-requires-clause-variable : goal.places_in-requires-clause-variable
 places_in-requires-clause-variable c =
     let p = c.args.p.now in
-    let plant = c.every_plant_is_within_limits.ensures.plant in
+    let plant = c.requires.plant.plant in
     variable_in (length p.states) (length p.inputs) c.states.result c.input_variables.result c.states.ensures c.input_variables.ensures plant.states_bound plant.inputs_bound c.loop-variable.variable c.loop-variable-test.true
 
 pub overflow_cast-places : goal.overflow_cast-places
 overflow_cast-places c =
     let p = c.args.p.now in
-    let plant = c.every_plant_is_within_limits.ensures.plant in
+    let plant = c.requires.plant.plant in
     variable_fits (length p.states) (length p.inputs) c.states.result c.input_variables.result c.states.ensures c.input_variables.ensures plant.states_bound plant.inputs_bound c.loop-variable.variable c.loop-variable-test.true
 
 pub offset_bounds-places-variable : goal.offset_bounds-places-variable
 offset_bounds-places-variable c =
     let p = c.args.p.now in
-    let plant = c.every_plant_is_within_limits.ensures.plant in
+    let plant = c.requires.plant.plant in
     row_offset_fits (length p.states) (length p.inputs) c.states.result c.input_variables.result c.states.ensures c.input_variables.ensures plant.states_bound plant.inputs_bound c.loop-variable.variable c.loop-variable-test.true
 
 pub bounds-places-variable : goal.bounds-places-variable
 bounds-places-variable c =
     let p = c.args.p.now in
-    let plant = c.every_plant_is_within_limits.ensures.plant in
+    let plant = c.requires.plant.plant in
     variable_below (length p.states) (length p.inputs) c.states.result c.input_variables.result c.states.ensures c.input_variables.ensures plant.states_bound plant.inputs_bound c.loop-variable.variable c.loop-variable-test.true
 
 pub loop-variable-preserved : goal.loop-variable-preserved
 loop-variable-preserved c =
     let p = c.args.p.now in
-    let plant = c.every_plant_is_within_limits.ensures.plant in
+    let plant = c.requires.plant.plant in
     let v : ℕ = c.loop-variable.variable in
     let places : List (List ℕ) = c.loop-variable.places in
     let found : List ℕ = c.places_in.result in
@@ -69,8 +70,8 @@ loop-variable-preserved c =
 pub returns : goal.returns
 returns c = λ j lt.
     let p = c.args.p.now in
-    let plant = c.every_plant_is_within_limits.ensures.plant in
-    let sound = c.plants_are_sound.ensures p plant in
+    let plant = c.requires.plant.plant in
+    let sound = sound_plant p plant in
     let digits = c.args.digits.now.each.items in
     let some = some_vectors p plant in
     record {

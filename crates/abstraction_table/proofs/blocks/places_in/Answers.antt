@@ -1,6 +1,7 @@
 use Rattle.std.proofs.Common.{◌≡◌, ℕ, ◌+◌, ◌/◌, ◌%◌, ◌<◌, ◌≤◌, ◌∙◌, List, length, get_or, false, sym, ap, subst, arith, inl, inr}
 use Rattle.std.proofs.lemmas.Bool.{cases_Bool}
 use Rattle.std.proofs.lemmas.List.{get_or-replicate}
+use Rattle.plant_record.proofs.lemmas.SoundPlants.{sound as sound_plant}
 use Rattle.successor_box.specs.Sides.{rests_on}
 use Rattle.abstraction_table.specs.declared.digits.Digit.{Digit}
 use Rattle.abstraction_table.proofs.PairDigits.{some_vectors}
@@ -10,8 +11,8 @@ use Rattle.abstraction_table.proofs.blocks.places_in.Goals as goal
 pub returns-then-d-variable : goal.returns-then-d-variable
 returns-then-d-variable c = λ j lt.
     let p = c.args.p.now in
-    let plant = c.every_plant_is_within_limits.ensures.plant in
-    let sound = c.plants_are_sound.ensures p plant in
+    let plant = c.requires.plant.plant in
+    let sound = sound_plant p plant in
     let digits = c.args.digits.now.each.items in
     let none : Digit = record { variable = 0; count = 0; in_pair = 0; in_table = 0 } in
     let i : ℕ = c.loop-d.d-index in
@@ -24,8 +25,8 @@ returns-then-d-variable c = λ j lt.
 pub returns : goal.returns
 returns c = λ j lt.
     let p = c.args.p.now in
-    let plant = c.every_plant_is_within_limits.ensures.plant in
-    let sound = c.plants_are_sound.ensures p plant in
+    let plant = c.requires.plant.plant in
+    let sound = sound_plant p plant in
     let digits = c.args.digits.now.each.items in
     let none : Digit = record { variable = 0; count = 0; in_pair = 0; in_table = 0 } in
     let past : length digits ≤ c.loop-d.d-index = omega (arith, c.loop-d-test.false, ap length c.deref-d-items.ensures.value) in

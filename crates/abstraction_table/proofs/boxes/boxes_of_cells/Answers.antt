@@ -8,6 +8,7 @@ use Rattle.grid_quantiser.specs.Axes.{IsAxis, no_axis, cells_of}
 use Rattle.plant_record.specs.Description.{Description, axis_of, axes_of, vectors_of}
 use Rattle.plant_record.specs.Plants.{IsPlant}
 use Rattle.plant_record.specs.Soundness.{IsSound}
+use Rattle.plant_record.proofs.lemmas.SoundPlants.{sound as sound_plant}
 use Rattle.successor_box.specs.Boxes.{IsBoxOf}
 use Rattle.abstraction_table.specs.inside.Rows.{last_state, row_of, AreInRow}
 use Rattle.abstraction_table.proofs.RowBoxes.{later_cell, cell_count}
@@ -38,16 +39,16 @@ piece_of p plant sound c n done cells end row count is within end-is lt =
     )
 
 pub overflow_cast-inputs : goal.overflow_cast-inputs
-overflow_cast-inputs c = inputs_fit c.vectors-inputs.result (vectors_of c.args.p.now.inputs) c.vectors-inputs.ensures.count c.every_plant_is_within_limits.ensures.vectors
+overflow_cast-inputs c = inputs_fit c.vectors-inputs.result (vectors_of c.args.p.now.inputs) c.vectors-inputs.ensures.count c.requires.plant.vectors
 
 pub nonzero_div-cells : goal.nonzero_div-cells
 nonzero_div-cells c = c.vectors-inputs.ensures.some
 
 pub overflow_sub-states : goal.overflow_sub-states
-overflow_sub-states c = let plant = c.every_plant_is_within_limits.ensures.plant in states_some (length c.args.p.now.states) c.states.result c.states.ensures plant.some_state plant.states_bound
+overflow_sub-states c = let plant = c.requires.plant.plant in states_some (length c.args.p.now.states) c.states.result c.states.ensures plant.some_state plant.states_bound
 
 pub count-row-requires : goal.count-row-requires
-count-row-requires c = let plant = c.every_plant_is_within_limits.ensures.plant in last_in (length c.args.p.now.states) c.states.result c.states.ensures plant.some_state plant.states_bound (length c.grid.result.now) (ap length c.grid.ensures ∙ length-map c.args.p.now.states axis_of)
+count-row-requires c = let plant = c.requires.plant.plant in last_in (length c.args.p.now.states) c.states.result c.states.ensures plant.some_state plant.states_bound (length c.grid.result.now) (ap length c.grid.ensures ∙ length-map c.args.p.now.states axis_of)
 
 pub loop-done-init : goal.loop-done-init
 loop-done-init c = record { long = refl; within = least (length c.args.boxes.now / c.vectors-inputs.result); found = λ k u none input. nothing_below k none; left = λ i from. refl }
@@ -55,86 +56,77 @@ loop-done-init c = record { long = refl; within = least (length c.args.boxes.now
 pub overflow_add-c : goal.overflow_add-c
 overflow_add-c c =
     let p = c.args.p.now in
-    let within = c.every_plant_is_within_limits.ensures in
+    let within = c.requires.plant in
     let cells = c.requires.cells in
     number_fits_wide (length c.args.boxes.now) cells.0 c.vectors-inputs.result (vectors_of p.inputs) c.args.c (cells_of (axes_of p)) cells.1 c.vectors-inputs.ensures.count c.vectors-inputs.ensures.some cells.2 within.pairs c.loop-done.done c.loop-done-test.true within.cells
 
 pub nonzero_rem-c : goal.nonzero_rem-c
 nonzero_rem-c c =
     let p = c.args.p.now in
-    let plant = c.every_plant_is_within_limits.ensures.plant in
-    some_row p plant (c.plants_are_sound.ensures p plant) c.count-row.result
+    let plant = c.requires.plant.plant in
+    some_row p plant (sound_plant p plant) c.count-row.result
     (c.count-row.ensures ∙ ap (λ (k : ℕ). (get_or c.grid.result.now (k - 1) no_axis).count) c.states.ensures ∙ ap (λ (axes : List Axis). (get_or axes (length p.states - 1) no_axis).count) c.grid.ensures)
 
 pub overflow_sub-done : goal.overflow_sub-done
 overflow_sub-done c =
     let p = c.args.p.now in
-    let plant = c.every_plant_is_within_limits.ensures.plant in
+    let plant = c.requires.plant.plant in
     rest_within (c.args.c + c.loop-done.done) c.loop-done.done c.count-row.result
-    (some_row p plant (c.plants_are_sound.ensures p plant) c.count-row.result
+    (some_row p plant (sound_plant p plant) c.count-row.result
     (c.count-row.ensures ∙ ap (λ (k : ℕ). (get_or c.grid.result.now (k - 1) no_axis).count) c.states.ensures ∙ ap (λ (axes : List Axis). (get_or axes (length p.states - 1) no_axis).count) c.grid.ensures))
 
 pub overflow_cast-done : goal.overflow_cast-done
 overflow_cast-done c =
     let p = c.args.p.now in
-    let within = c.every_plant_is_within_limits.ensures in
+    let within = c.requires.plant in
     let cells = c.requires.cells in
     done_fits (length c.args.boxes.now) cells.0 c.vectors-inputs.result (vectors_of p.inputs) c.args.c (cells_of (axes_of p)) cells.1 c.vectors-inputs.ensures.count c.vectors-inputs.ensures.some cells.2 within.pairs c.loop-done.done c.loop-done-test.true within.cells
 
 pub overflow_add-c-in-loop-done : goal.overflow_add-c-in-loop-done
 overflow_add-c-in-loop-done c =
     let p = c.args.p.now in
-    let within = c.every_plant_is_within_limits.ensures in
+    let within = c.requires.plant in
     let cells = c.requires.cells in
     number_fits (length c.args.boxes.now) cells.0 c.vectors-inputs.result (vectors_of p.inputs) c.args.c (cells_of (axes_of p)) cells.1 c.vectors-inputs.ensures.count c.vectors-inputs.ensures.some cells.2 within.pairs c.loop-done.done c.loop-done-test.true within.cells
 
 pub overflow_mul-done : goal.overflow_mul-done
 overflow_mul-done c =
     let p = c.args.p.now in
-    let within = c.every_plant_is_within_limits.ensures in
+    let within = c.requires.plant in
     let cells = c.requires.cells in
     from_fits (length c.args.boxes.now) cells.0 c.vectors-inputs.result (vectors_of p.inputs) c.args.c (cells_of (axes_of p)) cells.1 c.vectors-inputs.ensures.count c.vectors-inputs.ensures.some cells.2 within.pairs c.loop-done.done c.loop-done-test.true
 
 pub offset_bounds-boxes-done : goal.offset_bounds-boxes-done
 offset_bounds-boxes-done c =
     let p = c.args.p.now in
-    let within = c.every_plant_is_within_limits.ensures in
+    let within = c.requires.plant in
     let cells = c.requires.cells in
     from_offset_fits (length c.args.boxes.now) cells.0 c.vectors-inputs.result (vectors_of p.inputs) c.args.c (cells_of (axes_of p)) cells.1 c.vectors-inputs.ensures.count c.vectors-inputs.ensures.some cells.2 within.pairs c.loop-done.done c.loop-done-test.true
+
+-- the part of a row that comes next
+next_piece : (c : goal.After-min-end) → (c.loop-done.done < c.min-end.result) × (c.min-end.result ≤ c.requires.cells.0) × AreInRow c.args.p.now (c.args.c + c.loop-done.done) (c.min-end.result - c.loop-done.done)
+next_piece c =
+    let p = c.args.p.now in
+    let plant = c.requires.plant.plant in
+    let v : ℕ = c.vectors-inputs.result in
+    let n : ℕ = c.requires.cells.0 in
+    let cells = cell_count (length c.args.boxes.now) n v (vectors_of p.inputs) c.requires.cells.1 c.vectors-inputs.ensures.count c.vectors-inputs.ensures.some in
+    piece_of p plant (sound_plant p plant) c.args.c n c.loop-done.done (length c.args.boxes.now / v) c.min-end.result c.count-row.result cells
+    (c.count-row.ensures ∙ ap (λ (k : ℕ). (get_or c.grid.result.now (k - 1) no_axis).count) c.states.ensures ∙ ap (λ (axes : List Axis). (get_or axes (length p.states - 1) no_axis).count) c.grid.ensures)
+    c.requires.cells.2 c.min-end.ensures c.loop-done-test.true
 
 pub overflow_mul-end : goal.overflow_mul-end
 overflow_mul-end c =
     let p = c.args.p.now in
-    let plant = c.every_plant_is_within_limits.ensures.plant in
-    let sound = c.plants_are_sound.ensures p plant in
-    let v : ℕ = c.vectors-inputs.result in
-    let done : ℕ = c.loop-done.done in
-    let end : ℕ = c.min-end.result in
-    let n : ℕ = c.requires.cells.0 in
-    let inputs = c.vectors-inputs.ensures.count in
-    let cells = cell_count (length c.args.boxes.now) n v (vectors_of p.inputs) c.requires.cells.1 inputs c.vectors-inputs.ensures.some in
-    let piece = piece_of p plant sound c.args.c n done (length c.args.boxes.now / v) end c.count-row.result cells
-    (c.count-row.ensures ∙ ap (λ (k : ℕ). (get_or c.grid.result.now (k - 1) no_axis).count) c.states.ensures ∙ ap (λ (axes : List Axis). (get_or axes (length p.states - 1) no_axis).count) c.grid.ensures)
-    c.requires.cells.2 c.min-end.ensures c.loop-done-test.true
-    in
-    to_fits (length c.args.boxes.now) n v (vectors_of p.inputs) c.args.c (cells_of (axes_of p)) c.requires.cells.1 inputs c.vectors-inputs.ensures.some c.requires.cells.2 c.every_plant_is_within_limits.ensures.pairs end piece.1
+    let cells = c.requires.cells in
+    let inputs = c.vectors-inputs.ensures in
+    to_fits (length c.args.boxes.now) cells.0 c.vectors-inputs.result (vectors_of p.inputs) c.args.c (cells_of (axes_of p)) cells.1 inputs.count inputs.some cells.2 c.requires.plant.pairs c.min-end.result (next_piece c).1
+
+pub slice_bounds-boxes_in_row-start : goal.slice_bounds-boxes_in_row-start
+slice_bounds-boxes_in_row-start c = from_before c.loop-done.done c.min-end.result c.vectors-inputs.result (next_piece c).0
 
 pub slice_bounds-boxes_in_row-count : goal.slice_bounds-boxes_in_row-count
-slice_bounds-boxes_in_row-count c =
-    let p = c.args.p.now in
-    let plant = c.every_plant_is_within_limits.ensures.plant in
-    let sound = c.plants_are_sound.ensures p plant in
-    let v : ℕ = c.vectors-inputs.result in
-    let done : ℕ = c.loop-done.done in
-    let end : ℕ = c.min-end.result in
-    let n : ℕ = c.requires.cells.0 in
-    let inputs = c.vectors-inputs.ensures.count in
-    let cells = cell_count (length c.args.boxes.now) n v (vectors_of p.inputs) c.requires.cells.1 inputs c.vectors-inputs.ensures.some in
-    let piece = piece_of p plant sound c.args.c n done (length c.args.boxes.now / v) end c.count-row.result cells
-    (c.count-row.ensures ∙ ap (λ (k : ℕ). (get_or c.grid.result.now (k - 1) no_axis).count) c.states.ensures ∙ ap (λ (axes : List Axis). (get_or axes (length p.states - 1) no_axis).count) c.grid.ensures)
-    c.requires.cells.2 c.min-end.ensures c.loop-done-test.true
-    in
-    from_before done end v piece.0
+slice_bounds-boxes_in_row-count c = from_before c.loop-done.done c.min-end.result c.vectors-inputs.result (next_piece c).0
 
 pub boxes_in_row-requires-clause-tables : goal.boxes_in_row-requires-clause-tables
 boxes_in_row-requires-clause-tables c = c.requires.tables
@@ -142,8 +134,8 @@ boxes_in_row-requires-clause-tables c = c.requires.tables
 pub boxes_in_row-requires-clause-row : goal.boxes_in_row-requires-clause-row
 boxes_in_row-requires-clause-row c =
     let p = c.args.p.now in
-    let plant = c.every_plant_is_within_limits.ensures.plant in
-    let sound = c.plants_are_sound.ensures p plant in
+    let plant = c.requires.plant.plant in
+    let sound = sound_plant p plant in
     let v : ℕ = c.vectors-inputs.result in
     let done : ℕ = c.loop-done.done in
     let end : ℕ = c.min-end.result in
@@ -162,8 +154,8 @@ boxes_in_row-requires-clause-row c =
 pub boxes_in_row-requires-clause-start : goal.boxes_in_row-requires-clause-start
 boxes_in_row-requires-clause-start c = λ k d short.
     let p = c.args.p.now in
-    let plant = c.every_plant_is_within_limits.ensures.plant in
-    let sound = c.plants_are_sound.ensures p plant in
+    let plant = c.requires.plant.plant in
+    let sound = sound_plant p plant in
     let v : ℕ = c.vectors-inputs.result in
     let done : ℕ = c.loop-done.done in
     let end : ℕ = c.min-end.result in
@@ -188,8 +180,8 @@ boxes_in_row-requires-clause-start c = λ k d short.
 pub loop-done-preserved : goal.loop-done-preserved
 loop-done-preserved c =
     let p = c.args.p.now in
-    let plant = c.every_plant_is_within_limits.ensures.plant in
-    let sound = c.plants_are_sound.ensures p plant in
+    let plant = c.requires.plant.plant in
+    let sound = sound_plant p plant in
     let v : ℕ = c.vectors-inputs.result in
     let done : ℕ = c.loop-done.done in
     let end : ℕ = c.min-end.result in
@@ -219,8 +211,8 @@ loop-done-preserved c =
 pub loop-done-smaller : goal.loop-done-smaller
 loop-done-smaller c =
     let p = c.args.p.now in
-    let plant = c.every_plant_is_within_limits.ensures.plant in
-    let sound = c.plants_are_sound.ensures p plant in
+    let plant = c.requires.plant.plant in
+    let sound = sound_plant p plant in
     let v : ℕ = c.vectors-inputs.result in
     let done : ℕ = c.loop-done.done in
     let end : ℕ = c.min-end.result in

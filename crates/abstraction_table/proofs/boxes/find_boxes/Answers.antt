@@ -5,7 +5,7 @@ use Rattle.grid_quantiser.specs.declared.boxes.CellBox.{CellBox}
 use Rattle.grid_quantiser.specs.Axes.{cells_of}
 use Rattle.grid_quantiser.specs.SideBoxes.{one_cell}
 use Rattle.plant_record.specs.Description.{axes_of}
-use Rattle.abstraction_table.specs.Abstraction.{pairs_of}
+use Rattle.plant_game.specs.Abstraction.{pairs_of}
 use Rattle.abstraction_table.specs.inside.Rows.{AreBoxesFrom}
 use Rattle.abstraction_table.proofs.PairBoxes.{all_boxes, are_boxes, chunk_cells}
 use Rattle.abstraction_table.proofs.boxes.find_boxes.Goals as goal
@@ -38,7 +38,7 @@ par_chunks_mut_for_each-requires-clause-accepts g c κs within = λ start chunk 
     ∙ ap (λ (boxes : List (Option CellBox)). get_or boxes (start + k) d) (c.deref_mut-2.ensures.value ∙ c.in_ok-boxes.ensures.items_if_clones_equal (λ y same. same))
     ∙ get_or-replicate _ (start + k) c.new.result d (omega (arith, lt, here.in_bounds, c.deref_mut-2.ensures.len, c.in_ok-boxes.ensures.len))
     ∙ c.new.ensures
-    in (rw c.as_slice-tables.ensures.value c.in_ok-tables.ensures, (c.vectors.ensures.count, (c.vectors.ensures.some, (whole, each))))
+    in (c.requires.plant, (rw c.as_slice-tables.ensures.value c.in_ok-tables.ensures, (c.vectors.ensures.count, (c.vectors.ensures.some, (whole, each)))))
 
 pub returns : goal.returns
 returns g c =

@@ -12,4 +12,4 @@ pub invariant_of-result : goal.invariant_of-result
 invariant_of-result g c =
     let game = c.in_ok-ahead.ahead in
     let held = game.in_memory in
-    record { listed = have_runs game.grid c.in_ok-shapes.shapes game.boxes.items game.fans.counts.items c.boxes_are_moved_shapes.ensures held.grid held.ordered c.in_ok-shapes.ensures held.counted }
+    record { listed = have_runs game.grid c.in_ok-shapes.shapes game.boxes.items game.fans.counts.items held.grid held.ordered c.in_ok-shapes.ensures held.counted }

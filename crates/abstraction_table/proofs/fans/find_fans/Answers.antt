@@ -12,10 +12,9 @@ pub overflow_add-edges : goal.overflow_add-edges
 overflow_add-edges c =
     let axes = c.args.grid.now in
     let boxes = c.args.boxes.now in
-    let grid = c.every_grid_is_within_the_limit.ensures in
     let box = kept_box boxes c.loop-b.b-index c.get.result c.b-item.result c.get.ensures c.b-item.is c.loop-b-test.true in
     let count = rw box at c.count.ensures.cells in
-    omega (arith, c.from.ensures, count, c.loop-b.invariant.edges_so_far, sum_by_more_le (λ b. length (cells_in axes b)) boxes c.loop-b.b-index None c.loop-b-test.true, edges_fit c.cells_of_a_box.ensures axes boxes grid.axes c.requires.ordered grid.limit c.requires.limit)
+    omega (arith, c.from.ensures, count, c.loop-b.invariant.edges_so_far, sum_by_more_le (λ b. length (cells_in axes b)) boxes c.loop-b.b-index None c.loop-b-test.true, edges_fit axes boxes c.requires.grid c.requires.ordered c.cells.ensures.limit c.requires.limit)
 
 pub loop-b-preserved : goal.loop-b-preserved
 loop-b-preserved c =
@@ -32,5 +31,4 @@ pub returns-clause-fans : goal.returns-clause-fans
 returns-clause-fans c =
     let axes = c.args.grid.now in
     let boxes = c.args.boxes.now in
-    let grid = c.every_grid_is_within_the_limit.ensures in
-    fans_all axes boxes c.loop-b.b-index c.loop-b.fans.counts.items c.loop-b.edges c.boxes_are_moved_shapes.ensures grid.axes grid.some c.requires.ordered (omega (arith, c.loop-b-test.false)) c.loop-b.invariant
+    fans_all axes boxes c.loop-b.b-index c.loop-b.fans.counts.items c.loop-b.edges c.requires.grid c.requires.ordered (omega (arith, c.loop-b-test.false)) c.loop-b.invariant

@@ -5,7 +5,7 @@ use Rattle.abstraction_table.proofs.filling.count_sources.Goals as goal
 
 pub count_box-requires-clause-room : goal.count_box-requires-clause-room
 count_box-requires-clause-room c =
-    let room = count_room c.cells_of_a_box.ensures c.args.grid.now c.args.boxes.now c.every_grid_is_within_the_limit.ensures.axes c.requires.ordered c.loop-b.b-index c.loop-b-test.true c.args.band.from c.args.band.len c.loop-b.counts.items c.loop-b.invariant c.requires.edges in
+    let room = count_room c.args.grid.now c.args.boxes.now c.requires.grid c.requires.ordered c.loop-b.b-index c.loop-b-test.true c.args.band.from c.args.band.len c.loop-b.counts.items c.loop-b.invariant c.requires.edges in
     rw (kept_box c.args.boxes.now c.loop-b.b-index c.get.result c.b-item.result c.get.ensures c.b-item.is c.loop-b-test.true) (λ i. omega (arith, room i, ap (λ (counts : List ℕ). get_or counts i 0) c.deref_mut.ensures.value))
 
 pub loop-b-preserved : goal.loop-b-preserved
@@ -15,4 +15,4 @@ loop-b-preserved c =
     let counted = rw (c.deref_mut.ensures.value, kept_box c.args.boxes.now c.loop-b.b-index c.get.result c.b-item.result c.get.ensures c.b-item.is c.loop-b-test.true) at c.count_box.ensures in
     let long : length after ≡ counts.len = omega arith in
     rw (take_at after _ counts.len long)
-    (counts_more c.cells_of_a_box.ensures c.args.grid.now c.args.boxes.now c.every_grid_is_within_the_limit.ensures.axes c.requires.ordered c.loop-b.b-index c.loop-b-test.true c.args.band.from c.args.band.len counts.items after c.loop-b.invariant counted)
+    (counts_more c.args.grid.now c.args.boxes.now c.requires.grid c.requires.ordered c.loop-b.b-index c.loop-b-test.true c.args.band.from c.args.band.len counts.items after c.loop-b.invariant counted)

@@ -6,26 +6,22 @@ use Rattle.abstraction_table.proofs.filling.put_box.Goals as goal
 
 pub put_inside-requires-clause-within : goal.put_inside-requires-clause-within
 put_inside-requires-clause-within c =
-    let grid = c.every_grid_is_within_the_limit.ensures in
     let band = c.args.band in
-    let inside = box_inside c.cells_lie_between_corners.ensures c.args.grid.now c.args.shapes.now c.args.b c.in-Some.b c.in-Some.ensures.same grid.axes c.requires.ordered c.requires.runs band.from band.len (c.holds.ensures.0 c.if-holds.true) c.runs_of-runs.result.now c.runs_of-runs.ensures in
+    let inside = box_inside c.args.grid.now c.args.shapes.now c.args.b c.in-Some.b c.in-Some.ensures.same c.requires.grid c.requires.ordered c.requires.runs band.from band.len (c.holds.ensures.0 c.if-holds.true) c.runs_of-runs.result.now c.runs_of-runs.ensures in
     subst (λ (n : ℕ). All (EndsBy n (c.in-Some.b.first - band.from)) c.runs_of-runs.result.now) (sym c.requires.one_each) inside.ends
 
 pub put_inside-requires-clause-room : goal.put_inside-requires-clause-room
 put_inside-requires-clause-room c =
-    let grid = c.every_grid_is_within_the_limit.ensures in
     let band = c.args.band in
-    let inside = box_inside c.cells_lie_between_corners.ensures c.args.grid.now c.args.shapes.now c.args.b c.in-Some.b c.in-Some.ensures.same grid.axes c.requires.ordered c.requires.runs band.from band.len (c.holds.ensures.0 c.if-holds.true) c.runs_of-runs.result.now c.runs_of-runs.ensures in
+    let inside = box_inside c.args.grid.now c.args.shapes.now c.args.b c.in-Some.b c.in-Some.ensures.same c.requires.grid c.requires.ordered c.requires.runs band.from band.len (c.holds.ensures.0 c.if-holds.true) c.runs_of-runs.result.now c.runs_of-runs.ensures in
     subst (HasRoomFor c.args.fill.now) inside.places c.requires.room
 
 pub returns-then-holds : goal.returns-then-holds
 returns-then-holds c =
-    let grid = c.every_grid_is_within_the_limit.ensures in
     let band = c.args.band in
-    let inside = box_inside c.cells_lie_between_corners.ensures c.args.grid.now c.args.shapes.now c.args.b c.in-Some.b c.in-Some.ensures.same grid.axes c.requires.ordered c.requires.runs band.from band.len (c.holds.ensures.0 c.if-holds.true) c.runs_of-runs.result.now c.runs_of-runs.ensures in
+    let inside = box_inside c.args.grid.now c.args.shapes.now c.args.b c.in-Some.b c.in-Some.ensures.same c.requires.grid c.requires.ordered c.requires.runs band.from band.len (c.holds.ensures.0 c.if-holds.true) c.runs_of-runs.result.now c.runs_of-runs.ensures in
     subst (ArePut c.args.pair c.args.fill.now c.put_inside.new.fill) (sym inside.places) c.put_inside.ensures
 
 pub put_runs-requires-clause-within : goal.put_runs-requires-clause-within
 put_runs-requires-clause-within c =
-    let grid = c.every_grid_is_within_the_limit.ensures in
-    box_runs_end c.cells_of_a_box.ensures c.args.grid.now c.args.shapes.now c.args.b c.in-Some.b c.in-Some.ensures.same grid.axes grid.limit c.requires.ordered c.requires.runs c.runs_of-runs.result.now c.runs_of-runs.ensures
+    box_runs_end c.args.grid.now c.args.shapes.now c.args.b c.in-Some.b c.in-Some.ensures.same c.requires.grid c.requires.limit c.requires.ordered c.requires.runs c.runs_of-runs.result.now c.runs_of-runs.ensures

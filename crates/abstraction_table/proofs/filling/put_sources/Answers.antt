@@ -4,8 +4,8 @@ use Rattle.abstraction_table.proofs.filling.put_sources.Goals as goal
 pub put_box-requires-clause-room : goal.put_box-requires-clause-room
 put_box-requires-clause-room c =
     rw (kept_box c.args.boxes.now c.loop-pair.pair c.get.result c.index-boxes-pair.result c.get.ensures c.index-boxes-pair.is c.loop-pair-test.true)
-    (row_room c.cells_of_a_box.ensures c.args.grid.now c.args.boxes.now c.every_grid_is_within_the_limit.ensures.axes c.requires.ordered c.loop-pair.pair c.loop-pair-test.true c.args.band.from c.args.band.len c.args.fill.now c.loop-pair.fill c.loop-pair.invariant c.requires.counts)
+    (row_room c.args.grid.now c.args.boxes.now c.requires.grid c.requires.ordered c.loop-pair.pair c.loop-pair-test.true c.args.band.from c.args.band.len c.args.fill.now c.loop-pair.fill c.loop-pair.invariant c.requires.counts)
 
 pub loop-pair-preserved : goal.loop-pair-preserved
 loop-pair-preserved c =
-    rows_more c.cells_of_a_box.ensures c.args.grid.now c.args.boxes.now c.every_grid_is_within_the_limit.ensures.axes c.requires.ordered c.loop-pair.pair c.loop-pair-test.true c.args.band.from c.args.band.len c.args.fill.now c.loop-pair.fill c.put_box.new.fill c.loop-pair.invariant (rw (kept_box c.args.boxes.now c.loop-pair.pair c.get.result c.index-boxes-pair.result c.get.ensures c.index-boxes-pair.is c.loop-pair-test.true) at c.put_box.ensures)
+    rows_more c.args.grid.now c.args.boxes.now c.requires.grid c.requires.ordered c.loop-pair.pair c.loop-pair-test.true c.args.band.from c.args.band.len c.args.fill.now c.loop-pair.fill c.put_box.new.fill c.loop-pair.invariant (rw (kept_box c.args.boxes.now c.loop-pair.pair c.get.result c.index-boxes-pair.result c.get.ensures c.index-boxes-pair.is c.loop-pair-test.true) at c.put_box.ensures)

@@ -16,7 +16,7 @@ loop-state-preserved g c =
     let so_far = c.loop-state.invariant in
     let state : ℕ = c.loop-state.state in
     let t : PartTable = c.in_ok-find_parts.field-0 in
-    let plant = c.every_plant_is_within_limits.ensures.plant in
+    let plant = c.requires.plant.plant in
     let equation : state < length p.equations = omega (arith, c.loop-state-test.true, c.states-state-end.ensures, plant.one_each) in
     let count : c.count.result ≡ (get_or (axes_of p) state no_axis).count = c.count.ensures ∙ ap (λ (axes : List Axis). (get_or axes state no_axis).count) c.grid-in-loop-state.ensures in
     rw c.in_ok-push.ensures.items
@@ -30,7 +30,7 @@ pub find_parts-requires-clause-stride : goal.find_parts-requires-clause-stride
 find_parts-requires-clause-stride g c =
     let p = c.args.p.now in
     let state : ℕ = c.loop-state.state in
-    let plant = c.every_plant_is_within_limits.ensures.plant in
+    let plant = c.requires.plant.plant in
     let equation : state < length p.equations = omega (arith, c.loop-state-test.true, c.states-state-end.ensures, plant.one_each) in
     let count : c.count.result ≡ (get_or (axes_of p) state no_axis).count = c.count.ensures ∙ ap (λ (axes : List Axis). (get_or axes state no_axis).count) c.grid-in-loop-state.ensures in
     stride_next p (sound_plant p plant) state equation c.loop-state.stride c.count.result c.loop-state.invariant.stride count
@@ -39,14 +39,14 @@ pub nonzero_div-stride : goal.nonzero_div-stride
 nonzero_div-stride g c =
     let p = c.args.p.now in
     let state : ℕ = c.loop-state.state in
-    let plant = c.every_plant_is_within_limits.ensures.plant in
+    let plant = c.requires.plant.plant in
     let count : c.count.result ≡ (get_or (axes_of p) state no_axis).count = c.count.ensures ∙ ap (λ (axes : List Axis). (get_or axes state no_axis).count) c.grid-in-loop-state.ensures in
     omega (arith, count, (All-get_or IsAxis (axes_of p) state no_axis (omega (arith, c.loop-state-test.true, c.states-state-end.ensures, length-map p.states axis_of)) (sound_plant p plant).axes.each).some_cell)
 
 pub returns : goal.returns
 returns g c =
     let so_far = c.loop-state.invariant in
-    let one_each = c.every_plant_is_within_limits.ensures.plant.one_each in
+    let one_each = c.requires.plant.plant.one_each in
     record {
       one_each = omega (arith, so_far.count, c.loop-state.auto.state-end, c.loop-state-test.false, c.states-state-end.ensures, one_each);
       each = λ i d lt. so_far.each i d (omega (arith, lt, c.loop-state-test.false, c.states-state-end.ensures, one_each));

@@ -2,6 +2,7 @@ use Rattle.std.proofs.Common.{◌≡◌, ℕ, ◌-◌, ◌<◌, ◌∙◌, None,
 use Rattle.std.proofs.lemmas.List.{get_or_default}
 use Rattle.std.proofs.lemmas.List.Elements.{All-get_or}
 use Rattle.grid_quantiser.specs.SideBoxes.{one_cell}
+use Rattle.plant_record.proofs.lemmas.SoundPlants.{sound as sound_plant}
 use Rattle.abstraction_table.specs.declared.parts.PartTable.{PartTable}
 use Rattle.abstraction_table.specs.inside.Rows.{last_state, StaysAlongRows}
 use Rattle.abstraction_table.specs.inside.Parts.{IsSumAlong, HoldsPartsAlong}
@@ -16,14 +17,14 @@ loop-state-init c = record {
   within = omega arith;
   along = λ cell other below are row u input.
       let is = All-get_or (λ b. b ≡ one_cell) c.args.boxes.now u None (omega (arith, input, c.requires.one_each)) c.requires.start in
-      subst (IsSumAlong c.args.p.now 0 other u one_cell) (sym is) (sum_start c.sides_make_boxes.ensures c.args.p.now other u);
+      subst (IsSumAlong c.args.p.now 0 other u one_cell) (sym is) (sum_start c.args.p.now other u);
 }
 
 pub add_parts-requires-clause-cell : goal.add_parts-requires-clause-cell
 add_parts-requires-clause-cell c =
     let p = c.args.p.now in
     let cell = c.requires.cell in
-    let sound = c.plants_are_sound.ensures p c.every_plant_is_within_limits.ensures.plant in
+    let sound = sound_plant p c.requires.plant.plant in
     let state : ℕ = c.loop-state.state in
     let equation : state < length p.equations = omega (arith, c.loop-state-test.true, c.requires.tables.one_each) in
     let t : PartTable = c.index-tables-state-in-loop-state.result in
@@ -33,8 +34,8 @@ add_parts-requires-clause-cell c =
 pub loop-state-preserved : goal.loop-state-preserved
 loop-state-preserved c =
     let p = c.args.p.now in
-    let plant = c.every_plant_is_within_limits.ensures.plant in
-    let sound = c.plants_are_sound.ensures p plant in
+    let plant = c.requires.plant.plant in
+    let sound = sound_plant p plant in
     let state : ℕ = c.loop-state.state in
     let lt : state < length c.args.tables.now = c.loop-state-test.true in
     let equation : state < length p.equations = omega (arith, lt, c.requires.tables.one_each) in

@@ -1,5 +1,6 @@
 use Rattle.std.proofs.Common.{◌≡◌, ℕ, ◌<◌, ◌≤◌, ◌∙◌, None, length, get_or, refl, sym, subst, arith}
 use Rattle.std.proofs.lemmas.List.{get_or_default}
+use Rattle.plant_record.proofs.lemmas.SoundPlants.{sound as sound_plant}
 use Rattle.successor_box.specs.Boxes.{IsBoxOf}
 use Rattle.abstraction_table.specs.declared.parts.PartTable.{PartTable}
 use Rattle.abstraction_table.specs.inside.Parts.{IsSumAlong, AreSumsAlong, HoldsPartsAlong}
@@ -16,7 +17,7 @@ pub add_state-base-requires-clause-cell : goal.add_state-base-requires-clause-ce
 add_state-base-requires-clause-cell c =
     let p = c.args.p.now in
     let cell = c.requires.cell in
-    let sound = c.plants_are_sound.ensures p c.every_plant_is_within_limits.ensures.plant in
+    let sound = sound_plant p c.requires.plant.plant in
     let state : ℕ = c.loop-state.state in
     let equation : state < length p.equations = omega (arith, c.loop-state-test.true, c.requires.tables.one_each) in
     let t : PartTable = c.index-tables-state.result in
@@ -26,7 +27,7 @@ add_state-base-requires-clause-cell c =
 pub loop-state-preserved : goal.loop-state-preserved
 loop-state-preserved c =
     let p = c.args.p.now in
-    let sound = c.plants_are_sound.ensures p c.every_plant_is_within_limits.ensures.plant in
+    let sound = sound_plant p c.requires.plant.plant in
     let state : ℕ = c.loop-state.state in
     let equation : state < length p.equations = omega (arith, c.loop-state-test.true, c.requires.tables.one_each) in
     let t : PartTable = c.index-tables-state.result in
@@ -41,14 +42,14 @@ loop-state-preserved c =
 pub add_base-requires-clause-base : goal.add_base-requires-clause-base
 add_base-requires-clause-base c =
     let p = c.args.p.now in
-    let plant = c.every_plant_is_within_limits.ensures.plant in
+    let plant = c.requires.plant.plant in
     let cell = c.requires.cell in
     let sums = c.loop-state.invariant.along cell.0 cell.1 cell.2 cell.3 in
     ends_fit c.loop-state.state c.loop-state.base (omega (arith, c.loop-state.invariant.within, plant.one_each, plant.states_bound)) (sums 0 (some_vectors p plant)).base_few
 
 pub add_base-requires-clause-boxes : goal.add_base-requires-clause-boxes
 add_base-requires-clause-boxes c = λ u d short.
-    let plant = c.every_plant_is_within_limits.ensures.plant in
+    let plant = c.requires.plant.plant in
     let cell = c.requires.cell in
     let sums = c.loop-state.invariant.along cell.0 cell.1 cell.2 cell.3 in
     let few : c.loop-state.state ≤ 7 = omega (arith, c.loop-state.invariant.within, plant.one_each, plant.states_bound) in
@@ -58,8 +59,8 @@ add_base-requires-clause-boxes c = λ u d short.
 pub returns-clause-each : goal.returns-clause-each
 returns-clause-each c = λ cell below are before u input.
     let p = c.args.p.now in
-    let sound = c.plants_are_sound.ensures p c.every_plant_is_within_limits.ensures.plant in
+    let sound = sound_plant p c.requires.plant.plant in
     let all : c.loop-state.state ≡ length p.equations = omega (arith, c.requires.tables.one_each, c.loop-state.invariant.within, c.loop-state-test.false) in
     let sum = subst (λ (n : ℕ). IsSumAlong p n cell u c.loop-state.base (get_or c.loop-state.boxes u None)) all (c.loop-state.invariant.along cell below are before u input) in
     subst (IsBoxOf p cell u) (sym (c.add_base.ensures.each u (omega (arith, input, c.loop-state.invariant.long, c.requires.one_each))))
-    (sum_all c.sides_make_boxes.ensures p cell u c.loop-state.base (get_or c.loop-state.boxes u None) sound sum)
+    (sum_all p cell u c.loop-state.base (get_or c.loop-state.boxes u None) sound sum)

@@ -16,31 +16,31 @@ use Rattle.abstraction_table.proofs.rows.boxes_in_row.Goals as goal
 -- ---- before the loop
 
 pub overflow_cast-inputs : goal.overflow_cast-inputs
-overflow_cast-inputs c = inputs_fit c.vectors-inputs.result (vectors_of c.args.p.now.inputs) c.vectors-inputs.ensures.count c.every_plant_is_within_limits.ensures.vectors
+overflow_cast-inputs c = inputs_fit c.vectors-inputs.result (vectors_of c.args.p.now.inputs) c.vectors-inputs.ensures.count c.requires.plant.vectors
 
 pub overflow_cast-last : goal.overflow_cast-last
-overflow_cast-last c = let plant = c.every_plant_is_within_limits.ensures.plant in states_fit (length c.args.p.now.states) c.states.result c.states.ensures plant.some_state plant.states_bound
+overflow_cast-last c = let plant = c.requires.plant.plant in states_fit (length c.args.p.now.states) c.states.result c.states.ensures plant.some_state plant.states_bound
 
 pub overflow_sub-last : goal.overflow_sub-last
-overflow_sub-last c = let plant = c.every_plant_is_within_limits.ensures.plant in states_some (length c.args.p.now.states) c.states.result c.states.ensures plant.some_state plant.states_bound
+overflow_sub-last c = let plant = c.requires.plant.plant in states_some (length c.args.p.now.states) c.states.result c.states.ensures plant.some_state plant.states_bound
 
 pub offset_bounds-places-last : goal.offset_bounds-places-last
-offset_bounds-places-last c = let plant = c.every_plant_is_within_limits.ensures.plant in last_fits (length c.args.p.now.states) c.states.result c.states.ensures plant.some_state plant.states_bound
+offset_bounds-places-last c = let plant = c.requires.plant.plant in last_fits (length c.args.p.now.states) c.states.result c.states.ensures plant.some_state plant.states_bound
 
 pub bounds-places-last : goal.bounds-places-last
-bounds-places-last c = let plant = c.every_plant_is_within_limits.ensures.plant in last_below (length c.args.p.now.states) c.states.result c.states.ensures plant.some_state plant.states_bound
+bounds-places-last c = let plant = c.requires.plant.plant in last_below (length c.args.p.now.states) c.states.result c.states.ensures plant.some_state plant.states_bound
 
 pub slice_bounds-add_early-end : goal.slice_bounds-add_early-end
 slice_bounds-add_early-end c =
     let p = c.args.p.now in
-    let within = c.every_plant_is_within_limits.ensures in
+    let within = c.requires.plant in
     let row = c.requires.row in
     first_in (length c.args.boxes.now) row.0 c.vectors-inputs.result (vectors_of p.inputs) c.args.c (cells_of (axes_of p)) row.1 c.vectors-inputs.ensures.count c.vectors-inputs.ensures.some row.2.within within.pairs row.2.some
 
 pub slice_bounds-add_early-end-2 : goal.slice_bounds-add_early-end-2
 slice_bounds-add_early-end-2 c =
     let p = c.args.p.now in
-    let within = c.every_plant_is_within_limits.ensures in
+    let within = c.requires.plant in
     let row = c.requires.row in
     let wide : c.vectors-inputs.result ≤ length c.args.boxes.now = first_in (length c.args.boxes.now) row.0 c.vectors-inputs.result (vectors_of p.inputs) c.args.c (cells_of (axes_of p)) row.1 c.vectors-inputs.ensures.count c.vectors-inputs.ensures.some row.2.within within.pairs row.2.some in
     sym (length-take-le c.vectors-inputs.result c.args.boxes.now wide)
@@ -51,7 +51,7 @@ add_early-early-requires-clause-tables c = c.requires.tables
 pub add_early-early-requires-clause-one_each : goal.add_early-early-requires-clause-one_each
 add_early-early-requires-clause-one_each c =
     let p = c.args.p.now in
-    let within = c.every_plant_is_within_limits.ensures in
+    let within = c.requires.plant in
     let row = c.requires.row in
     let wide : c.vectors-inputs.result ≤ length c.args.boxes.now = first_in (length c.args.boxes.now) row.0 c.vectors-inputs.result (vectors_of p.inputs) c.args.c (cells_of (axes_of p)) row.1 c.vectors-inputs.ensures.count c.vectors-inputs.ensures.some row.2.within within.pairs row.2.some in
     length-take-le c.vectors-inputs.result c.args.boxes.now wide ∙ c.vectors-inputs.ensures.count
@@ -59,7 +59,7 @@ add_early-early-requires-clause-one_each c =
 pub add_early-early-requires-clause-start : goal.add_early-early-requires-clause-start
 add_early-early-requires-clause-start c =
     let p = c.args.p.now in
-    let within = c.every_plant_is_within_limits.ensures in
+    let within = c.requires.plant in
     let row = c.requires.row in
     let wide : c.vectors-inputs.result ≤ length c.args.boxes.now = first_in (length c.args.boxes.now) row.0 c.vectors-inputs.result (vectors_of p.inputs) c.args.c (cells_of (axes_of p)) row.1 c.vectors-inputs.ensures.count c.vectors-inputs.ensures.some row.2.within within.pairs row.2.some in
     λ k d short.
@@ -105,14 +105,14 @@ overflow_step-cell-in-loop-cell c = c.loop-cell-test.true
 pub overflow_cast-places : goal.overflow_cast-places
 overflow_cast-places c =
     let p = c.args.p.now in
-    let within = c.every_plant_is_within_limits.ensures in
+    let within = c.requires.plant in
     let row = c.requires.row in
     cell_fits (length c.args.boxes.now) row.0 c.vectors-inputs.result (vectors_of p.inputs) c.args.c (cells_of (axes_of p)) row.1 c.vectors-inputs.ensures.count c.vectors-inputs.ensures.some row.2.within within.pairs c.loop-cell.cell c.loop-cell.invariant.few c.loop-cell-test.true within.cells
 
 pub overflow_add-places : goal.overflow_add-places
 overflow_add-places c =
     let p = c.args.p.now in
-    let within = c.every_plant_is_within_limits.ensures in
+    let within = c.requires.plant in
     let row = c.requires.row in
     let last : c.states.result - 1 ≡ last_state p = ap (λ (k : ℕ). k - 1) c.states.ensures in
     let begin : get_or c.places_of-places.result (c.states.result - 1) 0 ≡ place_in p c.args.c 0 (last_state p) = ap (λ (k : ℕ). get_or c.places_of-places.result k 0) last ∙ c.places_of-places.ensures (last_state p) (last_among p within.plant) in
@@ -120,15 +120,15 @@ overflow_add-places c =
     place_fits (length c.args.boxes.now) row.0 c.vectors-inputs.result (vectors_of p.inputs) c.args.c (cells_of (axes_of p)) row.1 c.vectors-inputs.ensures.count c.vectors-inputs.ensures.some row.2.within within.pairs c.loop-cell.cell c.loop-cell.invariant.few c.loop-cell-test.true (get_or c.places_of-places.result (c.states.result - 1) 0) early within.cells
 
 pub offset_bounds-places-last-in-loop-cell : goal.offset_bounds-places-last-in-loop-cell
-offset_bounds-places-last-in-loop-cell c = let plant = c.every_plant_is_within_limits.ensures.plant in last_fits (length c.args.p.now.states) c.states.result c.states.ensures plant.some_state plant.states_bound
+offset_bounds-places-last-in-loop-cell c = let plant = c.requires.plant.plant in last_fits (length c.args.p.now.states) c.states.result c.states.ensures plant.some_state plant.states_bound
 
 pub bounds-places-last-in-loop-cell : goal.bounds-places-last-in-loop-cell
-bounds-places-last-in-loop-cell c = let plant = c.every_plant_is_within_limits.ensures.plant in last_below (length c.args.p.now.states) c.states.result c.states.ensures plant.some_state plant.states_bound
+bounds-places-last-in-loop-cell c = let plant = c.requires.plant.plant in last_below (length c.args.p.now.states) c.states.result c.states.ensures plant.some_state plant.states_bound
 
 pub overflow_mul-at : goal.overflow_mul-at
 overflow_mul-at c =
     let p = c.args.p.now in
-    let within = c.every_plant_is_within_limits.ensures in
+    let within = c.requires.plant in
     let row = c.requires.row in
     start_fits (length c.args.boxes.now) row.0 c.vectors-inputs.result (vectors_of p.inputs) c.args.c (cells_of (axes_of p)) row.1 c.vectors-inputs.ensures.count c.vectors-inputs.ensures.some row.2.within within.pairs c.loop-cell.cell c.loop-cell.invariant.few c.loop-cell-test.true
 
@@ -138,7 +138,7 @@ copy_within-requires-clause-start_le_end c = least c.vectors-inputs.result
 pub copy_within-requires-clause-in_bounds : goal.copy_within-requires-clause-in_bounds
 copy_within-requires-clause-in_bounds c =
     let p = c.args.p.now in
-    let within = c.every_plant_is_within_limits.ensures in
+    let within = c.requires.plant in
     let row = c.requires.row in
     subst (λ (m : ℕ). c.vectors-inputs.result ≤ m) (sym c.loop-cell.invariant.long)
     (first_in (length c.args.boxes.now) row.0 c.vectors-inputs.result (vectors_of p.inputs) c.args.c (cells_of (axes_of p)) row.1 c.vectors-inputs.ensures.count c.vectors-inputs.ensures.some row.2.within within.pairs row.2.some)
@@ -146,7 +146,7 @@ copy_within-requires-clause-in_bounds c =
 pub copy_within-requires-clause-dest_in_bounds : goal.copy_within-requires-clause-dest_in_bounds
 copy_within-requires-clause-dest_in_bounds c =
     let p = c.args.p.now in
-    let within = c.every_plant_is_within_limits.ensures in
+    let within = c.requires.plant in
     let row = c.requires.row in
     subst (λ (m : ℕ). (c.loop-cell.cell - 1) * c.vectors-inputs.result + (c.vectors-inputs.result - 0) ≤ m) (sym c.loop-cell.invariant.long)
     (copied_in (length c.args.boxes.now) row.0 c.vectors-inputs.result (vectors_of p.inputs) c.args.c (cells_of (axes_of p)) row.1 c.vectors-inputs.ensures.count c.vectors-inputs.ensures.some row.2.within within.pairs c.loop-cell.cell c.loop-cell.invariant.few c.loop-cell-test.true)
@@ -154,14 +154,14 @@ copy_within-requires-clause-dest_in_bounds c =
 pub overflow_add-at : goal.overflow_add-at
 overflow_add-at c =
     let p = c.args.p.now in
-    let within = c.every_plant_is_within_limits.ensures in
+    let within = c.requires.plant in
     let row = c.requires.row in
     end_fits (length c.args.boxes.now) row.0 c.vectors-inputs.result (vectors_of p.inputs) c.args.c (cells_of (axes_of p)) row.1 c.vectors-inputs.ensures.count c.vectors-inputs.ensures.some row.2.within within.pairs c.loop-cell.cell c.loop-cell.invariant.few c.loop-cell-test.true
 
 pub offset_bounds-boxes-at : goal.offset_bounds-boxes-at
 offset_bounds-boxes-at c =
     let p = c.args.p.now in
-    let within = c.every_plant_is_within_limits.ensures in
+    let within = c.requires.plant in
     let row = c.requires.row in
     offset_fits (length c.args.boxes.now) row.0 c.vectors-inputs.result (vectors_of p.inputs) c.args.c (cells_of (axes_of p)) row.1 c.vectors-inputs.ensures.count c.vectors-inputs.ensures.some row.2.within within.pairs c.loop-cell.cell c.loop-cell.invariant.few c.loop-cell-test.true
 
@@ -174,7 +174,7 @@ add_late-requires-clause-from c = c.add_early-early.ensures.states
 pub add_late-requires-clause-one_each : goal.add_late-requires-clause-one_each
 add_late-requires-clause-one_each c =
     let p = c.args.p.now in
-    let within = c.every_plant_is_within_limits.ensures in
+    let within = c.requires.plant in
     let row = c.requires.row in
     let room = cell_in (length c.args.boxes.now) row.0 c.vectors-inputs.result (vectors_of p.inputs) c.args.c (cells_of (axes_of p)) row.1 c.vectors-inputs.ensures.count c.vectors-inputs.ensures.some row.2.within within.pairs c.loop-cell.cell c.loop-cell.invariant.few c.loop-cell-test.true in
     part_long ((c.loop-cell.cell - 1) * c.vectors-inputs.result) c.vectors-inputs.result c.copy_within.new.self (subst (λ (m : ℕ). (c.loop-cell.cell - 1) * c.vectors-inputs.result + c.vectors-inputs.result ≤ m) (sym (c.copy_within.ensures.len ∙ c.loop-cell.invariant.long)) room)
@@ -186,7 +186,7 @@ returns-clause-long c = c.loop-cell.invariant.long
 pub add_late-requires-clause-cell : goal.add_late-requires-clause-cell
 add_late-requires-clause-cell c =
     let p = c.args.p.now in
-    let plant = c.every_plant_is_within_limits.ensures.plant in
+    let plant = c.requires.plant.plant in
     let v : ℕ = c.vectors-inputs.result in
     let n : ℕ = c.requires.row.0 in
     let row = c.requires.row.2 in
@@ -211,7 +211,7 @@ add_late-requires-clause-cell c =
 pub loop-cell-preserved : goal.loop-cell-preserved
 loop-cell-preserved c =
     let p = c.args.p.now in
-    let plant = c.every_plant_is_within_limits.ensures.plant in
+    let plant = c.requires.plant.plant in
     let v : ℕ = c.vectors-inputs.result in
     let n : ℕ = c.requires.row.0 in
     let row = c.requires.row.2 in

@@ -1,5 +1,6 @@
 use Rattle.std.proofs.Common.{◌≡◌, ◌<◌, ◌^◌, ℕ, List, [], ◌∷◌, ◌++◌, ◌∙◌, All, length, get_or, ap, ap₂, sym, subst, arith}
 use Rattle.std.proofs.lemmas.List.FromFn.{map-range_with_len_more, length-map-range_with_len, get_or-map-range_with_len}
+use Rattle.plant_record.proofs.lemmas.SoundPlants.{sound as sound_plant}
 use Rattle.abstraction_table.specs.declared.digits.Digit.{Digit}
 use Rattle.abstraction_table.specs.inside.Digits.{place_at}
 use Rattle.abstraction_table.proofs.EquationDigits.{pair_weights, place_below, few_places}
@@ -8,20 +9,20 @@ use Rattle.abstraction_table.proofs.sides.find_inputs.Goals as goal
 pub place_of-requires-clause-counted : goal.place_of-requires-clause-counted
 place_of-requires-clause-counted c =
     let p = c.args.p.now in
-    let plant = c.every_plant_is_within_limits.ensures.plant in
+    let plant = c.requires.plant.plant in
     let digits : List Digit = c.args.digits.now.each.items in
     subst (λ (ds : List Digit). All (λ (d : Digit). (0 < d.count) × (0 < d.in_pair)) ds) (sym c.deref.ensures.value)
-    (pair_weights p plant (c.plants_are_sound.ensures p plant) c.args.state digits c.requires.each)
+    (pair_weights p plant (sound_plant p plant) c.args.state digits c.requires.digits.each)
 
 pub place_of-requires-clause-fits : goal.place_of-requires-clause-fits
 place_of-requires-clause-fits c =
     let p = c.args.p.now in
-    let within = c.every_plant_is_within_limits.ensures in
-    let sound = c.plants_are_sound.ensures p within.plant in
+    let within = c.requires.plant in
+    let sound = sound_plant p within.plant in
     let digits : List Digit = c.args.digits.now.each.items in
     let places : ℕ = c.args.digits.now.places in
     subst (λ (ds : List Digit). place_at ds c.loop-input.input < 2 ^ 32) (sym c.deref.ensures.value)
-    (omega (arith, place_below p within.plant sound c.args.state digits places c.requires c.loop-input.input, few_places p within.plant sound c.args.state digits places c.requires, within.pairs))
+    (omega (arith, place_below p within.plant sound c.args.state digits places c.requires.digits c.loop-input.input, few_places p within.plant sound c.args.state digits places c.requires.digits, within.pairs))
 
 pub loop-input-preserved : goal.loop-input-preserved
 loop-input-preserved c =

@@ -1,6 +1,7 @@
 use Rattle.std.proofs.Common.{◌≡◌, ℕ, List, Option, None, ◌∙◌, length, get_or, sym, ap, subst, subst₂, arith}
 use Rattle.std.proofs.lemmas.List.{take_at}
 use Rattle.grid_quantiser.specs.declared.sides.Side.{Side}
+use Rattle.plant_record.proofs.lemmas.SoundPlants.{sound as sound_plant}
 use Rattle.abstraction_table.specs.declared.digits.Digit.{Digit}
 use Rattle.abstraction_table.specs.inside.Sides.{IsSideFor}
 use Rattle.abstraction_table.proofs.EquationDigits.{few_places}
@@ -9,9 +10,9 @@ use Rattle.abstraction_table.proofs.sides.find_sides.Goals as goal
 pub par_chunks_mut_for_each-requires-clause-accepts : goal.par_chunks_mut_for_each-requires-clause-accepts
 par_chunks_mut_for_each-requires-clause-accepts g c κs within = λ start chunk here.
     let p = c.args.p.now in
-    let limits = c.every_plant_is_within_limits.ensures in
-    let few = few_places p limits.plant (c.plants_are_sound.ensures p limits.plant) c.args.state c.args.digits.now.each.items c.args.digits.now.places c.requires.digits in
-    (c.requires.slopes, (c.requires.fits, (c.requires.state, (c.requires.digits, omega (arith, here.in_bounds, c.deref_mut.ensures.len, c.in_ok-sides.ensures.len, few, limits.pairs)))))
+    let limits = c.requires.plant in
+    let few = few_places p limits.plant (sound_plant p limits.plant) c.args.state c.args.digits.now.each.items c.args.digits.now.places c.requires.digits in
+    (c.requires.plant, (c.requires.slopes, (c.requires.fits, (c.requires.state, (c.requires.digits, omega (arith, here.in_bounds, c.deref_mut.ensures.len, c.in_ok-sides.ensures.len, few, limits.pairs))))))
 
 pub returns-clause-long : goal.returns-clause-long
 returns-clause-long g c =

@@ -19,7 +19,7 @@ collect-requires-clause-ready g c = λ κs outlives.
     let bands = c.div_ceil.result in
     rw (c.map.ensures.base, c.map.ensures.f, c.with_min_len.ensures.base, ends.0, ends.1) (λ k d lt.
     let here = band_begins c.cells-cells.result size (get_or (nat_range 0 bands) k d) c.band_size-size.ensures.some (omega (arith, below_end bands k d lt, c.div_ceil.ensures)) in
-    ((c.requires.ordered, (c.requires.runs, (c.requires.pairs, (c.requires.edges, (cells.count, (omega (arith, cells.count, cells.limit), here)))))), λ y is. tt))
+    ((c.requires.grid, (c.requires.ordered, (c.requires.runs, (c.requires.pairs, (c.requires.edges, (cells.count, (omega (arith, cells.count, cells.limit), here))))))), λ y is. tt))
 
 pub returns : goal.returns
 returns g c =

@@ -15,7 +15,7 @@ pub work-requires-clause-sound : goal.work-requires-clause-sound
 work-requires-clause-sound g c =
     let turn = c.args.turn.now in
     λ _ _. fresh_have_worked (g.L.Rule.game turn.rule.now) (g.L.Rule.fits turn.rule.now) (g.L.Rule.keeps turn.rule.now turn.round) turn.board.now turn.list.now
-    c.requires.board (c.leads_on.ensures.fresh turn.round) c.as_mut_slice.result.now (subst (All (IsFresh turn.board.now)) (sym c.as_mut_slice.ensures.value) c.requires.fresh)
+    c.requires.board (((g.met.L.Rule g.world.𝓛 g.world.𝓜 g.world.𝓡 ((λ s x. x), (λ x. x), (λ x. x), λ x. x)).leads_on turn.rule.now turn.board.now c.requires.board).fresh turn.round) c.as_mut_slice.result.now (subst (All (IsFresh turn.board.now)) (sym c.as_mut_slice.ensures.value) c.requires.fresh)
 
 pub returns-clause-worked : goal.returns-clause-worked
 returns-clause-worked g c =
@@ -31,4 +31,4 @@ returns-clause-swept g c =
     let now = c.work.new.members in
     subst (λ l. IsPermutation (range_with_len 0 turn.items) (notes_of l))
     (written c.args.members.now.len now (drop (length now) c.args.members.now.items) (omega (arith, c.work.auto.members, c.as_mut_slice.ensures.len)))
-    (notes_swept c.new_hands_share.ensures turn.board.now c.as_mut_slice.result.now now turn.items (subst (All (IsFresh turn.board.now)) (sym c.as_mut_slice.ensures.value) c.requires.fresh) c.work.ensures.swept)
+    (notes_swept turn.board.now c.as_mut_slice.result.now now turn.items (subst (All (IsFresh turn.board.now)) (sym c.as_mut_slice.ensures.value) c.requires.fresh) c.work.ensures.swept)

@@ -2,4 +2,4 @@ use Rattle.demo_plants.proofs.lemmas.FewEdges.{few_edges}
 use Rattle.demo_plants.proofs.laws.demo_plants_have_few_edges.Goals as goal
 
 pub returns : goal.returns
-returns c = few_edges c.demo_plants_are_within_limits.ensures
+returns c = few_edges

@@ -2,4 +2,4 @@ use Rattle.demo_plants.proofs.lemmas.Texts.{texts_spell}
 use Rattle.demo_plants.proofs.laws.demo_texts_spell.Goals as goal
 
 pub returns : goal.returns
-returns c = texts_spell c.demo_plants_are_within_limits.ensures c.canonical_texts_spell.ensures
+returns c = texts_spell

@@ -3,7 +3,8 @@ use Rattle.std.specs.Prelude.{sum_by, length}
 use Rattle.std.specs.Fmt.{decimal}
 use Rattle.game_core.specs.Game.{Game}
 use Rattle.game_core.specs.Solution.{IsReachSolution}
-use Rattle.abstraction_table.specs.Solution.{Solves}
+use Rattle.plant_game.specs.Solution.{Solves}
+use Rattle.plant_game.proofs.EdgeCounts.{games_count_their_edges}
 use Rattle.demo_plants.specs.Demo.{demo_plant_of}
 use Rattle.demo_plants.proofs.line.demo_line.Goals as goal
 
@@ -27,7 +28,7 @@ returns g c = record {
   rows = c.args.answer.now;
   edges = sum_by length (g.G.Graph.game c.args.game.now).successors;
   solution = record { game = g.G.Graph.game c.args.game.now; abstraction = c.requires.game; solution = goal_is c.args.n (g.G.Graph.game c.args.game.now) c.args.answer.now c.requires.solved };
-  counted = c.games_count_their_edges.ensures (demo_plant_of c.args.n) (g.G.Graph.game c.args.game.now) c.requires.game;
+  counted = games_count_their_edges (demo_plant_of c.args.n) (g.G.Graph.game c.args.game.now) c.requires.game;
   line =
       let pushed : c.extend_from_slice.new.self.items ≡ line_with c.args.n c.cells.result (c.cells-2.result * c.inputs.result) c.count_edges.result c.count_won.result c.greatest_rank.result =
       rw (c.in_ok-extend_from_slice.ensures.items, c.in_ok-push_part-6.ensures, c.in_ok-push_part-5.ensures, c.in_ok-push_part-4.ensures, c.in_ok-push_part-3.ensures, c.in_ok-push_part-2.ensures, c.in_ok-push_part.ensures, c.new-text.ensures.items)

@@ -13,7 +13,7 @@ pub step-requires : goal.step-requires
 step-requires c =
     let t = c.args.t.now in
     subst (λ (p : Description). c.args.row.input < vectors_of p.inputs) (sym c.requires.equations)
-    (row_fits t.plant t.rows c.args.sample.now.x c.args.row c.every_table_fits.ensures.rows c.requires.row).input
+    (row_fits t.plant t.rows c.args.sample.now.x c.args.row c.requires.rows c.requires.row).input
 
 pub unreachable-requires : goal.unreachable-requires
 unreachable-requires c =
@@ -24,7 +24,7 @@ unreachable-requires c =
     not_there c.requires.fits
     (λ fits. c.in_default.ensures
     (subst (λ (p : Description). StepStaysInRange p s.x c.args.row.input c.draw-state.result.0) (sym c.requires.equations)
-    (stays c.steps_stay_in_range.ensures c.plants_are_sound.ensures t.plant t.rows s.x c.draw-state.result.0 c.args.row s.state c.every_table_fits.ensures.limits c.every_table_fits.ensures.rows fits c.requires.row drawn)))
+    (stays t.plant t.rows s.x c.draw-state.result.0 c.args.row s.state c.requires.plant c.requires.rows fits c.requires.row drawn)))
 
 pub returns-clause-sample : goal.returns-clause-sample
 returns-clause-sample c =

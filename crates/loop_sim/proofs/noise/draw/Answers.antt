@@ -13,7 +13,7 @@ pub loop-k-preserved : goal.loop-k-preserved
 loop-k-preserved c =
     let noises = c.args.p.now.noises in
     let k = c.loop-k.k in
-    let limit = c.every_plant_is_within_limits.ensures.plant.noises_bound in
+    let limit = c.requires.plant.plant.noises_bound in
     let count = noise_count noises c.args.before 0 in
     let fits : FitsSigned w128 c.noise_of.result = search rules in
     let low : FitsSigned w128 c.noise_range-low.result.0 = search rules in

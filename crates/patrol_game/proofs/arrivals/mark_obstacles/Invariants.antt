@@ -1,7 +1,7 @@
 use Rattle.std.proofs.Common.{◌≡◌, ◌<◌}
 use Rattle.game_core.specs.declared.game.Mark.TheVariants.{Obstacle}
 use Rattle.game_core.specs.Game.{mark_of}
-use Rattle.abstraction_table.specs.inside.Marks.{AreMarked}
+use Rattle.plant_game.specs.Marks.{AreMarked}
 use Rattle.patrol_game.proofs.arrivals.mark_obstacles.Given as goal
 
 -- the obstacles so far are marked

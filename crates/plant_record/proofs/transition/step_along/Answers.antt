@@ -11,7 +11,7 @@ use Rattle.plant_record.proofs.transition.step_along.Goals as goal
 pub eval-requires : goal.eval-requires
 eval-requires c =
     let p = c.args.p.now in
-    let limits = c.every_plant_is_within_limits.ensures in
+    let limits = c.variables.ensures.plant in
     let six : AreSix p c.args.x.now c.args.noise.now = record { states = c.told-x; noises = c.told-noise; limits = limits } in
     let values : take c.variables.result c.values_at-values.result ≡ values_at p c.args.x.now c.args.input c.args.noise.now =
     ap (λ (n : ℕ). take n c.values_at-values.result) c.variables.ensures.count ∙ c.values_at-values.ensures

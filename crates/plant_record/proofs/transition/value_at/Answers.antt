@@ -7,18 +7,18 @@ use Rattle.plant_record.proofs.lemmas.VariableValues.{AreSix, names_count, state
 use Rattle.plant_record.proofs.transition.value_at.Goals as goal
 
 pub bounds-x-i : goal.bounds-x-i
-bounds-x-i c = omega (arith, c.every_plant_is_within_limits.ensures.plant.states_bound)
+bounds-x-i c = omega (arith, c.requires.plant.plant.states_bound)
 
 pub returns-then-i-states : goal.returns-then-i-states
 returns-then-i-states c =
-    let six : AreSix c.args.p.now c.args.x.now c.args.noise.now = record { states = c.told-x; noises = c.told-noise; limits = c.every_plant_is_within_limits.ensures } in
+    let six : AreSix c.args.p.now c.args.x.now c.args.noise.now = record { states = c.told-x; noises = c.told-noise; limits = c.requires.plant } in
     let fits : FitsSigned w128 (get_or c.args.x.now c.args.i (pos 0)) = search rules in
     let lt : c.args.i < length c.args.p.now.states = omega arith in
     to_z-of_z w128 _ fits ∙ state_value c.args.p.now c.args.x.now c.args.noise.now c.args.input c.args.i six lt
 
 pub returns-then-i-noises : goal.returns-then-i-noises
 returns-then-i-noises c =
-    let six : AreSix c.args.p.now c.args.x.now c.args.noise.now = record { states = c.told-x; noises = c.told-noise; limits = c.every_plant_is_within_limits.ensures } in
+    let six : AreSix c.args.p.now c.args.x.now c.args.noise.now = record { states = c.told-x; noises = c.told-noise; limits = c.requires.plant } in
     let fits : FitsSigned w128 c.input_value.result = search rules in
     let ge : length c.args.p.now.states ≤ c.args.i = omega arith in
     let lt : c.args.i < length c.args.p.now.states + length c.args.p.now.inputs = omega arith in
@@ -28,17 +28,17 @@ returns-then-i-noises c =
 
 pub offset_bounds-noise-i : goal.offset_bounds-noise-i
 offset_bounds-noise-i c =
-    let h = c.every_plant_is_within_limits.ensures.plant in
+    let h = c.requires.plant.plant in
     omega (arith, h.states_bound, h.inputs_bound, h.noises_bound, names_count c.args.p.now)
 
 pub bounds-noise-i : goal.bounds-noise-i
 bounds-noise-i c =
-    let h = c.every_plant_is_within_limits.ensures.plant in
+    let h = c.requires.plant.plant in
     omega (arith, h.states_bound, h.inputs_bound, h.noises_bound, names_count c.args.p.now)
 
 pub returns-else-i-noises : goal.returns-else-i-noises
 returns-else-i-noises c =
-    let six : AreSix c.args.p.now c.args.x.now c.args.noise.now = record { states = c.told-x; noises = c.told-noise; limits = c.every_plant_is_within_limits.ensures } in
+    let six : AreSix c.args.p.now c.args.x.now c.args.noise.now = record { states = c.told-x; noises = c.told-noise; limits = c.requires.plant } in
     let at = c.args.i - (c.states-states.result + c.input_variables.result) in
     let fits : FitsSigned w128 (get_or c.args.noise.now at (pos 0)) = search rules in
     let ge : length c.args.p.now.states + length c.args.p.now.inputs ≤ c.args.i = omega arith in

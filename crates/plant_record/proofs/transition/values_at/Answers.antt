@@ -10,7 +10,7 @@ use Rattle.plant_record.proofs.transition.values_at.Goals as goal
 
 pub loop-i-preserved : goal.loop-i-preserved
 loop-i-preserved c =
-    let six : AreSix c.args.p.now c.args.x.now c.args.noise.now = record { states = c.told-x; noises = c.told-noise; limits = c.every_plant_is_within_limits.ensures } in
+    let six : AreSix c.args.p.now c.args.x.now c.args.noise.now = record { states = c.told-x; noises = c.told-noise; limits = c.variables-i-end.ensures.plant } in
     let values = values_at c.args.p.now c.args.x.now c.args.input c.args.noise.now in
     let count : length values ≡ length (names_of c.args.p.now) = values_count c.args.p.now c.args.x.now c.args.noise.now c.args.input six in
     let fits : FitsSigned w128 c.value_at.result = search rules in
@@ -22,7 +22,7 @@ loop-i-preserved c =
 
 pub returns : goal.returns
 returns c =
-    let six : AreSix c.args.p.now c.args.x.now c.args.noise.now = record { states = c.told-x; noises = c.told-noise; limits = c.every_plant_is_within_limits.ensures } in
+    let six : AreSix c.args.p.now c.args.x.now c.args.noise.now = record { states = c.told-x; noises = c.told-noise; limits = c.variables-i-end.ensures.plant } in
     let values = values_at c.args.p.now c.args.x.now c.args.input c.args.noise.now in
     let count : length values ≡ length (names_of c.args.p.now) = values_count c.args.p.now c.args.x.now c.args.noise.now c.args.input six in
     let at : c.loop-i.i ≡ length (names_of c.args.p.now) = omega arith in

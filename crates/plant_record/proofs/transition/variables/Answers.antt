@@ -1,21 +1,8 @@
-use Rattle.std.proofs.Common.{arith}
+use Rattle.std.proofs.Common.{ap, length, arith}
+use Rattle.std.proofs.lemmas.List.{length-map}
+use Rattle.fixed_expr.specs.Expression.{expression_of}
 use Rattle.plant_record.proofs.lemmas.VariableValues.{names_count}
 use Rattle.plant_record.proofs.transition.variables.Goals as goal
 
-pub overflow_add-result : goal.overflow_add-result
-overflow_add-result c =
-    let h = c.every_plant_is_within_limits.ensures.plant in
-    omega (arith, h.states_bound, h.inputs_bound)
-
-pub overflow_add-result-2 : goal.overflow_add-result-2
-overflow_add-result-2 c =
-    let h = c.every_plant_is_within_limits.ensures.plant in
-    omega (arith, h.states_bound, h.inputs_bound, h.noises_bound)
-
 pub returns-clause-count : goal.returns-clause-count
-returns-clause-count c = omega (arith, names_count c.args.p.now)
-
-pub returns-clause-bound : goal.returns-clause-bound
-returns-clause-bound c =
-    let h = c.every_plant_is_within_limits.ensures.plant in
-    omega (arith, h.states_bound, h.inputs_bound, h.noises_bound)
+returns-clause-count c = omega (arith, names_count c.args.p.now, length-map c.equations.result.now expression_of, ap length c.equations.ensures.same, c.equations.ensures.limits.plant.one_each)

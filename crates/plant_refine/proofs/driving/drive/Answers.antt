@@ -1,27 +1,31 @@
 use Rattle.std.proofs.Common.{◌≡◌, ℕ, ◌<◌, length, false, true, subst, add-one, arith}
 use Rattle.grid_quantiser.specs.Axes.{cells_of}
 use Rattle.plant_record.specs.Description.{axes_of}
+use Rattle.plant_record.specs.Limits.{HasFewCells}
+use Rattle.plant_record.specs.Plants.{IsPlant}
 use Rattle.plant_refine.specs.Runs.{ArrivesFirst}
 use Rattle.plant_refine.proofs.Choosing.{rank_below}
 use Rattle.plant_refine.proofs.InBoxes.{gets}
 use Rattle.plant_refine.proofs.Arriving.{begins, goes_on, comes_in, some_rank}
+use Rattle.plant_refine.proofs.Down.{lead_down}
 use Rattle.plant_refine.proofs.driving.drive.Goals as goal
 
 pub loop-sample-init : goal.loop-sample-init
 loop-sample-init c =
-    let down = c.right_rows_lead_down.ensures c.args.p.now c.args.t.now.rows c.every_plant_is_within_limits.ensures.plant c.requires.right in
-    begins down c.args.x.now c.args.noises.now c.points_lie_with_their_states.ensures c.requires.start.0 c.requires.start.1 c.start_of-at.result c.start_of-at.ensures
+    let down = lead_down c.args.p.now c.args.t.now.rows (subst IsPlant c.requires.plant c.every_table_fits.ensures.limits.plant) c.requires.right in
+    begins down c.args.x.now c.args.noises.now c.requires.start.0 c.requires.start.1 c.start_of-at.result c.start_of-at.ensures
 
 pub overflow_cast-result : goal.overflow_cast-result
 overflow_cast-result c =
     let start = c.requires.start in
+    let few = subst HasFewCells c.requires.plant c.every_table_fits.ensures.limits.cells in
     let falls = c.loop-sample.invariant.falls start.0 start.1 in
-    let below : start.0.rank < cells_of (axes_of c.args.p.now) = rank_below c.args.p.now c.args.t.now.plant c.args.t.now.rows c.args.x.now start.0 c.requires.plant c.requires.goal c.rows_stand_at_cells.ensures c.every_table_fits.ensures.rows start.1 in
-    omega (arith, falls, below, c.every_plant_is_within_limits.ensures.cells)
+    let below : start.0.rank < cells_of (axes_of c.args.p.now) = rank_below c.args.p.now c.args.t.now.plant c.args.t.now.rows c.args.x.now start.0 c.requires.plant c.requires.goal c.every_table_fits.ensures.rows start.1 in
+    omega (arith, falls, below, few)
 
 pub returns-then-lies_in_target-clause-arrives : goal.returns-then-lies_in_target-clause-arrives
 returns-then-lies_in_target-clause-arrives c =
-    let down = c.right_rows_lead_down.ensures c.args.p.now c.args.t.now.rows c.every_plant_is_within_limits.ensures.plant c.requires.right in
+    let down = lead_down c.args.p.now c.args.t.now.rows (subst IsPlant c.requires.plant c.every_table_fits.ensures.limits.plant) c.requires.right in
     comes_in down c.args.x.now c.args.noises.now c.loop-sample.sample c.loop-sample.at c.loop-sample.invariant (c.if-lies_in_target.ensures.0 (let same : true ≡ true = cc in same))
 
 pub returns-then-lies_in_target-clause-bound : goal.returns-then-lies_in_target-clause-bound
@@ -29,26 +33,27 @@ returns-then-lies_in_target-clause-bound c = λ row has. omega (arith, c.loop-sa
 
 pub next_state-at-requires-clause-row : goal.next_state-at-requires-clause-row
 next_state-at-requires-clause-row c =
-    let down = c.right_rows_lead_down.ensures c.args.p.now c.args.t.now.rows c.every_plant_is_within_limits.ensures.plant c.requires.right in
+    let down = lead_down c.args.p.now c.args.t.now.rows (subst IsPlant c.requires.plant c.every_table_fits.ensures.limits.plant) c.requires.right in
     let h = c.loop-sample.invariant in
     (h.row, h.has, some_rank down c.args.x.now c.args.noises.now c.loop-sample.at h.row h.has (λ met. let false-true : false ≡ true = c.if-lies_in_target.ensures.1 met in cc))
 
 pub loop-sample-preserved : goal.loop-sample-preserved
 loop-sample-preserved c =
-    let down = c.right_rows_lead_down.ensures c.args.p.now c.args.t.now.rows c.every_plant_is_within_limits.ensures.plant c.requires.right in
+    let down = lead_down c.args.p.now c.args.t.now.rows (subst IsPlant c.requires.plant c.every_table_fits.ensures.limits.plant) c.requires.right in
     let lt : c.loop-sample.sample < length c.args.noises.now = omega arith in
     rw add-one (goes_on down c.args.x.now c.args.noises.now c.loop-sample.sample c.loop-sample.at _ c.next_state-at.result c.loop-sample.invariant (gets c.args.noises.now c.loop-sample.sample _ lt) c.next_state-at.ensures.moves c.next_state-at.ensures.lower (λ met. let false-true : false ≡ true = c.if-lies_in_target.ensures.1 met in cc))
 
 pub overflow_cast-result-2 : goal.overflow_cast-result-2
 overflow_cast-result-2 c =
     let start = c.requires.start in
+    let few = subst HasFewCells c.requires.plant c.every_table_fits.ensures.limits.cells in
     let falls = c.loop-sample.invariant.falls start.0 start.1 in
-    let below : start.0.rank < cells_of (axes_of c.args.p.now) = rank_below c.args.p.now c.args.t.now.plant c.args.t.now.rows c.args.x.now start.0 c.requires.plant c.requires.goal c.rows_stand_at_cells.ensures c.every_table_fits.ensures.rows start.1 in
-    omega (arith, falls, below, c.every_plant_is_within_limits.ensures.cells)
+    let below : start.0.rank < cells_of (axes_of c.args.p.now) = rank_below c.args.p.now c.args.t.now.plant c.args.t.now.rows c.args.x.now start.0 c.requires.plant c.requires.goal c.every_table_fits.ensures.rows start.1 in
+    omega (arith, falls, below, few)
 
 pub returns-clause-arrives : goal.returns-clause-arrives
 returns-clause-arrives c =
-    let down = c.right_rows_lead_down.ensures c.args.p.now c.args.t.now.rows c.every_plant_is_within_limits.ensures.plant c.requires.right in
+    let down = lead_down c.args.p.now c.args.t.now.rows (subst IsPlant c.requires.plant c.every_table_fits.ensures.limits.plant) c.requires.right in
     let start = c.requires.start in
     let h = c.loop-sample.invariant in
     let falls = h.falls start.0 start.1 in

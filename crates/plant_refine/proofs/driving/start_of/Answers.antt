@@ -8,5 +8,5 @@ use Rattle.plant_refine.proofs.driving.start_of.Goals as goal
 pub loop-i-preserved : goal.loop-i-preserved
 loop-i-preserved c =
     let fits : FitsSigned w128 (get_or c.args.x.now c.loop-i.i (pos 0)) = search rules in
-    let lt : c.loop-i.i < 6 = omega (arith, c.loop-i-test.true, c.states-i-end.ensures, c.every_plant_is_within_limits.ensures.plant.states_bound) in
+    let lt : c.loop-i.i < 6 = omega (arith, c.loop-i-test.true, c.states-i-end.ensures, c.requires.plant.plant.states_bound) in
     fill_next c.loop-i.i c.args.x.now c.loop-i.at _ c.told-x lt (to_z-of_z w128 _ fits) c.loop-i.invariant

@@ -2,9 +2,10 @@ use Rattle.std.proofs.Common.{◌≡◌, Option, None, length, refl, sym, ◌∙
 use Rattle.std.proofs.lemmas.List.{length-replicate}
 use Rattle.cell_counters.specs.Tokens.{BoardModel, new_root}
 use Rattle.game_core.specs.declared.game.Row.{Row}
-use Rattle.game_core.specs.Game.{Game}
+use Rattle.game_core.specs.Game.{Game, IsGraph}
 use Rattle.board_crew.specs.Rounds.{IsUnused}
 use Rattle.reach_avoid.specs.Boards.{IsBoardOf}
+use Rattle.reach_avoid.proofs.Plays.{playable}
 use Rattle.reach_avoid.proofs.Ends.{low_ranks, solved}
 use Rattle.reach_avoid.proofs.solver.solve_in.Goals as goal
 
@@ -13,7 +14,9 @@ of_inside : (game : Game) (inside seen : BoardModel) → inside ≡ seen → IsB
 of_inside game inside seen same h = subst (IsBoardOf game) (sym same) h
 
 pub play_all-requires-clause-board : goal.play_all-requires-clause-board
-play_all-requires-clause-board g c κs within = of_inside (g.G.Graph.game c.args.g.now) c.scratch.inside.board c.args.scratch c.scratch.view_is c.requires
+play_all-requires-clause-board g c κs within =
+    let game = g.G.Graph.game c.args.g.now in
+    playable game ((g.met.G.Graph g.world.𝓛 g.world.𝓜 g.world.𝓡 ((λ s x. x), (λ x. x), (λ x. x), λ x. x)).lawful c.args.g.now) c.scratch.inside.board (of_inside game c.scratch.inside.board c.args.scratch c.scratch.view_is c.requires)
 
 pub play_all-requires-clause-places : goal.play_all-requires-clause-places
 play_all-requires-clause-places g c κs within = (of_inside (g.G.Graph.game c.args.g.now) c.scratch.inside.board c.args.scratch c.scratch.view_is c.requires).log
@@ -39,12 +42,13 @@ read_rows-requires-clause-answer g c =
 
 pub read_rows-requires-clause-ranks : goal.read_rows-requires-clause-ranks
 read_rows-requires-clause-ranks g c =
-    low_ranks (g.G.Graph.game c.args.g.now) c.known_graph.ensures c.known_laws.ensures c.scratch.inside.board c.play_all.new.self c.play_all.ensures.over c.play_all.ensures.stands
+    low_ranks (g.G.Graph.game c.args.g.now) ((g.met.G.Graph g.world.𝓛 g.world.𝓜 g.world.𝓡 ((λ s x. x), (λ x. x), (λ x. x), λ x. x)).lawful c.args.g.now) c.scratch.inside.board c.play_all.new.self c.play_all.ensures.over c.play_all.ensures.stands
 
 pub returns : goal.returns
 returns g c =
     let game = g.G.Graph.game c.args.g.now in
-    solved game c.known_graph.ensures c.known_laws.ensures c.scratch.inside.board c.right_rows_are_the_solution.ensures
+    let a : IsGraph game = (g.met.G.Graph g.world.𝓛 g.world.𝓜 g.world.𝓡 ((λ s x. x), (λ x. x), (λ x. x), λ x. x)).lawful c.args.g.now in
+    solved game a c.scratch.inside.board
     (of_inside game c.scratch.inside.board c.args.scratch c.scratch.view_is c.requires)
     c.play_all.new.self c.play_all.ensures.over c.play_all.ensures.stands
     _ c.read_rows.ensures.rows refl refl c.read_rows.ensures.root

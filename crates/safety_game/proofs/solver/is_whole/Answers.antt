@@ -1,12 +1,12 @@
 use Rattle.std.proofs.Common.{◌≡◌, length, arith, sym, ◌∙◌}
 use Rattle.std.proofs.lemmas.Bool.{le-ltb}
-use Rattle.game_core.specs.Game.{successors_at}
+use Rattle.game_core.specs.Game.{IsGraph, successors_at}
 use Rattle.safety_game.proofs.OnBoards.{counters_of_board, left_of_pair, whole_told, none_whole}
 use Rattle.safety_game.proofs.solver.is_whole.Goals as goal
 
 pub left-left-requires-clause-counter : goal.left-left-requires-clause-counter
 left-left-requires-clause-counter g c =
-    let many = counters_of_board (g.G.Graph.game c.args.g.now) c.known_graph.ensures c.args.board.now c.requires.board in
+    let many = counters_of_board (g.G.Graph.game c.args.g.now) (g.met.G.Graph.lawful c.args.g.now) c.args.board.now c.requires.board in
     let lt = c.requires.pair in
     omega arith
 
@@ -16,7 +16,8 @@ returns-then-fan-gt0-clause-whole g c =
     let accounts = c.args.root.now.accounts in
     let pair = c.args.pair in
     let few = c.requires.few pair c.requires.pair in
-    let left = left_of_pair game c.known_graph.ensures c.args.board.now c.requires.board c.known_laws.ensures accounts pair c.left-left.result c.requires.pair few c.left-left.ensures.lawful in
+    let a : IsGraph game = g.met.G.Graph.lawful c.args.g.now in
+    let left = left_of_pair game a c.args.board.now c.requires.board accounts pair c.left-left.result c.requires.pair few c.left-left.ensures.lawful in
     whole_told game accounts pair c.from-fan.result c.left-left.result (let e = c.from-fan.ensures in let f = c.fan.ensures in omega arith) few left c.if-fan-gt0.true
 
 pub returns-else-fan-gt0-clause-whole : goal.returns-else-fan-gt0-clause-whole

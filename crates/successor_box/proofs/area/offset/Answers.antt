@@ -9,12 +9,12 @@ use Rattle.successor_box.proofs.area.offset.Goals as goal
 pub noise_offset-requires-clause-low : goal.noise_offset-requires-clause-low
 noise_offset-requires-clause-low c =
     let fits : FitsSigned w128 c.noise_range-low.result.0 = search rules in
-    rw (to_z-of_z w128 c.noise_range-low.result.0 fits) (noise_bounds c.args.p.now.noises _ c.noise_range-low.result c.every_plant_is_within_limits.ensures.plant.noises c.noise_range-low.ensures).low
+    rw (to_z-of_z w128 c.noise_range-low.result.0 fits) (noise_bounds c.args.p.now.noises _ c.noise_range-low.result c.requires.plant.plant.noises c.noise_range-low.ensures).low
 
 pub noise_offset-requires-clause-high : goal.noise_offset-requires-clause-high
 noise_offset-requires-clause-high c =
     let fits : FitsSigned w128 c.noise_range-low.result.1 = search rules in
-    rw (to_z-of_z w128 c.noise_range-low.result.1 fits) (noise_bounds c.args.p.now.noises _ c.noise_range-low.result c.every_plant_is_within_limits.ensures.plant.noises c.noise_range-low.ensures).high
+    rw (to_z-of_z w128 c.noise_range-low.result.1 fits) (noise_bounds c.args.p.now.noises _ c.noise_range-low.result c.requires.plant.plant.noises c.noise_range-low.ensures).high
 
 pub returns-then-k-states : goal.returns-then-k-states
 returns-then-k-states c = λ u.

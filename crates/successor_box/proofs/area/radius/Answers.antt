@@ -16,12 +16,12 @@ returns-then-k-states-2 c = λ u. input_radius c.args.p.now u c.args.k (pos 0) (
 pub noise_radius-requires-clause-low : goal.noise_radius-requires-clause-low
 noise_radius-requires-clause-low c =
     let fits : FitsSigned w128 c.noise_range-low.result.0 = search rules in
-    rw (to_z-of_z w128 c.noise_range-low.result.0 fits) (noise_bounds c.args.p.now.noises _ c.noise_range-low.result c.every_plant_is_within_limits.ensures.plant.noises c.noise_range-low.ensures).low
+    rw (to_z-of_z w128 c.noise_range-low.result.0 fits) (noise_bounds c.args.p.now.noises _ c.noise_range-low.result c.requires.plant.plant.noises c.noise_range-low.ensures).low
 
 pub noise_radius-requires-clause-high : goal.noise_radius-requires-clause-high
 noise_radius-requires-clause-high c =
     let fits : FitsSigned w128 c.noise_range-low.result.1 = search rules in
-    rw (to_z-of_z w128 c.noise_range-low.result.1 fits) (noise_bounds c.args.p.now.noises _ c.noise_range-low.result c.every_plant_is_within_limits.ensures.plant.noises c.noise_range-low.ensures).high
+    rw (to_z-of_z w128 c.noise_range-low.result.1 fits) (noise_bounds c.args.p.now.noises _ c.noise_range-low.result c.requires.plant.plant.noises c.noise_range-low.ensures).high
 
 pub returns : goal.returns
 returns c = λ u.

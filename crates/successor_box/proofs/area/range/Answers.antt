@@ -14,7 +14,7 @@ returns-then-k-states c =
     let k : ℕ = c.args.k in
     let low : FitsSigned w128 (get_or c.args.low.now k (pos 0)) = search rules in
     let high : FitsSigned w128 (get_or c.args.high.now k (pos 0)) = search rules in
-    let few = c.every_plant_is_within_limits.ensures.plant.states_bound in
+    let few = c.requires.plant.plant.states_bound in
     let lt : k < n = omega arith in
     rw (to_z-of_z w128 (get_or c.args.low.now k (pos 0)) low, to_z-of_z w128 (get_or c.args.high.now k (pos 0)) high)
     (ap₂ (λ (x y : ℤ). record { lo = x; hi = y }) (sym (get_or-take n c.args.low.now k (pos 0) lt)) (sym (get_or-take n c.args.high.now k (pos 0) lt))
@@ -24,7 +24,7 @@ pub returns-then-k-states-2 : goal.returns-then-k-states-2
 returns-then-k-states-2 c =
     let p = c.args.p.now in
     let n : ℕ = length p.states in
-    let few = c.every_plant_is_within_limits.ensures.plant.states_bound in
+    let few = c.requires.plant.plant.states_bound in
     let value : FitsSigned w128 c.input_value-value.result = search rules in
     rw (to_z-of_z w128 c.input_value-value.result value, c.input_value-value.ensures, c.states-states.ensures)
     (input_between p c.args.input (take n c.args.low.now) (take n c.args.high.now) (length-take-le n c.args.low.now (omega arith)) (length-take-le n c.args.high.now (omega arith)) c.args.k no_range (omega arith) (omega arith))
@@ -33,7 +33,7 @@ pub returns : goal.returns
 returns c =
     let p = c.args.p.now in
     let n : ℕ = length p.states in
-    let few = c.every_plant_is_within_limits.ensures.plant.states_bound in
+    let few = c.requires.plant.plant.states_bound in
     let low : FitsSigned w128 c.noise_range-lo.result.0 = search rules in
     let high : FitsSigned w128 c.noise_range-lo.result.1 = search rules in
     rw (to_z-of_z w128 c.noise_range-lo.result.0 low, to_z-of_z w128 c.noise_range-lo.result.1 high)

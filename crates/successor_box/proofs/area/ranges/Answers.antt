@@ -14,7 +14,7 @@ pub returns : goal.returns
 returns c =
     let p = c.args.p.now in
     let n = length p.states in
-    let sound = sound_plant p c.every_plant_is_within_limits.ensures.plant in
+    let sound = sound_plant p c.requires.plant.plant in
     let axes = axes_of p in
     let low : take n c.low.result ≡ low_of axes 0 = ap (take n) (c.low.ensures ∙ ap (λ (l : List Axis). point_of (low_of l 0)) c.grid-grid.ensures) ∙ point_front (low_of axes 0) n (low_count p 0 c.args.input) in
     let high : take n c.high.result ≡ high_of axes (cells_of axes - 1) =

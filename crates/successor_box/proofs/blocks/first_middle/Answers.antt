@@ -6,11 +6,18 @@ use Rattle.std.proofs.lemmas.List.{length-map}
 use Rattle.grid_quantiser.specs.declared.axis.Axis.{Axis}
 use Rattle.grid_quantiser.specs.Axes.{no_axis}
 use Rattle.grid_quantiser.specs.Cells.{low_of, high_of, radius_of, point_of}
+use Rattle.grid_quantiser.proofs.Suffixes.{some_cells}
 use Rattle.plant_record.specs.Description.{axis_of, axes_of}
 use Rattle.plant_record.proofs.lemmas.SoundPlants.{sound as sound_plant}
 use Rattle.successor_box.proofs.Columns.{axis_at}
 use Rattle.successor_box.proofs.Middles.{IsFirstCell, first_cell, low_at, high_at}
 use Rattle.successor_box.proofs.blocks.first_middle.Goals as goal
+
+pub low-requires : goal.low-requires
+low-requires c = rw c.grid-grid.ensures (some_cells (axes_of c.args.p.now) (sound_plant c.args.p.now c.requires.plant.plant).axes.each)
+
+pub high-requires : goal.high-requires
+high-requires c = rw c.grid-grid.ensures (some_cells (axes_of c.args.p.now) (sound_plant c.args.p.now c.requires.plant.plant).axes.each)
 
 -- what the calls found
 found : (c : goal.After-radius) → IsFirstCell (get_or (axes_of c.args.p.now) c.args.state no_axis) (get_or c.low.result c.args.state (pos 0)) (get_or c.high.result c.args.state (pos 0)) c.radius.result

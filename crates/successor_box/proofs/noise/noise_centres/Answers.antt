@@ -12,17 +12,17 @@ use Rattle.successor_box.proofs.noise.noise_centres.Goals as goal
 pub noise_centre-requires-clause-low : goal.noise_centre-requires-clause-low
 noise_centre-requires-clause-low c =
     let fits : FitsSigned w128 c.noise_range-low.result.0 = search rules in
-    rw (to_z-of_z w128 c.noise_range-low.result.0 fits) (noise_bounds c.args.p.now.noises _ c.noise_range-low.result c.every_plant_is_within_limits.ensures.plant.noises c.noise_range-low.ensures).low
+    rw (to_z-of_z w128 c.noise_range-low.result.0 fits) (noise_bounds c.args.p.now.noises _ c.noise_range-low.result c.requires.plant.plant.noises c.noise_range-low.ensures).low
 
 pub noise_centre-requires-clause-high : goal.noise_centre-requires-clause-high
 noise_centre-requires-clause-high c =
     let fits : FitsSigned w128 c.noise_range-low.result.1 = search rules in
-    rw (to_z-of_z w128 c.noise_range-low.result.1 fits) (noise_bounds c.args.p.now.noises _ c.noise_range-low.result c.every_plant_is_within_limits.ensures.plant.noises c.noise_range-low.ensures).high
+    rw (to_z-of_z w128 c.noise_range-low.result.1 fits) (noise_bounds c.args.p.now.noises _ c.noise_range-low.result c.requires.plant.plant.noises c.noise_range-low.ensures).high
 
 pub loop-k-preserved : goal.loop-k-preserved
 loop-k-preserved c =
     let noises = c.args.p.now.noises in
-    let limit = c.every_plant_is_within_limits.ensures.plant.noises_bound in
+    let limit = c.requires.plant.plant.noises_bound in
     let count = length-map noises noise_centre in
     let fits : FitsSigned w128 c.noise_centre.result = search rules in
     let low : FitsSigned w128 c.noise_range-low.result.0 = search rules in

@@ -16,7 +16,7 @@ of-deviation-requires-clause-input c = rw c.requires.slopes (rw (row_count c.arg
 pub overflow_sub-result : goal.overflow_sub-result
 overflow_sub-result c =
     let p = c.args.p.now in
-    let plant = c.every_plant_is_within_limits.ensures.plant in
+    let plant = c.requires.plant.plant in
     let x : ℤ = c.args.next in
     let d : ℤ = c.of-deviation.result in
     let next : FitsSigned w128 x = search rules in
@@ -28,7 +28,7 @@ overflow_sub-result c =
 pub overflow_add-result : goal.overflow_add-result
 overflow_add-result c =
     let p = c.args.p.now in
-    let plant = c.every_plant_is_within_limits.ensures.plant in
+    let plant = c.requires.plant.plant in
     let x : ℤ = c.args.next in
     let d : ℤ = c.of-deviation.result in
     let next : FitsSigned w128 x = search rules in
@@ -40,7 +40,7 @@ overflow_add-result c =
 pub returns-clause-low : goal.returns-clause-low
 returns-clause-low c =
     let p = c.args.p.now in
-    let plant = c.every_plant_is_within_limits.ensures.plant in
+    let plant = c.requires.plant.plant in
     let x : ℤ = c.args.next in
     let d : ℤ = c.of-deviation.result in
     let next : FitsSigned w128 x = search rules in
@@ -52,7 +52,7 @@ returns-clause-low c =
 pub returns-clause-high : goal.returns-clause-high
 returns-clause-high c =
     let p = c.args.p.now in
-    let plant = c.every_plant_is_within_limits.ensures.plant in
+    let plant = c.requires.plant.plant in
     let x : ℤ = c.args.next in
     let d : ℤ = c.of-deviation.result in
     let next : FitsSigned w128 x = search rules in

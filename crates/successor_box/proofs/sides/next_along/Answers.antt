@@ -20,7 +20,7 @@ use Rattle.successor_box.proofs.sides.next_along.Goals as goal
 pub unreachable-requires : goal.unreachable-requires
 unreachable-requires c =
     let p = c.args.p.now in
-    let plant = c.every_plant_is_within_limits.ensures.plant in
+    let plant = c.requires.plant.plant in
     let sound = sound_plant p plant in
     let start : c.centre-centre.result ≡ point_of (centre_of (axes_of p) c.args.c) = c.centre-centre.ensures ∙ ap (λ (axes : List Axis). point_of (centre_of axes c.args.c)) c.grid.ensures in
     let inside = domain_more (axes_of p) (centre_of (axes_of p) c.args.c) _ (centres_are_near (axes_of p) c.args.c sound.axes c.requires.cell).0.0 in

@@ -6,16 +6,17 @@ use Rattle.std.proofs.lemmas.List.{map-append, map_more, take_all}
 use Rattle.fixed_expr.specs.Expression.{Number}
 use Rattle.plant_record.specs.Description.{vectors_of}
 use Rattle.successor_box.specs.Deviations.{HasNoOverflowAt, deviations_along}
+use Rattle.successor_box.proofs.DeviationRows.{equations_count}
 use Rattle.successor_box.proofs.slopes.find_slopes.Goals as goal
 
 pub deviations_along-requires-clause-equation : goal.deviations_along-requires-clause-equation
-deviations_along-requires-clause-equation c = let each = c.every_plant_is_within_limits.ensures.plant.one_each in omega (arith, each)
+deviations_along-requires-clause-equation c = let each = equations_count _ _ c.equations-equation-end.ensures.same in omega (arith, each)
 
 pub loop-equation-preserved : goal.loop-equation-preserved
 loop-equation-preserved c =
     let p = c.args.p.now in
     let k = c.loop-equation.equation in
-    let each = c.every_plant_is_within_limits.ensures.plant.one_each in
+    let each = equations_count _ _ c.equations-equation-end.ensures.same in
     let below : k < length p.equations = omega (arith, each) in
     record {
       so_far = ap (map (λ (row : Vec ℤ). row.items)) c.in_ok-push.ensures.items ∙ map-append (λ (row : Vec ℤ). row.items) c.loop-equation.rows.items (c.in_ok-deviations_along.field-0 ∷ [])
@@ -27,10 +28,10 @@ loop-equation-preserved c =
 pub returns-clause-found : goal.returns-clause-found
 returns-clause-found c =
     let p = c.args.p.now in
-    let each = c.every_plant_is_within_limits.ensures.plant.one_each in
+    let each = equations_count _ _ c.equations-equation-end.ensures.same in
     c.loop-equation.invariant.so_far ∙ ap (map (deviations_along p)) (take_all c.loop-equation.equation p.equations (omega (arith, each)))
 
 pub returns-clause-fits : goal.returns-clause-fits
 returns-clause-fits c =
-    let each = c.every_plant_is_within_limits.ensures.plant.one_each in
+    let each = equations_count _ _ c.equations-equation-end.ensures.same in
     λ i u lt lu. c.loop-equation.invariant.fits i u (omega (arith, each)) lu

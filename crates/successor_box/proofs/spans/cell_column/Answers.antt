@@ -10,7 +10,7 @@ use Rattle.successor_box.proofs.spans.cell_column.Goals as goal
 pub overflow_cast-offset : goal.overflow_cast-offset
 overflow_cast-offset c =
     let p = c.args.p.now in
-    let plant = c.every_plant_is_within_limits.ensures.plant in
+    let plant = c.requires.plant.plant in
     let k : ℕ = c.args.k in
     let o : Interval = c.offset-offset.result in
     let first : 0 < 32 = omega arith in
@@ -22,7 +22,7 @@ overflow_cast-offset c =
 pub moved-requires : goal.moved-requires
 moved-requires c = λ row lt.
     let p = c.args.p.now in
-    let plant = c.every_plant_is_within_limits.ensures.plant in
+    let plant = c.requires.plant.plant in
     let k : ℕ = c.args.k in
     let o : Interval = c.offset-offset.result in
     let pair = c.requires.pairs row lt in
@@ -33,7 +33,7 @@ moved-requires c = λ row lt.
 pub overflow_cast-offset-2 : goal.overflow_cast-offset-2
 overflow_cast-offset-2 c =
     let p = c.args.p.now in
-    let plant = c.every_plant_is_within_limits.ensures.plant in
+    let plant = c.requires.plant.plant in
     let k : ℕ = c.args.k in
     let o : Interval = c.offset-offset.result in
     let first : 0 < 32 = omega arith in
@@ -45,7 +45,7 @@ overflow_cast-offset-2 c =
 pub moved-requires-2 : goal.moved-requires-2
 moved-requires-2 c = λ row lt.
     let p = c.args.p.now in
-    let plant = c.every_plant_is_within_limits.ensures.plant in
+    let plant = c.requires.plant.plant in
     let k : ℕ = c.args.k in
     let o : Interval = c.offset-offset.result in
     let pair = c.requires.pairs row lt in
@@ -56,7 +56,7 @@ moved-requires-2 c = λ row lt.
 pub returns : goal.returns
 returns c = λ row cell u lt is.
     let p = c.args.p.now in
-    let plant = c.every_plant_is_within_limits.ensures.plant in
+    let plant = c.requires.plant.plant in
     let k : ℕ = c.args.k in
     let o : Interval = c.offset-offset.result in
     let range = range_of_column p cell u (sound_plant p plant) is.cell plant k c.requires.variable (get_or (get_or c.args.columns.now k []) row (pos 0)) o (c.requires.columns.each row cell u lt is k c.requires.variable) (c.offset-offset.ensures u) in

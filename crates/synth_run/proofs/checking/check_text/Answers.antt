@@ -1,4 +1,5 @@
 use Rattle.std.proofs.Common.{inl}
+use Rattle.plant_refine.proofs.SolutionTables.{tables_control}
 use Rattle.synth_run.proofs.Reporting.{on_ok_both, exits}
 use Rattle.synth_run.proofs.Tables.{refused_by_fault}
 use Rattle.synth_run.specs.inside.Causes.{of_table}
@@ -16,7 +17,7 @@ returns-clause-valid g c =
       table = table;
       solvable = solvable;
       solution = solution;
-      controls = c.solution_tables_control_plants.ensures c.args.bytes.now plant rows table solution;
+      controls = tables_control c.args.bytes.now plant rows table solution;
     })
     c.check_table.ensures.solvable
     c.check_table.ensures.solution

@@ -1,7 +1,7 @@
 use Rattle.std.proofs.Common.{sym, subst}
 use Rattle.plant_record.specs.declared.aims.GoalKind.{GoalKind}
 use Rattle.plant_record.specs.Description.{Description}
-use Rattle.abstraction_table.specs.Abstraction.{IsGameOf}
+use Rattle.plant_game.specs.Abstraction.{IsGameOf}
 use Rattle.abstraction_table.specs.Table.{game_of}
 use Rattle.synth_run.specs.Demands.{IsSolvable}
 use Rattle.synth_run.specs.inside.Judging.{IsVerdictFor}

@@ -1,7 +1,8 @@
 use Rattle.std.proofs.Common.{◌≡◌, ◌≢◌, subst}
 use Rattle.std.specs.Prelude.{IfOk}
 use Rattle.plant_record.specs.Description.{Description}
-use Rattle.abstraction_table.specs.Abstraction.{IsGameOf}
+use Rattle.plant_game.specs.Abstraction.{IsGameOf}
+use Rattle.demo_plants.proofs.lemmas.Solvable.{solvable}
 use Rattle.abstraction_table.specs.Table.{game_ahead}
 use Rattle.abstraction_table.specs.declared.outlook.Outlook.{Outlook}
 use Rattle.synth_run.specs.Demands.{PlantDemands}
@@ -19,5 +20,5 @@ pub returns-clause-memory : goal.returns-clause-memory
 returns-clause-memory g c =
     let n = c.args.n in
     if_err_both c.outlook_of.result (λ (outcome : Outcome). outcome ≢ Done) (λ (outcome : Outcome). outcome ≢ NoMemory → PlantDemands c.in_ok-plant.plant outcome) (λ (outcome : Outcome). outcome ≡ NoMemory)
-    (λ outcome failed demanded. no_refusal n (c.demo_plants_are_solvable.ensures n c.requires) outcome failed (λ some. subst (λ (p : Description). PlantDemands p outcome) c.in_ok-plant.ensures (demanded some)))
+    (λ outcome failed demanded. no_refusal n (solvable n c.requires) outcome failed (λ some. subst (λ (p : Description). PlantDemands p outcome) c.in_ok-plant.ensures (demanded some)))
     c.outlook_of.ensures.failed c.outlook_of.ensures.demanded

@@ -1,7 +1,7 @@
 use Rattle.std.proofs.Common.{◌≡◌, ℕ, refl, sym, subst}
 use Rattle.game_core.specs.Game.{Game}
 use Rattle.plant_record.specs.declared.aims.GoalKind.TheVariants.{Reach}
-use Rattle.abstraction_table.specs.Abstraction.{IsGameOf}
+use Rattle.plant_game.specs.Abstraction.{IsGameOf}
 use Rattle.demo_plants.specs.Demo.{demo_plant_of}
 use Rattle.synth_run.specs.declared.outcome.Outcome.{Outcome}
 use Rattle.synth_run.specs.declared.outcome.Outcome.TheVariants.{NoMemory}

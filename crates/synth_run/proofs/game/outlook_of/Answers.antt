@@ -4,4 +4,4 @@ use Rattle.synth_run.proofs.game.outlook_of.Goals as goal
 
 pub returns-clause-solvable : goal.returns-clause-solvable
 returns-clause-solvable g c =
-    is_solvable c.games_count_their_edges.ensures c.args.plant.now (game_ahead c.in_ok-game.game) c.in_ok-slopes.ensures.fits c.in_ok-game.ensures.game c.graph_is_within_limits.ensures
+    is_solvable c.args.plant.now (game_ahead c.in_ok-game.game) c.in_ok-slopes.ensures.fits c.in_ok-game.ensures.game c.in_ok-game.game.ahead.in_memory.graph

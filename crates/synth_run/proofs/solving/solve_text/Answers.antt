@@ -1,8 +1,9 @@
 use Rattle.std.proofs.Common.{refl, sym, subst}
 use Rattle.game_core.specs.Game.{Game}
-use Rattle.abstraction_table.specs.Abstraction.{IsGameOf}
+use Rattle.plant_game.specs.Abstraction.{IsGameOf}
 use Rattle.abstraction_table.specs.Table.{game_of}
 use Rattle.controller_table.specs.TableText.{written, table_text}
+use Rattle.plant_refine.proofs.SolutionTables.{tables_control}
 use Rattle.synth_run.proofs.Leaving.{left, resolved_on}
 use Rattle.synth_run.proofs.Tables.{is_solution, solution_fits}
 use Rattle.synth_run.proofs.solving.solve_text.Goals as goal
@@ -16,8 +17,8 @@ returns-clause-table g c =
     let rows = c.in_ok-resolved.resolved.answer in
     let solution = is_solution p game rows c.goal.result c.goal.ensures abstraction c.in_ok-resolved.ensures.resolved.solution in
     let fits =
-    solution_fits c.reach_solutions_fit.ensures c.keep_solutions_fit.ensures p game rows c.goal.result c.goal.ensures
-    (record { graph = c.graph_is_within_limits.ensures; cells = abstraction.cells; inputs = abstraction.inputs })
+    solution_fits p game rows c.goal.result c.goal.ensures
+    (record { graph = c.in_ok-resolved.resolved.game.ahead.in_memory.graph; cells = abstraction.cells; inputs = abstraction.inputs })
     c.in_ok-resolved.ensures.resolved.solution in (
       p,
       accepted,
@@ -27,7 +28,7 @@ returns-clause-table g c =
         solution = solution;
         fitting = fits;
         text_is = refl;
-        controls = c.solution_tables_control_plants.ensures (table_text written p rows) p rows (record { limits = accepted.limits; fitting = fits; version = written; text = refl }) solution;
+        controls = tables_control (table_text written p rows) p rows (record { limits = accepted.limits; fitting = fits; version = written; text = refl }) solution;
       },
     )
 
@@ -36,8 +37,8 @@ returns-clause-fits g c =
     let p = c.in_ok-plant.plant in
     let resolved = c.in_ok-resolved.resolved in
     let abstraction = subst (λ (h : Game). IsGameOf p h) (sym c.in_ok-resolved.ensures.game) c.in_ok-plant.ensures.game in
-    solution_fits c.reach_solutions_fit.ensures c.keep_solutions_fit.ensures p (game_of resolved.game) resolved.answer c.goal.result c.goal.ensures
-    (record { graph = c.graph_is_within_limits.ensures; cells = abstraction.cells; inputs = abstraction.inputs })
+    solution_fits p (game_of resolved.game) resolved.answer c.goal.result c.goal.ensures
+    (record { graph = c.in_ok-resolved.resolved.game.ahead.in_memory.graph; cells = abstraction.cells; inputs = abstraction.inputs })
     c.in_ok-resolved.ensures.resolved.solution
 
 pub returns-clause-played : goal.returns-clause-played

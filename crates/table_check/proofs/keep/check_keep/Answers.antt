@@ -1,6 +1,7 @@
 use Rattle.std.proofs.Common.{◌≡◌, length, ap, sym, ◌∙◌, subst}
 use Rattle.game_core.specs.Keep.{IsKeepSolution}
 use Rattle.game_core.specs.Solution.{row_of}
+use Rattle.game_core.proofs.Keep.{one_keep_solution}
 use Rattle.table_check.specs.Verdicts.{IsVerdict, HasItsKeepRow}
 use Rattle.table_check.proofs.Verdicts.{same_verdict}
 use Rattle.table_check.proofs.keep.check_keep.Goals as goal
@@ -11,7 +12,7 @@ returns g c =
     let rows = c.args.t.now.rows in
     let kept = c.in_ok-kept.kept in
     let solution : IsKeepSolution game kept = c.in_ok-kept.ensures in
-    let one = c.one_keep_solution.ensures game in
+    let one = one_keep_solution game in
     subst (λ n. IsVerdict (IsKeepSolution game rows) (HasItsKeepRow game rows) n c.compare.result) solution.one_each
     (same_verdict (rows ≡ kept) (λ b. row_of rows b ≡ row_of kept b) (length kept) (IsKeepSolution game rows) (HasItsKeepRow game rows) c.compare.result
     (λ e. subst (IsKeepSolution game) (sym e) solution, λ s. one rows kept s solution)

@@ -4,6 +4,7 @@ use Rattle.grid_quantiser.specs.Boxes.{IsCellBox, cells_between}
 use Rattle.successor_box.specs.Boxes.{cells_in}
 use Rattle.abstraction_table.specs.inside.Sources.{IsBox}
 use Rattle.abstraction_table.specs.inside.Tallies.{places_in}
+use Rattle.abstraction_table.proofs.BelowBoxes.{cells_lie_between_corners}
 use Rattle.abstraction_table.proofs.BandPlaces.{places-none}
 use Rattle.abstraction_table.proofs.band.Band.reached.Goals as goal
 use Rattle.abstraction_table.proofs.band.Band.reached.Goals.{then-b-self-via-then-b-self, then-b-self-via-else-b-self+then-self-b}
@@ -17,7 +18,7 @@ returns-then-b-self-clause-none c =
     elim c.then-b-self.branch [ then-b-self-via-then-b-self w ↦ inl w.if-b-self.true | then-b-self-via-else-b-self+then-self-b w ↦ inr w.if-self-b.true ]
     in
     let box : IsCellBox axes b.first b.last = subst (IsBox axes) c.in_ok-b.was c.requires.ordered in
-    let all = c.cells_lie_between_corners.ensures axes b.first b.last c.every_grid_is_within_the_limit.ensures.axes box in
+    let all = cells_lie_between_corners axes b.first b.last c.requires.grid box in
     let none = places-none band.from band.len (cells_between axes b.first b.last) (λ k d lt low high.
     let between = all k d lt in
     elim apart [ inl before ↦ omega (arith, before, between.1, low) | inr behind ↦ omega (arith, behind, between.0, high) ])

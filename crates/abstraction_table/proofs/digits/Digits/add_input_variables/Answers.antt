@@ -1,5 +1,6 @@
 use Rattle.std.proofs.Common.{◌≡◌, ◌<◌, ◌+◌, ◌*◌, ◌/◌, ℕ, List, length, drop, refl, sym, ap, ap₂, subst, subst₂, ◌∙◌, arith, inl, inr}
 use Rattle.std.proofs.lemmas.Bool.{cases_Bool}
+use Rattle.plant_record.proofs.lemmas.SoundPlants.{sound as sound_plant}
 use Rattle.successor_box.specs.Sides.{rests_on}
 use Rattle.abstraction_table.specs.declared.digits.Digit.{Digit}
 use Rattle.abstraction_table.specs.inside.Digits.{counts_of, combinations, AreDigitsBetween}
@@ -19,23 +20,23 @@ loop-variable-init c =
 pub nonzero_div-in_pair : goal.nonzero_div-in_pair
 nonzero_div-in_pair c =
     let p = c.args.p.now in
-    let plant = c.every_plant_is_within_limits.ensures.plant in
+    let plant = c.requires.plant.plant in
     let known : c.loop-variable.variable < length p.states + length p.inputs = omega (arith, c.loop-variable-test.true, c.states-variable.ensures, c.states.ensures, c.input_variables.ensures) in
-    omega (arith, c.count_of-count.ensures, some_count p plant (c.plants_are_sound.ensures p plant) c.args.state c.loop-variable.variable c.loop-variable.self.places known)
+    omega (arith, c.count_of-count.ensures, some_count p plant (sound_plant p plant) c.args.state c.loop-variable.variable c.loop-variable.self.places known)
 
 pub add-requires-clause-fits : goal.add-requires-clause-fits
 add-requires-clause-fits c =
     let p = c.args.p.now in
-    let limits = c.every_plant_is_within_limits.ensures in
+    let limits = c.requires.plant in
     let places : ℕ = c.loop-variable.self.places in
     let known : c.loop-variable.variable < length p.states + length p.inputs = omega (arith, c.loop-variable-test.true, c.states-variable.ensures, c.states.ensures, c.input_variables.ensures) in
-    omega (arith, few_still p limits.plant (c.plants_are_sound.ensures p limits.plant) c.args.state c.loop-variable.variable places c.loop-variable.self.each.items known c.loop-variable.invariant.so_far limits.pairs, ap (λ (m : ℕ). places * m) c.count_of-count.ensures)
+    omega (arith, few_still p limits.plant (sound_plant p limits.plant) c.args.state c.loop-variable.variable places c.loop-variable.self.each.items known c.loop-variable.invariant.so_far limits.pairs, ap (λ (m : ℕ). places * m) c.count_of-count.ensures)
 
 pub loop-variable-preserved : goal.loop-variable-preserved
 loop-variable-preserved c =
     let p = c.args.p.now in
-    let plant = c.every_plant_is_within_limits.ensures.plant in
-    let sound = c.plants_are_sound.ensures p plant in
+    let plant = c.requires.plant.plant in
+    let sound = sound_plant p plant in
     let i : ℕ = c.args.state in
     let k : ℕ = c.loop-variable.variable in
     let places : ℕ = c.loop-variable.self.places in

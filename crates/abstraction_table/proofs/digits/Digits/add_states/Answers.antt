@@ -2,6 +2,7 @@ use Rattle.std.proofs.Common.{◌≡◌, ◌<◌, ◌≤◌, ◌+◌, ◌-◌, �
 use Rattle.std.proofs.Math.Nat.{mul_comm}
 use Rattle.std.proofs.lemmas.Bool.{cases_Bool}
 use Rattle.plant_record.specs.Description.{Description}
+use Rattle.plant_record.proofs.lemmas.SoundPlants.{sound as sound_plant}
 use Rattle.successor_box.specs.Sides.{rests_on}
 use Rattle.abstraction_table.specs.declared.digits.Digit.{Digit}
 use Rattle.abstraction_table.specs.inside.Digits.{counts_of, combinations, AreDigitsBetween}
@@ -12,8 +13,8 @@ use Rattle.abstraction_table.proofs.digits.Digits.add_states.Goals as goal
 pub loop-variable-init : goal.loop-variable-init
 loop-variable-init c =
     let p = c.args.p.now in
-    let plant = c.every_plant_is_within_limits.ensures.plant in
-    let sound = c.plants_are_sound.ensures p plant in
+    let plant = c.requires.plant.plant in
+    let sound = sound_plant p plant in
     let i : ℕ = c.args.state in
     let last : ℕ = length p.states in
     let all : last ≡ c.states-variable.result = sym c.states-variable.ensures in
@@ -45,24 +46,24 @@ next p i v some within digits places in_pair count so_far pairs count_is =
 pub add-requires-clause-fits : goal.add-requires-clause-fits
 add-requires-clause-fits c =
     let p = c.args.p.now in
-    let limits = c.every_plant_is_within_limits.ensures in
+    let limits = c.requires.plant in
     let k : ℕ = c.loop-variable.variable - 1 in
     let n : IsNext p c.args.state k c.loop-variable.self.each.items c.loop-variable.self.places c.loop-variable.in_pair c.count_of-count.result = next p c.args.state c.loop-variable.variable (omega (arith, c.loop-variable-test.true)) (omega (arith, c.loop-variable.auto.variable, c.states-variable.ensures)) c.loop-variable.self.each.items c.loop-variable.self.places c.loop-variable.in_pair c.count_of-count.result c.loop-variable.invariant.so_far c.loop-variable.invariant.pairs c.count_of-count.ensures in
-    omega (arith, few_more p limits.plant (c.plants_are_sound.ensures p limits.plant) c.args.state k (length p.states) c.loop-variable.self.places c.loop-variable.self.each.items n.within n.known n.so_far limits.pairs, ap (λ (m : ℕ). c.loop-variable.self.places * m) n.count_is)
+    omega (arith, few_more p limits.plant (sound_plant p limits.plant) c.args.state k (length p.states) c.loop-variable.self.places c.loop-variable.self.each.items n.within n.known n.so_far limits.pairs, ap (λ (m : ℕ). c.loop-variable.self.places * m) n.count_is)
 
 pub overflow_mul-in_pair : goal.overflow_mul-in_pair
 overflow_mul-in_pair c =
     let p = c.args.p.now in
-    let limits = c.every_plant_is_within_limits.ensures in
+    let limits = c.requires.plant in
     let k : ℕ = c.loop-variable.variable - 1 in
     let n : IsNext p c.args.state k c.loop-variable.self.each.items c.loop-variable.self.places c.loop-variable.in_pair c.count_of-count.result = next p c.args.state c.loop-variable.variable (omega (arith, c.loop-variable-test.true)) (omega (arith, c.loop-variable.auto.variable, c.states-variable.ensures)) c.loop-variable.self.each.items c.loop-variable.self.places c.loop-variable.in_pair c.count_of-count.result c.loop-variable.invariant.so_far c.loop-variable.invariant.pairs c.count_of-count.ensures in
-    omega (arith, weight_fits p limits.plant (c.plants_are_sound.ensures p limits.plant) c.args.state k (omega (arith, n.within)) limits.pairs, ap₂ (λ (l m : ℕ). l * m) n.weight n.count_is)
+    omega (arith, weight_fits p limits.plant (sound_plant p limits.plant) c.args.state k (omega (arith, n.within)) limits.pairs, ap₂ (λ (l m : ℕ). l * m) n.weight n.count_is)
 
 pub loop-variable-preserved : goal.loop-variable-preserved
 loop-variable-preserved c =
     let p = c.args.p.now in
-    let plant = c.every_plant_is_within_limits.ensures.plant in
-    let sound = c.plants_are_sound.ensures p plant in
+    let plant = c.requires.plant.plant in
+    let sound = sound_plant p plant in
     let i : ℕ = c.args.state in
     let k : ℕ = c.loop-variable.variable - 1 in
     let last : ℕ = length p.states in

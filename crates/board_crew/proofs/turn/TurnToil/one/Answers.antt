@@ -3,6 +3,7 @@ use Rattle.std.proofs.lemmas.List.{take_more, take_all}
 use Rattle.std.proofs.lemmas.List.Elements.{Contains-get_or}
 use Rattle.game_core.specs.Counts.{times}
 use Rattle.game_core.specs.Game.{Game, AreSources, pairs_of}
+use Rattle.game_core.proofs.Times.{edges_from_both_ends}
 use Rattle.board_crew.specs.inside.Workers.{cuts_for}
 use Rattle.board_crew.proofs.Working.{IsUnderWay, sets_out, goes_on, comes_back}
 use Rattle.board_crew.proofs.turn.TurnToil.one.Goals as goal
@@ -16,12 +17,12 @@ have_counters game cell starts pairs many h k d lt =
 pub touch_first-requires : goal.touch_first-requires
 touch_first-requires g c =
     let turn = c.args.self.now in
-    have_counters (g.L.Rule.game turn.rule.now) _ turn.board.now.starts c.sources.result.now (c.leads_on.ensures.counters turn.board.now c.requires.sound.of_game) c.sources.ensures
+    have_counters (g.L.Rule.game turn.rule.now) _ turn.board.now.starts c.sources.result.now (g.met.L.Rule.leads_on turn.rule.now turn.board.now c.requires.sound.of_game).counters c.sources.ensures
 
 pub touch_row-requires : goal.touch_row-requires
 touch_row-requires g c =
     let turn = c.args.self.now in
-    have_counters (g.L.Rule.game turn.rule.now) _ turn.board.now.starts c.sources-sources.result.now (c.leads_on.ensures.counters turn.board.now c.requires.sound.of_game) c.sources-sources.ensures
+    have_counters (g.L.Rule.game turn.rule.now) _ turn.board.now.starts c.sources-sources.result.now (g.met.L.Rule.leads_on turn.rule.now turn.board.now c.requires.sound.of_game).counters c.sources-sources.ensures
 
 pub cut-requires-clause-pair : goal.cut-requires-clause-pair
 cut-requires-clause-pair g c =
@@ -58,8 +59,8 @@ returns-clause-sound g c =
     let pairs = c.sources-sources.result.now in
     let all = take_all c.loop-pair.pair-index pairs c.loop-pair-test.false in
     let each : (pair : ℕ) → pair < pairs_of game → times pair pairs ≡ cuts_for game turn.list.now pair c.args.item =
-    λ pair lt. c.edges_from_both_ends.ensures game (slice_index turn.list.now c.args.item) pair pairs c.leads_on.ensures.graph.game c.sources-sources.ensures lt in
+    λ pair lt. edges_from_both_ends game (slice_index turn.list.now c.args.item) pair pairs (g.met.L.Rule.leads_on turn.rule.now turn.board.now c.requires.sound.of_game).graph.game c.sources-sources.ensures lt in
     comes_back game (g.L.Rule.fits turn.rule.now) keeps turn.board.now turn.list.now c.args.worker.now c.requires.sound.of_game pairs c.args.item c.loop-pair.worker c.note.new.self
-    (c.leads_on.ensures.noted turn.round) each
+    ((g.met.L.Rule.leads_on turn.rule.now turn.board.now c.requires.sound.of_game).noted turn.round) each
     (subst (λ l. IsUnderWay game keeps turn.board.now turn.list.now l c.args.worker.now c.loop-pair.worker) all c.loop-pair.invariant)
     c.note.ensures

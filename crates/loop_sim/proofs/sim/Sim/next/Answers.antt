@@ -14,4 +14,4 @@ is_over s e = cc
 
 pub invariant_of-self : goal.invariant_of-self
 invariant_of-self c =
-    (c.self.invariant.0, c.self.invariant.1, elim c.match-self.branch [ in-Due w ↦ λ s e. w.first_line.ensures.stage s (ap (λ (q : SimLine × Stage). q.1) (sym w.line-is) ∙ e) | in-Ending w ↦ λ s e. absurd (is_over s (ap (λ (q : SimLine × Stage). q.1) (sym w.line-is) ∙ e)) ])
+    (c.self.invariant.0, c.self.invariant.1, elim c.match-self.branch [ in-Due w ↦ λ s e. w.first_line.ensures.stage s (ap (λ (q : SimLine × Stage). q.1) (sym w.line-is) ∙ e) | in-Ending w ↦ λ s e. absurd (is_over s (ap (λ (q : SimLine × Stage). q.1) (sym w.line-is) ∙ e)) ], c.self.invariant.3, c.self.invariant.4)

@@ -1,6 +1,9 @@
 use Rattle.reach_avoid.proofs.Working.{cuts_once, still_kept}
 use Rattle.reach_avoid.proofs.rule.ReachRule.cut.Goals as goal
 
+pub cut_and_bid-requires-clause-board : goal.cut_and_bid-requires-clause-board
+cut_and_bid-requires-clause-board g c = c.requires.board.of_game
+
 pub returns-clause-once : goal.returns-clause-once
 returns-clause-once g c =
     let rule = c.args.self.now in

@@ -3,16 +3,19 @@ use Rattle.safety_game.proofs.Pairs.{cell_below}
 use Rattle.safety_game.proofs.Working.{cuts_once, still_kept}
 use Rattle.safety_game.proofs.rule.KeepRule.cut.Goals as goal
 
+pub cut_and_hit-requires-clause-board : goal.cut_and_hit-requires-clause-board
+cut_and_hit-requires-clause-board g c = c.requires.board.of_game
+
 pub returns-clause-once : goal.returns-clause-once
 returns-clause-once g c =
     let rule = c.args.self.now in
     let game = g.G.Graph.game rule.graph.now in
     let some' = rule.is_graph.some_input in
-    cuts_once game c.known_laws.ensures.counts (omega arith) c.args.pair c.requires.pair (cell_below game rule.is_graph c.args.pair c.requires.pair) c.args.worker.now c.cut_and_hit.new.worker c.cut_and_hit.ensures
+    cuts_once game (omega arith) c.args.pair c.requires.pair (cell_below game rule.is_graph c.args.pair c.requires.pair) c.args.worker.now c.cut_and_hit.new.worker c.cut_and_hit.ensures
 
 pub returns-clause-keeps : goal.returns-clause-keeps
 returns-clause-keeps g c =
     let rule = c.args.self.now in
     let game = g.G.Graph.game rule.graph.now in
     let some' = rule.is_graph.some_input in
-    still_kept game c.known_laws.ensures.counts (omega arith) c.args.pair c.requires.pair (cell_below game rule.is_graph c.args.pair c.requires.pair) c.args.worker.now c.cut_and_hit.new.worker c.cut_and_hit.ensures
+    still_kept game (omega arith) c.args.pair c.requires.pair (cell_below game rule.is_graph c.args.pair c.requires.pair) c.args.worker.now c.cut_and_hit.new.worker c.cut_and_hit.ensures

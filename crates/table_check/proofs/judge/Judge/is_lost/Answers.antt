@@ -15,7 +15,7 @@ returns g c =
     let game = g.G.Forward.game judge.graph.now in
     let cells = c.cells.result in
     let same : cells ≡ cells_of (axes_of t.plant) = c.cells.ensures ∙ judge.same_cells in
-    let bound : (s : ℕ) (row : Row) → row_of t.rows s ≡ Some row → row.rank < cells = λ s row e. subst (λ n. row.rank < n) (sym same) (rank_fits t.plant t.rows c.every_table_fits.ensures.rows judge.ranked s row e) in
+    let bound : (s : ℕ) (row : Row) → row_of t.rows s ≡ Some row → row.rank < cells = λ s row e. subst (λ n. row.rank < n) (sym same) (rank_fits t.plant t.rows c.requires.fit judge.ranked s row e) in
     let both = lost_by_bound game t.rows cells bound c.args.c in
     let none = c.none_leads_below.ensures in (
       λ e. both.0 (subst (λ n. NoneLeadsBelow game t.rows c.args.c 0 n cells) c.inputs.ensures (none.0 e)),

@@ -7,4 +7,4 @@ is_best-requires-clause-input g c =
     let judge = c.args.self.now in
     let t = judge.table.now in
     let row = c.in-Some.row in
-    subst (λ n. row.input < n) (sym judge.same_inputs) (input_fits t.plant t.rows c.every_table_fits.ensures.rows c.args.c row (sym c.row-row.ensures ∙ c.in-Some.is))
+    subst (λ n. row.input < n) (sym judge.same_inputs) (input_fits t.plant t.rows c.requires.fit c.args.c row (sym c.row-row.ensures ∙ c.in-Some.is))

@@ -1,0 +1,32 @@
+-- Facts of the cells of boxes, by the statements that stand in the crate below.
+use Rattle.std.proofs.Common.{◌<◌, get_or}
+use Rattle.std.proofs.lemmas.List.Elements.{All-from_get_or, Contains-get_or}
+use Rattle.grid_quantiser.specs.Axes.{cells_of}
+use Rattle.grid_quantiser.specs.Boxes.{cells_between}
+use Rattle.grid_quantiser.specs.Laws.{BoxesHaveCells, CellsLieBetweenCorners, BoxesAreMovedShapes}
+use Rattle.grid_quantiser.proofs.BetweenCells.{between_from_contains, between_by_number, rising_between}
+use Rattle.grid_quantiser.proofs.BoxCells.{between_limit, between_below, corners_below}
+use Rattle.grid_quantiser.proofs.BoxRuns.{box_ordered}
+use Rattle.grid_quantiser.proofs.BoxShapes.{shape_box, moved_shape}
+
+pub boxes_have_cells : BoxesHaveCells
+boxes_have_cells axes first last grid box = record {
+  rising = rising_between axes first last grid.each box;
+  within = All-from_get_or (λ s. s < cells_of axes) (cells_between axes first last) 0 (λ i lt. between_below axes first last i grid.each box lt);
+  few = between_limit axes first last box;
+}
+
+pub cells_lie_between_corners : CellsLieBetweenCorners
+cells_lie_between_corners axes first last grid box k d lt =
+    let cells = cells_between axes first last in
+    let cell = get_or cells k d in
+    between_by_number axes first last cell grid.some_state (between_from_contains axes first last cell grid.each box (Contains-get_or cells k d lt))
+
+pub boxes_are_moved_shapes : BoxesAreMovedShapes
+boxes_are_moved_shapes axes first last grid box =
+    let below = corners_below axes first last grid.each grid.some_state box in
+    record {
+      ordered = box_ordered axes first last grid.each below.0 below.1 box;
+      shape = shape_box axes first last grid.each box;
+      cells = moved_shape axes first last grid.each below.0 box;
+    }

@@ -1,5 +1,0 @@
-use Rattle.abstraction_table.proofs.EdgeCounts as counts
-use Rattle.abstraction_table.proofs.laws.games_count_their_edges.Goals as goal
-
-pub returns : goal.returns
-returns c = counts.games_count_their_edges
