@@ -61,7 +61,6 @@ def end_with(program, form, **streams):
 
 def full(program, form):
     def judge():
-        program.has(form)
         with open("/dev/full", "wb") as device:
             return written_part(form.want(), end_with(program, form, stdout=device))
 
@@ -70,7 +69,6 @@ def full(program, form):
 
 def unwritable(program, form):
     def judge():
-        program.has(form)
         with open("/dev/null", "rb") as device:
             return written_part(form.want(), end_with(program, form, stdout=device))
 
@@ -79,7 +77,6 @@ def unwritable(program, form):
 
 def gone(program, form):
     def judge():
-        program.has(form)
         reader, writer = os.pipe()
         os.close(reader)
         try:
@@ -94,7 +91,6 @@ def slowly(program, form):
     """The text comes byte by byte, as a terminal or a network may hand it on."""
 
     def judge():
-        program.has(form)
         with subprocess.Popen([program.path, *form.words], stdin=subprocess.PIPE, stdout=subprocess.PIPE,
                               stderr=subprocess.PIPE) as process:
             for byte in form.text:
@@ -108,7 +104,6 @@ def slowly(program, form):
 
 def from_path(program, form, path):
     def judge():
-        program.has(form)
         descriptor = os.open(path, os.O_RDONLY)
         try:
             return differs(READ_FAULT, end_with(program, form, stdin=descriptor))
@@ -120,7 +115,6 @@ def from_path(program, form, path):
 
 def unreadable(program, form):
     def judge():
-        program.has(form)
         with open("/dev/null", "wb") as device:
             return differs(READ_FAULT, end_with(program, form, stdin=device))
 
@@ -129,7 +123,6 @@ def unreadable(program, form):
 
 def from_socket(program, form):
     def judge():
-        program.has(form)
         here, there = socket.socketpair()
         with here, there:
             here.sendall(form.text)
@@ -144,7 +137,6 @@ def standing(program, form, closed):
     without_input, without_output, without_error = closed
 
     def judge():
-        program.has(form)
         want = form.want()
         reads = form.words[0] != "demo" and want[0] != 2
         if without_input and reads:
@@ -209,7 +201,6 @@ def endless(program, form, byte):
     """Ten gigabytes are offered; what is taken is one byte past the limit of the text, and nothing where none is read."""
 
     def judge():
-        program.has(form)
         if form.words[0] == "demo" or form is USAGE:
             want, most = form.want(), 0
         elif form.words[0] == "synth":

@@ -77,7 +77,6 @@ def one_by_one(shim, form, kind, behind, beside):
     """The first call of a kind fails, then the second, until a run comes to its end before the call that is to fail."""
 
     def judge():
-        shim.program.has(form)
         want = form.want()
         number = 0
         while True:
@@ -95,7 +94,6 @@ def one_by_one(shim, form, kind, behind, beside):
 
 def whole(shim, form, faults):
     def judge():
-        shim.program.has(form)
         wrong = differs(form.want(), shim.end(form, faults)[0])
         return wrong and f"under {faults}: {wrong}"
 

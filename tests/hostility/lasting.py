@@ -10,7 +10,6 @@ from gaffcurrant_plant.expression import parts_of
 from gaffcurrant_plant.reader import read_plant
 
 from .oracle import TableReader
-from .program import Skipped
 
 EXAMPLES = Path(__file__).resolve().parents[2] / "examples"
 SAMPLES = int(os.environ.get("GAFFCURRANT_SAMPLES", 100_000))
@@ -126,8 +125,6 @@ def judge(program, name, word):
     def judged():
         data, draws = (EXAMPLES / name / f"{name}.plant").read_bytes(), random.Random(1)
         status, text, line = program.end([word, "1"], data)
-        if status == 2:
-            raise Skipped(f"the program doesn't have `{word}`")
         if status:
             return line.decode()
         plant, rows = read_plant(data), rows_of(text, word)

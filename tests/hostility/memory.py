@@ -35,7 +35,6 @@ def least(program, form):
 
 def upward(program, form):
     def judge():
-        program.has(form)
         want = form.want()
         first = least(program, form)
         sizes = [first + 4 * step for step in range(PAGES)]

@@ -85,7 +85,6 @@ class Program:
         self.folder = tempfile.TemporaryDirectory()
         os.chmod(self.folder.name, 0o755)
         self.path = shutil.copy(path, Path(self.folder.name) / "synth_cli")
-        self.known = {}
         self.runs = itertools.count()
 
     def __enter__(self):
@@ -104,13 +103,6 @@ class Program:
             return None, b"", f"no end within {SECONDS} seconds".encode()
         return done.returncode, done.stdout, done.stderr
 
-    def has(self, form):
-        """Raises Skipped where the program doesn't have the form yet."""
-        if form.name not in self.known:
-            self.known[form.name] = self.end(form.words, form.text)
-        status, _, line = self.known[form.name]
-        if status in (2, 9) and form.want()[0] != status:
-            raise Skipped(f"the program answers `{line.decode().strip()}` to {form.name}")
 
 
 def differs(want, got):

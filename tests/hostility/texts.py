@@ -29,7 +29,6 @@ def cut(program):
 
 def case(program, form, what, text):
     def judge():
-        program.has(form)
         return differs(form.answer(text), program.end(form.words, text))
 
     return f"{form.name}, {what}", judge

@@ -23,7 +23,6 @@ def limits_bite():
 
 def refused(program, form):
     def judge():
-        program.has(form)
         if not limits_bite():
             raise Skipped("ulimit -u refuses nothing here")
         before = ["bash", "-c", 'ulimit -u 0 && exec "$0" "$@"']
@@ -34,7 +33,6 @@ def refused(program, form):
 
 def on_one_processor(program, form):
     def judge():
-        program.has(form)
         first = min(os.sched_getaffinity(0))
         return differs(form.want(), program.end(form.words, form.text, before=["taskset", "-c", str(first)]))
 

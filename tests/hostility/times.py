@@ -47,7 +47,6 @@ class Table:
 
     def measure(self, name, text, units_of, most=FEW):
         def judge():
-            self.program.has(self.form)
             if self.empty is None:
                 self.empty = spent(self.program, self.form.words, b"", 100)[0]
             given = text()
