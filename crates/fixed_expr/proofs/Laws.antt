@@ -1,8 +1,8 @@
 -- What proofs of the crates above cite.
-use Rattle.std.proofs.Common.{◌≡◌, ℕ, ◌+◌, ◌<◌, ◌^◌, List, ◌∷◌, All, length, to_z, of_z, w64}
-use Rattle.std.specs.Prelude.{ℤ, pos, nat_abs, ◌-ℤ◌, ◌≤ℤ◌, ◌<ℤ◌, IsTrue, slice_index_or, slice_set}
+use Rattle.std.proofs.Common.{◌≡◌, ℕ, ◌+◌, ◌<◌, List, ◌∷◌, length, to_z, of_z, w64}
+use Rattle.std.specs.Prelude.{ℤ, pos, ◌-ℤ◌, ◌≤ℤ◌, ◌<ℤ◌, IsTrue, slice_index_or, slice_set}
 use Rattle.std.specs.Int.{int_min, int_max}
-use Rattle.fixed_expr.specs.Curves.{RiseFrom, IsShort, value_along, value_from}
+use Rattle.fixed_expr.specs.Curves.{value_along, value_from}
 use Rattle.fixed_expr.specs.Expression.{Expression}
 use Rattle.fixed_expr.specs.Moves.{moves_with}
 use Rattle.fixed_expr.specs.Narrow.{IsNarrow}
@@ -50,9 +50,6 @@ on_piece p q points x rises above below = pieces.on_piece p q points x rises abo
 
 pub behind_piece : (p q : ℤ × ℤ) (points : List (ℤ × ℤ)) (x : ℤ) → p.0 <ℤ q.0 → q.0 ≤ℤ x → value_from p (q ∷ points) x ≡ value_from q points x
 behind_piece p q points x rises past = pieces.behind_piece p q points x rises past
-
-pub values_are_short : (p : ℤ × ℤ) (points : List (ℤ × ℤ)) (x : ℤ) → RiseFrom p points → IsShort p → All IsShort points → nat_abs (value_from p points x) < 10 ^ 18
-values_are_short p points x rises first short = pieces.value_short p points x rises first short
 
 -- ---- quotients
 

@@ -1,15 +1,14 @@
 -- Values of a curve, along one piece and from piece to piece.
-use Rattle.std.proofs.Common.{◌≡◌, ℕ, suc, ◌+◌, ◌-◌, ◌*◌, ◌/◌, ◌^◌, ◌<◌, ◌≤◌, List, [], ◌∷◌, All, Bool, true, false, refl, sym, ap, ◌∙◌, subst, arith}
+use Rattle.std.proofs.Common.{◌≡◌, ℕ, suc, ◌+◌, ◌-◌, ◌*◌, ◌/◌, ◌^◌, ◌<◌, ◌≤◌, List, [], ◌∷◌, Bool, true, false, refl, sym, ap, ◌∙◌, subst, arith}
 use Rattle.std.specs.Prelude.{ℤ, pos, negsuc, nat_abs, ◌+ℤ◌, ◌-ℤ◌, ◌*ℤ◌, ◌≤ℤ◌, ◌<ℤ◌, int_le, int_lt, if◌then◌else◌}
 use Rattle.std.specs.Int.{int_min, int_max}
 use Rattle.std.proofs.lemmas.Int.{ints, clamps}
-use Rattle.std.proofs.lemmas.List.Elements.{All-head, All-tail}
 use Rattle.std.proofs.lemmas.Nat.{le-div, div-mul-add}
 use Rattle.std.proofs.Math.Nat.{mul-le-mul_left, div-mul-le_self, zero-div}
 use Rattle.std.proofs.Math.IntN.{*ℤ-zero}
 use borrow.Author.Differences.{up, down}
 use Rattle.fixed_expr.specs.Quotient.{floor_div}
-use Rattle.fixed_expr.specs.Curves.{RiseFrom, IsShort, value_along, value_from}
+use Rattle.fixed_expr.specs.Curves.{IsShort, value_along, value_from}
 
 -- ---- floors of quotients
 
@@ -135,16 +134,3 @@ before_first p (q ∷ points) x below = by (int_le x p.0) refl
     by : (s : Bool) → int_le x p.0 ≡ s → (if s then p.1 else (if int_lt x q.0 then value_along p q x else value_from q points x)) ≡ p.1
     by true e = refl
     by false e = absurd (omega (arith, ints, below))
-
--- every value is as short as those of the points
-pub value_short : (p : ℤ × ℤ) (points : List (ℤ × ℤ)) (x : ℤ) → RiseFrom p points → IsShort p → All IsShort points → nat_abs (value_from p points x) < 10 ^ 18
-value_short p [] x rises first short = first.1
-value_short p (q ∷ points) x rises first short = by (value_short q points x rises.1 (All-head IsShort q points short) (All-tail IsShort q points short)) (int_le x p.0) (int_lt x q.0) refl refl
-  where
-    second : IsShort q
-    second = All-head IsShort q points short
-
-    by : nat_abs (value_from q points x) < 10 ^ 18 → (s t : Bool) → int_le x p.0 ≡ s → int_lt x q.0 ≡ t → nat_abs (if s then p.1 else (if t then value_along p q x else value_from q points x)) < 10 ^ 18
-    by rest true t e f = first.1
-    by rest false true e f = short_between p q (value_along p q x) first second (between_points p q rises.0 x (omega (arith, ints)) (omega (arith, ints)))
-    by rest false false e f = rest

@@ -12,8 +12,8 @@ use Rattle.fixed_expr.specs.Rows.{row_of, StaysNarrowInRows}
 use Rattle.fixed_expr.specs.Value.{value_of}
 use Rattle.fixed_expr.specs.inside.Listing.{combined, combined_number}
 use Rattle.fixed_expr.specs.inside.RowValues.{value_in, AreNumbers, AnswersNumbers, AnswersValues}
-use Rattle.fixed_expr.specs.declared.rows.Values.{Values}
-use Rattle.fixed_expr.specs.declared.rows.Values.TheVariants.{Alike}
+use Rattle.fixed_expr.specs.declared.rows.RowValues.{RowValues}
+use Rattle.fixed_expr.specs.declared.rows.RowValues.TheVariants.{Alike}
 
 -- ---- in one row
 
@@ -75,7 +75,7 @@ module _ (binary : Binary) (a b : Expression) (columns : List (List ℤ)) where
     stays_in : AreNarrow z → StaysNarrowInRows whole columns
     stays_in narrow k lt = stays_combined binary a b (row_of columns k) (stays_first k lt) (stays_second k lt) (subst IsNarrow (both k lt) (narrow k lt))
 
-    pub combined_answer : (answer : Option Values) (rows : List ℤ) → AnswersNumbers answer rows z → AnswersValues answer whole columns rows
+    pub combined_answer : (answer : Option RowValues) (rows : List ℤ) → AnswersNumbers answer rows z → AnswersValues answer whole columns rows
     combined_answer None rows none = λ stays. none (narrow_in stays)
     combined_answer (Some values) rows are = (stays_in are.0, λ k lt. are.1 k lt ∙ both k lt ∙ sym (value_combined binary a b (row_of columns k)))
 
@@ -103,15 +103,15 @@ pub narrow_passed : (z : ℤ) → IsNarrow z → passed z ≡ z
 narrow_passed (pos n) narrow = omega (arith, ints, narrow.1)
 narrow_passed (negsuc n) narrow = omega (arith, ints, narrow.0)
 
-module _ (binary : Binary) (left right : Values) (found other : List ℤ) (x y : ℤ) (is_left : left ≡ Alike x) (is_right : right ≡ Alike y) (first : FitsSigned w64 x) (second : FitsSigned w64 y) where
+module _ (binary : Binary) (left right : RowValues) (found other : List ℤ) (x y : ℤ) (is_left : left ≡ Alike x) (is_right : right ≡ Alike y) (first : FitsSigned w64 x) (second : FitsSigned w64 y) where
   abbrev in_row : ℕ → ℤ
   in_row k = combined_number binary (value_in left found k) (value_in right other k)
 
   in_all : (k : ℕ) → combined_number binary (passed x) (passed y) ≡ in_row k
   in_all k =
       ap₂ (combined_number binary)
-      (to_z-of_z w64 x first ∙ sym (ap (λ (v : Values). value_in v found k) is_left))
-      (to_z-of_z w64 y second ∙ sym (ap (λ (v : Values). value_in v other k) is_right))
+      (to_z-of_z w64 x first ∙ sym (ap (λ (v : RowValues). value_in v found k) is_left))
+      (to_z-of_z w64 y second ∙ sym (ap (λ (v : RowValues). value_in v other k) is_right))
 
   pub alike_hold : (z : ℤ) → IsNarrow (combined_number binary (passed x) (passed y)) × (z ≡ combined_number binary (passed x) (passed y)) → AreNumbers (Alike (passed z)) found in_row
   alike_hold z h =

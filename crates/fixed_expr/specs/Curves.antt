@@ -7,34 +7,34 @@ abbrev pub CurvePoint : Type 0
 CurvePoint = ℤ × ℤ
 
 -- the arguments rise from one point to the next
-abbrev pub RiseFrom : ℤ × ℤ → List (ℤ × ℤ) → Type 0
+abbrev pub RiseFrom : CurvePoint → List CurvePoint → Type 0
 RiseFrom p [] = Unit {0}
 RiseFrom p (q ∷ points) = (p.0 <ℤ q.0) × RiseFrom q points
 
-abbrev pub Rise : List (ℤ × ℤ) → Type 0
+abbrev pub Rise : List CurvePoint → Type 0
 Rise [] = Unit {0}
 Rise (p ∷ points) = RiseFrom p points
 
 -- both numbers have at most 18 digits
-abbrev pub IsShort : ℤ × ℤ → Type 0
+abbrev pub IsShort : CurvePoint → Type 0
 IsShort p = (nat_abs p.0 < 10 ^ 18) × (nat_abs p.1 < 10 ^ 18)
 
 -- The points of a curve.
-pub record IsCurve (points : List (ℤ × ℤ)) : Type 0 where
+pub record IsCurve (points : List CurvePoint) : Type 0 where
   pub some : 2 ≤ length points
   pub few : length points ≤ 32
   pub rising : Rise points
   pub short : All IsShort points
 
 -- from one point to the next, the floor of the straight line through both
-abbrev pub value_along : ℤ × ℤ → ℤ × ℤ → ℤ → ℤ
+abbrev pub value_along : CurvePoint → CurvePoint → ℤ → ℤ
 value_along p q x = p.1 +ℤ floor_div ((q.1 -ℤ p.1) *ℤ (x -ℤ p.0)) (q.0 -ℤ p.0)
 
 -- the value at a number: that of the first point before it, of the last behind it
-abbrev pub value_from : ℤ × ℤ → List (ℤ × ℤ) → ℤ → ℤ
+abbrev pub value_from : CurvePoint → List CurvePoint → ℤ → ℤ
 value_from p [] x = p.1
 value_from p (q ∷ points) x = if int_le x p.0 then p.1 else (if int_lt x q.0 then value_along p q x else value_from q points x)
 
-abbrev pub curve_value : List (ℤ × ℤ) → ℤ → ℤ
+abbrev pub curve_value : List CurvePoint → ℤ → ℤ
 curve_value [] x = pos 0
 curve_value (p ∷ points) x = value_from p points x

@@ -1,4 +1,4 @@
-// Piecewise-linear functions, which a table of points gives.
+//! Piecewise-linear functions, which a table of points gives.
 
 ghost use Rattle.std.specs.Prelude.{◌≡◌, ◌<◌, ◌*◌, ◌^◌, pos, ◌*ℤ◌, ◌≤ℤ◌, ◌<ℤ◌, nat_abs, IfOk};
 ghost use Rattle.fixed_expr.specs.Quotient.{floor_div};
@@ -48,16 +48,14 @@ impl Curve {
         Ok(Curve { points })
     }
 
-    /// The points. That they are those of a curve is learnt here.
+    /// The points.
     pub fn points(&self) -> &[(i128, i128)]
         ensures points { result.now ≡ self.now }
         ensures curve { IsCurve self.now }
     {
         &self.points
     }
-}
 
-impl Curve {
     /// The value at a number.
     pub fn value(&self, x: i128) -> i128
         ensures value { result ≡ curve_value self.now x }

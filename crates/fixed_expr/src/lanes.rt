@@ -1,4 +1,5 @@
-// Operations on the numbers in many lanes, with None where a result leaves 64 bits.
+//! Operations on the numbers in many lanes, with None where a result leaves 64 bits.
+//! A loop's label names its invariant in proofs/.
 
 ghost use Rattle.std.specs.Prelude.{neg_ℤ, ◌+ℤ◌, ◌-ℤ◌, ◌*ℤ◌, ◌≤ℤ◌, pos, nat_abs};
 ghost use Rattle.std.specs.Int.{int_min, int_max};
@@ -75,7 +76,7 @@ pub fn negate(found: &mut [i64; LANES]) -> Option<()>
     Some(())
 }
 
-pub fn make_absolute(found: &mut [i64; LANES]) -> Option<()>
+pub(crate) fn make_absolute(found: &mut [i64; LANES]) -> Option<()>
     ensures { AnswersLanes result found.new (λ k. pos (nat_abs (at found.old k))) }
 {
     'lanes: for k in 0..LANES {
@@ -96,7 +97,7 @@ pub fn divide_by(found: &mut [i64; LANES], divisor: i64)
 }
 
 /// The values of a table.
-pub fn look_up(found: &mut [i64; LANES], curve: &Curve)
+pub(crate) fn look_up(found: &mut [i64; LANES], curve: &Curve)
     ensures { HoldsNarrow found.new (λ k. curve_value curve.now (at found.old k)) }
 {
     'lanes: for k in 0..LANES {

@@ -2,7 +2,7 @@
 //!
 //! The layer above gives an expression with the values of its variables, and `eval` answers the
 //! value, or None exactly where the value of some node leaves the range of 127 bits and a sign.
-//! Stands on std alone.
+//! Stands on `fixed_divisor`.
 #![tactic(auto)]
 
 pub mod arithmetic;
@@ -25,5 +25,6 @@ pub use curve::{Curve, NoMemory};
 pub use evaluate::eval;
 pub use expr::Expr;
 pub use lanes::LANES;
+pub use operation::Binary;
 pub use operations::{CASES, Operations};
 pub use rows::eval_rows;

@@ -1,4 +1,4 @@
-// Values in 64 bits, in many rows at once: several times as fast a value as in one row.
+//! Values in 64 bits, in many rows at once: several times as fast a value as in one row.
 
 ghost use Rattle.std.specs.Prelude.{◌≡◌, ℕ, ◌<◌, pos, neg_ℤ, nat_abs, ◌≤ℤ◌, length, IsTrue};
 ghost use Rattle.fixed_expr.specs.declared.lanes.TheConstants.{LANES};
@@ -22,7 +22,7 @@ use crate::operation::{Binary, combine};
 
 /// The values of an expression in many rows: one that is the same in all of them, or those in a list.
 #[derive(Clone, Copy)]
-enum Values {
+enum RowValues {
     Alike(i64),
     Listed,
 }
@@ -43,12 +43,12 @@ pub fn eval_rows(e: &Expr, columns: &[[i64; LANES]], found: &mut [i64; LANES]) -
 /// out once.
 #[cycle(values)]
 #[tactic(auto, using(crate::proofs::Columns::variable_in_row))]
-fn find_values(e: &Expr, columns: &[[i64; LANES]], found: &mut [i64; LANES]) -> Option<Values>
+fn find_values(e: &Expr, columns: &[[i64; LANES]], found: &mut [i64; LANES]) -> Option<RowValues>
     requires { IsWellFormed (expression_of e.now) (length columns.now) }
     ensures { AnswersValues result (expression_of e.now) columns.now found.new }
 {
     match e {
-        Expr::Num(k) => Some(Values::Alike(narrow(*k)?)),
+        Expr::Num(k) => Some(RowValues::Alike(narrow(*k)?)),
         Expr::Var(i) => Some(column_values(&columns[*i as usize], found)),
         Expr::Add(a, b) => find_combined(Binary::Add, a, b, columns, found),
         Expr::Sub(a, b) => find_combined(Binary::Subtract, a, b, columns, found),
@@ -76,14 +76,14 @@ fn find_values(e: &Expr, columns: &[[i64; LANES]], found: &mut [i64; LANES]) -> 
 }
 
 /// The values of a variable.
-fn column_values(column: &[i64; LANES], found: &mut [i64; LANES]) -> Values
+fn column_values(column: &[i64; LANES], found: &mut [i64; LANES]) -> RowValues
     ensures { AreNumbers result found.new (λ k. at column.now k) }
 {
     if are_alike(column) {
-        return Values::Alike(column[0]);
+        return RowValues::Alike(column[0]);
     }
     copy_to(found, column);
-    Values::Listed
+    RowValues::Listed
 }
 
 /// Whether all numbers are the same.
@@ -106,7 +106,7 @@ fn find_combined(
     b: &Expr,
     columns: &[[i64; LANES]],
     found: &mut [i64; LANES],
-) -> Option<Values>
+) -> Option<RowValues>
     requires first { IsWellFormed (expression_of a.now) (length columns.now) }
     requires second { IsWellFormed (expression_of b.now) (length columns.now) }
     ensures { AnswersValues result (combined binary (expression_of a.now) (expression_of b.now)) columns.now found.new }
@@ -119,77 +119,77 @@ fn find_combined(
 
 fn combine_values(
     binary: Binary,
-    left: Values,
-    right: Values,
+    left: RowValues,
+    right: RowValues,
     found: &mut [i64; LANES],
     other: &mut [i64; LANES],
-) -> Option<Values>
+) -> Option<RowValues>
     ensures { AnswersNumbers result found.new (λ k. combined_number binary (value_in left found.old k) (value_in right other.old k)) }
 {
-    if let (Values::Alike(x), Values::Alike(y)) = (left, right) {
-        return Some(Values::Alike(combine(binary, x, y)?));
+    if let (RowValues::Alike(x), RowValues::Alike(y)) = (left, right) {
+        return Some(RowValues::Alike(combine(binary, x, y)?));
     }
     list(left, found);
     list(right, other);
     combine_lanes(binary, found, other)?;
-    Some(Values::Listed)
+    Some(RowValues::Listed)
 }
 
-fn negate_values(values: Values, found: &mut [i64; LANES]) -> Option<Values>
+fn negate_values(values: RowValues, found: &mut [i64; LANES]) -> Option<RowValues>
     ensures { AnswersNumbers result found.new (λ k. neg_ℤ (value_in values found.old k)) }
 {
     match values {
-        Values::Alike(z) => Some(Values::Alike(z.checked_neg()?)),
-        Values::Listed => {
+        RowValues::Alike(z) => Some(RowValues::Alike(z.checked_neg()?)),
+        RowValues::Listed => {
             negate(found)?;
-            Some(Values::Listed)
+            Some(RowValues::Listed)
         }
     }
 }
 
-fn make_values_absolute(values: Values, found: &mut [i64; LANES]) -> Option<Values>
+fn make_values_absolute(values: RowValues, found: &mut [i64; LANES]) -> Option<RowValues>
     ensures { AnswersNumbers result found.new (λ k. pos (nat_abs (value_in values found.old k))) }
 {
     match values {
-        Values::Alike(z) => Some(Values::Alike(z.checked_abs()?)),
-        Values::Listed => {
+        RowValues::Alike(z) => Some(RowValues::Alike(z.checked_abs()?)),
+        RowValues::Listed => {
             make_absolute(found)?;
-            Some(Values::Listed)
+            Some(RowValues::Listed)
         }
     }
 }
 
-fn divide_values(values: Values, divisor: i64, found: &mut [i64; LANES]) -> Values
+fn divide_values(values: RowValues, divisor: i64, found: &mut [i64; LANES]) -> RowValues
     requires { pos 1 ≤ℤ divisor }
     ensures { AreNumbers result found.new (λ k. floor_div (value_in values found.old k) divisor) }
 {
     match values {
-        Values::Alike(z) => Values::Alike(z.div_euclid(divisor)),
-        Values::Listed => {
+        RowValues::Alike(z) => RowValues::Alike(z.div_euclid(divisor)),
+        RowValues::Listed => {
             divide_by(found, divisor);
-            Values::Listed
+            RowValues::Listed
         }
     }
 }
 
 /// The values of a table.
-fn look_values_up(values: Values, curve: &Curve, found: &mut [i64; LANES]) -> Values
+fn look_values_up(values: RowValues, curve: &Curve, found: &mut [i64; LANES]) -> RowValues
     ensures { AreNumbers result found.new (λ k. curve_value curve.now (value_in values found.old k)) }
 {
     match values {
-        Values::Alike(z) => Values::Alike(curve.narrow_value(z)),
-        Values::Listed => {
+        RowValues::Alike(z) => RowValues::Alike(curve.narrow_value(z)),
+        RowValues::Listed => {
             look_up(found, curve);
-            Values::Listed
+            RowValues::Listed
         }
     }
 }
 
 /// Lists a value that is the same in all rows.
-fn list(values: Values, rows: &mut [i64; LANES])
+fn list(values: RowValues, rows: &mut [i64; LANES])
     ensures { Holds rows.new (λ k. value_in values rows.old k) }
 {
-    if let Values::Alike(z) = values {
+    if let RowValues::Alike(z) = values {
         rows.fill(z);
     }
 }
