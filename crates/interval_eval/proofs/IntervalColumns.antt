@@ -1,33 +1,33 @@
--- What both ends of a column hold, the column holds.
-use Rattle.std.proofs.Common.{◌≡◌, ℕ, ◌<◌, ◌^◌, [], ◌∷◌, All, List, Option, Some, None, ap₂, subst, ◌∙◌, arith}
-use Rattle.std.specs.Prelude.{ℤ, pos, neg_ℤ, nat_abs, ◌≤ℤ◌}
-use Rattle.std.specs.List.{filter}
-use Rattle.std.proofs.lemmas.List.Elements.{All-head, All-tail, All-cons, All-weaker, All-map, All-filter}
+-- Intervals in many rows, by the columns of their ends.
+use Rattle.std.proofs.Common.{◌≡◌, ℕ, ◌+◌, ◌<◌, ◌≤◌, List, ap₂, subst, ◌∙◌, arith, to_z, of_z, w64}
+use Rattle.std.specs.Prelude.{ℤ, ◌≤ℤ◌, slice_set}
 use Rattle.std.specs.Int.{int_min, int_max}
 use Rattle.std.proofs.lemmas.Int.{ints}
 use Rattle.fixed_expr.specs.Narrow.{IsNarrow}
-use Rattle.fixed_expr.specs.Lanes.{at, AreNarrow, Holds, HoldsNarrow, AnswersLanes}
-use Rattle.fixed_expr.specs.Range.{IsInRange}
-use Rattle.fixed_expr.specs.Curves.{IsShort, IsCurve, value_from, curve_value}
-use Rattle.fixed_expr.proofs.Laws.{values_are_short}
-use Rattle.interval_eval.proofs.Lookups.{fold_min_in, fold_max_in}
-use Rattle.interval_eval.specs.Span.{IsIn, EndsFit, is_in, values_within, hull_of, lookup_of}
+use Rattle.fixed_expr.specs.Lanes.{at, AreNarrow, Holds, HoldsNarrow}
+use Rattle.fixed_expr.proofs.Laws.{one_lane_more}
 use Rattle.interval_eval.specs.declared.interval.Interval.{Interval}
 use Rattle.interval_eval.specs.declared.columns.IntervalColumn.{IntervalColumn}
-use Rattle.interval_eval.specs.Rows.{HaveNarrowEnds, HoldsIntervals, AnswersIntervals}
+use Rattle.interval_eval.specs.Span.{hull_of}
+use Rattle.interval_eval.specs.Rows.{interval_in, HaveNarrowEnds, HoldsIntervals}
+use Rattle.interval_eval.specs.inside.RowProgress.{AreRowsDone}
 
-pub low_fails : (wanted : ℕ → Interval) → ¬ (AreNarrow (λ k. (wanted k).lo)) → ¬ (HaveNarrowEnds wanted)
-low_fails wanted out h = out (λ k lt. (h k lt).0)
+-- one row more
+pub one_row_more : (start found : IntervalColumn) (wanted : ℕ → Interval) (n : ℕ) (lo hi : ℤ) → n < 32 → AreRowsDone n start found wanted → IsNarrow lo → lo ≡ (wanted n).lo → IsNarrow hi → hi ≡ (wanted n).hi →
+    AreRowsDone (n + 1) start (record { lo = slice_set found.lo n (to_z w64 (of_z w64 lo)); hi = slice_set found.hi n (to_z w64 (of_z w64 hi)) }) wanted
+one_row_more start found wanted n lo hi here done narrow_low is_low narrow_high is_high =
+    let low = one_lane_more start.lo found.lo (λ k. (wanted k).lo) n lo done.lows here done.low narrow_low is_low in
+    let high = one_lane_more start.hi found.hi (λ k. (wanted k).hi) n hi done.highs here done.high narrow_high is_high in
+    record { lows = low.0; highs = high.0; low = low.1; high = high.1 }
 
-pub high_fails : (wanted : ℕ → Interval) → ¬ (AreNarrow (λ k. (wanted k).hi)) → ¬ (HaveNarrowEnds wanted)
-high_fails wanted out h = out (λ k lt. (h k lt).1)
+-- all rows done
+pub all_rows : (start found : IntervalColumn) (wanted : ℕ → Interval) (n : ℕ) → 32 ≤ n → AreRowsDone n start found wanted → HaveNarrowEnds wanted × HoldsIntervals found wanted
+all_rows start found wanted n past done =
+    ((λ k lt. ((done.low.0 k (omega (arith, lt, past))).0, (done.high.0 k (omega (arith, lt, past))).0)), (λ k lt. ((done.low.0 k (omega (arith, lt, past))).1, (done.high.0 k (omega (arith, lt, past))).1)))
 
-pub both_hold : (found : IntervalColumn) (wanted : ℕ → Interval) → HoldsNarrow found.lo (λ k. (wanted k).lo) → HoldsNarrow found.hi (λ k. (wanted k).hi) → HaveNarrowEnds wanted × HoldsIntervals found wanted
-both_hold found wanted low high = ((λ k lt. (low.0 k lt, high.0 k lt)), (λ k lt. (low.1 k lt, high.1 k lt)))
-
-pub both_answer : {T : Type 0} (answer : Option T) (found : IntervalColumn) (wanted : ℕ → Interval) → HoldsNarrow found.lo (λ k. (wanted k).lo) → AnswersLanes answer found.hi (λ k. (wanted k).hi) → AnswersIntervals answer found wanted
-both_answer None found wanted low high = high_fails wanted high
-both_answer (Some x) found wanted low high = both_hold found wanted low high
+-- a row that is still to come is as it was
+pub as_it_was : (start found : IntervalColumn) (wanted : ℕ → Interval) (n : ℕ) → AreRowsDone n start found wanted → interval_in found n ≡ interval_in start n
+as_it_was start found wanted n done = ap₂ (λ (lo hi : ℤ). record { lo = lo; hi = hi }) (done.low.1 n (omega arith)) (done.high.1 n (omega arith))
 
 -- a corner between ends of 64 bits lies there too
 pub corner_fails : (corner : ℕ → ℤ) (wanted : ℕ → Interval) → ((k : ℕ) → ((wanted k).lo ≤ℤ corner k) × (corner k ≤ℤ (wanted k).hi)) → ¬ (AreNarrow corner) → ¬ (HaveNarrowEnds wanted)
@@ -45,29 +45,4 @@ hull_holds found p q r s a b c d ha hb hc hd low high =
     let highs : (k : ℕ) → k < 32 → int_max (int_max (at a k) (at b k)) (int_max (at c k) (at d k)) ≡ (hull_of (p k) (q k) (r k) (s k)).hi = λ k lt. ap₂ int_max (ap₂ int_max (ha k lt) (hb k lt)) (ap₂ int_max (hc k lt) (hd k lt)) in (
       (λ k lt. (subst IsNarrow (lows k lt) (low.0 k lt), subst IsNarrow (highs k lt) (high.0 k lt))),
       (λ k lt. (low.1 k lt ∙ lows k lt, high.1 k lt ∙ highs k lt)),
-    )
-
--- every span of a curve lies within 10^18
-abbrev within_18_digits : Interval
-within_18_digits = record { lo = neg_ℤ (pos (10 ^ 18)); hi = pos (10 ^ 18) }
-
-short_in : (z : ℤ) → nat_abs z < 10 ^ 18 → IsIn within_18_digits z
-short_in z h = (omega (arith, ints, h), omega (arith, ints, h))
-
-fits_within : (z : ℤ) → IsIn within_18_digits z → IsInRange z
-fits_within z h = omega (arith, ints, h.0, h.1)
-
-curve_short : (points : List (ℤ × ℤ)) (x : ℤ) → IsCurve points → IsIn within_18_digits (curve_value points x)
-curve_short [] x curve = short_in (pos 0) (omega arith)
-curve_short (p ∷ points) x curve = short_in (value_from p points x) (values_are_short p points x curve.rising (All-head IsShort p points curve.short) (All-tail IsShort p points curve.short))
-
-pub lookup_short : (points : List (ℤ × ℤ)) (a : Interval) → IsCurve points → EndsFit (lookup_of points a)
-lookup_short points a curve =
-    let In : ℤ → Type 0 = IsIn within_18_digits in
-    let first = curve_short points a.lo curve in
-    let within : All (λ (p : ℤ × ℤ). In p.1) points = All-weaker IsShort (λ (p : ℤ × ℤ). In p.1) (λ p h. short_in p.1 h.1) points curve.short in
-    let each : All In (curve_value points a.hi ∷ values_within points a) =
-    All-cons In (curve_value points a.hi) (values_within points a) (curve_short points a.hi curve) (All-map In (λ (p : ℤ × ℤ). p.1) (filter (λ (p : ℤ × ℤ). is_in a p.0) points) (All-filter (λ (p : ℤ × ℤ). is_in a p.0) (λ (p : ℤ × ℤ). In p.1) points within)) in (
-      fits_within _ (fold_min_in within_18_digits (curve_value points a.lo) (curve_value points a.hi ∷ values_within points a) first each),
-      fits_within _ (fold_max_in within_18_digits (curve_value points a.lo) (curve_value points a.hi ∷ values_within points a) first each),
     )

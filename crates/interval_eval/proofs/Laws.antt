@@ -8,7 +8,7 @@ use Rattle.fixed_expr.specs.Value.{IsWellFormed, value_of, StaysInRange}
 use Rattle.fixed_expr.specs.inside.Alike.{AreSameIn}
 use Rattle.interval_eval.specs.declared.interval.Interval.{Interval}
 use Rattle.interval_eval.specs.Span.{IsInterval, IsIn, AreIn, EndsFit, span_of, SpanStaysInRange}
-use Rattle.interval_eval.specs.inside.Nested.{IsPartOf, ArePartsOf, range_at, HaveSameRangesBut}
+use Rattle.interval_eval.specs.inside.Nested.{ArePartsOf, range_at, HaveSameRangesBut}
 use Rattle.interval_eval.proofs.Holding as holding
 use Rattle.interval_eval.proofs.MovingSpans as moving
 use Rattle.interval_eval.proofs.Nesting as nesting
@@ -18,10 +18,6 @@ use Rattle.interval_eval.proofs.Resting as resting
 -- a value over the area lies in the span
 pub values_lie_in_spans : (e : Expression) (area : List Interval) (values : List ℤ) → IsWellFormed e (length area) → AreIn area values → IsIn (span_of e area) (value_of e values)
 values_lie_in_spans e area values formed within = holding.values_lie e area values formed within
-
--- the span over intervals is an interval
-pub spans_are_intervals : (e : Expression) (area : List Interval) → IsWellFormed e (length area) → All IsInterval area → IsInterval (span_of e area)
-spans_are_intervals e area formed each = holding.spans_ordered e area formed each
 
 -- a number of an interval lies in the range where the ends do
 pub numbers_lie_in_range : (i : Interval) (x : ℤ) → EndsFit i → IsIn i x → IsInRange x
@@ -35,11 +31,7 @@ values_stay_in_range e area values formed within stays = ranging.values_stay are
 pub spans_rest_on_variables : (e : Expression) (area other : List Interval) → AreSameIn (record { lo = pos 0; hi = pos 0 }) e area other → span_of e area ≡ span_of e other
 spans_rest_on_variables e area other same = resting.agree area other e same
 
--- the span over ranges lies in the span over wider ones
-pub spans_are_nested : (e : Expression) (area wider : List Interval) → IsWellFormed e (length wider) → All IsInterval area → ArePartsOf area wider → IsPartOf (span_of e area) (span_of e wider)
-spans_are_nested e area wider formed each parts = nesting.nested area wider each parts e formed
-
--- so no node's span over ranges leaves the range where none over wider ones does
+-- no node's span over ranges leaves the range where none over wider ones does
 pub nested_spans_stay_in_range : (e : Expression) (area wider : List Interval) → IsWellFormed e (length wider) → All IsInterval area → ArePartsOf area wider → SpanStaysInRange e wider → SpanStaysInRange e area
 nested_spans_stay_in_range e area wider formed each parts stays = nesting.stays area wider each parts e formed stays
 

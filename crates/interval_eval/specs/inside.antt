@@ -1,2 +1,4 @@
 pub mod Nested
 pub mod Joined
+pub mod Combined
+pub mod RowProgress

@@ -1,4 +1,5 @@
-// Intervals in many rows, with None where an end leaves 64 bits.
+//! Intervals in many rows, with None where an end leaves 64 bits.
+//! A loop's label names its invariant in proofs/.
 
 ghost use Rattle.std.specs.Prelude.{◌≡◌, ◌<◌, pos, ◌≤ℤ◌, ◌*ℤ◌, MatchOption, SomeIff};
 ghost use Rattle.std.specs.Int.{int_min, int_max};
@@ -7,13 +8,14 @@ ghost use Rattle.fixed_expr.specs.Narrow.{IsNarrow};
 ghost use Rattle.fixed_expr.specs.Lanes.{at, AreNarrow, HoldsNarrow};
 ghost use Rattle.interval_eval.specs.Span.{negation_of, sum_of, difference_of, product_of, quotient_of, minimum_of, maximum_of, absolute_of, lookup_of};
 ghost use Rattle.interval_eval.specs.Rows.{interval_in, HaveNarrowEnds, HoldsIntervals, AnswersIntervals};
+ghost use Rattle.interval_eval.specs.inside.Combined.{combined_interval};
 
 use crate::interval::Interval;
 use fixed_expr::lanes::{
     add_to, divide_by, lower_to, multiply_by, negate, raise_to, subtract_from,
 };
 use fixed_expr::narrow::narrow;
-use fixed_expr::{Curve, LANES};
+use fixed_expr::{Binary, Curve, LANES};
 
 /// An interval in each row, by the low and the high ends.
 #[derive(Clone, Copy)]
@@ -21,6 +23,12 @@ pub struct IntervalColumn {
     pub lo: [i64; LANES],
     pub hi: [i64; LANES],
 }
+
+/// 0 alone in each row: what a column is before its intervals are found.
+pub const NO_INTERVALS: IntervalColumn = IntervalColumn {
+    lo: [0; LANES],
+    hi: [0; LANES],
+};
 
 impl IntervalColumn {
     pub(crate) fn negation(&mut self) -> Option<()>
@@ -89,10 +97,11 @@ impl IntervalColumn {
     pub(crate) fn absolute(&mut self) -> Option<()>
         ensures { AnswersIntervals result self.new (λ k. absolute_of (interval_in self.old k)) }
     {
-        let low = least_absolute(self)?;
-        let high = greatest_absolute(self)?;
-        self.lo = low;
-        self.hi = high;
+        'lanes: for k in 0..LANES {
+            let lo = least_absolute(self.lo[k], self.hi[k])?;
+            self.hi[k] = greatest_absolute(self.lo[k], self.hi[k])?;
+            self.lo[k] = lo;
+        }
         Some(())
     }
 
@@ -100,102 +109,62 @@ impl IntervalColumn {
     pub(crate) fn lookup(&mut self, curve: &Curve) -> Option<()>
         ensures { AnswersIntervals result self.new (λ k. lookup_of curve.now (interval_in self.old k)) }
     {
-        let low = low_values(self, curve)?;
-        let high = high_values(self, curve)?;
-        self.lo = low;
-        self.hi = high;
+        'lanes: for k in 0..LANES {
+            let values = self.interval_at(k).looked_up(curve);
+            self.lo[k] = narrow(values.lo)?;
+            self.hi[k] = narrow(values.hi)?;
+        }
         Some(())
     }
-}
 
-fn least_absolute(column: &IntervalColumn) -> Option<[i64; LANES]>
-    ensures { MatchOption result (¬ (AreNarrow (λ k. (absolute_of (interval_in column.now k)).lo))) (λ r. HoldsNarrow r (λ k. (absolute_of (interval_in column.now k)).lo)) }
-{
-    let mut found = [0; LANES];
-    'lanes: for k in 0..LANES {
-        found[k] = least_absolute_at(column, k)?;
+    /// The interval in a row.
+    pub fn interval_at(&self, k: usize) -> Interval
+        requires { k < LANES }
+        ensures { result ≡ interval_in self.now k }
+    {
+        Interval {
+            lo: i128::from(self.lo[k]),
+            hi: i128::from(self.hi[k]),
+        }
     }
-    Some(found)
+
+    /// The values of an operation on two numbers, one of each interval.
+    pub(crate) fn combine(&mut self, binary: Binary, other: &IntervalColumn) -> Option<()>
+        ensures { AnswersIntervals result self.new (λ k. combined_interval binary (interval_in self.old k) (interval_in other.now k)) }
+    {
+        match binary {
+            Binary::Add => self.sum(other),
+            Binary::Subtract => self.difference(other),
+            Binary::Multiply => self.product(other),
+            Binary::TakeLesser => {
+                self.minimum(other);
+                Some(())
+            }
+            Binary::TakeGreater => {
+                self.maximum(other);
+                Some(())
+            }
+        }
+    }
 }
 
-fn least_absolute_at(column: &IntervalColumn, k: usize) -> Option<i64>
-    requires { k < LANES }
-    ensures { SomeIff result (IsNarrow (absolute_of (interval_in column.now k)).lo) (absolute_of (interval_in column.now k)).lo }
+fn least_absolute(lo: i64, hi: i64) -> Option<i64>
+    ensures { SomeIff result (IsNarrow (absolute_of (record { lo = lo; hi = hi })).lo) (absolute_of (record { lo = lo; hi = hi })).lo }
 {
-    if 0 <= column.lo[k] {
-        Some(column.lo[k])
-    } else if column.hi[k] <= 0 {
-        column.hi[k].checked_neg()
+    if 0 <= lo {
+        Some(lo)
+    } else if hi <= 0 {
+        hi.checked_neg()
     } else {
         Some(0)
     }
 }
 
-fn greatest_absolute(column: &IntervalColumn) -> Option<[i64; LANES]>
-    ensures { MatchOption result (¬ (AreNarrow (λ k. (absolute_of (interval_in column.now k)).hi))) (λ r. HoldsNarrow r (λ k. (absolute_of (interval_in column.now k)).hi)) }
-{
-    let mut found = [0; LANES];
-    'lanes: for k in 0..LANES {
-        found[k] = greatest_absolute_at(column, k)?;
-    }
-    Some(found)
-}
-
 /// Where the negated low end leaves 64 bits, so does the greatest.
-fn greatest_absolute_at(column: &IntervalColumn, k: usize) -> Option<i64>
-    requires { k < LANES }
-    ensures { SomeIff result (IsNarrow (absolute_of (interval_in column.now k)).hi) (absolute_of (interval_in column.now k)).hi }
+fn greatest_absolute(lo: i64, hi: i64) -> Option<i64>
+    ensures { SomeIff result (IsNarrow (absolute_of (record { lo = lo; hi = hi })).hi) (absolute_of (record { lo = lo; hi = hi })).hi }
 {
-    Some(column.lo[k].checked_neg()?.max(column.hi[k]))
-}
-
-fn low_values(column: &IntervalColumn, curve: &Curve) -> Option<[i64; LANES]>
-    ensures { MatchOption result (¬ (AreNarrow (λ k. (lookup_of curve.now (interval_in column.now k)).lo))) (λ r. HoldsNarrow r (λ k. (lookup_of curve.now (interval_in column.now k)).lo)) }
-{
-    let mut found = [0; LANES];
-    'lanes: for k in 0..LANES {
-        found[k] = low_value_at(column, k, curve)?;
-    }
-    Some(found)
-}
-
-fn low_value_at(column: &IntervalColumn, k: usize, curve: &Curve) -> Option<i64>
-    requires { k < LANES }
-    ensures { SomeIff result (IsNarrow (lookup_of curve.now (interval_in column.now k)).lo) (lookup_of curve.now (interval_in column.now k)).lo }
-{
-    narrow(values_at(column, k, curve).lo)
-}
-
-fn high_values(column: &IntervalColumn, curve: &Curve) -> Option<[i64; LANES]>
-    ensures { MatchOption result (¬ (AreNarrow (λ k. (lookup_of curve.now (interval_in column.now k)).hi))) (λ r. HoldsNarrow r (λ k. (lookup_of curve.now (interval_in column.now k)).hi)) }
-{
-    let mut found = [0; LANES];
-    'lanes: for k in 0..LANES {
-        found[k] = high_value_at(column, k, curve)?;
-    }
-    Some(found)
-}
-
-fn high_value_at(column: &IntervalColumn, k: usize, curve: &Curve) -> Option<i64>
-    requires { k < LANES }
-    ensures { SomeIff result (IsNarrow (lookup_of curve.now (interval_in column.now k)).hi) (lookup_of curve.now (interval_in column.now k)).hi }
-{
-    narrow(values_at(column, k, curve).hi)
-}
-
-fn values_at(column: &IntervalColumn, k: usize, curve: &Curve) -> Interval
-    requires { k < LANES }
-    ensures { result ≡ lookup_of curve.now (interval_in column.now k) }
-{
-    curve.points();
-    let range = Interval {
-        lo: i128::from(column.lo[k]),
-        hi: i128::from(column.hi[k]),
-    };
-    match range.lookup(curve) {
-        Some(found) => found,
-        None => unreachable!(),
-    }
+    Some(lo.checked_neg()?.max(hi))
 }
 
 fn products(a: &[i64; LANES], b: &[i64; LANES]) -> Option<[i64; LANES]>

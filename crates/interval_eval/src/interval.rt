@@ -9,7 +9,8 @@ use fixed_expr::arithmetic::{
     difference, greater, lesser, negation, product, quotient, sum, within,
 };
 
-/// The numbers from `lo` to `hi`, both included.
+/// The numbers from `lo` to `hi`, both included. An operation answers None where an end of what it finds leaves the
+/// range.
 #[derive(Clone, Copy, PartialEq, Eq)]
 pub struct Interval {
     pub lo: i128,
@@ -105,6 +106,13 @@ impl Interval {
     pub fn lookup(self, curve: &Curve) -> Option<Interval>
         ensures { SomeIff result (EndsFit (lookup_of curve.now self)) (lookup_of curve.now self) }
     {
+        self.looked_up(curve).within()
+    }
+
+    /// The least and the greatest value of a table.
+    pub(crate) fn looked_up(self, curve: &Curve) -> Interval
+        ensures { result ≡ lookup_of curve.now self }
+    {
         let first = curve.value(self.lo);
         let last = curve.value(self.hi);
         let points = curve.points();
@@ -112,10 +120,10 @@ impl Interval {
             lo: first.min(last),
             hi: first.max(last),
         };
-        'points: for k in 0..points.len() {
-            found = joined(found, points[k], self);
+        for point in points {
+            found = joined(found, *point, self);
         }
-        found.within()
+        found
     }
 }
 

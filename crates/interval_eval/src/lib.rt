@@ -10,7 +10,7 @@ mod interval;
 mod rows;
 mod spans;
 
-pub use columns::IntervalColumn;
+pub use columns::{IntervalColumn, NO_INTERVALS};
 pub use interval::Interval;
 pub use rows::span_rows;
 pub use spans::span;

@@ -1,61 +1,43 @@
-use Rattle.std.proofs.Common.{◌≡◌, SomeIff, sym, ap, ap₂, ◌∙◌, subst}
-use Rattle.fixed_expr.specs.Expression.{Expression, Negation, Absolute, Lookup, Sum, Difference, Product, Minimum, Maximum, expression_of}
-use Rattle.interval_eval.specs.Span.{negation_of, absolute_of, lookup_of, sum_of, difference_of, product_of, minimum_of, maximum_of, span_of, SpanStaysInRange}
-use Rattle.interval_eval.proofs.Nodes.{one_node, two_nodes}
+use Rattle.std.proofs.Common.{ap}
+use Rattle.fixed_expr.specs.declared.operation.Binary.TheVariants.{Add, Subtract, Multiply, TakeLesser, TakeGreater}
+use Rattle.fixed_expr.specs.Expression.{Expression, Negation, Absolute, Lookup, expression_of}
+use Rattle.interval_eval.specs.Span.{negation_of, absolute_of, lookup_of}
+use Rattle.interval_eval.proofs.Nodes.{one_node, of_part, of_parts}
 use Rattle.interval_eval.proofs.spans.+node_span.Goals as goal
 
 pub returns-in_ok-node_span-in-Add-2 : goal.returns-in_ok-node_span-in-Add-2
 returns-in_ok-node_span-in-Add-2 t c =
-    let a = c.deref-in-Add.result.now in let b = c.deref-in-Add-2.result.now in
-    let e : expression_of c.args.e.now ≡ Sum (expression_of a) (expression_of b) = ap expression_of c.in-Add.is ∙ ap₂ (λ x y. Sum (expression_of x) (expression_of y)) (sym c.deref-in-Add.ensures) (sym c.deref-in-Add-2.ensures) in
-    subst (λ (x : Expression). SomeIff c.sum.result (SpanStaysInRange x c.args.area.now) (span_of x c.args.area.now)) (sym e)
-    (two_nodes c.sum.result _ _ sum_of _ _ _ _ c.in_ok-node_span-in-Add.ensures c.in_ok-node_span-in-Add-2.ensures c.sum.ensures)
+    of_parts Add c.sum.result c.args.area.now _ c.in-Add.a.value c.in-Add.b.value _ _ _ _ (ap expression_of c.in-Add.is) c.deref-in-Add.ensures c.deref-in-Add-2.ensures
+    c.in_ok-node_span-in-Add.ensures c.in_ok-node_span-in-Add-2.ensures c.sum.ensures
 
 pub returns-in_ok-node_span-in-Sub-2 : goal.returns-in_ok-node_span-in-Sub-2
 returns-in_ok-node_span-in-Sub-2 t c =
-    let a = c.deref-in-Sub.result.now in let b = c.deref-in-Sub-2.result.now in
-    let e : expression_of c.args.e.now ≡ Difference (expression_of a) (expression_of b) = ap expression_of c.in-Sub.is ∙ ap₂ (λ x y. Difference (expression_of x) (expression_of y)) (sym c.deref-in-Sub.ensures) (sym c.deref-in-Sub-2.ensures) in
-    subst (λ (x : Expression). SomeIff c.difference.result (SpanStaysInRange x c.args.area.now) (span_of x c.args.area.now)) (sym e)
-    (two_nodes c.difference.result _ _ difference_of _ _ _ _ c.in_ok-node_span-in-Sub.ensures c.in_ok-node_span-in-Sub-2.ensures c.difference.ensures)
+    of_parts Subtract c.difference.result c.args.area.now _ c.in-Sub.a.value c.in-Sub.b.value _ _ _ _ (ap expression_of c.in-Sub.is) c.deref-in-Sub.ensures c.deref-in-Sub-2.ensures
+    c.in_ok-node_span-in-Sub.ensures c.in_ok-node_span-in-Sub-2.ensures c.difference.ensures
 
 pub returns-in_ok-node_span-in-Mul-2 : goal.returns-in_ok-node_span-in-Mul-2
 returns-in_ok-node_span-in-Mul-2 t c =
-    let a = c.deref-in-Mul.result.now in let b = c.deref-in-Mul-2.result.now in
-    let e : expression_of c.args.e.now ≡ Product (expression_of a) (expression_of b) = ap expression_of c.in-Mul.is ∙ ap₂ (λ x y. Product (expression_of x) (expression_of y)) (sym c.deref-in-Mul.ensures) (sym c.deref-in-Mul-2.ensures) in
-    subst (λ (x : Expression). SomeIff c.product.result (SpanStaysInRange x c.args.area.now) (span_of x c.args.area.now)) (sym e)
-    (two_nodes c.product.result _ _ product_of _ _ _ _ c.in_ok-node_span-in-Mul.ensures c.in_ok-node_span-in-Mul-2.ensures c.product.ensures)
+    of_parts Multiply c.product.result c.args.area.now _ c.in-Mul.a.value c.in-Mul.b.value _ _ _ _ (ap expression_of c.in-Mul.is) c.deref-in-Mul.ensures c.deref-in-Mul-2.ensures
+    c.in_ok-node_span-in-Mul.ensures c.in_ok-node_span-in-Mul-2.ensures c.product.ensures
 
 pub returns-in_ok-node_span-in-Min-2 : goal.returns-in_ok-node_span-in-Min-2
 returns-in_ok-node_span-in-Min-2 t c =
-    let a = c.deref-in-Min.result.now in let b = c.deref-in-Min-2.result.now in
-    let e : expression_of c.args.e.now ≡ Minimum (expression_of a) (expression_of b) = ap expression_of c.in-Min.is ∙ ap₂ (λ x y. Minimum (expression_of x) (expression_of y)) (sym c.deref-in-Min.ensures) (sym c.deref-in-Min-2.ensures) in
-    subst (λ (x : Expression). SomeIff c.minimum.result (SpanStaysInRange x c.args.area.now) (span_of x c.args.area.now)) (sym e)
-    (two_nodes c.minimum.result _ _ minimum_of _ _ _ _ c.in_ok-node_span-in-Min.ensures c.in_ok-node_span-in-Min-2.ensures c.minimum.ensures)
+    of_parts TakeLesser c.minimum.result c.args.area.now _ c.in-Min.a.value c.in-Min.b.value _ _ _ _ (ap expression_of c.in-Min.is) c.deref-in-Min.ensures c.deref-in-Min-2.ensures
+    c.in_ok-node_span-in-Min.ensures c.in_ok-node_span-in-Min-2.ensures c.minimum.ensures
 
 pub returns-in_ok-node_span-in-Max-2 : goal.returns-in_ok-node_span-in-Max-2
 returns-in_ok-node_span-in-Max-2 t c =
-    let a = c.deref-in-Max.result.now in let b = c.deref-in-Max-2.result.now in
-    let e : expression_of c.args.e.now ≡ Maximum (expression_of a) (expression_of b) = ap expression_of c.in-Max.is ∙ ap₂ (λ x y. Maximum (expression_of x) (expression_of y)) (sym c.deref-in-Max.ensures) (sym c.deref-in-Max-2.ensures) in
-    subst (λ (x : Expression). SomeIff c.maximum.result (SpanStaysInRange x c.args.area.now) (span_of x c.args.area.now)) (sym e)
-    (two_nodes c.maximum.result _ _ maximum_of _ _ _ _ c.in_ok-node_span-in-Max.ensures c.in_ok-node_span-in-Max-2.ensures c.maximum.ensures)
+    of_parts TakeGreater c.maximum.result c.args.area.now _ c.in-Max.a.value c.in-Max.b.value _ _ _ _ (ap expression_of c.in-Max.is) c.deref-in-Max.ensures c.deref-in-Max-2.ensures
+    c.in_ok-node_span-in-Max.ensures c.in_ok-node_span-in-Max-2.ensures c.maximum.ensures
 
 pub returns-in_ok-node_span-in-Neg : goal.returns-in_ok-node_span-in-Neg
 returns-in_ok-node_span-in-Neg t c =
-    let a = c.deref.result.now in
-    let e : expression_of c.args.e.now ≡ Negation (expression_of a) = ap expression_of c.in-Neg.is ∙ ap (λ x. Negation (expression_of x)) (sym c.deref.ensures) in
-    subst (λ (x : Expression). SomeIff c.negation.result (SpanStaysInRange x c.args.area.now) (span_of x c.args.area.now)) (sym e)
-    (one_node c.negation.result _ negation_of _ _ c.in_ok-node_span-in-Neg.ensures c.negation.ensures)
+    of_part Negation c.negation.result c.args.area.now _ c.in-Neg.a.value _ (ap expression_of c.in-Neg.is) c.deref.ensures (one_node c.negation.result _ negation_of _ _ c.in_ok-node_span-in-Neg.ensures c.negation.ensures)
 
 pub returns-in_ok-node_span-in-Abs : goal.returns-in_ok-node_span-in-Abs
 returns-in_ok-node_span-in-Abs t c =
-    let a = c.deref-in-Abs.result.now in
-    let e : expression_of c.args.e.now ≡ Absolute (expression_of a) = ap expression_of c.in-Abs.is ∙ ap (λ x. Absolute (expression_of x)) (sym c.deref-in-Abs.ensures) in
-    subst (λ (x : Expression). SomeIff c.absolute.result (SpanStaysInRange x c.args.area.now) (span_of x c.args.area.now)) (sym e)
-    (one_node c.absolute.result _ absolute_of _ _ c.in_ok-node_span-in-Abs.ensures c.absolute.ensures)
+    of_part Absolute c.absolute.result c.args.area.now _ c.in-Abs.a.value _ (ap expression_of c.in-Abs.is) c.deref-in-Abs.ensures (one_node c.absolute.result _ absolute_of _ _ c.in_ok-node_span-in-Abs.ensures c.absolute.ensures)
 
 pub returns-in_ok-node_span-in-Lut : goal.returns-in_ok-node_span-in-Lut
 returns-in_ok-node_span-in-Lut t c =
-    let a = c.deref-in-Lut.result.now in
-    let e : expression_of c.args.e.now ≡ Lookup (expression_of a) c.in-Lut.curve = ap expression_of c.in-Lut.is ∙ ap (λ x. Lookup (expression_of x) c.in-Lut.curve) (sym c.deref-in-Lut.ensures) in
-    subst (λ (x : Expression). SomeIff c.lookup.result (SpanStaysInRange x c.args.area.now) (span_of x c.args.area.now)) (sym e)
-    (one_node c.lookup.result _ (lookup_of c.in-Lut.curve) _ _ c.in_ok-node_span-in-Lut.ensures c.lookup.ensures)
+    of_part (λ (a : Expression). Lookup a c.in-Lut.curve) c.lookup.result c.args.area.now _ c.in-Lut.a.value _ (ap expression_of c.in-Lut.is) c.deref-in-Lut.ensures (one_node c.lookup.result _ (lookup_of c.in-Lut.curve) _ _ c.in_ok-node_span-in-Lut.ensures c.lookup.ensures)
