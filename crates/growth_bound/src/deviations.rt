@@ -10,7 +10,8 @@ use fixed_expr::Expr;
 use interval_eval::Interval;
 
 /// How far the value of an expression moves at most, where each variable lies in its range of the
-/// area and moves by at most its radius.
+/// area and moves by at most its radius, which isn't negative: None where an end of some node's span, or
+/// some node's deviation, leaves the range.
 pub fn deviation(e: &Expr, area: &[Interval], radii: &[i128]) -> Option<i128>
     requires well_formed { IsWellFormed (expression_of e.now) (length area.now) }
     requires one_for_each { length radii.now ≡ length area.now }
@@ -26,7 +27,8 @@ pub fn deviation(e: &Expr, area: &[Interval], radii: &[i128]) -> Option<i128>
     Some(span_and_deviation(e, area, radii)?.1)
 }
 
-/// The span of an expression beside its deviation, found together.
+/// The span of an expression beside its deviation, found together: None where an end of some node's span,
+/// or some node's deviation, leaves the range.
 pub fn span_and_deviation(e: &Expr, area: &[Interval], radii: &[i128]) -> Option<(Interval, i128)>
     requires well_formed { IsWellFormed (expression_of e.now) (length area.now) }
     requires one_for_each { length radii.now ≡ length area.now }

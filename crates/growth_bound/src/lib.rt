@@ -3,7 +3,7 @@
 //! The layer above gives an expression with a range and a radius for each variable, and `deviation`
 //! answers how far the value moves where each variable moves by at most its radius, or None exactly
 //! where a span end or a deviation of some node leaves 127 bits and a sign. Stands on
-//! `interval_eval`.
+//! `fixed_expr` and `interval_eval`.
 #![tactic(auto)]
 
 mod bounds;
