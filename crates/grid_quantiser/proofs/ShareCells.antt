@@ -2,7 +2,6 @@
 use Rattle.std.proofs.Common.{◌≡◌, ℕ, zero, suc, ◌+◌, ◌-◌, ◌*◌, ◌/◌, ◌%◌, ◌<◌, ◌≤◌, ◌↔◌, arith, refl, ◌∙◌, List, [], ◌∷◌, length, drop, get_or, ℤ, pos, Option, None, Some}
 use Rattle.std.specs.List.{All, Contains}
 use Rattle.std.proofs.Math.Nat.{mul_comm}
-use Rattle.std.proofs.Math.Seq.{drop-length}
 use Rattle.std.proofs.lemmas.Bool.{false≢true}
 use Rattle.std.proofs.lemmas.List.{get_or_default}
 use Rattle.std.proofs.lemmas.List.Elements.{All-tail, All-drop}
@@ -28,11 +27,6 @@ pub record AreCornersOf (share : Share) (axes : List Axis) (lo hi : List ℤ) (f
   pub last_below : l < cells_of axes
   pub ordered : IsCellBox axes f l
   pub exactly : (c : ℕ) → c < cells_of axes → IsBetween axes f l c ↔ HasShare share axes lo hi c
-
-pub no_corners : (share : Share) (axes : List Axis) (lo hi : List ℤ) → AreCornersOf share (drop (length axes) axes) (drop (length axes) lo) (drop (length axes) hi) 0 0
-no_corners share axes lo hi =
-    rw drop-length
-    (record { first_below = omega arith; last_below = omega arith; ordered = tt; exactly = λ c below. (λ between. tt, λ has. tt) })
 
 -- one axis more
 more_corners : (share : Share) (a : Axis) (axes : List Axis) (x y : ℤ) (lo hi : List ℤ) (p q f l : ℕ) → All IsAxis axes → ArePlacesIn share a x y p q → AreCornersOf share axes lo hi f l →

@@ -1,5 +1,6 @@
 ghost use Rattle.std.specs.Prelude.{◌≡◌, ◌<◌, ◌≤◌, ◌↔◌, length, slice_index, IsTrue, IsSome, IfSome};
 ghost use Rattle.std.specs.List.{Contains};
+ghost use Rattle.grid_quantiser.specs.declared.grid.TheConstants.{STATES_LIMIT};
 ghost use Rattle.grid_quantiser.specs.Axes.{cells_of};
 ghost use Rattle.grid_quantiser.specs.Boxes.{IsAtMost, IsBoxInDomain, Touches, LiesInside, AreCornersMeeting, IsCellBox, cells_between};
 
@@ -122,7 +123,7 @@ impl Grid {
 
 /// Whether `xs` is at most `ys` in each state.
 fn is_at_most(axes: &[Axis], xs: &Point, ys: &Point) -> bool
-    requires { length axes.now ≤ 6 }
+    requires { length axes.now ≤ STATES_LIMIT }
     ensures { IsTrue result ↔ IsAtMost axes.now xs.now ys.now }
 {
     for i in (0..axes.len()).rev() {

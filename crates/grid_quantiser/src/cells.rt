@@ -4,7 +4,7 @@ ghost use Rattle.grid_quantiser.specs.Cells.{IsInDomain, cell_of, low_of, centre
 ghost use Rattle.grid_quantiser.specs.inside.Spots.{numbers_of};
 
 use crate::axis::{Axis, Spot};
-use crate::grid::{Grid, Point};
+use crate::grid::{Grid, Point, STATES_LIMIT};
 
 impl Grid {
     /// The cell of a state: the static quantiser of an abstraction by cells (Reissig, Weber and
@@ -52,7 +52,7 @@ impl Grid {
         ensures { result ≡ point_of (numbers_of spot self.now c) }
     {
         let axes = self.axes();
-        let mut point = [0; 6];
+        let mut point = [0; STATES_LIMIT];
         let mut rest = u64::from(c);
         for i in (0..axes.len()).rev() {
             point[i] = axes[i].number(rest % axes[i].count, spot);

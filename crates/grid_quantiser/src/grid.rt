@@ -2,12 +2,15 @@ ghost use Rattle.std.specs.Prelude.{◌≡◌, ◌*◌, ◌^◌, ◌<◌, ◌≤
 ghost use Rattle.grid_quantiser.specs.Axes.{no_axis, cells_of, AreAxes};
 ghost use Rattle.grid_quantiser.specs.Cells.{radius_of};
 
-use crate::axis::Axis;
+use crate::axis::{Axis, NO_AXIS};
 use std::marker::Model;
+
+/// The most states of a grid.
+pub const STATES_LIMIT: usize = 6;
 
 /// The numbers of a state, one for each axis of the grid. The places past the last axis are 0 in
 /// an answer, and are not looked at in what a call is given.
-pub type Point = [i128; 6];
+pub type Point = [i128; STATES_LIMIT];
 
 /// The grid would have more than 2^20 cells.
 #[derive(Clone, Copy, Debug, PartialEq, Eq)]
@@ -17,7 +20,7 @@ pub struct TooManyCells;
 /// slowest.
 #[derive(Clone, Copy, PartialEq, Eq)]
 pub struct Grid {
-    axes: [Axis; 6],
+    axes: [Axis; STATES_LIMIT],
     states: u32,
     cells: u32,
 }
@@ -43,13 +46,6 @@ impl Model for Grid {
 /// The most cells that a grid has.
 const CELLS_LIMIT: u64 = 1 << 20;
 
-/// What stands in a place with no axis.
-const NO_AXIS: Axis = Axis {
-    lo: 0,
-    width: 0,
-    count: 0,
-};
-
 impl Grid {
     /// The grid of the axes, one for each state.
     pub fn new(axes: &[Axis]) -> Result<Grid, TooManyCells>
@@ -58,7 +54,7 @@ impl Grid {
         ensures refused { IsErr result ↔ (2 ^ 20 < cells_of axes.now) }
     {
         let cells = cell_count(axes)?;
-        let mut six = [NO_AXIS; 6];
+        let mut six = [NO_AXIS; STATES_LIMIT];
         six[..axes.len()].copy_from_slice(axes);
         Ok(Grid {
             axes: six,
@@ -67,7 +63,7 @@ impl Grid {
         })
     }
 
-    /// How many states. What holds of the axes of every grid is learnt here.
+    /// How many states.
     #[inline]
     pub fn states(&self) -> u32
         ensures count { result ≡ length self.now }
@@ -76,7 +72,7 @@ impl Grid {
         self.states
     }
 
-    /// How many cells. The bounds of every grid are learnt here.
+    /// How many cells.
     #[inline]
     pub fn cells(&self) -> u32
         ensures count { result ≡ cells_of self.now }

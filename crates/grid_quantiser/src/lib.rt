@@ -16,9 +16,9 @@ mod runs;
 mod shares;
 mod sides;
 
-pub use axis::Axis;
+pub use axis::{Axis, NO_AXIS};
 pub use boxes::CellBox;
-pub use grid::{Grid, Point, TooManyCells};
+pub use grid::{Grid, Point, STATES_LIMIT, TooManyCells};
 pub use ruler::Ruler;
 pub use runs::Runs;
 pub use sides::Side;

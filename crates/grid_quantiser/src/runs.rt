@@ -4,7 +4,7 @@ ghost use Rattle.grid_quantiser.specs.Runs.{BeginsWithRun};
 ghost use Rattle.grid_quantiser.specs.inside.RunFields.{AreWheels, next_start, turned};
 
 use crate::boxes::CellBox;
-use crate::grid::Grid;
+use crate::grid::{Grid, STATES_LIMIT};
 use std::marker::Model;
 
 /// A state of an odometer over a box: how far apart its places are, how many steps there are from
@@ -26,10 +26,10 @@ const STILL: Wheel = Wheel {
 /// The cells of a box that are still to come, in rising order.
 #[derive(Drop)]
 pub struct Runs {
-    // One for each state but the last, from the last but one to the first.
-    wheels: [Wheel; 5],
+    /// One for each state but the last, from the last but one to the first.
+    wheels: [Wheel; STATES_LIMIT - 1],
     turning: u32,
-    // The first cell of the next run.
+    /// The first cell of the next run.
     next: Option<u32>,
     side: u32,
 }
@@ -59,7 +59,7 @@ impl Grid {
         let (quotient, last) = split(rest, stride);
         let side = last + 1;
         rest = quotient;
-        let mut wheels = [STILL; 5];
+        let mut wheels = [STILL; STATES_LIMIT - 1];
         for i in (0..turning).rev() {
             let count = axes[i].count as u32;
             let (quotient, steps) = split(rest, count);

@@ -5,7 +5,7 @@ ghost use Rattle.grid_quantiser.specs.Places.{place_along};
 ghost use Rattle.grid_quantiser.specs.Sides.{IsSideOf, prolonged, IsSideBefore, AreSidesOf};
 
 use crate::boxes::CellBox;
-use crate::grid::Grid;
+use crate::grid::{Grid, STATES_LIMIT};
 use crate::ruler::Ruler;
 
 /// Places of an axis, from the first to the last.
@@ -61,7 +61,7 @@ impl Grid {
     /// The box with these sides, one for each state: None where one is missing. It is the box that
     /// `meeting` gives between the ends of any box of states with these sides, without a division.
     #[inline]
-    pub fn box_with(&self, sides: &[Option<Side>; 6]) -> Option<CellBox>
+    pub fn box_with(&self, sides: &[Option<Side>; STATES_LIMIT]) -> Option<CellBox>
         requires { (lo : List ℤ) × (hi : List ℤ) × AreSidesOf self.now lo hi sides.now }
         ensures inside { (lo hi : List ℤ) → AreSidesOf self.now lo hi sides.now → IsSome result ↔ IsBoxInDomain self.now lo hi }
         ensures corners { (lo hi : List ℤ) → AreSidesOf self.now lo hi sides.now → IfSome result (λ b. AreCornersMeeting self.now lo hi b.first b.last) }
@@ -91,11 +91,11 @@ impl Grid {
 
     /// The place of a cell along each axis. Past the last axis it is 0.
     #[inline]
-    pub fn places(&self, c: u32) -> [u32; 6]
+    pub fn places(&self, c: u32) -> [u32; STATES_LIMIT]
         ensures { (i : ℕ) → i < length self.now → slice_index result i ≡ place_along self.now i c }
     {
         let axes = self.axes();
-        let mut places = [0; 6];
+        let mut places = [0; STATES_LIMIT];
         let mut rest = u64::from(c);
         for i in (0..axes.len()).rev() {
             places[i] = (rest % axes[i].count) as u32;
