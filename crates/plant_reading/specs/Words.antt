@@ -1,5 +1,7 @@
 -- The words of a line.
-use Rattle.std.specs.Prelude.{ℕ, Bool, true, ◌||◌, ◌==◌, List, [], ◌∷◌, slice_index, if◌then◌else◌}
+use Rattle.std.specs.Prelude.{◌≡◌, ℕ, ℤ, Bool, true, ◌||◌, ◌==◌, List, [], ◌∷◌, slice_index, if◌then◌else◌}
+use Rattle.std.specs.Fmt.{signed_decimal}
+use Rattle.plant_record.specs.Numbers.{IsLiteral}
 use Rattle.plant_reading.specs.Lines.{joined}
 
 -- a space, a tab or a carriage return
@@ -24,3 +26,7 @@ is_passed_over line = passed_over (words_of line)
     passed_over : List (List ℕ) → Bool
     passed_over [] = true
     passed_over (word ∷ words) = slice_index word 0 == 35
+
+-- the word is the one spelling of the number, which has at most 18 digits
+abbrev pub IsSpellingOf : ℤ → List ℕ → Type 0
+IsSpellingOf z word = IsLiteral z × (word ≡ signed_decimal z)

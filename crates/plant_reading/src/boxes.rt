@@ -1,4 +1,4 @@
-// The boxes of targets and obstacles, as a line spells them.
+//! The boxes of targets and obstacles, as a line spells them.
 
 ghost use Rattle.std.specs.Prelude.{◌≤◌};
 ghost use Rattle.plant_reading.specs.Words.{words_of};

@@ -1,4 +1,4 @@
-// What the words behind a line's first word say of a variable, a box or the goal.
+//! What the words behind a line's first word say of a variable, a box or the goal.
 
 ghost use Rattle.std.specs.Prelude.{◌≡◌, ◌↔◌, ◌<◌, ◌%◌, IsTrue, ℤ, pos, nat_abs, ◌+ℤ◌, ◌-ℤ◌, ◌≤ℤ◌};
 ghost use Rattle.plant_record.specs.Spelling.{version_word, goal_word};
@@ -9,22 +9,20 @@ ghost use Rattle.plant_reading.specs.inside.LineReaders.{HasWholeCells, StartsWi
 
 use crate::fault::ReadFault;
 use crate::words::blanks::next_word;
-use crate::words::expected::{expect_end, name_in, number_in};
-use crate::words::numbers::number_of;
+use crate::words::expected::{expect_end, expect_number, name_in, number_in, only_word};
 use plant_record::{
     GoalKind, InputVariable, Name, NoiseVariable, PlantVersion, StateVariable, Values,
 };
 use std::alloc::Global;
 
+/// The most values of an input variable.
+const VALUES_LIMIT: usize = 64;
+
 /// `1` or `2`.
 pub fn version_in(bytes: &[u8]) -> Result<PlantVersion, ReadFault>
     ensures { Finds (λ v. v) (SpellsVersion (words_of bytes.now)) result }
 {
-    let Some((word, rest)) = next_word(bytes) else {
-        return Err(ReadFault::Malformed);
-    };
-    expect_end(rest)?;
-    version_of(word)
+    version_of(only_word(bytes)?)
 }
 
 fn version_of(word: &[u8]) -> Result<PlantVersion, ReadFault>
@@ -106,10 +104,10 @@ fn values_in(alloc: Global, bytes: &[u8]) -> Result<Values, ReadFault>
     let mut numbers = Vec::new(alloc);
     let mut rest = bytes;
     while let Some((word, after)) = next_word(rest) {
-        if numbers.len() == 64 {
+        if numbers.len() == VALUES_LIMIT {
             return Err(ReadFault::Malformed);
         }
-        numbers.push(number_of(word)?)?;
+        numbers.push(expect_number(word)?)?;
         rest = after;
     }
     if numbers.is_empty() {
@@ -151,11 +149,7 @@ fn is_ordered(least: i128, greatest: i128) -> bool
 pub fn goal_in(bytes: &[u8]) -> Result<GoalKind, ReadFault>
     ensures { Finds (λ kind. kind) (SpellsGoal (words_of bytes.now)) result }
 {
-    let Some((word, rest)) = next_word(bytes) else {
-        return Err(ReadFault::Malformed);
-    };
-    expect_end(rest)?;
-    goal_of(word)
+    goal_of(only_word(bytes)?)
 }
 
 fn goal_of(word: &[u8]) -> Result<GoalKind, ReadFault>

@@ -1,4 +1,4 @@
-// Expressions, read from left to right.
+//! Expressions, read from left to right.
 
 ghost use Rattle.std.specs.Prelude.{◌≡◌, ◌≢◌, ◌⊎◌, ◌↔◌, ◌≤◌, [], length, flat_map, IsTrue, IfOk, OnOk, SomeIff, Some, None};
 ghost use Rattle.std.specs.List.{All, AllPairs};
@@ -12,7 +12,7 @@ ghost use Rattle.plant_reading.specs.SyntaxTrees.{AreTokensOf};
 ghost use Rattle.plant_reading.specs.inside.ExpressionItems.{nodes_made, open_behind};
 ghost use Rattle.plant_reading.specs.inside.TokenReaders.{Gives};
 ghost use Rattle.plant_record.specs.Parts.{variable_names};
-ghost use Rattle.plant_reading.specs.inside.ExpressionMachine.{pendings_of, machine_of, closed, tabled, halved, begun, continued, summed, stepped, IsEnd, counts_behind, AreWithinLimits};
+ghost use Rattle.plant_reading.specs.inside.ExpressionMachine.{pendings_of, machine_of, closed, tabled, take_comma, begun, continued, summed, stepped, IsEnd, counts_behind, AreWithinLimits};
 
 use crate::fault::ReadFault;
 use crate::frames::{Frame, Stack};
@@ -102,9 +102,9 @@ fn tabled(
     }
 }
 
-/// Behind the first of two sums in a bracket.
-fn halved(stack: &mut Stack, sum: Box<Expr>) -> Result<(), ReadFault>
-    ensures { Gives (λ _. pendings_of stack.new) result (halved (expression_of sum.value) (pendings_of stack.old)) }
+/// Takes the comma of `min` or `max` behind the first of its two sums.
+fn take_comma(stack: &mut Stack, sum: Box<Expr>) -> Result<(), ReadFault>
+    ensures { Gives (λ _. pendings_of stack.new) result (take_comma (expression_of sum.value) (pendings_of stack.old)) }
 {
     let frame = match stack.pop_bracket() {
         Some(Bracket::Least) => Frame::LeastOf(sum),
@@ -183,7 +183,7 @@ fn summed(
             Ok(None)
         }
         Item::Comma => {
-            halved(stack, sum)?;
+            take_comma(stack, sum)?;
             Ok(None)
         }
         Item::Close => {
@@ -200,18 +200,18 @@ fn summed(
 
 /// An expression of which some items are read.
 #[derive(Drop)]
-struct Reader {
+struct ExpressionReader {
     stack: Stack,
     term: Option<Box<Expr>>,
     counts: Counts,
 }
 
-impl Reader {
-    fn new(alloc: Global) -> Reader
+impl ExpressionReader {
+    fn new(alloc: Global) -> ExpressionReader
         ensures machine { machine_of result ≡ (None, []) }
         ensures counts { result.counts ≡ record { nodes = 0; brackets = 0 } }
     {
-        Reader {
+        ExpressionReader {
             stack: Stack::new(alloc),
             term: None,
             counts: Counts {
@@ -266,7 +266,7 @@ impl Reader {
         ensures whole { IfOk result (λ e. IsEnd (machine_of self) (expression_of e)) }
         ensures refused { result ≡ Err ReadFault.Malformed → (e : Expression) → IsEnd (machine_of self) e → ⊥ }
     {
-        let Reader {
+        let ExpressionReader {
             mut stack,
             term,
             ..
@@ -305,7 +305,7 @@ pub fn expression_in(alloc: Global, variables: &Variables, rest: &[u8]) -> Resul
     ensures found { IfOk result (λ e. AreTokensOf (variable_names variables.now) (flat_map tokens_of (words_of rest.now)) (expression_of e)) }
     ensures refused { result ≡ Err ReadFault.Malformed → (e : Expression) → AreTokensOf (variable_names variables.now) (flat_map tokens_of (words_of rest.now)) e → ⊥ }
 {
-    let mut reader = Reader::new(alloc);
+    let mut reader = ExpressionReader::new(alloc);
     reader.take_all(alloc, variables, rest)?;
     reader.end(alloc)
 }

@@ -1,4 +1,4 @@
-// What an expression that is begun waits for.
+//! What an expression that is begun waits for.
 
 ghost use Rattle.std.specs.Prelude.{◌≡◌, ◌↔◌, [], ◌∷◌, IsTrue, IfOk, OnOk, MatchOption};
 ghost use Rattle.fixed_expr.specs.Expression.{expression_of};

@@ -1,5 +1,5 @@
-// The items of an expression: its tokens, but a `/` with its divisor, a function with its bracket, and
-// the points of a table with the bracket behind them are one.
+//! The items of an expression: its tokens, but a `/` with its divisor, a function with its bracket, and
+//! the points of a table with the bracket behind them are one.
 
 ghost use Rattle.std.specs.Prelude.{◌≡◌, ◌<◌, ◌≤◌, length, IfSome, IfOk};
 ghost use Rattle.std.specs.Option.{option_map};

@@ -1,7 +1,8 @@
 //! Lines of plant texts, read one by one.
 //!
 //! The layer above hands in a line, with the variables that are known before it, and gets the one
-//! thing that the line states, or learns that it states nothing. Stands on `plant_record`.
+//! thing that the line states, or learns that it states nothing; or it hands in a word, and gets the
+//! number that the word spells. Stands on `plant_record`, `fixed_expr` and `itoa`.
 #![tactic(auto)]
 
 mod boxes;
@@ -19,3 +20,4 @@ pub use fault::ReadFault;
 pub use statements::{Statement, statement_in};
 pub use words::blanks::is_passed_over;
 pub use words::lines::{next_full_line, next_line};
+pub use words::numbers::number_of;

@@ -1,4 +1,4 @@
-// What one line of a plant text states.
+//! What one line of a plant text states.
 
 ghost use Rattle.std.specs.Prelude.{◌≡◌, ◌≢◌, ◌≤◌, ◌∷◌, length, codes, IfOk, Err, AllPairs};
 ghost use Rattle.std.specs.List.{All};

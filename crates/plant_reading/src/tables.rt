@@ -1,4 +1,4 @@
-// The points of a table.
+//! The points of a table.
 
 ghost use Rattle.std.specs.Prelude.{◌≡◌, ◌<◌, ◌≤◌, ◌^◌, ◌&&◌, nat_le, if◌then◌else◌, codes, length, nat_abs, Some, None, IfOk, IfSome};
 ghost use Rattle.std.specs.List.{All};

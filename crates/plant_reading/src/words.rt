@@ -1,4 +1,4 @@
-// Lines, words and tokens, names and numbers.
+//! Lines, words and tokens, names and numbers.
 
 pub mod blanks;
 pub mod expected;

@@ -14,6 +14,3 @@ or_true false = refl
 pub neither_of : (a b : Bool) → (a || b) ≡ false → (a ≡ false) × (b ≡ false)
 neither_of true b e = absurd cc
 neither_of false b e = (refl, e)
-
-pub not_both : (b : Bool) → b ≡ true → b ≡ false → ⊥
-not_both b e is = cc

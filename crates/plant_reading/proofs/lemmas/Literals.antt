@@ -11,8 +11,10 @@ use Rattle.std.proofs.lemmas.Fmt.{decimal_is_IsNumeral, decimal_nonempty}
 use Rattle.std.proofs.lemmas.Slice.Eq.{bytes_eq-Decides}
 use Rattle.plant_record.specs.Names.{is_digit}
 use Rattle.plant_record.specs.Numbers.{IsLiteral}
+use Rattle.plant_reading.specs.Words.{IsSpellingOf}
 use Rattle.plant_reading.specs.inside.TokenReaders.{or_else, ◌>>=◌, literal_of}
 use Rattle.plant_reading.proofs.lemmas.NumberBytes.{decimal_digits, first_digit}
+use Rattle.plant_reading.proofs.lemmas.NumberWords.{one_number}
 
 -- ---- tests
 
@@ -78,9 +80,12 @@ pub literal_written : (w : List ℕ) (z : ℤ) → pos 0 ≤ℤ z → IsLiteral 
 literal_written w (pos k) sign lt e = ap literal_of e ∙ literal_again k lt
 literal_written w (negsuc k) sign lt e = absurd (omega (arith, ints))
 
--- no number, where the one that is parsed has another spelling
-pub literal_unwritten : (w : List ℕ) (r : Option ℤ) → ((z : ℤ) → IsLiteral z → w ≡ signed_decimal z → r ≡ Some z) → ((z : ℤ) → r ≡ Some z → (pos 0 ≤ℤ z) × IsLiteral z × (w ≡ signed_decimal z) → ⊥) → literal_of w ≡ None
-literal_unwritten w r parsed refused = no_literal w (λ k lt e. refused (pos k) (parsed (pos k) lt e) (omega (arith, ints), lt, e))
+-- no number, where the token is the spelling of none, or of one below 0
+pub unspelled : (w : List ℕ) → ((z : ℤ) → IsSpellingOf z w → ⊥) → literal_of w ≡ None
+unspelled w none = no_literal w (λ k lt e. none (pos k) (lt, e))
+
+pub below_zero : (w : List ℕ) (z : ℤ) → IsSpellingOf z w → z ≤ℤ negsuc 0 → literal_of w ≡ None
+below_zero w z spelled below = no_literal w (λ k lt e. let same : z ≡ pos k = one_number z (pos k) spelled.0 lt (sym spelled.1 ∙ e) in omega (arith, ints, below, same))
 
 pub digit_first : (k : ℕ) → k < 10 ^ 18 → is_digit (get_or (decimal k) 0 0) ≡ true
 digit_first k lt = first_digit (decimal k) (decimal_digits k (omega arith)) (decimal_nonempty k (omega arith))

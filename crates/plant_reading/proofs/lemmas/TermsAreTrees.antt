@@ -10,7 +10,7 @@ use Rattle.plant_reading.specs.SyntaxTrees.{Syntax, Literal, Named, Minus, Plus,
 use Rattle.plant_reading.specs.inside.ExpressionItems.{items_onto, IsItem, AreItems}
 use Rattle.plant_reading.specs.inside.TokenReaders.{◌>>=◌}
 use Rattle.fixed_expr.specs.Curves.{IsCurve}
-use Rattle.plant_reading.specs.inside.ExpressionMachine.{Pending, Sign, AddTo, TakeFrom, Multiply, Opened, LeastOf, GreatestOf, Machine, factor_ended, term_ended, closed, tabled, halved, complete, begun, continued, summed, stepped, state_after}
+use Rattle.plant_reading.specs.inside.ExpressionMachine.{Pending, Sign, AddTo, TakeFrom, Multiply, Opened, LeastOf, GreatestOf, Machine, factor_ended, term_ended, closed, tabled, take_comma, complete, begun, continued, summed, stepped, state_after}
 
 -- A tree of at least a level means an expression, and its items stand behind others, the last first.
 pub record Spans (m n : ℕ) (e : Expression) (before items : List Item) : Type 0 where
@@ -187,16 +187,16 @@ tabled_stands m points c (Opened bracket.Table ∷ S) items curve h =
 tabled_stands m points c _ items curve h = tt
 
 -- a comma stands behind the first of two sums
-halved_stands : (m : ℕ) (c : Expression) (S : List Pending) (items : List Item) → StandsAtSum m (c, S) items → IfStands (λ (R : List Pending). Awaits m R (item.Comma ∷ items)) (halved c S)
-halved_stands m c (Opened bracket.Least ∷ S) items h =
+comma_stands : (m : ℕ) (c : Expression) (S : List Pending) (items : List Item) → StandsAtSum m (c, S) items → IfStands (λ (R : List Pending). Awaits m R (item.Comma ∷ items)) (take_comma c S)
+comma_stands m c (Opened bracket.Least ∷ S) items h =
     let s = h.2 in
     let w = h.1 in
     (w.0, items, w.1, record { tree = s.tree; grammatical = s.grammatical; level = s.level; means = s.means; spans = s.spans ∙ ap (items_onto s.tree) w.2 }, refl)
-halved_stands m c (Opened bracket.Greatest ∷ S) items h =
+comma_stands m c (Opened bracket.Greatest ∷ S) items h =
     let s = h.2 in
     let w = h.1 in
     (w.0, items, w.1, record { tree = s.tree; grammatical = s.grammatical; level = s.level; means = s.means; spans = s.spans ∙ ap (items_onto s.tree) w.2 }, refl)
-halved_stands m c _ items h = tt
+comma_stands m c _ items h = tt
 
 begun_stands : (m : ℕ) (x : Item) (S : List Pending) (items : List Item) → IsItem m x → Awaits m S items → IfStands (λ (n : Machine). Stands m n (x ∷ items)) (begun x S)
 unfolding begun
@@ -211,10 +211,10 @@ begun_stands m item.Comma S items valid w = tt
 begun_stands m item.Close S items valid w = tt
 begun_stands m (item.Points points) S items valid w = tt
 
-halved_next : (m : ℕ) (items : List Item) (r : Option (List Pending)) → IfStands (λ (R : List Pending). Awaits m R (item.Comma ∷ items)) r
+comma_next : (m : ℕ) (items : List Item) (r : Option (List Pending)) → IfStands (λ (R : List Pending). Awaits m R (item.Comma ∷ items)) r
     → IfStands (λ (n : Machine). Stands m n (item.Comma ∷ items)) (option_map (λ (R : List Pending). let n : Machine = (None, R) in n) r)
-halved_next m items None h = tt
-halved_next m items (Some R) h = h
+comma_next m items None h = tt
+comma_next m items (Some R) h = h
 
 closed_next : (m : ℕ) (y : Item) (items : List Item) (r : Option (Expression × List Pending)) → IfStands (λ (x : Expression × List Pending). (ys : List Item) × Awaits m x.1 ys × Spans m 3 x.0 ys (y ∷ items)) r
     → IfStands (λ (n : Machine). Stands m n (y ∷ items)) (option_map (λ (x : Expression × List Pending). complete (factor_ended x.0 x.1)) r)
@@ -240,7 +240,7 @@ continued_stands m (item.Over k) c S items valid h =
     )
 continued_stands m item.Comma c S items valid h =
     let t = term_ended c S in
-    halved_next m items (halved t.0 t.1) (halved_stands m t.0 t.1 items (term_stands m c S h.0 items h.1 h.2))
+    comma_next m items (take_comma t.0 t.1) (comma_stands m t.0 t.1 items (term_stands m c S h.0 items h.1 h.2))
 continued_stands m item.Close c S items valid h =
     let t = term_ended c S in
     closed_next m item.Close items (closed t.0 t.1) (closed_stands m t.0 t.1 items (term_stands m c S h.0 items h.1 h.2))

@@ -10,7 +10,7 @@ use Rattle.plant_reading.specs.declared.frames.Frame.{Frame}
 use Rattle.plant_reading.specs.declared.frames.Frame.TheVariants as frame
 use Rattle.plant_reading.specs.declared.frames.Stack.{Stack}
 use Rattle.plant_reading.specs.declared.expression.Counts.{Counts}
-use Rattle.plant_reading.specs.declared.expression.Reader.{Reader}
+use Rattle.plant_reading.specs.declared.expression.ExpressionReader.{ExpressionReader}
 use Rattle.plant_record.specs.Equations.{depth_of}
 use Rattle.plant_reading.specs.inside.ExpressionItems.{nodes_made, open_behind}
 use Rattle.plant_reading.specs.inside.TokenReaders.{◌>>=◌}
@@ -56,7 +56,7 @@ NoBracketWaits S = (b : Bracket) (R : List Pending) → S ≡ Opened b ∷ R →
 abbrev pub Machine : Type 0
 Machine = Option Expression × List Pending
 
-abbrev pub machine_of : Reader → Machine
+abbrev pub machine_of : ExpressionReader → Machine
 machine_of r = (option_map (λ e. expression_of e.value) r.term, pendings_of r.stack)
 
 -- a factor ends: signs and a product take it
@@ -94,11 +94,11 @@ unfoldable pub tabled : List (ℤ × ℤ) → Expression → List Pending → Op
 tabled points c (Opened bracket.Table ∷ S) = Some (Lookup c points, S)
 tabled points c _ = None
 
--- the first of two sums in a bracket ends
-abbrev pub halved : Expression → List Pending → Option (List Pending)
-halved c (Opened bracket.Least ∷ S) = Some (LeastOf c ∷ S)
-halved c (Opened bracket.Greatest ∷ S) = Some (GreatestOf c ∷ S)
-halved c _ = None
+-- the comma of a minimum or a maximum stands behind the first of its two sums
+abbrev pub take_comma : Expression → List Pending → Option (List Pending)
+take_comma c (Opened bracket.Least ∷ S) = Some (LeastOf c ∷ S)
+take_comma c (Opened bracket.Greatest ∷ S) = Some (GreatestOf c ∷ S)
+take_comma c _ = None
 
 -- an operand is complete
 abbrev pub complete : Expression × List Pending → Machine
@@ -116,7 +116,7 @@ begun _ S = None
 unfoldable pub summed : Item → Expression → List Pending → Option Machine
 summed item.Plus c S = Some (None, AddTo c ∷ S)
 summed item.Minus c S = Some (None, TakeFrom c ∷ S)
-summed item.Comma c S = option_map (λ R. (None, R)) (halved c S)
+summed item.Comma c S = option_map (λ R. (None, R)) (take_comma c S)
 summed item.Close c S = option_map (λ x. complete (factor_ended x.0 x.1)) (closed c S)
 summed (item.Points points) c S = option_map (λ x. complete (factor_ended x.0 x.1)) (tabled points c S)
 summed _ c S = None

@@ -1,4 +1,4 @@
-// The words of a line, which blanks set apart.
+//! The words of a line, which blanks set apart.
 
 ghost use Rattle.std.specs.Prelude.{◌≡◌, ◌<◌, ◌≤◌, Some, [], ◌∷◌, length, position, not, IfSome};
 ghost use Rattle.std.specs.List.{position_or_len};

@@ -1,8 +1,8 @@
-// Words that have to stand next: a name, a number, a fixed word, or none.
+//! Words that have to stand next: a name, a number, a fixed word, the last one, or none.
 
 ghost use Rattle.std.specs.Prelude.{◌≡◌, ◌<◌, Some, [], ◌∷◌};
 ghost use Rattle.plant_record.specs.Names.{is_name};
-ghost use Rattle.plant_reading.specs.Words.{words_of};
+ghost use Rattle.plant_reading.specs.Words.{words_of, IsSpellingOf};
 ghost use Rattle.plant_reading.specs.inside.WordReaders.{Finds, StartsWithName, StartsWithNumber};
 
 use crate::fault::ReadFault;
@@ -25,7 +25,17 @@ pub fn number_in(bytes: &[u8]) -> Result<(i128, &[u8]), ReadFault>
     ensures { Finds (λ r. (r.0, words_of r.1.now)) (StartsWithNumber (words_of bytes.now)) result }
 {
     match next_word(bytes) {
-        Some((word, rest)) => Ok((number_of(word)?, rest)),
+        Some((word, rest)) => Ok((expect_number(word)?, rest)),
+        None => Err(ReadFault::Malformed),
+    }
+}
+
+/// The number that a word has to spell.
+pub fn expect_number(word: &[u8]) -> Result<i128, ReadFault>
+    ensures { Finds (λ z. z) (λ z. IsSpellingOf z word.now) result }
+{
+    match number_of(word) {
+        Some(z) => Ok(i128::from(z)),
         None => Err(ReadFault::Malformed),
     }
 }
@@ -38,6 +48,17 @@ pub fn expect_word<'a>(bytes: &'a [u8], text: &[u8]) -> Result<&'a [u8], ReadFau
         Some((word, rest)) if word == text => Ok(rest),
         _ => Err(ReadFault::Malformed),
     }
+}
+
+/// The next word, behind which no more may follow.
+pub fn only_word(bytes: &[u8]) -> Result<&[u8], ReadFault>
+    ensures { Finds (λ word. word.now) (λ word. words_of bytes.now ≡ word ∷ []) result }
+{
+    let Some((word, rest)) = next_word(bytes) else {
+        return Err(ReadFault::Malformed);
+    };
+    expect_end(rest)?;
+    Ok(word)
 }
 
 /// No more words may follow.

@@ -1,4 +1,4 @@
-// The lines of a text, one after the other.
+//! The lines of a text, one after the other.
 
 ghost use Rattle.std.specs.Prelude.{◌≡◌, ◌==◌, ◌<◌, [], ◌∷◌, ◌++◌, length, position, codes, None, IfSome};
 ghost use Rattle.std.specs.Option.{IfNone};

@@ -1,8 +1,11 @@
-// Which words are names.
+//! Which words are names.
 
 ghost use Rattle.std.specs.Prelude.{◌≡◌, ◌<◌, [], slice_index};
 ghost use Rattle.std.specs.List.{list_all};
 ghost use Rattle.plant_record.specs.Names.{is_name, is_reserved, is_name_byte, is_letter};
+
+/// The most bytes of a name.
+const NAME_LIMIT: usize = 32;
 
 pub fn is_letter(b: u8) -> bool
     ensures { result ≡ is_letter b }
@@ -41,5 +44,8 @@ fn has_name_bytes(word: &[u8]) -> bool
 pub fn is_name(word: &[u8]) -> bool
     ensures { result ≡ is_name word.now }
 {
-    begins_with_letter(word) && has_name_bytes(word) && word.len() <= 32 && !is_reserved(word)
+    begins_with_letter(word)
+        && has_name_bytes(word)
+        && word.len() <= NAME_LIMIT
+        && !is_reserved(word)
 }

@@ -1,25 +1,28 @@
-// Which words are numbers.
+//! Which words are numbers.
 
-ghost use Rattle.std.specs.Prelude.{◌≡◌, ◌<◌, ℤ, Some, ◌↔◌, IsTrue};
+ghost use Rattle.std.specs.Prelude.{◌≡◌, ◌<◌, ℤ, Some, ◌↔◌, IsTrue, MatchOption};
 ghost use Rattle.std.specs.Fmt.{signed_decimal};
 ghost use Rattle.plant_record.specs.Numbers.{IsLiteral};
-ghost use Rattle.plant_reading.specs.inside.WordReaders.{Finds};
+ghost use Rattle.plant_reading.specs.Words.{IsSpellingOf};
 
-use crate::fault::ReadFault;
 use itoa::Buffer;
 use std::str;
 
-/// The number that a word spells in its one spelling, with at most 18 digits.
-pub fn number_of(word: &[u8]) -> Result<i128, ReadFault>
-    ensures { Finds (λ z. z) (λ z. IsLiteral z × (word.now ≡ signed_decimal z)) result }
+/// One more than the greatest magnitude of a number in a text.
+const NUMBER_LIMIT: u64 = 1_000_000_000_000_000_000;
+
+/// The number that a word spells in its one spelling, with at most 18 digits: None where it spells none.
+pub fn number_of(word: &[u8]) -> Option<i64>
+    ensures { MatchOption result ((z : ℤ) → IsSpellingOf z word.now → ⊥) (λ z. IsSpellingOf z word.now) }
 {
     match parsed(word) {
-        Some(z) if is_literal(z) && is_spelling(z, word) => Ok(i128::from(z)),
-        _ => Err(ReadFault::Malformed),
+        Some(z) if is_literal(z) && is_spelling(z, word) => Some(z),
+        _ => None,
     }
 }
 
-pub fn parsed(word: &[u8]) -> Option<i64>
+/// The number of its own spelling. Of other words nothing is said.
+fn parsed(word: &[u8]) -> Option<i64>
     ensures { (z : ℤ) → IsLiteral z → word.now ≡ signed_decimal z → result ≡ Some z }
 {
     match str::from_utf8(word) {
@@ -34,13 +37,13 @@ fn parsed_text(text: &str) -> Option<i64>
     text.parse::<i64>().ok()
 }
 
-pub fn is_literal(z: i64) -> bool
+fn is_literal(z: i64) -> bool
     ensures { IsTrue result ↔ IsLiteral z }
 {
-    z.unsigned_abs() < 1_000_000_000_000_000_000
+    z.unsigned_abs() < NUMBER_LIMIT
 }
 
-pub fn is_spelling(z: i64, word: &[u8]) -> bool
+fn is_spelling(z: i64, word: &[u8]) -> bool
     ensures { IsTrue result ↔ (word.now ≡ signed_decimal z) }
 {
     Buffer::new().format(z).as_bytes() == word

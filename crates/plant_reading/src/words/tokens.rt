@@ -1,4 +1,4 @@
-// The tokens of a line: blanks set them apart, and each is as long as it can be.
+//! The tokens of a line: blanks set them apart, and each is as long as it can be.
 
 ghost use Rattle.std.specs.Prelude.{◌≡◌, ◌<◌, ◌≤◌, length, position, not, [], ◌∷◌, IfSome, MatchOption};
 ghost use Rattle.std.specs.List.{prefix_len};

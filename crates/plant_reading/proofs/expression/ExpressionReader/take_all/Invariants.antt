@@ -3,7 +3,7 @@ use Rattle.plant_reading.specs.inside.LineTokens.{tokens_in}
 use Rattle.plant_record.specs.Parts.{variable_names}
 use Rattle.plant_reading.specs.inside.ExpressionMachine.{machine_of}
 use Rattle.plant_reading.proofs.lemmas.ExpressionsRead.{Taken}
-use Rattle.plant_reading.proofs.expression.Reader.take_all.Given as goal
+use Rattle.plant_reading.proofs.expression.ExpressionReader.take_all.Given as goal
 
 abbrev pub invariant-loop-item : goal.invariant-loop-item
 invariant-loop-item l = record {

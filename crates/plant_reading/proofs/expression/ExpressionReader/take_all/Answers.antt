@@ -7,7 +7,7 @@ use Rattle.plant_reading.specs.inside.ExpressionItems.{AreNames}
 use Rattle.plant_record.specs.Parts.{variable_names}
 use Rattle.plant_reading.specs.inside.ExpressionMachine.{machine_of}
 use Rattle.plant_reading.proofs.lemmas.ExpressionsRead.{taken_within, one_taken, no_item, no_step, no_room, end_spelled, end_meant}
-use Rattle.plant_reading.proofs.expression.Reader.take_all.Goals as goal
+use Rattle.plant_reading.proofs.expression.ExpressionReader.take_all.Goals as goal
 
 pub returns-in_err-item-clause-refused : goal.returns-in_err-item-clause-refused
 returns-in_err-item-clause-refused c =
