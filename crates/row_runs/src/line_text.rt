@@ -22,12 +22,13 @@ pub struct LineText {
 
 impl Model for LineText {
     ghost use Rattle.std.specs.Prelude.{List, ℕ, drop, ◌≤◌};
+    ghost use Rattle.row_runs.specs.declared.line_text.TheConstants.{ROOM};
 
     ghost Value = { List ℕ };
 
     ghost view = { λ l. drop l.start l.bytes };
 
-    ghost invariant = { λ l. l.start ≤ 320 };
+    ghost invariant = { λ l. l.start ≤ ROOM };
 }
 
 impl LineText {
@@ -60,7 +61,7 @@ impl LineText {
 
     /// Puts bytes before the rest.
     pub fn put_before(&mut self, text: &[u8])
-        requires { length text.now + length self.old ≤ 320 }
+        requires { length text.now + length self.old ≤ ROOM }
         ensures text { self.new ≡ text.now ++ self.old }
         ensures length { length self.new ≡ length text.now + length self.old }
     {
@@ -69,8 +70,9 @@ impl LineText {
         self.start = start;
     }
 
+    /// Puts a number's digits before the rest.
     pub fn put_number_before(&mut self, number: u32)
-        requires { 10 + length self.old ≤ 320 }
+        requires { 10 + length self.old ≤ ROOM }
         ensures text { self.new ≡ decimal number ++ self.old }
         ensures length { length self.new ≤ 10 + length self.old }
     {
@@ -79,7 +81,7 @@ impl LineText {
 
     /// Puts the words of a row before the rest, with a space before each.
     pub fn put_row_before(&mut self, words: RowWords, row: Row)
-        requires { 22 + length self.old ≤ 320 }
+        requires { 22 + length self.old ≤ ROOM }
         ensures text { self.new ≡ 32 ∷ (rank_word words row ++ 32 ∷ (input_word words row ++ self.old)) }
         ensures length { length self.new ≤ 22 + length self.old }
     {
@@ -90,7 +92,7 @@ impl LineText {
     }
 
     /// The line of a run.
-    pub fn write_run(&mut self, words: RowWords, run: Run)
+    pub(crate) fn write_run(&mut self, words: RowWords, run: Run)
         ensures text { self.new ≡ run_line Second words run }
         ensures some { 0 < length self.new }
     {
@@ -111,7 +113,7 @@ impl LineText {
     }
 
     fn put_input_before(&mut self, words: RowWords, row: Row)
-        requires { 10 + length self.old ≤ 320 }
+        requires { 10 + length self.old ≤ ROOM }
         ensures text { self.new ≡ input_word words row ++ self.old }
         ensures length { length self.new ≤ 10 + length self.old }
     {
@@ -122,7 +124,7 @@ impl LineText {
     }
 
     fn put_rank_before(&mut self, words: RowWords, row: Row)
-        requires { 10 + length self.old ≤ 320 }
+        requires { 10 + length self.old ≤ ROOM }
         ensures text { self.new ≡ rank_word words row ++ self.old }
         ensures length { length self.new ≤ 10 + length self.old }
     {
@@ -132,6 +134,7 @@ impl LineText {
         }
     }
 
+    /// The bytes that are left of the line.
     pub fn as_slice(&self) -> &[u8]
         ensures { result.now ≡ self.now }
     {

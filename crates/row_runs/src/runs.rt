@@ -1,4 +1,4 @@
-// The runs of rows, one after the other.
+//! The runs of rows, one after the other.
 
 ghost use Rattle.std.specs.Prelude.{◌≡◌, ◌≢◌, ℕ, ◌+◌, ◌^◌, ◌<◌, ◌≤◌, [], ◌∷◌, length, drop, Some, None, IfSome};
 ghost use Rattle.std.specs.Option.{IfNone};

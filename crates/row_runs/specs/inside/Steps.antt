@@ -1,18 +1,9 @@
--- Runs that are taken away, or added, one by one. No public clause names this.
-use Rattle.std.specs.Prelude.{◌≡◌, ℕ, suc, ◌<◌, ◌≤◌, List, [], ◌∷◌, ◌++◌, drop, Option, Some, None}
+-- Runs that are added one by one. No public clause names this.
+use Rattle.std.specs.Prelude.{List, [], ◌∷◌, ◌++◌, Option}
 use Rattle.game_core.specs.declared.game.Row.{Row}
-use Rattle.game_core.specs.Solution.{row_of}
 use Rattle.row_runs.specs.declared.run.Run.{Run}
 use Rattle.row_runs.specs.declared.run.Version.{Version}
-use Rattle.row_runs.specs.declared.run.Version.TheVariants.{Second}
-use Rattle.row_runs.specs.Runs.{runs_from, MayFollow, HasCells, AreRuns, TellRows, IsFilled}
-
--- the first run from a cell on: no row before it, one row in its cells, and not that row behind them
-abbrev pub FirstRunIsTheNext : Type 0
-FirstRunIsTheNext =
-    (c first last : ℕ) (row : Row) (rows : List (Option Row)) → c ≤ first → first ≤ last →
-    ((i : ℕ) → c ≤ i → i < first → row_of rows i ≡ None) → ((i : ℕ) → first ≤ i → i ≤ last → row_of rows i ≡ Some row) → (row_of rows (suc last) ≡ Some row → ⊥) →
-    runs_from Second c (drop c rows) ≡ record { first = first; last = last; row = row } ∷ runs_from Second (suc last) (drop (suc last) rows)
+use Rattle.row_runs.specs.Runs.{MayFollow, HasCells, AreRuns, TellRows, IsFilled}
 
 -- a run may stand right behind the last of these
 abbrev pub MayEnd : Version → List Run → Run → Type 0
