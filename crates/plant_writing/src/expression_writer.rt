@@ -1,4 +1,4 @@
-// The text of an expression, in brackets only where its place asks for them.
+//! The text of an expression, in brackets only where its place asks for them.
 
 ghost use Rattle.std.specs.Prelude.{◌≡◌, ◌++◌, length, codes, nat_lt, OnOk};
 ghost use Rattle.std.specs.List.{flat_map};

@@ -1,4 +1,4 @@
-// The canonical text of a plant.
+//! The canonical text of a plant.
 
 ghost use Rattle.std.specs.Prelude.{◌≡◌, ◌≤◌, ◌++◌, [], ◌∷◌, length, map, codes, IfOk, OnOk, OnErr};
 ghost use Rattle.std.specs.List.{All, flat_map};
@@ -42,6 +42,7 @@ fn text_of(alloc: Global, p: &Plant) -> Result<Vec<u8>, AllocError>
     Ok(text)
 }
 
+/// The first line of a plant's canonical text.
 pub fn version_line(version: PlantVersion) -> &'static [u8]
     ensures { result.now ≡ line (codes "plant" ∷ version_word version ∷ []) }
 {
@@ -51,6 +52,7 @@ pub fn version_line(version: PlantVersion) -> &'static [u8]
     }
 }
 
+/// The line of a plant's goal.
 pub fn goal_line(goal: GoalKind) -> &'static [u8]
     ensures { result.now ≡ line (codes "goal" ∷ goal_word goal ∷ []) }
 {
@@ -69,6 +71,7 @@ fn push_states(text: &mut Vec<u8>, states: &[StateVariable]) -> Result<(), Alloc
     Ok(())
 }
 
+/// Appends the line of one state. Behind an Err the text may hold a part of it.
 pub fn push_state(text: &mut Vec<u8>, state: &StateVariable) -> Result<(), AllocError>
     ensures { OnOk result (text.new.items ≡ text.old.items ++ state_line state.now) }
 {
@@ -77,8 +80,7 @@ pub fn push_state(text: &mut Vec<u8>, state: &StateVariable) -> Result<(), Alloc
     push_spaced(text, state.low)?;
     push_spaced(text, state.high)?;
     push_spaced(text, state.width)?;
-    text.extend_from_slice(b"\n")?;
-    Ok(())
+    text.extend_from_slice(b"\n")
 }
 
 fn push_inputs(text: &mut Vec<u8>, inputs: &[InputVariable]) -> Result<(), AllocError>
@@ -90,14 +92,14 @@ fn push_inputs(text: &mut Vec<u8>, inputs: &[InputVariable]) -> Result<(), Alloc
     Ok(())
 }
 
+/// Appends the line of one input variable. Behind an Err the text may hold a part of it.
 pub fn push_input(text: &mut Vec<u8>, input: &InputVariable) -> Result<(), AllocError>
     ensures { OnOk result (text.new.items ≡ text.old.items ++ input_line input.now) }
 {
     text.extend_from_slice(b"input ")?;
     text.extend_from_slice(input.name.as_bytes())?;
     push_values(text, input.values.as_slice())?;
-    text.extend_from_slice(b"\n")?;
-    Ok(())
+    text.extend_from_slice(b"\n")
 }
 
 fn push_values(text: &mut Vec<u8>, values: &[i128]) -> Result<(), AllocError>
@@ -118,6 +120,7 @@ fn push_noises(text: &mut Vec<u8>, noises: &[NoiseVariable]) -> Result<(), Alloc
     Ok(())
 }
 
+/// Appends the line of one noise. Behind an Err the text may hold a part of it.
 pub fn push_noise(text: &mut Vec<u8>, noise: &NoiseVariable) -> Result<(), AllocError>
     ensures { OnOk result (text.new.items ≡ text.old.items ++ noise_line noise.now) }
 {
@@ -125,8 +128,7 @@ pub fn push_noise(text: &mut Vec<u8>, noise: &NoiseVariable) -> Result<(), Alloc
     text.extend_from_slice(noise.name.as_bytes())?;
     push_spaced(text, noise.low)?;
     push_spaced(text, noise.high)?;
-    text.extend_from_slice(b"\n")?;
-    Ok(())
+    text.extend_from_slice(b"\n")
 }
 
 fn push_equations(
@@ -145,7 +147,7 @@ fn push_equations(
     Ok(())
 }
 
-/// The line of one state's equation.
+/// Appends the line of one state's equation. Behind an Err the text may hold a part of it.
 pub fn push_equation(
     text: &mut Vec<u8>,
     names: &Names<'_>,
@@ -159,8 +161,7 @@ pub fn push_equation(
     text.extend_from_slice(state)?;
     text.extend_from_slice(b" = ")?;
     push_expression(text, names, Level::Sum, equation)?;
-    text.extend_from_slice(b"\n")?;
-    Ok(())
+    text.extend_from_slice(b"\n")
 }
 
 fn push_boxes(
@@ -178,6 +179,7 @@ fn push_boxes(
     Ok(())
 }
 
+/// Appends the line of one target or obstacle, by its keyword. Behind an Err the text may hold a part of it.
 pub fn push_box(
     text: &mut Vec<u8>,
     keyword: &[u8],
@@ -192,8 +194,7 @@ pub fn push_box(
         push_spaced(text, b.low[i])?;
         push_spaced(text, b.high[i])?;
     }
-    text.extend_from_slice(b"\n")?;
-    Ok(())
+    text.extend_from_slice(b"\n")
 }
 
 /// A space and a number.

@@ -1,7 +1,8 @@
 -- Lines that are written piece by piece.
-use Rattle.std.proofs.Common.{◌≡◌, ℕ, zero, suc, ◌+◌, ◌<◌, ◌≤◌, List, [], ◌∷◌, ◌++◌, length, get_or, take, map, refl, sym, ap, ◌∙◌, append_assoc, add-one, arith}
-use Rattle.std.specs.Prelude.{ℤ, pos, codes}
+use Rattle.std.proofs.Common.{◌≡◌, cond, ℕ, zero, suc, ◌+◌, ◌<◌, ◌≤◌, List, [], ◌∷◌, ◌++◌, length, get_or, take, map, refl, sym, ap, ◌∙◌, append_assoc, add-one, arith}
+use Rattle.std.specs.Prelude.{ℤ, pos, codes, Result, Ok, Err, OnOk}
 use Rattle.std.specs.List.{flat_map, join_with_byte}
+use Rattle.std.specs.Result.{is_ok}
 use Rattle.std.specs.Fmt.{signed_decimal}
 use Rattle.std.proofs.lemmas.List.{append-nil, take_more, take_all, length-map, length-append, get_or_append_left, get_or-map}
 use Rattle.std.proofs.lemmas.List.Folds.{flat_map-map}
@@ -37,6 +38,11 @@ pieces_more f text xs i x lt x-is =
 -- all pieces
 pub pieces_all : {X : Type 0} (f : X → List ℕ) (text : List ℕ) (xs : List X) (i : ℕ) → length xs ≤ i → text ++ flat_map f (take i xs) ≡ text ++ flat_map f xs
 pieces_all f text xs i le = ap (λ (ys : List _). text ++ flat_map f ys) (take_all i xs le)
+
+-- what the text is where its last piece was appended
+pub appended : {E : Type 0} (r : Result Unit E) (text whole before : List ℕ) → text ≡ cond (is_ok r) whole before → OnOk r (text ≡ whole)
+appended (Ok _) text whole before e = e
+appended (Err _) text whole before e = tt
 
 pub state_parts : (text : List ℕ) (s : StateVariable)
     → (((((text ++ codes "state ") ++ s.name) ++ 32 ∷ signed_decimal s.low) ++ 32 ∷ signed_decimal s.high) ++ 32 ∷ signed_decimal s.width) ++ codes "\n" ≡ text ++ state_line s

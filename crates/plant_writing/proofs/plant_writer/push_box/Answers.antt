@@ -2,7 +2,7 @@ use Rattle.std.proofs.Common.{◌≡◌, ◌<◌, get_or, length, pos, arith, ru
 use Rattle.std.specs.Prelude.{FitsSigned}
 use Rattle.std.specs.Int.{w128}
 use Rattle.std.proofs.lemmas.Int.{to_z-of_z}
-use Rattle.plant_writing.proofs.lemmas.WrittenLines.{box_parts, box_more}
+use Rattle.plant_writing.proofs.lemmas.WrittenLines.{appended, box_parts, box_more}
 use Rattle.plant_writing.proofs.plant_writer.push_box.Goals as goal
 
 pub loop-i-preserved : goal.loop-i-preserved
@@ -18,4 +18,4 @@ loop-i-preserved c =
 pub returns : goal.returns
 returns c =
     let all : c.loop-i.i ≡ c.args.states = omega arith in
-    rw (c.in_ok-extend_from_slice-2.ensures.items, c.loop-i.invariant, all) (box_parts c.args.text.now.items c.args.keyword.now c.args.states c.args.b.now)
+    appended c.extend_from_slice-2.result _ _ _ (rw (c.loop-i.invariant, all, box_parts c.args.text.now.items c.args.keyword.now c.args.states c.args.b.now) at c.extend_from_slice-2.ensures.items)

@@ -2,7 +2,7 @@ use Rattle.std.proofs.Common.{rules}
 use Rattle.std.specs.Prelude.{FitsSigned}
 use Rattle.std.specs.Int.{w128}
 use Rattle.std.proofs.lemmas.Int.{to_z-of_z}
-use Rattle.plant_writing.proofs.lemmas.WrittenLines.{state_parts}
+use Rattle.plant_writing.proofs.lemmas.WrittenLines.{appended, state_parts}
 use Rattle.plant_writing.proofs.plant_writer.push_state.Goals as goal
 
 pub returns : goal.returns
@@ -10,5 +10,6 @@ returns c =
     let low : FitsSigned w128 c.args.state.now.low = search rules in
     let high : FitsSigned w128 c.args.state.now.high = search rules in
     let width : FitsSigned w128 c.args.state.now.width = search rules in
-    rw (c.in_ok-extend_from_slice-3.ensures.items, c.in_ok-push_spaced-3.ensures, c.in_ok-push_spaced-2.ensures, c.in_ok-push_spaced.ensures, c.in_ok-extend_from_slice-2.ensures.items, c.as_bytes.ensures, c.in_ok-extend_from_slice.ensures.items, to_z-of_z w128 c.args.state.now.low low, to_z-of_z w128 c.args.state.now.high high, to_z-of_z w128 c.args.state.now.width width)
-    (state_parts c.args.text.now.items c.args.state.now)
+    appended c.extend_from_slice-3.result _ _ _
+    (rw (c.in_ok-push_spaced-3.ensures, c.in_ok-push_spaced-2.ensures, c.in_ok-push_spaced.ensures, c.in_ok-extend_from_slice-2.ensures.items, c.as_bytes.ensures, c.in_ok-extend_from_slice.ensures.items, to_z-of_z w128 c.args.state.now.low low, to_z-of_z w128 c.args.state.now.high high, to_z-of_z w128 c.args.state.now.width width, state_parts c.args.text.now.items c.args.state.now)
+    at c.extend_from_slice-3.ensures.items)
