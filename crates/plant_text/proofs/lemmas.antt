@@ -8,6 +8,7 @@ pub mod CanonicalWords
 pub mod ExpressionTokens
 pub mod FrontLineByLine
 pub mod LineByLine
+pub mod LineFaults
 pub mod LinesLead
 pub mod Lists
 pub mod PlantLines

@@ -24,6 +24,18 @@ use plant_record::{
 };
 use std::alloc::Global;
 
+/// The most states of a plant.
+const STATES_LIMIT: usize = 6;
+
+/// The most input variables of a plant.
+const INPUTS_LIMIT: usize = 3;
+
+/// The most noises of a plant.
+const NOISES_LIMIT: usize = 6;
+
+/// The most targets of a plant, and the most obstacles.
+const BOXES_LIMIT: usize = 64;
+
 /// The part of a plant that the lines so far spell.
 #[derive(Drop)]
 pub struct Draft {
@@ -141,8 +153,8 @@ impl Draft {
             Statement::Input(i) => self.takes_input() && self.is_new(&i.name),
             Statement::Noise(w) => self.takes_noise() && self.is_new(&w.name),
             Statement::Next { state, equation } => self.is_next(state) && self.takes(equation),
-            Statement::Target(_) => self.takes_boxes() && self.targets.len() < 64,
-            Statement::Obstacle(_) => self.takes_boxes() && self.obstacles.len() < 64,
+            Statement::Target(_) => self.takes_boxes() && self.targets.len() < BOXES_LIMIT,
+            Statement::Obstacle(_) => self.takes_boxes() && self.obstacles.len() < BOXES_LIMIT,
             Statement::Goal(kind) => self.takes_boxes() && self.takes_goal(*kind),
             Statement::End => self.goal.is_some() && !self.ended,
         }
@@ -195,7 +207,7 @@ impl Draft {
             && self.variables.inputs.is_empty()
             && self.variables.noises.is_empty()
             && self.equations.is_empty()
-            && self.variables.states.len() < 6
+            && self.variables.states.len() < STATES_LIMIT
     }
 
     fn takes_input(&self) -> bool
@@ -204,7 +216,7 @@ impl Draft {
         !self.variables.states.is_empty()
             && self.variables.noises.is_empty()
             && self.equations.is_empty()
-            && self.variables.inputs.len() < 3
+            && self.variables.inputs.len() < INPUTS_LIMIT
     }
 
     fn takes_noise(&self) -> bool
@@ -212,17 +224,14 @@ impl Draft {
     {
         !self.variables.states.is_empty()
             && self.equations.is_empty()
-            && self.variables.noises.len() < 6
+            && self.variables.noises.len() < NOISES_LIMIT
     }
 
     fn is_new(&self, name: &Name) -> bool
         requires { KeepsRules (part_of self.now) }
         ensures { IsTrue result ↔ IsNewIn (part_of self.now) name.now }
     {
-        match self.variables.place_of(name.as_bytes()) {
-            Some(_) => false,
-            None => true,
-        }
+        self.variables.place_of(name.as_bytes()).is_none()
     }
 
     /// Whether the next equation is that of this state.

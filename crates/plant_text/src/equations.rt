@@ -1,4 +1,4 @@
-// What version 1 asks of equations.
+//! What version 1 asks of equations.
 
 ghost use Rattle.std.specs.Prelude.{◌↔◌, IsTrue};
 ghost use Rattle.fixed_expr.specs.Expression.{expression_of};

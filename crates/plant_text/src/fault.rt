@@ -1,3 +1,6 @@
+ghost use Rattle.std.specs.Prelude.{◌≡◌};
+
+use plant_reading::ReadFault;
 use plant_record::LimitKind;
 
 /// Why no plant was read.
@@ -9,4 +12,15 @@ pub enum PlantFault {
     Limit { what: LimitKind },
     /// There was no memory left.
     Memory,
+}
+
+/// The fault of a line with this number, counted from 1, that was not read.
+pub(crate) fn at_line(fault: ReadFault, line: u32) -> PlantFault
+    ensures malformed { fault ≡ ReadFault.Malformed → result ≡ PlantFault.Malformed line }
+    ensures memory { fault ≡ ReadFault.Memory → result ≡ PlantFault.Memory }
+{
+    match fault {
+        ReadFault::Malformed => PlantFault::Malformed { line },
+        ReadFault::Memory => PlantFault::Memory,
+    }
 }

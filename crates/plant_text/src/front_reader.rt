@@ -7,8 +7,8 @@ ghost use Rattle.plant_text.specs.inside.PartRules.{KeepsRules};
 ghost use Rattle.plant_text.specs.inside.DraftsInMemory.{part_of};
 
 use crate::draft::Draft;
-use crate::fault::PlantFault;
-use plant_reading::{ReadFault, next_full_line};
+use crate::fault::{PlantFault, at_line};
+use plant_reading::next_full_line;
 use plant_record::Plant;
 use std::alloc::Global;
 
@@ -21,7 +21,7 @@ pub struct Front {
 }
 
 /// Reads the canonical plant text with which some bytes begin, up to its line `end` and no further,
-/// or answers why there is none.
+/// or answers why there is none. The bytes are at most as many as a table text may have, 67,108,864.
 pub fn read_front(alloc: Global, bytes: &[u8]) -> Result<Front, PlantFault>
     requires { length bytes.now ≤ 67108864 }
     ensures read { IfOk result (λ f. IsFront bytes.now f.plant f.length × IsWithinLimits f.plant) }
@@ -52,10 +52,8 @@ fn read_lines(alloc: Global, bytes: &[u8]) -> Result<(Draft, usize), PlantFault>
         let Some((line, after)) = next_full_line(rest) else {
             return Err(PlantFault::Malformed { line: number });
         };
-        match draft.read_canonical_line(alloc, line, &mut scratch) {
-            Ok(()) => {}
-            Err(ReadFault::Malformed) => return Err(PlantFault::Malformed { line: number }),
-            Err(ReadFault::Memory) => return Err(PlantFault::Memory),
+        if let Err(fault) = draft.read_canonical_line(alloc, line, &mut scratch) {
+            return Err(at_line(fault, number));
         }
         rest = after;
         number += 1;

@@ -2,11 +2,6 @@
 
 ghost use Rattle.plant_text.specs.Laws.{OnePlantPerText, OnePlantAtTheFront, SpelledPlantsArePlants, OneRefusal, ReadOrRefused, CanonicalTextsSpell, CanonicalTextsReadBack, NumbersAreWords, OneFront, OneFrontRefusal, FrontReadOrRefused};
 
-pub use plant_record::laws::{
-    every_plant_is_within_limits, inputs_rest_on_their_places, plants_are_sound,
-    vectors_have_one_each,
-};
-
 /// No bytes spell two plants.
 pub fn one_plant_per_text()
     ensures { OnePlantPerText }

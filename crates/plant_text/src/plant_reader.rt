@@ -8,8 +8,8 @@ ghost use Rattle.plant_text.specs.inside.PartRules.{KeepsRules};
 ghost use Rattle.plant_text.specs.inside.DraftsInMemory.{part_of};
 
 use crate::draft::Draft;
-use crate::fault::PlantFault;
-use plant_reading::{ReadFault, next_line};
+use crate::fault::{PlantFault, at_line};
+use plant_reading::next_line;
 use plant_record::{LimitKind, Plant};
 use std::alloc::Global;
 
@@ -30,10 +30,7 @@ pub fn read_plant(alloc: Global, bytes: &[u8]) -> Result<Plant, PlantFault>
         });
     }
     let draft = read_lines(alloc, bytes)?;
-    match draft.finish() {
-        Ok(plant) => Ok(plant),
-        Err(what) => Err(PlantFault::Limit { what }),
-    }
+    draft.finish().map_err(|what| PlantFault::Limit { what })
 }
 
 /// Reads the lines of a text, the last of which is `end` but for those that are passed over.
@@ -48,10 +45,8 @@ fn read_lines(alloc: Global, bytes: &[u8]) -> Result<Draft, PlantFault>
     let mut rest = bytes;
     let mut number: u32 = 1;
     while let Some((line, after)) = next_line(rest) {
-        match draft.read_line(alloc, line) {
-            Ok(()) => {}
-            Err(ReadFault::Malformed) => return Err(PlantFault::Malformed { line: number }),
-            Err(ReadFault::Memory) => return Err(PlantFault::Memory),
+        if let Err(fault) = draft.read_line(alloc, line) {
+            return Err(at_line(fault, number));
         }
         rest = after;
         number += 1;

@@ -1,4 +1,4 @@
-// The canonical line of a statement.
+//! The canonical line of a statement.
 
 ghost use Rattle.std.specs.Prelude.{◌≡◌, ◌↔◌, ◌≤◌, ◌++◌, length, codes, IfOk, IsTrue, OnOk};
 ghost use Rattle.plant_text.specs.CanonicalFronts.{statement_line};

@@ -1,6 +1,8 @@
 use Rattle.std.proofs.Common.{Err, ap, sym, ◌∙◌}
+use Rattle.plant_text.specs.CanonicalFronts.{IsFrontRefusedFor}
 use Rattle.plant_text.specs.inside.DraftsInMemory.{part_of}
 use Rattle.plant_text.proofs.lemmas.FrontLineByLine.{at_first_line, at_next_line, refused_here, no_line_left, read_text, read_orderly}
+use Rattle.plant_text.proofs.lemmas.LineFaults.{told_reason}
 use Rattle.plant_text.proofs.front_reader.read_lines.Goals as goal
 
 pub loop-alloc-init : goal.loop-alloc-init
@@ -10,15 +12,16 @@ pub returns-in_default-clause-refused : goal.returns-in_default-clause-refused
 returns-in_default-clause-refused c = λ _.
     no_line_left c.args.bytes.now c.loop-alloc.rest.now c.loop-alloc.number (part_of c.loop-alloc.draft) c.loop-alloc.invariant (sym c.has_ended.ensures ∙ c.loop-alloc-test.true) c.in_default.ensures.endless
 
-pub returns-in-Err-Malformed-clause-refused : goal.returns-in-Err-Malformed-clause-refused
-returns-in-Err-Malformed-clause-refused c = λ _.
+pub returns-in-Err-clause-refused : goal.returns-in-Err-clause-refused
+returns-in-Err-clause-refused c =
+    told_reason (IsFrontRefusedFor c.args.bytes.now) c.in-Err.fault c.at_line.result c.loop-alloc.number c.at_line.ensures.malformed c.at_line.ensures.memory (λ is.
     refused_here c.args.bytes.now c.loop-alloc.rest.now c.in-Some.line.now c.in-Some.after.now c.loop-alloc.number (part_of c.loop-alloc.draft) c.loop-alloc.invariant (sym c.has_ended.ensures ∙ c.loop-alloc-test.true) c.in-Some.ensures.line
-    (c.in-Err-Malformed.ensures.refused (ap Err c.in-Err-Malformed.field-0-is))
+    (c.in-Err.ensures.refused (ap Err is)))
 
 pub loop-alloc-preserved : goal.loop-alloc-preserved
 loop-alloc-preserved c =
     at_next_line c.args.bytes.now c.loop-alloc.rest.now c.in-Some.line.now c.in-Some.after.now c.loop-alloc.number (part_of c.loop-alloc.draft) (part_of c.read_canonical_line.new.self) c.loop-alloc.invariant c.in-Some.ensures.cut c.in-Some.ensures.shorter
-    c.in-Ok.ensures.read c.in-Ok.ensures.rules
+    c.in_default-read_canonical_line.ensures.read c.in_default-read_canonical_line.ensures.rules
 
 pub returns-clause-orderly : goal.returns-clause-orderly
 returns-clause-orderly c = read_orderly c.args.bytes.now c.loop-alloc.rest.now c.loop-alloc.number (part_of c.loop-alloc.draft) c.loop-alloc.invariant

@@ -1,9 +1,11 @@
 use Rattle.std.proofs.Common.{arith, Err, ap}
 use Rattle.plant_reading.specs.Lines.{lines_of}
+use Rattle.plant_text.specs.Refusals.{IsRefusedFor}
 use Rattle.plant_text.specs.inside.DraftsInMemory.{part_of}
 use Rattle.plant_text.proofs.lemmas.LinesLead.{read_once}
 use Rattle.plant_text.proofs.lemmas.LineByLine.{at_first_line, at_next_line, refused_here, all_read, ends_early}
 use Rattle.plant_reading.proofs.lemmas.StatementLaws.{one_statement, passed_over}
+use Rattle.plant_text.proofs.lemmas.LineFaults.{told_reason}
 use Rattle.plant_text.proofs.plant_reader.read_lines.Goals as goal
 
 pub loop-line-init : goal.loop-line-init
@@ -12,11 +14,12 @@ loop-line-init c = at_first_line c.args.bytes.now (part_of c.new-draft.result) c
 pub read_line-requires : goal.read_line-requires
 read_line-requires c = c.loop-line.invariant.rules
 
-pub returns-in-Err-Malformed-clause-refused : goal.returns-in-Err-Malformed-clause-refused
-returns-in-Err-Malformed-clause-refused c = λ _. (
-  c.requires,
-  refused_here (read_once one_statement passed_over) c.args.bytes.now c.loop-line.rest.now c.in-Some.line.now c.in-Some.after.now c.loop-line.number (part_of c.loop-line.draft) c.loop-line.invariant c.in-Some.ensures.line (c.in-Err-Malformed.ensures.refused (ap Err c.in-Err-Malformed.field-0-is)),
-)
+pub returns-in-Err-clause-refused : goal.returns-in-Err-clause-refused
+returns-in-Err-clause-refused c =
+    told_reason (IsRefusedFor c.args.bytes.now) c.in-Err.fault c.at_line.result c.loop-line.number c.at_line.ensures.malformed c.at_line.ensures.memory (λ is. (
+      c.requires,
+      refused_here (read_once one_statement passed_over) c.args.bytes.now c.loop-line.rest.now c.in-Some.line.now c.in-Some.after.now c.loop-line.number (part_of c.loop-line.draft) c.loop-line.invariant c.in-Some.ensures.line (c.in-Err.ensures.refused (ap Err is)),
+    ))
 
 pub overflow_add-number : goal.overflow_add-number
 overflow_add-number c = (let few = c.loop-line.invariant.few in let numbered = c.loop-line.invariant.numbered in let short = c.requires in let shorter = c.in-Some.ensures.shorter in omega (arith, few, numbered, short, shorter))
@@ -26,7 +29,7 @@ loop-line-smaller c = c.in-Some.ensures.shorter
 
 pub loop-line-preserved : goal.loop-line-preserved
 loop-line-preserved c =
-    at_next_line c.args.bytes.now c.loop-line.rest.now c.in-Some.line.now c.in-Some.after.now c.loop-line.number (part_of c.loop-line.draft) (part_of c.read_line.new.self) c.loop-line.invariant c.in-Some.ensures.line c.in-Some.ensures.shorter c.in-Ok.ensures.read c.in-Ok.ensures.rules
+    at_next_line c.args.bytes.now c.loop-line.rest.now c.in-Some.line.now c.in-Some.after.now c.loop-line.number (part_of c.loop-line.draft) (part_of c.read_line.new.self) c.loop-line.invariant c.in-Some.ensures.line c.in-Some.ensures.shorter c.in_default-read_line.ensures.read c.in_default-read_line.ensures.rules
 
 pub returns-then-not-has_ended-clause-refused : goal.returns-then-not-has_ended-clause-refused
 returns-then-not-has_ended-clause-refused c = λ _. (

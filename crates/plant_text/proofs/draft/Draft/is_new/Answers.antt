@@ -1,9 +1,11 @@
-use Rattle.std.proofs.Common.{◌≡◌, ℕ, List, Some, Contains, length-append, refl, sym, ap, ◌∙◌, subst, arith}
+use Rattle.std.proofs.Common.{◌≡◌, ℕ, List, Some, Contains, length-append, refl, sym, arith}
 use Rattle.std.specs.List.{slice_get}
 use Rattle.std.proofs.lemmas.List.{length-map}
 use Rattle.std.proofs.lemmas.Option.{slice_get_within, get_or_from_slice_get}
 use Rattle.plant_text.specs.Grammar.{names_in}
 use Rattle.plant_text.specs.inside.DraftsInMemory.{part_of}
+use Rattle.std.specs.Prelude.{Option, None, Bool, true, false, not, IfSome, ◌↔◌, IsTrue}
+use Rattle.std.specs.Option.{IfNone, is_some}
 use Rattle.plant_text.proofs.draft.Draft.is_new.Goals as goal
 
 pub place_of-requires : goal.place_of-requires
@@ -11,14 +13,16 @@ place_of-requires c =
     let k = c.requires in
     simp (length-append, length-map) (omega (arith, k.states_bound, k.inputs_bound, k.noises_bound))
 
-pub returns-in-Some : goal.returns-in-Some
-returns-in-Some c =
-    let names = names_in (part_of c.args.self.now) in
-    let name = c.args.name.now in
-    let at : slice_get names c.in-Some.field-0 ≡ Some name = c.in-Some.ensures.found ∙ ap Some c.as_bytes.ensures in
-    (λ no. absurd cc, λ new. absurd (new (c.in-Some.field-0, slice_get_within names _ name at, get_or_from_slice_get names _ name name at)))
+-- a name is new where none was found
+new_where_none : (names : List (List ℕ)) (name : List ℕ) (o : Option ℕ) (b : Bool) → IfSome o (λ i. slice_get names i ≡ Some name) → IfNone o (Contains names name → ⊥) → is_some o ≡ not b → IsTrue b ↔ (Contains names name → ⊥)
+new_where_none names name (Some i) b found none is = (λ yes. absurd cc, λ new. absurd (new (i, slice_get_within names i name found, get_or_from_slice_get names i name name found)))
+new_where_none names name None b found none is = (λ _. none, λ _. not_false b (sym is))
+  where
+    not_false : (b : Bool) → not b ≡ false → b ≡ true
+    not_false true e = refl
+    not_false false e = absurd cc
 
-pub returns-in-None : goal.returns-in-None
-returns-in-None c =
-    let names = names_in (part_of c.args.self.now) in
-    (λ _ has. c.in-None.ensures.none (subst (λ (x : List ℕ). Contains names x) (sym c.as_bytes.ensures) has), λ _. refl)
+pub returns : goal.returns
+returns c =
+    let new = new_where_none (names_in (part_of c.args.self.now)) c.as_bytes.result.now c.place_of.result c.is_none.result c.place_of.ensures.found c.place_of.ensures.none c.is_none.ensures in
+    rw c.as_bytes.ensures at new
