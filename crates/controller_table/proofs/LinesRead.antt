@@ -82,20 +82,6 @@ module _ (v : Version) (goal : GoalKind) (bytes : List ℕ) where
       pub no_row : ((z : Row × List ℕ) → IsRowAt goal more z → ⊥) → (y : Run × List ℕ) → IsRunAt v goal bytes y → ⊥
       no_row none y h = none (y.0.row, y.1) (h.0.row, (one_last v first words last y.0.last more (row_words goal y.0.row y.1) ends (told y h).1).1)
 
--- the line of a run whose words were read one after the other
-pub run_read : (v : Version) (goal : GoalKind) (bytes words more behind : List ℕ) (first last : ℕ) (row : Row) → first < 2 ^ 32 → last < 2 ^ 32 → IsNumberTo 32 bytes (first, words) → IsLastAt v first words (last, more) → IsRowAt goal more (row, behind)
-    → IsRunAt v goal bytes (record { first = first; last = last; row = row }, behind)
-run_read First goal bytes words more behind first last row few bound number ends told = (
-  record { first = few; last = bound; cells = ends.0; row = told.0 },
-  number.1 ∙ ap (λ (w : List ℕ). decimal first ++ 32 ∷ w) (ends.1 ∙ told.1) ∙ sym (run_words First goal (record { first = first; last = last; row = row }) behind),
-)
-run_read Second goal bytes words more behind first last row few bound number ends told = (
-  record { first = few; last = bound; cells = ends.0; row = told.0 },
-  number.1
-      ∙ ap (λ (w : List ℕ). decimal first ++ 32 ∷ w) (ends.1.1 ∙ ap (λ (w : List ℕ). decimal last ++ 32 ∷ w) told.1)
-      ∙ sym (run_words Second goal (record { first = first; last = last; row = row }) behind),
-)
-
 -- no other last cell stands there than the one that is read
 pub none_before : (words behind : List ℕ) (first last : ℕ) → IsNumberTo 32 words (last, behind) → last < first → (y : ℕ × List ℕ) → IsLastAt Second first words y → ⊥
 none_before words behind first last is below y h =

@@ -1,19 +1,14 @@
 -- What is read from the bytes of a table, and why they are refused.
 use Rattle.std.proofs.Common.{inl, inr, ◌≡◌, ℕ, ◌+◌, ◌^◌, ◌≤◌, List, [], ◌∷◌, ◌++◌, length, length-append, take, drop, Option, refl, sym, ap, ◌∙◌, append_assoc, arith}
-use Rattle.std.specs.Prelude.{codes}
 use Rattle.std.specs.List.{concat}
 use Rattle.std.proofs.lemmas.List.{take-append-drop}
 use Rattle.std.proofs.Math.Seq.{take-append-add}
 use Rattle.game_core.specs.declared.game.Row.{Row}
 use Rattle.grid_quantiser.specs.Axes.{cells_of}
-use Rattle.plant_record.specs.declared.fault.LimitKind.{LimitKind}
-use Rattle.plant_record.specs.declared.fault.LimitKind.TheVariants.{PlantText, TableText, Vectors, Cells, Pairs, Edges}
-use Rattle.plant_text.specs.declared.fault.PlantFault.TheVariants as front
 use Rattle.plant_record.specs.Description.{Description, axes_of}
 use Rattle.plant_record.specs.Limits.{IsWithinLimits}
 use Rattle.plant_writing.specs.CanonicalText.{text_of}
-use Rattle.plant_text.specs.CanonicalFronts.{IsFront, IsFrontRefusedFor}
-use Rattle.controller_table.specs.declared.fault.TableFault.{TableFault}
+use Rattle.plant_text.specs.CanonicalFronts.{IsFront}
 use Rattle.controller_table.specs.declared.fault.TableFault.TheVariants as faults
 use Rattle.row_runs.specs.declared.run.Version.{Version}
 use Rattle.row_runs.specs.declared.run.Version.TheVariants.{First, Second}
@@ -21,38 +16,16 @@ use Rattle.controller_table.specs.TableText.{version_line, lines_behind}
 use Rattle.row_runs.specs.RunText.{end_line}
 use Rattle.controller_table.specs.Tables.{RowsFit, IsTableIn}
 use Rattle.controller_table.specs.RowLines.{MayStand, IsFirstRefusedBehind}
-use Rattle.controller_table.specs.Refusals.{IsShortTable, line_count, HasNoVersion, IsTableRefusedFor, ExceedsTableLimit}
+use Rattle.controller_table.specs.Refusals.{IsShortTable, line_count, HasNoVersion, IsTableRefusedFor}
 use Rattle.controller_table.specs.inside.Reading.{IsVersionAt}
-use Rattle.controller_table.specs.inside.ReadPlant.{IsPlantRefused}
 
 pub no_version : (bytes : List ℕ) → ((y : Version × List ℕ) → IsVersionAt bytes y → ⊥) → HasNoVersion bytes
 no_version bytes none v rest e = none (v, rest) e
-
-pub neither_version : (bytes : List ℕ) → ((rest : List ℕ) → bytes ≡ codes "table 1\n" ++ rest → ⊥) → ((rest : List ℕ) → bytes ≡ codes "table 2\n" ++ rest → ⊥) → (y : Version × List ℕ) → IsVersionAt bytes y → ⊥
-neither_version bytes none other (First, rest) e = none rest e
-neither_version bytes none other (Second, rest) e = other rest e
 
 -- each version's line has eight bytes
 front_taken : (v : Version) (rest : List ℕ) (count : ℕ) → take (8 + count) (version_line v ++ rest) ≡ version_line v ++ take count rest
 front_taken First rest count = take-append-add (version_line First) rest count
 front_taken Second rest count = take-append-add (version_line Second) rest count
-
--- ---- the plant
-
-limit_of : (v : Version) (bytes rest : List ℕ) (what : LimitKind) → IsShortTable bytes → bytes ≡ version_line v ++ rest → IsFrontRefusedFor rest (front.Limit what) → ExceedsTableLimit bytes what
-limit_of v bytes rest PlantText short are h = h.3
-limit_of v bytes rest TableText short are h = absurd h.3
-limit_of v bytes rest Vectors short are h = (short, record { version = v; rest = rest; are = are; refused = h })
-limit_of v bytes rest Cells short are h = (short, record { version = v; rest = rest; are = are; refused = h })
-limit_of v bytes rest Pairs short are h = (short, record { version = v; rest = rest; are = are; refused = h })
-limit_of v bytes rest Edges short are h = h.3
-
-pub plant_refused : (v : Version) (bytes rest : List ℕ) (fault : TableFault) → IsShortTable bytes → bytes ≡ version_line v ++ rest → IsPlantRefused rest fault → (fault ≡ faults.Memory → ⊥) → IsTableRefusedFor bytes fault
-plant_refused v bytes rest (faults.Malformed n) short are h other = (short, inr (inl (h.0, h.1, record { version = v; rest = rest; are = are; refused = h.2 })))
-plant_refused v bytes rest (faults.Limit what) short are h other = limit_of v bytes rest what short are h
-plant_refused v bytes rest faults.Memory short are h other = absurd (other refl)
-
--- ---- the rows
 
 behind_plant : (v : Version) (bytes rest : List ℕ) (p : Description) (count : ℕ) → bytes ≡ version_line v ++ rest → IsFront rest p count → bytes ≡ version_line v ++ text_of p ++ drop count rest
 behind_plant v bytes rest p count are f =

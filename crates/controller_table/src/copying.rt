@@ -1,4 +1,4 @@
-// Copies of what a table holds.
+//! Copies of what a table holds.
 
 ghost use Rattle.std.specs.Prelude.{◌≡◌, ◌^◌, ◌≤◌, length, IfOk};
 ghost use Rattle.plant_record.specs.Limits.{IsWithinLimits};

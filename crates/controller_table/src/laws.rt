@@ -5,7 +5,7 @@ ghost use Rattle.controller_table.specs.Tables.{RowsFit};
 ghost use Rattle.controller_table.specs.Laws.{OneTablePerText, OneChoice, OneRank, OneTableRefusal, TableOrRefused, TablesAreShort, ReachSolutionsFit, KeepSolutionsFit};
 
 use crate::table::Table;
-use plant_text::laws::every_plant_is_within_limits;
+use plant_record::laws::every_plant_is_within_limits;
 
 /// No bytes are the table of two plants, or of one plant with other rows, or in two versions.
 pub fn one_table_per_text()

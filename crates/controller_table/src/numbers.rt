@@ -1,6 +1,6 @@
-// Numbers in lines.
+//! Numbers in lines.
 
-ghost use Rattle.std.specs.Prelude.{◌≡◌, ◌⊎◌, ℕ, ◌+◌, ◌*◌, ◌^◌, ◌<◌, ◌≤◌, List, false, MatchOption};
+ghost use Rattle.std.specs.Prelude.{◌≡◌, ◌⊎◌, ◌+◌, ◌*◌, ◌^◌, ◌<◌, ◌≤◌, false, MatchOption};
 ghost use Rattle.plant_record.specs.Names.{is_digit};
 ghost use Rattle.controller_table.specs.inside.Found.{Finds};
 ghost use Rattle.controller_table.specs.inside.Numbers.{IsNumberTo};

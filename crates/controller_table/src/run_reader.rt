@@ -1,4 +1,4 @@
-// The line of a run.
+//! The line of a run.
 
 ghost use Rattle.std.specs.Prelude.{IsTrue, ◌↔◌};
 ghost use Rattle.plant_record.specs.Limits.{IsWithinLimits};

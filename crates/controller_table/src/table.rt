@@ -59,6 +59,7 @@ impl Table {
         }
     }
 
+    /// The plant whose cells have the rows.
     pub fn plant(&self) -> &Plant
         ensures { result.now ≡ self.now.plant }
     {
@@ -75,7 +76,7 @@ impl Table {
         }
     }
 
-    /// How many cells have a row. That the rows of every table fit its plant is learnt here.
+    /// How many cells have a row.
     pub fn rows(&self) -> u32
         ensures count { result ≡ count_by is_some self.now.rows }
         ensures fit { RowsFit self.now.plant self.now.rows }
