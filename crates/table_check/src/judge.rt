@@ -1,10 +1,10 @@
-ghost use Rattle.std.specs.Prelude.{◌≡◌, ℕ, ◌<◌, ◌≤◌, ◌↔◌, IsTrue};
+ghost use Rattle.std.specs.Prelude.{◌≡◌, ◌<◌, ◌≤◌, ◌↔◌, IsTrue};
 ghost use Rattle.grid_quantiser.specs.Axes.{cells_of};
 ghost use Rattle.plant_record.specs.declared.aims.GoalKind.TheVariants.{Reach};
 ghost use Rattle.plant_record.specs.Description.{axes_of, vectors_of};
-ghost use Rattle.game_core.specs.Game.{pair_of, pairs_of, mark_of};
-ghost use Rattle.game_core.specs.Solution.{row_of, HasRowBelow};
-ghost use Rattle.game_core.specs.Right.{IsLost, IsRight, IsRightPlain, IsRightRanked};
+ghost use Rattle.game_core.specs.Game.{pairs_of};
+ghost use Rattle.game_core.specs.Solution.{HasRowBelow};
+ghost use Rattle.game_core.specs.Right.{IsLost, IsRight, IsRightRanked};
 ghost use Rattle.controller_table.specs.Tables.{RowsFit};
 ghost use Rattle.table_check.specs.inside.Below.{LeadsBelow, NoneLeadsBelow};
 
