@@ -1,4 +1,4 @@
--- A script has one list of commands or one reason to be refused.
+-- A script is commands, or has one reason to be refused.
 use Rattle.std.proofs.Common.{◌≡◌, ◌⊎◌, ℕ, suc, ◌+◌, ◌<◌, List, [], ◌∷◌, ◌++◌, length, get_or, refl, ap, sym, ◌∙◌, subst, arith, append_assoc, append-nil, length-append, inl, inr}
 use Rattle.plant_reading.proofs.lemmas.StatementLaws.{one_statement}
 use Rattle.plant_text.proofs.lemmas.CanonicalFronts as fronts
@@ -14,7 +14,7 @@ use Rattle.live_script.specs.declared.fault.ScriptFault.{ScriptFault}
 use Rattle.live_script.specs.declared.fault.ScriptFault.TheVariants.{Malformed, Limit, ScriptTooLong, TooManyTables, Memory}
 use Rattle.live_script.specs.Scripts.{Spell, FitsBehind, tables_behind, published, SpellBehind, IsShortScript, IsScript}
 use Rattle.live_script.specs.Refusals.{Announce, IsMalformedBehind, IsTableRefusedBehind, IsNinthTable, IsRefusedBehind, IsFirstRefusal, IsScriptRefusedFor}
-use Rattle.live_script.specs.inside.Laws.{OneScriptPerText, OneScriptRefusal, ScriptOrRefused}
+use Rattle.live_script.specs.inside.Laws.{OneScriptRefusal, ScriptOrRefused}
 use Rattle.std.specs.Prelude.{codes}
 use Rattle.live_script.specs.inside.Words.{spaced}
 use Rattle.live_script.proofs.QuestionLines.{line_opened}
@@ -254,13 +254,4 @@ pub script_or_refused : ScriptOrRefused
 script_or_refused script commands f h k = elim (of_length script f k) [
   | inl long ↦ long.1 h.short
   | inr first ↦ accepted script commands f h first.1
-]
-
-pub one_script : OneScriptPerText
-one_script script commands others h k = elim (compared 0 script script [] [] commands others h.spell k.spell refl) [
-  | inl even ↦ even.commands
-  | inr apart ↦ elim apart [
-    | inl on ↦ absurd (some_bytes on.first on.command on.spells on.rest on.at)
-    | inr on ↦ absurd (some_bytes on.first on.command on.spells on.rest on.at)
-  ]
 ]

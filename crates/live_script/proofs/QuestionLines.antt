@@ -1,5 +1,5 @@
 -- The lines of questions, read number by number.
-use Rattle.std.proofs.Common.{◌≡◌, ℕ, ◌<◌, ◌≤◌, List, [], ◌∷◌, ◌++◌, length, drop, map, refl, ap, sym, ◌∙◌, arith, append_assoc, append-nil, length-append, to_z, of_z}
+use Rattle.std.proofs.Common.{◌≡◌, ℕ, ◌<◌, List, [], ◌∷◌, ◌++◌, length, drop, map, refl, ap, sym, ◌∙◌, arith, append_assoc, append-nil, to_z, of_z}
 use Rattle.std.specs.Prelude.{ℤ, pos, negsuc, codes, FitsSigned}
 use Rattle.std.specs.Int.{w64, w128}
 use Rattle.std.proofs.lemmas.Int.{ints, to_z-of_z}
@@ -93,12 +93,6 @@ no_question_left bytes numbers rest so_far none all behind question line =
     let on = so_far.goes_on all behind question line in
     let first = first_left rest on.left behind on.some on.each on.text in
     none (first.number, spaced first.others ++ 10 ∷ behind) first.at
-
--- a seventh number is in no question
-pub no_seventh : (bytes : List ℕ) (numbers : List ℤ) (rest : List ℕ) → IsReadSoFar bytes numbers rest → 6 ≤ length numbers → (all : List ℤ) (behind : List ℕ) → AreStateNumbers all → bytes ≡ ask_line all ++ behind → ⊥
-no_seventh bytes numbers rest so_far full all behind question line =
-    let on = so_far.goes_on all behind question line in
-    omega (arith, full, question.most, on.some, ap length on.are, length-append numbers on.left)
 
 -- the text up to here with one more number
 text_more : (bytes : List ℕ) (numbers : List ℤ) (rest word after : List ℕ) (z : ℤ) → bytes ≡ codes "ask" ++ (spaced numbers ++ rest) → rest ≡ 32 ∷ word → word ≡ signed_decimal z ++ after → bytes ≡ codes "ask" ++ (spaced (numbers ++ z ∷ []) ++ after)

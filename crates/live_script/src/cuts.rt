@@ -1,4 +1,4 @@
-// What stands at the front of some bytes.
+//! What stands at the front of some bytes.
 
 ghost use Rattle.std.specs.Prelude.{◌≡◌, ℕ, ◌<◌, List, ◌++◌, length, position, true, IfSome};
 ghost use Rattle.plant_reading.specs.Separators.{is_separator, is_word};

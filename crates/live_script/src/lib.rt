@@ -2,8 +2,8 @@
 //!
 //! The layer above hands in a script's bytes and takes its commands one after the other, a table or the
 //! numbers of a state each; or it learns the first reason, from the front, for which the script is
-//! refused. What a script is to be answered is told in specs/. Stands on `plant_text`,
-//! `controller_table`, `run_words` for the numbers of a state, and on `itoa`.
+//! refused. What a script is to be answered is told in specs/. Stands on `plant_record`,
+//! `plant_reading` for numbers, `controller_table`, and `run_words` for the numbers of a state.
 #![tactic(auto)]
 
 mod command;

@@ -8,13 +8,16 @@ use crate::cuts::behind_front;
 use crate::numbers::number_at;
 use run_words::StateNumbers;
 
+/// The most numbers of a question: those of the states of a plant.
+const NUMBERS_LIMIT: u32 = 6;
+
 /// The question whose line stands at the front, and what stands behind it.
 pub(crate) fn question_at(bytes: &[u8]) -> Option<(StateNumbers, &[u8])>
     ensures { Finds (λ r. (r.0, r.1.now)) (λ (y : List ℤ × List ℕ). AreStateNumbers y.0 × (bytes.now ≡ ask_line y.0 ++ y.1)) result }
 {
     let mut rest = behind_front(bytes, b"ask")?;
     let mut question = StateNumbers::empty();
-    while question.count() < 6 {
+    while question.count() < NUMBERS_LIMIT {
         let (number, behind) = number_behind_space(rest)?;
         question.push(i128::from(number));
         if let Some(next) = behind_front(behind, b"\n") {

@@ -5,10 +5,6 @@ use Rattle.live_script.specs.declared.fault.ScriptFault.{ScriptFault}
 use Rattle.live_script.specs.Scripts.{IsScript}
 use Rattle.live_script.specs.Refusals.{IsScriptRefusedFor}
 
--- a script has one list of commands
-abbrev pub OneScriptPerText : Type 0
-OneScriptPerText = (bytes : List ℕ) (commands others : List Command) → IsScript bytes commands → IsScript bytes others → commands ≡ others
-
 -- a script has one reason to be refused, and none where it is one
 abbrev pub OneScriptRefusal : Type 0
 OneScriptRefusal = (bytes : List ℕ) (f g : ScriptFault) → IsScriptRefusedFor bytes f → IsScriptRefusedFor bytes g → f ≡ g
