@@ -12,7 +12,7 @@ ghost use Rattle.plant_reading.specs.SyntaxTrees.{AreTokensOf};
 ghost use Rattle.plant_reading.specs.inside.ExpressionItems.{nodes_made, open_behind};
 ghost use Rattle.plant_reading.specs.inside.TokenReaders.{Gives};
 ghost use Rattle.plant_record.specs.Parts.{variable_names};
-ghost use Rattle.plant_reading.specs.inside.ExpressionMachine.{pendings_of, machine_of, closed, tabled, take_comma, begun, continued, summed, stepped, IsEnd, counts_behind, AreWithinLimits};
+ghost use Rattle.plant_reading.specs.inside.ExpressionMachine.{pendings_of, machine_of, close_bracket, take_points, take_comma, take_operand, take_behind_term, take_behind_sum, stepped, IsEnd, counts_behind, AreWithinLimits};
 
 use crate::fault::ReadFault;
 use crate::frames::{Frame, Stack};
@@ -70,9 +70,9 @@ fn counts_behind(counts: Counts, item: &Item) -> Option<Counts>
     Some(Counts { nodes, brackets })
 }
 
-/// Where a bracket closes: what it makes of the sum in it.
-fn closed(alloc: Global, stack: &mut Stack, sum: Box<Expr>) -> Result<Box<Expr>, ReadFault>
-    ensures { Gives (λ e. (expression_of e.value, pendings_of stack.new)) result (closed (expression_of sum.value) (pendings_of stack.old)) }
+/// Takes the bracket that closes behind a sum. Returns what it makes of the sum.
+fn close_bracket(alloc: Global, stack: &mut Stack, sum: Box<Expr>) -> Result<Box<Expr>, ReadFault>
+    ensures { Gives (λ e. (expression_of e.value, pendings_of stack.new)) result (close_bracket (expression_of sum.value) (pendings_of stack.old)) }
 {
     let Some(frame) = stack.pop() else {
         return Err(ReadFault::Malformed);
@@ -86,15 +86,15 @@ fn closed(alloc: Global, stack: &mut Stack, sum: Box<Expr>) -> Result<Box<Expr>,
     }
 }
 
-/// Behind the points of a table: what they make of the sum before them.
-#[tactic(auto, unfolding(crate::specs::inside::ExpressionMachine::tabled))]
-fn tabled(
+/// Takes the points of a table behind a sum. Returns what they make of the sum.
+#[tactic(auto, unfolding(crate::specs::inside::ExpressionMachine::take_points))]
+fn take_points(
     alloc: Global,
     stack: &mut Stack,
     sum: Box<Expr>,
     curve: Curve,
 ) -> Result<Box<Expr>, ReadFault>
-    ensures { Gives (λ e. (expression_of e.value, pendings_of stack.new)) result (tabled curve (expression_of sum.value) (pendings_of stack.old)) }
+    ensures { Gives (λ e. (expression_of e.value, pendings_of stack.new)) result (take_points curve (expression_of sum.value) (pendings_of stack.old)) }
 {
     match stack.pop_bracket() {
         Some(Bracket::Table) => Ok(Box::new(alloc, Expr::Lut(sum, curve))?),
@@ -115,9 +115,13 @@ fn take_comma(stack: &mut Stack, sum: Box<Expr>) -> Result<(), ReadFault>
 }
 
 /// Takes an item where an operand may begin. Returns the term that it ends, if any.
-#[tactic(auto, unfolding(crate::specs::inside::ExpressionMachine::begun))]
-fn begun(alloc: Global, stack: &mut Stack, item: Item) -> Result<Option<Box<Expr>>, ReadFault>
-    ensures { Gives (λ t. (option_map (λ e. expression_of e.value) t, pendings_of stack.new)) result (begun item (pendings_of stack.old)) }
+#[tactic(auto, unfolding(crate::specs::inside::ExpressionMachine::take_operand))]
+fn take_operand(
+    alloc: Global,
+    stack: &mut Stack,
+    item: Item,
+) -> Result<Option<Box<Expr>>, ReadFault>
+    ensures { Gives (λ t. (option_map (λ e. expression_of e.value) t, pendings_of stack.new)) result (take_operand item (pendings_of stack.old)) }
 {
     match item {
         Item::Number(k) => {
@@ -141,14 +145,14 @@ fn begun(alloc: Global, stack: &mut Stack, item: Item) -> Result<Option<Box<Expr
 }
 
 /// Takes an item behind a term.
-#[tactic(auto, unfolding(crate::specs::inside::ExpressionMachine::continued))]
-fn continued(
+#[tactic(auto, unfolding(crate::specs::inside::ExpressionMachine::take_behind_term))]
+fn take_behind_term(
     alloc: Global,
     stack: &mut Stack,
     term: Box<Expr>,
     item: Item,
 ) -> Result<Option<Box<Expr>>, ReadFault>
-    ensures { Gives (λ t. (option_map (λ e. expression_of e.value) t, pendings_of stack.new)) result (continued item (expression_of term.value) (pendings_of stack.old)) }
+    ensures { Gives (λ t. (option_map (λ e. expression_of e.value) t, pendings_of stack.new)) result (take_behind_term item (expression_of term.value) (pendings_of stack.old)) }
 {
     match item {
         Item::Times => {
@@ -158,20 +162,20 @@ fn continued(
         Item::Over(k) => Ok(Some(Box::new(alloc, Expr::Div(term, i128::from(k)))?)),
         other => {
             let sum = stack.end_term(alloc, term)?;
-            summed(alloc, stack, sum, other)
+            take_behind_sum(alloc, stack, sum, other)
         }
     }
 }
 
 /// Takes an item behind a sum.
-#[tactic(auto, unfolding(crate::specs::inside::ExpressionMachine::summed))]
-fn summed(
+#[tactic(auto, unfolding(crate::specs::inside::ExpressionMachine::take_behind_sum))]
+fn take_behind_sum(
     alloc: Global,
     stack: &mut Stack,
     sum: Box<Expr>,
     item: Item,
 ) -> Result<Option<Box<Expr>>, ReadFault>
-    ensures { Gives (λ t. (option_map (λ e. expression_of e.value) t, pendings_of stack.new)) result (summed item (expression_of sum.value) (pendings_of stack.old)) }
+    ensures { Gives (λ t. (option_map (λ e. expression_of e.value) t, pendings_of stack.new)) result (take_behind_sum item (expression_of sum.value) (pendings_of stack.old)) }
 {
     match item {
         Item::Plus => {
@@ -187,11 +191,11 @@ fn summed(
             Ok(None)
         }
         Item::Close => {
-            let factor = closed(alloc, stack, sum)?;
+            let factor = close_bracket(alloc, stack, sum)?;
             Ok(Some(stack.end_factor(alloc, factor)?))
         }
         Item::Points(curve) => {
-            let factor = tabled(alloc, stack, sum, curve)?;
+            let factor = take_points(alloc, stack, sum, curve)?;
             Ok(Some(stack.end_factor(alloc, factor)?))
         }
         _ => Err(ReadFault::Malformed),
@@ -233,8 +237,8 @@ impl ExpressionReader {
         };
         self.counts = counts;
         self.term = match self.term.take() {
-            Some(term) => continued(alloc, &mut self.stack, term, item)?,
-            None => begun(alloc, &mut self.stack, item)?,
+            Some(term) => take_behind_term(alloc, &mut self.stack, term, item)?,
+            None => take_operand(alloc, &mut self.stack, item)?,
         };
         Ok(())
     }

@@ -7,7 +7,7 @@ use Rattle.plant_reading.specs.declared.frames.Stack.{Stack}
 use Rattle.fixed_expr.specs.Expression.{Expression}
 use Rattle.plant_reading.specs.declared.items.Bracket.{Bracket}
 use Rattle.plant_reading.specs.declared.items.Bracket.TheVariants as bracket
-use Rattle.plant_reading.specs.inside.ExpressionMachine.{Pending, Sign, AddTo, TakeFrom, Multiply, Opened, LeastOf, GreatestOf, NoBracketWaits, bracket_in, pending_of, pendings_of, tabled}
+use Rattle.plant_reading.specs.inside.ExpressionMachine.{Pending, Sign, AddTo, TakeFrom, Multiply, Opened, LeastOf, GreatestOf, NoBracketWaits, bracket_in, pending_of, pendings_of, take_points}
 
 pub empty_stack : (s : Stack) → s.frames.items ≡ [] → pendings_of s ≡ []
 unfolding pendings_of
@@ -45,8 +45,8 @@ bracket_popped (GreatestOf a) old new r e is = rw is (λ b R same. cc)
 pub none_popped : (old new : List Pending) (r : Option Bracket) → old ≡ [] → r ≡ None → BracketPopped old new r
 none_popped old new r e is = rw is (λ b R same. cc)
 
-no_table : (points : List (ℤ × ℤ)) (c : Expression) (S : List Pending) → NoBracketWaits S → tabled points c S ≡ None
-unfolding tabled
+no_table : (points : List (ℤ × ℤ)) (c : Expression) (S : List Pending) → NoBracketWaits S → take_points points c S ≡ None
+unfolding take_points
 no_table points c [] h = refl
 no_table points c (Sign ∷ S) h = refl
 no_table points c (AddTo a ∷ S) h = refl
@@ -57,11 +57,11 @@ no_table points c (LeastOf a ∷ S) h = refl
 no_table points c (GreatestOf a ∷ S) h = refl
 
 -- where no bracket of a table waits last, points stand nowhere
-pub not_tabled : (points : List (ℤ × ℤ)) (c : Expression) (old new : List Pending) (r : Option Bracket) → BracketPopped old new r → (r ≡ Some bracket.Table → ⊥) → tabled points c old ≡ None
-unfolding tabled
-not_tabled points c old new None none other = no_table points c old none
-not_tabled points c old new (Some bracket.Plain) e other = rw e refl
-not_tabled points c old new (Some bracket.Least) e other = rw e refl
-not_tabled points c old new (Some bracket.Greatest) e other = rw e refl
-not_tabled points c old new (Some bracket.Size) e other = rw e refl
-not_tabled points c old new (Some bracket.Table) e other = absurd (other refl)
+pub no_points : (points : List (ℤ × ℤ)) (c : Expression) (old new : List Pending) (r : Option Bracket) → BracketPopped old new r → (r ≡ Some bracket.Table → ⊥) → take_points points c old ≡ None
+unfolding take_points
+no_points points c old new None none other = no_table points c old none
+no_points points c old new (Some bracket.Plain) e other = rw e refl
+no_points points c old new (Some bracket.Least) e other = rw e refl
+no_points points c old new (Some bracket.Greatest) e other = rw e refl
+no_points points c old new (Some bracket.Size) e other = rw e refl
+no_points points c old new (Some bracket.Table) e other = absurd (other refl)

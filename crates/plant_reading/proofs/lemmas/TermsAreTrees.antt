@@ -10,7 +10,7 @@ use Rattle.plant_reading.specs.SyntaxTrees.{Syntax, Literal, Named, Minus, Plus,
 use Rattle.plant_reading.specs.inside.ExpressionItems.{items_onto, IsItem, AreItems}
 use Rattle.plant_reading.specs.inside.TokenReaders.{◌>>=◌}
 use Rattle.fixed_expr.specs.Curves.{IsCurve}
-use Rattle.plant_reading.specs.inside.ExpressionMachine.{Pending, Sign, AddTo, TakeFrom, Multiply, Opened, LeastOf, GreatestOf, Machine, factor_ended, term_ended, closed, tabled, take_comma, complete, begun, continued, summed, stepped, state_after}
+use Rattle.plant_reading.specs.inside.ExpressionMachine.{Pending, Sign, AddTo, TakeFrom, Multiply, Opened, LeastOf, GreatestOf, Machine, factor_ended, term_ended, close_bracket, take_points, take_comma, complete, take_operand, take_behind_term, take_behind_sum, stepped, state_after}
 
 -- A tree of at least a level means an expression, and its items stand behind others, the last first.
 pub record Spans (m n : ℕ) (e : Expression) (before items : List Item) : Type 0 where
@@ -109,9 +109,9 @@ IfStands P None = Unit {0}
 IfStands P (Some x) = P x
 
 -- a bracket closes: what it makes is a factor
-closed_stands : (m : ℕ) (c : Expression) (S : List Pending) (items : List Item) → StandsAtSum m (c, S) items
-    → IfStands (λ (x : Expression × List Pending). (ys : List Item) × Awaits m x.1 ys × Spans m 3 x.0 ys (item.Close ∷ items)) (closed c S)
-closed_stands m c (Opened bracket.Plain ∷ S) items h =
+bracket_stands : (m : ℕ) (c : Expression) (S : List Pending) (items : List Item) → StandsAtSum m (c, S) items
+    → IfStands (λ (x : Expression × List Pending). (ys : List Item) × Awaits m x.1 ys × Spans m 3 x.0 ys (item.Close ∷ items)) (close_bracket c S)
+bracket_stands m c (Opened bracket.Plain ∷ S) items h =
     let s = h.2 in
     let w = h.1 in (
       w.0,
@@ -124,7 +124,7 @@ closed_stands m c (Opened bracket.Plain ∷ S) items h =
         spans = ap (λ (zs : List Item). item.Close ∷ zs) (s.spans ∙ ap (items_onto s.tree) w.2);
       },
     )
-closed_stands m c (Opened bracket.Size ∷ S) items h =
+bracket_stands m c (Opened bracket.Size ∷ S) items h =
     let s = h.2 in
     let w = h.1 in (
       w.0,
@@ -137,7 +137,7 @@ closed_stands m c (Opened bracket.Size ∷ S) items h =
         spans = ap (λ (zs : List Item). item.Close ∷ zs) (s.spans ∙ ap (items_onto s.tree) w.2);
       },
     )
-closed_stands m c (LeastOf a ∷ S) items h =
+bracket_stands m c (LeastOf a ∷ S) items h =
     let s = h.2 in
     let w = h.1 in
     let l = w.3 in (
@@ -151,7 +151,7 @@ closed_stands m c (LeastOf a ∷ S) items h =
         spans = ap (λ (zs : List Item). item.Close ∷ zs) (s.spans ∙ ap (items_onto s.tree) (w.4 ∙ ap (λ (zs : List Item). item.Comma ∷ zs) l.spans));
       },
     )
-closed_stands m c (GreatestOf a ∷ S) items h =
+bracket_stands m c (GreatestOf a ∷ S) items h =
     let s = h.2 in
     let w = h.1 in
     let l = w.3 in (
@@ -165,13 +165,13 @@ closed_stands m c (GreatestOf a ∷ S) items h =
         spans = ap (λ (zs : List Item). item.Close ∷ zs) (s.spans ∙ ap (items_onto s.tree) (w.4 ∙ ap (λ (zs : List Item). item.Comma ∷ zs) l.spans));
       },
     )
-closed_stands m c _ items h = tt
+bracket_stands m c _ items h = tt
 
 -- the points of a table stand behind a sum: what they make is a factor
-tabled_stands : (m : ℕ) (points : List (ℤ × ℤ)) (c : Expression) (S : List Pending) (items : List Item) → IsCurve points → StandsAtSum m (c, S) items
-    → IfStands (λ (x : Expression × List Pending). (ys : List Item) × Awaits m x.1 ys × Spans m 3 x.0 ys (item.Points points ∷ items)) (tabled points c S)
-unfolding tabled
-tabled_stands m points c (Opened bracket.Table ∷ S) items curve h =
+points_stand : (m : ℕ) (points : List (ℤ × ℤ)) (c : Expression) (S : List Pending) (items : List Item) → IsCurve points → StandsAtSum m (c, S) items
+    → IfStands (λ (x : Expression × List Pending). (ys : List Item) × Awaits m x.1 ys × Spans m 3 x.0 ys (item.Points points ∷ items)) (take_points points c S)
+unfolding take_points
+points_stand m points c (Opened bracket.Table ∷ S) items curve h =
     let s = h.2 in
     let w = h.1 in (
       w.0,
@@ -184,7 +184,7 @@ tabled_stands m points c (Opened bracket.Table ∷ S) items curve h =
         spans = ap (λ (zs : List Item). item.Points points ∷ zs) (s.spans ∙ ap (items_onto s.tree) w.2);
       },
     )
-tabled_stands m points c _ items curve h = tt
+points_stand m points c _ items curve h = tt
 
 -- a comma stands behind the first of two sums
 comma_stands : (m : ℕ) (c : Expression) (S : List Pending) (items : List Item) → StandsAtSum m (c, S) items → IfStands (λ (R : List Pending). Awaits m R (item.Comma ∷ items)) (take_comma c S)
@@ -198,35 +198,35 @@ comma_stands m c (Opened bracket.Greatest ∷ S) items h =
     (w.0, items, w.1, record { tree = s.tree; grammatical = s.grammatical; level = s.level; means = s.means; spans = s.spans ∙ ap (items_onto s.tree) w.2 }, refl)
 comma_stands m c _ items h = tt
 
-begun_stands : (m : ℕ) (x : Item) (S : List Pending) (items : List Item) → IsItem m x → Awaits m S items → IfStands (λ (n : Machine). Stands m n (x ∷ items)) (begun x S)
-unfolding begun
-begun_stands m (item.Number k) S items valid w = factor_stands m (Number (pos k)) S items (item.Number k ∷ items) w (record { tree = Literal k; grammatical = valid; level = omega arith; means = refl; spans = refl })
-begun_stands m (item.Variable i) S items valid w = factor_stands m (Variable i) S items (item.Variable i ∷ items) w (record { tree = Named i; grammatical = valid; level = omega arith; means = refl; spans = refl })
-begun_stands m item.Minus S items valid w = (items, w, refl)
-begun_stands m (item.Open b) S items valid w = (items, w, refl)
-begun_stands m item.Plus S items valid w = tt
-begun_stands m item.Times S items valid w = tt
-begun_stands m (item.Over k) S items valid w = tt
-begun_stands m item.Comma S items valid w = tt
-begun_stands m item.Close S items valid w = tt
-begun_stands m (item.Points points) S items valid w = tt
+operand_stands : (m : ℕ) (x : Item) (S : List Pending) (items : List Item) → IsItem m x → Awaits m S items → IfStands (λ (n : Machine). Stands m n (x ∷ items)) (take_operand x S)
+unfolding take_operand
+operand_stands m (item.Number k) S items valid w = factor_stands m (Number (pos k)) S items (item.Number k ∷ items) w (record { tree = Literal k; grammatical = valid; level = omega arith; means = refl; spans = refl })
+operand_stands m (item.Variable i) S items valid w = factor_stands m (Variable i) S items (item.Variable i ∷ items) w (record { tree = Named i; grammatical = valid; level = omega arith; means = refl; spans = refl })
+operand_stands m item.Minus S items valid w = (items, w, refl)
+operand_stands m (item.Open b) S items valid w = (items, w, refl)
+operand_stands m item.Plus S items valid w = tt
+operand_stands m item.Times S items valid w = tt
+operand_stands m (item.Over k) S items valid w = tt
+operand_stands m item.Comma S items valid w = tt
+operand_stands m item.Close S items valid w = tt
+operand_stands m (item.Points points) S items valid w = tt
 
 comma_next : (m : ℕ) (items : List Item) (r : Option (List Pending)) → IfStands (λ (R : List Pending). Awaits m R (item.Comma ∷ items)) r
     → IfStands (λ (n : Machine). Stands m n (item.Comma ∷ items)) (option_map (λ (R : List Pending). let n : Machine = (None, R) in n) r)
 comma_next m items None h = tt
 comma_next m items (Some R) h = h
 
-closed_next : (m : ℕ) (y : Item) (items : List Item) (r : Option (Expression × List Pending)) → IfStands (λ (x : Expression × List Pending). (ys : List Item) × Awaits m x.1 ys × Spans m 3 x.0 ys (y ∷ items)) r
+bracket_next : (m : ℕ) (y : Item) (items : List Item) (r : Option (Expression × List Pending)) → IfStands (λ (x : Expression × List Pending). (ys : List Item) × Awaits m x.1 ys × Spans m 3 x.0 ys (y ∷ items)) r
     → IfStands (λ (n : Machine). Stands m n (y ∷ items)) (option_map (λ (x : Expression × List Pending). complete (factor_ended x.0 x.1)) r)
-closed_next m y items None h = tt
-closed_next m y items (Some x) h = factor_stands m x.0 x.1 h.0 (y ∷ items) h.1 h.2
+bracket_next m y items None h = tt
+bracket_next m y items (Some x) h = factor_stands m x.0 x.1 h.0 (y ∷ items) h.1 h.2
 
-continued_stands : (m : ℕ) (x : Item) (c : Expression) (S : List Pending) (items : List Item) → IsItem m x → Stands m (Some c, S) items → IfStands (λ (n : Machine). Stands m n (x ∷ items)) (continued x c S)
-unfolding continued summed
-continued_stands m item.Plus c S items valid h = let t = term_stands m c S h.0 items h.1 h.2 in (t.0, items, t.1, t.2, refl)
-continued_stands m item.Minus c S items valid h = let t = term_stands m c S h.0 items h.1 h.2 in (t.0, items, t.1, t.2, refl)
-continued_stands m item.Times c S items valid h = (h.0, items, h.1, h.2, refl)
-continued_stands m (item.Over k) c S items valid h =
+term_goes_on : (m : ℕ) (x : Item) (c : Expression) (S : List Pending) (items : List Item) → IsItem m x → Stands m (Some c, S) items → IfStands (λ (n : Machine). Stands m n (x ∷ items)) (take_behind_term x c S)
+unfolding take_behind_term take_behind_sum
+term_goes_on m item.Plus c S items valid h = let t = term_stands m c S h.0 items h.1 h.2 in (t.0, items, t.1, t.2, refl)
+term_goes_on m item.Minus c S items valid h = let t = term_stands m c S h.0 items h.1 h.2 in (t.0, items, t.1, t.2, refl)
+term_goes_on m item.Times c S items valid h = (h.0, items, h.1, h.2, refl)
+term_goes_on m (item.Over k) c S items valid h =
     let s = h.2 in (
       h.0,
       h.1,
@@ -238,22 +238,22 @@ continued_stands m (item.Over k) c S items valid h =
         spans = ap (λ (zs : List Item). item.Over k ∷ zs) s.spans;
       },
     )
-continued_stands m item.Comma c S items valid h =
+term_goes_on m item.Comma c S items valid h =
     let t = term_ended c S in
     comma_next m items (take_comma t.0 t.1) (comma_stands m t.0 t.1 items (term_stands m c S h.0 items h.1 h.2))
-continued_stands m item.Close c S items valid h =
+term_goes_on m item.Close c S items valid h =
     let t = term_ended c S in
-    closed_next m item.Close items (closed t.0 t.1) (closed_stands m t.0 t.1 items (term_stands m c S h.0 items h.1 h.2))
-continued_stands m (item.Points points) c S items valid h =
+    bracket_next m item.Close items (close_bracket t.0 t.1) (bracket_stands m t.0 t.1 items (term_stands m c S h.0 items h.1 h.2))
+term_goes_on m (item.Points points) c S items valid h =
     let t = term_ended c S in
-    closed_next m (item.Points points) items (tabled points t.0 t.1) (tabled_stands m points t.0 t.1 items valid (term_stands m c S h.0 items h.1 h.2))
-continued_stands m (item.Number k) c S items valid h = tt
-continued_stands m (item.Variable i) c S items valid h = tt
-continued_stands m (item.Open b) c S items valid h = tt
+    bracket_next m (item.Points points) items (take_points points t.0 t.1) (points_stand m points t.0 t.1 items valid (term_stands m c S h.0 items h.1 h.2))
+term_goes_on m (item.Number k) c S items valid h = tt
+term_goes_on m (item.Variable i) c S items valid h = tt
+term_goes_on m (item.Open b) c S items valid h = tt
 
 stepped_stands : (m : ℕ) (x : Item) (n : Machine) (items : List Item) → IsItem m x → Stands m n items → IfStands (λ (r : Machine). Stands m r (x ∷ items)) (stepped x n.0 n.1)
-stepped_stands m x (None, S) items valid h = begun_stands m x S items valid h
-stepped_stands m x (Some c, S) items valid h = continued_stands m x c S items valid h
+stepped_stands m x (None, S) items valid h = operand_stands m x S items valid h
+stepped_stands m x (Some c, S) items valid h = term_goes_on m x c S items valid h
 
 state_next : (m : ℕ) (x : Item) (items : List Item) (r : Option Machine) → IsItem m x → IfStands (λ (n : Machine). Stands m n items) r → IfStands (λ (n : Machine). Stands m n (x ∷ items)) (r >>= λ n. stepped x n.0 n.1)
 state_next m x items None valid h = tt

@@ -82,17 +82,17 @@ term_ended c (LeastOf a ∷ S) = (c, LeastOf a ∷ S)
 term_ended c (GreatestOf a ∷ S) = (c, GreatestOf a ∷ S)
 
 -- a bracket closes behind a sum
-abbrev pub closed : Expression → List Pending → Option (Expression × List Pending)
-closed c (Opened bracket.Plain ∷ S) = Some (c, S)
-closed c (Opened bracket.Size ∷ S) = Some (Absolute c, S)
-closed c (LeastOf a ∷ S) = Some (Minimum a c, S)
-closed c (GreatestOf a ∷ S) = Some (Maximum a c, S)
-closed c _ = None
+abbrev pub close_bracket : Expression → List Pending → Option (Expression × List Pending)
+close_bracket c (Opened bracket.Plain ∷ S) = Some (c, S)
+close_bracket c (Opened bracket.Size ∷ S) = Some (Absolute c, S)
+close_bracket c (LeastOf a ∷ S) = Some (Minimum a c, S)
+close_bracket c (GreatestOf a ∷ S) = Some (Maximum a c, S)
+close_bracket c _ = None
 
 -- a table's points and its bracket stand behind a sum
-unfoldable pub tabled : List (ℤ × ℤ) → Expression → List Pending → Option (Expression × List Pending)
-tabled points c (Opened bracket.Table ∷ S) = Some (Lookup c points, S)
-tabled points c _ = None
+unfoldable pub take_points : List (ℤ × ℤ) → Expression → List Pending → Option (Expression × List Pending)
+take_points points c (Opened bracket.Table ∷ S) = Some (Lookup c points, S)
+take_points points c _ = None
 
 -- the comma of a minimum or a maximum stands behind the first of its two sums
 abbrev pub take_comma : Expression → List Pending → Option (List Pending)
@@ -105,31 +105,31 @@ abbrev pub complete : Expression × List Pending → Machine
 complete x = (Some x.0, x.1)
 
 -- an item where an operand may begin
-unfoldable pub begun : Item → List Pending → Option Machine
-begun (item.Number k) S = Some (complete (factor_ended (Number (pos k)) S))
-begun (item.Variable i) S = Some (complete (factor_ended (Variable i) S))
-begun item.Minus S = Some (None, Sign ∷ S)
-begun (item.Open b) S = Some (None, Opened b ∷ S)
-begun _ S = None
+unfoldable pub take_operand : Item → List Pending → Option Machine
+take_operand (item.Number k) S = Some (complete (factor_ended (Number (pos k)) S))
+take_operand (item.Variable i) S = Some (complete (factor_ended (Variable i) S))
+take_operand item.Minus S = Some (None, Sign ∷ S)
+take_operand (item.Open b) S = Some (None, Opened b ∷ S)
+take_operand _ S = None
 
 -- an item behind a sum
-unfoldable pub summed : Item → Expression → List Pending → Option Machine
-summed item.Plus c S = Some (None, AddTo c ∷ S)
-summed item.Minus c S = Some (None, TakeFrom c ∷ S)
-summed item.Comma c S = option_map (λ R. (None, R)) (take_comma c S)
-summed item.Close c S = option_map (λ x. complete (factor_ended x.0 x.1)) (closed c S)
-summed (item.Points points) c S = option_map (λ x. complete (factor_ended x.0 x.1)) (tabled points c S)
-summed _ c S = None
+unfoldable pub take_behind_sum : Item → Expression → List Pending → Option Machine
+take_behind_sum item.Plus c S = Some (None, AddTo c ∷ S)
+take_behind_sum item.Minus c S = Some (None, TakeFrom c ∷ S)
+take_behind_sum item.Comma c S = option_map (λ R. (None, R)) (take_comma c S)
+take_behind_sum item.Close c S = option_map (λ x. complete (factor_ended x.0 x.1)) (close_bracket c S)
+take_behind_sum (item.Points points) c S = option_map (λ x. complete (factor_ended x.0 x.1)) (take_points points c S)
+take_behind_sum _ c S = None
 
 -- an item behind a term
-unfoldable pub continued : Item → Expression → List Pending → Option Machine
-continued item.Times c S = Some (None, Multiply c ∷ S)
-continued (item.Over k) c S = Some (Some (Quotient c (pos k)), S)
-continued x c S = summed x (term_ended c S).0 (term_ended c S).1
+unfoldable pub take_behind_term : Item → Expression → List Pending → Option Machine
+take_behind_term item.Times c S = Some (None, Multiply c ∷ S)
+take_behind_term (item.Over k) c S = Some (Some (Quotient c (pos k)), S)
+take_behind_term x c S = take_behind_sum x (term_ended c S).0 (term_ended c S).1
 
 abbrev pub stepped : Item → Option Expression → List Pending → Option Machine
-stepped x None S = begun x S
-stepped x (Some c) S = continued x c S
+stepped x None S = take_operand x S
+stepped x (Some c) S = take_behind_term x c S
 
 abbrev pub steps : Machine → List Item → Option Machine
 steps m [] = Some m
