@@ -13,6 +13,7 @@ pub enum Version {
 #[derive(Clone, Copy, PartialEq, Eq)]
 pub struct Run {
     pub first: u32,
+    /// The last cell that has the row, no less than the first.
     pub last: u32,
     pub row: Row,
 }
