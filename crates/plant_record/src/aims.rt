@@ -1,4 +1,4 @@
-// What a plant aims at, and what it is kept off.
+//! What a plant aims at, and what it is kept off.
 
 use grid_quantiser::Point;
 

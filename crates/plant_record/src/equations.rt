@@ -6,13 +6,13 @@ ghost use Rattle.plant_record.specs.Description.{vectors_of};
 ghost use Rattle.plant_record.specs.Steps.{step_of, StepStaysInRange};
 
 use crate::plant::Plant;
-use crate::transition::{values_at, variables};
+use crate::transition::values_at;
 use fixed_expr::{CASES, Operations};
 use grid_quantiser::Point;
 use std::marker::Model;
 
-/// How many values the input vectors of the cases have at most.
-const INPUT_ROWS: usize = 3 * CASES;
+/// The most values that the input vectors of the first cases have, 3 input variables each.
+const CASE_VALUES: usize = 3 * CASES;
 
 /// The equations of a plant, made ready for many steps. Seen as the plant.
 #[derive(Drop)]
@@ -38,7 +38,7 @@ impl<'a> Model for Equations<'a> {
 }
 
 impl<'a> Equations<'a> {
-    /// It takes no memory.
+    /// The equations of a plant, made ready for `step`. It takes no memory.
     pub fn of(p: &'a Plant) -> Equations<'a>
         ensures { result ≡ p.now }
     {
@@ -62,22 +62,18 @@ impl<'a> Equations<'a> {
             &self.operations,
             input as usize,
             p.states() as usize,
-            &values[..variables(p)],
+            &values[..p.variables() as usize],
         )
     }
 }
 
 /// The first input vectors, one behind the other.
-fn input_rows(p: &Plant) -> [i128; INPUT_ROWS] {
-    let mut rows = [0; INPUT_ROWS];
-    let mut at = 0;
-    for input in 0..p.vectors().min(CASES as u32) {
-        for variable in 0..p.input_variables() {
-            if at < INPUT_ROWS {
-                rows[at] = p.input_value(input, variable);
-                at += 1;
-            }
-        }
+fn input_rows(p: &Plant) -> [i128; CASE_VALUES] {
+    let width = p.input_variables() as usize;
+    let values = ((p.vectors() as usize).min(CASES) * width).min(CASE_VALUES);
+    let mut rows = [0; CASE_VALUES];
+    for at in 0..values {
+        rows[at] = p.input_value((at / width) as u32, (at % width) as u32);
     }
     rows
 }

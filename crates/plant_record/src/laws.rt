@@ -25,6 +25,5 @@ pub fn inputs_rest_on_their_places()
 pub fn every_plant_is_within_limits(p: &Plant)
     ensures { IsWithinLimits p.now }
 {
-    // Its contract says so.
     p.equations();
 }

@@ -19,7 +19,7 @@ mod version;
 pub use aims::{GoalKind, StateBox};
 pub use equations::Equations;
 pub use fault::{LimitKind, NoMemory};
-pub use plant::Plant;
+pub use plant::{Plant, VARIABLES_LIMIT};
 pub use plant_parts::PlantParts;
 pub use transition::{step, step_along};
 pub use variable_names::Names;

@@ -1,4 +1,4 @@
-// Whether a cell meets one of some boxes, or lies in one.
+//! Whether a cell meets one of some boxes, or lies in one.
 
 ghost use Rattle.std.specs.Prelude.{◌<◌, ◌↔◌, IsTrue};
 ghost use Rattle.std.specs.List.{All, Any};

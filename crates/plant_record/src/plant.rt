@@ -1,6 +1,6 @@
-// A plant: what it is made of, what it keeps, and what it does from one sample to the next.
+//! A plant: what it is made of, what it keeps, and what it does from one sample to the next.
 
-ghost use Rattle.std.specs.Prelude.{◌≡◌, ◌<◌, ◌≤◌, ◌↔◌, length, map, slice_get, slice_index_or, pos, IfOk, IfErr, IsTrue, Some};
+ghost use Rattle.std.specs.Prelude.{◌≡◌, ◌+◌, ◌<◌, ◌≤◌, ◌↔◌, length, map, slice_get, slice_index_or, pos, IfOk, IfErr, IsTrue, Some};
 ghost use Rattle.std.specs.Option.{option_map};
 ghost use Rattle.fixed_expr.specs.Expression.{expression_of};
 ghost use Rattle.grid_quantiser.specs.Axes.{cells_of};
@@ -23,6 +23,9 @@ use crate::version::PlantVersion;
 use fixed_expr::Expr;
 use grid_quantiser::{Grid, Point};
 use std::marker::Model;
+
+/// The most variables that a plant has: 6 states, 3 input variables and 6 noises.
+pub const VARIABLES_LIMIT: usize = 15;
 
 /// The most input vectors of a plant.
 const VECTORS_LIMIT: u32 = 4096;
@@ -111,6 +114,7 @@ impl Plant {
         self.version.number()
     }
 
+    /// By which rules the text of the plant is read, and its boxes are made.
     pub fn plant_version(&self) -> PlantVersion
         ensures { result ≡ self.now.version }
     {
@@ -124,6 +128,7 @@ impl Plant {
         self.states.len() as u32
     }
 
+    /// How many input variables there are: an input vector has a value for each.
     pub fn input_variables(&self) -> u32
         ensures { result ≡ length self.now.inputs }
     {
@@ -137,6 +142,15 @@ impl Plant {
         self.noises.len() as u32
     }
 
+    /// How many variables there are: the states, the input variables and the noises.
+    pub fn variables(&self) -> u32
+        ensures count { result ≡ length self.now.states + length self.now.inputs + length self.now.noises }
+        ensures bound { result ≤ 15 }
+        ensures limits { IsWithinLimits self.now }
+    {
+        (self.states.len() + self.inputs.len() + self.noises.len()) as u32
+    }
+
     /// How many input vectors there are.
     pub fn vectors(&self) -> u32
         ensures count { result ≡ vectors_of self.now.inputs }
@@ -145,12 +159,14 @@ impl Plant {
         vectors_of(&self.inputs)
     }
 
+    /// What the controller is to do.
     pub fn goal(&self) -> GoalKind
         ensures { result ≡ self.now.goal }
     {
         self.goal
     }
 
+    /// The grid of the states, with an axis for each.
     pub fn grid(&self) -> &Grid
         ensures { result.now ≡ axes_of self.now }
     {
@@ -190,9 +206,7 @@ impl Plant {
         ensures { option_map (λ (w : NoiseVariable). (w.low, w.high)) (slice_get self.now.noises k) ≡ Some result }
     {
         let noise = &self.noises[k as usize];
-        let low = noise.low;
-        let high = noise.high;
-        (low, high)
+        (noise.low, noise.high)
     }
 
     /// How many targets there are.
@@ -208,9 +222,7 @@ impl Plant {
         ensures { slice_get self.now.targets k ≡ Some (record { low = result.0; high = result.1 }) }
     {
         let target = &self.targets[k as usize];
-        let low = target.low;
-        let high = target.high;
-        (low, high)
+        (target.low, target.high)
     }
 
     /// How many obstacles there are.
@@ -226,9 +238,7 @@ impl Plant {
         ensures { slice_get self.now.obstacles k ≡ Some (record { low = result.0; high = result.1 }) }
     {
         let obstacle = &self.obstacles[k as usize];
-        let low = obstacle.low;
-        let high = obstacle.high;
-        (low, high)
+        (obstacle.low, obstacle.high)
     }
 
     /// Whether a cell is a goal: all its points lie in one target, and none in an obstacle.
@@ -255,6 +265,7 @@ impl Plant {
         self.names().name(variable)
     }
 
+    /// The names of all variables: the states come first, then the inputs, then the noises.
     pub fn names(&self) -> Names<'_>
         ensures { result ≡ names_of self.now }
     {
@@ -265,30 +276,35 @@ impl Plant {
         }
     }
 
+    /// The states, in the order in which the text declares them.
     pub fn state_list(&self) -> &[StateVariable]
         ensures { result.now ≡ self.now.states }
     {
         &self.states
     }
 
+    /// The input variables, in the order in which the text declares them.
     pub fn input_list(&self) -> &[InputVariable]
         ensures { result.now ≡ self.now.inputs }
     {
         &self.inputs
     }
 
+    /// The noises, in the order in which the text declares them.
     pub fn noise_list(&self) -> &[NoiseVariable]
         ensures { result.now ≡ self.now.noises }
     {
         &self.noises
     }
 
+    /// The targets: none where the plant is to be kept off its obstacles.
     pub fn target_list(&self) -> &[StateBox]
         ensures { result.now ≡ self.now.targets }
     {
         &self.targets
     }
 
+    /// The obstacles. They may overlap.
     pub fn obstacle_list(&self) -> &[StateBox]
         ensures { result.now ≡ self.now.obstacles }
     {

@@ -1,4 +1,4 @@
-// The parts of a plant, and what the limits need to know of them.
+//! The parts of a plant, and what the limits need to know of them.
 
 ghost use Rattle.std.specs.Prelude.{◌≡◌, ◌/◌, ◌^◌, ◌<◌, ◌≤◌, ◌↔◌, ◌+ℤ◌, ◌-ℤ◌, length, map, nat_abs, pos, IfOk, IsErr};
 ghost use Rattle.std.specs.List.{All};
@@ -24,7 +24,7 @@ pub struct PlantParts {
     pub goal: GoalKind,
 }
 
-/// What stands in a place with no axis.
+//// What stands in a place with no axis.
 const NO_AXIS: Axis = Axis {
     lo: 0,
     width: 0,

@@ -7,7 +7,7 @@ ghost use Rattle.plant_record.specs.Description.{names_of, vectors_of};
 ghost use Rattle.plant_record.specs.Limits.{IsWithinLimits};
 ghost use Rattle.plant_record.specs.Steps.{equation_at, values_at, step_of, StepStaysInRange};
 
-use crate::plant::Plant;
+use crate::plant::{Plant, VARIABLES_LIMIT};
 use fixed_expr::{Expr, eval};
 use grid_quantiser::Point;
 
@@ -18,7 +18,7 @@ pub fn step(p: &Plant, x: &Point, input: u32, noise: &Point) -> Option<Point>
     ensures { SomeIff result (StepStaysInRange p.now x.now input noise.now) (point_of (step_of p.now x.now input noise.now)) }
 {
     let values = values_at(p, x, input, noise);
-    next_point(p.equations(), &values[..variables(p)])
+    next_point(p.equations(), &values[..p.variables() as usize])
 }
 
 /// One state of the next, as `step` gives it: None where the value of some node of its equation leaves
@@ -29,25 +29,16 @@ pub fn step_along(p: &Plant, x: &Point, input: u32, noise: &Point, state: u32) -
     ensures { SomeIff result (StaysInRange (equation_at p.now state) (values_at p.now x.now input noise.now)) (value_of (equation_at p.now state) (values_at p.now x.now input noise.now)) }
 {
     let values = values_at(p, x, input, noise);
-    eval(p.equation(state), &values[..variables(p)])
-}
-
-/// How many variables there are: a state for each equation, the inputs and the noises.
-pub(crate) fn variables(p: &Plant) -> usize
-    ensures count { result ≡ length (names_of p.now) }
-    ensures bound { result ≤ 15 }
-    ensures plant { IsWithinLimits p.now }
-{
-    p.equations().len() + (p.input_variables() + p.noises()) as usize
+    eval(p.equation(state), &values[..p.variables() as usize])
 }
 
 /// The values of the variables, and 0 in the places past them.
-pub(crate) fn values_at(p: &Plant, x: &Point, input: u32, noise: &Point) -> [i128; 15]
+pub(crate) fn values_at(p: &Plant, x: &Point, input: u32, noise: &Point) -> [i128; VARIABLES_LIMIT]
     requires { input < vectors_of p.now.inputs }
     ensures { take (length (names_of p.now)) result ≡ values_at p.now x.now input noise.now }
 {
-    let mut values = [0; 15];
-    for i in 0..variables(p) {
+    let mut values = [0; VARIABLES_LIMIT];
+    for i in 0..p.variables() as usize {
         values[i] = value_at(p, x, input, noise, i);
     }
     values

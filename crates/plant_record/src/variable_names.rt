@@ -1,4 +1,4 @@
-// The names of a plant's variables, by their places.
+//! The names of a plant's variables, by their places.
 
 ghost use Rattle.std.specs.Prelude.{◌≡◌, ◌<◌, length, slice_get, Some};
 ghost use Rattle.plant_record.specs.Description.{names_over};
@@ -25,6 +25,7 @@ impl<'a> Model for Names<'a> {
 }
 
 impl<'a> Names<'a> {
+    /// The name of the variable of a place.
     pub fn name(&self, variable: u32) -> &'a Name
         requires { variable < length self.now }
         ensures { slice_get self.now variable ≡ Some result.now }

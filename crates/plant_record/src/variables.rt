@@ -1,4 +1,4 @@
-// The variables of a plant.
+//! The variables of a plant.
 
 ghost use Rattle.std.specs.Prelude.{◌≡◌, ◌<◌, ◌≤◌, length, position, IfOk, IfSome, IfNone, slice_get, Some, Contains};
 ghost use Rattle.std.specs.Str.{bytes_eq};
@@ -27,6 +27,7 @@ impl Model for Name {
 }
 
 impl Name {
+    /// The name that a word spells. It takes memory for a copy.
     pub fn new(alloc: Global, word: &[u8]) -> Result<Name, AllocError>
         requires { IsName word.now }
         ensures { IfOk result (λ name. name ≡ word.now) }
@@ -36,6 +37,7 @@ impl Name {
         })
     }
 
+    /// The bytes of the name, all of them letters, digits or `_`.
     pub fn as_bytes(&self) -> &[u8]
         ensures { result.now ≡ self.now }
     {
@@ -58,18 +60,21 @@ impl Model for Values {
 }
 
 impl Values {
+    /// These values, in the order in which input vectors count them.
     pub fn new(numbers: Vec<i128>) -> Values
         ensures { result ≡ numbers.items }
     {
         Values { numbers }
     }
 
+    /// How many values there are.
     pub fn len(&self) -> usize
         ensures { result ≡ length self.now }
     {
         self.numbers.len()
     }
 
+    /// The values, in their order.
     pub fn as_slice(&self) -> &[i128]
         ensures { result.now ≡ self.now }
     {

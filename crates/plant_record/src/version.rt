@@ -11,6 +11,7 @@ pub enum PlantVersion {
 }
 
 impl PlantVersion {
+    /// The number by which a text names the version.
     pub fn number(self) -> u32
         ensures { result ≡ version_number self }
     {

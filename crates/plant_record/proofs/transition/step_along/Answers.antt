@@ -1,20 +1,20 @@
-use Rattle.std.proofs.Common.{◌≡◌, ℕ, ◌∙◌, ap, length, take}
+use Rattle.std.proofs.Common.{◌≡◌, ℕ, ◌∙◌, ap, sym, length, take}
 use Rattle.std.specs.Prelude.{pos}
 use Rattle.std.proofs.lemmas.Option.{get_or_from_slice_get}
 use Rattle.fixed_expr.specs.Expression.{Number, expression_of}
 use Rattle.plant_record.specs.Description.{names_of}
 use Rattle.plant_record.specs.Steps.{equation_at, values_at}
 use Rattle.plant_record.proofs.lemmas.SoundPlants.{all_formed}
-use Rattle.plant_record.proofs.lemmas.VariableValues.{AreSix, values_count}
+use Rattle.plant_record.proofs.lemmas.VariableValues.{AreSix, names_count, values_count}
 use Rattle.plant_record.proofs.transition.step_along.Goals as goal
 
 pub eval-requires : goal.eval-requires
 eval-requires c =
     let p = c.args.p.now in
-    let limits = c.variables.ensures.plant in
+    let limits = c.variables.ensures.limits in
     let six : AreSix p c.args.x.now c.args.noise.now = record { states = c.told-x; noises = c.told-noise; limits = limits } in
     let values : take c.variables.result c.values_at-values.result ≡ values_at p c.args.x.now c.args.input c.args.noise.now =
-    ap (λ (n : ℕ). take n c.values_at-values.result) c.variables.ensures.count ∙ c.values_at-values.ensures
+    ap (λ (n : ℕ). take n c.values_at-values.result) (c.variables.ensures.count ∙ sym (names_count p)) ∙ c.values_at-values.ensures
     in
     let count : length (take c.variables.result c.values_at-values.result) ≡ length (names_of p) =
     ap length values ∙ values_count p c.args.x.now c.args.noise.now c.args.input six
@@ -26,7 +26,7 @@ pub returns : goal.returns
 returns c =
     let p = c.args.p.now in
     let values : take c.variables.result c.values_at-values.result ≡ values_at p c.args.x.now c.args.input c.args.noise.now =
-    ap (λ (n : ℕ). take n c.values_at-values.result) c.variables.ensures.count ∙ c.values_at-values.ensures
+    ap (λ (n : ℕ). take n c.values_at-values.result) (c.variables.ensures.count ∙ sym (names_count p)) ∙ c.values_at-values.ensures
     in
     let is : equation_at p c.args.state ≡ expression_of c.equation.result.now = get_or_from_slice_get p.equations c.args.state (expression_of c.equation.result.now) (Number (pos 0)) c.equation.ensures in
     rw (is, ← values) c.eval.ensures
