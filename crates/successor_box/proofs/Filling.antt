@@ -29,9 +29,3 @@ module _ (j : ℕ) (lt : j < 32) where
 
   pub words_fit : Fits w64 (j * 8)
   words_fit = omega (arith, lt)
-
-  pub sides_fit : Fits w64 (j * 12)
-  sides_fit = omega (arith, lt)
-
-  pub ranges_fit : Fits w64 (j * 32)
-  ranges_fit = omega (arith, lt)

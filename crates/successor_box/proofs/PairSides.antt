@@ -1,5 +1,5 @@
 -- The sides of a pair, and the box that they make.
-use Rattle.std.proofs.Common.{ℕ, ◌+◌, ◌<◌, List, Option, length, get_or, subst, arith}
+use Rattle.std.proofs.Common.{ℕ, ◌+◌, ◌<◌, List, Option, None, length, get_or, subst, arith}
 use Rattle.std.proofs.lemmas.List.{length-map, take_all}
 use Rattle.grid_quantiser.specs.declared.axis.Axis.{Axis}
 use Rattle.grid_quantiser.specs.declared.boxes.CellBox.{CellBox}
@@ -10,12 +10,12 @@ use Rattle.grid_quantiser.specs.SideBoxes.{with_side, IsBoxMeeting}
 use Rattle.plant_record.specs.Description.{Description, axis_of, axes_of}
 use Rattle.plant_record.specs.Soundness.{IsSound}
 use Rattle.successor_box.specs.Boxes.{IsBoxOf, low_corner, high_corner}
-use Rattle.successor_box.specs.Sides.{IsSideAt, AreSidesAt, IsBoxAlong}
+use Rattle.successor_box.specs.Sides.{IsSideAt, IsBoxAlong}
 use Rattle.successor_box.proofs.Below.{boxes_grow_by_sides}
 use Rattle.successor_box.proofs.Enabled.{corners_ordered}
 
--- the sides of a pair are those of its box
-pub sides_of_box : (p : Description) (c u : ℕ) (sides : List (Option Side)) → IsSound p → AreSidesAt p c u sides → AreSidesOf (axes_of p) (low_corner p c u) (high_corner p c u) sides
+-- the sides of a pair along all axes are those of its box
+pub sides_of_box : (p : Description) (c u : ℕ) (sides : List (Option Side)) → IsSound p → ((i : ℕ) → i < length p.equations → IsSideAt p c u i (get_or sides i None)) → AreSidesOf (axes_of p) (low_corner p c u) (high_corner p c u) sides
 sides_of_box p c u sides sound each = record {
   ordered = (corners_ordered p c u sound).0;
   each = λ i lt. each i (omega (arith, lt, length-map p.states axis_of, sound.one_each));

@@ -6,7 +6,6 @@ use Rattle.fixed_expr.specs.Expression.{Expression}
 use Rattle.fixed_expr.specs.Value.{IsWellFormed, value_of}
 use Rattle.interval_eval.specs.declared.interval.Interval.{Interval}
 use Rattle.interval_eval.specs.Span.{IsIn, span_of}
-use Rattle.interval_eval.specs.inside.Nested.{IsPartOf}
 use Rattle.interval_eval.proofs.Laws.{values_lie_in_spans}
 use Rattle.growth_bound.specs.Deviation.{IsNear, deviation_of}
 use Rattle.grid_quantiser.specs.Cells.{IsPointOf}
@@ -49,10 +48,3 @@ module _ (p : Description) (c u : ℕ) (sound : IsSound p) (e : Expression) (for
       in_meet (growth_of p c u e) (span_of e (cell_area_of p c u)) (value_of e (values_at p x u w))
       (near_about (value_of e (central_values p c u)) (value_of e (values_at p x u w)) (deviation_at p u e) near)
       (values_lie_in_spans e (cell_area_of p c u) (values_at p x u w) over_cell (cell_values_in p c u sound x w point noise))
-
--- in version 2 an equation leads nowhere else than in version 1
-pub reach_narrows : (p : Description) (c u : ℕ) (e : Expression) → IsPartOf (reach_of Two p c u e) (reach_of One p c u e)
-reach_narrows p c u e = part (growth_of p c u e) (span_of e (cell_area_of p c u))
-  where
-    part : (a b : Interval) → IsPartOf (meet_of a b) a
-    part a b = (omega (arith, ints, clamps), omega (arith, ints, clamps))

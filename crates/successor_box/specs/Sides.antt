@@ -1,5 +1,5 @@
 -- The successor box of a pair, state by state.
-use Rattle.std.specs.Prelude.{◌≡◌, ℕ, ◌+◌, ◌-◌, ◌<◌, pos, Bool, not, ◌&&◌, ◌==◌, List, [], take, length, slice_index_or, Option, None, IsTrue, if◌then◌else◌, nat_lt}
+use Rattle.std.specs.Prelude.{◌≡◌, ℕ, ◌+◌, ◌-◌, ◌<◌, pos, Bool, not, ◌&&◌, ◌==◌, List, [], take, length, slice_index_or, Option, IsTrue, if◌then◌else◌, nat_lt}
 use Rattle.fixed_expr.specs.declared.lanes.TheConstants.{LANES}
 use Rattle.fixed_expr.specs.Mentions.{mentions}
 use Rattle.fixed_expr.specs.Moves.{moves_with}
@@ -17,10 +17,6 @@ use Rattle.successor_box.specs.Boxes.{low_corner, high_corner}
 -- the side of the successor box of a cell, under an input, along the axis of a state
 abbrev pub IsSideAt : Description → ℕ → ℕ → ℕ → Option Side → Type 0
 IsSideAt p c u i side = IsSideOf (slice_index_or (axes_of p) i no_axis) (slice_index_or (low_corner p c u) i (pos 0)) (slice_index_or (high_corner p c u) i (pos 0)) side
-
--- the sides along all axes
-abbrev pub AreSidesAt : Description → ℕ → ℕ → List (Option Side) → Type 0
-AreSidesAt p c u sides = (i : ℕ) → i < length p.equations → IsSideAt p c u i (slice_index_or sides i None)
 
 -- the box of a cell under an input, on the axes of the first so many states alone
 abbrev pub IsBoxAlong : Description → ℕ → ℕ → ℕ → Option CellBox → Type 0

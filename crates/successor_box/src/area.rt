@@ -1,6 +1,6 @@
-// The ranges and the radii of a plant's variables.
+//! The ranges and the radii of a plant's variables.
 
-ghost use Rattle.std.specs.Prelude.{◌≡◌, ℕ, ◌+◌, ◌-◌, ◌<◌, ◌≤◌, ◌≤ℤ◌, length, take, slice_index_or, pos, neg_ℤ, ◌-ℤ◌};
+ghost use Rattle.std.specs.Prelude.{◌≡◌, ℕ, ◌<◌, length, take, slice_index_or, pos, neg_ℤ, ◌-ℤ◌};
 ghost use Rattle.grid_quantiser.specs.Axes.{no_axis, cells_of};
 ghost use Rattle.grid_quantiser.specs.Cells.{radius_of};
 ghost use Rattle.plant_record.specs.Limits.{IsWithinLimits};
@@ -11,21 +11,9 @@ ghost use Rattle.successor_box.specs.inside.Area.{AreRanges, AreRangesBetween, A
 use crate::noise::{noise_offset, noise_radius};
 use grid_quantiser::Point;
 use interval_eval::Interval;
-use plant_record::Plant;
-
-/// The most variables that a plant has: 6 states, 3 input variables and 6 noises.
-pub(crate) const VARIABLES_LIMIT: usize = 15;
+use plant_record::{Plant, VARIABLES_LIMIT};
 
 pub(crate) const NO_RANGE: Interval = Interval { lo: 0, hi: 0 };
-
-/// How many variables a plant has: a state for each equation, the inputs and the noises.
-pub(crate) fn variables(p: &Plant) -> u32
-    ensures count { result ≡ variables_of p.now }
-    ensures limit { result ≤ 15 }
-    ensures plant { IsWithinLimits p.now }
-{
-    p.equations().len() as u32 + p.input_variables() + p.noises()
-}
 
 /// Where each variable lies under an input vector. Nothing is said of the places past the last.
 pub(crate) fn ranges(p: &Plant, input: u32) -> [Interval; VARIABLES_LIMIT]
@@ -54,7 +42,7 @@ fn ranges_between(p: &Plant, low: &Point, high: &Point, input: u32) -> [Interval
     ensures { AreRangesBetween p.now (take (length p.now.states) low.now) (take (length p.now.states) high.now) input result }
 {
     let mut ranges = [NO_RANGE; VARIABLES_LIMIT];
-    for k in 0..variables(p) {
+    for k in 0..p.variables() {
         ranges[k as usize] = range(p, low, high, input, k);
     }
     ranges
@@ -127,7 +115,7 @@ pub(crate) fn radii(p: &Plant) -> [i128; VARIABLES_LIMIT]
     ensures { AreRadii p.now result }
 {
     let mut radii = [0; VARIABLES_LIMIT];
-    for k in 0..variables(p) {
+    for k in 0..p.variables() {
         radii[k as usize] = radius(p, k);
     }
     radii

@@ -1,15 +1,13 @@
-ghost use Rattle.std.specs.Prelude.{◌≡◌, ℕ, ◌<◌};
+ghost use Rattle.std.specs.Prelude.{◌≡◌, ◌<◌};
 ghost use Rattle.grid_quantiser.specs.Axes.{cells_of};
 ghost use Rattle.plant_record.specs.Description.{axes_of, vectors_of};
 ghost use Rattle.successor_box.specs.Boxes.{IsBoxOf};
 ghost use Rattle.successor_box.specs.Deviations.{HasNoOverflow, deviations_of};
-ghost use Rattle.successor_box.specs.Sides.{AreSidesAt};
 
 use crate::sides::side;
 use crate::slopes::Slopes;
-use grid_quantiser::{CellBox, Side};
+use grid_quantiser::CellBox;
 use plant_record::Plant;
-use plant_record::laws::every_plant_is_within_limits;
 
 /// The cells that a cell's points can be in one sample later, under an input vector: None where the
 /// successor box leaves the domain. It takes no memory.
@@ -24,15 +22,5 @@ pub fn successors(p: &Plant, s: &Slopes, c: u32, input: u32) -> Option<CellBox>
     for state in 0..p.equations().len() {
         sides[state] = side(p, s, c, input, state as u32);
     }
-    box_of_sides(p, &sides)
-}
-
-/// The box with these sides, as `successors` gives it: None where one is missing.
-#[inline]
-pub fn box_of_sides(p: &Plant, sides: &[Option<Side>; 6]) -> Option<CellBox>
-    requires { (c : ℕ) × (u : ℕ) × AreSidesAt p.now c u sides.now }
-    ensures { (c u : ℕ) → AreSidesAt p.now c u sides.now → IsBoxOf p.now c u result }
-{
-    every_plant_is_within_limits(p);
-    p.grid().box_with(sides)
+    p.grid().box_with(&sides)
 }

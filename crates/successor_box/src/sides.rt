@@ -1,20 +1,19 @@
-ghost use Rattle.std.specs.Prelude.{◌≡◌, ◌<◌, ℕ, pos, ◌+ℤ◌, ◌-ℤ◌, length, slice_index_or};
+ghost use Rattle.std.specs.Prelude.{◌≡◌, ◌<◌, ℕ, ◌+ℤ◌, ◌-ℤ◌, length};
 ghost use Rattle.fixed_expr.specs.Value.{value_of};
 ghost use Rattle.interval_eval.specs.Span.{span_of};
-ghost use Rattle.grid_quantiser.specs.Axes.{no_axis, cells_of};
+ghost use Rattle.grid_quantiser.specs.Axes.{cells_of};
 ghost use Rattle.plant_record.specs.Description.{axes_of, vectors_of};
 ghost use Rattle.plant_record.specs.Limits.{IsWithinLimits};
 ghost use Rattle.plant_record.specs.Steps.{equation_at};
 ghost use Rattle.successor_box.specs.Boxes.{deviation_at, central_values, cell_area_of, meet_of, reach_of};
-ghost use Rattle.successor_box.specs.Sides.{IsSideAt, IsSideBeforeAt};
+ghost use Rattle.successor_box.specs.Sides.{IsSideAt};
 ghost use Rattle.successor_box.specs.Deviations.{HasNoOverflow, deviations_of};
 
-use crate::area::{cell_ranges, variables};
+use crate::area::cell_ranges;
 use crate::noise::noise_centres;
 use crate::slopes::Slopes;
 use grid_quantiser::Side;
 use interval_eval::{Interval, span};
-use plant_record::laws::every_plant_is_within_limits;
 use plant_record::{Plant, PlantVersion, step_along};
 
 /// The side of a successor box along the axis of a state: None where one of its ends leaves the axis.
@@ -30,19 +29,6 @@ pub(crate) fn side(p: &Plant, s: &Slopes, c: u32, input: u32, state: u32) -> Opt
 {
     let reach = reach(p, s, c, input, state);
     p.grid().side(state, reach.lo, reach.hi)
-}
-
-/// The side of a successor box along the axis of a state, from its side so many places before: None where
-/// one of the box's ends leaves the axis.
-#[inline]
-pub fn moved_side(p: &Plant, state: u32, side: Option<Side>, places: u32) -> Option<Side>
-    requires state { state < length p.now.equations }
-    requires places { places < (slice_index_or (axes_of p.now) state no_axis).count }
-    requires side { (c : ℕ) × (u : ℕ) × IsSideBeforeAt p.now c u state places side }
-    ensures { (c u : ℕ) → IsSideBeforeAt p.now c u state places side → IsSideAt p.now c u state result }
-{
-    every_plant_is_within_limits(p);
-    p.grid().moved_side(state, side, places)
 }
 
 /// Where an equation leads from a cell.
@@ -101,7 +87,7 @@ fn cell_span(p: &Plant, c: u32, input: u32, state: u32) -> Interval
     requires state { state < length p.now.equations }
     ensures { result ≡ span_of (equation_at p.now state) (cell_area_of p.now c input) }
 {
-    let count = variables(p) as usize;
+    let count = p.variables() as usize;
     match span(p.equation(state), &cell_ranges(p, c, input)[..count]) {
         Some(ends) => ends,
         None => unreachable!(),

@@ -9,13 +9,13 @@ ghost use Rattle.successor_box.specs.Boxes.{deviation_at};
 ghost use Rattle.successor_box.specs.Deviations.{HasNoOverflowOver, HasNoOverflowAt, HasNoOverflow, deviations_of, deviations_along, IsOverflow};
 ghost use Rattle.successor_box.specs.inside.Area.{AreRadii, IsOverflowAlong};
 
-use crate::area::{VARIABLES_LIMIT, radii, ranges, variables};
+use crate::area::{radii, ranges};
 use crate::fault::SlopeFault;
 use fixed_expr::Expr;
 use fixed_expr::arithmetic::{difference, sum};
 use growth_bound::span_and_deviation;
 use interval_eval::Interval;
-use plant_record::Plant;
+use plant_record::{Plant, VARIABLES_LIMIT};
 use std::alloc::Global;
 use std::marker::Model;
 
@@ -106,7 +106,7 @@ fn deviation_at(
     requires radii { AreRadii p.now radii.now }
     ensures { SomeIff result (HasNoOverflowAt p.now equation input) (deviation_at p.now input (equation_at p.now equation)) }
 {
-    let count = variables(p) as usize;
+    let count = p.variables() as usize;
     deviation_over(
         p.equation(equation),
         &ranges(p, input)[..count],

@@ -11,13 +11,14 @@ ghost use Rattle.plant_record.specs.Steps.{equation_at};
 ghost use Rattle.successor_box.specs.Boxes.{cell_area_of};
 ghost use Rattle.successor_box.specs.Deviations.{HasNoOverflow};
 ghost use Rattle.successor_box.specs.Sides.{IsPairInRow, HasPairInEachRow};
-ghost use Rattle.successor_box.specs.inside.Area.{variables_of, no_range, offsets_of};
+ghost use Rattle.successor_box.specs.inside.Area.{variables_of, no_range};
 ghost use Rattle.successor_box.specs.inside.Blocks.{HoldCentralValues, HoldCellRanges};
 
-use crate::area::{NO_RANGE, VARIABLES_LIMIT, offset, variables};
+use crate::area::{NO_RANGE, offset};
+use crate::places::PlaceColumns;
 use fixed_expr::{Expr, LANES};
 use interval_eval::{Interval, IntervalColumn, span, span_rows};
-use plant_record::Plant;
+use plant_record::{Plant, VARIABLES_LIMIT};
 
 const NO_INTERVALS: IntervalColumn = IntervalColumn {
     lo: [0; LANES],
@@ -27,7 +28,7 @@ const NO_INTERVALS: IntervalColumn = IntervalColumn {
 /// The span of an equation over the cell of each pair, given by the values of the variables at its centre.
 pub(crate) fn spans(
     p: &Plant,
-    places: &[[u32; LANES]; 9],
+    places: &PlaceColumns,
     columns: &[[i64; LANES]],
     state: u32,
 ) -> [Interval; LANES]
@@ -38,13 +39,13 @@ pub(crate) fn spans(
     ensures { (j c u : ℕ) → j < LANES → IsPairInRow p.now places.now j c u → slice_index_or result j no_range ≡ span_of (equation_at p.now state) (cell_area_of p.now c u) }
 {
     let ranges = cell_columns(p, places, columns);
-    spans_in_rows(p.equation(state), &ranges[..variables(p) as usize])
+    spans_in_rows(p.equation(state), &ranges[..p.variables() as usize])
 }
 
 /// The ranges of the variables over the cells of the pairs, one column for each. Nothing is said of the columns past the last.
 fn cell_columns(
     p: &Plant,
-    places: &[[u32; LANES]; 9],
+    places: &PlaceColumns,
     columns: &[[i64; LANES]],
 ) -> [IntervalColumn; VARIABLES_LIMIT]
     requires pairs { HasPairInEachRow p.now places.now }
@@ -52,19 +53,14 @@ fn cell_columns(
     ensures { HoldCellRanges p.now places.now result }
 {
     let mut ranges = [NO_INTERVALS; VARIABLES_LIMIT];
-    for k in 0..variables(p) {
+    for k in 0..p.variables() {
         ranges[k as usize] = cell_column(p, places, columns, k);
     }
     ranges
 }
 
 /// The ranges of one variable: its values at the centres, moved by how far the ends of its range lie from there.
-fn cell_column(
-    p: &Plant,
-    places: &[[u32; LANES]; 9],
-    columns: &[[i64; LANES]],
-    k: u32,
-) -> IntervalColumn
+fn cell_column(p: &Plant, places: &PlaceColumns, columns: &[[i64; LANES]], k: u32) -> IntervalColumn
     requires plant { IsWithinLimits p.now }
     requires pairs { HasPairInEachRow p.now places.now }
     requires columns { HoldCentralValues p.now places.now columns.now }

@@ -11,7 +11,7 @@ loop-k-preserved c =
     let p = c.args.p.now in
     let lows = take (length p.states) c.args.low.now in
     let highs = take (length p.states) c.args.high.now in
-    let few = c.variables-k-end.ensures.plant.plant.states_bound in
+    let few = c.variables-k-end.ensures.limits.plant.states_bound in
     let count = between_count p c.args.input lows highs (length-take-le (length p.states) c.args.low.now (omega arith)) (length-take-le (length p.states) c.args.high.now (omega arith)) in
     record {
       count = search rules;
@@ -23,6 +23,6 @@ returns c =
     let p = c.args.p.now in
     let lows = take (length p.states) c.args.low.now in
     let highs = take (length p.states) c.args.high.now in
-    let few = c.variables-k-end.ensures.plant.plant.states_bound in
+    let few = c.variables-k-end.ensures.limits.plant.states_bound in
     let count = between_count p c.args.input lows highs (length-take-le (length p.states) c.args.low.now (omega arith)) (length-take-le (length p.states) c.args.high.now (omega arith)) in
     fill_all c.loop-k.ranges (area_between p lows highs c.args.input) c.loop-k.k _ (omega arith) count c.loop-k.invariant.filled

@@ -1,6 +1,9 @@
 use Rattle.std.proofs.Common.{◌<◌, ◌≢◌, length, get_or-set_other, get_or-set_same, below_more, arith}
 use Rattle.std.proofs.lemmas.List.{length-set}
+use Rattle.plant_record.proofs.lemmas.SoundPlants.{sound as sound_plant}
+use Rattle.successor_box.specs.Boxes.{low_corner, high_corner}
 use Rattle.successor_box.proofs.DeviationRows.{equations_count}
+use Rattle.successor_box.proofs.PairSides.{sides_of_box}
 use Rattle.successor_box.proofs.boxes.successors.Goals as goal
 
 pub side-requires-clause-state : goal.side-requires-clause-state
@@ -19,12 +22,19 @@ loop-state-preserved c =
           (rw get_or-set_same c.side.ensures);
     }
 
-pub box_of_sides-requires : goal.box_of_sides-requires
-box_of_sides-requires c =
-    let each = equations_count _ _ c.equations-state-end.ensures.same in
-    (c.args.c, c.args.input, λ i lt. c.loop-state.invariant.each i (omega (arith, lt, each)))
+pub box_with-requires : goal.box_with-requires
+box_with-requires c =
+    let p = c.args.p.now in
+    let ends = c.equations-state-end.ensures in
+    let whole = sides_of_box p c.args.c c.args.input c.loop-state.sides (sound_plant p ends.limits.plant) (λ i lt. c.loop-state.invariant.each i (omega (arith, lt, equations_count _ _ ends.same))) in
+    rw c.grid.ensures (low_corner p c.args.c c.args.input, high_corner p c.args.c c.args.input, whole)
 
 pub returns : goal.returns
 returns c =
-    let each = equations_count _ _ c.equations-state-end.ensures.same in
-    c.box_of_sides.ensures c.args.c c.args.input (λ i lt. c.loop-state.invariant.each i (omega (arith, lt, each)))
+    let p = c.args.p.now in
+    let ends = c.equations-state-end.ensures in
+    let whole = sides_of_box p c.args.c c.args.input c.loop-state.sides (sound_plant p ends.limits.plant) (λ i lt. c.loop-state.invariant.each i (omega (arith, lt, equations_count _ _ ends.same))) in
+    record {
+      inside = (rw c.grid.ensures at c.box_with.ensures.inside) (low_corner p c.args.c c.args.input) (high_corner p c.args.c c.args.input) whole;
+      corners = (rw c.grid.ensures at c.box_with.ensures.corners) (low_corner p c.args.c c.args.input) (high_corner p c.args.c c.args.input) whole;
+    }

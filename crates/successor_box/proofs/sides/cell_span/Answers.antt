@@ -13,7 +13,7 @@ use Rattle.successor_box.proofs.sides.cell_span.Goals as goal
 pub span-requires : goal.span-requires
 span-requires c =
     let p = c.args.p.now in
-    let sound = sound_plant p c.variables-count.ensures.plant.plant in
+    let sound = sound_plant p c.variables-count.ensures.limits.plant in
     let is : equation_at p c.args.state ≡ expression_of c.equation.result.now = get_or_from_slice_get p.equations c.args.state (expression_of c.equation.result.now) (Number (pos 0)) c.equation.ensures in
     let formed = subst (IsWellFormed (equation_at p c.args.state)) (sym (cell_area_count p c.args.c c.args.input)) (sound.formed c.args.state (Number (pos 0)) c.requires.state) in
     rw (c.variables-count.ensures.count, c.cell_ranges.ensures, ← is) formed
@@ -21,7 +21,7 @@ span-requires c =
 pub unreachable-requires : goal.unreachable-requires
 unreachable-requires c =
     let p = c.args.p.now in
-    let sound = sound_plant p c.variables-count.ensures.plant.plant in
+    let sound = sound_plant p c.variables-count.ensures.limits.plant in
     let is : equation_at p c.args.state ≡ expression_of c.equation.result.now = get_or_from_slice_get p.equations c.args.state (expression_of c.equation.result.now) (Number (pos 0)) c.equation.ensures in
     c.in-None.ensures.exact (rw (c.variables-count.ensures.count, c.cell_ranges.ensures, ← is) (cell_stays p c.args.c c.args.input sound c.requires.cell c.requires.fits c.requires.input c.args.state c.requires.state))
 

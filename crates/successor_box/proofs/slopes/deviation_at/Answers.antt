@@ -11,14 +11,14 @@ use Rattle.successor_box.proofs.slopes.deviation_at.Goals as goal
 pub deviation_over-requires-clause-well_formed : goal.deviation_over-requires-clause-well_formed
 deviation_over-requires-clause-well_formed c =
     let p = c.args.p.now in
-    let sound = sound_plant p c.variables-count.ensures.plant.plant in
+    let sound = sound_plant p c.variables-count.ensures.limits.plant in
     let is : equation_at p c.args.equation ≡ expression_of c.equation.result.now = get_or_from_slice_get p.equations c.args.equation (expression_of c.equation.result.now) (Number (pos 0)) c.equation.ensures in
     rw (c.variables-count.ensures.count, c.ranges-2.ensures, ← is) (formed_over p c.args.input sound c.args.equation (Number (pos 0)) c.requires.equation)
 
 pub deviation_over-requires-clause-not_negative : goal.deviation_over-requires-clause-not_negative
 deviation_over-requires-clause-not_negative c =
     let p = c.args.p.now in
-    rw (c.variables-count.ensures.count, c.requires.radii c.args.input) (radii_not_negative p c.args.input c.variables-count.ensures.plant.plant.noises)
+    rw (c.variables-count.ensures.count, c.requires.radii c.args.input) (radii_not_negative p c.args.input c.variables-count.ensures.limits.plant.noises)
 
 pub returns : goal.returns
 returns c =

@@ -15,7 +15,7 @@ pub spans_in_rows-requires-clause-formed : goal.spans_in_rows-requires-clause-fo
 spans_in_rows-requires-clause-formed c =
     let p = c.args.p.now in
     let i : ℕ = c.args.state in
-    let sound = sound_plant p c.variables.ensures.plant.plant in
+    let sound = sound_plant p c.variables.ensures.limits.plant in
     let equation : expression_of c.equation.result.now ≡ equation_at p i = sym (get_or_from_slice_get p.equations i (expression_of c.equation.result.now) (Number (pos 0)) c.equation.ensures) in
     let front : length (take c.variables.result c.cell_columns-ranges.result) ≡ c.variables.result = length-take-le c.variables.result c.cell_columns-ranges.result (omega arith) in
     rw equation (formed_over_columns p (length (take c.variables.result c.cell_columns-ranges.result)) i sound c.requires.state (front ∙ c.variables.ensures.count))
@@ -24,7 +24,7 @@ pub spans_in_rows-requires-clause-fits : goal.spans_in_rows-requires-clause-fits
 spans_in_rows-requires-clause-fits c = λ row lt.
     let p = c.args.p.now in
     let i : ℕ = c.args.state in
-    let sound = sound_plant p c.variables.ensures.plant.plant in
+    let sound = sound_plant p c.variables.ensures.limits.plant in
     let equation : expression_of c.equation.result.now ≡ equation_at p i = sym (get_or_from_slice_get p.equations i (expression_of c.equation.result.now) (Number (pos 0)) c.equation.ensures) in
     let pair = c.requires.pairs row lt in
     let area : area_in (take c.variables.result c.cell_columns-ranges.result) row ≡ cell_area_of p pair.0 pair.1 = area_row_is p pair.0 pair.1 c.cell_columns-ranges.result c.variables.result row c.variables.ensures.count (omega arith) (c.cell_columns-ranges.ensures row pair.0 pair.1 lt pair.2) in
@@ -34,7 +34,7 @@ pub returns : goal.returns
 returns c = λ row cell u lt is.
     let p = c.args.p.now in
     let i : ℕ = c.args.state in
-    let sound = sound_plant p c.variables.ensures.plant.plant in
+    let sound = sound_plant p c.variables.ensures.limits.plant in
     let equation : expression_of c.equation.result.now ≡ equation_at p i = sym (get_or_from_slice_get p.equations i (expression_of c.equation.result.now) (Number (pos 0)) c.equation.ensures) in
     let area : area_in (take c.variables.result c.cell_columns-ranges.result) row ≡ cell_area_of p cell u = area_row_is p cell u c.cell_columns-ranges.result c.variables.result row c.variables.ensures.count (omega arith) (c.cell_columns-ranges.ensures row cell u lt is) in
     c.spans_in_rows.ensures row lt ∙ ap₂ span_of equation area

@@ -5,7 +5,7 @@ use Rattle.successor_box.specs.Boxes.{central_values}
 use Rattle.successor_box.specs.Sides.{IsPairInRow}
 use Rattle.fixed_expr.specs.declared.lanes.TheConstants.{LANES}
 use Rattle.successor_box.proofs.Filling.{place_more}
-use Rattle.successor_box.proofs.blocks.fill_columns.Goals as goal
+use Rattle.successor_box.proofs.variable_columns.fill_columns.Goals as goal
 
 pub loop-k-preserved : goal.loop-k-preserved
 loop-k-preserved c =

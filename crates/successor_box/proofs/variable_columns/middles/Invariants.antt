@@ -3,7 +3,7 @@ use Rattle.std.specs.Prelude.{pos}
 use Rattle.grid_quantiser.specs.Axes.{no_axis}
 use Rattle.grid_quantiser.specs.Places.{middle_of}
 use Rattle.plant_record.specs.Description.{axes_of}
-use Rattle.successor_box.proofs.blocks.middles.Given as goal
+use Rattle.successor_box.proofs.variable_columns.middles.Given as goal
 
 -- the middles so far
 abbrev pub invariant-loop-j : goal.invariant-loop-j

@@ -6,7 +6,7 @@ use Rattle.fixed_expr.specs.Quotient.{floor_div}
 use Rattle.successor_box.proofs.CellValues.{middle}
 use Rattle.successor_box.proofs.Ranges.{noise_bounds, noise_centre_at}
 use Rattle.successor_box.proofs.Middles.{literal_fits, between_literals}
-use Rattle.successor_box.proofs.blocks.noise_middle.Goals as goal
+use Rattle.successor_box.proofs.variable_columns.noise_middle.Goals as goal
 
 -- the centre that was found lies in the noise's range
 found : (c : goal.After-noise_centre) → nat_abs c.noise_centre.result < 10 ^ 18

@@ -11,7 +11,7 @@ use Rattle.plant_record.specs.Description.{axis_of, axes_of}
 use Rattle.plant_record.proofs.lemmas.SoundPlants.{sound as sound_plant}
 use Rattle.successor_box.proofs.Columns.{axis_at}
 use Rattle.successor_box.proofs.Middles.{IsFirstCell, first_cell, low_at, high_at}
-use Rattle.successor_box.proofs.blocks.first_middle.Goals as goal
+use Rattle.successor_box.proofs.variable_columns.first_middle.Goals as goal
 
 pub low-requires : goal.low-requires
 low-requires c = rw c.grid-grid.ensures (some_cells (axes_of c.args.p.now) (sound_plant c.args.p.now c.requires.plant.plant).axes.each)

@@ -8,7 +8,7 @@ use Rattle.plant_record.proofs.lemmas.SoundPlants.{sound as sound_plant}
 use Rattle.successor_box.specs.Boxes.{noise_centre}
 use Rattle.successor_box.proofs.AlikePairs.{central_input}
 use Rattle.successor_box.proofs.Columns.{place_within, digit_at, state_value, noise_value}
-use Rattle.successor_box.proofs.blocks.column.Goals as goal
+use Rattle.successor_box.proofs.variable_columns.column.Goals as goal
 
 pub middles-requires-clause-within : goal.middles-requires-clause-within
 middles-requires-clause-within c = λ row lt.

@@ -3,7 +3,7 @@ use Rattle.std.specs.Prelude.{pos}
 use Rattle.successor_box.specs.Boxes.{central_values}
 use Rattle.successor_box.specs.Sides.{IsPairInRow}
 use Rattle.fixed_expr.specs.declared.lanes.TheConstants.{LANES}
-use Rattle.successor_box.proofs.blocks.fill_columns.Given as goal
+use Rattle.successor_box.proofs.variable_columns.fill_columns.Given as goal
 
 -- the columns so far
 abbrev pub invariant-loop-k : goal.invariant-loop-k

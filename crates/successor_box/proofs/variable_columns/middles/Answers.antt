@@ -10,7 +10,7 @@ use Rattle.plant_record.proofs.lemmas.SoundPlants.{sound as sound_plant}
 use Rattle.successor_box.proofs.Columns.{axis_at}
 use Rattle.successor_box.proofs.Filling.{place_more}
 use Rattle.successor_box.proofs.Middles.{has_room, middle_from}
-use Rattle.successor_box.proofs.blocks.middles.Goals as goal
+use Rattle.successor_box.proofs.variable_columns.middles.Goals as goal
 
 -- one middle
 record IsOne (a : Axis) (first width step : ℤ) (place : ℕ) : Type 0 where

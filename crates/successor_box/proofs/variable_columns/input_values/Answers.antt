@@ -4,7 +4,7 @@ use Rattle.std.proofs.lemmas.Int.{to_z-of_z}
 use Rattle.std.proofs.lemmas.List.{length-set}
 use Rattle.plant_record.specs.Description.{vector_of}
 use Rattle.successor_box.proofs.Filling.{place_more}
-use Rattle.successor_box.proofs.blocks.input_values.Goals as goal
+use Rattle.successor_box.proofs.variable_columns.input_values.Goals as goal
 
 pub loop-j-preserved : goal.loop-j-preserved
 loop-j-preserved c =

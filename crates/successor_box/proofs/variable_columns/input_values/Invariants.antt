@@ -1,7 +1,7 @@
 use Rattle.std.proofs.Common.{◌≡◌, ℕ, ◌<◌, length, get_or}
 use Rattle.std.specs.Prelude.{pos}
 use Rattle.plant_record.specs.Description.{vector_of}
-use Rattle.successor_box.proofs.blocks.input_values.Given as goal
+use Rattle.successor_box.proofs.variable_columns.input_values.Given as goal
 
 -- the values so far
 abbrev pub invariant-loop-j : goal.invariant-loop-j
