@@ -26,10 +26,6 @@ box first last = Some (record { first = first; last = last })
 
 -- ---- sums
 
-pub plus_one : (b : Option CellBox) → plus one_cell b ≡ b
-plus_one None = refl
-plus_one (Some b) = ap₂ box (let e : 0 + b.first ≡ b.first = omega arith in e) (let e : 0 + b.last ≡ b.last = omega arith in e)
-
 plus_base : (base x rest : Option CellBox) → plus (plus base x) rest ≡ plus (plus base rest) x
 plus_base None x rest = refl
 plus_base (Some a) None None = refl

@@ -11,7 +11,7 @@ use Rattle.grid_quantiser.specs.Boxes.{IsCellBox, cells_between}
 use Rattle.grid_quantiser.specs.Laws.{IsMovedShape}
 use Rattle.grid_quantiser.proofs.Suffixes.{some_cells}
 use Rattle.successor_box.specs.Boxes.{cells_in}
-use Rattle.abstraction_table.specs.inside.Fans.{fan_of, IsCounted, AreShapes, KeepsFans, FanIsKnown, AreFansOf}
+use Rattle.abstraction_table.specs.inside.Fans.{IsCounted, AreShapes, KeepsFans, FanIsKnown, AreFansOf}
 use Rattle.abstraction_table.specs.inside.Sources.{IsBox}
 use Rattle.abstraction_table.specs.inside.Tallies.{edges_of}
 use Rattle.abstraction_table.proofs.BelowBoxes.{boxes_are_moved_shapes}
@@ -126,8 +126,3 @@ fans_all axes boxes n fans edges grid ordered whole h = record {
       (has_fan axes fans (get_or boxes k None) grid h.one_each (ordered k None lt) (h.counted k (omega (arith, lt, whole))));
   few = omega (arith, h.few, h.edges_so_far, ap (edges_of axes) (take_all n boxes whole));
 }
-
--- what is counted for a box, or none, is how many cells it has
-pub fan_is : (axes : List Axis) (fans : List ℕ) (o : Option CellBox) → FanIsKnown axes fans o → fan_of fans o ≡ length (cells_in axes o)
-fan_is axes fans None known = omega arith
-fan_is axes fans (Some b) known = known.cells

@@ -22,6 +22,7 @@ mod RowBoxes
 mod CellRows
 mod Fitting
 mod AddedTerms
+mod ChangedElements
 mod BoxSums
 mod ListedParts
 mod ListedRows

@@ -1,11 +1,14 @@
 -- Parts that are listed, added to the boxes of a cell.
-use Rattle.std.proofs.Common.{◌≡◌, ℕ, ◌+◌, ◌-◌, ◌^◌, ◌<◌, ◌≤◌, List, All, Option, None, take, drop, length, get_or, refl, sym, subst, ◌∙◌, arith}
+use Rattle.std.proofs.Common.{◌≡◌, ℕ, ◌+◌, ◌-◌, ◌^◌, ◌<◌, ◌≤◌, List, All, Option, None, take, drop, length, get_or, refl, sym, ap, subst, ◌∙◌, arith}
 use Rattle.std.specs.Prelude.{IfSome, if◌then◌else◌}
+use Rattle.std.specs.Global.{Vec}
 use Rattle.std.proofs.lemmas.List.{length-take-le, length-drop, get_or-take, get_or-drop, get_or_default}
 use Rattle.grid_quantiser.specs.declared.boxes.CellBox.{CellBox}
 use Rattle.plant_record.specs.Description.{Description, vectors_of}
 use Rattle.plant_record.specs.Limits.{IsWithinLimits}
 use Rattle.plant_record.proofs.lemmas.SoundPlants.{sound as sound_plant}
+use Rattle.abstraction_table.specs.declared.parts.Parts.{Parts}
+use Rattle.abstraction_table.specs.declared.parts.Parts.TheVariants.{Listed}
 use Rattle.abstraction_table.specs.declared.parts.PartTable.{PartTable}
 use Rattle.abstraction_table.specs.inside.Sums.{plus}
 use Rattle.abstraction_table.specs.inside.Parts.{first_in, count_of, HasPartAt, IsPartAt, Brings, BringAs, IsSumAlong, AreSumsAlong, HoldsPartsAlong}
@@ -17,8 +20,23 @@ use Rattle.abstraction_table.proofs.PartTables.{brought_by, has_part, place_with
 abbrev Fits28 : Option CellBox → Type 0
 Fits28 b = IfSome b (λ (b : CellBox). b.last < 2 ^ 28)
 
-module _ (p : Description) (limits : IsWithinLimits p) (i : ℕ) (lt : i < length p.equations) (t : PartTable) (held : HoldsPartsAlong p i t) (places : List ℕ) (first : ℕ) (first_is : first ≡ first_in t places)
-    (parts : List (Option CellBox)) (few_is : count_of t.parts ≡ length parts) (part_is : (c u n : ℕ) → HasPartAt p c u i t.parts n → IsPartAt p c u i (get_or parts n None)) where
+-- The parts of a state are listed, and a cell of these places finds its own from a place on.
+pub record FindsParts (p : Description) (i : ℕ) (t : PartTable) (places : List ℕ) (first : ℕ) (parts : List (Option CellBox)) : Type 0 where
+  pub limits : IsWithinLimits p
+  pub state : i < length p.equations
+  pub held : HoldsPartsAlong p i t
+  pub first_is : first ≡ first_in t places
+  pub listed : Vec (Option CellBox)
+  pub is : t.parts ≡ Listed listed
+  pub parts_are : parts ≡ listed.items
+
+module _ {p : Description} {i : ℕ} {t : PartTable} {places : List ℕ} {first : ℕ} {parts : List (Option CellBox)} (f : FindsParts p i t places first parts) where
+  count_is : count_of t.parts ≡ length parts
+  count_is = ap count_of f.is ∙ sym (ap length f.parts_are)
+
+  part_is : (c u n : ℕ) → HasPartAt p c u i t.parts n → IsPartAt p c u i (get_or parts n None)
+  part_is c u n has = subst (λ (xs : List (Option CellBox)). IsPartAt p c u i (get_or xs n None)) (sym f.parts_are) (subst (λ (all : Parts). HasPartAt p c u i all n) f.is has)
+
   -- the parts that the cell and an input find
   abbrev pub found : List (Option CellBox)
   found = take (length parts - first) (drop first parts)
@@ -28,39 +46,39 @@ module _ (p : Description) (limits : IsWithinLimits p) (i : ℕ) (lt : i < lengt
 
   module _ (c : ℕ) (brought : BringAs p i t places c) where
     by : Brings p i t first own c
-    by = brought_by p i t places first own c first_is refl brought
+    by = brought_by p i t places first own c f.first_is refl brought
 
     within : (u : ℕ) → u < vectors_of p.inputs → first + get_or t.inputs.items u 0 < length parts
-    within u input = omega (arith, few_is, place_within p (sound_plant p limits.plant) i lt t held first own u (first + get_or t.inputs.items u 0) refl c by input)
+    within u input = omega (arith, count_is, place_within p (sound_plant p f.limits.plant) i f.state t f.held first own u (first + get_or t.inputs.items u 0) refl c by input)
 
     pub first_within : first ≤ length parts
-    first_within = omega (arith, within 0 (some_vectors p limits.plant))
+    first_within = omega (arith, within 0 (some_vectors p f.limits.plant))
 
     found_long : length found ≡ length parts - first
     found_long = let le : length parts - first ≤ length (drop first parts) = omega (arith, length-drop first parts) in length-take-le (length parts - first) (drop first parts) le
 
     pub inputs_within : All (λ (n : ℕ). n < length found) t.inputs.items
-    inputs_within k d short = omega (arith, get_or_default t.inputs.items k d 0 short, within k (omega (arith, short, held.inputs)), found_long)
+    inputs_within k d short = omega (arith, get_or_default t.inputs.items k d 0 short, within k (omega (arith, short, f.held.inputs)), found_long)
 
     part_found : (u : ℕ) → u < vectors_of p.inputs → IsPartAt p c u i (get_or found (get_or t.inputs.items u 0) None)
     part_found u input =
         let n : ℕ = get_or t.inputs.items u 0 in
         let read : get_or found n None ≡ get_or parts (first + n) None = get_or-take (length parts - first) (drop first parts) n None (omega (arith, within u input)) ∙ get_or-drop first parts n None in
-        subst (IsPartAt p c u i) (sym read) (part_is c u (first + n) (has_part p (sound_plant p limits.plant) i lt t held first own u (first + n) refl c u by input refl))
+        subst (IsPartAt p c u i) (sym read) (part_is c u (first + n) (has_part p (sound_plant p f.limits.plant) i f.state t f.held first own u (first + n) refl c u by input refl))
 
     pub parts_fit : All (λ (n : ℕ). Fits28 (get_or found n None)) t.inputs.items
     parts_fit k d short =
-        let input : k < vectors_of p.inputs = omega (arith, short, held.inputs) in
+        let input : k < vectors_of p.inputs = omega (arith, short, f.held.inputs) in
         subst (λ (n : ℕ). Fits28 (get_or found n None)) (get_or_default t.inputs.items k 0 d short)
-        (ends_fit 1 (get_or found (get_or t.inputs.items k 0) None) (omega arith) (part_few p (sound_plant p limits.plant) i lt limits.cells c k (get_or found (get_or t.inputs.items k 0) None) (part_found k input)))
+        (ends_fit 1 (get_or found (get_or t.inputs.items k 0) None) (omega arith) (part_few p (sound_plant p f.limits.plant) i f.state f.limits.cells c k (get_or found (get_or t.inputs.items k 0) None) (part_found k input)))
 
     module _ (base : Option CellBox) (boxes : List (Option CellBox)) (long : length boxes ≡ vectors_of p.inputs) (before : AreSumsAlong p i c base boxes) where
       pub boxes_fit : All Fits28 boxes
       boxes_fit k d short =
           subst Fits28 (get_or_default boxes k None d short)
-          (ends_fit i (get_or boxes k None) (omega (arith, lt, limits.plant.one_each, limits.plant.states_bound)) (before k (omega (arith, short, long))).rest_few)
+          (ends_fit i (get_or boxes k None) (omega (arith, f.state, f.limits.plant.one_each, f.limits.plant.states_bound)) (before k (omega (arith, short, long))).rest_few)
 
       pub listed_added : (after : List (Option CellBox)) → ((u : ℕ) → u < length boxes → get_or after u None ≡ plus (get_or boxes u None) (get_or found (get_or t.inputs.items u 0) None)) → AreSumsAlong p (i + 1) c base after
       listed_added after each u input =
           subst (IsSumAlong p (i + 1) c u base) (sym (each u (omega (arith, input, long))))
-          (rest_more p (sound_plant p limits.plant) i lt limits.cells c u (get_or found (get_or t.inputs.items u 0) None) (part_found u input) base (get_or boxes u None) (before u input))
+          (rest_more p (sound_plant p f.limits.plant) i f.state f.limits.cells c u (get_or found (get_or t.inputs.items u 0) None) (part_found u input) base (get_or boxes u None) (before u input))

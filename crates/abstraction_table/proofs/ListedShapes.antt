@@ -1,10 +1,9 @@
 -- One more shape whose runs are listed, and the boxes that have it.
-use Rattle.std.proofs.Common.{◌≡◌, ◌≢◌, ℕ, zero, suc, ◌+◌, ◌-◌, ◌^◌, ◌<◌, ◌≤◌, List, [], ◌∷◌, ◌++◌, All, map, length, take, drop, get_or, set, sum, Option, Some, None, refl, sym, ap, subst, ◌∙◌, arith, inl, inr}
+use Rattle.std.proofs.Common.{◌≡◌, ◌≢◌, ℕ, zero, suc, ◌+◌, ◌-◌, ◌^◌, ◌<◌, ◌≤◌, List, [], ◌∷◌, ◌++◌, All, map, length, take, drop, get_or, set, sum, Option, Some, None, refl, sym, ap, subst, ◌∙◌, arith}
 use Rattle.std.specs.Prelude.{IfSome}
 use Rattle.std.specs.List.{range_with_len}
-use Rattle.std.proofs.lemmas.Bool.{cases_lt}
 use Rattle.std.proofs.lemmas.List.Sums.{sum_by_more}
-use Rattle.std.proofs.lemmas.List.{length-append, map-append, get_or_past, get_or-set_same, get_or-set_other, length-set, take_all, take-append-drop, take-append-le, drop-append-le, length-drop}
+use Rattle.std.proofs.lemmas.List.{length-append, map-append, get_or-set_same, get_or-set_other, length-set, take_all, take-append-drop, take-append-le, drop-append-le, length-drop}
 use Rattle.std.proofs.Math.Seq.{drop-append_seam}
 use Rattle.grid_quantiser.specs.declared.axis.Axis.{Axis}
 use Rattle.grid_quantiser.specs.declared.boxes.CellBox.{CellBox}
@@ -12,7 +11,7 @@ use Rattle.grid_quantiser.specs.Axes.{cells_of, AreAxes}
 use Rattle.grid_quantiser.specs.Boxes.{cells_between}
 use Rattle.grid_quantiser.specs.Laws.{IsMovedShape}
 use Rattle.successor_box.specs.Boxes.{cells_in}
-use Rattle.abstraction_table.specs.declared.shapes.Run.{Run}
+use Rattle.abstraction_table.specs.declared.shapes.ShapeRun.{ShapeRun}
 use Rattle.abstraction_table.specs.declared.shapes.Span.{Span}
 use Rattle.abstraction_table.specs.declared.shapes.Shapes.{Shapes}
 use Rattle.abstraction_table.specs.inside.Fans.{FanIsKnown, AreFansOf}
@@ -30,7 +29,7 @@ moved_range : (k s n : ℕ) → map (λ c. k + c) (range_with_len s n) ≡ range
 moved_range k s zero = refl
 moved_range k s (suc n) = ap (λ xs. (k + s) ∷ xs) (moved_range k (s + 1) n ∙ ap (λ m. range_with_len m n) (let e : k + (s + 1) ≡ k + s + 1 = omega arith in e))
 
-moved_cells : (first : ℕ) (runs : List Run) → map (λ c. first + c) (cells_from 0 runs) ≡ cells_from first runs
+moved_cells : (first : ℕ) (runs : List ShapeRun) → map (λ c. first + c) (cells_from 0 runs) ≡ cells_from first runs
 moved_cells first [] = refl
 moved_cells first (r ∷ runs) =
     map-append (λ c. first + c) (range_with_len (0 + r.start) r.len) (cells_from 0 runs)
@@ -49,12 +48,12 @@ box_runs axes s b moved h = record {
 -- ---- one more shape
 
 -- runs that are put behind others change none of them
-behind_slice : (from to : ℕ) (xs more : List Run) → from ≤ to → to ≤ length xs → take (to - from) (drop from (xs ++ more)) ≡ take (to - from) (drop from xs)
+behind_slice : (from to : ℕ) (xs more : List ShapeRun) → from ≤ to → to ≤ length xs → take (to - from) (drop from (xs ++ more)) ≡ take (to - from) (drop from xs)
 behind_slice from to xs more forward inside =
     ap (take (to - from)) (drop-append-le from xs more (omega (arith, forward, inside)))
     ∙ take-append-le (to - from) (drop from xs) more (omega (arith, length-drop from xs, inside, forward))
 
-new_slice : (xs more : List Run) → take (length (xs ++ more) - length xs) (drop (length xs) (xs ++ more)) ≡ more
+new_slice : (xs more : List ShapeRun) → take (length (xs ++ more) - length xs) (drop (length xs) (xs ++ more)) ≡ more
 new_slice xs more =
     ap (take (length (xs ++ more) - length xs)) (drop-append_seam xs more) ∙ take_all (length (xs ++ more) - length xs) more (omega (arith, length-append xs more))
 
@@ -138,10 +137,6 @@ shapes_past axes fans n s below none h = record {
   few = omega (arith, h.few, sum_by_more (λ m. m) fans n 0 below);
 }
 
-pub shapes_all : (axes : List Axis) (fans : List ℕ) (n : ℕ) (s : Shapes) → length fans ≤ n → ShapesSoFar axes fans n s → HaveRunsAt axes s fans
-shapes_all axes fans n s whole h k some =
-    elim (cases_lt k (length fans)) [ inl below ↦ h.has k (omega (arith, below, whole)) some | inr past ↦ absurd (omega (arith, get_or_past fans k 0 past, some)) ]
-
 runs_found : (axes : List Axis) (s : Shapes) (fans : List ℕ) (o : Option CellBox) → AreAxes axes → IsBox axes o → HaveRunsAt axes s fans → FanIsKnown axes fans o → IfSome o (HasRunsOf axes s)
 runs_found axes s fans None grid ordered has known = tt
 runs_found axes s fans (Some b) grid ordered has known = box_runs axes s b (boxes_are_moved_shapes axes b.first b.last grid ordered) (has (b.last - b.first) known.some)
@@ -152,7 +147,7 @@ have_runs axes s boxes fans grid ordered has counted = λ k d lt. runs_found axe
 
 -- the runs of a box end by the limit on cells
 pub box_runs_end : (axes : List Axis) (s : Shapes) (o : Option CellBox) (b : CellBox) → o ≡ Some b → AreAxes axes → cells_of axes ≤ 2 ^ 20 → IsBox axes o → IfSome o (HasRunsOf axes s) →
-    (runs : List Run) → runs ≡ runs_at s (b.last - b.first) → All (EndsBy (2 ^ 20) b.first) runs
+    (runs : List ShapeRun) → runs ≡ runs_at s (b.last - b.first) → All (EndsBy (2 ^ 20) b.first) runs
 box_runs_end axes s o b is grid limit ordered has runs same =
     let h : HasRunsOf axes s b = subst (λ (o : Option CellBox). IfSome o (HasRunsOf axes s)) is has in
     let cells = boxes_have_cells axes b.first b.last grid (subst (IsBox axes) is ordered) in
@@ -161,7 +156,7 @@ box_runs_end axes s o b is grid limit ordered has runs same =
 
 -- ---- runs that are cut to a band
 
-module _ (from len first : ℕ) (runs : List Run) (k : ℕ) (d : Run) (below : k < length runs) (place n : ℕ) (cut : places_in from len (range_with_len (first + (get_or runs k d).start) (get_or runs k d).len) ≡ range_with_len place n) where
+module _ (from len first : ℕ) (runs : List ShapeRun) (k : ℕ) (d : ShapeRun) (below : k < length runs) (place n : ℕ) (cut : places_in from len (range_with_len (first + (get_or runs k d).start) (get_or runs k d).len) ≡ range_with_len place n) where
   abbrev done : List ℕ
   done = places_in from len (cells_from first (take k runs))
 
@@ -184,7 +179,7 @@ module _ (from len first : ℕ) (runs : List Run) (k : ℕ) (d : Run) (below : k
 -- ---- boxes whose cells all lie in a band
 
 module _ (from len first : ℕ) (low : from ≤ first) where
-  places_inside : (runs : List Run) → All (EndsBy (from + len) first) runs → places_in from len (cells_from first runs) ≡ cells_from (first - from) runs
+  places_inside : (runs : List ShapeRun) → All (EndsBy (from + len) first) runs → places_in from len (cells_from first runs) ≡ cells_from (first - from) runs
   places_inside [] ends = refl
   places_inside (r ∷ runs) ends =
       let here : first + r.start + r.len ≤ from + len = ends 0 r (omega arith) in
@@ -194,12 +189,12 @@ module _ (from len first : ℕ) (low : from ≤ first) where
       ∙ ap (λ xs. range_with_len (first - from + r.start) r.len ++ xs) (places_inside runs (λ k d lt. ends (suc k) d (omega (arith, lt))))
 
 -- The places of a box in a band are its runs, from the place of its first cell on.
-pub record IsInside (axes : List Axis) (o : Option CellBox) (from len first : ℕ) (runs : List Run) : Type 0 where
+pub record IsInside (axes : List Axis) (o : Option CellBox) (from len first : ℕ) (runs : List ShapeRun) : Type 0 where
   pub ends : All (EndsBy len (first - from)) runs
   pub places : places_in from len (cells_in axes o) ≡ cells_from (first - from) runs
 
 pub box_inside : (axes : List Axis) (s : Shapes) (o : Option CellBox) (b : CellBox) → o ≡ Some b → AreAxes axes → IsBox axes o → IfSome o (HasRunsOf axes s) →
-    (from len : ℕ) → (from ≤ b.first) × (b.last < from + len) → (runs : List Run) → runs ≡ runs_at s (b.last - b.first) → IsInside axes o from len b.first runs
+    (from len : ℕ) → (from ≤ b.first) × (b.last < from + len) → (runs : List ShapeRun) → runs ≡ runs_at s (b.last - b.first) → IsInside axes o from len b.first runs
 box_inside axes s o b is grid ordered has from len held runs same =
     let h : HasRunsOf axes s b = subst (λ (o : Option CellBox). IfSome o (HasRunsOf axes s)) is has in
     let cells = cells_lie_between_corners axes b.first b.last grid (subst (IsBox axes) is ordered) in

@@ -12,7 +12,7 @@ use Rattle.grid_quantiser.specs.Boxes.{IsCellBox, cells_between}
 use Rattle.game_core.specs.declared.game.Mark.{Mark}
 use Rattle.game_core.specs.Game.{Game, pairs_of, successors_at}
 use Rattle.successor_box.specs.Boxes.{cells_in}
-use Rattle.abstraction_table.specs.declared.shapes.Run.{Run}
+use Rattle.abstraction_table.specs.declared.shapes.ShapeRun.{ShapeRun}
 use Rattle.abstraction_table.specs.declared.shapes.Shapes.{Shapes}
 use Rattle.abstraction_table.specs.BoxGame.{box_game}
 use Rattle.abstraction_table.specs.inside.Fans.{HasFan, FanIsKnown}
@@ -38,7 +38,7 @@ module _ (P : ℕ → Type 0) (first len : ℕ) where
       subst P (get_or-range_with_len first len (c - first) 0 inside ∙ place) (all (c - first) 0 (omega (arith, inside, length-range_with_len first len)))
 
 -- what passes at the cells of runs passes at those of each
-pub run_passes_too : (P : ℕ → Type 0) (first : ℕ) (runs : List Run) (k : ℕ) (d : Run) → k < length runs → All P (cells_from first runs) → All P (range_with_len (first + (get_or runs k d).start) (get_or runs k d).len)
+pub run_passes_too : (P : ℕ → Type 0) (first : ℕ) (runs : List ShapeRun) (k : ℕ) (d : ShapeRun) → k < length runs → All P (cells_from first runs) → All P (range_with_len (first + (get_or runs k d).start) (get_or runs k d).len)
 run_passes_too P first runs k d below all =
     let before = cells_from first (take k runs) in
     let here = range_with_len (first + (get_or runs k d).start) (get_or runs k d).len in

@@ -12,7 +12,7 @@ use crate::digits::{Digit, Digits};
 use fixed_expr::LANES;
 use grid_quantiser::Side;
 use plant_record::Plant;
-use successor_box::{Slopes, prolonged_sides};
+use successor_box::{PLACES_LIMIT, PlaceColumns, Slopes, prolonged_sides};
 
 /// To start a thread takes as long as to find so many sides.
 pub(crate) const CHUNK: usize = 1024;
@@ -73,13 +73,13 @@ fn fill_block(
 }
 
 /// The places of these pairs in each state and each input variable.
-fn places_from(p: &Plant, state: u32, digits: &Digits, place: u32) -> [[u32; LANES]; 9]
+fn places_from(p: &Plant, state: u32, digits: &Digits, place: u32) -> PlaceColumns
     requires plant { IsWithinLimits p.now }
     requires state { state < length p.now.equations }
     requires digits { AreDigitsOf p.now state digits.now.each.items digits.now.places }
     ensures { (j : ℕ) → j < LANES → IsPairInRow p.now result j (pair_at digits.now.each.items (place + j) / vectors_of p.now.inputs) (pair_at digits.now.each.items (place + j) % vectors_of p.now.inputs) }
 {
-    let mut places = [[0; LANES]; 9];
+    let mut places = [[0; LANES]; PLACES_LIMIT];
     for variable in 0..p.states() + p.input_variables() {
         places[variable as usize] = places_in(p, state, digits, variable, place);
     }

@@ -7,6 +7,7 @@ ghost use Rattle.plant_record.specs.Description.{axes_of, vectors_of};
 ghost use Rattle.plant_record.specs.Limits.{IsWithinLimits};
 ghost use Rattle.successor_box.specs.Deviations.{HasNoOverflow, deviations_of};
 ghost use Rattle.plant_game.specs.Abstraction.{AreBoxesOf};
+ghost use Rattle.abstraction_table.specs.declared.boxes.TheConstants.{CHUNK_PAIRS};
 ghost use Rattle.abstraction_table.specs.inside.Rows.{AreBoxesFrom};
 ghost use Rattle.abstraction_table.specs.inside.Parts.{HoldParts};
 
@@ -68,7 +69,7 @@ pub(crate) fn find_boxes<R: Threads + Sync>(
 fn cells_in_chunk(inputs: usize) -> usize
     requires { 0 < inputs }
     ensures some { 1 ≤ result }
-    ensures few { result ≤ 4096 }
+    ensures few { result ≤ CHUNK_PAIRS }
 {
     (CHUNK_PAIRS / inputs).max(1)
 }

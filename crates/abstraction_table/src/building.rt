@@ -80,8 +80,7 @@ pub fn build<R: Threads + Sync>(
     ensures fault { IfErr result (IsFaultOf p.now) }
 {
     let outlook = survey(rt, alloc, p, s)?;
-    let abstraction = with_sources(rt, alloc, outlook)?;
-    Ok(abstraction)
+    Ok(with_sources(rt, alloc, outlook)?)
 }
 
 /// The game of a plant by the boxes of its pairs.

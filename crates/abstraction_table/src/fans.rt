@@ -15,9 +15,9 @@ use std::alloc::{AllocError, Global};
 /// far its last cell is from its first tells the shape.
 #[derive(Drop)]
 pub(crate) struct Fans {
-    // One for each such distance, 0 where no box has it.
+    /// One for each such distance, 0 where no box has it.
     pub(crate) counts: Vec<u32>,
-    // Of all boxes together.
+    /// Of all boxes together.
     pub(crate) edges: u64,
 }
 

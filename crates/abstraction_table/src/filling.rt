@@ -10,7 +10,7 @@ ghost use Rattle.abstraction_table.specs.inside.Tallies.{places_in, AreCounted, 
 
 use crate::band::Band;
 use crate::pair_box::PairBox;
-use crate::shapes::{Run, Shapes};
+use crate::shapes::{ShapeRun, Shapes};
 use edge_rows::{NoMemory, RowFill, Rows};
 use grid_quantiser::{CellBox, Grid};
 use std::alloc::{AllocError, Global};
@@ -135,7 +135,7 @@ fn put_box(
 /// Adds one to the count of each place of runs that begin at a place. The case is chosen once a box, by its first run:
 /// a loop over few cells costs more than what it does.
 #[inline]
-fn count_inside(first: u32, runs: &[Run], counts: &mut [u32])
+fn count_inside(first: u32, runs: &[ShapeRun], counts: &mut [u32])
     requires within { All (EndsBy (length counts.old) first) runs.now }
     requires few { length counts.old < 2 ^ 32 }
     requires room { CountsFit counts.old (cells_from first runs.now) }
@@ -152,7 +152,7 @@ fn count_inside(first: u32, runs: &[Run], counts: &mut [u32])
 
 /// Adds one to the count of each place of runs that begin at a place, of runs of `LEN` cells with no loop.
 #[inline]
-fn count_alike<const LEN: u32>(first: u32, runs: &[Run], counts: &mut [u32])
+fn count_alike<const LEN: u32>(first: u32, runs: &[ShapeRun], counts: &mut [u32])
     requires within { All (EndsBy (length counts.old) first) runs.now }
     requires few { length counts.old < 2 ^ 32 }
     requires room { CountsFit counts.old (cells_from first runs.now) }
@@ -165,7 +165,7 @@ fn count_alike<const LEN: u32>(first: u32, runs: &[Run], counts: &mut [u32])
 
 /// Puts a pair at each place of runs that begin at a place. The case is chosen once a box, as where they are counted.
 #[inline]
-fn put_inside(first: u32, runs: &[Run], pair: u32, fill: &mut RowFill)
+fn put_inside(first: u32, runs: &[ShapeRun], pair: u32, fill: &mut RowFill)
     requires within { All (EndsBy (length fill.old.rows) first) runs.now }
     requires few { length fill.old.rows < 2 ^ 32 }
     requires room { HasRoomFor fill.old (cells_from first runs.now) }
@@ -182,7 +182,7 @@ fn put_inside(first: u32, runs: &[Run], pair: u32, fill: &mut RowFill)
 
 /// Puts a pair at each place of runs that begin at a place, of runs of `LEN` cells with no loop.
 #[inline]
-fn put_alike<const LEN: u32>(first: u32, runs: &[Run], pair: u32, fill: &mut RowFill)
+fn put_alike<const LEN: u32>(first: u32, runs: &[ShapeRun], pair: u32, fill: &mut RowFill)
     requires within { All (EndsBy (length fill.old.rows) first) runs.now }
     requires few { length fill.old.rows < 2 ^ 32 }
     requires room { HasRoomFor fill.old (cells_from first runs.now) }
@@ -195,7 +195,7 @@ fn put_alike<const LEN: u32>(first: u32, runs: &[Run], pair: u32, fill: &mut Row
 
 /// Adds one to the count of each place of the cells of runs in a band.
 #[inline]
-fn count_runs(first: u32, runs: &[Run], band: Band, counts: &mut [u32])
+fn count_runs(first: u32, runs: &[ShapeRun], band: Band, counts: &mut [u32])
     requires within { All (EndsBy (2 ^ 20) first) runs.now }
     requires limit { band.from + band.len ≤ 2 ^ 20 }
     requires one_each { length counts.old ≡ band.len }
@@ -210,7 +210,7 @@ fn count_runs(first: u32, runs: &[Run], band: Band, counts: &mut [u32])
 
 /// Puts a pair at each place of the cells of runs in a band.
 #[inline]
-fn put_runs(first: u32, runs: &[Run], band: Band, pair: u32, fill: &mut RowFill)
+fn put_runs(first: u32, runs: &[ShapeRun], band: Band, pair: u32, fill: &mut RowFill)
     requires within { All (EndsBy (2 ^ 20) first) runs.now }
     requires limit { band.from + band.len ≤ 2 ^ 20 }
     requires one_each { length fill.old.rows ≡ band.len }
@@ -225,7 +225,7 @@ fn put_runs(first: u32, runs: &[Run], band: Band, pair: u32, fill: &mut RowFill)
 
 /// How many cells the first of some runs has.
 #[inline]
-fn first_len(runs: &[Run]) -> u32 {
+fn first_len(runs: &[ShapeRun]) -> u32 {
     match runs {
         [run, ..] => run.len,
         [] => 0,

@@ -6,6 +6,7 @@ ghost use Rattle.plant_record.specs.Description.{axes_of, vectors_of};
 ghost use Rattle.plant_record.specs.Limits.{IsWithinLimits};
 ghost use Rattle.successor_box.specs.Deviations.{HasNoOverflow, deviations_of};
 ghost use Rattle.successor_box.specs.Sides.{moves_along};
+ghost use Rattle.successor_box.specs.declared.places.TheConstants.{PLACES_LIMIT};
 ghost use Rattle.abstraction_table.specs.inside.Rows.{StaysAlongRows};
 ghost use Rattle.abstraction_table.specs.inside.Sides.{IsProlonged, HoldsSidesAlong};
 ghost use Rattle.abstraction_table.specs.inside.Parts.{first_in, stride_of, own_places, IsPartAt, IsPartFrom, Brings, HoldsPartsAlong, HoldParts};
@@ -17,7 +18,7 @@ use grid_quantiser::Side;
 use plant_record::Plant;
 use std::alloc::{AllocError, Global};
 use std::thread::Threads;
-use successor_box::Slopes;
+use successor_box::{PLACES_LIMIT, Slopes};
 
 /// Parts are listed where there are at least so many pairs for each.
 const PAIRS_FOR_EACH_PART: usize = 8;
@@ -47,8 +48,8 @@ pub(crate) struct PartTable {
 impl PartTable {
     /// What the places of a cell bring to the place of its parts.
     #[inline]
-    pub(crate) fn first(&self, places: &[u32; 9]) -> u32
-        requires variables { All (λ d. d.variable < 9) self.now.digits.items }
+    pub(crate) fn first(&self, places: &[u32; PLACES_LIMIT]) -> u32
+        requires variables { All (λ d. d.variable < PLACES_LIMIT) self.now.digits.items }
         requires fits { first_in self.now places.now < 2 ^ 32 }
         ensures { result ≡ first_in self.now places.now }
     {

@@ -15,6 +15,7 @@ use crate::pair_box::PairBox;
 use crate::parts::{PartTable, Parts};
 use grid_quantiser::CellBox;
 use plant_record::Plant;
+use successor_box::PLACES_LIMIT;
 
 /// The boxes of cells in a row, one for each input, which differ in the place along the last state alone. What the
 /// first states bring is the same along the row, and is found once: the first cell's boxes keep it for the others.
@@ -40,7 +41,12 @@ pub(crate) fn boxes_in_row(p: &Plant, tables: &[PartTable], c: u32, boxes: &mut 
 }
 
 /// Adds the parts of the first states, as far as they are the same all along a row, and tells how many.
-fn add_early(p: &Plant, tables: &[PartTable], places: &[u32; 9], boxes: &mut [PairBox]) -> usize
+fn add_early(
+    p: &Plant,
+    tables: &[PartTable],
+    places: &[u32; PLACES_LIMIT],
+    boxes: &mut [PairBox],
+) -> usize
     requires plant { IsWithinLimits p.now }
     requires tables { HoldParts p.now tables.now }
     requires cell { (c : ℕ) × (c < cells_of (axes_of p.now)) × ArePlacesOf p.now c places.now }
@@ -61,7 +67,13 @@ fn add_early(p: &Plant, tables: &[PartTable], places: &[u32; 9], boxes: &mut [Pa
 
 /// Adds the parts of the states from one on to the boxes of a cell. Those that rest on no input are summed apart, and
 /// added to all boxes once.
-fn add_late(p: &Plant, tables: &[PartTable], from: usize, places: &[u32; 9], boxes: &mut [PairBox])
+fn add_late(
+    p: &Plant,
+    tables: &[PartTable],
+    from: usize,
+    places: &[u32; PLACES_LIMIT],
+    boxes: &mut [PairBox],
+)
     requires plant { IsWithinLimits p.now }
     requires tables { HoldParts p.now tables.now }
     requires from { from ≤ length p.now.equations }
@@ -83,7 +95,7 @@ fn add_state(
     p: &Plant,
     table: &PartTable,
     state: u32,
-    places: &[u32; 9],
+    places: &[u32; PLACES_LIMIT],
     base: PairBox,
     boxes: &mut [PairBox],
 ) -> PairBox
@@ -104,7 +116,7 @@ fn add_state(
 
 /// The part of a state that rests on no input.
 #[inline]
-fn free_part(p: &Plant, table: &PartTable, state: u32, places: &[u32; 9]) -> PairBox
+fn free_part(p: &Plant, table: &PartTable, state: u32, places: &[u32; PLACES_LIMIT]) -> PairBox
     requires plant { IsWithinLimits p.now }
     requires table { HoldsPartsAlong p.now state table.now }
     requires state { state < length p.now.equations }
@@ -118,7 +130,13 @@ fn free_part(p: &Plant, table: &PartTable, state: u32, places: &[u32; 9]) -> Pai
 }
 
 /// Adds the parts of a state to the boxes of a cell, one for each input.
-fn add_parts(p: &Plant, table: &PartTable, state: u32, places: &[u32; 9], boxes: &mut [PairBox])
+fn add_parts(
+    p: &Plant,
+    table: &PartTable,
+    state: u32,
+    places: &[u32; PLACES_LIMIT],
+    boxes: &mut [PairBox],
+)
     requires plant { IsWithinLimits p.now }
     requires table { HoldsPartsAlong p.now state table.now }
     requires state { state < length p.now.equations }
@@ -185,12 +203,12 @@ fn add_base(base: PairBox, boxes: &mut [PairBox])
 
 /// The places of a cell along the axes, and 0 for each input variable.
 #[inline]
-fn places_of(p: &Plant, c: u32) -> [u32; 9]
+fn places_of(p: &Plant, c: u32) -> [u32; PLACES_LIMIT]
     requires plant { IsWithinLimits p.now }
     ensures { ArePlacesOf p.now c result }
 {
     let along = p.grid().places(c);
-    let mut places = [0; 9];
+    let mut places = [0; PLACES_LIMIT];
     for state in 0..p.states() {
         places[state as usize] = along[state as usize];
     }

@@ -14,7 +14,7 @@ use std::alloc::{AllocError, Global};
 /// Cells that follow one another: how far the first of them is from the first cell of their box, and
 /// how many they are.
 #[derive(Clone, Copy)]
-pub(crate) struct Run {
+pub(crate) struct ShapeRun {
     pub(crate) start: u32,
     pub(crate) len: u32,
 }
@@ -33,15 +33,15 @@ const NO_SPAN: Span = Span { from: 0, to: 0 };
 /// cell is from its first tells the shape.
 #[derive(Drop)]
 pub(crate) struct Shapes {
-    // One for each such distance.
+    /// One for each such distance.
     pub(crate) spans: Vec<Span>,
-    pub(crate) runs: Vec<Run>,
+    pub(crate) runs: Vec<ShapeRun>,
 }
 
 impl Shapes {
     /// The runs of a box.
     #[inline]
-    pub(crate) fn runs_of(&self, b: CellBox) -> &[Run]
+    pub(crate) fn runs_of(&self, b: CellBox) -> &[ShapeRun]
         requires ordered { b.first ≤ b.last }
         requires listed { IsListed self.now (b.last - b.first) }
         ensures { result.now ≡ runs_at self.now (b.last - b.first) }
@@ -92,18 +92,18 @@ pub(crate) fn find_shapes(alloc: Global, grid: &Grid, fans: &Fans) -> Result<Sha
 }
 
 /// Puts the runs of cells at the end of a list.
-fn list_runs(mut cells: Runs, runs: &mut Vec<Run>) -> Result<(), AllocError>
+fn list_runs(mut cells: Runs, runs: &mut Vec<ShapeRun>) -> Result<(), AllocError>
     ensures { IfOk result (λ _. ListsRuns runs.old.items runs.new.items cells) }
 {
     while let Some((start, len)) = cells.next_run() {
-        runs.push(Run { start, len })?;
+        runs.push(ShapeRun { start, len })?;
     }
     Ok(())
 }
 
 /// Whether each cell of runs, counted from a first cell, passes a test.
 #[inline]
-pub(crate) fn all_pass<T: CellTest>(first: u32, runs: &[Run], test: &T) -> bool
+pub(crate) fn all_pass<T: CellTest>(first: u32, runs: &[ShapeRun], test: &T) -> bool
     requires within { All (EndsBy (T.cells test.now) first) runs.now }
     requires few { T.cells test.now ≤ 2 ^ 20 }
     ensures { IsTrue result ↔ All (T.passes test.now) (cells_from first runs.now) }

@@ -3,6 +3,7 @@ ghost use Rattle.std.specs.Prelude.{◌≡◌, ℕ, ◌-◌, ◌*◌, ◌/◌, �
 ghost use Rattle.std.specs.List.{All};
 ghost use Rattle.grid_quantiser.specs.Axes.{cells_of, AreAxes};
 ghost use Rattle.edge_rows.specs.Rows.{row_at};
+ghost use Rattle.abstraction_table.specs.declared.sources.TheConstants.{BANDS_LIMIT};
 ghost use Rattle.abstraction_table.specs.inside.Shapes.{HaveRuns};
 ghost use Rattle.abstraction_table.specs.inside.Sources.{IsBox, AreBandRows, AreSourceBands, band_of};
 ghost use Rattle.abstraction_table.specs.inside.Tallies.{edges_of};
@@ -104,7 +105,7 @@ pub(crate) fn find_sources<R: Threads + Sync>(
 /// there are more bands, so that the places at which a band's rows go on stay in fast memory.
 fn band_size<R: Threads>(rt: &R, cells: u32, pairs: usize, edges: u64) -> u32
     ensures some { 1 ≤ result }
-    ensures few { cells ≤ 32 * result }
+    ensures few { cells ≤ BANDS_LIMIT * result }
 {
     let pairs = pairs as u64;
     if edges / WIDE_FAN >= pairs {
@@ -118,10 +119,10 @@ fn band_size<R: Threads>(rt: &R, cells: u32, pairs: usize, edges: u64) -> u32
     part_of(cells, most.min(current_num_threads(rt) as u64))
 }
 
-/// How many cells a band has where there are so many, 32 at most.
+/// How many cells a band has where there are so many bands, `BANDS_LIMIT` at most.
 fn part_of(cells: u32, bands: u64) -> u32
     ensures some { 1 ≤ result }
-    ensures few { cells ≤ 32 * result }
+    ensures few { cells ≤ BANDS_LIMIT * result }
 {
     let bands = bands.clamp(1, BANDS_LIMIT) as u32;
     cells.div_ceil(bands).max(1)

@@ -4,16 +4,16 @@ use Rattle.std.specs.List.{All, flat_map, range_with_len}
 use Rattle.grid_quantiser.specs.declared.axis.Axis.{Axis}
 use Rattle.grid_quantiser.specs.declared.boxes.CellBox.{CellBox}
 use Rattle.grid_quantiser.specs.Boxes.{cells_between}
-use Rattle.abstraction_table.specs.declared.shapes.Run.{Run}
+use Rattle.abstraction_table.specs.declared.shapes.ShapeRun.{ShapeRun}
 use Rattle.abstraction_table.specs.declared.shapes.Span.{Span}
 use Rattle.abstraction_table.specs.declared.shapes.Shapes.{Shapes}
 
 -- the cells of runs, counted from a first cell
-abbrev pub cells_from : ℕ → List Run → List ℕ
-cells_from first runs = flat_map (λ (r : Run). range_with_len (first + r.start) r.len) runs
+abbrev pub cells_from : ℕ → List ShapeRun → List ℕ
+cells_from first runs = flat_map (λ (r : ShapeRun). range_with_len (first + r.start) r.len) runs
 
 -- the cells of a run, counted from a first cell, end by a bound
-abbrev pub EndsBy : ℕ → ℕ → Run → Type 0
+abbrev pub EndsBy : ℕ → ℕ → ShapeRun → Type 0
 EndsBy bound first r = first + r.start + r.len ≤ bound
 
 -- where the runs of a shape stand
@@ -21,7 +21,7 @@ abbrev pub span_at : Shapes → ℕ → Span
 span_at s extent = slice_index_or s.spans.items extent (record { from = 0; to = 0 })
 
 -- the runs of a shape
-abbrev pub runs_at : Shapes → ℕ → List Run
+abbrev pub runs_at : Shapes → ℕ → List ShapeRun
 runs_at s extent = take ((span_at s extent).to - (span_at s extent).from) (drop (span_at s extent).from s.runs.items)
 
 -- The runs of a shape stand among those of all.
@@ -33,14 +33,14 @@ pub record IsListed (s : Shapes) (extent : ℕ) : Type 0 where
 -- The runs of a shape are those of the box of that shape whose first cell is the first of all.
 pub record HasRunsAt (axes : List Axis) (s : Shapes) (extent : ℕ) : Type 0 where
   pub listed : IsListed s extent
-  pub some : All (λ (r : Run). 1 ≤ r.len) (runs_at s extent)
+  pub some : All (λ (r : ShapeRun). 1 ≤ r.len) (runs_at s extent)
   pub cells : cells_between axes 0 extent ≡ cells_from 0 (runs_at s extent)
 
 -- The runs of the shape of a box are those of the box, counted from its first cell.
 pub record HasRunsOf (axes : List Axis) (s : Shapes) (b : CellBox) : Type 0 where
   pub ordered : b.first ≤ b.last
   pub listed : IsListed s (b.last - b.first)
-  pub some : All (λ (r : Run). 1 ≤ r.len) (runs_at s (b.last - b.first))
+  pub some : All (λ (r : ShapeRun). 1 ≤ r.len) (runs_at s (b.last - b.first))
   pub cells : cells_between axes b.first b.last ≡ cells_from b.first (runs_at s (b.last - b.first))
 
 -- each box has its runs
@@ -56,9 +56,9 @@ abbrev pub KeepsRuns : List Axis → Shapes → Shapes → Type 0
 KeepsRuns axes before after = (extent : ℕ) → HasRunsAt axes before extent → HasRunsAt axes after extent
 
 -- The runs of cells were put behind those before.
-pub record ListsRuns (before after : List Run) (cells : List ℕ) : Type 0 where
-  pub more : List Run
+pub record ListsRuns (before after : List ShapeRun) (cells : List ℕ) : Type 0 where
+  pub more : List ShapeRun
   pub behind : after ≡ before ++ more
-  pub some : All (λ (r : Run). 1 ≤ r.len) more
+  pub some : All (λ (r : ShapeRun). 1 ≤ r.len) more
   pub parts : cells ≡ cells_from 0 more
   pub few : length more ≤ length cells

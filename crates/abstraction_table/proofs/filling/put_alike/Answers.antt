@@ -1,5 +1,5 @@
 use Rattle.std.proofs.Common.{◌+◌, ◌≤◌, length, get_or, sym, subst, arith}
-use Rattle.abstraction_table.specs.declared.shapes.Run.{Run}
+use Rattle.abstraction_table.specs.declared.shapes.ShapeRun.{ShapeRun}
 use Rattle.abstraction_table.specs.inside.Tallies.{ArePut, HasRoomFor}
 use Rattle.abstraction_table.proofs.Tallying.{put_more, put_run, run_has_room, room_left}
 use Rattle.abstraction_table.proofs.ShapeRuns.{no_run, one_run_more, runs_split}
@@ -7,7 +7,7 @@ use Rattle.abstraction_table.proofs.filling.put_alike.Goals as goal
 
 pub put_run_of-requires-clause-room : goal.put_run_of-requires-clause-room
 put_run_of-requires-clause-room g c =
-    let run : Run = get_or c.args.runs.now c.loop-run.run-index no_run in
+    let run : ShapeRun = get_or c.args.runs.now c.loop-run.run-index no_run in
     let fill = c.loop-run.fill in
     let within : c.args.first + run.start + run.len ≤ length fill.rows = omega (arith, c.requires.within c.loop-run.run-index no_run c.loop-run-test.true, c.loop-run.invariant.long) in
     let split = runs_split c.args.first c.args.runs.now c.loop-run.run-index no_run c.loop-run-test.true in
@@ -16,7 +16,7 @@ put_run_of-requires-clause-room g c =
 
 pub loop-run-preserved : goal.loop-run-preserved
 loop-run-preserved g c =
-    let run : Run = get_or c.args.runs.now c.loop-run.run-index no_run in
+    let run : ShapeRun = get_or c.args.runs.now c.loop-run.run-index no_run in
     let before = c.args.fill.now in
     let fill = c.loop-run.fill in
     let after = c.put_run_of.new.fill in

@@ -1,11 +1,9 @@
-use Rattle.std.proofs.Common.{◌≡◌, ℕ, ◌<◌, ◌≤◌, length, get_or, None}
+use Rattle.std.proofs.Common.{ℕ, Option, None}
+use Rattle.grid_quantiser.specs.declared.boxes.CellBox.{CellBox}
 use Rattle.abstraction_table.specs.inside.Sums.{plus}
+use Rattle.abstraction_table.proofs.ChangedElements.{AreChangedBelow}
 use Rattle.abstraction_table.proofs.rows.add_base.Given as goal
 
--- it is added to the first boxes, and the others are as they were
+-- it is added to the first boxes
 abbrev pub invariant-loop-i : goal.invariant-loop-i
-invariant-loop-i l = record {
-  long : length l.boxes ≡ length l.fn.boxes;
-  added : (u : ℕ) → u < l.i → get_or l.boxes u None ≡ plus l.base (get_or l.fn.boxes u None);
-  left : (u : ℕ) → l.i ≤ u → get_or l.boxes u None ≡ get_or l.fn.boxes u None;
-}
+invariant-loop-i l = AreChangedBelow (λ (u : ℕ) (b : Option CellBox). plus l.base b) None l.i l.fn.boxes l.boxes

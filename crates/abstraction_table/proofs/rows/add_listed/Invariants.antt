@@ -1,11 +1,9 @@
-use Rattle.std.proofs.Common.{◌≡◌, ℕ, ◌<◌, ◌≤◌, length, get_or, None}
+use Rattle.std.proofs.Common.{ℕ, Option, None, get_or}
+use Rattle.grid_quantiser.specs.declared.boxes.CellBox.{CellBox}
 use Rattle.abstraction_table.specs.inside.Sums.{plus}
+use Rattle.abstraction_table.proofs.ChangedElements.{AreChangedBelow}
 use Rattle.abstraction_table.proofs.rows.add_listed.Given as goal
 
--- the first boxes have their parts, and the others are as they were
+-- the first boxes have their parts
 abbrev pub invariant-loop-i : goal.invariant-loop-i
-invariant-loop-i l = record {
-  long : length l.boxes ≡ length l.fn.boxes;
-  added : (u : ℕ) → u < l.i → get_or l.boxes u None ≡ plus (get_or l.fn.boxes u None) (get_or l.parts (get_or l.inputs u 0) None);
-  left : (u : ℕ) → l.i ≤ u → get_or l.boxes u None ≡ get_or l.fn.boxes u None;
-}
+invariant-loop-i l = AreChangedBelow (λ (u : ℕ) (b : Option CellBox). plus b (get_or l.parts (get_or l.inputs u 0) None)) None l.i l.fn.boxes l.boxes

@@ -1,5 +1,5 @@
 use Rattle.std.proofs.Common.{List, sym, subst}
-use Rattle.abstraction_table.specs.declared.shapes.Run.{Run}
+use Rattle.abstraction_table.specs.declared.shapes.ShapeRun.{ShapeRun}
 use Rattle.abstraction_table.proofs.ShapeRuns.{ListsSoFar, listed_none, listed_more, listed_all, left_shorter}
 use Rattle.abstraction_table.proofs.shapes.list_runs.Goals as goal
 
@@ -10,8 +10,8 @@ pub loop-start-preserved : goal.loop-start-preserved
 loop-start-preserved c =
     let left = c.loop-start.cells in
     let later = c.next_run.new.self in
-    let run : Run = record { start = c.in-Some.start; len = c.in-Some.len } in
-    subst (λ (now : List Run). ListsSoFar c.args.runs.now.items now c.args.cells later) (sym c.in_ok-push.ensures.items)
+    let run : ShapeRun = record { start = c.in-Some.start; len = c.in-Some.len } in
+    subst (λ (now : List ShapeRun). ListsSoFar c.args.runs.now.items now c.args.cells later) (sym c.in_ok-push.ensures.items)
     (listed_more c.args.runs.now.items c.loop-start.runs.items c.args.cells left later run c.loop-start.invariant c.in-Some.ensures.run)
 
 pub loop-start-smaller : goal.loop-start-smaller
