@@ -15,11 +15,13 @@ use Rattle.plant_record.proofs.lemmas.SoundPlants.{sound}
 use Rattle.successor_box.specs.Boxes.{IsEnabledAt}
 use Rattle.successor_box.proofs.Enabled.{enabled_exactly}
 use Rattle.successor_box.proofs.Padding.{point_lies}
-use Rattle.controller_table.specs.Choice.{HasRowAt}
+use Rattle.plant_record.specs.declared.aims.GoalKind.TheVariants.{Reach}
+use Rattle.controller_table.specs.Choice.{Chooses, HasRowAt}
 use Rattle.plant_record.specs.States.{LiesInSome}
 use Rattle.plant_game.proofs.GameLaws.{refines}
 use Rattle.plant_refine.specs.RightRows.{AreRightRowsOf}
 use Rattle.plant_refine.specs.inside.Descents.{HasLowerRow, LeadDown}
+use Rattle.plant_refine.proofs.Choosing.{input_of, leads_lower}
 use Rattle.plant_refine.proofs.Leading.{Guides, cell_below, clear_at, arrived_at, enabled_at, next_row}
 
 module _ (p : Description) (rows : List (Option Row)) (plant : IsPlant p) (h : AreRightRowsOf p rows) where
@@ -66,3 +68,19 @@ lead_down p rows plant h = record {
   enabled = λ x row. enabled p rows plant h x row.rank row.input;
   lower = λ x w row. lower p rows plant h x w row.rank row.input;
 }
+
+-- The input that is chosen at a state leads to lower rows.
+pub record LeadsLower (p : Description) (rows : List (Option Row)) (x : List ℤ) (u : ℕ) : Type 0 where
+  pub input : u < vectors_of p.inputs
+  pub enabled : IsEnabledAt p (cell_of (axes_of p) x) u
+  pub lower : (w y : List ℤ) (row : Row) → IsNoise p.noises w → y ≡ point_of (step_of p x u w) → HasRowAt p rows x row → HasLowerRow p rows row.rank y
+
+pub chosen_leads : (p q : Description) (rows : List (Option Row)) (x : List ℤ) (u : ℕ) → IsPlant p → AreRightRowsOf p rows → q ≡ p → p.goal ≡ Reach → Chooses q rows x u → LeadsLower p rows x u
+chosen_leads p q rows x u plant right same goal chosen =
+    let down = lead_down p rows plant right in
+    let chosen_input = input_of p q rows x u same goal chosen in
+    record {
+      input = subst (λ (v : ℕ). v < vectors_of p.inputs) chosen_input.is (down.input x chosen_input.row chosen_input.has chosen_input.some);
+      enabled = subst (IsEnabledAt p (cell_of (axes_of p) x)) chosen_input.is (down.enabled x chosen_input.row chosen_input.has chosen_input.some);
+      lower = λ w y row noise is has. leads_lower p rows x w y u row down chosen_input noise is has;
+    }

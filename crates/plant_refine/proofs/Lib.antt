@@ -9,4 +9,3 @@ pub mod Arriving
 pub mod RightTables
 pub mod KeptTables
 pub mod SolutionTables
-pub mod Noises

@@ -1,4 +1,4 @@
-// Whether a state lies in a target.
+//! Whether a state lies in a target.
 
 ghost use Rattle.std.specs.Prelude.{◌↔◌, IsTrue};
 ghost use Rattle.grid_quantiser.specs.Boxes.{IsInBox};
