@@ -23,9 +23,9 @@ impl From<AllocError> for NoMemory {
 #[derive(Drop)]
 pub struct RowFill {
     block: Block,
-    // The first place of each row, and at last the number of places.
+    /// The first place of each row, and at last the number of places.
     starts: Vec<u32>,
-    // The first place of each row that is not written.
+    /// The first place of each row that is not written.
     ends: Vec<u32>,
 }
 
@@ -41,7 +41,7 @@ impl Model for RowFill {
     ghost invariant = { IsFilling };
 }
 
-// Where rows of these lengths start, and at last where they end.
+/// Where rows of these lengths start, and at last where they end.
 fn starts_of(alloc: Global, lengths: &[u32]) -> Result<Vec<u32>, AllocError>
     requires rows { length lengths.now ≤ 2 ^ 20 }
     requires places { sum lengths.now ≤ 2 ^ 25 }
@@ -57,7 +57,7 @@ fn starts_of(alloc: Global, lengths: &[u32]) -> Result<Vec<u32>, AllocError>
     Ok(starts)
 }
 
-// Writes a value at each of these places, and goes on to the place behind each.
+/// Writes a value at each of these places, and goes on to the place behind each.
 #[inline(always)]
 fn write_each(block: &mut Block, ends: &mut [u32], value: u32)
     requires free { AreFree block.old ends.old value }

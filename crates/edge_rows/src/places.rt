@@ -69,7 +69,7 @@ unsafe impl<T, A: Allocator + Send> Send for Deed<T, A> {}
 // A `&` to it holds nothing.
 unsafe impl<T, A: Allocator> Sync for Deed<T, A> {}
 
-// A block of `len` places, all empty. It is not cleared.
+/// A block of `len` places, all empty. It is not cleared.
 pub(crate) fn allocate<T, A: Allocator>(
     alloc: &A,
     len: usize,
@@ -94,7 +94,7 @@ pub(crate) fn allocate<T, A: Allocator>(
     }
 }
 
-// What the places hold is forgotten: it needs no drop.
+/// What the places hold is forgotten: it needs no drop.
 pub(crate) fn deallocate<T, A: Allocator>(
     alloc: &A,
     base: Base<T>,
