@@ -1,3 +1,4 @@
+-- Examples that show the definitions to say what is meant; no proof cites them.
 -- The tallies of the small games, by computation.
 use Rattle.std.proofs.Common.{◌≡◌, ℕ, zero, suc, ◌<◌, ◌≤◌, true, false, refl, arith}
 use Rattle.game_core.specs.Fallen.{has_fallen}

@@ -2,12 +2,18 @@ ghost use Rattle.std.specs.Prelude.{◌≡◌, ◌^◌, ◌<◌, ◌≤◌, None
 ghost use Rattle.game_core.specs.Solution.{row_of};
 
 use crate::game::Row;
-use std::alloc::Global;
+use std::alloc::{AllocError, Global};
 use std::marker::Model;
 
 /// There was no memory left.
 #[derive(Clone, Copy, Debug, PartialEq, Eq)]
 pub struct NoMemory;
+
+impl From<AllocError> for NoMemory {
+    fn from(_refused: AllocError) -> NoMemory {
+        NoMemory
+    }
+}
 
 /// One optional row for each cell of a game.
 #[derive(Drop)]
@@ -32,10 +38,11 @@ impl Answer {
         requires { cells ≤ 2 ^ 20 }
         ensures { IfOk result (λ a. a ≡ replicate cells None) }
     {
-        let rows = vec![in alloc; None; cells as usize].map_err(|_| NoMemory)?;
+        let rows = vec![in alloc; None; cells as usize]?;
         Ok(Answer { rows })
     }
 
+    /// How many cells there are.
     pub fn cells(&self) -> u32
         ensures { result ≡ length self.now }
     {

@@ -43,7 +43,7 @@ fn live_pairs<G: Graph>(alloc: Global, g: &G) -> Result<Vec<bool>, NoMemory>
     ensures { IfOk result (λ v. v.items ≡ safe_at_first (G.game g.now)) }
 {
     let pairs = g.cells() * g.inputs();
-    let mut safe = vec![in alloc; false; pairs as usize].map_err(|_| NoMemory)?;
+    let mut safe = vec![in alloc; false; pairs as usize]?;
     for pair in 0..pairs {
         safe[pair as usize] = is_pair_live(g, pair);
     }
@@ -72,7 +72,7 @@ fn counts<G: Graph>(alloc: Global, g: &G, safe: &[bool]) -> Result<Vec<u32>, NoM
     ensures { IfOk result (λ v. v.items ≡ map (safe_pairs (G.game g.now) safe.now) (range_with_len 0 (G.game g.now).cells)) }
 {
     let cells = g.cells();
-    let mut counts = vec![in alloc; 0; cells as usize].map_err(|_| NoMemory)?;
+    let mut counts = vec![in alloc; 0; cells as usize]?;
     for c in 0..cells {
         counts[c as usize] = count_safe(g, safe, c);
     }
@@ -86,7 +86,7 @@ impl Falling {
     {
         let safe = live_pairs(alloc, g)?;
         let left = counts(alloc, g, &safe)?;
-        let order = vec![in alloc; 0; left.len()].map_err(|_| NoMemory)?;
+        let order = vec![in alloc; 0; left.len()]?;
         Ok(Falling {
             safe,
             left,

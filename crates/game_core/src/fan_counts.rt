@@ -1,4 +1,4 @@
-// With what the counters of pairs begin.
+//! With what the counters of pairs begin.
 ghost use Rattle.std.specs.Prelude.{◌≡◌, map, length, IfOk};
 
 use crate::answer::NoMemory;
@@ -10,7 +10,7 @@ pub fn fans<G: Forward>(alloc: Global, g: &G) -> Result<Vec<u64>, NoMemory>
     ensures { IfOk result (λ v. v.items ≡ map length (G.game g.now).successors) }
 {
     let pairs = g.cells() * g.inputs();
-    let mut fans = vec![in alloc; 0; pairs as usize].map_err(|_| NoMemory)?;
+    let mut fans = vec![in alloc; 0; pairs as usize]?;
     for pair in 0..pairs {
         fans[pair as usize] = u64::from(g.fan(pair));
     }

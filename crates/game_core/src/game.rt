@@ -45,7 +45,7 @@ pub trait Graph {
         requires at { at < length (successors_at (game self.now) pair) }
         ensures { result ≡ slice_index (successors_at (game self.now) pair) at };
 
-    /// The pairs that lead to a cell.
+    /// The pairs that lead to a cell, in rising order.
     fn sources(&self, c: u32) -> &[u32]
         requires { c < (game self.now).cells }
         ensures { AreSources (game self.now) c result.now };
@@ -64,8 +64,8 @@ pub trait CellTest {
         ensures { IsTrue result ↔ passes self.now c };
 }
 
-/// What may come next in a game in memory: its cells ahead, and not those from which one comes. A pair
-/// of a cell and an input has the number `cell * inputs + input`.
+/// A game in memory of which only the successors of a pair can be asked, not the pairs that lead to a cell.
+/// A pair of a cell and an input has the number `cell * inputs + input`.
 pub trait Forward {
     ghost game: { Self → Game };
 

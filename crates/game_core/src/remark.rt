@@ -13,6 +13,7 @@ pub struct Remark<'a, G: Graph> {
 }
 
 impl<'a, G: Graph> Remark<'a, G> {
+    /// The graph with these marks in place of its own, one for each cell.
     pub fn new(graph: &'a G, marks: &'a [Mark]) -> Remark<'a, G>
         requires { length marks.now ≡ (G.game graph.now).cells }
         ensures { ⟦<Remark<'a, G> as Graph>⟧.game result ≡ remarked (G.game graph.now) marks.now }

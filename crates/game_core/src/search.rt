@@ -39,7 +39,7 @@ impl Search {
         let cells = g.cells();
         let left = fans(alloc, g)?;
         let answer = Answer::blank(alloc, cells)?;
-        let order = vec![in alloc; 0; cells as usize].map_err(|_| NoMemory)?;
+        let order = vec![in alloc; 0; cells as usize]?;
         Ok(Search {
             left,
             answer,

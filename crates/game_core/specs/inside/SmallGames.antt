@@ -1,4 +1,5 @@
--- Games that are small enough to be solved by hand, with their solutions and tallies.
+-- Examples that show the definitions to say what is meant; no proof cites them.
+-- The games are small enough to be solved by hand, and stand with their solutions and tallies.
 use Rattle.std.specs.Prelude.{[], ◌∷◌, List, Option, Some, None}
 use Rattle.game_core.specs.declared.game.Mark.TheVariants.{Goal, Plain}
 use Rattle.game_core.specs.declared.game.Row.{Row}
