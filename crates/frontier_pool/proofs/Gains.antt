@@ -1,10 +1,10 @@
 -- Gains of a seat and a hand, one after another.
-use Rattle.std.proofs.Common.{◌≡◌, ℕ, zero, suc, ◌<◌, List, [], ◌∷◌, ◌++◌, length, refl, sym, ap, ◌∙◌, subst, append_assoc, arith}
+use Rattle.std.proofs.Common.{◌≡◌, ℕ, ◌<◌, List, [], ◌∷◌, ◌++◌, length, refl, sym, ap, ◌∙◌, subst, append_assoc, arith}
 use Rattle.std.proofs.lemmas.List.{append-nil}
-use Rattle.std.proofs.lemmas.List.Elements.{All-nil, All-cons, All-append}
+use Rattle.std.proofs.lemmas.List.Elements.{All-nil, All-append}
 use Rattle.frontier_pool.specs.declared.rule.Part.{Part}
-use Rattle.frontier_pool.specs.declared.rule.View.{View}
-use Rattle.frontier_pool.specs.inside.Rules.{longer, grown, claimed, Seated}
+use Rattle.frontier_pool.specs.declared.rule.SeatView.{SeatView}
+use Rattle.frontier_pool.specs.inside.Rules.{longer, grown, Seated}
 use Rattle.frontier_pool.specs.inside.Gains.{SeatOf, Gained}
 use Rattle.atomic_table.specs.Seated.{TableId}
 use Rattle.frontier_pool.specs.inside.Members.{HasAll, MayClaim}
@@ -18,11 +18,11 @@ longer-longer : (parts : List Part) (xs ys : List ℕ) → longer (longer parts 
 longer-longer [] xs ys = refl
 longer-longer (p ∷ parts) xs ys = ap (λ (zs : List ℕ). let q : Part = record { items = zs } in q ∷ parts) (append_assoc p.items xs ys)
 
-grown-nil : (v : View) → grown v [] ≡ v
-grown-nil v = ap (λ (parts : List Part). let w : View = record v { parts = parts } in w) (longer-nil v.parts)
+grown-nil : (v : SeatView) → grown v [] ≡ v
+grown-nil v = ap (λ (parts : List Part). let w : SeatView = record v { parts = parts } in w) (longer-nil v.parts)
 
-grown-grown : (v : View) (xs ys : List ℕ) → grown (grown v xs) ys ≡ grown v (xs ++ ys)
-grown-grown v xs ys = ap (λ (parts : List Part). let w : View = record v { parts = parts } in w) (longer-longer v.parts xs ys)
+grown-grown : (v : SeatView) (xs ys : List ℕ) → grown (grown v xs) ys ≡ grown v (xs ++ ys)
+grown-grown v xs ys = ap (λ (parts : List Part). let w : SeatView = record v { parts = parts } in w) (longer-longer v.parts xs ys)
 
 -- nothing
 pub gained_none : (items : ℕ) (seat : SeatOf) (did : List ℕ) → Gained items seat seat did did
@@ -31,21 +31,8 @@ gained_none items seat did = record {
   within = All-nil (λ n. n < items);
   table = refl;
   id = refl;
-  claims = ap (λ (v : View). let me : Seated = (v, seat.me.1) in me) (sym (grown-nil seat.me.0));
+  claims = ap (λ (v : SeatView). let me : Seated = (v, seat.me.1) in me) (sym (grown-nil seat.me.0));
   done = sym (append-nil did);
-}
-
--- what one claim gives
-pub gained_claim : (items n : ℕ) (was now : SeatOf) (did does : List ℕ) (found : ℕ) → n < items → now.table_id ≡ was.table_id → now.id ≡ was.id → now.me ≡ (claimed was.me.0 n found, was.me.1)
-    → (found ≡ 0 → does ≡ did ++ n ∷ []) → (0 < found → does ≡ did) → Gained items was now did does
-gained_claim items n was now did does zero there table id me one none = record { part = n ∷ []; within = All-cons (λ k. k < items) n [] there (All-nil (λ k. k < items)); table = table; id = id; claims = me; done = one refl }
-gained_claim items n was now did does (suc found) there table id me one none = record {
-  part = [];
-  within = All-nil (λ k. k < items);
-  table = table;
-  id = id;
-  claims = me ∙ ap (λ (v : View). let it : Seated = (v, was.me.1) in it) (sym (grown-nil was.me.0));
-  done = none (omega arith) ∙ sym (append-nil did);
 }
 
 -- one after another
@@ -55,7 +42,7 @@ gained_then items a b c x y z g h = record {
   within = All-append (λ n. n < items) g.part h.part g.within h.within;
   table = h.table ∙ g.table;
   id = h.id ∙ g.id;
-  claims = h.claims ∙ ap (λ (me : Seated). let it : Seated = (grown me.0 h.part, me.1) in it) g.claims ∙ ap (λ (v : View). let it : Seated = (v, a.me.1) in it) (grown-grown a.me.0 g.part h.part);
+  claims = h.claims ∙ ap (λ (me : Seated). let it : Seated = (grown me.0 h.part, me.1) in it) g.claims ∙ ap (λ (v : SeatView). let it : Seated = (v, a.me.1) in it) (grown-grown a.me.0 g.part h.part);
   done = h.done ∙ ap (λ l. l ++ h.part) g.done ∙ append_assoc x g.part h.part;
 }
 

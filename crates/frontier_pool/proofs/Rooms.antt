@@ -4,7 +4,7 @@ use Rattle.atomic_table.specs.Seated.{TableId}
 use Rattle.frontier_pool.specs.declared.member.Member.{Member}
 use Rattle.frontier_pool.specs.declared.member.Room.{Room}
 use Rattle.frontier_pool.specs.declared.rule.Part.{Part}
-use Rattle.frontier_pool.specs.declared.rule.View.{View}
+use Rattle.frontier_pool.specs.declared.rule.SeatView.{SeatView}
 use Rattle.frontier_pool.specs.inside.Rules.{Seated, no_items, one_more, collected}
 use Rattle.frontier_pool.specs.inside.Gains.{SeatOf}
 use Rattle.frontier_pool.specs.inside.Members.{IsCaller, IsSeat, HasSeat, IsSeated}
@@ -16,7 +16,7 @@ caller_deals table n parts was now c there id me = record {
   at = there ∙ c.at;
   first = id ∙ c.first;
   me = me ∙ ap (λ (it : Seated). let next : Seated = (one_more it.0, it.1) in next) c.me
-      ∙ (let same : 1 + n + 1 ≡ 1 + (n + 1) = omega arith in ap (λ (k : ℕ). let v : View = record { made = k; parts = parts } in let it : Seated = (v, []) in it) same);
+      ∙ (let same : 1 + n + 1 ≡ 1 + (n + 1) = omega arith in ap (λ (k : ℕ). let v : SeatView = record { made = k; parts = parts } in let it : Seated = (v, []) in it) same);
 }
 
 -- a member's seat is joined
@@ -26,7 +26,7 @@ caller_collects table made parts more was now other c there id me all = record {
   at = there ∙ c.at;
   first = id ∙ c.first;
   me = me ∙ ap (λ (it : Seated). let next : Seated = (collected it.0 other.me.0, it.1) in next) c.me
-      ∙ ap (λ (ps : List Part). let v : View = record { made = made; parts = no_items ∷ ps } in let it : Seated = (v, []) in it) (sym all);
+      ∙ ap (λ (ps : List Part). let v : SeatView = record { made = made; parts = no_items ∷ ps } in let it : Seated = (v, []) in it) (sym all);
 }
 
 -- the seat that is in a room

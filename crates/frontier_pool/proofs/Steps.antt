@@ -9,7 +9,7 @@ use Rattle.std.proofs.lemmas.List.{get_or-set_same, get_or-set_other, length-set
 use Rattle.std.proofs.lemmas.List.Sums.{sum_by-cons, sum_by-append, sum_by_push}
 use Rattle.atomic_table.specs.Table.{State, Allows, Splits, Joins, step, keeps, opening}
 use Rattle.frontier_pool.specs.declared.rule.Part.{Part}
-use Rattle.frontier_pool.specs.declared.rule.View.{View}
+use Rattle.frontier_pool.specs.declared.rule.SeatView.{SeatView}
 use Rattle.frontier_pool.specs.inside.Rules.{Keeps, times, times_in, claims, part_count, made_of, first_view, fresh, nobody, one_more, collected, grown, claimed, Seated, Claims, IsAlone, Settles}
 use Rattle.frontier_pool.proofs.Sums.{sum_by-replaced, within-set, zeros_read, times_in-longer, times-itself, times-other, length-longer}
 
@@ -22,32 +22,32 @@ begins items = record {
   once = λ n. let none : slice_index (replicate items 0) n ≡ 0 = zeros_read items n in omega arith;
 }
 
-made-set : (views : List View) (id : ℕ) (v w : View) → get_elem? views id ≡ some v → w.made ≡ v.made → made_of (set views id w) ≡ made_of views
+made-set : (views : List SeatView) (id : ℕ) (v w : SeatView) → get_elem? views id ≡ some v → w.made ≡ v.made → made_of (set views id w) ≡ made_of views
 made-set [] id v w at same = refl
-made-set (x ∷ xs) zero v w at same = same ∙ ap (λ (u : View). u.made) (sym (some-injective x v at))
+made-set (x ∷ xs) zero v w at same = same ∙ ap (λ (u : SeatView). u.made) (sym (some-injective x v at))
 made-set (x ∷ xs) (suc id) v w at same = refl
 
-made-first : (views : List View) (id : ℕ) (v : View) → id ≡ 0 → get_elem? views id ≡ some v → made_of views ≡ v.made
+made-first : (views : List SeatView) (id : ℕ) (v : SeatView) → id ≡ 0 → get_elem? views id ≡ some v → made_of views ≡ v.made
 made-first [] id v first at = absurd (some-ne-none v (sym at))
-made-first (x ∷ xs) zero v first at = ap (λ (u : View). u.made) (some-injective x v at)
+made-first (x ∷ xs) zero v first at = ap (λ (u : SeatView). u.made) (some-injective x v at)
 made-first (x ∷ xs) (suc id) v first at = absurd (omega arith)
 
-made-set_first : (views : List View) (id : ℕ) (v w : View) → id ≡ 0 → get_elem? views id ≡ some v → made_of (set views id w) ≡ w.made
+made-set_first : (views : List SeatView) (id : ℕ) (v w : SeatView) → id ≡ 0 → get_elem? views id ≡ some v → made_of (set views id w) ≡ w.made
 made-set_first [] id v w first at = absurd (some-ne-none v (sym at))
 made-set_first (x ∷ xs) zero v w first at = refl
 made-set_first (x ∷ xs) (suc id) v w first at = absurd (omega arith)
 
-made-set_other : (views : List View) (id : ℕ) (w : View) → id ≢ 0 → made_of (set views id w) ≡ made_of views
+made-set_other : (views : List SeatView) (id : ℕ) (w : SeatView) → id ≢ 0 → made_of (set views id w) ≡ made_of views
 made-set_other [] id w other = refl
 made-set_other (x ∷ xs) zero w other = absurd (other refl)
 made-set_other (x ∷ xs) (suc id) w other = refl
 
-made-push : (views : List View) (id : ℕ) (v w : View) → get_elem? views id ≡ some v → made_of (views ++ w ∷ []) ≡ made_of views
+made-push : (views : List SeatView) (id : ℕ) (v w : SeatView) → get_elem? views id ≡ some v → made_of (views ++ w ∷ []) ≡ made_of views
 made-push [] id v w at = absurd (some-ne-none v (sym at))
 made-push (x ∷ xs) id v w at = refl
 
 -- the rule after a step that changes a word and a view alike
-keeps_after : (items : ℕ) (s : State (Unit {0}) View) (i x id : ℕ) (v w : View) → Keeps items s → get_elem? s.views id ≡ some v → w.made ≡ v.made → part_count w ≡ part_count v → x ≤ 1
+keeps_after : (items : ℕ) (s : State (Unit {0}) SeatView) (i x id : ℕ) (v w : SeatView) → Keeps items s → get_elem? s.views id ≡ some v → w.made ≡ v.made → part_count w ≡ part_count v → x ≤ 1
     → ((n : ℕ) → slice_index (set s.words i x) n + claims n v ≡ slice_index s.words n + claims n w)
     → Keeps items (record { words = set s.words i x; homes = s.homes; views = set s.views id w })
 keeps_after items s i x id v w h at made parts small moved = record {
@@ -58,15 +58,11 @@ keeps_after items s i x id v w h at made parts small moved = record {
 }
 
 -- a claim counts for its item alone
-pub claimed_itself : (n : ℕ) (v : View) (found : ℕ) → 0 < length v.parts → claims n v ≡ found → found ≤ 1 → claims n (claimed v n found) ≡ 1
+pub claimed_itself : (n : ℕ) (v : SeatView) (found : ℕ) → 0 < length v.parts → claims n v ≡ found → found ≤ 1 → claims n (claimed v n found) ≡ 1
 claimed_itself n v zero some_part is small = omega (arith, times_in-longer n v.parts (n ∷ []) some_part, times-itself n)
 claimed_itself n v (suc found) some_part is small = omega arith
 
-pub claimed_other : (n k : ℕ) (v : View) (found : ℕ) → 0 < length v.parts → k ≢ n → claims n (claimed v k found) ≡ claims n v
-claimed_other n k v zero some_part apart = omega (arith, times_in-longer n v.parts (k ∷ []) some_part, times-other n k apart)
-claimed_other n k v (suc found) some_part apart = refl
-
-claim_keeps : (items : ℕ) (s : State (Unit {0}) View) (i id : ℕ) (v : View) (found : ℕ) → Keeps items s → get_elem? s.views id ≡ some v → 0 < length v.parts → i < items → slice_index s.words i ≡ found
+claim_keeps : (items : ℕ) (s : State (Unit {0}) SeatView) (i id : ℕ) (v : SeatView) (found : ℕ) → Keeps items s → get_elem? s.views id ≡ some v → 0 < length v.parts → i < items → slice_index s.words i ≡ found
     → Keeps items (record { words = set s.words i (max found 1); homes = s.homes; views = set s.views id (claimed v i found) })
 claim_keeps items s i id v zero h at some_part there is =
     let inside : i < length s.words = let width = h.width in omega arith in
@@ -94,7 +90,7 @@ claim_allowed items slots id i me some_part there s h home at small =
     (claimed me.0 i found, keeps, tt, claim_keeps items s i id me.0 found h at some_part there refl, refl)
 
 -- a view without a part has no item
-nothing_else : (n : ℕ) (views : List View) → sum_by part_count views ≡ 0 → sum_by (claims n) views ≡ 0
+nothing_else : (n : ℕ) (views : List SeatView) → sum_by part_count views ≡ 0 → sum_by (claims n) views ≡ 0
 nothing_else n [] none_left = refl
 nothing_else n (v ∷ views) none_left =
     let sums = sum_by-cons part_count v views in
@@ -103,17 +99,17 @@ nothing_else n (v ∷ views) none_left =
     omega (arith, sum_by-cons (claims n) v views, nothing_else n views (omega arith))
 
 -- where the caller has all parts, they have all items
-all_here : (items : ℕ) (s : State (Unit {0}) View) (id n : ℕ) (v : View) → Keeps items s → id ≡ 0 → get_elem? s.views id ≡ some v → IsAlone v → claims n v ≡ slice_index s.words n
+all_here : (items : ℕ) (s : State (Unit {0}) SeatView) (id n : ℕ) (v : SeatView) → Keeps items s → id ≡ 0 → get_elem? s.views id ≡ some v → IsAlone v → claims n v ≡ slice_index s.words n
 all_here items s id n v h first at alone = cases s.views refl
   where
-    cases : (views : List View) → s.views ≡ views → claims n v ≡ slice_index s.words n
+    cases : (views : List SeatView) → s.views ≡ views → claims n v ≡ slice_index s.words n
     cases [] is = absurd (some-ne-none v (sym at ∙ ap (λ vs. get_elem? vs id) is))
     cases (caller ∷ members) is =
         let at_front : get_elem? (caller ∷ members) 0 ≡ some v = sym (ap (λ vs. get_elem? vs 0) is) ∙ ap (get_elem? s.views) (sym first) ∙ at in
         let same : caller ≡ v = some-injective caller v at_front in
         let made : v.made ≡ sum_by part_count s.views = sym (made-first s.views id v first at) ∙ h.made in
-        let parts : sum_by part_count s.views ≡ part_count v + sum_by part_count members = ap (sum_by part_count) is ∙ sum_by-cons part_count caller members ∙ ap (λ (u : View). part_count u + sum_by part_count members) same in
-        let items : sum_by (claims n) s.views ≡ claims n v + sum_by (claims n) members = ap (sum_by (claims n)) is ∙ sum_by-cons (claims n) caller members ∙ ap (λ (u : View). claims n u + sum_by (claims n) members) same in
+        let parts : sum_by part_count s.views ≡ part_count v + sum_by part_count members = ap (sum_by part_count) is ∙ sum_by-cons part_count caller members ∙ ap (λ (u : SeatView). part_count u + sum_by part_count members) same in
+        let items : sum_by (claims n) s.views ≡ claims n v + sum_by (claims n) members = ap (sum_by (claims n)) is ∙ sum_by-cons (claims n) caller members ∙ ap (λ (u : SeatView). claims n u + sum_by (claims n) members) same in
         omega (arith, h.counted n, nothing_else n members (omega arith))
 
 pub settle_allowed : (items slots id i : ℕ) (me : Seated) → id ≡ 0 → 0 < length me.0.parts → i < items → Allows (Keeps items) slots id me i (λ m. max m 1) (Settles (step slots i 1 0 none) me)
@@ -127,7 +123,7 @@ settle_allowed items slots id i me first some_part there s h home at small =
     )
 
 -- one more member
-pub deal_splits : (items id : ℕ) (v : View) → id ≡ 0 → Splits {S = Unit {0}} (Keeps items) id v (one_more v) fresh
+pub deal_splits : (items id : ℕ) (v : SeatView) → id ≡ 0 → Splits {S = Unit {0}} (Keeps items) id v (one_more v) fresh
 deal_splits items id v first s h at =
     let views = set s.views id (one_more v) in
     let one : part_count fresh ≡ 1 = refl in
@@ -144,13 +140,13 @@ deal_splits items id v first s h at =
       once = h.once;
     }
   where
-    made-pushed : (views : List View) (k : ℕ) (w u : View) → k ≡ 0 → get_elem? views k ≡ some v → made_of (set views k w ++ u ∷ []) ≡ w.made
+    made-pushed : (views : List SeatView) (k : ℕ) (w u : SeatView) → k ≡ 0 → get_elem? views k ≡ some v → made_of (set views k w ++ u ∷ []) ≡ w.made
     made-pushed [] k w u front at = absurd (some-ne-none v (sym at))
     made-pushed (x ∷ xs) zero w u front at = refl
     made-pushed (x ∷ xs) (suc k) w u front at = absurd (omega arith)
 
 -- a member is collected
-pub collect_joins : (items id other : ℕ) (v w : View) → id ≡ 0 → Joins {S = Unit {0}} (Keeps items) id v other w (collected v w) nobody
+pub collect_joins : (items id other : ℕ) (v w : SeatView) → id ≡ 0 → Joins {S = Unit {0}} (Keeps items) id v other w (collected v w) nobody
 collect_joins items id other v w first s h at apart there =
     let views = set s.views id (collected v w) in
     let bare : part_count nobody ≡ 0 = refl in

@@ -1,4 +1,4 @@
-// What the caller of a sweep does before its members work, and after.
+//! What the caller of a sweep does before its members work, and after.
 ghost use Rattle.std.specs.Prelude.{◌≡◌, ℕ, ◌+◌, ◌<◌, [], ◌∷◌, length, All, IfOk};
 ghost use Rattle.frontier_pool.specs.Sweeps.{IsIdle};
 ghost use Rattle.frontier_pool.specs.inside.Rules.{no_items, times_in};
@@ -8,17 +8,17 @@ ghost use Rattle.frontier_pool.specs.inside.Members.{IsCaller, HasDealt, HasAll,
 use crate::gate::Gate;
 use crate::member::{Member, Room};
 use crate::round::Round;
-use crate::rule::{Collecting, Dealing, Once, Settling, View};
+use crate::rule::{Once, SeatCollecting, SeatDealing, SeatView, Settling};
 use crate::toil::Toil;
 use atomic_table::{Seat, Shared, Table};
 use crossbeam_deque::{Stealer, Worker};
 use std::alloc::{AllocError, Global};
 
-// A table with a word for each item, all 0, and the caller's seat.
+/// A table with a word for each item, all 0, and the caller's seat.
 pub(crate) fn open(
     alloc: Global,
     items: u32,
-) -> Result<(Table<(), View, u32, Once, Global>, Seat<(), View>), AllocError>
+) -> Result<(Table<(), SeatView, u32, Once, Global>, Seat<(), SeatView>), AllocError>
     ensures told { IfOk result (λ t. t.0.shared.key ≡ items) }
     ensures width { IfOk result (λ t. t.0.shared.table_id.words ≡ items) }
     ensures caller { IfOk result (λ t. IsCaller t.0.shared.table_id 1 (no_items ∷ []) t.1) }
@@ -27,11 +27,11 @@ pub(crate) fn open(
     Table::of_words(alloc, zeros.as_slice(), &items)
 }
 
-// Gives each member a seat and a deque with room for its share, and makes a stealer for each deque.
+/// Gives each member a seat and a deque with room for its share, and makes a stealer for each deque.
 pub(crate) fn fill_rooms<H>(
     alloc: Global,
-    claimed: &Shared<(), View, u32, Once>,
-    caller: &mut Seat<(), View>,
+    claimed: &Shared<(), SeatView, u32, Once>,
+    caller: &mut Seat<(), SeatView>,
     members: &mut [Member<H>],
     share: usize,
 ) -> Result<Vec<Stealer<u32>>, AllocError>
@@ -48,11 +48,11 @@ pub(crate) fn fill_rooms<H>(
     Ok(stealers)
 }
 
-// Gives a member a seat and a deque with room for its share, and makes a stealer for the deque.
+/// Gives a member a seat and a deque with room for its share, and makes a stealer for the deque.
 fn fill_room<H>(
     alloc: Global,
-    claimed: &Shared<(), View, u32, Once>,
-    caller: &mut Seat<(), View>,
+    claimed: &Shared<(), SeatView, u32, Once>,
+    caller: &mut Seat<(), SeatView>,
     member: &mut Member<H>,
     share: usize,
 ) -> Result<Stealer<u32>, AllocError>
@@ -65,15 +65,15 @@ fn fill_room<H>(
 {
     let own = Worker::new_fifo(alloc, share)?;
     let stealer = own.stealer()?;
-    let seat = claimed.split_seat::<Dealing>(caller);
+    let seat = claimed.split_seat::<SeatDealing>(caller);
     member.settle(Room { seat, own });
     Ok(stealer)
 }
 
-// Takes each member's room back: its deque is dropped, and its seat joined with the caller's.
+/// Takes each member's room back: its deque is dropped, and its seat joined with the caller's.
 pub(crate) fn empty_rooms<H>(
-    claimed: &Shared<(), View, u32, Once>,
-    caller: &mut Seat<(), View>,
+    claimed: &Shared<(), SeatView, u32, Once>,
+    caller: &mut Seat<(), SeatView>,
     members: &mut [Member<H>],
 )
     requires caller { IsCaller claimed.now.table_id caller.old.me.0.made (no_items ∷ []) caller.old }
@@ -86,12 +86,12 @@ pub(crate) fn empty_rooms<H>(
     for member in members.iter_mut() {
         if let Some(Room { seat, own }) = member.leave() {
             drop(own);
-            claimed.join_seat::<Collecting>(caller, seat);
+            claimed.join_seat::<SeatCollecting>(caller, seat);
         }
     }
 }
 
-// Empties each room.
+/// Empties each room.
 pub(crate) fn forget_rooms<H>(members: &mut [Member<H>])
     ensures hands { hands members.new ≡ hands members.old }
     ensures idle { All IsIdle members.new }
@@ -102,8 +102,8 @@ pub(crate) fn forget_rooms<H>(members: &mut [Member<H>])
 }
 
 impl<T: Toil, G: Gate> Round<'_, T, G> {
-    // The caller claims every item, once all seats are joined, and does what nobody has done.
-    pub(crate) fn finish(&self, caller: &mut Seat<(), View>, hand: &mut T::Hand)
+    /// The caller claims every item, once all seats are joined, and does what nobody has done.
+    pub(crate) fn finish(&self, caller: &mut Seat<(), SeatView>, hand: &mut T::Hand)
         requires caller { HasAll self.now.claimed.now.table_id caller.old }
         requires sound { T.sound self.now.toil.now hand.old }
         ensures gained { Gained self.now.items caller.old caller.new (T.done hand.old) (T.done hand.new) }
@@ -115,7 +115,7 @@ impl<T: Toil, G: Gate> Round<'_, T, G> {
         }
     }
 
-    fn finish_one(&self, item: u32, caller: &mut Seat<(), View>, hand: &mut T::Hand)
+    fn finish_one(&self, item: u32, caller: &mut Seat<(), SeatView>, hand: &mut T::Hand)
         requires item { item < self.now.items }
         requires caller { HasAll self.now.claimed.now.table_id caller.old }
         requires sound { T.sound self.now.toil.now hand.old }

@@ -1,4 +1,4 @@
-// What stands before each item.
+//! What stands before each item.
 
 /// A gate that a worker passes before each item, for tests that hold workers up.
 pub trait Gate: Sync {

@@ -1,15 +1,15 @@
-// A hand, and room for what it needs during a sweep.
+//! A hand, and room for what it needs during a sweep.
 ghost use Rattle.std.specs.Prelude.{◌≡◌, None, Some};
 ghost use Rattle.frontier_pool.specs.Sweeps.{IsIdle};
 
-use crate::rule::View;
+use crate::rule::SeatView;
 use atomic_table::Seat;
 use crossbeam_deque::Worker;
 
 /// What a member has during a sweep: the seat by which it claims, and its own deque. Sweeps alone make one.
 #[derive(Drop)]
 pub struct Room {
-    pub(crate) seat: Seat<(), View>,
+    pub(crate) seat: Seat<(), SeatView>,
     pub(crate) own: Worker<u32>,
 }
 
@@ -39,7 +39,7 @@ impl<H> Member<H> {
         hand
     }
 
-    // Fills the room.
+    /// Fills the room.
     pub(crate) fn settle(&mut self, room: Room)
         ensures hand { self.new.hand ≡ self.old.hand }
         ensures room { self.new.room ≡ Some room }
@@ -47,7 +47,7 @@ impl<H> Member<H> {
         self.room = Some(room);
     }
 
-    // Empties the room.
+    /// Empties the room.
     pub(crate) fn leave(&mut self) -> Option<Room>
         ensures room { result ≡ self.old.room }
         ensures hand { self.new.hand ≡ self.old.hand }

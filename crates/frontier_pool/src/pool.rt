@@ -1,5 +1,5 @@
-// A sweep, and how many hands a round is worth.
-ghost use Rattle.std.specs.Prelude.{◌≡◌, ℕ, ◌+◌, ◌/◌, ◌<◌, ◌≤◌, [], ◌∷◌, length, map, min, max, All, OnOk, OnErr};
+//! A sweep, and how many hands a round is worth.
+ghost use Rattle.std.specs.Prelude.{◌≡◌, ◌+◌, ◌/◌, ◌<◌, ◌≤◌, [], ◌∷◌, length, map, min, max, All, OnOk, OnErr};
 ghost use Rattle.frontier_pool.specs.Sweeps.{Sweeps, IsIdle};
 ghost use Rattle.frontier_pool.specs.inside.Rules.{no_items};
 ghost use Rattle.frontier_pool.specs.inside.Members.{IsCaller, IsReady, Worked, HaveWorked, hands};
@@ -8,7 +8,7 @@ use crate::caller::{empty_rooms, fill_rooms, forget_rooms, open};
 use crate::gate::Gate;
 use crate::member::Member;
 use crate::round::Round;
-use crate::rule::View;
+use crate::rule::SeatView;
 use crate::serial::one_by_one;
 use crate::toil::Toil;
 use atomic_table::Seat;
@@ -16,7 +16,7 @@ use std::alloc::{AllocError, Global};
 use std::thread;
 use std::thread::Threads;
 
-// Fewer steps a hand aren't worth a thread.
+/// Fewer steps a hand aren't worth a thread.
 const STEPS_A_HAND: u64 = 10_000;
 
 /// How many hands a round is worth whose items take about so many short steps in all: in round 0 as many as there are
@@ -65,7 +65,7 @@ pub fn sweep<R: Threads + Sync, T: Toil, G: Gate>(
     }
 }
 
-// The first hand does all items.
+/// The first hand does all items.
 fn do_all<T: Toil, G: Gate>(toil: &T, members: &mut [Member<T::Hand>], items: u32, gate: &G)
     requires some { 0 < length members.old }
     requires sound { All (λ m. T.sound toil.now m.hand) members.old }
@@ -79,7 +79,7 @@ fn do_all<T: Toil, G: Gate>(toil: &T, members: &mut [Member<T::Hand>], items: u3
     one_by_one(toil, &mut first.hand, items, gate);
 }
 
-// The members do the items beside one another. Where there is no memory for that, nothing is done.
+/// The members do the items beside one another. Where there is no memory for that, nothing is done.
 fn share_out<R: Threads + Sync, T: Toil, G: Gate>(
     rt: &R,
     alloc: Global,
@@ -113,11 +113,11 @@ fn share_out<R: Threads + Sync, T: Toil, G: Gate>(
     Ok(())
 }
 
-// The members do what they find, and the caller takes their rooms back and does the rest.
+/// The members do what they find, and the caller takes their rooms back and does the rest.
 fn hold_round<R: Threads + Sync, T: Toil, G: Gate>(
     rt: &R,
     round: &Round<'_, T, G>,
-    caller: &mut Seat<(), View>,
+    caller: &mut Seat<(), SeatView>,
     members: &mut [Member<T::Hand>],
 )
     requires count { (length members.old ≡ round.now.members) × (length members.old ≤ 64) }
@@ -135,7 +135,7 @@ fn hold_round<R: Threads + Sync, T: Toil, G: Gate>(
     round.finish(caller, &mut first.hand);
 }
 
-// All members work, each in a thread where one can be made.
+/// All members work, each in a thread where one can be made.
 fn work_all<R: Threads + Sync, T: Toil, G: Gate>(
     rt: &R,
     round: &Round<'_, T, G>,

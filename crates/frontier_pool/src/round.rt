@@ -1,23 +1,23 @@
-// A sweep as its members see it, and what one of them does.
+//! A sweep as its members see it, and what one of them does.
 ghost use Rattle.std.specs.Prelude.{◌≡◌, ◌<◌, ◌≤◌};
 ghost use Rattle.frontier_pool.specs.inside.Gains.{Gained};
 ghost use Rattle.frontier_pool.specs.inside.Members.{IsReady, MayClaim, Worked};
 
 use crate::gate::Gate;
 use crate::member::{Member, Room};
-use crate::rule::{Claiming, Once, View};
+use crate::rule::{Claiming, Once, SeatView};
 use crate::toil::Toil;
 use atomic_table::{Seat, Shared};
 use crossbeam_deque::{Steal, Stealer};
 
-// What is lent to all members.
+/// What is lent to all members.
 #[derive(Drop)]
 pub(crate) struct Round<'a, T: Toil, G: Gate> {
     pub(crate) toil: &'a T,
     pub(crate) gate: &'a G,
-    // One word an item.
-    pub(crate) claimed: &'a Shared<(), View, u32, Once>,
-    // Of each member, by its place.
+    /// One word an item.
+    pub(crate) claimed: &'a Shared<(), SeatView, u32, Once>,
+    /// Of each member, by its place.
     pub(crate) stealers: &'a Vec<Stealer<u32>>,
     pub(crate) items: u32,
     pub(crate) members: u32,
@@ -28,7 +28,7 @@ pub(crate) struct Round<'a, T: Toil, G: Gate> {
 }
 
 impl<T: Toil, G: Gate> Round<'_, T, G> {
-    // All that the member at a place does.
+    /// All that the member at a place does.
     pub(crate) fn work(&self, at: u32, member: &mut Member<T::Hand>)
         requires at { at < self.now.members }
         requires ready { IsReady self.now.claimed.now.table_id member.old }
@@ -42,7 +42,7 @@ impl<T: Toil, G: Gate> Round<'_, T, G> {
         }
     }
 
-    // Pushes its share, pops what it can, and goes once through the deques of the others.
+    /// Pushes its share, pops what it can, and goes once through the deques of the others.
     fn serve(&self, at: u32, room: &mut Room, hand: &mut T::Hand)
         requires at { at < self.now.members }
         requires seat { MayClaim self.now.claimed.now.table_id room.old.seat }
@@ -55,7 +55,7 @@ impl<T: Toil, G: Gate> Round<'_, T, G> {
         self.steal_all(at, &mut room.seat, hand);
     }
 
-    // Pushes the member's share into its own deque, and tells how many it took. What it hands back is done at once.
+    /// Pushes the member's share into its own deque, and tells how many it took. What it hands back is done at once.
     fn push_share(&self, at: u32, room: &mut Room, hand: &mut T::Hand) -> u32
         requires at { at < self.now.members }
         requires seat { MayClaim self.now.claimed.now.table_id room.old.seat }
@@ -73,7 +73,7 @@ impl<T: Toil, G: Gate> Round<'_, T, G> {
         pushed
     }
 
-    // Where the share of the member at a place begins.
+    /// Where the share of the member at a place begins.
     fn share_start(&self, at: u32) -> u32
         requires { at ≤ self.now.members }
         ensures { result ≤ self.now.items }
@@ -81,7 +81,7 @@ impl<T: Toil, G: Gate> Round<'_, T, G> {
         (u64::from(self.items) * u64::from(at) / u64::from(self.members)) as u32
     }
 
-    // Does what the member's own deque gives, so many times at most.
+    /// Does what the member's own deque gives, so many times at most.
     fn pop_own(&self, at: u32, most: u32, room: &mut Room, hand: &mut T::Hand)
         requires seat { MayClaim self.now.claimed.now.table_id room.old.seat }
         requires sound { T.sound self.now.toil.now hand.old }
@@ -96,8 +96,8 @@ impl<T: Toil, G: Gate> Round<'_, T, G> {
         }
     }
 
-    // Goes once through the deques of the others.
-    fn steal_all(&self, at: u32, seat: &mut Seat<(), View>, hand: &mut T::Hand)
+    /// Goes once through the deques of the others.
+    fn steal_all(&self, at: u32, seat: &mut Seat<(), SeatView>, hand: &mut T::Hand)
         requires seat { MayClaim self.now.claimed.now.table_id seat.old }
         requires sound { T.sound self.now.toil.now hand.old }
         ensures gained { Gained self.now.items seat.old seat.new (T.done hand.old) (T.done hand.new) }
@@ -110,12 +110,12 @@ impl<T: Toil, G: Gate> Round<'_, T, G> {
         }
     }
 
-    // Steals from a deque until that fails, as often as there are items at most.
+    /// Steals from a deque until that fails, as often as there are items at most.
     fn steal_from(
         &self,
         at: u32,
         other: &Stealer<u32>,
-        seat: &mut Seat<(), View>,
+        seat: &mut Seat<(), SeatView>,
         hand: &mut T::Hand,
     )
         requires seat { MayClaim self.now.claimed.now.table_id seat.old }
@@ -131,8 +131,8 @@ impl<T: Toil, G: Gate> Round<'_, T, G> {
         }
     }
 
-    // Does a number's item after the gate, if there is such an item and nobody has claimed it.
-    fn try_one(&self, at: u32, number: u32, seat: &mut Seat<(), View>, hand: &mut T::Hand)
+    /// Does a number's item after the gate, if there is such an item and nobody has claimed it.
+    fn try_one(&self, at: u32, number: u32, seat: &mut Seat<(), SeatView>, hand: &mut T::Hand)
         requires seat { MayClaim self.now.claimed.now.table_id seat.old }
         requires sound { T.sound self.now.toil.now hand.old }
         ensures gained { Gained self.now.items seat.old seat.new (T.done hand.old) (T.done hand.new) }

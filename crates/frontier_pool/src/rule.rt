@@ -1,24 +1,24 @@
-// The rule of the table below a sweep. It has one word an item, and a view lists the items that its seat claimed.
+//! The rule of the table below a sweep. It has one word an item, and a view lists the items that its seat claimed.
 use atomic_table::{Join, Play, Split, TableRule};
 use std::collections::LinkedList;
 
-// The items that one seat claimed, in order. No value of it is made.
+/// The items that one seat claimed, in order. No value of it is made.
 pub struct Part {
     pub items: LinkedList<u32>,
 }
 
-// No value of it is made.
-pub struct View {
-    // Of the caller how many parts were made, its own among them.
+/// What the caller or a member knows. No value of it is made.
+pub struct SeatView {
+    /// Of the caller how many parts were made, its own among them.
     pub made: u64,
-    // Of a member its part, and of the caller its own and then those that were collected.
+    /// Of a member its part, and of the caller its own and then those that were collected.
     pub parts: LinkedList<Part>,
 }
 
-// Each item is claimed at most once. The table is told how many items there are.
+/// Each item is claimed at most once. The table is told how many items there are.
 pub struct Once;
 
-impl TableRule<(), View, u32> for Once {
+impl TableRule<(), SeatView, u32> for Once {
     ghost use Rattle.frontier_pool.specs.inside.Rules.{Keeps, first_view};
 
     ghost holds = { Keeps };
@@ -26,9 +26,9 @@ impl TableRule<(), View, u32> for Once {
     ghost first = { λ items. first_view };
 }
 
-pub struct Dealing;
+pub struct SeatDealing;
 
-impl Split<View> for Dealing {
+impl Split<SeatView> for SeatDealing {
     ghost use Rattle.frontier_pool.specs.inside.Rules.{one_more, fresh};
 
     ghost left = { one_more };
@@ -36,9 +36,9 @@ impl Split<View> for Dealing {
     ghost right = { λ caller. fresh };
 }
 
-pub struct Collecting;
+pub struct SeatCollecting;
 
-impl Join<View> for Collecting {
+impl Join<SeatView> for SeatCollecting {
     ghost use Rattle.frontier_pool.specs.inside.Rules.{collected, nobody};
 
     ghost both = { collected };
@@ -48,7 +48,7 @@ impl Join<View> for Collecting {
 
 pub struct Claiming;
 
-impl Play<(), View> for Claiming {
+impl Play<(), SeatView> for Claiming {
     ghost use Rattle.frontier_pool.specs.inside.Rules.{Claims};
 
     ghost then = { Claims };
@@ -56,7 +56,7 @@ impl Play<(), View> for Claiming {
 
 pub struct Settling;
 
-impl Play<(), View> for Settling {
+impl Play<(), SeatView> for Settling {
     ghost use Rattle.frontier_pool.specs.inside.Rules.{Settles};
 
     ghost then = { Settles };

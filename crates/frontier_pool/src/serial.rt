@@ -1,4 +1,4 @@
-// All items by one hand.
+//! All items by one hand.
 ghost use Rattle.std.specs.Prelude.{◌≡◌, ◌≤◌, ◌++◌};
 ghost use Rattle.std.specs.List.{range_with_len};
 

@@ -1,4 +1,4 @@
-// The work that a sweep does.
+//! The work that a sweep does.
 
 /// A list of items, each to be done by one of several hands.
 pub trait Toil: Sync {
@@ -7,13 +7,13 @@ pub trait Toil: Sync {
     /// What one worker works with, and where it keeps what it did.
     type Hand: Send;
 
-    // What a hand has done, in order.
+    /// What a hand has done, in order.
     ghost done: { Self.Hand → List ℕ };
 
-    // That the hand may work on this toil.
+    /// That the hand may work on this toil.
     ghost sound: { Self → Self.Hand → Type 0 };
 
-    // How many items there are.
+    /// How many items there are.
     ghost count: { Self → ℕ };
 
     /// How many items there are. They are numbered from 0.

@@ -1,12 +1,12 @@
 -- What a member's work adds to its seat and to its hand.
 use Rattle.std.specs.Prelude.{◌≡◌, ℕ, ◌<◌, List, ◌++◌, All}
 use Rattle.atomic_table.specs.declared.shared.Seat.{Seat}
-use Rattle.frontier_pool.specs.declared.rule.View.{View}
+use Rattle.frontier_pool.specs.declared.rule.SeatView.{SeatView}
 use Rattle.frontier_pool.specs.inside.Rules.{grown}
 
 -- a seat of the table
 abbrev pub SeatOf : Type 0
-SeatOf = Seat (Unit {0}) View
+SeatOf = Seat (Unit {0}) SeatView
 
 -- what the seat claimed and what the hand did grew by the same items
 pub record Gained (items : ℕ) (was now : SeatOf) (did does : List ℕ) : Type 0 where

@@ -2,7 +2,7 @@
 use Rattle.std.specs.Prelude.{◌≡◌, ℕ, zero, suc, ◌+◌, ◌≤◌, ◌==◌, List, [], ◌∷◌, ◌++◌, length, slice_index, sum_by, count_by}
 use Rattle.atomic_table.specs.Table.{State, Step, Me}
 use Rattle.frontier_pool.specs.declared.rule.Part.{Part}
-use Rattle.frontier_pool.specs.declared.rule.View.{View}
+use Rattle.frontier_pool.specs.declared.rule.SeatView.{SeatView}
 
 -- how often a number stands in a list
 abbrev pub times : ℕ → List ℕ → ℕ
@@ -13,20 +13,20 @@ abbrev pub times_in : ℕ → List Part → ℕ
 times_in n parts = sum_by (λ (p : Part). times n p.items) parts
 
 -- how often a view has an item
-abbrev pub claims : ℕ → View → ℕ
+abbrev pub claims : ℕ → SeatView → ℕ
 claims n v = times_in n v.parts
 
 -- how many parts a view has
-abbrev pub part_count : View → ℕ
+abbrev pub part_count : SeatView → ℕ
 part_count v = length v.parts
 
 -- how many parts were made: the first view is the caller's
-abbrev pub made_of : List View → ℕ
+abbrev pub made_of : List SeatView → ℕ
 made_of [] = 0
 made_of (caller ∷ members) = caller.made
 
 -- the rule: there is a word for each item, all parts that were made are in the views, and each word is how often its item stands in them, at most once
-pub record Keeps (items : ℕ) (state : State (Unit {0}) View) : Type 0 where
+pub record Keeps (items : ℕ) (state : State (Unit {0}) SeatView) : Type 0 where
   pub width : length state.words ≡ items
   pub made : made_of state.views ≡ sum_by part_count state.views
   pub counted : (n : ℕ) → slice_index state.words n ≡ sum_by (claims n) state.views
@@ -37,23 +37,23 @@ abbrev pub no_items : Part
 no_items = record { items = [] }
 
 -- the caller's view of a new table
-abbrev pub first_view : View
+abbrev pub first_view : SeatView
 first_view = record { made = 1; parts = no_items ∷ [] }
 
 -- a new member's view
-abbrev pub fresh : View
+abbrev pub fresh : SeatView
 fresh = record { made = 0; parts = no_items ∷ [] }
 
 -- the view of a member that was collected
-abbrev pub nobody : View
+abbrev pub nobody : SeatView
 nobody = record { made = 0; parts = [] }
 
 -- the caller's view with one more member
-abbrev pub one_more : View → View
+abbrev pub one_more : SeatView → SeatView
 one_more v = record v { made = v.made + 1 }
 
 -- the caller's view with a member's parts
-abbrev pub collected : View → View → View
+abbrev pub collected : SeatView → SeatView → SeatView
 collected v w = record v { parts = v.parts ++ w.parts }
 
 -- the parts, of which the first has these items besides
@@ -62,24 +62,24 @@ longer [] more = []
 longer (p ∷ parts) more = record { items = p.items ++ more } ∷ parts
 
 -- the view, whose own part has these items besides
-abbrev pub grown : View → List ℕ → View
+abbrev pub grown : SeatView → List ℕ → SeatView
 grown v more = record v { parts = longer v.parts more }
 
 -- the view after a claim that found this number: the item is claimed where it found 0
-abbrev pub claimed : View → ℕ → ℕ → View
+abbrev pub claimed : SeatView → ℕ → ℕ → SeatView
 claimed v item zero = grown v (item ∷ [])
 claimed v item (suc before) = v
 
 -- what a seat knows
 abbrev pub Seated : Type 0
-Seated = Me (Unit {0}) View
+Seated = Me (Unit {0}) SeatView
 
 -- what a claim tells
 abbrev pub Claims : Step (Unit {0}) → Seated → ℕ → Seated → Type 0
 Claims s me found after = after ≡ (claimed me.0 s.word found, me.1)
 
 -- the caller has all parts that were made
-abbrev pub IsAlone : View → Type 0
+abbrev pub IsAlone : SeatView → Type 0
 IsAlone v = v.made ≡ length v.parts
 
 -- what a claim by the caller tells: where it has all parts, the item stands in them once
