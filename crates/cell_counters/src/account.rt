@@ -1,4 +1,4 @@
-// What a caller has done on a board, as contracts see it. No value of these types is made.
+//! What a caller has done on a board, as contracts see it. No value of these types is made.
 use std::collections::LinkedList;
 
 /// No value was offered. It is greater than all that may be offered.

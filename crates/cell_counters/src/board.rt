@@ -1,4 +1,4 @@
-// A board, the root of its owner, and the hands of its callers.
+//! A board, the root of its owner, and the hands of its callers.
 ghost use Rattle.std.specs.Prelude.{◌≡◌, ◌≢◌, ◌+◌, ◌^◌, ◌<◌, ◌≤◌, ◌==◌, false, ◌++◌, length, take, drop, replicate, slice_index, IfOk, Any, vec_len};
 ghost use Rattle.cell_counters.specs.Accounts.{IsLawfulCounter, IsLawfulLeast, IsLawfulLog, log_count, all_logs, cell_at};
 ghost use Rattle.cell_counters.specs.Tokens.{fresh_hand, with_cut, with_offer, with_note, new_root, hand_out, taken_in, IsLawful, Logs, filled};
@@ -30,7 +30,7 @@ impl From<AllocError> for NoMemory {
 pub struct Board {
     table: Table<(), View, Beginning, Lawful, Global>,
     counters: usize,
-    // The word that counts the logs. The places of the log follow it.
+    /// The word that counts the logs. The places of the log follow it.
     tail: usize,
     places: u32,
 }
@@ -323,7 +323,7 @@ impl Board {
     }
 }
 
-// Numbers with so many zeros behind them.
+/// Numbers with so many zeros behind them.
 fn with_zeros(mut words: Vec<u64>, zeros: usize) -> Result<Vec<u64>, AllocError>
     requires { vec_len words + zeros < 2 ^ 64 }
     ensures { IfOk result (λ all. all.items ≡ words.items ++ replicate zeros 0) }

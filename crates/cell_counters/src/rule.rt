@@ -1,30 +1,30 @@
-// The rule of the table below a board. Its words are the counters, the least words, the tail of the log and the places
-// of the log, in this order, and a view is what the root or a hand knows.
+//! The rule of the table below a board. Its words are the counters, the least words, the tail of the log and the places
+//! of the log, in this order, and a view is what the root or a hand knows.
 use crate::account::Account;
 use atomic_table::{Join, Play, Split, TableRule};
 use std::collections::LinkedList;
 use std::marker::{Brand, PhantomData};
 use std::snapshot::Snapshot;
 
-// The numbers with which the counters and the least words began, and how many places the log has. No value of it is made.
+/// The numbers with which the counters and the least words began, and how many places the log has. No value of it is made.
 pub struct Setup {
     pub starts: LinkedList<u64>,
     pub least: LinkedList<u64>,
     pub places: u32,
 }
 
-// No value of it is made.
+/// What the root or a hand knows. No value of it is made.
 pub struct View {
     pub began: Setup,
-    // How many hands the root has made.
+    /// How many hands the root has made.
     pub made: u64,
-    // Of a hand its account, and of the root those that were taken in.
+    /// Of a hand its account, and of the root those that were taken in.
     pub accounts: LinkedList<Account>,
-    // The place of the log that was drawn and is still to be stored.
+    /// The place of the log that was drawn and is still to be stored.
     pub awaits: Option<u64>,
 }
 
-// What a table is told when it is made: its counters and then its least words, and how many places its log has.
+/// What a table is told when it is made: its counters and then its least words, and how many places its log has.
 #[derive(Drop)]
 pub struct Beginning {
     pub words: Snapshot<Vec<u64>>,
@@ -78,7 +78,7 @@ impl Play<(), View> for Offering {
     ghost then = { Offers };
 }
 
-// The item that a step is to enter into the account, which is no operand of the step.
+/// The item that a step is to enter into the account, which is no operand of the step.
 pub trait Item {
     ghost use Rattle.std.specs.Prelude.{ℕ};
 
@@ -99,7 +99,7 @@ impl<I: Item> Play<(), View> for Noting<I> {
     ghost then = { Notes I.item };
 }
 
-// Draws a number of the log for the item.
+/// Draws a number of the log for the item.
 pub struct Drawing<I: Item> {
     of: PhantomData<I>,
 }
