@@ -1,4 +1,4 @@
-// The workers of a round: how they are made, do the items, and are taken in.
+//! The workers of a round: how they are made, do the items, and are taken in.
 ghost use Rattle.std.specs.Prelude.{◌≡◌, ◌+◌, ◌<◌, ◌≤◌, [], ◌++◌, length, map, reverse, All, vec_len};
 ghost use Rattle.std.specs.Vec.{vec_capacity};
 ghost use Rattle.cell_counters.specs.Tokens.{IsLawful};
@@ -12,7 +12,7 @@ use game_core::Tally;
 use std::alloc::Global;
 use std::thread::Threads;
 
-// Makes so many workers with new hands.
+/// Makes so many workers with new hands.
 pub(crate) fn deal(board: &Board, root: &mut Root, members: &mut Vec<Member<Worker>>, count: u32)
     requires root { root.old.board ≡ board.now }
     requires hands { root.old.out + count ≤ 64 }
@@ -29,9 +29,9 @@ pub(crate) fn deal(board: &Board, root: &mut Root, members: &mut Vec<Member<Work
     }
 }
 
-// The members do all items of a toil, each with exactly one of their hands, once, after the gate.
-//
-// One member does them in rising order, and takes no memory. More work beside one another as in a sweep.
+/// The members do all items of a toil, each with exactly one of their hands, once, after the gate.
+///
+/// One member does them in rising order, and takes no memory. More work beside one another as in a sweep.
 pub(crate) fn work<R: Threads + Sync, T: Toil, G: Gate>(
     rt: &R,
     alloc: Global,
@@ -54,7 +54,7 @@ pub(crate) fn work<R: Threads + Sync, T: Toil, G: Gate>(
     }
 }
 
-// Takes all hands in, the last member's first, and adds up what the workers counted.
+/// Takes all hands in, the last member's first, and adds up what the workers counted.
 pub(crate) fn take_in(
     board: &Board,
     root: &mut Root,

@@ -1,4 +1,4 @@
-// With what the counters of pairs begin.
+//! With what the counters of pairs begin.
 ghost use Rattle.std.specs.Prelude.{◌≡◌, ◌+◌, ◌≤◌, map, length, IfOk};
 ghost use Rattle.game_core.specs.Game.{pairs_of};
 ghost use Rattle.board_crew.specs.inside.Fans.{AreFansFrom};
@@ -40,7 +40,7 @@ pub fn list_fans<R: Threads + Sync, G: Forward + Sync>(
     Ok(list)
 }
 
-// The numbers of successors of the pairs from one on.
+/// The numbers of successors of the pairs from one on.
 fn fill_fans<G: Forward>(g: &G, first: u32, fans: &mut [u64])
     requires { first + length fans.old ≤ pairs_of (G.game g.now) }
     ensures { AreFansFrom (G.game g.now) first (length fans.old) fans.new }

@@ -1,4 +1,4 @@
-// The list of the first round.
+//! The list of the first round.
 ghost use Rattle.std.specs.Prelude.{◌≡◌, ◌+◌, ◌<◌, ◌≤◌, [], ◌∷◌, ◌++◌, cond, filter, vec_len};
 ghost use Rattle.std.specs.Vec.{vec_capacity};
 ghost use Rattle.std.specs.List.{range_with_len};
@@ -7,7 +7,7 @@ ghost use Rattle.cell_counters.specs.Tokens.{new_root};
 use crate::rule::Rule;
 use cell_counters::{Board, Root};
 
-// Puts the cells on the list that the rule wants on the first.
+/// Puts the cells on the list that the rule wants on the first.
 pub(crate) fn gather<L: Rule>(board: &Board, root: &mut Root, list: &mut Vec<u32>, rule: &L)
     requires board { L.fits rule.now board.now }
     requires root { root.old ≡ new_root board.now }

@@ -1,4 +1,4 @@
-// What workers logged, as a list.
+//! What workers logged, as a list.
 ghost use Rattle.std.specs.Prelude.{◌≡◌, ◌-◌, ◌^◌, ◌<◌, ◌≤◌, map};
 ghost use Rattle.std.specs.Vec.{vec_capacity};
 ghost use Rattle.std.specs.List.{range_with_len};
@@ -6,7 +6,7 @@ ghost use Rattle.cell_counters.specs.Accounts.{all_logs, log_count, cell_at};
 
 use cell_counters::{Board, Root};
 
-// Puts on the list what was logged since, and tells how many places of the log were put on a list then.
+/// Puts on the list what was logged since, and tells how many places of the log were put on a list then.
 pub(crate) fn list_logged(board: &Board, root: &mut Root, list: &mut Vec<u32>, listed: u32) -> u32
     requires root { (root.old.board ≡ board.now) × (root.old.out ≡ 0) }
     requires places { (log_count root.old.accounts ≤ board.now.places) × (board.now.places ≤ vec_capacity list.old) }

@@ -1,4 +1,4 @@
-// The rounds, one after another.
+//! The rounds, one after another.
 ghost use Rattle.std.specs.Prelude.{◌≡◌, ◌<◌, ◌≤◌, [], All, IsPermutation, IfOk, length, vec_len};
 ghost use Rattle.std.specs.Vec.{vec_capacity};
 ghost use Rattle.std.specs.List.{range_with_len};
@@ -81,7 +81,7 @@ impl Rounds {
         }
     }
 
-    // Does one round.
+    /// Does one round.
     fn play<R: Threads + Sync, L: Rule, T: Gate>(
         &mut self,
         rt: &R,
@@ -117,8 +117,8 @@ impl Rounds {
     }
 }
 
-// About how many cuts the round of a list takes: as if its cells had as many sources each as the first, the middle and
-// the last of them on average.
+/// About how many cuts the round of a list takes: as if its cells had as many sources each as the first, the middle and
+/// the last of them on average.
 fn expected_cuts<L: Rule>(rule: &L, list: &[u32]) -> u64
     requires some { 0 < length list.now }
     requires cells { All (λ c. c < (L.game rule.now).cells) list.now }
@@ -131,7 +131,7 @@ fn expected_cuts<L: Rule>(rule: &L, list: &[u32]) -> u64
     three.saturating_mul(cells as u64) / 3
 }
 
-// New workers do all items of the round.
+/// New workers do all items of the round.
 fn do_items<R: Threads + Sync, L: Rule, T: Gate>(
     rt: &R,
     alloc: Global,

@@ -1,4 +1,4 @@
-// What a game has workers do.
+//! What a game has workers do.
 use crate::worker::Worker;
 use cell_counters::{Board, Root};
 
@@ -13,19 +13,19 @@ pub trait Rule: Sync {
     ghost use Rattle.game_core.specs.Game.{Game, AreSources, pairs_of, successors_at};
     ghost use Rattle.board_crew.specs.Rules.{CutsOnce, LeadsOn};
 
-    // The game.
+    /// The game.
     ghost game: { Self → Game };
 
-    // That a board is one of the game.
+    /// That a board is one of the game.
     ghost fits: { Self → BoardModel → Type 0 };
 
-    // Whether a cell is on the list of the first round.
+    /// Whether a cell is on the list of the first round.
     ghost first: { Self → ℕ → Bool };
 
-    // What the account of a worker keeps in a round, by the round's number.
+    /// What the account of a worker keeps in a round, by the round's number.
     ghost keeps: { Self → ℕ → Account → Type 0 };
 
-    // What stands before a round, by its number, its list and all accounts so far.
+    /// What stands before a round, by its number, its list and all accounts so far.
     ghost stands: { Self → ℕ → List ℕ → List Account → Type 0 };
 
     /// How many cells there are.
@@ -55,6 +55,6 @@ pub trait Rule: Sync {
         ensures once { CutsOnce (pairs_of (game self.now)) pair worker.old worker.new }
         ensures keeps { keeps self.now round worker.old.account → keeps self.now round worker.new.account };
 
-    // On a board that fits, each round leads on to the next.
+    /// On a board that fits, each round leads on to the next.
     ghost leads_on: { (rule : Self) (board : BoardModel) → fits rule board → LeadsOn (game rule) board (first rule) (keeps rule) (stands rule) };
 }

@@ -1,5 +1,5 @@
-// The work of one round: each cell of the list cuts the pairs that lead to it.
-ghost use Rattle.std.specs.Prelude.{◌≡◌, ◌<◌, length, All};
+//! The work of one round: each cell of the list cuts the pairs that lead to it.
+ghost use Rattle.std.specs.Prelude.{◌<◌, length, All};
 ghost use Rattle.board_crew.specs.inside.Workers.{IsTurn, IsAtWork};
 
 use crate::rule::Rule;
@@ -7,10 +7,10 @@ use crate::worker::Worker;
 use cell_counters::Board;
 use frontier_pool::Toil;
 
-// A longer row pays for its loads by its length.
+/// The most pairs of a row whose counters are loaded ahead of its cuts.
 const SHORT_ROW: usize = 16;
 
-// A round, as its workers see it. An item is a place of the list.
+/// A round, as its workers see it. An item is a place of the list.
 #[derive(Drop)]
 pub(crate) struct Turn<'a, L: Rule> {
     pub(crate) rule: &'a L,
@@ -47,7 +47,7 @@ impl<L: Rule> Toil for Turn<'_, L> {
     }
 }
 
-// Loads what the cuts of a short row change: a cut lets no later load begin, and each would wait for memory alone.
+/// Loads what the cuts of a short row change: a cut lets no later load begin, and each would wait for memory alone.
 fn touch_row(board: &Board, pairs: &[u32])
     requires { All (λ pair. pair < length board.now.starts) pairs.now }
 {
@@ -58,7 +58,7 @@ fn touch_row(board: &Board, pairs: &[u32])
     }
 }
 
-// Loads the first pair of a row, and its counter.
+/// Loads the first pair of a row, and its counter.
 fn touch_first(board: &Board, pairs: &[u32])
     requires { All (λ pair. pair < length board.now.starts) pairs.now }
 {

@@ -1,4 +1,4 @@
-// What one worker has in a round.
+//! What one worker has in a round.
 ghost use Rattle.std.specs.Prelude.{◌≡◌, ◌≢◌, ◌<◌, false, length, slice_index, Any};
 ghost use Rattle.cell_counters.specs.Tokens.{blank, with_cut, with_offer, with_note, Logs};
 ghost use Rattle.cell_counters.specs.declared.account.TheConstants.{NONE};
@@ -12,7 +12,7 @@ use std::marker::Model;
 #[derive(Drop)]
 pub struct Worker {
     pub(crate) hand: Hand,
-    // Modulo 2^64.
+    /// Modulo 2^64.
     pub(crate) cuts: u64,
     pub(crate) offers: u64,
 }
