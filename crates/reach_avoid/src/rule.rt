@@ -1,4 +1,4 @@
-// The rule of a reach game: the cut that leaves nothing of a pair bids on the pair's cell.
+//! The rule of a reach game: the cut that leaves nothing of a pair bids on the pair's cell.
 ghost use Rattle.std.specs.Prelude.{◌≡◌, ◌^◌, ◌<◌, ◌≤◌};
 ghost use Rattle.game_core.specs.Game.{IsGraph, pairs_of};
 ghost use Rattle.reach_avoid.specs.Boards.{IsBoardOf};
@@ -9,7 +9,10 @@ use board_crew::{Rule, Worker};
 use cell_counters::{Board, Root};
 use game_core::{Graph, Mark};
 
-// A round is of the cells of one rank.
+/// One more than the greatest number of an input: a word has a rank and an input.
+pub(crate) const INPUTS: u64 = 4096;
+
+/// A round is of the cells of one rank.
 #[derive(Drop)]
 pub(crate) struct Reach<'a, G: Graph> {
     pub(crate) graph: &'a G,
@@ -53,7 +56,7 @@ impl<G: Graph + Sync> Rule for Reach<'_, G> {
 }
 
 impl<G: Graph> Reach<'_, G> {
-    // Cuts a pair. The cut that leaves nothing bids on the pair's cell.
+    /// Cuts a pair. The cut that leaves nothing bids on the pair's cell.
     fn cut_and_bid(&self, board: &Board, worker: &mut Worker, rank: u32, pair: u32)
         requires board { IsBoardOf (G.game self.now.graph.now) board.now }
         requires worker { worker.old.board ≡ board.now }
@@ -66,7 +69,7 @@ impl<G: Graph> Reach<'_, G> {
         }
     }
 
-    // Offers the next rank and the pair's input to its cell, and logs the cell where nobody had offered it anything.
+    /// Offers the next rank and the pair's input to its cell, and logs the cell where nobody had offered it anything.
     fn bid(&self, board: &Board, worker: &mut Worker, rank: u32, pair: u32)
         requires board { IsBoardOf (G.game self.now.graph.now) board.now }
         requires worker { worker.old.board ≡ board.now }
@@ -75,7 +78,7 @@ impl<G: Graph> Reach<'_, G> {
         ensures { Bids (G.game self.now.graph.now) rank pair worker.old worker.new }
     {
         let cell = pair / self.inputs;
-        let value = 1 + u64::from(rank + 1) * 4096 + u64::from(pair % self.inputs);
+        let value = 1 + u64::from(rank + 1) * INPUTS + u64::from(pair % self.inputs);
         if worker.offer(board, cell, value) {
             // Each cell is logged once at most, so there is a place for it.
             let _ = worker.log(board, cell);

@@ -1,10 +1,9 @@
-// All memory of a solver, taken before it solves.
-ghost use Rattle.std.specs.Prelude.{◌≡◌, ◌+◌, ◌^◌, ◌<◌, ◌≤◌, ◌++◌, map, length, take, drop, IfOk, vec_len};
-ghost use Rattle.cell_counters.specs.Tokens.{new_root};
+//! All memory of a solver, taken before it solves.
+ghost use Rattle.std.specs.Prelude.{◌≡◌, ◌≤◌, ◌++◌, map, length, IfOk};
 ghost use Rattle.reach_avoid.specs.Boards.{IsBoardOf, word_at};
 
 use board_crew::{Rounds, list_fans};
-use cell_counters::{Board, NONE, Root};
+use cell_counters::{Board, NONE};
 use game_core::{Answer, Forward, Mark, NoMemory};
 use std::alloc::Global;
 use std::marker::Model;
@@ -17,7 +16,7 @@ use std::thread::Threads;
 pub struct Scratch {
     pub(crate) board: Board,
     pub(crate) rounds: Rounds,
-    // No row yet.
+    /// No row yet.
     pub(crate) answer: Answer,
     pub(crate) workers: u32,
 }
@@ -48,7 +47,9 @@ impl Scratch {
     {
         let words = first_words(rt, alloc, g)?;
         let cells = g.cells();
-        let (board, root) = new_board(alloc, words, cells * g.inputs(), cells)?;
+        let Ok((board, root)) = Board::of_words(alloc, words, cells * g.inputs(), cells) else {
+            return Err(NoMemory);
+        };
         let rounds = Rounds::new(alloc, root, cells, workers)?;
         let answer = Answer::blank(alloc, cells)?;
         Ok(Scratch {
@@ -60,26 +61,8 @@ impl Scratch {
     }
 }
 
-// A board with these numbers, so many of them counters, and a log of so many places.
-fn new_board(
-    alloc: Global,
-    words: Vec<u64>,
-    counters: u32,
-    places: u32,
-) -> Result<(Board, Root), NoMemory>
-    requires some { 0 < places }
-    requires room { vec_len words + places < 2 ^ 32 }
-    requires counters { counters ≤ vec_len words }
-    ensures starts { IfOk result (λ made. made.0.starts ≡ take counters words.items) }
-    ensures least { IfOk result (λ made. made.0.least ≡ drop counters words.items) }
-    ensures places { IfOk result (λ made. made.0.places ≡ places) }
-    ensures root { IfOk result (λ made. made.1 ≡ new_root made.0) }
-{
-    Board::of_words(alloc, words, counters, places).map_err(|_| NoMemory)
-}
-
-// The numbers with which the board begins: the counters' of the pairs, then the least words' of the cells. There is room for
-// what the board puts behind them, the log of the cells and its length.
+/// The numbers with which the board begins: the counters' of the pairs, then the least words' of the cells. There is room for
+/// what the board puts behind them, the log of the cells and its length.
 fn first_words<R: Threads + Sync, G: Forward + Sync>(
     rt: &R,
     alloc: Global,
@@ -89,9 +72,7 @@ fn first_words<R: Threads + Sync, G: Forward + Sync>(
 {
     let mut words = list_fans(rt, alloc, g)?;
     let cells = g.cells();
-    if words.try_reserve_exact(2 * cells as usize + 1).is_err() {
-        return Err(NoMemory);
-    }
+    words.try_reserve_exact(2 * cells as usize + 1)?;
     for c in 0..cells {
         words.push_reserved(first_word(g.mark(c)));
     }

@@ -1,4 +1,4 @@
-// The solver.
+//! The solver.
 ghost use Rattle.std.specs.Prelude.{◌≡◌, ℕ, ◌^◌, ◌<◌, ◌≤◌, length, Some, IfOk};
 ghost use Rattle.game_core.specs.declared.game.Row.{Row};
 ghost use Rattle.game_core.specs.Solution.{row_of};
@@ -7,7 +7,7 @@ ghost use Rattle.reach_avoid.specs.Solved.{IsSolved};
 ghost use Rattle.reach_avoid.specs.inside.Rounds.{rows_told, row_in};
 
 use crate::outcome::Solved;
-use crate::rule::Reach;
+use crate::rule::{INPUTS, Reach};
 use crate::scratch::Scratch;
 use cell_counters::{Board, NONE, Root};
 use frontier_pool::Gate;
@@ -61,7 +61,7 @@ pub fn solve_in<R: Threads + Sync, G: Graph + Sync, T: Gate>(
     }
 }
 
-// Reads each cell's word, and sets the row that it tells.
+/// Reads each cell's word, and sets the row that it tells.
 fn read_rows<G: Graph>(g: &G, board: &Board, root: &mut Root, answer: &mut Answer)
     requires board { IsBoardOf (G.game g.now) board.now }
     requires root { (root.old.board ≡ board.now) × (root.old.out ≡ 0) }
@@ -75,7 +75,7 @@ fn read_rows<G: Graph>(g: &G, board: &Board, root: &mut Root, answer: &mut Answe
     }
 }
 
-// The row that a word tells.
+/// The row that a word tells.
 fn row_told(word: u64) -> Option<Row>
     requires { (row : Row) → row_in word ≡ Some row → row.rank < 2 ^ 32 }
     ensures { result ≡ row_in word }
@@ -84,7 +84,7 @@ fn row_told(word: u64) -> Option<Row>
         return None;
     }
     Some(Row {
-        rank: ((word - 1) / 4096) as u32,
-        input: ((word - 1) % 4096) as u32,
+        rank: ((word - 1) / INPUTS) as u32,
+        input: ((word - 1) % INPUTS) as u32,
     })
 }

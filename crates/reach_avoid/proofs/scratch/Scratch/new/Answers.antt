@@ -18,8 +18,8 @@ many g a items is =
     let cells = length-map g.marks word_at ∙ a.game.one_mark_each in
     omega arith
 
-pub new_board-requires-clause-room : goal.new_board-requires-clause-room
-new_board-requires-clause-room g c =
+pub of_words-requires-clause-room : goal.of_words-requires-clause-room
+of_words-requires-clause-room g c =
     let game = g.G.Forward.game c.args.g.now in
     let a : IsGraph game = (g.met.G.Forward g.world.𝓛 g.world.𝓜 g.world.𝓡 ((λ s x. x), (λ x. x), (λ x. x), λ x. x)).lawful c.args.g.now in
     let counted = many game a c.in_ok-words.words.items c.in_ok-words.ensures in
@@ -29,8 +29,8 @@ new_board-requires-clause-room g c =
     let cells_bound = a.cells_bound in
     omega arith
 
-pub new_board-requires-clause-counters : goal.new_board-requires-clause-counters
-new_board-requires-clause-counters g c =
+pub of_words-requires-clause-counters : goal.of_words-requires-clause-counters
+of_words-requires-clause-counters g c =
     let game = g.G.Forward.game c.args.g.now in
     let counted = many game ((g.met.G.Forward g.world.𝓛 g.world.𝓜 g.world.𝓡 ((λ s x. x), (λ x. x), (λ x. x), λ x. x)).lawful c.args.g.now) c.in_ok-words.words.items c.in_ok-words.ensures in
     let len = c.in_ok-words.words.ok.0 in
@@ -46,18 +46,18 @@ returns g c =
     let counters : c.cells-cells.result * c.inputs.result ≡ length of_pairs =
     ap₂ (λ (n m : ℕ). n * m) c.cells-cells.ensures c.inputs.ensures ∙ sym (length-map game.successors length ∙ a.game.one_list_each) in
     record {
-      counters = c.in_ok-board.ensures.starts ∙ ap₂ (λ (n : ℕ) (l : List ℕ). take n l) counters c.in_ok-words.ensures ∙ take-append_seam of_pairs of_cells;
-      words = c.in_ok-board.ensures.least ∙ ap₂ (λ (n : ℕ) (l : List ℕ). drop n l) counters c.in_ok-words.ensures ∙ drop-append_seam of_pairs of_cells;
-      log = c.in_ok-board.ensures.places ∙ c.cells-cells.ensures;
+      counters = c.in-Ok.ensures.starts ∙ ap₂ (λ (n : ℕ) (l : List ℕ). take n l) counters c.in_ok-words.ensures ∙ take-append_seam of_pairs of_cells;
+      words = c.in-Ok.ensures.least ∙ ap₂ (λ (n : ℕ) (l : List ℕ). drop n l) counters c.in_ok-words.ensures ∙ drop-append_seam of_pairs of_cells;
+      log = c.in-Ok.ensures.places ∙ c.cells-cells.ensures;
     }
 
 pub invariant_of-result : goal.invariant_of-result
 invariant_of-result g c =
-    let board = c.in_ok-board.board in
+    let board = c.in-Ok.board in
     let rounds = c.in_ok-rounds.rounds in
-    let places : c.cells-cells.result ≡ board.places = sym c.in_ok-board.ensures.places in
+    let places : c.cells-cells.result ≡ board.places = sym c.in-Ok.ensures.places in
     record {
-      unused = subst (λ root. IsUnused root board.places c.args.workers rounds) c.in_ok-board.ensures.root (subst (λ n. IsUnused c.in_ok-board.root n c.args.workers rounds) places c.in_ok-rounds.ensures);
+      unused = subst (λ root. IsUnused root board.places c.args.workers rounds) c.in-Ok.ensures.root (subst (λ n. IsUnused c.in-Ok.root n c.args.workers rounds) places c.in_ok-rounds.ensures);
       blank = c.in_ok-answer.ensures ∙ ap (λ (n : ℕ). replicate n None) places;
       some_worker = c.requires.0;
       few_workers = c.requires.1;
