@@ -1,3 +1,4 @@
+-- Examples that show the definitions to say what is meant; no proof cites them.
 -- What the definitions say of the game with traps, by computation.
 use Rattle.std.proofs.Common.{◌≡◌, ℕ, zero, suc, ◌<◌, ◌≤◌, ◌++◌, Some, None, map, length, true, false, refl, arith}
 use Rattle.std.specs.List.{range_with_len}

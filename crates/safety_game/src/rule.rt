@@ -1,4 +1,4 @@
-// The rule of a keep game: the first cut of a pair cuts the pair's cell too.
+//! The rule of a keep game: the first cut of a pair cuts the pair's cell too.
 ghost use Rattle.std.specs.Prelude.{◌≡◌, ◌<◌, length};
 ghost use Rattle.game_core.specs.Game.{IsGraph, pairs_of, successors_at};
 ghost use Rattle.safety_game.specs.Boards.{IsBoardOf};
@@ -8,7 +8,7 @@ use board_crew::{Rule, Worker};
 use cell_counters::{Board, Root};
 use game_core::{Graph, Mark};
 
-// A round is of the cells that fall in it.
+/// A round is of the cells that fall in it.
 #[derive(Drop)]
 pub(crate) struct Keep<'a, G: Graph> {
     pub(crate) graph: &'a G,
@@ -55,7 +55,7 @@ impl<G: Graph + Sync> Rule for Keep<'_, G> {
 }
 
 impl<G: Graph> Keep<'_, G> {
-    // Cuts a pair, and then its cell where that was a blow to it.
+    /// Cuts a pair, and then its cell where that was a blow to it.
     fn cut_and_hit(&self, board: &Board, worker: &mut Worker, pair: u32)
         requires board { IsBoardOf (G.game self.now.graph.now) board.now }
         requires worker { worker.old.board ≡ board.now }
@@ -68,7 +68,7 @@ impl<G: Graph> Keep<'_, G> {
         }
     }
 
-    // Cuts a pair, and tells whether that was a blow to its cell: the pair's first cut, and the cell no obstacle.
+    /// Cuts a pair, and tells whether that was a blow to its cell: the pair's first cut, and the cell no obstacle.
     fn take(&self, board: &Board, worker: &mut Worker, pair: u32) -> bool
         requires board { IsBoardOf (G.game self.now.graph.now) board.now }
         requires worker { worker.old.board ≡ board.now }
@@ -80,7 +80,7 @@ impl<G: Graph> Keep<'_, G> {
         worker.cut(board, pair) == first && self.graph.mark(pair / self.inputs) != Mark::Obstacle
     }
 
-    // Cuts a cell, and logs it where nothing was left: it falls in the next round.
+    /// Cuts a cell, and logs it where nothing was left: it falls in the next round.
     fn hit(&self, board: &Board, worker: &mut Worker, cell: u32)
         requires board { IsBoardOf (G.game self.now.graph.now) board.now }
         requires worker { worker.old.board ≡ board.now }

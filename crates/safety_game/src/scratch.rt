@@ -1,11 +1,10 @@
-// All memory of a solver, taken before it solves.
-ghost use Rattle.std.specs.Prelude.{◌≡◌, ◌+◌, ◌*◌, ◌^◌, ◌<◌, ◌≤◌, [], ◌++◌, map, length, IfOk, vec_len};
+//! All memory of a solver, taken before it solves.
+ghost use Rattle.std.specs.Prelude.{◌≡◌, ◌<◌, ◌≤◌, ◌++◌, map, length, IfOk};
 ghost use Rattle.std.specs.List.{range_with_len};
-ghost use Rattle.cell_counters.specs.Tokens.{new_root};
 ghost use Rattle.safety_game.specs.Boards.{IsBoardOf, enabled_at};
 
 use board_crew::{Rounds, list_fans};
-use cell_counters::{Board, Root};
+use cell_counters::Board;
 use game_core::{Answer, Forward, NoMemory};
 use std::alloc::Global;
 use std::marker::Model;
@@ -18,7 +17,7 @@ use std::thread::Threads;
 pub struct Scratch {
     pub(crate) board: Board,
     pub(crate) rounds: Rounds,
-    // No row yet.
+    /// No row yet.
     pub(crate) answer: Answer,
     pub(crate) workers: u32,
 }
@@ -48,7 +47,10 @@ impl Scratch {
     {
         let starts = starts(rt, alloc, g)?;
         let cells = g.cells();
-        let (board, root) = new_board(alloc, starts, cells)?;
+        let counters = starts.len() as u32;
+        let Ok((board, root)) = Board::of_words(alloc, starts, counters, cells) else {
+            return Err(NoMemory);
+        };
         let rounds = Rounds::new(alloc, root, cells, workers)?;
         let answer = Answer::blank(alloc, cells)?;
         Ok(Scratch {
@@ -60,21 +62,8 @@ impl Scratch {
     }
 }
 
-// A board with these counters, no least word, and a log of so many places.
-fn new_board(alloc: Global, starts: Vec<u64>, places: u32) -> Result<(Board, Root), NoMemory>
-    requires some { 0 < places }
-    requires room { vec_len starts + places < 2 ^ 32 }
-    ensures starts { IfOk result (λ made. made.0.starts ≡ starts.items) }
-    ensures least { IfOk result (λ made. made.0.least ≡ []) }
-    ensures places { IfOk result (λ made. made.0.places ≡ places) }
-    ensures root { IfOk result (λ made. made.1 ≡ new_root made.0) }
-{
-    let counters = starts.len() as u32;
-    Board::of_words(alloc, starts, counters, places).map_err(|_| NoMemory)
-}
-
-// The numbers with which the counters begin: for each pair its successors, then for each cell its enabled inputs. There is
-// room for what the board puts behind them, the log of the cells and its length.
+/// The numbers with which the counters begin: for each pair its successors, then for each cell its enabled inputs. There is
+/// room for what the board puts behind them, the log of the cells and its length.
 fn starts<R: Threads + Sync, G: Forward + Sync>(
     rt: &R,
     alloc: Global,
@@ -84,16 +73,14 @@ fn starts<R: Threads + Sync, G: Forward + Sync>(
 {
     let mut starts = list_fans(rt, alloc, g)?;
     let cells = g.cells();
-    if starts.try_reserve_exact(2 * cells as usize + 1).is_err() {
-        return Err(NoMemory);
-    }
+    starts.try_reserve_exact(2 * cells as usize + 1)?;
     for c in 0..cells {
         starts.push_reserved(count_enabled(g, c));
     }
     Ok(starts)
 }
 
-// How many inputs of a cell are enabled.
+/// How many inputs of a cell are enabled.
 fn count_enabled<G: Forward>(g: &G, c: u32) -> u64
     requires { c < (G.game g.now).cells }
     ensures { result ≡ enabled_at (G.game g.now) c }

@@ -1,4 +1,4 @@
-// The solver.
+//! The solver.
 ghost use Rattle.std.specs.Prelude.{◌≡◌, ◌<◌, ◌≤◌, length, IfOk};
 ghost use Rattle.game_core.specs.Game.{pairs_of};
 ghost use Rattle.safety_game.specs.Boards.{IsBoardOf};
@@ -62,7 +62,7 @@ pub fn keep_in<R: Threads + Sync, G: Graph + Sync, T: Gate>(
     }
 }
 
-// Reads each cell's pairs, and sets the row that they tell.
+/// Reads each cell's pairs, and sets the row that they tell.
 fn read_rows<G: Graph>(g: &G, board: &Board, root: &mut Root, answer: &mut Answer)
     requires board { IsBoardOf (G.game g.now) board.now }
     requires root { (root.old.board ≡ board.now) × (root.old.out ≡ 0) }
@@ -77,7 +77,7 @@ fn read_rows<G: Graph>(g: &G, board: &Board, root: &mut Root, answer: &mut Answe
     }
 }
 
-// The row of a cell's least whole pair, none at an obstacle.
+/// The row of a cell's least whole pair, none at an obstacle.
 fn row_told<G: Graph>(g: &G, board: &Board, root: &mut Root, c: u32) -> Option<Row>
     requires board { IsBoardOf (G.game g.now) board.now }
     requires root { (root.old.board ≡ board.now) × (root.old.out ≡ 0) }
@@ -99,7 +99,7 @@ fn row_told<G: Graph>(g: &G, board: &Board, root: &mut Root, c: u32) -> Option<R
     None
 }
 
-// Whether a pair is enabled, and was never cut.
+/// Whether a pair is enabled, and was never cut.
 fn is_whole<G: Graph>(g: &G, board: &Board, root: &mut Root, pair: u32) -> bool
     requires board { IsBoardOf (G.game g.now) board.now }
     requires root { (root.old.board ≡ board.now) × (root.old.out ≡ 0) }

@@ -1,4 +1,5 @@
--- A game that is small enough to be solved by hand.
+-- Examples that show the definitions to say what is meant; no proof cites them.
+-- The game is small enough to be solved by hand.
 use Rattle.std.specs.Prelude.{ℕ, [], ◌∷◌, List, Option, Some, None}
 use Rattle.game_core.specs.declared.game.Mark.TheVariants.{Obstacle, Plain}
 use Rattle.game_core.specs.declared.game.Row.{Row}
