@@ -9,6 +9,4 @@
 mod marks;
 mod reach_and_stay;
 
-pub use frontier_pool::{Gate, Open};
-pub use game_core::{Answer, NoMemory};
 pub use reach_and_stay::stay;

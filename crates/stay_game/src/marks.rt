@@ -1,4 +1,4 @@
-// Marks under which a solver is called in place of the graph's own.
+//! Marks under which a solver is called in place of the graph's own.
 ghost use Rattle.std.specs.Prelude.{◌≡◌, length, IfOk};
 ghost use Rattle.stay_game.specs.inside.StayMarks.{hold_mark, marks_to_hold, end_mark, marks_to_reach};
 
@@ -10,7 +10,7 @@ pub(crate) fn marks_to_hold<G: Graph>(alloc: Global, g: &G) -> Result<Vec<Mark>,
     ensures { IfOk result (λ marks. marks.items ≡ marks_to_hold (G.game g.now)) }
 {
     let cells = g.cells();
-    let mut marks = vec![in alloc; Mark::Obstacle; cells as usize].map_err(|_| NoMemory)?;
+    let mut marks = vec![in alloc; Mark::Obstacle; cells as usize]?;
     for c in 0..cells {
         marks[c as usize] = hold_mark(g.mark(c));
     }
@@ -36,7 +36,7 @@ pub(crate) fn marks_to_reach<G: Graph>(
     ensures { IfOk result (λ marks. marks.items ≡ marks_to_reach (G.game g.now) held.now) }
 {
     let cells = g.cells();
-    let mut marks = vec![in alloc; Mark::Plain; cells as usize].map_err(|_| NoMemory)?;
+    let mut marks = vec![in alloc; Mark::Plain; cells as usize]?;
     for c in 0..cells {
         marks[c as usize] = end_mark(g.mark(c), held.row(c));
     }

@@ -1,4 +1,4 @@
-// Reach and stay, by the solvers of both games under other marks.
+//! Reach and stay, by the solvers of both games under other marks.
 ghost use Rattle.std.specs.Prelude.{◌≡◌, ◌≤◌, length, IfOk};
 ghost use Rattle.stay_game.specs.Stay.{IsStaySolution};
 ghost use Rattle.stay_game.specs.inside.StayMarks.{rows_over};
