@@ -1,7 +1,7 @@
 pub mod TravelRows
 pub mod BestRows
 pub mod TurnRows
-pub mod TurnsBefore
+pub mod NextTurns
 pub mod ForEver
 pub mod Patrols
 pub mod Steps

@@ -7,7 +7,7 @@ use Rattle.patrol_game.specs.Targets.{IsInTarget}
 use Rattle.patrol_game.specs.Visits.{next_turn}
 use Rattle.patrol_game.specs.inside.Turns.{Progress, is_due, IsUnderWay, IsAtStart}
 use Rattle.patrol_game.proofs.KeptCells.{visitors_have_rows}
-use Rattle.patrol_game.proofs.TurnsBefore.{next_below}
+use Rattle.patrol_game.proofs.NextTurns.{next_below}
 
 pub starts : (p : Description) (g : Game) (t : Progress) → IsGame g → IsAtStart p g t → IsUnderWay g (IsInTarget p) (length p.targets) t
 starts p g t a s = record {

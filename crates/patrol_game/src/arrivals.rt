@@ -1,5 +1,5 @@
-// The arrivals of a turn.
-ghost use Rattle.std.specs.Prelude.{◌≡◌, ◌<◌, ◌≤◌, true, false, length, count_by, IfOk};
+//! The arrivals of a turn.
+ghost use Rattle.std.specs.Prelude.{◌≡◌, ◌<◌, true, false, length, count_by, IfOk};
 ghost use Rattle.game_core.specs.declared.game.Mark.TheVariants.{Obstacle};
 ghost use Rattle.game_core.specs.Game.{mark_of};
 ghost use Rattle.plant_game.specs.Abstraction.{IsGameOf};
@@ -58,7 +58,14 @@ impl Arrivals {
         ensures same { result ≡ false → self.new ≡ self.old }
         ensures fewer { result ≡ true → count_by is_goal self.new < count_by is_goal self.old }
     {
-        withdraw(&mut self.marks, rows)
+        let mut found = false;
+        for c in 0..rows.cells() {
+            if is_gone(self.marks[c as usize], rows.row(c)) {
+                self.marks[c as usize] = Mark::Plain;
+                found = true;
+            }
+        }
+        found
     }
 }
 
@@ -72,23 +79,6 @@ fn mark_obstacles<G: Graph>(g: &G, marks: &mut [Mark])
             marks[c as usize] = Mark::Obstacle;
         }
     }
-}
-
-/// Goals without a row are goals no more. Answers whether there was one.
-fn withdraw(marks: &mut [Mark], rows: &Answer) -> bool
-    requires { length rows.now ≡ length marks.old }
-    ensures marks { marks.new ≡ withdrawn marks.old rows.now }
-    ensures same { result ≡ false → marks.new ≡ marks.old }
-    ensures fewer { result ≡ true → count_by is_goal marks.new < count_by is_goal marks.old }
-{
-    let mut found = false;
-    for c in 0..rows.cells() {
-        if is_gone(marks[c as usize], rows.row(c)) {
-            marks[c as usize] = Mark::Plain;
-            found = true;
-        }
-    }
-    found
 }
 
 /// Whether a goal has no row.

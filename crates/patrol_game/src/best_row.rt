@@ -1,5 +1,5 @@
-// The row of a cell by the rows of its successors, also where the cell is a goal.
-ghost use Rattle.std.specs.Prelude.{◌≡◌, ℕ, ◌<◌, ◌^◌, length, max, Some};
+//! The row of a cell by the rows of its successors, also where the cell is a goal.
+ghost use Rattle.std.specs.Prelude.{◌≡◌, ℕ, ◌<◌, length, Some};
 ghost use Rattle.game_core.specs.declared.game.Row.{Row};
 ghost use Rattle.game_core.specs.Game.{pairs_of, successors_at};
 ghost use Rattle.game_core.specs.Right.{IsRightPlain};
@@ -45,7 +45,7 @@ fn rank_behind<G: Graph>(g: &G, rows: &Answer, pair: u32) -> Option<u32>
     let mut greatest = 0;
     for at in 0..fan {
         let row = rows.row(g.successor(pair, at))?;
-        greatest = greater(greatest, row.rank);
+        greatest = greatest.max(row.rank);
     }
     Some(greatest)
 }
@@ -58,10 +58,4 @@ fn better(best: Option<Row>, row: Row) -> Option<Row>
         Some(old) if old.rank <= row.rank => Some(old),
         Some(_) | None => Some(row),
     }
-}
-
-fn greater(a: u32, b: u32) -> u32
-    ensures { result ≡ max a b }
-{
-    if a < b { b } else { a }
 }

@@ -13,7 +13,5 @@ mod patrol_rows;
 mod solver;
 mod turns;
 
-pub use frontier_pool::{Gate, Open};
-pub use game_core::{Answer, NoMemory, Row};
 pub use patrol_rows::PatrolRows;
 pub use solver::patrol;

@@ -1,4 +1,4 @@
-// What a solver of patrol gives.
+//! What a solver of patrol gives.
 ghost use Rattle.std.specs.Prelude.{◌≡◌, ◌<◌, ◌^◌, length};
 ghost use Rattle.game_core.specs.Solution.{row_of};
 ghost use Rattle.patrol_game.specs.Patrol.{rows_for};

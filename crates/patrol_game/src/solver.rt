@@ -1,4 +1,4 @@
-// Patrol, by the solver of the reach game under other marks, among the cells that the solver of the keep game keeps.
+//! Patrol, by the solver of the reach game under other marks, among the cells that the solver of the keep game keeps.
 ghost use Rattle.std.specs.Prelude.{◌≤◌, ◌*◌, length, IfOk};
 ghost use Rattle.plant_game.specs.Abstraction.{IsGameOf};
 ghost use Rattle.patrol_game.specs.Targets.{IsInTarget};

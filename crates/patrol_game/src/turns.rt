@@ -1,4 +1,4 @@
-// The search for a patrol, turn by turn.
+//! The search for a patrol, turn by turn.
 ghost use Rattle.std.specs.Prelude.{◌≡◌, ℕ, ◌<◌, ◌≤◌, ◌^◌, true, false, length, IfOk, IfSome};
 ghost use Rattle.std.specs.Option.{IfNone};
 ghost use Rattle.plant_game.specs.Abstraction.{IsGameOf};
@@ -45,7 +45,7 @@ impl Turns {
         ensures { IfOk result (IsAtStart p.now (G.game g.now)) }
     {
         let turns = p.targets();
-        let due = vec![in alloc; true; turns as usize].map_err(|_| NoMemory)?;
+        let due = vec![in alloc; true; turns as usize]?;
         let mut arrivals = Vec::new(alloc);
         let mut rows = Vec::new(alloc);
         for turn in 0..turns {

@@ -15,10 +15,10 @@ loop-at-preserved g c =
     let rank : rank_at rows (get_or cells c.loop-at.at 0) ≡ c.in_ok-row.row.rank = ap rank_in is in
     let push = greatest_push rows (take c.loop-at.at cells) (get_or cells c.loop-at.at 0) in
     let was = c.loop-at.invariant.greatest in
-    let more = c.greater-greatest.ensures in
+    let more = c.max-greatest.ensures in
     record {
       ranked = All-more (HasRow rows) cells c.loop-at.at 0 lt c.loop-at.invariant.ranked (c.in_ok-row.row, is);
-      greatest = ap (greatest_rank rows) (take_more cells c.loop-at.at 0 lt) ∙ (let e : greatest_rank rows (take c.loop-at.at cells ++ get_or cells c.loop-at.at 0 ∷ []) ≡ c.greater-greatest.result = omega arith in e);
+      greatest = ap (greatest_rank rows) (take_more cells c.loop-at.at 0 lt) ∙ (let e : greatest_rank rows (take c.loop-at.at cells ++ get_or cells c.loop-at.at 0 ∷ []) ≡ c.max-greatest.result = grind arith in e);
     }
 
 pub returns : goal.returns

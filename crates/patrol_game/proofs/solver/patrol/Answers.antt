@@ -7,7 +7,7 @@ use Rattle.patrol_game.specs.inside.Turns.{IsBefore}
 use Rattle.patrol_game.proofs.Ends.{ends}
 use Rattle.patrol_game.proofs.Starts.{starts}
 use Rattle.patrol_game.proofs.Steps.{goes_on, less_work}
-use Rattle.patrol_game.proofs.TurnsBefore.{next_below}
+use Rattle.patrol_game.proofs.NextTurns.{next_below}
 use Rattle.patrol_game.proofs.solver.patrol.Goals as goal
 
 pub loop-turn-init : goal.loop-turn-init
