@@ -8,5 +8,4 @@
 
 mod writer;
 
-pub use game_core::NoMemory;
 pub use writer::StayWriter;

@@ -62,10 +62,8 @@ fn front_of(alloc: Global, p: &Plant, runs: u32) -> Result<Vec<u8>, NoMemory>
 {
     let mut line = LineText::empty();
     line.write_count(runs);
-    let mut front = Vec::from_slice(alloc, b"stay 1\n").map_err(|_| NoMemory)?;
+    let mut front = Vec::from_slice(alloc, b"stay 1\n")?;
     write_plant(alloc, p, &mut front).map_err(|_| NoMemory)?;
-    front
-        .extend_from_slice(line.as_slice())
-        .map_err(|_| NoMemory)?;
+    front.extend_from_slice(line.as_slice())?;
     Ok(front)
 }
