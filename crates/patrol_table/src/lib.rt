@@ -9,5 +9,4 @@
 mod turn_lines;
 mod writer;
 
-pub use game_core::NoMemory;
 pub use writer::PatrolWriter;

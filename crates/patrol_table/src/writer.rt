@@ -61,7 +61,7 @@ impl Pieces for PatrolWriter<'_> {
 fn front_of(alloc: Global, p: &Plant) -> Result<Vec<u8>, NoMemory>
     ensures { IfOk result (λ front. front.items ≡ patrol_line ++ text_of p.now) }
 {
-    let mut front = Vec::from_slice(alloc, b"patrol 1\n").map_err(|_| NoMemory)?;
+    let mut front = Vec::from_slice(alloc, b"patrol 1\n")?;
     write_plant(alloc, p, &mut front).map_err(|_| NoMemory)?;
     Ok(front)
 }
