@@ -3,3 +3,4 @@ pub mod Accounts
 pub mod Crews
 pub mod Working
 pub mod Plays
+pub mod Here

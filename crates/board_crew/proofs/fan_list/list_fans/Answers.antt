@@ -1,6 +1,7 @@
 use Rattle.std.proofs.Common.{◌≡◌, ℕ, ◌*◌, ◌<◌, [], List, length, map, get_or, arith, sym, ap, ap₂, ◌∙◌}
 use Rattle.std.proofs.lemmas.List.{take_at, same_lists, length-map, get_or-map}
 use Rattle.game_core.specs.Game.{Game, IsGraph, pairs_of, successors_at}
+use Rattle.board_crew.proofs.Here.{here}
 use Rattle.board_crew.proofs.fan_list.list_fans.Goals as goal
 
 -- the numbers of all pairs, since each is that of its pair
@@ -11,7 +12,7 @@ all_fans xss fans many each =
 pub returns : goal.returns
 returns g c =
     let game : Game = g.G.Forward.game c.args.g.now in
-    let lawful : IsGraph game = (g.met.G.Forward g.world.𝓛 g.world.𝓜 g.world.𝓡 ((λ s x. x), (λ x. x), (λ x. x), λ x. x)).lawful c.args.g.now in
+    let lawful : IsGraph game = (g.met.G.Forward g.world.𝓛 g.world.𝓜 g.world.𝓡 (here g.world)).lawful c.args.g.now in
     let one_list_each = lawful.game.one_list_each in
     let found = c.par_chunks_mut_for_each.new.s in
     let pairs : c.cells.result * c.inputs.result ≡ pairs_of game = ap₂ ◌*◌ c.cells.ensures c.inputs.ensures in

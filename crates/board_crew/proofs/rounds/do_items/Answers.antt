@@ -4,6 +4,7 @@ use Rattle.std.proofs.lemmas.List.{take-append-le}
 use Rattle.board_crew.specs.Crew.{IsFresh, notes_of}
 use Rattle.board_crew.specs.inside.Workers.{HaveWorked}
 use Rattle.board_crew.proofs.Crews.{notes_swept}
+use Rattle.board_crew.proofs.Here.{here}
 use Rattle.board_crew.proofs.Working.{fresh_have_worked}
 use Rattle.board_crew.proofs.rounds.do_items.Goals as goal
 
@@ -15,7 +16,7 @@ pub work-requires-clause-sound : goal.work-requires-clause-sound
 work-requires-clause-sound g c =
     let turn = c.args.turn.now in
     λ _ _. fresh_have_worked (g.L.Rule.game turn.rule.now) (g.L.Rule.fits turn.rule.now) (g.L.Rule.keeps turn.rule.now turn.round) turn.board.now turn.list.now
-    c.requires.board (((g.met.L.Rule g.world.𝓛 g.world.𝓜 g.world.𝓡 ((λ s x. x), (λ x. x), (λ x. x), λ x. x)).leads_on turn.rule.now turn.board.now c.requires.board).fresh turn.round) c.as_mut_slice.result.now (subst (All (IsFresh turn.board.now)) (sym c.as_mut_slice.ensures.value) c.requires.fresh)
+    c.requires.board (((g.met.L.Rule g.world.𝓛 g.world.𝓜 g.world.𝓡 (here g.world)).leads_on turn.rule.now turn.board.now c.requires.board).fresh turn.round) c.as_mut_slice.result.now (subst (All (IsFresh turn.board.now)) (sym c.as_mut_slice.ensures.value) c.requires.fresh)
 
 pub returns-clause-worked : goal.returns-clause-worked
 returns-clause-worked g c =

@@ -5,6 +5,7 @@ use Rattle.cell_counters.specs.Tokens.{RootModel, IsLawful}
 use Rattle.board_crew.specs.Crew.{IsTalliedBy, accounts_of, notes_of}
 use Rattle.board_crew.specs.declared.rounds.Rounds.{Rounds}
 use Rattle.board_crew.specs.inside.Workers.{HaveWorked}
+use Rattle.board_crew.proofs.Here.{here}
 use Rattle.board_crew.proofs.Plays.{Played, cells_since, few_after, stands_after}
 use Rattle.board_crew.proofs.rounds.Rounds.play.Goals as goal
 
@@ -16,7 +17,7 @@ list_logged-self-requires-clause-places g c =
     let old = c.args.self.now in
     let keeps = g.L.Rule.keeps rule old.tally.rounds in
     let members = c.do_items.new.members.items in
-    let few = few_after game fits (g.L.Rule.first rule) (g.L.Rule.keeps rule) (g.L.Rule.stands rule) c.args.board.now ((g.met.L.Rule g.world.𝓛 g.world.𝓜 g.world.𝓡 ((λ s x. x), (λ x. x), (λ x. x), λ x. x)).leads_on rule c.args.board.now c.requires.board)
+    let few = few_after game fits (g.L.Rule.first rule) (g.L.Rule.keeps rule) (g.L.Rule.stands rule) c.args.board.now ((g.met.L.Rule g.world.𝓛 g.world.𝓜 g.world.𝓡 (here g.world)).leads_on rule c.args.board.now c.requires.board)
     c.args.workers old c.requires.stands (omega (arith, c.requires.some, old.list.ok.0)) members c.take_in.new.root.accounts
     (subst (λ l. HaveWorked game fits keeps c.args.board.now l members) c.as_slice.ensures.value c.do_items.ensures.worked)
     (subst (λ n. IsPermutation (range_with_len 0 n) (notes_of members)) (omega (arith, c.len-items.ensures, old.list.ok.0)) c.do_items.ensures.swept)
@@ -30,7 +31,7 @@ pub list_logged-self-requires-clause-few : goal.list_logged-self-requires-clause
 list_logged-self-requires-clause-few g c =
     let few = (list_logged-self-requires-clause-places g c).0 in
     let places = c.requires.places in
-    let most = ((g.met.L.Rule g.world.𝓛 g.world.𝓜 g.world.𝓡 ((λ s x. x), (λ x. x), (λ x. x), λ x. x)).leads_on c.args.rule.now c.args.board.now c.requires.board).graph.cells_bound in
+    let most = ((g.met.L.Rule g.world.𝓛 g.world.𝓜 g.world.𝓡 (here g.world)).leads_on c.args.rule.now c.args.board.now c.requires.board).graph.cells_bound in
     omega arith
 
 pub returns : goal.returns
@@ -71,6 +72,6 @@ returns g c =
       seats = (let a = c.take_in.ensures.room in let b = c.do_items.ensures.room in let d = c.deal.ensures.room in let e = c.requires.stands.seats in omega arith);
       room = (let a = c.list_logged-self.ensures.room in let e = c.requires.stands.room in omega arith);
     } in
-    let both = stands_after game fits (g.L.Rule.first rule) (g.L.Rule.keeps rule) (g.L.Rule.stands rule) board ((g.met.L.Rule g.world.𝓛 g.world.𝓜 g.world.𝓡 ((λ s x. x), (λ x. x), (λ x. x), λ x. x)).leads_on rule board c.requires.board)
+    let both = stands_after game fits (g.L.Rule.first rule) (g.L.Rule.keeps rule) (g.L.Rule.stands rule) board ((g.met.L.Rule g.world.𝓛 g.world.𝓜 g.world.𝓡 (here g.world)).leads_on rule board c.requires.board)
     c.args.workers old c.requires.stands (omega (arith, c.requires.some, old.list.ok.0)) new played in
     record { stands = both.0; nearer = both.1 }

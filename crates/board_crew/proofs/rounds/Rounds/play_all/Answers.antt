@@ -5,6 +5,7 @@ use Rattle.cell_counters.proofs.Consequences.{nothing_done}
 use Rattle.game_core.specs.declared.tally.Tally.{Tally}
 use Rattle.board_crew.specs.Crew.{IsTalliedBy}
 use Rattle.board_crew.specs.Rounds.{no_tally}
+use Rattle.board_crew.proofs.Here.{here}
 use Rattle.board_crew.proofs.rounds.Rounds.play_all.Goals as goal
 
 pub rounds-init : goal.rounds-init
@@ -19,7 +20,7 @@ rounds-init g c =
     let rounds : 0 ≡ old.tally.rounds = sym (ap (λ (t : Tally). t.rounds) unused.untallied) in
     let none_tallied : IsTalliedBy [] no_tally = record { cuts = refl; offers = refl } in
     record {
-      by_rule = subst (stands old.tally.rounds list.items) accounts (subst (λ d. stands d list.items []) rounds (subst (λ l. stands 0 l []) (sym c.gather.ensures.list) ((g.met.L.Rule g.world.𝓛 g.world.𝓜 g.world.𝓡 ((λ s x. x), (λ x. x), (λ x. x), λ x. x)).leads_on c.args.rule.now c.args.board.now c.requires.board).begins));
+      by_rule = subst (stands old.tally.rounds list.items) accounts (subst (λ d. stands d list.items []) rounds (subst (λ l. stands 0 l []) (sym c.gather.ensures.list) ((g.met.L.Rule g.world.𝓛 g.world.𝓜 g.world.𝓡 (here g.world)).leads_on c.args.rule.now c.args.board.now c.requires.board).begins));
       log = subst IsLawfulLog accounts nothing_done.2;
       all_listed = unused.unlisted ∙ ap log_count accounts;
       at = ap (λ (r : RootModel). r.board) is_new;
