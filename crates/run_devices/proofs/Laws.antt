@@ -1,5 +1,5 @@
 -- What holds of all devices, for the proofs of crates above.
-use Rattle.std.proofs.Common.{inl, inr, ◌≡◌, ℕ, ◌+◌, ◌-◌, ◌^◌, ◌<◌, ◌≤◌, List, Result, Ok, Err, subst, arith}
+use Rattle.std.proofs.Common.{inl, inr, ◌≡◌, ℕ, ◌-◌, ◌^◌, List, Result, Ok, Err, subst, arith}
 use Rattle.std.specs.Prelude.{OnOk, OnErr}
 use Rattle.std.proofs.lemmas.Bool.{cases_lt}
 use Rattle.run_devices.specs.Devices.{next_count, Rose, Writing, GainsWhole, GainsPart, Reports}

@@ -1,5 +1,5 @@
 -- Devices in memory, by what they still have and what becomes of the next call.
-use Rattle.std.specs.Prelude.{ℕ, ◌+◌, ◌-◌, ◌^◌, Bool, true, false, min, List, [], ◌∷◌, length}
+use Rattle.std.specs.Prelude.{ℕ, ◌-◌, Bool, true, false, List, [], ◌∷◌, length}
 
 -- The bytes that are left, the calls so far, the numbers of the calls that fail, and the faults so far.
 pub record MemoryLeft : Type 0 where

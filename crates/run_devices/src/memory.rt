@@ -1,4 +1,4 @@
-// Devices in memory.
+//! Devices in memory.
 
 ghost use Rattle.std.specs.Prelude.{◌≡◌, ◌<◌, ◌≤◌, ◌+◌, ◌-◌, ◌^◌, ◌↔◌, ◌⊎◌, [], true, Some, None, Ok, length, take, min, max, IsTrue, IsOk, IfOk, IfSome, IsErr, OnOk, OnErr};
 ghost use Rattle.std.specs.Io.KnownBytes.{Keeps};
@@ -38,6 +38,7 @@ impl Model for CleanSource {
 }
 
 impl CleanSource {
+    /// A source of which all these bytes are left.
     pub fn new(bytes: Vec<u8>) -> CleanSource
         ensures { result ≡ bytes.items }
     {
@@ -229,6 +230,7 @@ impl Model for CountSink {
 }
 
 impl CountSink {
+    /// A sink that took no byte yet.
     pub fn new() -> CountSink
         ensures { result ≡ 0 }
     {

@@ -1,4 +1,4 @@
-// Readers and writers as devices, which tell of their bytes what std does: the standard streams tell nothing.
+//! Readers and writers as devices, which tell of their bytes what std does: the standard streams tell nothing.
 
 ghost use Rattle.std.specs.Prelude.{◌≡◌};
 
@@ -46,6 +46,7 @@ pub type StdSink = WriterSink<Stdout>;
 pub type StdErrSink = WriterSink<Stderr>;
 
 impl<R> ReaderSource<R> {
+    /// A source over a reader, of which no call failed yet.
     pub fn new(reader: R) -> ReaderSource<R>
         ensures { result ≡ (reader, 0) }
     {
@@ -54,6 +55,7 @@ impl<R> ReaderSource<R> {
 }
 
 impl<W> WriterSink<W> {
+    /// A sink over a writer, of which no call failed yet.
     pub fn new(writer: W) -> WriterSink<W>
         ensures { result ≡ (writer, 0) }
     {
@@ -82,7 +84,7 @@ impl<W: Write> Sink for WriterSink<W> {
 
     ghost faults = { λ s. s.1 };
 
-    // A writer that takes nothing of a piece would be asked for ever.
+    /// A writer that takes nothing of a piece would be asked for ever: that is a failed call.
     fn write(&mut self, piece: &[u8]) -> Result<usize, Failed> {
         match self.writer.write(piece) {
             Ok(n) if n > 0 || piece.is_empty() => Ok(n),

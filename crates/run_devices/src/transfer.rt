@@ -1,8 +1,8 @@
-// Reading a source to its end, and writing a whole text.
+//! Reading a source to its end, and writing a whole text.
 
 ghost use Rattle.std.specs.List.{flat_map};
-ghost use Rattle.std.specs.Prelude.{◌≡◌, ◌≢◌, ◌<◌, ◌≤◌, ◌+◌, Ok, IfOk, IfErr, OnOk, OnErr, IsTrue, IsOk, Err, length};
-ghost use Rattle.run_devices.specs.Devices.{next_count, TakesAtMost, Gains, GainsWhole, GainsPart, writing};
+ghost use Rattle.std.specs.Prelude.{◌≡◌, ◌≢◌, ◌<◌, ◌≤◌, ◌+◌, Ok, IfOk, IfErr, OnOk, OnErr, IsTrue, Err, length};
+ghost use Rattle.run_devices.specs.Devices.{next_count, TakesAtMost, GainsWhole, GainsPart, writing};
 ghost use Rattle.run_devices.specs.Transfers.{ReadUpTo, StopsBy};
 ghost use Rattle.run_devices.specs.declared.transfer.ReadFault.TheVariants.{Memory, Device};
 ghost use Rattle.run_devices.specs.declared.transfer.WriteFault.TheVariants as writes;
@@ -11,13 +11,18 @@ use crate::devices::{Failed, Sink, Source};
 use std::alloc::{AllocError, Global};
 use text_pieces::Pieces;
 
-/// How many bytes are written at once.
-const PIECE: usize = 32_768;
+/// How many bytes are read at once, at most.
+const READ_BUFFER: usize = 4_096;
+
+/// How many bytes of a text are put together before they are written, at most.
+const WRITE_BUFFER: usize = 32_768;
 
 /// Why a source wasn't read.
 #[derive(Clone, Copy, Debug, PartialEq, Eq)]
 pub enum ReadFault {
+    /// A read failed.
     Device,
+    /// There was no memory left for what was read.
     Memory,
 }
 
@@ -75,7 +80,7 @@ pub fn read_up_to<S: Source>(
     ensures sound { IsTrue (S.is_sound source.old) → result ≢ Err ReadFault.Device }
 {
     let mut bytes = Vec::new(alloc);
-    let mut buffer = [0; 4096];
+    let mut buffer = [0; READ_BUFFER];
     while bytes.len() < most {
         let room = (most - bytes.len()).min(buffer.len());
         let n = source.read(&mut buffer[..room])?;
@@ -122,7 +127,7 @@ pub fn write_buffered<O: Sink, T: Pieces>(
     ensures whole { OnOk result (GainsWhole (writing O.got O.faults O.room out.old out.new) (T.left text.old)) }
     ensures stopped { IfErr result (λ fault. StopsBy fault (writing O.got O.faults O.room out.old out.new) (T.left text.old)) }
 {
-    let mut buffer = zeros(alloc, PIECE)?;
+    let mut buffer = zeros(alloc, WRITE_BUFFER)?;
     write_through(out, text, &mut buffer)?;
     Ok(())
 }
