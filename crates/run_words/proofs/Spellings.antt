@@ -1,5 +1,5 @@
 -- Words that spell the numbers of a state.
-use Rattle.std.proofs.Common.{Bor, ◌≡◌, ℕ, ◌+◌, ◌^◌, ◌<◌, ◌≤◌, List, [], ◌∷◌, ◌++◌, length, take, map, get_or, Some, refl, sym, ap, ◌∙◌, arith}
+use Rattle.std.proofs.Common.{Bor, ◌≡◌, ℕ, ◌^◌, ◌<◌, List, [], ◌∷◌, length, map, get_or, Some, refl, sym, ap, ◌∙◌, arith}
 use Rattle.std.specs.Prelude.{ℤ, pos, negsuc, Result}
 use Rattle.std.specs.Int.{w64}
 use Rattle.std.specs.Int.Signed.{mag}
@@ -9,8 +9,8 @@ use Rattle.std.specs.List.{All}
 use Rattle.std.specs.Fmt.{decimal, signed_decimal}
 use Rattle.std.proofs.lemmas.Fmt.{signed_decimal_injective, parse-decimal, parse-signed_decimal}
 use Rattle.std.proofs.lemmas.Int.{fits_signed_from_abs}
-use Rattle.std.proofs.lemmas.List.{length-map, get_or-map, map-append, map_more, length-take-le}
-use Rattle.std.proofs.lemmas.List.Elements.{All-head, All-tail, All-push, All-nil, All-get_or}
+use Rattle.std.proofs.lemmas.List.{length-map, get_or-map}
+use Rattle.std.proofs.lemmas.List.Elements.{All-head, All-tail, All-get_or}
 use Rattle.plant_record.specs.Numbers.{IsLiteral}
 use Rattle.run_words.specs.inside.Spelling.{Spell}
 
@@ -47,24 +47,6 @@ as_many words numbers s = sym (ap length s.spelled ∙ length-map numbers signed
 
 abbrev pub now : Bor (List ℕ) → List ℕ
 now word = word.now
-
-pub none_spelled : (words : List (Bor (List ℕ))) → Spell (map now (take 0 words)) []
-none_spelled words = record { spelled = refl; each = All-nil IsLiteral }
-
-pub as_many_so_far : (words : List (Bor (List ℕ))) (numbers : List ℤ) (i : ℕ) → i ≤ length words → Spell (map now (take i words)) numbers → length numbers ≡ i
-as_many_so_far words numbers i le s = as_many (map now (take i words)) numbers s ∙ length-map (take i words) now ∙ length-take-le i words le
-
--- one more word is spelled
-pub spelled_more : (words : List (Bor (List ℕ))) (numbers : List ℤ) (i : ℕ) (d : Bor (List ℕ)) (z : ℤ) → i < length words → Spell (map now (take i words)) numbers → IsLiteral z → (get_or words i d).now ≡ signed_decimal z
-    → Spell (map now (take (i + 1) words)) (numbers ++ z ∷ [])
-spelled_more words numbers i d z lt s few is = record {
-  spelled =
-      map_more now words i d lt
-      ∙ ap (λ (front : List (List ℕ)). front ++ (get_or words i d).now ∷ []) s.spelled
-      ∙ ap (λ (word : List ℕ). map signed_decimal numbers ++ word ∷ []) is
-      ∙ sym (map-append signed_decimal numbers (z ∷ []));
-  each = All-push IsLiteral numbers z s.each few;
-}
 
 -- a word that spells no number is in no such words
 pub no_spelling : (words : List (Bor (List ℕ))) (i : ℕ) (d : Bor (List ℕ)) → i < length words → ((z : ℤ) → IsLiteral z → (get_or words i d).now ≡ signed_decimal z → ⊥) → (numbers : List ℤ) → Spell (map now words) numbers → ⊥

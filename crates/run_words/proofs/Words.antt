@@ -8,7 +8,7 @@ use Rattle.run_words.specs.declared.form.Form.{Form}
 use Rattle.run_words.specs.declared.form.Form.TheVariants.{Synth, Check, Upgrade, Sim, Demo, Stay, Patrol}
 use Rattle.run_words.specs.Form.{AreWorkers, IsDemoNumber, IsOfForm}
 use Rattle.run_words.specs.inside.Spelling.{Spell}
-use Rattle.run_words.proofs.Spellings.{one_spelling, as_many}
+use Rattle.run_words.proofs.Spellings.{one_spelling}
 
 -- ---- words are of one form
 
@@ -152,15 +152,6 @@ no_demo_form command number workers other (Demo n w) h = let same = third h.0 in
 no_demo_form command number workers other (Sim samples seed start) h = not_sim (command ∷ number ∷ workers ∷ []) samples seed start (omega arith) h
 
 -- ---- the forms of four words and more
-
-pub is_sim_form : (command samples seed : List ℕ) (numbers : List (List ℕ)) (m s : ℕ) (start : List ℤ) → command ≡ codes "sim" → samples ≡ decimal m → m ≤ 1000000 → seed ≡ decimal s → s < 2 ^ 64 → Spell numbers start → 1 ≤ length numbers → length numbers ≤ 6
-    → IsOfForm (command ∷ samples ∷ seed ∷ numbers) (Sim m s start)
-is_sim_form command samples seed numbers m s start c d few e lt spelled some most = (
-  rw (c, d, e, spelled.spelled) refl,
-  few,
-  lt,
-  record { some = omega (arith, some, as_many numbers start spelled); most = omega (arith, most, as_many numbers start spelled); each = spelled.each },
-)
 
 -- a form of four words or more is `sim`
 pub no_sim_form : (command samples seed : List ℕ) (numbers : List (List ℕ)) → 1 ≤ length numbers → ((m s : ℕ) (start : List ℤ) → command ≡ codes "sim" → samples ≡ decimal m → m ≤ 1000000 → seed ≡ decimal s → s < 2 ^ 64 → Spell numbers start → ⊥)

@@ -8,7 +8,16 @@ ghost use Rattle.run_words.specs.declared.form.Form.{Form};
 use crate::state_numbers::StateNumbers;
 use itoa::Buffer;
 
-/// More than a number of 18 digits.
+/// The greatest number of samples of a trace.
+const MOST_SAMPLES: u64 = 1_000_000;
+
+/// The greatest number of workers.
+const MOST_WORKERS: u64 = 64;
+
+/// The greatest number of a demo plant.
+const MOST_DEMO: u64 = 500;
+
+/// One more than the greatest magnitude of a number in the words.
 const NUMBER_LIMIT: u64 = 1_000_000_000_000_000_000;
 
 /// What the words ask for.
@@ -105,7 +114,7 @@ fn form_of_more(command: &str, samples: &str, seed: &str, numbers: &[&str]) -> O
     ensures found { IfSome result (IsOfForm (command.now ∷ samples.now ∷ seed.now ∷ map (λ w. w.now) numbers.now)) }
     ensures none { IfNone result ((f : Form) → IsOfForm (command.now ∷ samples.now ∷ seed.now ∷ map (λ w. w.now) numbers.now) f → ⊥) }
 {
-    let samples = number_of(samples, 1_000_000)? as u32;
+    let samples = number_of(samples, MOST_SAMPLES)? as u32;
     let seed = number_of(seed, u64::MAX)?;
     let start = start_of(numbers)?;
     if is_sim(command) {
@@ -124,7 +133,7 @@ pub fn workers_of(word: &str) -> Option<u32>
     ensures found { IfSome result (λ n. AreWorkers n × (word.now ≡ decimal n)) }
     ensures none { IfNone result ((n : ℕ) → AreWorkers n → word.now ≡ decimal n → ⊥) }
 {
-    match number_of(word, 64)? {
+    match number_of(word, MOST_WORKERS)? {
         0 => None,
         workers => Some(workers as u32),
     }
@@ -135,7 +144,7 @@ fn demo_number_of(word: &str) -> Option<u32>
     ensures found { IfSome result (λ n. IsDemoNumber n × (word.now ≡ decimal n)) }
     ensures none { IfNone result ((n : ℕ) → IsDemoNumber n → word.now ≡ decimal n → ⊥) }
 {
-    match number_of(word, 500)? {
+    match number_of(word, MOST_DEMO)? {
         0 => None,
         number => Some(number as u32),
     }

@@ -38,6 +38,7 @@ impl StateNumbers {
         }
     }
 
+    /// Puts a number behind the others.
     pub fn push(&mut self, number: i128)
         requires { length self.old < 6 }
         ensures { self.new ≡ self.old ++ number ∷ [] }
@@ -46,6 +47,7 @@ impl StateNumbers {
         self.count += 1;
     }
 
+    /// How many numbers there are.
     pub fn count(&self) -> u32
         ensures { result ≡ length self.now }
     {
