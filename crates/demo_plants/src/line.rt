@@ -1,4 +1,4 @@
-// The line that sums up a solved demo plant.
+//! The line that sums up a solved demo plant.
 
 ghost use Rattle.std.specs.Prelude.{◌≡◌, map, length, count_by, sum_by, IfOk};
 ghost use Rattle.std.specs.Option.{is_some};
@@ -58,7 +58,6 @@ fn count_won(answer: &Answer) -> u32
 }
 
 /// The greatest rank, or 0 where no cell has a row.
-#[tactic(auto, using(crate::proofs::lemmas::GreatestRank::greatest_same, crate::proofs::lemmas::GreatestRank::greatest_more))]
 fn greatest_rank(answer: &Answer) -> u32
     ensures { result ≡ greatest (map rank_in answer.now) }
 {

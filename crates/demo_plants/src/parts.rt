@@ -1,4 +1,4 @@
-// Pieces of texts.
+//! Pieces of texts.
 
 ghost use Rattle.std.specs.Prelude.{◌≡◌, ◌++◌, OnOk};
 ghost use Rattle.std.specs.Fmt.{decimal};

@@ -1,6 +1,6 @@
-// The demo plants.
+//! The demo plants.
 
-ghost use Rattle.std.specs.Prelude.{◌≡◌, ◌≤◌, ◌+◌, ◌-◌, ◌*◌, ◌++◌, codes, IfOk, OnOk};
+ghost use Rattle.std.specs.Prelude.{◌≡◌, ◌+◌, ◌-◌, ◌*◌, ◌++◌, codes, IfOk, OnOk};
 ghost use Rattle.std.specs.Fmt.{decimal};
 ghost use Rattle.run_words.specs.Form.{IsDemoNumber};
 ghost use Rattle.demo_plants.specs.Demo.{demo_plant_of, demo_text};

@@ -1,4 +1,4 @@
-use Rattle.demo_plants.proofs.lemmas.Sizes.{within_limits}
+use Rattle.demo_plants.proofs.Sizes.{within_limits}
 use Rattle.demo_plants.proofs.laws.demo_plants_are_within_limits.Goals as goal
 
 pub returns : goal.returns

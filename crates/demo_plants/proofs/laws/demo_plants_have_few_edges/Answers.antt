@@ -1,4 +1,4 @@
-use Rattle.demo_plants.proofs.lemmas.FewEdges.{few_edges}
+use Rattle.demo_plants.proofs.FewEdges.{few_edges}
 use Rattle.demo_plants.proofs.laws.demo_plants_have_few_edges.Goals as goal
 
 pub returns : goal.returns

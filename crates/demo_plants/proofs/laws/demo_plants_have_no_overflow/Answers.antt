@@ -1,4 +1,4 @@
-use Rattle.demo_plants.proofs.lemmas.Overflows.{no_overflow}
+use Rattle.demo_plants.proofs.Overflows.{no_overflow}
 use Rattle.demo_plants.proofs.laws.demo_plants_have_no_overflow.Goals as goal
 
 pub returns : goal.returns

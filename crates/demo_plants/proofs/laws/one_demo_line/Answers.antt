@@ -3,7 +3,7 @@ use Rattle.game_core.specs.declared.game.Row.{Row}
 use Rattle.plant_game.proofs.EdgeCounts.{one_edge_count}
 use Rattle.plant_game.proofs.OneSolution.{one_plant_solution}
 use Rattle.demo_plants.specs.Demo.{demo_plant_of, demo_line}
-use Rattle.demo_plants.proofs.lemmas.Sizes.{within_limits}
+use Rattle.demo_plants.proofs.Sizes.{within_limits}
 use Rattle.demo_plants.proofs.laws.one_demo_line.Goals as goal
 
 pub returns : goal.returns

@@ -7,8 +7,8 @@ use Rattle.plant_text.specs.Refusals.{IsRefusedFor}
 use Rattle.plant_text.proofs.lemmas.LinesLead.{one_plant, read_or_refused}
 use Rattle.run_words.specs.Form.{IsDemoNumber}
 use Rattle.demo_plants.specs.Demo.{demo_plant_of, demo_text}
-use Rattle.demo_plants.proofs.lemmas.Sizes.{within_limits}
-use Rattle.demo_plants.proofs.lemmas.Texts.{texts_spell}
+use Rattle.demo_plants.proofs.Sizes.{within_limits}
+use Rattle.demo_plants.proofs.Texts.{texts_spell}
 use Rattle.demo_plants.proofs.plant.demo_plant.Goals as goal
 
 module _ (n : ℕ) (size : IsDemoNumber n) (bytes : List ℕ) (is : bytes ≡ demo_text n) where

@@ -2,7 +2,7 @@ use Rattle.std.proofs.Common.{◌≡◌, ◌≢◌, subst}
 use Rattle.std.specs.Prelude.{IfOk}
 use Rattle.plant_record.specs.Description.{Description}
 use Rattle.plant_game.specs.Abstraction.{IsGameOf}
-use Rattle.demo_plants.proofs.lemmas.Solvable.{solvable}
+use Rattle.demo_plants.proofs.Solvable.{solvable}
 use Rattle.abstraction_table.specs.Table.{game_ahead}
 use Rattle.abstraction_table.specs.declared.outlook.Outlook.{Outlook}
 use Rattle.synth_run.specs.Demands.{PlantDemands}

@@ -3,9 +3,9 @@ use Rattle.std.proofs.Common.{◌≡◌, ℕ, arith, refl}
 use Rattle.plant_record.specs.declared.aims.GoalKind.TheVariants.{Reach}
 use Rattle.demo_plants.specs.Demo.{demo_plant_of}
 use Rattle.demo_plants.specs.Laws.{DemoPlantsAreSolvable}
-use Rattle.demo_plants.proofs.lemmas.FewEdges.{few_edges}
-use Rattle.demo_plants.proofs.lemmas.Overflows as overflows
-use Rattle.demo_plants.proofs.lemmas.Sizes.{within_limits}
+use Rattle.demo_plants.proofs.FewEdges.{few_edges}
+use Rattle.demo_plants.proofs.Overflows as overflows
+use Rattle.demo_plants.proofs.Sizes.{within_limits}
 
 aims_at_targets : (n : ℕ) → (demo_plant_of n).goal ≡ Reach
 unfolding demo_plant_of

@@ -7,7 +7,7 @@ use Rattle.std.proofs.lemmas.List.Elements.{All-contains_itself}
 use Rattle.grid_quantiser.specs.declared.axis.Axis.{Axis}
 use Rattle.grid_quantiser.specs.Cells.{IsPointOf, place_of}
 use Rattle.grid_quantiser.specs.Boxes.{IsBoxInDomain, IsInBox, Touches, AreCellsMeeting}
-use Rattle.demo_plants.proofs.lemmas.NineCells.{IsNear, at_most_nine}
+use Rattle.demo_plants.proofs.NineCells.{IsNear, at_most_nine}
 
 -- the axes of places and speeds
 abbrev pub place_axis : ℕ → Axis

@@ -10,8 +10,8 @@ use Rattle.successor_box.specs.Boxes.{IsEnabledAt, AreSuccessors, central_values
 use Rattle.plant_game.specs.Abstraction.{pairs_of, pair_of, AreEdges}
 use Rattle.demo_plants.specs.Demo.{demo_plant_of, place, place_step, speed_step}
 use Rattle.demo_plants.specs.Laws.{DemoPlantsHaveFewEdges}
-use Rattle.demo_plants.proofs.lemmas.Sizes.{within_limits}
-use Rattle.demo_plants.proofs.lemmas.FewSuccessors.{few_cells}
+use Rattle.demo_plants.proofs.Sizes.{within_limits}
+use Rattle.demo_plants.proofs.FewSuccessors.{few_cells}
 
 few_where_enabled : (n c u : ℕ) (cells : List ℕ) → AreSuccessors (demo_plant_of n) c u cells → IsEnabledAt (demo_plant_of n) c u → length cells ≤ 9
 unfolding demo_plant_of

@@ -11,7 +11,7 @@ use Rattle.plant_text.proofs.lemmas.SpelledCanonically.{canonical_texts_spell}
 use Rattle.run_words.specs.Form.{IsDemoNumber}
 use Rattle.demo_plants.specs.Demo.{demo_plant_of, demo_text, place, demo_target, fast_forwards, fast_backwards}
 use Rattle.demo_plants.specs.Laws.{DemoTextsSpell}
-use Rattle.demo_plants.proofs.lemmas.Sizes.{within_limits}
+use Rattle.demo_plants.proofs.Sizes.{within_limits}
 
 -- a number behind one piece, with two more pieces behind it
 one_number : (a d b c : List ℕ) → a ++ (d ++ (b ++ c)) ≡ a ++ ((d ++ b) ++ c)
