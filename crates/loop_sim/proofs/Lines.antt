@@ -1,5 +1,5 @@
 -- The lines of a trace, word by word.
-use Rattle.std.proofs.Common.{◌≡◌, ℕ, suc, ◌+◌, ◌<◌, List, [], ◌∷◌, ◌++◌, length, get_or, take, drop, drop-cons, sym, ap, ◌∙◌, append_assoc, arith}
+use Rattle.std.proofs.Common.{◌≡◌, ℕ, List, [], ◌∷◌, ◌++◌, length, take, sym, ap, ◌∙◌, append_assoc}
 use Rattle.std.specs.Prelude.{ℤ, codes}
 use Rattle.std.specs.List.{flat_map, join_with_byte}
 use Rattle.std.specs.Fmt.{decimal, signed_decimal}
@@ -22,16 +22,6 @@ spaced word = 32 ∷ word
 pub joined_words : (word : List ℕ) (words : List (List ℕ)) → join_with_byte 32 (word ∷ words) ≡ word ++ flat_map spaced words
 joined_words word [] = sym (append-nil word)
 joined_words word (next ∷ words) = ap (λ (x : List ℕ). word ++ 32 ∷ x) (joined_words next words)
-
--- one number more, from a place on
-pub state_more : (text : List ℕ) (x : List ℤ) (i : ℕ) (z : ℤ) → i < length x → z ≡ get_or x i z → 32 ∷ (signed_decimal z ++ (state_text (drop (i + 1) x) ++ text)) ≡ state_text (drop i x) ++ text
-state_more text x i z lt z_is =
-    let next : i + 1 ≡ suc i = omega arith in
-    let e : 32 ∷ (signed_decimal z ++ (state_text (drop (suc i) x) ++ text)) ≡ state_text (z ∷ drop (suc i) x) ++ text = sym (append_assoc (32 ∷ signed_decimal z) (state_text (drop (suc i) x)) text) in
-    ap (λ (k : ℕ). 32 ∷ (signed_decimal z ++ (state_text (drop k x) ++ text))) next
-    ∙ e
-    ∙ ap (λ (y : ℤ). state_text (y ∷ drop (suc i) x) ++ text) z_is
-    ∙ ap (λ (ys : List ℤ). state_text ys ++ text) (sym (drop-cons x i z lt))
 
 in_order : (a b r i space feed : List ℕ) → a ++ (b ++ (space ++ (r ++ (space ++ (i ++ feed))))) ≡ (a ++ (b ++ (space ++ (r ++ (space ++ (i ++ [])))))) ++ feed
 in_order a b r i space feed = simp (append_assoc, append-nil)

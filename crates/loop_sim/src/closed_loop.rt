@@ -1,4 +1,4 @@
-// A closed loop, sample by sample.
+//! A closed loop, sample by sample.
 
 ghost use Rattle.std.specs.Prelude.{◌≡◌, ◌<◌, ◌∷◌, Some};
 ghost use Rattle.plant_record.specs.Limits.{IsWithinLimits};
@@ -21,8 +21,9 @@ pub(crate) struct Sample {
     pub x: Point,
     /// The samples that may follow.
     pub left: u32,
-    /// The state of the noises' generator before this sample, and as the trace began.
+    /// The state of the noises' generator before this sample.
     pub state: u64,
+    /// That state as the trace began. Contracts alone need it.
     pub seed: u64,
 }
 

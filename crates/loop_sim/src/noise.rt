@@ -1,4 +1,4 @@
-// The noises of a sample, drawn by a generator.
+//! The noises of a sample, drawn by a generator.
 
 ghost use Rattle.std.specs.Prelude.{◌≡◌, ◌+◌, ◌/◌, ◌%◌, ◌^◌, ◌<◌, nat_abs, pos, ◌+ℤ◌, ◌-ℤ◌, length};
 ghost use Rattle.grid_quantiser.specs.Cells.{point_of};
@@ -8,8 +8,10 @@ ghost use Rattle.loop_sim.specs.Noise.{generator, next_state, noises_from};
 use grid_quantiser::Point;
 use plant_record::Plant;
 
+/// The multiplier of the generator, that of MMIX by Knuth.
 const MULTIPLIER: u64 = 6364136223846793005;
 
+/// The increment of that generator.
 const INCREMENT: u64 = 1442695040888963407;
 
 /// The noises that follow a state of the generator, one for each noise of the plant, and the state

@@ -77,7 +77,7 @@ impl<'a> Sim<'a> {
     }
 }
 
-// A state as a point, with 0 in the places past the states.
+/// A state as a point, with 0 in the places past the states.
 fn start_of(t: &Table, x: &Point) -> Point
     ensures { result ≡ point_of (take (length t.now.plant.states) x.now) }
 {

@@ -1,4 +1,4 @@
-// The text of one line of a trace.
+//! The text of one line of a trace.
 
 ghost use Rattle.std.specs.Prelude.{◌≡◌, ◌+◌, ◌*◌, ◌<◌, ◌≤◌, ◌∷◌, ◌++◌, [], length};
 ghost use Rattle.std.specs.Fmt.{decimal};
@@ -8,6 +8,7 @@ ghost use Rattle.loop_sim.specs.inside.States.{state_text};
 use crate::line::SimLine;
 use controller_table::words_of;
 use game_core::Row;
+use grid_quantiser::Point;
 use itoa::Buffer;
 use plant_record::Plant;
 use row_runs::LineText;
@@ -32,7 +33,7 @@ pub(crate) fn write_line(text: &mut LineText, p: &Plant, line: &SimLine)
     }
 }
 
-fn write_sample(text: &mut LineText, p: &Plant, time: u32, x: &[i128; 6], row: Row)
+fn write_sample(text: &mut LineText, p: &Plant, time: u32, x: &Point, row: Row)
     ensures text { text.new ≡ line_text p.now (SimLine.At time x.now row) }
     ensures some { 0 < length text.new }
 {
@@ -42,7 +43,7 @@ fn write_sample(text: &mut LineText, p: &Plant, time: u32, x: &[i128; 6], row: R
     text.put_number_before(time);
 }
 
-fn write_loss(text: &mut LineText, p: &Plant, time: u32, x: &[i128; 6])
+fn write_loss(text: &mut LineText, p: &Plant, time: u32, x: &Point)
     ensures text { text.new ≡ line_text p.now (SimLine.Lost time x.now) }
     ensures some { 0 < length text.new }
 {
