@@ -22,8 +22,3 @@ pub covers_found : (known now : Option Published) (a f : Published) → Covers k
 covers_found known now a f h begins is =
     let b : Begins (Some h.all) (Some f) = subst (λ (z : Option Published × Option Published). Begins z.0 z.1) (λ i. (h.is i, is i)) begins in
     (h.opening ∙ b.0, prefix_trans a.list h.all.list f.list h.begins b.1)
-
--- and is covered by who looked
-pub covers_later : (known now : Option Published) (a f : Published) → Covers known a → Begins known now → now ≡ Some f → Covers now a
-covers_later known now a f h begins is = let t = covers_found known now a f h begins is in
-    record { all = f; is = is; opening = t.0; begins = t.1 }

@@ -1,4 +1,4 @@
-// The list of publishes of one opening, which only grows. It stands in contracts alone: a program has its length.
+//! The list of publishes of one opening, which only grows. It stands in contracts alone: a program has its length.
 
 ghost use Rattle.std.specs.Prelude.{◌≡◌, ◌+◌, ◌<◌, ◌^◌, [], ◌∷◌, length, IfSome};
 ghost use Rattle.live_table.specs.Publishes.{with_table};

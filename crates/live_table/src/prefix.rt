@@ -1,4 +1,4 @@
-// A prefix of the list of publishes of one opening.
+//! A prefix of the list of publishes of one opening.
 
 ghost use Rattle.std.specs.Prelude.{◌≡◌, length, MatchBool};
 ghost use mathlib.Core.List.{IsPrefix};

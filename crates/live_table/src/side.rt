@@ -1,4 +1,4 @@
-// What lies on the two sides of a live table, and the rule over it.
+//! What lies on the two sides of a live table, and the rule over it.
 
 ghost use Rattle.std.specs.Prelude.{◌≡◌};
 
