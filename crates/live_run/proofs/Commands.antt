@@ -11,7 +11,7 @@ use Rattle.live_script.specs.declared.fault.ScriptFault.{ScriptFault}
 use Rattle.live_script.specs.declared.fault.ScriptFault.TheVariants.{Malformed, Limit, ScriptTooLong, TooManyTables, Memory}
 use Rattle.live_script.specs.Questions.{IsAnswerOf}
 use Rattle.live_script.specs.Scripts.{Spell, FitsBehind, tables_behind, published, SpellBehind, IsShortScript}
-use Rattle.live_script.specs.LiveText.{IsAnswerLine, AreAnswers, IsLiveText, answer_line}
+use Rattle.live_script.specs.LiveText.{IsAnswerLine, AreAnswers, answer_line}
 use Rattle.live_script.specs.Reading.{Unread, IsTaken}
 use Rattle.live_script.specs.Refusals.{IsRefusedBehind, IsScriptRefusedFor}
 use Rattle.live_run.specs.inside.Sessions.{Standing}
@@ -119,17 +119,6 @@ pub executed : (script : List ℕ) (before after : Unread) (old new : Standing) 
 executed script before after old new text longer (Publish t) so_far taken done = rw done.1 (table_published script before after old new text t so_far taken done.0)
 executed script before after old new text longer (Ask numbers) so_far taken done = rw done.1.2 (question_answered script before after old new text numbers done.1.0 so_far taken done.1.1 done.0)
 
-pub all_answered : (script : List ℕ) (unread : Unread) (standing : Standing) (text : List ℕ) → IsAnsweredSoFar script unread standing text → IsShortScript script → unread.rest ≡ [] → 0 < unread.tables → IsLiveText script text
-all_answered script unread standing text so_far short ended some = record {
-  commands = so_far.commands;
-  is_script = record {
-    short = short;
-    spell = subst (λ (x : List ℕ). SpellBehind 0 x so_far.commands) (sym (so_far.are ∙ ap (λ (x : List ℕ). so_far.front ++ x) ended ∙ append-nil so_far.front)) so_far.spell;
-    some_table = omega (arith, some, so_far.tables);
-  };
-  answers = so_far.answers;
-}
-
 -- what is refused behind these commands is the script's refusal
 refused_behind : (script : List ℕ) (unread : Unread) (standing : Standing) (text : List ℕ) (fault : ScriptFault) → IsAnsweredSoFar script unread standing text → IsShortScript script → IsRefusedBehind unread.tables unread.line unread.rest fault → IsScriptRefusedFor script fault
 refused_behind script unread standing text fault so_far short refused = by_fault fault (rw (← so_far.tables, ← so_far.line) refused)
@@ -149,7 +138,3 @@ stopped script unread standing text (Limit what) so_far short why = inr (Limit w
 stopped script unread standing text ScriptTooLong so_far short why = inr (ScriptTooLong, refl, refused_behind script unread standing text ScriptTooLong so_far short (why (λ e. cc)))
 stopped script unread standing text TooManyTables so_far short why = inr (TooManyTables, refl, refused_behind script unread standing text TooManyTables so_far short (why (λ e. cc)))
 stopped script unread standing text Memory so_far short why = inl refl
-
--- a command has its place behind the tables that stand
-pub fits_standing : (script : List ℕ) (before after : Unread) (standing : Standing) (text : List ℕ) (c : Command) → IsAnsweredSoFar script before standing text → IsTaken before c after → FitsBehind standing.count c
-fits_standing script before after standing text c so_far taken = subst (λ (n : ℕ). FitsBehind n c) (so_far.tables ∙ sym so_far.count) taken.fits

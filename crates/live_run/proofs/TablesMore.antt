@@ -4,11 +4,9 @@ use Rattle.std.specs.Prelude.{ℤ, IfSome}
 use Rattle.std.proofs.lemmas.Bool.{lt-ltb, cases_lt}
 use Rattle.std.proofs.lemmas.Grind.{get_or-set_at}
 use Rattle.std.proofs.Math.ListN.{length-set}
-use mathlib.Core.List.{IsPrefix}
 use Rattle.grid_quantiser.specs.Cells.{point_of}
 use Rattle.controller_table.specs.Tables.{TableModel}
-use Rattle.live_table.specs.Publishes.{Published, Listener, longer, EndsWith, IsChoiceOf, LastChooses, Answers}
-use Rattle.live_table.proofs.Prefixes.{prefix_whole}
+use Rattle.live_table.specs.Publishes.{Published, Listener, longer, EndsWith, IsChoiceOf, LastChooses}
 use Rattle.live_script.specs.Questions.{IsAnswerOf}
 use Rattle.live_run.specs.inside.Sessions.{InStep, Fits, GoOnWith}
 
@@ -43,26 +41,12 @@ pub chosen_is_answer : (t : TableModel) (numbers : List ℤ) (choice : Option �
 chosen_is_answer t numbers None size h = record { chosen = tt; none = λ u _. h.none u }
 chosen_is_answer t numbers (Some u) size h = record { chosen = (size, h.chosen); none = tt }
 
--- other numbers have no answer
-pub no_answer : (t : TableModel) (numbers : List ℤ) → (length numbers ≡ length t.plant.states → ⊥) → IsAnswerOf t numbers None
-no_answer t numbers other = record { chosen = tt; none = λ u same _. other same }
-
 -- what readers answer, who have so many tables
 pub readers_answer : (p : Published) (count : ℕ) (t : TableModel) (numbers : List ℤ) (choice : Option ℕ) → Fits (Some p) count (Some t) → length numbers ≡ length t.plant.states → LastChooses p.list (point_of numbers) choice → IsAnswerOf t numbers choice
 readers_answer p count t numbers choice fits size h =
     chosen_is_answer t numbers choice size (subst (λ (u : TableModel). IsChoiceOf u (point_of numbers) choice) (one_last p.list h.0 t h.1 fits.1) h.2)
 
 -- ---- readers in step
-
--- an answer by as many tables as are published is that of the last one
-pub answers_by_last : (p : Published) (before after : Listener) (x : List ℤ) (number : ℕ) (choice : Option ℕ) → InStep p before → Answers before after x number choice → number ≡ length p.list → LastChooses p.list x choice
-answers_by_last p before after x number choice step h all =
-    let told : IsPrefix p.list after.seen = subst (λ (l : List TableModel). IsPrefix l after.seen) step.1 h.goes_on_from_told in
-    let same : p.list ≡ after.seen = prefix_whole p.list after.seen told (omega (arith, h.counts, all)) in
-    subst (λ (l : List TableModel). LastChooses l x choice) (sym same) h.chooses
-
-pub still_in_step : (p : Published) (before after : Listener) → InStep p before → after.told ≡ before.told → after.opening ≡ before.opening → InStep p after
-still_in_step p before after step told opening = (opening ∙ step.0, told ∙ step.1)
 
 -- who was told of less is told of all
 pub in_step_again : (p : Published) (before after : Listener) → before.opening ≡ p.opening → length before.told < length p.list → after ≡ record before { told = longer before.told p.list } → InStep p after

@@ -13,7 +13,7 @@ use std::alloc::Global;
 use std::sync::Wait;
 
 /// The answers to a script, by so many readers.
-pub(crate) fn answer<R: Wait>(
+pub(crate) fn answers_to<R: Wait>(
     rt: &R,
     alloc: Global,
     readers: u32,
@@ -24,13 +24,13 @@ pub(crate) fn answer<R: Wait>(
     ensures refused { IfErr result (IsRefusal script.now) }
 {
     let mut session = Session::new(readers);
-    let text = answer_all(rt, alloc, &mut session, script);
+    let text = answers_in(rt, alloc, &mut session, script);
     session.close(rt);
     text
 }
 
-/// The answers to a script, where no table is published yet.
-fn answer_all<R: Wait>(
+/// The answers to a script in a session, where no table is published yet.
+fn answers_in<R: Wait>(
     rt: &R,
     alloc: Global,
     session: &mut Session,

@@ -15,15 +15,23 @@ use std::alloc::AllocError;
 /// How a run of a live script ended.
 #[derive(Clone, Copy)]
 pub enum LiveOutcome {
+    /// The answers were written whole.
     Done,
+    /// The words aren't `live` and a number of readers; nothing was read.
     Usage,
+    /// The first line that doesn't fit behind those before it, counted from 1 through the whole script.
     Malformed { line: u64 },
     /// The plant of a table exceeds a limit.
     Limit { what: LimitKind },
+    /// The script has more than 67,108,864 bytes.
     ScriptTooLong,
+    /// A ninth table is announced.
     TooManyTables,
+    /// A read failed.
     ReadFault,
+    /// A write failed, and a part of the answers was written.
     WriteFault,
+    /// There was no memory left, and nothing was written.
     NoMemory,
 }
 

@@ -1,5 +1,4 @@
 ghost use Rattle.std.specs.Prelude.{◌≡◌, ◌+◌, ◌^◌, ◌<◌, ◌≤◌, length, Some, None, OnOk, OnErr, IfSome, IfNone};
-ghost use Rattle.controller_table.specs.Tables.{TableModel};
 ghost use Rattle.live_script.specs.Questions.{IsAnswerOf};
 ghost use Rattle.live_run.specs.inside.Sessions.{GoOnWith};
 
@@ -16,7 +15,9 @@ use std::sync::Wait;
 ///
 /// Seen as how many tables they are, and the last.
 pub(crate) struct Session {
-    workers: u32,
+    /// How many readers are opened with the first table.
+    reader_count: u32,
+    /// How many tables are published.
     count: u32,
     /// Kept, since its readers may be refused.
     table: Option<Table>,
@@ -36,16 +37,17 @@ impl Model for Session {
 
     ghost view = { λ s. record { count = s.count; table = s.table } };
 
-    ghost invariant = { λ s. (1 ≤ s.workers) × (s.workers ≤ 64) × Fits s.readers s.count s.table };
+    ghost invariant = { λ s. (1 ≤ s.reader_count) × (s.reader_count ≤ 64) × Fits s.readers s.count s.table };
 }
 
 impl Session {
-    pub(crate) fn new(workers: u32) -> Session
-        requires { (1 ≤ workers) × (workers ≤ 64) }
+    /// No table yet, and so many readers with the first.
+    pub(crate) fn new(reader_count: u32) -> Session
+        requires { (1 ≤ reader_count) × (reader_count ≤ 64) }
         ensures { result ≡ record { count = 0; table = None } }
     {
         Session {
-            workers,
+            reader_count,
             count: 0,
             table: None,
             readers: None,
@@ -70,7 +72,7 @@ impl Session {
         ensures { OnOk result (self.new ≡ record { count = self.old.count + 1; table = Some table }) }
     {
         let copy = table.copy(alloc)?;
-        let opened = opened_with(self.count, self.workers);
+        let opened = opened_with(self.count, self.reader_count);
         replace_with(
             &mut self.readers,
             (rt, alloc, copy, opened),
@@ -103,7 +105,7 @@ impl Session {
 
     pub(crate) fn close<R: Wait>(self, rt: &R) {
         let Session {
-            workers: _,
+            reader_count: _,
             count: _,
             table: _,
             readers,
@@ -115,13 +117,13 @@ impl Session {
 }
 
 /// How many readers are opened with a table behind so many: all with the first.
-fn opened_with(count: u32, workers: u32) -> Option<u32>
-    requires { (1 ≤ workers) × (workers ≤ 64) }
+fn opened_with(count: u32, reader_count: u32) -> Option<u32>
+    requires { (1 ≤ reader_count) × (reader_count ≤ 64) }
     ensures first { IfSome result (λ _. count ≡ 0) }
     ensures later { IfNone result (count ≡ 0 → ⊥) }
-    ensures workers { IfSome result (λ readers. (1 ≤ readers) × (readers ≤ 64)) }
+    ensures readers { IfSome result (λ readers. (1 ≤ readers) × (readers ≤ 64)) }
 {
-    if count == 0 { Some(workers) } else { None }
+    if count == 0 { Some(reader_count) } else { None }
 }
 
 /// Brings a table into force among readers that answer by the one before it, or opens so many with it. None from a

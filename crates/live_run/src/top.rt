@@ -1,10 +1,10 @@
-ghost use Rattle.std.specs.Prelude.{◌≡◌, ◌≢◌, ℕ, List, map, IfSome, IfOk, IfErr};
+ghost use Rattle.std.specs.Prelude.{◌≡◌, ℕ, map, IfSome, IfOk, IfErr};
 ghost use Rattle.run_devices.specs.Devices.{Rose, reading, writing};
 ghost use Rattle.run_words.specs.Form.{AreWorkers};
 ghost use Rattle.live_run.specs.LiveRuns.{IsLiveForm, IsLiveEnd, Gives, IsLiveRun, IsAnswered, IsCompleteAnswer};
 ghost use Rattle.live_run.specs.inside.Working.{IsWorkedOut, IsTurnedDown};
 
-use crate::answering::answer;
+use crate::answering::answers_to;
 use crate::outcome::LiveOutcome;
 use crate::words::readers_in;
 use live_script::SCRIPT_LIMIT;
@@ -13,7 +13,7 @@ use std::alloc::Global;
 use std::sync::Wait;
 
 /// The answers to the script on the source.
-fn answers<R: Wait, S: Source>(
+fn answers_on_source<R: Wait, S: Source>(
     rt: &R,
     alloc: Global,
     readers: u32,
@@ -24,7 +24,7 @@ fn answers<R: Wait, S: Source>(
     ensures refusal { IfErr result (λ outcome. IsTurnedDown outcome (reading S.left S.faults S.is_sound source.old source.new)) }
 {
     let script = read_up_to(alloc, source, SCRIPT_LIMIT + 1)?;
-    answer(rt, alloc, readers, &script)
+    answers_to(rt, alloc, readers, &script)
 }
 
 /// Works the answers out, and writes them.
@@ -38,7 +38,7 @@ fn carry_out<R: Wait, S: Source, O: Sink>(
     requires { AreWorkers readers }
     ensures { IsLiveEnd result (reading S.left S.faults S.is_sound source.old source.new) (writing O.got O.faults O.room out.old out.new) }
 {
-    let text = match answers(rt, alloc, readers, source) {
+    let text = match answers_on_source(rt, alloc, readers, source) {
         Ok(text) => text,
         Err(outcome) => return outcome,
     };

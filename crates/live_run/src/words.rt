@@ -1,4 +1,4 @@
-// The words of the command line.
+//! The words of the command line.
 
 ghost use Rattle.std.specs.Prelude.{◌≡◌, ◌↔◌, ℕ, map, codes, IfSome, IfNone, IsTrue};
 ghost use Rattle.live_run.specs.LiveRuns.{IsLiveForm};

@@ -1,4 +1,4 @@
-use Rattle.std.proofs.Common.{◌≡◌, sym, subst, Option}
+use Rattle.std.proofs.Common.{sym, subst, Option}
 use Rattle.controller_table.specs.Tables.{TableModel}
 use Rattle.live_table.specs.Publishes.{Published}
 use Rattle.live_run.specs.inside.Sessions.{Fits, GoOnWith}
