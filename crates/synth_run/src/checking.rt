@@ -1,4 +1,4 @@
-// From the bytes of a table's text to the verdict on its rows.
+//! From the bytes of a table's text to the verdict on its rows.
 
 ghost use Rattle.std.specs.Prelude.{◌≡◌, ◌≢◌, IfOk, IfErr, OnOk};
 ghost use Rattle.synth_run.specs.declared.outcome.Outcome.TheVariants as ends;

@@ -1,4 +1,4 @@
-// The line of a demo plant, from its number.
+//! The line of a demo plant, from its number.
 
 ghost use Rattle.std.specs.Prelude.{◌≡◌, IfOk, IfErr};
 ghost use Rattle.run_words.specs.Form.{IsDemoNumber, AreWorkers};

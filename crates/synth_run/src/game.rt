@@ -1,4 +1,4 @@
-// The game of a plant, or what the plant demands in its place.
+//! The game of a plant, or what the plant demands in its place.
 
 ghost use Rattle.std.specs.Prelude.{◌≢◌, IfOk, IfErr};
 ghost use Rattle.plant_game.specs.Abstraction.{IsGameOf};

@@ -23,7 +23,7 @@ mod text;
 mod top;
 mod upgrading;
 
-pub use demo_plants::{demo_line, demo_plant};
+pub use demo_plants::demo_plant;
 pub use frontier_pool::{Gate, Open};
 pub use outcome::Outcome;
 pub use run_devices::{

@@ -18,19 +18,28 @@ use successor_box::SlopeFault;
 /// How a run ended.
 #[derive(Clone, Copy, PartialEq, Eq)]
 pub enum Outcome {
+    /// The answer was written whole.
     Done,
-    /// The first cell of a table whose row isn't right.
+    /// The first cell of a table whose row isn't right, counted from 0.
     Invalid { cell: u32 },
     /// A trace would begin where the table has no row.
     NoRow,
+    /// The words are of no form; nothing was read.
     Usage,
+    /// The first line that doesn't fit behind those before it, counted from 1; one past the last where the text ends too soon.
     Malformed { line: u32 },
+    /// A number of this equation leaves the range under this input vector, both counted from 0: the first equation, and for it
+    /// the first input vector.
     Overflow { equation: u32, input: u32 },
+    /// The text or its plant exceeds a limit.
     Limit { what: LimitKind },
-    /// A patrol has more pairs of a turn and a cell than the limit.
+    /// A patrol has more than 2^22 pairs of a turn and a cell.
     TooManyTurns,
+    /// A read failed.
     ReadFault,
+    /// A write failed, and a part of the answer was written.
     WriteFault,
+    /// There was no memory left, and nothing was written.
     NoMemory,
 }
 

@@ -1,4 +1,4 @@
-// From the bytes of a plant's text to a patrol of its targets in turn.
+//! From the bytes of a plant's text to a patrol of its targets in turn.
 
 ghost use Rattle.std.specs.Prelude.{◌≡◌, ◌≢◌, IfOk, IfErr};
 ghost use Rattle.patrol_table.specs.PatrolText.{patrol_text};

@@ -1,4 +1,4 @@
-// The game of a plant, resolved by workers at a board.
+//! The game of a plant, resolved by workers at a board.
 
 ghost use Rattle.std.specs.Prelude.{◌≡◌, IfOk};
 ghost use Rattle.abstraction_table.specs.Table.{game_of, game_ahead};

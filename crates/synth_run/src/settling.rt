@@ -1,4 +1,4 @@
-// From the bytes of a plant's text to its solution of reach and stay.
+//! From the bytes of a plant's text to its solution of reach and stay.
 
 ghost use Rattle.std.specs.Prelude.{◌≢◌, IfOk, IfErr};
 ghost use Rattle.stay_table.specs.StayText.{stay_text};

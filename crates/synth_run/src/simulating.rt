@@ -1,4 +1,4 @@
-// From the bytes of a table's text to the plant in closed loop with it.
+//! From the bytes of a table's text to the plant in closed loop with it.
 
 ghost use Rattle.std.specs.Prelude.{◌≡◌, ◌≢◌, ◌≤◌, IfSome, IfNone, IfOk, IfErr, OnOk};
 ghost use Rattle.successor_box.specs.Deviations.{deviations_of};

@@ -1,4 +1,4 @@
-// From the bytes of a plant's text to the solution of its game.
+//! From the bytes of a plant's text to the solution of its game.
 
 ghost use Rattle.std.specs.Prelude.{◌≢◌, Some, IfOk, IfErr};
 ghost use Rattle.run_words.specs.declared.form.Form.{Form};
@@ -22,7 +22,7 @@ use std::thread::Threads;
 
 /// A plant with the solution of its game.
 #[derive(Drop)]
-pub struct Solved {
+pub struct SolvedPlant {
     pub plant: Plant,
     pub answer: Answer,
 }
@@ -34,7 +34,7 @@ pub fn solve_text<R: Threads + Sync, T: Gate>(
     bytes: &[u8],
     workers: u32,
     gate: &T,
-) -> Result<(Solved, (Board, Root)), Outcome>
+) -> Result<(SolvedPlant, (Board, Root)), Outcome>
     requires { AreWorkers workers }
     ensures table { IfOk result (λ made. IsTableFor bytes.now (table_text written made.0.plant made.0.answer)) }
     ensures fits { IfOk result (λ made. RowsFit made.0.plant made.0.answer) }
@@ -45,5 +45,8 @@ pub fn solve_text<R: Threads + Sync, T: Gate>(
     let (plant, ahead) = outlook_of_text(rt, alloc, bytes)?;
     let resolved = resolve(rt, alloc, plant.goal(), ahead, workers, gate)?;
     let answer = resolved.answer;
-    Ok((Solved { plant, answer }, (resolved.board, resolved.root)))
+    Ok((
+        SolvedPlant { plant, answer },
+        (resolved.board, resolved.root),
+    ))
 }

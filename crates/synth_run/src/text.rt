@@ -1,4 +1,4 @@
-// What a form writes, and how it is written.
+//! What a form writes, and how it is written.
 
 ghost use Rattle.std.specs.Prelude.{OnOk, IfErr};
 ghost use Rattle.controller_table.specs.TableText.{written, table_text};
@@ -12,10 +12,10 @@ ghost use Rattle.run_devices.specs.Transfers.{StopsBy};
 use crate::patrolling::Patrolled;
 use crate::settling::Settled;
 use crate::simulating::Simulation;
-use crate::solving::Solved;
+use crate::solving::SolvedPlant;
 use controller_table::{Table, TableWriter};
 use run_devices::{Sink, WriteFault, write_buffered, write_whole};
-use std::alloc::Global;
+use std::alloc::{AllocError, Global};
 use temporal_games::{PatrolWriter, StayWriter};
 
 /// How many bytes are asked for before a trace is written: more than its writer takes of the stack.
@@ -24,7 +24,7 @@ const TRACE_STACK: usize = 1 << 18;
 /// What a form writes.
 #[derive(Drop)]
 pub enum Text {
-    Table(Solved),
+    Table(SolvedPlant),
     Upgraded(Table),
     Line(&'static [u8]),
     Trace(Simulation),
@@ -44,7 +44,10 @@ impl Text {
             Text::Table(solved) => write_table(alloc, solved, out),
             Text::Upgraded(table) => write_upgraded(alloc, table, out),
             Text::Line(bytes) => write_bytes(bytes, out),
-            Text::Trace(simulation) => write_trace(alloc, simulation, out),
+            Text::Trace(simulation) => {
+                ask_for_trace_stack(alloc)?;
+                write_trace(alloc, simulation, out)
+            }
             Text::Summary(text) => write_bytes(text, out),
             Text::Stay(settled) => write_stay(alloc, settled, out),
             Text::Patrol(patrolled) => write_patrol(alloc, patrolled, out),
@@ -60,14 +63,13 @@ fn write_bytes<O: Sink>(bytes: &[u8], out: &mut O) -> Result<(), WriteFault>
     Ok(())
 }
 
-fn write_table<O: Sink>(alloc: Global, solved: &Solved, out: &mut O) -> Result<(), WriteFault>
+fn write_table<O: Sink>(alloc: Global, solved: &SolvedPlant, out: &mut O) -> Result<(), WriteFault>
     requires { RowsFit solved.now.plant solved.now.answer }
     ensures whole { OnOk result (GainsWhole (writing O.got O.faults O.room out.old out.new) (table_text written solved.now.plant solved.now.answer)) }
     ensures stopped { IfErr result (λ fault. StopsBy fault (writing O.got O.faults O.room out.old out.new) (table_text written solved.now.plant solved.now.answer)) }
 {
-    let mut writer = match TableWriter::new(alloc, &solved.plant, &solved.answer) {
-        Ok(writer) => writer,
-        Err(_) => return Err(WriteFault::Memory),
+    let Ok(mut writer) = TableWriter::new(alloc, &solved.plant, &solved.answer) else {
+        return Err(WriteFault::Memory);
     };
     write_buffered(alloc, out, &mut writer)
 }
@@ -77,35 +79,23 @@ fn write_upgraded<O: Sink>(alloc: Global, table: &Table, out: &mut O) -> Result<
     ensures whole { OnOk result (GainsWhole (writing O.got O.faults O.room out.old out.new) (table_text written table.now.plant table.now.rows)) }
     ensures stopped { IfErr result (λ fault. StopsBy fault (writing O.got O.faults O.room out.old out.new) (table_text written table.now.plant table.now.rows)) }
 {
-    let mut writer = match TableWriter::of(alloc, table) {
-        Ok(writer) => writer,
-        Err(_) => return Err(WriteFault::Memory),
+    let Ok(mut writer) = TableWriter::of(alloc, table) else {
+        return Err(WriteFault::Memory);
     };
     write_buffered(alloc, out, &mut writer)
 }
 
-/// Writes a trace. So much memory as its writer takes of the stack is asked for first, and given back: where there is less, the
-/// answer is want of memory.
-fn write_trace<O: Sink>(
-    alloc: Global,
-    simulation: &Simulation,
-    out: &mut O,
-) -> Result<(), WriteFault>
-    requires { IsReady simulation.now }
-    ensures whole { OnOk result (GainsWhole (writing O.got O.faults O.room out.old out.new) (trace_of simulation.now)) }
-    ensures stopped { IfErr result (λ fault. StopsBy fault (writing O.got O.faults O.room out.old out.new) (trace_of simulation.now)) }
-{
-    let room: Vec<u8> = match Vec::with_capacity(alloc, TRACE_STACK) {
-        Ok(room) => room,
-        Err(_) => return Err(WriteFault::Memory),
-    };
+/// Asks for so much memory as the writer of a trace takes of the stack, and gives it back: a run that has less is to end for want
+/// of memory, and not by its stack.
+fn ask_for_trace_stack(alloc: Global) -> Result<(), AllocError> {
+    let room: Vec<u8> = Vec::with_capacity(alloc, TRACE_STACK)?;
     drop(room);
-    write_samples(alloc, simulation, out)
+    Ok(())
 }
 
 /// Stands by itself, since what calls it would take as much of the stack for every word.
 #[inline(never)]
-fn write_samples<O: Sink>(
+fn write_trace<O: Sink>(
     alloc: Global,
     simulation: &Simulation,
     out: &mut O,
@@ -121,9 +111,8 @@ fn write_stay<O: Sink>(alloc: Global, settled: &Settled, out: &mut O) -> Result<
     ensures whole { OnOk result (GainsWhole (writing O.got O.faults O.room out.old out.new) (stay_text settled.now.plant settled.now.rows)) }
     ensures stopped { IfErr result (λ fault. StopsBy fault (writing O.got O.faults O.room out.old out.new) (stay_text settled.now.plant settled.now.rows)) }
 {
-    let mut writer = match StayWriter::new(alloc, &settled.plant, &settled.rows) {
-        Ok(writer) => writer,
-        Err(_) => return Err(WriteFault::Memory),
+    let Ok(mut writer) = StayWriter::new(alloc, &settled.plant, &settled.rows) else {
+        return Err(WriteFault::Memory);
     };
     write_buffered(alloc, out, &mut writer)
 }
@@ -136,9 +125,8 @@ fn write_patrol<O: Sink>(
     ensures whole { OnOk result (GainsWhole (writing O.got O.faults O.room out.old out.new) (patrol_text patrolled.now.plant patrolled.now.rows)) }
     ensures stopped { IfErr result (λ fault. StopsBy fault (writing O.got O.faults O.room out.old out.new) (patrol_text patrolled.now.plant patrolled.now.rows)) }
 {
-    let mut writer = match PatrolWriter::new(alloc, &patrolled.plant, &patrolled.rows) {
-        Ok(writer) => writer,
-        Err(_) => return Err(WriteFault::Memory),
+    let Ok(mut writer) = PatrolWriter::new(alloc, &patrolled.plant, &patrolled.rows) else {
+        return Err(WriteFault::Memory);
     };
     write_buffered(alloc, out, &mut writer)
 }

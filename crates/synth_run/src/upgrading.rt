@@ -1,4 +1,4 @@
-// From the bytes of a table's text to the table that is to be written anew.
+//! From the bytes of a table's text to the table that is to be written anew.
 
 ghost use Rattle.std.specs.Prelude.{◌≢◌, IfOk, IfErr};
 ghost use Rattle.controller_table.specs.TableText.{written, table_text};
