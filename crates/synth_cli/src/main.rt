@@ -13,9 +13,11 @@ use std::sync::Wait;
 use std::thread::Threads;
 use synth_run::{Open, run};
 
+/// There was no memory for the words.
 const NO_MEMORY: u8 = 8;
 
-const NO_WORDS: u8 = 10;
+/// The words could not be had, for example where one is no text.
+const UNREADABLE_WORDS: u8 = 10;
 
 fn main(rt: HostRuntime) -> ExitCode {
     let mut source = StdSource::new(rt.stdin());
@@ -54,7 +56,7 @@ fn own_words<R: Env + AllocGlobal>(rt: &R) -> Result<Vec<String>, u8> {
     let args = match env::args(rt) {
         Ok(args) => args,
         Err(e) if e.kind() == ErrorKind::OutOfMemory => return Err(NO_MEMORY),
-        Err(_) => return Err(NO_WORDS),
+        Err(_) => return Err(UNREADABLE_WORDS),
     };
     let mut words = Vec::new(rt.alloc());
     for word in args.skip(1) {
@@ -65,6 +67,7 @@ fn own_words<R: Env + AllocGlobal>(rt: &R) -> Result<Vec<String>, u8> {
     Ok(words)
 }
 
+/// The words as they are passed on.
 fn borrowed(alloc: Global, words: &[String]) -> Result<Vec<&str>, AllocError> {
     let mut texts = Vec::new(alloc);
     for word in words {
