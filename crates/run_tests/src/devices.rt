@@ -1,4 +1,4 @@
-// The top call on devices that fail.
+//! The top call on devices that fail.
 
 use crate::trial::{CLEAN, Devices, PLANT, TABLE, run_on};
 use std::alloc::Global;
@@ -6,7 +6,7 @@ use std::test::Fail;
 use std::thread::Threads;
 use synth_run::{CleanSource, CountSink, MemorySource, Open, Source, run};
 
-// The status of `synth 1` on a source, and how many bytes its line has.
+/// The status of `synth 1` on a source, and how many bytes its line has.
 fn synthesised<R: Threads + Sync, S: Source>(
     rt: &R,
     alloc: Global,
@@ -19,7 +19,7 @@ fn synthesised<R: Threads + Sync, S: Source>(
     (status, err.count())
 }
 
-// A sink that counts takes the 138 bytes of the table, in however many calls.
+/// A sink that counts takes the 138 bytes of the table, in however many calls.
 #[test]
 fn clean_devices_take_the_whole_table(rt: HostRuntime) -> Result<(), Fail> {
     let mut source = CleanSource::new(Vec::from_slice(rt.alloc(), PLANT)?);
@@ -29,7 +29,7 @@ fn clean_devices_take_the_whole_table(rt: HostRuntime) -> Result<(), Fail> {
     Ok(())
 }
 
-// A read that fails ends the reading: what it didn't take is still there. The line is `read fault`.
+/// A read that fails ends the reading: what it didn't take is still there. The line is `read fault`.
 #[test]
 fn nothing_is_read_behind_a_failed_read(rt: HostRuntime) -> Result<(), Fail> {
     let fails = Vec::from_slice(rt.alloc(), &[1])?;
@@ -41,7 +41,7 @@ fn nothing_is_read_behind_a_failed_read(rt: HostRuntime) -> Result<(), Fail> {
     Ok(())
 }
 
-// Whether `synth 1` of a text ends so on some devices, and writes this.
+/// Whether `synth 1` of a text ends so on some devices, and writes this.
 fn gives<R: Threads + Sync>(
     rt: &R,
     alloc: Global,
@@ -65,7 +65,7 @@ fn line_without_room_is_cut(rt: HostRuntime) -> Result<(), Fail> {
     Ok(())
 }
 
-// Whether one failing call is a read fault: the first takes the plant whole, the second finds the end, and there is no third.
+/// Whether one failing call is a read fault: the first takes the plant whole, the second finds the end, and there is no third.
 fn are_read_faults<R: Threads + Sync>(rt: &R, alloc: Global) -> Result<bool, Fail> {
     let fault: &[u8] = b"read fault\n";
     let calls: [(&[u64], u8, &[u8], &[u8]); 3] = [
@@ -90,7 +90,7 @@ fn read_that_fails_is_a_read_fault(rt: HostRuntime) -> Result<(), Fail> {
     Ok(())
 }
 
-// One byte for each of 39 calls: the bytes end in `input u `.
+/// One byte for each of 39 calls: the bytes end in `input u `.
 #[test]
 fn write_that_fails_leaves_the_front_of_the_table(rt: HostRuntime) -> Result<(), Fail> {
     let devices = Devices {
@@ -102,7 +102,7 @@ fn write_that_fails_leaves_the_front_of_the_table(rt: HostRuntime) -> Result<(),
     Ok(())
 }
 
-// One byte a call, into room for fewer bytes than the table has: the front of it that fits.
+/// One byte a call, into room for fewer bytes than the table has: the front of it that fits.
 fn is_cut_at<R: Threads + Sync>(rt: &R, alloc: Global, room: usize) -> Result<bool, Fail> {
     let devices = Devices {
         at_once: 1,

@@ -1,4 +1,4 @@
-// Tests of live tables, through public calls.
+//! Tests of live tables, through public calls.
 
 mod answers;
 mod refusals;

@@ -1,21 +1,24 @@
-// A gate that shows that two workers are at work at once.
+//! A gate that shows that two workers are at work at once.
 
 use std::sync::atomic::{AtomicBool, Ordering};
 use std::thread;
 use synth_run::Gate;
 
+/// Turns enough for another thread to come.
+pub const MANY: u32 = 100_000_000;
+
 /// Holds the first two items of a round, each until the other has come, and those behind them until the first has come, for
 /// so many turns at most: a worker that came earlier would find nothing to steal, and go.
 #[derive(Drop)]
-pub struct Meeting {
+pub struct Rendezvous {
     came: [AtomicBool; 2],
     alone: AtomicBool,
     turns: u32,
 }
 
-impl Meeting {
-    pub fn of(turns: u32) -> Meeting {
-        Meeting {
+impl Rendezvous {
+    pub fn of(turns: u32) -> Rendezvous {
+        Rendezvous {
             came: [AtomicBool::new(false), AtomicBool::new(false)],
             alone: AtomicBool::new(false),
             turns,
@@ -29,7 +32,7 @@ impl Meeting {
             && !self.alone.load(Ordering::SeqCst)
     }
 
-    // Whether the other came in time.
+    /// Whether the other came in time.
     fn wait_for(&self, other: &AtomicBool) -> bool {
         for _turn in 0..self.turns {
             if other.load(Ordering::SeqCst) {
@@ -41,7 +44,7 @@ impl Meeting {
     }
 }
 
-impl Gate for Meeting {
+impl Gate for Rendezvous {
     fn pass(&self, _worker: u32, item: u32) {
         if item > 1 {
             self.wait_for(&self.came[0]);

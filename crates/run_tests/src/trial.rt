@@ -1,4 +1,4 @@
-// Runs over devices in memory, some of which fail.
+//! Runs over devices in memory, some of which fail.
 
 use std::alloc::Global;
 use std::test::Fail;

@@ -1,4 +1,4 @@
-// What a reader and its publisher answer.
+//! What a reader and its publisher answer.
 
 ghost use Rattle.std.specs.Prelude.{◌≡◌, ◌<◌, length};
 
@@ -55,7 +55,7 @@ fn opened<R: Wait>(rt: &R, alloc: Global) -> Result<Heard, LiveFault> {
     heard
 }
 
-// At 1 the first table applies input vector 1, and at 13 the second 0.
+/// At 1 the first table applies input vector 1, and at 13 the second 0.
 #[test]
 fn a_told_reader_answers_by_the_new_table(rt: HostRuntime) -> Result<(), Fail> {
     let heard = opened(&rt, rt.alloc())?;
@@ -113,7 +113,7 @@ fn opened_with<R: Wait>(
     heard
 }
 
-// At 13 the target is reached, and nothing is applied.
+/// At 13 the target is reached, and nothing is applied.
 #[test]
 fn each_opening_has_its_own_tables(rt: HostRuntime) -> Result<(), Fail> {
     let want = Answered {

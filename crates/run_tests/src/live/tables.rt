@@ -1,4 +1,4 @@
-// Two tables of a plant with a state from 0 to 14 in cells of 3, whose inputs are -3 and 3.
+//! Two tables of a plant with a state from 0 to 14 in cells of 3, whose inputs are -3 and 3.
 
 use controller_table::{Table, read_table};
 use grid_quantiser::Point;

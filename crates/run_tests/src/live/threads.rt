@@ -1,9 +1,10 @@
-// Readers in threads of their own.
+//! Readers in threads of their own.
 
-ghost use Rattle.std.specs.Prelude.{◌≡◌, ◌+◌, ◌<◌, length, vec_len, All};
+ghost use Rattle.std.specs.Prelude.{◌≡◌, ◌+◌, ◌<◌, length, All};
 ghost use denote.Param.Send.{IsSync};
 
 use crate::live::tables::{KEEP, REACH, state, table_of};
+use crate::meeting::MANY;
 use live_table::{LiveFault, Publisher, Reader, Told, open};
 use std::alloc::Global;
 use std::sync::Wait;
@@ -15,9 +16,6 @@ const TOLD: u32 = 2;
 
 /// How many tables are published behind these, while the readers ask.
 const PUBLISHES: u32 = 200;
-
-/// Turns enough for another thread to come.
-const MANY: u32 = 100_000_000;
 
 /// A reader, and what it is to be told.
 #[derive(Drop)]

@@ -1,4 +1,4 @@
-use Rattle.std.proofs.Common.{◌≡◌, ap, sym, ◌∙◌}
+use Rattle.std.proofs.Common.{ap, sym, ◌∙◌}
 use Rattle.live_table.specs.Publishes.{Listener}
 use Rattle.run_tests.proofs.live.threads.taught.Goals as goal
 
