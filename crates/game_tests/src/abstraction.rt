@@ -1,4 +1,4 @@
-// The game of a plant in memory.
+//! The game of a plant in memory.
 
 use crate::games::{CORRIDOR, game_of};
 use abstraction_table::Abstraction;
@@ -28,7 +28,7 @@ pub fn is_box(found: Option<CellBox>, wanted: Option<(u32, u32)>) -> bool {
     found.map(|area| (area.first, area.last)) == wanted
 }
 
-// Whether a game has the boxes and the edges of the corridor.
+/// Whether a game has the boxes and the edges of the corridor.
 fn is_corridor(game: &Abstraction) -> bool {
     if game.cells() != 5 || game.inputs() != 2 {
         return false;
@@ -46,7 +46,7 @@ fn is_corridor(game: &Abstraction) -> bool {
     game.mark(2) == Mark::Plain && game.mark(3) == Mark::Goal && game.fan(5) == 0
 }
 
-// The pair of cell 1 and input 7 leads to cells 3 and 4.
+/// The pair of cell 1 and input 7 leads to cells 3 and 4.
 fn leads_on(game: &Abstraction) -> bool {
     game.cells() == 5
         && game.inputs() == 2

@@ -1,4 +1,4 @@
-// Plants whose games are solved by hand, and what their rows are compared with.
+//! Plants whose games are solved by hand, and what their rows are compared with.
 
 use abstraction_table::{Abstraction, build};
 use game_core::{Answer, Row};

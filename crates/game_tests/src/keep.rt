@@ -1,4 +1,4 @@
-// The keep game, by several numbers of workers.
+//! The keep game, by several numbers of workers.
 
 use crate::games::{ENDS, ONE_WAY, PARTED, are_rows, game_of, row, rows_parted};
 use crate::meeting::{MANY, Meeting};
@@ -8,8 +8,8 @@ use safety_game::{Scratch, Tally, keep, keep_in};
 use std::test::Fail;
 use std::thread::Threads;
 
-// 18 edges lead to the cells 0 to 3, which have no row, and 6 pairs of cells that are no obstacles have one of these. Of
-// pair 5 the successor 4 is left. The counters of the cells stand behind those of the 16 pairs: of cell 5 one input is left.
+/// 18 edges lead to the cells 0 to 3, which have no row, and 6 pairs of cells that are no obstacles have one of these. Of
+/// pair 5 the successor 4 is left. The counters of the cells stand behind those of the 16 pairs: of cell 5 one input is left.
 fn is_kept_by<R: AllocGlobal + Threads + Sync>(rt: &R, workers: u32) -> Result<bool, Fail> {
     let game = game_of(rt, PARTED)?;
     if game.cells() != 8 || game.inputs() != 2 || workers == 0 || workers > 64 {
@@ -36,7 +36,7 @@ fn each_number_of_workers_keeps(rt: HostRuntime) -> Result<(), Fail> {
     Ok(())
 }
 
-// Each of the 4 edges leads to a cell that falls, and each of their pairs is its cell's only one.
+/// Each of the 4 edges leads to a cell that falls, and each of their pairs is its cell's only one.
 #[test]
 fn nothing_is_kept_of_a_way_that_ends(rt: HostRuntime) -> Result<(), Fail> {
     let game = game_of(&rt, ONE_WAY)?;
@@ -50,7 +50,7 @@ fn nothing_is_kept_of_a_way_that_ends(rt: HostRuntime) -> Result<(), Fail> {
     Ok(())
 }
 
-// The two obstacles are the items of round 0, and each is led to by itself alone.
+/// The two obstacles are the items of round 0, and each is led to by itself alone.
 #[test]
 fn two_workers_meet_at_the_obstacles(rt: HostRuntime) -> Result<(), Fail> {
     let game = game_of(&rt, ENDS)?;

@@ -1,4 +1,4 @@
-// Gates that show by whom items are done, and that two workers are at work at once.
+//! Gates that show by whom items are done, and that two workers are at work at once.
 
 use frontier_pool::Gate;
 use std::sync::atomic::{AtomicBool, AtomicU32, Ordering};
@@ -11,7 +11,7 @@ pub const MANY: u32 = 100_000_000;
 /// turns at most.
 #[derive(Drop)]
 pub struct Meeting {
-    // The worker that first came with the item and one, or 0.
+    /// The worker that first came with the item and one, or 0.
     came: [AtomicU32; 2],
     alone: AtomicBool,
     turns: u32,
@@ -40,7 +40,7 @@ impl Meeting {
         first.is_some() && second.is_some() && first != second && !self.alone.load(Ordering::SeqCst)
     }
 
-    // Whether the other came in time.
+    /// Whether the other came in time.
     fn wait_for(&self, other: &AtomicU32) -> bool {
         for _turn in 0..self.turns {
             if other.load(Ordering::SeqCst) != 0 {

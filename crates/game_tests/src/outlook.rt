@@ -1,4 +1,4 @@
-// The game of a plant seen ahead.
+//! The game of a plant seen ahead.
 
 ghost use Rattle.std.specs.Prelude.{◌<◌};
 
@@ -35,7 +35,7 @@ impl CellTest for BeforeThree {
     }
 }
 
-// Pair 0 leads to cells 1 and 2, pair 1 to 2 and 3, pair 3 to 3 and 4, and pair 5 to none.
+/// Pair 0 leads to cells 1 and 2, pair 1 to 2 and 3, pair 3 to 3 and 4, and pair 5 to none.
 fn leads_before_three<G: Forward>(game: &G) -> bool {
     game.cells() == 5
         && game.inputs() == 2

@@ -1,4 +1,4 @@
-// The solvers by one thread, and answers.
+//! The solvers by one thread, and answers.
 
 use crate::games::{BETWEEN, ONE_WAY, PARTED, are_rows, game_of, row, rows_between, rows_parted};
 use game_core::{Answer, Graph, Mark, Remark, keep_plain, solve_plain};
@@ -18,7 +18,7 @@ fn keep_solution_by_one_thread(rt: HostRuntime) -> Result<(), Fail> {
     Ok(())
 }
 
-// The one input leads to the next cell: cell 2 to the goal 3, cells 0 and 1 past the obstacle at best, cell 4 outside.
+/// The one input leads to the next cell: cell 2 to the goal 3, cells 0 and 1 past the obstacle at best, cell 4 outside.
 #[test]
 fn game_under_other_marks(rt: HostRuntime) -> Result<(), Fail> {
     let game = game_of(&rt, ONE_WAY)?;

@@ -1,4 +1,4 @@
-// The reach game, by several numbers of workers.
+//! The reach game, by several numbers of workers.
 
 use crate::games::{BETWEEN, CORRIDOR, are_rows, game_of, row, rows_between};
 use crate::meeting::{Later, MANY, Meeting};
@@ -9,8 +9,8 @@ use std::sync::atomic::AtomicBool;
 use std::test::Fail;
 use std::thread::Threads;
 
-// Of the 27 edges 25 lead to a cell with a row, and of the 9 enabled pairs 7 lead to such cells alone, each of which offers.
-// The word of cell 1 is 1 + rank * 4096 + input. Of pair 7 the successor 7 is left, which has no row.
+/// Of the 27 edges 25 lead to a cell with a row, and of the 9 enabled pairs 7 lead to such cells alone, each of which offers.
+/// The word of cell 1 is 1 + rank * 4096 + input. Of pair 7 the successor 7 is left, which has no row.
 fn is_solved_by<R: AllocGlobal + Threads + Sync>(rt: &R, workers: u32) -> Result<bool, Fail> {
     let game = game_of(rt, BETWEEN)?;
     if game.cells() != 8 || game.inputs() != 2 || workers == 0 || workers > 64 {
@@ -37,7 +37,7 @@ fn each_number_of_workers_solves(rt: HostRuntime) -> Result<(), Fail> {
     Ok(())
 }
 
-// The two goals are the items of round 0.
+/// The two goals are the items of round 0.
 #[test]
 fn two_workers_meet_in_round_0(rt: HostRuntime) -> Result<(), Fail> {
     let game = game_of(&rt, CORRIDOR)?;
@@ -49,7 +49,7 @@ fn two_workers_meet_in_round_0(rt: HostRuntime) -> Result<(), Fail> {
     Ok(())
 }
 
-// The second goal comes to the gate only after the first was let go.
+/// The second goal comes to the gate only after the first was let go.
 #[test]
 fn one_worker_meets_nobody(rt: HostRuntime) -> Result<(), Fail> {
     let game = game_of(&rt, CORRIDOR)?;

@@ -1,4 +1,4 @@
-// Rows that are filled place by place, and the block in which they lie.
+//! Rows that are filled place by place, and the block in which they lie.
 
 use edge_rows::{RowFill, Rows};
 use std::alloc::Global;
@@ -45,7 +45,7 @@ fn a_run_puts_one_value_in_each_of_its_rows(rt: HostRuntime) -> Result<(), Fail>
     Ok(())
 }
 
-// A filling of three places, so many of them written.
+/// A filling of three places, so many of them written.
 fn filled_as_far_as(alloc: Global, puts: u64) -> Result<RowFill, Fail> {
     let mut fill = RowFill::new(alloc, &[2, 0, 1])?;
     if puts == 0 {
@@ -71,12 +71,20 @@ fn a_filling_is_dropped_by_another_thread(rt: HostRuntime) -> Result<(), Fail> {
     Ok(())
 }
 
-// Blocks that weren't given back would soon fill the 2^47 bytes of addresses that a process has.
-#[test]
-fn a_block_is_given_back(rt: HostRuntime) -> Result<(), Fail> {
-    for _ in 0..1_100_000 {
-        let mut fill = RowFill::new(rt.alloc(), &[1 << 25])?;
+/// Whether so many blocks of 2^27 bytes are had, one after the other.
+fn are_had_in_turn(alloc: Global, blocks: u32) -> bool {
+    for _block in 0..blocks {
+        let Ok(mut fill) = RowFill::new(alloc, &[1 << 25]) else {
+            return false;
+        };
         fill.put(0, 7);
     }
+    true
+}
+
+/// Blocks that weren't given back would fill the 2^47 bytes of addresses that a process has: 2^20 = 1,048,576 of them do.
+#[test]
+fn a_block_is_given_back(rt: HostRuntime) -> Result<(), Fail> {
+    assert!(rt; are_had_in_turn(rt.alloc(), 1_100_000));
     Ok(())
 }

@@ -1,4 +1,4 @@
-// Sweeps over hands of any number.
+//! Sweeps over hands of any number.
 
 use crate::meeting::{MANY, Meeting};
 use frontier_pool::{Gate, Member, Open, Toil, one_by_one, sweep};
@@ -8,13 +8,13 @@ use std::sync::atomic::{AtomicBool, Ordering};
 use std::test::Fail;
 use std::thread::Threads;
 
-// Each hand writes down what it does.
+/// Each hand writes down what it does.
 #[derive(Drop)]
 struct Writing<'a, R> {
     rt: &'a R,
     items: u32,
     gate: &'a Meeting,
-    // An item was done that hadn't come to the gate.
+    /// An item was done that hadn't come to the gate.
     early: AtomicBool,
 }
 
@@ -58,7 +58,7 @@ fn members_of(alloc: Global, count: usize) -> Result<Vec<Member<Vec<u32>>>, Allo
     Ok(members)
 }
 
-// What each hand did in a sweep.
+/// What each hand did in a sweep.
 fn swept<R: Abort + Threads + Sync, G: Gate>(
     rt: &R,
     alloc: Global,
@@ -78,7 +78,7 @@ fn swept<R: Abort + Threads + Sync, G: Gate>(
     Ok(hands)
 }
 
-// Whether all hands together did each item once.
+/// Whether all hands together did each item once.
 fn is_each_done_once<R: Abort + Threads + Sync>(
     rt: &R,
     alloc: Global,
@@ -106,7 +106,7 @@ fn every_item_is_done_once(rt: HostRuntime) -> Result<(), Fail> {
     Ok(())
 }
 
-// Whether an item was done after it had come to the gate, by the hand at the place that the gate was told.
+/// Whether an item was done after it had come to the gate, by the hand at the place that the gate was told.
 fn is_with(hands: &[Vec<u32>], item: u32, worker: Option<u32>) -> bool {
     match worker {
         Some(place) => match hands.get(place as usize) {
@@ -117,7 +117,7 @@ fn is_with(hands: &[Vec<u32>], item: u32, worker: Option<u32>) -> bool {
     }
 }
 
-// Two hands sweep so many items, of which the first two meet.
+/// Two hands sweep so many items, of which the first two meet.
 fn do_two_meet<R: Abort + Threads + Sync>(rt: &R, alloc: Global, items: u32) -> Result<bool, Fail> {
     let gate = Meeting::of(MANY);
     let toil = Writing::new(rt, items, &gate);
@@ -137,14 +137,14 @@ fn two_items_meet_at_the_gate_with_their_hands(rt: HostRuntime) -> Result<(), Fa
     Ok(())
 }
 
-// Items 0 and 1 are one hand's share: while it is held at the first, the other hand steals the second.
+/// Items 0 and 1 are one hand's share: while it is held at the first, the other hand steals the second.
 #[test]
 fn item_behind_a_held_one_is_stolen(rt: HostRuntime) -> Result<(), Fail> {
     assert!(rt; do_two_meet(&rt, rt.alloc(), 4)?);
     Ok(())
 }
 
-// One hand does the items in their order: the second comes to the gate only after the first was let go.
+/// One hand does the items in their order: the second comes to the gate only after the first was let go.
 #[test]
 fn one_hand_meets_nobody(rt: HostRuntime) -> Result<(), Fail> {
     let gate = Meeting::of(10);

@@ -1,4 +1,4 @@
-// Tables of both versions, and the lines of their runs.
+//! Tables of both versions, and the lines of their runs.
 
 use controller_table::{Table, TableWriter, read_table};
 use game_core::{Answer, Row};
@@ -32,7 +32,7 @@ fn text_of_pieces<P: Pieces>(alloc: Global, pieces: &mut P, most: u32) -> Result
     Ok(text)
 }
 
-// Whether a copy of the table that was read is written as this text.
+/// Whether a copy of the table that was read is written as this text.
 fn is_written_as(alloc: Global, text: &[u8], runs: &[u8]) -> Result<bool, Fail> {
     let copy = read_table(alloc, text)?.copy(alloc)?;
     let written = text_of_pieces(alloc, &mut TableWriter::of(alloc, &copy)?, 40)?;
@@ -50,7 +50,7 @@ fn tables_of_both_versions_are_written_by_runs(rt: HostRuntime) -> Result<(), Fa
     Ok(())
 }
 
-// Cell 0 has the input 1, cell 4 the input 0, and the place 15 lies outside.
+/// Cell 0 has the input 1, cell 4 the input 0, and the place 15 lies outside.
 fn is_kept_table(table: &Table, version: u32) -> bool {
     table.version() == version
         && table.rows() == 5
@@ -67,7 +67,7 @@ fn a_run_tells_what_its_cells_do(rt: HostRuntime) -> Result<(), Fail> {
     Ok(())
 }
 
-// Cells 0 and 1 with one row, 2 without, and 3 with another.
+/// Cells 0 and 1 with one row, 2 without, and 3 with another.
 fn some_rows(alloc: Global) -> Result<Answer, Fail> {
     let mut rows = Answer::blank(alloc, 4)?;
     rows.set(0, Some(Row { rank: 0, input: 3 }));
@@ -82,7 +82,7 @@ fn are_lines(alloc: Global, words: RowWords, lines: &[u8]) -> Result<bool, Fail>
     Ok(written.as_slice() == lines)
 }
 
-// A dash at rank 0, a number there, and no ranks.
+/// A dash at rank 0, a number there, and no ranks.
 #[test]
 fn words_tell_rows_in_three_ways(rt: HostRuntime) -> Result<(), Fail> {
     let alloc = rt.alloc();
