@@ -1,4 +1,4 @@
-// successor_box
+//! Tests of `successor_box`.
 
 use grid_quantiser::CellBox;
 use plant_text::read_plant;

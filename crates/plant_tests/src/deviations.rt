@@ -1,4 +1,4 @@
-// growth_bound
+//! Tests of `growth_bound`.
 
 use fixed_expr::{Curve, Expr};
 use growth_bound::deviation;

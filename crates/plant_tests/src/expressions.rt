@@ -1,4 +1,4 @@
-// fixed_expr
+//! Tests of `fixed_expr`.
 
 use fixed_expr::{Curve, Expr, LANES, eval, eval_rows};
 use std::alloc::{AllocError, Global};

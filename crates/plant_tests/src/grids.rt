@@ -1,4 +1,4 @@
-// grid_quantiser
+//! Tests of `grid_quantiser`.
 
 use grid_quantiser::{Axis, CellBox, Grid, Point, Side};
 

@@ -1,4 +1,4 @@
-// text_pieces
+//! Tests of `text_pieces`.
 
 use text_pieces::{Pieces, copy_front};
 

@@ -1,4 +1,4 @@
-// plant_text
+//! Tests of `plant_text`.
 
 use grid_quantiser::Point;
 use plant_text::{GoalKind, Plant, read_front, read_plant, step, write_plant};
@@ -59,6 +59,7 @@ fn has_the_counts_of_the_text(plant: &Plant) -> bool {
         && plant.goal() == GoalKind::Reach
 }
 
+/// The counts are what the calls below ask for.
 fn has_the_numbers_of_the_text(plant: &Plant) -> bool {
     plant.input_variables() == 1
         && plant.vectors() == 2

@@ -1,4 +1,4 @@
-// interval_eval
+//! Tests of `interval_eval`.
 
 use fixed_expr::{Expr, LANES};
 use interval_eval::{Interval, IntervalColumn, span, span_rows};
