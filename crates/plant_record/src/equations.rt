@@ -8,7 +8,7 @@ ghost use Rattle.plant_record.specs.Steps.{step_of, StepStaysInRange};
 use crate::plant::Plant;
 use crate::transition::values_at;
 use fixed_expr::{CASES, Operations};
-use grid_quantiser::Point;
+use grid_quantiser::{Point, STATES_LIMIT};
 use std::marker::Model;
 
 /// The most values that the input vectors of the first cases have, 3 input variables each.
@@ -90,7 +90,7 @@ fn next_point(
     requires formed { All (λ e. IsWellFormed e (length values.now)) equations.now }
     ensures { SomeIff result (All (λ e. StaysInRange e values.now) equations.now) (point_of (map (λ e. value_of e values.now) equations.now)) }
 {
-    let mut next = [0; 6];
+    let mut next = [0; STATES_LIMIT];
     for i in 0..count {
         next[i] = equations.eval(case, i, values)?;
     }

@@ -20,7 +20,7 @@ pub use aims::{GoalKind, StateBox};
 pub use equations::Equations;
 pub use fault::{LimitKind, NoMemory};
 pub use plant::{Plant, VARIABLES_LIMIT};
-pub use plant_parts::PlantParts;
+pub use plant_parts::{PlantParts, numbers_along};
 pub use transition::{step, step_along};
 pub use variable_names::Names;
 pub use variables::{InputVariable, Name, NoiseVariable, StateVariable, Values, Variables};

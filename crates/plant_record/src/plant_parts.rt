@@ -11,7 +11,7 @@ use crate::aims::{GoalKind, StateBox};
 use crate::variables::{InputVariable, StateVariable, Variables};
 use crate::version::PlantVersion;
 use fixed_expr::Expr;
-use grid_quantiser::{Axis, Grid, TooManyCells};
+use grid_quantiser::{Axis, Grid, NO_AXIS, STATES_LIMIT, TooManyCells};
 
 /// What a plant text says, with nothing counted yet.
 #[derive(Drop)]
@@ -23,13 +23,6 @@ pub struct PlantParts {
     pub obstacles: Vec<StateBox>,
     pub goal: GoalKind,
 }
-
-//// What stands in a place with no axis.
-const NO_AXIS: Axis = Axis {
-    lo: 0,
-    width: 0,
-    count: 0,
-};
 
 /// How many combinations there are of the inputs' values.
 pub fn vectors_of(inputs: &[InputVariable]) -> u32
@@ -53,7 +46,7 @@ pub fn grid_of(states: &[StateVariable]) -> Result<Grid, TooManyCells>
     ensures ok { IfOk result (λ grid. grid ≡ map axis_of states.now) }
     ensures refused { IsErr result ↔ (2 ^ 20 < cells_of (map axis_of states.now)) }
 {
-    let mut axes = [NO_AXIS; 6];
+    let mut axes = [NO_AXIS; STATES_LIMIT];
     for (i, state) in states.iter().enumerate() {
         axes[i] = axis_of(state);
     }
@@ -67,17 +60,20 @@ fn axis_of(state: &StateVariable) -> Axis
     Axis {
         lo: state.low,
         width: state.width,
-        count: quotient(numbers_along(state), state.width.unsigned_abs()),
+        count: quotient(
+            numbers_along(state.low, state.high),
+            state.width.unsigned_abs(),
+        ),
     }
 }
 
-/// How many numbers lie along a state.
-fn numbers_along(state: &StateVariable) -> u128
-    requires low { IsLiteral state.now.low }
-    requires high { IsLiteral state.now.high }
-    ensures { result ≡ nat_abs ((state.now.high -ℤ state.now.low) +ℤ pos 1) }
+/// How many whole numbers a range has, both ends included, where `low` is at most `high`.
+pub fn numbers_along(low: i128, high: i128) -> u128
+    requires low { IsLiteral low }
+    requires high { IsLiteral high }
+    ensures { result ≡ nat_abs ((high -ℤ low) +ℤ pos 1) }
 {
-    (state.high - state.low + 1).unsigned_abs()
+    (high - low + 1).unsigned_abs()
 }
 
 fn quotient(numbers: u128, width: u128) -> u64

@@ -9,7 +9,7 @@ ghost use Rattle.plant_record.specs.Steps.{equation_at, values_at, step_of, Step
 
 use crate::plant::{Plant, VARIABLES_LIMIT};
 use fixed_expr::{Expr, eval};
-use grid_quantiser::Point;
+use grid_quantiser::{Point, STATES_LIMIT};
 
 /// The state one sample later, all equations taken at the old state: None where the value of some
 /// node leaves the range. It takes no memory.
@@ -68,7 +68,7 @@ fn next_point(equations: &[Expr], values: &[i128]) -> Option<Point>
     requires formed { All (λ e. IsWellFormed (expression_of e) (length values.now)) equations.now }
     ensures { SomeIff result (All (λ e. StaysInRange (expression_of e) values.now) equations.now) (point_of (map (λ e. value_of (expression_of e) values.now) equations.now)) }
 {
-    let mut next = [0; 6];
+    let mut next = [0; STATES_LIMIT];
     for (i, equation) in equations.iter().enumerate() {
         next[i] = eval(equation, values)?;
     }
