@@ -1,9 +1,9 @@
 -- Values in many rows, which may all be the same.
-use Rattle.std.specs.Prelude.{◌≡◌, ℕ, ◌+◌, ◌<◌, ℤ, pos, List, slice_index_or, Option, MatchOption}
+use Rattle.std.specs.Prelude.{◌≡◌, ℕ, ◌<◌, ℤ, pos, List, slice_index_or, Option, MatchOption}
 use Rattle.fixed_expr.specs.declared.lanes.TheConstants.{LANES}
 use Rattle.fixed_expr.specs.declared.rows.RowValues.{RowValues}
 use Rattle.fixed_expr.specs.declared.rows.RowValues.TheVariants.{Alike, Listed}
-use Rattle.fixed_expr.specs.Expression.{Expression, Number, Variable, Negation, Sum, Difference, Product, Quotient, Minimum, Maximum, Absolute, Lookup}
+use Rattle.fixed_expr.specs.Expression.{Expression}
 use Rattle.fixed_expr.specs.Value.{value_of}
 use Rattle.fixed_expr.specs.Lanes.{AreNarrow}
 use Rattle.fixed_expr.specs.Rows.{row_of, StaysNarrowInRows}
@@ -25,17 +25,3 @@ AnswersNumbers answer rows wanted = MatchOption answer (¬ (AreNarrow wanted)) (
 abbrev pub AnswersValues : Option RowValues → Expression → List (List ℤ) → List ℤ → Type 0
 AnswersValues answer e columns rows =
     MatchOption answer (¬ (StaysNarrowInRows e columns)) (λ values. StaysNarrowInRows e columns × ((k : ℕ) → k < LANES → value_in values rows k ≡ value_of e (row_of columns k)))
-
--- how many nodes an expression has
-abbrev pub nodes_of : Expression → ℕ
-nodes_of (Number k) = 1
-nodes_of (Variable i) = 1
-nodes_of (Negation a) = nodes_of a + 1
-nodes_of (Sum a b) = nodes_of a + nodes_of b + 1
-nodes_of (Difference a b) = nodes_of a + nodes_of b + 1
-nodes_of (Product a b) = nodes_of a + nodes_of b + 1
-nodes_of (Quotient a k) = nodes_of a + 1
-nodes_of (Minimum a b) = nodes_of a + nodes_of b + 1
-nodes_of (Maximum a b) = nodes_of a + nodes_of b + 1
-nodes_of (Absolute a) = nodes_of a + 1
-nodes_of (Lookup a points) = nodes_of a + 1

@@ -1,6 +1,5 @@
 use Rattle.std.proofs.Common.{◌+◌, ◌*◌}
-use Rattle.fixed_expr.specs.Expression.{expression_of}
-use Rattle.fixed_expr.specs.inside.RowValues.{nodes_of}
+use Rattle.fixed_expr.specs.Expression.{expression_of, nodes_of}
 use Rattle.fixed_expr.proofs.narrow.+narrow_values.Given as goal
 
 abbrev pub decreases-eval_narrow : goal.decreases-eval_narrow

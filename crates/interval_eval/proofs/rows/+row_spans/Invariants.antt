@@ -1,6 +1,5 @@
 use Rattle.std.proofs.Common.{◌+◌, ◌*◌}
-use Rattle.fixed_expr.specs.Expression.{expression_of}
-use Rattle.fixed_expr.specs.inside.RowValues.{nodes_of}
+use Rattle.fixed_expr.specs.Expression.{expression_of, nodes_of}
 use Rattle.interval_eval.proofs.rows.+row_spans.Given as goal
 
 abbrev pub decreases-span_rows : goal.decreases-span_rows
