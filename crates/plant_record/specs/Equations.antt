@@ -1,22 +1,9 @@
 -- What the equations of a plant keep.
-use Rattle.std.specs.Prelude.{ℕ, suc, ◌+◌, ◌<◌, ◌≤◌, max, pos, ◌≤ℤ◌}
+use Rattle.std.specs.Prelude.{ℕ, suc, ◌<◌, ◌≤◌, max, pos, ◌≤ℤ◌}
+pub use Rattle.fixed_expr.specs.Expression.{nodes_of}
 use Rattle.fixed_expr.specs.Expression.{Expression, Number, Variable, Negation, Sum, Difference, Product, Quotient, Minimum, Maximum, Absolute, Lookup}
 use Rattle.fixed_expr.specs.Curves.{IsCurve}
 use Rattle.plant_record.specs.Numbers.{IsLiteral}
-
--- how many nodes an expression has; a divisor is none, nor is a point of a table
-abbrev pub nodes_of : Expression → ℕ
-nodes_of (Number k) = 1
-nodes_of (Variable i) = 1
-nodes_of (Negation a) = suc (nodes_of a)
-nodes_of (Sum a b) = suc (nodes_of a + nodes_of b)
-nodes_of (Difference a b) = suc (nodes_of a + nodes_of b)
-nodes_of (Product a b) = suc (nodes_of a + nodes_of b)
-nodes_of (Quotient a k) = suc (nodes_of a)
-nodes_of (Minimum a b) = suc (nodes_of a + nodes_of b)
-nodes_of (Maximum a b) = suc (nodes_of a + nodes_of b)
-nodes_of (Absolute a) = suc (nodes_of a)
-nodes_of (Lookup a points) = suc (nodes_of a)
 
 -- how many nodes lie on the longest way down; a leaf has depth 1
 abbrev pub depth_of : Expression → ℕ
