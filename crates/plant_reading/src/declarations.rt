@@ -1,6 +1,6 @@
 //! What the words behind a line's first word say of a variable, a box or the goal.
 
-ghost use Rattle.std.specs.Prelude.{◌≡◌, ◌↔◌, ◌<◌, ◌%◌, IsTrue, ℤ, pos, nat_abs, ◌+ℤ◌, ◌-ℤ◌, ◌≤ℤ◌};
+ghost use Rattle.std.specs.Prelude.{◌≡◌, ◌↔◌, ◌<◌, ◌%◌, IsTrue, ◌≤ℤ◌};
 ghost use Rattle.plant_record.specs.Spelling.{version_word, goal_word};
 ghost use Rattle.plant_record.specs.Numbers.{IsLiteral};
 ghost use Rattle.plant_reading.specs.Words.{words_of};
@@ -12,6 +12,7 @@ use crate::words::blanks::next_word;
 use crate::words::expected::{expect_end, expect_number, name_in, number_in, only_word};
 use plant_record::{
     GoalKind, InputVariable, Name, NoiseVariable, PlantVersion, StateVariable, Values,
+    numbers_along,
 };
 use std::alloc::Global;
 
@@ -69,15 +70,6 @@ fn has_whole_cells(low: i128, high: i128, width: i128) -> bool
     ensures { IsTrue result ↔ HasWholeCells low high width }
 {
     1 <= width && divides(width.unsigned_abs(), numbers_along(low, high))
-}
-
-/// How many numbers lie from one to the other, both included.
-fn numbers_along(low: i128, high: i128) -> u128
-    requires low { IsLiteral low }
-    requires high { IsLiteral high }
-    ensures { result ≡ nat_abs ((high -ℤ low) +ℤ pos 1) }
-{
-    (high - low + 1).unsigned_abs()
 }
 
 fn divides(k: u128, n: u128) -> bool
