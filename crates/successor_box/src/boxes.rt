@@ -6,7 +6,7 @@ ghost use Rattle.successor_box.specs.Deviations.{HasNoOverflow, deviations_of};
 
 use crate::sides::side;
 use crate::slopes::Slopes;
-use grid_quantiser::CellBox;
+use grid_quantiser::{CellBox, STATES_LIMIT};
 use plant_record::Plant;
 
 /// The cells that a cell's points can be in one sample later, under an input vector: None where the
@@ -18,7 +18,7 @@ pub fn successors(p: &Plant, s: &Slopes, c: u32, input: u32) -> Option<CellBox>
     requires input { input < vectors_of p.now.inputs }
     ensures { IsBoxOf p.now c input result }
 {
-    let mut sides = [None; 6];
+    let mut sides = [None; STATES_LIMIT];
     for state in 0..p.equations().len() {
         sides[state] = side(p, s, c, input, state as u32);
     }

@@ -6,7 +6,7 @@ ghost use Rattle.grid_quantiser.specs.Cells.{point_of};
 ghost use Rattle.plant_record.specs.Limits.{IsWithinLimits};
 ghost use Rattle.successor_box.specs.Boxes.{noise_centre};
 
-use grid_quantiser::Point;
+use grid_quantiser::{Point, STATES_LIMIT};
 use interval_eval::Interval;
 use plant_record::Plant;
 
@@ -49,7 +49,7 @@ pub(crate) fn noise_centres(p: &Plant) -> Point
     requires plant { IsWithinLimits p.now }
     ensures { result ≡ point_of (map noise_centre p.now.noises) }
 {
-    let mut centres = [0; 6];
+    let mut centres = [0; STATES_LIMIT];
     for k in 0..p.noises() {
         let (low, high) = p.noise_range(k);
         centres[k as usize] = noise_centre(low, high);

@@ -17,13 +17,8 @@ ghost use Rattle.successor_box.specs.inside.Blocks.{HoldCentralValues, HoldCellR
 use crate::area::{NO_RANGE, offset};
 use crate::places::PlaceColumns;
 use fixed_expr::{Expr, LANES};
-use interval_eval::{Interval, IntervalColumn, span, span_rows};
+use interval_eval::{Interval, IntervalColumn, NO_INTERVALS, span, span_rows};
 use plant_record::{Plant, VARIABLES_LIMIT};
-
-const NO_INTERVALS: IntervalColumn = IntervalColumn {
-    lo: [0; LANES],
-    hi: [0; LANES],
-};
 
 /// The span of an equation over the cell of each pair, given by the values of the variables at its centre.
 pub(crate) fn spans(
@@ -108,21 +103,9 @@ fn widened(narrow: &IntervalColumn) -> [Interval; LANES]
 {
     let mut wide = [NO_RANGE; LANES];
     for j in 0..LANES {
-        wide[j] = interval_at(narrow, j);
+        wide[j] = narrow.interval_at(j);
     }
     wide
-}
-
-/// The interval in one row.
-#[inline]
-fn interval_at(column: &IntervalColumn, j: usize) -> Interval
-    requires { j < LANES }
-    ensures { result ≡ interval_in column.now j }
-{
-    Interval {
-        lo: i128::from(column.lo[j]),
-        hi: i128::from(column.hi[j]),
-    }
 }
 
 /// The span of an expression in each row, one row after the other.
@@ -150,7 +133,7 @@ fn span_in_row(e: &Expr, columns: &[IntervalColumn], j: usize) -> Interval
 {
     let mut area = [NO_RANGE; VARIABLES_LIMIT];
     for k in 0..columns.len() {
-        area[k] = interval_at(&columns[k], j);
+        area[k] = columns[k].interval_at(j);
     }
     match span(e, &area[..columns.len()]) {
         Some(ends) => ends,
