@@ -118,6 +118,7 @@ impl IntervalColumn {
     }
 
     /// The interval in a row.
+    #[inline]
     pub fn interval_at(&self, k: usize) -> Interval
         requires { k < LANES }
         ensures { result ≡ interval_in self.now k }
