@@ -46,7 +46,7 @@ ExceedsEdges p Cells = ⊥
 ExceedsEdges p Pairs = ⊥
 ExceedsEdges p Edges = (edges : ℕ) × HasEdges p edges × (2 ^ 25 < edges)
 
--- what such a plant demands: to be solved, or to be refused
+-- what a plant within the limits demands: to be solved, or to be refused
 abbrev pub PlantDemands : Description → Outcome → Type 0
 PlantDemands p Done = IsSolvable p
 PlantDemands p (Invalid cell) = ⊥
@@ -64,7 +64,7 @@ PlantDemands p NoMemory = ⊥
 abbrev pub turns_of : Description → ℕ
 turns_of p = cells_of (axes_of p) * length p.targets
 
--- what such a plant demands of a patrol: the same, and where nothing else refuses it, that these pairs aren't too many
+-- what a plant within the limits demands of a patrol: the same, and where nothing else refuses it, that these pairs aren't too many
 abbrev pub PatrolDemands : Description → Outcome → Type 0
 PatrolDemands p Done = IsSolvable p × (turns_of p ≤ 2 ^ 22)
 PatrolDemands p (Invalid cell) = ⊥
@@ -106,11 +106,11 @@ pub record IsAccepted (bytes : List ℕ) (p : Description) : Type 0 where
 abbrev pub IsRefused : List ℕ → Outcome → Type 0
 IsRefused bytes outcome = IsRefusal (λ line. IsRefusedFor bytes (plants.Malformed line)) (λ what. IsRefusedFor bytes (plants.Limit what)) outcome
 
--- a plant text is refused, or it spells a plant, which demands it
+-- what a plant text demands: a refusal of its bytes, or what the plant that it spells demands
 abbrev pub PlantTextDemands : List ℕ → Outcome → Type 0
 PlantTextDemands bytes outcome = IsRefused bytes outcome ⊎ ((p : Description) × IsAccepted bytes p × PlantDemands p outcome)
 
--- a plant text is refused, or it spells a plant, which demands it of a patrol
+-- what a plant text demands of a patrol: a refusal of its bytes, or what the plant that it spells demands of one
 abbrev pub PatrolTextDemands : List ℕ → Outcome → Type 0
 PatrolTextDemands bytes outcome = IsRefused bytes outcome ⊎ ((p : Description) × IsAccepted bytes p × PatrolDemands p outcome)
 
@@ -153,19 +153,19 @@ pub record IsTableThatDemands (Demanded : Description → List (Option Row) → 
   pub table : IsTable bytes plant rows
   pub demands : Demanded plant rows
 
--- a table text is refused, or it is a table, which demands it
+-- what a table text demands: a refusal of its bytes, or what its plant demands with its rows
 abbrev pub TableTextDemands : List ℕ → Outcome → Type 0
 TableTextDemands bytes outcome = IsRefusedTable bytes outcome ⊎ IsTableThatDemands (λ p rows. TableDemands p rows outcome) bytes
 
 -- ---- the text of a table that is to drive its plant from a start
 
--- a table text is refused, or it is a table, which demands it for a start
+-- what a table text demands of a start: a refusal of its bytes, or what its plant demands of the start with its rows
 abbrev pub TraceTextDemands : List ℤ → List ℕ → Outcome → Type 0
 TraceTextDemands start bytes outcome = IsRefusedTable bytes outcome ⊎ IsTableThatDemands (λ p rows. TraceDemands p rows start outcome) bytes
 
 -- ---- the text of a table that is to be written anew
 
--- a table text is refused, or it is a table, whose plant demands it: nothing is asked of its rows
+-- what a table text demands where nothing is asked of its rows: a refusal of its bytes, or what its plant demands of its numbers
 abbrev pub UpgradeTextDemands : List ℕ → Outcome → Type 0
 UpgradeTextDemands bytes outcome = IsRefusedTable bytes outcome ⊎ IsTableThatDemands (λ p rows. RangeDemands p outcome) bytes
 

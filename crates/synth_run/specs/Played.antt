@@ -62,7 +62,7 @@ LeavesAGame (Demo number workers) played = LeavesTheGameOf (demo_plant_of number
 LeavesAGame (Stay workers) played = played ≡ None
 LeavesAGame (Patrol workers) played = played ≡ None
 
--- `check`, `upgrade` and `sim` solve no game, and `stay` and `patrol` more than one: they leave none, whatever their source tells
+-- `check`, `upgrade` and `sim` solve no game on a board, and `stay` and `patrol` more than one: they leave none, whatever their source tells
 abbrev pub SolvesNothing : Form → Option (BoardModel × RootModel) → Type 0
 SolvesNothing (Synth workers) played = Unit {0}
 SolvesNothing Check played = played ≡ None

@@ -35,7 +35,7 @@ RangeDemands p ReadFault = ⊥
 RangeDemands p WriteFault = ⊥
 RangeDemands p NoMemory = ⊥
 
--- what such a plant demands with rows of a start: to be refused, or to be driven from there, or to be told that there is
+-- what a plant within the limits demands with rows of a start: to be refused, or to be driven from there, or to be told that there is
 -- no row for it
 abbrev pub TraceDemands : Description → List (Option Row) → List ℤ → Outcome → Type 0
 TraceDemands p rows start Done = RangeDemands p Done × HasRowFor p rows start
