@@ -46,7 +46,7 @@ COMPLAINTS = [
     ("state x 0 1 0.1 0.1\nnext x = " + "-" * 70 + "x\n", "line 2: more than 64 brackets"),
     ("version 3\n", "line 1: `version` takes a whole number from 1 to 2"),
     ("state x 0 1 cells 0.5\n", "line 1: `state NAME LO HI cells N`"),
-    ("pieces 2\nstate x 0 1 cells\n", "line 2: 1 numbers are due"),
+    ("pieces 2\nstate x 0 1 cells\n", "line 2: 1 number is due behind `cells`, here are 0"),
 ]
 
 

@@ -42,6 +42,7 @@ SCALED = [
     ("state x -5 5 1 1\nnext x = -x\ngoal keep\n", ["noise r_x -1 0", "next x = -x + r_x"]),
 ]
 
+LINE = "state x 0 1 0.1 0.1\n"
 COMPLAINTS = [
     ("state x 0 1 0.3 0.1\nnext x = x\ngoal reach\n", "HI - LO of x, 1, is no multiple of the width 0.3"),
     ("state x 0 1 0.1 0.3\nnext x = x\ngoal reach\n", "line 1: WIDTH of x, 0.1, is no multiple of the unit 0.3"),
@@ -55,6 +56,36 @@ COMPLAINTS = [
     ("sample 100\nstate x 0 1 0.1 0.1\nA -1\ngoal reach\n", "the sampling time is too long"),
     ("sample 0\nstate x 0 1 0.1 0.1\nA -1\ngoal reach\n", "line 1: a sampling time is above 0"),
     ("bogus\n", "line 1: `bogus` begins no line"),
+    ("samples 1\n", "is `sample` meant?"),
+    ("disturbance w 0 1\n", "is `noise` meant?"),
+    ("plant 1\n", "the text is a plant text, and no model"),
+    ("table 2\n", "the text is a table, and no model"),
+    ("version\n", "line 1: 1 number is due behind `version`, here are 0"),
+    ("sample 0,5\n", "`0,5` is no number; decimals stand behind a point"),
+    ("sample \u22121\n", "write the minus of the keyboard"),
+    ("state x 0 1 0.1\n", "the line is `state NAME LO HI WIDTH UNIT`: 4 numbers are due, here are 3"),
+    ("state x: 0 1 0.1 0.1\n", "`x:` is none"),
+    (LINE + "state x 0 1 0.1 0.1\n", "`x` is taken by an earlier line"),
+    (LINE + "input u 1 0, 2\n", "`0,` is no number: numbers are set apart by blanks alone"),
+    (LINE + "input u 1" + " 0" * 65 + "\n", "line 2: 64 values are the most"),
+    (LINE + "input u 2 1\n", "its unit 2, which stands before the values"),
+    (LINE + "noise w 1\n", "the line is `noise NAME LO HI`"),
+    (LINE + "dx = x\n", "an equation is `next NAME = ..` or `d NAME = ..`"),
+    (LINE + "d x = x\nnext x = x\n", "line 3: a model has `next` lines, `d` lines or a matrix A, and no two of them"),
+    (LINE + "next x = x\nnext x = x\n", "line 3: each state has one equation"),
+    (LINE + "next y = x\n", "`next x = ..` is due here, not `next y`"),
+    (LINE + "next x = 2x\n", "between `2` and `x` a sign is due, as in 2 * x"),
+    (LINE + "next x = 1,5*x\n", "decimals stand behind a point"),
+    (LINE + "next x = tanh(x)\n", "the function `tanh` isn't known"),
+    (LINE + "next x =\n", "an expression is due"),
+    (LINE + "next x = y\n", "no variable of this model; they are x"),
+    ("target 0 1\n", "the `state` lines are due before `target`"),
+    (LINE + "target 0\n", "the line is `target LO_x HI_x`: 2 numbers are due, here are 1"),
+    (LINE + "target 1 0\n", "LO, 1, has to be below HI, 0"),
+    (LINE + "obstacle x <= 0.5\n", "an inequality has `<` or `>`, and no `=`"),
+    (LINE + "next x = x\ntarget 0.31 0.39\ngoal reach\n", "a target from 0.31 to 0.39 holds no whole unit of x, which is 0.1"),
+    (LINE + "goal stay\n", "is solved by `stay` or `patrol`"),
+    (LINE + "target 0 1\ngoal keep\n", "line 3: `goal keep` has no targets"),
 ]
 
 

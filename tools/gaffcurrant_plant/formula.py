@@ -14,6 +14,9 @@ CURVES = ("sin", "cos", "tan", "sqrt", "exp", "log")
 PI = Fraction("3.14159265358979323846264338327950288419716939937510582097494")
 ZERO, ONE = ("num", Fraction(0)), ("num", Fraction(1))
 MOST_POWER, MOST_TOKENS = 12, 1000
+# Functions that are looked for, and what may stand in their place.
+CLIPPED = "; a piece of a line may stand for it, as max(-1, min(1, x/0.1)), and a `noise` for what that leaves out"
+INSTEAD = {"tanh": CLIPPED, "sign": CLIPPED, "sgn": CLIPPED, "ln": "; the natural logarithm is `log`"}
 
 
 def number(value):
@@ -103,6 +106,15 @@ class _Reader:
             raise Fault("the exponent behind `^` is a number, without variables")
         return power(base, exponent[1])
 
+    def unexpected(self):
+        """What to say of the token behind a whole expression."""
+        token, before = self.peek(), self.tokens[self.at - 1]
+        if token[0].isalnum() or token == "(":
+            return f"between `{before}` and `{token}` a sign is due, as in {before} * {token if token != '(' else '(..)'}"
+        if token == ",":
+            return "`,` isn't expected; decimals stand behind a point, as in 0.5"
+        return f"`{token}` isn't expected"
+
     def deeper(self):
         self.open += 1
         if self.open > OPEN:
@@ -122,7 +134,11 @@ class _Reader:
             return number(PI)
         if token in CURVES + ("abs", "min", "max"):
             return self.called(token)
-        raise Fault(f"`{token}` is no variable of this model" if token[0].isalpha() else f"`{token}` isn't expected")
+        if not token[0].isalpha():
+            raise Fault(f"`{token}` isn't expected")
+        if self.peek() == "(":
+            raise Fault(f"the function `{token}` isn't known; there are {', '.join(CURVES)}, abs, min and max" + INSTEAD.get(token.lower(), ""))
+        raise Fault(f"`{token}` is no variable of this model; they are {', '.join(self.names)}")
 
     def called(self, name):
         if self.take() != "(":
@@ -150,12 +166,12 @@ def parse(text, names):
     """The node that a text spells over the names; else raises Fault."""
     reader = _Reader(text.replace("**", "^"), names)
     if not reader.tokens:
-        raise Fault("behind `=` an expression is due")
+        raise Fault("an expression is due, and nothing stands there")
     if len(reader.tokens) > MOST_TOKENS:
         raise Fault(f"the expression has more than {MOST_TOKENS} names, numbers and signs")
     node = reader.sum()
     if reader.peek() is not None:
-        raise Fault(f"`{reader.peek()}` isn't expected")
+        raise Fault(reader.unexpected())
     return node
 
 

@@ -1,5 +1,6 @@
 """Reads a model with real coefficients, for tools/scale, whose --help gives the lines of its text."""
 
+import difflib
 import re
 from fractions import Fraction
 
@@ -7,7 +8,7 @@ from . import formula
 from .command import Trouble
 from .halfplane import HalfPlane
 from .polynomial import Fault, added, number_of
-from .reader import MOST, NAME, NO_NAMES
+from .reader import MOST, NAME, NO_NAMES, VALUES
 from .sampling import TooLong, sampled
 
 
@@ -76,6 +77,8 @@ def half_plane_of(model, words):
     """The half-plane of an inequality `SUM < SUM` or `SUM > SUM`."""
     text = " ".join(words)
     sides = re.split("[<>]", text)
+    if "=" in text:
+        fail("an inequality has `<` or `>`, and no `=`")
     if len(sides) != 2:
         fail("an inequality has one `<` or `>`")
     names = [state[0] for state in model.states]
@@ -94,12 +97,12 @@ def fail(said):
 def read_line(model, words):
     keyword, rest = words[0], words[1:]
     if keyword == "denominator":
-        value = numbers(rest, 1)[0]
+        value = numbers(rest, 1, keyword)[0]
         if value.denominator != 1 or value < 1:
             fail("the denominator is a whole number of at least 1")
         model.denominator = int(value)
     elif keyword == "sample":
-        model.sample = numbers(rest, 1)[0]
+        model.sample = numbers(rest, 1, keyword)[0]
         if model.sample <= 0:
             fail("a sampling time is above 0")
     elif keyword == "unit":
@@ -111,50 +114,101 @@ def read_line(model, words):
     elif keyword in CHOICES:
         read_choice(model, keyword, rest)
     elif keyword in ("next", "d"):
-        equations = model.equations if keyword == "next" else model.flows
-        if len(rest) < 2 or rest[1] != "=":
-            fail(f"`{keyword} NAME = EXPRESSION` has the `=` as a word of its own")
-        if len(equations) >= len(model.states) or rest[0] != model.states[len(equations)][0]:
-            fail(f"the equations stand in the order of the states, one for each; `{keyword} {rest[0]}` isn't due")
-        equations.append(formula.parse(" ".join(rest[2:]), model.names()))
+        read_equation(model, keyword, rest)
     elif keyword in model.rows:
         size = {"A": len(model.states), "B": len(model.inputs), "c": 1, "w": 2}[keyword]
-        model.rows[keyword].append(numbers(rest, size))
+        model.rows[keyword].append(numbers(rest, size, keyword))
     elif keyword == "obstacle" and ("<" in " ".join(rest) or ">" in " ".join(rest)):
         model.half_planes.append(half_plane_of(model, rest))
     elif keyword in ("target", "obstacle"):
-        ends = numbers(rest, 2 * len(model.states))
-        model.boxes.append((keyword, list(zip(ends[::2], ends[1::2]))))
-    elif keyword == "goal" and rest in (["reach"], ["keep"]):
-        model.goal = rest[0]
+        read_box(model, keyword, rest)
+    elif keyword == "goal":
+        read_goal(model, rest)
     elif keyword != "end" or rest:
-        fail(f"`{' '.join(words[:2])}` begins no line of a model; see --help")
+        fail(no_line(words))
+
+
+def no_line(words):
+    """What to say of a line that begins with none of the keywords."""
+    keyword = words[0]
+    if keyword == "plant":
+        return "the text is a plant text, and no model: it is solved as it is"
+    if keyword in ("table", "stay", "patrol"):
+        return f"the text is a {keyword}{' text' * (keyword != 'table')}, and no model"
+    if words[1:2] == ["="] or "=" in keyword:
+        return f"`{' '.join(words[:2])}` begins no line of a model; an equation is `next NAME = ..` or `d NAME = ..`"
+    near = difflib.get_close_matches(keyword.lower(), KEYWORDS + tuple(MEANT), 1, 0.7)
+    meant = f"; is `{MEANT.get(near[0], near[0])}` meant?" if near else ""
+    return f"`{' '.join(words[:2])[:60]}` begins no line of a model{meant or '; see --help'}"
+
+
+def read_equation(model, keyword, rest):
+    equations = model.equations if keyword == "next" else model.flows
+    if model.equations and keyword == "d" or model.flows and keyword == "next":
+        fail("a model has `next` lines, `d` lines or a matrix A, and no two of them")
+    if len(rest) < 2 or rest[1] != "=":
+        fail(f"`{keyword} NAME = EXPRESSION` has the `=` as a word of its own")
+    if len(equations) >= len(model.states):
+        fail(f"each state has one equation, behind the `state` lines; `{keyword} {rest[0]}` is one too many")
+    due = model.states[len(equations)][0]
+    if rest[0] != due:
+        fail(f"the equations stand in the order of the states, one for each; `{keyword} {due} = ..` is due here, not `{keyword} {rest[0]}`")
+    equations.append(formula.parse(" ".join(rest[2:]), model.names()))
+
+
+def read_box(model, keyword, rest):
+    names = [state[0] for state in model.states]
+    if not names:
+        fail(f"the `state` lines are due before `{keyword}`")
+    ends = numbers(rest, 2 * len(names), f"{keyword} {' '.join(f'LO_{name} HI_{name}' for name in names)}")
+    box = list(zip(ends[::2], ends[1::2]))
+    for name, (low, high) in zip(names, box):
+        if low >= high:
+            fail(f"the range of {name} is turned round or empty: LO, {said(low)}, has to be below HI, {said(high)}")
+    model.boxes.append((keyword, box))
+
+
+def read_goal(model, rest):
+    if rest not in (["reach"], ["keep"]):
+        fail("the goal is `goal reach` or `goal keep`" + ("; a plant that is to come and stay, or to patrol, has `goal reach`, and is solved by "
+             "`stay` or `patrol`" if rest in (["stay"], ["patrol"]) else ""))
+    if rest == ["keep"] and any(keyword == "target" for keyword, _ in model.boxes):
+        fail("`goal keep` has no targets: it keeps the plant in its ranges and off the obstacles; take the `target` lines away, or let `goal reach` "
+             "bring the plant into them")
+    model.goal = rest[0]
 
 
 # The least and the greatest number behind a keyword.
 CHOICES = {"version": (1, 2), "order": (1, 3), "steps": (1, 8), "pieces": (2, 31)}
+KEYWORDS = ("version", "denominator", "pieces", "sample", "order", "steps", "state", "input", "noise", "unit", "next", "target", "obstacle", "goal")
+# Words of others for the same.
+MEANT = {"disturbance": "noise", "avoid": "obstacle"}
 
 
 def read_choice(model, keyword, rest):
     low, high = CHOICES[keyword]
-    value = numbers(rest, 1)[0]
+    value = numbers(rest, 1, keyword)[0]
     if value.denominator != 1 or not low <= value <= high:
         fail(f"`{keyword}` takes a whole number from {low} to {high}")
     setattr(model, keyword, int(value))
 
 
-def numbers(words, count):
+def numbers(words, count, form):
+    """So many numbers; form is the keyword before them, or how the line is written."""
     if len(words) != count:
-        fail(f"{count} numbers are due, here are {len(words)}")
+        fail(f"{count} number{'s are' if count != 1 else ' is'} due behind `{form}`, here are {len(words)}" if " " not in form else
+             f"the line is `{form}`: {count} number{'s are' if count != 1 else ' is'} due, here are {len(words)}")
     return [number_of(word) for word in words]
 
 
 def read_variable(model, keyword, rest):
-    if not rest or not NAME.match(rest[0]) or rest[0] in NO_NAMES or rest[0] in model.names():
-        fail(f"behind `{keyword}` a new name is due")
+    if not rest or not NAME.match(rest[0]) or rest[0] in NO_NAMES:
+        fail(f"behind `{keyword}` a name is due: a letter, then letters, digits and `_`" + (f"; `{rest[0][:60]}` is none" if rest else ""))
+    if rest[0] in model.names():
+        fail(f"behind `{keyword}` a new name is due; `{rest[0]}` is taken by an earlier line")
     name = rest[0]
     if keyword == "state":
-        low, high, width, unit = cells_by_number(name, rest[1:]) if "cells" in rest[3:4] else numbers(rest[1:], 4)
+        low, high, width, unit = cells_by_number(name, rest[1:]) if "cells" in rest[3:4] else numbers(rest[1:], 4, "state NAME LO HI WIDTH UNIT")
         if unit <= 0 or width <= 0 or low >= high:
             fail("a state has LO below HI, and a WIDTH and a UNIT above 0")
         for what, value in (("LO", low), ("WIDTH", width), ("HI - LO", high - low)):
@@ -166,14 +220,16 @@ def read_variable(model, keyword, rest):
     elif keyword == "input":
         if len(rest) < 3:
             fail("`input NAME UNIT V1 .. Vm` has a unit and at least one value")
-        unit, *values = numbers(rest[1:], len(rest) - 1)
+        unit, *values = numbers(rest[1:], len(rest) - 1, keyword)
         if unit <= 0:
             fail("a unit is above 0")
+        if len(values) > VALUES:
+            fail(f"{VALUES} values are the most of one input, here are {len(values)}")
         if wrong := [value for value in values if value % unit]:
-            fail(f"the value {said(wrong[0])} of {name} is no multiple of its unit {said(unit)}")
+            fail(f"the value {said(wrong[0])} of {name} is no multiple of its unit {said(unit)}, which stands before the values")
         model.inputs.append((name, unit, values))
     else:
-        low, high = numbers(rest[1:], 2)
+        low, high = numbers(rest[1:], 2, "noise NAME LO HI")
         if low > high:
             fail("a noise has LO of at most HI")
         model.noises.append((name, low, high))
@@ -182,8 +238,8 @@ def read_variable(model, keyword, rest):
 def cells_by_number(name, rest):
     """Range, width and unit of a state by `LO HI cells N`, with a unit of which a cell has an odd number where that can be; or by
     `LO HI cells N UNIT`."""
-    low, high = numbers(rest[:2], 2)
-    count, *unit = numbers(rest[3:], len(rest[3:]) if len(rest) == 5 else 1)
+    low, high = numbers(rest[:2], 2, "state NAME LO HI cells N")
+    count, *unit = numbers(rest[3:], len(rest[3:]) if len(rest) == 5 else 1, "cells")
     if count < 1 or count.denominator != 1 or low >= high:
         fail("`state NAME LO HI cells N` has LO below HI, and a whole number of cells of at least 1")
     width = (high - low) / count

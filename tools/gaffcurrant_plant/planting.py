@@ -186,7 +186,8 @@ def box_text(model, keyword, box):
         else:
             first, last = math.floor(low / unit), math.ceil(high / unit) - 1
         if first > last:
-            raise Trouble(f"a {keyword} holds no whole unit of {name}")
+            raise Trouble(f"{'an' if keyword == 'obstacle' else 'a'} {keyword} from {decimal(low)} to {decimal(high)} holds no whole unit of {name}, "
+                          f"which is {decimal(unit)}")
         words += [str(first), str(last)]
     return " ".join(words)
 

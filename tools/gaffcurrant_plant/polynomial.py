@@ -13,10 +13,21 @@ class Fault(Exception):
 def number_of(word):
     """A decimal number as a fraction; else raises Fault."""
     if not re.match(r"[+-]?([0-9]+\.?[0-9]*|\.[0-9]+)([eE][+-]?[0-9]+)?\Z", word):
-        raise Fault(f"`{word}` is no number")
+        raise Fault(f"`{word[:60]}` is no number{hint_of(word)}")
     if not re.match(r"[^eE]{1,40}([eE][+-]?[0-3]?[0-9])?\Z", word):
         raise Fault(f"`{word[:60]}` has more than 40 places or an exponent past 39")
     return Fraction(word)
+
+
+def hint_of(word):
+    """What may be meant by a word that is no number, or nothing."""
+    if re.match(r"[+-]?[0-9]+,[0-9]+\Z", word):
+        return "; decimals stand behind a point, as in 0.5"
+    if re.match(r"[+-]?[0-9.]+[,;]\Z", word):
+        return ": numbers are set apart by blanks alone"
+    if word[:1] in ("\u2212", "\u2013"):
+        return ": write the minus of the keyboard, `-`"
+    return ""
 
 
 def added(left, right, sign=1):
