@@ -6,6 +6,9 @@ from fractions import Fraction
 
 from .command import Trouble
 
+# Ends of intervals are fractions: a number of more bits before or behind the point would fill the memory, and help no plant.
+MOST_BITS, FEWEST_BITS = 1000, 20_000
+
 
 def load_mpmath():
     """mpmath's intervals; raises Trouble where it isn't there."""
@@ -88,7 +91,8 @@ class Intervals:
         if name in ("sqrt", "log") and low <= 0 or not isinstance(function, str) and (low <= 0 if not is_whole else low <= 0 <= high):
             what = "a quotient's divisor" if function == ("power", Fraction(-1)) else f"what stands in {name}"
             raise Trouble(f"{what} may lie between {float(low):.4g} and {float(high):.4g}, and has to keep off 0" if is_whole else
-                          f"{what} may lie between {float(low):.4g} and {float(high):.4g}, and has to be above 0")
+                          f"{what} may lie between {float(low):.4g} and {float(high):.4g}, and has to be above 0; a `max` does it, as in "
+                          f"sqrt(max(x, 0.01))")
         if name == "tan" and high - low >= 3 or name == "tan" and self.iv.cos(value).a <= 0 <= self.iv.cos(value).b:
             raise Trouble(f"what stands in tan may lie between {float(low):.4g} and {float(high):.4g}, with a pole between")
         if isinstance(function, str):
@@ -105,5 +109,8 @@ def fraction_of(parts):
         if exponent:
             raise Trouble("a bound is infinite: the ranges are too wide for a function, or reach its pole")
         return Fraction(0)
+    size = int(mantissa).bit_length() + exponent
+    if not -FEWEST_BITS < size < MOST_BITS:
+        raise Trouble("a bound is past 10^300, or next to nothing: the sampling time is too long, or the ranges are too wide for a function")
     value = Fraction(int(mantissa)) * (Fraction(2) ** exponent)
     return -value if sign else value
