@@ -55,9 +55,33 @@ def check(report):
     for name, words, status in WRONG_WORDS:
         answer = report.tool(name, "-", *words, data=texts.bytes[name], env=environment)
         report.expect(f"{name} {[word[:9] for word in words]}", (status, status == 0, min(status, 1)), (answer[0], bool(answer[1]), refusal(answer)[2]))
+    check_reasons(report, texts, environment)
     degrees = texts.bytes["scale"].replace(b"unit x m\n", "unit x °C\n".encode())
     ascii_only = report.tool("scale", "-", data=degrees, env=environment | {"PYTHONIOENCODING": "ascii", "LC_ALL": "C"})
     report.expect("scale of a unit that isn't ASCII", report.tool("scale", "-", data=degrees), ascii_only)
+
+
+def check_reasons(report, texts, environment):
+    """What is said of a text that is another one's, empty, or saved with the line ends of Windows; and the text's name, once."""
+    model, plant, table = (texts.bytes[name] for name in ("scale", "lint", "why"))
+    for name, data, said in (("why", b"", "the text is empty, and a run that is refused leaves such a file"),
+                             ("header", table.replace(b"\n", b"\r\n"), "the lines end as on Windows"), ("diff", plant, "the text is a plant text, not a table"),
+                             ("scale", plant, "the text is a plant text, and no model"), ("sweep", table, "the text is a table, and no model")):
+        path = report.room / "reason"
+        path.write_bytes(data)
+        status, output, error = report.tool(name, path, *texts.words(name), env=environment)
+        report.expect(f"{name} of another text", (1, "", 1, 1), (status, output, error.count("\n"), error.count(str(path))))
+        report.holds(f"{name} says `{said}`", said in error, error)
+    for name, words in (("scale", []), ("sweep", []), ("header", ["--model"])):
+        status, _, error = report.tool(name, *words, "/nowhere/file", *([texts.table] if words else []), env=environment)
+        report.expect(f"{name} names a file that isn't there once", (1, 1), (status, error.count("/nowhere/file")))
+    empty = report.room / "empty.model"
+    empty.write_bytes(b"")
+    report.holds("header names the model that it can't read", str(empty) in report.tool("header", "--model", empty, texts.table)[2])
+    for data, first, said in ((b"", "malformed: line 1", "the text is empty"), (model, "malformed: line ", "tools/scale MODEL"),
+                              (table * 2000, "limit: plant text", "the text is a table"), (b"patrol 1\n", "malformed: line 1", "the text is a patrol text")):
+        status, output, _ = report.tool("lint", "-", data=data)
+        report.holds(f"lint of another text says `{said}`", status == 1 and output.startswith(first) and said in output, output)
 
 
 def check_streams(report, name, texts, environment, right):

@@ -108,7 +108,7 @@ def columns_of(data, front, turn):
     line, at, count = rows_at(data, front, turn)
     end, wide = end_of(data, at), 3 + front.in_runs()
     if not data.endswith(b"\nend\n"):
-        raise Refused(f"malformed: line {line + count}", "the text doesn't end with `end`")
+        raise Refused(f"malformed: line {data.count(10) + 1}", "the text is cut off: its last line isn't `end`")
     with warnings.catch_warnings():
         warnings.simplefilter("error")
         try:

@@ -41,8 +41,12 @@ def wrong_head(data, kinds, kind):
     """Why a text is of none of these kinds."""
     heads = [f"`{one} {version}`" for one in kinds for version in VERSIONS[one]]
     due = f"it begins with {' or '.join(heads)}"
+    if not data:
+        return f"the text is empty, and a run that is refused leaves such a file: {due}"
+    if b"\r\n" in data[:80]:
+        return f"the lines end as on Windows; {kinds[0]} lines end with a line feed alone, as the program writes them"
     if data.lstrip().startswith((b"plant ", b"#")):
-        return f"the text is a plant text, not a {kinds[0]}: {due}"
+        return f"the text is a plant text, not a {kinds[0]}, which the program makes of it: {due}"
     if kind in VERSIONS and kind not in kinds:
         return f"the text is a {kind} text: {due}"
     return f"the text is no {kinds[0]}: {due}"

@@ -61,7 +61,10 @@ def read_units(path, data):
     first = next((line for line in lines if line and not line.startswith("#")), "")
     if first.split()[:1] not in (["plant"], ["table"]):
         from .model import read_model
-        model = read_model(data)
+        try:
+            model = read_model(data)
+        except Trouble as trouble:
+            raise Trouble(f"{path}: {trouble}", trouble.status) from None
         return Units({state[0]: state[4] for state in model.states} | {name: unit for name, unit, _ in model.inputs}, model.words)
     found = [found.groups() for found in map(COMMENT.match, lines) if found]
     if not found:
