@@ -101,6 +101,10 @@ def check(report):
     # In version 2 a cell of the line moves into one cell, wherever its centre's bound may reach.
     second = report.tool("lint", "-", data=changed(LINE, 1, "plant 2"))[1]
     report.holds("lint of version 2 tells sampled boxes", "a box meets up to 2 places, of sampled boxes up to 1\n" in second, second)
+    # What tools/scale has written is rounded on purpose, and its noise bounds that.
+    twice = changed(LINE, 4, "next x = x + u / 2 * 3 + u / 2 * 3")
+    for what, data, count in (("by hand", twice, 1), ("by tools/scale", b"# Made by tools/scale from a model with real coefficients.\n" + twice, 0)):
+        report.expect(f"lint of a text {what} notes each product of a quotient once", count, report.tool("lint", "-", data=data)[1].count("multiplies what"))
     report.expect("lint of the line example", (0, "accepted\nsize: deviation of x: 1; half a cell is 1; a box meets up to 2 "
                   "places\nsize: step of x: -3 under u = -3; 3 under u = 3; a cell is 3 wide\nsize: 5 cells, 2 input vectors, "
                   "10 pairs, 8 edges: under 0.01 per cent of the 33554432 that are the most\n", ""),
