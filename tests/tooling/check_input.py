@@ -82,6 +82,10 @@ def check_reasons(report, texts, environment):
                               (table * 2000, "limit: plant text", "the text is a table"), (b"patrol 1\n", "malformed: line 1", "the text is a patrol text")):
         status, output, _ = report.tool("lint", "-", data=data)
         report.holds(f"lint of another text says `{said}`", status == 1 and output.startswith(first) and said in output, output)
+    for name, words in (("why", ["7.5"]), ("sim", ["3", "0", "7.5"])):
+        report.holds(f"{name} tells in what a state is told", "the plant's whole units" in report.tool(name, texts.table, *words)[2])
+    report.holds("sim tells how many numbers a state has", "has 1 numbers (x), here are 2" in report.tool("sim", texts.table, "3", "0", "7", "7")[2])
+    report.holds("sim says where to ask for a start without a row", "tools/why" in report.tool("sim", texts.table, "3", "0", "99")[2])
 
 
 def check_streams(report, name, texts, environment, right):

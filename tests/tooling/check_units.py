@@ -3,7 +3,9 @@
 from fractions import Fraction
 
 from gaffcurrant_plant.command import Trouble
-from gaffcurrant_plant.units import decimal, read_units
+from gaffcurrant_plant.reader import read_plant
+from gaffcurrant_plant.units import Units, decimal, read_units
+from gaffcurrant_plant.view import View
 
 MODEL = b"state x 0 1 0.1 0.02\nstate v -1 1 0.5 0.25\ninput u 0.5 -1 0 1\nunit x m\nunit u m/s^2\nnext x = x + 0.1*v\nnext v = v + u\ngoal keep\n"
 COMMENTS = ["# unit x 0.02 m: a real value lies between its whole number and the next one",
@@ -28,6 +30,7 @@ def check(report):
         report.expect(f"`{word}` in whole units", whole, units.whole("x", word))
     report.expect("a value in words", "u = -0.5 m/s^2", units.said("u", -1))
     check_header(report, plant)
+    check_view(report)
     for text, said in ((b"plant 1\nend\n", "no comments `# unit"), (b"state x 0 1 0.1 0.1\nunit y m\n", "line 2: `unit NAME WORD`"),
                        (b"\xff\xfe", "begins no line of a model")):
         report.holds(f"units of {text[:20]} are refused", said in fault_of(text), fault_of(text))
@@ -38,6 +41,20 @@ def fault_of(text):
         return f"they are {read_units('text', text).sizes}"
     except Trouble as trouble:
         return str(trouble)
+
+
+def check_view(report):
+    """Of a state of a picture that lies outside the range is told, in the units in which the state was."""
+    plant = read_plant(b"plant 1\nstate x 0 99 10\nnext x = x\ngoal keep\nend\n")
+    whole, metres = Units(), Units({"x": Fraction(1, 50)}, {"x": "m"})
+    for units, words, fix, said in ((whole, ["500"], [], "where x is 0 to 99 in the plant's whole units; --model"),
+                                    (metres, ["2"], [], "where x is 0 to 2 in the units of the model, m"), (whole, ["1", "2"], [], "one for each state (x)"),
+                                    (whole, ["1"], ["x"], "--fix takes NAME=X, as --fix x=0"), (metres, ["1"], ["x=3"], "it is outside 0 to 2 in the units")):
+        try:
+            told = f"no trouble: {View(plant, units, fix=fix).state(words, '--from')}"
+        except Trouble as trouble:
+            told = str(trouble)
+        report.holds(f"a state {words} {fix} of a picture says `{said}`", said in told, told)
 
 
 def check_header(report, plant):

@@ -1,6 +1,7 @@
 """What a picture shows of a table: which states are its axes, where the others are fixed, and in which units."""
 
 from .command import Trouble
+from .units import decimal
 
 
 class View:
@@ -17,12 +18,14 @@ class View:
             self.fix(known, entry)
 
     def fix(self, known, entry):
-        name, _, word = entry.partition("=")
+        name, sign, word = entry.partition("=")
         i = self.number(known, name)
+        if not sign:
+            raise Trouble(f"--fix takes NAME=X, as --fix {name}={self.said_at(name, self.plant.states[i][1])}", 2)
         _, low, high, width = self.plant.states[i]
         value = self.units.whole(name, word)
         if not low <= value <= high:
-            raise Trouble(f"--fix {entry}: {value} is outside {low} to {high}", 2)
+            raise Trouble(f"--fix {entry}: it is outside {self.range_said(i)}", 2)
         if i in self.axes:
             raise Trouble(f"--fix {entry}: {name} is an axis", 2)
         self.fixed[i], self.values[i] = (value - low) // width, value
@@ -71,11 +74,25 @@ class View:
         """A state by its words; raises Trouble where it isn't one of the domain."""
         plant = self.plant
         if len(words) != len(plant.states):
-            raise Trouble(f"{option} takes {len(plant.states)} numbers, one for each state", 2)
+            names = " ".join(name for name, *_ in plant.states)
+            raise Trouble(f"{option} takes {len(plant.states)} numbers, one for each state ({names})", 2)
         state = [self.units.whole(name, word) for (name, *_), word in zip(plant.states, words)]
         if plant.cell_of(state) is None:
-            raise Trouble(f"{option} {' '.join(words)}: the state is outside the domain")
+            out = [f"{name} is {self.range_said(i)}" for i, (name, low, high, _) in enumerate(plant.states) if not low <= state[i] <= high]
+            raise Trouble(f"{option} {' '.join(words)}: the state is outside the domain, where {', '.join(out)}")
         return state
+
+    def said_at(self, name, whole):
+        """A number of a state as a word gives it."""
+        return decimal(whole * self.units.size(name))
+
+    def range_said(self, i):
+        """The range of a state, with what its numbers are counted in."""
+        name, low, high, _ = self.plant.states[i]
+        if not self.units.sizes:
+            return f"{low} to {high} in the plant's whole units; --model makes these numbers those of the model"
+        word = self.units.words.get(name)
+        return f"{self.said_at(name, low)} to {self.said_at(name, high + 1)} in the units of the model{f', {word}' if word else ''}"
 
     def input_said(self, number):
         """An input vector in words, in the model's units."""
