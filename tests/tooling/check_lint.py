@@ -65,6 +65,8 @@ NOTED = [
     (LINE, 5, "target 12 14\nobstacle 12 12", "an obstacle meets each of its cells"),
     (LINE, 3, "input u 3 3", "more than once"),
     (LINE, 4, "next x = x + u - x + x", "x stands in it more than once"),
+    # The deviation is 3, so a box has seven numbers about the middle of a cell of three.
+    (LINE, 4, "next x = x + u + abs(x) - abs(x)", "the target has 1 place along x, and each sampled box meets 3 at least"),
     (LINE, 4, "next x = x + u + 30", "the box of every input leaves the domain"),
     (LINE, 4, "next x = x + u / 3", "may lead back into the cell itself"),
     (LINE, 6, "obstacle 0 2\ngoal reach", "8 edges: under 0.01 per cent"),
@@ -101,6 +103,8 @@ def check(report):
     # In version 2 a cell of the line moves into one cell, wherever its centre's bound may reach.
     second = report.tool("lint", "-", data=changed(LINE, 1, "plant 2"))[1]
     report.holds("lint of version 2 tells sampled boxes", "a box meets up to 2 places, of sampled boxes up to 1\n" in second, second)
+    wide = changed(LINE, 4, "next x = x + u + abs(x) - abs(x)").replace(b"target 12 14", b"target 6 14")
+    report.holds("lint of a target of as many places as a box meets", "along x, and each" not in report.tool("lint", "-", data=wide)[1])
     # What tools/scale has written is rounded on purpose, and its noise bounds that.
     twice = changed(LINE, 4, "next x = x + u / 2 * 3 + u / 2 * 3")
     for what, data, count in (("by hand", twice, 1), ("by tools/scale", b"# Made by tools/scale from a model with real coefficients.\n" + twice, 0)):
