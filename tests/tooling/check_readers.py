@@ -66,7 +66,25 @@ def check_lines(report, device, compiler, room):
         full = subprocess.run(["bash", "-c", 'exec "$@" >/dev/full', "bash", *program], input=b"20 0\n", cwd=room, capture_output=True, check=False)
         report.expect(f"{what} at a full device", (1, 1), (full.returncode, full.stderr.count(b"\n")))
     check_no_table(report, device, room, text)
+    if compiler:
+        check_drive(report, device, compiler, room)
     check_sizes(report, (device / "README.md").read_text())
+
+
+def check_drive(report, device, compiler, room):
+    """The README's loop in real units brings the gate's model into its target, never into its obstacle."""
+    model = report.top / "examples/gate/gate.model"
+    (room / "table.h").write_text(report.tool("header", "--model", model, room / "gate.table")[1])
+    (room / "drive.c").write_text(re.search(r"```c\n(.*?)```", (device / "README.md").read_text(), re.DOTALL).group(1))
+    shutil.copy(device / "control.c", room)
+    built = subprocess.run([compiler, "-std=c99", "-O2", "-Wall", "-Wextra", "-Werror", "drive.c", "-lm", "-o", "drive"], cwd=room, capture_output=True, check=False)
+    report.expect("the README's loop in real units is compiled", (0, b""), (built.returncode, built.stderr[:300]))
+    status, output, error = called(["./drive"], room, "") if built.returncode == 0 else (1, "", "")
+    *samples, last = output.splitlines() or [""]
+    report.expect("the README's loop ends", (0, "arrived after", ""), (status, last[:13], error))
+    places = [(float(words[1]), float(words[3])) for words in map(str.split, samples)]
+    report.expect("the README's loop keeps off the obstacle", [], [(x, v) for x, v in places if 3.8 <= x < 5.3 and v >= 0.6])
+    report.expect("the README's loop counts its samples", f"arrived after {len(places)} samples", last)
 
 
 def check_sizes(report, said):
