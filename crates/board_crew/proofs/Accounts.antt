@@ -1,5 +1,5 @@
 -- What accounts hold together, said of one counter or word and of all.
-use Rattle.std.proofs.Common.{◌≡◌, ℕ, ◌==◌, List, [], ◌∷◌, ◌++◌, map, filter, length, get_or, reverse, All, IsPermutation, count_by, sum_by, refl, sym, ◌∙◌, ap}
+use Rattle.std.proofs.Common.{◌≡◌, ℕ, ◌+◌, ◌==◌, List, [], ◌∷◌, ◌++◌, map, filter, length, get_or, reverse, All, IsPermutation, count_by, sum_by, refl, sym, ◌∙◌, ap, length-append}
 use Rattle.std.specs.List.{flat_map}
 use Rattle.std.proofs.lemmas.List.{map-append, length-map}
 use Rattle.std.proofs.lemmas.List.Concat.{flat_map-append}
@@ -7,6 +7,7 @@ use Rattle.std.proofs.lemmas.List.Elements.{filter-append}
 use Rattle.std.proofs.lemmas.List.Sorted.{IsPermutation-reverse, sum_by-IsPermutation}
 use Rattle.std.proofs.lemmas.List.Sums.{length-filter}
 use Rattle.cell_counters.specs.declared.account.Cut.{Cut}
+use Rattle.cell_counters.specs.declared.account.Log.{Log}
 use Rattle.cell_counters.specs.declared.account.Offer.{Offer}
 use Rattle.cell_counters.specs.declared.account.Account.{Account}
 use Rattle.cell_counters.specs.Accounts.{answers, all_answers, cut_count, offers_on, all_offers, first_count, all_logs}
@@ -15,8 +16,9 @@ use Rattle.cell_counters.specs.Tokens.{HandModel}
 use Rattle.frontier_pool.specs.declared.member.Member.{Member}
 use Rattle.game_core.specs.Counts.{one_if, times}
 use Rattle.game_core.proofs.Times.{same}
-use Rattle.board_crew.specs.Crew.{accounts_of, notes_of, cuts_in, offers_in, counters_of, cut_to, claimed}
-use Rattle.board_crew.proofs.Sums.{sum_map, count_map, count_both, sum_flat, sum_alike}
+use Rattle.board_crew.specs.Crew.{accounts_of, notes_of, cuts_in, offers_in, logged_cells, counters_of, cut_to, claimed}
+use Rattle.game_core.proofs.Counts.{sum_map, sum_alike}
+use Rattle.board_crew.proofs.Sums.{count_map, count_both, sum_flat}
 
 -- what these cuts left
 abbrev lefts_of : List Cut → List ℕ
@@ -83,6 +85,7 @@ notes_reversed members =
     ∙ (sum_by-IsPermutation (λ (a : Account). times n a.notes) (accounts_of members) more (IsPermutation-reverse (accounts_of members))
     ∙ sum_map (λ (a : Account). times n a.notes) (λ (m : Member HandModel). m.hand.account) members)))
 
+-- all of two lists of accounts
 pub cuts_in-append : (xs ys : List Account) → cuts_in (xs ++ ys) ≡ cuts_in xs ++ cuts_in ys
 cuts_in-append xs ys = flat_map-append (λ (a : Account). a.cuts) xs ys
 
@@ -91,3 +94,9 @@ offers_in-append xs ys = flat_map-append (λ (a : Account). a.offers) xs ys
 
 pub all_logs-append : (xs ys : List Account) → all_logs (xs ++ ys) ≡ all_logs xs ++ all_logs ys
 all_logs-append xs ys = flat_map-append (λ (a : Account). a.logs) xs ys
+
+pub logged_cells-append : (xs ys : List Account) → logged_cells (all_logs (xs ++ ys)) ≡ logged_cells (all_logs xs) ++ logged_cells (all_logs ys)
+logged_cells-append xs ys = ap logged_cells (all_logs-append xs ys) ∙ map-append (λ (l : Log). l.cell) (all_logs xs) (all_logs ys)
+
+pub cut_count-append : (counter : ℕ) (xs ys : List Account) → cut_count counter (xs ++ ys) ≡ cut_count counter xs + cut_count counter ys
+cut_count-append counter xs ys = ap length (flat_map-append (answers counter) xs ys) ∙ length-append (all_answers counter xs) (all_answers counter ys)

@@ -1,4 +1,6 @@
 pub mod Sums
+pub mod Graphs
+pub mod Boards
 pub mod Accounts
 pub mod Crews
 pub mod Working

@@ -34,3 +34,9 @@ pub record LeadsOn (g : Game) (board : BoardModel) (first : ℕ → Bool) (keeps
   pub few : (d : ℕ) (list : List ℕ) (accounts : List Account) → stands d list accounts → log_count accounts ≤ g.cells
   pub next : (d : ℕ) (list next : List ℕ) (accounts more : List Account) → d ≤ g.cells → 0 < length list → stands d list accounts → IsRound g (keeps d) list more
       → IsLawful (accounts ++ more) board.starts board.least → ((c : ℕ) → times c next ≡ times c (logged_cells (all_logs more))) → stands (suc d) next (accounts ++ more)
+
+-- the rounds are over: no cell is on the list, and there were at most one more of them than there are cells
+pub record IsAtEnd (cells : ℕ) (stands : ℕ → List ℕ → List Account → Type 0) (accounts : List Account) : Type 0 where
+  pub rounds : ℕ
+  pub in_time : rounds ≤ suc cells
+  pub stood : stands rounds [] accounts

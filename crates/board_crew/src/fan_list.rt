@@ -14,7 +14,7 @@ const CHUNK_PAIRS: usize = 1 << 14;
 
 /// How many successors each pair of a game has: the numbers with which its counters begin. Those of many pairs are found by
 /// several threads.
-pub fn list_fans<R: Threads + Sync, G: Forward + Sync>(
+pub(crate) fn list_fans<R: Threads + Sync, G: Forward + Sync>(
     rt: &R,
     alloc: Global,
     g: &G,

@@ -4,7 +4,8 @@
 //! lead to the cells of the list, each cell by exactly one of them, and do what the rule adds. Then all hands are taken
 //! in, and what they logged is the next list. `play_all` goes on until a list is empty, and what the rule says of such a
 //! list stands then.
-//! `list_fans` gives the numbers with which the counters of pairs begin.
+//! `resolve` does so in a `Scratch`, which has all memory for it, and reads the row of each cell. A solver says by a `Start` with which
+//! numbers the board of its scratch begins.
 //! It stands on `game_core`, `cell_counters` and `frontier_pool`, and knows no rule of a game.
 #![tactic(auto)]
 
@@ -12,13 +13,17 @@ mod crew;
 mod fan_list;
 mod first;
 mod logged;
+mod resolving;
 mod room;
 mod rounds;
 mod rule;
+mod scratch;
+mod start;
 mod turn;
 mod worker;
 
-pub use fan_list::list_fans;
-pub use rounds::Rounds;
+pub use resolving::{Resolved, resolve};
 pub use rule::Rule;
+pub use scratch::Scratch;
+pub use start::Start;
 pub use worker::Worker;

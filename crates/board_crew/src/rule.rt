@@ -1,17 +1,19 @@
 //! What a game has workers do.
 use crate::worker::Worker;
 use cell_counters::{Board, Root};
+use game_core::Row;
 
 /// The rule of a game that is solved on a board in rounds.
 ///
 /// Each round has a list of cells, the first one those that the rule wants there. A worker cuts the counter of each pair
 /// that leads to a cell of the list, and the rule says what else it does then. What is logged is the next list.
 pub trait Rule: Sync {
-    ghost use Rattle.std.specs.Prelude.{◌≡◌, ℕ, ◌^◌, ◌<◌, ◌≤◌, Bool, List, length};
+    ghost use Rattle.std.specs.Prelude.{◌≡◌, ℕ, ◌^◌, ◌<◌, ◌≤◌, Bool, List, Option, length};
     ghost use Rattle.cell_counters.specs.declared.account.Account.{Account};
     ghost use Rattle.cell_counters.specs.Tokens.{BoardModel, new_root};
+    ghost use Rattle.game_core.specs.declared.game.Row.{Row};
     ghost use Rattle.game_core.specs.Game.{Game, AreSources, pairs_of, successors_at};
-    ghost use Rattle.board_crew.specs.Rules.{CutsOnce, LeadsOn};
+    ghost use Rattle.board_crew.specs.Rules.{CutsOnce, IsAtEnd, LeadsOn};
 
     /// The game.
     ghost game: { Self → Game };
@@ -27,6 +29,9 @@ pub trait Rule: Sync {
 
     /// What stands before a round, by its number, its list and all accounts so far.
     ghost stands: { Self → ℕ → List ℕ → List Account → Type 0 };
+
+    /// Which row a cell has, by all accounts at the end.
+    ghost tells: { Self → List Account → ℕ → Option Row → Type 0 };
 
     /// How many cells there are.
     fn cells(&self) -> u32
@@ -54,6 +59,15 @@ pub trait Rule: Sync {
         requires enabled { 0 < length (successors_at (game self.now) pair) }
         ensures once { CutsOnce (pairs_of (game self.now)) pair worker.old worker.new }
         ensures keeps { keeps self.now round worker.old.account → keeps self.now round worker.new.account };
+
+    /// The row of a cell, once no cell is on a list.
+    fn row(&self, board: &Board, root: &mut Root, c: u32) -> Option<Row>
+        requires board { fits self.now board.now }
+        requires root { (root.old.board ≡ board.now) × (root.old.out ≡ 0) }
+        requires end { IsAtEnd (game self.now).cells (stands self.now) root.old.accounts }
+        requires cell { c < (game self.now).cells }
+        ensures root { root.new ≡ root.old }
+        ensures row { tells self.now root.old.accounts c result };
 
     /// On a board that fits, each round leads on to the next.
     ghost leads_on: { (rule : Self) (board : BoardModel) → fits rule board → LeadsOn (game rule) board (first rule) (keeps rule) (stands rule) };

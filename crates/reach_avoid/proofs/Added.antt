@@ -1,30 +1,16 @@
 -- What the accounts of a round add to those before.
-use Rattle.std.proofs.Common.{◌≡◌, ℕ, suc, ◌+◌, ◌<◌, ◌==◌, List, [], ◌∷◌, ◌++◌, map, filter, length, All, refl, sym, ◌∙◌, ap, ap₂, length-append}
+use Rattle.std.proofs.Common.{◌≡◌, ℕ, suc, ◌<◌, ◌==◌, List, [], ◌∷◌, ◌++◌, map, filter, All, refl, sym, ◌∙◌, ap, ap₂}
 use Rattle.std.proofs.lemmas.List.{map-append}
-use Rattle.std.proofs.lemmas.List.Concat.{flat_map-append}
 use Rattle.std.proofs.lemmas.List.Elements.{All-nil, All-append, All-head, All-tail, filter-append}
 use Rattle.cell_counters.specs.declared.account.Cut.{Cut}
 use Rattle.cell_counters.specs.declared.account.Offer.{Offer}
 use Rattle.cell_counters.specs.declared.account.Log.{Log}
 use Rattle.cell_counters.specs.declared.account.Account.{Account}
-use Rattle.cell_counters.specs.Accounts.{answers, all_answers, cut_count, all_logs}
+use Rattle.cell_counters.specs.Accounts.{all_logs}
 use Rattle.game_core.specs.Game.{Game, pairs_of}
 use Rattle.board_crew.specs.Crew.{cuts_in, offers_in, logged_cells, claimed, counters_of}
 use Rattle.reach_avoid.specs.Reckoned.{bid_of, bid_at}
 use Rattle.reach_avoid.specs.inside.Rounds.{last_cuts, KeepsRule}
-
--- all of two lists of accounts
-pub cuts_in-append : (xs ys : List Account) → cuts_in (xs ++ ys) ≡ cuts_in xs ++ cuts_in ys
-cuts_in-append xs ys = flat_map-append (λ (a : Account). a.cuts) xs ys
-
-pub offers_in-append : (xs ys : List Account) → offers_in (xs ++ ys) ≡ offers_in xs ++ offers_in ys
-offers_in-append xs ys = flat_map-append (λ (a : Account). a.offers) xs ys
-
-pub all_logs-append : (xs ys : List Account) → all_logs (xs ++ ys) ≡ all_logs xs ++ all_logs ys
-all_logs-append xs ys = flat_map-append (λ (a : Account). a.logs) xs ys
-
-pub cut_count-append : (pair : ℕ) (xs ys : List Account) → cut_count pair (xs ++ ys) ≡ cut_count pair xs + cut_count pair ys
-cut_count-append pair xs ys = ap length (flat_map-append (answers pair) xs ys) ∙ length-append (all_answers pair xs) (all_answers pair ys)
 
 pub last_cuts-append : (xs ys : List Cut) → last_cuts (xs ++ ys) ≡ last_cuts xs ++ last_cuts ys
 last_cuts-append xs ys =

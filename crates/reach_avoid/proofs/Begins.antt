@@ -4,7 +4,7 @@ use Rattle.std.specs.List.{range_with_len}
 use Rattle.std.proofs.lemmas.Bool.{cases_lt, cases_eq, eqb-true}
 use Rattle.std.proofs.lemmas.List.{length-map}
 use Rattle.std.proofs.lemmas.List.Elements.{All-head, All-tail, All-nil, All-map, All-filter, All-weaker, Contains-get_or}
-use Rattle.std.proofs.lemmas.List.FromFn.{length-range_with_len, get_or-range_with_len}
+use Rattle.std.proofs.lemmas.List.FromFn.{length-range_with_len}
 use Rattle.std.proofs.lemmas.List.Sums.{count_by-le-length, sum_by-le}
 use Rattle.std.proofs.lemmas.List.Sorted.{IsPermutation-refl}
 use Rattle.cell_counters.specs.declared.account.TheConstants.{NONE}
@@ -21,28 +21,20 @@ use Rattle.game_core.specs.declared.game.Row.{Row}
 use Rattle.game_core.specs.Game.{Game, IsGraph, mark_of, pairs_of, successors_at}
 use Rattle.game_core.specs.Solution.{row_of}
 use Rattle.game_core.specs.Tally.{all_pairs}
+use Rattle.game_core.proofs.Counts.{sum_zeros}
 use Rattle.game_core.proofs.Times.{counts_tell}
 use Rattle.board_crew.specs.Crew.{offers_in, logged_cells, claimed}
 use Rattle.board_crew.proofs.Accounts.{firsts_are}
+use Rattle.board_crew.proofs.Graphs.{few_successors}
+use Rattle.board_crew.proofs.Sums.{All-range}
 use Rattle.reach_avoid.specs.Boards.{word_at}
 use Rattle.reach_avoid.specs.inside.Rounds.{row_in, word_after, rows_told, below_in, rank_is, taken_in, is_done, bids_done, IsLawfulFor, IsBid, IsReached, is_goal, goals_of, IsFull, IsNext}
 use Rattle.reach_avoid.proofs.Words.{row_from_word, no_row_from_word, row_told, word_of_row}
 use Rattle.reach_avoid.proofs.Ranks.{done_parts}
-use Rattle.reach_avoid.proofs.Games.{few_successors}
-
--- a number of a range
-pub All-range : (n : ℕ) → All (λ i. i < n) (range_with_len 0 n)
-All-range n i d lt =
-    let len = length-range_with_len 0 n in
-    let at = get_or-range_with_len 0 n i d (omega arith) in
-    omega arith
 
 filter_none : {X : Type 0} (p : X → Bool) (xs : List X) → All (λ x. p x ≡ false) xs → filter p xs ≡ []
 filter_none p [] h = refl
 filter_none p (x ∷ xs) h = ap (λ b. cond b (x ∷ filter p xs) (filter p xs)) (All-head (λ x. p x ≡ false) x xs h) ∙ filter_none p xs (All-tail (λ x. p x ≡ false) x xs h)
-
-sum_zeros : {X : Type 0} (f : X → ℕ) (xs : List X) → All (λ x. f x ≡ 0) xs → sum_by f xs ≡ 0
-sum_zeros f xs h = let le = sum_by-le f 0 xs (λ i d lt. let e = h i d lt in omega arith) in omega arith
 
 below_zero : (o : Option Row) → below_in 0 o ≡ false
 below_zero None = refl

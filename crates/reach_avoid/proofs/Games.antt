@@ -1,16 +1,15 @@
--- What a graph's limits say of one pair, and offers within them.
-use Rattle.std.proofs.Common.{◌≡◌, ℕ, ◌+◌, ◌*◌, ◌/◌, ◌%◌, ◌^◌, ◌<◌, ◌≤◌, ◌==◌, List, [], map, length, get_or, All, arith, sym, ◌∙◌, ap, subst}
+-- Offers within a graph's limits.
+use Rattle.std.proofs.Common.{◌≡◌, ℕ, ◌+◌, ◌*◌, ◌/◌, ◌%◌, ◌^◌, ◌<◌, ◌≤◌, ◌==◌, List, map, length, get_or, All, arith, sym, ◌∙◌, ap, subst}
 use Rattle.std.proofs.lemmas.List.{get_or-map, length-map}
 use Rattle.std.proofs.lemmas.List.Elements.{All-map, All-filter, All-weaker}
-use Rattle.std.proofs.lemmas.List.Sums.{get_or-le-sum_by}
-use Rattle.std.proofs.lemmas.Nat.{div_below}
 use Rattle.cell_counters.specs.declared.account.TheConstants.{NONE}
 use Rattle.cell_counters.specs.declared.account.Offer.{Offer}
 use Rattle.cell_counters.specs.declared.account.Account.{Account}
 use Rattle.cell_counters.specs.Accounts.{all_offers, values}
-use Rattle.game_core.specs.Game.{Game, IsGraph, pairs_of, successors_at}
+use Rattle.game_core.specs.Game.{Game, IsGraph, pairs_of}
 use Rattle.board_crew.specs.Crew.{offers_in}
 use Rattle.board_crew.proofs.Accounts.{offers_are}
+use Rattle.board_crew.proofs.Graphs.{cell_below}
 use Rattle.reach_avoid.specs.Reckoned.{bid_of, bid_at}
 use Rattle.reach_avoid.specs.inside.Rounds.{IsBid}
 
@@ -22,19 +21,6 @@ pub record IsBidOf (g : Game) (rank : ℕ) (o : Offer) : Type 0 where
   pub value : o.value ≡ 1 + rank * 4096 + pair % g.inputs
 
 module _ (g : Game) (a : IsGraph g) where
-  pub successors_within : (pair : ℕ) → pair < pairs_of g → All (λ s. s < g.cells) (successors_at g pair)
-  successors_within pair lt = let n = a.game.one_list_each in a.game.within pair [] (omega arith)
-
-  pub few_successors : (pair : ℕ) → pair < pairs_of g → length (successors_at g pair) ≤ 2 ^ 25
-  few_successors pair lt =
-      let n = a.game.one_list_each in
-      let le = get_or-le-sum_by length g.successors pair [] (omega arith) in
-      let most = a.edges_bound in
-      omega arith
-
-  pub cell_of_pair : (pair : ℕ) → pair < pairs_of g → pair / g.inputs < g.cells
-  cell_of_pair pair lt = let some' = a.some_input in div_below pair g.inputs g.cells (omega arith) lt
-
   pub input_of_pair : (pair : ℕ) → pair % g.inputs < g.inputs
   input_of_pair pair = let some' = a.some_input in omega arith
 
@@ -51,7 +37,7 @@ module _ (g : Game) (a : IsGraph g) where
   bid_valued rank small o b =
       let word = b.word in
       let value = b.value in
-      let cell = cell_of_pair b.pair b.below in
+      let cell = cell_below g a b.pair b.below in
       let input = input_of_pair b.pair in
       let most = a.inputs_bound in
       record { word = omega arith; some = omega arith; less = omega arith }

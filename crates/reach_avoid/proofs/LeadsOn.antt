@@ -23,14 +23,16 @@ use Rattle.game_core.specs.Tally.{all_pairs, rank_by}
 use Rattle.game_core.proofs.Times.{counts_tell}
 use Rattle.board_crew.specs.Crew.{cuts_in, offers_in, logged_cells, claimed}
 use Rattle.board_crew.specs.Rules.{IsRound}
-use Rattle.board_crew.proofs.Accounts.{cuts_to_are, firsts_are}
+use Rattle.board_crew.proofs.Accounts.{cuts_to_are, firsts_are, cuts_in-append, offers_in-append, all_logs-append, cut_count-append}
 use Rattle.reach_avoid.specs.Boards.{word_at}
 use Rattle.reach_avoid.specs.Reckoned.{bid_of, bid_at}
 use Rattle.reach_avoid.specs.inside.Rounds.{row_in, least_from, word_after, rows_told, below_in, rank_is, taken_in, is_done, bids_done, IsLawfulFor, IsBid, IsReached, last_cuts, KeepsRule, IsNext}
-use Rattle.reach_avoid.proofs.Added.{cuts_in-append, offers_in-append, all_logs-append, cut_count-append, claimed-append, offers_added, logs_added, cuts_stay_below}
+use Rattle.reach_avoid.proofs.Added.{claimed-append, offers_added, logs_added, cuts_stay_below}
 use Rattle.reach_avoid.proofs.Words.{least_from-le, least_from-keeps, least_from-range, row_from_word, no_row_from_word, row_told, cell_of_row, word_after-le, word_of_row, word_after-more}
 use Rattle.reach_avoid.proofs.Ranks.{done_parts, not_done, taken_after, done_stays, rank_by-stays, rank_by-new}
-use Rattle.reach_avoid.proofs.Games.{IsBidOf, successors_within, few_successors, bids_of, bid_valued, values_of_rank, values_valued}
+use Rattle.board_crew.proofs.Graphs.{successors_within, few_successors}
+use Rattle.board_crew.proofs.Sums.{fresh}
+use Rattle.reach_avoid.proofs.Games.{IsBidOf, bids_of, bid_valued, values_of_rank, values_valued}
 
 map_alike : {X Y : Type 0} (f h : X → Y) (xs : List X) → All (λ x. f x ≡ h x) xs → map f xs ≡ map h xs
 map_alike f h [] e = refl
@@ -261,12 +263,6 @@ module _ (g : Game) (a : IsGraph g) (rank : ℕ) (small : rank < 2 ^ 31) (list :
       let some' = counts_tell.counted pair last (Contains-get_or last i d lt) in
       let tests = fresh (is_done g rows rank pair) (is_done g new (suc rank) pair) (times pair last) some' (once pair below) in
       ap (λ k. bid_at g k pair) (rank_by-new g rank rows new next_rows pair tests.0 tests.1))
-    where
-      fresh : (b n : Bool) (k : ℕ) → 0 < k → k + one_if b ≡ one_if n → (b ≡ false) × (n ≡ true)
-      fresh true true k lt e = absurd (omega arith)
-      fresh true false k lt e = absurd (omega arith)
-      fresh false true k lt e = (refl, refl)
-      fresh false false k lt e = absurd (omega arith)
 
   offers : IsPermutation (bids_done g new (suc rank)) (map bid_of (offers_in (accounts ++ more)))
   offers =

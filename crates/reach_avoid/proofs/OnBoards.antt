@@ -1,12 +1,12 @@
 -- What a board of a game tells: its numbers are the game's, and a word tells a row.
 use Rattle.std.proofs.Common.{◌≡◌, ℕ, ◌<◌, List, [], length, slice_index, arith, ◌∙◌, ap, subst}
 use Rattle.std.proofs.lemmas.List.{get_or-map, length-map}
+use Rattle.std.proofs.lemmas.List.FromFn.{length-map-range_with_len, get_or-map-range_with_len}
 use Rattle.cell_counters.specs.declared.account.Account.{Account}
 use Rattle.cell_counters.specs.Accounts.{IsLawfulCounter, IsLawfulLeast, all_offers, values}
 use Rattle.cell_counters.specs.Tokens.{BoardModel, IsLawful}
-use Rattle.game_core.specs.declared.game.Mark.TheVariants.{Plain}
 use Rattle.game_core.specs.Game.{Game, IsGraph, mark_of, pairs_of, successors_at}
-use Rattle.reach_avoid.specs.Boards.{word_at, IsBoardOf}
+use Rattle.reach_avoid.specs.Boards.{word_at, word_for, IsBoardOf}
 use Rattle.reach_avoid.specs.inside.Rounds.{least_from, word_after, IsLawfulFor}
 use Rattle.reach_avoid.proofs.Words.{least_told}
 
@@ -18,15 +18,13 @@ module _ (g : Game) (a : IsGraph g) (board : BoardModel) (of_game : IsBoardOf g 
       ap (λ l. slice_index l pair) of_game.counters ∙ get_or-map length g.successors pair [] 0 (omega arith)
 
   pub start_of_cell : (c : ℕ) → c < g.cells → slice_index board.least c ≡ word_at (mark_of g c)
-  start_of_cell c lt =
-      let n = a.game.one_mark_each in
-      ap (λ l. slice_index l c) of_game.words ∙ get_or-map word_at g.marks c Plain 0 (omega arith)
+  start_of_cell c lt = ap (λ l. slice_index l c) of_game.words ∙ get_or-map-range_with_len (word_for g) 0 g.cells c c 0 lt (omega arith)
 
   pub counters_of_board : length board.starts ≡ pairs_of g
   counters_of_board = ap length of_game.counters ∙ (length-map g.successors length ∙ a.game.one_list_each)
 
   pub words_of_board : length board.least ≡ g.cells
-  words_of_board = ap length of_game.words ∙ (length-map g.marks word_at ∙ a.game.one_mark_each)
+  words_of_board = ap length of_game.words ∙ length-map-range_with_len (word_for g) 0 g.cells
 
   pub lawful_for : (accounts : List Account) → IsLawful accounts board.starts board.least → IsLawfulFor g accounts
   lawful_for accounts h =

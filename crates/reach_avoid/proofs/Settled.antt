@@ -30,7 +30,7 @@ use Rattle.reach_avoid.specs.inside.Rounds.{row_in, least_from, word_after, rows
 use Rattle.reach_avoid.proofs.Words.{least_from-le, least_from-lower, least_from-among, least_from-keeps, row_from_word, no_row_from_word, row_told, cell_of_row, word_of_row}
 use Rattle.reach_avoid.proofs.Ranks.{greatest_of, greatest_rank-le}
 use Rattle.reach_avoid.proofs.Games.{input_of_pair, values_valued}
-use Rattle.reach_avoid.proofs.Begins.{All-range}
+use Rattle.board_crew.proofs.Sums.{All-range}
 
 -- elements of maps and filters
 contains_map : {X Y : Type 0} (f : X → Y) (xs : List X) (x : X) → Contains xs x → Contains (map f xs) (f x)

@@ -13,5 +13,5 @@ mod solver;
 
 pub use game_core::{NoMemory, Tally};
 pub use outcome::Solved;
-pub use scratch::Scratch;
+pub use scratch::{ReachStart, Scratch};
 pub use solver::{solve, solve_in};

@@ -1,16 +1,17 @@
-//! The rule of a reach game: the cut that leaves nothing of a pair bids on the pair's cell.
-ghost use Rattle.std.specs.Prelude.{◌≡◌, ◌^◌, ◌<◌, ◌≤◌};
+//! The rule of a reach game: the cut that leaves nothing of a pair bids on the pair's cell, and the cell's word tells its row.
+ghost use Rattle.std.specs.Prelude.{◌≡◌, ◌^◌, ◌<◌, ◌≤◌, Some};
+ghost use Rattle.game_core.specs.declared.game.Row.{Row};
 ghost use Rattle.game_core.specs.Game.{IsGraph, pairs_of};
 ghost use Rattle.reach_avoid.specs.Boards.{IsBoardOf};
-ghost use Rattle.reach_avoid.specs.inside.Rounds.{is_goal};
+ghost use Rattle.reach_avoid.specs.inside.Rounds.{is_goal, row_in};
 ghost use Rattle.reach_avoid.specs.inside.Workers.{Bids, Cuts};
 
 use board_crew::{Rule, Worker};
-use cell_counters::{Board, Root};
-use game_core::{Graph, Mark};
+use cell_counters::{Board, NONE, Root};
+use game_core::{Graph, Mark, Row};
 
 /// One more than the greatest number of an input: a word has a rank and an input.
-pub(crate) const INPUTS: u64 = 4096;
+const INPUTS: u64 = 4096;
 
 /// A round is of the cells of one rank.
 #[derive(Drop)]
@@ -23,7 +24,7 @@ pub(crate) struct Reach<'a, G: Graph> {
 
 impl<G: Graph + Sync> Rule for Reach<'_, G> {
     ghost use Rattle.game_core.specs.Game.{mark_of};
-    ghost use Rattle.reach_avoid.specs.inside.Rounds.{KeepsRule};
+    ghost use Rattle.reach_avoid.specs.inside.Rounds.{KeepsRule, row_in, word_after};
     ghost use Rattle.reach_avoid.specs.inside.Standing.{StandsAt, IsPlayable};
 
     ghost game = { λ rule. G.game rule.graph.now };
@@ -35,6 +36,8 @@ impl<G: Graph + Sync> Rule for Reach<'_, G> {
     ghost keeps = { λ rule. KeepsRule (G.game rule.graph.now) };
 
     ghost stands = { λ rule. StandsAt (G.game rule.graph.now) };
+
+    ghost tells = { λ rule accounts c row. row ≡ row_in (word_after (G.game rule.graph.now) accounts c) };
 
     fn cells(&self) -> u32 {
         self.graph.cells()
@@ -50,6 +53,10 @@ impl<G: Graph + Sync> Rule for Reach<'_, G> {
 
     fn cut(&self, board: &Board, worker: &mut Worker, round: u32, pair: u32) {
         self.cut_and_bid(board, worker, round, pair);
+    }
+
+    fn row(&self, board: &Board, root: &mut Root, c: u32) -> Option<Row> {
+        row_told(board.read(root, c))
     }
 
     ghost leads_on = { λ rule board fit. fit.leads };
@@ -93,4 +100,18 @@ fn is_goal(mark: Mark) -> bool
         Mark::Goal => true,
         Mark::Obstacle | Mark::Plain => false,
     }
+}
+
+/// The row that a word tells.
+fn row_told(word: u64) -> Option<Row>
+    requires { (row : Row) → row_in word ≡ Some row → row.rank < 2 ^ 32 }
+    ensures { result ≡ row_in word }
+{
+    if word == 0 || word == NONE {
+        return None;
+    }
+    Some(Row {
+        rank: ((word - 1) / INPUTS) as u32,
+        input: ((word - 1) % INPUTS) as u32,
+    })
 }

@@ -19,20 +19,15 @@ use Rattle.game_core.specs.Game.{Game, IsGraph, mark_of, pairs_of, successors_at
 use Rattle.game_core.proofs.Times.{counts_tell}
 use Rattle.safety_game.specs.Boards.{pairs_at, enabled_at}
 use Rattle.safety_game.specs.inside.Rounds.{fell_before, gone_in, is_hit, hits_at, AreFalling, first_fallen, IsFull}
-use Rattle.safety_game.proofs.Counting.{count_none, All-range}
+use Rattle.game_core.proofs.Counts.{count_none}
+use Rattle.board_crew.proofs.Graphs.{few_successors}
+use Rattle.board_crew.proofs.Sums.{fresh, All-range}
 use Rattle.safety_game.proofs.Falls.{falls_by_hits, hits_by_fall}
-use Rattle.safety_game.proofs.Pairs.{few_enabled, few_successors}
+use Rattle.safety_game.proofs.Pairs.{few_enabled}
 
 one_if_most : (b : Bool) → one_if b ≤ 1
 one_if_most true = omega arith
 one_if_most false = omega arith
-
--- where a number came, a test passes that didn't pass before
-fresh : (b n : Bool) (k : ℕ) → 0 < k → k + one_if b ≡ one_if n → (b ≡ false) × (n ≡ true)
-fresh true true k lt e = absurd (omega arith)
-fresh true false k lt e = absurd (omega arith)
-fresh false true k lt e = (refl, refl)
-fresh false false k lt e = absurd (omega arith)
 
 module _ (g : Game) where
   none_gone : (pair : ℕ) → gone_in g 0 pair ≡ 0

@@ -3,30 +3,9 @@ use Rattle.std.proofs.Common.{◌≡◌, ◌≢◌, ℕ, zero, suc, ◌+◌, ◌
 use Rattle.std.specs.List.{list_any, range_with_len}
 use Rattle.std.proofs.Math.Nat.{suc-mul}
 use Rattle.std.proofs.lemmas.Bool.{lt-ltb}
-use Rattle.std.proofs.lemmas.List.FromFn.{length-range_with_len, get_or-range_with_len}
-use Rattle.std.proofs.lemmas.List.Sums.{sum_by-cons, sum_by-append, sum_by-le}
+use Rattle.std.proofs.lemmas.List.Sums.{sum_by-cons, sum_by-append}
 use Rattle.game_core.specs.Counts.{times, one_if}
-
-pub count-cons : (p : ℕ → Bool) (x : ℕ) (xs : List ℕ) → count_by p (x ∷ xs) ≡ one_if (p x) + count_by p xs
-count-cons p x xs = sum_by-cons (λ y. one_if (p y)) x xs
-
-pub sum_zeros : (f : ℕ → ℕ) (xs : List ℕ) → All (λ x. f x ≡ 0) xs → sum_by f xs ≡ 0
-sum_zeros f xs h = let le = sum_by-le f 0 xs (λ i d lt. let e = h i d lt in omega arith) in omega arith
-
--- a test that fails at each element counts none
-pub count_none : (p : ℕ → Bool) (xs : List ℕ) → All (λ x. p x ≡ false) xs → count_by p xs ≡ 0
-count_none p xs h = sum_zeros (λ x. one_if (p x)) xs (λ i d lt. ap one_if (h i d lt))
-
--- a test that passes wherever another does, and no more often, passes alike
-pub one_if_le : (a b : Bool) → (a ≡ true → b ≡ true) → one_if a ≤ one_if b
-one_if_le true b h = let e : one_if b ≡ 1 = ap one_if (h refl) in omega arith
-one_if_le false b h = omega arith
-
-pub one_if_same : (a b : Bool) → one_if a ≡ one_if b → a ≡ b
-one_if_same true true e = refl
-one_if_same true false e = absurd (omega arith)
-one_if_same false true e = absurd (omega arith)
-one_if_same false false e = refl
+use Rattle.game_core.proofs.Counts.{count-cons}
 
 -- some element passes exactly where the count isn't 0
 pub any_counts : (p : ℕ → Bool) (xs : List ℕ) → list_any p xs ≡ nat_lt 0 (count_by p xs)
@@ -58,13 +37,6 @@ here x n e = ap one_if (eq-eqb x n e)
 
 pub elsewhere : (x n : ℕ) → x ≢ n → one_if (x == n) ≡ 0
 elsewhere x n ne = ap one_if (ne_eqb x n ne)
-
--- what holds of all numbers of a range, and of each below its end
-pub All-range : (n : ℕ) → All (λ i. i < n) (range_with_len 0 n)
-All-range n i d lt =
-    let len = length-range_with_len 0 n in
-    let at = get_or-range_with_len 0 n i d (omega arith) in
-    omega arith
 
 -- a sum over a range in two parts
 pub range_split : (f : ℕ → ℕ) (a n m : ℕ) → sum_by f (range_with_len a (n + m)) ≡ sum_by f (range_with_len a n) + sum_by f (range_with_len (a + n) m)

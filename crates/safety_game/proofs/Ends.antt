@@ -1,54 +1,53 @@
--- The first stand, and what the last one gives.
-use Rattle.std.proofs.Common.{◌≡◌, [], length, arith, sym, ◌∙◌, ap, subst}
-use Rattle.board_crew.specs.declared.rounds.Rounds.{Rounds}
-use Rattle.board_crew.specs.Crew.{offers_in}
-use Rattle.board_crew.specs.Rounds.{IsOver}
-use Rattle.cell_counters.specs.Tokens.{BoardModel, RootModel}
+-- What stands with no cell on the list, and what a resolved game is then.
+use Rattle.std.proofs.Common.{◌≡◌, List, length, arith, sym, ◌∙◌, ap, subst}
+use Rattle.cell_counters.specs.declared.account.Account.{Account}
+use Rattle.cell_counters.specs.Tokens.{BoardModel}
 use Rattle.game_core.specs.Game.{Game, IsGraph}
 use Rattle.game_core.specs.Tally.{IsKeepTally}
 use Rattle.game_core.proofs.Keep.{settled_rows_are_the_keep_solution}
-use Rattle.safety_game.specs.declared.outcome.Kept.{Kept}
+use Rattle.board_crew.specs.declared.resolving.Resolved.{Resolved}
+use Rattle.board_crew.specs.Crew.{offers_in}
+use Rattle.board_crew.specs.Resolving.{IsResolved}
+use Rattle.board_crew.specs.Rules.{IsAtEnd}
 use Rattle.safety_game.specs.Boards.{IsBoardOf}
-use Rattle.safety_game.specs.Reckoned.{IsReckoned}
 use Rattle.safety_game.specs.Kept.{IsKeepSolved}
-use Rattle.safety_game.specs.inside.Rounds.{AreFewCuts, AreRowsTold}
+use Rattle.safety_game.specs.inside.Rounds.{AreFewCuts, IsRowTold}
 use Rattle.safety_game.specs.inside.Standing.{StandsAt}
 use Rattle.safety_game.proofs.Falls.{gone_few}
 use Rattle.safety_game.proofs.Settled.{settled, reckoned, cuts_count, few_cuts, all_fell, no_sooner}
 
-module _ (g : Game) (a : IsGraph g) (board : BoardModel) where
+module _ (g : Game) (a : IsGraph g) where
   -- no pair is cut too often
-  pub few_each : (r : Rounds) → StandsAt g r.tally.rounds [] r.root.accounts → AreFewCuts g r.root.accounts
-  few_each r s pair lt =
-      let e = s.falling.cuts pair lt in
-      let le = gone_few g r.tally.rounds pair in
+  pub few_each : (accounts : List Account) → IsAtEnd g.cells (StandsAt g) accounts → AreFewCuts g accounts
+  few_each accounts end pair lt =
+      let e = end.stood.falling.cuts pair lt in
+      let le = gone_few g end.rounds pair in
       omega arith
 
-  -- with no cell on the list the game is solved
-  pub solved : IsBoardOf g board → (r : Rounds) → IsOver board g.cells r → StandsAt g r.tally.rounds [] r.root.accounts → (k : Kept) → AreRowsTold g r.root.accounts k.answer → k.tally ≡ r.tally → k.board ≡ board → k.root ≡ r.root → IsKeepSolved g k
-  solved of_game r over stands k told tally same root =
-      let accounts = r.root.accounts in
-      let d = r.tally.rounds in
+  -- the game is solved
+  pub solved : (board : BoardModel) → IsBoardOf g board → (k : Resolved) → IsResolved g.cells (StandsAt g) (IsRowTold g) board k → IsKeepSolved g k
+  solved board of_game k r =
+      let accounts = k.root.accounts in
+      let d = k.tally.rounds in
       let rows = k.answer in
-      let was = stands.falling in
-      let solution = settled_rows_are_the_keep_solution g rows a.game (settled g a d accounts was rows told) in
-      let cuts = cuts_count g a d accounts was rows told in
-      let few = few_cuts g a d accounts was rows told in
-      let told_cuts = over.tallied.cuts in
-      let told_offers = over.tallied.offers in
+      let was = r.stood.falling in
+      let solution = settled_rows_are_the_keep_solution g rows a.game (settled g a d accounts was rows r.told) in
+      let cuts = cuts_count g a d accounts was rows r.told in
+      let few = few_cuts g a d accounts was rows r.told in
+      let told_cuts = r.tallied.cuts in
+      let told_offers = r.tallied.offers in
       let no_offers : length (offers_in accounts) ≡ 0 = ap length was.no_offer in
-      let counts : IsKeepTally g rows r.tally = record {
+      let counts : IsKeepTally g rows k.tally = record {
         cuts = omega arith;
         offers = omega arith;
-        all_fell = all_fell g a d accounts was rows told;
-        no_sooner = no_sooner g a d accounts was rows told stands.full;
+        all_fell = all_fell g a d accounts was rows r.told;
+        no_sooner = no_sooner g a d accounts was rows r.told r.stood.full;
       } in
-      let reckons : IsReckoned g accounts = (rows, solution, reckoned g a d accounts was rows told) in
       record {
         solution = solution;
-        tallied = subst (IsKeepTally g rows) (sym tally) counts;
-        of_game = subst (IsBoardOf g) (sym same) of_game;
-        at = ap (λ (r : RootModel). r.board) root ∙ (over.at ∙ sym same);
-        settled = ap (λ (r : RootModel). r.out) root ∙ over.settled;
-        reckoned = subst (λ (r : RootModel). IsReckoned g r.accounts) (sym root) reckons;
+        tallied = counts;
+        of_game = subst (IsBoardOf g) (sym r.on) of_game;
+        at = r.at ∙ sym r.on;
+        settled = r.settled;
+        reckoned = (rows, solution, reckoned g a d accounts was rows r.told);
       }

@@ -11,7 +11,8 @@ use Rattle.game_core.specs.Game.{Game, mark_of, pair_of, successors_at, successo
 use Rattle.game_core.proofs.Times.{counts_tell}
 use Rattle.safety_game.specs.Boards.{pairs_at, enabled_at}
 use Rattle.safety_game.specs.inside.Rounds.{fell_before, gone_in, is_hit, hits_at}
-use Rattle.safety_game.proofs.Counting.{one_if_le, any_counts, count_none}
+use Rattle.game_core.proofs.Counts.{one_if_le, count_none}
+use Rattle.safety_game.proofs.Counting.{any_counts}
 use Rattle.safety_game.proofs.Pairs.{cell_of, All-pairs_at, All-at_input}
 
 abbrev pub is_enabled : Game → ℕ → Bool

@@ -15,7 +15,8 @@ use Rattle.game_core.proofs.Times.{counts_tell}
 use Rattle.safety_game.specs.Boards.{pairs_at}
 use Rattle.safety_game.specs.inside.Rounds.{firsts_in, hits_in, IsInStep}
 use Rattle.safety_game.specs.inside.Workers.{is_blow}
-use Rattle.safety_game.proofs.Counting.{times-append, times_single, here, elsewhere, sum_zeros}
+use Rattle.game_core.proofs.Counts.{sum_zeros}
+use Rattle.safety_game.proofs.Counting.{times-append, times_single, here, elsewhere}
 use Rattle.safety_game.proofs.Pairs.{at_home, away, pairs_below}
 
 abbrev pub cut : ℕ → ℕ → Cut

@@ -18,9 +18,11 @@ use Rattle.game_core.proofs.Times.{counts_tell}
 use Rattle.safety_game.specs.Boards.{pairs_at, enabled_at}
 use Rattle.safety_game.specs.inside.Rounds.{fell_before, gone_in, is_hit, hits_at, IsLawfulFor, AreFalling, firsts_in, hits_in, IsInStep, KeepsRule}
 use Rattle.safety_game.proofs.Counting.{times-append}
-use Rattle.safety_game.proofs.Pairs.{cell_of, pairs_below, All-pairs_at, few_enabled, successors_within, few_successors}
+use Rattle.safety_game.proofs.Pairs.{cell_of, pairs_below, All-pairs_at, few_enabled}
 use Rattle.safety_game.proofs.Falls.{fell_stays, gone_few, hits_few, falls_by_hits, hits_by_fall, obstacle_falls, obstacle_unhit}
-use Rattle.safety_game.proofs.Added.{cuts_in-append, offers_in-append, logged_cells-append, cut_count-append, none_offered, round_in_step}
+use Rattle.board_crew.proofs.Accounts.{cuts_in-append, offers_in-append, logged_cells-append, cut_count-append}
+use Rattle.board_crew.proofs.Graphs.{successors_within, few_successors}
+use Rattle.safety_game.proofs.Added.{none_offered, round_in_step}
 
 answered_few : (counter v : ℕ) (accounts : List Account) → answered counter v accounts ≤ cut_count counter accounts
 answered_few counter v accounts = count_by-le-length (λ answer. answer == v) (all_answers counter accounts)

@@ -2,51 +2,41 @@
 use Rattle.std.proofs.Common.{inl, inr, ◌≡◌, ℕ, ◌+◌, ◌-◌, ◌<◌, ◌≤◌, ◌==◌, ◌&&◌, nat_lt, true, false, eq-eqb, ne_eqb, List, [], ◌++◌, map, length, slice_index, arith, refl, sym, ◌∙◌, ap, subst}
 use Rattle.std.specs.List.{range_with_len}
 use Rattle.std.proofs.lemmas.Bool.{cases_eq, lt-ltb, le-ltb}
-use Rattle.std.proofs.lemmas.List.{get_or-append-add, get_or_append_left, get_or-map, length-map, length-append}
-use Rattle.std.proofs.lemmas.List.FromFn.{length-map-range_with_len, get_or-map-range_with_len}
+use Rattle.std.proofs.lemmas.List.{get_or-append-add, get_or_append_left, get_or-map}
+use Rattle.std.proofs.lemmas.List.FromFn.{get_or-map-range_with_len}
 use Rattle.cell_counters.specs.declared.account.Account.{Account}
 use Rattle.cell_counters.specs.Accounts.{IsLawfulCounter, cut_count}
 use Rattle.cell_counters.specs.Tokens.{BoardModel, RootModel, IsLawful, new_root}
 use Rattle.cell_counters.proofs.Consequences.{counts_down}
 use Rattle.game_core.specs.Game.{Game, IsGraph, pairs_of, successors_at}
-use Rattle.safety_game.specs.Boards.{enabled_at, IsBoardOf}
+use Rattle.board_crew.specs.Boards.{fans_of, for_each_cell}
+use Rattle.board_crew.proofs.Boards.{fans_many, numbers_many}
+use Rattle.board_crew.proofs.Graphs.{few_successors}
+use Rattle.safety_game.specs.Boards.{enabled_at, counters_of, IsBoardOf}
 use Rattle.safety_game.specs.inside.Rounds.{IsLawfulFor, is_whole}
-use Rattle.safety_game.proofs.Pairs.{few_enabled, few_successors}
+use Rattle.safety_game.proofs.Pairs.{few_enabled}
 
 -- how many numbers a board begins with
-pub starts_many : (g : Game) → IsGraph g → (starts : List ℕ) → starts ≡ map length g.successors ++ map (enabled_at g) (range_with_len 0 g.cells) → length starts ≡ pairs_of g + g.cells
-starts_many g a starts e =
-    let all = ap length e ∙ length-append (map length g.successors) (map (enabled_at g) (range_with_len 0 g.cells)) in
-    let pairs = length-map g.successors length ∙ a.game.one_list_each in
-    let cells = length-map-range_with_len (enabled_at g) 0 g.cells in
-    omega arith
+pub starts_many : (g : Game) → IsGraph g → length (counters_of g) ≡ pairs_of g + g.cells
+starts_many g a = numbers_many g a (enabled_at g) (counters_of g) refl
 
 module _ (g : Game) (a : IsGraph g) (board : BoardModel) (of_game : IsBoardOf g board) where
-  abbrev of_pairs : List ℕ
-  of_pairs = map length g.successors
-
-  abbrev of_cells : List ℕ
-  of_cells = map (enabled_at g) (range_with_len 0 g.cells)
-
-  pairs_many : length of_pairs ≡ pairs_of g
-  pairs_many = length-map g.successors length ∙ a.game.one_list_each
-
   pub counters_of_board : length board.starts ≡ pairs_of g + g.cells
-  counters_of_board = starts_many g a board.starts of_game.counters
+  counters_of_board = ap length of_game.counters ∙ starts_many g a
 
   -- what the board began with
   pub start_of_pair : (pair : ℕ) → pair < pairs_of g → slice_index board.starts pair ≡ length (successors_at g pair)
   start_of_pair pair lt =
       let n = a.game.one_list_each in
-      let pairs = pairs_many in
+      let pairs = fans_many g a in
       ap (λ l. slice_index l pair) of_game.counters
-      ∙ (get_or_append_left of_pairs of_cells 0 pair (omega arith) ∙ get_or-map length g.successors pair [] 0 (omega arith))
+      ∙ (get_or_append_left (fans_of g) (for_each_cell g (enabled_at g)) 0 pair (omega arith) ∙ get_or-map length g.successors pair [] 0 (omega arith))
 
   pub start_of_cell : (c : ℕ) → c < g.cells → slice_index board.starts (pairs_of g + c) ≡ enabled_at g c
   start_of_cell c lt =
       ap (λ l. slice_index l (pairs_of g + c)) of_game.counters
-      ∙ (ap (λ n. slice_index (of_pairs ++ of_cells) (n + c)) (sym pairs_many)
-      ∙ (get_or-append-add of_pairs of_cells c 0 ∙ get_or-map-range_with_len (enabled_at g) 0 g.cells c c 0 lt (omega arith)))
+      ∙ (ap (λ n. slice_index (fans_of g ++ for_each_cell g (enabled_at g)) (n + c)) (sym (fans_many g a))
+      ∙ (get_or-append-add (fans_of g) (for_each_cell g (enabled_at g)) c 0 ∙ get_or-map-range_with_len (enabled_at g) 0 g.cells c c 0 lt (omega arith)))
 
   pub lawful_for : (accounts : List Account) → IsLawful accounts board.starts board.least → IsLawfulFor g accounts
   lawful_for accounts h =

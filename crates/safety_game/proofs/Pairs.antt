@@ -3,10 +3,10 @@ use Rattle.std.proofs.Common.{inl, inr, ◌≡◌, ◌≢◌, ℕ, ◌+◌, ◌*
 use Rattle.std.specs.List.{range_with_len}
 use Rattle.std.proofs.lemmas.Bool.{cases_lt}
 use Rattle.std.proofs.lemmas.List.FromFn.{length-range_with_len, get_or-range_with_len}
-use Rattle.std.proofs.lemmas.List.Sums.{get_or-le-sum_by, count_by-le-length}
-use Rattle.std.proofs.lemmas.Nat.{div-mul-add, div-add-mod', div_below, mod_below, mul-add-lt}
+use Rattle.std.proofs.lemmas.List.Sums.{count_by-le-length}
+use Rattle.std.proofs.lemmas.Nat.{div-mul-add, div-add-mod', mod_below, mul-add-lt}
 use Rattle.game_core.specs.Counts.{times}
-use Rattle.game_core.specs.Game.{Game, IsGraph, pair_of, pairs_of, successors_at}
+use Rattle.game_core.specs.Game.{Game, pair_of, pairs_of, successors_at}
 use Rattle.game_core.proofs.Times.{counts_tell}
 use Rattle.safety_game.specs.Boards.{pairs_at, enabled_at}
 
@@ -57,18 +57,3 @@ module _ (g : Game) where
               let same : pair_of g c has.0 ≡ pair = sym (get_or-range_with_len (c * g.inputs) g.inputs has.0 pair lt) ∙ has.2 in
               absurd (ne (ap (λ p. p / g.inputs) (sym same) ∙ cell_of c has.0 lt))
         ]
-
--- what a graph's limits say of one pair
-module _ (g : Game) (a : IsGraph g) where
-  pub successors_within : (pair : ℕ) → pair < pairs_of g → All (λ s. s < g.cells) (successors_at g pair)
-  successors_within pair lt = let n = a.game.one_list_each in a.game.within pair [] (omega arith)
-
-  pub few_successors : (pair : ℕ) → pair < pairs_of g → length (successors_at g pair) ≤ 2 ^ 25
-  few_successors pair lt =
-      let n = a.game.one_list_each in
-      let le = get_or-le-sum_by length g.successors pair [] (omega arith) in
-      let most = a.edges_bound in
-      omega arith
-
-  pub cell_below : (pair : ℕ) → pair < pairs_of g → pair / g.inputs < g.cells
-  cell_below pair lt = let some' = a.some_input in div_below pair g.inputs g.cells (omega arith) lt

@@ -23,8 +23,11 @@ use Rattle.game_core.proofs.Times.{counts_tell}
 use Rattle.safety_game.specs.Boards.{pairs_at}
 use Rattle.safety_game.specs.Reckoned.{lost_at, IsReckonedBy}
 use Rattle.safety_game.specs.inside.Rounds.{fell_before, gone_in, is_hit, hits_at, AreFalling, IsFull, is_whole, IsRowTold, AreRowsTold}
-use Rattle.safety_game.proofs.Counting.{one_if_le, one_if_same, count_none, All-range, range_split, range_shift, range_rows}
-use Rattle.safety_game.proofs.Pairs.{cell_of, pair_below, pairs_below, All-pairs_at, All-at_input, successors_within}
+use Rattle.game_core.proofs.Counts.{one_if_le, one_if_same, count_none}
+use Rattle.board_crew.proofs.Graphs.{successors_within}
+use Rattle.board_crew.proofs.Sums.{All-range}
+use Rattle.safety_game.proofs.Counting.{range_split, range_shift, range_rows}
+use Rattle.safety_game.proofs.Pairs.{cell_of, pair_below, pairs_below, All-pairs_at, All-at_input}
 use Rattle.safety_game.proofs.Falls.{is_enabled, touched_enabled, fell_later, falls_by_hits, hits_by_fall, obstacle_falls}
 
 clear_if : (m : Mark) → m ≢ Obstacle → is_obstacle m ≡ false

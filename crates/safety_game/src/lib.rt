@@ -13,5 +13,5 @@ mod solver;
 
 pub use game_core::{NoMemory, Tally};
 pub use outcome::Kept;
-pub use scratch::Scratch;
+pub use scratch::{KeepStart, Scratch};
 pub use solver::{keep, keep_in};

@@ -1,12 +1,13 @@
-//! The rule of a keep game: the first cut of a pair cuts the pair's cell too.
+//! The rule of a keep game: the first cut of a pair cuts the pair's cell too, and a cell's row is its least pair that was never cut.
 ghost use Rattle.std.specs.Prelude.{◌≡◌, ◌<◌, length};
 ghost use Rattle.game_core.specs.Game.{IsGraph, pairs_of, successors_at};
 ghost use Rattle.safety_game.specs.Boards.{IsBoardOf};
+ghost use Rattle.safety_game.specs.inside.Rounds.{is_whole, IsRowTold, AreFewCuts};
 ghost use Rattle.safety_game.specs.inside.Workers.{Takes, Hits, Cuts};
 
 use board_crew::{Rule, Worker};
 use cell_counters::{Board, Root};
-use game_core::{Graph, Mark};
+use game_core::{Graph, Mark, Row};
 
 /// A round is of the cells that fall in it.
 #[derive(Drop)]
@@ -21,7 +22,7 @@ pub(crate) struct Keep<'a, G: Graph> {
 
 impl<G: Graph + Sync> Rule for Keep<'_, G> {
     ghost use Rattle.game_core.specs.Fallen.{has_fallen};
-    ghost use Rattle.safety_game.specs.inside.Rounds.{KeepsRule};
+    ghost use Rattle.safety_game.specs.inside.Rounds.{KeepsRule, IsRowTold};
     ghost use Rattle.safety_game.specs.inside.Standing.{StandsAt, IsPlayable};
 
     ghost game = { λ rule. G.game rule.graph.now };
@@ -33,6 +34,8 @@ impl<G: Graph + Sync> Rule for Keep<'_, G> {
     ghost keeps = { λ rule _. KeepsRule (G.game rule.graph.now) };
 
     ghost stands = { λ rule. StandsAt (G.game rule.graph.now) };
+
+    ghost tells = { λ rule. IsRowTold (G.game rule.graph.now) };
 
     fn cells(&self) -> u32 {
         self.graph.cells()
@@ -49,6 +52,10 @@ impl<G: Graph + Sync> Rule for Keep<'_, G> {
 
     fn cut(&self, board: &Board, worker: &mut Worker, _round: u32, pair: u32) {
         self.cut_and_hit(board, worker, pair);
+    }
+
+    fn row(&self, board: &Board, root: &mut Root, c: u32) -> Option<Row> {
+        row_told(self.graph, board, root, c)
     }
 
     ghost leads_on = { λ rule board fit. fit.leads };
@@ -92,4 +99,40 @@ impl<G: Graph> Keep<'_, G> {
             let _ = worker.log(board, cell);
         }
     }
+}
+
+/// The row of a cell's least whole pair, none at an obstacle.
+fn row_told<G: Graph>(g: &G, board: &Board, root: &mut Root, c: u32) -> Option<Row>
+    requires board { IsBoardOf (G.game g.now) board.now }
+    requires root { (root.old.board ≡ board.now) × (root.old.out ≡ 0) }
+    requires few { AreFewCuts (G.game g.now) root.old.accounts }
+    requires cell { c < (G.game g.now).cells }
+    ensures root { root.new ≡ root.old }
+    ensures row { IsRowTold (G.game g.now) root.old.accounts c result }
+{
+    if g.mark(c) == Mark::Obstacle {
+        return None;
+    }
+    let inputs = g.inputs();
+    let first = c * inputs;
+    for input in 0..inputs {
+        if is_whole(g, board, root, first + input) {
+            return Some(Row { rank: 0, input });
+        }
+    }
+    None
+}
+
+/// Whether a pair is enabled, and was never cut.
+fn is_whole<G: Graph>(g: &G, board: &Board, root: &mut Root, pair: u32) -> bool
+    requires board { IsBoardOf (G.game g.now) board.now }
+    requires root { (root.old.board ≡ board.now) × (root.old.out ≡ 0) }
+    requires few { AreFewCuts (G.game g.now) root.old.accounts }
+    requires pair { pair < pairs_of (G.game g.now) }
+    ensures root { root.new ≡ root.old }
+    ensures whole { result ≡ is_whole (G.game g.now) root.old.accounts pair }
+{
+    let fan = u64::from(g.fan(pair));
+    let left = board.left(root, pair);
+    fan > 0 && left == fan
 }

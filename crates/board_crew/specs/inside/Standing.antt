@@ -1,11 +1,13 @@
--- What stands between two rounds.
-use Rattle.std.specs.Prelude.{◌≡◌, ℕ, ◌+◌, ◌-◌, ◌<◌, ◌≤◌, suc, min, List, [], length}
+-- What stands between two rounds, and in a scratch that wasn't used yet.
+use Rattle.std.specs.Prelude.{◌≡◌, ℕ, ◌+◌, ◌-◌, ◌<◌, ◌≤◌, suc, min, List, [], length, replicate, Option, None}
 use Rattle.std.specs.Vec.{vec_capacity}
 use Rattle.cell_counters.specs.declared.account.Account.{Account}
 use Rattle.cell_counters.specs.Accounts.{IsLawfulLog, log_count}
-use Rattle.cell_counters.specs.Tokens.{BoardModel}
+use Rattle.cell_counters.specs.Tokens.{BoardModel, new_root}
+use Rattle.game_core.specs.declared.game.Row.{Row}
 use Rattle.board_crew.specs.declared.rounds.Rounds.{Rounds}
 use Rattle.board_crew.specs.Crew.{IsTalliedBy}
+use Rattle.board_crew.specs.Rounds.{IsUnused}
 
 -- all hands are taken in, the log is on lists, the tally has all cuts and offers, and each round but the last found a cell
 pub record StandsAt (stands : ℕ → List ℕ → List Account → Type 0) (board : BoardModel) (cells workers : ℕ) (r : Rounds) : Type 0 where
@@ -25,3 +27,10 @@ pub record StandsAt (stands : ℕ → List ℕ → List Account → Type 0) (boa
 -- how many rounds there may still be
 abbrev pub to_go : ℕ → Rounds → ℕ
 to_go cells r = cells - r.listed + min 1 (length r.list.items)
+
+-- what a scratch keeps
+pub record IsScratch (board : BoardModel) (count : ℕ) (r : Rounds) (answer : List (Option Row)) : Type 0 where
+  pub unused : IsUnused (new_root board) board.places count r
+  pub blank : answer ≡ replicate board.places None
+  pub some_worker : 1 ≤ count
+  pub few_workers : count ≤ 64

@@ -1,6 +1,7 @@
 -- What stands between the rounds of a keep game, and what a round adds.
 use Rattle.std.specs.Prelude.{◌≡◌, ◌≢◌, ℕ, zero, suc, ◌+◌, ◌-◌, ◌/◌, ◌<◌, ◌≤◌, ◌⊎◌, Bool, true, false, not, ◌&&◌, ◌==◌, nat_lt, cond, List, [], filter, length, sum_by, count_by, Option, Some, None, All}
 use Rattle.std.specs.List.{range_with_len}
+use Rattle.board_crew.specs.Resolving.{AreTold}
 use Rattle.board_crew.specs.Crew.{cuts_in, offers_in, logged_cells, counters_of, cut_to}
 use Rattle.game_core.specs.Counts.{one_if, times}
 use Rattle.cell_counters.specs.declared.account.Cut.{Cut}
@@ -10,7 +11,6 @@ use Rattle.game_core.specs.declared.game.Mark.TheVariants.{Obstacle}
 use Rattle.game_core.specs.declared.game.Row.{Row}
 use Rattle.game_core.specs.Fallen.{is_obstacle, has_fallen}
 use Rattle.game_core.specs.Game.{Game, mark_of, pair_of, pairs_of, successors_at}
-use Rattle.game_core.specs.Solution.{row_of}
 use Rattle.safety_game.specs.Boards.{pairs_at, enabled_at}
 
 -- a cell fell in a round before d
@@ -91,6 +91,5 @@ IsRowTold g accounts c (Some row) =
     × ((u : ℕ) → u < row.input → is_whole g accounts (pair_of g c u) ≡ false)
 
 -- the rows that these accounts tell
-pub record AreRowsTold (g : Game) (accounts : List Account) (rows : List (Option Row)) : Type 0 where
-  pub one_each : length rows ≡ g.cells
-  pub each : (c : ℕ) → c < g.cells → IsRowTold g accounts c (row_of rows c)
+abbrev pub AreRowsTold : Game → List Account → List (Option Row) → Type 0
+AreRowsTold g accounts rows = AreTold g.cells (IsRowTold g accounts) rows

@@ -1,12 +1,9 @@
--- What stands before each round, and in a scratch that wasn't used yet.
-use Rattle.std.specs.Prelude.{◌≡◌, ℕ, ◌≤◌, List, replicate, Option, None}
+-- What stands before each round.
+use Rattle.std.specs.Prelude.{ℕ, List}
 use Rattle.cell_counters.specs.declared.account.Account.{Account}
-use Rattle.cell_counters.specs.Tokens.{BoardModel, new_root}
-use Rattle.game_core.specs.declared.game.Row.{Row}
+use Rattle.cell_counters.specs.Tokens.{BoardModel}
 use Rattle.game_core.specs.Fallen.{has_fallen}
 use Rattle.game_core.specs.Game.{Game}
-use Rattle.board_crew.specs.declared.rounds.Rounds.{Rounds}
-use Rattle.board_crew.specs.Rounds.{IsUnused}
 use Rattle.board_crew.specs.Rules.{LeadsOn}
 use Rattle.safety_game.specs.Boards.{IsBoardOf}
 use Rattle.safety_game.specs.inside.Rounds.{AreFalling, IsFull, KeepsRule}
@@ -20,10 +17,3 @@ pub record StandsAt (g : Game) (d : ℕ) (list : List ℕ) (accounts : List Acco
 pub record IsPlayable (g : Game) (board : BoardModel) : Type 0 where
   pub of_game : IsBoardOf g board
   pub leads : LeadsOn g board (has_fallen g 0) (λ d. KeepsRule g) (StandsAt g)
-
--- what a scratch keeps
-pub record IsScratch (board : BoardModel) (count : ℕ) (r : Rounds) (answer : List (Option Row)) : Type 0 where
-  pub unused : IsUnused (new_root board) board.places count r
-  pub blank : answer ≡ replicate board.places None
-  pub some_worker : 1 ≤ count
-  pub few_workers : count ≤ 64

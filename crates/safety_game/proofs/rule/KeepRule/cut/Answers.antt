@@ -1,5 +1,5 @@
 use Rattle.std.proofs.Common.{arith}
-use Rattle.safety_game.proofs.Pairs.{cell_below}
+use Rattle.board_crew.proofs.Graphs.{cell_below}
 use Rattle.safety_game.proofs.Working.{cuts_once, still_kept}
 use Rattle.safety_game.proofs.rule.KeepRule.cut.Goals as goal
 

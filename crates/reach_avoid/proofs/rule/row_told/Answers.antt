@@ -1,6 +1,6 @@
 use Rattle.std.proofs.Common.{◌-◌, ◌/◌, ◌%◌, arith}
 use Rattle.reach_avoid.proofs.Words.{row_from_word}
-use Rattle.reach_avoid.proofs.solver.row_told.Goals as goal
+use Rattle.reach_avoid.proofs.rule.row_told.Goals as goal
 
 pub overflow_cast-result : goal.overflow_cast-result
 overflow_cast-result c =

@@ -2,7 +2,7 @@ use Rattle.std.proofs.Common.{◌≡◌, ◌+◌, ◌*◌, false, sym, ◌∙◌
 use Rattle.cell_counters.specs.Tokens.{RootModel}
 use Rattle.game_core.specs.Game.{pair_of}
 use Rattle.safety_game.specs.inside.Rounds.{is_whole}
-use Rattle.safety_game.proofs.solver.row_told.Goals as goal
+use Rattle.safety_game.proofs.rule.row_told.Goals as goal
 
 pub loop-input-preserved : goal.loop-input-preserved
 loop-input-preserved g c =

@@ -1,7 +1,7 @@
 use Rattle.std.proofs.Common.{◌≡◌, ℕ, ◌<◌, false}
 use Rattle.game_core.specs.Game.{pair_of}
 use Rattle.safety_game.specs.inside.Rounds.{is_whole}
-use Rattle.safety_game.proofs.solver.row_told.Given as goal
+use Rattle.safety_game.proofs.rule.row_told.Given as goal
 
 -- no input so far has a whole pair
 abbrev pub invariant-loop-input : goal.invariant-loop-input

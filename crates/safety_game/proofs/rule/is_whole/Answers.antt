@@ -2,7 +2,7 @@ use Rattle.std.proofs.Common.{◌≡◌, length, arith, sym, ◌∙◌}
 use Rattle.std.proofs.lemmas.Bool.{le-ltb}
 use Rattle.game_core.specs.Game.{IsGraph, successors_at}
 use Rattle.safety_game.proofs.OnBoards.{counters_of_board, left_of_pair, whole_told, none_whole}
-use Rattle.safety_game.proofs.solver.is_whole.Goals as goal
+use Rattle.safety_game.proofs.rule.is_whole.Goals as goal
 
 pub left-left-requires-clause-counter : goal.left-left-requires-clause-counter
 left-left-requires-clause-counter g c =

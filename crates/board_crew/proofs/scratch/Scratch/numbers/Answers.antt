@@ -1,8 +1,8 @@
-use Rattle.std.proofs.Common.{◌≡◌, ℕ, ◌+◌, ◌++◌, ◌∷◌, [], List, map, length, sym, ◌∙◌, ap, ap₂, arith, append_assoc}
+use Rattle.std.proofs.Common.{◌≡◌, ℕ, ◌+◌, ◌++◌, ◌∷◌, [], List, map, sym, ◌∙◌, ap, ap₂, arith, append_assoc}
 use Rattle.std.specs.List.{range_with_len}
 use Rattle.std.proofs.lemmas.List.FromFn.{map-range_with_len_more}
-use Rattle.safety_game.specs.Boards.{enabled_at}
-use Rattle.safety_game.proofs.scratch.starts.Goals as goal
+use Rattle.board_crew.specs.Boards.{fans_of}
+use Rattle.board_crew.proofs.scratch.Scratch.numbers.Goals as goal
 
 -- one number more, behind those of the pairs
 one_more : (fans : List ℕ) (f : ℕ → ℕ) (n m : ℕ) (was now : List ℕ) → was ≡ fans ++ map f (range_with_len 0 n) → m ≡ f n → now ≡ was ++ m ∷ [] → now ≡ fans ++ map f (range_with_len 0 (n + 1))
@@ -16,7 +16,7 @@ loop-c-preserved g c =
     let game = g.G.Forward.game c.args.g.now in
     let before = c.loop-c.invariant in
     record {
-      so_far = one_more (map length game.successors) (enabled_at game) c.loop-c.c c.count_enabled.result c.loop-c.starts.items c.push_reserved.new.self.items before.so_far c.count_enabled.ensures c.push_reserved.ensures.items;
+      so_far = one_more (fans_of game) (g.S.Start.number game) c.loop-c.c c.number_at.result c.loop-c.numbers.items c.push_reserved.new.self.items before.so_far c.number_at.ensures c.push_reserved.ensures.items;
       many = (let e = c.push_reserved.ensures.len in let m = before.many in omega arith);
       room = (let e = c.push_reserved.ensures.capacity in let r = before.room in omega arith);
     }
