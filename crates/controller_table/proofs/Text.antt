@@ -8,10 +8,7 @@ use Rattle.row_runs.specs.declared.run.Version.{Version}
 use Rattle.row_runs.specs.Runs.{runs_from}
 use Rattle.row_runs.specs.RunText.{run_line, count_line, end_line}
 use Rattle.plant_record.specs.declared.aims.GoalKind.{GoalKind}
-use Rattle.plant_record.specs.Description.{Description}
-use Rattle.plant_writing.specs.CanonicalText.{text_of}
-use Rattle.row_runs.proofs.FramedRows.{framed_rows}
-use Rattle.controller_table.specs.TableText.{written, words_of, version_line, lines_behind, table_text}
+use Rattle.controller_table.specs.TableText.{words_of, lines_behind}
 
 -- the lines of the rows
 abbrev pub runs_text : Version → GoalKind → List (Option Row) → List ℕ
@@ -22,6 +19,3 @@ behind_text v goal rows =
     let lines : List (List ℕ) = map (run_line v (words_of goal)) (runs_from v 0 rows) in
     ap (λ (n : ℕ). count_line n ++ concat (lines ++ end_line ∷ [])) (length-map (runs_from v 0 rows) (run_line v (words_of goal)))
     ∙ ap (λ (x : List ℕ). count_line (length (runs_from v 0 rows)) ++ x) (concat-append lines (end_line ∷ []) ∙ ap (λ (x : List ℕ). concat lines ++ x) (append-nil end_line))
-
-pub whole_text : (p : Description) (rows : List (Option Row)) (n : ℕ) (front lines : List ℕ) → n ≡ length (runs_from written 0 rows) → front ≡ version_line written ++ text_of p ++ count_line n → lines ≡ runs_text written p.goal rows → front ++ (lines ++ end_line) ≡ table_text written p rows
-whole_text p rows n front lines count front_is lines_are = framed_rows (version_line written) (text_of p) (words_of p.goal) rows n front lines count front_is lines_are

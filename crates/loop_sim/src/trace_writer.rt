@@ -1,4 +1,4 @@
-ghost use Rattle.std.specs.Prelude.{◌≡◌, ◌<◌, ◌≤◌, length, take, drop, min, SomeIff};
+ghost use Rattle.std.specs.Prelude.{◌≡◌, ◌≤◌, SomeIff};
 ghost use Rattle.game_core.specs.declared.game.Row.{Row};
 ghost use Rattle.controller_table.specs.Choice.{HasRowAt};
 ghost use Rattle.successor_box.specs.Deviations.{HasNoOverflow, deviations_of};
@@ -55,16 +55,6 @@ impl<'a> TraceWriter<'a> {
             line,
             sim,
         })
-    }
-
-    /// Puts the next bytes of the text into the buffer, as many as there is room for, and answers how many.
-    pub fn next_piece(&mut self, buf: &mut [u8]) -> usize
-        requires { 0 < length buf.old }
-        ensures count { result ≡ min (length buf.old) (length self.old) }
-        ensures piece { take result buf.new ≡ take result self.old }
-        ensures left { self.new ≡ drop result self.old }
-    {
-        Pieces::next_piece(self, buf)
     }
 }
 

@@ -1,5 +1,5 @@
 -- The lines of the turns that are left, one turn on and at the end.
-use Rattle.std.proofs.Common.{◌≡◌, ℕ, suc, ◌+◌, ◌<◌, ◌≤◌, List, [], ◌∷◌, ◌++◌, length, length-append, take, drop, get_or, Option, refl, sym, ap, ◌∙◌, append-nil, add-one, arith}
+use Rattle.std.proofs.Common.{◌≡◌, ℕ, suc, ◌+◌, ◌<◌, ◌≤◌, List, [], ◌∷◌, ◌++◌, length, length-append, take, drop, get_or, Option, refl, sym, ap, ◌∙◌, add-one, arith}
 use Rattle.std.specs.List.{concat}
 use Rattle.std.proofs.lemmas.List.{length-map, drop_more, take-append-le, drop-append-le}
 use Rattle.std.proofs.lemmas.List.Folds.{concat-append}
@@ -7,11 +7,9 @@ use Rattle.game_core.specs.declared.game.Row.{Row}
 use Rattle.row_runs.specs.declared.row_words.RowWords.TheVariants.{Both}
 use Rattle.row_runs.specs.declared.run.Version.TheVariants.{Second}
 use Rattle.row_runs.specs.Runs.{runs_from}
-use Rattle.row_runs.specs.RunText.{run_line, run_lines, end_line}
-use Rattle.plant_record.specs.Description.{Description}
-use Rattle.plant_writing.specs.CanonicalText.{text_of}
+use Rattle.row_runs.specs.RunText.{run_line, run_lines}
 use Rattle.patrol_game.specs.Patrol.{rows_for}
-use Rattle.patrol_table.specs.PatrolText.{patrol_line, turn_line, turn_lines, patrol_text}
+use Rattle.patrol_table.specs.PatrolText.{turn_line, turn_lines}
 
 -- the first of some turns, in its pieces
 first_turn : (j : ℕ) (rows : List (Option Row)) (rest : List (List (Option Row))) → concat (turn_lines j (rows ∷ rest)) ≡ turn_line j (length (runs_from Second 0 rows)) ++ (concat (run_lines Both rows) ++ concat (turn_lines (suc j) rest))
@@ -25,13 +23,6 @@ one_turn_on rows j lt =
     ap (λ (r : List (List (Option Row))). concat (turn_lines j r)) (drop_more rows j [] lt)
     ∙ first_turn j (get_or rows j []) (drop (j + 1) rows)
     ∙ ap (λ (k : ℕ). turn_line j (length (runs_from Second 0 (rows_for rows j))) ++ (concat (run_lines Both (rows_for rows j)) ++ concat (turn_lines k (drop (j + 1) rows)))) (sym (add-one j))
-
-pub whole_text : (p : Description) (rows : List (List (Option Row))) (front lines : List ℕ) → front ≡ patrol_line ++ text_of p → lines ≡ concat (turn_lines 0 rows) → front ++ (lines ++ end_line) ≡ patrol_text p rows
-whole_text p rows front lines front_is lines_are =
-    ap (λ (x : List ℕ). x ++ (lines ++ end_line)) front_is
-    ∙ ap (λ (x : List ℕ). (patrol_line ++ text_of p) ++ (x ++ end_line)) lines_are
-    ∙ ap (λ (x : List ℕ). (patrol_line ++ text_of p) ++ (concat (turn_lines 0 rows) ++ x)) (sym (append-nil end_line))
-    ∙ ap (λ (x : List ℕ). (patrol_line ++ text_of p) ++ x) (sym (concat-append (turn_lines 0 rows) (end_line ∷ [])))
 
 nothing : (xs : List ℕ) → length xs ≡ 0 → xs ≡ []
 nothing [] e = refl

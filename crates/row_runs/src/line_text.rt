@@ -104,7 +104,7 @@ impl LineText {
     }
 
     /// The line that tells how many lines of runs follow.
-    pub fn write_count(&mut self, runs: u32)
+    pub(crate) fn write_count(&mut self, runs: u32)
         ensures { self.new ≡ count_line runs }
     {
         self.begin();

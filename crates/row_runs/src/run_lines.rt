@@ -1,10 +1,10 @@
-ghost use Rattle.std.specs.Prelude.{◌≡◌};
+ghost use Rattle.std.specs.Prelude.{◌≡◌, ◌∷◌, length};
 ghost use Rattle.std.specs.List.{concat};
-ghost use Rattle.row_runs.specs.RunText.{run_lines};
+ghost use Rattle.row_runs.specs.RunText.{run_lines, count_line};
 
 use crate::line_text::LineText;
 use crate::row_words::RowWords;
-use crate::runs::Runs;
+use crate::runs::{Runs, count_runs};
 use game_core::Answer;
 use std::marker::Model;
 use text_pieces::{Pieces, copy_front};
@@ -38,6 +38,19 @@ impl<'a> RunLines<'a> {
         RunLines {
             words,
             line: LineText::empty(),
+            runs: Runs::new(answer),
+        }
+    }
+
+    /// The lines of all runs, behind the line that tells how many they are.
+    pub fn counted(words: RowWords, answer: &'a Answer) -> RunLines<'a>
+        ensures { result ≡ concat (count_line (length (run_lines words answer.now)) ∷ run_lines words answer.now) }
+    {
+        let mut line = LineText::empty();
+        line.write_count(count_runs(answer));
+        RunLines {
+            words,
+            line,
             runs: Runs::new(answer),
         }
     }

@@ -1,14 +1,18 @@
-use Rattle.std.proofs.Common.{ap, ◌∙◌}
+use Rattle.std.proofs.Common.{List, ℕ, ◌∷◌, ◌++◌, length, ap, ◌∙◌}
 use Rattle.std.specs.List.{concat}
 use Rattle.plant_record.specs.declared.aims.GoalKind.{GoalKind}
+use Rattle.plant_writing.specs.CanonicalText.{text_of}
 use Rattle.row_runs.specs.declared.row_words.RowWords.{RowWords}
-use Rattle.row_runs.specs.RunText.{run_lines}
-use Rattle.controller_table.specs.TableText.{words_of}
-use Rattle.controller_table.proofs.Text.{whole_text}
+use Rattle.row_runs.specs.RunText.{run_lines, count_line}
+use Rattle.row_runs.proofs.FramedRows.{framed_lines}
+use Rattle.controller_table.specs.TableText.{written, words_of, version_line}
 use Rattle.controller_table.proofs.writer.TableWriter.new.Goals as goal
 
 pub returns : goal.returns
 returns c =
+    let p = c.args.p.now in
+    let rows = c.args.a.now in
     let words = c.words_of.ensures ∙ ap (λ (goal : GoalKind). words_of goal) c.goal.ensures in
-    let lines = c.new-lines.ensures ∙ ap (λ (w : RowWords). concat (run_lines w c.args.a.now)) words in
-    c.new.ensures ∙ whole_text c.args.p.now c.args.a.now c.count_runs.result c.in_ok-front.front.items c.new-lines.result c.count_runs.ensures.count c.in_ok-front.ensures lines
+    let lines = c.counted-lines.ensures ∙ ap (λ (w : RowWords). concat (count_line (length (run_lines w rows)) ∷ run_lines w rows)) words in
+    let front = c.in_ok-write_plant.ensures.written ∙ ap (λ (x : List ℕ). x ++ text_of p) c.in_ok-front.ensures.items in
+    c.new.ensures ∙ framed_lines (version_line written ++ text_of p) _ _ (count_line (length (run_lines (words_of p.goal) rows)) ∷ run_lines (words_of p.goal) rows) front lines
