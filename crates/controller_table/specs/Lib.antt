@@ -3,5 +3,6 @@ pub mod Tables
 pub mod Choice
 pub mod RowLines
 pub mod Refusals
+pub mod Found
 pub mod Laws
 pub mod inside

@@ -19,6 +19,7 @@ mod words;
 mod writer;
 
 pub use fault::{NoMemory, TableFault};
+pub use front::{behind_front, line_count};
 pub use reader::{TABLE_LIMIT, read_table};
 pub use table::Table;
 pub use words::words_of;

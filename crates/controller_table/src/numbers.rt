@@ -2,7 +2,7 @@
 
 ghost use Rattle.std.specs.Prelude.{◌≡◌, ◌⊎◌, ◌+◌, ◌*◌, ◌^◌, ◌<◌, ◌≤◌, false, MatchOption};
 ghost use Rattle.plant_record.specs.Names.{is_digit};
-ghost use Rattle.controller_table.specs.inside.Found.{Finds};
+ghost use Rattle.controller_table.specs.Found.{Finds};
 ghost use Rattle.controller_table.specs.inside.Numbers.{IsNumberTo};
 
 /// The number that is spelled up to this byte, which is no digit, and what stands behind that byte.

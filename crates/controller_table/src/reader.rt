@@ -3,13 +3,13 @@ ghost use Rattle.plant_record.specs.Limits.{IsWithinLimits};
 ghost use Rattle.plant_text.specs.CanonicalFronts.{IsFront};
 ghost use Rattle.controller_table.specs.declared.fault.TableFault.TheVariants.{Memory};
 ghost use Rattle.controller_table.specs.Tables.{IsTableIn};
-ghost use Rattle.controller_table.specs.Refusals.{IsTableRefusedFor, line_count};
-ghost use Rattle.controller_table.specs.inside.Found.{Finds};
+ghost use Rattle.controller_table.specs.Refusals.{IsTableRefusedFor};
+ghost use Rattle.controller_table.specs.Found.{Finds};
 ghost use Rattle.controller_table.specs.inside.Reading.{IsVersionAt};
 ghost use Rattle.controller_table.specs.inside.ReadPlant.{IsPlantRefused};
 
 use crate::fault::TableFault;
-use crate::front::behind_front;
+use crate::front::{behind_front, line_count};
 use crate::row_reader::rows_behind;
 use crate::table::Table;
 use plant_record::LimitKind;
@@ -36,7 +36,7 @@ pub fn read_table(alloc: Global, bytes: &[u8]) -> Result<Table, TableFault>
         return Err(TableFault::Malformed { line: 1 });
     };
     let Front { plant, length } = plant_in(alloc, rest)?;
-    let lines = line_count(&bytes[..VERSION_LENGTH + length]);
+    let lines = line_count(&bytes[..VERSION_LENGTH + length]) as u32;
     match rows_behind(alloc, version, &plant, &rest[length..]) {
         Ok(answer) => Ok(Table::new(version, plant, answer)),
         Err(TableFault::Malformed { line }) => Err(TableFault::Malformed { line: lines + line }),
@@ -67,13 +67,4 @@ fn plant_in(alloc: Global, bytes: &[u8]) -> Result<Front, TableFault>
         Err(PlantFault::Limit { what }) => Err(TableFault::Limit { what }),
         Err(PlantFault::Memory) => Err(TableFault::Memory),
     }
-}
-
-/// How many lines end in the bytes.
-fn line_count(bytes: &[u8]) -> u32
-    requires { length bytes.now ≤ 67108864 }
-    ensures count { result ≡ line_count bytes.now }
-    ensures bound { result ≤ length bytes.now }
-{
-    bytes.iter().filter(|b| **b == b'\n').count() as u32
 }

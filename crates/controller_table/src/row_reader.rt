@@ -8,7 +8,7 @@ ghost use Rattle.plant_record.specs.Limits.{IsWithinLimits};
 ghost use Rattle.controller_table.specs.TableText.{lines_behind};
 ghost use Rattle.row_runs.specs.RunText.{count_line};
 ghost use Rattle.controller_table.specs.Tables.{RowsFit};
-ghost use Rattle.controller_table.specs.inside.Found.{Finds};
+ghost use Rattle.controller_table.specs.Found.{Finds};
 ghost use Rattle.controller_table.specs.inside.Reading.{IsRefusedBehind};
 ghost use Rattle.controller_table.specs.inside.ReadRows.{AreRead, AreRunsRefused};
 

@@ -1,16 +1,9 @@
-//! What stands at the front of some bytes.
+//! The word at the front of some bytes.
 
 ghost use Rattle.std.specs.Prelude.{◌≡◌, ℕ, ◌<◌, List, ◌++◌, length, position, true, IfSome};
 ghost use Rattle.plant_reading.specs.Separators.{is_separator, is_word};
-ghost use Rattle.controller_table.specs.inside.Found.{Finds};
+ghost use Rattle.controller_table.specs.Found.{Finds};
 ghost use Rattle.live_script.specs.inside.Words.{BeginsWithSeparator};
-
-/// What stands behind a front of the bytes.
-pub(crate) fn behind_front<'a>(bytes: &'a [u8], front: &[u8]) -> Option<&'a [u8]>
-    ensures { Finds (λ r. r.now) (λ (rest : List ℕ). bytes.now ≡ front.now ++ rest) result }
-{
-    bytes.strip_prefix(front)
-}
 
 /// The bytes up to the first separator, and the bytes from there on.
 pub(crate) fn word_at(bytes: &[u8]) -> Option<(&[u8], &[u8])>

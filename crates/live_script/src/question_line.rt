@@ -1,11 +1,11 @@
 ghost use Rattle.std.specs.Prelude.{◌≡◌, ℤ, ℕ, List, ◌∷◌, ◌++◌};
-ghost use Rattle.controller_table.specs.inside.Found.{Finds};
+ghost use Rattle.controller_table.specs.Found.{Finds};
 ghost use Rattle.run_words.specs.Form.{AreStateNumbers};
 ghost use Rattle.live_script.specs.Scripts.{ask_line};
 ghost use Rattle.live_script.specs.inside.Words.{IsNumberAt};
 
-use crate::cuts::behind_front;
 use crate::numbers::number_at;
+use controller_table::behind_front;
 use run_words::StateNumbers;
 
 /// The most numbers of a question: those of the states of a plant.

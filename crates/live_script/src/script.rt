@@ -1,8 +1,7 @@
 ghost use Rattle.std.specs.Prelude.{◌≡◌, ◌≢◌, ℕ, ℤ, [], ◌^◌, ◌+◌, ◌<◌, ◌≤◌, List, ◌++◌, length, IfOk, IfErr, IfSome, OnErr};
 ghost use Rattle.std.specs.Option.{IfNone};
 ghost use Rattle.controller_table.specs.Tables.{IsTableIn};
-ghost use Rattle.controller_table.specs.Refusals.{line_count};
-ghost use Rattle.controller_table.specs.inside.Found.{Finds};
+ghost use Rattle.controller_table.specs.Found.{Finds};
 ghost use Rattle.run_words.specs.Form.{AreStateNumbers};
 ghost use Rattle.live_script.specs.declared.fault.ScriptFault.TheVariants.{Memory};
 ghost use Rattle.live_script.specs.Scripts.{publish_line, ask_line, IsShortScript};
@@ -13,7 +12,7 @@ use crate::command::Command;
 use crate::fault::ScriptFault;
 use crate::question_line::question_at;
 use crate::table_line::announced_at;
-use controller_table::{Table, TableFault, read_table};
+use controller_table::{Table, TableFault, line_count, read_table};
 use run_words::StateNumbers;
 use std::alloc::Global;
 use std::marker::Model;
@@ -128,12 +127,4 @@ fn table_at(
         Err(TableFault::Limit { what }) => Err(ScriptFault::Limit { what }),
         Err(TableFault::Memory) => Err(ScriptFault::Memory),
     }
-}
-
-/// How many lines end in the bytes.
-fn line_count(bytes: &[u8]) -> u64
-    ensures count { result ≡ line_count bytes.now }
-    ensures bound { result ≤ length bytes.now }
-{
-    bytes.iter().filter(|b| **b == b'\n').count() as u64
 }

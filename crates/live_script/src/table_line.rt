@@ -1,10 +1,9 @@
 ghost use Rattle.std.specs.Prelude.{◌≡◌, ◌≤◌, ℕ, List, pos, MatchOption};
-ghost use Rattle.controller_table.specs.inside.Found.{Finds};
+ghost use Rattle.controller_table.specs.Found.{Finds};
 ghost use Rattle.live_script.specs.Refusals.{Announce};
 
-use crate::cuts::behind_front;
 use crate::numbers::number_at;
-use controller_table::TABLE_LIMIT;
+use controller_table::{TABLE_LIMIT, behind_front};
 
 /// The size of the table's text that is announced at the front, and what stands behind that line.
 pub(crate) fn announced_at(bytes: &[u8]) -> Option<(usize, &[u8])>

@@ -2,7 +2,7 @@ use Rattle.std.proofs.Common.{◌≡◌, ◌≢◌, List, ℕ, ◌++◌, Option,
 use Rattle.std.specs.Option.{MatchOption}
 use Rattle.std.proofs.lemmas.Slice.Eq.{strip_prefix_is}
 use Rattle.std.proofs.lemmas.Bool.Decides.{Decides-eqb}
-use Rattle.controller_table.specs.inside.Found.{Finds}
+use Rattle.controller_table.specs.Found.{Finds}
 use Rattle.controller_table.proofs.front.behind_front.Goals as goal
 
 found : (s p : List ℕ) (r : Option (Bor (List ℕ))) → MatchOption r ((rest : List ℕ) → s ≢ p ++ rest) (λ x. s ≡ p ++ x.now) → Finds (λ (x : Bor (List ℕ)). x.now) (λ (rest : List ℕ). s ≡ p ++ rest) r

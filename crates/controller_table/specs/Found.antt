@@ -1,4 +1,4 @@
--- What a search finds. No public clause names this.
+-- What a search finds.
 use Rattle.std.specs.Prelude.{Option, Some, None}
 
 -- What is found, as it is seen, has the property; where nothing is found, nothing has it.
