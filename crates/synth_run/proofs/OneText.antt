@@ -8,10 +8,10 @@ use Rattle.plant_record.specs.Description.{Description}
 use Rattle.plant_game.proofs.OneGame.{one_game}
 use Rattle.stay_game.specs.Held.{IsHeld}
 use Rattle.stay_game.specs.Stay.{IsStayedBy, IsStayRow, IsStaySolution}
-use Rattle.stay_table.specs.StayText.{stay_text}
+use Rattle.temporal_games.specs.StayText.{stay_text}
 use Rattle.patrol_game.specs.Targets.{IsInTarget}
 use Rattle.patrol_game.specs.Patrol.{IsTravelledBy, IsPatrolRow, IsPatrol, rows_for}
-use Rattle.patrol_table.specs.PatrolText.{patrol_text}
+use Rattle.temporal_games.specs.PatrolText.{patrol_text}
 use Rattle.synth_run.specs.Headline.{IsStayTableOf, IsPatrolTableOf}
 use Rattle.synth_run.specs.Laws.{OneStayTextForBytes, OnePatrolTextForBytes}
 use Rattle.synth_run.proofs.Below.{one_plant_per_text}

@@ -7,8 +7,8 @@ use Rattle.plant_record.specs.Limits.{IsWithinLimits}
 use Rattle.plant_game.specs.Abstraction.{IsGameOf}
 use Rattle.patrol_game.specs.Targets.{IsInTarget}
 use Rattle.patrol_game.specs.Patrol.{IsPatrol}
-use Rattle.patrol_table.specs.PatrolText.{patrol_text}
-use Rattle.patrol_table.proofs.Laws.{solution_has_patrol_text, patrol_text_patrols}
+use Rattle.temporal_games.specs.PatrolText.{patrol_text}
+use Rattle.temporal_games.proofs.PatrolLaws.{solution_has_patrol_text, patrol_text_patrols}
 use Rattle.synth_run.specs.declared.outcome.Outcome.{Outcome}
 use Rattle.synth_run.specs.declared.outcome.Outcome.TheVariants.{Done, Invalid, NoRow, Usage, Malformed, Overflow, Limit, TooManyTurns, ReadFault, WriteFault, NoMemory}
 use Rattle.synth_run.specs.Demands.{PlantDemands, PlantTextDemands, PatrolDemands, PatrolTextDemands}

@@ -6,8 +6,8 @@ use Rattle.plant_record.specs.Description.{Description}
 use Rattle.plant_record.specs.Limits.{IsWithinLimits}
 use Rattle.plant_game.specs.Abstraction.{IsGameOf}
 use Rattle.stay_game.specs.Stay.{IsStaySolution}
-use Rattle.stay_table.specs.StayText.{stay_text}
-use Rattle.stay_table.proofs.Laws.{solution_has_stay_text, stay_text_settles}
+use Rattle.temporal_games.specs.StayText.{stay_text}
+use Rattle.temporal_games.proofs.StayLaws.{solution_has_stay_text, stay_text_settles}
 use Rattle.synth_run.specs.Headline.{IsStayTableOf}
 
 -- the text of a plant within the limits and of the solution of its game

@@ -6,12 +6,12 @@ use Rattle.plant_record.specs.Description.{Description}
 use Rattle.plant_game.specs.Abstraction.{IsGameOf}
 use Rattle.plant_game.specs.Solution.{IsSolutionOf}
 use Rattle.stay_game.specs.Stay.{IsStaySolution}
-use Rattle.stay_table.specs.StayText.{stay_text}
-use Rattle.stay_table.specs.Settles.{Settles}
+use Rattle.temporal_games.specs.StayText.{stay_text}
+use Rattle.temporal_games.specs.Settles.{Settles}
 use Rattle.patrol_game.specs.Targets.{IsInTarget}
 use Rattle.patrol_game.specs.Patrol.{IsPatrol}
-use Rattle.patrol_table.specs.PatrolText.{patrol_text}
-use Rattle.patrol_table.specs.Patrols.{Patrols}
+use Rattle.temporal_games.specs.PatrolText.{patrol_text}
+use Rattle.temporal_games.specs.Patrols.{Patrols}
 use Rattle.controller_table.specs.TableText.{written, table_text}
 use Rattle.controller_table.specs.Tables.{RowsFit, IsTable}
 use Rattle.successor_box.specs.Deviations.{HasNoOverflow}

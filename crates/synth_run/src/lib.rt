@@ -5,8 +5,8 @@
 //! bytes are such a table, that of `upgrade` the text of the table, that of `sim` a trace of it, that of
 //! `demo` the demo plant's line, and those of `stay` and `patrol` a text that settles the plant or
 //! patrols its targets.
-//! Stands on `text_pieces`, `plant_text`, `abstraction_table`, the solvers, `controller_table`, `stay_table`,
-//! `patrol_table`, `table_check`, `loop_sim`, `plant_refine` and the crates below.
+//! Stands on `text_pieces`, `plant_text`, `abstraction_table`, the solvers, `controller_table`, `temporal_games`,
+//! `table_check`, `loop_sim`, `plant_refine` and the crates below.
 #![tactic(auto)]
 
 mod checking;

@@ -1,7 +1,7 @@
 //! From the bytes of a plant's text to a patrol of its targets in turn.
 
 ghost use Rattle.std.specs.Prelude.{◌≡◌, ◌≢◌, IfOk, IfErr};
-ghost use Rattle.patrol_table.specs.PatrolText.{patrol_text};
+ghost use Rattle.temporal_games.specs.PatrolText.{patrol_text};
 ghost use Rattle.run_words.specs.Form.{AreWorkers};
 ghost use Rattle.synth_run.specs.declared.outcome.Outcome.TheVariants.{Done, NoMemory};
 ghost use Rattle.synth_run.specs.Demands.{turns_of, PatrolTextDemands};

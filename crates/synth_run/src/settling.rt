@@ -1,7 +1,7 @@
 //! From the bytes of a plant's text to its solution of reach and stay.
 
 ghost use Rattle.std.specs.Prelude.{◌≢◌, IfOk, IfErr};
-ghost use Rattle.stay_table.specs.StayText.{stay_text};
+ghost use Rattle.temporal_games.specs.StayText.{stay_text};
 ghost use Rattle.run_words.specs.Form.{AreWorkers};
 ghost use Rattle.synth_run.specs.declared.outcome.Outcome.TheVariants.{Done, NoMemory};
 ghost use Rattle.synth_run.specs.Demands.{PlantTextDemands};

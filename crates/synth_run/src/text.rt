@@ -3,8 +3,8 @@
 ghost use Rattle.std.specs.Prelude.{OnOk, IfErr};
 ghost use Rattle.controller_table.specs.TableText.{written, table_text};
 ghost use Rattle.controller_table.specs.Tables.{RowsFit};
-ghost use Rattle.stay_table.specs.StayText.{stay_text};
-ghost use Rattle.patrol_table.specs.PatrolText.{patrol_text};
+ghost use Rattle.temporal_games.specs.StayText.{stay_text};
+ghost use Rattle.temporal_games.specs.PatrolText.{patrol_text};
 ghost use Rattle.run_devices.specs.Devices.{GainsWhole, writing};
 ghost use Rattle.synth_run.specs.inside.Texts.{bytes_of, trace_of, IsReady, CanBeWritten};
 ghost use Rattle.run_devices.specs.Transfers.{StopsBy};

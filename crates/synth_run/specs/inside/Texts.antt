@@ -4,8 +4,8 @@ use Rattle.game_core.specs.declared.game.Row.{Row}
 use Rattle.successor_box.specs.Deviations.{HasNoOverflow, deviations_of}
 use Rattle.controller_table.specs.TableText.{written, table_text}
 use Rattle.controller_table.specs.Tables.{RowsFit}
-use Rattle.stay_table.specs.StayText.{stay_text}
-use Rattle.patrol_table.specs.PatrolText.{patrol_text}
+use Rattle.temporal_games.specs.StayText.{stay_text}
+use Rattle.temporal_games.specs.PatrolText.{patrol_text}
 use Rattle.loop_sim.specs.Trace.{row_at}
 use Rattle.loop_sim.specs.TraceText.{trace_text}
 use Rattle.synth_run.specs.declared.simulating.Simulation.{Simulation}

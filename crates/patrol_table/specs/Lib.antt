@@ -1,3 +1,0 @@
-pub mod PatrolText
-pub mod Patrols
-pub mod inside

@@ -1,4 +1,0 @@
-pub mod OneText
-pub mod Settling
-pub mod FittingRows
-pub mod Laws

@@ -1,2 +1,0 @@
-pub mod StayText
-pub mod Settles

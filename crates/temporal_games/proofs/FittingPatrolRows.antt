@@ -1,0 +1,34 @@
+-- The rows of the solution of patrol fit their plant.
+use Rattle.std.proofs.Common.{◌≡◌, ℕ, ◌<◌, ◌≤◌, List, [], length, Option, Some, None, refl, ◌∙◌, subst, arith}
+use Rattle.std.specs.Prelude.{IfSome}
+use Rattle.std.specs.List.{All}
+use Rattle.std.proofs.lemmas.List.Elements.{All-from_get_or}
+use Rattle.game_core.specs.declared.game.Row.{Row}
+use Rattle.game_core.specs.Game.{Game}
+use Rattle.game_core.specs.Solution.{row_of}
+use Rattle.grid_quantiser.specs.Axes.{cells_of}
+use Rattle.plant_record.specs.Description.{Description, axes_of}
+use Rattle.plant_game.specs.Abstraction.{IsGameOf}
+use Rattle.patrol_game.specs.Targets.{IsInTarget}
+use Rattle.patrol_game.specs.Patrol.{IsPatrol, rows_for}
+use Rattle.patrol_game.proofs.Laws.{rows_are_within}
+use Rattle.temporal_games.specs.PatrolText.{IsPatrolRowOf, PatrolRowsFit}
+
+pub patrol_rows_fit : (p : Description) (g : Game) (rows : List (List (Option Row))) → IsGameOf p g → IsPatrol g (IsInTarget p) (length p.targets) rows → PatrolRowsFit p rows
+patrol_rows_fit p g rows a s = record {
+  one_list_each = s.one_list_each;
+  one_row_each = All-from_get_or (λ (r : List (Option Row)). length r ≡ cells_of (axes_of p)) rows [] (λ j lt. s.one_row_each j (in_turn j lt) ∙ a.cells);
+  each = All-from_get_or (λ (r : List (Option Row)). All (λ row. IfSome row (IsPatrolRowOf p)) r) rows [] (λ j lt. turn j (in_turn j lt));
+}
+  where
+    in_turn : (j : ℕ) → j < length rows → j < length p.targets
+    in_turn j lt = omega (arith, lt, s.one_list_each)
+
+    fits : (j c : ℕ) → j < length p.targets → c < g.cells → (o : Option Row) → row_of (rows_for rows j) c ≡ o → IfSome o (IsPatrolRowOf p)
+    fits j c lj lc None e = tt
+    fits j c lj lc (Some row) e =
+        let within = rows_are_within g (IsInTarget p) (length p.targets) rows a.game s j c row lj lc e in
+        record { some = within.0; rank = subst (λ (n : ℕ). row.rank ≤ n) a.cells within.1; input = subst (λ (n : ℕ). row.input < n) a.inputs within.2 }
+
+    turn : (j : ℕ) → j < length p.targets → All (λ row. IfSome row (IsPatrolRowOf p)) (rows_for rows j)
+    turn j lj = All-from_get_or (λ row. IfSome row (IsPatrolRowOf p)) (rows_for rows j) None (λ c lt. let n = s.one_row_each j lj in fits j c lj (omega (arith, lt, n)) (row_of (rows_for rows j) c) refl)

@@ -1,0 +1,9 @@
+pub mod OneStayText
+pub mod Settling
+pub mod FittingStayRows
+pub mod StayLaws
+pub mod TurnTexts
+pub mod OnePatrolText
+pub mod Patrolling
+pub mod FittingPatrolRows
+pub mod PatrolLaws

@@ -1,0 +1,5 @@
+pub mod StayText
+pub mod Settles
+pub mod PatrolText
+pub mod Patrols
+pub mod inside

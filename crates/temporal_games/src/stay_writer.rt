@@ -1,0 +1,46 @@
+ghost use Rattle.std.specs.Prelude.{◌≡◌, IfOk};
+ghost use Rattle.temporal_games.specs.StayText.{stay_text};
+
+use game_core::{Answer, NoMemory};
+use plant_record::Plant;
+use plant_writing::write_plant;
+use row_runs::{FramedText, RowWords, RunLines};
+use std::alloc::Global;
+use std::marker::Model;
+use text_pieces::Pieces;
+
+/// Writes the text of reach and stay piece by piece. Seen as the bytes that are still to come.
+#[derive(Drop)]
+pub struct StayWriter<'a> {
+    text: FramedText<RunLines<'a>>,
+}
+
+impl<'a> Model for StayWriter<'a> {
+    ghost use Rattle.std.specs.Prelude.{List, ℕ};
+
+    ghost Value = { List ℕ };
+
+    ghost view = { λ w. w.text };
+}
+
+impl<'a> StayWriter<'a> {
+    /// The writer of a plant's text. It takes all its memory here.
+    pub fn new(alloc: Global, p: &Plant, a: &'a Answer) -> Result<StayWriter<'a>, NoMemory>
+        ensures { IfOk result (λ w. w ≡ stay_text p.now a.now) }
+    {
+        let mut front = Vec::from_slice(alloc, b"stay 1\n")?;
+        write_plant(alloc, p, &mut front).map_err(|_| NoMemory)?;
+        let lines = RunLines::counted(RowWords::Both, a);
+        Ok(StayWriter {
+            text: FramedText::new(front, lines),
+        })
+    }
+}
+
+impl Pieces for StayWriter<'_> {
+    ghost left = { λ w. w };
+
+    fn copy_some(&mut self, buf: &mut [u8]) -> usize {
+        self.text.copy_some(buf)
+    }
+}
