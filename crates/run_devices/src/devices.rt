@@ -18,7 +18,7 @@ pub trait Source {
     ghost is_sound: { Self → Bool } = { λ _. false };
 
     /// Takes bytes from the front into the front of a buffer. `Ok(0)` for a buffer that isn't empty
-    /// comes only at the end.
+    /// comes only at the end. Of the buffer behind a failed call nothing is said, since std says nothing of it.
     fn read(&mut self, buf: &mut [u8]) -> Result<usize, Failed>
         ensures bound { IfOk result (λ n. n ≤ length buf.old) }
         ensures taken { IfOk result (λ n. Takes (left self.old) (left self.new) n buf.new) }

@@ -118,7 +118,8 @@ pub fn write_pieces<O: Sink>(out: &mut O, pieces: &[&[u8]]) -> Result<(), Failed
     Ok(())
 }
 
-/// Writes all that is left of a text, through one buffer.
+/// Writes all that is left of a text, through one buffer. At want of memory the text is left as it was; behind a failed write
+/// nothing is said of what is left of it.
 pub fn write_buffered<O: Sink, T: Pieces>(
     alloc: Global,
     out: &mut O,
@@ -126,6 +127,7 @@ pub fn write_buffered<O: Sink, T: Pieces>(
 ) -> Result<(), WriteFault>
     ensures whole { OnOk result (GainsWhole (writing O.got O.faults O.room out.old out.new) (T.left text.old)) }
     ensures stopped { IfErr result (λ fault. StopsBy fault (writing O.got O.faults O.room out.old out.new) (T.left text.old)) }
+    ensures kept { result ≡ Err WriteFault.Memory → T.left text.new ≡ T.left text.old }
 {
     let mut buffer = zeros(alloc, WRITE_BUFFER)?;
     write_through(out, text, &mut buffer)?;
