@@ -29,7 +29,7 @@ pub(crate) fn deal(board: &Board, root: &mut Root, members: &mut Vec<Member<Work
     }
 }
 
-/// The members do all items of a toil, each with exactly one of their hands, once, after the gate.
+/// The members do all items of a toil, each with exactly one of their hands, once, after the gate (tested: `Gate`).
 ///
 /// One member does them in rising order, and takes no memory. More work beside one another as in a sweep.
 pub(crate) fn work<R: Threads + Sync, T: Toil, G: Gate>(

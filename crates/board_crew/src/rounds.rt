@@ -58,7 +58,7 @@ impl Rounds {
 
     /// Does rounds until a list is empty: one with the list that the rule begins with, then one with what each round logged.
     ///
-    /// In a round each cell of the list is done by exactly one worker, after the gate, and then all hands are taken in.
+    /// In a round each cell of the list is done by exactly one worker, after the gate (tested: `Gate`), and then all hands are taken in.
     pub fn play_all<R: Threads + Sync, L: Rule, T: Gate>(
         &mut self,
         rt: &R,

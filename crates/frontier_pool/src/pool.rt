@@ -36,7 +36,7 @@ pub fn hands_for(round: u32, items: u32, steps: u64, workers: u32) -> u32
     workers.min(worth).max(1)
 }
 
-/// Does each item below a number with exactly one of the members' hands, once, after the gate.
+/// Does each item below a number with exactly one of the members' hands, once, after the gate (tested: `Gate`).
 ///
 /// The members work in threads of their own, where these can be made. A worker's number is its member's place. A sweep
 /// takes 8 bytes an item, for a moment as much again, and 32 to 64 bytes an item for the deques. Where there is no memory

@@ -131,7 +131,7 @@ impl<T: Toil, G: Gate> Round<'_, T, G> {
         }
     }
 
-    /// Does a number's item after the gate, if there is such an item and nobody has claimed it.
+    /// Does a number's item after the gate (tested: `Gate`), if there is such an item and nobody has claimed it.
     fn try_one(&self, at: u32, number: u32, seat: &mut Seat<(), SeatView>, hand: &mut T::Hand)
         requires seat { MayClaim self.now.claimed.now.table_id seat.old }
         requires sound { T.sound self.now.toil.now hand.old }

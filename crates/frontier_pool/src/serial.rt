@@ -5,7 +5,7 @@ ghost use Rattle.std.specs.List.{range_with_len};
 use crate::gate::Gate;
 use crate::toil::Toil;
 
-/// Does the items below a number with one hand, in rising order, each after the gate. The worker's number is 0.
+/// Does the items below a number with one hand, in rising order, each after the gate (tested: `Gate`). The worker's number is 0.
 ///
 /// It takes no memory and starts no thread.
 pub fn one_by_one<T: Toil, G: Gate>(toil: &T, hand: &mut T::Hand, items: u32, gate: &G)

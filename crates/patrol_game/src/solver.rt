@@ -15,7 +15,7 @@ use std::alloc::Global;
 use std::thread::Threads;
 
 /// Solves patrol of a plant's game by 1 to 64 workers: for each turn its rows. The gate is passed before each cell of each
-/// round of each solution.
+/// round of each solution (tested: `Gate`).
 pub fn patrol<R: Threads + Sync, G: Graph + Sync, T: Gate>(
     rt: &R,
     alloc: Global,

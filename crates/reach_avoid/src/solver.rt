@@ -12,7 +12,7 @@ use game_core::{Graph, NoMemory};
 use std::alloc::Global;
 use std::thread::Threads;
 
-/// Solves the reach game of a graph by 1 to 64 workers. The gate is passed before each cell of each round.
+/// Solves the reach game of a graph by 1 to 64 workers. The gate is passed before each cell of each round (tested: `Gate`).
 pub fn solve<R: Threads + Sync, G: Graph + Sync, T: Gate>(
     rt: &R,
     alloc: Global,

@@ -12,7 +12,7 @@ use std::alloc::Global;
 use std::thread::Threads;
 
 /// Solves reach and stay of a graph by 1 to 64 workers: the goals that can be held for ever, and the ways to them. The gate is passed
-/// before each cell of each round.
+/// before each cell of each round (tested: `Gate`).
 pub fn stay<R: Threads + Sync, G: Graph + Sync, T: Gate>(
     rt: &R,
     alloc: Global,

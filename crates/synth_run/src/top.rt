@@ -282,7 +282,7 @@ fn outcome_of<R: Threads + Sync, S: Source, O: Sink, G: Gate>(
 /// 3: a line of the text is malformed. 4: a number leaves the range. 5: a limit is exceeded. 6: a read failed. 7: a write failed. 8: there
 /// was no memory left.
 ///
-/// The gate is passed before each item of each round of the game's workers. At status 0 of `synth` and `demo`, `played`
+/// The gate is passed before each item of each round of the game's workers (tested: `Gate`). At status 0 of `synth` and `demo`, `played`
 /// holds the board on which they resolved the game, with its root; at every other end it is None.
 pub fn run<R: Threads + Sync, S: Source, O: Sink, E: Sink, G: Gate>(
     rt: &R,
