@@ -18,7 +18,7 @@ bid_of o = (o.word, o.value)
 abbrev pub bid_at : Game → ℕ → ℕ → ℕ × ℕ
 bid_at g rank pair = (pair / g.inputs, 1 + rank * 4096 + pair % g.inputs)
 
--- as many cuts of each pair as it has ranked successors, one offer for each resolved pair, and nothing else
+-- as many cuts of each pair as it has ranked successors, one offer for each resolved pair, and no other cut or offer
 pub record IsReckonedBy (g : Game) (rows : List (Option Row)) (accounts : List Account) : Type 0 where
   pub cuts : (pair : ℕ) → pair < pairs_of g → cut_count pair accounts ≡ ranked_in g rows pair
   pub no_other_cut : All (λ (c : Cut). c.counter < pairs_of g) (cuts_in accounts)

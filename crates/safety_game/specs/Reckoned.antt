@@ -14,7 +14,7 @@ use Rattle.safety_game.specs.Boards.{pairs_at}
 abbrev pub lost_at : Game → List (Option Row) → ℕ → ℕ
 lost_at g rows c = count_by (is_lost g rows) (pairs_at g c)
 
--- as many cuts of each pair as it has successors without a row, as many of each cell as it has lost pairs, and nothing else
+-- as many cuts of each pair as it has successors without a row, as many of each cell as it has lost pairs, and no other cut or offer
 pub record IsReckonedBy (g : Game) (rows : List (Option Row)) (accounts : List Account) : Type 0 where
   pub cuts : (pair : ℕ) → pair < pairs_of g → cut_count pair accounts ≡ unkept_in g rows pair
   pub cell_cuts : (c : ℕ) → c < g.cells → cut_count (pairs_of g + c) accounts ≡ lost_at g rows c

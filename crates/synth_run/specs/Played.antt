@@ -22,13 +22,13 @@ abbrev pub IsBoardFor : GoalKind → Game → BoardModel → Type 0
 IsBoardFor Reach g board = IsReachBoardOf g board
 IsBoardFor Keep g board = IsKeepBoardOf g board
 
--- the accounts have exactly the steps that a game's solution asks for, by the goal kind
+-- the accounts have exactly the cuts and the offers that a game's solution asks for, by the goal kind
 abbrev pub IsReckonedFor : GoalKind → Game → List Account → Type 0
 IsReckonedFor Reach g accounts = IsReachReckoned g accounts
 IsReckonedFor Keep g accounts = IsKeepReckoned g accounts
 
--- The board on which a plant's game was resolved, with its root: no hand is out, and the accounts have exactly the steps
--- that the solution asks for.
+-- The board on which a plant's game was resolved, with its root: no hand is out, and the accounts have exactly the cuts
+-- and the offers that the solution asks for. Of logs and notes nothing is said.
 pub record IsResolvedOn (p : Description) (board : BoardModel) (root : RootModel) : Type 0 where
   pub game : Game
   pub abstraction : IsGameOf p game
