@@ -1,4 +1,4 @@
-//! Operations on the numbers in many lanes, with None where a result leaves 64 bits.
+//! Operations on the numbers in many lanes, with None where a result leaves 64 bits. Behind None nothing is said of `found`.
 //! A loop's label names its invariant in proofs/.
 
 ghost use Rattle.std.specs.Prelude.{neg_ℤ, ◌+ℤ◌, ◌-ℤ◌, ◌*ℤ◌, ◌≤ℤ◌, pos, nat_abs};

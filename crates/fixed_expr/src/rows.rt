@@ -29,7 +29,7 @@ enum RowValues {
 
 /// The values of an expression in each of `LANES` rows of values of its variables, given by
 /// columns: None where the value of some node in some row, or a divisor, leaves 64 bits. Each level
-/// of the expression takes a frame of the stack, with 8 bytes for each row in it.
+/// of the expression takes a frame of the stack, with 8 bytes for each row in it. Behind None nothing is said of `found`.
 pub fn eval_rows(e: &Expr, columns: &[[i64; LANES]], found: &mut [i64; LANES]) -> Option<()>
     requires { IsWellFormed (expression_of e.now) (length columns.now) }
     ensures { AnswersRows result (expression_of e.now) columns.now found.new }

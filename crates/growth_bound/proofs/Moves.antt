@@ -6,7 +6,7 @@ use Rattle.fixed_expr.specs.Expression.{Expression, Number, Variable, Negation, 
 use Rattle.fixed_expr.specs.Value.{IsWellFormed, value_of}
 use Rattle.interval_eval.specs.declared.interval.Interval.{Interval}
 use Rattle.interval_eval.specs.Span.{IsIn, AreIn, span_of}
-use Rattle.interval_eval.proofs.Laws.{values_lie_in_spans}
+use Rattle.interval_eval.proofs.SpanLaws.{values_lie_in_spans}
 use Rattle.growth_bound.specs.Deviation.{IsNear, AreNear, magnitude_of, deviation_of}
 use Rattle.growth_bound.proofs.CurveDistances.{near_lookup}
 use Rattle.growth_bound.proofs.Distances.{near_negation, near_sum, near_difference, near_minimum, near_maximum, near_absolute, near_product, near_quotient}

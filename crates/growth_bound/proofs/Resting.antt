@@ -7,7 +7,7 @@ use Rattle.fixed_expr.specs.Mentions.{mentions}
 use Rattle.fixed_expr.specs.inside.Alike.{AreSameIn}
 use Rattle.interval_eval.specs.declared.interval.Interval.{Interval}
 use Rattle.interval_eval.specs.Span.{span_of}
-use Rattle.interval_eval.proofs.Laws.{spans_rest_on_variables}
+use Rattle.interval_eval.proofs.SpanLaws.{spans_rest_on_variables}
 use Rattle.growth_bound.specs.Deviation.{magnitude_of, ceiling_div, greatest_rise, deviation_of}
 
 abbrev no_range : Interval

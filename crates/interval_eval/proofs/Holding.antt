@@ -96,3 +96,8 @@ pub span_holds : (e : Expression) (area : List Interval) (r : Option Interval) �
 span_holds e area None formed exact = tt
 span_holds e area (Some s) formed exact =
     λ values h. let Holds : Interval → Type 0 = λ i. IsIn i (value_of e values) in subst Holds (sym exact.1) (values_lie e area values formed h)
+
+-- what is answered over intervals is one
+pub span_ordered : (e : Expression) (area : List Interval) (r : Option Interval) → IsWellFormed e (length area) → SomeIff r (SpanStaysInRange e area) (span_of e area) → All IsInterval area → IfSome r IsInterval
+span_ordered e area None formed exact each = tt
+span_ordered e area (Some s) formed exact each = subst IsInterval (sym exact.1) (spans_ordered e area formed each)

@@ -9,4 +9,4 @@ pub mod MovingSpans
 pub mod IntervalColumns
 pub mod AreaColumns
 pub mod Nodes
-pub mod Laws
+pub mod SpanLaws

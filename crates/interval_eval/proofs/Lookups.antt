@@ -10,7 +10,7 @@ use Rattle.fixed_expr.specs.Curves.{RiseFrom, IsCurve, value_along, value_from, 
 use Rattle.fixed_expr.proofs.Laws.{between_ends, at_left, at_right, on_piece, behind_piece, before_first}
 use Rattle.interval_eval.specs.declared.interval.Interval.{Interval}
 use Rattle.interval_eval.specs.Span.{IsInterval, IsIn, is_in, values_within, lookup_of}
-use Rattle.interval_eval.specs.inside.Nested.{IsPartOf}
+use Rattle.interval_eval.specs.Parts.{IsPartOf}
 
 -- an interval holds the value of each point in a range
 abbrev pub Covers : Interval → Interval → List (ℤ × ℤ) → Type 0

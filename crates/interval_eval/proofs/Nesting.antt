@@ -7,7 +7,7 @@ use Rattle.fixed_expr.specs.Expression.{Expression, Number, Variable, Negation, 
 use Rattle.fixed_expr.specs.Value.{IsWellFormed}
 use Rattle.interval_eval.specs.declared.interval.Interval.{Interval}
 use Rattle.interval_eval.specs.Span.{IsInterval, IsIn, EndsFit, SpanStaysInRange, negation_of, sum_of, difference_of, product_of, quotient_of, minimum_of, maximum_of, absolute_of, span_of}
-use Rattle.interval_eval.specs.inside.Nested.{IsPartOf, ArePartsOf}
+use Rattle.interval_eval.specs.Parts.{IsPartOf, ArePartsOf}
 use Rattle.fixed_expr.proofs.Laws.{floors_in_order}
 use Rattle.interval_eval.proofs.Holding.{in_product, in_absolute, spans_ordered}
 use Rattle.interval_eval.proofs.Lookups.{part_lookup}

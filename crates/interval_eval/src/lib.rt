@@ -7,6 +7,7 @@
 
 mod columns;
 mod interval;
+pub mod laws;
 mod rows;
 mod spans;
 

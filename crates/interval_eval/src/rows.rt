@@ -12,7 +12,7 @@ use fixed_expr::narrow::narrow;
 use fixed_expr::{Binary, Expr};
 
 /// The spans of an expression in each of `LANES` rows of ranges of its variables, given by columns: None where
-/// an end of some node's span in some row, or a divisor, leaves 64 bits.
+/// an end of some node's span in some row, or a divisor, leaves 64 bits. Behind None nothing is said of `found`.
 #[cycle(row_spans)]
 #[tactic(auto, using(crate::proofs::AreaColumns::low_in_row, crate::proofs::AreaColumns::high_in_row, crate::proofs::AreaColumns::lookup_in_rows))]
 pub fn span_rows(e: &Expr, columns: &[IntervalColumn], found: &mut IntervalColumn) -> Option<()>

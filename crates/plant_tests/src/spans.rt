@@ -1,6 +1,7 @@
 //! Tests of `interval_eval`.
 
-use fixed_expr::{Expr, LANES};
+use fixed_expr::{Curve, Expr, LANES};
+use interval_eval::laws::{nested_spans_stay, spans_nest};
 use interval_eval::{Interval, IntervalColumn, span, span_rows};
 use std::alloc::{AllocError, Global};
 use std::test::Fail;
@@ -74,5 +75,23 @@ fn squares_in_rows(alloc: Global) -> Result<bool, AllocError> {
 #[test]
 fn each_row_has_its_own_span(rt: HostRuntime) -> Result<(), Fail> {
     assert!(rt; squares_in_rows(rt.alloc())?);
+    Ok(())
+}
+
+/// The table has 0 at 0, 8 at 4 and 2 at 10. From 1 to 5 its values are 2 to 8, from 0 to 10 they are 0 to 8.
+fn narrower_table_spans(alloc: Global) -> Result<bool, Fail> {
+    let curve = Curve::new(alloc, &[(0, 0), (4, 8), (10, 2)])?;
+    let e = Expr::Lut(Box::new(alloc, Expr::Var(0))?, curve);
+    spans_nest();
+    nested_spans_stay();
+    Ok(
+        span(&e, &[interval(1, 5)]) == Some(interval(2, 8))
+            && span(&e, &[interval(0, 10)]) == Some(interval(0, 8)),
+    )
+}
+
+#[test]
+fn narrower_ranges_have_a_narrower_span(rt: HostRuntime) -> Result<(), Fail> {
+    assert!(rt; narrower_table_spans(rt.alloc())?);
     Ok(())
 }

@@ -13,7 +13,7 @@ use Rattle.fixed_expr.specs.Value.{value_of}
 use Rattle.interval_eval.specs.declared.interval.Interval.{Interval}
 use Rattle.interval_eval.specs.Span.{span_of}
 use Rattle.interval_eval.specs.inside.Nested.{HaveSameRangesBut}
-use Rattle.interval_eval.proofs.Laws.{spans_rest_on_variables, spans_move_with_variables}
+use Rattle.interval_eval.proofs.SpanLaws.{spans_rest_on_variables, spans_move_with_variables}
 use Rattle.growth_bound.proofs.Laws.{deviations_rest_on_variables}
 use Rattle.grid_quantiser.specs.declared.axis.Axis.{Axis}
 use Rattle.grid_quantiser.specs.declared.sides.Side.{Side}

@@ -6,7 +6,7 @@ use Rattle.std.proofs.lemmas.List.{length-append, length-map}
 use Rattle.std.proofs.lemmas.List.Elements.{All-head, All-tail, All-nil, All-cons, All-append, All-map, All-weaker}
 use Rattle.interval_eval.specs.declared.interval.Interval.{Interval}
 use Rattle.interval_eval.specs.Span.{IsInterval, AreIn}
-use Rattle.interval_eval.specs.inside.Nested.{ArePartsOf}
+use Rattle.interval_eval.specs.Parts.{ArePartsOf}
 use Rattle.grid_quantiser.specs.declared.axis.Axis.{Axis}
 use Rattle.grid_quantiser.specs.Axes.{IsAxis, end_of, cells_of}
 use Rattle.grid_quantiser.specs.Cells.{IsInDomain, IsPointOf, low_of, high_of, centre_of}

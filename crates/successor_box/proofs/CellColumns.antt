@@ -11,8 +11,8 @@ use Rattle.interval_eval.specs.declared.interval.Interval.{Interval}
 use Rattle.interval_eval.specs.declared.columns.IntervalColumn.{IntervalColumn}
 use Rattle.interval_eval.specs.Rows.{interval_in, area_in}
 use Rattle.interval_eval.specs.Span.{IsIn, AreIn, IsInterval, SpanStaysInRange}
-use Rattle.interval_eval.specs.inside.Nested.{IsPartOf, ArePartsOf}
-use Rattle.interval_eval.proofs.Laws.{nested_spans_stay_in_range}
+use Rattle.interval_eval.specs.Parts.{IsPartOf, ArePartsOf}
+use Rattle.interval_eval.proofs.SpanLaws.{nested_spans_stay_in_range}
 use Rattle.grid_quantiser.specs.Axes.{cells_of}
 use Rattle.plant_record.specs.declared.variables.StateVariable.{StateVariable}
 use Rattle.plant_record.specs.declared.variables.NoiseVariable.{NoiseVariable}

@@ -7,7 +7,7 @@ use Rattle.fixed_expr.specs.Range.{IsInRange}
 use Rattle.fixed_expr.specs.Expression.{Expression, Number}
 use Rattle.fixed_expr.specs.Value.{value_of}
 use Rattle.interval_eval.specs.declared.interval.Interval.{Interval}
-use Rattle.interval_eval.proofs.Laws.{numbers_lie_in_range, values_lie_in_spans}
+use Rattle.interval_eval.proofs.SpanLaws.{numbers_lie_in_range, values_lie_in_spans}
 use Rattle.growth_bound.specs.Deviation.{deviation_of}
 use Rattle.grid_quantiser.specs.declared.axis.Axis.{Axis}
 use Rattle.grid_quantiser.specs.Axes.{cells_of}

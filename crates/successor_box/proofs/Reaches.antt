@@ -6,7 +6,7 @@ use Rattle.fixed_expr.specs.Expression.{Expression}
 use Rattle.fixed_expr.specs.Value.{IsWellFormed, value_of}
 use Rattle.interval_eval.specs.declared.interval.Interval.{Interval}
 use Rattle.interval_eval.specs.Span.{IsIn, span_of}
-use Rattle.interval_eval.proofs.Laws.{values_lie_in_spans}
+use Rattle.interval_eval.proofs.SpanLaws.{values_lie_in_spans}
 use Rattle.growth_bound.specs.Deviation.{IsNear, deviation_of}
 use Rattle.grid_quantiser.specs.Cells.{IsPointOf}
 use Rattle.plant_record.specs.declared.version.PlantVersion.{PlantVersion}

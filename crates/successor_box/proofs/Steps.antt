@@ -8,7 +8,7 @@ use Rattle.fixed_expr.specs.Expression.{Expression, Number}
 use Rattle.fixed_expr.specs.Value.{IsWellFormed, value_of, StaysInRange}
 use Rattle.interval_eval.specs.declared.interval.Interval.{Interval}
 use Rattle.interval_eval.specs.Span.{IsIn}
-use Rattle.interval_eval.proofs.Laws.{values_stay_in_range}
+use Rattle.interval_eval.proofs.SpanLaws.{values_stay_in_range}
 use Rattle.growth_bound.proofs.Laws.{values_move_by_deviations}
 use Rattle.grid_quantiser.specs.declared.axis.Axis.{Axis}
 use Rattle.grid_quantiser.specs.Axes.{cells_of}

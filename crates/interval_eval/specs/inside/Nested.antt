@@ -1,19 +1,8 @@
--- Ranges that lie in wider ones, and ranges that are the same but for one.
-use Rattle.std.specs.Prelude.{◌≡◌, ℕ, pos, ◌≤ℤ◌, List, [], ◌∷◌, IsTrue, slice_index_or}
+-- Ranges that are the same but for one.
+use Rattle.std.specs.Prelude.{◌≡◌, ℕ, pos, List, IsTrue, slice_index_or}
 use Rattle.fixed_expr.specs.Expression.{Expression}
 use Rattle.fixed_expr.specs.Mentions.{mentions}
 use Rattle.interval_eval.specs.declared.interval.Interval.{Interval}
-
--- an interval lies in another
-abbrev pub IsPartOf : Interval → Interval → Type 0
-IsPartOf i j = (j.lo ≤ℤ i.lo) × (i.hi ≤ℤ j.hi)
-
--- each range lies in the wider one, one for each
-abbrev pub ArePartsOf : List Interval → List Interval → Type 0
-ArePartsOf [] [] = Unit {0}
-ArePartsOf [] (j ∷ wider) = ⊥
-ArePartsOf (i ∷ area) [] = ⊥
-ArePartsOf (i ∷ area) (j ∷ wider) = IsPartOf i j × ArePartsOf area wider
 
 -- the range of a variable
 abbrev pub range_at : List Interval → ℕ → Interval
