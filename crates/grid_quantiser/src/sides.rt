@@ -1,4 +1,4 @@
-ghost use Rattle.std.specs.Prelude.{◌≡◌, ◌<◌, ◌↔◌, ℕ, ℤ, ◌≤ℤ◌, List, length, slice_index, slice_index_or, IsSome, IfSome};
+ghost use Rattle.std.specs.Prelude.{◌≡◌, ◌<◌, ◌≤◌, ◌↔◌, ℕ, ℤ, ◌≤ℤ◌, List, length, slice_index, slice_index_or, IsSome, IfSome};
 ghost use Rattle.grid_quantiser.specs.Axes.{no_axis};
 ghost use Rattle.grid_quantiser.specs.Boxes.{IsBoxInDomain, AreCornersMeeting};
 ghost use Rattle.grid_quantiser.specs.Places.{place_along};
@@ -92,7 +92,8 @@ impl Grid {
     /// The place of a cell along each axis. Past the last axis it is 0.
     #[inline]
     pub fn places(&self, c: u32) -> [u32; STATES_LIMIT]
-        ensures { (i : ℕ) → i < length self.now → slice_index result i ≡ place_along self.now i c }
+        ensures along { (i : ℕ) → i < length self.now → slice_index result i ≡ place_along self.now i c }
+        ensures past { (i : ℕ) → length self.now ≤ i → slice_index result i ≡ 0 }
     {
         let axes = self.axes();
         let mut places = [0; STATES_LIMIT];

@@ -22,7 +22,7 @@ loop-state-preserved c =
     let v : ℕ = get_or c.places-along.result state 0 in
     let short : state < length c.loop-state.places = omega arith in
     let within : state < length c.grid.result.now = omega (arith, ap length c.grid.ensures, length-map p.states axis_of) in
-    let here : v ≡ place_along (axes_of p) state c.args.c = c.places-along.ensures state within ∙ ap (λ (axes : List Axis). place_along axes state c.args.c) c.grid.ensures in
+    let here : v ≡ place_along (axes_of p) state c.args.c = c.places-along.ensures.along state within ∙ ap (λ (axes : List Axis). place_along axes state c.args.c) c.grid.ensures in
     record {
       nine = length-set c.loop-state.places state v ∙ so_far.nine;
       done = below_more _ _

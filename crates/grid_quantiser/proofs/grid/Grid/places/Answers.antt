@@ -1,6 +1,6 @@
-use Rattle.std.proofs.Common.{◌≡◌, ◌≢◌, ℕ, ◌+◌, ◌-◌, ◌/◌, ◌%◌, ◌<◌, ◌≤◌, arith, refl, ap, sym, subst, ◌∙◌, List, length, drop, set, get_or, get_or-set_same, get_or-set_other, inl, inr}
+use Rattle.std.proofs.Common.{◌≡◌, ◌≢◌, ℕ, ◌+◌, ◌-◌, ◌/◌, ◌%◌, ◌<◌, ◌≤◌, arith, refl, ap, sym, subst, ◌∙◌, List, length, drop, replicate, set, get_or, get_or-set_same, get_or-set_other, inl, inr}
 use Rattle.std.proofs.lemmas.Bool.{cases_lt}
-use Rattle.std.proofs.lemmas.List.{length-set}
+use Rattle.std.proofs.lemmas.List.{length-set, get_or-replicate, get_or_past}
 use Rattle.grid_quantiser.specs.declared.axis.Axis.{Axis}
 use Rattle.grid_quantiser.specs.Axes.{cells_of}
 use Rattle.grid_quantiser.specs.Places.{place_along}
@@ -27,11 +27,19 @@ places_more axes places c i rest some within few six is each k from below =
           ∙ ap (λ (n : ℕ). place_along axes n c) (sym place)
     ]
 
+zeros : (k : ℕ) → ◌≡◌ {A = ℕ} (get_or (replicate 6 0) k 0) 0
+zeros k =
+    elim (cases_lt k 6) [
+      | inl lt ↦ get_or-replicate 6 k 0 0 lt
+      | inr ge ↦ get_or_past (replicate 6 0) k 0 ge
+    ]
+
 pub loop-i-init : goal.loop-i-init
 loop-i-init c = record {
   rest = c.from-rest.ensures ∙ rest_none c.axes-axes.result.now c.args.c;
   six = refl;
   each = λ k from below. absurd (omega (arith, from, below));
+  past = λ k _. zeros k;
 }
 
 pub loop-i-preserved : goal.loop-i-preserved
@@ -43,10 +51,17 @@ loop-i-preserved c =
       rest = ap (λ k. k / (next_axis axes i).count) so_far.rest ∙ div_step axes i c.axes-axes.ensures.axes.each c.loop-i-test.true c.loop-i.auto.i c.args.c;
       six = length-set c.loop-i.places (i - 1) (c.loop-i.rest % (next_axis axes i).count) ∙ so_far.six;
       each = places_more axes c.loop-i.places c.args.c i c.loop-i.rest c.loop-i-test.true c.loop-i.auto.i c.axes-axes.ensures.axes.states_bound so_far.six so_far.rest so_far.each;
+      past = λ k beyond.
+          let other : k ≢ i - 1 = omega (arith, beyond, c.loop-i.auto.i, c.loop-i-test.true) in
+          get_or-set_other c.loop-i.places (i - 1) k (c.loop-i.rest % (next_axis axes i).count) 0 other ∙ so_far.past k beyond;
     }
 
-pub returns : goal.returns
-returns c = λ i within.
+pub returns-clause-past : goal.returns-clause-past
+returns-clause-past c = λ i beyond.
+    c.loop-i.invariant.past i (subst (λ (l : List Axis). length l ≤ i) (sym c.axes-axes.ensures.same) beyond)
+
+pub returns-clause-along : goal.returns-clause-along
+returns-clause-along c = λ i within.
     let axes = c.axes-axes.result.now in
     let below : i < length axes = subst (λ (l : List Axis). i < length l) (sym c.axes-axes.ensures.same) within in
     c.loop-i.invariant.each i (omega (arith, c.loop-i-test.false)) below ∙ ap (λ (l : List Axis). place_along l i c.args.c) c.axes-axes.ensures.same

@@ -9,4 +9,5 @@ invariant-loop-i l = record {
   rest : l.rest ≡ l.c / cells_of (drop l.i l.axes);
   six : length l.places ≡ 6;
   each : (k : ℕ) → l.i ≤ k → k < length l.axes → get_or l.places k 0 ≡ place_along l.axes k l.c;
+  past : (k : ℕ) → length l.axes ≤ k → get_or l.places k 0 ≡ 0;
 }
