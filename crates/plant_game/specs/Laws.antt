@@ -8,7 +8,7 @@ use Rattle.plant_game.specs.Abstraction.{IsGameOf, AreEdges}
 use Rattle.plant_game.specs.Refinement.{IsRefinement}
 use Rattle.plant_game.specs.Solution.{IsSolutionOf}
 
--- a plant has one game
+-- a plant has one game at most
 abbrev pub OneGamePerPlant : Type 0
 OneGamePerPlant = (p : Description) (g h : Game) → IsPlant p → IsGameOf p g → IsGameOf p h → g ≡ h
 
@@ -16,7 +16,7 @@ OneGamePerPlant = (p : Description) (g h : Game) → IsPlant p → IsGameOf p g 
 abbrev pub OneSolutionPerPlant : Type 0
 OneSolutionPerPlant = (p : Description) (rows others : List (Option Row)) → IsPlant p → IsSolutionOf p rows → IsSolutionOf p others → rows ≡ others
 
--- a plant has one number of edges
+-- a plant has one number of edges at most
 abbrev pub OneEdgeCount : Type 0
 OneEdgeCount = (p : Description) (m n : ℕ) → IsPlant p → AreEdges p m → AreEdges p n → m ≡ n
 

@@ -2,7 +2,7 @@
 
 ghost use Rattle.plant_game.specs.Laws.{OneGamePerPlant, OneSolutionPerPlant, OneEdgeCount, GamesCountTheirEdges, GamesRefineTheirPlants};
 
-/// A plant has one game.
+/// A plant has one game at most.
 pub fn one_game_per_plant()
     ensures { OneGamePerPlant }
 {}
@@ -12,7 +12,7 @@ pub fn one_solution_per_plant()
     ensures { OneSolutionPerPlant }
 {}
 
-/// A plant has one number of edges.
+/// A plant has one number of edges at most.
 pub fn one_edge_count()
     ensures { OneEdgeCount }
 {}

@@ -2,7 +2,7 @@
 //!
 //! The layer above hands in the bytes of a plant text and gets the one plant that they spell, or
 //! learns that they spell none; or it hands in bytes that begin with a plant's canonical text and
-//! gets that plant. What is written reads back. Passes on plants and their steps from `plant_record`,
+//! gets that plant. What is written reads back, where it has at most 65,536 bytes. Passes on plants and their steps from `plant_record`,
 //! and `write_plant` from `plant_writing`; stands on these, on `plant_reading` and on `fixed_expr`.
 #![tactic(auto)]
 
