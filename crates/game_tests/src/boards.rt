@@ -120,10 +120,7 @@ fn done_by_two_hands<R: Threads + Sync>(rt: &R, board: &Board, root: &mut Root) 
         rt,
         &mut || {
             let left = [board.cut(&mut hand, 0), board.cut(&mut hand, 0)];
-            let first = [
-                board.offer(&mut hand, 0, 9),
-                board.offer(&mut hand, 1, 7),
-            ];
+            let first = [board.offer(&mut hand, 0, 9), board.offer(&mut hand, 1, 7)];
             (left, first)
         },
         &mut || (board.cut(&mut other, 0), board.offer(&mut other, 0, 4)),
