@@ -14,9 +14,9 @@ use Rattle.game_core.proofs.Trees.{WinsWithin, trees_for}
 use Rattle.game_core.proofs.Promises.{row_at, no_obstacle, leads_to_goals}
 
 -- a cell whose row has rank k
-record HasRowOf (rows : List (Option Row)) (k c : ℕ) : Type 0 where
-  input : ℕ
-  is : row_of rows c ≡ Some (record { rank = k; input = input })
+pub record HasRowOf (rows : List (Option Row)) (k c : ℕ) : Type 0 where
+  pub input : ℕ
+  pub is : row_of rows c ≡ Some (record { rank = k; input = input })
 
 -- one of the cells has a row of rank k, or all have lesser ones
 one_of : (rows : List (Option Row)) (k : ℕ) (cells : List ℕ) → All (HasRowBelow rows (suc k)) cells → ((s : ℕ) × HasRowOf rows k s) ⊎ All (HasRowBelow rows k) cells
@@ -69,10 +69,10 @@ record IsChain (rows : List (Option Row)) (k : ℕ) (cells : List ℕ) : Type 0 
   ranks : All (HasRowBelow rows (suc k)) cells
   apart : AllPairs (λ a b. a ≢ b) cells
 
-below_of : (rows : List (Option Row)) (k c : ℕ) → HasRowOf rows k c → HasRowBelow rows (suc k) c
+pub below_of : (rows : List (Option Row)) (k c : ℕ) → HasRowOf rows k c → HasRowBelow rows (suc k) c
 below_of rows k c row = record { row = record { rank = k; input = row.input }; is = row.is; below = omega arith }
 
-differs : (rows : List (Option Row)) (k c d : ℕ) → HasRowOf rows k c → HasRowBelow rows k d → c ≢ d
+pub differs : (rows : List (Option Row)) (k c d : ℕ) → HasRowOf rows k c → HasRowBelow rows k d → c ≢ d
 differs rows k c d row other e =
     let same : Some (record { rank = k; input = row.input }) ≡ Some other.row = sym row.is ∙ ap (row_of rows) e ∙ other.is in
     let rank : k ≡ other.row.rank = rank_of (record { rank = k; input = row.input }) other.row same in

@@ -23,7 +23,7 @@ rank_of_row rows c row e = ap rank_in e
 have_rows : (rows : List (Option Row)) (k : ℕ) (cells : List ℕ) → All (HasRowBelow rows k) cells → All (HasRow rows) cells
 have_rows rows k cells = All-weaker (HasRowBelow rows k) (HasRow rows) (λ s r. (r.row, r.is)) cells
 
-greatest_below : (rows : List (Option Row)) (k : ℕ) (cells : List ℕ) → All (HasRowBelow rows (suc k)) cells → greatest_rank rows cells ≤ k
+pub greatest_below : (rows : List (Option Row)) (k : ℕ) (cells : List ℕ) → All (HasRowBelow rows (suc k)) cells → greatest_rank rows cells ≤ k
 greatest_below rows k [] h = omega arith
 greatest_below rows k (s ∷ cells) h =
     let first = All-head (HasRowBelow rows (suc k)) s cells h in
@@ -32,7 +32,7 @@ greatest_below rows k (s ∷ cells) h =
     let rest = greatest_below rows k cells (All-tail (HasRowBelow rows (suc k)) s cells h) in
     omega arith
 
-below_greatest : (rows : List (Option Row)) (k : ℕ) (cells : List ℕ) → All (HasRow rows) cells → greatest_rank rows cells < k → All (HasRowBelow rows k) cells
+pub below_greatest : (rows : List (Option Row)) (k : ℕ) (cells : List ℕ) → All (HasRow rows) cells → greatest_rank rows cells < k → All (HasRowBelow rows k) cells
 below_greatest rows k [] h lt = All-nil (HasRowBelow rows k)
 below_greatest rows k (s ∷ cells) h lt =
     let first = All-head (HasRow rows) s cells h in
@@ -100,7 +100,7 @@ module _ (g : Game) (rows : List (Option Row)) (a : IsGame g) (h : AreRight g ro
   right_rows_are_the_solution = solution_from_consistent g rows a (record { one_each = h.one_each; goals = right_goal; sound = right_sound; best = right_best })
 
 -- all cells have rows, or one has none
-rowless : (rows : List (Option Row)) (cells : List ℕ) → All (HasRow rows) cells ⊎ ((s : ℕ) × Contains cells s × (row_of rows s ≡ None))
+pub rowless : (rows : List (Option Row)) (cells : List ℕ) → All (HasRow rows) cells ⊎ ((s : ℕ) × Contains cells s × (row_of rows s ≡ None))
 rowless rows [] = inl (All-nil (HasRow rows))
 rowless rows (s ∷ cells) = by_row (row_of rows s) refl (rowless rows cells)
   where

@@ -1,33 +1,14 @@
 -- The row of a plain cell is right exactly where its input is the first that leads below its rank, and none leads
 -- below the rank before it.
-use Rattle.std.proofs.Common.{inl, inr, ◌≡◌, ℕ, zero, suc, ◌+◌, ◌-◌, ◌*◌, ◌<◌, ◌≤◌, List, [], ◌∷◌, Option, Some, All, arith, sym, ap, subst}
+use Rattle.std.proofs.Common.{inl, inr, ◌≡◌, ℕ, zero, suc, ◌+◌, ◌-◌, ◌*◌, ◌<◌, List, Option, arith, sym, subst}
 use Rattle.std.proofs.lemmas.Bool.{cases_lt}
-use Rattle.std.proofs.lemmas.List.Elements.{All-head, All-tail, All-nil, All-cons, All-weaker}
+use Rattle.std.proofs.lemmas.List.Elements.{All-weaker}
 use Rattle.game_core.specs.declared.game.Row.{Row}
 use Rattle.game_core.specs.Game.{Game, pair_of, successors_of}
-use Rattle.game_core.specs.Solution.{row_of, rank_in, rank_at, greatest_rank, HasRow, HasRowBelow}
+use Rattle.game_core.specs.Solution.{greatest_rank, HasRow, HasRowBelow}
 use Rattle.game_core.specs.Right.{LeadsDownTo, IsBestInput, IsRightRanked}
+use Rattle.game_core.proofs.Right.{greatest_below, below_greatest}
 use Rattle.table_check.specs.inside.Below.{LeadsBelow, NoneLeadsBelow}
-
-rank_of_row : (rows : List (Option Row)) (c : ℕ) (row : Row) → row_of rows c ≡ Some row → rank_at rows c ≡ row.rank
-rank_of_row rows c row e = ap rank_in e
-
-greatest_below : (rows : List (Option Row)) (k : ℕ) (cells : List ℕ) → All (HasRowBelow rows (suc k)) cells → greatest_rank rows cells ≤ k
-greatest_below rows k [] h = omega arith
-greatest_below rows k (s ∷ cells) h =
-    let first = All-head (HasRowBelow rows (suc k)) s cells h in
-    let rank = rank_of_row rows s first.row first.is in
-    let below = first.below in
-    let rest = greatest_below rows k cells (All-tail (HasRowBelow rows (suc k)) s cells h) in
-    omega arith
-
-below_greatest : (rows : List (Option Row)) (k : ℕ) (cells : List ℕ) → All (HasRow rows) cells → greatest_rank rows cells < k → All (HasRowBelow rows k) cells
-below_greatest rows k [] h lt = All-nil (HasRowBelow rows k)
-below_greatest rows k (s ∷ cells) h lt =
-    let first = All-head (HasRow rows) s cells h in
-    let rank = rank_of_row rows s first.0 first.1 in
-    All-cons (HasRowBelow rows k) s cells (record { row = first.0; is = first.1; below = omega arith })
-    (below_greatest rows k cells (All-tail (HasRow rows) s cells h) (omega arith))
 
 module _ (g : Game) (rows : List (Option Row)) (c k u : ℕ) (inside : u < g.inputs) where
   leads_down : LeadsBelow g rows (pair_of g c u) (suc k) → (LeadsBelow g rows (pair_of g c u) k → ⊥) → LeadsDownTo g rows c u k

@@ -1,21 +1,12 @@
 -- A cell is right to have no row exactly where no input leads to rows alone.
-use Rattle.std.proofs.Common.{inl, inr, ◌≡◌, ◌⊎◌, ℕ, suc, ◌<◌, ◌↔◌, List, [], ◌∷◌, Option, Some, None, All, Contains, arith, refl}
-use Rattle.std.proofs.lemmas.List.Elements.{All-nil, All-cons, All-weaker, All-contains}
+use Rattle.std.proofs.Common.{inl, inr, ◌≡◌, ℕ, ◌<◌, ◌↔◌, List, Option, Some, arith}
+use Rattle.std.proofs.lemmas.List.Elements.{All-weaker, All-contains}
 use Rattle.game_core.specs.declared.game.Row.{Row}
 use Rattle.game_core.specs.Game.{Game, successors_of}
 use Rattle.game_core.specs.Solution.{row_of, HasRow, HasRowBelow}
 use Rattle.game_core.specs.Right.{IsLost}
+use Rattle.game_core.proofs.Right.{rowless}
 use Rattle.table_check.specs.inside.Below.{NoneLeadsBelow}
-
--- all cells have rows, or one has none
-rowless : (rows : List (Option Row)) (cells : List ℕ) → All (HasRow rows) cells ⊎ ((s : ℕ) × Contains cells s × (row_of rows s ≡ None))
-rowless rows [] = inl (All-nil (HasRow rows))
-rowless rows (s ∷ cells) = by_row (row_of rows s) refl (rowless rows cells)
-  where
-    by_row : (o : Option Row) → row_of rows s ≡ o → All (HasRow rows) cells ⊎ ((s : ℕ) × Contains cells s × (row_of rows s ≡ None)) → All (HasRow rows) (s ∷ cells) ⊎ ((t : ℕ) × Contains (s ∷ cells) t × (row_of rows t ≡ None))
-    by_row None e rest = inr (s, (0, omega arith, refl), e)
-    by_row (Some row) e (inl rest) = inl (All-cons (HasRow rows) s cells (row, e) rest)
-    by_row (Some row) e (inr found) = let at = found.1 in inr (found.0, (suc at.0, (let lt = at.1 in omega arith), at.2), found.2)
 
 pub lost_by_bound : (g : Game) (rows : List (Option Row)) (k : ℕ) → ((c : ℕ) (row : Row) → row_of rows c ≡ Some row → row.rank < k) → (c : ℕ) → NoneLeadsBelow g rows c 0 g.inputs k ↔ IsLost g rows c
 lost_by_bound g rows k bound c = (
