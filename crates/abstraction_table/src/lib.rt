@@ -1,11 +1,9 @@
 //! The abstraction of a plant: its game in memory.
 //!
-//! The layer above hands in a plant with its deviations, and gets the plant's game, or the exact
-//! number of its edges where these are too many. What `survey` gives is the game as it is seen
-//! ahead, a `Forward`: it keeps a box of cells for each pair, whose cells are the pair's successors.
-//! What `build` gives is a `Graph`, which keeps for each cell the pairs that lead to it as well;
-//! `with_sources` makes it of what is seen ahead.
-//! Stands on `plant_game`, `edge_rows` and the crates below.
+//! The layer above gives a plant with its deviations, and gets the plant's game, or the exact number of its edges if
+//! these are too many. `survey` gives a `Forward`: a box of cells for each pair, whose cells are the pair's successors.
+//! `build` gives a `Graph`, which also keeps, for each cell, the pairs that lead to it; `with_sources` makes a `Graph`
+//! from what `survey` gave.
 #![tactic(auto)]
 
 mod abstraction;

@@ -1,11 +1,10 @@
-//! Counters, least words and a log that threads share, by single atomic steps.
+//! Counters, minima and a log that threads share, by single atomic steps.
 //!
-//! For any number of threads and every interleaving, the accounts of what the holders of all hands did are together
-//! lawful for each counter, each least word and the log. `laws` turns that into what a caller needs: of as many cuts of
-//! a counter as it began with exactly one answers 0, of the offers on a free word exactly one was first, and a round of
-//! logs fills the places that follow those of the rounds before.
-//! No clause speaks of progress, of fairness or of which hand got what.
-//! It stands on `atomic_table` alone, and knows nothing of games.
+//! For any number of threads and every interleaving, the accounts of all hands together are lawful for each counter,
+//! each minimum and the log. `laws` turns that into what a caller needs. Of as many cuts of a counter as it began with
+//! exactly one returns 0. Of the offers on a free word exactly one was first. The logs of a round fill the slots that
+//! follow those of the rounds before. No clause is about progress, fairness or which hand got what. The crate knows
+//! nothing of games.
 #![tactic(auto)]
 
 mod account;

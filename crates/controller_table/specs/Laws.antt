@@ -21,6 +21,7 @@ OneTablePerText =
 abbrev pub OneChoice : Type 0
 OneChoice = (bytes : List ℕ) (x : List ℤ) (u v : ℕ) → IsChoice bytes x u → IsChoice bytes x v → u ≡ v
 
+-- a state has at most one rank in the table that bytes are
 abbrev pub OneRank : Type 0
 OneRank = (bytes : List ℕ) (x : List ℤ) (j k : ℕ) → HasRank bytes x j → HasRank bytes x k → j ≡ k
 
@@ -28,6 +29,7 @@ OneRank = (bytes : List ℕ) (x : List ℤ) (j k : ℕ) → HasRank bytes x j �
 abbrev pub OneTableRefusal : Type 0
 OneTableRefusal = (bytes : List ℕ) (f g : TableFault) → IsTableRefusedFor bytes f → IsTableRefusedFor bytes g → f ≡ g
 
+-- bytes that are a table are not refused
 abbrev pub TableOrRefused : Type 0
 TableOrRefused = (bytes : List ℕ) (p : Description) (rows : List (Option Row)) (f : TableFault) → IsTable bytes p rows → IsTableRefusedFor bytes f → ⊥
 
@@ -45,5 +47,6 @@ pub record IsGraphOver (p : Description) (g : Game) : Type 0 where
 abbrev pub ReachSolutionsFit : Type 0
 ReachSolutionsFit = (p : Description) (g : Game) (rows : List (Option Row)) → p.goal ≡ Reach → IsGraphOver p g → IsReachSolution g rows → RowsFit p rows
 
+-- the keep solution of the game of a plant that is to be kept fits the plant
 abbrev pub KeepSolutionsFit : Type 0
 KeepSolutionsFit = (p : Description) (g : Game) (rows : List (Option Row)) → p.goal ≡ Keep → IsGraphOver p g → IsKeepSolution g rows → RowsFit p rows

@@ -1,9 +1,8 @@
 //! Tables of controllers as texts.
 //!
-//! The layer above hands in a plant and one optional row for each of its cells, and gets the table's
-//! text piece by piece; or it hands in bytes and gets the one table that they are, in either version, or
-//! learns why they are none. A `Table` is seen as its version, its plant and its rows. Stands on
-//! `text_pieces`, `row_runs`, `plant_text`, `grid_quantiser` and `game_core`.
+//! The layer above gives a plant and one optional row for each of its cells, and gets the table's text piece by piece.
+//! Or it gives bytes and gets the one table that they are, in either version, or the first reason why they are refused.
+//! To contracts a `Table` is its version, its plant and its rows.
 #![tactic(auto)]
 
 mod copying;

@@ -18,6 +18,7 @@ pub record IsOfDemoSize (n : ℕ) : Type 0 where
   pub cells : cells_of (axes_of (demo_plant_of n)) ≡ 1200 * n
   pub pairs : pairs_of (demo_plant_of n) ≡ 6000 * n
 
+-- each demo plant has its size, within the limits
 abbrev pub DemoPlantsAreWithinLimits : Type 0
 DemoPlantsAreWithinLimits = (n : ℕ) → IsDemoNumber n → IsOfDemoSize n
 
@@ -27,6 +28,7 @@ pub record IsTextOfDemo (n : ℕ) : Type 0 where
   pub spells : Spells (demo_text n) (demo_plant_of n)
   pub short : IsShort (demo_text n)
 
+-- each demo plant's text spells it
 abbrev pub DemoTextsSpell : Type 0
 DemoTextsSpell = (n : ℕ) → IsDemoNumber n → IsTextOfDemo n
 
@@ -45,6 +47,7 @@ pub record IsSolvableDemo (n : ℕ) : Type 0 where
   pub no_overflow : HasNoOverflow (demo_plant_of n)
   pub edges : (m : ℕ) → AreEdges (demo_plant_of n) m → 2 ^ 25 < m → ⊥
 
+-- each demo plant can be solved
 abbrev pub DemoPlantsAreSolvable : Type 0
 DemoPlantsAreSolvable = (n : ℕ) → IsDemoNumber n → IsSolvableDemo n
 

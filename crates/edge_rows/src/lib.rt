@@ -1,11 +1,10 @@
-//! Rows of numbers in one block of raw memory, which is never cleared: written once, place by place, and then read by any
-//! number of threads. The layer above gets `RowFill`, which it fills in any order of rows, and `Rows`, which lends each row as
-//! a slice. To contracts a filling is its rows so far with their lengths, and `Rows` is the list of its rows: `put` appends to
-//! its row and `put_run` to rows that follow one another, neither changes another, and `row` is the row as it was filled. No
-//! place is read before it was written, and the block is given back at most once; tests show that it is given back, also where
-//! a filling is dropped half way.
+//! Lists of numbers in one block of raw memory, which is never cleared.
 //!
-//! The pointers are in `places`, and the crate stands on std's allocator alone.
+//! The layer above fills a `RowFill` in any order of lists, and then any number of threads read the `Rows`, which lend
+//! each list as a slice. To contracts both are the lists. `put` appends to its list and `put_run` to consecutive lists;
+//! neither changes another, and `row` is the list as it was filled. No slot is read before it was written, and the
+//! block is freed at most once. Tests show that it is freed, also if a filling is dropped half way. The pointers are in
+//! `places`.
 #![tactic(auto)]
 
 mod block;

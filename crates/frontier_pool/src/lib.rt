@@ -1,9 +1,8 @@
-//! Rounds of workers: the items of a list shared out over hands that work beside one another.
+//! Rounds of workers: the items of a list, divided among hands that work side by side.
 //!
-//! A sweep does each item with exactly one hand, once, for every interleaving. Whoever meets an item claims it by one
-//! atomic step on the item's word. Deques carry the numbers from hand to hand, and no clause rests on what they give.
-//! No clause speaks of progress, of fairness or of which hand does what.
-//! It stands on `atomic_table` and `crossbeam_deque`, and knows nothing of games.
+//! A sweep does each item with exactly one hand, once, for every interleaving. A worker that finds an item claims it by
+//! one atomic step on the item's word. Deques carry the numbers from hand to hand, and no clause depends on what they
+//! give. No clause is about progress, fairness or which hand does what. The crate knows nothing of games.
 #![tactic(auto)]
 
 mod caller;

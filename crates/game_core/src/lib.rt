@@ -1,10 +1,10 @@
-//! Finite games of a controller against disturbances, and their plain solvers.
+//! Finite games of a controller against disturbances, and their one-thread solvers.
 //!
-//! The layer above gives a `Graph`, a game whose laws are its contract, and gets an `Answer`.
-//! `solve_plain` is the reach solution: for each cell that can be won the least depth of a winning
-//! strategy and the input to apply. `keep_plain` is the keep solution: the cells from which the
-//! controller can go on for ever, with an input. `laws` says what solutions promise, that a game has
-//! one of each, and that rows whose cells are right one by one are a solution. Stands on std alone.
+//! The layer above gives a `Graph`, a game whose laws are its contract, and gets an `Answer`. `solve_plain` returns the
+//! reach solution: for each cell that can be won the least depth of a winning strategy, and the input to apply.
+//! `keep_plain` returns the keep solution: the cells from which the controller can go on for ever, with an input.
+//! `laws` says what solutions promise, that a game has at most one of each, and that rows whose cells are right one by
+//! one are a solution.
 #![tactic(auto)]
 
 mod answer;

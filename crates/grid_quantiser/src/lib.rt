@@ -1,9 +1,8 @@
 //! Uniform grids over boxes of whole numbers.
 //!
-//! The layer above hands in the axes and gets the cells that tile them: the cell of a state, the
-//! corner points and the centre of a cell, and the cells that meet a box of states, touch it or lie in
-//! it. The contract: each answer speaks of the set of points of a cell, though no call lists a point.
-//! Stands on `fixed_divisor`, and takes no memory.
+//! The layer above gives the axes and gets the cells that tile them: the cell of a state, the corner points and the
+//! centre of a cell, and the cells that meet a box of states, touch it or lie in it. Each contract is about the set of
+//! points of a cell, though no call lists a point. The crate takes no memory.
 #![tactic(auto)]
 
 mod axis;

@@ -1,9 +1,8 @@
 //! Deviations of expressions, which the literature calls growth bounds.
 //!
-//! The layer above gives an expression with a range and a radius for each variable, and `deviation`
-//! answers how far the value moves where each variable moves by at most its radius, or None exactly
-//! where a span end or a deviation of some node leaves 127 bits and a sign. Stands on
-//! `fixed_expr` and `interval_eval`.
+//! The layer above gives an expression with an interval and a radius for each variable. `deviation` returns a bound on
+//! how far the value moves if each variable moves by at most its radius. It returns None exactly if a span end or a
+//! deviation of some node leaves 127 bits and a sign.
 #![tactic(auto)]
 
 mod bounds;

@@ -23,15 +23,19 @@ AreIn [] (x ∷ values) = ⊥
 AreIn (i ∷ area) [] = ⊥
 AreIn (i ∷ area) (x ∷ values) = IsIn i x × AreIn area values
 
+-- both ends of an interval lie in the range
 abbrev pub EndsFit : Interval → Type 0
 EndsFit i = IsInRange i.lo × IsInRange i.hi
 
+-- by interval arithmetic, the interval of negated numbers
 abbrev pub negation_of : Interval → Interval
 negation_of a = record { lo = neg_ℤ a.hi; hi = neg_ℤ a.lo }
 
+-- by interval arithmetic, the interval of sums
 abbrev pub sum_of : Interval → Interval → Interval
 sum_of a b = record { lo = a.lo +ℤ b.lo; hi = a.hi +ℤ b.hi }
 
+-- by interval arithmetic, the interval of differences
 abbrev pub difference_of : Interval → Interval → Interval
 difference_of a b = record { lo = a.lo -ℤ b.hi; hi = a.hi -ℤ b.lo }
 
@@ -43,12 +47,15 @@ hull_of a b c d = record { lo = int_min (int_min a b) (int_min c d); hi = int_ma
 abbrev pub product_of : Interval → Interval → Interval
 product_of a b = hull_of (a.lo *ℤ b.lo) (a.lo *ℤ b.hi) (a.hi *ℤ b.lo) (a.hi *ℤ b.hi)
 
+-- by interval arithmetic, the interval of quotients by one number
 abbrev pub quotient_of : Interval → ℤ → Interval
 quotient_of a k = record { lo = floor_div a.lo k; hi = floor_div a.hi k }
 
+-- by interval arithmetic, the interval of lesser numbers
 abbrev pub minimum_of : Interval → Interval → Interval
 minimum_of a b = record { lo = int_min a.lo b.lo; hi = int_min a.hi b.hi }
 
+-- by interval arithmetic, the interval of greater numbers
 abbrev pub maximum_of : Interval → Interval → Interval
 maximum_of a b = record { lo = int_max a.lo b.lo; hi = int_max a.hi b.hi }
 

@@ -1,8 +1,7 @@
-//! Spans of expressions over ranges of their variables.
+//! Spans of expressions, from intervals of their variables.
 //!
-//! The layer above gives an expression with a range for each variable, and `span` answers a range
-//! that holds every value, or None exactly where an end of some node's span leaves 127 bits and a
-//! sign. Stands on `fixed_expr`.
+//! The layer above gives an expression with an interval for each variable. `span` returns an interval that contains
+//! every value, or None exactly if an end of some node's span leaves 127 bits and a sign.
 #![tactic(auto)]
 
 mod columns;

@@ -1,9 +1,8 @@
-//! Live tables: one publisher changes the table in force while readers go on answering.
+//! Live tables: one publisher changes the current table while readers go on reading it.
 //!
-//! The layer above opens with a first table, publishes others, and tells its readers of them. An answer is
-//! that of the last table of some list of publishes, which begins with all that its reader had seen or was
-//! told of. A publisher is seen as its list of publishes, a reader as what it has seen and was told of.
-//! Stands on `controller_table`, and on `left_right` and `logbook`.
+//! The layer above opens with a first table, publishes others, and tells its readers of them. An answer comes from the
+//! last table of some list of tables, and all that its reader had seen or was told of is a prefix of this list. To
+//! contracts a publisher is its list of publishes, and a reader is what it has seen and what it was told of.
 #![tactic(auto)]
 
 mod fault;

@@ -1,9 +1,8 @@
 //! A plant in closed loop with a table.
 //!
-//! The layer above hands in a table and a state, and gets the plant's trace under the table's inputs
-//! and drawn noises: its lines one by one from a `Sim`, or its text piece by piece from a
-//! `TraceWriter`. Either is seen as what is still to come. Stands on `text_pieces`, `row_runs`,
-//! `controller_table`, `successor_box` and the crates below.
+//! The layer above gives a table and a state, and gets the plant's trace under the table's inputs and generated noises:
+//! line by line from a `Sim`, or as text, piece by piece, from a `TraceWriter`. To contracts both are what is still to
+//! come.
 #![tactic(auto)]
 
 mod closed_loop;

@@ -1,7 +1,7 @@
 //! The game of a plant, apart from how it lies in memory.
 //!
-//! Its definitions say which cells, inputs, marks and successors a plant's game has, and `laws` what holds of it: a plant has one game at most, and
-//! this refines it. `find_marks` gives the marks of the cells. Stands on `plant_record`, `successor_box` and `game_core`.
+//! Its definitions say which cells, inputs, marks and successors a plant's game has. `laws` says what holds of it: a
+//! plant has at most one game, and this game refines the plant. `find_marks` gives the marks of the cells.
 #![tactic(auto)]
 
 pub mod laws;

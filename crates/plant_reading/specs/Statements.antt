@@ -15,6 +15,7 @@ use Rattle.plant_record.specs.Spelling.{version_word, end_words, goal_word}
 use Rattle.plant_reading.specs.Tokens.{tokens_of}
 use Rattle.plant_reading.specs.SyntaxTrees.{AreTokensOf}
 
+-- what one line states
 pub data Statement : Type 0 where
   Version : (v : PlantVersion) → Statement
   State : (s : StateVariable) → Statement

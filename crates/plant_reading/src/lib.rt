@@ -1,8 +1,7 @@
 //! Lines of plant texts, read one by one.
 //!
-//! The layer above hands in a line, with the variables that are known before it, and gets the one
-//! thing that the line states, or learns that it states nothing; or it hands in a word, and gets the
-//! number that the word spells. Stands on `plant_record`, `fixed_expr` and `itoa`.
+//! The layer above gives a line, with the variables known before it. It gets the one thing that the line states, or the
+//! answer that it states nothing. Or it gives a word, and gets the number that the word spells.
 #![tactic(auto)]
 
 mod boxes;

@@ -32,6 +32,7 @@ names_of p = names_over p.states p.inputs p.noises
 abbrev pub count_of : StateVariable → ℕ
 count_of s = nat_abs ((s.high -ℤ s.low) +ℤ pos 1) / nat_abs s.width
 
+-- a state's axis: from its least number on, cells of its width, as many as it has
 abbrev pub axis_of : StateVariable → Axis
 axis_of s = record { lo = s.low; width = s.width; count = count_of s }
 

@@ -1,7 +1,7 @@
-//! A plant: its variables, equations, aims and limits, and what it does from one sample to the next.
+//! A plant: its variables, equations, aims and limits, and its step from one sample to the next.
 //!
-//! The layers that read and write texts put a `Plant` together from its parts or take it apart; all
-//! others ask it. A `Plant` is seen as its description. Stands on `fixed_expr` and `grid_quantiser`.
+//! The layers that read and write texts build a `Plant` from its parts or take it apart; all others call its getters.
+//! To contracts a `Plant` is its description.
 #![tactic(auto)]
 
 mod aims;

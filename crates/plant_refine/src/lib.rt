@@ -1,10 +1,9 @@
-//! Plants that are driven.
+//! What a table does to its plant.
 //!
-//! The layer above hands in a state with an enabled input and a noise in range, and gets the next
-//! state with its cell, which is a successor: so the quantiser is a feedback refinement relation
-//! from the plant to its game, which a law says. A right table drives the plant into its target, and
-//! one of the keep solution keeps it for ever: two more laws say so of the table's bytes, and `drive`
-//! does it. Stands on `plant_game`, `controller_table` and the crates below.
+//! The layer above gives a state with an enabled input and a noise in range, and gets the next state with its cell,
+//! which is a successor. So the quantiser is a feedback refinement relation from the plant to its game, which a law
+//! says. Two more laws are about the bytes of a table: a right table drives its plant into the target, and one of the
+//! keep solution keeps it for ever. `drive` drives a plant.
 #![tactic(auto)]
 
 mod cells;

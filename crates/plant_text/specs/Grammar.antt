@@ -28,6 +28,7 @@ pub record Part : Type 0 where
   pub goal : Option GoalKind
   pub ended : Bool
 
+-- the part that no line has begun
 abbrev pub nothing_yet : Part
 nothing_yet = record { version = None; states = []; inputs = []; noises = []; equations = []; targets = []; obstacles = []; goal = None; ended = false }
 

@@ -16,6 +16,7 @@ use Rattle.plant_text.specs.Refusals.{IsShort, IsRefusedFor}
 abbrev pub OnePlantPerText : Type 0
 OnePlantPerText = (bytes : List ℕ) (p q : Description) → Spells bytes p → Spells bytes q → p ≡ q
 
+-- what a text spells is a plant
 abbrev pub SpelledPlantsArePlants : Type 0
 SpelledPlantsArePlants = (bytes : List ℕ) (p : Description) → Spells bytes p → IsPlant p
 
@@ -32,6 +33,7 @@ OnePlantAtTheFront =
 abbrev pub OneRefusal : Type 0
 OneRefusal = (bytes : List ℕ) (f g : PlantFault) → IsRefusedFor bytes f → IsRefusedFor bytes g → f ≡ g
 
+-- a text that spells a plant within the limits, and is short, is not refused
 abbrev pub ReadOrRefused : Type 0
 ReadOrRefused = (bytes : List ℕ) (p : Description) (f : PlantFault) → Spells bytes p → IsShort bytes → IsWithinLimits p → IsRefusedFor bytes f → ⊥
 
@@ -47,6 +49,7 @@ OneFront = (bytes : List ℕ) (p q : Description) (m n : ℕ) → IsFront bytes 
 abbrev pub OneFrontRefusal : Type 0
 OneFrontRefusal = (bytes : List ℕ) (f g : PlantFault) → IsFrontRefusedFor bytes f → IsFrontRefusedFor bytes g → f ≡ g
 
+-- a front that holds a plant within the limits is not refused
 abbrev pub FrontReadOrRefused : Type 0
 FrontReadOrRefused = (bytes : List ℕ) (p : Description) (count : ℕ) (f : PlantFault) → IsFront bytes p count → IsWithinLimits p → IsFrontRefusedFor bytes f → ⊥
 

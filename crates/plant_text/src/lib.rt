@@ -1,9 +1,9 @@
 //! Plants as texts.
 //!
-//! The layer above hands in the bytes of a plant text and gets the one plant that they spell, or
-//! learns that they spell none; or it hands in bytes that begin with a plant's canonical text and
-//! gets that plant. What is written reads back, where it has at most 65,536 bytes. Passes on plants and their steps from `plant_record`,
-//! and `write_plant` from `plant_writing`; stands on these, on `plant_reading` and on `fixed_expr`.
+//! The layer above gives the bytes of a plant text and gets the one plant that they spell, or the first reason why the
+//! text is refused. Or it gives bytes that begin with a plant's canonical text and gets that plant. A canonical text of
+//! at most 65,536 bytes reads back. The crate passes on plants and their steps from `plant_record`, and `write_plant`
+//! from `plant_writing`.
 #![tactic(auto)]
 
 mod draft;

@@ -11,15 +11,19 @@ use Rattle.plant_record.specs.Description.{Description, names_of}
 use Rattle.plant_record.specs.Spelling.{line, version_word, end_words, goal_word}
 use Rattle.plant_writing.specs.ExpressionText.{expression_text}
 
+-- the canonical line of a state
 abbrev pub state_line : StateVariable → List ℕ
 state_line s = line (codes "state" ∷ s.name ∷ signed_decimal s.low ∷ signed_decimal s.high ∷ signed_decimal s.width ∷ [])
 
+-- the canonical line of an input variable
 abbrev pub input_line : InputVariable → List ℕ
 input_line i = line (codes "input" ∷ i.name ∷ map signed_decimal i.values)
 
+-- the canonical line of a noise
 abbrev pub noise_line : NoiseVariable → List ℕ
 noise_line w = line (codes "noise" ∷ w.name ∷ signed_decimal w.low ∷ signed_decimal w.high ∷ [])
 
+-- the canonical line of an equation
 abbrev pub equation_line : List (List ℕ) → List ℕ → Expression → List ℕ
 equation_line names name e = line (codes "next" ∷ name ∷ codes "=" ∷ expression_text names 1 e ∷ [])
 
@@ -28,6 +32,7 @@ equation_lines names (s ∷ states) (e ∷ equations) = equation_line names s.na
 equation_lines names (s ∷ states) [] = []
 equation_lines names [] equations = []
 
+-- the canonical line of a target or an obstacle
 abbrev pub box_line : List ℕ → ℕ → StateBox → List ℕ
 box_line keyword n b = line (keyword ∷ end_words n b.low b.high)
 

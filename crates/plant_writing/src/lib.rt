@@ -1,7 +1,7 @@
 //! Plants written as texts.
 //!
-//! The layer above hands in a plant and gets its canonical text, or the line of a version, a variable,
-//! a box, an equation or a goal. Stands on `plant_record`, `fixed_expr` and `itoa`.
+//! The layer above gives a plant and gets its canonical text, or the line of a version, a variable, a box, an equation
+//! or a goal.
 #![tactic(auto)]
 
 mod expression_writer;

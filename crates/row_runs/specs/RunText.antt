@@ -14,11 +14,13 @@ use Rattle.row_runs.specs.Runs.{runs_from}
 abbrev pub line : List (List ℕ) → List ℕ
 line words = join_with_byte 32 words ++ codes "\n"
 
+-- the rank's number, or `-` where there are no ranks
 abbrev pub rank_word : RowWords → Row → List ℕ
 rank_word InputAboveZero row = decimal row.rank
 rank_word InputAlone row = codes "-"
 rank_word Both row = decimal row.rank
 
+-- the input's number, or `-` at rank 0 where nothing is applied
 abbrev pub input_word : RowWords → Row → List ℕ
 input_word InputAboveZero row = if row.rank == 0 then codes "-" else decimal row.input
 input_word InputAlone row = decimal row.input

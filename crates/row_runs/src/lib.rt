@@ -1,10 +1,9 @@
-//! Runs of rows, and the lines that tell them.
+//! Runs of rows, and their lines.
 //!
-//! The layer above hands in one optional row for each cell, and gets the longest runs of cells with one row,
-//! one by one or as the text of their lines piece by piece; or it hands in runs, and gives their rows to
-//! their cells. Rows have one list of runs, and the runs tell the rows. A `LineText` holds a line that is
-//! written from its end; a `FramedText` puts a front before such lines and the last line behind them. Stands
-//! on `text_pieces`, `game_core` and `itoa`.
+//! The layer above gives one optional row for each cell, and gets the longest runs of cells with one row, one by one or
+//! as the text of their lines. Or it gives runs, and their rows go to their cells. Rows have one list of runs, and the
+//! runs determine the rows. A `LineText` is a line that is written from its end. A `FramedText` puts a header before
+//! such lines and the last line after them.
 #![tactic(auto)]
 
 mod filling;

@@ -1,9 +1,8 @@
 //! The keep game of any graph, solved by 1 to 64 workers on a shared board.
 //!
-//! `keep` gives the keep solution with its tally, the board on which the game was resolved, and the board's root, whose
-//! accounts have exactly the cuts that the solution asks for. So the steps on the board are bound, for every number of
-//! workers and every interleaving. `keep_in` does the same without a refusal, in a scratch that was made before. It
-//! stands on `game_core`, `cell_counters`, `frontier_pool` and `board_crew`.
+//! `keep` gives the keep solution with its tally, the board of the solved game, and the board's root, whose accounts
+//! have exactly the cuts that the solution requires. So the contract fixes these steps on the board, for every number
+//! of workers and every interleaving. `keep_in` does the same in a `Scratch` made beforehand, and can't fail.
 #![tactic(auto)]
 
 mod outcome;

@@ -1,9 +1,8 @@
 //! Successor boxes.
 //!
-//! The layer above hands in a plant with a cell and an input, and gets where the plant can be one
-//! sample later: the step of the cell's centre, enlarged by how far the equations move within a cell.
-//! It gets this as a box of cells, or as the sides of many boxes along one axis at once. Stands on
-//! `plant_record`, `growth_bound` and the crates below.
+//! The layer above gives a plant with a cell and an input, and gets where the plant can be one sample later: the step
+//! of the cell's centre, enlarged by how far the equations move within a cell. It gets this as a box of cells, or as
+//! the extents of many boxes along one axis at once.
 #![tactic(auto)]
 
 mod area;

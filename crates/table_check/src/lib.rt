@@ -1,9 +1,8 @@
 //! Checkers of tables against games.
 //!
-//! The layer above hands in a graph and a table over its cells and inputs, and learns that the rows are the
-//! solution of the game, or which cell is the first whose row isn't right. `check_reach` looks at each cell's row
-//! and at those of its successors: it solves nothing and takes no memory. `check_keep` compares the rows with
-//! those of `keep_plain`. Stands on `game_core`, `controller_table` and `plant_record`.
+//! The layer above gives a graph and a table over its cells and inputs. It learns that the rows are the solution of the
+//! game, or which cell is the first whose row isn't right. `check_reach` looks at each cell's row and at those of its
+//! successors: it solves nothing and takes no memory. `check_keep` compares the rows with those of `keep_plain`.
 #![tactic(auto)]
 
 mod judge;

@@ -1,7 +1,7 @@
 //! Texts that come in pieces.
 //!
-//! The layer above says how some of the next bytes of its text are copied, and gets `next_piece`, which fills a
-//! buffer with them. A text is seen as the bytes that are still to come. Stands on nothing.
+//! The layer above says how some of the next bytes of its text are copied. It gets `next_piece`, which fills a buffer
+//! with them. To contracts a text is the bytes that are still to come.
 #![tactic(auto)]
 
 mod copying;
