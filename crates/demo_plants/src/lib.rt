@@ -1,9 +1,8 @@
 //! The demo plants.
 //!
-//! The layer above asks for a plant by its number, from 1 to 500, solves it, and gets the line that sums
-//! the solution up. Both are told exactly: the plant as a description, the line by the plant's solution.
-//! The laws say that nothing refuses a demo plant, and that it has one line. Stands on `plant_text`,
-//! `plant_game` and the crates below, and on `run_words` for the numbers.
+//! The layer above gives a number from 1 to 500, gets a plant, solves it, and gets the line with the sizes of the
+//! solution. The clauses fix both: the plant as a description, the line by the plant's solution. The laws say that
+//! nothing refuses a demo plant, and that it has one line.
 #![tactic(auto)]
 
 pub mod laws;

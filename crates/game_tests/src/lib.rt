@@ -1,4 +1,4 @@
-//! Tests of games, of what they lie in and of their solvers, each through public calls.
+//! Tests of games, of their memory and of their solvers, each through public calls.
 #![tactic(auto)]
 
 #[cfg(test)]

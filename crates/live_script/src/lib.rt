@@ -1,9 +1,8 @@
 //! Live scripts: texts that publish tables and ask questions of them.
 //!
-//! The layer above hands in a script's bytes and takes its commands one after the other, a table or the
-//! numbers of a state each; or it learns the first reason, from the front, for which the script is
-//! refused. What a script is to be answered is told in specs/. Stands on `plant_record`,
-//! `plant_reading` for numbers, `controller_table`, and `run_words` for the numbers of a state.
+//! The layer above gives a script's bytes and takes its commands one after the other, each a table or the numbers of a
+//! state. Or it gets the first reason, from the front, for which the script is refused. The answers that a script gets
+//! are defined in specs/.
 #![tactic(auto)]
 
 mod command;

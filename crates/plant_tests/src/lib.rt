@@ -1,6 +1,6 @@
-//! Tests of the crates that plants stand on, from the pieces of texts to successor boxes.
+//! Tests of the crates below successor boxes and of these, from the pieces of texts on.
 //!
-//! A module for each crate. What is expected is worked out by hand, as the comments show. What whole texts show stands in
+//! A module for each crate. What is expected is worked out by hand, as the comments show. What whole texts show is in
 //! tests/cases.
 #![tactic(auto)]
 

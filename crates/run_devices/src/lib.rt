@@ -1,8 +1,8 @@
 //! Devices, in memory and any other, and what goes through them.
 //!
-//! A `Source` gives bytes and a `Sink` takes them; both count the calls that failed. The layer above reads
-//! a source to its end or to a limit, and writes texts whole: where a call fails, that ends it, and the
-//! clauses say which bytes went through till then. Stands on `text_pieces`.
+//! A `Source` gives bytes and a `Sink` takes them; both count the calls that failed. The layer above reads a source to
+//! its end or to a limit, and writes texts whole. A failed call ends that, and the clauses say which bytes went through
+//! until then.
 #![tactic(auto)]
 
 mod devices;

@@ -1,4 +1,4 @@
-//! Tests of the top call, on devices that fail and by several workers, and of live tables.
+//! Tests of the top call, on devices that fail and with several workers, and of live tables.
 #![tactic(auto)]
 
 #[cfg(test)]

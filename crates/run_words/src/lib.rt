@@ -1,8 +1,7 @@
-//! The words of the command line, and of limits in reports.
+//! The arguments of the command line, and the names of limits in reports.
 //!
-//! The layer above hands in the words and gets the form that they are of, or learns that they are of none.
-//! A form of `sim` has the numbers of a state, `StateNumbers`, which are seen as their list. Stands on
-//! `plant_record` for what a number of a state is and for the limits, on `grid_quantiser` for points, and on `itoa`.
+//! The layer above gives the arguments and gets the form that they are of, or the answer that they are of none. A form
+//! of `sim` has the numbers of a state, `StateNumbers`; to contracts they are their list.
 #![tactic(auto)]
 
 mod form;

@@ -1,5 +1,7 @@
-//! The program: hands its words and its standard streams to `run`, or to `run_live` for the word `live`, and ends
-//! with the status.
+//! The program.
+//!
+//! It gives its arguments and its standard streams to `run`, or to `run_live` for the word `live`, and ends with the
+//! status.
 #![tactic(auto)]
 
 use live_run::run_live;

@@ -1,12 +1,9 @@
 //! The top call.
 //!
-//! `run` goes from the words and bytes that it is given to the bytes that it writes: its clauses say
-//! what each status means, that status 0 of `synth` means the plant's table, that of `check` that the
-//! bytes are such a table, that of `upgrade` the text of the table, that of `sim` a trace of it, that of
-//! `demo` the demo plant's line, and those of `stay` and `patrol` a text that settles the plant or
-//! patrols its targets.
-//! Stands on `text_pieces`, `plant_text`, `abstraction_table`, the solvers, `controller_table`, `temporal_games`,
-//! `table_check`, `loop_sim`, `plant_refine` and the crates below.
+//! `run` goes from the arguments and bytes that it is given to the bytes that it writes. Its clauses say what each
+//! status means. Status 0 of `synth` means the plant's table; of `check` that the bytes are such a table; of `upgrade`
+//! the text of the table; of `sim` a trace of it; of `demo` the demo plant's line; of `stay` and `patrol` a text that
+//! settles the plant or patrols its targets.
 #![tactic(auto)]
 
 mod checking;
