@@ -3,7 +3,7 @@ ghost use Rattle.plant_record.specs.Limits.{IsWithinLimits};
 ghost use Rattle.plant_text.specs.CanonicalFronts.{IsFront};
 ghost use Rattle.controller_table.specs.declared.fault.TableFault.TheVariants.{Memory};
 ghost use Rattle.controller_table.specs.Tables.{IsTableIn};
-ghost use Rattle.controller_table.specs.Refusals.{IsTableRefusedFor};
+ghost use Rattle.controller_table.specs.Refusals.{IsTableRefusedFor, line_count};
 ghost use Rattle.controller_table.specs.Found.{Finds};
 ghost use Rattle.controller_table.specs.inside.Reading.{IsVersionAt};
 ghost use Rattle.controller_table.specs.inside.ReadPlant.{IsPlantRefused};
@@ -36,12 +36,21 @@ pub fn read_table(alloc: Global, bytes: &[u8]) -> Result<Table, TableFault>
         return Err(TableFault::Malformed { line: 1 });
     };
     let Front { plant, length } = plant_in(alloc, rest)?;
-    let lines = line_count(&bytes[..VERSION_LENGTH + length]) as u32;
+    let lines = front_lines(&bytes[..VERSION_LENGTH + length]);
     match rows_behind(alloc, version, &plant, &rest[length..]) {
         Ok(answer) => Ok(Table::new(version, plant, answer)),
         Err(TableFault::Malformed { line }) => Err(TableFault::Malformed { line: lines + line }),
         Err(fault) => Err(fault),
     }
+}
+
+/// The number of lines in the bytes before the rows.
+fn front_lines(bytes: &[u8]) -> u32
+    requires { length bytes.now ≤ 67108864 }
+    ensures count { result ≡ line_count bytes.now }
+    ensures bound { result ≤ length bytes.now }
+{
+    line_count(bytes) as u32
 }
 
 /// The version of the first line, and what stands behind it.

@@ -17,7 +17,7 @@ pub overflow_add-result : goal.overflow_add-result
 overflow_add-result c =
     let refused = rw c.in-Err-Malformed.field-0-is at c.in-Err-Malformed.ensures.refused in
     let bound = line_bound c.in-Some.version c.in_ok-plant.field-0.plant (drop c.in_ok-plant.field-0.length c.in-Some.rest.now) c.in-Err-Malformed.line c.in_ok-plant.ensures.read.1 (rw take_rest at refused) in
-    let lines = c.line_count-lines.ensures.bound in
+    let lines = c.front_lines-lines.ensures.bound in
     omega (arith, bound, lines, length-take (8 + c.in_ok-plant.field-0.length) c.args.bytes.now, c.if-bytes-gt-TABLE_LIMIT.false)
 
 pub returns-in-Err-Malformed-clause-refused : goal.returns-in-Err-Malformed-clause-refused
@@ -25,4 +25,4 @@ returns-in-Err-Malformed-clause-refused c =
     let at = c.in_ok-plant.ensures.read in
     let refused = rw c.in-Err-Malformed.field-0-is at c.in-Err-Malformed.ensures.refused in
     rw c.in-Err-Malformed.field-0-is (λ _.
-    rows_refused c.in-Some.version c.args.bytes.now c.in-Some.rest.now _ c.in_ok-plant.field-0.plant c.in_ok-plant.field-0.length c.line_count-lines.result c.in-Err-Malformed.line c.if-bytes-gt-TABLE_LIMIT.false c.in-Some.ensures at.0 at.1 (take_rest c.in-Some.rest.now c.in_ok-plant.field-0.length) refused c.line_count-lines.ensures.count)
+    rows_refused c.in-Some.version c.args.bytes.now c.in-Some.rest.now _ c.in_ok-plant.field-0.plant c.in_ok-plant.field-0.length c.front_lines-lines.result c.in-Err-Malformed.line c.if-bytes-gt-TABLE_LIMIT.false c.in-Some.ensures at.0 at.1 (take_rest c.in-Some.rest.now c.in_ok-plant.field-0.length) refused c.front_lines-lines.ensures.count)
