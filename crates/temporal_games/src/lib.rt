@@ -5,6 +5,7 @@
 //! `patrol_table`.
 #![tactic(auto)]
 
+mod header;
 mod patrol_writer;
 mod stay_writer;
 mod turn_lines;

@@ -1,11 +1,11 @@
 ghost use Rattle.std.specs.Prelude.{◌≡◌, IfOk};
 ghost use Rattle.temporal_games.specs.PatrolText.{patrol_text};
 
+use crate::header::header_of;
 use crate::turn_lines::TurnLines;
 use game_core::NoMemory;
 use patrol_game::PatrolRows;
 use plant_record::Plant;
-use plant_writing::write_plant;
 use row_runs::FramedText;
 use std::alloc::Global;
 use std::marker::Model;
@@ -30,11 +30,10 @@ impl<'a> PatrolWriter<'a> {
     pub fn new(alloc: Global, p: &Plant, a: &'a PatrolRows) -> Result<PatrolWriter<'a>, NoMemory>
         ensures { IfOk result (λ w. w ≡ patrol_text p.now a.now) }
     {
-        let mut front = Vec::from_slice(alloc, b"patrol 1\n")?;
-        write_plant(alloc, p, &mut front).map_err(|_| NoMemory)?;
+        let header = header_of(alloc, b"patrol 1\n", p)?;
         let lines = TurnLines::new(a);
         Ok(PatrolWriter {
-            text: FramedText::new(front, lines),
+            text: FramedText::new(header, lines),
         })
     }
 }

@@ -1,9 +1,9 @@
 ghost use Rattle.std.specs.Prelude.{◌≡◌, IfOk};
 ghost use Rattle.temporal_games.specs.StayText.{stay_text};
 
+use crate::header::header_of;
 use game_core::{Answer, NoMemory};
 use plant_record::Plant;
-use plant_writing::write_plant;
 use row_runs::{FramedText, RowWords, RunLines};
 use std::alloc::Global;
 use std::marker::Model;
@@ -28,11 +28,10 @@ impl<'a> StayWriter<'a> {
     pub fn new(alloc: Global, p: &Plant, a: &'a Answer) -> Result<StayWriter<'a>, NoMemory>
         ensures { IfOk result (λ w. w ≡ stay_text p.now a.now) }
     {
-        let mut front = Vec::from_slice(alloc, b"stay 1\n")?;
-        write_plant(alloc, p, &mut front).map_err(|_| NoMemory)?;
+        let header = header_of(alloc, b"stay 1\n", p)?;
         let lines = RunLines::counted(RowWords::Both, a);
         Ok(StayWriter {
-            text: FramedText::new(front, lines),
+            text: FramedText::new(header, lines),
         })
     }
 }
