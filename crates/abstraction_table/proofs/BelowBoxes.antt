@@ -4,9 +4,9 @@ use Rattle.std.proofs.lemmas.List.Elements.{All-from_get_or, Contains-get_or}
 use Rattle.grid_quantiser.specs.Axes.{cells_of}
 use Rattle.grid_quantiser.specs.Boxes.{cells_between}
 use Rattle.grid_quantiser.specs.Laws.{BoxesHaveCells, CellsLieBetweenCorners, BoxesAreMovedShapes}
-use Rattle.grid_quantiser.proofs.BetweenCells.{between_from_contains, between_by_number, rising_between}
+use Rattle.grid_quantiser.proofs.BetweenCells.{between_from_contains, between_by_coordinate, rising_between}
 use Rattle.grid_quantiser.proofs.BoxCells.{between_limit, between_below, corners_below}
-use Rattle.grid_quantiser.proofs.BoxRuns.{box_ordered}
+use Rattle.grid_quantiser.proofs.BoxSegments.{box_ordered}
 use Rattle.grid_quantiser.proofs.BoxShapes.{shape_box, moved_shape}
 
 pub boxes_have_cells : BoxesHaveCells
@@ -20,7 +20,7 @@ pub cells_lie_between_corners : CellsLieBetweenCorners
 cells_lie_between_corners axes first last grid box k d lt =
     let cells = cells_between axes first last in
     let cell = get_or cells k d in
-    between_by_number axes first last cell grid.some_state (between_from_contains axes first last cell grid.each box (Contains-get_or cells k d lt))
+    between_by_coordinate axes first last cell grid.some_state (between_from_contains axes first last cell grid.each box (Contains-get_or cells k d lt))
 
 pub boxes_are_moved_shapes : BoxesAreMovedShapes
 boxes_are_moved_shapes axes first last grid box =

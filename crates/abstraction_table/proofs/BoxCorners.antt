@@ -9,7 +9,7 @@ use Rattle.grid_quantiser.specs.declared.axis.Axis.{Axis}
 use Rattle.grid_quantiser.specs.Axes.{AreAxes, cells_of}
 use Rattle.grid_quantiser.specs.Boxes.{IsCellBox, cells_between}
 use Rattle.grid_quantiser.proofs.BoxCells.{corners_below}
-use Rattle.grid_quantiser.proofs.BetweenCells.{IsBetween, between_from_contains, between_by_number, contains_from_between, rising_between}
+use Rattle.grid_quantiser.proofs.BetweenCells.{IsBetween, between_from_contains, between_by_coordinate, contains_from_between, rising_between}
 
 -- each corner lies between the two
 first_between : (axes : List Axis) (f l : ℕ) → IsCellBox axes f l → IsBetween axes f l f
@@ -34,7 +34,7 @@ module _ (axes : List Axis) (f l : ℕ) (grid : AreAxes axes) (box : IsCellBox a
 
   -- each cell of the box lies there by its number
   by_number : (i : ℕ) → i < length cells → (f ≤ get_or cells i 0) × (get_or cells i 0 ≤ l)
-  by_number i lt = between_by_number axes f l (get_or cells i 0) grid.some_state (between_from_contains axes f l (get_or cells i 0) grid.each box (Contains-get_or cells i 0 lt))
+  by_number i lt = between_by_coordinate axes f l (get_or cells i 0) grid.some_state (between_from_contains axes f l (get_or cells i 0) grid.each box (Contains-get_or cells i 0 lt))
 
   rising : IsStrictlyIncreasing cells
   rising = rising_between axes f l grid.each box

@@ -1,4 +1,4 @@
--- Boxes as sums of parts.
+-- Boxes as sums of terms.
 use Rattle.std.proofs.Common.{◌≡◌, ℕ, ◌+◌, ◌*◌, ◌/◌, ◌^◌, ◌<◌, ◌≤◌, List, [], Option, None, Some, drop, length, get_or, refl, sym, ap, ap₂, subst, ◌∙◌, arith}
 use Rattle.std.specs.Prelude.{ℤ, ◌≤ℤ◌, IfSome}
 use Rattle.std.proofs.Math.Nat.{mul_assoc, mul_comm, add-mul}
@@ -7,19 +7,19 @@ use Rattle.std.proofs.lemmas.List.Elements.{All-get_or}
 use Rattle.std.proofs.lemmas.Nat.{div-mul-add, mul-le}
 use Rattle.grid_quantiser.specs.declared.axis.Axis.{Axis}
 use Rattle.grid_quantiser.specs.declared.boxes.CellBox.{CellBox}
-use Rattle.grid_quantiser.specs.declared.sides.Side.{Side}
+use Rattle.grid_quantiser.specs.declared.extents.Extent.{Extent}
 use Rattle.grid_quantiser.specs.Axes.{IsAxis, no_axis, cells_of}
-use Rattle.grid_quantiser.specs.SideBoxes.{one_cell, with_side}
-use Rattle.grid_quantiser.specs.Sides.{IsSideOf}
+use Rattle.grid_quantiser.specs.ExtentBoxes.{one_cell, with_extent}
+use Rattle.grid_quantiser.specs.Extents.{IsExtentOf}
 use Rattle.grid_quantiser.proofs.Suffixes.{cells_of-drop}
 use Rattle.plant_record.specs.Description.{Description, axis_of, axes_of}
 use Rattle.plant_record.specs.Soundness.{IsSound}
 use Rattle.successor_box.specs.Boxes.{IsBoxOf, low_corner, high_corner}
-use Rattle.successor_box.proofs.Below.{boxes_grow_by_sides}
-use Rattle.successor_box.proofs.PairSides.{box_more, box_on_all}
-use Rattle.abstraction_table.specs.inside.Sums.{part, plus, enlarged}
-use Rattle.abstraction_table.specs.inside.Parts.{stride_of, IsPartAt, IsSumAlong}
-use Rattle.abstraction_table.proofs.ProlongedSides.{side_ordered}
+use Rattle.successor_box.proofs.Below.{boxes_grow_by_extents}
+use Rattle.successor_box.proofs.PairExtents.{box_more, box_on_all}
+use Rattle.abstraction_table.specs.inside.Sums.{term, plus, enlarged}
+use Rattle.abstraction_table.specs.inside.Terms.{stride_of, IsTermAt, IsSumAlong}
+use Rattle.abstraction_table.proofs.RelativeExtents.{extent_ordered}
 
 abbrev box : ℕ → ℕ → Option CellBox
 box first last = Some (record { first = first; last = last })
@@ -41,9 +41,9 @@ plus_rest (Some a) None (Some c) = refl
 plus_rest (Some a) (Some b) (Some c) =
     ap₂ box (let e : a.first + (c.first + b.first) ≡ a.first + c.first + b.first = omega arith in e) (let e : a.last + (c.last + b.last) ≡ a.last + c.last + b.last = omega arith in e)
 
--- a side makes a larger box by its part
-enlarged_more : (a : Axis) (n m : ℕ) (b : Option CellBox) (side : Option Side) → n ≡ a.count * m → plus (enlarged n b) (part m side) ≡ enlarged m (with_side a b side)
-enlarged_more a n m None side is = refl
+-- an extent makes a larger box by its term
+enlarged_more : (a : Axis) (n m : ℕ) (b : Option CellBox) (extent : Option Extent) → n ≡ a.count * m → plus (enlarged n b) (term m extent) ≡ enlarged m (with_extent a b extent)
+enlarged_more a n m None extent is = refl
 enlarged_more a n m (Some b) None is = refl
 enlarged_more a n m (Some b) (Some s) is = ap₂ box (end b.first s.first) (end b.last s.last)
   where
@@ -73,9 +73,9 @@ pub ends_fit : (i : ℕ) (b : Option CellBox) → i ≤ 7 → EndsBy (i * 2 ^ 20
 ends_fit i None few by = tt
 ends_fit i (Some b) few by = omega (arith, few, by)
 
-part_ends : (m count cells : ℕ) (side : Option Side) → count * m ≤ cells → IfSome side (λ (s : Side). (s.first < count) × (s.last < count)) → EndsBy cells (part m side)
-part_ends m count cells None le below = tt
-part_ends m count cells (Some s) le below = omega (arith, le, mul-le s.last m count m (omega (arith, below.1)) (omega arith))
+term_ends : (m count cells : ℕ) (extent : Option Extent) → count * m ≤ cells → IfSome extent (λ (s : Extent). (s.first < count) × (s.last < count)) → EndsBy cells (term m extent)
+term_ends m count cells None le below = tt
+term_ends m count cells (Some s) le below = omega (arith, le, mul-le s.last m count m (omega (arith, below.1)) (omega arith))
 
 -- ---- the sums of a plant
 
@@ -99,55 +99,55 @@ module _ (p : Description) (sound : IsSound p) (i : ℕ) (lt : i < length p.equa
       let whole : n ≡ stride_of p i * count + 0 = omega (arith, is, stride_step, mul_comm axis.count (stride_of p i), ap (λ (k : ℕ). stride_of p i * k) count_is) in
       ap (λ (k : ℕ). k / count) whole ∙ div-mul-add (stride_of p i) count 0 some
 
-  -- the part of a side fits
-  pub side_part_fits : (stride : ℕ) (side : Option Side) (low high : ℤ) → cells_of (axes_of p) ≤ 2 ^ 20 → stride ≡ stride_of p i → low ≤ℤ high → IsSideOf axis low high side →
-      IfSome side (λ (s : Side). (s.first ≤ s.last) × (s.last * stride < 2 ^ 28))
-  side_part_fits stride side low high limit is order of = by side (side_ordered axis low high side (All-get_or IsAxis (axes_of p) i no_axis axis_within sound.axes.each) order of) of.on_axis
+  -- the term of an extent fits
+  pub extent_term_fits : (stride : ℕ) (extent : Option Extent) (low high : ℤ) → cells_of (axes_of p) ≤ 2 ^ 20 → stride ≡ stride_of p i → low ≤ℤ high → IsExtentOf axis low high extent →
+      IfSome extent (λ (s : Extent). (s.first ≤ s.last) × (s.last * stride < 2 ^ 28))
+  extent_term_fits stride extent low high limit is order of = by extent (extent_ordered axis low high extent (All-get_or IsAxis (axes_of p) i no_axis axis_within sound.axes.each) order of) of.on_axis
     where
-      by : (side : Option Side) → IfSome side (λ (s : Side). s.first ≤ s.last) → IfSome side (λ (s : Side). (s.first < axis.count) × (s.last < axis.count)) → IfSome side (λ (s : Side). (s.first ≤ s.last) × (s.last * stride < 2 ^ 28))
+      by : (extent : Option Extent) → IfSome extent (λ (s : Extent). s.first ≤ s.last) → IfSome extent (λ (s : Extent). (s.first < axis.count) × (s.last < axis.count)) → IfSome extent (λ (s : Extent). (s.first ≤ s.last) × (s.last * stride < 2 ^ 28))
       by None ordered below = tt
       by (Some s) ordered below =
           (ordered, omega (arith, limit, stride_few, mul-le s.last (stride_of p i) axis.count (stride_of p i) (omega (arith, below.1)) (omega arith), ap (λ (k : ℕ). s.last * k) is))
 
-  module _ (limit : cells_of (axes_of p) ≤ 2 ^ 20) (c u : ℕ) (x : Option CellBox) (is : IsPartAt p c u i x) where
-    pub part_few : EndsBy (2 ^ 20) x
-    part_few = ends_later (cells_of (axes_of p)) (2 ^ 20) x limit (subst (EndsBy (cells_of (axes_of p))) (sym is.2) (part_ends (stride_of p i) axis.count (cells_of (axes_of p)) is.0 stride_few is.1.on_axis))
+  module _ (limit : cells_of (axes_of p) ≤ 2 ^ 20) (c u : ℕ) (x : Option CellBox) (is : IsTermAt p c u i x) where
+    pub term_few : EndsBy (2 ^ 20) x
+    term_few = ends_later (cells_of (axes_of p)) (2 ^ 20) x limit (subst (EndsBy (cells_of (axes_of p))) (sym is.2) (term_ends (stride_of p i) axis.count (cells_of (axes_of p)) is.0 stride_few is.1.on_axis))
 
     module _ (base rest : Option CellBox) (so_far : IsSumAlong p i c u base rest) where
-      more : plus (plus base rest) x ≡ enlarged (stride_of p i) (with_side axis so_far.found is.0)
+      more : plus (plus base rest) x ≡ enlarged (stride_of p i) (with_extent axis so_far.found is.0)
       more = ap₂ plus so_far.sum is.2 ∙ enlarged_more axis (cells_of (drop i (axes_of p))) (stride_of p i) so_far.found is.0 stride_step
 
       later : (b : Option CellBox) → EndsBy (i * 2 ^ 20) b → EndsBy ((i + 1) * 2 ^ 20) b
       later b by = ends_later (i * 2 ^ 20) ((i + 1) * 2 ^ 20) b (omega arith) by
 
-      with_part : (b : Option CellBox) → EndsBy (i * 2 ^ 20) b → EndsBy ((i + 1) * 2 ^ 20) (plus b x)
-      with_part b by = ends_later (i * 2 ^ 20 + 2 ^ 20) ((i + 1) * 2 ^ 20) (plus b x) (omega arith) (plus_ends (i * 2 ^ 20) (2 ^ 20) b x by part_few)
+      with_term : (b : Option CellBox) → EndsBy (i * 2 ^ 20) b → EndsBy ((i + 1) * 2 ^ 20) (plus b x)
+      with_term b by = ends_later (i * 2 ^ 20 + 2 ^ 20) ((i + 1) * 2 ^ 20) (plus b x) (omega arith) (plus_ends (i * 2 ^ 20) (2 ^ 20) b x by term_few)
 
-      -- the part is added to the one
+      -- the term is added to the one
       pub base_more : IsSumAlong p (i + 1) c u (plus base x) rest
       base_more = record {
-        found = with_side axis so_far.found is.0;
+        found = with_extent axis so_far.found is.0;
         along = box_more p i c u so_far.found is.0 sound lt so_far.along is.1;
         sum = plus_base base x rest ∙ more;
-        base_few = with_part base so_far.base_few;
+        base_few = with_term base so_far.base_few;
         rest_few = later rest so_far.rest_few;
       }
 
       -- or to the other
       pub rest_more : IsSumAlong p (i + 1) c u base (plus rest x)
       rest_more = record {
-        found = with_side axis so_far.found is.0;
+        found = with_extent axis so_far.found is.0;
         along = box_more p i c u so_far.found is.0 sound lt so_far.along is.1;
         sum = plus_rest base x rest ∙ more;
         base_few = later base so_far.base_few;
-        rest_few = with_part rest so_far.rest_few;
+        rest_few = with_term rest so_far.rest_few;
       }
 
 -- the sum on no axis
 pub sum_start : (p : Description) (c u : ℕ) → IsSumAlong p 0 c u one_cell one_cell
 sum_start p c u = record {
   found = one_cell;
-  along = boxes_grow_by_sides.start (low_corner p c u) (high_corner p c u);
+  along = boxes_grow_by_extents.start (low_corner p c u) (high_corner p c u);
   sum = ap₂ box (let e : 0 + 0 ≡ 0 * cells_of (axes_of p) = omega arith in e) (let e : 0 + 0 ≡ 0 * cells_of (axes_of p) = omega arith in e);
   base_few = let e : 0 ≤ 0 * 2 ^ 20 = omega arith in e;
   rest_few = let e : 0 ≤ 0 * 2 ^ 20 = omega arith in e;

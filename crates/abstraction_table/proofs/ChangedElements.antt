@@ -2,7 +2,7 @@
 use Rattle.std.proofs.Common.{◌≡◌, ◌≢◌, ℕ, ◌+◌, ◌<◌, ◌≤◌, List, length, set, get_or, get_or-set_other, get_or-set_same, below_more, refl, sym, ap, ◌∙◌, arith}
 use Rattle.std.proofs.lemmas.List.{length-set, get_or_default}
 
--- The first so many elements are changed, each by its place, and the others are as they were.
+-- The first so many elements are changed, each by its slot, and the others are as they were.
 pub record AreChangedBelow {X : Type 0} (change : ℕ → X → X) (d : X) (i : ℕ) (before now : List X) : Type 0 where
   pub long : length now ≡ length before
   pub changed : (u : ℕ) → u < i → get_or now u d ≡ change u (get_or before u d)

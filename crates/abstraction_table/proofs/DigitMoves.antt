@@ -21,7 +21,7 @@ lower_digit q g c t s some_c some_t =
     ∙ ap (λ (k : ℕ). k / t) (mul-add-mod_self_right (q * g) (c * t) s)
     ∙ sym (digit s c t some_c some_t)
 
--- what a multiple with a rest is, by a greater multiple
+-- what a multiple with a depend is, by a greater multiple
 by_multiple : (h w g r : ℕ) → r < w → (h * w + r) / (g * w) ≡ h / g
 by_multiple h w g r below =
     ap (λ (n : ℕ). (h * w + r) / n) (mul_comm g w)
@@ -111,7 +111,7 @@ module _ (from to : Digit → ℕ) where
       )
 
   -- one digit more, below the others
-  module _ (digits : List Digit) (bound : ℕ) (d : Digit) (some : 0 < d.count) (some_place : 0 < to d) (whole : IsMultiple (d.count * to d) bound) (above : All (λ (e : Digit). IsMultiple (d.count * to d) (to e)) digits) (moves : Moves from to digits bound) where
+  module _ (digits : List Digit) (bound : ℕ) (d : Digit) (some : 0 < d.count) (some_slot : 0 < to d) (whole : IsMultiple (d.count * to d) bound) (above : All (λ (e : Digit). IsMultiple (d.count * to d) (to e)) digits) (moves : Moves from to digits bound) where
     abbrev weight : ℕ
     weight = d.count * to d
 
@@ -119,7 +119,7 @@ module _ (from to : Digit → ℕ) where
     own n = n / from d % d.count
 
     pub own_below : (n : ℕ) → own n * to d < weight
-    own_below n = omega (arith, mul-add-lt (own n) (to d) 0 d.count (mod_below (n / from d) d.count some) some_place, mul_comm (to d) d.count)
+    own_below n = omega (arith, mul-add-lt (own n) (to d) 0 d.count (mod_below (n / from d) d.count some) some_slot, mul_comm (to d) d.count)
 
     pub multiple : (n : ℕ) → IsMultiple weight (moved from to digits n)
     multiple n = multiple_sum weight digits above n
@@ -155,9 +155,9 @@ module _ (from to : Digit → ℕ) where
         let once : h * weight ≡ h * (1 * weight) = omega arith in
         let alone : own n * to d ≡ own n * to d + 0 = omega arith in
         ap (λ (m : ℕ). m / to d % d.count) (with_own n ∙ ap (λ (m : ℕ). m + own n * to d) once)
-        ∙ lower_digit h 1 d.count (to d) (own n * to d) some some_place
+        ∙ lower_digit h 1 d.count (to d) (own n * to d) some some_slot
         ∙ ap (λ (m : ℕ). m / to d % d.count) alone
-        ∙ ap (λ (m : ℕ). m % d.count) (div-mul-add (own n) (to d) 0 some_place)
+        ∙ ap (λ (m : ℕ). m % d.count) (div-mul-add (own n) (to d) 0 some_slot)
         ∙ mod-eq_of_lt (mod_below (n / from d) d.count some)
 
     pub moves_below : Moves from to (digits ++ d ∷ []) bound

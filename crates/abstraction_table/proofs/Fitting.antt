@@ -3,7 +3,7 @@ use Rattle.std.proofs.Common.{◌≡◌, ◌≢◌, ℕ, ◌+◌, ◌-◌, ◌*�
 use Rattle.std.proofs.lemmas.List.{length-take-le, length-drop}
 use Rattle.std.proofs.lemmas.Nat.{mul-le, mod_below}
 use Rattle.grid_quantiser.specs.declared.boxes.CellBox.{CellBox}
-use Rattle.abstraction_table.proofs.RowBoxes.{later_cell, cell_count}
+use Rattle.abstraction_table.proofs.LineBoxes.{later_cell, cell_count}
 
 pub least : (n : ℕ) → 0 ≤ n
 least n = omega arith
@@ -31,9 +31,9 @@ module _ (states n : ℕ) (is : n ≡ states) (some : 1 ≤ states) (few : state
   pub last_in : (axes : ℕ) → axes ≡ states → n - 1 < axes
   last_in axes long = omega (arith, is, long, some)
 
--- a part that is as long as one cell has inputs
-pub part_long : (from v : ℕ) (boxes : List (Option CellBox)) → from + v ≤ length boxes → length (take (from + v - from) (drop from boxes)) ≡ v
-part_long from v boxes within =
+-- a term that is as long as one cell has inputs
+pub term_long : (from v : ℕ) (boxes : List (Option CellBox)) → from + v ≤ length boxes → length (take (from + v - from) (drop from boxes)) ≡ v
+term_long from v boxes within =
     let whole : from + v - from ≡ v = omega arith in length-take-le (from + v - from) (drop from boxes) (omega (arith, whole, length-drop from boxes, within)) ∙ whole
 
 -- boxes, as many as there are inputs for each of so many cells from one on
@@ -64,8 +64,8 @@ module _ (boxes n v w c cells : ℕ) (long : boxes ≡ n * w) (same : v ≡ w) (
     pub cell_fits : cells ≤ 2 ^ 20 → Fits w32 (cell - 1)
     cell_fits limit = omega (arith, limit, cell_below, within)
 
-    pub place_fits : (first : ℕ) → first ≤ c → cells ≤ 2 ^ 20 → Fits w32 (first + (cell - 1))
-    place_fits first early limit = omega (arith, limit, cell_below, within, early)
+    pub slot_fits : (first : ℕ) → first ≤ c → cells ≤ 2 ^ 20 → Fits w32 (first + (cell - 1))
+    slot_fits first early limit = omega (arith, limit, cell_below, within, early)
 
     pub start_fits : Fits w64 ((cell - 1) * v)
     start_fits = omega (arith, boxes_few, cell_in)
@@ -108,14 +108,14 @@ from_before done end v lt = omega (arith, later_cell done end v lt)
 pub fewer_left : (cells done end n : ℕ) → cells ≡ n → done < end → end ≤ n → cells - end < cells - done
 fewer_left cells done end n count lt le = omega (arith, count, lt, le)
 
-pub rest_within : (place done row : ℕ) → 0 < row → place % row ≤ done + row
-rest_within place done row some = omega (arith, mod_below place row some)
+pub rest_within : (slot done row : ℕ) → 0 < row → slot % row ≤ done + row
+rest_within slot done row some = omega (arith, mod_below slot row some)
 
 pub before_end : (k v boxes : ℕ) → k < v → v ≤ boxes → k < boxes
 before_end k v boxes lt le = omega (arith, lt, le)
 
-pub place_offset_fits : (n : ℕ) → n < 9 → Fits w64 (n * 4)
-place_offset_fits n few = omega (arith, few)
+pub slot_offset_fits : (n : ℕ) → n < 9 → Fits w64 (n * 4)
+slot_offset_fits n few = omega (arith, few)
 
 pub below_apart : (k n : ℕ) → k < n → k ≢ n
 below_apart k n lt = omega (arith, lt)
@@ -135,8 +135,8 @@ module _ (states inputs n m : ℕ) (states_are : n ≡ states) (inputs_are : m �
     pub variable_fits : Fits w64 variable
     variable_fits = omega (arith, variable_below)
 
-    pub row_offset_fits : Fits w64 (variable * 128)
-    row_offset_fits = omega (arith, variable_below)
+    pub line_offset_fits : Fits w64 (variable * 128)
+    line_offset_fits = omega (arith, variable_below)
 
   pub variable_done : (k variable : ℕ) → k < states + inputs → n + m ≤ variable → k < variable
   variable_done k variable within done = omega (arith, states_are, inputs_are, within, done)

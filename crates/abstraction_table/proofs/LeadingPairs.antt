@@ -129,7 +129,7 @@ pub count_rises : (axes : List Axis) (boxes : List (Option CellBox)) (c k n : �
 count_rises axes boxes c k n le =
     let p = leads_to axes boxes c in
     let whole : k + (n - k) ≡ n = omega (arith, le) in
-    let parts : filter p (range_with_len 0 n) ≡ filter p (range_with_len 0 k) ++ filter p (range_with_len (0 + k) (n - k)) =
+    let terms : filter p (range_with_len 0 n) ≡ filter p (range_with_len 0 k) ++ filter p (range_with_len (0 + k) (n - k)) =
     ap (λ (m : ℕ). filter p (range_with_len 0 m)) (sym whole) ∙ ap (filter p) (sym (run-append 0 k (n - k))) ∙ filter-append p (range_with_len 0 k) (range_with_len (0 + k) (n - k))
     in
-    omega (arith, ap length parts, length-append (filter p (range_with_len 0 k)) (filter p (range_with_len (0 + k) (n - k))))
+    omega (arith, ap length terms, length-append (filter p (range_with_len 0 k)) (filter p (range_with_len (0 + k) (n - k))))

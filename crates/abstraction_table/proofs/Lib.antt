@@ -3,29 +3,29 @@ pub mod Mapped
 pub mod PairBoxes
 pub mod CountedFans
 pub mod Tallying
-pub mod BandPlaces
+pub mod BandIndices
 pub mod SourceBands
 pub mod LeadingPairs
 pub mod SourceSteps
-pub mod ShapeRuns
+pub mod Segments
 pub mod ListedShapes
 pub mod PlantGame
 pub mod DigitMoves
 pub mod NextDigits
 pub mod PairDigits
 pub mod EquationDigits
-pub mod SideTables
-pub mod PartTables
-mod RowCells
-mod WrittenParts
-mod RowBoxes
-mod CellRows
+pub mod ExtentTables
+pub mod TermTables
+mod LineCells
+mod WrittenTerms
+mod LineBoxes
+mod CellLineLists
 mod Fitting
 mod AddedTerms
 mod ChangedElements
 mod BoxSums
-mod ListedParts
+mod ListedTerms
 mod ListedRows
-pub mod ProlongedSides
+pub mod RelativeExtents
 pub mod BoxCorners
 pub mod PassingBoxes

@@ -1,4 +1,4 @@
--- Parts that are listed, added to the boxes of a cell.
+-- Terms that are listed, added to the boxes of a cell.
 use Rattle.std.proofs.Common.{◌≡◌, ℕ, ◌+◌, ◌-◌, ◌^◌, ◌<◌, ◌≤◌, List, All, Option, None, take, drop, length, get_or, refl, sym, ap, subst, ◌∙◌, arith}
 use Rattle.std.specs.Prelude.{IfSome, if◌then◌else◌}
 use Rattle.std.specs.Global.{Vec}
@@ -7,70 +7,70 @@ use Rattle.grid_quantiser.specs.declared.boxes.CellBox.{CellBox}
 use Rattle.plant_record.specs.Description.{Description, vectors_of}
 use Rattle.plant_record.specs.Limits.{IsWithinLimits}
 use Rattle.plant_record.proofs.lemmas.SoundPlants.{sound as sound_plant}
-use Rattle.abstraction_table.specs.declared.parts.Parts.{Parts}
-use Rattle.abstraction_table.specs.declared.parts.Parts.TheVariants.{Listed}
-use Rattle.abstraction_table.specs.declared.parts.PartTable.{PartTable}
+use Rattle.abstraction_table.specs.declared.terms.Terms.{Terms}
+use Rattle.abstraction_table.specs.declared.terms.Terms.TheVariants.{Listed}
+use Rattle.abstraction_table.specs.declared.terms.TermTable.{TermTable}
 use Rattle.abstraction_table.specs.inside.Sums.{plus}
-use Rattle.abstraction_table.specs.inside.Parts.{first_in, count_of, HasPartAt, IsPartAt, Brings, BringAs, IsSumAlong, AreSumsAlong, HoldsPartsAlong}
-use Rattle.abstraction_table.proofs.BoxSums.{ends_fit, part_few, rest_more}
+use Rattle.abstraction_table.specs.inside.Terms.{first_in, count_of, HasTermAt, IsTermAt, Brings, BringAs, IsSumAlong, AreSumsAlong, HoldsTermsAlong}
+use Rattle.abstraction_table.proofs.BoxSums.{ends_fit, term_few, rest_more}
 use Rattle.abstraction_table.proofs.PairDigits.{some_vectors}
-use Rattle.abstraction_table.proofs.PartTables.{brought_by, has_part, place_within}
+use Rattle.abstraction_table.proofs.TermTables.{brought_by, has_term, slot_within}
 
 -- the last cell of a box is below this
 abbrev Fits28 : Option CellBox → Type 0
 Fits28 b = IfSome b (λ (b : CellBox). b.last < 2 ^ 28)
 
--- The parts of a state are listed, and a cell of these places finds its own from a place on.
-pub record FindsParts (p : Description) (i : ℕ) (t : PartTable) (places : List ℕ) (first : ℕ) (parts : List (Option CellBox)) : Type 0 where
+-- The terms of a state are listed, and a cell of these indices finds its own from a slot on.
+pub record FindsTerms (p : Description) (i : ℕ) (t : TermTable) (indices : List ℕ) (first : ℕ) (terms : List (Option CellBox)) : Type 0 where
   pub limits : IsWithinLimits p
   pub state : i < length p.equations
-  pub held : HoldsPartsAlong p i t
-  pub first_is : first ≡ first_in t places
+  pub held : HoldsTermsAlong p i t
+  pub first_is : first ≡ first_in t indices
   pub listed : Vec (Option CellBox)
-  pub is : t.parts ≡ Listed listed
-  pub parts_are : parts ≡ listed.items
+  pub is : t.terms ≡ Listed listed
+  pub terms_are : terms ≡ listed.items
 
-module _ {p : Description} {i : ℕ} {t : PartTable} {places : List ℕ} {first : ℕ} {parts : List (Option CellBox)} (f : FindsParts p i t places first parts) where
-  count_is : count_of t.parts ≡ length parts
-  count_is = ap count_of f.is ∙ sym (ap length f.parts_are)
+module _ {p : Description} {i : ℕ} {t : TermTable} {indices : List ℕ} {first : ℕ} {terms : List (Option CellBox)} (f : FindsTerms p i t indices first terms) where
+  count_is : count_of t.terms ≡ length terms
+  count_is = ap count_of f.is ∙ sym (ap length f.terms_are)
 
-  part_is : (c u n : ℕ) → HasPartAt p c u i t.parts n → IsPartAt p c u i (get_or parts n None)
-  part_is c u n has = subst (λ (xs : List (Option CellBox)). IsPartAt p c u i (get_or xs n None)) (sym f.parts_are) (subst (λ (all : Parts). HasPartAt p c u i all n) f.is has)
+  term_is : (c u n : ℕ) → HasTermAt p c u i t.terms n → IsTermAt p c u i (get_or terms n None)
+  term_is c u n has = subst (λ (xs : List (Option CellBox)). IsTermAt p c u i (get_or xs n None)) (sym f.terms_are) (subst (λ (all : Terms). HasTermAt p c u i all n) f.is has)
 
-  -- the parts that the cell and an input find
+  -- the terms that the cell and an input find
   abbrev pub found : List (Option CellBox)
-  found = take (length parts - first) (drop first parts)
+  found = take (length terms - first) (drop first terms)
 
   abbrev own : ℕ
-  own = if t.moves then get_or places i 0 else 0
+  own = if t.moves then get_or indices i 0 else 0
 
-  module _ (c : ℕ) (brought : BringAs p i t places c) where
+  module _ (c : ℕ) (brought : BringAs p i t indices c) where
     by : Brings p i t first own c
-    by = brought_by p i t places first own c f.first_is refl brought
+    by = brought_by p i t indices first own c f.first_is refl brought
 
-    within : (u : ℕ) → u < vectors_of p.inputs → first + get_or t.inputs.items u 0 < length parts
-    within u input = omega (arith, count_is, place_within p (sound_plant p f.limits.plant) i f.state t f.held first own u (first + get_or t.inputs.items u 0) refl c by input)
+    within : (u : ℕ) → u < vectors_of p.inputs → first + get_or t.inputs.items u 0 < length terms
+    within u input = omega (arith, count_is, slot_within p (sound_plant p f.limits.plant) i f.state t f.held first own u (first + get_or t.inputs.items u 0) refl c by input)
 
-    pub first_within : first ≤ length parts
+    pub first_within : first ≤ length terms
     first_within = omega (arith, within 0 (some_vectors p f.limits.plant))
 
-    found_long : length found ≡ length parts - first
-    found_long = let le : length parts - first ≤ length (drop first parts) = omega (arith, length-drop first parts) in length-take-le (length parts - first) (drop first parts) le
+    found_long : length found ≡ length terms - first
+    found_long = let le : length terms - first ≤ length (drop first terms) = omega (arith, length-drop first terms) in length-take-le (length terms - first) (drop first terms) le
 
     pub inputs_within : All (λ (n : ℕ). n < length found) t.inputs.items
     inputs_within k d short = omega (arith, get_or_default t.inputs.items k d 0 short, within k (omega (arith, short, f.held.inputs)), found_long)
 
-    part_found : (u : ℕ) → u < vectors_of p.inputs → IsPartAt p c u i (get_or found (get_or t.inputs.items u 0) None)
-    part_found u input =
+    term_found : (u : ℕ) → u < vectors_of p.inputs → IsTermAt p c u i (get_or found (get_or t.inputs.items u 0) None)
+    term_found u input =
         let n : ℕ = get_or t.inputs.items u 0 in
-        let read : get_or found n None ≡ get_or parts (first + n) None = get_or-take (length parts - first) (drop first parts) n None (omega (arith, within u input)) ∙ get_or-drop first parts n None in
-        subst (IsPartAt p c u i) (sym read) (part_is c u (first + n) (has_part p (sound_plant p f.limits.plant) i f.state t f.held first own u (first + n) refl c u by input refl))
+        let read : get_or found n None ≡ get_or terms (first + n) None = get_or-take (length terms - first) (drop first terms) n None (omega (arith, within u input)) ∙ get_or-drop first terms n None in
+        subst (IsTermAt p c u i) (sym read) (term_is c u (first + n) (has_term p (sound_plant p f.limits.plant) i f.state t f.held first own u (first + n) refl c u by input refl))
 
-    pub parts_fit : All (λ (n : ℕ). Fits28 (get_or found n None)) t.inputs.items
-    parts_fit k d short =
+    pub terms_fit : All (λ (n : ℕ). Fits28 (get_or found n None)) t.inputs.items
+    terms_fit k d short =
         let input : k < vectors_of p.inputs = omega (arith, short, f.held.inputs) in
         subst (λ (n : ℕ). Fits28 (get_or found n None)) (get_or_default t.inputs.items k 0 d short)
-        (ends_fit 1 (get_or found (get_or t.inputs.items k 0) None) (omega arith) (part_few p (sound_plant p f.limits.plant) i f.state f.limits.cells c k (get_or found (get_or t.inputs.items k 0) None) (part_found k input)))
+        (ends_fit 1 (get_or found (get_or t.inputs.items k 0) None) (omega arith) (term_few p (sound_plant p f.limits.plant) i f.state f.limits.cells c k (get_or found (get_or t.inputs.items k 0) None) (term_found k input)))
 
     module _ (base : Option CellBox) (boxes : List (Option CellBox)) (long : length boxes ≡ vectors_of p.inputs) (before : AreSumsAlong p i c base boxes) where
       pub boxes_fit : All Fits28 boxes
@@ -81,4 +81,4 @@ module _ {p : Description} {i : ℕ} {t : PartTable} {places : List ℕ} {first 
       pub listed_added : (after : List (Option CellBox)) → ((u : ℕ) → u < length boxes → get_or after u None ≡ plus (get_or boxes u None) (get_or found (get_or t.inputs.items u 0) None)) → AreSumsAlong p (i + 1) c base after
       listed_added after each u input =
           subst (IsSumAlong p (i + 1) c u base) (sym (each u (omega (arith, input, long))))
-          (rest_more p (sound_plant p f.limits.plant) i f.state f.limits.cells c u (get_or found (get_or t.inputs.items u 0) None) (part_found u input) base (get_or boxes u None) (before u input))
+          (rest_more p (sound_plant p f.limits.plant) i f.state f.limits.cells c u (get_or found (get_or t.inputs.items u 0) None) (term_found u input) base (get_or boxes u None) (before u input))

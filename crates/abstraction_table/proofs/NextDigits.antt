@@ -4,7 +4,7 @@ use Rattle.std.proofs.Math.Nat.{add-mul}
 use Rattle.std.proofs.lemmas.Nat.{div-add-mod', div-mul-add, mod-mul-add}
 use Rattle.abstraction_table.specs.inside.Digits.{IsDigitAt}
 
--- what the next number is by t, where the last place isn't reached, and where it is
+-- what the next number is by t, where the last slot isn't reached, and where it is
 record HasNext (n t quotient rest : ℕ) : Type 0 where
   pub quotient_is : (n + 1) / t ≡ quotient
   pub rest_is : (n + 1) % t ≡ rest
@@ -28,18 +28,18 @@ module _ (t m n digit left : ℕ) (is : IsDigitAt t m n digit left) where
       record { digit_is = is.digit_is ∙ ap (λ (q : ℕ). q % m) (sym next.quotient_is); left_is = omega (arith, more, is.left_is, next.rest_is) }
 
   module _ (some : 0 < left) (last : left ≤ 1) where
-    next_place : HasNext n t (n / t + 1) 0
-    next_place = over n t (omega (arith, some, is.left_is)) (omega (arith, some, last, is.left_is))
+    next_slot : HasNext n t (n / t + 1) 0
+    next_slot = over n t (omega (arith, some, is.left_is)) (omega (arith, some, last, is.left_is))
 
     pub digit_rises : digit + 1 < m → IsDigitAt t m (n + 1) (digit + 1) t
     digit_rises below =
         let next = within (n / t) m (omega (arith, below, is.digit_is)) in
-        record { digit_is = omega (arith, is.digit_is, next.rest_is, ap (λ (q : ℕ). q % m) next_place.quotient_is); left_is = omega (arith, next_place.rest_is) }
+        record { digit_is = omega (arith, is.digit_is, next.rest_is, ap (λ (q : ℕ). q % m) next_slot.quotient_is); left_is = omega (arith, next_slot.rest_is) }
 
     pub digit_starts : 0 < m → digit < m → m ≤ digit + 1 → IsDigitAt t m (n + 1) 0 t
     digit_starts some_m below past =
         let next = over (n / t) m some_m (omega (arith, below, past, is.digit_is)) in
-        record { digit_is = omega (arith, next.rest_is, ap (λ (q : ℕ). q % m) next_place.quotient_is); left_is = omega (arith, next_place.rest_is) }
+        record { digit_is = omega (arith, next.rest_is, ap (λ (q : ℕ). q % m) next_slot.quotient_is); left_is = omega (arith, next_slot.rest_is) }
 
 -- a digit is the same at all numbers before its next
 pub digit_lasts : (t m n j : ℕ) → n % t + j < t → (n + j) / t % m ≡ n / t % m

@@ -11,8 +11,8 @@ use Rattle.plant_record.specs.Description.{Description, axes_of, vectors_of}
 use Rattle.successor_box.specs.Boxes.{IsBoxOf}
 use Rattle.plant_game.specs.Abstraction.{pairs_of, pair_of, AreBoxesOf}
 use Rattle.abstraction_table.specs.inside.Rows.{AreBoxesFrom}
-use Rattle.abstraction_table.proofs.RowBoxes.{later_cell}
-use Rattle.abstraction_table.proofs.CellRows.{span, cell_before}
+use Rattle.abstraction_table.proofs.LineBoxes.{later_cell}
+use Rattle.abstraction_table.proofs.CellLineLists.{range, cell_before}
 
 -- the number of a pair is below the number of pairs
 pub pair_below : (p : Description) (c u : ℕ) → c < cells_of (axes_of p) → u < vectors_of p.inputs → pair_of p c u < pairs_of p
@@ -23,7 +23,7 @@ pair_below p c u cell input =
 pub all_boxes : (p : Description) (boxes : List (Option CellBox)) → length boxes ≡ pairs_of p → AreBoxesFrom p 0 boxes → AreBoxesOf p boxes
 all_boxes p boxes long found = record { one_each = long; each = λ c u cell input. let from : 0 + c ≡ c = omega arith in subst (λ (a : ℕ). IsBoxOf p a u (get_or boxes (pair_of p c u) None)) from (found c u input (omega (arith, pair_below p c u cell input, long))) }
 
--- the boxes of so many cells, one chunk behind another, are those of all pairs
+-- the boxes of so many cells, one chunk after another, are those of all pairs
 pub are_boxes : (p : Description) (boxes : List (Option CellBox)) (m : ℕ) → 1 ≤ m → length boxes ≡ pairs_of p →
     ((n : ℕ) → n * (m * vectors_of p.inputs) < length boxes → AreBoxesFrom p (n * (m * vectors_of p.inputs) / vectors_of p.inputs) (slice_chunk boxes (m * vectors_of p.inputs) n)) →
     AreBoxesOf p boxes
@@ -35,17 +35,17 @@ are_boxes p boxes m some long by_chunk = record {
       let n : ℕ = c / m in
       let k : ℕ = c % m in
       let below : k < m = mod_below c m some in
-      let parts : n * m + k ≡ c = div-add-mod' c m in
+      let terms : n * m + k ≡ c = div-add-mod' c m in
       let begins : n * (m * v) ≡ n * m * v = sym (mul_assoc n m v) in
       let quotient : n * (m * v) / v ≡ n * m = ap (λ (i : ℕ). i / v) (begins ∙ (let e : n * m * v ≡ n * m * v + 0 = omega arith in e)) ∙ div-mul-add (n * m) v 0 some_input in
-      let place : n * (m * v) + (k * v + u) ≡ c * v + u = omega (arith, begins, add-mul (n * m) k v, ap (λ (i : ℕ). i * v) parts) in
+      let slot : n * (m * v) + (k * v + u) ≡ c * v + u = omega (arith, begins, add-mul (n * m) k v, ap (λ (i : ℕ). i * v) terms) in
       let within : c * v + u < length boxes = omega (arith, pair_below p c u cell input, long) in
       let short : k * v + u < m * v = omega (arith, later_cell k m v below, input) in
-      let inside : k * v + u < length (slice_chunk boxes (m * v) n) = omega (arith, length-take (m * v) (drop (n * (m * v)) boxes), length-drop (n * (m * v)) boxes, place, within, short) in
+      let inside : k * v + u < length (slice_chunk boxes (m * v) n) = omega (arith, length-take (m * v) (drop (n * (m * v)) boxes), length-drop (n * (m * v)) boxes, slot, within, short) in
       let there : get_or (slice_chunk boxes (m * v) n) (k * v + u) None ≡ get_or boxes (c * v + u) None =
-      get_or-take (m * v) (drop (n * (m * v)) boxes) (k * v + u) None short ∙ get_or-drop (n * (m * v)) boxes (k * v + u) None ∙ ap (λ (i : ℕ). get_or boxes i None) place
+      get_or-take (m * v) (drop (n * (m * v)) boxes) (k * v + u) None short ∙ get_or-drop (n * (m * v)) boxes (k * v + u) None ∙ ap (λ (i : ℕ). get_or boxes i None) slot
       in
-      subst₂ (λ (a : ℕ) (b : Option CellBox). IsBoxOf p a u b) (ap (λ (i : ℕ). i + k) quotient ∙ parts) there (by_chunk n (omega (arith, place, within)) k u input inside);
+      subst₂ (λ (a : ℕ) (b : Option CellBox). IsBoxOf p a u b) (ap (λ (i : ℕ). i + k) quotient ∙ terms) there (by_chunk n (omega (arith, slot, within)) k u input inside);
 }
 
 -- a chunk is the boxes of whole cells
@@ -55,7 +55,7 @@ chunk_cells start len m v cells some_input some nonempty multiple len-is bound =
     let begins : start ≡ first * v = omega (arith, div-add-mod' start (m * v), multiple, mul_assoc (start / (m * v)) m v) in
     let quotient : start / v ≡ first = ap (λ (i : ℕ). i / v) (begins ∙ (let e : first * v ≡ first * v + 0 = omega arith in e)) ∙ div-mul-add first v 0 some_input in
     let earlier : first < cells = cell_before first cells v 0 (omega (arith, begins, bound, nonempty)) in
-    let rest : cells * v - first * v ≡ (cells - first) * v = span first cells v earlier in
+    let rest : cells * v - first * v ≡ (cells - first) * v = range first cells v earlier in
     elim (cases_lt (first + m) cells) [
       | inl full ↦ (m, omega (arith, len-is, begins, rest, mul-le m v (cells - first) v (omega (arith, full)) (omega arith)), omega (arith, quotient, full))
       | inr short ↦

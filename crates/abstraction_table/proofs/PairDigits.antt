@@ -1,4 +1,4 @@
--- The digits of a pair are its places.
+-- The digits of a pair are its indices.
 use Rattle.std.proofs.Common.{◌≡◌, ℕ, zero, suc, ◌+◌, ◌-◌, ◌*◌, ◌/◌, ◌%◌, ◌<◌, ◌≤◌, List, [], ◌∷◌, ◌++◌, All, length, map, drop, get_or, refl, sym, ap, ap₂, ◌∙◌, arith, inl, inr}
 use Rattle.std.proofs.Math.Nat.{mul_assoc, mul_comm, div-div-eq-div-mul, zero-div, zero-mod}
 use Rattle.std.proofs.Math.Seq.{drop-append-add}
@@ -8,14 +8,14 @@ use Rattle.std.proofs.lemmas.List.{length-append, length-drop, get_or-drop, drop
 use Rattle.std.proofs.lemmas.List.Elements.{All-head, All-tail, All-append, All-map, All-weaker, All-drop, All-get_or}
 use Rattle.grid_quantiser.specs.declared.axis.Axis.{Axis}
 use Rattle.grid_quantiser.specs.Axes.{IsAxis, no_axis, cells_of}
-use Rattle.grid_quantiser.specs.Places.{place_along}
+use Rattle.grid_quantiser.specs.Indices.{index_along}
 use Rattle.plant_record.specs.declared.variables.InputVariable.{InputVariable}
 use Rattle.plant_record.specs.Description.{Description, axis_of, axes_of, vectors_of}
-use Rattle.plant_record.specs.InputPlaces.{value_count, input_place}
+use Rattle.plant_record.specs.ValueIndices.{value_count, value_index}
 use Rattle.plant_record.specs.Plants.{IsPlant}
 use Rattle.plant_record.specs.Soundness.{IsSound}
 use Rattle.plant_record.specs.Variables.{IsInputVariable}
-use Rattle.successor_box.specs.Sides.{place_in}
+use Rattle.successor_box.specs.Extents.{index_in}
 use Rattle.plant_game.specs.Abstraction.{pairs_of}
 use Rattle.abstraction_table.specs.inside.Digits.{counts_of, combinations}
 use Rattle.abstraction_table.proofs.DigitMoves.{lower_digit}
@@ -113,19 +113,19 @@ module _ (p : Description) where
   pub next_combinations : (k : ℕ) → k < length p.states + length p.inputs → combinations (drop k (counts_of p)) ≡ get_or (counts_of p) k 0 * combinations (drop (k + 1) (counts_of p))
   next_combinations k lt = ap combinations (drop_more (counts_of p) k 0 (omega (arith, lt, counts_long)))
 
-  -- a place by its kind
-  pub state_place : (c u k : ℕ) → k < length p.states → place_along (axes_of p) k c ≡ place_in p c u k
-  state_place c u k state = cond_below k (length p.states) (place_along (axes_of p) k c) (input_place p.inputs (k - length p.states) u) state
+  -- a slot by its kind
+  pub state_slot : (c u k : ℕ) → k < length p.states → index_along (axes_of p) k c ≡ index_in p c u k
+  state_slot c u k state = cond_below k (length p.states) (index_along (axes_of p) k c) (value_index p.inputs (k - length p.states) u) state
 
-  pub among_place : (c u k : ℕ) → length p.states ≤ k → input_place p.inputs (k - length p.states) u ≡ place_in p c u k
-  among_place c u k past = cond_above k (length p.states) (place_along (axes_of p) k c) (input_place p.inputs (k - length p.states) u) (input_place p.inputs (k - length p.states) u) past refl
+  pub among_slot : (c u k : ℕ) → length p.states ≤ k → value_index p.inputs (k - length p.states) u ≡ index_in p c u k
+  among_slot c u k past = cond_above k (length p.states) (index_along (axes_of p) k c) (value_index p.inputs (k - length p.states) u) (value_index p.inputs (k - length p.states) u) past refl
 
   module _ (plant : IsPlant p) (sound : IsSound p) (c u k : ℕ) (input : u < vectors_of p.inputs) (lt : k < length p.states + length p.inputs) where
     abbrev pair : ℕ
     pair = c * vectors_of p.inputs + u
 
     -- of a state
-    state_digit : k < length p.states → pair / combinations (drop (k + 1) (counts_of p)) % get_or (counts_of p) k 0 ≡ place_in p c u k
+    state_digit : k < length p.states → pair / combinations (drop (k + 1) (counts_of p)) % get_or (counts_of p) k 0 ≡ index_in p c u k
     state_digit state =
         let axes = axes_of p in
         let v : ℕ = vectors_of p.inputs in
@@ -139,10 +139,10 @@ module _ (p : Description) where
         in
         ap₂ (λ (t m : ℕ). pair / t % m) later (count_along k state)
         ∙ ap (λ (n : ℕ). n % (get_or axes k no_axis).count) (sym (div-div-eq-div-mul pair v d) ∙ ap (λ (n : ℕ). n / d) (div-mul-add c v u input))
-        ∙ state_place c u k state
+        ∙ state_slot c u k state
 
     -- of an input variable
-    input_digit : length p.states ≤ k → pair / combinations (drop (k + 1) (counts_of p)) % get_or (counts_of p) k 0 ≡ place_in p c u k
+    input_digit : length p.states ≤ k → pair / combinations (drop (k + 1) (counts_of p)) % get_or (counts_of p) k 0 ≡ index_in p c u k
     input_digit past =
         let j : ℕ = k - length p.states in
         let m : ℕ = value_count p.inputs j in
@@ -159,25 +159,25 @@ module _ (p : Description) where
         ap₂ (λ (t n : ℕ). pair / t % n) later (count_among k past)
         ∙ ap (λ (v : ℕ). (c * v + u) / l % m) whole
         ∙ lower_digit c f.0 m l u some_m some_l
-        ∙ among_place c u k past
+        ∙ among_slot c u k past
 
-    pub pair_digit : pair / combinations (drop (k + 1) (counts_of p)) % get_or (counts_of p) k 0 ≡ place_in p c u k
+    pub pair_digit : pair / combinations (drop (k + 1) (counts_of p)) % get_or (counts_of p) k 0 ≡ index_in p c u k
     pair_digit = elim (cases_lt k (length p.states)) [ inl state ↦ state_digit state | inr past ↦ input_digit past ]
 
-  no_place_along : (k : ℕ) → place_along (axes_of p) k 0 ≡ 0
-  no_place_along k = ap (λ (i : ℕ). i % (get_or (axes_of p) k no_axis).count) (zero-div (cells_of (drop (k + 1) (axes_of p)))) ∙ zero-mod (get_or (axes_of p) k no_axis).count
+  no_slot_along : (k : ℕ) → index_along (axes_of p) k 0 ≡ 0
+  no_slot_along k = ap (λ (i : ℕ). i % (get_or (axes_of p) k no_axis).count) (zero-div (cells_of (drop (k + 1) (axes_of p)))) ∙ zero-mod (get_or (axes_of p) k no_axis).count
 
-  no_place_among : (j : ℕ) → input_place p.inputs j 0 ≡ 0
-  no_place_among j = ap (λ (i : ℕ). i % value_count p.inputs j) (zero-div (vectors_of (drop (j + 1) p.inputs))) ∙ zero-mod (value_count p.inputs j)
+  no_slot_among : (j : ℕ) → value_index p.inputs j 0 ≡ 0
+  no_slot_among j = ap (λ (i : ℕ). i % value_count p.inputs j) (zero-div (vectors_of (drop (j + 1) p.inputs))) ∙ zero-mod (value_count p.inputs j)
 
   -- the first input brings nothing
-  pub no_input_place : (c k : ℕ) → length p.states ≤ k → 0 ≡ place_in p c 0 k
-  no_input_place c k past = sym (no_place_among (k - length p.states)) ∙ among_place c 0 k past
+  pub no_value_index : (c k : ℕ) → length p.states ≤ k → 0 ≡ index_in p c 0 k
+  no_value_index c k past = sym (no_slot_among (k - length p.states)) ∙ among_slot c 0 k past
 
-  -- the places of a pair are those of its cell and those of its input
-  pub place_parts : (c u k : ℕ) → place_in p c u k ≡ place_in p c 0 k + place_in p 0 u k
-  place_parts c u k =
+  -- the indices of a pair are those of its cell and those of its input
+  pub slot_terms : (c u k : ℕ) → index_in p c u k ≡ index_in p c 0 k + index_in p 0 u k
+  slot_terms c u k =
       elim (cases_lt k (length p.states)) [
-        | inl state ↦ omega (arith, state_place c u k state, state_place c 0 k state, state_place 0 u k state, no_place_along k)
-        | inr past ↦ omega (arith, among_place c u k past, among_place c 0 k past, among_place 0 u k past, no_place_among (k - length p.states))
+        | inl state ↦ omega (arith, state_slot c u k state, state_slot c 0 k state, state_slot 0 u k state, no_slot_along k)
+        | inr past ↦ omega (arith, among_slot c u k past, among_slot c 0 k past, among_slot 0 u k past, no_slot_among (k - length p.states))
       ]

@@ -1,4 +1,4 @@
--- A test that is asked of the cells of runs, and of the corners of a box.
+-- A test that is asked of the cells of segments, and of the corners of a box.
 use Rattle.std.proofs.Common.{◌≡◌, ◌≢◌, ℕ, ◌+◌, ◌-◌, ◌<◌, ◌≤◌, List, [], ◌++◌, All, length, take, drop, get_or, Option, Some, None, sym, ap, subst, ◌∙◌, arith}
 use Rattle.std.specs.Prelude.{IfSome}
 use Rattle.std.specs.List.{range_with_len}
@@ -12,16 +12,16 @@ use Rattle.grid_quantiser.specs.Boxes.{IsCellBox, cells_between}
 use Rattle.game_core.specs.declared.game.Mark.{Mark}
 use Rattle.game_core.specs.Game.{Game, pairs_of, successors_at}
 use Rattle.successor_box.specs.Boxes.{cells_in}
-use Rattle.abstraction_table.specs.declared.shapes.ShapeRun.{ShapeRun}
+use Rattle.abstraction_table.specs.declared.shapes.Segment.{Segment}
 use Rattle.abstraction_table.specs.declared.shapes.Shapes.{Shapes}
 use Rattle.abstraction_table.specs.BoxGame.{box_game}
 use Rattle.abstraction_table.specs.inside.Fans.{HasFan, FanIsKnown}
 use Rattle.abstraction_table.specs.inside.Memory.{HoldsBoxes}
-use Rattle.abstraction_table.specs.inside.Shapes.{cells_from, EndsBy, runs_at, HasRunsOf}
+use Rattle.abstraction_table.specs.inside.Shapes.{cells_from, EndsBy, segments_at, HasSegmentsOf}
 use Rattle.abstraction_table.specs.inside.Sources.{IsBox}
 use Rattle.abstraction_table.proofs.BoxCorners.{first_corner, last_corner}
 use Rattle.abstraction_table.proofs.LeadingPairs.{successors_are}
-use Rattle.abstraction_table.proofs.ShapeRuns.{runs_end, runs_split}
+use Rattle.abstraction_table.proofs.Segments.{segments_end, segments_split}
 
 -- ---- cells that follow one another
 
@@ -34,16 +34,16 @@ module _ (P : ℕ → Type 0) (first len : ℕ) where
   pub passes_in_range : All P (range_with_len first len) → (c : ℕ) → first ≤ c → c < first + len → P c
   passes_in_range all c low below =
       let inside : c - first < len = omega (arith, low, below) in
-      let place : first + (c - first) ≡ c = omega (arith, low) in
-      subst P (get_or-range_with_len first len (c - first) 0 inside ∙ place) (all (c - first) 0 (omega (arith, inside, length-range_with_len first len)))
+      let slot : first + (c - first) ≡ c = omega (arith, low) in
+      subst P (get_or-range_with_len first len (c - first) 0 inside ∙ slot) (all (c - first) 0 (omega (arith, inside, length-range_with_len first len)))
 
--- what passes at the cells of runs passes at those of each
-pub run_passes_too : (P : ℕ → Type 0) (first : ℕ) (runs : List ShapeRun) (k : ℕ) (d : ShapeRun) → k < length runs → All P (cells_from first runs) → All P (range_with_len (first + (get_or runs k d).start) (get_or runs k d).len)
-run_passes_too P first runs k d below all =
-    let before = cells_from first (take k runs) in
-    let here = range_with_len (first + (get_or runs k d).start) (get_or runs k d).len in
-    let parts = subst (All P) (runs_split first runs k d below) all in
-    let so_far = (All-parts P (before ++ here) (cells_from first (drop (k + 1) runs)) parts).0 in
+-- what passes at the cells of segments passes at those of each
+pub segment_passes_too : (P : ℕ → Type 0) (first : ℕ) (segments : List Segment) (k : ℕ) (d : Segment) → k < length segments → All P (cells_from first segments) → All P (range_with_len (first + (get_or segments k d).start) (get_or segments k d).len)
+segment_passes_too P first segments k d below all =
+    let before = cells_from first (take k segments) in
+    let here = range_with_len (first + (get_or segments k d).start) (get_or segments k d).len in
+    let parts = subst (All P) (segments_split first segments k d below) all in
+    let so_far = (All-parts P (before ++ here) (cells_from first (drop (k + 1) segments)) parts).0 in
     (All-parts P before here so_far).1
 
 -- ---- the box of a pair
@@ -92,12 +92,12 @@ module _ (axes : List Axis) (inputs : ℕ) (marks : List Mark) (boxes : List (Op
     pub last_below : b.last < cells_of axes
     last_below = last_passes (λ c. c < cells_of axes) cells_below
 
-    module _ (s : Shapes) (has : IfSome (get_or boxes pair None) (HasRunsOf axes s)) where
-      runs : HasRunsOf axes s b
-      runs = subst (λ (o : Option CellBox). IfSome o (HasRunsOf axes s)) is has
+    module _ (s : Shapes) (has : IfSome (get_or boxes pair None) (HasSegmentsOf axes s)) where
+      segments : HasSegmentsOf axes s b
+      segments = subst (λ (o : Option CellBox). IfSome o (HasSegmentsOf axes s)) is has
 
-      pub cells_by_runs : cells ≡ cells_from b.first (runs_at s (b.last - b.first))
-      cells_by_runs = cells_are ∙ runs.cells
+      pub cells_by_segments : cells ≡ cells_from b.first (segments_at s (b.last - b.first))
+      cells_by_segments = cells_are ∙ segments.cells
 
-      pub runs_end_below : All (EndsBy (cells_of axes) b.first) (runs_at s (b.last - b.first))
-      runs_end_below = runs_end (cells_of axes) b.first (runs_at s (b.last - b.first)) runs.some (subst (All (λ c. c < cells_of axes)) cells_by_runs cells_below)
+      pub segments_end_below : All (EndsBy (cells_of axes) b.first) (segments_at s (b.last - b.first))
+      segments_end_below = segments_end (cells_of axes) b.first (segments_at s (b.last - b.first)) segments.some (subst (All (λ c. c < cells_of axes)) cells_by_segments cells_below)

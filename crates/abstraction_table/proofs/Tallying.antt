@@ -8,8 +8,8 @@ use Rattle.std.proofs.lemmas.List.Elements.{All-tail}
 use Rattle.std.proofs.lemmas.List.Sums.{sum_by-append, sum_by_push, sum_by-set}
 use Rattle.rayon.specs.Shown.{run-append}
 use Rattle.game_core.specs.Counts.{times}
-use Rattle.edge_rows.specs.Rows.{Filling, row_at, appended, changed_run, appended_run, HaveRoom}
-use Rattle.abstraction_table.specs.inside.Tallies.{AreCounted, CountsFit, ArePut, HasRoomFor}
+use Rattle.edge_rows.specs.Rows.{Filling, row_at, appended, changed_run, appended_run, HaveFreeSlots}
+use Rattle.abstraction_table.specs.inside.Tallies.{AreCounted, CountsFit, ArePut, HasCapacityFor}
 
 -- a number is a cell or another
 pub by_cell : {P : Type 0} (c x : ℕ) → (c ≡ x → P) → (c ≢ x → P) → P
@@ -39,7 +39,7 @@ times_later x done later =
 range_longer : (a n : ℕ) → range_with_len a n ++ (a + n) ∷ [] ≡ range_with_len a (suc n)
 range_longer a n = run-append a n 1 ∙ ap (range_with_len a) (let e : n + 1 ≡ suc n = omega arith in e)
 
--- the cells before one, it, and those behind it
+-- the cells before one, it, and those after it
 range_split : (a m i : ℕ) → a ≤ i → i < a + m → range_with_len a m ≡ range_with_len a (i - a) ++ i ∷ range_with_len (i + 1) (a + m - (i + 1))
 range_split a m i low high =
     ap (range_with_len a) (let e : m ≡ i - a + suc (a + m - (i + 1)) = omega arith in e)
@@ -67,8 +67,8 @@ counted_more before counts after cells more h g = record {
   total = omega (arith, g.total, h.total, length-append cells more);
 }
 
-pub run_fits : (before counts done run later : List ℕ) → AreCounted before counts done → CountsFit before ((done ++ run) ++ later) → CountsFit counts run
-run_fits before counts done run later h room = λ c. omega (arith, h.each c, room c, times-append c (done ++ run) later, times-append c done run)
+pub segment_fits : (before counts done segment later : List ℕ) → AreCounted before counts done → CountsFit before ((done ++ segment) ++ later) → CountsFit counts segment
+segment_fits before counts done segment later h capacity = λ c. omega (arith, h.each c, capacity c, times-append c (done ++ segment) later, times-append c done segment)
 
 -- ---- rows
 
@@ -103,15 +103,15 @@ put_length : (pair : ℕ) (before now : Filling) (cells : List ℕ) (c : ℕ) �
 put_length pair before now cells c h below =
     ap length (h.each c below) ∙ length-append (row_at before.rows c) (replicate (times c cells) pair) ∙ ap (λ (n : ℕ). length (row_at before.rows c) + n) (length-replicate (times c cells) pair)
 
--- there is room for the next run
-pub room_left : (pair : ℕ) (before now : Filling) (done run later : List ℕ) → ArePut pair before now done → HasRoomFor before ((done ++ run) ++ later) → HasRoomFor now run
-room_left pair before now done run later h room = λ c below.
+-- there is room for the next segment
+pub capacity_left : (pair : ℕ) (before now : Filling) (done segment later : List ℕ) → ArePut pair before now done → HasCapacityFor before ((done ++ segment) ++ later) → HasCapacityFor now segment
+capacity_left pair before now done segment later h capacity = λ c below.
     let within : c < length before.rows = omega (arith, below, h.long) in
-    rw h.lengths (omega (arith, put_length pair before now done c h within, room c within, times-append c (done ++ run) later, times-append c done run))
+    rw h.lengths (omega (arith, put_length pair before now done c h within, capacity c within, times-append c (done ++ segment) later, times-append c done segment))
 
--- ---- runs
+-- ---- segments
 
--- one item more is changed, the next behind the run
+-- one item more is changed, the next after the segment
 changed_longer : {X : Type 0} (change : X → X) (xs : List X) (r n : ℕ) (x : X) → r + n < length xs → x ≡ get_or (changed_run change xs r n) (r + n) x → set (changed_run change xs r n) (r + n) (change x) ≡ changed_run change xs r (suc n)
 changed_longer {X} change xs r n x below is =
     let front : List X = take r xs in
@@ -126,12 +126,12 @@ changed_longer {X} change xs r n x below is =
     ∙ ap (λ (ys : List X). front ++ ys) (map_over_more change back now n x (omega (arith, below, length-drop r xs)) refl here)
     ∙ ap (changed_run change xs r) next
 
--- one is added to each count of a run
-pub counted_run : (counts : List ℕ) (r n : ℕ) → r + n ≤ length counts → AreCounted counts (changed_run (λ count. count + 1) counts r n) (range_with_len r n)
-counted_run counts r zero within = subst (λ after. AreCounted counts after []) (sym (take-append-drop r counts)) (counted_none counts)
-counted_run counts r (suc n) within =
+-- one is added to each count of a segment
+pub counted_segment : (counts : List ℕ) (r n : ℕ) → r + n ≤ length counts → AreCounted counts (changed_run (λ count. count + 1) counts r n) (range_with_len r n)
+counted_segment counts r zero within = subst (λ after. AreCounted counts after []) (sym (take-append-drop r counts)) (counted_none counts)
+counted_segment counts r (suc n) within =
     let now : List ℕ = changed_run (λ count. count + 1) counts r n in
-    let so_far = counted_run counts r n (omega (arith, within)) in
+    let so_far = counted_segment counts r n (omega (arith, within)) in
     let here : r + n < length now = omega (arith, within, so_far.long) in
     let longer = changed_longer (λ count. count + 1) counts r n (get_or now (r + n) 0) (omega (arith, within)) (get_or_default now (r + n) 0 (get_or now (r + n) 0) here) in
     subst₂ (AreCounted counts) longer (range_longer r n) (counted_one counts now (range_with_len r n) (r + n) so_far here)
@@ -148,37 +148,37 @@ one_added before items i lt h =
     ∙ ap (λ xs. take (i + 1) (set items i next) ++ map (λ count. count + 1) xs) (sym (drop-set-lt (i + 1) items i next (omega arith)))
 
 pub others_fit : (bound : ℕ) (items : List ℕ) (i : ℕ) → i < length items → All (λ count. count + 1 < bound) (drop i items) → All (λ count. count + 1 < bound) (drop (i + 1) (set items i (get_or items i 0 + 1)))
-others_fit bound items i lt room =
+others_fit bound items i lt capacity =
     rw (drop-set-lt (i + 1) items i (get_or items i 0 + 1) (omega arith))
-    (All-tail (λ count. count + 1 < bound) (get_or items i 0) (drop (i + 1) items) (subst (All (λ count. count + 1 < bound)) (drop_more items i 0 lt) room))
+    (All-tail (λ count. count + 1 < bound) (get_or items i 0) (drop (i + 1) items) (subst (All (λ count. count + 1 < bound)) (drop_more items i 0 lt) capacity))
 
--- a cell of a run comes at least once
-in_run : (c r n : ℕ) → r ≤ c → c < r + n → 1 ≤ times c (range_with_len r n)
-in_run c r n low high =
+-- a cell of a segment comes at least once
+in_segment : (c r n : ℕ) → r ≤ c → c < r + n → 1 ≤ times c (range_with_len r n)
+in_segment c r n low high =
     rw (range_split r n c low high) (omega (arith, times_later c (range_with_len r (c - r)) (range_with_len (c + 1) (r + n - (c + 1)))))
 
--- there is room for one more in each count of a run
-pub run_counts_fit : (bound : ℕ) (counts : List ℕ) (r n k : ℕ) → k ≡ n → r + n ≤ length counts → ((c : ℕ) → get_or counts c 0 + times c (range_with_len r n) < bound) → All (λ count. count + 1 < bound) (take k (drop r counts))
-run_counts_fit bound counts r n k same within room = λ i d lt.
+-- there is room for one more in each count of a segment
+pub segment_counts_fit : (bound : ℕ) (counts : List ℕ) (r n k : ℕ) → k ≡ n → r + n ≤ length counts → ((c : ℕ) → get_or counts c 0 + times c (range_with_len r n) < bound) → All (λ count. count + 1 < bound) (take k (drop r counts))
+segment_counts_fit bound counts r n k same within capacity = λ i d lt.
     let below : i < n = omega (arith, lt, same, length-take k (drop r counts), length-drop r counts, within) in
     let is : get_or (take k (drop r counts)) i d ≡ get_or counts (r + i) 0 =
     get_or-take k (drop r counts) i d (omega (arith, below, same)) ∙ get_or-drop r counts i d ∙ get_or_default counts (r + i) d 0 (omega (arith, below, within))
     in
-    omega (arith, is, room (r + i), in_run (r + i) r n (omega arith) (omega (arith, below)))
+    omega (arith, is, capacity (r + i), in_segment (r + i) r n (omega arith) (omega (arith, below)))
 
--- a pair is put in each row of a run
-pub put_run : (pair : ℕ) (before after : Filling) (r n : ℕ) → r + n ≤ length before.rows → after.rows ≡ appended_run before.rows r n pair → after.lengths ≡ before.lengths → ArePut pair before after (range_with_len r n)
-put_run pair before after r zero within rows lengths =
+-- a pair is put in each row of a segment
+pub put_each : (pair : ℕ) (before after : Filling) (r n : ℕ) → r + n ≤ length before.rows → after.rows ≡ appended_run before.rows r n pair → after.lengths ≡ before.lengths → ArePut pair before after (range_with_len r n)
+put_each pair before after r zero within rows lengths =
     let same = rows ∙ take-append-drop r before.rows in
     record { long = ap length same; lengths = lengths; each = λ c below. ap (λ (rs : List (List ℕ)). row_at rs c) same ∙ sym (append-nil (row_at before.rows c)) }
-put_run pair before after r (suc n) within rows lengths =
+put_each pair before after r (suc n) within rows lengths =
     let now : Filling = record { rows = appended_run before.rows r n pair; lengths = before.lengths } in
-    let so_far = put_run pair before now r n (omega (arith, within)) refl refl in
+    let so_far = put_each pair before now r n (omega (arith, within)) refl refl in
     let row : List ℕ = row_at now.rows (r + n) in
     let longer = changed_longer (λ row. row ++ pair ∷ []) before.rows r n row (omega (arith, within)) (get_or_default now.rows (r + n) [] row (omega (arith, within, so_far.long))) in
     subst (ArePut pair before after) (range_longer r n) (put_one pair before now after (range_with_len r n) (r + n) so_far (omega (arith, within)) (rows ∙ sym longer) lengths)
 
--- the rows of a run have room
-pub run_has_room : (f : Filling) (r n : ℕ) → r + n ≤ length f.rows → HasRoomFor f (range_with_len r n) → HaveRoom f r n
-run_has_room f r n within room = λ c low high.
-    let below : c < length f.rows = omega (arith, within, high) in (below, omega (arith, room c below, in_run c r n low high))
+-- the rows of a segment have room
+pub segment_has_capacity : (f : Filling) (r n : ℕ) → r + n ≤ length f.rows → HasCapacityFor f (range_with_len r n) → HaveFreeSlots f r n
+segment_has_capacity f r n within capacity = λ c low high.
+    let below : c < length f.rows = omega (arith, within, high) in (below, omega (arith, capacity c below, in_segment c r n low high))

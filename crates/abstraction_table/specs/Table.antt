@@ -4,7 +4,7 @@ use Rattle.grid_quantiser.specs.declared.boxes.CellBox.{CellBox}
 use Rattle.game_core.specs.Game.{Game}
 use Rattle.abstraction_table.specs.declared.abstraction.Abstraction.{Abstraction}
 use Rattle.abstraction_table.specs.declared.boxed_game.BoxedGame.{BoxedGame}
-use Rattle.abstraction_table.specs.declared.outlook.Outlook.{Outlook}
+use Rattle.abstraction_table.specs.declared.forward.ForwardAbstraction.{ForwardAbstraction}
 use Rattle.abstraction_table.specs.BoxGame.{box_game}
 
 -- the game by the boxes of its pairs
@@ -12,17 +12,17 @@ abbrev pub game_in : BoxedGame → Game
 game_in b = box_game b.grid b.inputs b.marks.items b.boxes.items
 
 -- the game that is seen ahead
-abbrev pub game_ahead : Outlook → Game
-game_ahead o = game_in o.ahead
+abbrev pub forward_game : ForwardAbstraction → Game
+forward_game o = game_in o.boxed
 
 -- the boxes of all pairs
-abbrev pub boxes_ahead : Outlook → List (Option CellBox)
-boxes_ahead o = o.ahead.boxes.items
+abbrev pub boxes_forward : ForwardAbstraction → List (Option CellBox)
+boxes_forward o = o.boxed.boxes.items
 
 -- the game
 abbrev pub game_of : Abstraction → Game
-game_of a = game_in a.ahead
+game_of a = game_in a.boxed
 
 -- the boxes of all pairs
 abbrev pub boxes_of : Abstraction → List (Option CellBox)
-boxes_of a = a.ahead.boxes.items
+boxes_of a = a.boxed.boxes.items

@@ -3,11 +3,11 @@ pub mod Digits
 pub mod Fans
 pub mod Memory
 pub mod Packed
-pub mod Parts
+pub mod Terms
 pub mod Props
 pub mod Rows
 pub mod Shapes
-pub mod Sides
+pub mod Extents
 pub mod Sources
 pub mod Sums
 pub mod Tallies

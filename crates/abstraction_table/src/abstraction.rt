@@ -9,9 +9,9 @@ use grid_quantiser::CellBox;
 /// The game of a plant, from both ends of its edges.
 #[derive(Drop)]
 pub struct Abstraction {
-    pub(crate) ahead: BoxedGame,
+    pub(crate) boxed: BoxedGame,
     pub(crate) sources: Sources,
-    ghost in_memory: { AreSourceBands ahead.grid ahead.boxes.items sources.size sources.bands.items } by { Prim.hlevel box_props },
+    ghost in_memory: { AreSourceBands boxed.grid boxed.boxes.items sources.size sources.bands.items } by { Prim.hlevel box_props },
 }
 
 impl Abstraction {
@@ -25,7 +25,7 @@ impl Abstraction {
         requires { pair < pairs_of (game_of self.now) }
         ensures { result ≡ box_at (boxes_of self.now) pair }
     {
-        self.ahead.boxes(pair)
+        self.boxed.boxes(pair)
     }
 }
 
@@ -35,28 +35,28 @@ impl Graph for Abstraction {
     ghost game = { game_of };
 
     fn cells(&self) -> u32 {
-        self.ahead.cells()
+        self.boxed.cells()
     }
 
     fn inputs(&self) -> u32 {
-        self.ahead.inputs()
+        self.boxed.inputs()
     }
 
     fn mark(&self, c: u32) -> Mark {
-        self.ahead.mark(c)
+        self.boxed.mark(c)
     }
 
     fn fan(&self, pair: u32) -> u32 {
-        self.ahead.fan(pair)
+        self.boxed.fan(pair)
     }
 
     fn successor(&self, pair: u32, at: u32) -> u32 {
-        self.ahead.successor(pair, at)
+        self.boxed.successor(pair, at)
     }
 
     fn sources(&self, c: u32) -> &[u32] {
         self.sources.row(c)
     }
 
-    ghost lawful = { λ g. g.ahead.in_memory.graph };
+    ghost lawful = { λ g. g.boxed.in_memory.graph };
 }

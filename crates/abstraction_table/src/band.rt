@@ -4,11 +4,11 @@ ghost use Rattle.std.specs.List.{range_with_len};
 ghost use Rattle.grid_quantiser.specs.Axes.{cells_of, AreAxes};
 ghost use Rattle.successor_box.specs.Boxes.{cells_in};
 ghost use Rattle.abstraction_table.specs.inside.Sources.{IsBox};
-ghost use Rattle.abstraction_table.specs.inside.Tallies.{places_in};
+ghost use Rattle.abstraction_table.specs.inside.Tallies.{indices_in};
 
 use grid_quantiser::{CellBox, Grid};
 
-/// Cells that follow one another. The first of them has the place 0.
+/// Cells that follow one another. The first of them has the slot 0.
 #[derive(Clone, Copy)]
 pub(crate) struct Band {
     pub(crate) from: u32,
@@ -24,7 +24,7 @@ impl Band {
         requires ordered { IsBox grid.now b }
         requires within { self.now.from + self.now.len ≤ cells_of grid.now }
         ensures same { IfSome result (λ reached. b ≡ Some reached) }
-        ensures none { IfNone result (places_in self.now.from self.now.len (cells_in grid.now b) ≡ []) }
+        ensures none { IfNone result (indices_in self.now.from self.now.len (cells_in grid.now b) ≡ []) }
     {
         let b = b?;
         if b.last < self.from || self.from + self.len <= b.first {
@@ -42,13 +42,13 @@ impl Band {
         self.from <= b.first && b.last < self.from + self.len
     }
 
-    /// The places that a run of cells has here: the first, and how many.
+    /// The indices that a segment of cells has here: the first, and how many.
     #[inline]
     pub(crate) fn clip(&self, first: u32, len: u32) -> (u32, u32)
-        requires run { first + len < 2 ^ 32 }
+        requires segment { first + len < 2 ^ 32 }
         requires band { self.now.from + self.now.len < 2 ^ 32 }
         ensures within { result.0 + result.1 ≤ self.now.len }
-        ensures places { places_in self.now.from self.now.len (range_with_len first len) ≡ range_with_len result.0 result.1 }
+        ensures indices { indices_in self.now.from self.now.len (range_with_len first len) ≡ range_with_len result.0 result.1 }
     {
         let low = first.max(self.from);
         let high = (first + len).min(self.from + self.len);

@@ -74,7 +74,7 @@ impl BoxedGame {
         }
     }
 
-    /// The cell at a place of a box. A box begins and ends with its corners.
+    /// The cell at a slot of a box. A box begins and ends with its corners.
     #[inline]
     fn cell_of(&self, b: CellBox, at: u32) -> u32
         requires ordered { IsCellBox self.now.grid b.first b.last }

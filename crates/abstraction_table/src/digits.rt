@@ -1,15 +1,15 @@
-//! The digits of a pair on which the sides along a state's axis rest.
+//! The digits of a pair on which the extents along a state's axis depend.
 ghost use Rattle.std.specs.Prelude.{◌≡◌, ◌+◌, ◌*◌, ◌^◌, ◌<◌, [], length, slice_index, IfOk, IsTrue, IsFalse};
 ghost use Rattle.std.specs.List.{All};
 ghost use Rattle.plant_record.specs.Limits.{IsWithinLimits};
-ghost use Rattle.successor_box.specs.Sides.{rests_on};
-ghost use Rattle.abstraction_table.specs.inside.Digits.{AreDigitsBetween, AreDigitsOf, IsWithDigit, IsAsBefore, counts_of, place_at};
+ghost use Rattle.successor_box.specs.Extents.{depends_on};
+ghost use Rattle.abstraction_table.specs.inside.Digits.{AreDigitsBetween, AreDigitsOf, IsWithDigit, IsAsBefore, counts_of, slot_at};
 
 use plant_record::Plant;
 use std::alloc::{AllocError, Global};
 
-/// A state or an input variable that stands in an equation: how many places it has, and what one place
-/// counts in the number of a pair and in a table of sides.
+/// A state or an input variable that stands in an equation: how many indices it has, and what one slot
+/// counts in the number of a pair and in a table of extents.
 #[derive(Clone, Copy)]
 pub(crate) struct Digit {
     pub(crate) variable: u32,
@@ -18,23 +18,23 @@ pub(crate) struct Digit {
     pub(crate) in_table: u32,
 }
 
-/// The digits of an equation, and how many places they make.
+/// The digits of an equation, and how many indices they make.
 #[derive(Drop)]
 pub(crate) struct Digits {
     pub(crate) each: Vec<Digit>,
-    pub(crate) places: u32,
+    pub(crate) indices: u32,
 }
 
-/// The digits of a state's equation: one for each variable in it on which sides rest. Those of the states are below those
-/// of the input variables, and that of the last state is the lowest: from one place to the next mostly it alone varies.
-pub(crate) fn find_digits(alloc: Global, p: &Plant, state: u32) -> Result<Digits, AllocError>
+/// The digits of a state's equation: one for each variable in it on which extents depend. Those of the states are below those
+/// of the input variables, and that of the last state is the lowest: from one slot to the next mostly it alone varies.
+pub(crate) fn build_digits(alloc: Global, p: &Plant, state: u32) -> Result<Digits, AllocError>
     requires plant { IsWithinLimits p.now }
     requires state { state < length p.now.equations }
-    ensures { IfOk result (λ digits. AreDigitsOf p.now state digits.each.items digits.places) }
+    ensures { IfOk result (λ digits. AreDigitsOf p.now state digits.each.items digits.indices) }
 {
     let mut digits = Digits {
         each: Vec::new(alloc),
-        places: 1,
+        indices: 1,
     };
     digits.add_states(p, state)?;
     digits.add_input_variables(p, state)?;
@@ -47,8 +47,8 @@ impl Digits {
         requires plant { IsWithinLimits p.now }
         requires state { state < length p.now.equations }
         requires none { self.old.each.items ≡ [] }
-        requires one { self.old.places ≡ 1 }
-        ensures { IfOk result (λ _. AreDigitsBetween p.now state 0 (length p.now.states) self.new.each.items self.new.places) }
+        requires one { self.old.indices ≡ 1 }
+        ensures { IfOk result (λ _. AreDigitsBetween p.now state 0 (length p.now.states) self.new.each.items self.new.indices) }
     {
         let mut in_pair = p.vectors();
         for variable in (0..p.states()).rev() {
@@ -63,8 +63,8 @@ impl Digits {
     fn add_input_variables(&mut self, p: &Plant, state: u32) -> Result<(), AllocError>
         requires plant { IsWithinLimits p.now }
         requires state { state < length p.now.equations }
-        requires states { AreDigitsBetween p.now state 0 (length p.now.states) self.old.each.items self.old.places }
-        ensures { IfOk result (λ _. AreDigitsOf p.now state self.new.each.items self.new.places) }
+        requires states { AreDigitsBetween p.now state 0 (length p.now.states) self.old.each.items self.old.indices }
+        ensures { IfOk result (λ _. AreDigitsOf p.now state self.new.each.items self.new.indices) }
     {
         let mut in_pair = p.vectors();
         for variable in p.states()..p.states() + p.input_variables() {
@@ -75,7 +75,7 @@ impl Digits {
         Ok(())
     }
 
-    /// Adds the digit of a variable above the others in the table, if sides rest on it.
+    /// Adds the digit of a variable above the others in the table, if extents depend on it.
     fn add(
         &mut self,
         p: &Plant,
@@ -85,34 +85,34 @@ impl Digits {
         in_pair: u32,
     ) -> Result<(), AllocError>
         requires state { state < length p.now.equations }
-        requires fits { self.old.places * count < 2 ^ 32 }
-        ensures rests { IfOk result (λ _. IsTrue (rests_on p.now state variable) → IsWithDigit variable count in_pair self.old self.new) }
-        ensures free { IfOk result (λ _. IsFalse (rests_on p.now state variable) → IsAsBefore self.old self.new) }
+        requires fits { self.old.indices * count < 2 ^ 32 }
+        ensures depends { IfOk result (λ _. IsTrue (depends_on p.now state variable) → IsWithDigit variable count in_pair self.old self.new) }
+        ensures free { IfOk result (λ _. IsFalse (depends_on p.now state variable) → IsAsBefore self.old self.new) }
     {
         if has_digit(p, state, variable) {
             self.each.push(Digit {
                 variable,
                 count,
                 in_pair,
-                in_table: self.places,
+                in_table: self.indices,
             })?;
-            self.places *= count;
+            self.indices *= count;
         }
         Ok(())
     }
 }
 
-/// Whether the sides along a state's axis rest on a variable: it stands in the state's equation, and isn't
-/// the state itself where the sides only move with that.
+/// Whether the extents along a state's axis depend on a variable: it stands in the state's equation, and isn't
+/// the state itself where the extents only move with that.
 fn has_digit(p: &Plant, state: u32, variable: u32) -> bool
     requires { state < length p.now.equations }
-    ensures { result ≡ rests_on p.now state variable }
+    ensures { result ≡ depends_on p.now state variable }
 {
     let equation = p.equation(state);
-    equation.mentions(variable) && !(equation.moves_with(state) && variable == state)
+    equation.mentions(variable) && !(equation.shifts_with(state) && variable == state)
 }
 
-/// How many places a state has, or how many values an input variable.
+/// How many indices a state has, or how many values an input variable.
 fn count_of(p: &Plant, variable: u32) -> u32
     requires { variable < length p.now.states + length p.now.inputs }
     ensures { result ≡ slice_index (counts_of p.now) variable }
@@ -125,15 +125,15 @@ fn count_of(p: &Plant, variable: u32) -> u32
     }
 }
 
-/// The place in a table of the side of a pair.
-pub(crate) fn place_of(digits: &[Digit], pair: u32) -> u32
+/// The slot in a table of the extent of a pair.
+pub(crate) fn slot_of(digits: &[Digit], pair: u32) -> u32
     requires counted { All (λ d. (0 < d.count) × (0 < d.in_pair)) digits.now }
-    requires fits { place_at digits.now pair < 2 ^ 32 }
-    ensures { result ≡ place_at digits.now pair }
+    requires fits { slot_at digits.now pair < 2 ^ 32 }
+    ensures { result ≡ slot_at digits.now pair }
 {
-    let mut place = 0;
+    let mut slot = 0;
     for d in digits {
-        place += pair / d.in_pair % d.count * d.in_table;
+        slot += pair / d.in_pair % d.count * d.in_table;
     }
-    place
+    slot
 }

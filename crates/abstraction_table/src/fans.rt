@@ -64,7 +64,7 @@ impl Fans {
 }
 
 /// How many cells the boxes of each shape have, and all boxes together.
-pub(crate) fn find_fans(alloc: Global, grid: &Grid, boxes: &[PairBox]) -> Result<Fans, AllocError>
+pub(crate) fn count_fans(alloc: Global, grid: &Grid, boxes: &[PairBox]) -> Result<Fans, AllocError>
     requires grid { AreAxes grid.now }
     requires ordered { All (IsBox grid.now) boxes.now }
     requires limit { length boxes.now ≤ 2 ^ 22 }

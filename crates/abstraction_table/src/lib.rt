@@ -1,30 +1,30 @@
 //! The abstraction of a plant: its game in memory.
 //!
 //! The layer above gives a plant with its deviations, and gets the plant's game, or the exact number of its edges if
-//! these are too many. `survey` gives a `Forward`: a box of cells for each pair, whose cells are the pair's successors.
-//! `build` gives a `Graph`, which also keeps, for each cell, the pairs that lead to it; `with_sources` makes a `Graph`
-//! from what `survey` gave.
+//! these are too many. `build_forward` gives a `Forward`: a box of cells for each pair, whose cells are the pair's successors.
+//! `build` gives a `Graph`, which also keeps, for each cell, the pairs that lead to it; `add_sources` makes a `Graph`
+//! from what `build_forward` gave.
 #![tactic(auto)]
 
 mod abstraction;
 mod band;
-mod blocks;
+mod band_filling;
 mod boxed_game;
-mod boxes;
-mod building;
+mod build_fault;
+mod builders;
+mod cell_lines;
 mod digits;
+mod extent_blocks;
+mod extent_table;
 mod fans;
-mod fault;
-mod filling;
-mod outlook;
+mod forward;
 mod pair_box;
-mod parts;
-mod rows;
+mod pair_boxes;
 mod shapes;
-mod sides;
 mod sources;
+mod terms;
 
 pub use abstraction::Abstraction;
-pub use building::{build, survey, with_sources};
-pub use fault::BuildFault;
-pub use outlook::Outlook;
+pub use build_fault::BuildFault;
+pub use builders::{add_sources, build, build_forward};
+pub use forward::ForwardAbstraction;

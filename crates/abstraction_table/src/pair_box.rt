@@ -1,13 +1,13 @@
 //! The box of a pair as it is kept: two numbers, of which the first is the greater where there is no box.
 ghost use Rattle.std.specs.Prelude.{◌≡◌, ◌*◌, ◌^◌, ◌<◌, ◌≤◌, IfSome, IsTrue};
-ghost use Rattle.grid_quantiser.specs.SideBoxes.{one_cell};
-ghost use Rattle.abstraction_table.specs.inside.Sums.{part, plus};
+ghost use Rattle.grid_quantiser.specs.ExtentBoxes.{one_cell};
+ghost use Rattle.abstraction_table.specs.inside.Sums.{term, plus};
 
-use grid_quantiser::{CellBox, Side};
+use grid_quantiser::{CellBox, Extent};
 use std::marker::Model;
 
 /// The first number where there is no box. It is past the last cell of every sum, so what is added to it stays none.
-const NONE: u32 = 0x1000_0000;
+const NO_BOX: u32 = 0x1000_0000;
 
 /// The box of a pair, or none, in 8 bytes.
 #[derive(Clone, Copy)]
@@ -45,7 +45,7 @@ impl PairBox {
                 last: b.last,
             },
             None => PairBox {
-                first: NONE,
+                first: NO_BOX,
                 last: 0,
             },
         }
@@ -73,18 +73,18 @@ impl PairBox {
         self.first == 0 && self.last == 0
     }
 
-    /// What a side adds to a box, along an axis of which one place makes so many cells: none where the side is missing.
+    /// What an extent adds to a box, along an axis of which one slot makes so many cells: none where the extent is missing.
     #[inline]
-    pub(crate) fn part(side: Option<Side>, stride: u32) -> PairBox
-        requires { IfSome side (λ s. (s.first ≤ s.last) × (s.last * stride < 2 ^ 28)) }
-        ensures { result ≡ part stride side }
+    pub(crate) fn term(extent: Option<Extent>, stride: u32) -> PairBox
+        requires { IfSome extent (λ s. (s.first ≤ s.last) × (s.last * stride < 2 ^ 28)) }
+        ensures { result ≡ term stride extent }
     {
-        let Some(side) = side else {
+        let Some(extent) = extent else {
             return PairBox::new(None);
         };
         PairBox::new(Some(CellBox {
-            first: side.first * stride,
-            last: side.last * stride,
+            first: extent.first * stride,
+            last: extent.last * stride,
         }))
     }
 

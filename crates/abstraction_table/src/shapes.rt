@@ -1,87 +1,87 @@
-//! The runs of the cells of boxes, listed once for all boxes of one shape.
+//! The segments of the cells of boxes, listed once for all boxes of one shape.
 ghost use Rattle.std.specs.Prelude.{◌≡◌, ◌+◌, ◌-◌, ◌^◌, ◌<◌, ◌≤◌, ◌↔◌, IsTrue, length, sum, IfOk};
 ghost use Rattle.std.specs.List.{All, range_with_len};
 ghost use Rattle.grid_quantiser.specs.Axes.{cells_of};
 ghost use Rattle.grid_quantiser.specs.Boxes.{IsCellBox, cells_between};
 ghost use Rattle.abstraction_table.specs.inside.Fans.{AreShapes};
-ghost use Rattle.abstraction_table.specs.inside.Shapes.{cells_from, EndsBy, IsListed, runs_at, HasRunsAt, HaveRunsAt, ListsRuns, KeepsRuns};
+ghost use Rattle.abstraction_table.specs.inside.Shapes.{cells_from, EndsBy, IsListed, segments_at, HasSegmentsAt, HaveSegmentsAt, ListsSegments, KeepsSegments};
 
 use crate::fans::Fans;
 use game_core::CellTest;
-use grid_quantiser::{CellBox, Grid, Runs};
+use grid_quantiser::{CellBox, Grid, Segments};
 use std::alloc::{AllocError, Global};
 
 /// Cells that follow one another: how far the first of them is from the first cell of their box, and
 /// how many they are.
 #[derive(Clone, Copy)]
-pub(crate) struct ShapeRun {
+pub(crate) struct Segment {
     pub(crate) start: u32,
     pub(crate) len: u32,
 }
 
-/// Where the runs of a shape stand among those of all shapes.
+/// Where the segments of a shape stand among those of all shapes.
 #[derive(Clone, Copy)]
-pub(crate) struct Span {
+pub(crate) struct SegmentRange {
     pub(crate) from: u32,
     pub(crate) to: u32,
 }
 
 /// What stands for a shape that isn't listed.
-const NO_SPAN: Span = Span { from: 0, to: 0 };
+const NO_SEGMENTS: SegmentRange = SegmentRange { from: 0, to: 0 };
 
-/// The runs of the shapes of boxes. A box is its shape, moved by its first cell, and how far its last
+/// The segments of the shapes of boxes. A box is its shape, moved by its first cell, and how far its last
 /// cell is from its first tells the shape.
 #[derive(Drop)]
 pub(crate) struct Shapes {
     /// One for each such distance.
-    pub(crate) spans: Vec<Span>,
-    pub(crate) runs: Vec<ShapeRun>,
+    pub(crate) spans: Vec<SegmentRange>,
+    pub(crate) segments: Vec<Segment>,
 }
 
 impl Shapes {
-    /// The runs of a box.
+    /// The segments of a box.
     #[inline]
-    pub(crate) fn runs_of(&self, b: CellBox) -> &[ShapeRun]
+    pub(crate) fn segments_of(&self, b: CellBox) -> &[Segment]
         requires ordered { b.first ≤ b.last }
         requires listed { IsListed self.now (b.last - b.first) }
-        ensures { result.now ≡ runs_at self.now (b.last - b.first) }
+        ensures { result.now ≡ segments_at self.now (b.last - b.first) }
     {
-        let span = self.spans[(b.last - b.first) as usize];
-        &self.runs[span.from as usize..span.to as usize]
+        let range = self.spans[(b.last - b.first) as usize];
+        &self.segments[range.from as usize..range.to as usize]
     }
 
-    /// Lists the runs of the shape of a distance.
+    /// Lists the segments of the shape of a distance.
     fn list(&mut self, grid: &Grid, distance: u32) -> Result<(), AllocError>
         requires shape { IsCellBox grid.now 0 distance }
         requires within { distance < length self.old.spans.items }
-        requires few { length self.old.runs.items + length (cells_between grid.now 0 distance) ≤ 2 ^ 25 }
+        requires few { length self.old.segments.items + length (cells_between grid.now 0 distance) ≤ 2 ^ 25 }
         ensures distances { length self.new.spans.items ≡ length self.old.spans.items }
-        ensures kept { IfOk result (λ _. KeepsRuns grid.now self.old self.new) }
-        ensures listed { IfOk result (λ _. HasRunsAt grid.now self.new distance) }
-        ensures few { IfOk result (λ _. length self.new.runs.items ≤ length self.old.runs.items + length (cells_between grid.now 0 distance)) }
+        ensures kept { IfOk result (λ _. KeepsSegments grid.now self.old self.new) }
+        ensures listed { IfOk result (λ _. HasSegmentsAt grid.now self.new distance) }
+        ensures few { IfOk result (λ _. length self.new.segments.items ≤ length self.old.segments.items + length (cells_between grid.now 0 distance)) }
     {
         let shape = CellBox {
             first: 0,
             last: distance,
         };
-        let from = self.runs.len() as u32;
-        list_runs(grid.runs(shape), &mut self.runs)?;
-        let to = self.runs.len() as u32;
-        self.spans[distance as usize] = Span { from, to };
+        let from = self.segments.len() as u32;
+        list_segments(grid.segments(shape), &mut self.segments)?;
+        let to = self.segments.len() as u32;
+        self.spans[distance as usize] = SegmentRange { from, to };
         Ok(())
     }
 }
 
-/// The runs of the shapes whose cells are counted.
-pub(crate) fn find_shapes(alloc: Global, grid: &Grid, fans: &Fans) -> Result<Shapes, AllocError>
+/// The segments of the shapes whose cells are counted.
+pub(crate) fn build_shapes(alloc: Global, grid: &Grid, fans: &Fans) -> Result<Shapes, AllocError>
     requires distances { length fans.now.counts.items ≡ cells_of grid.now }
     requires shapes { AreShapes grid.now fans.now.counts.items }
     requires few { sum fans.now.counts.items ≤ 2 ^ 25 }
-    ensures { IfOk result (λ shapes. HaveRunsAt grid.now shapes fans.now.counts.items) }
+    ensures { IfOk result (λ shapes. HaveSegmentsAt grid.now shapes fans.now.counts.items) }
 {
     let mut shapes = Shapes {
-        spans: vec![in alloc; NO_SPAN; grid.cells() as usize]?,
-        runs: Vec::new(alloc),
+        spans: vec![in alloc; NO_SEGMENTS; grid.cells() as usize]?,
+        segments: Vec::new(alloc),
     };
     for distance in 0..grid.cells() {
         if fans.counts[distance as usize] > 0 {
@@ -91,25 +91,25 @@ pub(crate) fn find_shapes(alloc: Global, grid: &Grid, fans: &Fans) -> Result<Sha
     Ok(shapes)
 }
 
-/// Puts the runs of cells at the end of a list.
-fn list_runs(mut cells: Runs, runs: &mut Vec<ShapeRun>) -> Result<(), AllocError>
-    ensures { IfOk result (λ _. ListsRuns runs.old.items runs.new.items cells) }
+/// Puts the segments of cells at the end of a list.
+fn list_segments(mut cells: Segments, segments: &mut Vec<Segment>) -> Result<(), AllocError>
+    ensures { IfOk result (λ _. ListsSegments segments.old.items segments.new.items cells) }
 {
-    while let Some((start, len)) = cells.next_run() {
-        runs.push(ShapeRun { start, len })?;
+    while let Some((start, len)) = cells.next_segment() {
+        segments.push(Segment { start, len })?;
     }
     Ok(())
 }
 
-/// Whether each cell of runs, counted from a first cell, passes a test.
+/// Whether each cell of segments, counted from a first cell, passes a test.
 #[inline]
-pub(crate) fn all_pass<T: CellTest>(first: u32, runs: &[ShapeRun], test: &T) -> bool
-    requires within { All (EndsBy (T.cells test.now) first) runs.now }
+pub(crate) fn all_pass<T: CellTest>(first: u32, segments: &[Segment], test: &T) -> bool
+    requires within { All (EndsBy (T.cells test.now) first) segments.now }
     requires few { T.cells test.now ≤ 2 ^ 20 }
-    ensures { IsTrue result ↔ All (T.passes test.now) (cells_from first runs.now) }
+    ensures { IsTrue result ↔ All (T.passes test.now) (cells_from first segments.now) }
 {
-    for run in runs {
-        if !run_passes(first + run.start, run.len, test) {
+    for segment in segments {
+        if !segment_passes(first + segment.start, segment.len, test) {
             return false;
         }
     }
@@ -118,7 +118,7 @@ pub(crate) fn all_pass<T: CellTest>(first: u32, runs: &[ShapeRun], test: &T) -> 
 
 /// Whether so many cells from a first one on all pass a test.
 #[inline]
-fn run_passes<T: CellTest>(first: u32, len: u32, test: &T) -> bool
+fn segment_passes<T: CellTest>(first: u32, len: u32, test: &T) -> bool
     requires within { first + len ≤ T.cells test.now }
     requires few { T.cells test.now ≤ 2 ^ 20 }
     ensures { IsTrue result ↔ All (T.passes test.now) (range_with_len first len) }

@@ -4,12 +4,12 @@ ghost use Rattle.std.specs.List.{All};
 ghost use Rattle.grid_quantiser.specs.Axes.{cells_of, AreAxes};
 ghost use Rattle.edge_rows.specs.Rows.{row_at};
 ghost use Rattle.abstraction_table.specs.declared.sources.TheConstants.{BANDS_LIMIT};
-ghost use Rattle.abstraction_table.specs.inside.Shapes.{HaveRuns};
+ghost use Rattle.abstraction_table.specs.inside.Shapes.{HaveSegments};
 ghost use Rattle.abstraction_table.specs.inside.Sources.{IsBox, AreBandRows, AreSourceBands, band_of};
 ghost use Rattle.abstraction_table.specs.inside.Tallies.{edges_of};
 
 use crate::band::Band;
-use crate::filling::fill_band;
+use crate::band_filling::fill_band;
 use crate::pair_box::PairBox;
 use crate::shapes::Shapes;
 use edge_rows::{NoMemory, Rows};
@@ -44,7 +44,7 @@ impl Sources {
     pub(crate) fn row(&self, c: u32) -> &[u32]
         requires size { 0 < self.now.size }
         requires band { c / self.now.size < length self.now.bands.items }
-        requires place { c % self.now.size < length (band_of self.now.size self.now.bands.items c) }
+        requires slot { c % self.now.size < length (band_of self.now.size self.now.bands.items c) }
         ensures { result.now ≡ row_at (band_of self.now.size self.now.bands.items c) (c % self.now.size) }
     {
         self.bands[(c / self.size) as usize].row(c % self.size)
@@ -52,7 +52,7 @@ impl Sources {
 }
 
 /// The pairs that lead to each cell. Bands are filled side by side, each by one thread.
-pub(crate) fn find_sources<R: Threads + Sync>(
+pub(crate) fn build_sources<R: Threads + Sync>(
     rt: &R,
     alloc: Global,
     grid: &Grid,
@@ -62,7 +62,7 @@ pub(crate) fn find_sources<R: Threads + Sync>(
 ) -> Result<Sources, NoMemory>
     requires grid { AreAxes grid.now }
     requires ordered { All (IsBox grid.now) boxes.now }
-    requires runs { HaveRuns grid.now shapes.now boxes.now }
+    requires segments { HaveSegments grid.now shapes.now boxes.now }
     requires pairs { length boxes.now ≤ 2 ^ 22 }
     requires edges { edges_of grid.now boxes.now ≤ 2 ^ 25 }
     ensures { IfOk result (λ s. AreSourceBands grid.now boxes.now s.size s.bands.items) }
@@ -76,7 +76,7 @@ pub(crate) fn find_sources<R: Threads + Sync>(
             |k: u32| -> Result<Rows, NoMemory>
                 requires grid { AreAxes grid.now }
                 requires ordered { All (IsBox grid.now) boxes.now }
-                requires runs { HaveRuns grid.now shapes.now boxes.now }
+                requires segments { HaveSegments grid.now shapes.now boxes.now }
                 requires pairs { length boxes.now ≤ 2 ^ 22 }
                 requires edges { edges_of grid.now boxes.now ≤ 2 ^ 25 }
                 requires cells { cells ≡ cells_of grid.now }
@@ -102,25 +102,25 @@ pub(crate) fn find_sources<R: Threads + Sync>(
 }
 
 /// How many cells a band has. There is a band for each processor, unless there are few pairs. Where boxes are wide
-/// there are more bands, so that the places at which a band's rows go on stay in fast memory.
+/// there are more bands, so that the indices at which a band's rows go on stay in fast memory.
 fn band_size<R: Threads>(rt: &R, cells: u32, pairs: usize, edges: u64) -> u32
     ensures some { 1 ≤ result }
     ensures few { cells ≤ BANDS_LIMIT * result }
 {
     let pairs = pairs as u64;
     if edges / WIDE_FAN >= pairs {
-        return part_of(cells, edges / EDGES_FOR_A_BAND);
+        return term_of(cells, edges / EDGES_FOR_A_BAND);
     }
     let most = pairs / PAIRS_FOR_A_BAND;
     if most <= 1 {
         // One band needs no number of processors, for which the system's files are read.
-        return part_of(cells, 1);
+        return term_of(cells, 1);
     }
-    part_of(cells, most.min(current_num_threads(rt) as u64))
+    term_of(cells, most.min(current_num_threads(rt) as u64))
 }
 
 /// How many cells a band has where there are so many bands, `BANDS_LIMIT` at most.
-fn part_of(cells: u32, bands: u64) -> u32
+fn term_of(cells: u32, bands: u64) -> u32
     ensures some { 1 ≤ result }
     ensures few { cells ≤ BANDS_LIMIT * result }
 {

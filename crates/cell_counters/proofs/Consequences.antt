@@ -14,7 +14,7 @@ use Rattle.cell_counters.specs.declared.account.Log.{Log}
 use Rattle.cell_counters.specs.declared.account.Offer.{Offer}
 use Rattle.cell_counters.specs.declared.account.Account.{Account}
 use Rattle.cell_counters.specs.Accounts.{minus, lefts, answers, all_answers, cut_count, offers_on, all_offers, values, first_count, IsLeastOf, all_logs, log_count, numbers, cell_at}
-use Rattle.cell_counters.specs.Laws.{countdown, CountsDown, AnswersOnce, OneIsFirst, NothingDone, NewAnswers, NewFirsts, NewPlaces}
+use Rattle.cell_counters.specs.Laws.{countdown, CountsDown, AnswersOnce, OneIsFirst, NothingDone, NewAnswers, NewFirsts, NewSlots}
 use Rattle.cell_counters.proofs.Countdown.{lefts-more}
 use Rattle.cell_counters.proofs.Counts.{one_if, one_at, one_at-yes, one_at-no, times, times-append, times-permutation, range_once, range-append, IsPermutation-rest}
 use Rattle.cell_counters.proofs.Lists.{All-back}
@@ -119,17 +119,17 @@ cells_by_number : (f : ℕ → ℕ) (logs : List Log) → All (λ (l : Log). f l
 cells_by_number f [] told = refl
 cells_by_number f (l ∷ rest) told = cc (All-head (λ (m : Log). f m.number ≡ m.cell) l rest told, cells_by_number f rest (All-tail (λ (m : Log). f m.number ≡ m.cell) l rest told))
 
-pub new_places : NewPlaces
-new_places before more h both =
-    let f : ℕ → ℕ = (λ place. cell_at place (all_logs (before ++ more))) in
+pub new_slots : NewSlots
+new_slots before more h both =
+    let f : ℕ → ℕ = (λ slot. cell_at slot (all_logs (before ++ more))) in
     let b = log_count before in
     let m = log_count more in
     let all : all_logs (before ++ more) ≡ all_logs before ++ all_logs more = flat_map-append (λ (a : Account). a.logs) before more in
     let len : log_count (before ++ more) ≡ b + m = ap length all ∙ length-append (all_logs before) (all_logs more) in
     let drawn : numbers (all_logs (before ++ more)) ≡ numbers (all_logs before) ++ numbers (all_logs more) = ap numbers all ∙ map-append (λ (l : Log). l.number) (all_logs before) (all_logs more) in
-    let places : range_with_len 0 (log_count (before ++ more)) ≡ range_with_len 0 b ++ range_with_len b m = range-append 0 b m b (log_count (before ++ more)) (omega arith) (omega arith) in
+    let slots : range_with_len 0 (log_count (before ++ more)) ≡ range_with_len 0 b ++ range_with_len b m = range-append 0 b m b (log_count (before ++ more)) (omega arith) (omega arith) in
     let rest : IsPermutation (range_with_len b m) (numbers (all_logs more)) =
-    IsPermutation-rest (range_with_len 0 b) (range_with_len b m) (numbers (all_logs before)) (numbers (all_logs more)) h (subst (λ l. IsPermutation l (numbers (all_logs before) ++ numbers (all_logs more))) places (subst (IsPermutation (range_with_len 0 (log_count (before ++ more)))) drawn both)) in
+    IsPermutation-rest (range_with_len 0 b) (range_with_len b m) (numbers (all_logs before)) (numbers (all_logs more)) h (subst (λ l. IsPermutation l (numbers (all_logs before) ++ numbers (all_logs more))) slots (subst (IsPermutation (range_with_len 0 (log_count (before ++ more)))) drawn both)) in
     let told : All (λ (l : Log). f l.number ≡ l.cell) (all_logs (before ++ more)) =
     cells_told (all_logs (before ++ more)) (λ v. let once = range_once v 0 (log_count (before ++ more)) in let same = times-permutation v (range_with_len 0 (log_count (before ++ more))) (numbers (all_logs (before ++ more))) both in omega arith) in
     let of_more : All (λ (l : Log). f l.number ≡ l.cell) (all_logs more) = All-back (λ (l : Log). f l.number ≡ l.cell) (all_logs before) (all_logs more) (subst (All (λ (l : Log). f l.number ≡ l.cell)) all told) in

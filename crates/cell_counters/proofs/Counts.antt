@@ -55,7 +55,7 @@ range_once v a (suc n) =
     (λ (here : a ≡ v). let one = one_at-yes v a here in let later = range_past v (a + 1) n (omega arith) in omega arith)
     (λ (else : a ≢ v). let none = one_at-no v a else in let later = range_once v (a + 1) n in omega arith)
 
--- two ranges, one behind the other
+-- two ranges, one after the other
 pub range-append : (a m n b l : ℕ) → a + m ≡ b → m + n ≡ l → range_with_len a l ≡ range_with_len a m ++ range_with_len b n
 range-append a zero n b l from all = ap (λ (k : ℕ). range_with_len k l) (omega arith) ∙ ap (range_with_len b) (omega arith)
 range-append a (suc m) n b zero from all = absurd (omega arith)
@@ -67,10 +67,10 @@ stands v (x ∷ xs) some =
     let both = times-cons v x xs in
     dite (ℕ_discrete x v)
     (λ (here : x ≡ v). (0, omega arith, here))
-    (λ (else : x ≢ v). let none = one_at-no v x else in behind (stands v xs (omega arith)))
+    (λ (else : x ≢ v). let none = one_at-no v x else in after (stands v xs (omega arith)))
   where
-    behind : Contains xs v → Contains (x ∷ xs) v
-    behind (i, lt, e) = (suc i, omega arith, e)
+    after : Contains xs v → Contains (x ∷ xs) v
+    after (i, lt, e) = (suc i, omega arith, e)
 
 -- lists in which each number stands as often are the same but for their order
 pub IsPermutation-times : (xs ys : List ℕ) → ((v : ℕ) → times v xs ≡ times v ys) → IsPermutation xs ys

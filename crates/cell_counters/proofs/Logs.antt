@@ -18,7 +18,7 @@ use Rattle.cell_counters.specs.declared.rule.Setup.{Setup}
 use Rattle.cell_counters.specs.declared.rule.View.{View}
 use Rattle.cell_counters.specs.Accounts.{all_logs, log_count, numbers, cell_at}
 use Rattle.cell_counters.specs.Tokens.{blank, with_log}
-use Rattle.cell_counters.specs.inside.Rules.{accounts_of, account_of, tail_of, place_of, IsCounted, IsStored, HasStored, KeepsLog, awaited, drawn, settled, one_more, new_hand, collected, nobody}
+use Rattle.cell_counters.specs.inside.Rules.{accounts_of, account_of, tail_of, slot_of, IsCounted, IsStored, HasStored, KeepsLog, awaited, drawn, settled, one_more, new_hand, collected, nobody}
 use Rattle.cell_counters.proofs.Lists.{All-at, All-parts, All-joined, pushed_inside}
 use Rattle.cell_counters.proofs.Parts.{replaced, entries_were, entries_stay, entries_grow}
 use Rattle.cell_counters.proofs.Counts.{one_at-yes, times, times-cons, times-permutation, range_once, range-append, never}
@@ -115,17 +115,17 @@ log_stays n words others views id v w a b at one other logs awaits same h =
     let own : all_logs v.accounts ≡ all_logs w.accounts = ap all_logs one ∙ ap (λ l. l ++ []) (sym logs) ∙ ap all_logs (sym other) in
     let mine : HasStored n words v → HasStored n words w = subst (λ (p : List Log × Option ℕ). All (IsStored n words p.1) p.0) (λ k. (own k, sym awaits k)) in
     let moved : (u : View) → HasStored n words u → HasStored n others u =
-    (λ u. All-weaker (IsStored n words u.awaits) (IsStored n others u.awaits) (λ l has below apart. same (place_of n l.number) (omega arith) ∙ has below apart) (all_logs u.accounts)) in
+    (λ u. All-weaker (IsStored n words u.awaits) (IsStored n others u.awaits) (λ l has below apart. same (slot_of n l.number) (omega arith) ∙ has below apart) (all_logs u.accounts)) in
     record {
       counted = subst (IsCounted (all_logs (accounts_of (set views id w)))) (sym (same (tail_of n) (omega arith))) (subst (λ l. IsCounted l (slice_index words (tail_of n))) (sym all) h.counted);
-      cells = λ k lt. subst (λ x. x < 2 ^ 32) (sym (same (place_of n k) (omega arith))) (h.cells k lt);
+      cells = λ k lt. subst (λ x. x < 2 ^ 32) (sym (same (slot_of n k) (omega arith))) (h.cells k lt);
       stored = λ few.
           let was : All (HasStored n words) views = h.stored (subst (λ l. length l < 2 ^ 64) all few) in
           All-set (HasStored n others) views id w (moved w (mine (All-at (HasStored n words) views id v at was))) (All-weaker (HasStored n words) (HasStored n others) moved views was);
     }
 
-pub awaited_is : (places number : ℕ) → number < places → awaited places number ≡ Some number
-awaited_is places number lt = ap (λ (b : Bool). cond b (Some number) None) (lt-ltb number places lt)
+pub awaited_is : (slots number : ℕ) → number < slots → awaited slots number ≡ Some number
+awaited_is slots number lt = ap (λ (b : Bool). cond b (Some number) None) (lt-ltb number slots lt)
 
 -- a draw
 pub log_draws : (n : Setup) (words : List ℕ) (views : List View) (id cell : ℕ) (v : View) → get_elem? views id ≡ some v → v.accounts ≡ account_of v ∷ [] → v.awaits ≡ None → v.began ≡ n → tail_of n < length words
@@ -143,7 +143,7 @@ log_draws n words views id cell v at one idle began there h =
     let new : all_logs w.accounts ≡ a.logs ++ l ∷ [] = append-nil (a.logs ++ l ∷ []) in
     let grown : IsPermutation (l ∷ all_logs xs) (all_logs ys) = entries_grow logs_of xs ys a b (replaced views id v w a b at one refl) l refl in
     let count : log_count ys ≡ log_count xs + 1 = length_permutation (l ∷ all_logs xs) (all_logs ys) grown ∙ omega arith in
-    let apart : (k : ℕ) → slice_index others (place_of n k) ≡ slice_index words (place_of n k) = (λ k. get_or-set_other words (tail_of n) (place_of n k) ((now + 1) % 2 ^ 64) 0 (λ e. absurd (omega arith))) in
+    let apart : (k : ℕ) → slice_index others (slot_of n k) ≡ slice_index words (slot_of n k) = (λ k. get_or-set_other words (tail_of n) (slot_of n k) ((now + 1) % 2 ^ 64) 0 (λ e. absurd (omega arith))) in
     let moved : (u : View) → HasStored n words u → HasStored n others u = (λ u. All-weaker (IsStored n words u.awaits) (IsStored n others u.awaits) (λ m has below free. apart m.number ∙ has below free) (all_logs u.accounts)) in
     record {
       counted = subst (IsCounted (all_logs ys)) (sym (get_or-set_same words (tail_of n) ((now + 1) % 2 ^ 64) 0 there))
@@ -155,18 +155,18 @@ log_draws n words views id cell v at one idle began there h =
           let earlier : All (IsStored n others w.awaits) a.logs =
           subst (All (IsStored n others w.awaits)) mine
           (All-weaker (IsStored n others v.awaits) (IsStored n others w.awaits) (λ m has below free. has below (λ e. absurd (cc (idle, e)))) (all_logs v.accounts) own) in
-          let latest : IsStored n others w.awaits l = (λ below free. absurd (free (awaited_is v.began.places now (subst (λ (m : Setup). now < m.places) (sym began) below)))) in
+          let latest : IsStored n others w.awaits l = (λ below free. absurd (free (awaited_is v.began.slots now (subst (λ (m : Setup). now < m.slots) (sym began) below)))) in
           All-set (HasStored n others) views id w (subst (All (IsStored n others w.awaits)) (sym new) (All-push (IsStored n others w.awaits) a.logs l earlier latest)) (All-weaker (HasStored n words) (HasStored n others) moved views before);
     }
 
--- a store at the place that was drawn
-pub log_stores : (n : Setup) (words : List ℕ) (views : List View) (id cell place : ℕ) (v : View) (a : Account) → get_elem? views id ≡ some v → v.accounts ≡ with_log a cell place ∷ [] → v.awaits ≡ Some place → place < n.places → cell < 2 ^ 32 → place_of n place < length words
-    → KeepsLog n words views → KeepsLog n (set words (place_of n place) cell) (set views id (settled v))
-log_stores n words views id cell place v a at one awaits lt small there h =
-    let l : Log = record { cell = cell; number = place } in
-    let others = set words (place_of n place) cell in
+-- a store at the slot that was drawn
+pub log_stores : (n : Setup) (words : List ℕ) (views : List View) (id cell slot : ℕ) (v : View) (a : Account) → get_elem? views id ≡ some v → v.accounts ≡ with_log a cell slot ∷ [] → v.awaits ≡ Some slot → slot < n.slots → cell < 2 ^ 32 → slot_of n slot < length words
+    → KeepsLog n words views → KeepsLog n (set words (slot_of n slot) cell) (set views id (settled v))
+log_stores n words views id cell slot v a at one awaits lt small there h =
+    let l : Log = record { cell = cell; number = slot } in
+    let others = set words (slot_of n slot) cell in
     let w = settled v in
-    let b = with_log a cell place in
+    let b = with_log a cell slot in
     let xs = accounts_of views in
     let ys = accounts_of (set views id w) in
     let r = replaced views id v w b b at one one in
@@ -174,27 +174,27 @@ log_stores n words views id cell place v a at one awaits lt small there h =
     let R = all_logs r.back in
     let all : all_logs ys ≡ all_logs xs = entries_stay logs_of xs ys b b r refl in
     let grown : IsPermutation (l ∷ (F ++ (a.logs ++ R))) (all_logs xs) = subst (IsPermutation (l ∷ (F ++ (a.logs ++ R)))) (sym (entries_were logs_of xs ys b b r)) (pushed_inside F a.logs R l) in
-    let tail : slice_index others (tail_of n) ≡ slice_index words (tail_of n) = get_or-set_other words (place_of n place) (tail_of n) cell 0 (λ e. absurd (omega arith)) in
-    let here : slice_index others (place_of n place) ≡ cell = get_or-set_same words (place_of n place) cell 0 there in
-    let apart : (k : ℕ) → k ≢ place → slice_index others (place_of n k) ≡ slice_index words (place_of n k) = (λ k other. get_or-set_other words (place_of n place) (place_of n k) cell 0 (λ e. other (omega arith))) in
-    let kept : (x y : Option ℕ) (m : Log) → ((m.number ≢ place) → y ≢ Some m.number → x ≢ Some m.number) → IsStored n words x m → (m.number ≡ place → m.cell ≡ cell) → IsStored n others y m =
+    let tail : slice_index others (tail_of n) ≡ slice_index words (tail_of n) = get_or-set_other words (slot_of n slot) (tail_of n) cell 0 (λ e. absurd (omega arith)) in
+    let here : slice_index others (slot_of n slot) ≡ cell = get_or-set_same words (slot_of n slot) cell 0 there in
+    let apart : (k : ℕ) → k ≢ slot → slice_index others (slot_of n k) ≡ slice_index words (slot_of n k) = (λ k other. get_or-set_other words (slot_of n slot) (slot_of n k) cell 0 (λ e. other (omega arith))) in
+    let kept : (x y : Option ℕ) (m : Log) → ((m.number ≢ slot) → y ≢ Some m.number → x ≢ Some m.number) → IsStored n words x m → (m.number ≡ slot → m.cell ≡ cell) → IsStored n others y m =
     (λ x y m frees has told below free.
-    dite (ℕ_discrete m.number place)
-    (λ (same : m.number ≡ place). ap (λ k. slice_index others (place_of n k)) same ∙ here ∙ sym (told same))
-    (λ (other : m.number ≢ place). apart m.number other ∙ has below (frees other free))) in
+    dite (ℕ_discrete m.number slot)
+    (λ (same : m.number ≡ slot). ap (λ k. slice_index others (slot_of n k)) same ∙ here ∙ sym (told same))
+    (λ (other : m.number ≢ slot). apart m.number other ∙ has below (frees other free))) in
     record {
       counted = subst (IsCounted (all_logs ys)) (sym tail) (subst (λ x. IsCounted x (slice_index words (tail_of n))) (sym all) h.counted);
       cells = λ k below.
-          dite (ℕ_discrete k place)
-          (λ (same : k ≡ place). subst (λ x. x < 2 ^ 32) (sym (ap (λ j. slice_index others (place_of n j)) same ∙ here)) small)
-          (λ (other : k ≢ place). subst (λ x. x < 2 ^ 32) (sym (apart k other)) (h.cells k below));
+          dite (ℕ_discrete k slot)
+          (λ (same : k ≡ slot). subst (λ x. x < 2 ^ 32) (sym (ap (λ j. slice_index others (slot_of n j)) same ∙ here)) small)
+          (λ (other : k ≢ slot). subst (λ x. x < 2 ^ 32) (sym (apart k other)) (h.cells k below));
       stored = λ few.
           let few_before : log_count xs < 2 ^ 64 = subst (λ x. length x < 2 ^ 64) all few in
           let before : All (HasStored n words) views = h.stored few_before in
-          let told : All (λ (u : View). All (λ (m : Log). m.number ≡ place → m.cell ≡ cell) (all_logs u.accounts)) views =
-          of_views (λ (m : Log). m.number ≡ place → m.cell ≡ cell) views (has_cell (all_logs xs) (F ++ (a.logs ++ R)) l (slice_index words (tail_of n)) grown few_before h.counted) in
+          let told : All (λ (u : View). All (λ (m : Log). m.number ≡ slot → m.cell ≡ cell) (all_logs u.accounts)) views =
+          of_views (λ (m : Log). m.number ≡ slot → m.cell ≡ cell) views (has_cell (all_logs xs) (F ++ (a.logs ++ R)) l (slice_index words (tail_of n)) grown few_before h.counted) in
           let own = All-at (HasStored n words) views id v at before in
-          let own_told = All-at (λ (u : View). All (λ (m : Log). m.number ≡ place → m.cell ≡ cell) (all_logs u.accounts)) views id v at told in
+          let own_told = All-at (λ (u : View). All (λ (m : Log). m.number ≡ slot → m.cell ≡ cell) (all_logs u.accounts)) views id v at told in
           All-set (HasStored n others) views id w
           (λ k d in_range. kept v.awaits None _ (λ other free e. other (cc (awaits, e))) (own k d in_range) (own_told k d in_range))
           (λ k d in_range j e in_logs. kept _ _ _ (λ other free. free) (before k d in_range j e in_logs) (told k d in_range j e in_logs));

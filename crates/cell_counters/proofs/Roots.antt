@@ -18,7 +18,7 @@ use Rattle.cell_counters.specs.declared.rule.View.{View}
 use Rattle.cell_counters.specs.declared.rule.Beginning.{Beginning}
 use Rattle.cell_counters.specs.Accounts.{answers, offers_on, all_answers, all_offers, all_logs, log_count, IsLawfulCounter, IsLawfulLeast}
 use Rattle.cell_counters.specs.Tokens.{BoardModel, blank}
-use Rattle.cell_counters.specs.inside.Rules.{Keeps, Knows, Stands, IsCounted, IsStored, HasStored, setup_of, tail_of, place_of, board_of, accounts_of, made_of, root_of, one_more, new_hand, collected, nobody, Seated, Explains, Looks, IsSized}
+use Rattle.cell_counters.specs.inside.Rules.{Keeps, Knows, Stands, IsCounted, IsStored, HasStored, setup_of, tail_of, slot_of, board_of, accounts_of, made_of, root_of, one_more, new_hand, collected, nobody, Seated, Explains, Looks, IsSized}
 use Rattle.cell_counters.proofs.Lists.{All-at, around, part_moved, flat_map_moved}
 use Rattle.cell_counters.proofs.Logs.{counted_begins, log_welcomes, log_joins, has_number, cell_at-is}
 use Rattle.cell_counters.proofs.Cuts.{counter_begins, counter_moved, counter_welcomes}
@@ -63,8 +63,8 @@ took_in root front back w = ap (λ l. (root.accounts ++ w.accounts) ++ l) (flat_
 pub root_joins : (n : Setup) (id other : ℕ) (v w : View) → id ≡ 0 → v.began ≡ n → v.awaits ≡ None → w.awaits ≡ None → Joins {S = Unit {0}} (Keeps n) id v other w (collected v w) nobody
 root_joins n id other v w first began idle idle_hand s h at apart there =
     let at_front : get_elem? s.views 0 ≡ some v = subst (λ k. get_elem? s.views k ≡ some v) first at in
-    let behind : get_elem? (set s.views 0 (collected v w)) other ≡ some w = subst (λ k. get_elem? (set s.views k (collected v w)) other ≡ some w) first there in
-    subst (λ k. Keeps n (record { words = s.words; homes = s.homes; views = set (set s.views k (collected v w)) other nobody })) (sym first) (join s.views other refl at_front behind (λ e. apart (e ∙ sym first)))
+    let rest_after : get_elem? (set s.views 0 (collected v w)) other ≡ some w = subst (λ k. get_elem? (set s.views k (collected v w)) other ≡ some w) first there in
+    subst (λ k. Keeps n (record { words = s.words; homes = s.homes; views = set (set s.views k (collected v w)) other nobody })) (sym first) (join s.views other refl at_front rest_after (λ e. apart (e ∙ sym first)))
   where
     join : (views : List View) (k : ℕ) → s.views ≡ views → get_elem? s.views 0 ≡ some v → get_elem? (set s.views 0 (collected v w)) k ≡ some w → k ≢ 0
         → Keeps n (record { words = s.words; homes = s.homes; views = set (set s.views 0 (collected v w)) k nobody })
@@ -119,18 +119,18 @@ explains n at s v h there mine idle =
       least = λ w lt is_at. subst (λ k. IsLawfulLeast v.accounts w (slice_index n.least w) (slice_index s.words k)) (sym is_at) (words w lt);
       tail = λ is_at. ap (λ k. slice_index s.words k) is_at ∙ counted.count;
       cell = λ past within. subst (λ j. slice_index s.words j < 2 ^ 32) (omega arith) (h.log.cells (at - (tail_of n + 1)) (omega arith));
-      place = λ k lt is_at few.
+      slot = λ k lt is_at few.
           let stored : HasStored n s.words v = All-at (HasStored n s.words) s.views 0 v there (h.log.stored (subst (λ l. log_count l < 2 ^ 64) (sym mine) few)) in
-          ap (λ j. slice_index s.words j) is_at ∙ sym (cell_at-is (all_logs v.accounts) k (slice_index s.words (place_of n k)) (has_number (all_logs v.accounts) k (slice_index s.words (tail_of n)) (omega arith) few counted)
-          (All-weaker (IsStored n s.words v.awaits) (λ (l : Log). l.number ≡ k → l.cell ≡ slice_index s.words (place_of n k))
-          (λ l has is. sym (ap (λ j. slice_index s.words (place_of n j)) (sym is) ∙ has (omega arith) (λ e. absurd (cc (idle, e))))) (all_logs v.accounts) stored));
+          ap (λ j. slice_index s.words j) is_at ∙ sym (cell_at-is (all_logs v.accounts) k (slice_index s.words (slot_of n k)) (has_number (all_logs v.accounts) k (slice_index s.words (tail_of n)) (omega arith) few counted)
+          (All-weaker (IsStored n s.words v.awaits) (λ (l : Log). l.number ≡ k → l.cell ≡ slice_index s.words (slot_of n k))
+          (λ l has is. sym (ap (λ j. slice_index s.words (slot_of n j)) (sym is) ∙ has (omega arith) (λ e. absurd (cc (idle, e))))) (all_logs v.accounts) stored));
     }
 
 -- what the root is told by a look
-looks : (n : Setup) (slots at : ℕ) (me : Seated) (s : State (Unit {0}) View) → me.0.began ≡ n → me.0.awaits ≡ None → Keeps n s → get_elem? s.views 0 ≡ some me.0 → Looks (step slots at 0 0 none) me (slice_index s.words at) me
-looks n slots at me s began idle h there = look s.views refl there
+looks : (n : Setup) (slot_count at : ℕ) (me : Seated) (s : State (Unit {0}) View) → me.0.began ≡ n → me.0.awaits ≡ None → Keeps n s → get_elem? s.views 0 ≡ some me.0 → Looks (step slot_count at 0 0 none) me (slice_index s.words at) me
+looks n slot_count at me s began idle h there = look s.views refl there
   where
-    look : (views : List View) → s.views ≡ views → get_elem? s.views 0 ≡ some me.0 → Looks (step slots at 0 0 none) me (slice_index s.words at) me
+    look : (views : List View) → s.views ≡ views → get_elem? s.views 0 ≡ some me.0 → Looks (step slot_count at 0 0 none) me (slice_index s.words at) me
     look [] is here = absurd (some-ne-none me.0 (sym here ∙ ap (λ vs. get_elem? vs 0) is))
     look (r ∷ hands) is here =
         let root : r ≡ me.0 = some-injective r me.0 (sym (ap (λ vs. get_elem? vs 0) is) ∙ here) in
@@ -144,23 +144,23 @@ looks n slots at me s began idle h there = look s.views refl there
               (explains n at s me.0 h here (all ∙ nothing_else me.0.accounts (accounts_of hands) (sym made ∙ sym alone)) idle);
         }
 
-pub look_allowed : (n : Setup) (slots id at : ℕ) (me : Seated) → id ≡ 0 → me.0.began ≡ n → me.0.awaits ≡ None → Allows (Keeps n) slots id me at (λ m. m) (Looks (step slots at 0 0 none) me)
-look_allowed n slots id at me first began idle s h home there small =
+pub look_allowed : (n : Setup) (slot_count id at : ℕ) (me : Seated) → id ≡ 0 → me.0.began ≡ n → me.0.awaits ≡ None → Allows (Keeps n) slot_count id me at (λ m. m) (Looks (step slot_count at 0 0 none) me)
+look_allowed n slot_count id at me first began idle s h home there small =
     let front : get_elem? s.views 0 ≡ some me.0 = subst (λ k. get_elem? s.views k ≡ some me.0) first there in (
       me.0,
       keeps,
       tt,
       keeps_as n s (record { words = set s.words at (slice_index s.words at); homes = s.homes; views = set s.views id me.0 }) (set-get_or s.words at 0) (set_again s.views id me.0 there) h,
-      looks n slots at me s began idle h front,
+      looks n slot_count at me s began idle h front,
     )
 
 -- where the words of a table lie
-pub starts_len : (b : Beginning) (counters tail places words : ℕ) → IsSized b counters tail places words → length (setup_of b).starts ≡ counters
-starts_len b counters tail places words sized = length-take-le b.counters b.words.value.items (omega (arith, sized.split, sized.within, sized.both)) ∙ sym sized.split
+pub starts_len : (b : Beginning) (counters tail slots words : ℕ) → IsSized b counters tail slots words → length (setup_of b).starts ≡ counters
+starts_len b counters tail slots words sized = length-take-le b.counters b.words.value.items (omega (arith, sized.split, sized.within, sized.both)) ∙ sym sized.split
 
-pub tail_is : (b : Beginning) (counters tail places words : ℕ) → IsSized b counters tail places words → tail_of (setup_of b) ≡ tail
-tail_is b counters tail places words sized =
-    let front = starts_len b counters tail places words sized in
+pub tail_is : (b : Beginning) (counters tail slots words : ℕ) → IsSized b counters tail slots words → tail_of (setup_of b) ≡ tail
+tail_is b counters tail slots words sized =
+    let front = starts_len b counters tail slots words sized in
     let len : length (setup_of b).least ≡ length b.words.value.items - b.counters = length-drop b.counters b.words.value.items in
     omega (arith, sized.split, sized.within, sized.both)
 
@@ -169,20 +169,20 @@ pub setup_is : (t u : TableId) (m n : Setup) → board_of t m ≡ board_of u n �
 setup_is t u m n e = ap begun e
   where
     begun : BoardModel → Setup
-    begun b = record { starts = b.starts; least = b.least; places = b.places }
+    begun b = record { starts = b.starts; least = b.least; slots = b.slots }
 
 -- a new table keeps the rule
-pub begins : (b : Beginning) (counters tail places words : ℕ) → IsSized b counters tail places words → All (λ m. m < 2 ^ 64) b.words.value.items → Keeps (setup_of b) (opening (b.words.value.items ++ replicate (1 + places) 0) [] (root_of b))
-begins b counters tail places words sized small =
+pub begins : (b : Beginning) (counters tail slots words : ℕ) → IsSized b counters tail slots words → All (λ m. m < 2 ^ 64) b.words.value.items → Keeps (setup_of b) (opening (b.words.value.items ++ replicate (1 + slots) 0) [] (root_of b))
+begins b counters tail slots words sized small =
     let items = b.words.value.items in
-    let zeros : List ℕ = replicate (1 + places) 0 in
+    let zeros : List ℕ = replicate (1 + slots) 0 in
     let n = setup_of b in
-    let front : length (take b.counters items) ≡ counters = starts_len b counters tail places words sized in
-    let tail_at : tail_of n ≡ tail = tail_is b counters tail places words sized in
-    let zero_at : (k : ℕ) → k < 1 + places → slice_index (items ++ zeros) (tail + k) ≡ 0 =
-    (λ k lt. ap (λ j. slice_index (items ++ zeros) (j + k)) sized.both ∙ get_or-append-add items zeros k 0 ∙ get_or-replicate (1 + places) k 0 0 lt) in
+    let front : length (take b.counters items) ≡ counters = starts_len b counters tail slots words sized in
+    let tail_at : tail_of n ≡ tail = tail_is b counters tail slots words sized in
+    let zero_at : (k : ℕ) → k < 1 + slots → slice_index (items ++ zeros) (tail + k) ≡ 0 =
+    (λ k lt. ap (λ j. slice_index (items ++ zeros) (j + k)) sized.both ∙ get_or-append-add items zeros k 0 ∙ get_or-replicate (1 + slots) k 0 0 lt) in
     record {
-      width = length-append items zeros ∙ omega (arith, length-replicate {A = ℕ} (1 + places) 0, sized.both, sized.log);
+      width = length-append items zeros ∙ omega (arith, length-replicate {A = ℕ} (1 + slots) 0, sized.both, sized.log);
       made = refl;
       known = All-cons (Knows n) (root_of b) [] (inr refl) (All-nil (Knows n));
       cuts = λ c lt.

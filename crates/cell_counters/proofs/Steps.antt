@@ -14,7 +14,7 @@ use Rattle.cell_counters.specs.declared.rule.Setup.{Setup}
 use Rattle.cell_counters.specs.declared.rule.View.{View}
 use Rattle.cell_counters.specs.Accounts.{IsLawfulCounter, answers, offers_on}
 use Rattle.cell_counters.specs.Tokens.{with_cut, with_offer, with_note, with_log}
-use Rattle.cell_counters.specs.inside.Rules.{Keeps, ExplainsCounters, ExplainsLeast, KeepsLog, Knows, Stands, accounts_of, account_of, tail_of, place_of, nobody, with_account, drawn, settled, Seated, Cuts, Offers, Notes, Draws, Stores}
+use Rattle.cell_counters.specs.inside.Rules.{Keeps, ExplainsCounters, ExplainsLeast, KeepsLog, Knows, Stands, accounts_of, account_of, tail_of, slot_of, nobody, with_account, drawn, settled, Seated, Cuts, Offers, Notes, Draws, Stores}
 use Rattle.cell_counters.proofs.Lists.{All-at}
 use Rattle.cell_counters.proofs.Logs.{log_stays, log_draws, log_stores}
 use Rattle.cell_counters.proofs.Parts.{Replaced, replaced, made_of-set, length-replaced}
@@ -71,9 +71,9 @@ cut_counters starts words xs ys a counter there r h c lt =
     subst (IsLawfulCounter ys c (slice_index starts c)) (sym (get_or-set_other words counter c x 0 else))
     (counter_stays xs ys a (with_cut a counter x) c (slice_index starts c) (slice_index words c) r (answers-other_cut a counter c x (λ e. else (sym e))) (h c lt)))
 
-pub cut_allowed : (n : Setup) (slots id counter : ℕ) (me : Seated) → me.0.accounts ≡ account_of me.0 ∷ [] → counter < length n.starts
-    → Allows (Keeps n) slots id me counter (λ m. (m + (2 ^ 64 - 1)) % 2 ^ 64) (Cuts (step slots counter 1 0 none) me)
-cut_allowed n slots id counter me one there s h home at small =
+pub cut_allowed : (n : Setup) (slot_count id counter : ℕ) (me : Seated) → me.0.accounts ≡ account_of me.0 ∷ [] → counter < length n.starts
+    → Allows (Keeps n) slot_count id me counter (λ m. (m + (2 ^ 64 - 1)) % 2 ^ 64) (Cuts (step slot_count counter 1 0 none) me)
+cut_allowed n slot_count id counter me one there s h home at small =
     let x = (slice_index s.words counter + (2 ^ 64 - 1)) % 2 ^ 64 in
     let a = account_of me.0 in
     let b = with_cut a counter x in
@@ -93,9 +93,9 @@ cut_allowed n slots id counter me one there s h home at small =
 loaded : (words : List ℕ) (i : ℕ) → set words i (slice_index words i) ≡ words
 loaded words i = set-get_or words i 0
 
-pub note_allowed : (n : Setup) (slots id item : ℕ) (me : Seated) → me.0.accounts ≡ account_of me.0 ∷ []
-    → Allows (Keeps n) slots id me 0 (λ m. m) (Notes item (step slots 0 0 0 none) me)
-note_allowed n slots id item me one s h home at small =
+pub note_allowed : (n : Setup) (slot_count id item : ℕ) (me : Seated) → me.0.accounts ≡ account_of me.0 ∷ []
+    → Allows (Keeps n) slot_count id me 0 (λ m. m) (Notes item (step slot_count 0 0 0 none) me)
+note_allowed n slot_count id item me one s h home at small =
     let a = account_of me.0 in
     let b = with_note a item in
     let w = with_account me.0 b in
@@ -127,9 +127,9 @@ offer_least starts least words xs ys a at word value is there small r h w lt =
     subst (Stands ys w (slice_index least w)) (sym (get_or-set_other words at (length starts + w) (min found value) 0 (λ e. else (omega arith))))
     (word_stays xs ys a b w (slice_index least w) (slice_index words (length starts + w)) r (offers_on-other_offer a word w value (found == NONE) (λ e. else (sym e))) (h w lt)))
 
-pub offer_allowed : (n : Setup) (slots id at value : ℕ) (me : Seated) → me.0.accounts ≡ account_of me.0 ∷ [] → length n.starts ≤ at → at < tail_of n → value < NONE
-    → Allows (Keeps n) slots id me at (λ m. min m value) (Offers (step slots at value 0 none) me)
-offer_allowed n slots id at value me one past there small s h home seat full =
+pub offer_allowed : (n : Setup) (slot_count id at value : ℕ) (me : Seated) → me.0.accounts ≡ account_of me.0 ∷ [] → length n.starts ≤ at → at < tail_of n → value < NONE
+    → Allows (Keeps n) slot_count id me at (λ m. min m value) (Offers (step slot_count at value 0 none) me)
+offer_allowed n slot_count id at value me one past there small s h home seat full =
     let began : me.0.began ≡ n = hand_knows n s id me.0 (account_of me.0) h seat one in
     let word = at - length me.0.began.starts in
     let is : at ≡ length n.starts + word = omega (arith, ap (λ (m : Setup). length m.starts) began) in
@@ -146,7 +146,7 @@ offer_allowed n slots id at value me one past there small s h home seat full =
       keeps_after n s at (min found value) id me.0 w a b h seat one refl refl refl
           (λ r. counters_words n.starts s.words (set s.words at (min found value)) ys (λ k lt. get_or-set_other s.words at k (min found value) 0 (λ e. absurd (omega arith))) (counters_stay n.starts s.words xs ys a b r (λ c. refl) h.cuts))
           (λ r. offer_least n.starts n.least s.words xs ys a at word value is (let width = h.width in omega arith) small r h.offers)
-          (log_stays n s.words (set s.words at (min found value)) s.views id me.0 w a b seat one refl refl refl (λ k behind. get_or-set_other s.words at k (min found value) 0 (λ e. absurd (omega arith))) h.log),
+          (log_stays n s.words (set s.words at (min found value)) s.views id me.0 w a b seat one refl refl refl (λ k after. get_or-set_other s.words at k (min found value) 0 (λ e. absurd (omega arith))) h.log),
       (
         refl,
         λ free.
@@ -155,9 +155,9 @@ offer_allowed n slots id at value me one past there small s h home seat full =
       ),
     )
 
-pub draw_allowed : (n : Setup) (slots id at cell : ℕ) (me : Seated) → me.0.accounts ≡ account_of me.0 ∷ [] → me.0.awaits ≡ None → at ≡ tail_of n
-    → Allows (Keeps n) slots id me at (λ m. (m + 1) % 2 ^ 64) (Draws cell (step slots at 1 0 none) me)
-draw_allowed n slots id at cell me one idle is s h home seat full =
+pub draw_allowed : (n : Setup) (slot_count id at cell : ℕ) (me : Seated) → me.0.accounts ≡ account_of me.0 ∷ [] → me.0.awaits ≡ None → at ≡ tail_of n
+    → Allows (Keeps n) slot_count id me at (λ m. (m + 1) % 2 ^ 64) (Draws cell (step slot_count at 1 0 none) me)
+draw_allowed n slot_count id at cell me one idle is s h home seat full =
     let began : me.0.began ≡ n = hand_knows n s id me.0 (account_of me.0) h seat one in
     let now = slice_index s.words at in
     let x = (now + 1) % 2 ^ 64 in
@@ -176,11 +176,11 @@ draw_allowed n slots id at cell me one idle is s h home seat full =
       refl,
     )
 
-pub store_allowed : (n : Setup) (slots id at place cell : ℕ) (me : Seated) (a : Account) → me.0.accounts ≡ with_log a cell place ∷ [] → me.0.awaits ≡ Some place → place < n.places → cell < 2 ^ 32 → at ≡ place_of n place
-    → Allows (Keeps n) slots id me at (λ m. cell) (λ m. Stores (step slots at cell 0 none) me cell)
-store_allowed n slots id at place cell me a one awaits below small is s h home seat full =
+pub store_allowed : (n : Setup) (slot_count id at slot cell : ℕ) (me : Seated) (a : Account) → me.0.accounts ≡ with_log a cell slot ∷ [] → me.0.awaits ≡ Some slot → slot < n.slots → cell < 2 ^ 32 → at ≡ slot_of n slot
+    → Allows (Keeps n) slot_count id me at (λ m. cell) (λ m. Stores (step slot_count at cell 0 none) me cell)
+store_allowed n slot_count id at slot cell me a one awaits below small is s h home seat full =
     let w = settled me.0 in
-    let b = with_log a cell place in
+    let b = with_log a cell slot in
     let ys = accounts_of (set s.views id w) in (
       w,
       keeps,
@@ -189,6 +189,6 @@ store_allowed n slots id at place cell me a one awaits below small is s h home s
           (λ r. counters_words n.starts s.words (set s.words at cell) ys (λ k lt. get_or-set_other s.words at k cell 0 (λ e. absurd (omega arith))) (counters_stay n.starts s.words (accounts_of s.views) ys b b r (λ c. refl) h.cuts))
           (λ r. least_words n.starts n.least s.words (set s.words at cell) ys (λ k lt. get_or-set_other s.words at (length n.starts + k) cell 0 (λ e. absurd (omega arith))) (least_stay n.starts n.least s.words (accounts_of s.views) ys b b r (λ c. refl) h.offers))
           (subst (λ i. KeepsLog n (set s.words i cell) (set s.views id w)) (sym is)
-          (log_stores n s.words s.views id cell place me.0 a seat one awaits below small (let width = h.width in omega arith) h.log)),
+          (log_stores n s.words s.views id cell slot me.0 a seat one awaits below small (let width = h.width in omega arith) h.log)),
       refl,
     )

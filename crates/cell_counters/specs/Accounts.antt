@@ -83,10 +83,10 @@ log_count accounts = length (all_logs accounts)
 abbrev pub numbers : List Log → List ℕ
 numbers logs = map (λ (l : Log). l.number) logs
 
--- the cell of the first of these logs whose number is this place
+-- the cell of the first of these logs whose number is this slot
 abbrev pub cell_at : ℕ → List Log → ℕ
-cell_at place [] = 0
-cell_at place (l ∷ rest) = cond (l.number == place) l.cell (cell_at place rest)
+cell_at slot [] = 0
+cell_at slot (l ∷ rest) = cond (l.number == slot) l.cell (cell_at slot rest)
 
 -- the numbers that were drawn are 0, 1, 2 and so on, each once
 abbrev pub IsLawfulLog : List Account → Type 0

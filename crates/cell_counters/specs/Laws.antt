@@ -48,7 +48,7 @@ NewFirsts = (before more : List Account) (word start was now : ℕ) → IsLawful
     × (0 < length (all_offers word before) → first_count (all_offers word more) ≡ 0)
     × (start ≢ NONE → first_count (all_offers word more) ≡ 0)
 
--- where more accounts come, the cells that they logged stand at the places that follow those of the logs before, in some order
-abbrev pub NewPlaces : Type 0
-NewPlaces = (before more : List Account) → IsLawfulLog before → IsLawfulLog (before ++ more)
-    → IsPermutation (map (λ place. cell_at place (all_logs (before ++ more))) (range_with_len (log_count before) (log_count more))) (map (λ (l : Log). l.cell) (all_logs more))
+-- where more accounts come, the cells that they logged stand at the slots that follow those of the logs before, in some order
+abbrev pub NewSlots : Type 0
+NewSlots = (before more : List Account) → IsLawfulLog before → IsLawfulLog (before ++ more)
+    → IsPermutation (map (λ slot. cell_at slot (all_logs (before ++ more))) (range_with_len (log_count before) (log_count more))) (map (λ (l : Log). l.cell) (all_logs more))

@@ -4,12 +4,12 @@ use Rattle.atomic_table.specs.Seated.{TableId}
 use Rattle.cell_counters.specs.declared.account.Account.{Account}
 use Rattle.cell_counters.specs.Accounts.{IsLawfulCounter, IsLawfulLeast, IsLawfulLog, log_count}
 
--- which board it is, the numbers with which its counters and its least words began, and how many places its log has
+-- which board it is, the numbers with which its counters and its least words began, and how many slots its log has
 pub record BoardModel : Type 0 where
   pub table : TableId
   pub starts : List ℕ
   pub least : List ℕ
-  pub places : ℕ
+  pub slots : ℕ
 
 -- whose hand it is, and its account
 pub record HandModel : Type 0 where
@@ -42,16 +42,16 @@ with_note a item = record a { notes = a.notes ++ item ∷ [] }
 abbrev pub with_log : Account → ℕ → ℕ → Account
 with_log a cell number = record a { logs = a.logs ++ record { cell = cell; number = number } ∷ [] }
 
--- the hand has logged a cell: a number was drawn for it, and the answer is whether the log has that place
+-- the hand has logged a cell: a number was drawn for it, and the answer is whether the log has that slot
 pub record Logs (before after : HandModel) (cell : ℕ) (answer : Bool) : Type 0 where
   pub number : ℕ
   pub small : number < 2 ^ 64
   pub entered : after ≡ record before { account = with_log before.account cell number }
-  pub answered : answer ≡ nat_lt number before.board.places
+  pub answered : answer ≡ nat_lt number before.board.slots
 
--- how many of so many places the logs in these accounts fill
+-- how many of so many slots the logs in these accounts fill
 abbrev pub filled : List Account → ℕ → ℕ
-filled accounts places = min (log_count accounts) places
+filled accounts slots = min (log_count accounts) slots
 
 -- the hand of who has done nothing
 abbrev pub fresh_hand : BoardModel → HandModel

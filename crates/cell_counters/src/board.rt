@@ -5,7 +5,7 @@ ghost use Rattle.cell_counters.specs.Tokens.{fresh_hand, with_cut, with_offer, w
 
 use crate::account::NONE;
 use crate::rule::{
-    Beginning, Collecting, Cutting, Dealing, Drawing, Item, Lawful, Looking, Noting, Offering,
+    Beginning, Cutting, Drawing, HandJoin, HandSplit, Item, Lawful, Looking, Noting, Offering,
     Storing, View,
 };
 use atomic_table::{Seat, Table};
@@ -25,14 +25,14 @@ impl From<AllocError> for NoMemory {
 
 /// Counters, least words and a log that threads share by reference.
 ///
-/// To a contract it is which board it is, the numbers with which it began, and how many places its log has.
+/// To a contract it is which board it is, the numbers with which it began, and how many slots its log has.
 #[derive(Drop)]
 pub struct Board {
     table: Table<(), View, Beginning, Lawful, Global>,
     counters: usize,
-    /// The word that counts the logs. The places of the log follow it.
+    /// The word that counts the logs. The slots of the log follow it.
     tail: usize,
-    places: u32,
+    slots: u32,
 }
 
 impl Model for Board {
@@ -43,7 +43,7 @@ impl Model for Board {
 
     ghost view = { λ b. board_model b.table.shared.table_id b.table.shared.key };
 
-    ghost invariant = { λ b. IsSized b.table.shared.key b.counters b.tail b.places b.table.shared.table_id.words };
+    ghost invariant = { λ b. IsSized b.table.shared.key b.counters b.tail b.slots b.table.shared.table_id.words };
 }
 
 /// The owner's token.
@@ -95,51 +95,51 @@ impl Root {
 }
 
 impl Board {
-    /// A board whose counters begin as `starts` and whose least words begin as `least`. Its log has no places.
+    /// A board whose counters begin as `starts` and whose least words begin as `least`. Its log has no slots.
     pub fn new(alloc: Global, starts: &[u64], least: &[u64]) -> Result<(Board, Root), NoMemory>
         requires some { 0 < length starts.now + length least.now }
-        requires room { length starts.now + length least.now < 2 ^ 32 }
+        requires capacity { length starts.now + length least.now < 2 ^ 32 }
         ensures starts { IfOk result (λ made. made.0.starts ≡ starts.now) }
         ensures least { IfOk result (λ made. made.0.least ≡ least.now) }
-        ensures places { IfOk result (λ made. made.0.places ≡ 0) }
+        ensures slots { IfOk result (λ made. made.0.slots ≡ 0) }
         ensures root { IfOk result (λ made. made.1 ≡ new_root made.0) }
     {
         Board::with_log(alloc, starts, least, 0)
     }
 
-    /// The same with a log of so many places.
+    /// The same with a log of so many slots.
     pub fn with_log(
         alloc: Global,
         starts: &[u64],
         least: &[u64],
-        places: u32,
+        slots: u32,
     ) -> Result<(Board, Root), NoMemory>
-        requires some { 0 < length starts.now + length least.now + places }
-        requires room { length starts.now + length least.now + places < 2 ^ 32 }
+        requires some { 0 < length starts.now + length least.now + slots }
+        requires capacity { length starts.now + length least.now + slots < 2 ^ 32 }
         ensures starts { IfOk result (λ made. made.0.starts ≡ starts.now) }
         ensures least { IfOk result (λ made. made.0.least ≡ least.now) }
-        ensures places { IfOk result (λ made. made.0.places ≡ places) }
+        ensures slots { IfOk result (λ made. made.0.slots ≡ slots) }
         ensures root { IfOk result (λ made. made.1 ≡ new_root made.0) }
     {
         let mut words = starts.to_vec(alloc)?;
         words.extend_from_slice(least)?;
-        Board::of_words(alloc, words, starts.len() as u32, places)
+        Board::of_words(alloc, words, starts.len() as u32, slots)
     }
 
     /// The same of numbers that stand in one vector, those of the counters first. It takes 8 bytes for each number and each
-    /// place, beside the vector, which grows by the places and is given back.
+    /// slot, beside the vector, which grows by the slots and is given back.
     pub fn of_words(
         alloc: Global,
         words: Vec<u64>,
         counters: u32,
-        places: u32,
+        slots: u32,
     ) -> Result<(Board, Root), NoMemory>
-        requires some { 0 < vec_len words + places }
-        requires room { vec_len words + places < 2 ^ 32 }
+        requires some { 0 < vec_len words + slots }
+        requires capacity { vec_len words + slots < 2 ^ 32 }
         requires counters { counters ≤ vec_len words }
         ensures starts { IfOk result (λ made. made.0.starts ≡ take counters words.items) }
         ensures least { IfOk result (λ made. made.0.least ≡ drop counters words.items) }
-        ensures places { IfOk result (λ made. made.0.places ≡ places) }
+        ensures slots { IfOk result (λ made. made.0.slots ≡ slots) }
         ensures root { IfOk result (λ made. made.1 ≡ new_root made.0) }
     {
         let counters = counters as usize;
@@ -147,16 +147,16 @@ impl Board {
         let beginning = Beginning {
             words: Snapshot::of(&words),
             counters,
-            places,
+            slots,
         };
-        let all = with_zeros(words, 1 + places as usize)?;
+        let all = with_zeros(words, 1 + slots as usize)?;
         let all = all.as_slice();
         let (table, seat) = Table::of_words(alloc, all, &beginning)?;
         let board = Board {
             table,
             counters,
             tail,
-            places,
+            slots,
         };
         Ok((board, Root { seat, out: 0 }))
     }
@@ -164,12 +164,12 @@ impl Board {
     /// A new hand.
     pub fn hand(&self, root: &mut Root) -> Hand
         requires root { root.old.board ≡ self.now }
-        requires room { root.old.out < 64 }
+        requires capacity { root.old.out < 64 }
         ensures hand { result ≡ fresh_hand self.now }
         ensures root { root.new ≡ hand_out root.old }
     {
         let shared = &self.table.shared;
-        let seat = shared.split_seat::<Dealing>(&mut root.seat);
+        let seat = shared.split_seat::<HandSplit>(&mut root.seat);
         root.out += 1;
         Hand { seat }
     }
@@ -184,7 +184,7 @@ impl Board {
     {
         let Hand { seat } = hand;
         let shared = &self.table.shared;
-        shared.join_seat::<Collecting>(&mut root.seat, seat);
+        shared.join_seat::<HandJoin>(&mut root.seat, seat);
         shared.load::<Looking>(&mut root.seat, 0);
         root.out -= 1;
     }
@@ -234,7 +234,7 @@ impl Board {
         shared.load::<Noting<I>>(&mut hand.seat, 0);
     }
 
-    /// Draws the next number of the log, stores the cell at that place where the log has it, and answers whether it has.
+    /// Draws the next number of the log, stores the cell at that slot where the log has it, and answers whether it has.
     pub fn log(&self, hand: &mut Hand, cell: u32) -> bool
         requires { hand.old.board ≡ self.now }
         ensures { Logs hand.old hand.new cell result }
@@ -249,7 +249,7 @@ impl Board {
     {
         let shared = &self.table.shared;
         let number = shared.fetch_add::<Drawing<I>>(&mut hand.seat, self.tail, 1);
-        if number >= u64::from(self.places) {
+        if number >= u64::from(self.slots) {
             return false;
         }
         let at = self.tail + 1 + number as usize;
@@ -257,40 +257,40 @@ impl Board {
         true
     }
 
-    /// How many places of the log are filled, once all hands are back.
+    /// How many slots of the log are filled, once all hands are back.
     pub fn log_len(&self, root: &mut Root) -> u32
         requires root { root.old.board ≡ self.now }
         requires settled { root.old.out ≡ 0 }
         ensures lawful { log_count root.old.accounts < 2 ^ 64 → IsLawfulLog root.old.accounts }
-        ensures filled { log_count root.old.accounts < 2 ^ 64 → result ≡ filled root.old.accounts self.now.places }
-        ensures within { result ≤ filled root.old.accounts self.now.places }
+        ensures filled { log_count root.old.accounts < 2 ^ 64 → result ≡ filled root.old.accounts self.now.slots }
+        ensures within { result ≤ filled root.old.accounts self.now.slots }
         ensures same { root.new ≡ root.old }
     {
         let shared = &self.table.shared;
         let logs = shared.load::<Looking>(&mut root.seat, self.tail);
-        if logs < u64::from(self.places) {
+        if logs < u64::from(self.slots) {
             logs as u32
         } else {
-            self.places
+            self.slots
         }
     }
 
-    /// The cell at a place of the log, once all hands are back.
+    /// The cell at a slot of the log, once all hands are back.
     pub fn logged(&self, root: &mut Root, at: u32) -> u32
         requires root { root.old.board ≡ self.now }
         requires settled { root.old.out ≡ 0 }
-        requires at { at < filled root.old.accounts self.now.places }
+        requires at { at < filled root.old.accounts self.now.slots }
         ensures cell { log_count root.old.accounts < 2 ^ 64 → result ≡ cell_at at (all_logs root.old.accounts) }
         ensures same { root.new ≡ root.old }
     {
         let shared = &self.table.shared;
-        let place = self.tail + 1 + at as usize;
-        shared.load::<Looking>(&mut root.seat, place) as u32
+        let slot = self.tail + 1 + at as usize;
+        shared.load::<Looking>(&mut root.seat, slot) as u32
     }
 
     /// Loads a counter's word, so that a cut that follows finds it near. It takes no hand and no root: nothing is done on the
     /// board, and nothing is told.
-    pub fn touch(&self, counter: u32)
+    pub fn prefetch(&self, counter: u32)
         requires { counter < length self.now.starts }
     {
         let shared = &self.table.shared;
@@ -323,7 +323,7 @@ impl Board {
     }
 }
 
-/// Numbers with so many zeros behind them.
+/// Numbers with so many zeros after them.
 fn with_zeros(mut words: Vec<u64>, zeros: usize) -> Result<Vec<u64>, AllocError>
     requires { vec_len words + zeros < 2 ^ 64 }
     ensures { IfOk result (λ all. all.items ≡ words.items ++ replicate zeros 0) }

@@ -1,5 +1,5 @@
 //! What lawful accounts tell. Each call does nothing, and ensures its law.
-ghost use Rattle.cell_counters.specs.Laws.{CountsDown, AnswersOnce, OneIsFirst, NothingDone, NewAnswers, NewFirsts, NewPlaces};
+ghost use Rattle.cell_counters.specs.Laws.{CountsDown, AnswersOnce, OneIsFirst, NothingDone, NewAnswers, NewFirsts, NewSlots};
 
 /// At most as many cuts as the counter began with answer one number less each time.
 pub fn counts_down()
@@ -31,7 +31,7 @@ pub fn new_firsts()
     ensures { NewFirsts }
 {}
 
-/// The cells that a round logged stand at the places after those of the rounds before.
-pub fn new_places()
-    ensures { NewPlaces }
+/// The cells that a round logged stand at the slots after those of the rounds before.
+pub fn new_slots()
+    ensures { NewSlots }
 {}

@@ -1,4 +1,4 @@
-//! The rule of the table below a board. Its words are the counters, the least words, the tail of the log and the places
+//! The rule of the table below a board. Its words are the counters, the least words, the tail of the log and the slots
 //! of the log, in this order, and a view is what the root or a hand knows.
 use crate::account::Account;
 use atomic_table::{Join, Play, Split, TableRule};
@@ -6,11 +6,11 @@ use std::collections::LinkedList;
 use std::marker::{Brand, PhantomData};
 use std::snapshot::Snapshot;
 
-/// The numbers with which the counters and the least words began, and how many places the log has. No value of it is made.
+/// The numbers with which the counters and the least words began, and how many slots the log has. No value of it is made.
 pub struct Setup {
     pub starts: LinkedList<u64>,
     pub least: LinkedList<u64>,
-    pub places: u32,
+    pub slots: u32,
 }
 
 /// What the root or a hand knows. No value of it is made.
@@ -20,16 +20,16 @@ pub struct View {
     pub made: u64,
     /// Of a hand its account, and of the root those that were taken in.
     pub accounts: LinkedList<Account>,
-    /// The place of the log that was drawn and is still to be stored.
+    /// The slot of the log that was drawn and is still to be stored.
     pub awaits: Option<u64>,
 }
 
-/// What a table is told when it is made: its counters and then its least words, and how many places its log has.
+/// What a table is told when it is made: its counters and then its least words, and how many slots its log has.
 #[derive(Drop)]
 pub struct Beginning {
     pub words: Snapshot<Vec<u64>>,
     pub counters: usize,
-    pub places: u32,
+    pub slots: u32,
 }
 
 pub struct Lawful;
@@ -42,9 +42,9 @@ impl TableRule<(), View, Beginning> for Lawful {
     ghost first = { root_of };
 }
 
-pub struct Dealing;
+pub struct HandSplit;
 
-impl Split<View> for Dealing {
+impl Split<View> for HandSplit {
     ghost use Rattle.cell_counters.specs.inside.Rules.{one_more, new_hand};
 
     ghost left = { one_more };
@@ -52,9 +52,9 @@ impl Split<View> for Dealing {
     ghost right = { new_hand };
 }
 
-pub struct Collecting;
+pub struct HandJoin;
 
-impl Join<View> for Collecting {
+impl Join<View> for HandJoin {
     ghost use Rattle.cell_counters.specs.inside.Rules.{collected, nobody};
 
     ghost both = { collected };

@@ -115,7 +115,7 @@ pub none_without_digit : (s x : ℕ) (b : List ℕ) (y : ℕ × List ℕ) → is
 none_without_digit s x b y e h =
     not_both (is_digit x) (first_is_digit (decimal y.0) b (s ∷ y.1) x (decimal_nonempty y.0 (omega (arith, h.0))) (all_digits y.0 (omega (arith, h.0))) h.1) e
 
--- behind a number: nothing, another byte that is no digit, a digit after 0, or too many digits
+-- after a number: nothing, another byte that is no digit, a digit after 0, or too many digits
 pub none_at_end : (v s : ℕ) (y : ℕ × List ℕ) (bytes : List ℕ) → v < 2 ^ 32 → is_digit s ≡ false → bytes ≡ decimal v ++ [] → IsNumberTo s bytes y → ⊥
 none_at_end v s y bytes lt e at h = only_digits (decimal v) (decimal y.0) y.1 s (all_digits v (omega arith)) e (sym (append-nil (decimal v)) ∙ sym at ∙ h.1)
 

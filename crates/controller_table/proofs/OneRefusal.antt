@@ -6,23 +6,23 @@ use Rattle.std.proofs.lemmas.List.Elements.{All-take}
 use Rattle.std.proofs.Math.Seq.{take-append_seam}
 use Rattle.game_core.specs.declared.game.Row.{Row}
 use Rattle.grid_quantiser.specs.Axes.{cells_of}
-use Rattle.plant_record.specs.declared.fault.LimitKind.{LimitKind}
-use Rattle.plant_record.specs.declared.fault.LimitKind.TheVariants.{PlantText, TableText, Vectors, Cells, Pairs, Edges}
-use Rattle.plant_text.specs.declared.fault.PlantFault.{PlantFault}
-use Rattle.plant_text.specs.declared.fault.PlantFault.TheVariants as front
+use Rattle.plant_record.specs.declared.limit_kind.LimitKind.{LimitKind}
+use Rattle.plant_record.specs.declared.limit_kind.LimitKind.TheVariants.{PlantText, TableText, Vectors, Cells, Pairs, Edges}
+use Rattle.plant_text.specs.declared.plant_fault.PlantFault.{PlantFault}
+use Rattle.plant_text.specs.declared.plant_fault.PlantFault.TheVariants as front
 use Rattle.plant_record.specs.Description.{Description, axes_of}
 use Rattle.plant_record.specs.Limits.{IsWithinLimits}
 use Rattle.plant_writing.specs.CanonicalText.{text_of}
 use Rattle.plant_text.specs.CanonicalFronts.{IsFront, IsFrontRefusedFor}
 use Rattle.plant_text.specs.Laws.{OnePlantAtTheFront, OneFrontRefusal, FrontReadOrRefused}
-use Rattle.controller_table.specs.declared.fault.TableFault.TheVariants as faults
+use Rattle.controller_table.specs.declared.table_fault.TableFault.TheVariants as faults
 use Rattle.row_runs.specs.declared.run.Run.{Run}
-use Rattle.row_runs.specs.declared.run.Version.{Version}
+use Rattle.row_runs.specs.declared.run.TableVersion.{TableVersion}
 use Rattle.row_runs.specs.Runs.{MayLead, AreRuns}
 use Rattle.row_runs.specs.RunText.{run_line, count_line, end_line}
-use Rattle.controller_table.specs.TableText.{words_of, version_line, lines_behind}
+use Rattle.controller_table.specs.TableText.{format_of, version_line, lines_after}
 use Rattle.controller_table.specs.Tables.{RowsFit, IsTable}
-use Rattle.controller_table.specs.RowLines.{IsRunOf, AreRunsOf, AreRowLines, AreWhole, MayStand, IsFirstRefusedBehind}
+use Rattle.controller_table.specs.RowLines.{IsRunOf, AreRunsOf, AreRowLines, AreWhole, MayStand, IsFirstRefusedAfter}
 use Rattle.controller_table.specs.Refusals.{IsShortTable, line_count, HasNoVersion, IsPlantRefusedFor, AreRowsRefusedAt, IsFirstRefusedInTable, ExceedsTableLimit}
 use Rattle.controller_table.specs.Laws.{OneTableRefusal, TableOrRefused, TablesAreShort}
 use Rattle.row_runs.proofs.Lines.{IsLine, one_line}
@@ -32,23 +32,23 @@ use Rattle.controller_table.proofs.Standing.{nothing_next}
 
 -- ---- the first of some lines
 
-lead_taken : (v : Version) (r : Run) (n : ℕ) (runs : List Run) → MayLead v r runs → MayLead v r (take n runs)
+lead_taken : (v : TableVersion) (r : Run) (n : ℕ) (runs : List Run) → MayLead v r runs → MayLead v r (take n runs)
 lead_taken v r zero runs h = tt
 lead_taken v r (suc n) [] h = tt
 lead_taken v r (suc n) (s ∷ runs) h = h
 
-order_taken : (v : Version) (n : ℕ) (runs : List Run) → AreRuns v runs → AreRuns v (take n runs)
+order_taken : (v : TableVersion) (n : ℕ) (runs : List Run) → AreRuns v runs → AreRuns v (take n runs)
 order_taken v zero runs h = tt
 order_taken v (suc n) [] h = tt
 order_taken v (suc n) (r ∷ runs) h = (h.0, lead_taken v r n runs h.1, order_taken v n runs h.2)
 
-runs_taken : (v : Version) (p : Description) (n : ℕ) (runs : List Run) → AreRunsOf v p runs → AreRunsOf v p (take n runs)
+runs_taken : (v : TableVersion) (p : Description) (n : ℕ) (runs : List Run) → AreRunsOf v p runs → AreRunsOf v p (take n runs)
 runs_taken v p n runs are = record { order = order_taken v n runs are.order; each = All-take (IsRunOf p) n runs are.each }
 
-rows_taken : (v : Version) (p : Description) (n : ℕ) (lines : List (List ℕ)) → AreRowLines v p lines → AreRowLines v p (take n lines)
-rows_taken v p n lines h = (take n h.0, runs_taken v p n h.0 h.1, ap (take n) h.2 ∙ take-map (run_line v (words_of p.goal)) n h.0)
+rows_taken : (v : TableVersion) (p : Description) (n : ℕ) (lines : List (List ℕ)) → AreRowLines v p lines → AreRowLines v p (take n lines)
+rows_taken v p n lines h = (take n h.0, runs_taken v p n h.0 h.1, ap (take n) h.2 ∙ take-map (run_line v (format_of p.goal)) n h.0)
 
-begun_taken : (v : Version) (p : Description) (n count : ℕ) (rows : List (List ℕ)) → count ≤ cells_of (axes_of p) → length rows ≤ count → AreRowLines v p rows → MayStand v p (take (suc n) (count_line count ∷ rows))
+begun_taken : (v : TableVersion) (p : Description) (n count : ℕ) (rows : List (List ℕ)) → count ≤ cells_of (axes_of p) → length rows ≤ count → AreRowLines v p rows → MayStand v p (take (suc n) (count_line count ∷ rows))
 begun_taken v p n count rows le few h = inr (inl (record {
   count = count;
   count_bound = le;
@@ -63,14 +63,14 @@ le-or-lt zero m = inl (omega arith)
 le-or-lt (suc n) zero = inr (omega arith)
 le-or-lt (suc n) (suc m) = elim (le-or-lt n m) [ inl le ↦ inl (omega (arith, le)) | inr lt ↦ inr (omega (arith, lt)) ]
 
-whole_taken : (v : Version) (p : Description) (n : ℕ) (rows : List (List ℕ)) → length rows ≤ cells_of (axes_of p) → AreRowLines v p rows → (n ≤ length rows) ⊎ (length rows < n) → MayStand v p (take (suc n) (count_line (length rows) ∷ (rows ++ end_line ∷ [])))
+whole_taken : (v : TableVersion) (p : Description) (n : ℕ) (rows : List (List ℕ)) → length rows ≤ cells_of (axes_of p) → AreRowLines v p rows → (n ≤ length rows) ⊎ (length rows < n) → MayStand v p (take (suc n) (count_line (length rows) ∷ (rows ++ end_line ∷ [])))
 whole_taken v p n rows le h (inl short) =
     subst (MayStand v p) (ap (λ (x : List (List ℕ)). count_line (length rows) ∷ x) (sym (take-append-le n rows (end_line ∷ []) short))) (begun_taken v p n (length rows) rows le (omega arith) h)
 whole_taken v p n rows le h (inr long) =
     let all : take n (rows ++ end_line ∷ []) ≡ rows ++ end_line ∷ [] = take_all n (rows ++ end_line ∷ []) (omega (arith, length-append rows (end_line ∷ []), long)) in
     subst (MayStand v p) (ap (λ (x : List (List ℕ)). count_line (length rows) ∷ x) (sym all)) (inr (inr (record { rows = rows; row_lines = h; count_bound = le; are = refl })))
 
-stands_taken : (v : Version) (p : Description) (n : ℕ) (lines : List (List ℕ)) → MayStand v p lines → MayStand v p (take n lines)
+stands_taken : (v : TableVersion) (p : Description) (n : ℕ) (lines : List (List ℕ)) → MayStand v p lines → MayStand v p (take n lines)
 stands_taken v p zero lines may = inl refl
 stands_taken v p (suc n) lines may = elim may [
   | inl none ↦ subst (λ (x : List (List ℕ)). MayStand v p (take (suc n) x)) (sym none) (inl refl)
@@ -81,13 +81,13 @@ stands_taken v p (suc n) lines may = elim may [
 ]
 
 -- the lines up to one of those that may stand
-pub stands_up_to : (v : Version) (p : Description) (ks : List (List ℕ)) (line : List ℕ) (more : List (List ℕ)) → MayStand v p (ks ++ line ∷ more) → MayStand v p (ks ++ line ∷ [])
+pub stands_up_to : (v : TableVersion) (p : Description) (ks : List (List ℕ)) (line : List ℕ) (more : List (List ℕ)) → MayStand v p (ks ++ line ∷ more) → MayStand v p (ks ++ line ∷ [])
 stands_up_to v p ks line more may =
     let cut : take (length (ks ++ line ∷ [])) (ks ++ line ∷ more) ≡ ks ++ line ∷ [] =
     ap (take (length (ks ++ line ∷ []))) (sym (append_assoc ks (line ∷ []) more)) ∙ take-append_seam (ks ++ line ∷ []) more in
     subst (MayStand v p) cut (stands_taken v p (length (ks ++ line ∷ [])) (ks ++ line ∷ more) may)
 
-pub stand_are_lines : (v : Version) (p : Description) (lines : List (List ℕ)) → IsWithinLimits p → MayStand v p lines → AllByRecursion IsLine lines
+pub stand_are_lines : (v : TableVersion) (p : Description) (lines : List (List ℕ)) → IsWithinLimits p → MayStand v p lines → AllByRecursion IsLine lines
 stand_are_lines v p lines within may = elim may [
   | inl none ↦ subst (AllByRecursion IsLine) (sym none) tt
   | inr more ↦ elim more [
@@ -124,13 +124,13 @@ compared (x ∷ ks) (y ∷ ls) s t h k e =
       ]
     ]
 
--- ---- the lines behind the plant
+-- ---- the lines after the plant
 
 -- a refused line isn't passed by lines that may stand
-passes_not : (v : Version) (p : Description) (bytes : List ℕ) (n : ℕ) (lines : List (List ℕ)) (t : List ℕ) (r : IsFirstRefusedBehind v p bytes n) → MayStand v p lines → GoesOn r.lines lines r.rest t → ⊥
+passes_not : (v : TableVersion) (p : Description) (bytes : List ℕ) (n : ℕ) (lines : List (List ℕ)) (t : List ℕ) (r : IsFirstRefusedAfter v p bytes n) → MayStand v p lines → GoesOn r.lines lines r.rest t → ⊥
 passes_not v p bytes n lines t r may on = r.refused on.line (concat on.more ++ t) on.rest (stands_up_to v p r.lines on.line on.more (subst (MayStand v p) on.longer may))
 
-pub one_line_refused : (v : Version) (p : Description) (bytes : List ℕ) (m n : ℕ) → IsWithinLimits p → IsFirstRefusedBehind v p bytes m → IsFirstRefusedBehind v p bytes n → m ≡ n
+pub one_line_refused : (v : TableVersion) (p : Description) (bytes : List ℕ) (m n : ℕ) → IsWithinLimits p → IsFirstRefusedAfter v p bytes m → IsFirstRefusedAfter v p bytes n → m ≡ n
 one_line_refused v p bytes m n within r s =
     elim (compared r.lines s.lines r.rest s.rest (stand_are_lines v p r.lines within r.stand) (stand_are_lines v p s.lines within s.stand) (sym r.are ∙ s.are)) [
       | inl even ↦ r.next ∙ ap (λ (x : List (List ℕ)). suc (length x)) even.lines ∙ sym s.next
@@ -140,10 +140,10 @@ one_line_refused v p bytes m n within r s =
       ]
     ]
 
-pub whole_not_refused : (v : Version) (p : Description) (rows : List (Option Row)) (n : ℕ) → IsWithinLimits p → RowsFit p rows → IsFirstRefusedBehind v p (concat (lines_behind v p.goal rows)) n → ⊥
+pub whole_not_refused : (v : TableVersion) (p : Description) (rows : List (Option Row)) (n : ℕ) → IsWithinLimits p → RowsFit p rows → IsFirstRefusedAfter v p (concat (lines_after v p.goal rows)) n → ⊥
 whole_not_refused v p rows n within fit r =
     let whole = whole_lines v p rows fit in
-    let lines = lines_behind v p.goal rows in
+    let lines = lines_after v p.goal rows in
     let stand : MayStand v p lines = inr (inr whole) in
     elim (compared r.lines lines r.rest [] (stand_are_lines v p r.lines within r.stand) (stand_are_lines v p lines within stand) (sym r.are ∙ sym (append-nil (concat lines)))) [
       | inl even ↦ r.unfinished even.rest (subst (AreWhole v p) (sym even.lines) whole)
@@ -157,16 +157,16 @@ whole_not_refused v p rows n within fit r =
 -- ---- the whole text
 
 -- a plant's text stands at the front
-front_at : (p : Description) (rest behind : List ℕ) → IsWithinLimits p → rest ≡ text_of p ++ behind → IsFront rest p (length (text_of p))
-front_at p rest behind within at = record {
+front_at : (p : Description) (rest after : List ℕ) → IsWithinLimits p → rest ≡ text_of p ++ after → IsFront rest p (length (text_of p))
+front_at p rest after within at = record {
   plant = within.plant;
-  within = omega (arith, ap length at, length-append (text_of p) behind);
-  text = ap (take (length (text_of p))) at ∙ take-append_seam (text_of p) behind;
+  within = omega (arith, ap length at, length-append (text_of p) after);
+  text = ap (take (length (text_of p))) at ∙ take-append_seam (text_of p) after;
 }
 
--- what stands behind the first line
-behind_first : (v w : Version) (bytes rest text : List ℕ) (p : Description) → bytes ≡ version_line v ++ rest → bytes ≡ version_line w ++ text_of p ++ text → rest ≡ text_of p ++ text
-behind_first v w bytes rest text p one two =
+-- what stands after the first line
+after_first : (v w : TableVersion) (bytes rest text : List ℕ) (p : Description) → bytes ≡ version_line v ++ rest → bytes ≡ version_line w ++ text_of p ++ text → rest ≡ text_of p ++ text
+after_first v w bytes rest text p one two =
     (one_version v w rest (text_of p ++ text) (sym one ∙ two ∙ append_assoc (version_line w) (text_of p) text)).1
 
 module _ (apart : OnePlantAtTheFront) (one : OneFrontRefusal) (none : FrontReadOrRefused) where
@@ -177,18 +177,18 @@ module _ (apart : OnePlantAtTheFront) (one : OneFrontRefusal) (none : FrontReadO
 
   plant_or_rows : (bytes : List ℕ) (f : PlantFault) (n : ℕ) → IsPlantRefusedFor bytes f → AreRowsRefusedAt bytes n → ⊥
   plant_or_rows bytes f n h k =
-      none h.rest k.plant (length (text_of k.plant)) f (front_at k.plant h.rest k.rest k.limits (behind_first h.version k.version bytes h.rest k.rest k.plant h.are k.are)) k.limits h.refused
+      none h.rest k.plant (length (text_of k.plant)) f (front_at k.plant h.rest k.rest k.limits (after_first h.version k.version bytes h.rest k.rest k.plant h.are k.are)) k.limits h.refused
 
   one_row_refusal : (bytes : List ℕ) (m n : ℕ) → AreRowsRefusedAt bytes m → AreRowsRefusedAt bytes n → m ≡ n
   one_row_refusal bytes m n h k =
-      let behind = one_version h.version k.version (text_of h.plant ++ h.rest) (text_of k.plant ++ k.rest) (sym (h.are ∙ append_assoc (version_line h.version) (text_of h.plant) h.rest) ∙ k.are ∙ append_assoc (version_line k.version) (text_of k.plant) k.rest) in
-      let same = apart h.plant k.plant h.rest k.rest h.limits.plant k.limits.plant behind.1 in
-      let moved : IsFirstRefusedBehind k.version k.plant k.rest h.line =
-      subst (λ (x : List ℕ). IsFirstRefusedBehind k.version k.plant x h.line) same.1
-      (subst (λ (d : Description). IsFirstRefusedBehind k.version d h.rest h.line) same.0
-      (subst (λ (v : Version). IsFirstRefusedBehind v h.plant h.rest h.line) behind.0 h.refused)) in
+      let after = one_version h.version k.version (text_of h.plant ++ h.rest) (text_of k.plant ++ k.rest) (sym (h.are ∙ append_assoc (version_line h.version) (text_of h.plant) h.rest) ∙ k.are ∙ append_assoc (version_line k.version) (text_of k.plant) k.rest) in
+      let same = apart h.plant k.plant h.rest k.rest h.limits.plant k.limits.plant after.1 in
+      let moved : IsFirstRefusedAfter k.version k.plant k.rest h.line =
+      subst (λ (x : List ℕ). IsFirstRefusedAfter k.version k.plant x h.line) same.1
+      (subst (λ (d : Description). IsFirstRefusedAfter k.version d h.rest h.line) same.0
+      (subst (λ (v : TableVersion). IsFirstRefusedAfter v h.plant h.rest h.line) after.0 h.refused)) in
       h.number
-      ∙ ap (λ (v : Version). line_count (version_line v ++ text_of h.plant) + h.line) behind.0
+      ∙ ap (λ (v : TableVersion). line_count (version_line v ++ text_of h.plant) + h.line) after.0
       ∙ ap (λ (d : Description). line_count (version_line k.version ++ text_of d) + h.line) same.0
       ∙ ap (λ (l : ℕ). line_count (version_line k.version ++ text_of k.plant) + l) (one_line_refused k.version k.plant k.rest h.line k.line k.limits moved k.refused)
       ∙ sym k.number
@@ -277,26 +277,26 @@ module _ (apart : OnePlantAtTheFront) (one : OneFrontRefusal) (none : FrontReadO
 
   -- ---- tables
 
-  table_rest : (bytes : List ℕ) (p : Description) (rows : List (Option Row)) (t : IsTable bytes p rows) → bytes ≡ version_line t.version ++ (text_of p ++ concat (lines_behind t.version p.goal rows))
-  table_rest bytes p rows t = t.text ∙ append_assoc (version_line t.version) (text_of p) (concat (lines_behind t.version p.goal rows))
+  table_rest : (bytes : List ℕ) (p : Description) (rows : List (Option Row)) (t : IsTable bytes p rows) → bytes ≡ version_line t.version ++ (text_of p ++ concat (lines_after t.version p.goal rows))
+  table_rest bytes p rows t = t.text ∙ append_assoc (version_line t.version) (text_of p) (concat (lines_after t.version p.goal rows))
 
   not_plant : (bytes : List ℕ) (p : Description) (rows : List (Option Row)) (f : PlantFault) → IsTable bytes p rows → IsPlantRefusedFor bytes f → ⊥
   not_plant bytes p rows f t h =
-      none h.rest p (length (text_of p)) f (front_at p h.rest (concat (lines_behind t.version p.goal rows)) t.limits (behind_first h.version t.version bytes h.rest (concat (lines_behind t.version p.goal rows)) p h.are t.text)) t.limits h.refused
+      none h.rest p (length (text_of p)) f (front_at p h.rest (concat (lines_after t.version p.goal rows)) t.limits (after_first h.version t.version bytes h.rest (concat (lines_after t.version p.goal rows)) p h.are t.text)) t.limits h.refused
 
   not_rows : (bytes : List ℕ) (p : Description) (rows : List (Option Row)) (n : ℕ) → IsTable bytes p rows → AreRowsRefusedAt bytes n → ⊥
   not_rows bytes p rows n t k =
-      let behind = one_version k.version t.version (text_of k.plant ++ k.rest) (text_of p ++ concat (lines_behind t.version p.goal rows)) (sym (k.are ∙ append_assoc (version_line k.version) (text_of k.plant) k.rest) ∙ table_rest bytes p rows t) in
-      let same = apart k.plant p k.rest (concat (lines_behind t.version p.goal rows)) k.limits.plant t.limits.plant behind.1 in
-      let moved : IsFirstRefusedBehind t.version p (concat (lines_behind t.version p.goal rows)) k.line =
-      subst (λ (x : List ℕ). IsFirstRefusedBehind t.version p x k.line) same.1
-      (subst (λ (d : Description). IsFirstRefusedBehind t.version d k.rest k.line) same.0
-      (subst (λ (v : Version). IsFirstRefusedBehind v k.plant k.rest k.line) behind.0 k.refused)) in
+      let after = one_version k.version t.version (text_of k.plant ++ k.rest) (text_of p ++ concat (lines_after t.version p.goal rows)) (sym (k.are ∙ append_assoc (version_line k.version) (text_of k.plant) k.rest) ∙ table_rest bytes p rows t) in
+      let same = apart k.plant p k.rest (concat (lines_after t.version p.goal rows)) k.limits.plant t.limits.plant after.1 in
+      let moved : IsFirstRefusedAfter t.version p (concat (lines_after t.version p.goal rows)) k.line =
+      subst (λ (x : List ℕ). IsFirstRefusedAfter t.version p x k.line) same.1
+      (subst (λ (d : Description). IsFirstRefusedAfter t.version d k.rest k.line) same.0
+      (subst (λ (v : TableVersion). IsFirstRefusedAfter v k.plant k.rest k.line) after.0 k.refused)) in
       whole_not_refused t.version p rows k.line t.limits t.fitting moved
 
   pub table_or_refused : TablesAreShort → TableOrRefused
   table_or_refused short bytes p rows (faults.Malformed n) t f = elim f.1 [
-    | inl bare ↦ bare.1 t.version (text_of p ++ concat (lines_behind t.version p.goal rows)) (table_rest bytes p rows t)
+    | inl bare ↦ bare.1 t.version (text_of p ++ concat (lines_after t.version p.goal rows)) (table_rest bytes p rows t)
     | inr first ↦ elim first [
       | inl plant ↦ not_plant bytes p rows (front.Malformed plant.0) t plant.2
       | inr refused ↦ not_rows bytes p rows n t refused

@@ -15,12 +15,12 @@ use Rattle.plant_record.specs.Limits.{IsWithinLimits}
 use Rattle.plant_writing.specs.CanonicalText.{text_of}
 use Rattle.plant_text.specs.Laws.{OnePlantAtTheFront}
 use Rattle.row_runs.specs.declared.run.Run.{Run}
-use Rattle.row_runs.specs.declared.run.Version.{Version}
-use Rattle.row_runs.specs.declared.run.Version.TheVariants.{First, Second}
+use Rattle.row_runs.specs.declared.run.TableVersion.{TableVersion}
+use Rattle.row_runs.specs.declared.run.TableVersion.TheVariants.{First, Second}
 use Rattle.row_runs.specs.Runs.{runs_from, AreRuns, Gives}
 use Rattle.row_runs.specs.RunText.{run_line, count_line, end_line}
-use Rattle.row_runs.proofs.RunLaws.{runs_tell, tell_apart, forward}
-use Rattle.controller_table.specs.TableText.{words_of, version_line, row_lines, lines_behind}
+use Rattle.row_runs.proofs.RunLaws.{runs_encode, differ, forward}
+use Rattle.controller_table.specs.TableText.{format_of, version_line, row_lines, lines_after}
 use Rattle.controller_table.specs.Tables.{IsRowOf, RowsFit, IsTable}
 use Rattle.controller_table.specs.Choice.{HasRowAt, Applies}
 use Rattle.controller_table.specs.RowLines.{IsRunOf, AreRunsOf, AreRowLines, AreWhole}
@@ -34,7 +34,7 @@ use Rattle.controller_table.proofs.Fitting.{spelled_runs}
 
 -- ---- the first line
 
-pub one_version : (v w : Version) (s t : List ℕ) → version_line v ++ s ≡ version_line w ++ t → (v ≡ w) × (s ≡ t)
+pub one_version : (v w : TableVersion) (s t : List ℕ) → version_line v ++ s ≡ version_line w ++ t → (v ≡ w) × (s ≡ t)
 one_version First First s t e = (refl, ap (drop 8) e)
 one_version First Second s t e = absurd (let other : 49 ≡ 50 = ap (λ (x : List ℕ). get_or x 6 0) e in omega (arith, other))
 one_version Second First s t e = absurd (let other : 50 ≡ 49 = ap (λ (x : List ℕ). get_or x 6 0) e in omega (arith, other))
@@ -55,47 +55,47 @@ module _ (p : Description) (rows : List (Option Row)) (fit : RowsFit p rows) whe
       record { cells = omega (arith, lt, fit.one_each); row = subst (λ (o : Option Row). IfSome o (IsRowOf p)) is (fit.each r.last None lt) }
 
   -- runs that give the rows' own
-  each_run : (v : Version) (runs : List Run) → AreRuns v runs → ((c : ℕ) (row : Row) → Gives runs c row → row_of rows c ≡ Some row) → AllByRecursion (IsRunOf p) runs
+  each_run : (v : TableVersion) (runs : List Run) → AreRuns v runs → ((c : ℕ) (row : Row) → Gives runs c row → row_of rows c ≡ Some row) → AllByRecursion (IsRunOf p) runs
   each_run v [] order told = tt
   each_run v (r ∷ runs) order told =
       (run_of_row r (told r.last r.row (inl (forward v r order.0, omega arith, refl))), each_run v runs order.2 (λ c row given. told c row (inr given)))
 
-  pub fitting_runs : (v : Version) → AreRunsOf v p (runs_from v 0 rows)
+  pub fitting_runs : (v : TableVersion) → AreRunsOf v p (runs_from v 0 rows)
   fitting_runs v =
-      let own = runs_tell v rows in
+      let own = runs_encode v rows in
       record { order = own.0; each = All-from_recursion (IsRunOf p) (runs_from v 0 rows) (each_run v (runs_from v 0 rows) own.0 (λ c row given. (own.1 c row).1 given)) }
 
 -- the lines of a table are whole
-pub whole_lines : (v : Version) (p : Description) (rows : List (Option Row)) → RowsFit p rows → AreWhole v p (lines_behind v p.goal rows)
+pub whole_lines : (v : TableVersion) (p : Description) (rows : List (Option Row)) → RowsFit p rows → AreWhole v p (lines_after v p.goal rows)
 whole_lines v p rows fit = record {
   rows = row_lines v p.goal rows;
   row_lines = (runs_from v 0 rows, fitting_runs p rows fit v, refl);
-  count_bound = omega (arith, length-map (runs_from v 0 rows) (run_line v (words_of p.goal)), few_runs v 0 rows, fit.one_each);
+  count_bound = omega (arith, length-map (runs_from v 0 rows) (run_line v (format_of p.goal)), few_runs v 0 rows, fit.one_each);
   are = refl;
 }
 
 -- ---- lines that are told apart
 
-runs_are_lines : (v : Version) (p : Description) (runs : List Run) → AllByRecursion (IsSpelled v p.goal) runs → AllByRecursion IsLine (map (run_line v (words_of p.goal)) runs)
+runs_are_lines : (v : TableVersion) (p : Description) (runs : List Run) → AllByRecursion (IsSpelled v p.goal) runs → AllByRecursion IsLine (map (run_line v (format_of p.goal)) runs)
 runs_are_lines v p [] h = tt
 runs_are_lines v p (r ∷ runs) h = (run_is_line v p.goal r h.0, runs_are_lines v p runs h.1)
 
-pub row_lines_are_lines : (v : Version) (p : Description) (lines : List (List ℕ)) → IsWithinLimits p → AreRowLines v p lines → AllByRecursion IsLine lines
+pub row_lines_are_lines : (v : TableVersion) (p : Description) (lines : List (List ℕ)) → IsWithinLimits p → AreRowLines v p lines → AllByRecursion IsLine lines
 row_lines_are_lines v p lines within h = subst (AllByRecursion IsLine) (sym h.2) (runs_are_lines v p h.0 (spelled_runs v p h.0 within h.1))
 
-pub whole_are_lines : (v : Version) (p : Description) (lines : List (List ℕ)) → IsWithinLimits p → AreWhole v p lines → AllByRecursion IsLine lines
+pub whole_are_lines : (v : TableVersion) (p : Description) (lines : List (List ℕ)) → IsWithinLimits p → AreWhole v p lines → AllByRecursion IsLine lines
 whole_are_lines v p lines within w =
     let cells = within.cells in
     subst (AllByRecursion IsLine) (sym w.are) (count_is_line (length w.rows) (omega (arith, w.count_bound, cells)), lines_then w.rows (end_line ∷ []) (row_lines_are_lines v p w.rows within w.row_lines) (end_is_line, tt))
 
 -- ---- rows from their runs
 
-same_runs : (v : Version) (p : Description) (rs ss : List Run) → AllByRecursion (IsSpelled v p.goal) rs → AllByRecursion (IsSpelled v p.goal) ss → map (run_line v (words_of p.goal)) rs ≡ map (run_line v (words_of p.goal)) ss → rs ≡ ss
+same_runs : (v : TableVersion) (p : Description) (rs ss : List Run) → AllByRecursion (IsSpelled v p.goal) rs → AllByRecursion (IsSpelled v p.goal) ss → map (run_line v (format_of p.goal)) rs ≡ map (run_line v (format_of p.goal)) ss → rs ≡ ss
 same_runs v p [] [] h k e = refl
 same_runs v p [] (s ∷ ss) h k e = absurd cc
 same_runs v p (r ∷ rs) [] h k e = absurd cc
 same_runs v p (r ∷ rs) (s ∷ ss) h k e =
-    let text : Run → List ℕ = run_line v (words_of p.goal) in
+    let text : Run → List ℕ = run_line v (format_of p.goal) in
     let head : text r ≡ text s = first_same (text r) (text s) (map text rs) (map text ss) e in
     let tail : map text rs ≡ map text ss = rest_same (text r) (text s) (map text rs) (map text ss) e in
     let one : r ≡ s = run_same v p.goal r s h.0 k.0 head in
@@ -108,32 +108,32 @@ same_runs v p (r ∷ rs) (s ∷ ss) h k e =
     rest_same x y xs ys e = cc
 
 -- the row lines of fitting rows tell them
-rows_told : (v : Version) (p : Description) (rows others : List (Option Row)) → IsWithinLimits p → RowsFit p rows → RowsFit p others → row_lines v p.goal rows ≡ row_lines v p.goal others → rows ≡ others
-rows_told v p rows others within h k e =
-    tell_apart v rows others (h.one_each ∙ sym k.one_each)
+decoded_rows : (v : TableVersion) (p : Description) (rows others : List (Option Row)) → IsWithinLimits p → RowsFit p rows → RowsFit p others → row_lines v p.goal rows ≡ row_lines v p.goal others → rows ≡ others
+decoded_rows v p rows others within h k e =
+    differ v rows others (h.one_each ∙ sym k.one_each)
     (same_runs v p (runs_from v 0 rows) (runs_from v 0 others) (spelled_runs v p (runs_from v 0 rows) within (fitting_runs p rows h v)) (spelled_runs v p (runs_from v 0 others) within (fitting_runs p others k v)) e)
 
-behind_told : (v : Version) (p : Description) (rows others : List (Option Row)) → IsWithinLimits p → RowsFit p rows → RowsFit p others → concat (lines_behind v p.goal rows) ≡ concat (lines_behind v p.goal others) → rows ≡ others
-behind_told v p rows others within h k e =
-    let lines = same_lines (lines_behind v p.goal rows) (lines_behind v p.goal others)
-    (whole_are_lines v p (lines_behind v p.goal rows) within (whole_lines v p rows h))
-    (whole_are_lines v p (lines_behind v p.goal others) within (whole_lines v p others k)) e in
-    rows_told v p rows others within h k (same_front (row_lines v p.goal rows) (row_lines v p.goal others) end_line (tails (count_line (length (row_lines v p.goal rows))) (count_line (length (row_lines v p.goal others))) _ _ lines))
+after_told : (v : TableVersion) (p : Description) (rows others : List (Option Row)) → IsWithinLimits p → RowsFit p rows → RowsFit p others → concat (lines_after v p.goal rows) ≡ concat (lines_after v p.goal others) → rows ≡ others
+after_told v p rows others within h k e =
+    let lines = same_lines (lines_after v p.goal rows) (lines_after v p.goal others)
+    (whole_are_lines v p (lines_after v p.goal rows) within (whole_lines v p rows h))
+    (whole_are_lines v p (lines_after v p.goal others) within (whole_lines v p others k)) e in
+    decoded_rows v p rows others within h k (same_front (row_lines v p.goal rows) (row_lines v p.goal others) end_line (tails (count_line (length (row_lines v p.goal rows))) (count_line (length (row_lines v p.goal others))) _ _ lines))
   where
     tails : (x y : List ℕ) (xs ys : List (List ℕ)) → x ∷ xs ≡ y ∷ ys → xs ≡ ys
     tails x y xs ys e = cc
 
 pub one_table : OnePlantAtTheFront → OneTablePerText
 one_table front bytes p q rows others h k =
-    let whole : version_line h.version ++ (text_of p ++ concat (lines_behind h.version p.goal rows)) ≡ version_line k.version ++ (text_of q ++ concat (lines_behind k.version q.goal others)) =
-    sym (append_assoc (version_line h.version) (text_of p) (concat (lines_behind h.version p.goal rows))) ∙ sym h.text ∙ k.text ∙ append_assoc (version_line k.version) (text_of q) (concat (lines_behind k.version q.goal others)) in
-    let version = one_version h.version k.version (text_of p ++ concat (lines_behind h.version p.goal rows)) (text_of q ++ concat (lines_behind k.version q.goal others)) whole in
-    let plant = front p q (concat (lines_behind h.version p.goal rows)) (concat (lines_behind k.version q.goal others)) h.limits.plant k.limits.plant version.1 in
-    let moved : concat (lines_behind h.version p.goal rows) ≡ concat (lines_behind h.version p.goal others) =
+    let whole : version_line h.version ++ (text_of p ++ concat (lines_after h.version p.goal rows)) ≡ version_line k.version ++ (text_of q ++ concat (lines_after k.version q.goal others)) =
+    sym (append_assoc (version_line h.version) (text_of p) (concat (lines_after h.version p.goal rows))) ∙ sym h.text ∙ k.text ∙ append_assoc (version_line k.version) (text_of q) (concat (lines_after k.version q.goal others)) in
+    let version = one_version h.version k.version (text_of p ++ concat (lines_after h.version p.goal rows)) (text_of q ++ concat (lines_after k.version q.goal others)) whole in
+    let plant = front p q (concat (lines_after h.version p.goal rows)) (concat (lines_after k.version q.goal others)) h.limits.plant k.limits.plant version.1 in
+    let moved : concat (lines_after h.version p.goal rows) ≡ concat (lines_after h.version p.goal others) =
     plant.1
-    ∙ ap (λ (v : Version). concat (lines_behind v q.goal others)) (sym version.0)
-    ∙ ap (λ (d : Description). concat (lines_behind h.version d.goal others)) (sym plant.0) in
-    (plant.0, behind_told h.version p rows others h.limits h.fitting (subst (λ (d : Description). RowsFit d others) (sym plant.0) k.fitting) moved, version.0)
+    ∙ ap (λ (v : TableVersion). concat (lines_after v q.goal others)) (sym version.0)
+    ∙ ap (λ (d : Description). concat (lines_after h.version d.goal others)) (sym plant.0) in
+    (plant.0, after_told h.version p rows others h.limits h.fitting (subst (λ (d : Description). RowsFit d others) (sym plant.0) k.fitting) moved, version.0)
 
 -- ---- one row at a state
 

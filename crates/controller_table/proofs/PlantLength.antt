@@ -9,7 +9,7 @@ use Rattle.std.proofs.lemmas.List.{length-map}
 use Rattle.std.proofs.lemmas.List.Concat.{length-flat_map}
 use Rattle.std.proofs.lemmas.List.Sums.{sum_by-le}
 use Rattle.std.proofs.lemmas.List.Elements.{All-weaker, recursion_from_All}
-use Rattle.fixed_expr.specs.Expression.{Expression, Number, Variable, Negation, Sum, Difference, Product, Quotient, Minimum, Maximum, Absolute, Lookup}
+use Rattle.fixed_expr.specs.Expression.{Expression, NumExpr, VarExpr, NegExpr, AddExpr, SubExpr, MulExpr, DivExpr, MinExpr, MaxExpr, AbsExpr, LutExpr}
 use Rattle.fixed_expr.specs.Curves.{IsShort as IsShortPoint}
 use Rattle.plant_record.specs.declared.variables.StateVariable.{StateVariable}
 use Rattle.plant_record.specs.declared.variables.InputVariable.{InputVariable}
@@ -146,35 +146,35 @@ name_at (name ∷ names) (suc i) h = name_at names i h.1
 
 module _ (names : List (List ℕ)) (short : AllByRecursion (IsShort 32) names) (m : ℕ) where
   expression_length : (asked : ℕ) (e : Expression) → HasLiterals m e → length (expression_text names asked e) ≤ node_bytes * nodes_of e
-  expression_length asked (Number k) h = let n = number_length k h.1 in omega (arith, n)
-  expression_length asked (Variable i) h = let n = name_at names i short in omega (arith, n)
-  expression_length asked (Negation a) h = let x = expression_length 3 a h in omega (arith, x)
-  expression_length asked (Sum a b) h =
+  expression_length asked (NumExpr k) h = let n = number_length k h.1 in omega (arith, n)
+  expression_length asked (VarExpr i) h = let n = name_at names i short in omega (arith, n)
+  expression_length asked (NegExpr a) h = let x = expression_length 3 a h in omega (arith, x)
+  expression_length asked (AddExpr a b) h =
       let x = expression_length 1 a h.0 in
       let y = expression_length 2 b h.1 in
       placed 1 asked (expression_text names 1 a ++ codes " + " ++ expression_text names 2 b) (node_bytes * suc (nodes_of a + nodes_of b)) (let t = joined (expression_text names 1 a) (expression_text names 2 b) (codes " + ") (node_bytes * nodes_of a) (node_bytes * nodes_of b) (3 + node_bytes * nodes_of a + node_bytes * nodes_of b) x y (omega arith) in omega (arith, t))
-  expression_length asked (Difference a b) h =
+  expression_length asked (SubExpr a b) h =
       let x = expression_length 1 a h.0 in
       let y = expression_length 2 b h.1 in
       placed 1 asked (expression_text names 1 a ++ codes " - " ++ expression_text names 2 b) (node_bytes * suc (nodes_of a + nodes_of b)) (let t = joined (expression_text names 1 a) (expression_text names 2 b) (codes " - ") (node_bytes * nodes_of a) (node_bytes * nodes_of b) (3 + node_bytes * nodes_of a + node_bytes * nodes_of b) x y (omega arith) in omega (arith, t))
-  expression_length asked (Product a b) h =
+  expression_length asked (MulExpr a b) h =
       let x = expression_length 2 a h.0 in
       let y = expression_length 3 b h.1 in
       placed 2 asked (expression_text names 2 a ++ codes " * " ++ expression_text names 3 b) (node_bytes * suc (nodes_of a + nodes_of b)) (let t = joined (expression_text names 2 a) (expression_text names 3 b) (codes " * ") (node_bytes * nodes_of a) (node_bytes * nodes_of b) (3 + node_bytes * nodes_of a + node_bytes * nodes_of b) x y (omega arith) in omega (arith, t))
-  expression_length asked (Quotient a k) h =
+  expression_length asked (DivExpr a k) h =
       let x = expression_length 2 a h.0 in
       let y = number_length k h.2 in
       placed 2 asked (expression_text names 2 a ++ codes " / " ++ signed_decimal k) (node_bytes * suc (nodes_of a)) (let t = joined (expression_text names 2 a) (signed_decimal k) (codes " / ") (node_bytes * nodes_of a) 32 (35 + node_bytes * nodes_of a) x y (omega arith) in omega (arith, t))
-  expression_length asked (Minimum a b) h =
+  expression_length asked (MinExpr a b) h =
       let x = expression_length 1 a h.0 in
       let y = expression_length 1 b h.1 in
       called (codes "min(") (expression_text names 1 a) (expression_text names 1 b) (nodes_of a) (nodes_of b) (omega arith) x y
-  expression_length asked (Maximum a b) h =
+  expression_length asked (MaxExpr a b) h =
       let x = expression_length 1 a h.0 in
       let y = expression_length 1 b h.1 in
       called (codes "max(") (expression_text names 1 a) (expression_text names 1 b) (nodes_of a) (nodes_of b) (omega arith) x y
-  expression_length asked (Absolute a) h = let x = expression_length 1 a h in omega (arith, x, length-append (codes "abs(" ++ expression_text names 1 a) (codes ")"))
-  expression_length asked (Lookup a points) h =
+  expression_length asked (AbsExpr a) h = let x = expression_length 1 a h in omega (arith, x, length-append (codes "abs(" ++ expression_text names 1 a) (codes ")"))
+  expression_length asked (LutExpr a points) h =
       let x = expression_length 1 a h.0 in
       let y = lines_length point_text IsShortPoint 41 points h.1.short point_length in
       omega (

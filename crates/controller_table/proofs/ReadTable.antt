@@ -9,43 +9,43 @@ use Rattle.plant_record.specs.Description.{Description, axes_of}
 use Rattle.plant_record.specs.Limits.{IsWithinLimits}
 use Rattle.plant_writing.specs.CanonicalText.{text_of}
 use Rattle.plant_text.specs.CanonicalFronts.{IsFront}
-use Rattle.controller_table.specs.declared.fault.TableFault.TheVariants as faults
-use Rattle.row_runs.specs.declared.run.Version.{Version}
-use Rattle.row_runs.specs.declared.run.Version.TheVariants.{First, Second}
-use Rattle.controller_table.specs.TableText.{version_line, lines_behind}
+use Rattle.controller_table.specs.declared.table_fault.TableFault.TheVariants as faults
+use Rattle.row_runs.specs.declared.run.TableVersion.{TableVersion}
+use Rattle.row_runs.specs.declared.run.TableVersion.TheVariants.{First, Second}
+use Rattle.controller_table.specs.TableText.{version_line, lines_after}
 use Rattle.row_runs.specs.RunText.{end_line}
 use Rattle.controller_table.specs.Tables.{RowsFit, IsTableIn}
-use Rattle.controller_table.specs.RowLines.{MayStand, IsFirstRefusedBehind}
+use Rattle.controller_table.specs.RowLines.{MayStand, IsFirstRefusedAfter}
 use Rattle.controller_table.specs.Refusals.{IsShortTable, line_count, HasNoVersion, IsTableRefusedFor}
 use Rattle.controller_table.specs.inside.Reading.{IsVersionAt}
 
-pub no_version : (bytes : List ℕ) → ((y : Version × List ℕ) → IsVersionAt bytes y → ⊥) → HasNoVersion bytes
+pub no_version : (bytes : List ℕ) → ((y : TableVersion × List ℕ) → IsVersionAt bytes y → ⊥) → HasNoVersion bytes
 no_version bytes none v rest e = none (v, rest) e
 
 -- each version's line has eight bytes
-front_taken : (v : Version) (rest : List ℕ) (count : ℕ) → take (8 + count) (version_line v ++ rest) ≡ version_line v ++ take count rest
+front_taken : (v : TableVersion) (rest : List ℕ) (count : ℕ) → take (8 + count) (version_line v ++ rest) ≡ version_line v ++ take count rest
 front_taken First rest count = take-append-add (version_line First) rest count
 front_taken Second rest count = take-append-add (version_line Second) rest count
 
-behind_plant : (v : Version) (bytes rest : List ℕ) (p : Description) (count : ℕ) → bytes ≡ version_line v ++ rest → IsFront rest p count → bytes ≡ version_line v ++ text_of p ++ drop count rest
-behind_plant v bytes rest p count are f =
+after_plant : (v : TableVersion) (bytes rest : List ℕ) (p : Description) (count : ℕ) → bytes ≡ version_line v ++ rest → IsFront rest p count → bytes ≡ version_line v ++ text_of p ++ drop count rest
+after_plant v bytes rest p count are f =
     are
     ∙ ap (λ (x : List ℕ). version_line v ++ x) (sym (take-append-drop count rest) ∙ ap (λ (x : List ℕ). x ++ drop count rest) f.text)
     ∙ sym (append_assoc (version_line v) (text_of p) (drop count rest))
 
-pub table_read : (v : Version) (bytes rest behind : List ℕ) (p : Description) (count : ℕ) (rows : List (Option Row)) → bytes ≡ version_line v ++ rest → IsFront rest p count → IsWithinLimits p → behind ≡ drop count rest → RowsFit p rows → behind ≡ concat (lines_behind v p.goal rows) → IsTableIn v bytes p rows
-table_read v bytes rest behind p count rows are f within from fit text = (
+pub table_read : (v : TableVersion) (bytes rest after : List ℕ) (p : Description) (count : ℕ) (rows : List (Option Row)) → bytes ≡ version_line v ++ rest → IsFront rest p count → IsWithinLimits p → after ≡ drop count rest → RowsFit p rows → after ≡ concat (lines_after v p.goal rows) → IsTableIn v bytes p rows
+table_read v bytes rest after p count rows are f within from fit text = (
   record {
     limits = within;
     fitting = fit;
     version = v;
-    text = behind_plant v bytes rest p count are f ∙ ap (λ (x : List ℕ). version_line v ++ text_of p ++ x) (sym from ∙ text);
+    text = after_plant v bytes rest p count are f ∙ ap (λ (x : List ℕ). version_line v ++ text_of p ++ x) (sym from ∙ text);
   },
   refl,
 )
 
-pub rows_refused : (v : Version) (bytes rest behind : List ℕ) (p : Description) (count lines line : ℕ) → IsShortTable bytes → bytes ≡ version_line v ++ rest → IsFront rest p count → IsWithinLimits p → behind ≡ drop count rest → IsFirstRefusedBehind v p behind line → lines ≡ line_count (take (8 + count) bytes) → IsTableRefusedFor bytes (faults.Malformed (lines + line))
-rows_refused v bytes rest behind p count lines line short are f within from refused counted =
+pub rows_refused : (v : TableVersion) (bytes rest after : List ℕ) (p : Description) (count lines line : ℕ) → IsShortTable bytes → bytes ≡ version_line v ++ rest → IsFront rest p count → IsWithinLimits p → after ≡ drop count rest → IsFirstRefusedAfter v p after line → lines ≡ line_count (take (8 + count) bytes) → IsTableRefusedFor bytes (faults.Malformed (lines + line))
+rows_refused v bytes rest after p count lines line short are f within from refused counted =
     let front_is : take (8 + count) bytes ≡ version_line v ++ text_of p =
     ap (take (8 + count)) are ∙ front_taken v rest count ∙ ap (λ (x : List ℕ). version_line v ++ x) f.text in (
       short,
@@ -53,8 +53,8 @@ rows_refused v bytes rest behind p count lines line short are f within from refu
         version = v;
         plant = p;
         limits = within;
-        rest = behind;
-        are = behind_plant v bytes rest p count are f ∙ ap (λ (x : List ℕ). version_line v ++ text_of p ++ x) (sym from);
+        rest = after;
+        are = after_plant v bytes rest p count are f ∙ ap (λ (x : List ℕ). version_line v ++ text_of p ++ x) (sym from);
         line = line;
         refused = refused;
         number = ap (λ (n : ℕ). n + line) (counted ∙ ap line_count front_is);
@@ -62,7 +62,7 @@ rows_refused v bytes rest behind p count lines line short are f within from refu
     )
 
 -- the number of a refused line is small
-pub few_lines : (v : Version) (p : Description) (lines : List (List ℕ)) → MayStand v p lines → length lines ≤ cells_of (axes_of p) + 2
+pub few_lines : (v : TableVersion) (p : Description) (lines : List (List ℕ)) → MayStand v p lines → length lines ≤ cells_of (axes_of p) + 2
 few_lines v p lines may = elim may [
   | inl none ↦ (let e = ap length none in omega (arith, e))
   | inr more ↦ elim more [
@@ -71,5 +71,5 @@ few_lines v p lines may = elim may [
   ]
 ]
 
-pub line_bound : (v : Version) (p : Description) (bytes : List ℕ) (n : ℕ) → IsWithinLimits p → IsFirstRefusedBehind v p bytes n → n ≤ 2 ^ 20 + 3
+pub line_bound : (v : TableVersion) (p : Description) (bytes : List ℕ) (n : ℕ) → IsWithinLimits p → IsFirstRefusedAfter v p bytes n → n ≤ 2 ^ 20 + 3
 line_bound v p bytes n within r = let cells = within.cells in omega (arith, r.next, few_lines v p r.lines r.stand, cells)

@@ -1,4 +1,4 @@
--- Why no plant is read behind a table's first line.
+-- Why no plant is read after a table's first line.
 use Rattle.std.proofs.Common.{ℕ, ◌+◌, ◌≤◌, List, [], ◌∷◌, ◌++◌, length, length-append, ap, arith}
 use Rattle.std.specs.Prelude.{codes}
 use Rattle.plant_reading.specs.Lines.{with_line_feeds}

@@ -13,18 +13,18 @@ use Rattle.plant_record.specs.Description.{Description, axes_of}
 use Rattle.plant_record.specs.Limits.{IsWithinLimits}
 use Rattle.plant_writing.specs.CanonicalText.{text_of}
 use Rattle.row_runs.specs.declared.run.Run.{Run}
-use Rattle.row_runs.specs.declared.run.Version.{Version}
-use Rattle.row_runs.specs.declared.run.Version.TheVariants.{First, Second}
+use Rattle.row_runs.specs.declared.run.TableVersion.{TableVersion}
+use Rattle.row_runs.specs.declared.run.TableVersion.TheVariants.{First, Second}
 use Rattle.row_runs.specs.Runs.{HasCells, AreRuns, runs_from}
-use Rattle.row_runs.specs.RunText.{run_line, rank_word, input_word, count_line, end_line}
-use Rattle.controller_table.specs.TableText.{words_of, version_line, lines_behind}
+use Rattle.row_runs.specs.RunText.{run_line, rank_field, input_field, count_line, end_line}
+use Rattle.controller_table.specs.TableText.{format_of, version_line, lines_after}
 use Rattle.controller_table.specs.Tables.{HasFittingRank, RowsFit}
 use Rattle.controller_table.specs.RowLines.{IsRunOf}
 use Rattle.controller_table.specs.Laws.{TablesAreShort}
 use Rattle.row_runs.proofs.FewRuns.{few_runs}
 use Rattle.controller_table.proofs.OneTable.{fitting_runs}
 use Rattle.controller_table.proofs.PlantLength.{plant_length}
-use Rattle.controller_table.proofs.Text.{behind_text, runs_text}
+use Rattle.controller_table.proofs.Text.{after_text, runs_text}
 
 seven : (n : ℕ) → n ≤ 2 ^ 20 → length (decimal n) ≤ 7
 seven n le = length-decimal-le 7 n (omega arith) (omega (arith, le)) (omega (arith, le))
@@ -32,11 +32,11 @@ seven n le = length-decimal-le 7 n (omega arith) (omega (arith, le)) (omega (ari
 four : (n : ℕ) → n < 4096 → length (decimal n) ≤ 4
 four n lt = length-decimal-le 4 n (omega arith) (omega (arith, lt)) (omega (arith, lt))
 
-rank_length : (goal : GoalKind) (cells : ℕ) (row : Row) → cells ≤ 2 ^ 20 → HasFittingRank goal cells row → length (rank_word (words_of goal) row) ≤ 7
+rank_length : (goal : GoalKind) (cells : ℕ) (row : Row) → cells ≤ 2 ^ 20 → HasFittingRank goal cells row → length (rank_field (format_of goal) row) ≤ 7
 rank_length Reach cells row le h = seven row.rank (omega (arith, h.0, le))
 rank_length Keep cells row le h = omega arith
 
-input_length : (goal : GoalKind) (row : Row) → row.input < 4096 → length (input_word (words_of goal) row) ≤ 4
+input_length : (goal : GoalKind) (row : Row) → row.input < 4096 → length (input_field (format_of goal) row) ≤ 4
 input_length Reach row lt = chosen (eqb row.rank 0) (four row.input lt)
   where
     chosen : (b : Bool) → length (decimal row.input) ≤ 4 → length (cond b (codes "-") (decimal row.input)) ≤ 4
@@ -60,29 +60,29 @@ longer_length a l b i ha hl hb hi =
       length-append a (32 ∷ (l ++ (32 ∷ (b ++ (32 ∷ i))))),
     )
 
--- a run's line has at most four numbers of 7, 7, 7 and 4 digits, and a byte behind each
-run_length : (v : Version) (p : Description) (r : Run) → IsWithinLimits p → HasCells v r → IsRunOf p r → length (run_line v (words_of p.goal) r) ≤ 29
+-- a run's line has at most four numbers of 7, 7, 7 and 4 digits, and a byte after each
+run_length : (v : TableVersion) (p : Description) (r : Run) → IsWithinLimits p → HasCells v r → IsRunOf p r → length (run_line v (format_of p.goal) r) ≤ 29
 run_length First p r within some h =
     let cells = within.cells in
     let vectors = within.vectors in
-    let short = words_length (decimal r.first) (rank_word (words_of p.goal) r.row) (input_word (words_of p.goal) r.row)
+    let short = words_length (decimal r.first) (rank_field (format_of p.goal) r.row) (input_field (format_of p.goal) r.row)
     (seven r.first (omega (arith, some, h.cells, cells))) (rank_length p.goal (cells_of (axes_of p)) r.row cells h.row.rank) (input_length p.goal r.row (omega (arith, h.row.input, vectors))) in
     omega (arith, short)
 run_length Second p r within some h =
     let cells = within.cells in
     let vectors = within.vectors in
-    longer_length (decimal r.first) (decimal r.last) (rank_word (words_of p.goal) r.row) (input_word (words_of p.goal) r.row)
+    longer_length (decimal r.first) (decimal r.last) (rank_field (format_of p.goal) r.row) (input_field (format_of p.goal) r.row)
     (seven r.first (omega (arith, some, h.cells, cells))) (seven r.last (omega (arith, h.cells, cells))) (rank_length p.goal (cells_of (axes_of p)) r.row cells h.row.rank) (input_length p.goal r.row (omega (arith, h.row.input, vectors)))
 
-runs_length : (v : Version) (p : Description) (runs : List Run) → IsWithinLimits p → AreRuns v runs → AllByRecursion (IsRunOf p) runs → length (concat (map (run_line v (words_of p.goal)) runs)) ≤ length runs * 29
+runs_length : (v : TableVersion) (p : Description) (runs : List Run) → IsWithinLimits p → AreRuns v runs → AllByRecursion (IsRunOf p) runs → length (concat (map (run_line v (format_of p.goal)) runs)) ≤ length runs * 29
 runs_length v p [] within order h = omega arith
 runs_length v p (r ∷ runs) within order h =
     let one = run_length v p r within order.0 h.0 in
     let more = runs_length v p runs within order.2 h.1 in
-    omega (arith, one, more, length-append (run_line v (words_of p.goal) r) (concat (map (run_line v (words_of p.goal)) runs)))
+    omega (arith, one, more, length-append (run_line v (format_of p.goal) r) (concat (map (run_line v (format_of p.goal)) runs)))
 
-behind_length : (v : Version) (p : Description) (rows : List (Option Row)) → IsWithinLimits p → RowsFit p rows → length (concat (lines_behind v p.goal rows)) ≤ 2 ^ 25
-behind_length v p rows within fit =
+after_length : (v : TableVersion) (p : Description) (rows : List (Option Row)) → IsWithinLimits p → RowsFit p rows → length (concat (lines_after v p.goal rows)) ≤ 2 ^ 25
+after_length v p rows within fit =
     let cells = within.cells in
     let few = few_runs v 0 rows in
     let number = seven (length (runs_from v 0 rows)) (omega (arith, few, fit.one_each, cells)) in
@@ -95,26 +95,26 @@ behind_length v p rows within fit =
       rows_length,
       fit.one_each,
       cells,
-      ap length (behind_text v p.goal rows),
+      ap length (after_text v p.goal rows),
       length-append (count_line (length (runs_from v 0 rows))) (runs_text v p.goal rows ++ end_line),
       length-append (codes "rows " ++ decimal (length (runs_from v 0 rows))) (codes "\n"),
       length-append (runs_text v p.goal rows) end_line,
     )
 
-first_length : (v : Version) → length (version_line v) ≤ 8
+first_length : (v : TableVersion) → length (version_line v) ≤ 8
 first_length First = omega arith
 first_length Second = omega arith
 
 pub tables_are_short : TablesAreShort
 tables_are_short bytes p rows t =
     let plant = plant_length p t.limits.plant in
-    let behind = behind_length t.version p rows t.limits t.fitting in
+    let after = after_length t.version p rows t.limits t.fitting in
     omega (
       arith,
       plant,
-      behind,
+      after,
       first_length t.version,
       ap length t.text,
-      length-append (version_line t.version ++ text_of p) (concat (lines_behind t.version p.goal rows)),
+      length-append (version_line t.version ++ text_of p) (concat (lines_after t.version p.goal rows)),
       length-append (version_line t.version) (text_of p),
     )

@@ -7,7 +7,7 @@ use Rattle.game_core.specs.Solution.{IsReachSolution}
 use Rattle.grid_quantiser.specs.Axes.{cells_of}
 use Rattle.plant_record.specs.declared.aims.GoalKind.TheVariants.{Reach, Keep}
 use Rattle.plant_record.specs.Description.{Description, axes_of, vectors_of}
-use Rattle.controller_table.specs.declared.fault.TableFault.{TableFault}
+use Rattle.controller_table.specs.declared.table_fault.TableFault.{TableFault}
 use Rattle.controller_table.specs.Tables.{RowsFit, IsTable}
 use Rattle.controller_table.specs.Choice.{IsChoice, HasRank}
 use Rattle.controller_table.specs.Refusals.{IsShortTable, IsTableRefusedFor}

@@ -1,18 +1,18 @@
 -- Which texts are refused as tables, and why: the first reason that applies.
 use Rattle.std.specs.Prelude.{◌≡◌, ◌⊎◌, ℕ, suc, ◌+◌, ◌≤◌, ◌==◌, List, ◌++◌, length, count_by}
-use Rattle.plant_record.specs.declared.fault.LimitKind.{LimitKind}
-use Rattle.plant_record.specs.declared.fault.LimitKind.TheVariants.{PlantText, TableText, Vectors, Cells, Pairs, Edges}
-use Rattle.plant_text.specs.declared.fault.PlantFault.{PlantFault}
-use Rattle.plant_text.specs.declared.fault.PlantFault.TheVariants as front
+use Rattle.plant_record.specs.declared.limit_kind.LimitKind.{LimitKind}
+use Rattle.plant_record.specs.declared.limit_kind.LimitKind.TheVariants.{PlantText, TableText, Vectors, Cells, Pairs, Edges}
+use Rattle.plant_text.specs.declared.plant_fault.PlantFault.{PlantFault}
+use Rattle.plant_text.specs.declared.plant_fault.PlantFault.TheVariants as front
 use Rattle.plant_record.specs.Description.{Description}
 use Rattle.plant_record.specs.Limits.{IsWithinLimits}
 use Rattle.plant_writing.specs.CanonicalText.{text_of}
 use Rattle.plant_text.specs.CanonicalFronts.{IsFrontRefusedFor}
-use Rattle.controller_table.specs.declared.fault.TableFault.{TableFault}
-use Rattle.controller_table.specs.declared.fault.TableFault.TheVariants as faults
-use Rattle.row_runs.specs.declared.run.Version.{Version}
+use Rattle.controller_table.specs.declared.table_fault.TableFault.{TableFault}
+use Rattle.controller_table.specs.declared.table_fault.TableFault.TheVariants as faults
+use Rattle.row_runs.specs.declared.run.TableVersion.{TableVersion}
 use Rattle.controller_table.specs.TableText.{version_line}
-use Rattle.controller_table.specs.RowLines.{IsFirstRefusedBehind}
+use Rattle.controller_table.specs.RowLines.{IsFirstRefusedAfter}
 
 -- the text has at most 67,108,864 bytes
 abbrev pub IsShortTable : List ℕ → Type 0
@@ -24,27 +24,27 @@ line_count bytes = count_by (λ b. b == 10) bytes
 
 -- the bytes don't begin with the line of a version
 abbrev pub HasNoVersion : List ℕ → Type 0
-HasNoVersion bytes = (version : Version) (rest : List ℕ) → bytes ≡ version_line version ++ rest → ⊥
+HasNoVersion bytes = (version : TableVersion) (rest : List ℕ) → bytes ≡ version_line version ++ rest → ⊥
 
--- Behind the version's line no plant is read, for this reason.
+-- After the version's line no plant is read, for this reason.
 pub record IsPlantRefusedFor (bytes : List ℕ) (fault : PlantFault) : Type 0 where
-  pub version : Version
+  pub version : TableVersion
   pub rest : List ℕ
   pub are : bytes ≡ version_line version ++ rest
   pub refused : IsFrontRefusedFor rest fault
 
--- The n-th line is the first that is refused behind the text of a plant within the limits.
+-- The n-th line is the first that is refused after the text of a plant within the limits.
 pub record AreRowsRefusedAt (bytes : List ℕ) (n : ℕ) : Type 0 where
-  pub version : Version
+  pub version : TableVersion
   pub plant : Description
   pub limits : IsWithinLimits plant
   pub rest : List ℕ
   pub are : bytes ≡ version_line version ++ text_of plant ++ rest
   pub line : ℕ
-  pub refused : IsFirstRefusedBehind version plant rest line
+  pub refused : IsFirstRefusedAfter version plant rest line
   pub number : n ≡ line_count (version_line version ++ text_of plant) + line
 
--- the first refused line: that of the version, or one up to the plant's end, or one behind it
+-- the first refused line: that of the version, or one up to the plant's end, or one after it
 abbrev pub IsFirstRefusedInTable : List ℕ → ℕ → Type 0
 IsFirstRefusedInTable bytes n =
     ((n ≡ 1) × HasNoVersion bytes)

@@ -2,10 +2,10 @@
 use Rattle.std.specs.Prelude.{ℕ, List, [], ◌∷◌, ◌++◌, length, map, Option, codes}
 use Rattle.std.specs.List.{concat}
 use Rattle.game_core.specs.declared.game.Row.{Row}
-use Rattle.row_runs.specs.declared.row_words.RowWords.{RowWords}
-use Rattle.row_runs.specs.declared.row_words.RowWords.TheVariants.{InputAboveZero, InputAlone}
-use Rattle.row_runs.specs.declared.run.Version.{Version}
-use Rattle.row_runs.specs.declared.run.Version.TheVariants.{First, Second}
+use Rattle.row_runs.specs.declared.row_format.RowFormat.{RowFormat}
+use Rattle.row_runs.specs.declared.row_format.RowFormat.TheVariants.{InputAboveZero, InputAlone}
+use Rattle.row_runs.specs.declared.run.TableVersion.{TableVersion}
+use Rattle.row_runs.specs.declared.run.TableVersion.TheVariants.{First, Second}
 use Rattle.row_runs.specs.Runs.{runs_from}
 use Rattle.row_runs.specs.RunText.{line, run_line, count_line, end_line}
 use Rattle.plant_record.specs.declared.aims.GoalKind.{GoalKind}
@@ -14,32 +14,32 @@ use Rattle.plant_record.specs.Description.{Description}
 use Rattle.plant_writing.specs.CanonicalText.{text_of}
 
 -- the number of a version
-abbrev pub version_number : Version → ℕ
+abbrev pub version_number : TableVersion → ℕ
 version_number First = 1
 version_number Second = 2
 
 -- the version in which tables are written
-abbrev pub written : Version
+abbrev pub written : TableVersion
 written = Second
 
 -- a plant to be kept off its obstacles has no ranks, and at rank 0 of one to be brought to its targets nothing is applied
-abbrev pub words_of : GoalKind → RowWords
-words_of Reach = InputAboveZero
-words_of Keep = InputAlone
+abbrev pub format_of : GoalKind → RowFormat
+format_of Reach = InputAboveZero
+format_of Keep = InputAlone
 
 -- the lines of all rows
-abbrev pub row_lines : Version → GoalKind → List (Option Row) → List (List ℕ)
-row_lines version goal rows = map (run_line version (words_of goal)) (runs_from version 0 rows)
+abbrev pub row_lines : TableVersion → GoalKind → List (Option Row) → List (List ℕ)
+row_lines version goal rows = map (run_line version (format_of goal)) (runs_from version 0 rows)
 
-abbrev pub version_line : Version → List ℕ
+abbrev pub version_line : TableVersion → List ℕ
 version_line First = line (codes "table" ∷ codes "1" ∷ [])
 version_line Second = line (codes "table" ∷ codes "2" ∷ [])
 
--- the lines behind the plant's text
-abbrev pub lines_behind : Version → GoalKind → List (Option Row) → List (List ℕ)
-lines_behind version goal rows =
+-- the lines after the plant's text
+abbrev pub lines_after : TableVersion → GoalKind → List (Option Row) → List (List ℕ)
+lines_after version goal rows =
     count_line (length (row_lines version goal rows)) ∷ row_lines version goal rows ++ end_line ∷ []
 
 -- the text of a table, one optional row for each cell
-abbrev pub table_text : Version → Description → List (Option Row) → List ℕ
-table_text version p rows = version_line version ++ text_of p ++ concat (lines_behind version p.goal rows)
+abbrev pub table_text : TableVersion → Description → List (Option Row) → List ℕ
+table_text version p rows = version_line version ++ text_of p ++ concat (lines_after version p.goal rows)

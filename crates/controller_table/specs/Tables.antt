@@ -7,12 +7,12 @@ use Rattle.plant_record.specs.declared.aims.GoalKind.{GoalKind}
 use Rattle.plant_record.specs.declared.aims.GoalKind.TheVariants.{Reach, Keep}
 use Rattle.plant_record.specs.Description.{Description, axes_of, vectors_of}
 use Rattle.plant_record.specs.Limits.{IsWithinLimits}
-use Rattle.row_runs.specs.declared.run.Version.{Version}
+use Rattle.row_runs.specs.declared.run.TableVersion.{TableVersion}
 use Rattle.controller_table.specs.TableText.{table_text}
 
 -- What a table holds, and the version of the text that it was read from.
 pub record TableModel : Type 0 where
-  pub version : Version
+  pub version : TableVersion
   pub plant : Description
   pub rows : List (Option Row)
 
@@ -36,9 +36,9 @@ pub record RowsFit (p : Description) (rows : List (Option Row)) : Type 0 where
 pub record IsTable (bytes : List ℕ) (p : Description) (rows : List (Option Row)) : Type 0 where
   pub limits : IsWithinLimits p
   pub fitting : RowsFit p rows
-  pub version : Version
+  pub version : TableVersion
   pub text : bytes ≡ table_text version p rows
 
 -- the bytes are such a table, in this version
-abbrev pub IsTableIn : Version → List ℕ → Description → List (Option Row) → Type 0
+abbrev pub IsTableIn : TableVersion → List ℕ → Description → List (Option Row) → Type 0
 IsTableIn version bytes p rows = (table : IsTable bytes p rows) × (table.version ≡ version)

@@ -4,8 +4,8 @@ ghost use Rattle.std.specs.Prelude.{◌≡◌, ℕ, ◌≤◌, List, ◌++◌, l
 ghost use Rattle.controller_table.specs.Found.{Finds};
 ghost use Rattle.controller_table.specs.Refusals.{line_count};
 
-/// What stands behind a front of the bytes.
-pub fn behind_front<'a>(bytes: &'a [u8], front: &[u8]) -> Option<&'a [u8]>
+/// What stands after a front of the bytes.
+pub fn after_prefix<'a>(bytes: &'a [u8], front: &[u8]) -> Option<&'a [u8]>
     ensures { Finds (λ r. r.now) (λ (rest : List ℕ). bytes.now ≡ front.now ++ rest) result }
 {
     bytes.strip_prefix(front)

@@ -5,21 +5,21 @@
 //! To contracts a `Table` is its version, its plant and its rows.
 #![tactic(auto)]
 
-mod copying;
-mod fault;
 mod front;
+mod goal_format;
 pub mod laws;
-mod numbers;
-mod reader;
+mod row_numbers;
 mod row_reader;
 mod run_reader;
 mod table;
-mod words;
-mod writer;
+mod table_copy;
+mod table_fault;
+mod table_reader;
+mod table_writer;
 
-pub use fault::{NoMemory, TableFault};
-pub use front::{behind_front, line_count};
-pub use reader::{TABLE_LIMIT, read_table};
+pub use front::{after_prefix, line_count};
+pub use goal_format::format_of;
 pub use table::Table;
-pub use words::words_of;
-pub use writer::TableWriter;
+pub use table_fault::{NoMemory, TableFault};
+pub use table_reader::{TABLE_LIMIT, read_table};
+pub use table_writer::TableWriter;

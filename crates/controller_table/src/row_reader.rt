@@ -1,54 +1,54 @@
-//! The lines behind a plant's text.
+//! The lines after a plant's text.
 
 ghost use Rattle.std.specs.Prelude.{◌≡◌, ◌≤◌, ℕ, List, ◌++◌, IfOk, IfErr};
 ghost use Rattle.std.specs.List.{concat};
 ghost use Rattle.grid_quantiser.specs.Axes.{cells_of};
 ghost use Rattle.plant_record.specs.Description.{axes_of};
 ghost use Rattle.plant_record.specs.Limits.{IsWithinLimits};
-ghost use Rattle.controller_table.specs.TableText.{lines_behind};
+ghost use Rattle.controller_table.specs.TableText.{lines_after};
 ghost use Rattle.row_runs.specs.RunText.{count_line};
 ghost use Rattle.controller_table.specs.Tables.{RowsFit};
 ghost use Rattle.controller_table.specs.Found.{Finds};
-ghost use Rattle.controller_table.specs.inside.Reading.{IsRefusedBehind};
+ghost use Rattle.controller_table.specs.inside.Reading.{IsRefusedAfter};
 ghost use Rattle.controller_table.specs.inside.ReadRows.{AreRead, AreRunsRefused};
 
-use crate::fault::TableFault;
-use crate::front::behind_front;
-use crate::numbers::number_to;
+use crate::front::after_prefix;
+use crate::row_numbers::number_to;
 use crate::run_reader::run_in;
+use crate::table_fault::TableFault;
 use game_core::Answer;
 use plant_record::Plant;
-use row_runs::{Version, fill_run};
+use row_runs::{TableVersion, fill_run};
 use std::alloc::Global;
 
-/// The rows whose lines stand behind the text of a plant.
-pub(crate) fn rows_behind(
+/// The rows whose lines stand after the text of a plant.
+pub(crate) fn rows_after(
     alloc: Global,
-    version: Version,
+    version: TableVersion,
     plant: &Plant,
     bytes: &[u8],
 ) -> Result<Answer, TableFault>
     requires { IsWithinLimits plant.now }
     ensures fit { IfOk result (λ answer. RowsFit plant.now answer) }
-    ensures text { IfOk result (λ answer. bytes.now ≡ concat (lines_behind version plant.now.goal answer)) }
-    ensures refused { IfErr result (λ fault. IsRefusedBehind version plant.now bytes.now fault) }
+    ensures text { IfOk result (λ answer. bytes.now ≡ concat (lines_after version plant.now.goal answer)) }
+    ensures refused { IfErr result (λ fault. IsRefusedAfter version plant.now bytes.now fault) }
 {
     let cells = plant.grid().cells();
     let Some((count, rest)) = count_in(bytes, cells) else {
         return Err(TableFault::Malformed { line: 1 });
     };
     let (answer, rest) = rows_in(alloc, version, plant, count, rest)?;
-    match behind_front(rest, b"end\n") {
+    match after_prefix(rest, b"end\n") {
         Some([]) => Ok(answer),
         Some(_) => Err(TableFault::Malformed { line: count + 3 }),
         None => Err(TableFault::Malformed { line: count + 2 }),
     }
 }
 
-/// The rows of so many runs, and what stands behind their lines.
+/// The rows of so many runs, and what stands after their lines.
 fn rows_in<'a>(
     alloc: Global,
-    version: Version,
+    version: TableVersion,
     plant: &Plant,
     count: u32,
     bytes: &'a [u8],
@@ -62,24 +62,24 @@ fn rows_in<'a>(
     let mut rest = bytes;
     let mut before = None;
     for at in 0..count {
-        let Some((run, behind)) = run_in(version, plant, before, rest) else {
+        let Some((run, after)) = run_in(version, plant, before, rest) else {
             return Err(TableFault::Malformed { line: at + 2 });
         };
         fill_run(&mut answer, run);
         before = Some(run);
-        rest = behind;
+        rest = after;
     }
     Ok((answer, rest))
 }
 
-/// The number of row lines, which is at most this, and what stands behind its line.
+/// The number of row lines, which is at most this, and what stands after its line.
 fn count_in(bytes: &[u8], most: u32) -> Option<(u32, &[u8])>
     ensures { Finds (λ r. (r.0, r.1.now)) (λ (y : ℕ × List ℕ). (y.0 ≤ most) × (bytes.now ≡ count_line y.0 ++ y.1)) result }
 {
-    let number = behind_front(bytes, b"rows ")?;
-    let (count, behind) = number_to(number, b'\n')?;
+    let number = after_prefix(bytes, b"rows ")?;
+    let (count, after) = number_to(number, b'\n')?;
     if count <= most {
-        Some((count, behind))
+        Some((count, after))
     } else {
         None
     }

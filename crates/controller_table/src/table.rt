@@ -8,19 +8,19 @@ ghost use Rattle.controller_table.specs.TableText.{version_number};
 ghost use Rattle.controller_table.specs.Tables.{RowsFit};
 ghost use Rattle.controller_table.specs.Choice.{Chooses};
 
-use crate::copying::{copy_answer, copy_plant};
-use crate::fault::NoMemory;
+use crate::table_copy::{copy_answer, copy_plant};
+use crate::table_fault::NoMemory;
 use game_core::{Answer, Row};
 use grid_quantiser::Point;
 use plant_record::{GoalKind, Plant};
-use row_runs::Version;
+use row_runs::TableVersion;
 use std::alloc::Global;
 use std::marker::Model;
 
 /// A plant with a row that fits it for some of its cells.
 #[derive(Drop)]
 pub struct Table {
-    version: Version,
+    version: TableVersion,
     plant: Plant,
     answer: Answer,
     /// How many cells have a row.
@@ -45,7 +45,7 @@ impl Model for Table {
 }
 
 impl Table {
-    pub(crate) fn new(version: Version, plant: Plant, answer: Answer) -> Table
+    pub(crate) fn new(version: TableVersion, plant: Plant, answer: Answer) -> Table
         requires limits { IsWithinLimits plant }
         requires fit { RowsFit plant answer }
         ensures { result ≡ record { version = version; plant = plant; rows = answer } }
@@ -71,8 +71,8 @@ impl Table {
         ensures { result ≡ version_number self.now.version }
     {
         match self.version {
-            Version::First => 1,
-            Version::Second => 2,
+            TableVersion::First => 1,
+            TableVersion::Second => 2,
         }
     }
 

@@ -8,7 +8,7 @@ use Rattle.grid_quantiser.specs.Axes.{cells_of}
 use Rattle.plant_record.specs.Description.{axes_of, count_of, vectors_of}
 use Rattle.successor_box.specs.Boxes.{IsEnabledAt, AreSuccessors, central_values}
 use Rattle.plant_game.specs.Abstraction.{pairs_of, pair_of, AreEdges}
-use Rattle.demo_plants.specs.Demo.{demo_plant_of, place, place_step, speed_step}
+use Rattle.demo_plants.specs.Demo.{demo_plant_of, position, position_step, speed_step}
 use Rattle.demo_plants.specs.Laws.{DemoPlantsHaveFewEdges}
 use Rattle.demo_plants.proofs.Sizes.{within_limits}
 use Rattle.demo_plants.proofs.FewSuccessors.{few_cells}
@@ -16,7 +16,7 @@ use Rattle.demo_plants.proofs.FewSuccessors.{few_cells}
 few_where_enabled : (n c u : ℕ) (cells : List ℕ) → AreSuccessors (demo_plant_of n) c u cells → IsEnabledAt (demo_plant_of n) c u → length cells ≤ 9
 unfolding demo_plant_of
 few_where_enabled n c u cells are enabled =
-    few_cells (count_of (place n)) (value_of place_step (central_values (demo_plant_of n) c u)) (value_of speed_step (central_values (demo_plant_of n) c u)) enabled cells (are.enabled enabled)
+    few_cells (count_of (position n)) (value_of position_step (central_values (demo_plant_of n) c u)) (value_of speed_step (central_values (demo_plant_of n) c u)) enabled cells (are.enabled enabled)
 
 few_successors : (n c u : ℕ) (cells : List ℕ) → AreSuccessors (demo_plant_of n) c u cells → length cells ≤ 9
 few_successors n c u cells are =

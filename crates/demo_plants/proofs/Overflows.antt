@@ -1,12 +1,12 @@
--- No equation of a demo plant overflows: the deviations are 6 places and 7 in speed.
+-- No equation of a demo plant overflows: the deviations are 6 positions and 7 in speed.
 use Rattle.std.proofs.Common.{ℕ, zero, suc, ◌+◌, ◌-◌, ◌*◌, ◌/◌, ◌<◌, ◌≤◌, List, [], ◌∷◌, length, get_or, arith}
 use Rattle.std.specs.Prelude.{ℤ, pos, negsuc, nat_abs, ◌+ℤ◌, ◌-ℤ◌}
 use Rattle.std.proofs.lemmas.Int.{ints}
 use Rattle.fixed_expr.specs.Range.{IsInRange}
 use Rattle.interval_eval.specs.declared.interval.Interval.{Interval}
 use Rattle.successor_box.specs.Deviations.{HasNoOverflowOver, HasNoOverflowAt}
-use Rattle.run_words.specs.Form.{IsDemoNumber}
-use Rattle.demo_plants.specs.Demo.{demo_plant_of, place_step, speed_step, acceleration}
+use Rattle.command_line.specs.Command.{IsDemoNumber}
+use Rattle.demo_plants.specs.Demo.{demo_plant_of, position_step, speed_step, acceleration}
 use Rattle.demo_plants.specs.Laws.{DemoPlantsHaveNoOverflow}
 
 -- the value of the input is small
@@ -34,8 +34,8 @@ module _ (n : ℕ) (size : IsDemoNumber n) (z : ℤ) (few : nat_abs z ≤ 20) wh
   low_end : IsInRange (negsuc 99 +ℤ z)
   low_end = small (negsuc 99 +ℤ z) (omega (arith, ints, few))
 
-  place_fits : HasNoOverflowOver place_step area radii
-  place_fits = record {
+  position_fits : HasNoOverflowOver position_step area radii
+  position_fits = record {
     span = ((small (pos 0) (omega arith), small (pos (600 * n - 1)) (omega (arith, last))), ((small (negsuc 99) (omega arith), small (pos 99) (omega arith)), (small (negsuc 19) (omega arith), small (pos 19) (omega arith))), (small (negsuc 19) (omega arith), small (pos (600 * n - 1 + 19)) (omega (arith, last))));
     deviation = (small (pos 5) (omega arith), (small (pos 5) (omega arith), small (pos 1) (omega arith)), small (pos 6) (omega arith));
     low_end = small (negsuc 25) (omega arith);
@@ -52,7 +52,7 @@ module _ (n : ℕ) (size : IsDemoNumber n) (z : ℤ) (few : nat_abs z ≤ 20) wh
 
 overflows_nowhere : (n : ℕ) → IsDemoNumber n → (i u : ℕ) → i < length (demo_plant_of n).equations → HasNoOverflowAt (demo_plant_of n) i u
 unfolding demo_plant_of
-overflows_nowhere n size zero u lt = place_fits n size (get_or acceleration.values (u / 1) (pos 0)) (small_value (u / 1))
+overflows_nowhere n size zero u lt = position_fits n size (get_or acceleration.values (u / 1) (pos 0)) (small_value (u / 1))
 overflows_nowhere n size (suc zero) u lt = speed_fits n size (get_or acceleration.values (u / 1) (pos 0)) (small_value (u / 1))
 overflows_nowhere n size (suc (suc i)) u lt = absurd (omega (arith, lt))
 

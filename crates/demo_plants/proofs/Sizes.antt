@@ -10,12 +10,12 @@ use Rattle.plant_record.specs.Numbers.{IsLiteral}
 use Rattle.plant_record.specs.Description.{axes_of, count_of, vectors_of}
 use Rattle.plant_record.specs.Variables.{IsStateVariable, IsInputVariable, IsNoiseVariable}
 use Rattle.plant_record.specs.Boxes.{IsStateBox}
-use Rattle.plant_record.specs.Equations.{IsEquation, HasNoTable}
+use Rattle.plant_record.specs.Equations.{IsEquation, HasNoLut}
 use Rattle.plant_record.specs.Plants.{IsPlant}
 use Rattle.plant_record.specs.Limits.{IsWithinLimits}
 use Rattle.plant_game.specs.Abstraction.{pairs_of}
-use Rattle.run_words.specs.Form.{IsDemoNumber}
-use Rattle.demo_plants.specs.Demo.{demo_plant_of, place, speed, acceleration, wind, demo_target, fast_forwards, fast_backwards, place_step, speed_step}
+use Rattle.command_line.specs.Command.{IsDemoNumber}
+use Rattle.demo_plants.specs.Demo.{demo_plant_of, position, speed, acceleration, wind, demo_target, fast_forwards, fast_backwards, position_step, speed_step}
 use Rattle.demo_plants.specs.Laws.{DemoPlantsAreWithinLimits}
 
 -- ---- lists of one and of two
@@ -41,34 +41,34 @@ module _ (n : ℕ) (size : IsDemoNumber n) where
   few : n ≤ 500
   few = size.1
 
-  places_are : nat_abs ((pos (600 * n - 1) -ℤ pos 0) +ℤ pos 1) ≡ 600 * n
-  places_are = omega (arith, ints, some)
+  positions_are : nat_abs ((pos (600 * n - 1) -ℤ pos 0) +ℤ pos 1) ≡ 600 * n
+  positions_are = omega (arith, ints, some)
 
-  place_count : count_of (place n) ≡ 60 * n
-  place_count = ap (λ (k : ℕ). k / 10) places_are ∙ tenth n
+  position_count : count_of (position n) ≡ 60 * n
+  position_count = ap (λ (k : ℕ). k / 10) positions_are ∙ tenth n
 
   cells_are : cells_of (axes_of (demo_plant_of n)) ≡ 1200 * n
   unfolding demo_plant_of
-  cells_are = omega (arith, place_count)
+  cells_are = omega (arith, position_count)
 
   pairs_are : pairs_of (demo_plant_of n) ≡ 6000 * n
   unfolding demo_plant_of
-  pairs_are = omega (arith, place_count)
+  pairs_are = omega (arith, position_count)
 
   -- ---- the plant
 
   literal : (k : ℕ) → k < 1000000 → IsLiteral (pos k)
   literal k lt = omega (arith, lt)
 
-  place_is : IsStateVariable (place n)
-  place_is = record {
+  position_is : IsStateVariable (position n)
+  position_is = record {
     name = refl;
     low = omega arith;
     high = literal (600 * n - 1) (omega (arith, few));
     width = omega arith;
     ordered = omega (arith, ints);
     some_width = omega (arith, ints);
-    whole_cells = ap (λ (k : ℕ). k % 10) places_are ∙ ten_divides n;
+    whole_cells = ap (λ (k : ℕ). k % 10) positions_are ∙ ten_divides n;
   }
 
   speed_is : IsStateVariable speed
@@ -96,8 +96,8 @@ module _ (n : ℕ) (size : IsDemoNumber n) where
   wind_is : IsNoiseVariable wind
   wind_is = record { name = refl; low = omega arith; high = omega arith; ordered = omega (arith, ints) }
 
-  place_step_is : IsEquation 4 place_step
-  place_step_is = record { literals = (omega arith, (omega arith, omega (arith, ints), omega arith)); nodes = omega arith; depth = omega arith }
+  position_step_is : IsEquation 4 position_step
+  position_step_is = record { literals = (omega arith, (omega arith, omega (arith, ints), omega arith)); nodes = omega arith; depth = omega arith }
 
   speed_step_is : IsEquation 4 speed_step
   speed_step_is = record { literals = ((omega arith, omega arith), omega arith); nodes = omega arith; depth = omega arith }
@@ -148,19 +148,19 @@ module _ (n : ℕ) (size : IsDemoNumber n) where
   plant_is = record {
     some_state = omega arith;
     states_bound = omega arith;
-    states = two IsStateVariable (place n) speed place_is speed_is;
+    states = two IsStateVariable (position n) speed position_is speed_is;
     inputs_bound = omega arith;
     inputs = one IsInputVariable acceleration acceleration_is;
     noises_bound = omega arith;
     noises = one IsNoiseVariable wind wind_is;
     names_differ = names_differ;
     one_each = refl;
-    equations = two (IsEquation 4) place_step speed_step place_step_is speed_step_is;
+    equations = two (IsEquation 4) position_step speed_step position_step_is speed_step_is;
     targets_bound = omega arith;
     targets = one (IsStateBox 2) (demo_target n) target_is;
     obstacles_bound = omega arith;
     obstacles = two (IsStateBox 2) (fast_forwards n) (fast_backwards n) forwards_is backwards_is;
-    tables = λ e. two HasNoTable place_step speed_step (tt, tt) ((tt, tt), tt);
+    tables = λ e. two HasNoLut position_step speed_step (tt, tt) ((tt, tt), tt);
     kept_aims_nowhere = λ e. cc;
   }
 

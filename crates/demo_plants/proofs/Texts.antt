@@ -8,22 +8,22 @@ use Rattle.plant_writing.specs.CanonicalText.{text_of, state_line, box_line}
 use Rattle.plant_text.specs.Grammar.{Spells}
 use Rattle.plant_text.specs.Refusals.{IsShort}
 use Rattle.plant_text.proofs.lemmas.SpelledCanonically.{canonical_texts_spell}
-use Rattle.run_words.specs.Form.{IsDemoNumber}
-use Rattle.demo_plants.specs.Demo.{demo_plant_of, demo_text, place, demo_target, fast_forwards, fast_backwards}
+use Rattle.command_line.specs.Command.{IsDemoNumber}
+use Rattle.demo_plants.specs.Demo.{demo_plant_of, demo_text, position, demo_target, fast_forwards, fast_backwards}
 use Rattle.demo_plants.specs.Laws.{DemoTextsSpell}
 use Rattle.demo_plants.proofs.Sizes.{within_limits}
 
--- a number behind one piece, with two more pieces behind it
+-- a number after one piece, with two more pieces after it
 one_number : (a d b c : List ℕ) → a ++ (d ++ (b ++ c)) ≡ a ++ ((d ++ b) ++ c)
 one_number a d b c = simp append_assoc
 
--- two numbers behind one piece, with two more pieces behind them
+-- two numbers after one piece, with two more pieces after them
 two_numbers : (a d s e b c : List ℕ) → a ++ (d ++ (s ++ (e ++ (b ++ c)))) ≡ a ++ ((d ++ (s ++ (e ++ b))) ++ c)
 two_numbers a d s e b c = simp append_assoc
 
-place_line : (n : ℕ) → codes "state p 0 " ++ (decimal (600 * n - 1) ++ codes " 10\n") ≡ state_line (place n)
+position_line : (n : ℕ) → codes "state p 0 " ++ (decimal (600 * n - 1) ++ codes " 10\n") ≡ state_line (position n)
 unfolding digits
-place_line n = one_number (codes "state p 0 ") (decimal (600 * n - 1)) (codes " 10") (codes "\n")
+position_line n = one_number (codes "state p 0 ") (decimal (600 * n - 1)) (codes " 10") (codes "\n")
 
 target_line : (n : ℕ) → codes "target " ++ (decimal (400 * n) ++ (codes " " ++ (decimal (560 * n - 1) ++ codes " -50 49\n"))) ≡ box_line (codes "target") 2 (demo_target n)
 unfolding digits
@@ -43,7 +43,7 @@ lines : (l v i w e f g d s1 s2 s3 t1 t2 t3 t4 t5 o1 o2 o3 o4 o5 q1 q2 q3 q4 q5 :
     ≡ l ++ ((s1 ++ (s2 ++ s3)) ++ (v ++ [])) ++ (i ++ []) ++ (w ++ []) ++ (e ++ (f ++ [])) ++ ((t1 ++ (t2 ++ (t3 ++ (t4 ++ t5)))) ++ []) ++ ((o1 ++ (o2 ++ (o3 ++ (o4 ++ o5)))) ++ ((q1 ++ (q2 ++ (q3 ++ (q4 ++ q5)))) ++ [])) ++ g ++ d
 lines l v i w e f g d s1 s2 s3 t1 t2 t3 t4 t5 o1 o2 o3 o4 o5 q1 q2 q3 q4 q5 = simp (append_assoc, append-nil)
 
--- a text of the lines of a place, a target and two obstacles
+-- a text of the lines of a position, a target and two obstacles
 text_with : List ℕ → List ℕ → List ℕ → List ℕ → List ℕ
 text_with s t o q =
     codes "plant 1\n"
@@ -59,7 +59,7 @@ text_with s t o q =
 with_lines : {s t o q s' t' o' q' : List ℕ} → s ≡ s' → t ≡ t' → o ≡ o' → q ≡ q' → text_with s t o q ≡ text_with s' t' o' q'
 with_lines es et eo eq = cc
 
-canonical_is : (n : ℕ) → text_with (state_line (place n)) (box_line (codes "target") 2 (demo_target n)) (box_line (codes "obstacle") 2 (fast_forwards n)) (box_line (codes "obstacle") 2 (fast_backwards n)) ≡ text_of (demo_plant_of n)
+canonical_is : (n : ℕ) → text_with (state_line (position n)) (box_line (codes "target") 2 (demo_target n)) (box_line (codes "obstacle") 2 (fast_forwards n)) (box_line (codes "obstacle") 2 (fast_backwards n)) ≡ text_of (demo_plant_of n)
 unfolding text_with demo_plant_of digits
 canonical_is n = refl
 
@@ -71,7 +71,7 @@ canonical n =
     (codes "target ") (decimal (400 * n)) (codes " ") (decimal (560 * n - 1)) (codes " -50 49\n")
     (codes "obstacle ") (decimal (200 * n)) (codes " ") (decimal (200 * n + 19)) (codes " 80 99\n")
     (codes "obstacle ") (decimal (300 * n)) (codes " ") (decimal (300 * n + 9)) (codes " -100 -81\n")
-    ∙ with_lines (place_line n) (target_line n) (forwards_line n) (backwards_line n)
+    ∙ with_lines (position_line n) (target_line n) (forwards_line n) (backwards_line n)
     ∙ canonical_is n
 
 -- a number of a demo plant's text has at most six digits

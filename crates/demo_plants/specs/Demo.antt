@@ -1,8 +1,8 @@
--- The demo plants: a cart on a line of 600 n places, which the input speeds up or slows down.
+-- The demo plants: a cart on a line of 600 n positions, which the input speeds up or slows down.
 use Rattle.std.specs.Prelude.{◌≡◌, ℕ, ◌+◌, ◌-◌, ◌*◌, pos, negsuc, List, [], ◌∷◌, ◌++◌, map, count_by, Option, codes}
 use Rattle.std.specs.Option.{is_some}
 use Rattle.std.specs.Fmt.{decimal}
-use Rattle.fixed_expr.specs.Expression.{Expression, Variable, Sum, Quotient}
+use Rattle.fixed_expr.specs.Expression.{Expression, VarExpr, AddExpr, DivExpr}
 use Rattle.grid_quantiser.specs.Axes.{cells_of}
 use Rattle.plant_record.specs.declared.variables.StateVariable.{StateVariable}
 use Rattle.plant_record.specs.declared.variables.InputVariable.{InputVariable}
@@ -16,11 +16,11 @@ use Rattle.game_core.specs.Solution.{rank_in, greatest}
 use Rattle.plant_game.specs.Abstraction.{pairs_of, AreEdges}
 use Rattle.plant_game.specs.Solution.{IsSolutionOf}
 
--- the place of the cart
-abbrev pub place : ℕ → StateVariable
-place n = record { name = codes "p"; low = pos 0; high = pos (600 * n - 1); width = pos 10 }
+-- the position of the cart
+abbrev pub position : ℕ → StateVariable
+position n = record { name = codes "p"; low = pos 0; high = pos (600 * n - 1); width = pos 10 }
 
--- its speed, in fifths of a place a sample
+-- its speed, in fifths of a position a sample
 abbrev pub speed : StateVariable
 speed = record { name = codes "v"; low = negsuc 99; high = pos 99; width = pos 10 }
 
@@ -32,21 +32,21 @@ acceleration = record { name = codes "a"; values = negsuc 19 ∷ negsuc 14 ∷ p
 abbrev pub wind : NoiseVariable
 wind = record { name = codes "w"; low = negsuc 1; high = pos 2 }
 
--- a range of places at a slow speed
+-- a range of positions at a slow speed
 abbrev pub demo_target : ℕ → StateBox
 demo_target n = record {
   low = pos (400 * n) ∷ negsuc 49 ∷ pos 0 ∷ pos 0 ∷ pos 0 ∷ pos 0 ∷ [];
   high = pos (560 * n - 1) ∷ pos 49 ∷ pos 0 ∷ pos 0 ∷ pos 0 ∷ pos 0 ∷ [];
 }
 
--- twenty places that aren't passed forwards too fast
+-- twenty positions that aren't passed forwards too fast
 abbrev pub fast_forwards : ℕ → StateBox
 fast_forwards n = record {
   low = pos (200 * n) ∷ pos 80 ∷ pos 0 ∷ pos 0 ∷ pos 0 ∷ pos 0 ∷ [];
   high = pos (200 * n + 19) ∷ pos 99 ∷ pos 0 ∷ pos 0 ∷ pos 0 ∷ pos 0 ∷ [];
 }
 
--- ten places that aren't passed backwards too fast
+-- ten positions that aren't passed backwards too fast
 abbrev pub fast_backwards : ℕ → StateBox
 fast_backwards n = record {
   low = pos (300 * n) ∷ negsuc 99 ∷ pos 0 ∷ pos 0 ∷ pos 0 ∷ pos 0 ∷ [];
@@ -54,21 +54,21 @@ fast_backwards n = record {
 }
 
 -- the cart moves by a fifth of its speed
-abbrev pub place_step : Expression
-place_step = Sum (Variable 0) (Quotient (Variable 1) (pos 5))
+abbrev pub position_step : Expression
+position_step = AddExpr (VarExpr 0) (DivExpr (VarExpr 1) (pos 5))
 
 -- its speed moves by the input and the noise
 abbrev pub speed_step : Expression
-speed_step = Sum (Sum (Variable 1) (Variable 2)) (Variable 3)
+speed_step = AddExpr (AddExpr (VarExpr 1) (VarExpr 2)) (VarExpr 3)
 
 -- the n-th demo plant
 unfoldable pub demo_plant_of : ℕ → Description
 demo_plant_of n = record {
   version = One;
-  states = place n ∷ speed ∷ [];
+  states = position n ∷ speed ∷ [];
   inputs = acceleration ∷ [];
   noises = wind ∷ [];
-  equations = place_step ∷ speed_step ∷ [];
+  equations = position_step ∷ speed_step ∷ [];
   targets = demo_target n ∷ [];
   obstacles = fast_forwards n ∷ fast_backwards n ∷ [];
   goal = Reach;

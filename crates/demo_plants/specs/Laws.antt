@@ -9,7 +9,7 @@ use Rattle.plant_text.specs.Grammar.{Spells}
 use Rattle.plant_text.specs.Refusals.{IsShort}
 use Rattle.successor_box.specs.Deviations.{HasNoOverflow}
 use Rattle.plant_game.specs.Abstraction.{pairs_of, AreEdges}
-use Rattle.run_words.specs.Form.{IsDemoNumber}
+use Rattle.command_line.specs.Command.{IsDemoNumber}
 use Rattle.demo_plants.specs.Demo.{demo_plant_of, demo_text, IsDemoLine}
 
 -- A demo plant is within the limits: it has 1,200 n cells, and 6,000 n pairs of a cell and an input vector.

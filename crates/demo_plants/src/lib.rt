@@ -5,10 +5,10 @@
 //! nothing refuses a demo plant, and that it has one line.
 #![tactic(auto)]
 
+mod generator;
 pub mod laws;
-mod line;
-mod parts;
 mod plant;
+mod summary;
 
-pub use line::demo_line;
 pub use plant::demo_plant;
+pub use summary::demo_line;

@@ -2,16 +2,16 @@
 
 ghost use Rattle.std.specs.Prelude.{◌≡◌, ◌+◌, ◌-◌, ◌*◌, ◌++◌, codes, IfOk, OnOk};
 ghost use Rattle.std.specs.Fmt.{decimal};
-ghost use Rattle.run_words.specs.Form.{IsDemoNumber};
+ghost use Rattle.command_line.specs.Command.{IsDemoNumber};
 ghost use Rattle.demo_plants.specs.Demo.{demo_plant_of, demo_text};
 
-use crate::parts::push_part;
+use crate::generator::push_part;
 use plant_record::Plant;
 use plant_text::{PlantFault, read_plant};
 use run_devices::NoMemory;
 use std::alloc::{AllocError, Global};
 
-/// The n-th demo plant: a cart on a line of 600 n places.
+/// The n-th demo plant: a cart on a line of 600 n positions.
 pub fn demo_plant(alloc: Global, n: u32) -> Result<Plant, NoMemory>
     requires { IsDemoNumber n }
     ensures { IfOk result (λ p. p ≡ demo_plant_of n) }
@@ -40,7 +40,7 @@ fn demo_text(alloc: Global, n: u32) -> Result<Vec<u8>, AllocError>
     Ok(text)
 }
 
-/// The line of a box: its places, and its speeds as they are written.
+/// The line of a box: its positions, and its speeds as they are written.
 fn push_box(
     text: &mut Vec<u8>,
     keyword: &[u8],

@@ -10,36 +10,36 @@ use denote.Struct.Owning.{shape, fields, to}
 use denote.Param.Send.{IsSend, IsSync, Common, AllSend, part_keyless, owning_send, struct_send, struct_sync, sendable}
 use Rattle.core.specs.declared.alloc.Allocator.{Ghosts}
 use Rattle.std_alloc.proofs.SendSync.{FreesAnywhere, quiet}
-use Rattle.edge_rows.specs.inside.Ownership.{slots, slots_lent, places_own, places_lent}
-use Rattle.edge_rows.specs.contracts.places.Places as Places
-use Rattle.edge_rows.specs.contracts.places.Deed as Deed
+use Rattle.edge_rows.specs.inside.Ownership.{contents, contents_lent, slots_own, slots_lent}
+use Rattle.edge_rows.specs.contracts.slots.Slots as Slots
+use Rattle.edge_rows.specs.contracts.slots.Deed as Deed
 
 module _ (R : RattleType) where
-  slots-Keyless : IsSend R → (b o : ℕ) (cs : List (Option R.Denot)) → Keyless (slots R b o cs)
-  slots-Keyless s b o [] = tt
-  slots-Keyless s b o (Some x ∷ cs) = (part_keyless R s full_share x b o, slots-Keyless s b (o + type_size R) cs)
-  slots-Keyless s b o (None ∷ cs) = (tt, slots-Keyless s b (o + type_size R) cs)
+  contents-Keyless : IsSend R → (b o : ℕ) (cs : List (Option R.Denot)) → Keyless (contents R b o cs)
+  contents-Keyless s b o [] = tt
+  contents-Keyless s b o (Some x ∷ cs) = (part_keyless R s full_share x b o, contents-Keyless s b (o + type_size R) cs)
+  contents-Keyless s b o (None ∷ cs) = (tt, contents-Keyless s b (o + type_size R) cs)
 
-  slots_lent-Common : IsSync R → (b o : ℕ) (cs : List (Option R.Denot)) → Common (slots_lent R b o cs)
-  slots_lent-Common y b o [] κ = tt
-  slots_lent-Common y b o (Some x ∷ cs) κ = (y.shared x b o κ, slots_lent-Common y b (o + type_size R) cs κ)
-  slots_lent-Common y b o (None ∷ cs) κ = (tt, slots_lent-Common y b (o + type_size R) cs κ)
+  contents_lent-Common : IsSync R → (b o : ℕ) (cs : List (Option R.Denot)) → Common (contents_lent R b o cs)
+  contents_lent-Common y b o [] κ = tt
+  contents_lent-Common y b o (Some x ∷ cs) κ = (y.shared x b o κ, contents_lent-Common y b (o + type_size R) cs κ)
+  contents_lent-Common y b o (None ∷ cs) κ = (tt, contents_lent-Common y b (o + type_size R) cs κ)
 
-  places-Keyless : IsSend R → (p : Ptr) (cs : List (Option R.Denot)) → Keyless (places_own R p cs)
-  places-Keyless s (block_ptr b o) cs = (tt, slots-Keyless s b o cs)
-  places-Keyless s null_ptr cs = tt
+  slots-Keyless : IsSend R → (p : Ptr) (cs : List (Option R.Denot)) → Keyless (slots_own R p cs)
+  slots-Keyless s (block_ptr b o) cs = (tt, contents-Keyless s b o cs)
+  slots-Keyless s null_ptr cs = tt
 
-  places_lent-Common : IsSync R → (p : Ptr) (cs : List (Option R.Denot)) → Common (places_lent R p cs)
-  places_lent-Common y (block_ptr b o) cs κ = (tt, slots_lent-Common y b o cs κ)
-  places_lent-Common y null_ptr cs κ = tt
+  slots_lent-Common : IsSync R → (p : Ptr) (cs : List (Option R.Denot)) → Common (slots_lent R p cs)
+  slots_lent-Common y (block_ptr b o) cs κ = (tt, contents_lent-Common y b o cs κ)
+  slots_lent-Common y null_ptr cs κ = tt
 
-  pub Places-send : IsSend R → IsSend (Places.the_row R)
-  Places-send s =
-      let O = Places.the_type R in let all : AllSend (fields O) = (search sendable, tt) in
-      owning_send O all (λ d. places-Keyless s d.at d.slots) (λ k. quiet (to O) (exits_of k (fields O)) ((struct_send (shape O) all).leaving k))
+  pub Slots-send : IsSend R → IsSend (Slots.the_row R)
+  Slots-send s =
+      let O = Slots.the_type R in let all : AllSend (fields O) = (search sendable, tt) in
+      owning_send O all (λ d. slots-Keyless s d.at d.contents) (λ k. quiet (to O) (exits_of k (fields O)) ((struct_send (shape O) all).leaving k))
 
-  pub Places-sync : IsSync R → IsSync (Places.the_row R)
-  Places-sync y = let O = Places.the_type R in record { shared = λ d b o κ. ((struct_sync (shape O) (search sendable, tt)).shared (to O d) b o κ, places_lent-Common y d.at d.slots κ) }
+  pub Slots-sync : IsSync R → IsSync (Slots.the_row R)
+  Slots-sync y = let O = Slots.the_type R in record { shared = λ d b o κ. ((struct_sync (shape O) (search sendable, tt)).shared (to O d) b o κ, slots_lent-Common y d.at d.contents κ) }
 
   module _ (A : RattleType) (g : Ghosts A.Denot) where
     pub Deed-send : FreesAnywhere A.Denot g → IsSend (Deed.the_row R A g)

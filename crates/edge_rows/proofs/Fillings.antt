@@ -4,7 +4,7 @@ use Rattle.std.proofs.lemmas.List.{length-map, get_or_default, take_all}
 use Rattle.std.proofs.lemmas.List.Sums.{sum_by_more}
 use Rattle.std.proofs.lemmas.Slice.Zip.{AllZip-long}
 use Rattle.std.proofs.Math.ListN.{get_or-map}
-use Rattle.edge_rows.specs.Rows.{Filling, appended, changed_run, appended_run, HasRoom, HaveRoom, places_left}
+use Rattle.edge_rows.specs.Rows.{Filling, appended, changed_run, appended_run, HasFreeSlot, HaveFreeSlots, slots_left}
 use Rattle.edge_rows.specs.inside.Layout.{gaps, rows_between}
 use Rattle.edge_rows.specs.inside.Runs.{AreFree, written}
 use Rattle.edge_rows.specs.inside.FillFields.{filling_of, IsFilledAs, IsFilling}
@@ -16,7 +16,7 @@ module _ (g : Inside) (f : Filling) (l : IsFilledAs g f) where
   pub shown : filling_of g ≡ f
   shown =
       let read : rows_between g.block g.starts.items g.ends.items ≡ f.rows =
-      (λ i. rows_between (l.places i) (l.starts i) (l.ends i)) ∙ read_back [] 0 f.rows f.lengths refl l.within.fits in
+      (λ i. rows_between (l.slots i) (l.starts i) (l.ends i)) ∙ read_back [] 0 f.rows f.lengths refl l.within.fits in
       let gap : gaps g.starts.items ≡ f.lengths = ap gaps l.starts ∙ gaps-starts 0 f.lengths in
       λ i. record { rows = read i; lengths = gap i }
 
@@ -24,7 +24,7 @@ module _ (g : Inside) (f : Filling) (l : IsFilledAs g f) where
   kept = subst (IsFilledAs g) (sym shown) l
 
 -- a filling f, a row of it that has room, and the end of that row as the fields have it
-module _ (g : Inside) (ok : IsFilling g) (f : Filling) (is : filling_of g ≡ f) (r : ℕ) (room : HasRoom f r) where
+module _ (g : Inside) (ok : IsFilling g) (f : Filling) (is : filling_of g ≡ f) (r : ℕ) (room : HasFreeSlot f r) where
   had : IsFilledAs g f
   had = subst (IsFilledAs g) is ok
 
@@ -43,8 +43,8 @@ module _ (g : Inside) (ok : IsFilling g) (f : Filling) (is : filling_of g ≡ f)
 
     pub end_free_there : (end < length g.block) × (get_or g.block end None ≡ None)
     end_free_there = (
-      omega (arith, end_is, end_within f.rows f.lengths r room.1, ap length had.places, length-laid f.rows f.lengths had.within.fits),
-      (λ i. get_or (had.places i) (end_is i) None) ∙ end_free f.rows f.lengths r had.within.fits room.0 room.1,
+      omega (arith, end_is, end_within f.rows f.lengths r room.1, ap length had.slots, length-laid f.rows f.lengths had.within.fits),
+      (λ i. get_or (had.slots i) (end_is i) None) ∙ end_free f.rows f.lengths r had.within.fits room.0 room.1,
     )
 
     pub put_lies : (h : Inside) (v : ℕ) → h.block ≡ set g.block end (Some v) → h.starts.items ≡ g.starts.items → h.ends.items ≡ set g.ends.items r (end + 1)
@@ -53,13 +53,13 @@ module _ (g : Inside) (ok : IsFilling g) (f : Filling) (is : filling_of g ≡ f)
         let next : end + 1 ≡ 0 + end_of f.rows f.lengths r + 1 = omega (arith, end_is) in
         record {
           within = record { fits = fits-put f.rows f.lengths r v had.within.fits room.1; small = had.within.small };
-          places = block ∙ (λ i. set (had.places i) (end_is i) (Some v)) ∙ laid-put f.rows f.lengths r v had.within.fits room.0 room.1;
+          slots = block ∙ (λ i. set (had.slots i) (end_is i) (Some v)) ∙ laid-put f.rows f.lengths r v had.within.fits room.0 room.1;
           starts = starts ∙ had.starts;
           ends = ends ∙ (λ i. set (had.ends i) r (next i)) ∙ ends-put 0 f.rows f.lengths r v had.within.fits room.0;
         }
 
 -- a filling f, and rows of it that have room
-module _ (g : Inside) (ok : IsFilling g) (f : Filling) (is : filling_of g ≡ f) (r n v : ℕ) (within : r + n ≤ length f.rows) (room : HaveRoom f r n) where
+module _ (g : Inside) (ok : IsFilling g) (f : Filling) (is : filling_of g ≡ f) (r n v : ℕ) (within : r + n ≤ length f.rows) (room : HaveFreeSlots f r n) where
   stored : IsFilledAs g f
   stored = subst (IsFilledAs g) is ok
 
@@ -71,17 +71,17 @@ module _ (g : Inside) (ok : IsFilling g) (f : Filling) (is : filling_of g ≡ f)
 
   pub run_free : (ends : List ℕ) (count : ℕ) → ends ≡ g.ends.items → count ≡ n → AreFree g.block (take count (drop r ends)) v
   run_free ends count same is =
-      rw (same, is, stored.places, stored.ends) run.free
+      rw (same, is, stored.slots, stored.ends) run.free
 
   pub block_small : length g.block < 2 ^ 32
-  block_small = omega (arith, ap length stored.places, length-laid f.rows f.lengths stored.within.fits, stored.within.small.1)
+  block_small = omega (arith, ap length stored.slots, length-laid f.rows f.lengths stored.within.fits, stored.within.small.1)
 
   pub run_lies : (h : Inside) → h.block ≡ written g.block (take n (drop r g.ends.items)) v → h.starts.items ≡ g.starts.items → h.ends.items ≡ changed_run (λ end. end + 1) g.ends.items r n
       → IsFilledAs h (record { rows = appended_run f.rows r n v; lengths = f.lengths })
   run_lies h block starts ends =
       record {
         within = record { fits = run.fits; small = stored.within.small };
-        places = block ∙ (λ i. written (stored.places i) (take n (drop r (stored.ends i))) v) ∙ run.places;
+        slots = block ∙ (λ i. written (stored.slots i) (take n (drop r (stored.ends i))) v) ∙ run.slots;
         starts = starts ∙ stored.starts;
         ends = ends ∙ (λ i. changed_run (λ end. end + 1) (stored.ends i) r n) ∙ run.ends;
       }
@@ -101,7 +101,7 @@ module _ (g : Inside) (ok : IsFilling g) (f : Filling) (is : filling_of g ≡ f)
   rows_long = sym (AllZip-long (λ xs n. length xs ≤ n) f.rows f.lengths held.within.fits)
 
   -- once all rows are looked at
-  pub left_of_all : (r left : ℕ) → length g.ends.items ≤ r → LeftSoFar f r left → left ≡ places_left f
+  pub left_of_all : (r left : ℕ) → length g.ends.items ≤ r → LeftSoFar f r left → left ≡ slots_left f
   left_of_all r left whole so_far =
       omega (arith, so_far, ap sum (take_all r (map length f.rows) (omega (arith, whole, ends_long, length-map f.rows length))), ap sum (take_all r f.lengths (omega (arith, whole, ends_long, rows_long))))
 

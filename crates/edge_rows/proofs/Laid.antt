@@ -14,7 +14,7 @@ Fits = AllZip (λ xs n. length xs ≤ n)
 pub sum-cons : (n : ℕ) (ns : List ℕ) → sum (n ∷ ns) ≡ n + sum ns
 sum-cons n ns = sum_by-cons (λ k. k) n ns
 
--- the first place of the r-th row that is not written
+-- the first slot of the r-th row that is not written
 abbrev pub end_of : List (List ℕ) → List ℕ → ℕ → ℕ
 end_of rows ns r = sum (take r ns) + length (row_at rows r)
 
@@ -69,7 +69,7 @@ pub values-written : (xs : List ℕ) → values (map Some xs) ≡ xs
 values-written [] = refl
 values-written (x ∷ xs) = ap (λ l. x ∷ l) (values-written xs)
 
--- one row of n places, before other places
+-- one row of n slots, before other slots
 abbrev row_laid : List ℕ → ℕ → List (Option ℕ) → List (Option ℕ)
 row_laid xs n rest = map Some xs ++ (replicate (n - length xs) None ++ rest)
 
@@ -126,7 +126,7 @@ fits-at (xs ∷ rows) [] r f = absurd f
 fits-at (xs ∷ rows) (n ∷ ns) zero f = f.0
 fits-at (xs ∷ rows) (n ∷ ns) (suc r) f = fits-at rows ns r f.1
 
--- the next place of a row that has room
+-- the next slot of a row that has room
 
 pub end_within : (rows : List (List ℕ)) (ns : List ℕ) (r : ℕ) → length (row_at rows r) < get_or ns r 0 → end_of rows ns r < sum ns
 end_within rows [] r lt = absurd (omega arith)

@@ -1,7 +1,7 @@
 -- What the walks of the unsafe functions share. Assumes `Logic`.
 --     word_had, word_made, mark_had, mark_made      a value of one pointer, and one of no bytes
---     slot_out, slot_in, run_seen      one place is taken out of its block or put back; a run of places is seen
---     of_room, to_room, forgets      room for an array is a list of empty places; what places hold is forgotten
+--     slot_out, slot_in, run_seen      one slot is taken out of its block or put back; a run of slots is seen
+--     of_room, to_room, forgets      room for an array is a list of empty slots; what slots hold is forgotten
 use mathlib.Core.Path.{◌≡◌, refl, sym, ap, subst, ◌∙◌}
 use Prim.Native.Nat.{ℕ, zero, suc, ◌+◌, ◌*◌, ◌<◌, ◌≤◌}
 use native.Mathlib.Omega.{arith}
@@ -36,9 +36,9 @@ use Rattle.std.specs.Mem.{type_size}
 use Rattle.core.proofs.mem.Param.{El, R, el_x, elτ}
 use Rattle.std_alloc.proofs.RawLayout.{as_raw}
 use Rattle.std_alloc.proofs.RcSteps.{Good, word}
-use Rattle.edge_rows.specs.inside.Ownership.{slot, slots, slot_lent, slots_lent}
-use Rattle.edge_rows.specs.contracts.places.Places as P-type
-use Rattle.edge_rows.specs.contracts.places.Base as B-type
+use Rattle.edge_rows.specs.inside.Ownership.{slot, contents, slot_lent, contents_lent}
+use Rattle.edge_rows.specs.contracts.slots.Slots as P-type
+use Rattle.edge_rows.specs.contracts.slots.Base as B-type
 
 module _ (E : El) where
   abbrev pub Ps : RattleType
@@ -47,15 +47,15 @@ module _ (E : El) where
   abbrev pub Bs : RattleType
   Bs = B-type.the_row (R E)
 
-  -- the one field of `Places`, which takes no bytes
+  -- the one field of `Slots`, which takes no bytes
   abbrev pub Mark : RattleType
   Mark = Struct (shape (P-type.the_type (R E)))
 
   abbrev pub sz : ℕ
   sz = type_size (R E)
 
-  abbrev pub Place : Type 0
-  Place = Option (el_x E)
+  abbrev pub Slot : Type 0
+  Slot = Option (el_x E)
 
 abbrev one_field : Shape
 one_field = record { name = []; args = []; types = []; fields = RawPtr ∷ [] }
@@ -123,21 +123,21 @@ module _ (E : El) {M : Type 1} {𝓤 : Ura M} (𝓛 : Logic 𝓤) (b : ℕ) wher
   abbrev s : ℕ
   s = sz E
 
-  abbrev Row : ℕ → List (Place E) → Fml
-  Row = slots (R E) b
+  abbrev Row : ℕ → List (Slot E) → Fml
+  Row = contents (R E) b
 
-  cut : (xs ys : List (Place E)) (o at : ℕ) → at ≡ length xs * s + o → ent 𝓤 (sem 𝓛 (Row o (xs ++ ys))) (sep 𝓤 (sem 𝓛 (Row o xs)) (sem 𝓛 (Row at ys)))
+  cut : (xs ys : List (Slot E)) (o at : ℕ) → at ≡ length xs * s + o → ent 𝓤 (sem 𝓛 (Row o (xs ++ ys))) (sep 𝓤 (sem 𝓛 (Row o xs)) (sem 𝓛 (Row at ys)))
   cut [] ys o at e = qed 𝓛 (‵ (Row o ys) ∷ []) ∵ rewrite ! 0 (λ (k : ℕ). ‵ (Row k ys)) {x = at} (omega (arith, zero-mul s)) refl $ nothing ! $ done !
   cut (x ∷ xs) ys o at e = let more : at ≡ suc (length xs) * s + o = e in qed 𝓛 (‵ (Row o (x ∷ xs ++ ys)) ∷ []) ∵ fsplit ! $ move ! (1 ∷ []) $
       use1 𝓛 (‵ (Row (o + s) xs) ⊛ ‵ (Row at ys)) (cut xs ys (o + s) at (omega (arith, suc-mul (length xs) s))) $ split ! $ move ! (2 ∷ 0 ∷ []) $ fjoin ! $ done !
 
-  glue : (xs ys : List (Place E)) (o at : ℕ) → at ≡ length xs * s + o → ent 𝓤 (sep 𝓤 (sem 𝓛 (Row o xs)) (sem 𝓛 (Row at ys))) (sem 𝓛 (Row o (xs ++ ys)))
+  glue : (xs ys : List (Slot E)) (o at : ℕ) → at ≡ length xs * s + o → ent 𝓤 (sep 𝓤 (sem 𝓛 (Row o xs)) (sem 𝓛 (Row at ys))) (sem 𝓛 (Row o (xs ++ ys)))
   glue [] ys o at e = qed 𝓛 (‵ ftrue ∷ ‵ (Row at ys) ∷ []) ∵ skip ! $ rewrite ! 0 (λ (k : ℕ). ‵ (Row k ys)) {x = o} (omega (arith, zero-mul s)) refl $ done !
   glue (x ∷ xs) ys o at e = let more : at ≡ suc (length xs) * s + o = e in qed 𝓛 (‵ (Row o (x ∷ xs)) ∷ ‵ (Row at ys) ∷ []) ∵ fsplit ! $ move ! (1 ∷ 2 ∷ []) $
       use2 𝓛 (‵ (Row (o + s) (xs ++ ys))) (glue xs ys (o + s) at (omega (arith, suc-mul (length xs) s))) $ move ! (1 ∷ 0 ∷ []) $ fjoin ! $ done !
 
-  module _ (o : ℕ) (cs : List (Place E)) (i : ℕ) where
-    -- the places but for the i-th
+  module _ (o : ℕ) (cs : List (Slot E)) (i : ℕ) where
+    -- the slots but for the i-th
     abbrev pub Besides : Fml
     Besides = fsep (Row o (take i cs)) (Row (i * s + o + s) (drop (suc i) cs))
 
@@ -146,14 +146,14 @@ module _ (E : El) {M : Type 1} {𝓤 : Ura M} (𝓛 : Logic 𝓤) (b : ℕ) wher
 
     pub slot_out : i < length cs → ent 𝓤 (sem 𝓛 (Row o cs)) (sep 𝓤 (sem 𝓛 (slot (R E) b (i * s + o) (get_or cs i None))) (sem 𝓛 Besides))
     slot_out lt = qed 𝓛 (‵ (Row o cs) ∷ []) ∵
-        rewrite ! 0 (λ (l : List (Place E)). ‵ (Row o l)) (sym (take-append-drop i cs) ∙ ap (λ l. take i cs ++ l) (drop-cons cs i None lt)) refl $
+        rewrite ! 0 (λ (l : List (Slot E)). ‵ (Row o l)) (sym (take-append-drop i cs) ∙ ap (λ l. take i cs ++ l) (drop-cons cs i None lt)) refl $
         use1 𝓛 (‵ (Row o (take i cs)) ⊛ ‵ (Row (i * s + o) (get_or cs i None ∷ drop (suc i) cs))) (cut (take i cs) (get_or cs i None ∷ drop (suc i) cs) o (i * s + o) (before (omega arith))) $
         split ! $ move ! (1 ∷ []) $ fsplit ! $ move ! (2 ∷ 1 ∷ []) $ fjoin ! $ move ! (1 ∷ []) $ done !
 
-    pub slot_in : i < length cs → (c : Place E) → ent 𝓤 (sep 𝓤 (sem 𝓛 (slot (R E) b (i * s + o) c)) (sem 𝓛 Besides)) (sem 𝓛 (Row o (set cs i c)))
+    pub slot_in : i < length cs → (c : Slot E) → ent 𝓤 (sep 𝓤 (sem 𝓛 (slot (R E) b (i * s + o) c)) (sem 𝓛 Besides)) (sem 𝓛 (Row o (set cs i c)))
     slot_in lt c = qed 𝓛 (‵ (slot (R E) b (i * s + o) c) ∷ ‵ Besides ∷ []) ∵ move ! (1 ∷ []) $ fsplit ! $ move ! (2 ∷ 1 ∷ []) $ fjoin ! $ move ! (1 ∷ 0 ∷ []) $
         use2 𝓛 (‵ (Row o (take i cs ++ c ∷ drop (suc i) cs))) (glue (take i cs) (c ∷ drop (suc i) cs) o (i * s + o) (before (omega arith))) $
-        rewrite ! 0 (λ (l : List (Place E)). ‵ (Row o l)) (sym (set_split cs i c lt)) refl $ done !
+        rewrite ! 0 (λ (l : List (Slot E)). ‵ (Row o l)) (sym (set_split cs i c lt)) refl $ done !
 
   pub of_room : (n o : ℕ) → ent 𝓤 (H.room (ty_array (elτ E) n) b o) (sem 𝓛 (Row o (replicate n None)))
   of_room zero o = qed 𝓛 (‵ (froom (ty_array (elτ E) 0) b o) ∷ []) ∵ keep ! [] $ done !
@@ -167,8 +167,8 @@ module _ (E : El) {M : Type 1} {𝓤 : Ura M} (𝓛 : Logic 𝓤) (b : ℕ) wher
       use1 𝓛 (‵ (froom (elτ E) b o)) (𝓛.laws.raw-room (elτ E) b o) $ move ! (1 ∷ []) $
       use1 𝓛 (‵ (froom (ty_array (elτ E) n) b (o + s))) (to_room n (o + s)) $ move ! (1 ∷ []) $ by ! (𝓛.laws.room_cons (elτ E) n b o)
 
-  -- what the places hold is forgotten
-  pub forgets : (cs : List (Place E)) (o : ℕ) → ent 𝓤 (sem 𝓛 (Row o cs)) (sem 𝓛 (Row o (replicate (length cs) None)))
+  -- what the slots hold is forgotten
+  pub forgets : (cs : List (Slot E)) (o : ℕ) → ent 𝓤 (sem 𝓛 (Row o cs)) (sem 𝓛 (Row o (replicate (length cs) None)))
   forgets [] o = id⊢ 𝓤 (emp 𝓤)
   forgets (None ∷ cs) o = mono_r 𝓤 (sem 𝓛 (slot (R E) b o None)) (forgets cs (o + s))
   forgets (Some x ∷ cs) o = qed 𝓛 (‵ (slot (R E) b o (Some x)) ∷ ‵ (Row (o + s) cs) ∷ []) ∵
@@ -176,20 +176,20 @@ module _ (E : El) {M : Type 1} {𝓤 : Ura M} (𝓛 : Logic 𝓤) (b : ℕ) wher
       pick ! (λ v. learn ! (λ good. split ! $ use1 𝓛 (‵ (froom (elτ E) b o)) (𝓛.laws.at_room (elτ E) b o v) $ as_raw ! (elτ E) b o $ keep ! (0 ∷ 2 ∷ []) $ frame ! $ by ! (forgets cs (o + s))))
 
   module _ (κ : Lft) where
-    abbrev Seen : ℕ → List (Place E) → Fml
-    Seen o cs = slots_lent (R E) b o cs κ
+    abbrev Seen : ℕ → List (Slot E) → Fml
+    Seen o cs = contents_lent (R E) b o cs κ
 
-    from_on : (cs : List (Place E)) (i o at : ℕ) → i ≤ length cs → at ≡ i * s + o → ent 𝓤 (sem 𝓛 (Seen o cs)) (sem 𝓛 (Seen at (drop i cs)))
+    from_on : (cs : List (Slot E)) (i o at : ℕ) → i ≤ length cs → at ≡ i * s + o → ent 𝓤 (sem 𝓛 (Seen o cs)) (sem 𝓛 (Seen at (drop i cs)))
     from_on cs zero o at le e = let same : o ≡ at = omega (arith, zero-mul s) in subst (λ k. ent 𝓤 (sem 𝓛 (Seen o cs)) (sem 𝓛 (Seen k cs))) same (id⊢ 𝓤 _)
     from_on [] (suc i) o at le e = absurd (omega arith)
     from_on (c ∷ cs) (suc i) o at le e =
         via 𝓤 (sem 𝓛 (Seen (o + s) cs)) (snd∗ 𝓤 (sem 𝓛 (slot_lent (R E) b o c κ)) (sem 𝓛 (Seen (o + s) cs))) (from_on cs i (o + s) at (omega arith) (omega (arith, suc-mul i s)))
 
-    up_to : (xs : List (el_x E)) (rest : List (Place E)) (o : ℕ) → ent 𝓤 (sem 𝓛 (Seen o (map Some xs ++ rest))) (sem 𝓛 (elements_shared (R E) xs b o κ))
+    up_to : (xs : List (el_x E)) (rest : List (Slot E)) (o : ℕ) → ent 𝓤 (sem 𝓛 (Seen o (map Some xs ++ rest))) (sem 𝓛 (elements_shared (R E) xs b o κ))
     up_to [] rest o = qed 𝓛 (‵ (Seen o rest) ∷ []) ∵ keep ! [] $ done !
     up_to (x ∷ xs) rest o = mono_r 𝓤 (sem 𝓛 (slot_lent (R E) b o (Some x) κ)) (up_to xs rest (o + s))
 
-    pub run_seen : (o : ℕ) (cs : List (Place E)) (i n : ℕ) (xs : List (el_x E)) → i ≤ length cs → take n (drop i cs) ≡ map Some xs
+    pub run_seen : (o : ℕ) (cs : List (Slot E)) (i n : ℕ) (xs : List (el_x E)) → i ≤ length cs → take n (drop i cs) ≡ map Some xs
         → ent 𝓤 (sem 𝓛 (Seen o cs)) (sem 𝓛 (elements_shared (R E) xs b (i * s + o) κ))
     run_seen o cs i n xs le e = qed 𝓛 (‵ (Seen o cs) ∷ []) ∵ use1 𝓛 (‵ (Seen (i * s + o) (drop i cs))) (from_on cs i o (i * s + o) le refl) $
-        rewrite ! 0 (λ (l : List (Place E)). ‵ (Seen (i * s + o) l)) (sym (take-append-drop n (drop i cs)) ∙ ap (λ l. l ++ drop n (drop i cs)) e) refl $ by ! (up_to xs (drop n (drop i cs)) (i * s + o))
+        rewrite ! 0 (λ (l : List (Slot E)). ‵ (Seen (i * s + o) l)) (sym (take-append-drop n (drop i cs)) ∙ ap (λ l. l ++ drop n (drop i cs)) e) refl $ by ! (up_to xs (drop n (drop i cs)) (i * s + o))

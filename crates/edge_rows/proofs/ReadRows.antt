@@ -3,7 +3,7 @@ use Rattle.std.proofs.Common.{◌≡◌, ℕ, suc, ◌+◌, ◌-◌, ◌<◌, �
 use Rattle.std.proofs.lemmas.List.{length-map, get_or_default}
 use Rattle.std.proofs.lemmas.List.Sums.{sum_by_more, sum_by_more_le}
 use Rattle.std.proofs.Math.ListN.{get_or-map}
-use Rattle.edge_rows.specs.Rows.{Filling, row_at, places_left}
+use Rattle.edge_rows.specs.Rows.{Filling, row_at, slots_left}
 use Rattle.edge_rows.specs.inside.Layout.{laid, starts_from, values, rows_between, IsWithin}
 use Rattle.edge_rows.specs.inside.Layout.{IsRun}
 use Rattle.edge_rows.specs.inside.FillFields.{filling_of, IsFilling}
@@ -15,15 +15,15 @@ use Rattle.edge_rows.proofs.Laid.{Fits, length-starts, length-laid, start_at, va
 module _ (h : Inside) (rows : List (List ℕ)) (s : IsStoredAs h rows) where
   pub shown : rows_of h ≡ rows
   shown =
-      (λ i. rows_between (s.places i) (s.starts i) (drop 1 (s.starts i)))
+      (λ i. rows_between (s.slots i) (s.starts i) (drop 1 (s.starts i)))
       ∙ ap (λ l. rows_between (laid rows (map length rows)) (starts_from 0 (map length rows)) l) (sym (ends-full 0 rows))
       ∙ read_back [] 0 rows (map length rows) refl s.within.fits
 
   pub kept : IsRows h
   kept = subst (IsStoredAs h) (sym shown) s
 
--- a filling with no place left
-module _ (g : FillInside) (ok : IsFilling g) (f : Filling) (is : filling_of g ≡ f) (none : places_left f ≡ 0) where
+-- a filling with no slot left
+module _ (g : FillInside) (ok : IsFilling g) (f : Filling) (is : filling_of g ≡ f) (none : slots_left f ≡ 0) where
   pub full : map length f.rows ≡ f.lengths
   full =
       let fits = subst (λ (w : Filling). Fits w.rows w.lengths) is ok.within.fits in
@@ -32,10 +32,10 @@ module _ (g : FillInside) (ok : IsFilling g) (f : Filling) (is : filling_of g �
   pub finish_stores : (h : Inside) → h.block ≡ g.block → h.starts.items ≡ g.starts.items → IsStoredAs h f.rows
   finish_stores h block starts =
       let S : Filling → Type 0 = λ w. IsWithin w.rows w.lengths × (h.block ≡ laid w.rows w.lengths) × (h.starts.items ≡ starts_from 0 w.lengths) in
-      let s : S f = subst S is (ok.within, block ∙ ok.places, starts ∙ ok.starts) in
+      let s : S f = subst S is (ok.within, block ∙ ok.slots, starts ∙ ok.starts) in
       let N : List ℕ → Type 0 = λ ns. S (record { rows = f.rows; lengths = ns }) in
       let n : N (map length f.rows) = subst N (sym full) s in
-      record { within = n.0; places = n.1; starts = n.2 }
+      record { within = n.0; slots = n.1; starts = n.2 }
 
 -- the r-th of some rows
 module _ (h : Inside) (ok : IsRows h) (rows : List (List ℕ)) (is : rows_of h ≡ rows) where
@@ -61,7 +61,7 @@ module _ (h : Inside) (ok : IsRows h) (rows : List (List ℕ)) (is : rows_of h �
     in_ns : r < length ns
     in_ns = omega (arith, lt, length-map rows length)
 
-    -- its first place, and the first place after it, as the fields have them
+    -- its first slot, and the first slot after it, as the fields have them
     module _ (from to : ℕ) (read_from : from ≡ get_or h.starts.items r from) (read_to : to ≡ get_or h.starts.items (r + 1) to) where
       starts_here : from ≡ sum (take r ns)
       starts_here =
@@ -84,11 +84,11 @@ module _ (h : Inside) (ok : IsRows h) (rows : List (List ℕ)) (is : rows_of h �
       row_there : take (to - from) (drop from h.block) ≡ map Some row
       row_there =
           let long : to - from ≡ length row = omega (arith, starts_here, ends_here) in
-          (λ i. take (long i) (drop (starts_here i) (had.places i))) ∙ run_at rows ns r had.within.fits lt
+          (λ i. take (long i) (drop (starts_here i) (had.slots i))) ∙ run_at rows ns r had.within.fits lt
 
       pub is_run : IsRun h.block from (to - from)
       is_run =
-          (omega (arith, starts_here, ends_here, row_long, sum_by_more_le (λ k. k) ns r 0 in_ns, ap length had.places, length-laid rows ns had.within.fits), (row, row_there))
+          (omega (arith, starts_here, ends_here, row_long, sum_by_more_le (λ k. k) ns r 0 in_ns, ap length had.slots, length-laid rows ns had.within.fits), (row, row_there))
 
       pub is_row : (xs : List ℕ) → take (to - from) (drop from h.block) ≡ map Some xs → xs ≡ row
       is_row xs e = sym (values-written xs) ∙ ap values (sym e ∙ row_there) ∙ values-written row

@@ -40,8 +40,8 @@ items_after change ends now new r n k len same is items count =
     rw (items, same, is) (take_at whole (drop (length whole) ends) len (run_long change ends r n ∙ sym count))
 
 -- rows from the r-th on that have room
-abbrev pub HaveRoomIn : List (List ℕ) → List ℕ → ℕ → ℕ → Type 0
-HaveRoomIn rows ns r n = (c : ℕ) → r ≤ c → c < r + n → length (row_at rows c) < get_or ns c 0
+abbrev pub HaveFreeSlotsIn : List (List ℕ) → List ℕ → ℕ → ℕ → Type 0
+HaveFreeSlotsIn rows ns r n = (c : ℕ) → r ≤ c → c < r + n → length (row_at rows c) < get_or ns c 0
 
 abbrev ends_of : List (List ℕ) → List ℕ → ℕ → ℕ → List ℕ
 ends_of rows ns r n = take n (drop r (ends_from 0 rows ns))
@@ -49,18 +49,18 @@ ends_of rows ns r n = take n (drop r (ends_from 0 rows ns))
 -- what a run of values does to the parts of a filling
 pub record IsRunPut (rows : List (List ℕ)) (ns : List ℕ) (r n v : ℕ) : Type 0 where
   pub free : AreFree (laid rows ns) (ends_of rows ns r n) v
-  pub places : written (laid rows ns) (ends_of rows ns r n) v ≡ laid (appended_run rows r n v) ns
+  pub slots : written (laid rows ns) (ends_of rows ns r n) v ≡ laid (appended_run rows r n v) ns
   pub ends : changed_run (λ end. end + 1) (ends_from 0 rows ns) r n ≡ ends_from 0 (appended_run rows r n v) ns
   pub fits : Fits (appended_run rows r n v) ns
 
-module _ (rows : List (List ℕ)) (ns : List ℕ) (r n v : ℕ) (fits : Fits rows ns) (at : r < length rows) (room : HaveRoomIn rows ns r (suc n)) where
+module _ (rows : List (List ℕ)) (ns : List ℕ) (r n v : ℕ) (fits : Fits rows ns) (at : r < length rows) (room : HaveFreeSlotsIn rows ns r (suc n)) where
   abbrev after : List (List ℕ)
   after = appended rows r v
 
   here : length (row_at rows r) < get_or ns r 0
   here = room r (omega arith) (omega arith)
 
-  room_later : HaveRoomIn after ns (r + 1) n
+  room_later : HaveFreeSlotsIn after ns (r + 1) n
   room_later c from to =
       rw (get_or-set_other rows r c (row_at rows r ++ v ∷ []) [] (λ same. absurd (omega (arith, same, from)))) (room c (omega (arith, from)) (omega (arith, to)))
 
@@ -73,7 +73,7 @@ module _ (rows : List (List ℕ)) (ns : List ℕ) (r n v : ℕ) (fits : Fits row
   ends_after : set (ends_from 0 rows ns) r (end_of rows ns r + 1) ≡ ends_from 0 after ns
   ends_after = ap (λ k. set (ends_from 0 rows ns) r k) (let e : end_of rows ns r + 1 ≡ 0 + end_of rows ns r + 1 = omega arith in e) ∙ ends-put 0 rows ns r v fits at
 
-  -- the first of the ends, and those behind it
+  -- the first of the ends, and those after it
   ends_split : ends_of rows ns r (suc n) ≡ end_of rows ns r ∷ ends_of after ns (r + 1) n
   ends_split =
       ap (take (suc n)) (drop_more (ends_from 0 rows ns) r 0 long)
@@ -87,18 +87,18 @@ module _ (rows : List (List ℕ)) (ns : List ℕ) (r n v : ℕ) (fits : Fits row
       let runs : appended_run rows r (suc n) v ≡ appended_run after (r + 1) n v = run_more (λ row. row ++ v ∷ []) [] rows r n at in
       let within : end_of rows ns r < length (laid rows ns) = omega (arith, end_within rows ns r here, length-laid rows ns fits) in
       record {
-        free = subst (λ es. AreFree (laid rows ns) es v) (sym ends_split) (within, end_free rows ns r fits at here, subst (λ slots. AreFree slots (ends_of after ns (r + 1) n) v) (sym placed) later.free);
-        places = ap (λ es. written (laid rows ns) es v) ends_split ∙ ap (λ slots. written slots (ends_of after ns (r + 1) n) v) placed ∙ later.places ∙ ap (λ rs. laid rs ns) (sym runs);
+        free = subst (λ es. AreFree (laid rows ns) es v) (sym ends_split) (within, end_free rows ns r fits at here, subst (λ contents. AreFree contents (ends_of after ns (r + 1) n) v) (sym placed) later.free);
+        slots = ap (λ es. written (laid rows ns) es v) ends_split ∙ ap (λ contents. written contents (ends_of after ns (r + 1) n) v) placed ∙ later.slots ∙ ap (λ rs. laid rs ns) (sym runs);
         ends = run_more (λ end. end + 1) 0 (ends_from 0 rows ns) r n long ∙ ap (λ k. changed_run (λ end. end + 1) (set (ends_from 0 rows ns) r (k + 1)) (r + 1) n) end_is ∙ ap (λ es. changed_run (λ end. end + 1) es (r + 1) n) ends_after ∙ later.ends ∙ ap (λ rs. ends_from 0 rs ns) (sym runs);
         fits = subst (λ rs. Fits rs ns) (sym runs) later.fits;
       }
 
-pub run_put : (rows : List (List ℕ)) (ns : List ℕ) (r n v : ℕ) → Fits rows ns → r + n ≤ length rows → HaveRoomIn rows ns r n → IsRunPut rows ns r n v
+pub run_put : (rows : List (List ℕ)) (ns : List ℕ) (r n v : ℕ) → Fits rows ns → r + n ≤ length rows → HaveFreeSlotsIn rows ns r n → IsRunPut rows ns r n v
 run_put rows ns r zero v fits within room =
     let whole = run_none (λ row. row ++ v ∷ []) rows r in
     record {
       free = tt;
-      places = ap (λ rs. laid rs ns) (sym whole);
+      slots = ap (λ rs. laid rs ns) (sym whole);
       ends = run_none (λ end. end + 1) (ends_from 0 rows ns) r ∙ ap (λ rs. ends_from 0 rs ns) (sym whole);
       fits = subst (λ rs. Fits rs ns) (sym whole) fits;
     }

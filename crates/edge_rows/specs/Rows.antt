@@ -1,7 +1,7 @@
--- Rows of numbers, and a filling of them place by place.
+-- Rows of numbers, and a filling of them slot by slot.
 use Rattle.std.specs.Prelude.{ℕ, ◌+◌, ◌-◌, ◌<◌, ◌≤◌, List, [], ◌∷◌, ◌++◌, map, take, drop, length, sum, replicate, slice_index, slice_index_or, slice_set}
 
--- the rows as filled so far, and how many places each row has
+-- the rows as filled so far, and how many slots each row has
 pub record Filling : Type 0 where
   pub rows : List (List ℕ)
   pub lengths : List ℕ
@@ -26,14 +26,14 @@ appended_run rows r count value = changed_run (λ row. row ++ value ∷ []) rows
 abbrev pub unfilled : List ℕ → List (List ℕ)
 unfilled lengths = replicate (length lengths) []
 
--- there is an r-th row, and it has a place that is not written
-abbrev pub HasRoom : Filling → ℕ → Type 0
-HasRoom f r = (r < length f.rows) × (length (row_at f.rows r) < slice_index f.lengths r)
+-- there is an r-th row, and it has a slot that is not written
+abbrev pub HasFreeSlot : Filling → ℕ → Type 0
+HasFreeSlot f r = (r < length f.rows) × (length (row_at f.rows r) < slice_index f.lengths r)
 
--- each of `count` rows from the first on is there, and has a place that is not written
-abbrev pub HaveRoom : Filling → ℕ → ℕ → Type 0
-HaveRoom f first count = (r : ℕ) → first ≤ r → r < first + count → HasRoom f r
+-- each of `count` rows from the first on is there, and has a slot that is not written
+abbrev pub HaveFreeSlots : Filling → ℕ → ℕ → Type 0
+HaveFreeSlots f first count = (r : ℕ) → first ≤ r → r < first + count → HasFreeSlot f r
 
--- how many places are not written
-abbrev pub places_left : Filling → ℕ
-places_left f = sum f.lengths - sum (map length f.rows)
+-- how many slots are not written
+abbrev pub slots_left : Filling → ℕ
+slots_left f = sum f.lengths - sum (map length f.rows)

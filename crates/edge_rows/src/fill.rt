@@ -1,6 +1,6 @@
 //! `RowFill`: rows of fixed lengths, each filled from its front on, in any order of rows.
 ghost use Rattle.std.specs.Prelude.{◌≡◌, ◌+◌, ◌^◌, ◌<◌, ◌≤◌, length, map, sum, IfOk};
-ghost use Rattle.edge_rows.specs.Rows.{appended, appended_run, unfilled, HasRoom, HaveRoom, places_left};
+ghost use Rattle.edge_rows.specs.Rows.{appended, appended_run, unfilled, HasFreeSlot, HaveFreeSlots, slots_left};
 ghost use Rattle.edge_rows.specs.inside.Layout.{starts_from};
 ghost use Rattle.edge_rows.specs.inside.Runs.{AreFree, written};
 
@@ -23,9 +23,9 @@ impl From<AllocError> for NoMemory {
 #[derive(Drop)]
 pub struct RowFill {
     block: Block,
-    /// The first place of each row, and at last the number of places.
+    /// The first slot of each row, and at last the number of slots.
     starts: Vec<u32>,
-    /// The first place of each row that is not written.
+    /// The first slot of each row that is not written.
     ends: Vec<u32>,
 }
 
@@ -44,7 +44,7 @@ impl Model for RowFill {
 /// Where rows of these lengths start, and at last where they end.
 fn starts_of(alloc: Global, lengths: &[u32]) -> Result<Vec<u32>, AllocError>
     requires rows { length lengths.now ≤ 2 ^ 20 }
-    requires places { sum lengths.now ≤ 2 ^ 25 }
+    requires slots { sum lengths.now ≤ 2 ^ 25 }
     ensures { IfOk result (λ v. v.items ≡ starts_from 0 lengths.now) }
 {
     let mut starts = Vec::with_capacity(alloc, lengths.len() + 1)?;
@@ -57,7 +57,7 @@ fn starts_of(alloc: Global, lengths: &[u32]) -> Result<Vec<u32>, AllocError>
     Ok(starts)
 }
 
-/// Writes a value at each of these places, and goes on to the place behind each.
+/// Writes a value at each of these slots, and goes on to the slot after each.
 #[inline(always)]
 fn write_each(block: &mut Block, ends: &mut [u32], value: u32)
     requires free { AreFree block.old ends.old value }
@@ -66,9 +66,9 @@ fn write_each(block: &mut Block, ends: &mut [u32], value: u32)
     ensures ends { ends.new ≡ map (λ end. end + 1) ends.old }
 {
     for end in ends {
-        let place = *end;
-        block.write(place as usize, value);
-        *end = place + 1;
+        let slot = *end;
+        block.write(slot as usize, value);
+        *end = slot + 1;
     }
 }
 
@@ -76,15 +76,15 @@ impl RowFill {
     /// Rows of these lengths with nothing written. The block is not cleared.
     pub fn new(alloc: Global, lengths: &[u32]) -> Result<RowFill, NoMemory>
         requires rows { length lengths.now ≤ 2 ^ 20 }
-        requires places { sum lengths.now ≤ 2 ^ 25 }
+        requires slots { sum lengths.now ≤ 2 ^ 25 }
         ensures rows { IfOk result (λ fill. fill.rows ≡ unfilled lengths.now) }
         ensures lengths { IfOk result (λ fill. fill.lengths ≡ lengths.now) }
     {
         let rows = lengths.len();
         let starts = starts_of(alloc, lengths)?;
         let ends = starts[..rows].to_vec(alloc)?;
-        let places = starts[rows];
-        let block = Block::new(alloc, places as usize)?;
+        let slots = starts[rows];
+        let block = Block::new(alloc, slots as usize)?;
         Ok(RowFill {
             block,
             starts,
@@ -92,9 +92,9 @@ impl RowFill {
         })
     }
 
-    /// Writes the row's next place, in constant time.
+    /// Writes the row's next slot, in constant time.
     pub fn put(&mut self, row: u32, value: u32)
-        requires { HasRoom self.old row }
+        requires { HasFreeSlot self.old row }
         ensures rows { self.new.rows ≡ appended self.old.rows row value }
         ensures lengths { self.new.lengths ≡ self.old.lengths }
     {
@@ -104,12 +104,12 @@ impl RowFill {
         self.ends[row] = end + 1;
     }
 
-    /// Writes the next place of each of `count` rows from `first` on. Whether there are such rows is
-    /// tested once for all of them, and where the caller names a number the places are written with no loop.
+    /// Writes the next slot of each of `count` rows from `first` on. Whether there are such rows is
+    /// tested once for all of them, and where the caller names a number the slots are written with no loop.
     #[inline(always)]
-    pub fn put_run(&mut self, first: u32, count: u32, value: u32)
+    pub fn put_each(&mut self, first: u32, count: u32, value: u32)
         requires within { first + count ≤ length self.old.rows }
-        requires room { HaveRoom self.old first count }
+        requires room { HaveFreeSlots self.old first count }
         ensures rows { self.new.rows ≡ appended_run self.old.rows first count value }
         ensures lengths { self.new.lengths ≡ self.old.lengths }
     {
@@ -118,9 +118,9 @@ impl RowFill {
         write_each(&mut self.block, &mut self.ends[from..to], value);
     }
 
-    /// How many places are not yet written.
+    /// How many slots are not yet written.
     pub fn left(&self) -> u64
-        ensures { result ≡ places_left self.now }
+        ensures { result ≡ slots_left self.now }
     {
         let mut left = 0;
         for row in 0..self.ends.len() {
@@ -129,9 +129,9 @@ impl RowFill {
         left
     }
 
-    /// The rows, all of whose places are written.
+    /// The rows, all of whose slots are written.
     pub fn finish(self) -> Rows
-        requires { places_left self ≡ 0 }
+        requires { slots_left self ≡ 0 }
         ensures rows { result ≡ self.rows }
         ensures full { map length result ≡ self.lengths }
     {

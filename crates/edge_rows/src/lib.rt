@@ -1,17 +1,17 @@
 //! Lists of numbers in one block of raw memory, which is never cleared.
 //!
 //! The layer above fills a `RowFill` in any order of lists, and then any number of threads read the `Rows`, which lend
-//! each list as a slice. To contracts both are the lists. `put` appends to its list and `put_run` to consecutive lists;
+//! each list as a slice. To contracts both are the lists. `put` appends to its list and `put_each` to consecutive lists;
 //! neither changes another, and `row` is the list as it was filled. No slot is read before it was written, and the
 //! block is freed at most once. Tests show that it is freed, also if a filling is dropped half way. The pointers are in
-//! `places`.
+//! `slots`.
 #![tactic(auto)]
 
 mod block;
 mod fill;
 pub mod laws;
-mod places;
 mod rows;
+mod slots;
 
 pub use fill::{NoMemory, RowFill};
 pub use rows::Rows;

@@ -3,10 +3,10 @@ use Rattle.std.proofs.Common.{◌≡◌, ℕ, true, false, not, ◌||◌, ◌&&�
 use Rattle.std.specs.Prelude.{ℤ, pos, ◌-ℤ◌, slice_index_or}
 use Rattle.std.proofs.lemmas.Int.{ints}
 use Rattle.std.proofs.lemmas.Bool.{or_left, or_right, or_cases, and_parts, not-true, eqb-true, false≢true}
-use Rattle.fixed_expr.specs.Expression.{Expression, Number, Variable, Negation, Sum, Difference, Product, Quotient, Minimum, Maximum, Absolute, Lookup}
+use Rattle.fixed_expr.specs.Expression.{Expression, NumExpr, VarExpr, NegExpr, AddExpr, SubExpr, MulExpr, DivExpr, MinExpr, MaxExpr, AbsExpr, LutExpr}
 use Rattle.fixed_expr.specs.Value.{value_of}
 use Rattle.fixed_expr.specs.Mentions.{mentions}
-use Rattle.fixed_expr.specs.Moves.{moves_with}
+use Rattle.fixed_expr.specs.Moves.{shifts_with}
 use Rattle.fixed_expr.specs.inside.Alike.{AreSameBut}
 use Rattle.fixed_expr.proofs.Values.{agree}
 
@@ -15,7 +15,7 @@ module _ (k : ℕ) (xs ys : List ℤ) where
   at zs = slice_index_or zs k (pos 0)
 
   abbrev Moves : Expression → Type 0
-  Moves e = moves_with e k ≡ true → AreSameBut k e xs ys → value_of e xs -ℤ at xs ≡ value_of e ys -ℤ at ys
+  Moves e = shifts_with e k ≡ true → AreSameBut k e xs ys → value_of e xs -ℤ at xs ≡ value_of e ys -ℤ at ys
 
   -- a part that doesn't mention the variable has one value
   stays : (e : Expression) → mentions e k ≡ false → AreSameBut k e xs ys → value_of e xs ≡ value_of e ys
@@ -29,24 +29,24 @@ module _ (k : ℕ) (xs ys : List ℤ) where
     right i other here = same i other (or_right (mentions a i) (mentions b i) here)
 
   pub moves : (e : Expression) → Moves e
-  moves (Number c) is same = absurd (false≢true is)
-  moves (Variable j) is same = let here : j ≡ k = eqb-true j k is in omega (arith, ints, ap (λ (i : ℕ). slice_index_or xs i (pos 0)) here, ap (λ (i : ℕ). slice_index_or ys i (pos 0)) here)
-  moves (Sum a b) is same =
-      elim (or_cases (moves_with a k && not (mentions b k)) (not (mentions a k) && moves_with b k) is) [
+  moves (NumExpr c) is same = absurd (false≢true is)
+  moves (VarExpr j) is same = let here : j ≡ k = eqb-true j k is in omega (arith, ints, ap (λ (i : ℕ). slice_index_or xs i (pos 0)) here, ap (λ (i : ℕ). slice_index_or ys i (pos 0)) here)
+  moves (AddExpr a b) is same =
+      elim (or_cases (shifts_with a k && not (mentions b k)) (not (mentions a k) && shifts_with b k) is) [
         | inl first ↦
-            let parts = and_parts (moves_with a k) (not (mentions b k)) first in
+            let parts = and_parts (shifts_with a k) (not (mentions b k)) first in
             omega (arith, ints, moves a parts.0 (left a b same), stays b (not-true (mentions b k) parts.1) (right a b same))
         | inr second ↦
-            let parts = and_parts (not (mentions a k)) (moves_with b k) second in
+            let parts = and_parts (not (mentions a k)) (shifts_with b k) second in
             omega (arith, ints, stays a (not-true (mentions a k) parts.0) (left a b same), moves b parts.1 (right a b same))
       ]
-  moves (Difference a b) is same =
-      let parts = and_parts (moves_with a k) (not (mentions b k)) is in
+  moves (SubExpr a b) is same =
+      let parts = and_parts (shifts_with a k) (not (mentions b k)) is in
       omega (arith, ints, moves a parts.0 (left a b same), stays b (not-true (mentions b k) parts.1) (right a b same))
-  moves (Negation a) is same = absurd (false≢true is)
-  moves (Product a b) is same = absurd (false≢true is)
-  moves (Quotient a c) is same = absurd (false≢true is)
-  moves (Minimum a b) is same = absurd (false≢true is)
-  moves (Maximum a b) is same = absurd (false≢true is)
-  moves (Absolute a) is same = absurd (false≢true is)
-  moves (Lookup a points) is same = absurd (false≢true is)
+  moves (NegExpr a) is same = absurd (false≢true is)
+  moves (MulExpr a b) is same = absurd (false≢true is)
+  moves (DivExpr a c) is same = absurd (false≢true is)
+  moves (MinExpr a b) is same = absurd (false≢true is)
+  moves (MaxExpr a b) is same = absurd (false≢true is)
+  moves (AbsExpr a) is same = absurd (false≢true is)
+  moves (LutExpr a points) is same = absurd (false≢true is)

@@ -7,7 +7,7 @@ use Rattle.std.proofs.lemmas.Nat.{le-div, div-mul-add}
 use Rattle.std.proofs.Math.Nat.{mul-le-mul_left, div-mul-le_self, zero-div}
 use Rattle.std.proofs.Math.IntN.{*ℤ-zero}
 use borrow.Author.Differences.{up, down}
-use Rattle.fixed_expr.specs.Quotient.{floor_div}
+use Rattle.fixed_expr.specs.DivExpr.{floor_div}
 use Rattle.fixed_expr.specs.Curves.{IsShort, value_along, value_from}
 
 -- ---- floors of quotients
@@ -118,8 +118,8 @@ module _ (p q : ℤ × ℤ) (points : List (ℤ × ℤ)) (x : ℤ) where
       by false true e f = refl
       by false false e f = absurd (omega (arith, ints, below))
 
-  pub behind_piece : p.0 <ℤ q.0 → q.0 ≤ℤ x → value_from p (q ∷ points) x ≡ value_from q points x
-  behind_piece rises past = by (int_le x p.0) (int_lt x q.0) refl refl
+  pub after_piece : p.0 <ℤ q.0 → q.0 ≤ℤ x → value_from p (q ∷ points) x ≡ value_from q points x
+  after_piece rises past = by (int_le x p.0) (int_lt x q.0) refl refl
     where
       by : (s t : Bool) → int_le x p.0 ≡ s → int_lt x q.0 ≡ t → (if s then p.1 else (if t then value_along p q x else value_from q points x)) ≡ value_from q points x
       by true t e f = absurd (omega (arith, ints, rises, past))

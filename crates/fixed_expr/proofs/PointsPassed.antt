@@ -5,7 +5,7 @@ use Rattle.std.specs.List.Sorted.{IsPartitionedBy}
 use Rattle.std.proofs.lemmas.Int.{ints}
 use Rattle.fixed_expr.specs.Curves.{RiseFrom, IsCurve, value_along, value_from, curve_value}
 use Rattle.fixed_expr.specs.inside.Passed.{ArePassed}
-use Rattle.fixed_expr.proofs.Pieces.{before_first, on_piece, behind_piece}
+use Rattle.fixed_expr.proofs.Pieces.{before_first, on_piece, after_piece}
 
 -- the arguments rise
 later : (p : ℤ × ℤ) (points : List (ℤ × ℤ)) (j : ℕ) (d : ℤ × ℤ) → RiseFrom p points → j < length points → p.0 ≤ℤ (slice_index_or points j d).0
@@ -31,30 +31,30 @@ passed_first (p ∷ points) x curve i j d order within passed = below (slice_ind
         by true e = refl
         by false e = absurd (omega (arith, ints, order, le, e))
 
--- behind all points, and between the one before place n and the one there
-behind_all : (p : ℤ × ℤ) (points : List (ℤ × ℤ)) (x : ℤ) (d : ℤ × ℤ) → RiseFrom p points → ((k : ℕ) → k < length points → (slice_index_or points k d).0 ≤ℤ x) → value_from p points x ≡ (slice_index_or (p ∷ points) (length points) d).1
-behind_all p [] x d rises passed = refl
-behind_all p (q ∷ points) x d rises passed = behind_piece p q points x rises.0 (passed 0 (omega arith)) ∙ behind_all q points x d rises.1 (λ k within. passed (suc k) (omega (arith, within)))
+-- after all points, and between the one before position n and the one there
+after_all : (p : ℤ × ℤ) (points : List (ℤ × ℤ)) (x : ℤ) (d : ℤ × ℤ) → RiseFrom p points → ((k : ℕ) → k < length points → (slice_index_or points k d).0 ≤ℤ x) → value_from p points x ≡ (slice_index_or (p ∷ points) (length points) d).1
+after_all p [] x d rises passed = refl
+after_all p (q ∷ points) x d rises passed = after_piece p q points x rises.0 (passed 0 (omega arith)) ∙ after_all q points x d rises.1 (λ k within. passed (suc k) (omega (arith, within)))
 
-at_place : (p : ℤ × ℤ) (points : List (ℤ × ℤ)) (x : ℤ) (n : ℕ) (d : ℤ × ℤ) → RiseFrom p points → n < length points → p.0 ≤ℤ x → ((k : ℕ) → k < n → (slice_index_or points k d).0 ≤ℤ x) → x <ℤ (slice_index_or points n d).0 → value_from p points x ≡ value_along (slice_index_or (p ∷ points) n d) (slice_index_or points n d) x
-at_place p [] x n d rises within above passed below = absurd (omega (arith, within))
-at_place p (q ∷ points) x zero d rises within above passed below = on_piece p q points x rises.0 above below
-at_place p (q ∷ points) x (suc n) d rises within above passed below =
-    behind_piece p q points x rises.0 (passed 0 (omega arith))
-    ∙ at_place q points x n d rises.1 (omega (arith, within)) (passed 0 (omega arith)) (λ k before. passed (suc k) (omega (arith, before))) below
+at_position : (p : ℤ × ℤ) (points : List (ℤ × ℤ)) (x : ℤ) (n : ℕ) (d : ℤ × ℤ) → RiseFrom p points → n < length points → p.0 ≤ℤ x → ((k : ℕ) → k < n → (slice_index_or points k d).0 ≤ℤ x) → x <ℤ (slice_index_or points n d).0 → value_from p points x ≡ value_along (slice_index_or (p ∷ points) n d) (slice_index_or points n d) x
+at_position p [] x n d rises within above passed below = absurd (omega (arith, within))
+at_position p (q ∷ points) x zero d rises within above passed below = on_piece p q points x rises.0 above below
+at_position p (q ∷ points) x (suc n) d rises within above passed below =
+    after_piece p q points x rises.0 (passed 0 (omega arith))
+    ∙ at_position q points x n d rises.1 (omega (arith, within)) (passed 0 (omega arith)) (λ k before. passed (suc k) (omega (arith, before))) below
 
 pub value_before : (points : List (ℤ × ℤ)) (x : ℤ) (n : ℕ) (d : ℤ × ℤ) → IsCurve points → ArePassed points x n → n ≡ 0 → (slice_index_or points 0 d).1 ≡ curve_value points x
 value_before [] x n d curve passed none = absurd (omega (arith, curve.some))
-value_before (p ∷ points) x n d curve passed none = sym (before_first p points x (omega (arith, ints, passed.behind 0 d (omega (arith, none)) (omega arith))))
+value_before (p ∷ points) x n d curve passed none = sym (before_first p points x (omega (arith, ints, passed.after 0 d (omega (arith, none)) (omega arith))))
 
-pub value_behind : (points : List (ℤ × ℤ)) (x : ℤ) (n : ℕ) (d : ℤ × ℤ) → IsCurve points → ArePassed points x n → n ≡ length points → (slice_index_or points (n - 1) d).1 ≡ curve_value points x
-value_behind [] x n d curve passed all = absurd (omega (arith, curve.some))
-value_behind (p ∷ points) x n d curve passed all =
+pub value_after : (points : List (ℤ × ℤ)) (x : ℤ) (n : ℕ) (d : ℤ × ℤ) → IsCurve points → ArePassed points x n → n ≡ length points → (slice_index_or points (n - 1) d).1 ≡ curve_value points x
+value_after [] x n d curve passed all = absurd (omega (arith, curve.some))
+value_after (p ∷ points) x n d curve passed all =
     let last : n - 1 ≡ length points = omega (arith, all) in
     ap (λ (k : ℕ). (slice_index_or (p ∷ points) k d).1) last
-    ∙ sym (behind_all p points x d curve.rising (λ k within. passed.before (suc k) d (omega (arith, within, all))))
+    ∙ sym (after_all p points x d curve.rising (λ k within. passed.before (suc k) d (omega (arith, within, all))))
 
 pub value_between : (points : List (ℤ × ℤ)) (x : ℤ) (n : ℕ) (d : ℤ × ℤ) → IsCurve points → ArePassed points x (suc n) → suc n < length points → value_along (slice_index_or points n d) (slice_index_or points (suc n) d) x ≡ curve_value points x
 value_between [] x n d curve passed within = absurd (omega (arith, within))
 value_between (p ∷ points) x n d curve passed within =
-    sym (at_place p points x n d curve.rising (omega (arith, within)) (passed.before 0 d (omega arith)) (λ k before. passed.before (suc k) d (omega (arith, before))) (passed.behind (suc n) d (omega arith) within))
+    sym (at_position p points x n d curve.rising (omega (arith, within)) (passed.before 0 d (omega arith)) (λ k before. passed.before (suc k) d (omega (arith, before))) (passed.after (suc n) d (omega arith) within))

@@ -4,32 +4,32 @@ use Rattle.std.specs.Prelude.{ℤ, pos, negsuc, SomeIff, FitsSigned}
 use Rattle.std.proofs.lemmas.Int.{ints, to_z-of_z}
 use Rattle.fixed_expr.specs.declared.lanes.TheConstants.{LANES}
 use Rattle.fixed_expr.specs.declared.operation.Binary.{Binary}
-use Rattle.fixed_expr.specs.declared.operation.Binary.TheVariants.{Add, Subtract, Multiply, TakeLesser, TakeGreater}
+use Rattle.fixed_expr.specs.declared.operation.Binary.TheVariants.{AddOp, SubOp, MulOp, MinOp, MaxOp}
 use Rattle.fixed_expr.specs.Expression.{Expression}
 use Rattle.fixed_expr.specs.Lanes.{at, AreNarrow, Holds, HoldsNarrow}
 use Rattle.fixed_expr.specs.Narrow.{IsNarrow, StaysNarrow}
-use Rattle.fixed_expr.specs.Rows.{row_of, StaysNarrowInRows}
+use Rattle.fixed_expr.specs.LaneEval.{row_of, StaysNarrowInLanes}
 use Rattle.fixed_expr.specs.Value.{value_of}
 use Rattle.fixed_expr.specs.inside.Listing.{combined, combined_number}
 use Rattle.fixed_expr.specs.inside.RowValues.{value_in, AreNumbers, AnswersNumbers, AnswersValues}
-use Rattle.fixed_expr.specs.declared.rows.RowValues.{RowValues}
-use Rattle.fixed_expr.specs.declared.rows.RowValues.TheVariants.{Alike}
+use Rattle.fixed_expr.specs.declared.lane_eval.RowValues.{RowValues}
+use Rattle.fixed_expr.specs.declared.lane_eval.RowValues.TheVariants.{Alike}
 
 -- ---- in one row
 
 pub value_combined : (binary : Binary) (a b : Expression) (row : List ℤ) → value_of (combined binary a b) row ≡ combined_number binary (value_of a row) (value_of b row)
-value_combined Add a b row = refl
-value_combined Subtract a b row = refl
-value_combined Multiply a b row = refl
-value_combined TakeLesser a b row = refl
-value_combined TakeGreater a b row = refl
+value_combined AddOp a b row = refl
+value_combined SubOp a b row = refl
+value_combined MulOp a b row = refl
+value_combined MinOp a b row = refl
+value_combined MaxOp a b row = refl
 
 pub stays_combined : (binary : Binary) (a b : Expression) (row : List ℤ) → StaysNarrow a row → StaysNarrow b row → IsNarrow (combined_number binary (value_of a row) (value_of b row)) → StaysNarrow (combined binary a b) row
-stays_combined Add a b row first second narrow = (first, second, narrow)
-stays_combined Subtract a b row first second narrow = (first, second, narrow)
-stays_combined Multiply a b row first second narrow = (first, second, narrow)
-stays_combined TakeLesser a b row first second narrow = (first, second, narrow)
-stays_combined TakeGreater a b row first second narrow = (first, second, narrow)
+stays_combined AddOp a b row first second narrow = (first, second, narrow)
+stays_combined SubOp a b row first second narrow = (first, second, narrow)
+stays_combined MulOp a b row first second narrow = (first, second, narrow)
+stays_combined MinOp a b row first second narrow = (first, second, narrow)
+stays_combined MaxOp a b row first second narrow = (first, second, narrow)
 
 pub record StaysInParts (binary : Binary) (a b : Expression) (row : List ℤ) : Type 0 where
   pub first : StaysNarrow a row
@@ -37,11 +37,11 @@ pub record StaysInParts (binary : Binary) (a b : Expression) (row : List ℤ) : 
   pub whole : IsNarrow (combined_number binary (value_of a row) (value_of b row))
 
 pub parts_of : (binary : Binary) (a b : Expression) (row : List ℤ) → StaysNarrow (combined binary a b) row → StaysInParts binary a b row
-parts_of Add a b row stays = record { first = stays.0; second = stays.1; whole = stays.2 }
-parts_of Subtract a b row stays = record { first = stays.0; second = stays.1; whole = stays.2 }
-parts_of Multiply a b row stays = record { first = stays.0; second = stays.1; whole = stays.2 }
-parts_of TakeLesser a b row stays = record { first = stays.0; second = stays.1; whole = stays.2 }
-parts_of TakeGreater a b row stays = record { first = stays.0; second = stays.1; whole = stays.2 }
+parts_of AddOp a b row stays = record { first = stays.0; second = stays.1; whole = stays.2 }
+parts_of SubOp a b row stays = record { first = stays.0; second = stays.1; whole = stays.2 }
+parts_of MulOp a b row stays = record { first = stays.0; second = stays.1; whole = stays.2 }
+parts_of MinOp a b row stays = record { first = stays.0; second = stays.1; whole = stays.2 }
+parts_of MaxOp a b row stays = record { first = stays.0; second = stays.1; whole = stays.2 }
 
 -- the parts' numbers combined
 pub whole_answer : (binary : Binary) (a b : Expression) (row : List ℤ) (x y : ℤ) (o : Option ℤ) → StaysNarrow a row → x ≡ value_of a row → StaysNarrow b row → y ≡ value_of b row → SomeIff o (IsNarrow (combined_number binary x y)) (combined_number binary x y) → SomeIff o (StaysNarrow (combined binary a b) row) (value_of (combined binary a b) row)
@@ -62,17 +62,17 @@ module _ (binary : Binary) (a b : Expression) (columns : List (List ℤ)) where
   whole = combined binary a b
 
   -- what the numbers of the parts come to
-  module _ (x y : ℕ → ℤ) (stays_first : StaysNarrowInRows a columns) (first : Tells x a columns) (stays_second : StaysNarrowInRows b columns) (second : Tells y b columns) where
+  module _ (x y : ℕ → ℤ) (stays_first : StaysNarrowInLanes a columns) (first : Tells x a columns) (stays_second : StaysNarrowInLanes b columns) (second : Tells y b columns) where
     abbrev z : ℕ → ℤ
     z k = combined_number binary (x k) (y k)
 
     both : (k : ℕ) → k < LANES → z k ≡ combined_number binary (value_of a (row_of columns k)) (value_of b (row_of columns k))
     both k lt = ap₂ (combined_number binary) (first k lt) (second k lt)
 
-    narrow_in : StaysNarrowInRows whole columns → AreNarrow z
+    narrow_in : StaysNarrowInLanes whole columns → AreNarrow z
     narrow_in stays k lt = subst IsNarrow (sym (both k lt)) (parts_of binary a b (row_of columns k) (stays k lt)).whole
 
-    stays_in : AreNarrow z → StaysNarrowInRows whole columns
+    stays_in : AreNarrow z → StaysNarrowInLanes whole columns
     stays_in narrow k lt = stays_combined binary a b (row_of columns k) (stays_first k lt) (stays_second k lt) (subst IsNarrow (both k lt) (narrow k lt))
 
     pub combined_answer : (answer : Option RowValues) (rows : List ℤ) → AnswersNumbers answer rows z → AnswersValues answer whole columns rows
@@ -104,19 +104,19 @@ narrow_passed (pos n) narrow = omega (arith, ints, narrow.1)
 narrow_passed (negsuc n) narrow = omega (arith, ints, narrow.0)
 
 module _ (binary : Binary) (left right : RowValues) (found other : List ℤ) (x y : ℤ) (is_left : left ≡ Alike x) (is_right : right ≡ Alike y) (first : FitsSigned w64 x) (second : FitsSigned w64 y) where
-  abbrev in_row : ℕ → ℤ
-  in_row k = combined_number binary (value_in left found k) (value_in right other k)
+  abbrev by_lane : ℕ → ℤ
+  by_lane k = combined_number binary (value_in left found k) (value_in right other k)
 
-  in_all : (k : ℕ) → combined_number binary (passed x) (passed y) ≡ in_row k
+  in_all : (k : ℕ) → combined_number binary (passed x) (passed y) ≡ by_lane k
   in_all k =
       ap₂ (combined_number binary)
       (to_z-of_z w64 x first ∙ sym (ap (λ (v : RowValues). value_in v found k) is_left))
       (to_z-of_z w64 y second ∙ sym (ap (λ (v : RowValues). value_in v other k) is_right))
 
-  pub alike_hold : (z : ℤ) → IsNarrow (combined_number binary (passed x) (passed y)) × (z ≡ combined_number binary (passed x) (passed y)) → AreNumbers (Alike (passed z)) found in_row
+  pub alike_hold : (z : ℤ) → IsNarrow (combined_number binary (passed x) (passed y)) × (z ≡ combined_number binary (passed x) (passed y)) → AreNumbers (Alike (passed z)) found by_lane
   alike_hold z h =
       let narrow : IsNarrow z = subst IsNarrow (sym h.1) h.0 in
       (λ k lt. subst IsNarrow (in_all k) h.0, λ k lt. narrow_passed z narrow ∙ h.1 ∙ in_all k)
 
-  pub alike_leave : ¬ (IsNarrow (combined_number binary (passed x) (passed y))) → ¬ (AreNarrow in_row)
+  pub alike_leave : ¬ (IsNarrow (combined_number binary (passed x) (passed y))) → ¬ (AreNarrow by_lane)
   alike_leave leave narrow = leave (subst IsNarrow (sym (in_all 0)) (narrow 0 (omega arith)))

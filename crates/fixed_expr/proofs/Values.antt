@@ -3,8 +3,8 @@ use Rattle.std.proofs.Common.{◌≡◌, ℕ, true, ◌||◌, List, refl, ap, ap
 use Rattle.std.specs.Prelude.{ℤ, pos, nat_abs, neg_ℤ, ◌+ℤ◌, ◌-ℤ◌, ◌*ℤ◌, slice_index_or}
 use Rattle.std.specs.Int.{int_min, int_max}
 use Rattle.std.proofs.lemmas.Bool.{or_left, or_right, eq-eqb}
-use Rattle.fixed_expr.specs.Expression.{Expression, Number, Variable, Negation, Sum, Difference, Product, Quotient, Minimum, Maximum, Absolute, Lookup}
-use Rattle.fixed_expr.specs.Quotient.{floor_div}
+use Rattle.fixed_expr.specs.Expression.{Expression, NumExpr, VarExpr, NegExpr, AddExpr, SubExpr, MulExpr, DivExpr, MinExpr, MaxExpr, AbsExpr, LutExpr}
+use Rattle.fixed_expr.specs.DivExpr.{floor_div}
 use Rattle.fixed_expr.specs.Curves.{curve_value}
 use Rattle.fixed_expr.specs.Value.{value_of}
 use Rattle.fixed_expr.specs.Mentions.{mentions}
@@ -21,14 +21,14 @@ module _ (xs ys : List ℤ) where
       (right (λ i here. same i (or_right (mentions a i) (mentions b i) here)))
 
   pub agree : (e : Expression) → Agree e
-  agree (Number k) same = refl
-  agree (Variable j) same = same j (eq-eqb j j refl)
-  agree (Negation a) same = ap neg_ℤ (agree a same)
-  agree (Sum a b) same = both (λ x y. x +ℤ y) a b (agree a) (agree b) same
-  agree (Difference a b) same = both (λ x y. x -ℤ y) a b (agree a) (agree b) same
-  agree (Product a b) same = both (λ x y. x *ℤ y) a b (agree a) (agree b) same
-  agree (Quotient a k) same = ap (λ x. floor_div x k) (agree a same)
-  agree (Minimum a b) same = both int_min a b (agree a) (agree b) same
-  agree (Maximum a b) same = both int_max a b (agree a) (agree b) same
-  agree (Absolute a) same = ap (λ x. pos (nat_abs x)) (agree a same)
-  agree (Lookup a points) same = ap (curve_value points) (agree a same)
+  agree (NumExpr k) same = refl
+  agree (VarExpr j) same = same j (eq-eqb j j refl)
+  agree (NegExpr a) same = ap neg_ℤ (agree a same)
+  agree (AddExpr a b) same = both (λ x y. x +ℤ y) a b (agree a) (agree b) same
+  agree (SubExpr a b) same = both (λ x y. x -ℤ y) a b (agree a) (agree b) same
+  agree (MulExpr a b) same = both (λ x y. x *ℤ y) a b (agree a) (agree b) same
+  agree (DivExpr a k) same = ap (λ x. floor_div x k) (agree a same)
+  agree (MinExpr a b) same = both int_min a b (agree a) (agree b) same
+  agree (MaxExpr a b) same = both int_max a b (agree a) (agree b) same
+  agree (AbsExpr a) same = ap (λ x. pos (nat_abs x)) (agree a same)
+  agree (LutExpr a points) same = ap (curve_value points) (agree a same)

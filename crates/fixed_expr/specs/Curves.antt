@@ -1,6 +1,6 @@
 -- Piecewise-linear functions over whole numbers, each given by some points.
 use Rattle.std.specs.Prelude.{◌^◌, ◌<◌, ◌≤◌, ℤ, pos, nat_abs, ◌+ℤ◌, ◌-ℤ◌, ◌*ℤ◌, ◌<ℤ◌, int_lt, int_le, List, [], ◌∷◌, length, All, if◌then◌else◌}
-use Rattle.fixed_expr.specs.Quotient.{floor_div}
+use Rattle.fixed_expr.specs.DivExpr.{floor_div}
 
 -- an argument, and the value there
 abbrev pub CurvePoint : Type 0
@@ -30,7 +30,7 @@ pub record IsCurve (points : List CurvePoint) : Type 0 where
 abbrev pub value_along : CurvePoint → CurvePoint → ℤ → ℤ
 value_along p q x = p.1 +ℤ floor_div ((q.1 -ℤ p.1) *ℤ (x -ℤ p.0)) (q.0 -ℤ p.0)
 
--- the value at a number: that of the first point before it, of the last behind it
+-- the value at a number: that of the first point before it, of the last after it
 abbrev pub value_from : CurvePoint → List CurvePoint → ℤ → ℤ
 value_from p [] x = p.1
 value_from p (q ∷ points) x = if int_le x p.0 then p.1 else (if int_lt x q.0 then value_along p q x else value_from q points x)

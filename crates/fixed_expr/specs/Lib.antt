@@ -1,11 +1,11 @@
 pub mod Range
-pub mod Quotient
+pub mod DivExpr
 pub mod Curves
 pub mod Expression
 pub mod Value
 pub mod Narrow
 pub mod Lanes
-pub mod Rows
+pub mod LaneEval
 pub mod Mentions
 pub mod Moves
 pub mod inside

@@ -3,7 +3,7 @@
 ghost use Rattle.std.specs.Prelude.{◌≡◌, neg_ℤ, ◌+ℤ◌, ◌-ℤ◌, ◌*ℤ◌, ◌≤ℤ◌, pos, nat_abs, SomeIff};
 ghost use Rattle.std.specs.Int.{int_min, int_max};
 ghost use Rattle.fixed_expr.specs.Range.{IsInRange};
-ghost use Rattle.fixed_expr.specs.Quotient.{floor_div};
+ghost use Rattle.fixed_expr.specs.DivExpr.{floor_div};
 
 /// The number itself. `i128` holds one number more than the range.
 pub fn within(z: i128) -> Option<i128>

@@ -1,7 +1,7 @@
 //! Piecewise-linear functions, which a table of points gives.
 
 ghost use Rattle.std.specs.Prelude.{◌≡◌, ◌<◌, ◌*◌, ◌^◌, pos, ◌*ℤ◌, ◌≤ℤ◌, ◌<ℤ◌, nat_abs, IfOk};
-ghost use Rattle.fixed_expr.specs.Quotient.{floor_div};
+ghost use Rattle.fixed_expr.specs.DivExpr.{floor_div};
 ghost use Rattle.fixed_expr.specs.Curves.{IsCurve, IsShort, curve_value, value_along};
 ghost use Rattle.fixed_expr.specs.inside.Passed.{ArePassed};
 
@@ -18,7 +18,7 @@ impl From<AllocError> for NoMemory {
     }
 }
 
-/// A function that goes straight from point to point, and stays as it is before the first and behind
+/// A function that goes straight from point to point, and stays as it is before the first and after
 /// the last. Seen as its points.
 #[derive(Drop)]
 pub struct Curve {
@@ -100,7 +100,7 @@ fn points_passed(points: &[(i128, i128)], x: i128) -> usize
 fn value_along(p: (i128, i128), q: (i128, i128), x: i128) -> i128
     requires from { IsShort p }
     requires to { IsShort q }
-    requires behind { p.0 ≤ℤ x }
+    requires after { p.0 ≤ℤ x }
     requires before { x <ℤ q.0 }
     ensures value { result ≡ value_along p q x }
     ensures short { nat_abs result < 10 ^ 18 }

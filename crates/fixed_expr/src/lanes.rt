@@ -1,9 +1,9 @@
-//! Operations on the numbers in many lanes, with None where a result leaves 64 bits. Behind None nothing is said of `found`.
+//! Operations on the numbers in many lanes, with None where a result leaves 64 bits. After None nothing is said of `found`.
 //! A loop's label names its invariant in proofs/.
 
 ghost use Rattle.std.specs.Prelude.{neg_ℤ, ◌+ℤ◌, ◌-ℤ◌, ◌*ℤ◌, ◌≤ℤ◌, pos, nat_abs};
 ghost use Rattle.std.specs.Int.{int_min, int_max};
-ghost use Rattle.fixed_expr.specs.Quotient.{floor_div};
+ghost use Rattle.fixed_expr.specs.DivExpr.{floor_div};
 ghost use Rattle.fixed_expr.specs.Curves.{curve_value};
 ghost use Rattle.fixed_expr.specs.Lanes.{at, AnswersLanes, HoldsNarrow};
 

@@ -1,7 +1,7 @@
 //! Expressions over whole numbers, and their values.
 //!
 //! The layer above gives an expression with the values of its variables. `eval` returns the value, or None exactly if
-//! the value of some node leaves the range of 127 bits and a sign. `eval_rows` evaluates 32 lanes at once.
+//! the value of some node leaves the range of 127 bits and a sign. `eval_lanes` evaluates 32 lanes at once.
 #![tactic(auto)]
 
 pub mod arithmetic;
@@ -9,6 +9,7 @@ mod curve;
 mod evaluate;
 mod expr;
 mod fixed_value;
+mod lane_eval;
 pub mod lanes;
 mod mentions;
 mod moves;
@@ -17,13 +18,12 @@ mod number_stack;
 mod operation;
 mod operation_pool;
 mod operations;
-mod rows;
 mod wide;
 
 pub use curve::{Curve, NoMemory};
 pub use evaluate::eval;
 pub use expr::Expr;
+pub use lane_eval::eval_lanes;
 pub use lanes::LANES;
 pub use operation::Binary;
 pub use operations::{CASES, Operations};
-pub use rows::eval_rows;

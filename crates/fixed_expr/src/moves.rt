@@ -1,22 +1,22 @@
 ghost use Rattle.std.specs.Prelude.{◌≡◌};
 ghost use Rattle.fixed_expr.specs.Expression.{expression_of};
-ghost use Rattle.fixed_expr.specs.Moves.{moves_with};
+ghost use Rattle.fixed_expr.specs.Moves.{shifts_with};
 
 use crate::expr::Expr;
 
 impl Expr {
     /// Whether the value moves with a variable: the expression is the variable, plus or minus parts
     /// that don't mention it, at any depth.
-    pub fn moves_with(&self, variable: u32) -> bool
-        ensures { result ≡ moves_with (expression_of self.now) variable }
+    pub fn shifts_with(&self, variable: u32) -> bool
+        ensures { result ≡ shifts_with (expression_of self.now) variable }
     {
         match self {
             Expr::Var(i) => *i == variable,
             Expr::Add(a, b) => {
-                (a.moves_with(variable) && !b.mentions(variable))
-                    || (!a.mentions(variable) && b.moves_with(variable))
+                (a.shifts_with(variable) && !b.mentions(variable))
+                    || (!a.mentions(variable) && b.shifts_with(variable))
             }
-            Expr::Sub(a, b) => a.moves_with(variable) && !b.mentions(variable),
+            Expr::Sub(a, b) => a.shifts_with(variable) && !b.mentions(variable),
             Expr::Num(_)
             | Expr::Neg(_)
             | Expr::Mul(_, _)

@@ -59,15 +59,15 @@ permutation_from_times [] (y ∷ ys) same =
     let none : times y [] ≡ 0 = refl in
     absurd (omega (arith, same y, times-cons y y ys, times-itself y))
 permutation_from_times (x ∷ xs) ys same =
-    let place = around x ys (omega (arith, same x, times-cons x x xs, times-itself x)) in
-    let rest = place.front ++ place.back in
+    let position = around x ys (omega (arith, same x, times-cons x x xs, times-itself x)) in
+    let rest = position.front ++ position.back in
     let counts : (n : ℕ) → times n xs ≡ times n rest =
     (λ n.
-    let all : times n ys ≡ times n (place.front ++ x ∷ place.back) = ap (times n) place.is in
-    omega (arith, same n, times-cons n x xs, times-append n place.front (x ∷ place.back), times-cons n x place.back, times-append n place.front place.back)) in
-    subst (IsPermutation (x ∷ xs)) (sym place.is)
-    (IsPermutation-trans (x ∷ xs) (x ∷ rest) (place.front ++ x ∷ place.back) (IsPermutation-cons x xs rest (permutation_from_times xs rest counts))
-    (IsPermutation-sym (place.front ++ x ∷ place.back) (x ∷ rest) (IsPermutation-middle place.front x place.back)))
+    let all : times n ys ≡ times n (position.front ++ x ∷ position.back) = ap (times n) position.is in
+    omega (arith, same n, times-cons n x xs, times-append n position.front (x ∷ position.back), times-cons n x position.back, times-append n position.front position.back)) in
+    subst (IsPermutation (x ∷ xs)) (sym position.is)
+    (IsPermutation-trans (x ∷ xs) (x ∷ rest) (position.front ++ x ∷ position.back) (IsPermutation-cons x xs rest (permutation_from_times xs rest counts))
+    (IsPermutation-sym (position.front ++ x ∷ position.back) (x ∷ rest) (IsPermutation-middle position.front x position.back)))
 
 -- each number below a limit once, and no other
 pub permutation_of_range : (limit : ℕ) (xs : List ℕ) → All (λ x. x < limit) xs → ((n : ℕ) → n < limit → times n xs ≡ 1) → IsPermutation (range_with_len 0 limit) xs

@@ -2,6 +2,6 @@ pub mod Sums
 pub mod Steps
 pub mod Gains
 pub mod Lists
-pub mod Rooms
+pub mod Locals
 pub mod Counts
 pub mod Swept

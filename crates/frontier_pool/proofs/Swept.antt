@@ -7,70 +7,70 @@ use Rattle.std.proofs.lemmas.List.Elements.{All-nil, All-cons, All-head, All-tai
 use Rattle.std.proofs.lemmas.List.Sorted.{IsPermutation-refl}
 use Rattle.atomic_table.specs.Seated.{TableId}
 use Rattle.frontier_pool.specs.declared.member.Member.{Member}
-use Rattle.frontier_pool.specs.declared.member.Room.{Room}
-use Rattle.frontier_pool.specs.declared.rule.Part.{Part}
+use Rattle.frontier_pool.specs.declared.member.Local.{Local}
+use Rattle.frontier_pool.specs.declared.rule.ClaimList.{ClaimList}
 use Rattle.frontier_pool.specs.Sweeps.{followed, Sweeps}
 use Rattle.frontier_pool.specs.inside.Rules.{Seated, times, times_in, no_items, longer}
 use Rattle.frontier_pool.specs.inside.Gains.{SeatOf, Gained}
-use Rattle.frontier_pool.specs.inside.Members.{IsCaller, HasAll, HasSeat, parts_in, parts_of, hands, Worked, HaveWorked}
+use Rattle.frontier_pool.specs.inside.Members.{IsCaller, HasAll, HasSeat, claim_lists_in, claim_lists_of, hands, Worked, HaveWorked}
 use Rattle.frontier_pool.proofs.Counts.{times-append, permutation_of_range}
 
-abbrev part_of : List ℕ → Part
-part_of xs = record { items = xs }
+abbrev claim_list_of : List ℕ → ClaimList
+claim_list_of xs = record { items = xs }
 
-seat_part : (table : TableId) (xs : List ℕ) (room : Option Room) → HasSeat table xs room → parts_in room ≡ part_of xs ∷ []
-seat_part table xs None h = absurd h
-seat_part table xs (Some room) h = ap (λ (me : Seated). me.0.parts) h.me
+seat_claim_list : (table : TableId) (xs : List ℕ) (local : Option Local) → HasSeat table xs local → claim_lists_in local ≡ claim_list_of xs ∷ []
+seat_claim_list table xs None h = absurd h
+seat_claim_list table xs (Some local) h = ap (λ (me : Seated). me.0.claim_lists) h.me
 
 -- the parts that the members claimed and did
-pub record Shares {H : Type 0} (done : H → List ℕ) (items : ℕ) (was now : List (Member H)) : Type 0 where
-  pub parts : List (List ℕ)
-  pub each : length parts ≡ length was
-  pub grown : map (λ (m : Member H). done m.hand) now ≡ followed (map (λ (m : Member H). done m.hand) was) parts
-  pub claims : parts_of now ≡ map part_of parts
-  pub within : All (λ n. n < items) (concat parts)
+pub record Batches {H : Type 0} (done : H → List ℕ) (items : ℕ) (was now : List (Member H)) : Type 0 where
+  pub claim_lists : List (List ℕ)
+  pub each : length claim_lists ≡ length was
+  pub grown : map (λ (m : Member H). done m.hand) now ≡ followed (map (λ (m : Member H). done m.hand) was) claim_lists
+  pub claims : claim_lists_of now ≡ map claim_list_of claim_lists
+  pub within : All (λ n. n < items) (concat claim_lists)
 
-pub shares : {H : Type 0} (done : H → List ℕ) (table : TableId) (items : ℕ) (was now : List (Member H)) → length now ≡ length was → HaveWorked done table items was now → Shares done items was now
-shares done table items [] [] same h = record { parts = []; each = refl; grown = refl; claims = refl; within = All-nil (λ n. n < items) }
-shares done table items [] (n ∷ ns) same h = absurd (omega arith)
-shares done table items (m ∷ ms) [] same h = absurd (omega arith)
-shares {H} done table items (m ∷ ms) (n ∷ ns) same h =
+pub batches : {H : Type 0} (done : H → List ℕ) (table : TableId) (items : ℕ) (was now : List (Member H)) → length now ≡ length was → HaveWorked done table items was now → Batches done items was now
+batches done table items [] [] same h = record { claim_lists = []; each = refl; grown = refl; claims = refl; within = All-nil (λ n. n < items) }
+batches done table items [] (n ∷ ns) same h = absurd (omega arith)
+batches done table items (m ∷ ms) [] same h = absurd (omega arith)
+batches {H} done table items (m ∷ ms) (n ∷ ns) same h =
     let w : Worked done table items m n = h 0 m (omega arith) in
-    let rest = shares done table items ms ns (omega arith) (λ k d lt. h (suc k) d (omega arith)) in
-    let head : parts_in n.room ≡ part_of w.part ∷ [] = seat_part table w.part n.room w.seat in
+    let rest = batches done table items ms ns (omega arith) (λ k d lt. h (suc k) d (omega arith)) in
+    let head : claim_lists_in n.local ≡ claim_list_of w.claim_list ∷ [] = seat_claim_list table w.claim_list n.local w.seat in
     record {
-      parts = w.part ∷ rest.parts;
+      claim_lists = w.claim_list ∷ rest.claim_lists;
       each = ap suc rest.each;
-      grown = ap (λ (d : List ℕ). d ∷ map (λ (p : Member H). done p.hand) ns) w.did ∙ ap (λ (l : List (List ℕ)). (done m.hand ++ w.part) ∷ l) rest.grown;
-      claims = ap (λ (ps : List Part). ps ++ parts_of ns) head ∙ ap (λ (ps : List Part). part_of w.part ∷ ps) rest.claims;
-      within = All-append (λ k. k < items) w.part (concat rest.parts) w.within rest.within;
+      grown = ap (λ (d : List ℕ). d ∷ map (λ (p : Member H). done p.hand) ns) w.did ∙ ap (λ (l : List (List ℕ)). (done m.hand ++ w.claim_list) ∷ l) rest.grown;
+      claims = ap (λ (ps : List ClaimList). ps ++ claim_lists_of ns) head ∙ ap (λ (ps : List ClaimList). claim_list_of w.claim_list ∷ ps) rest.claims;
+      within = All-append (λ k. k < items) w.claim_list (concat rest.claim_lists) w.within rest.within;
     }
 
 -- the first list has some items besides
 abbrev first_longer : List (List ℕ) → List ℕ → List (List ℕ)
 first_longer [] more = []
-first_longer (p ∷ parts) more = (p ++ more) ∷ parts
+first_longer (p ∷ claim_lists) more = (p ++ more) ∷ claim_lists
 
-first_followed : (before parts after : List (List ℕ)) (x more : List ℕ) → length parts ≡ length before → 0 < length before → after ≡ followed before parts → x ≡ get_or after 0 x ++ more
-    → set after 0 x ≡ followed before (first_longer parts more)
-first_followed [] parts after x more each some_list grown is = absurd (omega arith)
+first_followed : (before claim_lists after : List (List ℕ)) (x more : List ℕ) → length claim_lists ≡ length before → 0 < length before → after ≡ followed before claim_lists → x ≡ get_or after 0 x ++ more
+    → set after 0 x ≡ followed before (first_longer claim_lists more)
+first_followed [] claim_lists after x more each some_list grown is = absurd (omega arith)
 first_followed (b ∷ before) [] after x more each some_list grown is = absurd (omega arith)
-first_followed (b ∷ before) (p ∷ parts) after x more each some_list grown is =
-    ap (λ l. set l 0 x) grown ∙ ap (λ y. y ∷ followed before parts) (is ∙ ap (λ l. get_or l 0 x ++ more) grown ∙ append_assoc b p more)
+first_followed (b ∷ before) (p ∷ claim_lists) after x more each some_list grown is =
+    ap (λ l. set l 0 x) grown ∙ ap (λ y. y ∷ followed before claim_lists) (is ∙ ap (λ l. get_or l 0 x ++ more) grown ∙ append_assoc b p more)
 
-length-first_longer : (parts : List (List ℕ)) (more : List ℕ) → length (first_longer parts more) ≡ length parts
+length-first_longer : (claim_lists : List (List ℕ)) (more : List ℕ) → length (first_longer claim_lists more) ≡ length claim_lists
 length-first_longer [] more = refl
-length-first_longer (p ∷ parts) more = refl
+length-first_longer (p ∷ claim_lists) more = refl
 
-times-first_longer : (n : ℕ) (parts : List (List ℕ)) (more : List ℕ) → 0 < length parts → times n (concat (first_longer parts more)) ≡ times n more + times n (concat parts)
-times-first_longer n [] more some_part = absurd (omega arith)
-times-first_longer n (p ∷ parts) more some_part = omega (arith, times-append n (p ++ more) (concat parts), times-append n p more, times-append n p (concat parts))
+times-first_longer : (n : ℕ) (claim_lists : List (List ℕ)) (more : List ℕ) → 0 < length claim_lists → times n (concat (first_longer claim_lists more)) ≡ times n more + times n (concat claim_lists)
+times-first_longer n [] more some_claim_list = absurd (omega arith)
+times-first_longer n (p ∷ claim_lists) more some_claim_list = omega (arith, times-append n (p ++ more) (concat claim_lists), times-append n p more, times-append n p (concat claim_lists))
 
-within-first_longer : (limit : ℕ) (parts : List (List ℕ)) (more : List ℕ) → All (λ n. n < limit) (concat parts) → All (λ n. n < limit) more → All (λ n. n < limit) (concat (first_longer parts more))
+within-first_longer : (limit : ℕ) (claim_lists : List (List ℕ)) (more : List ℕ) → All (λ n. n < limit) (concat claim_lists) → All (λ n. n < limit) more → All (λ n. n < limit) (concat (first_longer claim_lists more))
 within-first_longer limit [] more h k = h
-within-first_longer limit (p ∷ parts) more h k =
+within-first_longer limit (p ∷ claim_lists) more h k =
     let P : ℕ → Type 0 = λ n. n < limit in
-    All-append P (p ++ more) (concat parts) (All-append P p more (All-front P p (concat parts) h) k) (All-back P p (concat parts) h)
+    All-append P (p ++ more) (concat claim_lists) (All-append P p more (All-front P p (concat claim_lists) h) k) (All-back P p (concat claim_lists) h)
   where
     All-front : (P : ℕ → Type 0) (xs ys : List ℕ) → All P (xs ++ ys) → All P xs
     All-front P [] ys h = All-nil P
@@ -80,9 +80,9 @@ within-first_longer limit (p ∷ parts) more h k =
     All-back P [] ys h = h
     All-back P (x ∷ xs) ys h = All-back P xs ys (All-tail P x (xs ++ ys) h)
 
-times_in-parts : (n : ℕ) (parts : List (List ℕ)) → times_in n (map part_of parts) ≡ times n (concat parts)
-times_in-parts n [] = refl
-times_in-parts n (p ∷ parts) = omega (arith, sum_by-cons (λ (q : Part). times n q.items) (part_of p) (map part_of parts), times-append n p (concat parts), times_in-parts n parts)
+times_in-claim_lists : (n : ℕ) (claim_lists : List (List ℕ)) → times_in n (map claim_list_of claim_lists) ≡ times n (concat claim_lists)
+times_in-claim_lists n [] = refl
+times_in-claim_lists n (p ∷ claim_lists) = omega (arith, sum_by-cons (λ (q : ClaimList). times n q.items) (claim_list_of p) (map claim_list_of claim_lists), times-append n p (concat claim_lists), times_in-claim_lists n claim_lists)
 
 module _ {H : Type 0} (done : H → List ℕ) where
   -- what the hands did, by the hands
@@ -118,7 +118,7 @@ module _ {H : Type 0} (done : H → List ℕ) where
       let others = map (λ (l : List ℕ). []) (map f members) in
       let range = range_with_len 0 items in
       record {
-        parts = range ∷ others;
+        claim_lists = range ∷ others;
         each = ap suc (length-map (map f members) (λ (l : List ℕ). []));
         grown = ap (λ (x : List ℕ). x ∷ map f members) did ∙ ap (λ (l : List (List ℕ)). (done m.hand ++ range) ∷ l) (sym (followed_none (map f members)));
         once = subst (IsPermutation range) (sym (ap (λ (l : List ℕ). range ++ l) (concat_none (map f members)) ∙ append-nil range)) (IsPermutation-refl range);
@@ -129,7 +129,7 @@ module _ {H : Type 0} (done : H → List ℕ) where
   none_sweeps members items none =
       let before = map (λ (m : Member H). done m.hand) members in
       record {
-        parts = map (λ (l : List ℕ). []) before;
+        claim_lists = map (λ (l : List ℕ). []) before;
         each = length-map before (λ (l : List ℕ). []);
         grown = sym (followed_none before);
         once = subst (IsPermutation (range_with_len 0 items)) (ap (range_with_len 0) none ∙ sym (concat_none before)) (IsPermutation-refl (range_with_len 0 items));
@@ -137,41 +137,41 @@ module _ {H : Type 0} (done : H → List ℕ) where
 
   -- the members' work, and then the caller's
   pub all_sweep : (table : TableId) (items made : ℕ) (before seated worked left : List (Member H)) (first d : Member H) (was now : SeatOf) → 0 < length before → hands seated ≡ hands before → length worked ≡ length seated
-      → HaveWorked done table items seated worked → hands left ≡ hands worked → IsCaller table made (no_items ∷ parts_of worked) was → Gained items was now (done (get_or left 0 d).hand) (done first.hand)
-      → ((n : ℕ) → n < items → times_in n now.me.0.parts ≡ 1) → Sweeps (map (λ (m : Member H). done m.hand) before) (map (λ (m : Member H). done m.hand) (set left 0 first)) items
+      → HaveWorked done table items seated worked → hands left ≡ hands worked → IsCaller table made (no_items ∷ claim_lists_of worked) was → Gained items was now (done (get_or left 0 d).hand) (done first.hand)
+      → ((n : ℕ) → n < items → times_in n now.me.0.claim_lists ≡ 1) → Sweeps (map (λ (m : Member H). done m.hand) before) (map (λ (m : Member H). done m.hand) (set left 0 first)) items
   all_sweep table items made before seated worked left first d was now some_member same_seated long work same_left caller gained once =
       let f : Member H → List ℕ = λ m. done m.hand in
-      let s = shares done table items seated worked long work in
-      let q = gained.part in
+      let s = batches done table items seated worked long work in
+      let q = gained.claim_list in
       let lengths : length before ≡ length seated = sym (length-map before (λ (m : Member H). m.hand)) ∙ ap length (sym same_seated) ∙ length-map seated (λ (m : Member H). m.hand) in
       let lengths_left : length left ≡ length worked = sym (length-map left (λ (m : Member H). m.hand)) ∙ ap length same_left ∙ length-map worked (λ (m : Member H). m.hand) in
-      let counted : length s.parts ≡ length (map f before) = s.each ∙ sym lengths ∙ sym (length-map before f) in
-      let some_part : 0 < length s.parts = let each = s.each in omega arith in
-      let grown : map f left ≡ followed (map f before) s.parts = same_did left worked same_left ∙ s.grown ∙ ap (λ l. followed l s.parts) (same_did seated before same_seated) in
+      let counted : length s.claim_lists ≡ length (map f before) = s.each ∙ sym lengths ∙ sym (length-map before f) in
+      let some_claim_list : 0 < length s.claim_lists = let each = s.each in omega arith in
+      let grown : map f left ≡ followed (map f before) s.claim_lists = same_did left worked same_left ∙ s.grown ∙ ap (λ l. followed l s.claim_lists) (same_did seated before same_seated) in
       let own : done first.hand ≡ get_or (map f left) 0 (done first.hand) ++ q = gained.done ∙ ap (λ l. l ++ q) (sym (get_or-did left d (done first.hand) (omega arith))) in
-      let claims : now.me.0.parts ≡ part_of q ∷ map part_of s.parts =
-      ap (λ (me : Seated). me.0.parts) gained.claims ∙ ap (λ (me : Seated). longer me.0.parts q) caller.me ∙ ap (λ (ps : List Part). part_of q ∷ ps) s.claims in
+      let claims : now.me.0.claim_lists ≡ claim_list_of q ∷ map claim_list_of s.claim_lists =
+      ap (λ (me : Seated). me.0.claim_lists) gained.claims ∙ ap (λ (me : Seated). longer me.0.claim_lists q) caller.me ∙ ap (λ (ps : List ClaimList). claim_list_of q ∷ ps) s.claims in
       record {
-        parts = first_longer s.parts q;
-        each = length-first_longer s.parts q ∙ counted;
-        grown = map-set f left 0 first ∙ first_followed (map f before) s.parts (map f left) (done first.hand) q counted (omega (arith, length-map before f)) grown own;
-        once = permutation_of_range items (concat (first_longer s.parts q)) (within-first_longer items s.parts q s.within gained.within)
+        claim_lists = first_longer s.claim_lists q;
+        each = length-first_longer s.claim_lists q ∙ counted;
+        grown = map-set f left 0 first ∙ first_followed (map f before) s.claim_lists (map f left) (done first.hand) q counted (omega (arith, length-map before f)) grown own;
+        once = permutation_of_range items (concat (first_longer s.claim_lists q)) (within-first_longer items s.claim_lists q s.within gained.within)
             (λ n below.
-            let mine : times_in n now.me.0.parts ≡ times_in n (part_of q ∷ map part_of s.parts) = ap (times_in n) claims in
-            omega (arith, once n below, sum_by-cons (λ (p : Part). times n p.items) (part_of q) (map part_of s.parts), times_in-parts n s.parts, times-first_longer n s.parts q some_part));
+            let mine : times_in n now.me.0.claim_lists ≡ times_in n (claim_list_of q ∷ map claim_list_of s.claim_lists) = ap (times_in n) claims in
+            omega (arith, once n below, sum_by-cons (λ (p : ClaimList). times n p.items) (claim_list_of q) (map claim_list_of s.claim_lists), times_in-claim_lists n s.claim_lists, times-first_longer n s.claim_lists q some_claim_list));
       }
 
   -- the caller has all parts
-  pub caller_has_all : (table : TableId) (items made : ℕ) (seated worked : List (Member H)) (was : SeatOf) → length worked ≡ length seated → HaveWorked done table items seated worked → IsCaller table made (no_items ∷ parts_of worked) was
+  pub caller_has_all : (table : TableId) (items made : ℕ) (seated worked : List (Member H)) (was : SeatOf) → length worked ≡ length seated → HaveWorked done table items seated worked → IsCaller table made (no_items ∷ claim_lists_of worked) was
       → made ≡ 1 + length seated → HasAll table was
   caller_has_all table items made seated worked was long work caller is =
-      let s = shares done table items seated worked long work in
-      let parts : length was.me.0.parts ≡ 1 + length seated = ap (λ (me : Seated). length me.0.parts) caller.me ∙ ap (λ (ps : List Part). suc (length ps)) s.claims ∙ ap suc (length-map s.parts part_of ∙ s.each) ∙ omega arith in
+      let s = batches done table items seated worked long work in
+      let claim_lists : length was.me.0.claim_lists ≡ 1 + length seated = ap (λ (me : Seated). length me.0.claim_lists) caller.me ∙ ap (λ (ps : List ClaimList). suc (length ps)) s.claims ∙ ap suc (length-map s.claim_lists claim_list_of ∙ s.each) ∙ omega arith in
       record {
-        at = caller.at;
+        worker = caller.worker;
         first = caller.first;
         some = omega arith;
-        alone = ap (λ (me : Seated). me.0.made) caller.me ∙ is ∙ sym parts;
+        alone = ap (λ (me : Seated). me.0.made) caller.me ∙ is ∙ sym claim_lists;
       }
 
 -- what holds of the hands, where the members keep them

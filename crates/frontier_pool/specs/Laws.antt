@@ -4,5 +4,5 @@ use Rattle.std.specs.List.{concat, range_with_len}
 use Rattle.frontier_pool.specs.Sweeps.{Sweeps}
 
 -- what hands that had done nothing did in a sweep is all numbers below items, each once
-abbrev pub NewHandsShare : Type 0
-NewHandsShare = (before after : List (List ℕ)) (items : ℕ) → Sweeps before after items → All (λ l. l ≡ []) before → IsPermutation (range_with_len 0 items) (concat after)
+abbrev pub NewHandsBatch : Type 0
+NewHandsBatch = (before after : List (List ℕ)) (items : ℕ) → Sweeps before after items → All (λ l. l ≡ []) before → IsPermutation (range_with_len 0 items) (concat after)

@@ -5,17 +5,17 @@ use Rattle.frontier_pool.specs.declared.member.Member.{Member}
 
 -- each list followed by its part
 abbrev pub followed : List (List ℕ) → List (List ℕ) → List (List ℕ)
-followed [] parts = []
+followed [] claim_lists = []
 followed (was ∷ more) [] = []
-followed (was ∷ more) (part ∷ parts) = (was ++ part) ∷ followed more parts
+followed (was ∷ more) (claim_list ∷ claim_lists) = (was ++ claim_list) ∷ followed more claim_lists
 
 -- each list after is the one before followed by a part, and the parts together are the numbers below items, each once
 pub record Sweeps (before after : List (List ℕ)) (items : ℕ) : Type 0 where
-  pub parts : List (List ℕ)
-  pub each : length parts ≡ length before
-  pub grown : after ≡ followed before parts
-  pub once : IsPermutation (range_with_len 0 items) (concat parts)
+  pub claim_lists : List (List ℕ)
+  pub each : length claim_lists ≡ length before
+  pub grown : after ≡ followed before claim_lists
+  pub once : IsPermutation (range_with_len 0 items) (concat claim_lists)
 
 -- the member has no room: it takes part in no sweep
 abbrev pub IsIdle : {H : Type 0} → Member H → Type 0
-IsIdle m = m.room ≡ None
+IsIdle m = m.local ≡ None

@@ -3,13 +3,13 @@ ghost use Rattle.std.specs.Prelude.{◌≡◌, ℕ, ◌+◌, ◌<◌, [], ◌∷
 ghost use Rattle.frontier_pool.specs.Sweeps.{IsIdle};
 ghost use Rattle.frontier_pool.specs.inside.Rules.{no_items, times_in};
 ghost use Rattle.frontier_pool.specs.inside.Gains.{Gained};
-ghost use Rattle.frontier_pool.specs.inside.Members.{IsCaller, HasDealt, HasAll, IsReady, IsSeated, parts_of, hands};
+ghost use Rattle.frontier_pool.specs.inside.Members.{IsCaller, HasAddedWorkers, HasAll, IsReady, IsSeated, claim_lists_of, hands};
 
 use crate::gate::Gate;
-use crate::member::{Member, Room};
-use crate::round::Round;
-use crate::rule::{Once, SeatCollecting, SeatDealing, SeatView, Settling};
-use crate::toil::Toil;
+use crate::job::Toil;
+use crate::member::{Local, Member};
+use crate::rule::{FinalClaim, Once, SeatJoin, SeatSplit, SeatView};
+use crate::sweep_context::SweepContext;
 use atomic_table::{Seat, Shared, Table};
 use crossbeam_deque::{Stealer, Worker};
 use std::alloc::{AllocError, Global};
@@ -27,13 +27,13 @@ pub(crate) fn open(
     Table::of_words(alloc, zeros.as_slice(), &items)
 }
 
-/// Gives each member a seat and a deque with room for its share, and makes a stealer for each deque.
-pub(crate) fn fill_rooms<H>(
+/// Gives each member a seat and a deque with room for its batch, and makes a stealer for each deque.
+pub(crate) fn equip<H>(
     alloc: Global,
     claimed: &Shared<(), SeatView, u32, Once>,
     caller: &mut Seat<(), SeatView>,
     members: &mut [Member<H>],
-    share: usize,
+    batch: usize,
 ) -> Result<Vec<Stealer<u32>>, AllocError>
     requires caller { IsCaller claimed.now.table_id 1 (no_items ∷ []) caller.old }
     requires some { 0 < claimed.now.table_id.words }
@@ -43,35 +43,35 @@ pub(crate) fn fill_rooms<H>(
 {
     let mut stealers = Vec::with_capacity(alloc, members.len())?;
     for member in members.iter_mut() {
-        stealers.push(fill_room(alloc, claimed, caller, member, share)?)?;
+        stealers.push(equip_member(alloc, claimed, caller, member, batch)?)?;
     }
     Ok(stealers)
 }
 
-/// Gives a member a seat and a deque with room for its share, and makes a stealer for the deque.
-fn fill_room<H>(
+/// Gives a member a seat and a deque with room for its batch, and makes a stealer for the deque.
+fn equip_member<H>(
     alloc: Global,
     claimed: &Shared<(), SeatView, u32, Once>,
     caller: &mut Seat<(), SeatView>,
     member: &mut Member<H>,
-    share: usize,
+    batch: usize,
 ) -> Result<Stealer<u32>, AllocError>
-    requires at { caller.old.table_id ≡ claimed.now.table_id }
+    requires worker { caller.old.table_id ≡ claimed.now.table_id }
     requires first { caller.old.id ≡ 0 }
     requires some { 0 < claimed.now.table_id.words }
-    ensures dealt { IfOk result (λ s. HasDealt caller.old caller.new) }
+    ensures split_off { IfOk result (λ s. HasAddedWorkers caller.old caller.new) }
     ensures ready { IfOk result (λ s. IsReady claimed.now.table_id member.new) }
     ensures hand { member.new.hand ≡ member.old.hand }
 {
-    let own = Worker::new_fifo(alloc, share)?;
+    let own = Worker::new_fifo(alloc, batch)?;
     let stealer = own.stealer()?;
-    let seat = claimed.split_seat::<SeatDealing>(caller);
-    member.settle(Room { seat, own });
+    let seat = claimed.split_seat::<SeatSplit>(caller);
+    member.set_local(Local { seat, own });
     Ok(stealer)
 }
 
 /// Takes each member's room back: its deque is dropped, and its seat joined with the caller's.
-pub(crate) fn empty_rooms<H>(
+pub(crate) fn join_seats<H>(
     claimed: &Shared<(), SeatView, u32, Once>,
     caller: &mut Seat<(), SeatView>,
     members: &mut [Member<H>],
@@ -79,20 +79,20 @@ pub(crate) fn empty_rooms<H>(
     requires caller { IsCaller claimed.now.table_id caller.old.me.0.made (no_items ∷ []) caller.old }
     requires some { 0 < claimed.now.table_id.words }
     requires seated { All (IsSeated claimed.now.table_id) members.old }
-    ensures caller { IsCaller claimed.now.table_id caller.old.me.0.made (no_items ∷ parts_of members.old) caller.new }
+    ensures caller { IsCaller claimed.now.table_id caller.old.me.0.made (no_items ∷ claim_lists_of members.old) caller.new }
     ensures hands { hands members.new ≡ hands members.old }
     ensures idle { All IsIdle members.new }
 {
     for member in members.iter_mut() {
-        if let Some(Room { seat, own }) = member.leave() {
+        if let Some(Local { seat, own }) = member.leave() {
             drop(own);
-            claimed.join_seat::<SeatCollecting>(caller, seat);
+            claimed.join_seat::<SeatJoin>(caller, seat);
         }
     }
 }
 
 /// Empties each room.
-pub(crate) fn forget_rooms<H>(members: &mut [Member<H>])
+pub(crate) fn forget_locals<H>(members: &mut [Member<H>])
     ensures hands { hands members.new ≡ hands members.old }
     ensures idle { All IsIdle members.new }
 {
@@ -101,14 +101,14 @@ pub(crate) fn forget_rooms<H>(members: &mut [Member<H>])
     }
 }
 
-impl<T: Toil, G: Gate> Round<'_, T, G> {
+impl<T: Toil, G: Gate> SweepContext<'_, T, G> {
     /// The caller claims every item, once all seats are joined, and does what nobody has done.
     pub(crate) fn finish(&self, caller: &mut Seat<(), SeatView>, hand: &mut T::Hand)
         requires caller { HasAll self.now.claimed.now.table_id caller.old }
-        requires sound { T.sound self.now.toil.now hand.old }
+        requires sound { T.sound self.now.job.now hand.old }
         ensures gained { Gained self.now.items caller.old caller.new (T.done hand.old) (T.done hand.new) }
-        ensures once { (n : ℕ) → n < self.now.items → times_in n caller.new.me.0.parts ≡ 1 }
-        ensures sound { T.sound self.now.toil.now hand.new }
+        ensures once { (n : ℕ) → n < self.now.items → times_in n caller.new.me.0.claim_lists ≡ 1 }
+        ensures sound { T.sound self.now.job.now hand.new }
     {
         for item in 0..self.items {
             self.finish_one(item, caller, hand);
@@ -118,16 +118,18 @@ impl<T: Toil, G: Gate> Round<'_, T, G> {
     fn finish_one(&self, item: u32, caller: &mut Seat<(), SeatView>, hand: &mut T::Hand)
         requires item { item < self.now.items }
         requires caller { HasAll self.now.claimed.now.table_id caller.old }
-        requires sound { T.sound self.now.toil.now hand.old }
+        requires sound { T.sound self.now.job.now hand.old }
         ensures gained { Gained self.now.items caller.old caller.new (T.done hand.old) (T.done hand.new) }
-        ensures once { times_in item caller.new.me.0.parts ≡ 1 }
-        ensures others { (n : ℕ) → n < item → times_in n caller.new.me.0.parts ≡ times_in n caller.old.me.0.parts }
-        ensures sound { T.sound self.now.toil.now hand.new }
+        ensures once { times_in item caller.new.me.0.claim_lists ≡ 1 }
+        ensures others { (n : ℕ) → n < item → times_in n caller.new.me.0.claim_lists ≡ times_in n caller.old.me.0.claim_lists }
+        ensures sound { T.sound self.now.job.now hand.new }
     {
-        let found = self.claimed.fetch_max::<Settling>(caller, item as usize, 1);
+        let found = self
+            .claimed
+            .fetch_max::<FinalClaim>(caller, item as usize, 1);
         if found == 0 {
             self.gate.pass(0, item);
-            self.toil.one(hand, item);
+            self.job.one(hand, item);
         }
     }
 }

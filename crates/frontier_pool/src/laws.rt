@@ -1,7 +1,7 @@
 //! What a sweep tells. The call does nothing, and ensures its law.
-ghost use Rattle.frontier_pool.specs.Laws.{NewHandsShare};
+ghost use Rattle.frontier_pool.specs.Laws.{NewHandsBatch};
 
 /// What hands that had done nothing did in a sweep is all its items, each once.
-pub fn new_hands_share()
-    ensures { NewHandsShare }
+pub fn new_hands_batch()
+    ensures { NewHandsBatch }
 {}

@@ -7,16 +7,16 @@
 
 mod caller;
 mod gate;
+mod job;
 pub mod laws;
 mod member;
 mod pool;
-mod round;
 mod rule;
 mod serial;
-mod toil;
+mod sweep_context;
 
 pub use gate::{Gate, Open};
-pub use member::{Member, Room};
+pub use job::Toil;
+pub use member::{Local, Member};
 pub use pool::{hands_for, sweep};
 pub use serial::one_by_one;
-pub use toil::Toil;

@@ -8,7 +8,7 @@ use crossbeam_deque::Worker;
 
 /// What a member has during a sweep: the seat by which it claims, and its own deque. Sweeps alone make one.
 #[derive(Drop)]
-pub struct Room {
+pub struct Local {
     pub(crate) seat: Seat<(), SeatView>,
     pub(crate) own: Worker<u32>,
 }
@@ -18,7 +18,7 @@ pub struct Room {
 pub struct Member<H> {
     pub hand: H,
     /// None between sweeps.
-    pub room: Option<Room>,
+    pub local: Option<Local>,
 }
 
 impl<H> Member<H> {
@@ -27,32 +27,32 @@ impl<H> Member<H> {
         ensures hand { result.hand ≡ hand }
         ensures idle { IsIdle result }
     {
-        Member { hand, room: None }
+        Member { hand, local: None }
     }
 
     /// Gives the hand back.
     pub fn into_hand(self) -> H
         ensures { result ≡ self.hand }
     {
-        let Member { hand, room } = self;
-        drop(room);
+        let Member { hand, local } = self;
+        drop(local);
         hand
     }
 
     /// Fills the room.
-    pub(crate) fn settle(&mut self, room: Room)
+    pub(crate) fn set_local(&mut self, local: Local)
         ensures hand { self.new.hand ≡ self.old.hand }
-        ensures room { self.new.room ≡ Some room }
+        ensures local { self.new.local ≡ Some local }
     {
-        self.room = Some(room);
+        self.local = Some(local);
     }
 
     /// Empties the room.
-    pub(crate) fn leave(&mut self) -> Option<Room>
-        ensures room { result ≡ self.old.room }
+    pub(crate) fn leave(&mut self) -> Option<Local>
+        ensures local { result ≡ self.old.local }
         ensures hand { self.new.hand ≡ self.old.hand }
         ensures idle { IsIdle self.new }
     {
-        self.room.take()
+        self.local.take()
     }
 }

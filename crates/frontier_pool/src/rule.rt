@@ -3,7 +3,7 @@ use atomic_table::{Join, Play, Split, TableRule};
 use std::collections::LinkedList;
 
 /// The items that one seat claimed, in order. No value of it is made.
-pub struct Part {
+pub struct ClaimList {
     pub items: LinkedList<u32>,
 }
 
@@ -12,7 +12,7 @@ pub struct SeatView {
     /// Of the caller how many parts were made, its own among them.
     pub made: u64,
     /// Of a member its part, and of the caller its own and then those that were collected.
-    pub parts: LinkedList<Part>,
+    pub claim_lists: LinkedList<ClaimList>,
 }
 
 /// Each item is claimed at most once. The table is told how many items there are.
@@ -26,9 +26,9 @@ impl TableRule<(), SeatView, u32> for Once {
     ghost first = { λ items. first_view };
 }
 
-pub struct SeatDealing;
+pub struct SeatSplit;
 
-impl Split<SeatView> for SeatDealing {
+impl Split<SeatView> for SeatSplit {
     ghost use Rattle.frontier_pool.specs.inside.Rules.{one_more, fresh};
 
     ghost left = { one_more };
@@ -36,9 +36,9 @@ impl Split<SeatView> for SeatDealing {
     ghost right = { λ caller. fresh };
 }
 
-pub struct SeatCollecting;
+pub struct SeatJoin;
 
-impl Join<SeatView> for SeatCollecting {
+impl Join<SeatView> for SeatJoin {
     ghost use Rattle.frontier_pool.specs.inside.Rules.{collected, nobody};
 
     ghost both = { collected };
@@ -54,10 +54,10 @@ impl Play<(), SeatView> for Claiming {
     ghost then = { Claims };
 }
 
-pub struct Settling;
+pub struct FinalClaim;
 
-impl Play<(), SeatView> for Settling {
-    ghost use Rattle.frontier_pool.specs.inside.Rules.{Settles};
+impl Play<(), SeatView> for FinalClaim {
+    ghost use Rattle.frontier_pool.specs.inside.Rules.{MakesFinalClaim};
 
-    ghost then = { Settles };
+    ghost then = { MakesFinalClaim };
 }

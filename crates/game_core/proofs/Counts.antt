@@ -62,9 +62,9 @@ sum_map f h (x ∷ xs) =
     let rest = sum_map f h xs in
     omega arith
 
--- a sum over the places of a list
-pub sum_places : {X : Type 0} (f : X → ℕ) (d : X) (xs : List X) → sum_by (λ i. f (get_or xs i d)) (range_with_len 0 (length xs)) ≡ sum_by f xs
-sum_places f d xs =
+-- a sum over the positions of a list
+pub sum_positions : {X : Type 0} (f : X → ℕ) (d : X) (xs : List X) → sum_by (λ i. f (get_or xs i d)) (range_with_len 0 (length xs)) ≡ sum_by f xs
+sum_positions f d xs =
     let all = fill_by_all (λ i. get_or xs i d) xs (length xs) d refl (λ k lt. refl) in
     sym (sum_map f (λ i. get_or xs i d) (range_with_len 0 (length xs))) ∙ ap (sum_by f) (sym all)
 

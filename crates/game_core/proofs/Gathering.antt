@@ -28,7 +28,7 @@ gathered_none g = record {
   one_each = length-replicate g.cells None;
   queue = record {
     has_row = λ s q. let lt = q.1 in absurd (omega arith);
-    has_place = λ s row e. absurd (let n = no_row g.cells s in cc);
+    has_position = λ s row e. absurd (let n = no_row g.cells s in cc);
     once = λ i j d l m. absurd (omega arith);
     size = sym (count_none is_some (replicate g.cells None) (All-replicate (λ o. is_some o ≡ false) g.cells None refl));
     rising = λ i j d l m. absurd (omega arith);
@@ -54,18 +54,18 @@ module _ (g : Game) (c : ℕ) (lt : c < g.cells) (p : Progress) (h : IsGathered 
   pub gathered_goal : mark_of g c ≡ Goal → IsGathered g (c + 1) (settled c goal_row p)
   gathered_goal m =
       let n = h.one_each in
-      let place : c < length p.rows = omega arith in
+      let position : c < length p.rows = omega arith in
       record {
         left = h.left;
         one_each = length-set p.rows c (Some goal_row) ∙ h.one_each;
-        queue = settle_queue 0 0 c goal_row p.rows p.queue h.queue place not_yet refl (omega arith);
+        queue = settle_queue 0 0 c goal_row p.rows p.queue h.queue position not_yet refl (omega arith);
         goals = λ s ls ms.
-            elim (row_after_set p.rows c (Some goal_row) s place) [
+            elim (row_after_set p.rows c (Some goal_row) s position) [
               | inl here ↦ here.1
               | inr there ↦ let ne = there.0 in there.1 ∙ h.goals s (omega arith) ms
             ];
         only = λ s row e.
-            elim (row_after_set p.rows c (Some goal_row) s place) [
+            elim (row_after_set p.rows c (Some goal_row) s position) [
               | inl here ↦ (let f = here.0 in omega arith, ap (mark_of g) here.0 ∙ m, (let a = here.1 in cc))
               | inr there ↦ let o = h.only s row (sym there.1 ∙ e) in (let l = o.0 in omega arith, o.1, o.2)
             ];
@@ -121,4 +121,4 @@ consistent_all g a p head long h = record {
   where
     cut_all : (pair : ℕ) {m s : ℕ} → HasRowBelow p.rows m s → taken head p.queue pair s ≡ true
     cut_all pair {m} {s} r =
-        ap (list_any (◌==◌ s)) (take_all head p.queue long) ∙ list_any-from_Contains nat_eq_equiv s p.queue (h.search.queue.has_place s r.row r.is)
+        ap (list_any (◌==◌ s)) (take_all head p.queue long) ∙ list_any-from_Contains nat_eq_equiv s p.queue (h.search.queue.has_position s r.row r.is)

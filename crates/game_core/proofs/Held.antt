@@ -9,7 +9,7 @@ use Rattle.std.proofs.lemmas.List.FromFn.{length-range_with_len, get_or-range_wi
 use Rattle.game_core.specs.declared.game.Row.{Row}
 use Rattle.game_core.specs.Game.{Game, IsGame, mark_of, pair_of, successors_of}
 use Rattle.game_core.specs.Solution.{row_of, HasRow}
-use Rattle.game_core.specs.Fallen.{is_obstacle, LeadsToRows, IsSettled, AreSettled}
+use Rattle.game_core.specs.Fallen.{is_obstacle, LeadsToRows, IsStable, AreStable}
 use Rattle.game_core.specs.inside.Falling.{Progress, is_live, is_safe, IsFirstSafe, AreFirstSafe, IsFalling}
 use Rattle.game_core.proofs.Counts.{count_none, none_from_count, below_end}
 use Rattle.game_core.proofs.Edges.{pair_below}
@@ -51,10 +51,10 @@ module _ (g : Game) (a : IsGame g) (head : ℕ) (p : Progress) (h : IsFalling g 
       by_row : (s : ℕ) → s < g.cells → Contains (successors_of g c u) s → (o : Option Row) → row_of rows s ≡ o → IsFirstSafe g p.safe s o → HasRow rows s
       by_row s ls to (Some row) e is = (row, e)
       by_row s ls to None e none =
-          let place = no_safe_pair s ls none in
-          let same : get_or p.queue place.0 0 ≡ s = get_or_default p.queue place.0 0 s place.1 ∙ place.2 in
-          let lt' = place.1 in
-          absurd (h.taken place.0 (pair_of g c u) (omega arith) (pair_below g c u lt lu) safe (subst (Contains (successors_of g c u)) (sym same) to))
+          let position = no_safe_pair s ls none in
+          let same : get_or p.queue position.0 0 ≡ s = get_or_default p.queue position.0 0 s position.1 ∙ position.2 in
+          let lt' = position.1 in
+          absurd (h.taken position.0 (pair_of g c u) (omega arith) (pair_below g c u lt lu) safe (subst (Contains (successors_of g c u)) (sym same) to))
 
   enabled_if : (xs : List ℕ) → nat_lt 0 (length xs) ≡ true → xs ≢ []
   enabled_if [] e f = absurd (let z : false ≡ true = e in cc)
@@ -70,7 +70,7 @@ module _ (g : Game) (a : IsGame g) (head : ℕ) (p : Progress) (h : IsFalling g 
       turn true e = absurd (cc)
       turn false e = refl
 
-  held : (c : ℕ) → c < g.cells → (o : Option Row) → IsFirstSafe g p.safe c o → IsSettled g rows c o
+  held : (c : ℕ) → c < g.cells → (o : Option Row) → IsFirstSafe g p.safe c o → IsStable g rows c o
   held c lt None none = h.fallen.falls c (no_safe_pair c lt none)
   held c lt (Some row) is =
       let alive = live c row.input is.1 (h.safe.live (pair_of g c row.input) (pair_below g c row.input lt is.1) is.2) in
@@ -99,5 +99,5 @@ module _ (g : Game) (a : IsGame g) (head : ℕ) (p : Progress) (h : IsFalling g 
           full [] ne = absurd (ne refl)
           full (x ∷ xs) ne = (Decides-ltb 0 (length (x ∷ xs))).1 (omega arith)
 
-  pub settled : AreSettled g rows
+  pub settled : AreStable g rows
   settled = record { one_each = first.one_each; each = λ c lt. held c lt (row_of rows c) (first.each c lt) }

@@ -14,7 +14,7 @@ use Rattle.game_core.specs.Game.{Game, IsGame, IsEnabled, mark_of, pair_of, succ
 use Rattle.game_core.specs.Strategy.{Tree, Leaf, Apply, Trees, NoTrees, AndTree}
 use Rattle.game_core.specs.Solution.{row_of, HasRow}
 use Rattle.game_core.specs.Keep.{StandsOn, StandEach, HasKeepTree, IsKept, IsKeepRow, IsKeepSolution}
-use Rattle.game_core.specs.Fallen.{is_obstacle, is_useless, is_helpless, has_fallen, IsHeldBy, IsSettled, AreSettled}
+use Rattle.game_core.specs.Fallen.{is_obstacle, is_useless, is_helpless, has_fallen, IsHeldBy, IsStable, AreStable}
 use Rattle.game_core.proofs.Rows.{successors_below}
 
 -- subtrees for cells, one by one
@@ -105,9 +105,9 @@ no_keep_tree g (suc d) c e (Apply u next, s) =
     ]
 
 -- settled rows are the keep solution
-module _ (g : Game) (rows : List (Option Row)) (a : IsGame g) (h : AreSettled g rows) where
+module _ (g : Game) (rows : List (Option Row)) (a : IsGame g) (h : AreStable g rows) where
   held : (c : ℕ) (row : Row) → c < g.cells → row_of rows c ≡ Some row → IsHeldBy g rows c row
-  held c row lt e = subst (IsSettled g rows c) e (h.each c lt)
+  held c row lt e = subst (IsStable g rows c) e (h.each c lt)
 
   rows_are_closed : IsClosed g (HasRow rows)
   rows_are_closed c lt (row, e) = let is = held c row lt e in (is.clear, (row.input, is.leads.0, is.leads.1))
@@ -118,11 +118,11 @@ module _ (g : Game) (rows : List (Option Row)) (a : IsGame g) (h : AreSettled g 
   has_row : (c : ℕ) → c < g.cells → IsKept g c → HasRow rows c
   has_row c lt kept = by_row (row_of rows c) refl (h.each c lt)
     where
-      by_row : (o : Option Row) → row_of rows c ≡ o → IsSettled g rows c o → HasRow rows c
+      by_row : (o : Option Row) → row_of rows c ≡ o → IsStable g rows c o → HasRow rows c
       by_row None e falls = absurd (no_keep_tree g falls.0 c falls.1 (kept (suc falls.0)))
       by_row (Some row) e is = (row, e)
 
-  keep_row : (c : ℕ) → c < g.cells → (o : Option Row) → row_of rows c ≡ o → IsSettled g rows c o → IsKeepRow g c o
+  keep_row : (c : ℕ) → c < g.cells → (o : Option Row) → row_of rows c ≡ o → IsStable g rows c o → IsKeepRow g c o
   keep_row c lt None e falls = λ kept. no_keep_tree g falls.0 c falls.1 (kept (suc falls.0))
   keep_row c lt (Some row) e is = record {
     kept = row_is_kept c lt (row, e);
@@ -131,8 +131,8 @@ module _ (g : Game) (rows : List (Option Row)) (a : IsGame g) (h : AreSettled g 
     least = λ v leads. is.least v (leads.0, λ i d li. has_row (get_or (successors_of g c v) i d) (successors_below g a (pair_of g c v) i d li) (leads.1 i d li));
   }
 
-  pub settled_rows_are_the_keep_solution : IsKeepSolution g rows
-  settled_rows_are_the_keep_solution = record { one_each = h.one_each; each = λ c lt. keep_row c lt (row_of rows c) refl (h.each c lt) }
+  pub stable_rows_are_the_keep_solution : IsKeepSolution g rows
+  stable_rows_are_the_keep_solution = record { one_each = h.one_each; each = λ c lt. keep_row c lt (row_of rows c) refl (h.each c lt) }
 
 same_keep_row : (g : Game) (c : ℕ) (a b : Option Row) → IsKeepRow g c a → IsKeepRow g c b → a ≡ b
 same_keep_row g c None None a b = refl

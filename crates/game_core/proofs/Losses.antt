@@ -88,8 +88,8 @@ module _ (g : Game) (head : ℕ) (p : Progress) (h : IsFalling g g.cells head p)
       (before.0, left_there d ne ∙ before.1, ne)
 
   -- so there is room for the cell
-  pub room : length p.queue < length p.left
-  room =
+  pub capacity : length p.queue < length p.left
+  capacity =
       let within : All (λ d. d < g.cells) (cell ∷ p.queue) = All-cons (λ d. d < g.cells) cell p.queue parts.cell (λ i d li. (elsewhere (get_or p.queue i d) (Contains-get_or p.queue i d li)).0) in
       let apart : AllPairs (λ a b. a ≢ b) (cell ∷ p.queue) = AllPairs-cons (λ a b. a ≢ b) cell p.queue (λ i d li e. (elsewhere (get_or p.queue i d) (Contains-get_or p.queue i d li)).2 (sym e)) h.fallen.once in
       let few = length_of_distinct_below g.cells (cell ∷ p.queue) apart within in
@@ -237,9 +237,9 @@ module _ (g : Game) (head c : ℕ) (sources : List ℕ) (are : AreSources g c so
           | inr ne ↦ h.falling.taken i pair (omega arith) lp s leads
           | inl f ↦
               let to : Contains (successors_at g pair) c = subst (Contains (successors_at g pair)) (ap (λ i. get_or p.queue i 0) f ∙ h.is) leads in
-              let place = (are.exactly pair).1 (lp, to) in
-              let off = h.done place.0 (let l = place.1 in omega arith) in
-              let same : get_or sources place.0 0 ≡ pair = get_or_default sources place.0 0 pair place.1 ∙ place.2 in
+              let position = (are.exactly pair).1 (lp, to) in
+              let off = h.done position.0 (let l = position.1 in omega arith) in
+              let same : get_or sources position.0 0 ≡ pair = get_or_default sources position.0 0 pair position.1 ∙ position.2 in
               absurd (let t = ap (is_safe p.safe) same in cc)
         ];
   }

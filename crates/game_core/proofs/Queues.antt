@@ -43,7 +43,7 @@ module _ (head top c : ℕ) (row : Row) (rows : List (Option Row)) (queue : List
   pub settle_queue : IsQueue head top (set rows c (Some row)) (queue ++ c ∷ [])
   settle_queue = record {
     has_row = λ s h'. row_of_queued s (Contains-push_cases queue c s h');
-    has_place = λ s r e. place_of s r e (row_after_set rows c (Some row) s lt);
+    has_position = λ s r e. position_of s r e (row_after_set rows c (Some row) s lt);
     once = all_pairs_push (λ a b. a ≢ b) queue c h.once (λ k d lk e. let has = h.has_row (get_or queue k d) (Contains-get_or queue k d lk) in let n : row_of rows (get_or queue k d) ≡ None = ap (row_of rows) e ∙ none in let b = has.1 in cc);
     size = let a = length_push queue c in let b = h.size in let n = count_first rows c row lt none in omega arith;
     rising = λ i j d le lj. let n = length_push queue c in
@@ -76,9 +76,9 @@ module _ (head top c : ℕ) (row : Row) (rows : List (Option Row)) (queue : List
             | inr there ↦ absurd (there.0 (sym e))
           ]
 
-      place_of : (s : ℕ) (r : Row) → row_of (set rows c (Some row)) s ≡ Some r → ((s ≡ c) × (row_of (set rows c (Some row)) s ≡ Some row)) ⊎ ((s ≢ c) × (row_of (set rows c (Some row)) s ≡ row_of rows s)) → Contains (queue ++ c ∷ []) s
-      place_of s r e (inl here) = subst (Contains (queue ++ c ∷ [])) (sym here.0) (Contains-push queue c)
-      place_of s r e (inr there) = Contains-append_left queue (c ∷ []) s (h.has_place s r (sym there.1 ∙ e))
+      position_of : (s : ℕ) (r : Row) → row_of (set rows c (Some row)) s ≡ Some r → ((s ≡ c) × (row_of (set rows c (Some row)) s ≡ Some row)) ⊎ ((s ≢ c) × (row_of (set rows c (Some row)) s ≡ row_of rows s)) → Contains (queue ++ c ∷ []) s
+      position_of s r e (inl here) = subst (Contains (queue ++ c ∷ [])) (sym here.0) (Contains-push queue c)
+      position_of s r e (inr there) = Contains-append_left queue (c ∷ []) s (h.has_position s r (sym there.1 ∙ e))
 
       high : (s : ℕ) (r : Row) → row_of (set rows c (Some row)) s ≡ Some r → ((s ≡ c) × (row_of (set rows c (Some row)) s ≡ Some row)) ⊎ ((s ≢ c) × (row_of (set rows c (Some row)) s ≡ row_of rows s)) → r.rank ≤ top
       high s r e (inl here) = let same : row ≡ r = (let a = here.1 in cc) in let k : row.rank ≡ r.rank = ap (λ x. x.rank) same in omega arith
@@ -100,10 +100,10 @@ module _ (head top c : ℕ) (old row : Row) (rows : List (Option Row)) (queue : 
           | inl here ↦ (row, here.1)
           | inr there ↦ (has.0, there.1 ∙ has.1)
         ];
-    has_place = λ s r e.
+    has_position = λ s r e.
         elim (row_after_set rows c (Some row) s lt) [
-          | inl here ↦ h.has_place s old (ap (row_of rows) here.0 ∙ some)
-          | inr there ↦ h.has_place s r (sym there.1 ∙ e)
+          | inl here ↦ h.has_position s old (ap (row_of rows) here.0 ∙ some)
+          | inr there ↦ h.has_position s r (sym there.1 ∙ e)
         ];
     once = h.once;
     size = h.size ∙ sym (count_again rows c old row lt some);
@@ -129,7 +129,7 @@ module _ (head top : ℕ) (rows : List (Option Row)) (queue : List ℕ) (h : IsQ
   pub raise_queue : IsQueue head (suc (rank_at rows (get_or queue head d))) rows queue
   raise_queue = record {
     has_row = h.has_row;
-    has_place = h.has_place;
+    has_position = h.has_position;
     once = h.once;
     size = h.size;
     rising = h.rising;
@@ -142,7 +142,7 @@ module _ (head top : ℕ) (rows : List (Option Row)) (queue : List ℕ) (h : IsQ
 pub next_queue : (head top : ℕ) (rows : List (Option Row)) (queue : List ℕ) → IsQueue head top rows queue → IsQueue (head + 1) top rows queue
 next_queue head top rows queue h = record {
   has_row = h.has_row;
-  has_place = h.has_place;
+  has_position = h.has_position;
   once = h.once;
   size = h.size;
   rising = h.rising;

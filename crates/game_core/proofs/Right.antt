@@ -8,7 +8,7 @@ use Rattle.game_core.specs.declared.game.Row.{Row}
 use Rattle.game_core.specs.Game.{Game, IsGame, IsEnabled, mark_of, successors_of}
 use Rattle.game_core.specs.Strategy.{Tree, Leaf, Apply, Wins, IsRank}
 use Rattle.game_core.specs.Solution.{row_of, rank_in, rank_at, greatest_rank, HasRow, HasRowBelow, IsReachRow, IsChosenInput, IsReachSolution}
-use Rattle.game_core.specs.Right.{IsLost, IsRightAt, IsRightPlain, IsRightRanked, AreRight}
+use Rattle.game_core.specs.Right.{IsUnwinnable, IsRightAt, IsRightPlain, IsRightRanked, AreRight}
 use Rattle.game_core.specs.inside.Search.{IsSoundRow, IsGoalRow, HasRowAtMost}
 use Rattle.game_core.proofs.Rows.{below_from_row, enabled_below}
 use Rattle.game_core.proofs.Trees.{WinsWithin, trees_for}
@@ -126,7 +126,7 @@ module _ (g : Game) (rows : List (Option Row)) (a : IsGame g) (h : IsReachSoluti
       let input : row.input ≡ 0 = subst (λ k. IsChosenInput g c k row.input) rank r.1 in
       ap₂ (λ k u. Some (record { rank = k; input = u })) rank input
 
-  lost : (c : ℕ) → c < g.cells → mark_of g c ≡ Plain → ((t : Tree) → Wins g t c → ⊥) → IsLost g rows c
+  lost : (c : ℕ) → c < g.cells → mark_of g c ≡ Plain → ((t : Tree) → Wins g t c → ⊥) → IsUnwinnable g rows c
   lost c lt m none v enabled =
       elim (rowless rows (successors_of g c v)) [
         | inr found ↦ found

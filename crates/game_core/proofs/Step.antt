@@ -77,14 +77,14 @@ module _ (g : Game) (a : IsGame g) (cut : ℕ → ℕ → Bool) (head top : ℕ)
     resolved_row = record { rank = top; input = input }
 
     module _ (plain : mark_of g cell ≡ Plain) where
-      cell_has_place : cell < length p.rows
-      cell_has_place = let n = h.told.one_each in let l = parts.cell in omega arith
+      cell_has_position : cell < length p.rows
+      cell_has_position = let n = h.told.one_each in let l = parts.cell in omega arith
 
       -- the rows with the cell's new row
       module _ (new : Row) (f : Refines p.rows (set p.rows cell (Some new))) (sound_new : IsSoundRow g (set p.rows cell (Some new)) cell new.rank new.input) (within : new.rank ≤ top) (least : new.rank ≡ top → new.input ≤ input) where
         goals_then : (d : ℕ) → d < g.cells → mark_of g d ≡ Goal → IsGoalRow (set p.rows cell (Some new)) d
         goals_then d ld goal =
-            elim (row_after_set p.rows cell (Some new) d cell_has_place) [
+            elim (row_after_set p.rows cell (Some new) d cell_has_position) [
               | inl here ↦ absurd (let e : mark_of g d ≡ Plain = ap (mark_of g) here.0 ∙ plain in cc)
               | inr there ↦ there.1 ∙ h.told.goals d ld goal
             ]
@@ -98,15 +98,15 @@ module _ (g : Game) (a : IsGame g) (cut : ℕ → ℕ → Bool) (head top : ℕ)
 
         newly : (d v : ℕ) → d < g.cells → pair_of g d v ≡ pair → mark_of g d ≡ Plain → IsEnabled g d v → All (λ s. after pair s ≡ true) (successors_at g pair) → HasRowAtMost (set p.rows cell (Some new)) top v d
         newly d v ld e pd enabled all =
-            let place = same_from_place d v cell input g.inputs enabled.0 parts.input (e ∙ sym parts.is) in
-            let vi = place.1 in
-            elim (row_after_set p.rows cell (Some new) d cell_has_place) [
+            let position = same_from_place d v cell input g.inputs enabled.0 parts.input (e ∙ sym parts.is) in
+            let vi = position.1 in
+            elim (row_after_set p.rows cell (Some new) d cell_has_position) [
               | inl here ↦ record { row = new; is = here.1; within = within; least = λ k. let l = least k in omega arith }
-              | inr there ↦ absurd (there.0 place.0)
+              | inr there ↦ absurd (there.0 position.0)
             ]
 
         told_with : IsTold g after top (set p.rows cell (Some new))
-        told_with = told_step g cut top p.rows (set p.rows cell (Some new)) h.told f (length-set p.rows cell (Some new)) goals_then (λ d r e. sound_at d r e (row_after_set p.rows cell (Some new) d cell_has_place)) pair c lt leads row has rank newly
+        told_with = told_step g cut top p.rows (set p.rows cell (Some new)) h.told f (length-set p.rows cell (Some new)) goals_then (λ d r e. sound_at d r e (row_after_set p.rows cell (Some new) d cell_has_position)) pair c lt leads row has rank newly
 
       -- the row that the pair offers is sound
       offer_is_sound : (rows : List (Option Row)) → Refines p.rows rows → (k : ℕ) → k ≡ top → IsSoundRow g rows cell k input
@@ -122,7 +122,7 @@ module _ (g : Game) (a : IsGame g) (cut : ℕ → ℕ → Bool) (head top : ℕ)
       first_refines : row_of p.rows cell ≡ None → (new : Row) → Refines p.rows (set p.rows cell (Some new))
       first_refines none new = record {
         each = λ s r e.
-            elim (row_after_set p.rows cell (Some new) s cell_has_place) [
+            elim (row_after_set p.rows cell (Some new) s cell_has_position) [
               | inl here ↦ absurd (let n : row_of p.rows s ≡ None = ap (row_of p.rows) here.0 ∙ none in cc)
               | inr there ↦ record { row = r; is = there.1 ∙ e; rank_stays = refl; input_falls = omega arith }
             ];
@@ -131,7 +131,7 @@ module _ (g : Game) (a : IsGame g) (cut : ℕ → ℕ → Bool) (head top : ℕ)
       next_refines : (old new : Row) → row_of p.rows cell ≡ Some old → new.rank ≡ old.rank → new.input ≤ old.input → Refines p.rows (set p.rows cell (Some new))
       next_refines old new some k u = record {
         each = λ s r e.
-            elim (row_after_set p.rows cell (Some new) s cell_has_place) [
+            elim (row_after_set p.rows cell (Some new) s cell_has_position) [
               | inl here ↦
                   let same : old ≡ r = (let n : row_of p.rows s ≡ Some old = ap (row_of p.rows) here.0 ∙ some in cc) in
                   let ranks : old.rank ≡ r.rank = ap (λ x. x.rank) same in
@@ -146,7 +146,7 @@ module _ (g : Game) (a : IsGame g) (cut : ℕ → ℕ → Bool) (head top : ℕ)
           let f = first_refines none resolved_row in
           record {
             search = record {
-              queue = settle_queue head top cell resolved_row p.rows p.queue h.queue cell_has_place none refl long;
+              queue = settle_queue head top cell resolved_row p.rows p.queue h.queue cell_has_position none refl long;
               counted = counted_then;
               told = told_with resolved_row f (offer_is_sound (set p.rows cell (Some resolved_row)) f top refl) (omega arith) (λ e. omega arith);
             };
@@ -160,7 +160,7 @@ module _ (g : Game) (a : IsGame g) (cut : ℕ → ℕ → Bool) (head top : ℕ)
           let high = h.queue.highest cell old some in
           record {
             search = record {
-              queue = improve_queue head top cell old new p.rows p.queue h.queue cell_has_place some k;
+              queue = improve_queue head top cell old new p.rows p.queue h.queue cell_has_position some k;
               counted = counted_then;
               told = told_with new f (sound_new f) (omega arith) least;
             };
@@ -199,8 +199,8 @@ module _ (g : Game) (a : IsGame g) (cut : ℕ → ℕ → Bool) (head top : ℕ)
       where
         never : mark_of g cell ≢ Plain → (d v : ℕ) → pair_of g d v ≡ pair → v < g.inputs → mark_of g d ≡ Plain → All (λ s. after pair s ≡ true) (successors_at g pair) → ⊥
         never other d v e lv plain all =
-            let place = same_from_place d v cell input g.inputs lv parts.input (e ∙ sym parts.is) in
-            other (sym (ap (mark_of g) place.0) ∙ plain)
+            let position = same_from_place d v cell input g.inputs lv parts.input (e ∙ sym parts.is) in
+            other (sym (ap (mark_of g) position.0) ∙ plain)
 
         by_mark : (m : Mark) → mark_of g cell ≡ m → IsStep g after head top p (offered_at m cell resolved_row (lessened pair p))
         by_mark Goal e = same_rows (never (λ n. cc))

@@ -100,8 +100,8 @@ module _ (g : Game) (a : IsGame g) (head top c : ℕ) (sources : List ℕ) (are 
     pub pair_leads : (pair < pairs_of g) × Contains (successors_at g pair) c
     pair_leads = (are.exactly pair).0 (Contains-get_or sources j 0 lj)
 
-    first_place : (i d : ℕ) → i < length first.queue → get_or p.queue i d ≡ get_or first.queue i d
-    first_place i d li = ap (λ (q : List ℕ). get_or q i d) h.grows.is ∙ get_or_append_left first.queue h.grows.more d i li
+    first_position : (i d : ℕ) → i < length first.queue → get_or p.queue i d ≡ get_or first.queue i d
+    first_position i d li = ap (λ (q : List ℕ). get_or q i d) h.grows.is ∙ get_or_append_left first.queue h.grows.more d i li
 
     longer : length first.queue ≤ length p.queue
     longer = let e : length p.queue ≡ length (first.queue ++ h.grows.more) = ap length h.grows.is in let n = length-append first.queue h.grows.more in omega arith
@@ -111,8 +111,8 @@ module _ (g : Game) (a : IsGame g) (head top c : ℕ) (sources : List ℕ) (are 
     not_taken = list_any_none (◌==◌ c) (take head first.queue) (λ i d li.
         let n = length-take head first.queue in
         let e = get_or-take head first.queue i d (omega arith) in
-        let p1 = first_place i d (omega arith) in
-        let p2 = first_place head d lt in
+        let p1 = first_position i d (omega arith) in
+        let p2 = first_position head d lt in
         let at' : get_or first.queue head d ≡ c = get_or_default first.queue head d 0 lt ∙ at in
         let apart = h.search.queue.once i head d (omega arith) (let l = longer in omega arith) in
         ne_eqb c (get_or (take head first.queue) i d) (λ f. apart (omega arith)))

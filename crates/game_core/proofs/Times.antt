@@ -10,9 +10,9 @@ use Rattle.std.proofs.lemmas.List.Elements.{All-head, All-tail, recursion_from_A
 use Rattle.std.proofs.lemmas.List.Kept.{AllPairs-from_increasing}
 use Rattle.std.proofs.lemmas.List.Sorted.{IsPermutation-refl, IsPermutation-sym, IsPermutation-cons, IsPermutation-trans, IsPermutation-remove, sum_by-IsPermutation}
 use Rattle.std.proofs.lemmas.List.Sums.{sum_by-cons}
-use Rattle.game_core.specs.Counts.{times, one_if, CountsTell, EdgesFromBothEnds}
+use Rattle.game_core.specs.Counts.{times, one_if, CountsAgree, EdgesFromBothEnds}
 use Rattle.game_core.specs.Game.{successors_at}
-use Rattle.game_core.proofs.Counts.{count-cons, sum_alike, sum_added, sum_le, sum_ones, sum_zeros, sum_places, all_pass, none_from_count, each_passes, one_fails, alike_from_counts}
+use Rattle.game_core.proofs.Counts.{count-cons, sum_alike, sum_added, sum_le, sum_ones, sum_zeros, sum_positions, all_pass, none_from_count, each_passes, one_fails, alike_from_counts}
 use Rattle.game_core.proofs.Edges.{successors_apart}
 
 -- one element more counts where it is the number
@@ -179,8 +179,8 @@ of_all_below n xs within =
     from_both_sides (range_with_len 0 n) xs
     ∙ sum_ones (λ x. times x (range_with_len 0 n)) xs (λ i d lt. in_range (get_or xs i d) 0 n (omega arith) (let l = within i d lt in omega arith))
 
-pub counts_tell : CountsTell
-counts_tell = record {
+pub counts_agree : CountsAgree
+counts_agree = record {
   same = same;
   each_once = each_once;
   from_both_sides = from_both_sides;
@@ -188,8 +188,8 @@ counts_tell = record {
   alike = sum_alike;
   added = sum_added;
   lesser = sum_le;
-  places = λ f xs. sum_places f 0 xs;
-  places_of_lists = λ f xss. sum_places f [] xss;
+  positions = λ f xs. sum_positions f 0 xs;
+  positions_of_lists = λ f xss. sum_positions f [] xss;
   all_pass = all_pass;
   none_passes = none_from_count;
   each_passes = each_passes;

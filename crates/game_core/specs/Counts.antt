@@ -13,7 +13,7 @@ abbrev pub one_if : Bool → ℕ
 one_if b = cond b 1 0
 
 -- What sums and counts over lists of numbers tell.
-pub record CountsTell : Type 0 where
+pub record CountsAgree : Type 0 where
   -- how often each number stands there tells lists up to their order, and sums over two lists meet
   pub same : (xs ys : List ℕ) → ((n : ℕ) → times n xs ≡ times n ys) → IsPermutation xs ys
   pub each_once : (n : ℕ) (xs : List ℕ) → All (λ x. x < n) xs → ((i : ℕ) → i < n → times i xs ≡ 1) → IsPermutation (range_with_len 0 n) xs
@@ -23,9 +23,9 @@ pub record CountsTell : Type 0 where
   pub alike : (f h : ℕ → ℕ) (xs : List ℕ) → All (λ x. f x ≡ h x) xs → sum_by f xs ≡ sum_by h xs
   pub added : (f h : ℕ → ℕ) (xs : List ℕ) → sum_by (λ x. f x + h x) xs ≡ sum_by f xs + sum_by h xs
   pub lesser : (f h : ℕ → ℕ) (xs : List ℕ) → All (λ x. f x ≤ h x) xs → sum_by f xs ≤ sum_by h xs
-  -- a sum over the places of a list
-  pub places : (f : ℕ → ℕ) (xs : List ℕ) → sum_by (λ i. f (slice_index xs i)) (range_with_len 0 (length xs)) ≡ sum_by f xs
-  pub places_of_lists : (f : List ℕ → ℕ) (xss : List (List ℕ)) → sum_by (λ i. f (slice_index_or xss i [])) (range_with_len 0 (length xss)) ≡ sum_by f xss
+  -- a sum over the positions of a list
+  pub positions : (f : ℕ → ℕ) (xs : List ℕ) → sum_by (λ i. f (slice_index xs i)) (range_with_len 0 (length xs)) ≡ sum_by f xs
+  pub positions_of_lists : (f : List ℕ → ℕ) (xss : List (List ℕ)) → sum_by (λ i. f (slice_index_or xss i [])) (range_with_len 0 (length xss)) ≡ sum_by f xss
   -- a test that passes at each element counts all, and one that counts fewer fails somewhere
   pub all_pass : (p : ℕ → Bool) (xs : List ℕ) → All (λ x. p x ≡ true) xs → count_by p xs ≡ length xs
   pub none_passes : (p : ℕ → Bool) (xs : List ℕ) → count_by p xs ≡ 0 → All (λ x. p x ≡ false) xs

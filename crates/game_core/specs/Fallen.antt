@@ -43,14 +43,14 @@ pub record IsHeldBy (g : Game) (rows : List (Option Row)) (c : ℕ) (row : Row) 
   pub least : (v : ℕ) → LeadsToRows g rows c v → row.input ≤ v
 
 -- a cell without a row falls, another is held by its row
-abbrev pub IsSettled : Game → List (Option Row) → ℕ → Option Row → Type 0
-IsSettled g rows c None = Falls g c
-IsSettled g rows c (Some row) = IsHeldBy g rows c row
+abbrev pub IsStable : Game → List (Option Row) → ℕ → Option Row → Type 0
+IsStable g rows c None = Falls g c
+IsStable g rows c (Some row) = IsHeldBy g rows c row
 
 -- Rows of a keep game that are settled, one optional row for each cell.
-pub record AreSettled (g : Game) (rows : List (Option Row)) : Type 0 where
+pub record AreStable (g : Game) (rows : List (Option Row)) : Type 0 where
   pub one_each : length rows ≡ g.cells
-  pub each : (c : ℕ) → c < g.cells → IsSettled g rows c (row_of rows c)
+  pub each : (c : ℕ) → c < g.cells → IsStable g rows c (row_of rows c)
 
 -- each cell has a keep tree of every depth, or none of some depth that is at most the number of cells
 abbrev pub KeptOrFallsInTime : Type 0

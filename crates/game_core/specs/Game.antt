@@ -55,8 +55,8 @@ pub record IsGraph (g : Game) : Type 0 where
   pub edges_bound : sum_by length g.successors ≤ 2 ^ 25
 
 -- the same game with other marks
-abbrev pub remarked : Game → List Mark → Game
-remarked g marks = record { cells = g.cells; inputs = g.inputs; marks = marks; successors = g.successors }
+abbrev pub with_marks : Game → List Mark → Game
+with_marks g marks = record { cells = g.cells; inputs = g.inputs; marks = marks; successors = g.successors }
 
 -- The pairs that have a cell among their successors, in rising order.
 pub record AreSources (g : Game) (c : ℕ) (pairs : List ℕ) : Type 0 where

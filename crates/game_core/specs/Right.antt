@@ -20,8 +20,8 @@ pub record IsBestInput (g : Game) (rows : List (Option Row)) (c u k : ℕ) : Typ
   pub none_lesser : (v : ℕ) → v < u → LeadsDownTo g rows c v k → ⊥
 
 -- each enabled input has a successor without a row
-abbrev pub IsLost : Game → List (Option Row) → ℕ → Type 0
-IsLost g rows c = (v : ℕ) → IsEnabled g c v → (s : ℕ) × Contains (successors_of g c v) s × (row_of rows s ≡ None)
+abbrev pub IsUnwinnable : Game → List (Option Row) → ℕ → Type 0
+IsUnwinnable g rows c = (v : ℕ) → IsEnabled g c v → (s : ℕ) × Contains (successors_of g c v) s × (row_of rows s ≡ None)
 
 -- a rank of a plain cell is right: 0 never is
 abbrev pub IsRightRanked : Game → List (Option Row) → ℕ → ℕ → ℕ → Type 0
@@ -30,7 +30,7 @@ IsRightRanked g rows c (suc k) u = IsBestInput g rows c u k
 
 -- the row of a plain cell is right
 abbrev pub IsRightPlain : Game → List (Option Row) → ℕ → Option Row → Type 0
-IsRightPlain g rows c None = IsLost g rows c
+IsRightPlain g rows c None = IsUnwinnable g rows c
 IsRightPlain g rows c (Some row) = IsRightRanked g rows c row.rank row.input
 
 -- a cell is right, by its mark and its row

@@ -21,14 +21,14 @@ pub(crate) struct Falling {
 }
 
 impl Model for Falling {
-    ghost use Rattle.game_core.specs.inside.Falling.{Progress, HasPlaces};
+    ghost use Rattle.game_core.specs.inside.Falling.{Progress, HasPositions};
     ghost use Rattle.std.specs.Prelude.{take};
 
     ghost Value = { Progress };
 
     ghost view = { λ f. record { safe = f.safe.items; left = f.left.items; queue = take f.found f.order.items } };
 
-    ghost invariant = { λ f. HasPlaces f.left.items f.order.items f.found };
+    ghost invariant = { λ f. HasPositions f.left.items f.order.items f.found };
 }
 
 /// Whether a pair's input is enabled and its cell no obstacle.

@@ -1,9 +1,9 @@
 //! Laws about the definitions, for callers and tests.
 ghost use Rattle.std.specs.Prelude.{◌≡◌, List, Option};
 ghost use Rattle.game_core.specs.declared.game.Row.{Row};
-ghost use Rattle.game_core.specs.Fallen.{AreSettled, KeptOrFallsInTime, DeepKeepTreesKeep};
+ghost use Rattle.game_core.specs.Fallen.{AreStable, KeptOrFallsInTime, DeepKeepTreesKeep};
 ghost use Rattle.game_core.specs.Game.{Game, IsGame};
-ghost use Rattle.game_core.specs.Counts.{CountsTell, EdgesFromBothEnds};
+ghost use Rattle.game_core.specs.Counts.{CountsAgree, EdgesFromBothEnds};
 ghost use Rattle.game_core.specs.Keep.{IsKeepSolution};
 ghost use Rattle.game_core.specs.Right.{AreRight};
 ghost use Rattle.game_core.specs.Solution.{IsReachSolution, LeadsToGoals, RanksAreBelowTheCells, RowsStandAtCells};
@@ -24,8 +24,8 @@ pub fn one_keep_solution()
 {}
 
 /// Settled rows are the keep solution.
-pub fn settled_rows_are_the_keep_solution()
-    ensures { (g : Game) (rows : List (Option Row)) → IsGame g → AreSettled g rows → IsKeepSolution g rows }
+pub fn stable_rows_are_the_keep_solution()
+    ensures { (g : Game) (rows : List (Option Row)) → IsGame g → AreStable g rows → IsKeepSolution g rows }
 {}
 
 /// A cell that isn't kept has no keep tree of some depth that is at most the number of cells.
@@ -59,8 +59,8 @@ pub fn solutions_are_right()
 {}
 
 /// What sums over lists of numbers tell, and how often numbers stand there.
-pub fn counts_tell()
-    ensures { CountsTell }
+pub fn counts_agree()
+    ensures { CountsAgree }
 {}
 
 /// A pair stands among the sources of a cell as often as the cell among the pair's successors.

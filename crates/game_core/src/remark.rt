@@ -1,5 +1,5 @@
 ghost use Rattle.std.specs.Prelude.{◌≡◌, length};
-ghost use Rattle.game_core.specs.Game.{Game, remarked};
+ghost use Rattle.game_core.specs.Game.{Game, with_marks};
 ghost use Rattle.game_core.specs.inside.Remarks.{remarked_lawful};
 
 use crate::game::{Graph, Mark};
@@ -16,14 +16,14 @@ impl<'a, G: Graph> Remark<'a, G> {
     /// The graph with these marks in place of its own, one for each cell.
     pub fn new(graph: &'a G, marks: &'a [Mark]) -> Remark<'a, G>
         requires { length marks.now ≡ (G.game graph.now).cells }
-        ensures { ⟦<Remark<'a, G> as Graph>⟧.game result ≡ remarked (G.game graph.now) marks.now }
+        ensures { ⟦<Remark<'a, G> as Graph>⟧.game result ≡ with_marks (G.game graph.now) marks.now }
     {
         Remark { graph, marks }
     }
 }
 
 impl<'a, G: Graph> Graph for Remark<'a, G> {
-    ghost game = { λ r. remarked (G.game r.graph.now) r.marks.now };
+    ghost game = { λ r. with_marks (G.game r.graph.now) r.marks.now };
 
     fn cells(&self) -> u32 {
         self.graph.cells()

@@ -21,14 +21,14 @@ pub(crate) struct Search {
 }
 
 impl Model for Search {
-    ghost use Rattle.game_core.specs.inside.Search.{Progress, HasRoom};
+    ghost use Rattle.game_core.specs.inside.Search.{Progress, HasCapacity};
     ghost use Rattle.std.specs.Prelude.{take};
 
     ghost Value = { Progress };
 
     ghost view = { λ s. record { left = s.left.items; rows = s.answer; queue = take s.found s.order.items } };
 
-    ghost invariant = { λ s. HasRoom s.answer s.order.items s.found };
+    ghost invariant = { λ s. HasCapacity s.answer s.order.items s.found };
 }
 
 impl Search {

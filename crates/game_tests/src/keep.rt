@@ -9,7 +9,7 @@ use std::test::Fail;
 use std::thread::Threads;
 
 /// 18 edges lead to the cells 0 to 3, which have no row, and 6 pairs of cells that are no obstacles have one of these. Of
-/// pair 5 the successor 4 is left. The counters of the cells stand behind those of the 16 pairs: of cell 5 one input is left.
+/// pair 5 the successor 4 is left. The counters of the cells stand after those of the 16 pairs: of cell 5 one input is left.
 fn is_kept_by<R: AllocGlobal + Threads + Sync>(rt: &R, workers: u32) -> Result<bool, Fail> {
     let game = game_of(rt, PARTED)?;
     if game.cells() != 8 || game.inputs() != 2 || workers == 0 || workers > 64 {

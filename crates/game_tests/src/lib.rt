@@ -6,13 +6,13 @@ mod abstraction;
 #[cfg(test)]
 mod boards;
 #[cfg(test)]
+mod forward;
+#[cfg(test)]
 mod games;
 #[cfg(test)]
 mod keep;
 #[cfg(test)]
 mod meeting;
-#[cfg(test)]
-mod outlook;
 #[cfg(test)]
 mod plain;
 #[cfg(test)]

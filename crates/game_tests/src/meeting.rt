@@ -7,7 +7,7 @@ use std::thread;
 /// Turns enough for another thread to come.
 pub const MANY: u32 = 100_000_000;
 
-/// Holds the items 0 and 1, each until the other has come, and those behind them until item 0 has come, for so many
+/// Holds the items 0 and 1, each until the other has come, and those after them until item 0 has come, for so many
 /// turns at most.
 #[derive(Drop)]
 pub struct Meeting {

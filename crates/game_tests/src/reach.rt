@@ -59,7 +59,7 @@ fn one_worker_meets_nobody(rt: HostRuntime) -> Result<(), Fail> {
     Ok(())
 }
 
-/// 1 and 2 lead to the goal 0, the cells 3 to 15,000 to 1, and those behind them to 2: round 0 has one item, and round 1
+/// 1 and 2 lead to the goal 0, the cells 3 to 15,000 to 1, and those after them to 2: round 0 has one item, and round 1
 /// two, which some 30,000 pairs lead to.
 const TWO_FUNNELS: &[u8] =
     b"plant 1\nstate x 0 30000 1\nnext x = min(1, max(0, x - 2)) + min(1, max(0, x - 15000))\ntarget 0 0\ngoal reach\nend\n";

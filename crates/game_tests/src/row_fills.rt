@@ -38,9 +38,9 @@ fn rows_are_read_as_they_were_filled(rt: HostRuntime) -> Result<(), Fail> {
 #[test]
 fn a_run_puts_one_value_in_each_of_its_rows(rt: HostRuntime) -> Result<(), Fail> {
     let mut fill = RowFill::new(rt.alloc(), &[1, 2, 2, 0])?;
-    fill.put_run(0, 3, 7);
-    fill.put_run(3, 0, 8);
-    fill.put_run(1, 2, 9);
+    fill.put_each(0, 3, 7);
+    fill.put_each(3, 0, 8);
+    fill.put_each(1, 2, 9);
     assert!(rt; are_rows(&fill.finish(), &[&[7], &[7, 9], &[7, 9], &[]]));
     Ok(())
 }

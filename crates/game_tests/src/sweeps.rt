@@ -139,7 +139,7 @@ fn two_items_meet_at_the_gate_with_their_hands(rt: HostRuntime) -> Result<(), Fa
 
 /// Items 0 and 1 are one hand's share: while it is held at the first, the other hand steals the second.
 #[test]
-fn item_behind_a_held_one_is_stolen(rt: HostRuntime) -> Result<(), Fail> {
+fn item_after_a_held_one_is_stolen(rt: HostRuntime) -> Result<(), Fail> {
     assert!(rt; do_two_meet(&rt, rt.alloc(), 4)?);
     Ok(())
 }

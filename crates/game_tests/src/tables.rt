@@ -2,7 +2,7 @@
 
 use controller_table::{Table, TableWriter, read_table};
 use game_core::{Answer, Row};
-use row_runs::{RowWords, RunLines};
+use row_runs::{RowFormat, RunLines};
 use std::alloc::Global;
 use std::test::Fail;
 use text_pieces::Pieces;
@@ -76,7 +76,7 @@ fn some_rows(alloc: Global) -> Result<Answer, Fail> {
     Ok(rows)
 }
 
-fn are_lines(alloc: Global, words: RowWords, lines: &[u8]) -> Result<bool, Fail> {
+fn are_lines(alloc: Global, words: RowFormat, lines: &[u8]) -> Result<bool, Fail> {
     let rows = some_rows(alloc)?;
     let written = text_of_pieces(alloc, &mut RunLines::new(words, &rows), 10)?;
     Ok(written.as_slice() == lines)
@@ -87,9 +87,9 @@ fn are_lines(alloc: Global, words: RowWords, lines: &[u8]) -> Result<bool, Fail>
 fn words_tell_rows_in_three_ways(rt: HostRuntime) -> Result<(), Fail> {
     let alloc = rt.alloc();
     assert!(rt;
-        are_lines(alloc, RowWords::InputAboveZero, b"0 1 0 -\n3 3 12 0\n")?
-            && are_lines(alloc, RowWords::Both, b"0 1 0 3\n3 3 12 0\n")?
-            && are_lines(alloc, RowWords::InputAlone, b"0 1 - 3\n3 3 - 0\n")?
+        are_lines(alloc, RowFormat::InputAboveZero, b"0 1 0 -\n3 3 12 0\n")?
+            && are_lines(alloc, RowFormat::Both, b"0 1 0 3\n3 3 12 0\n")?
+            && are_lines(alloc, RowFormat::InputAlone, b"0 1 - 3\n3 3 - 0\n")?
     );
     Ok(())
 }

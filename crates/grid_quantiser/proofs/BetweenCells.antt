@@ -11,10 +11,10 @@ use Rattle.grid_quantiser.specs.declared.axis.Axis.{Axis}
 use Rattle.grid_quantiser.specs.Axes.{IsAxis, cells_of}
 use Rattle.grid_quantiser.specs.Boxes.{IsCellBox, cells_between}
 use Rattle.grid_quantiser.proofs.General.{mod-mod, blocks, length-blocks, get_or-blocks}
-use Rattle.grid_quantiser.proofs.Suffixes.{next_axis, some_cells, drop_step, place_step, later_step}
+use Rattle.grid_quantiser.proofs.Suffixes.{next_axis, some_cells, drop_step, index_step, later_step}
 use Rattle.grid_quantiser.proofs.BoxCells.{between_some, between_below}
 
--- in each state the place of the cell is from that of the first corner to that of the last
+-- in each state the index of the cell is from that of the first corner to that of the last
 abbrev pub IsBetween : List Axis → ℕ → ℕ → ℕ → Type 0
 IsBetween [] f l c = Unit {0}
 IsBetween (a ∷ axes) f l c =
@@ -26,28 +26,28 @@ between_from_contains (a ∷ axes) f l c each box has =
     let n : ℕ = cells_of axes in
     let part : List ℕ = cells_between axes (f % n) (l % n) in
     let m : ℕ = length part in
-    let side : ℕ = suc (l / n) - f / n in
+    let extent : ℕ = suc (l / n) - f / n in
     let k : ℕ = has.0 in
     let later : All IsAxis axes = All-tail IsAxis a axes each in
     let some : 0 < m = between_some axes (f % n) (l % n) box.2 in
-    let within : k < side * m = omega (arith, has.1, length-blocks n part (f / n) side) in
+    let within : k < extent * m = omega (arith, has.1, length-blocks n part (f / n) extent) in
     let inner : get_or part (k % m) 0 < n = between_below axes (f % n) (l % n) (k % m) later box.2 (mod_below k m some) in
     let is : (f / n + k / m) * n + get_or part (k % m) 0 ≡ c =
-    sym (get_or-blocks n part (f / n) side k within) ∙ get_or_default (blocks n part (f / n) side) k 0 c has.1 ∙ has.2
+    sym (get_or-blocks n part (f / n) extent k within) ∙ get_or_default (blocks n part (f / n) extent) k 0 c has.1 ∙ has.2
     in
-    let place : f / n + k / m ≡ c / n = sym (div-mul-add (f / n + k / m) n (get_or part (k % m) 0) inner) ∙ ap (λ v. v / n) is in
+    let index : f / n + k / m ≡ c / n = sym (div-mul-add (f / n + k / m) n (get_or part (k % m) 0) inner) ∙ ap (λ v. v / n) is in
     let rest : get_or part (k % m) 0 ≡ c % n = sym (mod-mul-add (f / n + k / m) n (get_or part (k % m) 0) inner) ∙ ap (λ v. v % n) is in
-    let row : k / m < side = div_below k m side some within in
+    let row : k / m < extent = div_below k m extent some within in
     let short : k % m < m = mod_below k m some in
-    (omega (arith, place), omega (arith, place, row, box.0), between_from_contains axes (f % n) (l % n) (c % n) later box.2 (k % m, short, get_or_default part (k % m) (c % n) 0 short ∙ rest))
+    (omega (arith, index), omega (arith, index, row, box.0), between_from_contains axes (f % n) (l % n) (c % n) later box.2 (k % m, short, get_or_default part (k % m) (c % n) 0 short ∙ rest))
 
 -- a cell between two corners lies there by its number
-pub between_by_number : (axes : List Axis) (f l c : ℕ) → 1 ≤ length axes → IsBetween axes f l c → (f ≤ c) × (c ≤ l)
-between_by_number [] f l c some between = absurd (omega (arith, some))
-between_by_number (a ∷ []) f l c some between = (omega (arith, between.0), omega (arith, between.1))
-between_by_number (a ∷ b ∷ axes) f l c some between =
+pub between_by_coordinate : (axes : List Axis) (f l c : ℕ) → 1 ≤ length axes → IsBetween axes f l c → (f ≤ c) × (c ≤ l)
+between_by_coordinate [] f l c some between = absurd (omega (arith, some))
+between_by_coordinate (a ∷ []) f l c some between = (omega (arith, between.0), omega (arith, between.1))
+between_by_coordinate (a ∷ b ∷ axes) f l c some between =
     let n : ℕ = cells_of (b ∷ axes) in
-    let rest = between_by_number (b ∷ axes) (f % n) (l % n) (c % n) (omega arith) between.2 in (
+    let rest = between_by_coordinate (b ∷ axes) (f % n) (l % n) (c % n) (omega arith) between.2 in (
       below f c n between.0 rest.0,
       below c l n between.1 rest.1,
     )
@@ -62,26 +62,26 @@ contains_from_between (a ∷ axes) f l c each below between =
     let n : ℕ = cells_of axes in
     let part : List ℕ = cells_between axes (f % n) (l % n) in
     let m : ℕ = length part in
-    let side : ℕ = suc (l / n) - f / n in
+    let extent : ℕ = suc (l / n) - f / n in
     let later : All IsAxis axes = All-tail IsAxis a axes each in
     let some : 0 < n = some_cells axes later in
     let inner = contains_from_between axes (f % n) (l % n) (c % n) later (mod_below c n some) between.2 in
     let j : ℕ = inner.0 in
     let steps : ℕ = c / n - f / n in
     let k : ℕ = steps * m + j in
-    let row : steps < side = omega (arith, between.0, between.1) in
-    let within : k < side * m = omega (arith, mul-add-lt steps m j side row inner.1, mul_comm m side) in
+    let row : steps < extent = omega (arith, between.0, between.1) in
+    let within : k < extent * m = omega (arith, mul-add-lt steps m j extent row inner.1, mul_comm m extent) in
     let quotient : k / m ≡ steps = div-mul-add steps m j inner.1 in
     let remainder : k % m ≡ j = mod-mul-add steps m j inner.1 in
-    let place : f / n + steps ≡ c / n = omega (arith, between.0) in
-    let long : k < length (cells_between (a ∷ axes) f l) = omega (arith, within, length-blocks n part (f / n) side) in (
+    let index : f / n + steps ≡ c / n = omega (arith, between.0) in
+    let long : k < length (cells_between (a ∷ axes) f l) = omega (arith, within, length-blocks n part (f / n) extent) in (
       k,
       long,
-      get_or_default (blocks n part (f / n) side) k c 0 long
-          ∙ get_or-blocks n part (f / n) side k within
+      get_or_default (blocks n part (f / n) extent) k c 0 long
+          ∙ get_or-blocks n part (f / n) extent k within
           ∙ ap (λ v. (f / n + v) * n + get_or part (k % m) 0) quotient
           ∙ ap (λ v. (f / n + steps) * n + get_or part v 0) remainder
-          ∙ ap (λ v. v * n + get_or part j 0) place
+          ∙ ap (λ v. v * n + get_or part j 0) index
           ∙ ap (λ v. c / n * n + v) (get_or_default part j 0 (c % n) inner.1 ∙ inner.2)
           ∙ div-add-mod' c n,
     )
@@ -92,11 +92,11 @@ rising_between (a ∷ axes) f l each box = λ k within.
     let n : ℕ = cells_of axes in
     let part : List ℕ = cells_between axes (f % n) (l % n) in
     let m : ℕ = length part in
-    let side : ℕ = suc (l / n) - f / n in
+    let extent : ℕ = suc (l / n) - f / n in
     let later : All IsAxis axes = All-tail IsAxis a axes each in
     let some : 0 < m = between_some axes (f % n) (l % n) box.2 in
-    let short : k + 1 < side * m = omega (arith, within, length-blocks n part (f / n) side) in
-    let short_k : k < side * m = omega (arith, short) in
+    let short : k + 1 < extent * m = omega (arith, within, length-blocks n part (f / n) extent) in
+    let short_k : k < extent * m = omega (arith, short) in
     let inner : get_or part (k % m) 0 < n = between_below axes (f % n) (l % n) (k % m) later box.2 (mod_below k m some) in
     let split : k + 1 ≡ k / m * m + (k % m + 1) = omega (arith, div-add-mod' k m) in
     elim (cases_lt (k % m + 1) m) [
@@ -104,7 +104,7 @@ rising_between (a ∷ axes) f l each box = λ k within.
           let quotient : (k + 1) / m ≡ k / m = ap (λ v. v / m) split ∙ div-mul-add (k / m) m (k % m + 1) same in
           let remainder : (k + 1) % m ≡ k % m + 1 = ap (λ v. v % m) split ∙ mod-mul-add (k / m) m (k % m + 1) same in
           let here : get_or part (k % m) 0 < get_or part (k % m + 1) 0 = rising_between axes (f % n) (l % n) later box.2 (k % m) same in
-          rw (get_or-blocks n part (f / n) side k short_k, get_or-blocks n part (f / n) side (k + 1) short, quotient, remainder) (omega (arith, here))
+          rw (get_or-blocks n part (f / n) extent k short_k, get_or-blocks n part (f / n) extent (k + 1) short, quotient, remainder) (omega (arith, here))
       | inr next ↦
           let full : k % m + 1 ≡ m = omega (arith, next, mod_below k m some) in
           let whole : k + 1 ≡ (k / m + 1) * m + 0 = omega (arith, split, full, add-mul (k / m) 1 m) in
@@ -112,7 +112,7 @@ rising_between (a ∷ axes) f l each box = λ k within.
           let row : (f / n + (k / m + 1)) * n ≡ (f / n + k / m) * n + n =
           omega (arith, add-mul (f / n + k / m) 1 n, ap (λ v. v * n) (add_assoc (f / n) (k / m) 1))
           in
-          rw (get_or-blocks n part (f / n) side k short_k, get_or-blocks n part (f / n) side (k + 1) short, quotient) (omega (arith, row, inner))
+          rw (get_or-blocks n part (f / n) extent k short_k, get_or-blocks n part (f / n) extent (k + 1) short, quotient) (omega (arith, row, inner))
     ]
 
 pub IsBetween-drop : (i : ℕ) (axes : List Axis) (f l c : ℕ) → All IsAxis axes → IsBetween axes (f % cells_of axes) (l % cells_of axes) (c % cells_of axes) →
@@ -133,7 +133,7 @@ module _ (axes : List Axis) (i f l c : ℕ) (each : All IsAxis axes) (some : 0 <
   inside_step first last between =
       let whole : ℕ = cells_of (drop (i - 1) axes) in
       let opened : IsBetween (next_axis axes i ∷ drop i axes) (f % whole) (l % whole) (c % whole) =
-      rw (← place_step axes i each some within f, ← place_step axes i each some within l, ← place_step axes i each some within c, later_step axes i each some within f, later_step axes i each some within l, later_step axes i each some within c)
+      rw (← index_step axes i each some within f, ← index_step axes i each some within l, ← index_step axes i each some within c, later_step axes i each some within f, later_step axes i each some within l, later_step axes i each some within c)
       (first, last, between)
       in
       subst (λ (later : List Axis). IsBetween later (f % whole) (l % whole) (c % whole)) (sym (drop_step axes i some within)) opened
@@ -146,4 +146,4 @@ module _ (axes : List Axis) (i f l c : ℕ) (each : All IsAxis axes) (some : 0 <
       let opened : IsBetween (next_axis axes i ∷ drop i axes) (f % whole) (l % whole) (c % whole) =
       subst (λ (later : List Axis). IsBetween later (f % whole) (l % whole) (c % whole)) (drop_step axes i some within) (IsBetween-drop (i - 1) axes f l c each between)
       in
-      (omega (arith, opened.0, place_step axes i each some within f, place_step axes i each some within c), omega (arith, opened.1, place_step axes i each some within l, place_step axes i each some within c))
+      (omega (arith, opened.0, index_step axes i each some within f, index_step axes i each some within c), omega (arith, opened.1, index_step axes i each some within l, index_step axes i each some within c))

@@ -8,7 +8,7 @@ use Rattle.grid_quantiser.specs.declared.axis.Axis.{Axis}
 use Rattle.grid_quantiser.specs.Axes.{IsAxis, cells_of}
 use Rattle.grid_quantiser.specs.Boxes.{IsCellBox, cells_between}
 use Rattle.grid_quantiser.proofs.General.{div-mod, mod-mod, past_quotient, blocks, length-blocks, get_or-blocks}
-use Rattle.grid_quantiser.proofs.Suffixes.{next_axis, some_cells, drop_step, place_step, later_step}
+use Rattle.grid_quantiser.proofs.Suffixes.{next_axis, some_cells, drop_step, index_step, later_step}
 
 -- the cells between what is left of two corners in the states from i on
 abbrev pub part_between : List Axis → ℕ → ℕ → ℕ → List ℕ
@@ -28,8 +28,8 @@ between_some [] f l box = omega arith
 between_some (a ∷ axes) f l box =
     let n : ℕ = cells_of axes in
     let part : List ℕ = cells_between axes (f % n) (l % n) in
-    let side : 0 < suc (l / n) - f / n = omega (arith, box.0) in
-    rw (length-blocks n part (f / n) (suc (l / n) - f / n)) (mul-pos side (between_some axes (f % n) (l % n) box.2))
+    let extent : 0 < suc (l / n) - f / n = omega (arith, box.0) in
+    rw (length-blocks n part (f / n) (suc (l / n) - f / n)) (mul-pos extent (between_some axes (f % n) (l % n) box.2))
 
 -- a box has no more cells than the grid
 pub between_limit : (axes : List Axis) (f l : ℕ) → IsCellBox axes f l → length (cells_between axes f l) ≤ cells_of axes
@@ -37,8 +37,8 @@ between_limit [] f l box = omega arith
 between_limit (a ∷ axes) f l box =
     let n : ℕ = cells_of axes in
     let part : List ℕ = cells_between axes (f % n) (l % n) in
-    let side : suc (l / n) - f / n ≤ a.count = omega (arith, box.1) in
-    rw (length-blocks n part (f / n) (suc (l / n) - f / n)) (mul-le-mul side (between_limit axes (f % n) (l % n) box.2))
+    let extent : suc (l / n) - f / n ≤ a.count = omega (arith, box.1) in
+    rw (length-blocks n part (f / n) (suc (l / n) - f / n)) (mul-le-mul extent (between_limit axes (f % n) (l % n) box.2))
 
 -- each number between two corners is a cell
 pub between_below : (axes : List Axis) (f l i : ℕ) → All IsAxis axes → IsCellBox axes f l → i < length (cells_between axes f l) → get_or (cells_between axes f l) i 0 < cells_of axes
@@ -48,13 +48,13 @@ between_below (a ∷ axes) f l i each box within =
     let n : ℕ = cells_of axes in
     let part : List ℕ = cells_between axes (f % n) (l % n) in
     let m : ℕ = length part in
-    let side : ℕ = suc (l / n) - f / n in
+    let extent : ℕ = suc (l / n) - f / n in
     let some : 0 < m = between_some axes (f % n) (l % n) box.2 in
-    let short : i < side * m = omega (arith, within, length-blocks n part (f / n) side) in
-    let place : i / m < side = div_below i m side some short in
+    let short : i < extent * m = omega (arith, within, length-blocks n part (f / n) extent) in
+    let index : i / m < extent = div_below i m extent some short in
     let inner : get_or part (i % m) 0 < n = between_below axes (f % n) (l % n) (i % m) (All-tail IsAxis a axes each) box.2 (mod_below i m some) in
-    let row : f / n + i / m < a.count = omega (arith, place, box.0, box.1) in
-    rw (get_or-blocks n part (f / n) side i short)
+    let row : f / n + i / m < a.count = omega (arith, index, box.0, box.1) in
+    rw (get_or-blocks n part (f / n) extent i short)
     (omega (arith, mul-add-lt (f / n + i / m) n (get_or part (i % m) 0) a.count row inner, mul_comm a.count n))
 
 pub IsCellBox-drop : (i : ℕ) (axes : List Axis) (f l : ℕ) → All IsAxis axes → IsCellBox axes (f % cells_of axes) (l % cells_of axes) →
@@ -74,12 +74,12 @@ module _ (axes : List Axis) (i f l : ℕ) (each : All IsAxis axes) (some : 0 < i
   pub box_next : IsCellBox (drop (i - 1) axes) (f % cells_of (drop (i - 1) axes)) (l % cells_of (drop (i - 1) axes))
   box_next = IsCellBox-drop (i - 1) axes f l each box
 
-  pub places_ordered : f / cells_of (drop i axes) % (next_axis axes i).count ≤ l / cells_of (drop i axes) % (next_axis axes i).count
-  places_ordered =
+  pub indices_ordered : f / cells_of (drop i axes) % (next_axis axes i).count ≤ l / cells_of (drop i axes) % (next_axis axes i).count
+  indices_ordered =
       let opened : IsCellBox (next_axis axes i ∷ drop i axes) (f % cells_of (drop (i - 1) axes)) (l % cells_of (drop (i - 1) axes)) =
       subst (λ (later : List Axis). IsCellBox later (f % cells_of (drop (i - 1) axes)) (l % cells_of (drop (i - 1) axes))) (drop_step axes i some within) box_next
       in
-      omega (arith, opened.0, place_step axes i each some within f, place_step axes i each some within l)
+      omega (arith, opened.0, index_step axes i each some within f, index_step axes i each some within l)
 
   pub between_step : part_between axes (i - 1) f l
       ≡ blocks (cells_of (drop i axes)) (part_between axes i f l)
@@ -90,13 +90,13 @@ module _ (axes : List Axis) (i f l : ℕ) (each : All IsAxis axes) (some : 0 < i
       let whole : ℕ = cells_of (drop (i - 1) axes) in
       let p : ℕ = f / n % (next_axis axes i).count in
       let q : ℕ = l / n % (next_axis axes i).count in
-      let side : suc q - p ≡ q - p + 1 = omega (arith, places_ordered) in
+      let extent : suc q - p ≡ q - p + 1 = omega (arith, indices_ordered) in
       ap (λ later. cells_between later (f % whole) (l % whole)) (drop_step axes i some within)
       ∙ ap (λ k. blocks n (cells_between (drop i axes) k (l % whole % n)) (f % whole / n) (suc (l % whole / n) - f % whole / n)) (later_step axes i each some within f)
       ∙ ap (λ k. blocks n (cells_between (drop i axes) (f % n) k) (f % whole / n) (suc (l % whole / n) - f % whole / n)) (later_step axes i each some within l)
-      ∙ ap (λ k. blocks n (cells_between (drop i axes) (f % n) (l % n)) k (suc (l % whole / n) - k)) (sym (place_step axes i each some within f))
-      ∙ ap (λ k. blocks n (cells_between (drop i axes) (f % n) (l % n)) p (suc k - p)) (sym (place_step axes i each some within l))
-      ∙ ap (λ k. blocks n (cells_between (drop i axes) (f % n) (l % n)) p k) side
+      ∙ ap (λ k. blocks n (cells_between (drop i axes) (f % n) (l % n)) k (suc (l % whole / n) - k)) (sym (index_step axes i each some within f))
+      ∙ ap (λ k. blocks n (cells_between (drop i axes) (f % n) (l % n)) p (suc k - p)) (sym (index_step axes i each some within l))
+      ∙ ap (λ k. blocks n (cells_between (drop i axes) (f % n) (l % n)) p k) extent
 
   pub length_step : length (part_between axes (i - 1) f l)
       ≡ (l / cells_of (drop i axes) % (next_axis axes i).count - f / cells_of (drop i axes) % (next_axis axes i).count + 1)
@@ -122,15 +122,15 @@ module _ (axes : List Axis) (i f l : ℕ) (each : All IsAxis axes) (some : 0 < i
       let part : List ℕ = cells_between (drop i axes) (f % n) (l % n) in
       let m : ℕ = length part in
       let p : ℕ = f / n % (next_axis axes i).count in
-      let side : ℕ = l / n % (next_axis axes i).count - p + 1 in
+      let extent : ℕ = l / n % (next_axis axes i).count - p + 1 in
       let some_m : 0 < m = between_some (drop i axes) (f % n) (l % n) box_later in
-      let some_side : 0 < side = omega arith in
-      let within_next : j % (side * m) < side * m = mod_below j (side * m) (mul-pos some_side some_m) in
+      let some_extent : 0 < extent = omega arith in
+      let within_next : j % (extent * m) < extent * m = mod_below j (extent * m) (mul-pos some_extent some_m) in
       ap (λ xs. get_or xs (j % length xs) 0) between_step
-      ∙ ap (λ k. get_or (blocks n part p side) (j % k) 0) (length-blocks n part p side)
-      ∙ get_or-blocks n part p side (j % (side * m)) within_next
-      ∙ ap (λ k. (p + k) * n + get_or part (j % (side * m) % m) 0) (sym (div-mod j side m some_side some_m))
-      ∙ ap (λ k. (p + j / m % side) * n + get_or part k 0) (mod-mod j side m some_m)
+      ∙ ap (λ k. get_or (blocks n part p extent) (j % k) 0) (length-blocks n part p extent)
+      ∙ get_or-blocks n part p extent (j % (extent * m)) within_next
+      ∙ ap (λ k. (p + k) * n + get_or part (j % (extent * m) % m) 0) (sym (div-mod j extent m some_extent some_m))
+      ∙ ap (λ k. (p + j / m % extent) * n + get_or part k 0) (mod-mod j extent m some_m)
 
 -- a box is that of what is left of its corners
 pub box_whole : (axes : List Axis) (f l : ℕ) → All IsAxis axes → 1 ≤ length axes → IsCellBox axes f l → IsCellBox axes (f % cells_of axes) (l % cells_of axes)

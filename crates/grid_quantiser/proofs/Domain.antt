@@ -7,16 +7,16 @@ use Rattle.std.proofs.lemmas.Nat.{mul-add-lt}
 use Rattle.std.proofs.Math.Nat.{mul_comm}
 use Rattle.grid_quantiser.specs.declared.axis.Axis.{Axis}
 use Rattle.grid_quantiser.specs.Axes.{IsAxis, end_of, cells_of}
-use Rattle.grid_quantiser.specs.Cells.{IsInDomain, place_of, cell_of}
-use Rattle.grid_quantiser.proofs.AxisNumbers.{place_below}
+use Rattle.grid_quantiser.specs.Cells.{IsInDomain, index_of, cell_of}
+use Rattle.grid_quantiser.proofs.AxisNumbers.{index_below}
 use Rattle.grid_quantiser.proofs.Suffixes.{next_axis, drop_step, cells_limit}
 
 pub cell_below : (axes : List Axis) (xs : List ℤ) → All IsAxis axes → IsInDomain axes xs → cell_of axes xs < cells_of axes
 cell_below [] xs each inside = omega arith
 cell_below (a ∷ axes) [] each inside = absurd inside
 cell_below (a ∷ axes) (x ∷ xs) each inside =
-    let place : place_of a x < a.count = place_below a x (All-head IsAxis a axes each) inside.0 inside.1 in
-    omega (arith, mul-add-lt (place_of a x) (cells_of axes) (cell_of axes xs) a.count place (cell_below axes xs (All-tail IsAxis a axes each) inside.2), mul_comm a.count (cells_of axes))
+    let index : index_of a x < a.count = index_below a x (All-head IsAxis a axes each) inside.0 inside.1 in
+    omega (arith, mul-add-lt (index_of a x) (cells_of axes) (cell_of axes xs) a.count index (cell_below axes xs (All-tail IsAxis a axes each) inside.2), mul_comm a.count (cells_of axes))
 
 pub IsInDomain-drop : (i : ℕ) (axes : List Axis) (xs : List ℤ) → IsInDomain axes xs → IsInDomain (drop i axes) (drop i xs)
 IsInDomain-drop zero axes xs inside = inside
@@ -45,13 +45,13 @@ module _ (axes : List Axis) (xs : List ℤ) (i : ℕ) (each : All IsAxis axes) (
       let here = rw (drop_step axes i some within, numbers_step xs i some short) at (IsInDomain-drop (i - 1) axes xs inside) in
       (here.0, here.1)
 
-  pub cell_step : cell_of (drop (i - 1) axes) (drop (i - 1) xs) ≡ place_of (next_axis axes i) (get_or xs (i - 1) (pos 0)) * cells_of (drop i axes) + cell_of (drop i axes) (drop i xs)
+  pub cell_step : cell_of (drop (i - 1) axes) (drop (i - 1) xs) ≡ index_of (next_axis axes i) (get_or xs (i - 1) (pos 0)) * cells_of (drop i axes) + cell_of (drop i axes) (drop i xs)
   cell_step =
       let short : i ≤ length xs = omega arith in
       rw (drop_step axes i some within, numbers_step xs i some short) refl
 
--- a cell with one more place stays below the number of cells
-pub cell_limit : (axes : List Axis) (i place cell : ℕ) → All IsAxis axes → 0 < i → i ≤ length axes → place < (next_axis axes i).count → cell < cells_of (drop i axes) →
-    cell + place * cells_of (drop i axes) < cells_of axes
-cell_limit axes i place cell each some within below rest =
-    omega (arith, mul-add-lt place (cells_of (drop i axes)) cell (next_axis axes i).count below rest, cells_limit axes i each some within, mul_comm (cells_of (drop i axes)) (next_axis axes i).count)
+-- a cell with one more index stays below the number of cells
+pub cell_limit : (axes : List Axis) (i index cell : ℕ) → All IsAxis axes → 0 < i → i ≤ length axes → index < (next_axis axes i).count → cell < cells_of (drop i axes) →
+    cell + index * cells_of (drop i axes) < cells_of axes
+cell_limit axes i index cell each some within below rest =
+    omega (arith, mul-add-lt index (cells_of (drop i axes)) cell (next_axis axes i).count below rest, cells_limit axes i each some within, mul_comm (cells_of (drop i axes)) (next_axis axes i).count)

@@ -39,11 +39,11 @@ past_quotient a b m some past =
 pub quotients_ordered : (m n k : ℕ) → 0 < k → m ≤ n → m / k ≤ n / k
 quotients_ordered m n k some order = le-div (m / k) n k some (omega (arith, div-mul-le_self m k))
 
--- the place and the rest of a difference are the differences of the places and of the rests
+-- the index and the rest of a difference are the differences of the indices and of the rests
 pub difference_parts : (f l n : ℕ) → 0 < n → f / n ≤ l / n → f % n ≤ l % n → ((l - f) / n ≡ l / n - f / n) × ((l - f) % n ≡ l % n - f % n)
-difference_parts f l n some places rests =
+difference_parts f l n some indices rests =
     let short : l % n - f % n < n = omega (arith, mod_below l n some) in
-    let split : l / n ≡ f / n + (l / n - f / n) = omega (arith, places) in
+    let split : l / n ≡ f / n + (l / n - f / n) = omega (arith, indices) in
     let product : l / n * n ≡ f / n * n + (l / n - f / n) * n = ap (λ (k : ℕ). k * n) split ∙ add-mul (f / n) (l / n - f / n) n in
     let whole : l - f ≡ (l / n - f / n) * n + (l % n - f % n) = omega (arith, div-add-mod' l n, div-add-mod' f n, product, rests) in
     (ap (λ (k : ℕ). k / n) whole ∙ div-mul-add (l / n - f / n) n (l % n - f % n) short, ap (λ (k : ℕ). k % n) whole ∙ mod-mul-add (l / n - f / n) n (l % n - f % n) short)
@@ -62,7 +62,7 @@ half w some = (omega arith, omega arith)
 
 -- ---- lists
 
--- what holds of two lists behind one another holds of the second
+-- what holds of two lists after one another holds of the second
 pub all_right : (P : ℕ → Type 0) (xs ys : List ℕ) → All P (xs ++ ys) → All P ys
 all_right P xs ys all = λ k d lt.
     let past : length xs ≤ length xs + k = omega arith in
@@ -82,9 +82,9 @@ pub one_each : (xs : List ℕ) → flat_map (λ x. x ∷ []) xs ≡ xs
 one_each [] = refl
 one_each (x ∷ xs) = ap (λ (ys : List ℕ). x ∷ ys) (one_each xs)
 
--- a list repeated at each of some places in a row, n numbers apart
+-- a list repeated at each of some indices in a row, n numbers apart
 abbrev pub blocks : ℕ → List ℕ → ℕ → ℕ → List ℕ
-blocks n part start count = flat_map (λ place. map (λ c. place * n + c) part) (range_with_len start count)
+blocks n part start count = flat_map (λ index. map (λ c. index * n + c) part) (range_with_len start count)
 
 pub length-blocks : (n : ℕ) (part : List ℕ) (start count : ℕ) → length (blocks n part start count) ≡ count * length part
 length-blocks n part start zero = omega arith
@@ -102,11 +102,11 @@ get_or-blocks n part start (suc count) i within =
     elim (cases_lt i m) [
       | inl first ↦
           let short : i < length here = omega (arith, long, first) in
-          let same_place : start + i / m ≡ start = omega (arith, div-eq_of_lt first) in
+          let same_index : start + i / m ≡ start = omega (arith, div-eq_of_lt first) in
           get_or_append_left here (blocks n part (start + 1) count) 0 i short
           ∙ get_or-map (λ c. start * n + c) part i 0 0 first
           ∙ ap (λ k. start * n + get_or part k 0) (sym (mod-eq_of_lt first))
-          ∙ ap (λ k. k * n + get_or part (i % m) 0) (sym same_place)
+          ∙ ap (λ k. k * n + get_or part (i % m) 0) (sym same_index)
       | inr later ↦
           let some : 0 < m = elim (cases_lt 0 m) [ inl some ↦ some | inr none ↦ let no : m ≡ 0 = omega (arith, none) in absurd (omega (arith, within, ap (λ k. suc count * k) no)) ] in
           let whole : i ≡ m + (i - m) = omega (arith, later) in

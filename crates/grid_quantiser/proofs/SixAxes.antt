@@ -1,11 +1,11 @@
--- The six places that a grid is made with.
+-- The six indices that a grid is made with.
 use Rattle.std.proofs.Common.{◌≡◌, ℕ, ◌≤◌, ◌^◌, ap, sym, subst, ◌∙◌, List, ◌++◌, length, take, drop, replicate, refl}
 use Rattle.std.proofs.lemmas.List.{take_at, drop-replicate}
 use Rattle.grid_quantiser.specs.declared.axis.Axis.{Axis}
 use Rattle.grid_quantiser.specs.Axes.{no_axis, cells_of, AreAxes}
 use Rattle.grid_quantiser.specs.inside.Storage.{six_of, IsStored}
 
--- axes that are written over the first of six empty places are kept there
+-- axes that are written over the first of six empty indices are kept there
 pub IsStored-from_axes : (axes : List Axis) (cells : ℕ) → AreAxes axes → cells ≡ cells_of axes → cells ≤ 2 ^ 20 →
     IsStored (axes ++ drop (length axes) (replicate 6 no_axis)) (length axes) cells
 IsStored-from_axes axes cells grid is limit =

@@ -32,7 +32,7 @@ cells_of-drop (suc i) (a ∷ axes) each =
 pub rest_none : (axes : List Axis) (c : ℕ) → c ≡ c / cells_of (drop (length axes) axes)
 rest_none axes c = rw drop-length (sym (div-one c))
 
--- the next axis, and those behind it
+-- the next axis, and those after it
 pub drop_step : (axes : List Axis) (i : ℕ) → 0 < i → i ≤ length axes → drop (i - 1) axes ≡ next_axis axes i ∷ drop i axes
 drop_step axes i some within =
     let back : i - 1 + 1 ≡ i = omega arith in
@@ -60,9 +60,9 @@ module _ (axes : List Axis) (i : ℕ) (each : All IsAxis axes) (some : 0 < i) (w
   div_step c =
       div-div c (next_axis axes i).count (cells_of (drop i axes)) ∙ ap (λ k. c / k) (sym cells_step)
 
-  -- the place of a cell on the next axis
-  pub place_step : (c : ℕ) → c / cells_of (drop i axes) % (next_axis axes i).count ≡ c % cells_of (drop (i - 1) axes) / cells_of (drop i axes)
-  place_step c =
+  -- the index of a cell on the next axis
+  pub index_step : (c : ℕ) → c / cells_of (drop i axes) % (next_axis axes i).count ≡ c % cells_of (drop (i - 1) axes) / cells_of (drop i axes)
+  index_step c =
       div-mod c (next_axis axes i).count (cells_of (drop i axes)) some_step some_later
       ∙ ap (λ k. c % k / cells_of (drop i axes)) (sym cells_step)
 

@@ -7,8 +7,8 @@ use Rattle.std.proofs.lemmas.Bool.Decides.{Decides-eqb}
 use Rattle.std.proofs.lemmas.List.{drop_more}
 use Rattle.std.proofs.Math.Dec.{eqb-suc-zero}
 use Rattle.std.proofs.Math.Nat.{zero-mul, add-mul}
-use Rattle.grid_quantiser.specs.declared.runs.Wheel.{Wheel}
-use Rattle.grid_quantiser.specs.inside.RunFields.{stepped, starts_left, starts_after, next_start, turned, AreWheels}
+use Rattle.grid_quantiser.specs.declared.segments.Wheel.{Wheel}
+use Rattle.grid_quantiser.specs.inside.SegmentFields.{stepped, starts_left, starts_after, next_start, turned, AreWheels}
 use Rattle.grid_quantiser.proofs.General.{set_parts}
 
 -- a wheel that makes a step ends the turn

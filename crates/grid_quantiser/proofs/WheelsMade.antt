@@ -7,17 +7,17 @@ use Rattle.std.proofs.lemmas.Nat.{div-add-mod', mod_below}
 use Rattle.std.proofs.Math.Nat.{add-mul, zero-mul, mul_comm, mod-eq_of_lt, le-mul_of_pos_right}
 use Rattle.std.proofs.Math.Seq.{drop-length}
 use Rattle.grid_quantiser.specs.declared.axis.Axis.{Axis}
-use Rattle.grid_quantiser.specs.declared.runs.Wheel.{Wheel}
+use Rattle.grid_quantiser.specs.declared.segments.Wheel.{Wheel}
 use Rattle.grid_quantiser.specs.Axes.{IsAxis, AreAxes, no_axis, cells_of}
 use Rattle.grid_quantiser.specs.Boxes.{IsCellBox, cells_between}
-use Rattle.grid_quantiser.specs.inside.RunFields.{stepped, whole_turn, starts_left, runs_from, AreWheels, AreRuns}
+use Rattle.grid_quantiser.specs.inside.SegmentFields.{stepped, whole_turn, starts_left, segments_from, AreWheels, AreSegments}
 use Rattle.grid_quantiser.proofs.General.{blocks, turns_of_turns, one_each, difference_parts, quotients_ordered, div-div}
-use Rattle.grid_quantiser.proofs.BoxCells.{part_between, corners_below, box_whole, IsCellBox-drop, box_next, places_ordered, length_step, nth_step}
-use Rattle.grid_quantiser.proofs.BoxRuns.{side_of, starts_of, in_runs, starts_below, box_ordered}
-use Rattle.grid_quantiser.proofs.Suffixes.{next_axis, some_cells, some_later, cells_limit, drop_step, place_step, later_step}
+use Rattle.grid_quantiser.proofs.BoxCells.{part_between, corners_below, box_whole, IsCellBox-drop, box_next, indices_ordered, length_step, nth_step}
+use Rattle.grid_quantiser.proofs.BoxSegments.{extent_of, starts_of, in_segments, starts_below, box_ordered}
+use Rattle.grid_quantiser.proofs.Suffixes.{next_axis, some_cells, some_later, cells_limit, drop_step, index_step, later_step}
 use Rattle.grid_quantiser.proofs.Turning.{starts_head}
 
--- the starts of all runs
+-- the starts of all segments
 abbrev pub full_starts : List Wheel → ℕ → List ℕ
 full_starts [] start = start ∷ []
 full_starts (w ∷ wheels) start = flat_map (whole_turn w) (full_starts wheels start)
@@ -114,43 +114,43 @@ module _ (axes : List Axis) (i f l : ℕ) (each : All IsAxis axes) (some : 0 < i
   wholes : f % whole ≤ l % whole
   wholes = box_ordered (drop (i - 1) axes) (f % whole) (l % whole) (All-drop IsAxis (i - 1) axes each) (mod_below f whole some_whole) (mod_below l whole some_whole) (box_next axes i f l each some within box)
 
-  places : f % whole / inner ≤ l % whole / inner
-  places = rw (← place_step axes i each some within f, ← place_step axes i each some within l) (places_ordered axes i f l each some within box)
+  indices : f % whole / inner ≤ l % whole / inner
+  indices = rw (← index_step axes i each some within f, ← index_step axes i each some within l) (indices_ordered axes i f l each some within box)
 
   -- the steps along the next state
   pub steps_here : (l - f) / inner % (next_axis axes i).count ≡ l % whole / inner - f % whole / inner
   steps_here =
       let inner_rests : f % whole % inner ≤ l % whole % inner = rw (later_step axes i each some within f, later_step axes i each some within l) rests in
-      place_step axes i each some within (l - f)
+      index_step axes i each some within (l - f)
       ∙ ap (λ (d : ℕ). d / inner) (difference_parts f l whole some_whole (quotients_ordered f l whole some_whole order) wholes).1
-      ∙ (difference_parts (f % whole) (l % whole) inner some_inner places inner_rests).0
+      ∙ (difference_parts (f % whole) (l % whole) inner some_inner indices inner_rests).0
 
   module _ (steps rest : ℕ) (left : rest ≡ (l - f) / inner) (is : steps ≡ rest % (next_axis axes i).count) where
-    abbrev place : ℕ → ℕ
-    place c = c / inner % (next_axis axes i).count
+    abbrev index : ℕ → ℕ
+    index c = c / inner % (next_axis axes i).count
 
-    side : steps ≡ place l - place f
-    side = omega (arith, is ∙ ap (λ r. r % (next_axis axes i).count) left ∙ steps_here, place_step axes i each some within f, place_step axes i each some within l)
+    extent : steps ≡ index l - index f
+    extent = omega (arith, is ∙ ap (λ r. r % (next_axis axes i).count) left ∙ steps_here, index_step axes i each some within f, index_step axes i each some within l)
 
     -- the number of cells with one more state
     pub cells_here : (cells : ℕ) → cells ≡ length (part_between axes i f l) → cells * (steps + 1) ≡ length (part_between axes (i - 1) f l)
-    cells_here cells so_far = rw (so_far, side) (mul_comm _ _ ∙ sym (length_step axes i f l each some within box))
+    cells_here cells so_far = rw (so_far, extent) (mul_comm _ _ ∙ sym (length_step axes i f l each some within box))
 
     -- which of the cells comes, in the outer states
     pub turns_here : (j turns : ℕ) → turns ≡ j / length (part_between axes i f l) → turns / (steps + 1) ≡ j / length (part_between axes (i - 1) f l)
     turns_here j turns so_far =
-        rw (so_far, side) (div-div j (place l - place f + 1) (length (part_between axes i f l)) ∙ ap (λ n. j / n) (sym (length_step axes i f l each some within box)))
+        rw (so_far, extent) (div-div j (index l - index f + 1) (length (part_between axes i f l)) ∙ ap (λ n. j / n) (sym (length_step axes i f l each some within box)))
 
     -- the cell that comes, with one more state
     pub nth_here : (j turns cell : ℕ) → turns ≡ j / length (part_between axes i f l) → cell + f % inner ≡ f + get_or (part_between axes i f l) (j % length (part_between axes i f l)) 0 →
         cell + turns % (steps + 1) * inner + f % whole ≡ f + get_or (part_between axes (i - 1) f l) (j % length (part_between axes (i - 1) f l)) 0
     nth_here j turns cell so_far here =
-        let moved : turns % (steps + 1) ≡ j / length (part_between axes i f l) % (place l - place f + 1) = rw (so_far, side) refl in
-        let first : f % whole ≡ place f * inner + f % inner =
-        sym (div-add-mod' (f % whole) inner) ∙ ap (λ p. p * inner + f % whole % inner) (sym (place_step axes i each some within f)) ∙ ap (λ r. place f * inner + r) (later_step axes i each some within f)
+        let moved : turns % (steps + 1) ≡ j / length (part_between axes i f l) % (index l - index f + 1) = rw (so_far, extent) refl in
+        let first : f % whole ≡ index f * inner + f % inner =
+        sym (div-add-mod' (f % whole) inner) ∙ ap (λ p. p * inner + f % whole % inner) (sym (index_step axes i each some within f)) ∙ ap (λ r. index f * inner + r) (later_step axes i each some within f)
         in
         let next = nth_step axes i f l each some within box j in
-        omega (arith, here, first, next, ap (λ p. p * inner) moved, add-mul (place f) (j / length (part_between axes i f l) % (place l - place f + 1)) inner)
+        omega (arith, here, first, next, ap (λ p. p * inner) moved, add-mul (index f) (j / length (part_between axes i f l) % (index l - index f + 1)) inner)
 
   pub starts_here : (more : i < length axes) → (wheels : List Wheel) (steps : ℕ) → steps ≡ (l - f) / inner % (next_axis axes i).count → full_starts wheels (f % inner) ≡ starts_of (drop i axes) (f % inner) (l % inner) →
       full_starts (wheels ++ record { stride = inner; steps = steps; left = steps } ∷ []) (f % whole) ≡ starts_of (drop (i - 1) axes) (f % whole) (l % whole)
@@ -167,7 +167,7 @@ module _ (axes : List Axis) (i f l : ℕ) (each : All IsAxis axes) (some : 0 < i
       full_starts (wheels ++ record { stride = cells_of later; steps = steps; left = steps } ∷ []) (f % whole) ≡ starts_of (next_axis axes i ∷ later) (f % whole) (l % whole)
       in
       let made : P (drop i axes) = subst P (sym opened) (λ so_far is order. more_starts wheels (next_axis axes i) b (drop (i + 1) axes) (f % whole) (l % whole) steps so_far is order) in
-      made here same places ∙ ap (λ (later : List Axis). starts_of later (f % whole) (l % whole)) (sym (drop_step axes i some within))
+      made here same indices ∙ ap (λ (later : List Axis). starts_of later (f % whole) (l % whole)) (sym (drop_step axes i some within))
 
 last_alone : (axes : List Axis) → 1 ≤ length axes → drop (length axes - 1) axes ≡ get_or axes (length axes - 1) no_axis ∷ []
 last_alone axes some =
@@ -184,12 +184,12 @@ no_wheel axes wheels n f l some none =
     let P : ℕ → Type 0 = λ m. AreFresh (take m wheels) × (full_starts (take m wheels) f ≡ starts_of (drop (length axes - 1) axes) f l) in
     subst P (sym none) ((λ k d lt. absurd (omega (arith, lt))), ap (λ (later : List Axis). starts_of later f l) (sym (last_alone axes some)))
 
--- one wheel more in its place
+-- one wheel more in its index
 pub wheel_set : (wheels : List Wheel) (turning i : ℕ) (w : Wheel) → 0 < i → i ≤ turning → turning - i < length wheels → take (turning - (i - 1)) (set wheels (turning - 1 - (i - 1)) w) ≡ take (turning - i) wheels ++ w ∷ []
-wheel_set wheels turning i w some within room =
+wheel_set wheels turning i w some within capacity =
     let at : turning - 1 - (i - 1) ≡ turning - i = omega arith in
     let long : turning - (i - 1) ≡ turning - i + 1 = omega arith in
-    ap (λ (n : ℕ). take n (set wheels (turning - 1 - (i - 1)) w)) long ∙ ap (λ (k : ℕ). take (turning - i + 1) (set wheels k w)) at ∙ take_more_set wheels (turning - i) w room
+    ap (λ (n : ℕ). take n (set wheels (turning - 1 - (i - 1)) w)) long ∙ ap (λ (k : ℕ). take (turning - i + 1) (set wheels k w)) at ∙ take_more_set wheels (turning - i) w capacity
 
 pub fresh_more : (wheels : List Wheel) (w : Wheel) → AreFresh wheels → w.left ≡ w.steps → AreFresh (wheels ++ w ∷ [])
 fresh_more wheels w fresh here = All-append (λ (v : Wheel). v.left ≡ v.steps) wheels (w ∷ []) fresh (λ k d lt. only k d lt)
@@ -251,8 +251,8 @@ module _ (axes : List Axis) (f l turning i : ℕ) (wheels : List Wheel) (c : Are
       ∙ ap (λ (n : ℕ). starts_of axes n (l % cells_of axes)) (mod-eq_of_lt c.low)
       ∙ ap (λ (n : ℕ). starts_of axes f n) (mod-eq_of_lt c.high)
 
-  pub made_runs : (side : ℕ) → length wheels ≡ 5 → 1 ≤ side → AreRuns wheels turning (Some f) side
-  made_runs side five some = record {
+  pub made_segments : (extent : ℕ) → length wheels ≡ 5 → 1 ≤ extent → AreSegments wheels turning (Some f) extent
+  made_segments extent five some = record {
     five = five;
     within = omega (arith, all, c.grid.states_bound);
     some = some;
@@ -260,5 +260,5 @@ module _ (axes : List Axis) (f l turning i : ℕ) (wheels : List Wheel) (c : Are
     few = rw made_starts (All-weaker (λ s. s < cells_of axes) (λ s. s < 2 ^ 32) (λ s below. omega (arith, below, c.limit)) (starts_of axes f l) (starts_below axes f l c.grid.each c.grid.some_state c.ordered));
   }
 
-  pub made_cells : (side : ℕ) → side ≡ side_of axes f l → runs_from side (starts_left (take turning wheels) f) ≡ cells_between axes f l
-  made_cells side is = ap (runs_from side) made_starts ∙ ap (λ (m : ℕ). runs_from m (starts_of axes f l)) is ∙ sym (in_runs axes f l c.grid.some_state)
+  pub made_cells : (extent : ℕ) → extent ≡ extent_of axes f l → segments_from extent (starts_left (take turning wheels) f) ≡ cells_between axes f l
+  made_cells extent is = ap (segments_from extent) made_starts ∙ ap (λ (m : ℕ). segments_from m (starts_of axes f l)) is ∙ sym (in_segments axes f l c.grid.some_state)

@@ -3,21 +3,21 @@ use Rattle.std.specs.Prelude.{◌≡◌, ℕ, ◌+◌, ◌-◌, ◌*◌, ◌/◌
 use Rattle.grid_quantiser.specs.declared.axis.Axis.{Axis}
 use Rattle.grid_quantiser.specs.Axes.{end_of, cells_of}
 
--- a state lies in the domain: in each place from the least number of the axis to its greatest
+-- a state lies in the domain: in each index from the least number of the axis to its greatest
 abbrev pub IsInDomain : List Axis → List ℤ → Type 0
 IsInDomain [] xs = Unit {0}
 IsInDomain (a ∷ axes) [] = ⊥
 IsInDomain (a ∷ axes) (x ∷ xs) = (a.lo ≤ℤ x) × (x <ℤ end_of a) × IsInDomain axes xs
 
--- the place of a number on an axis: the floor of its distance from the low end by the width
-abbrev pub place_of : Axis → ℤ → ℕ
-place_of a x = nat_abs (x -ℤ a.lo) / nat_abs a.width
+-- the index of a number on an axis: the floor of its distance from the low end by the width
+abbrev pub index_of : Axis → ℤ → ℕ
+index_of a x = nat_abs (x -ℤ a.lo) / nat_abs a.width
 
--- the cell of a state: its places as one number, the first state varying slowest
+-- the cell of a state: its indices as one number, the first state varying slowest
 abbrev pub cell_of : List Axis → List ℤ → ℕ
 cell_of [] xs = 0
 cell_of (a ∷ axes) [] = 0
-cell_of (a ∷ axes) (x ∷ xs) = place_of a x * cells_of axes + cell_of axes xs
+cell_of (a ∷ axes) (x ∷ xs) = index_of a x * cells_of axes + cell_of axes xs
 
 -- the points of a cell
 abbrev pub IsPointOf : List Axis → ℕ → List ℤ → Type 0

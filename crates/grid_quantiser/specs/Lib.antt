@@ -1,9 +1,9 @@
 pub mod Axes
 pub mod Cells
-pub mod Places
+pub mod Indices
 pub mod Boxes
-pub mod Runs
-pub mod Sides
-pub mod SideBoxes
+pub mod Segments
+pub mod Extents
+pub mod ExtentBoxes
 pub mod Laws
 pub mod inside

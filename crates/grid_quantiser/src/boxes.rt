@@ -7,7 +7,7 @@ ghost use Rattle.grid_quantiser.specs.Boxes.{IsAtMost, IsBoxInDomain, Touches, L
 use crate::axis::Axis;
 use crate::cells::cell_in;
 use crate::grid::{Grid, Point};
-use crate::runs::split;
+use crate::segments::split;
 
 /// A box of cells of a grid, by the numbers of its lowest and its highest corner.
 #[derive(Clone, Copy, PartialEq, Eq)]
@@ -89,8 +89,8 @@ impl Grid {
         for k in (0..axes.len()).rev() {
             let count = axes[k].count as u32;
             let (quotient, steps) = split(rest, count);
-            let (turns, place) = split(left, steps + 1);
-            cell += place * stride;
+            let (turns, digit) = split(left, steps + 1);
+            cell += digit * stride;
             stride *= count;
             left = turns;
             rest = quotient;

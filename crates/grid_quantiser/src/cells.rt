@@ -3,7 +3,7 @@ ghost use Rattle.grid_quantiser.specs.Axes.{cells_of, AreAxes};
 ghost use Rattle.grid_quantiser.specs.Cells.{IsInDomain, cell_of, low_of, centre_of, high_of, point_of};
 ghost use Rattle.grid_quantiser.specs.inside.Spots.{numbers_of};
 
-use crate::axis::{Axis, Spot};
+use crate::axis::{Axis, CellPoint};
 use crate::grid::{Grid, Point, STATES_LIMIT};
 
 impl Grid {
@@ -24,7 +24,7 @@ impl Grid {
         requires { c < cells_of self.now }
         ensures { result ≡ point_of (centre_of self.now c) }
     {
-        self.point(c, Spot::Centre)
+        self.point(c, CellPoint::Centre)
     }
 
     /// The least point of a cell.
@@ -33,7 +33,7 @@ impl Grid {
         requires { c < cells_of self.now }
         ensures { result ≡ point_of (low_of self.now c) }
     {
-        self.point(c, Spot::Least)
+        self.point(c, CellPoint::Low)
     }
 
     /// The greatest point of a cell.
@@ -42,20 +42,20 @@ impl Grid {
         requires { c < cells_of self.now }
         ensures { result ≡ point_of (high_of self.now c) }
     {
-        self.point(c, Spot::Greatest)
+        self.point(c, CellPoint::High)
     }
 
-    /// One number of each state's place in a cell.
+    /// One number of each state's index in a cell.
     #[inline]
-    fn point(&self, c: u32, spot: Spot) -> Point
+    fn point(&self, c: u32, cell_point: CellPoint) -> Point
         requires { c < cells_of self.now }
-        ensures { result ≡ point_of (numbers_of spot self.now c) }
+        ensures { result ≡ point_of (numbers_of cell_point self.now c) }
     {
         let axes = self.axes();
         let mut point = [0; STATES_LIMIT];
         let mut rest = u64::from(c);
         for i in (0..axes.len()).rev() {
-            point[i] = axes[i].number(rest % axes[i].count, spot);
+            point[i] = axes[i].number(rest % axes[i].count, cell_point);
             rest /= axes[i].count;
         }
         point
@@ -73,8 +73,8 @@ pub(crate) fn cell_in(axes: &[Axis], x: &Point) -> Option<u32>
     let mut cell: u64 = 0;
     let mut stride: u64 = 1;
     for i in (0..axes.len()).rev() {
-        let place = axes[i].place(x[i])?;
-        cell += place * stride;
+        let along = axes[i].index_holding(x[i])?;
+        cell += along * stride;
         stride *= axes[i].count;
     }
     Some(cell as u32)

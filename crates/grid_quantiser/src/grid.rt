@@ -8,7 +8,7 @@ use std::marker::Model;
 /// The most states of a grid.
 pub const STATES_LIMIT: usize = 6;
 
-/// The numbers of a state, one for each axis of the grid. The places past the last axis are 0 in
+/// The numbers of a state, one for each axis of the grid. The indices past the last axis are 0 in
 /// an answer, and are not looked at in what a call is given.
 pub type Point = [i128; STATES_LIMIT];
 

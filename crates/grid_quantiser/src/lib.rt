@@ -8,16 +8,16 @@
 mod axis;
 mod boxes;
 mod cells;
+mod extents;
 mod grid;
 pub mod laws;
-mod ruler;
-mod runs;
-mod shares;
-mod sides;
+mod overlaps;
+mod quantiser;
+mod segments;
 
 pub use axis::{Axis, NO_AXIS};
 pub use boxes::CellBox;
+pub use extents::Extent;
 pub use grid::{Grid, Point, STATES_LIMIT, TooManyCells};
-pub use ruler::Ruler;
-pub use runs::Runs;
-pub use sides::Side;
+pub use quantiser::AxisQuantiser;
+pub use segments::Segments;

@@ -5,9 +5,9 @@ use Rattle.std.specs.Int.{int_max}
 use Rattle.std.proofs.lemmas.Int.{ints, clamps, by_lt_z}
 use Rattle.std.proofs.Math.Nat.{mul-le-mul_left, mul-le-mul_right}
 use borrow.Author.Differences.{up, down}
-use Rattle.fixed_expr.specs.Quotient.{floor_div}
+use Rattle.fixed_expr.specs.DivExpr.{floor_div}
 use Rattle.fixed_expr.specs.Curves.{RiseFrom, IsCurve, value_along, value_from, curve_value}
-use Rattle.fixed_expr.proofs.Laws.{at_left, on_piece, behind_piece, before_first}
+use Rattle.fixed_expr.proofs.Laws.{at_left, on_piece, after_piece, before_first}
 use Rattle.growth_bound.specs.Deviation.{IsNear, rise_of, rise_from, greatest_rise}
 use Rattle.growth_bound.proofs.Division.{floor_bounds, ceiling_bound}
 use Rattle.growth_bound.proofs.Distances.{near_multiple, near_quotient}
@@ -143,7 +143,7 @@ from_first d t (q ∷ points) p x moves rises most above =
     let rest = from_first d t points q x moves rises.1 others past in
     let up_there = climbs d t moves p q rises.0 first in
     let down_there = falls d t moves p q rises.0 first in
-    subst (FromFirst d t p x) (sym (behind_piece p q points x rises.0 past)) (joined p.0 p.1 q.0 q.1 x (value_from q points x) up_there down_there rest.rising rest.falling))
+    subst (FromFirst d t p x) (sym (after_piece p q points x rises.0 past)) (joined p.0 p.1 q.0 q.1 x (value_from q points x) up_there down_there rest.rising rest.falling))
   where
     first : rise_of p q d ≤ t
     first = omega (arith, most)
@@ -179,7 +179,7 @@ clamped p q points x rises below =
 near_from : (d t : ℕ) (points : List (ℤ × ℤ)) (p : ℤ × ℤ) (v w : ℤ) → 0 < d → RiseFrom p points → rise_from p points d ≤ t → v ≤ℤ w → w ≤ℤ (v +ℤ pos d) → IsNear (pos t) (value_from p points v) (value_from p points w)
 near_from d t [] p v w moves rises most order near = (omega (arith, ints), omega (arith, ints))
 near_from d t (q ∷ points) p v w moves rises most order near =
-    by_lt_z w q.0 both (λ past. by_lt_z v q.0 (λ before. across before past) (λ behind. later (near_from d t points q v w moves rises.1 (omega (arith, most)) order near) behind past))
+    by_lt_z w q.0 both (λ past. by_lt_z v q.0 (λ before. across before past) (λ after. later (near_from d t points q v w moves rises.1 (omega (arith, most)) order near) after past))
   where
     first : rise_of p q d ≤ t
     first = omega (arith, most)
@@ -205,7 +205,7 @@ near_from d t (q ∷ points) p v w moves rises most order near =
         let b : ℤ = value_from q points w in
         subst₂ (λ (y z : ℤ). IsNear (pos t) y z)
         (sym (clamped p q points v rise before))
-        (sym (behind_piece p q points w rise past))
+        (sym (after_piece p q points w rise past))
         (bound (int_max v p.0) a q.0 q.1 w b here.up_to here.down_to there.rising there.falling way)
       where
         bound : (v a c e w b : ℤ) → NearlyClimbs d t v a c e → Climbs d t v e c a → Climbs d t c e w b → NearlyClimbs d t c b w e → w ≤ℤ (v +ℤ pos d) → IsNear (pos t) a b
@@ -215,10 +215,10 @@ near_from d t (q ∷ points) p v w moves rises most order near =
             (close d t v b w a moves down_all way, close d t v a w b moves up_all way)
 
     later : IsNear (pos t) (value_from q points v) (value_from q points w) → q.0 ≤ℤ v → q.0 ≤ℤ w → IsNear (pos t) (value_from p (q ∷ points) v) (value_from p (q ∷ points) w)
-    later rest behind past =
+    later rest after past =
         subst₂ (λ (y z : ℤ). IsNear (pos t) y z)
-        (sym (behind_piece p q points v rises.0 behind))
-        (sym (behind_piece p q points w rises.0 past))
+        (sym (after_piece p q points v rises.0 after))
+        (sym (after_piece p q points w rises.0 past))
         rest
 
 turned_round : (r x y : ℤ) → IsNear r x y → IsNear r y x
@@ -236,4 +236,4 @@ near_lookup (p ∷ points) (suc d) v w curve near =
     let t : ℕ = rise_from p points (suc d) in
     by_lt_z v w
     (λ before. near_from (suc d) t points p v w (omega arith) curve.rising (omega arith) (omega (arith, ints, before)) near.1)
-    (λ behind. turned_round (pos t) (value_from p points w) (value_from p points v) (near_from (suc d) t points p w v (omega arith) curve.rising (omega arith) behind near.0))
+    (λ after. turned_round (pos t) (value_from p points w) (value_from p points v) (near_from (suc d) t points p w v (omega arith) curve.rising (omega arith) after near.0))

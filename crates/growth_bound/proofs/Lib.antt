@@ -4,5 +4,5 @@ pub mod Distances
 pub mod Slopes
 pub mod CurveDistances
 pub mod Moves
-pub mod Resting
+pub mod Depending
 pub mod Laws

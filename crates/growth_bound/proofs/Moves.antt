@@ -2,7 +2,7 @@
 use Rattle.std.proofs.Common.{◌≡◌, ℕ, zero, suc, ◌≤◌, subst, sym, List, [], ◌∷◌, length, arith, slice_index_or}
 use Rattle.std.specs.Prelude.{ℤ, pos, nat_abs}
 use Rattle.std.proofs.lemmas.Int.{ints}
-use Rattle.fixed_expr.specs.Expression.{Expression, Number, Variable, Negation, Sum, Difference, Product, Quotient, Minimum, Maximum, Absolute, Lookup}
+use Rattle.fixed_expr.specs.Expression.{Expression, NumExpr, VarExpr, NegExpr, AddExpr, SubExpr, MulExpr, DivExpr, MinExpr, MaxExpr, AbsExpr, LutExpr}
 use Rattle.fixed_expr.specs.Value.{IsWellFormed, value_of}
 use Rattle.interval_eval.specs.declared.interval.Interval.{Interval}
 use Rattle.interval_eval.specs.Span.{IsIn, AreIn, span_of}
@@ -25,29 +25,29 @@ within_magnitude a x h = omega (arith, ints, h.0, h.1)
 
 -- the values are at most the deviation apart, as values lie in their spans
 pub values_move : (e : Expression) (area : List Interval) (radii xs ys : List ℤ) → IsWellFormed e (length area) → AreIn area xs → AreIn area ys → AreNear radii xs ys → IsNear (pos (deviation_of e area radii)) (value_of e xs) (value_of e ys)
-values_move (Number k) area radii xs ys formed p q h = (omega (arith, ints), omega (arith, ints))
-values_move (Variable i) area radii xs ys formed p q h = near_variable radii xs ys i h
-values_move (Negation a) area radii xs ys formed p q h =
+values_move (NumExpr k) area radii xs ys formed p q h = (omega (arith, ints), omega (arith, ints))
+values_move (VarExpr i) area radii xs ys formed p q h = near_variable radii xs ys i h
+values_move (NegExpr a) area radii xs ys formed p q h =
     near_negation (deviation_of a area radii) (value_of a xs) (value_of a ys) (values_move a area radii xs ys formed p q h)
-values_move (Sum a b) area radii xs ys formed p q h =
+values_move (AddExpr a b) area radii xs ys formed p q h =
     near_sum (deviation_of a area radii) (deviation_of b area radii) (value_of a xs) (value_of a ys) (value_of b xs) (value_of b ys) (values_move a area radii xs ys formed.0 p q h) (values_move b area radii xs ys formed.1 p q h)
-values_move (Difference a b) area radii xs ys formed p q h =
+values_move (SubExpr a b) area radii xs ys formed p q h =
     near_difference (deviation_of a area radii) (deviation_of b area radii) (value_of a xs) (value_of a ys) (value_of b xs) (value_of b ys) (values_move a area radii xs ys formed.0 p q h) (values_move b area radii xs ys formed.1 p q h)
-values_move (Product a b) area radii xs ys formed p q h =
+values_move (MulExpr a b) area radii xs ys formed p q h =
     near_product (magnitude_of (span_of a area)) (magnitude_of (span_of b area)) (deviation_of a area radii) (deviation_of b area radii) (value_of a xs) (value_of a ys) (value_of b xs) (value_of b ys)
     (within_magnitude (span_of a area) (value_of a xs) (values_lie_in_spans a area xs formed.0 p))
     (within_magnitude (span_of b area) (value_of b ys) (values_lie_in_spans b area ys formed.1 q))
     (values_move a area radii xs ys formed.0 p q h)
     (values_move b area radii xs ys formed.1 p q h)
-values_move (Quotient a k) area radii xs ys formed p q h =
+values_move (DivExpr a k) area radii xs ys formed p q h =
     near_quotient (deviation_of a area radii) (value_of a xs) (value_of a ys) k formed.1 (values_move a area radii xs ys formed.0 p q h)
-values_move (Minimum a b) area radii xs ys formed p q h =
+values_move (MinExpr a b) area radii xs ys formed p q h =
     near_minimum (deviation_of a area radii) (deviation_of b area radii) (value_of a xs) (value_of a ys) (value_of b xs) (value_of b ys) (values_move a area radii xs ys formed.0 p q h) (values_move b area radii xs ys formed.1 p q h)
-values_move (Maximum a b) area radii xs ys formed p q h =
+values_move (MaxExpr a b) area radii xs ys formed p q h =
     near_maximum (deviation_of a area radii) (deviation_of b area radii) (value_of a xs) (value_of a ys) (value_of b xs) (value_of b ys) (values_move a area radii xs ys formed.0 p q h) (values_move b area radii xs ys formed.1 p q h)
-values_move (Absolute a) area radii xs ys formed p q h =
+values_move (AbsExpr a) area radii xs ys formed p q h =
     near_absolute (deviation_of a area radii) (value_of a xs) (value_of a ys) (values_move a area radii xs ys formed p q h)
-values_move (Lookup a points) area radii xs ys formed p q h =
+values_move (LutExpr a points) area radii xs ys formed p q h =
     near_lookup points (deviation_of a area radii) (value_of a xs) (value_of a ys) formed.1 (values_move a area radii xs ys formed.0 p q h)
 
 -- the same of a number that is the deviation

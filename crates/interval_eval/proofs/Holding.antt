@@ -4,8 +4,8 @@ use Rattle.std.specs.Prelude.{ℤ, pos, nat_abs, neg_ℤ, ◌+ℤ◌, ◌-ℤ◌
 use Rattle.std.specs.Int.{int_min, int_max}
 use Rattle.std.proofs.lemmas.Int.{ints, clamps}
 use Rattle.std.proofs.lemmas.List.Elements.{All-head, All-tail}
-use Rattle.fixed_expr.specs.Quotient.{floor_div}
-use Rattle.fixed_expr.specs.Expression.{Expression, Number, Variable, Negation, Sum, Difference, Product, Quotient, Minimum, Maximum, Absolute, Lookup}
+use Rattle.fixed_expr.specs.DivExpr.{floor_div}
+use Rattle.fixed_expr.specs.Expression.{Expression, NumExpr, VarExpr, NegExpr, AddExpr, SubExpr, MulExpr, DivExpr, MinExpr, MaxExpr, AbsExpr, LutExpr}
 use Rattle.fixed_expr.specs.Value.{IsWellFormed, value_of}
 use Rattle.interval_eval.specs.declared.interval.Interval.{Interval}
 use Rattle.interval_eval.specs.Span.{IsInterval, IsIn, AreIn, SpanStaysInRange, negation_of, sum_of, difference_of, product_of, quotient_of, minimum_of, maximum_of, absolute_of, span_of}
@@ -59,23 +59,23 @@ in_absolute a x h = (by (int_le (pos 0) a.lo) (int_le a.hi (pos 0)) refl refl, o
 
 -- a value over the area lies in the span
 pub values_lie : (e : Expression) (area : List Interval) (values : List ℤ) → IsWellFormed e (length area) → AreIn area values → IsIn (span_of e area) (value_of e values)
-values_lie (Number k) area values formed h = (omega (arith, ints), omega (arith, ints))
-values_lie (Variable i) area values formed h = in_variable area values i (record { lo = pos 0; hi = pos 0 }) (pos 0) formed h
-values_lie (Negation a) area values formed h = in_negation (span_of a area) (value_of a values) (values_lie a area values formed h)
-values_lie (Sum a b) area values formed h =
+values_lie (NumExpr k) area values formed h = (omega (arith, ints), omega (arith, ints))
+values_lie (VarExpr i) area values formed h = in_variable area values i (record { lo = pos 0; hi = pos 0 }) (pos 0) formed h
+values_lie (NegExpr a) area values formed h = in_negation (span_of a area) (value_of a values) (values_lie a area values formed h)
+values_lie (AddExpr a b) area values formed h =
     in_sum (span_of a area) (span_of b area) (value_of a values) (value_of b values) (values_lie a area values formed.0 h) (values_lie b area values formed.1 h)
-values_lie (Difference a b) area values formed h =
+values_lie (SubExpr a b) area values formed h =
     in_difference (span_of a area) (span_of b area) (value_of a values) (value_of b values) (values_lie a area values formed.0 h) (values_lie b area values formed.1 h)
-values_lie (Product a b) area values formed h =
+values_lie (MulExpr a b) area values formed h =
     in_product (span_of a area) (span_of b area) (value_of a values) (value_of b values) (values_lie a area values formed.0 h) (values_lie b area values formed.1 h)
-values_lie (Quotient a k) area values formed h =
+values_lie (DivExpr a k) area values formed h =
     in_quotient (span_of a area) k (value_of a values) formed.1 (values_lie a area values formed.0 h)
-values_lie (Minimum a b) area values formed h =
+values_lie (MinExpr a b) area values formed h =
     in_minimum (span_of a area) (span_of b area) (value_of a values) (value_of b values) (values_lie a area values formed.0 h) (values_lie b area values formed.1 h)
-values_lie (Maximum a b) area values formed h =
+values_lie (MaxExpr a b) area values formed h =
     in_maximum (span_of a area) (span_of b area) (value_of a values) (value_of b values) (values_lie a area values formed.0 h) (values_lie b area values formed.1 h)
-values_lie (Absolute a) area values formed h = in_absolute (span_of a area) (value_of a values) (values_lie a area values formed h)
-values_lie (Lookup a points) area values formed h = in_lookup points (span_of a area) (value_of a values) formed.1 (values_lie a area values formed.0 h)
+values_lie (AbsExpr a) area values formed h = in_absolute (span_of a area) (value_of a values) (values_lie a area values formed h)
+values_lie (LutExpr a points) area values formed h = in_lookup points (span_of a area) (value_of a values) formed.1 (values_lie a area values formed.0 h)
 
 lows : List Interval → List ℤ
 lows [] = []

@@ -3,7 +3,7 @@ pub mod Lookups
 pub mod Holding
 pub mod Ranging
 pub mod Corners
-pub mod Resting
+pub mod Depending
 pub mod Nesting
 pub mod MovingSpans
 pub mod IntervalColumns

@@ -7,7 +7,7 @@ use Rattle.std.proofs.lemmas.Bool.{false≢true}
 use Rattle.std.proofs.lemmas.Int.{ints, clamps, by_lt_z, fold-int_min_bounds, fold-int_max_bounds}
 use Rattle.std.proofs.lemmas.List.Elements.{All-head, All-tail, All-cons, All-nil, All-get_or, All-from_get_or}
 use Rattle.fixed_expr.specs.Curves.{RiseFrom, IsCurve, value_along, value_from, curve_value}
-use Rattle.fixed_expr.proofs.Laws.{between_ends, at_left, at_right, on_piece, behind_piece, before_first}
+use Rattle.fixed_expr.proofs.Laws.{between_ends, at_left, at_right, on_piece, after_piece, before_first}
 use Rattle.interval_eval.specs.declared.interval.Interval.{Interval}
 use Rattle.interval_eval.specs.Span.{IsInterval, IsIn, is_in, values_within, lookup_of}
 use Rattle.interval_eval.specs.Parts.{IsPartOf}
@@ -32,7 +32,7 @@ same_at z = omega (arith, ints)
 value_in : (points : List (ℤ × ℤ)) (p : ℤ × ℤ) (a s : Interval) (x : ℤ) → RiseFrom p points → IsIn a x → IsIn s (value_from p points a.lo) → IsIn s (value_from p points a.hi) → Covers a s (p ∷ points) → IsIn s (value_from p points x)
 value_in [] p a s x rises inside low high covers = low
 value_in (q ∷ points) p a s x rises inside low high covers =
-    by_lt_z x q.0 before (behind (λ b within at_low at_high each. value_in points q b s x rises.1 within at_low at_high each))
+    by_lt_z x q.0 before (after (λ b within at_low at_high each. value_in points q b s x rises.1 within at_low at_high each))
   where
     rise : p.0 <ℤ q.0
     rise = rises.0
@@ -64,18 +64,18 @@ value_in (q ∷ points) p a s x rises inside low high covers =
     before : x <ℤ q.0 → IsIn s (value_from p (q ∷ points) x)
     before below = by_lt_z p.0 x (λ above. inner above below) outer
 
-    behind : ((b : Interval) → IsIn b x → IsIn s (value_from q points b.lo) → IsIn s (value_from q points b.hi) → Covers b s (q ∷ points) → IsIn s (value_from q points x)) → q.0 ≤ℤ x → IsIn s (value_from p (q ∷ points) x)
-    behind later past =
+    after : ((b : Interval) → IsIn b x → IsIn s (value_from q points b.lo) → IsIn s (value_from q points b.hi) → Covers b s (q ∷ points) → IsIn s (value_from q points x)) → q.0 ≤ℤ x → IsIn s (value_from p (q ∷ points) x)
+    after later past =
         let last : q.0 ≤ℤ a.hi = omega (arith, ints, past, inside.1) in
-        let at_high : IsIn s (value_from q points a.hi) = subst (IsIn s) (behind_piece p q points a.hi rise last) high in
-        subst (IsIn s) (sym (behind_piece p q points x rise past))
+        let at_high : IsIn s (value_from q points a.hi) = subst (IsIn s) (after_piece p q points a.hi rise last) high in
+        subst (IsIn s) (sym (after_piece p q points x rise past))
         (by_lt_z a.lo q.0
         (λ out.
         let rest : Interval = record { lo = q.0; hi = a.hi } in
         let here : IsIn s q.1 = covers.1.0 (omega (arith, ints, out)) last in
         let at_low : IsIn s (value_from q points q.0) = subst (IsIn s) (sym (before_first q points q.0 (same_at q.0))) here in
         later rest (past, inside.1) at_low at_high (narrower rest a s (q ∷ points) (omega (arith, ints, out), same_at a.hi) covers.1))
-        (λ in'. later a inside (subst (IsIn s) (behind_piece p q points a.lo rise in') low) at_high covers.1))
+        (λ in'. later a inside (subst (IsIn s) (after_piece p q points a.lo rise in') low) at_high covers.1))
 
 -- ---- the least and the greatest value
 

@@ -3,13 +3,13 @@ use Rattle.std.proofs.Common.{◌≡◌, ℕ, true, false, not, ◌||◌, ◌&&�
 use Rattle.std.specs.Prelude.{◌-ℤ◌}
 use Rattle.std.proofs.lemmas.Int.{ints}
 use Rattle.std.proofs.lemmas.Bool.{or_left, or_right, or_cases, and_parts, not-true, eqb-true, false≢true}
-use Rattle.fixed_expr.specs.Expression.{Expression, Number, Variable, Negation, Sum, Difference, Product, Quotient, Minimum, Maximum, Absolute, Lookup}
+use Rattle.fixed_expr.specs.Expression.{Expression, NumExpr, VarExpr, NegExpr, AddExpr, SubExpr, MulExpr, DivExpr, MinExpr, MaxExpr, AbsExpr, LutExpr}
 use Rattle.fixed_expr.specs.Mentions.{mentions}
-use Rattle.fixed_expr.specs.Moves.{moves_with}
+use Rattle.fixed_expr.specs.Moves.{shifts_with}
 use Rattle.interval_eval.specs.declared.interval.Interval.{Interval}
 use Rattle.interval_eval.specs.Span.{span_of}
 use Rattle.interval_eval.specs.inside.Nested.{range_at, HaveSameRangesBut}
-use Rattle.interval_eval.proofs.Resting.{agree}
+use Rattle.interval_eval.proofs.Depending.{agree}
 
 -- two intervals moved from two others by one distance at each end
 abbrev AreMoved : Interval → Interval → Interval → Interval → Type 0
@@ -17,7 +17,7 @@ AreMoved s i t j = (s.lo -ℤ i.lo ≡ t.lo -ℤ j.lo) × (s.hi -ℤ i.hi ≡ t.
 
 module _ (k : ℕ) (area other : List Interval) where
   abbrev Moves : Expression → Type 0
-  Moves e = moves_with e k ≡ true → HaveSameRangesBut k e area other → AreMoved (span_of e area) (range_at area k) (span_of e other) (range_at other k)
+  Moves e = shifts_with e k ≡ true → HaveSameRangesBut k e area other → AreMoved (span_of e area) (range_at area k) (span_of e other) (range_at other k)
 
   -- a part that doesn't mention the variable has one span
   stays : (e : Expression) → mentions e k ≡ false → HaveSameRangesBut k e area other → span_of e area ≡ span_of e other
@@ -37,34 +37,34 @@ module _ (k : ℕ) (area other : List Interval) where
     right i apart here = same i apart (or_right (mentions a i) (mentions b i) here)
 
   pub moves : (e : Expression) → Moves e
-  moves (Number c) is same = absurd (false≢true is)
-  moves (Variable j) is same =
+  moves (NumExpr c) is same = absurd (false≢true is)
+  moves (VarExpr j) is same =
       let here : j ≡ k = eqb-true j k is in
       let one : range_at area j ≡ range_at area k = ap (range_at area) here in
       let two : range_at other j ≡ range_at other k = ap (range_at other) here in
       (omega (arith, ints, ap (λ (i : Interval). i.lo) one, ap (λ (i : Interval). i.lo) two), omega (arith, ints, ap (λ (i : Interval). i.hi) one, ap (λ (i : Interval). i.hi) two))
-  moves (Sum a b) is same =
-      elim (or_cases (moves_with a k && not (mentions b k)) (not (mentions a k) && moves_with b k) is) [
+  moves (AddExpr a b) is same =
+      elim (or_cases (shifts_with a k && not (mentions b k)) (not (mentions a k) && shifts_with b k) is) [
         | inl first ↦
-            let parts = and_parts (moves_with a k) (not (mentions b k)) first in
+            let parts = and_parts (shifts_with a k) (not (mentions b k)) first in
             let moved = moves a parts.0 (left a b same) in
             let rest = stays b (not-true (mentions b k) parts.1) (right a b same) in
             (omega (arith, ints, moved.0, lows b rest), omega (arith, ints, moved.1, highs b rest))
         | inr second ↦
-            let parts = and_parts (not (mentions a k)) (moves_with b k) second in
+            let parts = and_parts (not (mentions a k)) (shifts_with b k) second in
             let rest = stays a (not-true (mentions a k) parts.0) (left a b same) in
             let moved = moves b parts.1 (right a b same) in
             (omega (arith, ints, moved.0, lows a rest), omega (arith, ints, moved.1, highs a rest))
       ]
-  moves (Difference a b) is same =
-      let parts = and_parts (moves_with a k) (not (mentions b k)) is in
+  moves (SubExpr a b) is same =
+      let parts = and_parts (shifts_with a k) (not (mentions b k)) is in
       let moved = moves a parts.0 (left a b same) in
       let rest = stays b (not-true (mentions b k) parts.1) (right a b same) in
       (omega (arith, ints, moved.0, highs b rest), omega (arith, ints, moved.1, lows b rest))
-  moves (Negation a) is same = absurd (false≢true is)
-  moves (Product a b) is same = absurd (false≢true is)
-  moves (Quotient a c) is same = absurd (false≢true is)
-  moves (Minimum a b) is same = absurd (false≢true is)
-  moves (Maximum a b) is same = absurd (false≢true is)
-  moves (Absolute a) is same = absurd (false≢true is)
-  moves (Lookup a points) is same = absurd (false≢true is)
+  moves (NegExpr a) is same = absurd (false≢true is)
+  moves (MulExpr a b) is same = absurd (false≢true is)
+  moves (DivExpr a c) is same = absurd (false≢true is)
+  moves (MinExpr a b) is same = absurd (false≢true is)
+  moves (MaxExpr a b) is same = absurd (false≢true is)
+  moves (AbsExpr a) is same = absurd (false≢true is)
+  moves (LutExpr a points) is same = absurd (false≢true is)

@@ -3,7 +3,7 @@ use Rattle.std.proofs.Common.{◌≡◌, ℕ, zero, suc, ◌<◌, List, [], ◌�
 use Rattle.std.specs.Prelude.{ℤ, pos, nat_abs, neg_ℤ, ◌*ℤ◌, ◌≤ℤ◌, int_le, if◌then◌else◌}
 use Rattle.std.specs.Int.{int_min, int_max}
 use Rattle.std.proofs.lemmas.Int.{ints, clamps}
-use Rattle.fixed_expr.specs.Expression.{Expression, Number, Variable, Negation, Sum, Difference, Product, Quotient, Minimum, Maximum, Absolute, Lookup}
+use Rattle.fixed_expr.specs.Expression.{Expression, NumExpr, VarExpr, NegExpr, AddExpr, SubExpr, MulExpr, DivExpr, MinExpr, MaxExpr, AbsExpr, LutExpr}
 use Rattle.fixed_expr.specs.Value.{IsWellFormed}
 use Rattle.interval_eval.specs.declared.interval.Interval.{Interval}
 use Rattle.interval_eval.specs.Span.{IsInterval, IsIn, EndsFit, SpanStaysInRange, negation_of, sum_of, difference_of, product_of, quotient_of, minimum_of, maximum_of, absolute_of, span_of}
@@ -91,17 +91,17 @@ module _ (area wider : List Interval) (each : All IsInterval area) (parts : AreP
   ordered e formed = spans_ordered e area (subst (IsWellFormed e) (sym (same_count area wider parts)) formed) each
 
   pub nested : (e : Expression) → IsWellFormed e (length wider) → IsPartOf (span_of e area) (span_of e wider)
-  nested (Number k) formed = (omega (arith, ints), omega (arith, ints))
-  nested (Variable i) formed = part_variable area wider i (record { lo = pos 0; hi = pos 0 }) formed parts
-  nested (Negation a) formed = part_negation (span_of a area) (span_of a wider) (nested a formed)
-  nested (Sum a b) formed = part_sum (span_of a area) (span_of b area) (span_of a wider) (span_of b wider) (nested a formed.0) (nested b formed.1)
-  nested (Difference a b) formed = part_difference (span_of a area) (span_of b area) (span_of a wider) (span_of b wider) (nested a formed.0) (nested b formed.1)
-  nested (Product a b) formed = part_product (span_of a area) (span_of b area) (span_of a wider) (span_of b wider) (ordered a formed.0) (ordered b formed.1) (nested a formed.0) (nested b formed.1)
-  nested (Quotient a k) formed = part_quotient (span_of a area) (span_of a wider) k formed.1 (nested a formed.0)
-  nested (Minimum a b) formed = part_minimum (span_of a area) (span_of b area) (span_of a wider) (span_of b wider) (nested a formed.0) (nested b formed.1)
-  nested (Maximum a b) formed = part_maximum (span_of a area) (span_of b area) (span_of a wider) (span_of b wider) (nested a formed.0) (nested b formed.1)
-  nested (Absolute a) formed = part_absolute (span_of a area) (span_of a wider) (ordered a formed) (nested a formed)
-  nested (Lookup a points) formed = part_lookup points (span_of a area) (span_of a wider) formed.1 (ordered a formed.0) (nested a formed.0)
+  nested (NumExpr k) formed = (omega (arith, ints), omega (arith, ints))
+  nested (VarExpr i) formed = part_variable area wider i (record { lo = pos 0; hi = pos 0 }) formed parts
+  nested (NegExpr a) formed = part_negation (span_of a area) (span_of a wider) (nested a formed)
+  nested (AddExpr a b) formed = part_sum (span_of a area) (span_of b area) (span_of a wider) (span_of b wider) (nested a formed.0) (nested b formed.1)
+  nested (SubExpr a b) formed = part_difference (span_of a area) (span_of b area) (span_of a wider) (span_of b wider) (nested a formed.0) (nested b formed.1)
+  nested (MulExpr a b) formed = part_product (span_of a area) (span_of b area) (span_of a wider) (span_of b wider) (ordered a formed.0) (ordered b formed.1) (nested a formed.0) (nested b formed.1)
+  nested (DivExpr a k) formed = part_quotient (span_of a area) (span_of a wider) k formed.1 (nested a formed.0)
+  nested (MinExpr a b) formed = part_minimum (span_of a area) (span_of b area) (span_of a wider) (span_of b wider) (nested a formed.0) (nested b formed.1)
+  nested (MaxExpr a b) formed = part_maximum (span_of a area) (span_of b area) (span_of a wider) (span_of b wider) (nested a formed.0) (nested b formed.1)
+  nested (AbsExpr a) formed = part_absolute (span_of a area) (span_of a wider) (ordered a formed) (nested a formed)
+  nested (LutExpr a points) formed = part_lookup points (span_of a area) (span_of a wider) formed.1 (ordered a formed.0) (nested a formed.0)
 
   -- where the ends of the wider span lie in the range, so do those of the narrower
   fits : (e : Expression) → IsWellFormed e (length wider) → EndsFit (span_of e wider) → EndsFit (span_of e area)
@@ -112,14 +112,14 @@ module _ (area wider : List Interval) (each : All IsInterval area) (parts : AreP
       (between w.lo w.hi s.lo ends.0 ends.1 inside.0.0 inside.0.1, between w.lo w.hi s.hi ends.0 ends.1 inside.1.0 inside.1.1)
 
   pub stays : (e : Expression) → IsWellFormed e (length wider) → SpanStaysInRange e wider → SpanStaysInRange e area
-  stays (Number k) formed h = fits (Number k) formed h
-  stays (Variable i) formed h = fits (Variable i) formed h
-  stays (Negation a) formed h = (stays a formed h.0, fits (Negation a) formed h.1)
-  stays (Sum a b) formed h = (stays a formed.0 h.0, stays b formed.1 h.1, fits (Sum a b) formed h.2)
-  stays (Difference a b) formed h = (stays a formed.0 h.0, stays b formed.1 h.1, fits (Difference a b) formed h.2)
-  stays (Product a b) formed h = (stays a formed.0 h.0, stays b formed.1 h.1, fits (Product a b) formed h.2)
-  stays (Quotient a k) formed h = (stays a formed.0 h.0, fits (Quotient a k) formed h.1)
-  stays (Minimum a b) formed h = (stays a formed.0 h.0, stays b formed.1 h.1, fits (Minimum a b) formed h.2)
-  stays (Maximum a b) formed h = (stays a formed.0 h.0, stays b formed.1 h.1, fits (Maximum a b) formed h.2)
-  stays (Absolute a) formed h = (stays a formed h.0, fits (Absolute a) formed h.1)
-  stays (Lookup a points) formed h = (stays a formed.0 h.0, fits (Lookup a points) formed h.1)
+  stays (NumExpr k) formed h = fits (NumExpr k) formed h
+  stays (VarExpr i) formed h = fits (VarExpr i) formed h
+  stays (NegExpr a) formed h = (stays a formed h.0, fits (NegExpr a) formed h.1)
+  stays (AddExpr a b) formed h = (stays a formed.0 h.0, stays b formed.1 h.1, fits (AddExpr a b) formed h.2)
+  stays (SubExpr a b) formed h = (stays a formed.0 h.0, stays b formed.1 h.1, fits (SubExpr a b) formed h.2)
+  stays (MulExpr a b) formed h = (stays a formed.0 h.0, stays b formed.1 h.1, fits (MulExpr a b) formed h.2)
+  stays (DivExpr a k) formed h = (stays a formed.0 h.0, fits (DivExpr a k) formed h.1)
+  stays (MinExpr a b) formed h = (stays a formed.0 h.0, stays b formed.1 h.1, fits (MinExpr a b) formed h.2)
+  stays (MaxExpr a b) formed h = (stays a formed.0 h.0, stays b formed.1 h.1, fits (MaxExpr a b) formed h.2)
+  stays (AbsExpr a) formed h = (stays a formed h.0, fits (AbsExpr a) formed h.1)
+  stays (LutExpr a points) formed h = (stays a formed.0 h.0, fits (LutExpr a points) formed h.1)

@@ -2,7 +2,7 @@
 use Rattle.std.proofs.Common.{◌≡◌, ℕ, List, length, All}
 use Rattle.std.specs.Prelude.{ℤ, pos, ◌-ℤ◌, IsTrue}
 use Rattle.fixed_expr.specs.Expression.{Expression}
-use Rattle.fixed_expr.specs.Moves.{moves_with}
+use Rattle.fixed_expr.specs.Moves.{shifts_with}
 use Rattle.fixed_expr.specs.Range.{IsInRange}
 use Rattle.fixed_expr.specs.Value.{IsWellFormed, value_of, StaysInRange}
 use Rattle.fixed_expr.specs.inside.Alike.{AreSameIn}
@@ -14,7 +14,7 @@ use Rattle.interval_eval.proofs.Holding as holding
 use Rattle.interval_eval.proofs.MovingSpans as moving
 use Rattle.interval_eval.proofs.Nesting as nesting
 use Rattle.interval_eval.proofs.Ranging as ranging
-use Rattle.interval_eval.proofs.Resting as resting
+use Rattle.interval_eval.proofs.Depending as depending
 
 -- a value over the area lies in the span
 pub values_lie_in_spans : (e : Expression) (area : List Interval) (values : List ℤ) → IsWellFormed e (length area) → AreIn area values → IsIn (span_of e area) (value_of e values)
@@ -29,15 +29,15 @@ pub values_stay_in_range : (e : Expression) (area : List Interval) (values : Lis
 values_stay_in_range e area values formed within stays = ranging.values_stay area values within e formed stays
 
 -- the span of an expression rests on the ranges of the variables that stand in it alone
-pub spans_rest_on_variables : (e : Expression) (area other : List Interval) → AreSameIn (record { lo = pos 0; hi = pos 0 }) e area other → span_of e area ≡ span_of e other
-spans_rest_on_variables e area other same = resting.agree area other e same
+pub spans_depend_on_variables : (e : Expression) (area other : List Interval) → AreSameIn (record { lo = pos 0; hi = pos 0 }) e area other → span_of e area ≡ span_of e other
+spans_depend_on_variables e area other same = depending.agree area other e same
 
 -- no node's span over ranges leaves the range where none over wider ones does
 pub nested_spans_stay_in_range : (e : Expression) (area wider : List Interval) → IsWellFormed e (length wider) → All IsInterval area → ArePartsOf area wider → SpanStaysInRange e wider → SpanStaysInRange e area
 nested_spans_stay_in_range e area wider formed each parts stays = nesting.stays area wider each parts e formed stays
 
 -- the span of an expression that moves with a variable moves, at each end, by just what the variable's range moves by
-pub spans_move_with_variables : (e : Expression) (k : ℕ) (area other : List Interval) → IsTrue (moves_with e k) → HaveSameRangesBut k e area other →
+pub spans_move_with_variables : (e : Expression) (k : ℕ) (area other : List Interval) → IsTrue (shifts_with e k) → HaveSameRangesBut k e area other →
     ((span_of e area).lo -ℤ (range_at area k).lo ≡ (span_of e other).lo -ℤ (range_at other k).lo)
     × ((span_of e area).hi -ℤ (range_at area k).hi ≡ (span_of e other).hi -ℤ (range_at other k).hi)
 spans_move_with_variables e k area other is same = moving.moves k area other e is same

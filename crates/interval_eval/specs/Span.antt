@@ -3,9 +3,9 @@ use Rattle.std.specs.Prelude.{ℤ, pos, neg_ℤ, ◌+ℤ◌, ◌-ℤ◌, ◌*ℤ
 use Rattle.std.specs.List.{fold, filter}
 use Rattle.std.specs.Int.{int_min, int_max}
 use Rattle.fixed_expr.specs.Range.{IsInRange}
-use Rattle.fixed_expr.specs.Quotient.{floor_div}
+use Rattle.fixed_expr.specs.DivExpr.{floor_div}
 use Rattle.fixed_expr.specs.Curves.{curve_value}
-use Rattle.fixed_expr.specs.Expression.{Expression, Number, Variable, Negation, Sum, Difference, Product, Quotient, Minimum, Maximum, Absolute, Lookup}
+use Rattle.fixed_expr.specs.Expression.{Expression, NumExpr, VarExpr, NegExpr, AddExpr, SubExpr, MulExpr, DivExpr, MinExpr, MaxExpr, AbsExpr, LutExpr}
 use Rattle.interval_eval.specs.declared.interval.Interval.{Interval}
 
 -- the low end is at most the high end
@@ -83,28 +83,28 @@ lookup_of points a = record {
 
 -- the span of an expression, where each variable lies in its range
 abbrev pub span_of : Expression → List Interval → Interval
-span_of (Number k) area = record { lo = k; hi = k }
-span_of (Variable i) area = slice_index_or area i (record { lo = pos 0; hi = pos 0 })
-span_of (Negation a) area = negation_of (span_of a area)
-span_of (Sum a b) area = sum_of (span_of a area) (span_of b area)
-span_of (Difference a b) area = difference_of (span_of a area) (span_of b area)
-span_of (Product a b) area = product_of (span_of a area) (span_of b area)
-span_of (Quotient a k) area = quotient_of (span_of a area) k
-span_of (Minimum a b) area = minimum_of (span_of a area) (span_of b area)
-span_of (Maximum a b) area = maximum_of (span_of a area) (span_of b area)
-span_of (Absolute a) area = absolute_of (span_of a area)
-span_of (Lookup a points) area = lookup_of points (span_of a area)
+span_of (NumExpr k) area = record { lo = k; hi = k }
+span_of (VarExpr i) area = slice_index_or area i (record { lo = pos 0; hi = pos 0 })
+span_of (NegExpr a) area = negation_of (span_of a area)
+span_of (AddExpr a b) area = sum_of (span_of a area) (span_of b area)
+span_of (SubExpr a b) area = difference_of (span_of a area) (span_of b area)
+span_of (MulExpr a b) area = product_of (span_of a area) (span_of b area)
+span_of (DivExpr a k) area = quotient_of (span_of a area) k
+span_of (MinExpr a b) area = minimum_of (span_of a area) (span_of b area)
+span_of (MaxExpr a b) area = maximum_of (span_of a area) (span_of b area)
+span_of (AbsExpr a) area = absolute_of (span_of a area)
+span_of (LutExpr a points) area = lookup_of points (span_of a area)
 
 -- the ends of every node's span lie in the range
 abbrev pub SpanStaysInRange : Expression → List Interval → Type 0
-SpanStaysInRange (Number k) area = EndsFit (span_of (Number k) area)
-SpanStaysInRange (Variable i) area = EndsFit (span_of (Variable i) area)
-SpanStaysInRange (Negation a) area = SpanStaysInRange a area × EndsFit (span_of (Negation a) area)
-SpanStaysInRange (Sum a b) area = SpanStaysInRange a area × SpanStaysInRange b area × EndsFit (span_of (Sum a b) area)
-SpanStaysInRange (Difference a b) area = SpanStaysInRange a area × SpanStaysInRange b area × EndsFit (span_of (Difference a b) area)
-SpanStaysInRange (Product a b) area = SpanStaysInRange a area × SpanStaysInRange b area × EndsFit (span_of (Product a b) area)
-SpanStaysInRange (Quotient a k) area = SpanStaysInRange a area × EndsFit (span_of (Quotient a k) area)
-SpanStaysInRange (Minimum a b) area = SpanStaysInRange a area × SpanStaysInRange b area × EndsFit (span_of (Minimum a b) area)
-SpanStaysInRange (Maximum a b) area = SpanStaysInRange a area × SpanStaysInRange b area × EndsFit (span_of (Maximum a b) area)
-SpanStaysInRange (Absolute a) area = SpanStaysInRange a area × EndsFit (span_of (Absolute a) area)
-SpanStaysInRange (Lookup a points) area = SpanStaysInRange a area × EndsFit (span_of (Lookup a points) area)
+SpanStaysInRange (NumExpr k) area = EndsFit (span_of (NumExpr k) area)
+SpanStaysInRange (VarExpr i) area = EndsFit (span_of (VarExpr i) area)
+SpanStaysInRange (NegExpr a) area = SpanStaysInRange a area × EndsFit (span_of (NegExpr a) area)
+SpanStaysInRange (AddExpr a b) area = SpanStaysInRange a area × SpanStaysInRange b area × EndsFit (span_of (AddExpr a b) area)
+SpanStaysInRange (SubExpr a b) area = SpanStaysInRange a area × SpanStaysInRange b area × EndsFit (span_of (SubExpr a b) area)
+SpanStaysInRange (MulExpr a b) area = SpanStaysInRange a area × SpanStaysInRange b area × EndsFit (span_of (MulExpr a b) area)
+SpanStaysInRange (DivExpr a k) area = SpanStaysInRange a area × EndsFit (span_of (DivExpr a k) area)
+SpanStaysInRange (MinExpr a b) area = SpanStaysInRange a area × SpanStaysInRange b area × EndsFit (span_of (MinExpr a b) area)
+SpanStaysInRange (MaxExpr a b) area = SpanStaysInRange a area × SpanStaysInRange b area × EndsFit (span_of (MaxExpr a b) area)
+SpanStaysInRange (AbsExpr a) area = SpanStaysInRange a area × EndsFit (span_of (AbsExpr a) area)
+SpanStaysInRange (LutExpr a points) area = SpanStaysInRange a area × EndsFit (span_of (LutExpr a points) area)

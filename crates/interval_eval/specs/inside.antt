@@ -1,4 +1,4 @@
 pub mod Nested
 pub mod Joined
 pub mod Combined
-pub mod RowProgress
+pub mod LaneProgress

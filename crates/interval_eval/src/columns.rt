@@ -1,4 +1,4 @@
-//! Intervals in many rows, with None where an end leaves 64 bits.
+//! Intervals in many lanes, with None where an end leaves 64 bits.
 //! A loop's label names its invariant in proofs/.
 
 ghost use Rattle.std.specs.Prelude.{◌≡◌, ◌<◌, pos, ◌≤ℤ◌, ◌*ℤ◌, MatchOption, SomeIff};
@@ -7,7 +7,7 @@ ghost use Rattle.fixed_expr.specs.declared.lanes.TheConstants.{LANES};
 ghost use Rattle.fixed_expr.specs.Narrow.{IsNarrow};
 ghost use Rattle.fixed_expr.specs.Lanes.{at, AreNarrow, HoldsNarrow};
 ghost use Rattle.interval_eval.specs.Span.{negation_of, sum_of, difference_of, product_of, quotient_of, minimum_of, maximum_of, absolute_of, lookup_of};
-ghost use Rattle.interval_eval.specs.Rows.{interval_in, HaveNarrowEnds, HoldsIntervals, AnswersIntervals};
+ghost use Rattle.interval_eval.specs.LaneSpans.{interval_in, HaveNarrowEnds, HoldsIntervals, AnswersIntervals};
 ghost use Rattle.interval_eval.specs.inside.Combined.{combined_interval};
 
 use crate::interval::Interval;
@@ -17,14 +17,14 @@ use fixed_expr::lanes::{
 use fixed_expr::narrow::narrow;
 use fixed_expr::{Binary, Curve, LANES};
 
-/// An interval in each row, by the low and the high ends.
+/// An interval in each lane, by the low and the high ends.
 #[derive(Clone, Copy)]
 pub struct IntervalColumn {
     pub lo: [i64; LANES],
     pub hi: [i64; LANES],
 }
 
-/// 0 alone in each row: what a column is before its intervals are found.
+/// 0 alone in each lane: what a column is before its intervals are found.
 pub const NO_INTERVALS: IntervalColumn = IntervalColumn {
     lo: [0; LANES],
     hi: [0; LANES],
@@ -117,7 +117,7 @@ impl IntervalColumn {
         Some(())
     }
 
-    /// The interval in a row.
+    /// The interval in a lane.
     #[inline]
     pub fn interval_at(&self, k: usize) -> Interval
         requires { k < LANES }
@@ -134,14 +134,14 @@ impl IntervalColumn {
         ensures { AnswersIntervals result self.new (λ k. combined_interval binary (interval_in self.old k) (interval_in other.now k)) }
     {
         match binary {
-            Binary::Add => self.sum(other),
-            Binary::Subtract => self.difference(other),
-            Binary::Multiply => self.product(other),
-            Binary::TakeLesser => {
+            Binary::AddOp => self.sum(other),
+            Binary::SubOp => self.difference(other),
+            Binary::MulOp => self.product(other),
+            Binary::MinOp => {
                 self.minimum(other);
                 Some(())
             }
-            Binary::TakeGreater => {
+            Binary::MaxOp => {
                 self.maximum(other);
                 Some(())
             }

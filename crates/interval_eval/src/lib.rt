@@ -6,11 +6,11 @@
 
 mod columns;
 mod interval;
+mod lane_spans;
 pub mod laws;
-mod rows;
 mod spans;
 
 pub use columns::{IntervalColumn, NO_INTERVALS};
 pub use interval::Interval;
-pub use rows::span_rows;
+pub use lane_spans::span_lanes;
 pub use spans::span;

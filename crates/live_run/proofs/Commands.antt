@@ -5,42 +5,42 @@ use Rattle.std.proofs.lemmas.List.Sums.{sum_by-append}
 use Rattle.std.specs.Prelude.{cond, ◌==◌}
 use Rattle.controller_table.specs.Tables.{TableModel}
 use Rattle.controller_table.specs.Refusals.{line_count}
-use Rattle.live_script.specs.declared.command.Command.{Command}
-use Rattle.live_script.specs.declared.command.Command.TheVariants.{Publish, Ask}
-use Rattle.live_script.specs.declared.fault.ScriptFault.{ScriptFault}
-use Rattle.live_script.specs.declared.fault.ScriptFault.TheVariants.{Malformed, Limit, ScriptTooLong, TooManyTables, Memory}
+use Rattle.live_script.specs.declared.command.ScriptCommand.{ScriptCommand}
+use Rattle.live_script.specs.declared.command.ScriptCommand.TheVariants.{Publish, Ask}
+use Rattle.live_script.specs.declared.script_fault.ScriptFault.{ScriptFault}
+use Rattle.live_script.specs.declared.script_fault.ScriptFault.TheVariants.{Malformed, Limit, ScriptTooLong, TooManyTables, Memory}
 use Rattle.live_script.specs.Questions.{IsAnswerOf}
-use Rattle.live_script.specs.Scripts.{Spell, FitsBehind, tables_behind, published, SpellBehind, IsShortScript}
+use Rattle.live_script.specs.Scripts.{Spell, FitsAfter, tables_after, published, SpellAfter, IsShortScript}
 use Rattle.live_script.specs.LiveText.{IsAnswerLine, AreAnswers, answer_line}
 use Rattle.live_script.specs.Reading.{Unread, IsTaken}
-use Rattle.live_script.specs.Refusals.{IsRefusedBehind, IsScriptRefusedFor}
+use Rattle.live_script.specs.Refusals.{IsRefusedAfter, IsScriptRefusedFor}
 use Rattle.live_run.specs.inside.Sessions.{Standing}
 use Rattle.live_run.specs.inside.Answering.{IsLast, IsAnsweredSoFar, IsExecuted, IsRefusal}
 use Rattle.live_run.specs.Causes.{of_script}
 
 -- ---- one command more
 
-published_table : (commands : List Command) (t : TableModel) → published (commands ++ Publish t ∷ []) ≡ published commands ++ t ∷ []
+published_table : (commands : List ScriptCommand) (t : TableModel) → published (commands ++ Publish t ∷ []) ≡ published commands ++ t ∷ []
 published_table [] t = refl
 published_table (Publish u ∷ commands) t = ap (λ (tables : List TableModel). u ∷ tables) (published_table commands t)
 published_table (Ask numbers ∷ commands) t = published_table commands t
 
-published_question : (commands : List Command) (numbers : List ℤ) → published (commands ++ Ask numbers ∷ []) ≡ published commands
+published_question : (commands : List ScriptCommand) (numbers : List ℤ) → published (commands ++ Ask numbers ∷ []) ≡ published commands
 published_question [] numbers = refl
 published_question (Publish u ∷ commands) numbers = ap (λ (tables : List TableModel). u ∷ tables) (published_question commands numbers)
 published_question (Ask others ∷ commands) numbers = published_question commands numbers
 
-behind_first : (n : ℕ) (c : Command) (commands : List Command) → n + length (published (c ∷ commands)) ≡ tables_behind n c + length (published commands)
-behind_first n (Publish t) commands = omega arith
-behind_first n (Ask numbers) commands = refl
+after_first : (n : ℕ) (c : ScriptCommand) (commands : List ScriptCommand) → n + length (published (c ∷ commands)) ≡ tables_after n c + length (published commands)
+after_first n (Publish t) commands = omega arith
+after_first n (Ask numbers) commands = refl
 
-spell_more : (n : ℕ) (front first : List ℕ) (commands : List Command) (c : Command) → SpellBehind n front commands → Spell first c → FitsBehind (n + length (published commands)) c → SpellBehind n (front ++ first) (commands ++ c ∷ [])
+spell_more : (n : ℕ) (front first : List ℕ) (commands : List ScriptCommand) (c : ScriptCommand) → SpellAfter n front commands → Spell first c → FitsAfter (n + length (published commands)) c → SpellAfter n (front ++ first) (commands ++ c ∷ [])
 spell_more n front first [] c h spells fits = (
   first,
   [],
   ap (λ (x : List ℕ). x ++ first) h ∙ sym (append-nil first),
   spells,
-  (let same : n + 0 ≡ n = omega arith in subst (λ (k : ℕ). FitsBehind k c) same fits),
+  (let same : n + 0 ≡ n = omega arith in subst (λ (k : ℕ). FitsAfter k c) same fits),
   refl,
 )
 spell_more n front first (d ∷ commands) c h spells fits = (
@@ -49,15 +49,15 @@ spell_more n front first (d ∷ commands) c h spells fits = (
   ap (λ (x : List ℕ). x ++ first) h.2 ∙ append_assoc h.0 h.1 first,
   h.3,
   h.4,
-  spell_more (tables_behind n d) h.1 first commands c h.5 spells (subst (λ (k : ℕ). FitsBehind k c) (behind_first n d commands) fits),
+  spell_more (tables_after n d) h.1 first commands c h.5 spells (subst (λ (k : ℕ). FitsAfter k c) (after_first n d commands) fits),
 )
 
-table_more : (tables : List TableModel) (commands : List Command) (text : List ℕ) (t : TableModel) → AreAnswers tables commands text → AreAnswers tables (commands ++ Publish t ∷ []) text
+table_more : (tables : List TableModel) (commands : List ScriptCommand) (text : List ℕ) (t : TableModel) → AreAnswers tables commands text → AreAnswers tables (commands ++ Publish t ∷ []) text
 table_more tables [] text t h = h
 table_more tables (Publish u ∷ commands) text t h = table_more (tables ++ u ∷ []) commands text t h
 table_more tables (Ask numbers ∷ commands) text t h = (h.0, h.1, h.2, h.3, table_more tables commands h.1 t h.4)
 
-question_more : (tables : List TableModel) (commands : List Command) (text line : List ℕ) (numbers : List ℤ) → AreAnswers tables commands text → IsAnswerLine (tables ++ published commands) numbers line → AreAnswers tables (commands ++ Ask numbers ∷ []) (text ++ line)
+question_more : (tables : List TableModel) (commands : List ScriptCommand) (text line : List ℕ) (numbers : List ℤ) → AreAnswers tables commands text → IsAnswerLine (tables ++ published commands) numbers line → AreAnswers tables (commands ++ Ask numbers ∷ []) (text ++ line)
 question_more tables [] text line numbers h is =
     (line, [], ap (λ (x : List ℕ). x ++ line) h ∙ sym (append-nil line), subst (λ (ts : List TableModel). IsAnswerLine ts numbers line) (append-nil tables) is, refl)
 question_more tables (Publish u ∷ commands) text line numbers h is =
@@ -86,7 +86,7 @@ table_published script before after old new text t so_far taken now = rw now (re
   last = (published so_far.commands, published_table so_far.commands t);
 })
 
--- behind a question's line there is a table, which answers it
+-- after a question's line there is a table, which answers it
 some_last : (tables : List TableModel) (last : Option TableModel) → IsLast tables last → 0 < length tables → (t : TableModel) × (last ≡ Some t) × ((before : List TableModel) × (tables ≡ before ++ t ∷ []))
 some_last tables None none some = absurd (omega (arith, ap length none, some))
 some_last tables (Some t) h some = (t, refl, h)
@@ -115,15 +115,15 @@ question_answered script before after standing new text numbers answer so_far ta
     last : (t : TableModel) × (standing.table ≡ Some t) × ((before : List TableModel) × (published so_far.commands ≡ before ++ t ∷ []))
     last = some_last (published so_far.commands) standing.table so_far.last (omega (arith, taken.fits, so_far.tables))
 
-pub executed : (script : List ℕ) (before after : Unread) (old new : Standing) (text longer : List ℕ) (c : Command) → IsAnsweredSoFar script before old text → IsTaken before c after → IsExecuted c old new text longer → IsAnsweredSoFar script after new longer
+pub executed : (script : List ℕ) (before after : Unread) (old new : Standing) (text longer : List ℕ) (c : ScriptCommand) → IsAnsweredSoFar script before old text → IsTaken before c after → IsExecuted c old new text longer → IsAnsweredSoFar script after new longer
 executed script before after old new text longer (Publish t) so_far taken done = rw done.1 (table_published script before after old new text t so_far taken done.0)
 executed script before after old new text longer (Ask numbers) so_far taken done = rw done.1.2 (question_answered script before after old new text numbers done.1.0 so_far taken done.1.1 done.0)
 
--- what is refused behind these commands is the script's refusal
-refused_behind : (script : List ℕ) (unread : Unread) (standing : Standing) (text : List ℕ) (fault : ScriptFault) → IsAnsweredSoFar script unread standing text → IsShortScript script → IsRefusedBehind unread.tables unread.line unread.rest fault → IsScriptRefusedFor script fault
-refused_behind script unread standing text fault so_far short refused = by_fault fault (rw (← so_far.tables, ← so_far.line) refused)
+-- what is refused after these commands is the script's refusal
+refused_after : (script : List ℕ) (unread : Unread) (standing : Standing) (text : List ℕ) (fault : ScriptFault) → IsAnsweredSoFar script unread standing text → IsShortScript script → IsRefusedAfter unread.tables unread.line unread.rest fault → IsScriptRefusedFor script fault
+refused_after script unread standing text fault so_far short refused = by_fault fault (rw (← so_far.tables, ← so_far.line) refused)
   where
-    by_fault : (f : ScriptFault) → IsRefusedBehind (length (published so_far.commands)) (suc (line_count so_far.front)) unread.rest f → IsScriptRefusedFor script f
+    by_fault : (f : ScriptFault) → IsRefusedAfter (length (published so_far.commands)) (suc (line_count so_far.front)) unread.rest f → IsScriptRefusedFor script f
     by_fault (Malformed line) h = (short, record { front = so_far.front; rest = unread.rest; are = so_far.are; commands = so_far.commands; spell = so_far.spell; refused = h })
     by_fault (Limit what) h = (short, record { front = so_far.front; rest = unread.rest; are = so_far.are; commands = so_far.commands; spell = so_far.spell; refused = h })
     by_fault ScriptTooLong h = absurd h
@@ -131,10 +131,10 @@ refused_behind script unread standing text fault so_far short refused = by_fault
     by_fault Memory h = absurd h
 
 -- a fault of the reader is the script's refusal, or want of memory
-pub stopped : (script : List ℕ) (unread : Unread) (standing : Standing) (text : List ℕ) (fault : ScriptFault) → IsAnsweredSoFar script unread standing text → IsShortScript script → (fault ≢ Memory → IsRefusedBehind unread.tables unread.line unread.rest fault)
+pub stopped : (script : List ℕ) (unread : Unread) (standing : Standing) (text : List ℕ) (fault : ScriptFault) → IsAnsweredSoFar script unread standing text → IsShortScript script → (fault ≢ Memory → IsRefusedAfter unread.tables unread.line unread.rest fault)
     → IsRefusal script (of_script fault)
-stopped script unread standing text (Malformed line) so_far short why = inr (Malformed line, refl, refused_behind script unread standing text (Malformed line) so_far short (why (λ e. cc)))
-stopped script unread standing text (Limit what) so_far short why = inr (Limit what, refl, refused_behind script unread standing text (Limit what) so_far short (why (λ e. cc)))
-stopped script unread standing text ScriptTooLong so_far short why = inr (ScriptTooLong, refl, refused_behind script unread standing text ScriptTooLong so_far short (why (λ e. cc)))
-stopped script unread standing text TooManyTables so_far short why = inr (TooManyTables, refl, refused_behind script unread standing text TooManyTables so_far short (why (λ e. cc)))
+stopped script unread standing text (Malformed line) so_far short why = inr (Malformed line, refl, refused_after script unread standing text (Malformed line) so_far short (why (λ e. cc)))
+stopped script unread standing text (Limit what) so_far short why = inr (Limit what, refl, refused_after script unread standing text (Limit what) so_far short (why (λ e. cc)))
+stopped script unread standing text ScriptTooLong so_far short why = inr (ScriptTooLong, refl, refused_after script unread standing text ScriptTooLong so_far short (why (λ e. cc)))
+stopped script unread standing text TooManyTables so_far short why = inr (TooManyTables, refl, refused_after script unread standing text TooManyTables so_far short (why (λ e. cc)))
 stopped script unread standing text Memory so_far short why = inl refl

@@ -5,19 +5,19 @@ use Rattle.std.proofs.lemmas.Bool.{cases_lt}
 use Rattle.std.proofs.lemmas.List.{take_all}
 use Rattle.run_devices.specs.Devices.{Reading, Writing, GainsWhole, GainsPart, TakesAtMost}
 use Rattle.run_devices.specs.Transfers.{ReadUpTo}
-use Rattle.live_script.specs.declared.fault.ScriptFault.{ScriptFault}
-use Rattle.live_script.specs.declared.fault.ScriptFault.TheVariants as scripts
+use Rattle.live_script.specs.declared.script_fault.ScriptFault.{ScriptFault}
+use Rattle.live_script.specs.declared.script_fault.ScriptFault.TheVariants as scripts
 use Rattle.live_script.specs.Scripts.{IsShortScript}
 use Rattle.live_script.specs.LiveText.{IsLiveText}
 use Rattle.live_script.specs.Refusals.{IsScriptRefusedFor}
 use Rattle.live_script.proofs.Laws.{one_script_refusal, script_or_refused}
-use Rattle.live_run.specs.declared.outcome.LiveOutcome.{LiveOutcome}
-use Rattle.live_run.specs.declared.outcome.LiveOutcome.TheVariants.{Done, Usage, Malformed, Limit, ScriptTooLong, TooManyTables, ReadFault as ReadFailed, WriteFault, NoMemory}
+use Rattle.live_run.specs.declared.live_outcome.LiveOutcome.{LiveOutcome}
+use Rattle.live_run.specs.declared.live_outcome.LiveOutcome.TheVariants.{Done, Usage, Malformed, Limit, ScriptTooLong, TooManyTables, ReadFault as ReadFailed, WriteFault, NoMemory}
 use Rattle.live_run.specs.Causes.{of_script}
 use Rattle.live_run.specs.Statuses.{status_of}
 use Rattle.live_run.specs.LiveRuns.{most_read, IsAnswered, IsCutOff, IsLiveEnd, IsCompleteAnswer}
 use Rattle.live_run.specs.inside.Answering.{IsRefusal}
-use Rattle.live_run.specs.inside.Working.{IsWorkedOut, IsTurnedDown}
+use Rattle.live_run.specs.inside.Working.{IsWorkedOut, IsRefusalFor}
 
 -- ---- what was read stands for the whole script
 
@@ -98,7 +98,7 @@ not_these scripts.ScriptTooLong = (λ e. cc, λ e. cc, λ e. cc, λ e. cc)
 not_these scripts.TooManyTables = (λ e. cc, λ e. cc, λ e. cc, λ e. cc)
 not_these scripts.Memory = (λ e. cc, λ e. cc, λ e. cc, λ e. cc)
 
-turned_down_for : (source : Reading) (read : List ℕ) (fault : ScriptFault) → IsRead source read → (of_script fault ≡ NoMemory) ⊎ IsScriptRefusedFor read fault → IsTurnedDown (of_script fault) source
+turned_down_for : (source : Reading) (read : List ℕ) (fault : ScriptFault) → IsRead source read → (of_script fault ≡ NoMemory) ⊎ IsScriptRefusedFor read fault → IsRefusalFor (of_script fault) source
 turned_down_for source read fault is why = record {
   not_done = (not_these fault).0;
   not_usage = (not_these fault).1;
@@ -116,15 +116,15 @@ turned_down_for source read fault is why = record {
 }
 
 -- what was read is refused, or there was no memory
-pub turned_down : (source : Reading) (read : List ℕ) (outcome : LiveOutcome) → IsRead source read → IsRefusal read outcome → IsTurnedDown outcome source
+pub turned_down : (source : Reading) (read : List ℕ) (outcome : LiveOutcome) → IsRead source read → IsRefusal read outcome → IsRefusalFor outcome source
 turned_down source read outcome is why = elim why [
-  | inl memory ↦ subst (λ (o : LiveOutcome). IsTurnedDown o source) (sym memory) (turned_down_for source read scripts.Memory is (inl refl))
-  | inr refused ↦ subst (λ (o : LiveOutcome). IsTurnedDown o source) (sym refused.1) (turned_down_for source read refused.0 is (inr refused.2))
+  | inl memory ↦ subst (λ (o : LiveOutcome). IsRefusalFor o source) (sym memory) (turned_down_for source read scripts.Memory is (inl refl))
+  | inr refused ↦ subst (λ (o : LiveOutcome). IsRefusalFor o source) (sym refused.1) (turned_down_for source read refused.0 is (inr refused.2))
 ]
 
 -- ---- the ends of a run
 
-pub ends_turned_down : (outcome : LiveOutcome) (source : Reading) (out : Writing) → IsTurnedDown outcome source → out.after ≡ out.before → out.faults_after ≡ out.faults_before → IsLiveEnd outcome source out
+pub ends_turned_down : (outcome : LiveOutcome) (source : Reading) (out : Writing) → IsRefusalFor outcome source → out.after ≡ out.before → out.faults_after ≡ out.faults_before → IsLiveEnd outcome source out
 ends_turned_down outcome source out h nothing no_fault = record {
   not_usage = h.not_usage;
   answered = λ e. absurd (h.not_done e);

@@ -12,10 +12,10 @@ use Rattle.live_run.specs.inside.Sessions.{InStep, Fits, GoOnWith}
 
 -- ---- a table more
 
-pub has_room : (readers : Option Published) (count : ℕ) (table : Option TableModel) → Fits readers count table → count < 8 → IfSome readers (λ p. length p.list + 1 < 2 ^ 32)
-has_room None count table fits few = tt
-has_room (Some p) count None fits few = absurd fits
-has_room (Some p) count (Some t) fits few = omega (arith, fits.0, few)
+pub has_capacity : (readers : Option Published) (count : ℕ) (table : Option TableModel) → Fits readers count table → count < 8 → IfSome readers (λ p. length p.list + 1 < 2 ^ 32)
+has_capacity None count table fits few = tt
+has_capacity (Some p) count None fits few = absurd fits
+has_capacity (Some p) count (Some t) fits few = omega (arith, fits.0, few)
 
 pub fits_more : (before after : Option Published) (opened : Option ℕ) (count : ℕ) (table : Option TableModel) (t : TableModel) → Fits before count table → IfSome opened (λ _. count ≡ 0) → GoOnWith before opened t after → Fits after (count + 1) (Some t)
 fits_more before None opened count table t fits first on = tt
@@ -53,7 +53,7 @@ pub in_step_again : (p : Published) (before after : Listener) → before.opening
 in_step_again p before after opening less is =
     (ap (λ (r : Listener). r.opening) is ∙ opening, ap (λ (r : Listener). r.told) is ∙ rw (lt-ltb (length before.told) (length p.list) less) refl)
 
--- one more reader was told, the others behind it are as before
+-- one more reader was told, the others after it are as before
 pub told_more : (p : Published) (readers : List Listener) (i : ℕ) (v : Listener) → i < length readers → ((k : ℕ) (d : Listener) → k < i → InStep p (get_or readers k d)) → InStep p v → (k : ℕ) (d : Listener) → k < i + 1 → InStep p (get_or (set readers i v) k d)
 told_more p readers i v lt told step k d below = elim (cases_lt k i) [
   | inl less ↦ (let ne : k ≢ i = λ e. omega (arith, less, e) in rw get_or-set_other (told k d less))

@@ -1,10 +1,10 @@
 -- The outcome of a fault of a layer below.
-use Rattle.live_script.specs.declared.fault.ScriptFault.{ScriptFault}
-use Rattle.live_script.specs.declared.fault.ScriptFault.TheVariants as scripts
+use Rattle.live_script.specs.declared.script_fault.ScriptFault.{ScriptFault}
+use Rattle.live_script.specs.declared.script_fault.ScriptFault.TheVariants as scripts
 use Rattle.run_devices.specs.declared.transfer.ReadFault.{ReadFault}
 use Rattle.run_devices.specs.declared.transfer.ReadFault.TheVariants as reads
-use Rattle.live_run.specs.declared.outcome.LiveOutcome.{LiveOutcome}
-use Rattle.live_run.specs.declared.outcome.LiveOutcome.TheVariants.{Malformed, Limit, ScriptTooLong, TooManyTables, ReadFault as ReadFailed, NoMemory}
+use Rattle.live_run.specs.declared.live_outcome.LiveOutcome.{LiveOutcome}
+use Rattle.live_run.specs.declared.live_outcome.LiveOutcome.TheVariants.{Malformed, Limit, ScriptTooLong, TooManyTables, ReadFault as ReadFailed, NoMemory}
 
 abbrev pub of_script : ScriptFault → LiveOutcome
 of_script (scripts.Malformed line) = Malformed line

@@ -2,20 +2,20 @@
 use Rattle.std.specs.Prelude.{◌≡◌, ◌≢◌, ◌⊎◌, ◌↔◌, ℕ, ◌+◌, List, [], ◌∷◌, drop, Some, IfSome, IsTrue, codes}
 use Rattle.std.specs.Fmt.{decimal}
 use Rattle.run_devices.specs.Devices.{next_count, Reading, Writing, GainsWhole, GainsPart, TakesAtMost, Reports, AreUnused}
-use Rattle.run_words.specs.Form.{AreWorkers}
-use Rattle.live_script.specs.declared.command.Command.{Command}
-use Rattle.live_script.specs.declared.fault.ScriptFault.{ScriptFault}
+use Rattle.command_line.specs.Command.{AreWorkers}
+use Rattle.live_script.specs.declared.command.ScriptCommand.{ScriptCommand}
+use Rattle.live_script.specs.declared.script_fault.ScriptFault.{ScriptFault}
 use Rattle.live_script.specs.Scripts.{IsScript}
 use Rattle.live_script.specs.LiveText.{IsLiveText}
 use Rattle.live_script.specs.Refusals.{IsScriptRefusedFor}
-use Rattle.live_run.specs.declared.outcome.LiveOutcome.{LiveOutcome}
-use Rattle.live_run.specs.declared.outcome.LiveOutcome.TheVariants.{Done, Usage, ReadFault, WriteFault, NoMemory}
+use Rattle.live_run.specs.declared.live_outcome.LiveOutcome.{LiveOutcome}
+use Rattle.live_run.specs.declared.live_outcome.LiveOutcome.TheVariants.{Done, Usage, ReadFault, WriteFault, NoMemory}
 use Rattle.live_run.specs.Causes.{of_script}
 use Rattle.live_run.specs.Statuses.{status_of, line_of}
 
 -- the words are `live` and how many readers answer
-abbrev pub IsLiveForm : List (List ℕ) → ℕ → Type 0
-IsLiveForm words readers = (words ≡ codes "live" ∷ decimal readers ∷ []) × AreWorkers readers
+abbrev pub IsLiveCommand : List (List ℕ) → ℕ → Type 0
+IsLiveCommand arguments readers = (arguments ≡ codes "live" ∷ decimal readers ∷ []) × AreWorkers readers
 
 -- one byte more than a script may have
 abbrev pub most_read : ℕ
@@ -29,7 +29,7 @@ IsAnswered script out = (text : List ℕ) × IsLiveText script text × GainsWhol
 abbrev pub IsCutOff : List ℕ → Writing → Type 0
 IsCutOff script out = (text : List ℕ) × IsLiveText script text × GainsPart out text
 
--- What a run of the form gives, by how it ends.
+-- What a run of the command gives, by how it ends.
 pub record IsLiveEnd (outcome : LiveOutcome) (source : Reading) (out : Writing) : Type 0 where
   pub not_usage : outcome ≢ Usage
   -- what was written
@@ -47,21 +47,21 @@ pub record IsLiveEnd (outcome : LiveOutcome) (source : Reading) (out : Writing) 
   pub write_fault : outcome ≡ WriteFault → out.faults_after ≡ next_count out.faults_before
   pub no_write_fault : outcome ≢ WriteFault → out.faults_after ≡ out.faults_before
 
--- What a run of some words gives: what their form does, or `usage` where they are of no form.
-pub record Gives (words : List (List ℕ)) (outcome : LiveOutcome) (source : Reading) (out : Writing) : Type 0 where
-  pub usage : (outcome ≡ Usage) ↔ ((readers : ℕ) → IsLiveForm words readers → ⊥)
+-- What a run of some words gives: what their command does, or `usage` where they are of no command.
+pub record Gives (arguments : List (List ℕ)) (outcome : LiveOutcome) (source : Reading) (out : Writing) : Type 0 where
+  pub usage : (outcome ≡ Usage) ↔ ((readers : ℕ) → IsLiveCommand arguments readers → ⊥)
   pub unused : outcome ≡ Usage → AreUnused source out
-  pub of_form : (readers : ℕ) → IsLiveForm words readers → IsLiveEnd outcome source out
+  pub of_command : (readers : ℕ) → IsLiveCommand arguments readers → IsLiveEnd outcome source out
 
 -- A run of some words ends with a status: that of an outcome whose line is reported.
-pub record IsLiveRun (words : List (List ℕ)) (status : ℕ) (source : Reading) (out err : Writing) : Type 0 where
+pub record IsLiveRun (arguments : List (List ℕ)) (status : ℕ) (source : Reading) (out err : Writing) : Type 0 where
   pub outcome : LiveOutcome
   pub status_is : status ≡ status_of outcome
   pub reported : Reports err (line_of outcome)
   pub silent : line_of outcome ≡ [] → GainsWhole err []
-  pub gives : Gives words outcome source out
+  pub gives : Gives arguments outcome source out
 
 -- whatever a script is to be answered or refused for is told, unless there is no memory
 pub record IsCompleteAnswer (status : ℕ) (script : List ℕ) : Type 0 where
-  pub answered : (commands : List Command) → IsScript script commands → (status ≡ 0) ⊎ (status ≡ 8)
+  pub answered : (commands : List ScriptCommand) → IsScript script commands → (status ≡ 0) ⊎ (status ≡ 8)
   pub refused : (fault : ScriptFault) → IsScriptRefusedFor script fault → (status ≡ status_of (of_script fault)) ⊎ (status ≡ 8)

@@ -1,9 +1,9 @@
 -- How a run of a live script can end, and how it says so.
 use Rattle.std.specs.Prelude.{ℕ, List, [], ◌++◌, codes}
 use Rattle.std.specs.Fmt.{decimal}
-use Rattle.run_words.specs.Limits.{limit_words}
-use Rattle.live_run.specs.declared.outcome.LiveOutcome.{LiveOutcome}
-use Rattle.live_run.specs.declared.outcome.LiveOutcome.TheVariants.{Done, Usage, Malformed, Limit, ScriptTooLong, TooManyTables, ReadFault, WriteFault, NoMemory}
+use Rattle.command_line.specs.Limits.{limit_line}
+use Rattle.live_run.specs.declared.live_outcome.LiveOutcome.{LiveOutcome}
+use Rattle.live_run.specs.declared.live_outcome.LiveOutcome.TheVariants.{Done, Usage, Malformed, Limit, ScriptTooLong, TooManyTables, ReadFault, WriteFault, NoMemory}
 
 -- the exit status
 abbrev pub status_of : LiveOutcome → ℕ
@@ -22,7 +22,7 @@ abbrev pub line_of : LiveOutcome → List ℕ
 line_of Done = []
 line_of Usage = codes "usage\n"
 line_of (Malformed line) = codes "malformed: line " ++ decimal line ++ codes "\n"
-line_of (Limit what) = codes "limit: " ++ limit_words what ++ codes "\n"
+line_of (Limit what) = codes "limit: " ++ limit_line what ++ codes "\n"
 line_of ScriptTooLong = codes "limit: script\n"
 line_of TooManyTables = codes "limit: tables\n"
 line_of ReadFault = codes "read fault\n"

@@ -1,14 +1,14 @@
 ghost use Rattle.std.specs.Prelude.{◌≡◌, ◌++◌, None, OnOk, IfOk, IfErr};
-ghost use Rattle.run_words.specs.Form.{AreWorkers};
+ghost use Rattle.command_line.specs.Command.{AreWorkers};
 ghost use Rattle.live_script.specs.LiveText.{IsLiveText, answer_line};
-ghost use Rattle.live_script.specs.Scripts.{FitsBehind};
+ghost use Rattle.live_script.specs.Scripts.{FitsAfter};
 ghost use Rattle.live_run.specs.inside.Answering.{IsExecuted, IsRefusal};
 
-use crate::outcome::LiveOutcome;
+use crate::live_outcome::LiveOutcome;
 use crate::session::Session;
 use controller_table::NoMemory;
 use itoa::Buffer;
-use live_script::{Command, Script};
+use live_script::{Script, ScriptCommand};
 use std::alloc::Global;
 use std::sync::Wait;
 
@@ -54,14 +54,14 @@ fn execute<R: Wait>(
     alloc: Global,
     session: &mut Session,
     text: &mut Vec<u8>,
-    command: Command,
+    command: ScriptCommand,
 ) -> Result<(), NoMemory>
-    requires { FitsBehind session.old.count command }
+    requires { FitsAfter session.old.count command }
     ensures { OnOk result (IsExecuted command session.old session.new text.old.items text.new.items) }
 {
     match command {
-        Command::Publish(table) => session.publish(rt, alloc, table),
-        Command::Ask(question) => {
+        ScriptCommand::Publish(table) => session.publish(rt, alloc, table),
+        ScriptCommand::Ask(question) => {
             let answer = session.answer(&question);
             push_line(text, session.count(), answer)
         }

@@ -6,10 +6,10 @@
 #![tactic(auto)]
 
 mod answering;
-mod outcome;
+mod live_arguments;
+mod live_outcome;
+mod live_top;
 mod readers;
 mod session;
-mod top;
-mod words;
 
-pub use top::run_live;
+pub use live_top::run_live;

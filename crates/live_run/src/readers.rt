@@ -111,7 +111,7 @@ fn publish<R: Wait>(
     rt: &R,
     table: Table,
 ) -> Result<(), LiveFault>
-    requires room { length publisher.old.list + 1 < 2 ^ 32 }
+    requires capacity { length publisher.old.list + 1 < 2 ^ 32 }
     requires step { All (InStep publisher.old) readers.old }
     ensures published { OnOk result (publisher.new ≡ with_table publisher.old table) }
     ensures told { OnOk result (All (InStep publisher.new) readers.new) }
@@ -123,7 +123,7 @@ fn publish<R: Wait>(
 /// Tells each reader of all that is published.
 fn tell_all(publisher: &mut Publisher, readers: &mut [Reader]) -> Result<(), LiveFault>
     requires opening { All (λ r. r.opening ≡ publisher.old.opening) readers.old }
-    requires behind { All (λ r. length r.told < length publisher.old.list) readers.old }
+    requires after { All (λ r. length r.told < length publisher.old.list) readers.old }
     ensures told { OnOk result (All (InStep publisher.old) readers.new) }
     ensures same { publisher.new ≡ publisher.old }
 {

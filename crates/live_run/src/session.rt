@@ -3,10 +3,10 @@ ghost use Rattle.live_script.specs.Questions.{IsAnswerOf};
 ghost use Rattle.live_run.specs.inside.Sessions.{GoOnWith};
 
 use crate::readers::Readers;
+use command_line::StateNumbers;
 use controller_table::{NoMemory, Table};
 use core::mem::replace_with;
 use live_table::LiveFault;
-use run_words::StateNumbers;
 use std::alloc::Global;
 use std::marker::Model;
 use std::sync::Wait;
@@ -116,7 +116,7 @@ impl Session {
     }
 }
 
-/// How many readers are opened with a table behind so many: all with the first.
+/// How many readers are opened with a table after so many: all with the first.
 fn opened_with(count: u32, reader_count: u32) -> Option<u32>
     requires { (1 ≤ reader_count) × (reader_count ≤ 64) }
     ensures first { IfSome result (λ _. count ≡ 0) }
@@ -132,7 +132,7 @@ fn bring_into_force<R: Wait>(
     readers: Option<Readers>,
     next: (&R, Global, Table, Option<u32>),
 ) -> (Option<Readers>, Result<(), NoMemory>)
-    requires room { IfSome readers (λ p. length p.list + 1 < 2 ^ 32) }
+    requires capacity { IfSome readers (λ p. length p.list + 1 < 2 ^ 32) }
     requires opened { IfSome next.3 (λ readers. (1 ≤ readers) × (readers ≤ 64)) }
     ensures with_table { GoOnWith readers next.entry.3 next.entry.2 result.0 }
     ensures refused { OnErr result.1 (result.0 ≡ None) }

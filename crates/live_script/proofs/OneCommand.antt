@@ -11,16 +11,16 @@ use Rattle.plant_reading.proofs.lemmas.StatementLaws.{one_statement}
 use Rattle.plant_text.proofs.lemmas.CanonicalFronts as fronts
 use Rattle.controller_table.specs.Tables.{TableModel, IsTable, IsTableIn}
 use Rattle.controller_table.specs.Laws.{OneTablePerText}
-use Rattle.row_runs.specs.declared.run.Version.{Version}
-use Rattle.row_runs.specs.declared.run.Version.TheVariants.{First, Second}
+use Rattle.row_runs.specs.declared.run.TableVersion.{TableVersion}
+use Rattle.row_runs.specs.declared.run.TableVersion.TheVariants.{First, Second}
 use Rattle.game_core.specs.declared.game.Row.{Row}
 use Rattle.plant_writing.specs.CanonicalText.{text_of}
-use Rattle.controller_table.specs.TableText.{table_text, version_line, lines_behind}
+use Rattle.controller_table.specs.TableText.{table_text, version_line, lines_after}
 use Rattle.controller_table.proofs.OneTable as tables
 use Rattle.controller_table.proofs.ShortTables as short
-use Rattle.live_script.specs.declared.command.Command.{Command}
-use Rattle.live_script.specs.declared.command.Command.TheVariants.{Publish, Ask}
-use Rattle.run_words.specs.Form.{AreStateNumbers}
+use Rattle.live_script.specs.declared.command.ScriptCommand.{ScriptCommand}
+use Rattle.live_script.specs.declared.command.ScriptCommand.TheVariants.{Publish, Ask}
+use Rattle.command_line.specs.Command.{AreStateNumbers}
 use Rattle.live_script.specs.Scripts.{publish_line, ask_line, IsPublishOf, Spell}
 use Rattle.live_script.specs.Refusals.{Announce}
 use Rattle.live_script.specs.inside.Words.{spaced}
@@ -36,7 +36,7 @@ one_table = tables.one_table (fronts.one_plant_at_the_front one_statement)
 some_byte : (text : List ℕ) (t : TableModel) → IsTable text t.plant t.rows → 1 ≤ length text
 some_byte text t is = longer is.version (ap length is.text)
   where
-    longer : (v : Version) → length text ≡ length (table_text v t.plant t.rows) → 1 ≤ length text
+    longer : (v : TableVersion) → length text ≡ length (table_text v t.plant t.rows) → 1 ≤ length text
     longer First e = omega (arith, e)
     longer Second e = omega (arith, e)
 
@@ -57,8 +57,8 @@ one_text v w s t size e = (
 
 same_version : (text : List ℕ) (p q : Description) (rows others : List (Option Row)) (h : IsTable text p rows) (k : IsTable text q others) → h.version ≡ k.version
 same_version text p q rows others h k =
-    (tables.one_version h.version k.version (text_of p ++ concat (lines_behind h.version p.goal rows)) (text_of q ++ concat (lines_behind k.version q.goal others))
-    (sym (append_assoc (version_line h.version) (text_of p) (concat (lines_behind h.version p.goal rows))) ∙ sym h.text ∙ k.text ∙ append_assoc (version_line k.version) (text_of q) (concat (lines_behind k.version q.goal others)))).0
+    (tables.one_version h.version k.version (text_of p ++ concat (lines_after h.version p.goal rows)) (text_of q ++ concat (lines_after k.version q.goal others))
+    (sym (append_assoc (version_line h.version) (text_of p) (concat (lines_after h.version p.goal rows))) ∙ sym h.text ∙ k.text ∙ append_assoc (version_line k.version) (text_of q) (concat (lines_after k.version q.goal others)))).0
 
 -- one table in one version is read from a text
 same_table : (text : List ℕ) (t u : TableModel) → IsTableIn t.version text t.plant t.rows → IsTableIn u.version text u.plant u.rows → t ≡ u
@@ -74,27 +74,27 @@ one_left [] [] s t h k e = (refl, cc)
 one_left [] (y ∷ ys) s t h k e = absurd (cc)
 one_left (x ∷ xs) [] s t h k e = absurd (cc)
 one_left (x ∷ xs) (y ∷ ys) s t h k e =
-    let behind : (signed_decimal x ++ spaced xs) ++ 10 ∷ s ≡ (signed_decimal y ++ spaced ys) ++ 10 ∷ t = cc in
+    let after : (signed_decimal x ++ spaced xs) ++ 10 ∷ s ≡ (signed_decimal y ++ spaced ys) ++ 10 ∷ t = cc in
     let one = one_number_at x y (spaced xs ++ 10 ∷ s) (spaced ys ++ 10 ∷ t) (All-head IsLiteral x xs h) (All-head IsLiteral y ys k) (begins xs s) (begins ys t)
-    (sym (append_assoc (signed_decimal x) (spaced xs) (10 ∷ s)) ∙ behind ∙ append_assoc (signed_decimal y) (spaced ys) (10 ∷ t)) in
+    (sym (append_assoc (signed_decimal x) (spaced xs) (10 ∷ s)) ∙ after ∙ append_assoc (signed_decimal y) (spaced ys) (10 ∷ t)) in
     let rest = one_left xs ys s t (All-tail IsLiteral x xs h) (All-tail IsLiteral y ys k) one.1 in
     (ap (λ (z : ℤ). z ∷ xs) one.0 ∙ ap (λ (zs : List ℤ). y ∷ zs) rest.0, rest.1)
 
-behind_ask : (v w : List ℕ) → codes "ask" ++ v ≡ codes "ask" ++ w → v ≡ w
-behind_ask v w e = ap (drop 3) e
+after_ask : (v w : List ℕ) → codes "ask" ++ v ≡ codes "ask" ++ w → v ≡ w
+after_ask v w e = ap (drop 3) e
 
 one_question : (xs ys : List ℤ) (s t : List ℕ) → AreStateNumbers xs → AreStateNumbers ys → ask_line xs ++ s ≡ ask_line ys ++ t → (xs ≡ ys) × (s ≡ t)
 one_question xs ys s t h k e =
-    one_left xs ys s t h.each k.each (behind_ask (spaced xs ++ 10 ∷ s) (spaced ys ++ 10 ∷ t) (sym (line_opened xs s) ∙ e ∙ line_opened ys t))
+    one_left xs ys s t h.each k.each (after_ask (spaced xs ++ 10 ∷ s) (spaced ys ++ 10 ∷ t) (sym (line_opened xs s) ∙ e ∙ line_opened ys t))
 
 -- ---- commands
 
--- Two commands at the front of the same bytes, and what stands behind them.
-pub record AreOne (c d : Command) (s t : List ℕ) : Type 0 where
+-- Two commands at the front of the same bytes, and what stands after them.
+pub record AreOne (c d : ScriptCommand) (s t : List ℕ) : Type 0 where
   pub command : c ≡ d
   pub rest : s ≡ t
 
-pub one_command : (a b : List ℕ) (c d : Command) (s t : List ℕ) → Spell a c → Spell b d → a ++ s ≡ b ++ t → AreOne c d s t
+pub one_command : (a b : List ℕ) (c d : ScriptCommand) (s t : List ℕ) → Spell a c → Spell b d → a ++ s ≡ b ++ t → AreOne c d s t
 one_command a b (Publish t) (Publish u) r s h k e =
     let size = one_announced (a ++ r) (length h.text) (length k.text) (h.text ++ r) (k.text ++ s) (announces t a r h) (subst (λ (x : List ℕ). Announce x (length k.text) (k.text ++ s)) (sym e) (announces u b s k)) in
     let text = one_text h.text k.text r s size.0 size.1 in

@@ -10,7 +10,7 @@ use Rattle.std.proofs.lemmas.List.{length_push}
 use Rattle.std.proofs.lemmas.List.Elements.{All-head, All-tail, All-push, All-nil}
 use Rattle.plant_record.specs.Numbers.{IsLiteral}
 use Rattle.plant_reading.proofs.lemmas.NumberWords.{whole}
-use Rattle.run_words.specs.Form.{AreStateNumbers}
+use Rattle.command_line.specs.Command.{AreStateNumbers}
 use Rattle.live_script.specs.Scripts.{ask_line}
 use Rattle.live_script.specs.inside.Words.{BeginsWithSeparator, IsNumberAt, spaced, IsReadSoFar}
 use Rattle.live_script.proofs.WordsCut.{one_number_at}
@@ -21,18 +21,18 @@ joined_numbers : (word : List ℕ) (numbers : List ℤ) → join_with_byte 32 (w
 joined_numbers word [] = sym (append-nil word)
 joined_numbers word (z ∷ numbers) = ap (λ (bytes : List ℕ). word ++ 32 ∷ bytes) (joined_numbers (signed_decimal z) numbers)
 
--- the line of a question, and what stands behind it
-pub line_opened : (numbers : List ℤ) (behind : List ℕ) → ask_line numbers ++ behind ≡ codes "ask" ++ (spaced numbers ++ 10 ∷ behind)
-line_opened numbers behind =
-    ap (λ (bytes : List ℕ). (bytes ++ 10 ∷ []) ++ behind) (joined_numbers (codes "ask") numbers)
-    ∙ append_assoc (codes "ask" ++ spaced numbers) (10 ∷ []) behind
-    ∙ append_assoc (codes "ask") (spaced numbers) (10 ∷ behind)
+-- the line of a question, and what stands after it
+pub line_opened : (numbers : List ℤ) (rest_after : List ℕ) → ask_line numbers ++ rest_after ≡ codes "ask" ++ (spaced numbers ++ 10 ∷ rest_after)
+line_opened numbers rest_after =
+    ap (λ (bytes : List ℕ). (bytes ++ 10 ∷ []) ++ rest_after) (joined_numbers (codes "ask") numbers)
+    ∙ append_assoc (codes "ask" ++ spaced numbers) (10 ∷ []) rest_after
+    ∙ append_assoc (codes "ask") (spaced numbers) (10 ∷ rest_after)
 
 spaced_more : (numbers : List ℤ) (z : ℤ) → spaced (numbers ++ z ∷ []) ≡ spaced numbers ++ 32 ∷ signed_decimal z
 spaced_more numbers z = flat_map-append (λ (y : ℤ). 32 ∷ signed_decimal y) numbers (z ∷ []) ∙ ap (λ (x : List ℕ). spaced numbers ++ x) (append-nil (32 ∷ signed_decimal z))
 
-behind_word : (rest other : List ℕ) → codes "ask" ++ rest ≡ codes "ask" ++ other → rest ≡ other
-behind_word rest other e = ap (drop 3) e
+after_word : (rest other : List ℕ) → codes "ask" ++ rest ≡ codes "ask" ++ other → rest ≡ other
+after_word rest other e = ap (drop 3) e
 
 -- ---- a number in 64 bits and in 128
 
@@ -54,45 +54,45 @@ read_none bytes rest at = record {
   most = omega arith;
   each = All-nil IsLiteral;
   text = at;
-  goes_on = λ all behind question line. record {
+  goes_on = λ all rest_after question line. record {
     left = all;
     some = omega (arith, question.some);
     are = refl;
     each = question.each;
-    text = behind_word rest (spaced all ++ 10 ∷ behind) (sym at ∙ line ∙ line_opened all behind);
+    text = after_word rest (spaced all ++ 10 ∷ rest_after) (sym at ∙ line ∙ line_opened all rest_after);
   };
 }
 
 -- the first of the numbers that are left, and the others
-record IsFirstLeft (rest : List ℕ) (left : List ℤ) (behind : List ℕ) : Type 0 where
+record IsFirstLeft (rest : List ℕ) (left : List ℤ) (rest_after : List ℕ) : Type 0 where
   number : ℤ
   others : List ℤ
   are : left ≡ number ∷ others
-  at : (word : List ℕ) × (rest ≡ 32 ∷ word) × IsNumberAt word (number, spaced others ++ 10 ∷ behind)
+  at : (word : List ℕ) × (rest ≡ 32 ∷ word) × IsNumberAt word (number, spaced others ++ 10 ∷ rest_after)
   each : All IsLiteral others
 
-pub begins : (others : List ℤ) (behind : List ℕ) → BeginsWithSeparator (spaced others ++ 10 ∷ behind)
-begins [] behind = record { separator = 10; behind = behind; are = refl; separates = refl }
-begins (z ∷ others) behind = record { separator = 32; behind = signed_decimal z ++ spaced others ++ 10 ∷ behind; are = refl; separates = refl }
+pub begins : (others : List ℤ) (rest_after : List ℕ) → BeginsWithSeparator (spaced others ++ 10 ∷ rest_after)
+begins [] rest_after = record { separator = 10; after = rest_after; are = refl; separates = refl }
+begins (z ∷ others) rest_after = record { separator = 32; after = signed_decimal z ++ spaced others ++ 10 ∷ rest_after; are = refl; separates = refl }
 
-first_left : (rest : List ℕ) (left : List ℤ) (behind : List ℕ) → 0 < length left → All IsLiteral left → rest ≡ spaced left ++ 10 ∷ behind → IsFirstLeft rest left behind
-first_left rest [] behind some each text = absurd (omega (arith, some))
-first_left rest (z ∷ others) behind some each text =
-    let opened : rest ≡ 32 ∷ (signed_decimal z ++ (spaced others ++ 10 ∷ behind)) = text ∙ ap (λ (x : List ℕ). 32 ∷ x) (append_assoc (signed_decimal z) (spaced others) (10 ∷ behind)) in
+first_left : (rest : List ℕ) (left : List ℤ) (rest_after : List ℕ) → 0 < length left → All IsLiteral left → rest ≡ spaced left ++ 10 ∷ rest_after → IsFirstLeft rest left rest_after
+first_left rest [] rest_after some each text = absurd (omega (arith, some))
+first_left rest (z ∷ others) rest_after some each text =
+    let opened : rest ≡ 32 ∷ (signed_decimal z ++ (spaced others ++ 10 ∷ rest_after)) = text ∙ ap (λ (x : List ℕ). 32 ∷ x) (append_assoc (signed_decimal z) (spaced others) (10 ∷ rest_after)) in
     record {
       number = z;
       others = others;
       are = refl;
-      at = (signed_decimal z ++ (spaced others ++ 10 ∷ behind), opened, (All-head IsLiteral z others each, begins others behind, refl));
+      at = (signed_decimal z ++ (spaced others ++ 10 ∷ rest_after), opened, (All-head IsLiteral z others each, begins others rest_after, refl));
       each = All-tail IsLiteral z others each;
     }
 
--- where no number stands behind a space, no question's line is this
-pub no_question_left : (bytes : List ℕ) (numbers : List ℤ) (rest : List ℕ) → IsReadSoFar bytes numbers rest → ((y : ℤ × List ℕ) → (word : List ℕ) × (rest ≡ 32 ∷ word) × IsNumberAt word y → ⊥) → (all : List ℤ) (behind : List ℕ) → AreStateNumbers all → bytes ≡ ask_line all ++ behind → ⊥
-no_question_left bytes numbers rest so_far none all behind question line =
-    let on = so_far.goes_on all behind question line in
-    let first = first_left rest on.left behind on.some on.each on.text in
-    none (first.number, spaced first.others ++ 10 ∷ behind) first.at
+-- where no number stands after a space, no question's line is this
+pub no_question_left : (bytes : List ℕ) (numbers : List ℤ) (rest : List ℕ) → IsReadSoFar bytes numbers rest → ((y : ℤ × List ℕ) → (word : List ℕ) × (rest ≡ 32 ∷ word) × IsNumberAt word y → ⊥) → (all : List ℤ) (rest_after : List ℕ) → AreStateNumbers all → bytes ≡ ask_line all ++ rest_after → ⊥
+no_question_left bytes numbers rest so_far none all rest_after question line =
+    let on = so_far.goes_on all rest_after question line in
+    let first = first_left rest on.left rest_after on.some on.each on.text in
+    none (first.number, spaced first.others ++ 10 ∷ rest_after) first.at
 
 -- the text up to here with one more number
 text_more : (bytes : List ℕ) (numbers : List ℤ) (rest word after : List ℕ) (z : ℤ) → bytes ≡ codes "ask" ++ (spaced numbers ++ rest) → rest ≡ 32 ∷ word → word ≡ signed_decimal z ++ after → bytes ≡ codes "ask" ++ (spaced (numbers ++ z ∷ []) ++ after)
@@ -102,8 +102,8 @@ text_more bytes numbers rest word after z text at is =
     ∙ ap (λ (x : List ℕ). codes "ask" ++ x) (sym (append_assoc (spaced numbers) (32 ∷ signed_decimal z) after) ∙ ap (λ (x : List ℕ). x ++ after) (sym (spaced_more numbers z)))
 
 -- a line feed ends the question
-pub ended : (bytes : List ℕ) (numbers : List ℤ) (rest after behind : List ℕ) (z : ℤ) → IsReadSoFar bytes numbers rest → length numbers < 6 → (word : List ℕ) × (rest ≡ 32 ∷ word) × IsNumberAt word (z, after) → after ≡ 10 ∷ behind → AreStateNumbers (numbers ++ z ∷ []) × (bytes ≡ ask_line (numbers ++ z ∷ []) ++ behind)
-ended bytes numbers rest after behind z so_far few found feed = (
+pub ended : (bytes : List ℕ) (numbers : List ℤ) (rest after rest_after : List ℕ) (z : ℤ) → IsReadSoFar bytes numbers rest → length numbers < 6 → (word : List ℕ) × (rest ≡ 32 ∷ word) × IsNumberAt word (z, after) → after ≡ 10 ∷ rest_after → AreStateNumbers (numbers ++ z ∷ []) × (bytes ≡ ask_line (numbers ++ z ∷ []) ++ rest_after)
+ended bytes numbers rest after rest_after z so_far few found feed = (
   record {
     some = omega (arith, length_push numbers z);
     most = omega (arith, length_push numbers z, few);
@@ -111,32 +111,32 @@ ended bytes numbers rest after behind z so_far few found feed = (
   },
   text_more bytes numbers rest found.0 after z so_far.text found.1 found.2.2
       ∙ ap (λ (x : List ℕ). codes "ask" ++ (spaced (numbers ++ z ∷ []) ++ x)) feed
-      ∙ sym (line_opened (numbers ++ z ∷ []) behind),
+      ∙ sym (line_opened (numbers ++ z ∷ []) rest_after),
 )
 
 -- without one it goes on
-pub read_more : (bytes : List ℕ) (numbers : List ℤ) (rest after : List ℕ) (z : ℤ) → IsReadSoFar bytes numbers rest → length numbers < 6 → (word : List ℕ) × (rest ≡ 32 ∷ word) × IsNumberAt word (z, after) → ((behind : List ℕ) → after ≡ 10 ∷ behind → ⊥) → IsReadSoFar bytes (numbers ++ z ∷ []) after
+pub read_more : (bytes : List ℕ) (numbers : List ℤ) (rest after : List ℕ) (z : ℤ) → IsReadSoFar bytes numbers rest → length numbers < 6 → (word : List ℕ) × (rest ≡ 32 ∷ word) × IsNumberAt word (z, after) → ((rest_after : List ℕ) → after ≡ 10 ∷ rest_after → ⊥) → IsReadSoFar bytes (numbers ++ z ∷ []) after
 read_more bytes numbers rest after z so_far few found no_feed = record {
   most = omega (arith, length_push numbers z, few);
   each = All-push IsLiteral numbers z so_far.each found.2.0;
   text = text_more bytes numbers rest found.0 after z so_far.text found.1 found.2.2;
-  goes_on = λ all behind question line.
-      let on = so_far.goes_on all behind question line in
-      let first = first_left rest on.left behind on.some on.each on.text in
-      let word_is : found.0 ≡ first.at.0 = behind_space found.0 first.at.0 (sym found.1 ∙ first.at.1) in
-      let one = one_number_at z first.number after (spaced first.others ++ 10 ∷ behind) found.2.0 first.at.2.0 found.2.1 first.at.2.1 (sym found.2.2 ∙ word_is ∙ first.at.2.2) in
+  goes_on = λ all rest_after question line.
+      let on = so_far.goes_on all rest_after question line in
+      let first = first_left rest on.left rest_after on.some on.each on.text in
+      let word_is : found.0 ≡ first.at.0 = after_space found.0 first.at.0 (sym found.1 ∙ first.at.1) in
+      let one = one_number_at z first.number after (spaced first.others ++ 10 ∷ rest_after) found.2.0 first.at.2.0 found.2.1 first.at.2.1 (sym found.2.2 ∙ word_is ∙ first.at.2.2) in
       record {
         left = first.others;
-        some = others_are_some first.others behind one.1;
+        some = others_are_some first.others rest_after one.1;
         are = on.are ∙ ap (λ (x : List ℤ). numbers ++ x) (first.are ∙ ap (λ (y : ℤ). y ∷ first.others) (sym one.0)) ∙ sym (append_assoc numbers (z ∷ []) first.others);
         each = first.each;
         text = one.1;
       };
 }
   where
-    behind_space : (v w : List ℕ) → 32 ∷ v ≡ 32 ∷ w → v ≡ w
-    behind_space v w e = ap (drop 1) e
+    after_space : (v w : List ℕ) → 32 ∷ v ≡ 32 ∷ w → v ≡ w
+    after_space v w e = ap (drop 1) e
 
-    others_are_some : (others : List ℤ) (behind : List ℕ) → after ≡ spaced others ++ 10 ∷ behind → 0 < length others
-    others_are_some [] behind is = absurd (no_feed behind is)
-    others_are_some (y ∷ others) behind is = omega arith
+    others_are_some : (others : List ℤ) (rest_after : List ℕ) → after ≡ spaced others ++ 10 ∷ rest_after → 0 < length others
+    others_are_some [] rest_after is = absurd (no_feed rest_after is)
+    others_are_some (y ∷ others) rest_after is = omega arith

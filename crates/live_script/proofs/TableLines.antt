@@ -7,64 +7,64 @@ use Rattle.std.specs.Fmt.{decimal, signed_decimal}
 use Rattle.plant_record.specs.Numbers.{IsLiteral}
 use Rattle.controller_table.proofs.Digits.{one_number}
 use Rattle.live_script.specs.Scripts.{publish_line, ask_line}
-use Rattle.live_script.specs.Refusals.{Announce, IsMalformedBehind}
+use Rattle.live_script.specs.Refusals.{Announce, IsMalformedAfter}
 use Rattle.live_script.specs.inside.Words.{BeginsWithSeparator, IsNumberAt, spaced}
 use Rattle.live_script.proofs.WordsCut.{one_number_at}
 use Rattle.live_script.proofs.QuestionLines.{line_opened}
 
--- the line that tells a size, and what stands behind it
-pub size_opened : (size : ℕ) (behind : List ℕ) → publish_line size ++ behind ≡ codes "publish " ++ (decimal size ++ 10 ∷ behind)
-size_opened size behind = ap (λ (x : List ℕ). codes "publish " ++ x) (append_assoc (decimal size) (10 ∷ []) behind)
+-- the line that tells a size, and what stands after it
+pub size_opened : (size : ℕ) (after : List ℕ) → publish_line size ++ after ≡ codes "publish " ++ (decimal size ++ 10 ∷ after)
+size_opened size after = ap (λ (x : List ℕ). codes "publish " ++ x) (append_assoc (decimal size) (10 ∷ []) after)
 
-behind_publish : (v w : List ℕ) → codes "publish " ++ v ≡ codes "publish " ++ w → v ≡ w
-behind_publish v w e = ap (drop 8) e
+after_publish : (v w : List ℕ) → codes "publish " ++ v ≡ codes "publish " ++ w → v ≡ w
+after_publish v w e = ap (drop 8) e
 
 -- one size is told
 pub one_announced : (bytes : List ℕ) (m n : ℕ) (rest other : List ℕ) → Announce bytes m rest → Announce bytes n other → (m ≡ n) × (rest ≡ other)
 one_announced bytes m n rest other h k =
     one_number m n 10 rest other (omega (arith, h.most)) (omega (arith, k.most)) refl
-    (behind_publish _ _ (sym (size_opened m rest) ∙ sym h.are ∙ k.are ∙ size_opened n other))
+    (after_publish _ _ (sym (size_opened m rest) ∙ sym h.are ∙ k.are ∙ size_opened n other))
 
 -- a line that tells a size is no question's, and neither is missing
-pub not_asked : (bytes : List ℕ) (size : ℕ) (behind : List ℕ) → Announce bytes size behind → (numbers : List ℤ) (rest : List ℕ) → bytes ≡ ask_line numbers ++ rest → ⊥
-not_asked bytes size behind h numbers rest asked =
-    apart (decimal size ++ 10 ∷ behind) (spaced numbers ++ 10 ∷ rest) (sym (size_opened size behind) ∙ sym h.are ∙ asked ∙ line_opened numbers rest)
+pub not_asked : (bytes : List ℕ) (size : ℕ) (after : List ℕ) → Announce bytes size after → (numbers : List ℤ) (rest : List ℕ) → bytes ≡ ask_line numbers ++ rest → ⊥
+not_asked bytes size after h numbers rest asked =
+    apart (decimal size ++ 10 ∷ after) (spaced numbers ++ 10 ∷ rest) (sym (size_opened size after) ∙ sym h.are ∙ asked ∙ line_opened numbers rest)
   where
     apart : (v w : List ℕ) → codes "publish " ++ v ≡ codes "ask" ++ w → ⊥
     apart v w e = omega (arith, ap (λ (x : List ℕ). get_or x 0 0) e)
 
-pub announced_is_some : (bytes : List ℕ) (size : ℕ) (behind : List ℕ) → Announce bytes size behind → bytes ≡ [] → ⊥
-announced_is_some bytes size behind h none = apart (decimal size ++ 10 ∷ behind) (sym (size_opened size behind) ∙ sym h.are ∙ none)
+pub announced_is_some : (bytes : List ℕ) (size : ℕ) (after : List ℕ) → Announce bytes size after → bytes ≡ [] → ⊥
+announced_is_some bytes size after h none = apart (decimal size ++ 10 ∷ after) (sym (size_opened size after) ∙ sym h.are ∙ none)
   where
     apart : (v : List ℕ) → codes "publish " ++ v ≡ [] → ⊥
     apart v e = omega (arith, ap (λ (x : List ℕ). get_or x 0 0) e)
 
 -- ---- a size that is read
 
-begins_with_feed : (behind : List ℕ) → BeginsWithSeparator (10 ∷ behind)
-begins_with_feed behind = record { separator = 10; behind = behind; are = refl; separates = refl }
+begins_with_feed : (after : List ℕ) → BeginsWithSeparator (10 ∷ after)
+begins_with_feed after = record { separator = 10; after = after; are = refl; separates = refl }
 
--- the number of an announced size stands behind the first word
-pub announced_number : (bytes number : List ℕ) (size : ℕ) (behind : List ℕ) → bytes ≡ codes "publish " ++ number → Announce bytes size behind → IsNumberAt number (pos size, 10 ∷ behind)
-announced_number bytes number size behind at h = (
+-- the number of an announced size stands after the first word
+pub announced_number : (bytes number : List ℕ) (size : ℕ) (after : List ℕ) → bytes ≡ codes "publish " ++ number → Announce bytes size after → IsNumberAt number (pos size, 10 ∷ after)
+announced_number bytes number size after at h = (
   omega (arith, h.most),
-  begins_with_feed behind,
-  behind_publish number (decimal size ++ 10 ∷ behind) (sym at ∙ h.are ∙ size_opened size behind),
+  begins_with_feed after,
+  after_publish number (decimal size ++ 10 ∷ after) (sym at ∙ h.are ∙ size_opened size after),
 )
 
 -- and the other way round
-pub announced : (bytes number rest behind : List ℕ) (size : ℕ) → 1 ≤ size → size ≤ 67108864 → bytes ≡ codes "publish " ++ number → number ≡ signed_decimal (pos size) ++ rest → rest ≡ 10 ∷ behind → Announce bytes size behind
-announced bytes number rest behind size some most at is feed = record {
+pub announced : (bytes number rest after : List ℕ) (size : ℕ) → 1 ≤ size → size ≤ 67108864 → bytes ≡ codes "publish " ++ number → number ≡ signed_decimal (pos size) ++ rest → rest ≡ 10 ∷ after → Announce bytes size after
+announced bytes number rest after size some most at is feed = record {
   some = some;
   most = most;
-  are = at ∙ ap (λ (x : List ℕ). codes "publish " ++ x) (is ∙ ap (λ (x : List ℕ). decimal size ++ x) feed) ∙ sym (size_opened size behind);
+  are = at ∙ ap (λ (x : List ℕ). codes "publish " ++ x) (is ∙ ap (λ (x : List ℕ). decimal size ++ x) feed) ∙ sym (size_opened size after);
 }
 
 -- the number that is read is the announced size, and ends its line
-pub size_read : (bytes number rest : List ℕ) (z : ℤ) (size : ℕ) (behind : List ℕ) → bytes ≡ codes "publish " ++ number → IsNumberAt number (z, rest) → Announce bytes size behind → (z ≡ pos size) × (rest ≡ 10 ∷ behind)
-size_read bytes number rest z size behind at found h =
-    let told = announced_number bytes number size behind at h in
-    one_number_at z (pos size) rest (10 ∷ behind) found.0 told.0 found.1 told.1 (sym found.2 ∙ told.2)
+pub size_read : (bytes number rest : List ℕ) (z : ℤ) (size : ℕ) (after : List ℕ) → bytes ≡ codes "publish " ++ number → IsNumberAt number (z, rest) → Announce bytes size after → (z ≡ pos size) × (rest ≡ 10 ∷ after)
+size_read bytes number rest z size after at found h =
+    let told = announced_number bytes number size after at h in
+    one_number_at z (pos size) rest (10 ∷ after) found.0 told.0 found.1 told.1 (sym found.2 ∙ told.2)
 
 -- a literal is read back from its bits
 pub whole : (z : ℤ) → IsLiteral z → to_z w64 (of_z w64 z) ≡ z
@@ -75,11 +75,11 @@ whole z lt = to_z-of_z w64 z (fits z lt)
     fits (negsuc n) lt = omega (arith, ints)
 
 -- a table's text that ends too early
-pub ends_too_early : (count size : ℕ) (bytes : List ℕ) → count < 8 → 1 ≤ size → size ≤ 67108864 → length bytes < size → IsMalformedBehind count (publish_line size ++ bytes)
+pub ends_too_early : (count size : ℕ) (bytes : List ℕ) → count < 8 → 1 ≤ size → size ≤ 67108864 → length bytes < size → IsMalformedAfter count (publish_line size ++ bytes)
 ends_too_early count size bytes few some most short = record {
   unfinished = λ none. absurd (announced_is_some (publish_line size ++ bytes) size bytes told none);
-  no_table = λ other behind h fits.
-      let same = one_announced (publish_line size ++ bytes) other size behind bytes h told in
+  no_table = λ other after h fits.
+      let same = one_announced (publish_line size ++ bytes) other size after bytes h told in
       let long = fits few in
       omega (arith, same.0, ap length same.1, long, short);
   no_question = λ numbers rest _ _ asked. not_asked (publish_line size ++ bytes) size bytes told numbers rest asked;

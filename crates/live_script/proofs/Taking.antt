@@ -3,8 +3,8 @@ use Rattle.std.proofs.Common.{◌≡◌, ℕ, ◌+◌, ◌<◌, List, ◌∷◌,
 use Rattle.std.specs.Prelude.{ℤ}
 use Rattle.controller_table.specs.Tables.{TableModel, IsTableIn}
 use Rattle.controller_table.specs.Refusals.{line_count}
-use Rattle.live_script.specs.declared.command.Command.TheVariants.{Publish, Ask}
-use Rattle.run_words.specs.Form.{AreStateNumbers}
+use Rattle.live_script.specs.declared.command.ScriptCommand.TheVariants.{Publish, Ask}
+use Rattle.command_line.specs.Command.{AreStateNumbers}
 use Rattle.live_script.specs.Scripts.{publish_line, ask_line}
 use Rattle.live_script.specs.Refusals.{Announce}
 use Rattle.live_script.specs.Reading.{IsTaken}
@@ -12,9 +12,9 @@ use Rattle.live_script.specs.inside.Words.{spaced}
 use Rattle.live_script.proofs.Counting.{one_in_question, one_before_table}
 use Rattle.live_script.proofs.QuestionLines.{line_opened}
 
-pub table_taken : (tables line size : ℕ) (bytes behind text rest : List ℕ) (t : TableModel) (count : ℕ) → Announce bytes size behind → tables < 8 → IsTableIn t.version text t.plant t.rows → length text ≡ size → behind ≡ text ++ rest → count ≡ line_count text
+pub table_taken : (tables line size : ℕ) (bytes after text rest : List ℕ) (t : TableModel) (count : ℕ) → Announce bytes size after → tables < 8 → IsTableIn t.version text t.plant t.rows → length text ≡ size → after ≡ text ++ rest → count ≡ line_count text
     → IsTaken (record { tables = tables; line = line; rest = bytes }) (Publish t) (record { tables = tables + 1; line = line + (1 + count); rest = rest })
-table_taken tables line size bytes behind text rest t count told few is size_is cut counted = record {
+table_taken tables line size bytes after text rest t count told few is size_is cut counted = record {
   first = publish_line (length text) ++ text;
   are = at;
   spells = record { text = text; is_table = is; are = refl };
@@ -25,7 +25,7 @@ table_taken tables line size bytes behind text rest t count told few is size_is 
 }
   where
     at : bytes ≡ (publish_line (length text) ++ text) ++ rest
-    at = told.are ∙ ap (λ (n : ℕ). publish_line n ++ behind) (sym size_is) ∙ ap (λ (x : List ℕ). publish_line (length text) ++ x) cut ∙ sym (append_assoc (publish_line (length text)) text rest)
+    at = told.are ∙ ap (λ (n : ℕ). publish_line n ++ after) (sym size_is) ∙ ap (λ (x : List ℕ). publish_line (length text) ++ x) cut ∙ sym (append_assoc (publish_line (length text)) text rest)
 
 pub question_taken : (tables line : ℕ) (bytes rest : List ℕ) (numbers : List ℤ) → 0 < tables → AreStateNumbers numbers → bytes ≡ ask_line numbers ++ rest
     → IsTaken (record { tables = tables; line = line; rest = bytes }) (Ask numbers) (record { tables = tables; line = line + 1; rest = rest })

@@ -5,7 +5,7 @@ use Rattle.std.specs.List.{position_or_len}
 use Rattle.std.specs.Fmt.{signed_decimal}
 use Rattle.plant_record.specs.Numbers.{IsLiteral}
 use Rattle.plant_reading.specs.Separators.{is_separator, is_word}
-use Rattle.plant_reading.proofs.lemmas.Positions.{place_some, place_none}
+use Rattle.plant_reading.proofs.lemmas.Positions.{position_some, position_none}
 use Rattle.plant_reading.proofs.lemmas.NumberBytes.{number_word}
 use Rattle.plant_reading.proofs.lemmas.NumberWords.{one_number}
 use Rattle.row_runs.proofs.Cuts.{one_cut}
@@ -17,7 +17,7 @@ abbrev IsCut : List ℕ → Type 0
 IsCut bytes = (is_word (take (position_or_len is_separator bytes) bytes) ≡ true) × BeginsWithSeparator (drop (position_or_len is_separator bytes) bytes)
 
 cut_further : (b : ℕ) (bytes : List ℕ) (t : Bool) → is_separator b ≡ t → (position_or_len is_separator bytes < length bytes → IsCut bytes) → position_or_len is_separator (b ∷ bytes) < length (b ∷ bytes) → IsCut (b ∷ bytes)
-cut_further b bytes true e others lt = rw e (refl, record { separator = b; behind = bytes; are = refl; separates = e })
+cut_further b bytes true e others lt = rw e (refl, record { separator = b; after = bytes; are = refl; separates = e })
 cut_further b bytes false e others lt =
     let far = rw e at lt in
     let more = others (omega (arith, far)) in
@@ -29,8 +29,8 @@ cut_at_first (b ∷ bytes) lt = cut_further b bytes (is_separator b) refl (cut_a
 
 pub cut_here : (bytes : List ℕ) (n : ℕ) → Some n ≡ position is_separator bytes → (is_word (take n bytes) ≡ true) × BeginsWithSeparator (drop n bytes)
 cut_here bytes n at =
-    let place = place_some is_separator bytes n at in
-    subst (λ (k : ℕ). (is_word (take k bytes) ≡ true) × BeginsWithSeparator (drop k bytes)) place.0 (cut_at_first bytes place.1)
+    let position = position_some is_separator bytes n at in
+    subst (λ (k : ℕ). (is_word (take k bytes) ≡ true) × BeginsWithSeparator (drop k bytes)) position.0 (cut_at_first bytes position.1)
 
 reached : (b : ℕ) (bytes : List ℕ) (t : Bool) → is_separator b ≡ t → (length bytes ≤ position_or_len is_separator bytes → ⊥) → length (b ∷ bytes) ≤ position_or_len is_separator (b ∷ bytes) → ⊥
 reached b bytes true e others le = let near = rw e at le in omega (arith, near)
@@ -38,7 +38,7 @@ reached b bytes false e others le = let far = rw e at le in others (omega (arith
 
 within_word : (word rest : List ℕ) → BeginsWithSeparator rest → length (word ++ rest) ≤ position_or_len is_separator (word ++ rest) → ⊥
 within_word [] rest begins le =
-    reached begins.separator begins.behind true begins.separates (λ less. absurd (first_is begins.separator begins.behind begins.separates (subst (λ (r : List ℕ). length r ≤ position_or_len is_separator r) begins.are le))) (subst (λ (r : List ℕ). length r ≤ position_or_len is_separator r) begins.are le)
+    reached begins.separator begins.after true begins.separates (λ less. absurd (first_is begins.separator begins.after begins.separates (subst (λ (r : List ℕ). length r ≤ position_or_len is_separator r) begins.are le))) (subst (λ (r : List ℕ). length r ≤ position_or_len is_separator r) begins.are le)
   where
     first_is : (b : ℕ) (bytes : List ℕ) → is_separator b ≡ true → length (b ∷ bytes) ≤ position_or_len is_separator (b ∷ bytes) → ⊥
     first_is b bytes e le = let near = rw e at le in omega (arith, near)
@@ -47,21 +47,21 @@ within_word (b ∷ word) rest begins le = reached b (word ++ rest) (is_separator
 -- where no separator stands, no word ends
 pub no_word : (bytes : List ℕ) → None ≡ position is_separator bytes → (word rest : List ℕ) → BeginsWithSeparator rest → bytes ≡ word ++ rest → ⊥
 no_word bytes none word rest begins are =
-    within_word word rest begins (place_none is_separator (word ++ rest) (none ∙ ap (position is_separator) are))
+    within_word word rest begins (position_none is_separator (word ++ rest) (none ∙ ap (position is_separator) are))
 
 -- ---- one cut
 
 not_false : (b : Bool) → b ≡ true → not b ≡ false
 not_false b e = rw e refl
 
--- two words and what begins behind them
+-- two words and what begins after them
 pub one_word : (v w rest other : List ℕ) → is_word v ≡ true → is_word w ≡ true → BeginsWithSeparator rest → BeginsWithSeparator other → v ++ rest ≡ w ++ other → (v ≡ w) × (rest ≡ other)
 one_word v w rest other hv hw hr ho e =
-    let cut = one_cut (λ b. not (is_separator b)) v w hr.separator ho.separator hr.behind ho.behind hv hw
+    let cut = one_cut (λ b. not (is_separator b)) v w hr.separator ho.separator hr.after ho.after hv hw
     (not_false (is_separator hr.separator) hr.separates) (not_false (is_separator ho.separator) ho.separates)
     (ap (λ (r : List ℕ). v ++ r) (sym hr.are) ∙ e ∙ ap (λ (r : List ℕ). w ++ r) ho.are) in (
       cut.front,
-      hr.are ∙ ap (λ (s : ℕ). s ∷ hr.behind) cut.stop ∙ ap (λ (t : List ℕ). ho.separator ∷ t) cut.rest ∙ sym ho.are,
+      hr.are ∙ ap (λ (s : ℕ). s ∷ hr.after) cut.stop ∙ ap (λ (t : List ℕ). ho.separator ∷ t) cut.rest ∙ sym ho.are,
     )
 
 -- one number stands at the front

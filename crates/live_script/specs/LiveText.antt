@@ -3,8 +3,8 @@ use Rattle.std.specs.Prelude.{◌≡◌, ℕ, ℤ, List, [], ◌∷◌, ◌++◌
 use Rattle.std.specs.Fmt.{decimal}
 use Rattle.plant_record.specs.Spelling.{line}
 use Rattle.controller_table.specs.Tables.{TableModel}
-use Rattle.live_script.specs.declared.command.Command.{Command}
-use Rattle.live_script.specs.declared.command.Command.TheVariants.{Publish, Ask}
+use Rattle.live_script.specs.declared.command.ScriptCommand.{ScriptCommand}
+use Rattle.live_script.specs.declared.command.ScriptCommand.TheVariants.{Publish, Ask}
 use Rattle.live_script.specs.Questions.{IsAnswerOf}
 use Rattle.live_script.specs.Scripts.{IsScript}
 
@@ -16,7 +16,7 @@ answer_word (Some u) = decimal u
 abbrev pub answer_line : ℕ → Option ℕ → List ℕ
 answer_line number answer = line (decimal number ∷ answer_word answer ∷ [])
 
--- The text is the line for a question behind these tables: the last of them answers, and they tell its number.
+-- The text is the line for a question after these tables: the last of them answers, and they tell its number.
 pub record IsAnswerLine (tables : List TableModel) (numbers : List ℤ) (text : List ℕ) : Type 0 where
   pub before : List TableModel
   pub table : TableModel
@@ -25,8 +25,8 @@ pub record IsAnswerLine (tables : List TableModel) (numbers : List ℤ) (text : 
   pub answers : IsAnswerOf table numbers answer
   pub is : text ≡ answer_line (length tables) answer
 
--- the text is the lines for the questions among commands behind these tables
-abbrev pub AreAnswers : List TableModel → List Command → List ℕ → Type 0
+-- the text is the lines for the questions among commands after these tables
+abbrev pub AreAnswers : List TableModel → List ScriptCommand → List ℕ → Type 0
 AreAnswers tables [] text = text ≡ []
 AreAnswers tables (Publish table ∷ commands) text = AreAnswers (tables ++ table ∷ []) commands text
 AreAnswers tables (Ask numbers ∷ commands) text =
@@ -34,6 +34,6 @@ AreAnswers tables (Ask numbers ∷ commands) text =
 
 -- The text answers the script.
 pub record IsLiveText (script : List ℕ) (text : List ℕ) : Type 0 where
-  pub commands : List Command
+  pub commands : List ScriptCommand
   pub is_script : IsScript script commands
   pub answers : AreAnswers [] commands text

@@ -3,9 +3,9 @@ use Rattle.std.specs.Prelude.{◌≡◌, ℕ, suc, ◌<◌, ◌≤◌, ℤ, List
 use Rattle.std.specs.Fmt.{decimal, signed_decimal}
 use Rattle.plant_record.specs.Spelling.{line}
 use Rattle.controller_table.specs.Tables.{TableModel, IsTableIn}
-use Rattle.live_script.specs.declared.command.Command.{Command}
-use Rattle.live_script.specs.declared.command.Command.TheVariants.{Publish, Ask}
-use Rattle.run_words.specs.Form.{AreStateNumbers}
+use Rattle.live_script.specs.declared.command.ScriptCommand.{ScriptCommand}
+use Rattle.live_script.specs.declared.command.ScriptCommand.TheVariants.{Publish, Ask}
+use Rattle.command_line.specs.Command.{AreStateNumbers}
 
 -- the line before a table's text of so many bytes
 abbrev pub publish_line : ℕ → List ℕ
@@ -14,45 +14,45 @@ publish_line size = line (codes "publish" ∷ decimal size ∷ [])
 abbrev pub ask_line : List ℤ → List ℕ
 ask_line numbers = line (codes "ask" ∷ map signed_decimal numbers)
 
--- The bytes are a table's text behind the line that tells its size.
+-- The bytes are a table's text after the line that tells its size.
 pub record IsPublishOf (table : TableModel) (bytes : List ℕ) : Type 0 where
   pub text : List ℕ
   pub is_table : IsTableIn table.version text table.plant table.rows
   pub are : bytes ≡ publish_line (length text) ++ text
 
 -- the bytes spell the command
-abbrev pub Spell : List ℕ → Command → Type 0
+abbrev pub Spell : List ℕ → ScriptCommand → Type 0
 Spell bytes (Publish table) = IsPublishOf table bytes
 Spell bytes (Ask numbers) = AreStateNumbers numbers × (bytes ≡ ask_line numbers)
 
--- a command has its place behind so many tables: eight are published at most, and a question has a table to answer it
-abbrev pub FitsBehind : ℕ → Command → Type 0
-FitsBehind tables (Publish table) = tables < 8
-FitsBehind tables (Ask numbers) = 0 < tables
+-- a command has its position after so many tables: eight are published at most, and a question has a table to answer it
+abbrev pub FitsAfter : ℕ → ScriptCommand → Type 0
+FitsAfter tables (Publish table) = tables < 8
+FitsAfter tables (Ask numbers) = 0 < tables
 
--- how many tables are published behind a command
-abbrev pub tables_behind : ℕ → Command → ℕ
-tables_behind tables (Publish table) = suc tables
-tables_behind tables (Ask numbers) = tables
+-- how many tables are published after a command
+abbrev pub tables_after : ℕ → ScriptCommand → ℕ
+tables_after tables (Publish table) = suc tables
+tables_after tables (Ask numbers) = tables
 
 -- the tables that commands publish
-abbrev pub published : List Command → List TableModel
+abbrev pub published : List ScriptCommand → List TableModel
 published [] = []
 published (Publish table ∷ commands) = table ∷ published commands
 published (Ask numbers ∷ commands) = published commands
 
--- the bytes spell commands that have their places behind so many tables
-abbrev pub SpellBehind : ℕ → List ℕ → List Command → Type 0
-SpellBehind tables bytes [] = bytes ≡ []
-SpellBehind tables bytes (c ∷ commands) =
-    (first rest : List ℕ) × (bytes ≡ first ++ rest) × Spell first c × FitsBehind tables c × SpellBehind (tables_behind tables c) rest commands
+-- the bytes spell commands that have their positions after so many tables
+abbrev pub SpellAfter : ℕ → List ℕ → List ScriptCommand → Type 0
+SpellAfter tables bytes [] = bytes ≡ []
+SpellAfter tables bytes (c ∷ commands) =
+    (first rest : List ℕ) × (bytes ≡ first ++ rest) × Spell first c × FitsAfter tables c × SpellAfter (tables_after tables c) rest commands
 
 -- the script has at most 67,108,864 bytes
 abbrev pub IsShortScript : List ℕ → Type 0
 IsShortScript bytes = length bytes ≤ 67108864
 
 -- The bytes are a script of these commands, a table first.
-pub record IsScript (bytes : List ℕ) (commands : List Command) : Type 0 where
+pub record IsScript (bytes : List ℕ) (commands : List ScriptCommand) : Type 0 where
   pub short : IsShortScript bytes
-  pub spell : SpellBehind 0 bytes commands
+  pub spell : SpellAfter 0 bytes commands
   pub some_table : 0 < length (published commands)

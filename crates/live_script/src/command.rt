@@ -1,9 +1,9 @@
+use command_line::StateNumbers;
 use controller_table::Table;
-use run_words::StateNumbers;
 
 /// What a script asks for.
 #[derive(Drop)]
-pub enum Command {
+pub enum ScriptCommand {
     /// Bring this table into force.
     Publish(Table),
     /// Tell what the table in force chooses.

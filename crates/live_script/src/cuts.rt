@@ -14,7 +14,7 @@ pub(crate) fn word_at(bytes: &[u8]) -> Option<(&[u8], &[u8])>
 }
 
 fn first_separator(bytes: &[u8]) -> Option<usize>
-    ensures place { result ≡ position is_separator bytes.now }
+    ensures position { result ≡ position is_separator bytes.now }
     ensures within { IfSome result (λ n. n < length bytes.now) }
 {
     bytes.iter().position(|b| *b == b' ' || *b == b'\n')

@@ -5,14 +5,14 @@
 //! are defined in specs/.
 #![tactic(auto)]
 
+mod ask_numbers;
 mod command;
 mod cuts;
-mod fault;
-mod numbers;
 mod question_line;
 mod script;
+mod script_fault;
 mod table_line;
 
-pub use command::Command;
-pub use fault::ScriptFault;
+pub use command::ScriptCommand;
 pub use script::{SCRIPT_LIMIT, Script};
+pub use script_fault::ScriptFault;

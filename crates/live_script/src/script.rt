@@ -2,18 +2,18 @@ ghost use Rattle.std.specs.Prelude.{◌≡◌, ◌≢◌, ℕ, ℤ, [], ◌^◌,
 ghost use Rattle.std.specs.Option.{IfNone};
 ghost use Rattle.controller_table.specs.Tables.{IsTableIn};
 ghost use Rattle.controller_table.specs.Found.{Finds};
-ghost use Rattle.run_words.specs.Form.{AreStateNumbers};
-ghost use Rattle.live_script.specs.declared.fault.ScriptFault.TheVariants.{Memory};
+ghost use Rattle.command_line.specs.Command.{AreStateNumbers};
+ghost use Rattle.live_script.specs.declared.script_fault.ScriptFault.TheVariants.{Memory};
 ghost use Rattle.live_script.specs.Scripts.{publish_line, ask_line, IsShortScript};
-ghost use Rattle.live_script.specs.Refusals.{IsRefusedBehind, IsScriptRefusedFor};
+ghost use Rattle.live_script.specs.Refusals.{IsRefusedAfter, IsScriptRefusedFor};
 ghost use Rattle.live_script.specs.Reading.{IsTaken};
 
-use crate::command::Command;
-use crate::fault::ScriptFault;
+use crate::command::ScriptCommand;
 use crate::question_line::question_at;
+use crate::script_fault::ScriptFault;
 use crate::table_line::announced_at;
+use command_line::StateNumbers;
 use controller_table::{Table, TableFault, line_count, read_table};
-use run_words::StateNumbers;
 use std::alloc::Global;
 use std::marker::Model;
 
@@ -61,33 +61,33 @@ impl<'a> Script<'a> {
     }
 
     /// Takes the next command away. None at the script's end.
-    pub fn next_command(&mut self, alloc: Global) -> Result<Option<Command>, ScriptFault>
+    pub fn next_command(&mut self, alloc: Global) -> Result<Option<ScriptCommand>, ScriptFault>
         ensures taken { IfOk result (λ next. IfSome next (λ command. IsTaken self.old command self.new)) }
         ensures ended { IfOk result (λ next. IfNone next ((self.old.rest ≡ []) × (0 < self.old.tables))) }
-        ensures refused { IfErr result (λ fault. fault ≢ Memory → IsRefusedBehind self.old.tables self.old.line self.old.rest fault) }
+        ensures refused { IfErr result (λ fault. fault ≢ Memory → IsRefusedAfter self.old.tables self.old.line self.old.rest fault) }
         ensures kept { OnErr result (self.new ≡ self.old) }
     {
         if self.rest.is_empty() && self.tables > 0 {
             return Ok(None);
         }
-        if let Some((size, behind)) = announced_at(self.rest) {
-            let (table, text, rest) = table_at(alloc, self.tables, self.line, size, behind)?;
+        if let Some((size, after)) = announced_at(self.rest) {
+            let (table, text, rest) = table_at(alloc, self.tables, self.line, size, after)?;
             self.tables += 1;
             self.line += 1 + line_count(text);
             self.rest = rest;
-            return Ok(Some(Command::Publish(table)));
+            return Ok(Some(ScriptCommand::Publish(table)));
         }
-        let Some((question, rest)) = question_behind(self.tables, self.rest) else {
+        let Some((question, rest)) = question_after(self.tables, self.rest) else {
             return Err(ScriptFault::Malformed { line: self.line });
         };
         self.line += 1;
         self.rest = rest;
-        Ok(Some(Command::Ask(question)))
+        Ok(Some(ScriptCommand::Ask(question)))
     }
 }
 
-/// The question whose line stands at the front behind so many tables, and what stands behind it.
-fn question_behind(tables: u32, bytes: &[u8]) -> Option<(StateNumbers, &[u8])>
+/// The question whose line stands at the front after so many tables, and what stands after it.
+fn question_after(tables: u32, bytes: &[u8]) -> Option<(StateNumbers, &[u8])>
     ensures { Finds (λ r. (r.0, r.1.now)) (λ (y : List ℤ × List ℕ). (0 < tables) × AreStateNumbers y.0 × (bytes.now ≡ ask_line y.0 ++ y.1)) result }
 {
     if tables == 0 {
@@ -96,7 +96,7 @@ fn question_behind(tables: u32, bytes: &[u8]) -> Option<(StateNumbers, &[u8])>
     question_at(bytes)
 }
 
-/// The table whose text of so many bytes stands behind the line that announces it, that text, and what stands behind it.
+/// The table whose text of so many bytes stands after the line that announces it, that text, and what stands after it.
 fn table_at(
     alloc: Global,
     tables: u32,
@@ -110,7 +110,7 @@ fn table_at(
     ensures few { IfOk result (λ _. tables < 8) }
     ensures table { IfOk result (λ r. IsTableIn r.0.version r.1.now r.0.plant r.0.rows) }
     ensures cut { IfOk result (λ r. (length r.1.now ≡ size) × (bytes.now ≡ r.1.now ++ r.2.now)) }
-    ensures refused { IfErr result (λ fault. fault ≢ Memory → IsRefusedBehind tables line (publish_line size ++ bytes.now) fault) }
+    ensures refused { IfErr result (λ fault. fault ≢ Memory → IsRefusedAfter tables line (publish_line size ++ bytes.now) fault) }
 {
     if tables >= TABLES_LIMIT {
         return Err(ScriptFault::TooManyTables);

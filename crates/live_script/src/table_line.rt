@@ -2,18 +2,18 @@ ghost use Rattle.std.specs.Prelude.{◌≡◌, ◌≤◌, ℕ, List, pos, MatchO
 ghost use Rattle.controller_table.specs.Found.{Finds};
 ghost use Rattle.live_script.specs.Refusals.{Announce};
 
-use crate::numbers::number_at;
-use controller_table::{TABLE_LIMIT, behind_front};
+use crate::ask_numbers::number_at;
+use controller_table::{TABLE_LIMIT, after_prefix};
 
-/// The size of the table's text that is announced at the front, and what stands behind that line.
+/// The size of the table's text that is announced at the front, and what stands after that line.
 pub(crate) fn announced_at(bytes: &[u8]) -> Option<(usize, &[u8])>
     ensures { Finds (λ r. (r.0, r.1.now)) (λ (y : ℕ × List ℕ). Announce bytes.now y.0 y.1) result }
 {
-    let number = behind_front(bytes, b"publish ")?;
+    let number = after_prefix(bytes, b"publish ")?;
     let (number, rest) = number_at(number)?;
-    let behind = behind_front(rest, b"\n")?;
+    let after = after_prefix(rest, b"\n")?;
     let size = size_of(number)?;
-    Some((size, behind))
+    Some((size, after))
 }
 
 /// The size of a table's text that may be announced.

@@ -1,21 +1,21 @@
--- Each step on the two sides keeps the rule.
+-- Each step on the two copies keeps the rule.
 use Rattle.std.proofs.Common.{◌≡◌, ℕ, ◌≢◌, List, [], ◌∷◌, ◌++◌, Option, Some, None, set, refl, ◌∙◌, subst, ⊎_elim}
 use mathlib.Core.Option.{some}
 use lib.ListN.{get_elem?}
 use Rattle.left_right.specs.Register.{Admits, Turns, TurnsAt, Forks, Merges}
 use Rattle.atomic_table.proofs.Lists.{at_set, at_snoc}
-use Rattle.live_table.specs.declared.side.LiveSide.{LiveSide}
+use Rattle.live_table.specs.declared.copy.LiveCopy.{LiveCopy}
 use Rattle.live_table.specs.Publishes.{Published}
 use Rattle.live_table.specs.inside.Rules.{Begins, AllBegin}
 use Rattle.live_table.proofs.Prefixes.{prefix_self, prefix_trans}
 
 -- the rule
-abbrev pub holds : LiveSide → List (Option Published) → Type 0
-holds x views = AllBegin x.in_force views
+abbrev pub holds : LiveCopy → List (Option Published) → Type 0
+holds x views = AllBegin x.current views
 
 -- what a step tells
-abbrev pub sees : Option Published → LiveSide → LiveSide → Option Published → Type 0
-sees v x y w = Begins v y.in_force × (w ≡ y.in_force)
+abbrev pub sees : Option Published → LiveCopy → LiveCopy → Option Published → Type 0
+sees v x y w = Begins v y.current × (w ≡ y.current)
 
 pub begins_same : (v : Option Published) → Begins v v
 begins_same None = tt
@@ -38,24 +38,24 @@ add_begins now views w h b j u e = ⊎_elim (h j u) (λ (t : w ≡ u). subst (λ
 
 -- a new reader knows nothing
 pub admits : Admits holds None
-admits x views h = add_begins x.in_force views None h tt
+admits x views h = add_begins x.current views None h tt
 
 -- the list in force only grows, and who looks knows it
-pub turns : (seat : ℕ) (v : Option Published) (x y : LiveSide) → Begins x.in_force y.in_force → TurnsAt holds seat v x y sees
+pub turns : (seat : ℕ) (v : Option Published) (x y : LiveCopy) → Begins x.current y.current → TurnsAt holds seat v x y sees
 turns seat v x y up views h at =
-    let later : AllBegin y.in_force views = λ j u e. begins_trans u x.in_force y.in_force (h j u e) up in (
-      y.in_force,
-      set_begins y.in_force views seat y.in_force later (begins_same y.in_force),
+    let later : AllBegin y.current views = λ j u e. begins_trans u x.current y.current (h j u e) up in (
+      y.current,
+      set_begins y.current views seat y.current later (begins_same y.current),
       (later seat v at, refl),
     )
 
 pub looks : (seat : ℕ) (v : Option Published) → Turns holds seat v (λ x. x) sees
-looks seat v x = turns seat v x x (begins_same x.in_force)
+looks seat v x = turns seat v x x (begins_same x.current)
 
 pub forks : (seat : ℕ) (v : Option Published) → Forks holds seat v v v
-forks seat v x views h at = add_begins x.in_force (set views seat v) v (set_begins x.in_force views seat v h (h seat v at)) (h seat v at)
+forks seat v x views h at = add_begins x.current (set views seat v) v (set_begins x.current views seat v h (h seat v at)) (h seat v at)
 
 pub merges : (seat : ℕ) (v : Option Published) (other : ℕ) (w : Option Published) → Merges holds seat v other w w None
 merges seat v other w x views h at apart there =
-    let b : Begins w x.in_force = ⊎_elim (λ (t : (other ≡ seat) × (w ≡ w)). absurd (apart t.0)) (λ (t : (other ≢ seat) × (get_elem? views other ≡ some w)). h other w t.1) (at_set views seat other w w there) in
-    set_begins x.in_force (set views seat w) other None (set_begins x.in_force views seat w h b) tt
+    let b : Begins w x.current = ⊎_elim (λ (t : (other ≡ seat) × (w ≡ w)). absurd (apart t.0)) (λ (t : (other ≢ seat) × (get_elem? views other ≡ some w)). h other w t.1) (at_set views seat other w w there) in
+    set_begins x.current (set views seat w) other None (set_begins x.current views seat w h b) tt

@@ -5,17 +5,17 @@
 //! contracts a publisher is its list of publishes, and a reader is what it has seen and what it was told of.
 #![tactic(auto)]
 
-mod fault;
+mod copy;
+mod current;
 mod history;
-mod in_force;
+mod live_fault;
 mod opening;
 mod prefix;
 mod publisher;
 mod reader;
-mod side;
 mod told;
 
-pub use fault::LiveFault;
+pub use live_fault::LiveFault;
 pub use opening::open;
 pub use publisher::Publisher;
 pub use reader::{Answered, Reader};

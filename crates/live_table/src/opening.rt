@@ -1,12 +1,12 @@
 ghost use Rattle.std.specs.Prelude.{◌≡◌, ◌≤◌, [], ◌∷◌, vec_len, All, IfOk};
 ghost use Rattle.live_table.specs.Publishes.{newcomer};
 
-use crate::fault::LiveFault;
+use crate::copy::LiveCopy;
+use crate::current::Current;
 use crate::history::History;
-use crate::in_force::InForce;
+use crate::live_fault::LiveFault;
 use crate::publisher::{Publisher, show};
 use crate::reader::Reader;
-use crate::side::LiveSide;
 use controller_table::Table;
 use left_right::writer::Writer;
 use std::alloc::Global;
@@ -45,19 +45,19 @@ fn publisher_of<R: Wait>(
     requires { (1 ≤ readers) × (readers ≤ 64) }
     ensures { IfOk result (λ p. p.list ≡ first ∷ []) }
 {
-    let Ok(sides) = Writer::new(
+    let Ok(copies) = Writer::new(
         alloc,
-        LiveSide { in_force: None },
-        LiveSide { in_force: None },
+        LiveCopy { current: None },
+        LiveCopy { current: None },
         2 * readers as usize,
     ) else {
         return Err(LiveFault::Memory);
     };
     let (history, prefix) = History::open(&first);
-    let in_force = InForce::new(first, prefix.again());
-    let sides = show(sides, rt, in_force);
+    let current = Current::new(first, prefix.again());
+    let copies = show(copies, rt, current);
     Ok(Publisher {
-        sides,
+        copies,
         history,
         prefix,
     })

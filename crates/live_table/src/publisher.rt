@@ -3,11 +3,11 @@ ghost use Rattle.left_right.specs.Sides.{view as known};
 ghost use Rattle.live_table.specs.Publishes.{LastChooses, with_table};
 ghost use Rattle.live_table.specs.inside.Rules.{Begins, IsInForce};
 
-use crate::fault::LiveFault;
+use crate::copy::{CopyReader, CopyWriter, Sees, Tells};
+use crate::current::Current;
 use crate::history::History;
-use crate::in_force::InForce;
+use crate::live_fault::LiveFault;
 use crate::prefix::Prefix;
-use crate::side::{Sees, SideReader, SideWriter, Tells};
 use crate::told::Told;
 use controller_table::Table;
 use core::mem::replace_with;
@@ -19,7 +19,7 @@ use std::sync::Wait;
 ///
 /// Seen as the opening and the tables that it has published.
 pub struct Publisher {
-    pub(crate) sides: SideWriter,
+    pub(crate) copies: CopyWriter,
     pub(crate) history: History,
     pub(crate) prefix: Prefix,
 }
@@ -38,7 +38,7 @@ impl Model for Publisher {
 
     ghost view = { λ p. p.prefix };
 
-    ghost invariant = { λ p. IsInForce p.sides.desk.shown.value.in_force (known p.sides.desk.place) p.prefix × (p.history ≡ p.prefix.opening) };
+    ghost invariant = { λ p. IsInForce p.copies.desk.shown.value.current (known p.copies.desk.place) p.prefix × (p.history ≡ p.prefix.opening) };
 }
 
 impl Publisher {
@@ -53,8 +53,8 @@ impl Publisher {
     pub fn choice(&self, x: &Point) -> Option<u32>
         ensures { LastChooses self.now.list x.now result }
     {
-        match &self.sides.published().in_force {
-            Some(in_force) => in_force.choice(x),
+        match &self.copies.published().current {
+            Some(current) => current.choice(x),
             None => None,
         }
     }
@@ -68,11 +68,11 @@ impl Publisher {
         let Some(prefix) = self.history.add(&self.prefix, &t) else {
             return Err(LiveFault::Refused);
         };
-        let in_force = InForce::new(t, prefix.again());
+        let current = Current::new(t, prefix.again());
         replace_with(
-            &mut self.sides,
-            (rt, in_force),
-            |sides, (rt, in_force)| (show(sides, rt, in_force), ()),
+            &mut self.copies,
+            (rt, current),
+            |copies, (rt, current)| (show(copies, rt, current), ()),
         );
         self.prefix = prefix;
         Ok(())
@@ -84,42 +84,42 @@ impl Publisher {
         ensures told { IfOk result (λ t. t ≡ self.old) }
         ensures same { self.new ≡ self.old }
     {
-        let sides = new_reader(&mut self.sides)?;
+        let copies = new_reader(&mut self.copies)?;
         let prefix = self.prefix.again();
-        Ok(Told { sides, prefix })
+        Ok(Told { copies, prefix })
     }
 
     /// Ends it. It waits for readers that are reading.
     pub fn close<R: Wait>(self, rt: &R) {
         let Publisher {
-            sides,
+            copies,
             history: _,
             prefix: _,
         } = self;
-        sides.take(rt);
+        copies.take(rt);
     }
 }
 
 /// Readers find this in force from now on.
-pub(crate) fn show<R: Wait>(mut sides: SideWriter, rt: &R, in_force: InForce) -> SideWriter
-    requires { Begins sides.desk.shown.value.in_force (Some in_force) }
-    ensures { IsInForce result.desk.shown.value.in_force (known result.desk.place) in_force }
+pub(crate) fn show<R: Wait>(mut copies: CopyWriter, rt: &R, current: Current) -> CopyWriter
+    requires { Begins copies.desk.shown.value.current (Some current) }
+    ensures { IsInForce result.desk.shown.value.current (known result.desk.place) current }
 {
-    let (open, mut spare) = sides.desk.open(rt);
-    spare.in_force = Some(in_force);
-    sides.desk = open.show_as::<Sees>(spare);
-    sides
+    let (open, mut spare) = copies.desk.open(rt);
+    spare.current = Some(current);
+    copies.desk = open.show_as::<Sees>(spare);
+    copies
 }
 
-/// A reader of the sides that knows what the publisher knows.
-fn new_reader(sides: &mut SideWriter) -> Result<SideReader, LiveFault>
-    ensures knows { IfOk result (λ r. known r.place ≡ known sides.old.desk.place) }
-    ensures shown { sides.new.desk.shown ≡ sides.old.desk.shown }
-    ensures same { known sides.new.desk.place ≡ known sides.old.desk.place }
+/// A reader of the copies that knows what the publisher knows.
+fn new_reader(copies: &mut CopyWriter) -> Result<CopyReader, LiveFault>
+    ensures knows { IfOk result (λ r. known r.place ≡ known copies.old.desk.place) }
+    ensures shown { copies.new.desk.shown ≡ copies.old.desk.shown }
+    ensures same { known copies.new.desk.place ≡ known copies.old.desk.place }
 {
-    let Ok(mut reader) = sides.factory().reader() else {
+    let Ok(mut reader) = copies.factory().reader() else {
         return Err(LiveFault::Refused);
     };
-    reader.learn::<Tells>(sides.tell::<Tells>());
+    reader.learn::<Tells>(copies.tell::<Tells>());
     Ok(reader)
 }

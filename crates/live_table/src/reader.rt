@@ -3,9 +3,9 @@ ghost use Rattle.left_right.specs.Sides.{view as known};
 ghost use Rattle.live_table.specs.Publishes.{Answers, longer};
 ghost use Rattle.live_table.specs.inside.Rules.{Looked};
 
-use crate::fault::LiveFault;
+use crate::copy::{CopyReader, Sees};
+use crate::live_fault::LiveFault;
 use crate::prefix::Prefix;
-use crate::side::{Sees, SideReader};
 use crate::told::Told;
 use core::mem::replace_with;
 use grid_quantiser::Point;
@@ -23,7 +23,7 @@ pub struct Answered {
 /// Seen as the opening, the tables that it has seen and the tables that it was told of.
 #[derive(Drop)]
 pub struct Reader {
-    pub(crate) sides: SideReader,
+    pub(crate) copies: CopyReader,
     pub(crate) seen: Prefix,
     pub(crate) told: Prefix,
 }
@@ -42,7 +42,7 @@ impl Model for Reader {
 
     ghost view = { λ r. record { opening = r.seen.opening; seen = r.seen.list; told = r.told.list } };
 
-    ghost invariant = { λ r. Covers (known r.sides.place) r.seen × Covers (known r.sides.place) r.told };
+    ghost invariant = { λ r. Covers (known r.copies.place) r.seen × Covers (known r.copies.place) r.told };
 }
 
 impl Reader {
@@ -51,7 +51,7 @@ impl Reader {
         ensures answer { MatchResult result (λ a. Answers self.old self.new x.now a.number a.choice) (λ _. self.new ≡ self.old) }
         ensures same { (self.new.told ≡ self.old.told) × (self.new.opening ≡ self.old.opening) }
     {
-        let (answer, prefix) = replace_with(&mut self.sides, x, look)?;
+        let (answer, prefix) = replace_with(&mut self.copies, x, look)?;
         self.seen = prefix;
         Ok(answer)
     }
@@ -61,9 +61,9 @@ impl Reader {
         requires { told.opening ≡ self.old.opening }
         ensures { self.new ≡ record self.old { told = longer self.old.told told.list } }
     {
-        let Told { sides, prefix } = told;
+        let Told { copies, prefix } = told;
         if self.seen.begins(&prefix) && self.told.begins(&prefix) {
-            self.sides = sides;
+            self.copies = copies;
         }
         if self.told.count() < prefix.count() {
             self.told = prefix;
@@ -72,22 +72,22 @@ impl Reader {
 }
 
 /// What is in force.
-fn look(sides: SideReader, x: &Point) -> (SideReader, Result<(Answered, Prefix), LiveFault>)
-    ensures { Looked (known sides.place) (known result.0.place) x.now result.1 }
+fn look(copies: CopyReader, x: &Point) -> (CopyReader, Result<(Answered, Prefix), LiveFault>)
+    ensures { Looked (known copies.place) (known result.0.place) x.now result.1 }
 {
-    match sides.enter_as::<Sees>() {
+    match copies.enter_as::<Sees>() {
         Ok(reading) => {
-            let seen = match &reading.get().in_force {
-                Some(in_force) => {
-                    let prefix = in_force.prefix();
+            let seen = match &reading.get().current {
+                Some(current) => {
+                    let prefix = current.prefix();
                     let number = prefix.count();
-                    let choice = in_force.choice(x);
+                    let choice = current.choice(x);
                     Ok((Answered { number, choice }, prefix))
                 }
                 None => Err(LiveFault::Refused),
             };
             (reading.leave(), seen)
         }
-        Err(sides) => (sides, Err(LiveFault::Refused)),
+        Err(copies) => (copies, Err(LiveFault::Refused)),
     }
 }

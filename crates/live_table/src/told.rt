@@ -1,18 +1,18 @@
 ghost use Rattle.std.specs.Prelude.{◌≡◌};
 ghost use Rattle.live_table.specs.Publishes.{newcomer};
 
+use crate::copy::CopyReader;
 use crate::prefix::Prefix;
 use crate::reader::Reader;
-use crate::side::SideReader;
 use std::marker::Model;
 
 /// All that was published when it was made, for a reader to learn.
 ///
 /// Seen as the opening and the tables. It has a place of its own among the readers, since a place forgets which
-/// sides it is of: a reader learns by going over to this one.
+/// copies it is of: a reader learns by going over to this one.
 #[derive(Drop)]
 pub struct Told {
-    pub(crate) sides: SideReader,
+    pub(crate) copies: CopyReader,
     pub(crate) prefix: Prefix,
 }
 
@@ -29,7 +29,7 @@ impl Model for Told {
 
     ghost view = { λ t. t.prefix };
 
-    ghost invariant = { λ t. Covers (known t.sides.place) t.prefix };
+    ghost invariant = { λ t. Covers (known t.copies.place) t.prefix };
 }
 
 impl Told {
@@ -37,9 +37,9 @@ impl Told {
     pub(crate) fn seated(self) -> Reader
         ensures { result ≡ newcomer self }
     {
-        let Told { sides, prefix } = self;
+        let Told { copies, prefix } = self;
         Reader {
-            sides,
+            copies,
             seen: prefix.again(),
             told: prefix,
         }

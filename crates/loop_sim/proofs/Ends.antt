@@ -6,8 +6,8 @@ use Rattle.grid_quantiser.specs.Cells.{point_of}
 use Rattle.plant_record.specs.declared.aims.GoalKind.{GoalKind}
 use Rattle.plant_record.specs.Description.{Description}
 use Rattle.plant_record.specs.Steps.{step_of}
-use Rattle.loop_sim.specs.declared.line.SimLine.{SimLine}
-use Rattle.loop_sim.specs.declared.line.SimLine.TheVariants.{At, Arrived, Stopped}
+use Rattle.loop_sim.specs.declared.sim_line.SimLine.{SimLine}
+use Rattle.loop_sim.specs.declared.sim_line.SimLine.TheVariants.{At, Arrived, Stopped}
 use Rattle.loop_sim.specs.Laws.{EndWithTheirLast}
 use Rattle.loop_sim.specs.Noise.{noises_at}
 use Rattle.loop_sim.specs.Trace.{row_at, has_arrived, sample_lines, trace_lines}

@@ -8,9 +8,9 @@ use Rattle.std.proofs.lemmas.List.Folds.{flat_map-map}
 use Rattle.std.proofs.lemmas.List.Concat.{flat_map-append}
 use Rattle.game_core.specs.declared.game.Row.{Row}
 use Rattle.plant_record.specs.Description.{Description}
-use Rattle.row_runs.specs.RunText.{rank_word, input_word}
-use Rattle.controller_table.specs.TableText.{words_of}
-use Rattle.loop_sim.specs.declared.line.SimLine.TheVariants.{At, Lost}
+use Rattle.row_runs.specs.RunText.{rank_field, input_field}
+use Rattle.controller_table.specs.TableText.{format_of}
+use Rattle.loop_sim.specs.declared.sim_line.SimLine.TheVariants.{At, Lost}
 use Rattle.loop_sim.specs.TraceText.{line_text, state_words}
 use Rattle.loop_sim.specs.inside.States.{state_text}
 
@@ -27,11 +27,11 @@ in_order : (a b r i space feed : List ℕ) → a ++ (b ++ (space ++ (r ++ (space
 in_order a b r i space feed = simp (append_assoc, append-nil)
 
 pub sample_parts : (p : Description) (t : ℕ) (x : List ℤ) (row : Row)
-    → decimal t ++ (state_text (take (length p.states) x) ++ (32 ∷ (rank_word (words_of p.goal) row ++ 32 ∷ (input_word (words_of p.goal) row ++ 10 ∷ [])))) ≡ line_text p (At t x row)
+    → decimal t ++ (state_text (take (length p.states) x) ++ (32 ∷ (rank_field (format_of p.goal) row ++ 32 ∷ (input_field (format_of p.goal) row ++ 10 ∷ [])))) ≡ line_text p (At t x row)
 sample_parts p t x row =
     let xs : List ℤ = take (length p.states) x in
-    let rank : List ℕ = rank_word (words_of p.goal) row in
-    let input : List ℕ = input_word (words_of p.goal) row in
+    let rank : List ℕ = rank_field (format_of p.goal) row in
+    let input : List ℕ = input_field (format_of p.goal) row in
     in_order (decimal t) (state_text xs) rank input (32 ∷ []) (10 ∷ [])
     ∙ ap (λ (y : List ℕ). y ++ 10 ∷ [])
     (sym (joined_words (decimal t) (state_words p x ++ rank ∷ input ∷ [])

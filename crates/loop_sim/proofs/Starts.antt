@@ -9,14 +9,14 @@ use Rattle.game_core.specs.declared.game.Row.{Row}
 use Rattle.game_core.specs.Solution.{row_of}
 use Rattle.grid_quantiser.specs.declared.axis.Axis.{Axis}
 use Rattle.grid_quantiser.specs.Axes.{cells_of, end_of}
-use Rattle.grid_quantiser.specs.Cells.{IsInDomain, place_of, cell_of, point_of}
+use Rattle.grid_quantiser.specs.Cells.{IsInDomain, index_of, cell_of, point_of}
 use Rattle.plant_record.specs.declared.aims.GoalKind.{GoalKind}
 use Rattle.plant_record.specs.Description.{Description, axis_of, axes_of, vector_of}
 use Rattle.plant_record.specs.Steps.{step_of}
-use Rattle.row_runs.specs.RunText.{line, rank_word, input_word}
-use Rattle.controller_table.specs.TableText.{words_of}
-use Rattle.loop_sim.specs.declared.line.SimLine.{SimLine}
-use Rattle.loop_sim.specs.declared.line.SimLine.TheVariants.{Arrived, Stopped}
+use Rattle.row_runs.specs.RunText.{line, rank_field, input_field}
+use Rattle.controller_table.specs.TableText.{format_of}
+use Rattle.loop_sim.specs.declared.sim_line.SimLine.{SimLine}
+use Rattle.loop_sim.specs.declared.sim_line.SimLine.TheVariants.{Arrived, Stopped}
 use Rattle.loop_sim.specs.Noise.{noises_at}
 use Rattle.loop_sim.specs.Trace.{is_in_domain, row_at, has_arrived, sample_lines, trace_lines}
 use Rattle.loop_sim.specs.TraceText.{line_text, first_line, trace_text}
@@ -30,7 +30,7 @@ in_front (a ∷ axes) (x ∷ xs) past long = ap (λ (b : Bool). int_le a.lo x &&
 same_cell : (axes : List Axis) (xs past : List ℤ) → length axes ≤ length xs → cell_of axes (take (length axes) xs ++ past) ≡ cell_of axes xs
 same_cell [] xs past long = refl
 same_cell (a ∷ axes) [] past long = absurd (omega (arith, long))
-same_cell (a ∷ axes) (x ∷ xs) past long = ap (λ (c : ℕ). place_of a x * cells_of axes + c) (same_cell axes xs past (omega (arith, long)))
+same_cell (a ∷ axes) (x ∷ xs) past long = ap (λ (c : ℕ). index_of a x * cells_of axes + c) (same_cell axes xs past (omega (arith, long)))
 
 -- a state in the domain has a number along each axis
 pub long_inside : (axes : List Axis) (xs : List ℤ) → IsInDomain axes xs → length axes ≤ length xs
@@ -69,7 +69,7 @@ module _ (p : Description) (rows : List (Option Row)) (x : List ℤ) (long : len
   sample_text : (goal : GoalKind) (t : ℕ) (o : Option Row) (on : Row → List SimLine) → text_of (sample_lines goal t start o on) ≡ text_of (sample_lines goal t x o on)
   sample_text goal t None on = ap (λ (f : List ℤ). line (codes "lost" ∷ decimal t ∷ map signed_decimal f) ++ []) front
   sample_text goal t (Some row) on =
-      ap (λ (f : List ℤ). line (decimal t ∷ map signed_decimal f ++ rank_word (words_of p.goal) row ∷ input_word (words_of p.goal) row ∷ []) ++ text_of (if has_arrived goal row then Arrived t ∷ [] else on row)) front
+      ap (λ (f : List ℤ). line (decimal t ∷ map signed_decimal f ++ rank_field (format_of p.goal) row ∷ input_field (format_of p.goal) row ∷ []) ++ text_of (if has_arrived goal row then Arrived t ∷ [] else on row)) front
 
   lines_text : (seed left t : ℕ) → text_of (trace_lines p rows seed left t start) ≡ text_of (trace_lines p rows seed left t x)
   lines_text seed zero t = ap (λ (o : Option Row). text_of (sample_lines p.goal t start o (λ row. Stopped t ∷ []))) row_same ∙ sample_text p.goal t (row_at p rows x) (λ row. Stopped t ∷ [])

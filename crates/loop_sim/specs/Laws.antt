@@ -5,8 +5,8 @@ use Rattle.plant_record.specs.Description.{Description}
 use Rattle.plant_record.specs.Plants.{IsPlant}
 use Rattle.plant_record.specs.Steps.{IsNoise}
 use Rattle.controller_table.specs.Choice.{HasRowAt}
-use Rattle.loop_sim.specs.declared.line.SimLine.{SimLine}
-use Rattle.loop_sim.specs.declared.line.SimLine.TheVariants.{At, Arrived, Stopped, Lost}
+use Rattle.loop_sim.specs.declared.sim_line.SimLine.{SimLine}
+use Rattle.loop_sim.specs.declared.sim_line.SimLine.TheVariants.{At, Arrived, Stopped, Lost}
 use Rattle.loop_sim.specs.Noise.{noises_at}
 use Rattle.loop_sim.specs.Trace.{row_at, trace_lines}
 
@@ -18,14 +18,14 @@ NoisesLieInTheirRanges = (p : Description) (seed t : ℕ) → IsPlant p → IsNo
 abbrev pub RowsStandAtStates : Type 0
 RowsStandAtStates = (p : Description) (rows : List (Option Row)) (x : List ℤ) (row : Row) → row_at p rows x ≡ Some row ↔ HasRowAt p rows x row
 
--- a line of a sample, behind which the trace goes on
+-- a line of a sample, after which the trace goes on
 abbrev pub IsSampleLine : SimLine → Type 0
 IsSampleLine (At t x row) = Unit {0}
 IsSampleLine (Arrived t) = ⊥
 IsSampleLine (Stopped t) = ⊥
 IsSampleLine (Lost t x) = ⊥
 
--- lines of samples, and one line behind them that is none
+-- lines of samples, and one line after them that is none
 abbrev pub EndWithTheirLast : List SimLine → Type 0
 EndWithTheirLast [] = ⊥
 EndWithTheirLast (line ∷ []) = IsSampleLine line → ⊥

@@ -9,8 +9,8 @@ use Rattle.plant_record.specs.declared.aims.GoalKind.{GoalKind}
 use Rattle.plant_record.specs.declared.aims.GoalKind.TheVariants.{Reach, Keep}
 use Rattle.plant_record.specs.Description.{Description, axes_of}
 use Rattle.plant_record.specs.Steps.{step_of}
-use Rattle.loop_sim.specs.declared.line.SimLine.{SimLine}
-use Rattle.loop_sim.specs.declared.line.SimLine.TheVariants.{At, Arrived, Stopped, Lost}
+use Rattle.loop_sim.specs.declared.sim_line.SimLine.{SimLine}
+use Rattle.loop_sim.specs.declared.sim_line.SimLine.TheVariants.{At, Arrived, Stopped, Lost}
 use Rattle.loop_sim.specs.Noise.{noises_at}
 
 -- whether a state lies in the domain

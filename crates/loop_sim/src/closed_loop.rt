@@ -5,10 +5,10 @@ ghost use Rattle.plant_record.specs.Limits.{IsWithinLimits};
 ghost use Rattle.successor_box.specs.Deviations.{HasNoOverflow};
 ghost use Rattle.controller_table.specs.Tables.{RowsFit};
 ghost use Rattle.loop_sim.specs.Trace.{row_at, has_arrived, trace_lines};
-ghost use Rattle.loop_sim.specs.inside.Stages.{IsSample, IsStage, lines_left, lines_behind, lines_on};
+ghost use Rattle.loop_sim.specs.inside.Stages.{IsSample, IsStage, lines_left, lines_after, lines_on};
 
-use crate::line::SimLine;
-use crate::noise::draw;
+use crate::noise_generator::draw;
+use crate::sim_line::SimLine;
 use controller_table::Table;
 use game_core::Row;
 use grid_quantiser::Point;
@@ -30,7 +30,7 @@ pub(crate) struct Sample {
 /// What comes next in a trace.
 #[derive(Clone, Copy)]
 pub(crate) enum Stage {
-    /// The lines of a sample, and what is behind them.
+    /// The lines of a sample, and what is after them.
     Due(Sample),
     /// The last line.
     Ending(SimLine),
@@ -45,7 +45,7 @@ pub fn row_at(t: &Table, x: &Point) -> Option<Row>
     t.row(cell)
 }
 
-/// The first line of a sample, and what is behind it.
+/// The first line of a sample, and what is after it.
 pub(crate) fn first_line(t: &Table, equations: &Equations<'_>, sample: &Sample) -> (SimLine, Stage)
     requires plant { IsWithinLimits t.now.plant }
     requires rows { RowsFit t.now.plant t.now.rows }
@@ -59,21 +59,21 @@ pub(crate) fn first_line(t: &Table, equations: &Equations<'_>, sample: &Sample) 
     match row_at(t, &x) {
         Some(row) => (
             SimLine::At { time, x, row },
-            behind(t, equations, sample, row),
+            after(t, equations, sample, row),
         ),
         None => (SimLine::Lost { time, x }, Stage::Over),
     }
 }
 
-/// What is behind the first line of a sample.
-fn behind(t: &Table, equations: &Equations<'_>, sample: &Sample, row: Row) -> Stage
+/// What is after the first line of a sample.
+fn after(t: &Table, equations: &Equations<'_>, sample: &Sample, row: Row) -> Stage
     requires plant { IsWithinLimits t.now.plant }
     requires rows { RowsFit t.now.plant t.now.rows }
     requires fits { ∥ HasNoOverflow t.now.plant ∥₁ }
     requires equations { equations.now ≡ t.now.plant }
     requires sample { IsSample t.now.plant sample.now }
     requires row { row_at t.now.plant t.now.rows sample.now.x ≡ Some row }
-    ensures lines { lines_left t.now result ≡ lines_behind t.now sample.now row }
+    ensures lines { lines_left t.now result ≡ lines_after t.now sample.now row }
     ensures stage { IsStage t.now.plant result }
 {
     let time = sample.time;
@@ -96,7 +96,7 @@ fn has_arrived(goal: GoalKind, row: Row) -> bool
     }
 }
 
-/// The sample behind one that is not the last.
+/// The sample after one that is not the last.
 fn next_sample(t: &Table, equations: &Equations<'_>, sample: &Sample, row: Row) -> Sample
     requires plant { IsWithinLimits t.now.plant }
     requires rows { RowsFit t.now.plant t.now.rows }

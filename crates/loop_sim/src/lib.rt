@@ -7,13 +7,13 @@
 
 mod closed_loop;
 pub mod laws;
-mod line;
-mod noise;
+mod noise_generator;
 mod sim;
+mod sim_line;
 mod trace_line;
 mod trace_writer;
 
 pub use closed_loop::row_at;
-pub use line::SimLine;
 pub use sim::Sim;
+pub use sim_line::SimLine;
 pub use trace_writer::TraceWriter;

@@ -6,7 +6,7 @@ ghost use Rattle.successor_box.specs.Deviations.{HasNoOverflow, deviations_of};
 ghost use Rattle.loop_sim.specs.Trace.{trace_lines};
 
 use crate::closed_loop::{Sample, Stage, first_line, row_at};
-use crate::line::SimLine;
+use crate::sim_line::SimLine;
 use controller_table::Table;
 use controller_table::laws::every_table_fits;
 use grid_quantiser::Point;
@@ -27,7 +27,7 @@ impl<'a> Model for Sim<'a> {
     ghost use Rattle.plant_record.specs.Limits.{IsWithinLimits};
     ghost use Rattle.successor_box.specs.Deviations.{HasNoOverflow};
     ghost use Rattle.controller_table.specs.Tables.{RowsFit};
-    ghost use Rattle.loop_sim.specs.declared.line.SimLine.{SimLine};
+    ghost use Rattle.loop_sim.specs.declared.sim_line.SimLine.{SimLine};
     ghost use Rattle.loop_sim.specs.inside.Stages.{lines_left, IsStage};
 
     ghost Value = { List SimLine };
@@ -39,7 +39,7 @@ impl<'a> Model for Sim<'a> {
 
 impl<'a> Sim<'a> {
     /// The trace from a state's point, with 0 in the places past the states. Its noises begin at the seed, and at most as
-    /// many samples are behind the first: None where the table has no row at the state.
+    /// many samples are after the first: None where the table has no row at the state.
     pub fn new(t: &'a Table, s: &'a Slopes, x: &Point, seed: u64, steps: u32) -> Option<Sim<'a>>
         requires slopes { s.now ≡ deviations_of t.now.plant }
         requires fits { HasNoOverflow t.now.plant }

@@ -5,8 +5,8 @@ ghost use Rattle.std.specs.Fmt.{decimal};
 ghost use Rattle.loop_sim.specs.TraceText.{line_text, first_line};
 ghost use Rattle.loop_sim.specs.inside.States.{state_text};
 
-use crate::line::SimLine;
-use controller_table::words_of;
+use crate::sim_line::SimLine;
+use controller_table::format_of;
 use game_core::Row;
 use grid_quantiser::Point;
 use itoa::Buffer;
@@ -38,7 +38,7 @@ fn write_sample(text: &mut LineText, p: &Plant, time: u32, x: &Point, row: Row)
     ensures some { 0 < length text.new }
 {
     text.begin();
-    text.put_row_before(words_of(p.goal()), row);
+    text.put_row_before(format_of(p.goal()), row);
     put_state_before(text, &x[..p.grid().states() as usize]);
     text.put_number_before(time);
 }
@@ -53,7 +53,7 @@ fn write_loss(text: &mut LineText, p: &Plant, time: u32, x: &Point)
     text.put_before(b"lost ");
 }
 
-/// A word with a space behind it, and a time.
+/// A word with a space after it, and a time.
 fn write_event(text: &mut LineText, word: &[u8], time: u32)
     requires { length word.now ≤ 200 }
     ensures text { text.new ≡ word.now ++ (decimal time ++ 10 ∷ []) }

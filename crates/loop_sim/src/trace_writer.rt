@@ -11,7 +11,7 @@ use grid_quantiser::Point;
 use row_runs::LineText;
 use std::marker::Model;
 use successor_box::Slopes;
-use text_pieces::{Pieces, copy_front};
+use text_pieces::{Pieces, copy_prefix};
 
 /// Writes the text of a trace piece by piece. Seen as the bytes that are still to come.
 #[derive(Drop)]
@@ -19,7 +19,7 @@ pub struct TraceWriter<'a> {
     table: &'a Table,
     /// What is left of the line that is being written.
     line: LineText,
-    /// The lines behind it.
+    /// The lines after it.
     sim: Sim<'a>,
 }
 
@@ -68,7 +68,7 @@ impl Pieces for TraceWriter<'_> {
             };
             write_line(&mut self.line, self.table.plant(), &line);
         }
-        let count = copy_front(self.line.as_slice(), buf);
+        let count = copy_prefix(self.line.as_slice(), buf);
         self.line.advance(count);
         count
     }

@@ -7,8 +7,8 @@ use Rattle.game_core.specs.declared.game.Row.{Row}
 use Rattle.game_core.specs.Game.{Game, IsEnabled, successors_of}
 use Rattle.game_core.specs.Solution.{row_of, rank_in, rank_at, greatest_rank, HasRow, HasRowBelow}
 use Rattle.game_core.specs.Right.{LeadsDownTo, IsRightPlain, IsRightRanked}
-use Rattle.patrol_game.specs.inside.BestRows.{IsRankBehind, pick, better, IsBest, IsBestBelow}
-use Rattle.patrol_game.proofs.TravelRows.{greatest_below}
+use Rattle.patrol_game.specs.inside.BestRows.{IsRankAfter, pick, better, IsBest, IsBestBelow}
+use Rattle.patrol_game.proofs.LaterReachRows.{greatest_below}
 
 pub greatest_push : (rows : List (Option Row)) (xs : List ℕ) (s : ℕ) → greatest_rank rows (xs ++ s ∷ []) ≡ max (greatest_rank rows xs) (rank_at rows s)
 greatest_push rows [] s = omega arith
@@ -20,27 +20,27 @@ less_greatest rows zero (s ∷ cells) some' h = let below = (All-head (HasRowBel
 less_greatest rows (suc k) (s ∷ cells) some' h = let most = greatest_below rows k (s ∷ cells) h in omega (arith, most)
 
 module _ (g : Game) (rows : List (Option Row)) (c : ℕ) where
-  -- an input without a rank behind it leads nowhere
-  no_lead : (v k : ℕ) → IsRankBehind rows (successors_of g c v) None → LeadsDownTo g rows c v k → ⊥
+  -- an input without a rank after it leads nowhere
+  no_lead : (v k : ℕ) → IsRankAfter rows (successors_of g c v) None → LeadsDownTo g rows c v k → ⊥
   no_lead v k (inl none) leads = leads.enabled.1 none
   no_lead v k (inr found) leads = let row = All-contains (HasRow rows) (successors_of g c v) found.0 leads.ranked found.1 in let is = row.1 in let gone = found.2 in cc
 
   lost_lead : (v k s : ℕ) → Contains (successors_of g c v) s → row_of rows s ≡ None → LeadsDownTo g rows c v k → ⊥
   lost_lead v k s has gone leads = let row = All-contains (HasRow rows) (successors_of g c v) s leads.ranked has in let is = row.1 in cc
 
-  pub none_more : (i : ℕ) (best : Option Row) → IsBestBelow g rows c i best → IsRankBehind rows (successors_of g c i) None → IsBestBelow g rows c (i + 1) best
-  none_more i None h behind = λ v lt enabled.
+  pub none_more : (i : ℕ) (best : Option Row) → IsBestBelow g rows c i best → IsRankAfter rows (successors_of g c i) None → IsBestBelow g rows c (i + 1) best
+  none_more i None h after = λ v lt enabled.
       elim (cases_lt v i) [
         | inl less ↦ h v less enabled
         | inr ge ↦
             let same : i ≡ v = omega arith in
-            rowless v enabled (subst (λ (v : ℕ). IsRankBehind rows (successors_of g c v) None) same behind)
+            rowless v enabled (subst (λ (v : ℕ). IsRankAfter rows (successors_of g c v) None) same after)
       ]
     where
-      rowless : (v : ℕ) → IsEnabled g c v → IsRankBehind rows (successors_of g c v) None → (s : ℕ) × Contains (successors_of g c v) s × (row_of rows s ≡ None)
+      rowless : (v : ℕ) → IsEnabled g c v → IsRankAfter rows (successors_of g c v) None → (s : ℕ) × Contains (successors_of g c v) s × (row_of rows s ≡ None)
       rowless v enabled (inl none) = absurd (enabled.1 none)
       rowless v enabled (inr found) = found
-  none_more i (Some row) h behind = record {
+  none_more i (Some row) h after = record {
     below = h.below;
     rank = h.rank;
     leads = h.leads;
@@ -49,21 +49,21 @@ module _ (g : Game) (rows : List (Option Row)) (c : ℕ) where
           | inl less ↦ h.least v k less leads
           | inr ge ↦
               let same : i ≡ v = omega arith in
-              absurd (no_lead v k (subst (λ (v : ℕ). IsRankBehind rows (successors_of g c v) None) same behind) leads)
+              absurd (no_lead v k (subst (λ (v : ℕ). IsRankAfter rows (successors_of g c v) None) same after) leads)
         ];
     first = h.first;
   }
 
-  pub one_more : (i k : ℕ) (best : Option Row) → i < g.inputs → IsBestBelow g rows c i best → IsRankBehind rows (successors_of g c i) (Some k) → IsBestBelow g rows c (i + 1) (better best (record { rank = k + 1; input = i }))
-  one_more i k best li h behind = by_best best h
+  pub one_more : (i k : ℕ) (best : Option Row) → i < g.inputs → IsBestBelow g rows c i best → IsRankAfter rows (successors_of g c i) (Some k) → IsBestBelow g rows c (i + 1) (better best (record { rank = k + 1; input = i }))
+  one_more i k best li h after = by_best best h
     where
       leads_here : LeadsDownTo g rows c i k
-      leads_here = record { enabled = (li, behind.0); ranked = behind.1; greatest = behind.2 }
+      leads_here = record { enabled = (li, after.0); ranked = after.1; greatest = after.2 }
 
       as_here : (v m : ℕ) → v < i + 1 → i ≤ v → LeadsDownTo g rows c v m → k ≡ m
       as_here v m lt ge leads =
           let same : v ≡ i = omega arith in
-          sym behind.2 ∙ (ap (λ (v : ℕ). greatest_rank rows (successors_of g c v)) (sym same) ∙ leads.greatest)
+          sym after.2 ∙ (ap (λ (v : ℕ). greatest_rank rows (successors_of g c v)) (sym same) ∙ leads.greatest)
 
       by_test : (old : Row) → IsBest g rows c i old → (b : Bool) → nat_le old.rank (k + 1) ≡ b → IsBestBelow g rows c (i + 1) (better (Some old) (record { rank = k + 1; input = i }))
       by_test old o true e =

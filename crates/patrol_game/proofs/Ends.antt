@@ -3,10 +3,10 @@ use Rattle.std.proofs.Common.{◌≡◌, ℕ, ◌<◌, false}
 use Rattle.game_core.specs.Game.{Game, IsGame}
 use Rattle.patrol_game.specs.Visits.{next_turn}
 use Rattle.patrol_game.specs.Patrol.{IsPatrol}
-use Rattle.patrol_game.specs.inside.Turns.{Progress, IsMarked, is_due, IsUnderWay}
+use Rattle.patrol_game.specs.inside.PatrolSearch.{PatrolProgress, IsMarked, is_due, IsUnderWay}
 use Rattle.patrol_game.proofs.Patrols.{patrols}
 
-pub ends : (g : Game) (In : ℕ → ℕ → Type 0) (turns : ℕ) (p : Progress) → IsGame g → ((j : ℕ) → j < turns → next_turn turns j < turns) → ((j : ℕ) → j < turns → is_due p.due j ≡ false) → IsUnderWay g In turns p → IsPatrol g In turns p.rows
+pub ends : (g : Game) (In : ℕ → ℕ → Type 0) (turns : ℕ) (p : PatrolProgress) → IsGame g → ((j : ℕ) → j < turns → next_turn turns j < turns) → ((j : ℕ) → j < turns → is_due p.due j ≡ false) → IsUnderWay g In turns p → IsPatrol g In turns p.rows
 ends g In turns p a next_below none h = patrols g a In turns (IsMarked p.marks) p.rows (record {
   one_list_each = h.row_lists;
   one_row_each = λ j lj. (h.solved j lj (none j lj)).one_each;

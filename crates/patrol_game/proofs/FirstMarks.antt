@@ -6,7 +6,7 @@ use Rattle.game_core.specs.declared.game.Mark.{Mark}
 use Rattle.game_core.specs.declared.game.Row.{Row}
 use Rattle.game_core.specs.Game.{Game}
 use Rattle.plant_record.specs.Description.{Description}
-use Rattle.patrol_game.specs.inside.Turns.{marks_for, AreFirstMarks}
+use Rattle.patrol_game.specs.inside.PatrolSearch.{marks_for, AreFirstMarks}
 
 -- one turn more
 pub one_turn_more : (p : Description) (g : Game) (kept : List (Option Row)) (n : ℕ) (lists more : List (List Mark)) (marks : List Mark) → length lists ≡ n → ((j : ℕ) → j < n → AreFirstMarks p g kept j (marks_for lists j)) → AreFirstMarks p g kept n marks →

@@ -23,6 +23,6 @@ pub rows_are_within : (g : Game) (In : ℕ → ℕ → Type 0) (turns : ℕ) (ro
 rows_are_within g In turns rows a h j c row lj lc is = bounds.within g a In turns rows h j lj c row lc is
 
 -- a cell from which a strategy that begins with an input leads to arrivals has a row, of a rank no greater than the strategy's depth
-pub travellers_have_rows : (g : Game) (In : ℕ → ℕ → Type 0) (turns : ℕ) (rows : List (List (Option Row))) → IsGame g → IsPatrol g In turns rows → (j c u : ℕ) (next : Trees) → j < turns → c < g.cells →
+pub later_reachers_have_rows : (g : Game) (In : ℕ → ℕ → Type 0) (turns : ℕ) (rows : List (List (Option Row))) → IsGame g → IsPatrol g In turns rows → (j c u : ℕ) (next : Trees) → j < turns → c < g.cells →
     LeadsTo (IsArrival g In turns j) g (Apply u next) c → HasRowBelow (rows_for rows j) (depth_of (Apply u next) + 1) c
-travellers_have_rows g In turns rows a h j c u next lj lc leads = bounds.row_for g a In turns rows h j lj u next c lc leads
+later_reachers_have_rows g In turns rows a h j c u next lj lc leads = bounds.row_for g a In turns rows h j lj u next c lc leads

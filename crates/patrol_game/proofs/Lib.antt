@@ -1,4 +1,4 @@
-pub mod TravelRows
+pub mod LaterReachRows
 pub mod BestRows
 pub mod TurnRows
 pub mod NextTurns

@@ -5,13 +5,13 @@ use Rattle.game_core.specs.declared.game.Row.{Row}
 use Rattle.game_core.specs.Game.{Game, IsGame}
 use Rattle.game_core.specs.Strategy.{Apply}
 use Rattle.game_core.specs.Solution.{row_of, HasRow}
-use Rattle.patrol_game.specs.Visits.{next_turn, Travels, Visits, VisitsOn, IsArrival}
-use Rattle.patrol_game.specs.Patrol.{IsTravelledBy, IsTravelRow, IsPatrolRow, IsPatrol, rows_for}
+use Rattle.patrol_game.specs.Visits.{next_turn, ReachesLater, Visits, VisitsOn, IsArrival}
+use Rattle.patrol_game.specs.Patrol.{IsReachedLaterBy, IsLaterReachRow, IsPatrolRow, IsPatrol, rows_for}
 use Rattle.game_core.proofs.Carried.{weaker}
-use Rattle.patrol_game.proofs.ForEver.{travels_weaker, for_ever, one_more}
+use Rattle.patrol_game.proofs.ForEver.{reaches_later_weaker, for_ever, one_more}
 
 -- rows for ends that are the same cells are the same rows
-pub same_ends : (g : Game) (E F : ℕ → Type 0) → IsGame g → ((s : ℕ) → s < g.cells → E s ↔ F s) → (c : ℕ) → c < g.cells → (row : Row) → IsTravelledBy E g c row → IsTravelledBy F g c row
+pub same_ends : (g : Game) (E F : ℕ → Type 0) → IsGame g → ((s : ℕ) → s < g.cells → E s ↔ F s) → (c : ℕ) → c < g.cells → (row : Row) → IsReachedLaterBy E g c row → IsReachedLaterBy F g c row
 same_ends g E F a same c lt row r = record {
   reached = (r.reached.0, weaker g E F a (λ s ls. (same s ls).0) (Apply row.input r.reached.0) c lt r.reached.1, r.reached.2);
   least = λ v next l. r.least v next (weaker g F E a (λ s ls. (same s ls).1) (Apply v next) c lt l);
@@ -20,27 +20,27 @@ same_ends g E F a same c lt row r = record {
 
 -- Arrivals that lie in their targets, hold all cells with so many visits, and have rows for the next turn; and rows that
 -- lead to them.
-pub record IsSettled (g : Game) (In : ℕ → ℕ → Type 0) (turns : ℕ) (Arrives : ℕ → ℕ → Type 0) (rows : List (List (Option Row))) : Type 0 where
+pub record IsStable (g : Game) (In : ℕ → ℕ → Type 0) (turns : ℕ) (Arrives : ℕ → ℕ → Type 0) (rows : List (List (Option Row))) : Type 0 where
   pub one_list_each : length rows ≡ turns
   pub one_row_each : (j : ℕ) → j < turns → length (rows_for rows j) ≡ g.cells
   pub inside : (j s : ℕ) → j < turns → s < g.cells → Arrives j s → In j s
   pub visits : ℕ
   pub holds : (j s : ℕ) → j < turns → s < g.cells → In j s → Visits g In turns visits (next_turn turns j) s → Arrives j s
-  pub solved : (j c : ℕ) → j < turns → c < g.cells → IsTravelRow (Arrives j) g c (row_of (rows_for rows j) c)
+  pub solved : (j c : ℕ) → j < turns → c < g.cells → IsLaterReachRow (Arrives j) g c (row_of (rows_for rows j) c)
   pub led : (j s : ℕ) → j < turns → s < g.cells → Arrives j s → HasRow (rows_for rows (next_turn turns j)) s
 
-module _ (g : Game) (a : IsGame g) (In : ℕ → ℕ → Type 0) (turns : ℕ) (Arrives : ℕ → ℕ → Type 0) (rows : List (List (Option Row))) (h : IsSettled g In turns Arrives rows) (next_below : (j : ℕ) → j < turns → next_turn turns j < turns) where
+module _ (g : Game) (a : IsGame g) (In : ℕ → ℕ → Type 0) (turns : ℕ) (Arrives : ℕ → ℕ → Type 0) (rows : List (List (Option Row))) (h : IsStable g In turns Arrives rows) (next_below : (j : ℕ) → j < turns → next_turn turns j < turns) where
   -- a cell with a row for a turn
   abbrev Rowed : ℕ → ℕ → Type 0
   Rowed j c = (j < turns) × HasRow (rows_for rows j) c
 
-  travelled : (j c : ℕ) (row : Row) → j < turns → c < g.cells → row_of (rows_for rows j) c ≡ Some row → IsTravelledBy (Arrives j) g c row
-  travelled j c row lj lt e = subst (IsTravelRow (Arrives j) g c) e (h.solved j c lj lt)
+  reached_later : (j c : ℕ) (row : Row) → j < turns → c < g.cells → row_of (rows_for rows j) c ≡ Some row → IsReachedLaterBy (Arrives j) g c row
+  reached_later j c row lj lt e = subst (IsLaterReachRow (Arrives j) g c) e (h.solved j c lj lt)
 
-  leads_on : (j c : ℕ) → c < g.cells → Rowed j c → Travels (λ s. In j s × Rowed (next_turn turns j) s) g c
+  leads_on : (j c : ℕ) → c < g.cells → Rowed j c → ReachesLater (λ s. In j s × Rowed (next_turn turns j) s) g c
   leads_on j c lt r =
-      let by = travelled j c r.1.0 r.0 lt r.1.1 in
-      travels_weaker g (Arrives j) (λ s. In j s × Rowed (next_turn turns j) s) a (λ s ls e. (h.inside j s r.0 ls e, (next_below j r.0, h.led j s r.0 ls e))) c lt (r.1.0.input, by.reached.0, by.reached.1)
+      let by = reached_later j c r.1.0 r.0 lt r.1.1 in
+      reaches_later_weaker g (Arrives j) (λ s. In j s × Rowed (next_turn turns j) s) a (λ s ls e. (h.inside j s r.0 ls e, (next_below j r.0, h.led j s r.0 ls e))) c lt (r.1.0.input, by.reached.0, by.reached.1)
 
   visits_on : (j c : ℕ) → c < g.cells → Rowed j c → VisitsOn g In turns j c
   visits_on j c lt r = λ d. for_ever g a In turns Rowed leads_on d j c lt r
@@ -53,11 +53,11 @@ module _ (g : Game) (a : IsGame g) (In : ℕ → ℕ → Type 0) (turns : ℕ) (
 
   row : (j c : ℕ) → j < turns → c < g.cells → (o : Option Row) → row_of (rows_for rows j) c ≡ o → IsPatrolRow g In turns j c o
   row j c lj lt None e = λ on.
-      let none = subst (IsTravelRow (Arrives j) g c) e (h.solved j c lj lt) in
+      let none = subst (IsLaterReachRow (Arrives j) g c) e (h.solved j c lj lt) in
       none (one_more g a In turns (Arrives j) h.visits j (λ s ls. h.holds j s lj ls) c lt (on (suc h.visits)))
   row j c lj lt (Some r) e = (
     visits_on j c lt (lj, (r, e)),
-    same_ends g (Arrives j) (IsArrival g In turns j) a (arrivals j lj) c lt r (travelled j c r lj lt e),
+    same_ends g (Arrives j) (IsArrival g In turns j) a (arrivals j lj) c lt r (reached_later j c r lj lt e),
   )
 
   pub patrols : IsPatrol g In turns rows

@@ -10,9 +10,9 @@ use Rattle.game_core.specs.Strategy.{Tree, Leaf, Apply, Trees, NoTrees, AndTree,
 use Rattle.game_core.specs.Solution.{row_of, HasRowBelow}
 use Rattle.game_core.proofs.Rows.{successors_below, below_from_row}
 use Rattle.game_core.proofs.Times.{length_of_distinct_below}
-use Rattle.patrol_game.specs.Visits.{next_turn, Travels, Visits, VisitsOn, IsArrival}
-use Rattle.patrol_game.specs.Patrol.{IsTravelledBy, IsPatrolRow, IsPatrol, rows_for}
-use Rattle.patrol_game.proofs.ForEver.{travels_weaker}
+use Rattle.patrol_game.specs.Visits.{next_turn, ReachesLater, Visits, VisitsOn, IsArrival}
+use Rattle.patrol_game.specs.Patrol.{IsReachedLaterBy, IsPatrolRow, IsPatrol, rows_for}
+use Rattle.patrol_game.proofs.ForEver.{reaches_later_weaker}
 
 -- a cell whose row has rank k
 record HasRowOf (rows : List (Option Row)) (k c : ℕ) : Type 0 where
@@ -45,13 +45,13 @@ module _ (g : Game) (a : IsGame g) (In : ℕ → ℕ → Type 0) (turns : ℕ) (
   abbrev here : List (Option Row)
   here = rows_for rows j
 
-  row_is : (c : ℕ) (row : Row) → c < g.cells → row_of here c ≡ Some row → IsTravelledBy Ends g c row
+  row_is : (c : ℕ) (row : Row) → c < g.cells → row_of here c ≡ Some row → IsReachedLaterBy Ends g c row
   row_is c row lt e = (subst (IsPatrolRow g In turns j c) e (h.each j c lj lt)).1
 
   -- who can travel to arrivals visits on
-  visits_on : (c : ℕ) → c < g.cells → Travels Ends g c → VisitsOn g In turns j c
+  visits_on : (c : ℕ) → c < g.cells → ReachesLater Ends g c → VisitsOn g In turns j c
   visits_on c lt t zero = t.2.0
-  visits_on c lt t (suc d) = travels_weaker g Ends (λ s. In j s × Visits g In turns d (next_turn turns j) s) a (λ s ls e. (e.0, e.1 d)) c lt t
+  visits_on c lt t (suc d) = reaches_later_weaker g Ends (λ s. In j s × Visits g In turns d (next_turn turns j) s) a (λ s ls e. (e.0, e.1 d)) c lt t
 
   pub row_for : (u : ℕ) (next : Trees) (c : ℕ) → c < g.cells → LeadsTo Ends g (Apply u next) c → HasRowBelow here (depth_of (Apply u next) + 1) c
   row_for u next c lt l = by_row (row_of here c) refl (h.each j c lj lt)

@@ -5,11 +5,11 @@ use Rattle.game_core.specs.Game.{Game, IsGame}
 use Rattle.plant_record.specs.Description.{Description}
 use Rattle.patrol_game.specs.Targets.{IsInTarget}
 use Rattle.patrol_game.specs.Visits.{next_turn}
-use Rattle.patrol_game.specs.inside.Turns.{Progress, is_due, IsUnderWay, IsAtStart}
+use Rattle.patrol_game.specs.inside.PatrolSearch.{PatrolProgress, is_due, IsUnderWay, IsAtStart}
 use Rattle.patrol_game.proofs.KeptCells.{visitors_have_rows}
 use Rattle.patrol_game.proofs.NextTurns.{next_below}
 
-pub starts : (p : Description) (g : Game) (t : Progress) → IsGame g → IsAtStart p g t → IsUnderWay g (IsInTarget p) (length p.targets) t
+pub starts : (p : Description) (g : Game) (t : PatrolProgress) → IsGame g → IsAtStart p g t → IsUnderWay g (IsInTarget p) (length p.targets) t
 starts p g t a s = record {
   mark_lists = s.mark_lists;
   row_lists = s.row_lists;

@@ -9,8 +9,8 @@ use Rattle.game_core.specs.declared.game.Row.{Row}
 use Rattle.game_core.specs.Game.{Game, IsGame}
 use Rattle.game_core.specs.Solution.{row_of, HasRow}
 use Rattle.patrol_game.specs.Visits.{next_turn, Visits}
-use Rattle.patrol_game.specs.Patrol.{IsTravelRow, rows_for}
-use Rattle.patrol_game.specs.inside.Turns.{Progress, marks_for, mark_at, IsMarked, is_due, AreTurnMarks, AreTravelRows, withdrawn_mark, withdrawn, is_goal, one_if, work_left, IsUnderWay, IsSettledAt}
+use Rattle.patrol_game.specs.Patrol.{IsLaterReachRow, rows_for}
+use Rattle.patrol_game.specs.inside.PatrolSearch.{PatrolProgress, marks_for, mark_at, IsMarked, is_due, AreTurnMarks, AreLaterReachRows, withdrawn_mark, withdrawn, is_goal, one_if, work_left, IsUnderWay, IsStableAt}
 use Rattle.patrol_game.proofs.Withdrawing.{kept_goal, kept_row, still_turn_marks}
 use Rattle.patrol_game.proofs.ForEver.{fewer, one_more}
 
@@ -23,7 +23,7 @@ due_false due true turn before j lb e =
       | inr other ↦ (λ same. absurd (other same), λ ne. sym (get_or-set_other due turn j false false ne) ∙ (sym (get_or-set_other (set due turn false) before j true false other) ∙ e))
     ]
 
-module _ (g : Game) (a : IsGame g) (In : ℕ → ℕ → Type 0) (turns turn before : ℕ) (p q : Progress) (h : IsUnderWay g In turns p) (lt : turn < turns) (lb : before < turns) (next : next_turn turns before ≡ turn) (only : (j : ℕ) → j < turns → next_turn turns j ≡ turn → j ≡ before) (s : IsSettledAt g turn before p q) where
+module _ (g : Game) (a : IsGame g) (In : ℕ → ℕ → Type 0) (turns turn before : ℕ) (p q : PatrolProgress) (h : IsUnderWay g In turns p) (lt : turn < turns) (lb : before < turns) (next : next_turn turns before ≡ turn) (only : (j : ℕ) → j < turns → next_turn turns j ≡ turn → j ≡ before) (s : IsStableAt g turn before p q) where
   abbrev old : List Mark
   old = marks_for p.marks before
 
@@ -84,7 +84,7 @@ module _ (g : Game) (a : IsGame g) (In : ℕ → ℕ → Type 0) (turns turn bef
   has_row : (c : ℕ) → c < g.cells → Visits g In turns (suc h.visits) turn c → HasRow s.rows c
   has_row c lc v = by_row (row_of s.rows c) refl (s.lead.each c lc)
     where
-      by_row : (o : Option Row) → row_of s.rows c ≡ o → IsTravelRow (λ s. mark_at (marks_for p.marks turn) s ≡ Goal) g c o → HasRow s.rows c
+      by_row : (o : Option Row) → row_of s.rows c ≡ o → IsLaterReachRow (λ s. mark_at (marks_for p.marks turn) s ≡ Goal) g c o → HasRow s.rows c
       by_row None e none = absurd (none (one_more g a In turns (λ s. mark_at (marks_for p.marks turn) s ≡ Goal) h.visits turn (λ s ls. h.holds turn s lt ls) c lc v))
       by_row (Some row) e is = (row, e)
 
@@ -98,12 +98,12 @@ module _ (g : Game) (a : IsGame g) (In : ℕ → ℕ → Type 0) (turns turn bef
             subst (λ (k : ℕ). IsMarked q.marks k c) (sym is) (stays_marked c lc (subst (λ (k : ℕ). IsMarked p.marks k c) is was) (has_row c lc there))
       ]
 
-  solved_after : (j : ℕ) → j < turns → is_due q.due j ≡ false → AreTravelRows g (marks_for q.marks j) (rows_for q.rows j)
+  solved_after : (j : ℕ) → j < turns → is_due q.due j ≡ false → AreLaterReachRows g (marks_for q.marks j) (rows_for q.rows j)
   solved_after j lj e =
-      subst (λ (m : List Mark). AreTravelRows g m (rows_for q.rows j)) (sym (same_marks j e))
+      subst (λ (m : List Mark). AreLaterReachRows g m (rows_for q.rows j)) (sym (same_marks j e))
       (elim (cases_eq j turn) [
-        | inl is ↦ subst (λ (k : ℕ). AreTravelRows g (marks_for p.marks k) (rows_for q.rows k)) (sym is) (subst (AreTravelRows g (marks_for p.marks turn)) (sym rows_turn) s.lead)
-        | inr other ↦ subst (AreTravelRows g (marks_for p.marks j)) (sym (rows_other j other)) (h.solved j lj ((due_after j e).1 other))
+        | inl is ↦ subst (λ (k : ℕ). AreLaterReachRows g (marks_for p.marks k) (rows_for q.rows k)) (sym is) (subst (AreLaterReachRows g (marks_for p.marks turn)) (sym rows_turn) s.lead)
+        | inr other ↦ subst (AreLaterReachRows g (marks_for p.marks j)) (sym (rows_other j other)) (h.solved j lj ((due_after j e).1 other))
       ])
 
   led_after : (j c : ℕ) → j < turns → c < g.cells → is_due q.due (next_turn turns j) ≡ false → IsMarked q.marks j c → HasRow (rows_for q.rows (next_turn turns j)) c
@@ -132,7 +132,7 @@ module _ (g : Game) (a : IsGame g) (In : ℕ → ℕ → Type 0) (turns turn bef
       same_length false = length-set p.due turn false
 
 -- the work that is left after a turn was solved
-pub less_work : (g : Game) (turn before : ℕ) (p q : Progress) → turn < length p.due → before < length p.due → before < length p.marks → is_due p.due turn ≡ true → IsSettledAt g turn before p q → work_left q < work_left p
+pub less_work : (g : Game) (turn before : ℕ) (p q : PatrolProgress) → turn < length p.due → before < length p.due → before < length p.marks → is_due p.due turn ≡ true → IsStableAt g turn before p q → work_left q < work_left p
 less_work g turn before p q lt lb lm due s = by_again s.again refl
   where
     new : List Mark

@@ -10,7 +10,7 @@ use Rattle.game_core.specs.Game.{Game}
 use Rattle.game_core.specs.Solution.{row_of}
 use Rattle.plant_record.specs.Description.{Description}
 use Rattle.patrol_game.specs.Targets.{IsInTarget}
-use Rattle.patrol_game.specs.inside.Turns.{mark_at, AreTurnMarks, AreTargetMarks, AreFirstMarks, withdrawn_mark, withdrawn, is_gone, is_goal, one_if}
+use Rattle.patrol_game.specs.inside.PatrolSearch.{mark_at, AreTurnMarks, AreTargetMarks, AreFirstMarks, withdrawn_mark, withdrawn, is_gone, is_goal, one_if}
 
 -- the marks below c are withdrawn, the others are as they were, and as many goals are gone
 pub record IsWithdrawing (first : List Mark) (rows : List (Option Row)) (c : ℕ) (found : Bool) (marks : List Mark) : Type 0 where

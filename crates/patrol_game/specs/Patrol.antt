@@ -5,23 +5,23 @@ use Rattle.game_core.specs.declared.game.Row.{Row}
 use Rattle.game_core.specs.Game.{Game}
 use Rattle.game_core.specs.Strategy.{Trees, Apply, LeadsTo, depth_of}
 use Rattle.game_core.specs.Solution.{row_of}
-use Rattle.patrol_game.specs.Visits.{Travels, VisitsOn, IsArrival}
+use Rattle.patrol_game.specs.Visits.{ReachesLater, VisitsOn, IsArrival}
 
 -- The least depth of a strategy that begins with an input, and the least input with which one of that depth begins.
-pub record IsTravelledBy (End : ℕ → Type 0) (g : Game) (c : ℕ) (row : Row) : Type 0 where
+pub record IsReachedLaterBy (End : ℕ → Type 0) (g : Game) (c : ℕ) (row : Row) : Type 0 where
   pub reached : (next : Trees) × LeadsTo End g (Apply row.input next) c × (depth_of (Apply row.input next) ≡ row.rank)
   pub least : (v : ℕ) (next : Trees) → LeadsTo End g (Apply v next) c → row.rank ≤ depth_of (Apply v next)
   pub first : (v : ℕ) (next : Trees) → LeadsTo End g (Apply v next) c → depth_of (Apply v next) ≡ row.rank → row.input ≤ v
 
 -- no row where no strategy that begins with an input leads to an end
-abbrev pub IsTravelRow : (ℕ → Type 0) → Game → ℕ → Option Row → Type 0
-IsTravelRow End g c None = Travels End g c → ⊥
-IsTravelRow End g c (Some row) = IsTravelledBy End g c row
+abbrev pub IsLaterReachRow : (ℕ → Type 0) → Game → ℕ → Option Row → Type 0
+IsLaterReachRow End g c None = ReachesLater End g c → ⊥
+IsLaterReachRow End g c (Some row) = IsReachedLaterBy End g c row
 
 -- no row where the targets can't be visited for ever, else that of the least depth to an arrival
 abbrev pub IsPatrolRow : Game → (ℕ → ℕ → Type 0) → ℕ → ℕ → ℕ → Option Row → Type 0
 IsPatrolRow g In turns j c None = VisitsOn g In turns j c → ⊥
-IsPatrolRow g In turns j c (Some row) = VisitsOn g In turns j c × IsTravelledBy (IsArrival g In turns j) g c row
+IsPatrolRow g In turns j c (Some row) = VisitsOn g In turns j c × IsReachedLaterBy (IsArrival g In turns j) g c row
 
 -- the rows of a turn
 abbrev pub rows_for : List (List (Option Row)) → ℕ → List (Option Row)

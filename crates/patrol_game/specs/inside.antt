@@ -1,3 +1,3 @@
 -- What only private clauses and proofs name.
-pub mod Turns
+pub mod PatrolSearch
 pub mod BestRows

@@ -4,7 +4,7 @@ ghost use Rattle.game_core.specs.declared.game.Mark.TheVariants.{Obstacle};
 ghost use Rattle.game_core.specs.Game.{mark_of};
 ghost use Rattle.plant_game.specs.Abstraction.{IsGameOf};
 ghost use Rattle.plant_game.specs.Marks.{AreMarked};
-ghost use Rattle.patrol_game.specs.inside.Turns.{withdrawn, is_gone, is_goal, AreTargetMarks};
+ghost use Rattle.patrol_game.specs.inside.PatrolSearch.{withdrawn, is_gone, is_goal, AreTargetMarks};
 
 use game_core::{Answer, Graph, Mark, NoMemory, Row};
 use plant_game::mark_target;
@@ -52,7 +52,7 @@ impl Arrivals {
     }
 
     /// Arrivals without a row are arrivals no more. Answers whether there was one.
-    pub(crate) fn withdraw(&mut self, rows: &Answer) -> bool
+    pub(crate) fn remove_lost(&mut self, rows: &Answer) -> bool
         requires { length rows.now ≡ length self.old }
         ensures marks { self.new ≡ withdrawn self.old rows.now }
         ensures same { result ≡ false → self.new ≡ self.old }

@@ -4,11 +4,11 @@ ghost use Rattle.game_core.specs.declared.game.Row.{Row};
 ghost use Rattle.game_core.specs.Game.{pairs_of, successors_at};
 ghost use Rattle.game_core.specs.Right.{IsRightPlain};
 ghost use Rattle.game_core.specs.Solution.{row_of};
-ghost use Rattle.patrol_game.specs.inside.BestRows.{IsRankBehind, better};
+ghost use Rattle.patrol_game.specs.inside.BestRows.{IsRankAfter, better};
 
 use game_core::{Answer, Graph, Row};
 
-/// One more than the least rank behind an input, and the least such input.
+/// One more than the least rank after an input, and the least such input.
 pub(crate) fn best_row<G: Graph>(g: &G, rows: &Answer, c: u32) -> Option<Row>
     requires one_each { length rows.now ≡ (G.game g.now).cells }
     requires ranks { (s : ℕ) (row : Row) → row_of rows.now s ≡ Some row → row.rank < (G.game g.now).cells }
@@ -19,7 +19,7 @@ pub(crate) fn best_row<G: Graph>(g: &G, rows: &Answer, c: u32) -> Option<Row>
     let first = c * inputs;
     let mut best = None;
     for input in 0..inputs {
-        if let Some(rank) = rank_behind(g, rows, first + input) {
+        if let Some(rank) = rank_after(g, rows, first + input) {
             best = better(
                 best,
                 Row {
@@ -32,11 +32,11 @@ pub(crate) fn best_row<G: Graph>(g: &G, rows: &Answer, c: u32) -> Option<Row>
     best
 }
 
-/// The greatest rank behind a pair; None where its input isn't enabled, or a successor has no row.
-fn rank_behind<G: Graph>(g: &G, rows: &Answer, pair: u32) -> Option<u32>
+/// The greatest rank after a pair; None where its input isn't enabled, or a successor has no row.
+fn rank_after<G: Graph>(g: &G, rows: &Answer, pair: u32) -> Option<u32>
     requires one_each { length rows.now ≡ (G.game g.now).cells }
     requires pair { pair < pairs_of (G.game g.now) }
-    ensures { IsRankBehind rows.now (successors_at (G.game g.now) pair) result }
+    ensures { IsRankAfter rows.now (successors_at (G.game g.now) pair) result }
 {
     let fan = g.fan(pair);
     if fan == 0 {

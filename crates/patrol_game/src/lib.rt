@@ -10,8 +10,8 @@
 mod arrivals;
 mod best_row;
 mod patrol_rows;
-mod solver;
+mod patrol_solver;
 mod turns;
 
 pub use patrol_rows::PatrolRows;
-pub use solver::patrol;
+pub use patrol_solver::patrol;

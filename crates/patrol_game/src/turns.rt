@@ -3,7 +3,7 @@ ghost use Rattle.std.specs.Prelude.{◌≡◌, ℕ, ◌<◌, ◌≤◌, ◌^◌,
 ghost use Rattle.std.specs.Option.{IfNone};
 ghost use Rattle.plant_game.specs.Abstraction.{IsGameOf};
 ghost use Rattle.game_core.specs.Keep.{IsKeepSolution};
-ghost use Rattle.patrol_game.specs.inside.Turns.{Progress, marks_for, is_due, AreTravelRows, AreTurnMarks, IsAtStart, IsBefore, IsSettledAt};
+ghost use Rattle.patrol_game.specs.inside.PatrolSearch.{PatrolProgress, marks_for, is_due, AreLaterReachRows, AreTurnMarks, IsAtStart, IsBefore, IsStableAt};
 
 use crate::arrivals::Arrivals;
 use crate::best_row::best_row;
@@ -18,28 +18,28 @@ use std::thread::Threads;
 
 /// For each turn its arrivals, its rows, and whether it is to be solved again.
 #[derive(Drop)]
-pub(crate) struct Turns {
+pub(crate) struct PatrolSearch {
     arrivals: Vec<Arrivals>,
     rows: Vec<Answer>,
     due: Vec<bool>,
 }
 
-impl Model for Turns {
-    ghost use Rattle.patrol_game.specs.inside.Turns.{Progress};
+impl Model for PatrolSearch {
+    ghost use Rattle.patrol_game.specs.inside.PatrolSearch.{PatrolProgress};
 
-    ghost Value = { Progress };
+    ghost Value = { PatrolProgress };
 
     ghost view = { λ t. record { marks = t.arrivals.items; rows = t.rows.items; due = t.due.items } };
 }
 
-impl Turns {
+impl PatrolSearch {
     /// Every turn is due, and its arrivals are the cells of its target that are kept.
     pub(crate) fn new<G: Graph>(
         alloc: Global,
         g: &G,
         p: &Plant,
         kept: &Answer,
-    ) -> Result<Turns, NoMemory>
+    ) -> Result<PatrolSearch, NoMemory>
         requires game { IsGameOf p.now (G.game g.now) }
         requires kept { IsKeepSolution (G.game g.now) kept.now }
         ensures { IfOk result (IsAtStart p.now (G.game g.now)) }
@@ -50,12 +50,12 @@ impl Turns {
         let mut rows = Vec::new(alloc);
         for turn in 0..turns {
             let mut first = Arrivals::in_target(alloc, g, p, turn)?;
-            first.withdraw(kept);
+            first.remove_lost(kept);
             arrivals.push(first).map_err(|_| NoMemory)?;
             let blank = Answer::blank(alloc, 0)?;
             rows.push(blank).map_err(|_| NoMemory)?;
         }
-        Ok(Turns {
+        Ok(PatrolSearch {
             arrivals,
             rows,
             due,
@@ -77,7 +77,7 @@ impl Turns {
     }
 
     /// Solves a turn: the arrivals before it that have no row for it are withdrawn.
-    pub(crate) fn settle<R: Threads + Sync, G: Graph + Sync, T: Gate>(
+    pub(crate) fn solve_turn<R: Threads + Sync, G: Graph + Sync, T: Gate>(
         &mut self,
         rt: &R,
         alloc: Global,
@@ -90,12 +90,12 @@ impl Turns {
         requires one_each { (length self.old.marks ≡ length self.old.due) × (length self.old.rows ≡ length self.old.due) × (length self.old.due < 2 ^ 32) }
         requires marks { (j : ℕ) → j < length self.old.due → AreTurnMarks (G.game g.now) (λ _. Unit {0}) (marks_for self.old.marks j) }
         requires workers { (1 ≤ workers) × (workers ≤ 64) }
-        ensures { IfOk result (λ _. (before : ℕ) × IsBefore (length self.old.due) turn before × IsSettledAt (G.game g.now) turn before self.old self.new) }
+        ensures { IfOk result (λ _. (before : ℕ) × IsBefore (length self.old.due) turn before × IsStableAt (G.game g.now) turn before self.old self.new) }
     {
-        let rows = travel_rows(rt, alloc, g, &self.arrivals[turn as usize], workers, gate)?;
+        let rows = later_reach_rows(rt, alloc, g, &self.arrivals[turn as usize], workers, gate)?;
         let before = turn_before(turn, self.due.len() as u32);
         self.due[turn as usize] = false;
-        if self.arrivals[before as usize].withdraw(&rows) {
+        if self.arrivals[before as usize].remove_lost(&rows) {
             self.due[before as usize] = true;
         }
         self.rows[turn as usize] = rows;
@@ -111,7 +111,7 @@ impl Turns {
 }
 
 /// The rows of a turn: to its arrivals, from each cell by at least one input.
-fn travel_rows<R: Threads + Sync, G: Graph + Sync, T: Gate>(
+fn later_reach_rows<R: Threads + Sync, G: Graph + Sync, T: Gate>(
     rt: &R,
     alloc: Global,
     g: &G,
@@ -121,7 +121,7 @@ fn travel_rows<R: Threads + Sync, G: Graph + Sync, T: Gate>(
 ) -> Result<Answer, NoMemory>
     requires marks { AreTurnMarks (G.game g.now) (λ _. Unit {0}) arrivals.now }
     requires workers { (1 ≤ workers) × (workers ≤ 64) }
-    ensures { IfOk result (AreTravelRows (G.game g.now) arrivals.now) }
+    ensures { IfOk result (AreLaterReachRows (G.game g.now) arrivals.now) }
 {
     let game = Remark::new(g, arrivals.marks());
     let solved = solve(rt, alloc, &game, workers, gate)?.answer;

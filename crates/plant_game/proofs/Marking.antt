@@ -1,4 +1,4 @@
--- Cells that are given a mark, run by run and box by box.
+-- Cells that are given a mark, segment by segment and box by box.
 use Rattle.std.proofs.Common.{◌≡◌, ◌⊎◌, ◌↔◌, ℕ, suc, ◌+◌, ◌-◌, ◌*◌, ◌/◌, ◌%◌, ◌<◌, ◌≤◌, arith, refl, sym, ap, ◌∙◌, List, [], ◌∷◌, ◌++◌, All, map, length, take, drop, replicate, get_or, Option, None, Some, inl, inr, subst, append_assoc, length-append, length-take, length-drop}
 use borrow.Rule.Slice.PartMut.{put_mid}
 use Rattle.std.specs.List.{Contains, flat_map, range_with_len}
@@ -13,7 +13,7 @@ use Rattle.grid_quantiser.specs.declared.boxes.CellBox.{CellBox}
 use Rattle.rayon.proofs.ListFacts.{All-parts}
 use Rattle.grid_quantiser.specs.Axes.{cells_of}
 use Rattle.grid_quantiser.specs.Boxes.{IsBoxWith, IsCellBox, cells_between}
-use Rattle.grid_quantiser.specs.Runs.{BeginsWithRun}
+use Rattle.grid_quantiser.specs.Segments.{BeginsWithSegment}
 use Rattle.game_core.specs.declared.game.Mark.{Mark}
 use Rattle.game_core.specs.declared.game.Mark.TheVariants.{Plain}
 use Rattle.successor_box.specs.Boxes.{cells_in}
@@ -48,7 +48,7 @@ more_marked mark P Q before between after first second = record {
       ];
 }
 
--- ---- a run
+-- ---- a segment
 
 -- marks of which those from one on are overwritten
 abbrev pub overwritten : ℕ → ℕ → List Mark → Mark → List Mark
@@ -58,21 +58,21 @@ module _ (mark : Mark) (marks : List Mark) (first len : ℕ) (within : first + l
   long_front : length (take first marks) ≡ first
   long_front = omega (arith, length-take first marks)
 
-  before_run : (c : ℕ) → c < first → get_or (overwritten first len marks mark) c Plain ≡ get_or marks c Plain
-  before_run c below =
+  before_segment : (c : ℕ) → c < first → get_or (overwritten first len marks mark) c Plain ≡ get_or marks c Plain
+  before_segment c below =
       let short : c < length (take first marks) = omega (arith, below, long_front) in
       get_or_append_left (take first marks) (replicate len mark ++ drop len (drop first marks)) Plain c short ∙ get_or-take first marks c Plain below
 
-  in_run : (c : ℕ) → first ≤ c → c < first + len → get_or (overwritten first len marks mark) c Plain ≡ mark
-  in_run c above below =
+  in_segment : (c : ℕ) → first ≤ c → c < first + len → get_or (overwritten first len marks mark) c Plain ≡ mark
+  in_segment c above below =
       let short : c - first < len = omega arith in
       let there : c - first < length (replicate len mark) = omega (arith, short, length-replicate len mark) in
       get_or-append_right (take first marks) (replicate len mark ++ drop len (drop first marks)) first c Plain long_front above
       ∙ get_or_append_left (replicate len mark) (drop len (drop first marks)) Plain (c - first) there
       ∙ get_or-replicate len (c - first) mark Plain short
 
-  after_run : (c : ℕ) → first + len ≤ c → get_or (overwritten first len marks mark) c Plain ≡ get_or marks c Plain
-  after_run c above =
+  after_segment : (c : ℕ) → first + len ≤ c → get_or (overwritten first len marks mark) c Plain ≡ get_or marks c Plain
+  after_segment c above =
       let past : first ≤ c = omega arith in
       let later : len ≤ c - first = omega arith in
       get_or-append_right (take first marks) (replicate len mark ++ drop len (drop first marks)) first c Plain long_front past
@@ -92,52 +92,52 @@ module _ (mark : Mark) (marks : List Mark) (first len : ℕ) (within : first + l
       let is : first + has.0 ≡ c = sym (get_or-range_with_len first len has.0 c short) ∙ has.2 in
       (omega (arith, is), omega (arith, is, short))
 
-  pub run_marked : AreMarked mark (Contains (range_with_len first len)) marks (overwritten first len marks mark)
-  run_marked = record {
+  pub segment_marked : AreMarked mark (Contains (range_with_len first len)) marks (overwritten first len marks mark)
+  segment_marked = record {
     long = omega (arith, length-append (take first marks) (replicate len mark ++ drop len (drop first marks)), length-append (replicate len mark) (drop len (drop first marks)), long_front, length-replicate len mark, length-drop len (drop first marks), length-drop first marks);
     each = λ c below. elim (cases_lt c first) [
-      | inl front ↦ inr (λ has. omega (arith, front, (range_in c has).0), before_run c front)
+      | inl front ↦ inr (λ has. omega (arith, front, (range_in c has).0), before_segment c front)
       | inr past ↦ elim (cases_lt c (first + len)) [
-        | inl here ↦ inl (in_range c past here, in_run c past here)
-        | inr later ↦ inr (λ has. omega (arith, later, (range_in c has).1), after_run c later)
+        | inl here ↦ inl (in_range c past here, in_segment c past here)
+        | inr later ↦ inr (λ has. omega (arith, later, (range_in c has).1), after_segment c later)
       ]
     ];
   }
 
 -- the same by the part of the slice that is filled, which has k marks
-pub run_filled : (mark : Mark) (marks filled : List Mark) (first len k : ℕ) → first + len ≤ length marks → k ≡ len → filled ≡ replicate k mark →
+pub segment_filled : (mark : Mark) (marks filled : List Mark) (first len k : ℕ) → first + len ≤ length marks → k ≡ len → filled ≡ replicate k mark →
     AreMarked mark (Contains (range_with_len first len)) marks (put_mid first k marks filled)
-run_filled mark marks filled first len k within is all =
-    rw (all, is) (run_marked mark marks first len within)
+segment_filled mark marks filled first len k within is all =
+    rw (all, is) (segment_marked mark marks first len within)
 
--- the cells that are done, and the next run
-pub cells_marked : (mark : Mark) (cells run : List ℕ) (before between after : List Mark) → AreMarked mark (Contains cells) before between → AreMarked mark (Contains run) between after →
-    AreMarked mark (Contains (cells ++ run)) before after
-cells_marked mark cells run before between after first second =
-    marked_likewise mark (λ c. Contains cells c ⊎ Contains run c) (Contains (cells ++ run)) before after
+-- the cells that are done, and the next segment
+pub cells_marked : (mark : Mark) (cells segment : List ℕ) (before between after : List Mark) → AreMarked mark (Contains cells) before between → AreMarked mark (Contains segment) between after →
+    AreMarked mark (Contains (cells ++ segment)) before after
+cells_marked mark cells segment before between after first second =
+    marked_likewise mark (λ c. Contains cells c ⊎ Contains segment c) (Contains (cells ++ segment)) before after
     (λ c below. (
-      λ (either : Contains cells c ⊎ Contains run c). elim either [ inl has ↦ Contains-append_left cells run c has | inr has ↦ Contains-append_right cells run c has ],
-      λ has. Contains-append_cases cells run c has,
+      λ (either : Contains cells c ⊎ Contains segment c). elim either [ inl has ↦ Contains-append_left cells segment c has | inr has ↦ Contains-append_right cells segment c has ],
+      λ has. Contains-append_cases cells segment c has,
     ))
-    (more_marked mark (Contains cells) (Contains run) before between after first second)
+    (more_marked mark (Contains cells) (Contains segment) before between after first second)
 
--- ---- runs that are gone through one by one
+-- ---- segments that are gone through one by one
 
--- the cells of the next run lie where all cells do
-pub run_below : (n : ℕ) (done cells later : List ℕ) (first len : ℕ) → All (λ c. c < n) (done ++ cells) → BeginsWithRun cells later first len → first + len ≤ n
-run_below n done cells later first len within run =
+-- the cells of the next segment lie where all cells do
+pub segment_below : (n : ℕ) (done cells later : List ℕ) (first len : ℕ) → All (λ c. c < n) (done ++ cells) → BeginsWithSegment cells later first len → first + len ≤ n
+segment_below n done cells later first len within segment =
     let left : All (λ c. c < n) cells = (All-parts (λ c. c < n) done cells within).1 in
-    let here : All (λ c. c < n) (range_with_len first len) = (All-parts (λ c. c < n) (range_with_len first len) later (subst (λ (xs : List ℕ). All (λ c. c < n) xs) run.parts left)).0 in
-    let last : len - 1 < len = omega (arith, run.some) in
-    omega (arith, run.some, here (len - 1) 0 (omega (arith, last, length-range_with_len first len)), get_or-range_with_len first len (len - 1) 0 last)
+    let here : All (λ c. c < n) (range_with_len first len) = (All-parts (λ c. c < n) (range_with_len first len) later (subst (λ (xs : List ℕ). All (λ c. c < n) xs) segment.parts left)).0 in
+    let last : len - 1 < len = omega (arith, segment.some) in
+    omega (arith, segment.some, here (len - 1) 0 (omega (arith, last, length-range_with_len first len)), get_or-range_with_len first len (len - 1) 0 last)
 
 -- less is left
-pub run_shorter : (cells later : List ℕ) (first len : ℕ) → BeginsWithRun cells later first len → length later < length cells
-run_shorter cells later first len run = omega (arith, run.some, ap length run.parts, length-append (range_with_len first len) later, length-range_with_len first len)
+pub segment_shorter : (cells later : List ℕ) (first len : ℕ) → BeginsWithSegment cells later first len → length later < length cells
+segment_shorter cells later first len segment = omega (arith, segment.some, ap length segment.parts, length-append (range_with_len first len) later, length-range_with_len first len)
 
--- the cells that are done, and the run
-pub run_done : (all done cells later : List ℕ) (first len : ℕ) → all ≡ done ++ cells → BeginsWithRun cells later first len → all ≡ (done ++ range_with_len first len) ++ later
-run_done all done cells later first len parts run = parts ∙ ap (λ (xs : List ℕ). done ++ xs) run.parts ∙ sym (append_assoc done (range_with_len first len) later)
+-- the cells that are done, and the segment
+pub segment_done : (all done cells later : List ℕ) (first len : ℕ) → all ≡ done ++ cells → BeginsWithSegment cells later first len → all ≡ (done ++ range_with_len first len) ++ later
+segment_done all done cells later first len parts segment = parts ∙ ap (λ (xs : List ℕ). done ++ xs) segment.parts ∙ sym (append_assoc done (range_with_len first len) later)
 
 -- ---- a box
 
@@ -152,13 +152,13 @@ box_below [] f l box = All-cons (λ c. c < 1) 0 [] (omega arith) (All-nil (λ c.
 box_below (a ∷ axes) f l box =
     let n : ℕ = cells_of axes in
     let part : List ℕ = cells_between axes (f % n) (l % n) in
-    let side : ℕ = suc (l / n) - f / n in
-    all_joined (λ c. c < a.count * n) (λ place. map (λ c. place * n + c) part) (range_with_len (f / n) side) (λ k d lt.
-    let place : ℕ = get_or (range_with_len (f / n) side) k d in
-    let short : k < side = omega (arith, lt, length-range_with_len (f / n) side) in
-    let row : place < a.count = omega (arith, short, get_or-range_with_len (f / n) side k d short, box.0, box.1) in
-    All-map (λ c. c < a.count * n) (λ c. place * n + c) part
-    (All-weaker (λ c. c < n) (λ c. place * n + c < a.count * n) (λ c lt. omega (arith, mul-add-lt place n c a.count row lt, mul_comm a.count n)) part (box_below axes (f % n) (l % n) box.2)))
+    let extent : ℕ = suc (l / n) - f / n in
+    all_joined (λ c. c < a.count * n) (λ index. map (λ c. index * n + c) part) (range_with_len (f / n) extent) (λ k d lt.
+    let index : ℕ = get_or (range_with_len (f / n) extent) k d in
+    let short : k < extent = omega (arith, lt, length-range_with_len (f / n) extent) in
+    let row : index < a.count = omega (arith, short, get_or-range_with_len (f / n) extent k d short, box.0, box.1) in
+    All-map (λ c. c < a.count * n) (λ c. index * n + c) part
+    (All-weaker (λ c. c < n) (λ c. index * n + c < a.count * n) (λ c lt. omega (arith, mul-add-lt index n c a.count row lt, mul_comm a.count n)) part (box_below axes (f % n) (l % n) box.2)))
 
 -- no cell stands in an empty list
 pub nothing_in : (c : ℕ) → Contains [] c → ⊥

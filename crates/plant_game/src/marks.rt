@@ -10,7 +10,7 @@ ghost use Rattle.successor_box.specs.Boxes.{cells_in};
 ghost use Rattle.plant_game.specs.Marks.{LiesInTarget, LiesInSomeTarget, AreMarked, AreMarksOf};
 
 use game_core::Mark;
-use grid_quantiser::{CellBox, Grid, Runs};
+use grid_quantiser::{CellBox, Grid, Segments};
 use plant_record::Plant;
 use std::alloc::{AllocError, Global};
 
@@ -64,16 +64,16 @@ fn mark_box(grid: &Grid, b: Option<CellBox>, mark: Mark, marks: &mut [Mark])
     ensures { AreMarked mark (Contains (cells_in grid.now b)) marks.old marks.new }
 {
     if let Some(b) = b {
-        mark_cells(grid.runs(b), mark, marks);
+        mark_cells(grid.segments(b), mark, marks);
     }
 }
 
-/// Gives cells a mark, run by run.
-fn mark_cells(mut cells: Runs, mark: Mark, marks: &mut [Mark])
+/// Gives cells a mark, segment by segment.
+fn mark_cells(mut cells: Segments, mark: Mark, marks: &mut [Mark])
     requires { All (λ c. c < length marks.old) cells }
     ensures { AreMarked mark (Contains cells) marks.old marks.new }
 {
-    while let Some((first, len)) = cells.next_run() {
+    while let Some((first, len)) = cells.next_segment() {
         let first = first as usize;
         marks[first..first + len as usize].fill(mark);
     }

@@ -6,7 +6,7 @@ pub mod FirstTokens
 pub mod InputValues
 pub mod ItemSpelling
 pub mod ItemsOfTrees
-pub mod KeywordsTell
+pub mod KeywordsDiffer
 pub mod Literals
 pub mod NumberBytes
 pub mod NumberWords

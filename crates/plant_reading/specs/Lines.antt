@@ -7,7 +7,7 @@ abbrev pub joined : ℕ → List (List ℕ) → List (List ℕ)
 joined b [] = (b ∷ []) ∷ []
 joined b (piece ∷ pieces) = (b ∷ piece) ∷ pieces
 
--- the lines of a text: a line feed ends a line, and so does the end of the text where something stands behind the last one
+-- the lines of a text: a line feed ends a line, and so does the end of the text where something stands after the last one
 abbrev pub lines_of : List ℕ → List (List ℕ)
 lines_of [] = []
 lines_of (b ∷ bytes) = if b == 10 then [] ∷ lines_of bytes else joined b (lines_of bytes)

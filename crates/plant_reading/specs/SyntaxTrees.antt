@@ -2,7 +2,7 @@
 use Rattle.std.specs.Prelude.{◌≡◌, ℕ, suc, ◌^◌, ◌<◌, ◌≤◌, max, ℤ, pos, negsuc, List, [], ◌∷◌, ◌++◌, length, slice_index_or, codes}
 use Rattle.std.specs.List.{flat_map}
 use Rattle.std.specs.Fmt.{decimal}
-use Rattle.fixed_expr.specs.Expression.{Expression, Number, Variable, Negation, Sum, Difference, Product, Quotient, Minimum, Maximum, Absolute, Lookup}
+use Rattle.fixed_expr.specs.Expression.{Expression, NumExpr, VarExpr, NegExpr, AddExpr, SubExpr, MulExpr, DivExpr, MinExpr, MaxExpr, AbsExpr, LutExpr}
 use Rattle.fixed_expr.specs.Curves.{IsCurve}
 use Rattle.plant_record.specs.Equations.{nodes_of, depth_of}
 
@@ -77,17 +77,17 @@ IsGrammatical m (Bracketed a) = IsGrammatical m a
 
 -- what it means; brackets make no node
 abbrev pub meaning_of : Syntax → Expression
-meaning_of (Literal k) = Number (pos k)
-meaning_of (Named i) = Variable i
-meaning_of (Minus a) = Negation (meaning_of a)
-meaning_of (Plus a b) = Sum (meaning_of a) (meaning_of b)
-meaning_of (Less a b) = Difference (meaning_of a) (meaning_of b)
-meaning_of (Times a b) = Product (meaning_of a) (meaning_of b)
-meaning_of (Over a k) = Quotient (meaning_of a) (pos k)
-meaning_of (Least a b) = Minimum (meaning_of a) (meaning_of b)
-meaning_of (Greatest a b) = Maximum (meaning_of a) (meaning_of b)
-meaning_of (Size a) = Absolute (meaning_of a)
-meaning_of (Tabled a points) = Lookup (meaning_of a) points
+meaning_of (Literal k) = NumExpr (pos k)
+meaning_of (Named i) = VarExpr i
+meaning_of (Minus a) = NegExpr (meaning_of a)
+meaning_of (Plus a b) = AddExpr (meaning_of a) (meaning_of b)
+meaning_of (Less a b) = SubExpr (meaning_of a) (meaning_of b)
+meaning_of (Times a b) = MulExpr (meaning_of a) (meaning_of b)
+meaning_of (Over a k) = DivExpr (meaning_of a) (pos k)
+meaning_of (Least a b) = MinExpr (meaning_of a) (meaning_of b)
+meaning_of (Greatest a b) = MaxExpr (meaning_of a) (meaning_of b)
+meaning_of (Size a) = AbsExpr (meaning_of a)
+meaning_of (Tabled a points) = LutExpr (meaning_of a) points
 meaning_of (Bracketed a) = meaning_of a
 
 -- how many brackets are open at once, those of minima, maxima, absolute values and tables included

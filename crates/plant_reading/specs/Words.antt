@@ -20,12 +20,12 @@ words_of (b ∷ bytes) =
     if is_blank b then words_of bytes else (if ends_word bytes then (b ∷ []) ∷ words_of bytes else joined b (words_of bytes))
 
 -- a line of blanks, or one whose first word begins with `#`
-abbrev pub is_passed_over : List ℕ → Bool
-is_passed_over line = passed_over (words_of line)
+abbrev pub is_skipped : List ℕ → Bool
+is_skipped line = skipped (words_of line)
   where
-    passed_over : List (List ℕ) → Bool
-    passed_over [] = true
-    passed_over (word ∷ words) = slice_index word 0 == 35
+    skipped : List (List ℕ) → Bool
+    skipped [] = true
+    skipped (word ∷ words) = slice_index word 0 == 35
 
 -- the word is the one spelling of the number, which has at most 18 digits
 abbrev pub IsSpellingOf : ℤ → List ℕ → Type 0

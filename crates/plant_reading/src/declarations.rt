@@ -1,4 +1,4 @@
-//! What the words behind a line's first word say of a variable, a box or the goal.
+//! What the words after a line's first word say of a variable, a box or the goal.
 
 ghost use Rattle.std.specs.Prelude.{◌≡◌, ◌↔◌, ◌<◌, ◌%◌, IsTrue, ◌≤ℤ◌};
 ghost use Rattle.plant_record.specs.Spelling.{version_word, goal_word};
@@ -7,7 +7,7 @@ ghost use Rattle.plant_reading.specs.Words.{words_of};
 ghost use Rattle.plant_reading.specs.inside.WordReaders.{Finds};
 ghost use Rattle.plant_reading.specs.inside.LineReaders.{HasWholeCells, StartsWithEnds, SpellsVersion, SpellsState, SpellsCells, SpellsInput, SpellsNoise, SpellsValues, SpellsGoal};
 
-use crate::fault::ReadFault;
+use crate::line_fault::LineFault;
 use crate::words::blanks::next_word;
 use crate::words::expected::{expect_end, expect_number, name_in, number_in, only_word};
 use plant_record::{
@@ -20,24 +20,24 @@ use std::alloc::Global;
 const VALUES_LIMIT: usize = 64;
 
 /// `1` or `2`.
-pub fn version_in(bytes: &[u8]) -> Result<PlantVersion, ReadFault>
+pub fn version_in(bytes: &[u8]) -> Result<PlantVersion, LineFault>
     ensures { Finds (λ v. v) (SpellsVersion (words_of bytes.now)) result }
 {
     version_of(only_word(bytes)?)
 }
 
-fn version_of(word: &[u8]) -> Result<PlantVersion, ReadFault>
+fn version_of(word: &[u8]) -> Result<PlantVersion, LineFault>
     ensures { Finds (λ v. v) (λ v. word.now ≡ version_word v) result }
 {
     match word {
         b"1" => Ok(PlantVersion::One),
         b"2" => Ok(PlantVersion::Two),
-        _ => Err(ReadFault::Malformed),
+        _ => Err(LineFault::Malformed),
     }
 }
 
 /// `NAME LOW HIGH WIDTH`.
-pub fn state_in(alloc: Global, bytes: &[u8]) -> Result<StateVariable, ReadFault>
+pub fn state_in(alloc: Global, bytes: &[u8]) -> Result<StateVariable, LineFault>
     ensures { Finds (λ s. s) (SpellsState (words_of bytes.now)) result }
 {
     let (name, rest) = name_in(bytes)?;
@@ -52,14 +52,14 @@ pub fn state_in(alloc: Global, bytes: &[u8]) -> Result<StateVariable, ReadFault>
 }
 
 /// `LOW HIGH WIDTH`.
-fn cells_in(bytes: &[u8]) -> Result<(i128, i128, i128), ReadFault>
+fn cells_in(bytes: &[u8]) -> Result<(i128, i128, i128), LineFault>
     ensures { Finds (λ r. (r.0, r.1, r.2)) (SpellsCells (words_of bytes.now)) result }
 {
     let (low, high, rest) = ends_in(bytes)?;
     let (width, rest) = number_in(rest)?;
     expect_end(rest)?;
     if !has_whole_cells(low, high, width) {
-        return Err(ReadFault::Malformed);
+        return Err(LineFault::Malformed);
     }
     Ok((low, high, width))
 }
@@ -80,7 +80,7 @@ fn divides(k: u128, n: u128) -> bool
 }
 
 /// `NAME VALUE ..`.
-pub fn input_in(alloc: Global, bytes: &[u8]) -> Result<InputVariable, ReadFault>
+pub fn input_in(alloc: Global, bytes: &[u8]) -> Result<InputVariable, LineFault>
     ensures { Finds (λ i. i) (SpellsInput (words_of bytes.now)) result }
 {
     let (name, rest) = name_in(bytes)?;
@@ -90,26 +90,26 @@ pub fn input_in(alloc: Global, bytes: &[u8]) -> Result<InputVariable, ReadFault>
 }
 
 /// 1 to 64 numbers.
-fn values_in(alloc: Global, bytes: &[u8]) -> Result<Values, ReadFault>
+fn values_in(alloc: Global, bytes: &[u8]) -> Result<Values, LineFault>
     ensures { Finds (λ v. v) (SpellsValues (words_of bytes.now)) result }
 {
     let mut numbers = Vec::new(alloc);
     let mut rest = bytes;
     while let Some((word, after)) = next_word(rest) {
         if numbers.len() == VALUES_LIMIT {
-            return Err(ReadFault::Malformed);
+            return Err(LineFault::Malformed);
         }
         numbers.push(expect_number(word)?)?;
         rest = after;
     }
     if numbers.is_empty() {
-        return Err(ReadFault::Malformed);
+        return Err(LineFault::Malformed);
     }
     Ok(Values::new(numbers))
 }
 
 /// `NAME LOW HIGH`.
-pub fn noise_in(alloc: Global, bytes: &[u8]) -> Result<NoiseVariable, ReadFault>
+pub fn noise_in(alloc: Global, bytes: &[u8]) -> Result<NoiseVariable, LineFault>
     ensures { Finds (λ w. w) (SpellsNoise (words_of bytes.now)) result }
 {
     let (name, rest) = name_in(bytes)?;
@@ -119,14 +119,14 @@ pub fn noise_in(alloc: Global, bytes: &[u8]) -> Result<NoiseVariable, ReadFault>
     Ok(NoiseVariable { name, low, high })
 }
 
-/// Two numbers in order, and what stands behind them.
-pub fn ends_in(bytes: &[u8]) -> Result<(i128, i128, &[u8]), ReadFault>
+/// Two numbers in order, and what stands after them.
+pub fn ends_in(bytes: &[u8]) -> Result<(i128, i128, &[u8]), LineFault>
     ensures { Finds (λ r. ((r.0, r.1), words_of r.2.now)) (StartsWithEnds (words_of bytes.now)) result }
 {
     let (low, rest) = number_in(bytes)?;
     let (high, rest) = number_in(rest)?;
     if !is_ordered(low, high) {
-        return Err(ReadFault::Malformed);
+        return Err(LineFault::Malformed);
     }
     Ok((low, high, rest))
 }
@@ -138,18 +138,18 @@ fn is_ordered(least: i128, greatest: i128) -> bool
 }
 
 /// `reach` or `keep`.
-pub fn goal_in(bytes: &[u8]) -> Result<GoalKind, ReadFault>
+pub fn goal_in(bytes: &[u8]) -> Result<GoalKind, LineFault>
     ensures { Finds (λ kind. kind) (SpellsGoal (words_of bytes.now)) result }
 {
     goal_of(only_word(bytes)?)
 }
 
-fn goal_of(word: &[u8]) -> Result<GoalKind, ReadFault>
+fn goal_of(word: &[u8]) -> Result<GoalKind, LineFault>
     ensures { Finds (λ kind. kind) (λ kind. word.now ≡ goal_word kind) result }
 {
     match word {
         b"reach" => Ok(GoalKind::Reach),
         b"keep" => Ok(GoalKind::Keep),
-        _ => Err(ReadFault::Malformed),
+        _ => Err(LineFault::Malformed),
     }
 }

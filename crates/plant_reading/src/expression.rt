@@ -9,14 +9,14 @@ ghost use Rattle.plant_reading.specs.Words.{words_of};
 ghost use Rattle.plant_reading.specs.Tokens.{tokens_of};
 ghost use Rattle.plant_record.specs.Equations.{depth_of};
 ghost use Rattle.plant_reading.specs.SyntaxTrees.{AreTokensOf};
-ghost use Rattle.plant_reading.specs.inside.ExpressionItems.{nodes_made, open_behind};
+ghost use Rattle.plant_reading.specs.inside.ExpressionItems.{nodes_made, open_brackets_after};
 ghost use Rattle.plant_reading.specs.inside.TokenReaders.{Gives};
 ghost use Rattle.plant_record.specs.Parts.{variable_names};
-ghost use Rattle.plant_reading.specs.inside.ExpressionMachine.{pendings_of, machine_of, close_bracket, take_points, take_comma, take_operand, take_behind_term, take_behind_sum, stepped, IsEnd, counts_behind, AreWithinLimits};
+ghost use Rattle.plant_reading.specs.inside.ExpressionMachine.{pendings_of, machine_of, close_bracket, take_points, take_comma, take_operand, take_after_term, take_after_sum, stepped, IsEnd, counts_after, AreWithinLimits};
 
-use crate::fault::ReadFault;
 use crate::frames::{Frame, Stack};
 use crate::items::{Bracket, Item, next_item};
+use crate::line_fault::LineFault;
 use fixed_expr::{Curve, Expr};
 use plant_record::Variables;
 use std::alloc::Global;
@@ -46,9 +46,9 @@ fn nodes_made(item: &Item) -> u32
     }
 }
 
-fn open_behind(open_before: u32, item: &Item) -> u32
+fn open_brackets_after(open_before: u32, item: &Item) -> u32
     requires { open_before ≤ 64 }
-    ensures { result ≡ open_behind open_before item.now }
+    ensures { result ≡ open_brackets_after open_before item.now }
 {
     match item {
         Item::Open(_) => open_before + 1,
@@ -58,58 +58,58 @@ fn open_behind(open_before: u32, item: &Item) -> u32
 }
 
 /// None where the item exceeds a limit.
-fn counts_behind(counts: Counts, item: &Item) -> Option<Counts>
+fn counts_after(counts: Counts, item: &Item) -> Option<Counts>
     requires { AreWithinLimits counts }
-    ensures { SomeIff result (AreWithinLimits (counts_behind counts item.now)) (counts_behind counts item.now) }
+    ensures { SomeIff result (AreWithinLimits (counts_after counts item.now)) (counts_after counts item.now) }
 {
     let nodes = counts.nodes + nodes_made(item);
-    let brackets = open_behind(counts.brackets, item);
+    let brackets = open_brackets_after(counts.brackets, item);
     if nodes > NODE_LIMIT || brackets > BRACKET_LIMIT {
         return None;
     }
     Some(Counts { nodes, brackets })
 }
 
-/// Takes the bracket that closes behind a sum. Returns what it makes of the sum.
-fn close_bracket(alloc: Global, stack: &mut Stack, sum: Box<Expr>) -> Result<Box<Expr>, ReadFault>
+/// Takes the bracket that closes after a sum. Returns what it makes of the sum.
+fn close_bracket(alloc: Global, stack: &mut Stack, sum: Box<Expr>) -> Result<Box<Expr>, LineFault>
     ensures { Gives (λ e. (expression_of e.value, pendings_of stack.new)) result (close_bracket (expression_of sum.value) (pendings_of stack.old)) }
 {
     let Some(frame) = stack.pop() else {
-        return Err(ReadFault::Malformed);
+        return Err(LineFault::Malformed);
     };
     match frame {
         Frame::Opened(Bracket::Plain) => Ok(sum),
         Frame::Opened(Bracket::Size) => Ok(Box::new(alloc, Expr::Abs(sum))?),
         Frame::LeastOf(a) => Ok(Box::new(alloc, Expr::Min(a, sum))?),
         Frame::GreatestOf(a) => Ok(Box::new(alloc, Expr::Max(a, sum))?),
-        _ => Err(ReadFault::Malformed),
+        _ => Err(LineFault::Malformed),
     }
 }
 
-/// Takes the points of a table behind a sum. Returns what they make of the sum.
+/// Takes the points of a table after a sum. Returns what they make of the sum.
 #[tactic(auto, unfolding(crate::specs::inside::ExpressionMachine::take_points))]
 fn take_points(
     alloc: Global,
     stack: &mut Stack,
     sum: Box<Expr>,
     curve: Curve,
-) -> Result<Box<Expr>, ReadFault>
+) -> Result<Box<Expr>, LineFault>
     ensures { Gives (λ e. (expression_of e.value, pendings_of stack.new)) result (take_points curve (expression_of sum.value) (pendings_of stack.old)) }
 {
     match stack.pop_bracket() {
         Some(Bracket::Table) => Ok(Box::new(alloc, Expr::Lut(sum, curve))?),
-        _ => Err(ReadFault::Malformed),
+        _ => Err(LineFault::Malformed),
     }
 }
 
-/// Takes the comma of `min` or `max` behind the first of its two sums.
-fn take_comma(stack: &mut Stack, sum: Box<Expr>) -> Result<(), ReadFault>
+/// Takes the comma of `min` or `max` after the first of its two sums.
+fn take_comma(stack: &mut Stack, sum: Box<Expr>) -> Result<(), LineFault>
     ensures { Gives (λ _. pendings_of stack.new) result (take_comma (expression_of sum.value) (pendings_of stack.old)) }
 {
     let frame = match stack.pop_bracket() {
         Some(Bracket::Least) => Frame::LeastOf(sum),
         Some(Bracket::Greatest) => Frame::GreatestOf(sum),
-        _ => return Err(ReadFault::Malformed),
+        _ => return Err(LineFault::Malformed),
     };
     Ok(stack.push(frame)?)
 }
@@ -120,7 +120,7 @@ fn take_operand(
     alloc: Global,
     stack: &mut Stack,
     item: Item,
-) -> Result<Option<Box<Expr>>, ReadFault>
+) -> Result<Option<Box<Expr>>, LineFault>
     ensures { Gives (λ t. (option_map (λ e. expression_of e.value) t, pendings_of stack.new)) result (take_operand item (pendings_of stack.old)) }
 {
     match item {
@@ -140,19 +140,19 @@ fn take_operand(
             stack.push(Frame::Opened(bracket))?;
             Ok(None)
         }
-        _ => Err(ReadFault::Malformed),
+        _ => Err(LineFault::Malformed),
     }
 }
 
-/// Takes an item behind a term.
-#[tactic(auto, unfolding(crate::specs::inside::ExpressionMachine::take_behind_term))]
-fn take_behind_term(
+/// Takes an item after a term.
+#[tactic(auto, unfolding(crate::specs::inside::ExpressionMachine::take_after_term))]
+fn take_after_term(
     alloc: Global,
     stack: &mut Stack,
     term: Box<Expr>,
     item: Item,
-) -> Result<Option<Box<Expr>>, ReadFault>
-    ensures { Gives (λ t. (option_map (λ e. expression_of e.value) t, pendings_of stack.new)) result (take_behind_term item (expression_of term.value) (pendings_of stack.old)) }
+) -> Result<Option<Box<Expr>>, LineFault>
+    ensures { Gives (λ t. (option_map (λ e. expression_of e.value) t, pendings_of stack.new)) result (take_after_term item (expression_of term.value) (pendings_of stack.old)) }
 {
     match item {
         Item::Times => {
@@ -162,20 +162,20 @@ fn take_behind_term(
         Item::Over(k) => Ok(Some(Box::new(alloc, Expr::Div(term, i128::from(k)))?)),
         other => {
             let sum = stack.end_term(alloc, term)?;
-            take_behind_sum(alloc, stack, sum, other)
+            take_after_sum(alloc, stack, sum, other)
         }
     }
 }
 
-/// Takes an item behind a sum.
-#[tactic(auto, unfolding(crate::specs::inside::ExpressionMachine::take_behind_sum))]
-fn take_behind_sum(
+/// Takes an item after a sum.
+#[tactic(auto, unfolding(crate::specs::inside::ExpressionMachine::take_after_sum))]
+fn take_after_sum(
     alloc: Global,
     stack: &mut Stack,
     sum: Box<Expr>,
     item: Item,
-) -> Result<Option<Box<Expr>>, ReadFault>
-    ensures { Gives (λ t. (option_map (λ e. expression_of e.value) t, pendings_of stack.new)) result (take_behind_sum item (expression_of sum.value) (pendings_of stack.old)) }
+) -> Result<Option<Box<Expr>>, LineFault>
+    ensures { Gives (λ t. (option_map (λ e. expression_of e.value) t, pendings_of stack.new)) result (take_after_sum item (expression_of sum.value) (pendings_of stack.old)) }
 {
     match item {
         Item::Plus => {
@@ -198,7 +198,7 @@ fn take_behind_sum(
             let factor = take_points(alloc, stack, sum, curve)?;
             Ok(Some(stack.end_factor(alloc, factor)?))
         }
-        _ => Err(ReadFault::Malformed),
+        _ => Err(LineFault::Malformed),
     }
 }
 
@@ -225,19 +225,19 @@ impl ExpressionReader {
         }
     }
 
-    fn take(&mut self, alloc: Global, item: Item) -> Result<(), ReadFault>
+    fn take(&mut self, alloc: Global, item: Item) -> Result<(), LineFault>
         requires { AreWithinLimits self.old.counts }
         ensures machine { OnOk result (stepped item (machine_of self.old).0 (machine_of self.old).1 ≡ Some (machine_of self.new)) }
-        ensures counts { OnOk result (self.new.counts ≡ counts_behind self.old.counts item) }
+        ensures counts { OnOk result (self.new.counts ≡ counts_after self.old.counts item) }
         ensures within { OnOk result (AreWithinLimits self.new.counts) }
-        ensures refused { result ≡ Err ReadFault.Malformed → (stepped item (machine_of self.old).0 (machine_of self.old).1 ≡ None) ⊎ (AreWithinLimits (counts_behind self.old.counts item) → ⊥) }
+        ensures refused { result ≡ Err LineFault.Malformed → (stepped item (machine_of self.old).0 (machine_of self.old).1 ≡ None) ⊎ (AreWithinLimits (counts_after self.old.counts item) → ⊥) }
     {
-        let Some(counts) = counts_behind(self.counts, &item) else {
-            return Err(ReadFault::Malformed);
+        let Some(counts) = counts_after(self.counts, &item) else {
+            return Err(LineFault::Malformed);
         };
         self.counts = counts;
         self.term = match self.term.take() {
-            Some(term) => take_behind_term(alloc, &mut self.stack, term, item)?,
+            Some(term) => take_after_term(alloc, &mut self.stack, term, item)?,
             None => take_operand(alloc, &mut self.stack, item)?,
         };
         Ok(())
@@ -249,14 +249,14 @@ impl ExpressionReader {
         alloc: Global,
         variables: &Variables,
         bytes: &[u8],
-    ) -> Result<(), ReadFault>
+    ) -> Result<(), LineFault>
         requires few { length (variable_names variables.now) ≤ 15 }
         requires differ { AllPairs (λ a b. a ≢ b) (variable_names variables.now) }
         requires names { All IsName (variable_names variables.now) }
         requires machine { machine_of self.old ≡ (None, []) }
         requires counts { self.old.counts ≡ record { nodes = 0; brackets = 0 } }
         ensures taken { OnOk result ((e : Expression) → IsEnd (machine_of self.new) e ↔ AreTokensOf (variable_names variables.now) (flat_map tokens_of (words_of bytes.now)) e) }
-        ensures refused { result ≡ Err ReadFault.Malformed → (e : Expression) → AreTokensOf (variable_names variables.now) (flat_map tokens_of (words_of bytes.now)) e → ⊥ }
+        ensures refused { result ≡ Err LineFault.Malformed → (e : Expression) → AreTokensOf (variable_names variables.now) (flat_map tokens_of (words_of bytes.now)) e → ⊥ }
     {
         let mut rest = bytes;
         while let Some((item, after)) = next_item(alloc, variables, rest)? {
@@ -266,9 +266,9 @@ impl ExpressionReader {
         Ok(())
     }
 
-    fn end(self, alloc: Global) -> Result<Expr, ReadFault>
+    fn end(self, alloc: Global) -> Result<Expr, LineFault>
         ensures whole { IfOk result (λ e. IsEnd (machine_of self) (expression_of e)) }
-        ensures refused { result ≡ Err ReadFault.Malformed → (e : Expression) → IsEnd (machine_of self) e → ⊥ }
+        ensures refused { result ≡ Err LineFault.Malformed → (e : Expression) → IsEnd (machine_of self) e → ⊥ }
     {
         let ExpressionReader {
             mut stack,
@@ -276,11 +276,11 @@ impl ExpressionReader {
             ..
         } = self;
         let Some(term) = term else {
-            return Err(ReadFault::Malformed);
+            return Err(LineFault::Malformed);
         };
         let e = stack.end_term(alloc, term)?;
         if !stack.is_empty() || !is_within(&e, DEPTH_LIMIT) {
-            return Err(ReadFault::Malformed);
+            return Err(LineFault::Malformed);
         }
         Ok(Box::into_inner(e))
     }
@@ -302,12 +302,12 @@ fn is_within(e: &Expr, limit: u32) -> bool
 }
 
 /// Reads an expression over the variables.
-pub fn expression_in(alloc: Global, variables: &Variables, rest: &[u8]) -> Result<Expr, ReadFault>
+pub fn expression_in(alloc: Global, variables: &Variables, rest: &[u8]) -> Result<Expr, LineFault>
     requires few { length (variable_names variables.now) ≤ 15 }
     requires differ { AllPairs (λ a b. a ≢ b) (variable_names variables.now) }
     requires names { All IsName (variable_names variables.now) }
     ensures found { IfOk result (λ e. AreTokensOf (variable_names variables.now) (flat_map tokens_of (words_of rest.now)) (expression_of e)) }
-    ensures refused { result ≡ Err ReadFault.Malformed → (e : Expression) → AreTokensOf (variable_names variables.now) (flat_map tokens_of (words_of rest.now)) e → ⊥ }
+    ensures refused { result ≡ Err LineFault.Malformed → (e : Expression) → AreTokensOf (variable_names variables.now) (flat_map tokens_of (words_of rest.now)) e → ⊥ }
 {
     let mut reader = ExpressionReader::new(alloc);
     reader.take_all(alloc, variables, rest)?;

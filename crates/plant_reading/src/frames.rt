@@ -8,7 +8,7 @@ use crate::items::Bracket;
 use fixed_expr::Expr;
 use std::alloc::{AllocError, Global};
 
-/// Something that takes the operand behind it.
+/// Something that takes the operand after it.
 #[derive(Drop)]
 pub enum Frame {
     Sign,

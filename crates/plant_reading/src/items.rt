@@ -1,14 +1,14 @@
 //! The items of an expression: its tokens, but a `/` with its divisor, a function with its bracket, and
-//! the points of a table with the bracket behind them are one.
+//! the points of a table with the bracket after them are one.
 
 ghost use Rattle.std.specs.Prelude.{◌≡◌, ◌<◌, ◌≤◌, length, IfSome, IfOk};
 ghost use Rattle.std.specs.Option.{option_map};
 ghost use Rattle.plant_reading.specs.inside.LineTokens.{tokens_in};
-ghost use Rattle.plant_reading.specs.inside.ExpressionItems.{AreNames, function_of, symbol_of, leaf_of, item_of, divided, opened, plain_behind, comma_behind, item_behind, next_item};
+ghost use Rattle.plant_reading.specs.inside.ExpressionItems.{AreNames, function_of, symbol_of, leaf_of, item_of, divided, opened, plain_after, comma_after, item_after, next_item};
 ghost use Rattle.plant_reading.specs.inside.TokenReaders.{Gives};
 ghost use Rattle.plant_record.specs.Parts.{variable_names};
 
-use crate::fault::ReadFault;
+use crate::line_fault::LineFault;
 use crate::literals::literal_of;
 use crate::tables::{curve_in, point_in};
 use crate::words::tokens::next_token;
@@ -38,7 +38,7 @@ pub enum Item {
     Open(Bracket),
     Comma,
     Close,
-    /// The points behind the expression of a `lut`, and the bracket that closes it.
+    /// The points after the expression of a `lut`, and the bracket that closes it.
     Points(Curve),
 }
 
@@ -72,7 +72,7 @@ fn leaf_of(variables: &Variables, token: &[u8]) -> Option<Item>
     requires names { AreNames (variable_names variables.now) }
     ensures { result ≡ leaf_of (variable_names variables.now) token.now }
 {
-    match variables.place_of(token) {
+    match variables.position_of(token) {
         Some(i) => Some(Item::Variable(i)),
         None => Some(Item::Number(literal_of(token)?)),
     }
@@ -104,7 +104,7 @@ fn divided(bytes: &[u8]) -> Option<(Item, &[u8])>
     Some((Item::Over(k), rest))
 }
 
-/// The bracket behind a function's name, and the bytes after it.
+/// The bracket after a function's name, and the bytes after it.
 #[tactic(auto, unfolding(crate::specs::inside::ExpressionItems::opened))]
 fn opened(bracket: Bracket, bytes: &[u8]) -> Option<(Item, &[u8])>
     ensures item { option_map (λ x. (x.0, tokens_in x.1.now)) result ≡ opened bracket (tokens_in bytes.now) }
@@ -118,11 +118,11 @@ fn opened(bracket: Bracket, bytes: &[u8]) -> Option<(Item, &[u8])>
 }
 
 /// An item that begins with a token which is no comma, and the bytes after it.
-#[tactic(auto, unfolding(crate::specs::inside::ExpressionItems::plain_behind))]
-fn plain_behind<'a>(variables: &Variables, token: &[u8], rest: &'a [u8]) -> Option<(Item, &'a [u8])>
+#[tactic(auto, unfolding(crate::specs::inside::ExpressionItems::plain_after))]
+fn plain_after<'a>(variables: &Variables, token: &[u8], rest: &'a [u8]) -> Option<(Item, &'a [u8])>
     requires few { length (variable_names variables.now) ≤ 15 }
     requires names { AreNames (variable_names variables.now) }
-    ensures item { option_map (λ x. (x.0, tokens_in x.1.now)) result ≡ plain_behind (variable_names variables.now) token.now (tokens_in rest.now) }
+    ensures item { option_map (λ x. (x.0, tokens_in x.1.now)) result ≡ plain_after (variable_names variables.now) token.now (tokens_in rest.now) }
     ensures no_longer { IfSome result (λ x. length x.1.now ≤ length rest.now) }
 {
     if matches!(token, b"/") {
@@ -135,9 +135,9 @@ fn plain_behind<'a>(variables: &Variables, token: &[u8], rest: &'a [u8]) -> Opti
 }
 
 /// What a comma begins, and the bytes after it: the points of a table, or the second of two sums.
-#[tactic(auto, unfolding(crate::specs::inside::ExpressionItems::comma_behind))]
-fn comma_behind(alloc: Global, bytes: &[u8]) -> Result<(Item, &[u8]), ReadFault>
-    ensures item { Gives (λ x. (x.0, tokens_in x.1.now)) result (comma_behind (tokens_in bytes.now)) }
+#[tactic(auto, unfolding(crate::specs::inside::ExpressionItems::comma_after))]
+fn comma_after(alloc: Global, bytes: &[u8]) -> Result<(Item, &[u8]), LineFault>
+    ensures item { Gives (λ x. (x.0, tokens_in x.1.now)) result (comma_after (tokens_in bytes.now)) }
     ensures no_longer { IfOk result (λ x. length x.1.now ≤ length bytes.now) }
 {
     if point_in(bytes).is_none() {
@@ -147,24 +147,24 @@ fn comma_behind(alloc: Global, bytes: &[u8]) -> Result<(Item, &[u8]), ReadFault>
     Ok((Item::Points(curve), rest))
 }
 
-#[tactic(auto, unfolding(crate::specs::inside::ExpressionItems::item_behind))]
-fn item_behind<'a>(
+#[tactic(auto, unfolding(crate::specs::inside::ExpressionItems::item_after))]
+fn item_after<'a>(
     alloc: Global,
     variables: &Variables,
     token: &[u8],
     rest: &'a [u8],
-) -> Result<(Item, &'a [u8]), ReadFault>
+) -> Result<(Item, &'a [u8]), LineFault>
     requires few { length (variable_names variables.now) ≤ 15 }
     requires names { AreNames (variable_names variables.now) }
-    ensures item { Gives (λ x. (x.0, tokens_in x.1.now)) result (item_behind (variable_names variables.now) token.now (tokens_in rest.now)) }
+    ensures item { Gives (λ x. (x.0, tokens_in x.1.now)) result (item_after (variable_names variables.now) token.now (tokens_in rest.now)) }
     ensures no_longer { IfOk result (λ x. length x.1.now ≤ length rest.now) }
 {
     if matches!(token, b",") {
-        return comma_behind(alloc, rest);
+        return comma_after(alloc, rest);
     }
-    match plain_behind(variables, token, rest) {
+    match plain_after(variables, token, rest) {
         Some(found) => Ok(found),
-        None => Err(ReadFault::Malformed),
+        None => Err(LineFault::Malformed),
     }
 }
 
@@ -174,14 +174,14 @@ pub fn next_item<'a>(
     alloc: Global,
     variables: &Variables,
     bytes: &'a [u8],
-) -> Result<Option<(Item, &'a [u8])>, ReadFault>
+) -> Result<Option<(Item, &'a [u8])>, LineFault>
     requires few { length (variable_names variables.now) ≤ 15 }
     requires names { AreNames (variable_names variables.now) }
     ensures item { Gives (λ r. option_map (λ x. (x.0, tokens_in x.1.now)) r) result (next_item (variable_names variables.now) (tokens_in bytes.now)) }
     ensures shorter { IfOk result (λ r. IfSome r (λ x. length x.1.now < length bytes.now)) }
 {
     match next_token(bytes) {
-        Some((token, rest)) => Ok(Some(item_behind(alloc, variables, token, rest)?)),
+        Some((token, rest)) => Ok(Some(item_after(alloc, variables, token, rest)?)),
         None => Ok(None),
     }
 }

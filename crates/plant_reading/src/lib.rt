@@ -4,19 +4,19 @@
 //! answer that it states nothing. Or it gives a word, and gets the number that the word spells.
 #![tactic(auto)]
 
-mod boxes;
 mod declarations;
 mod expression;
-mod fault;
 mod frames;
 mod items;
+mod line_fault;
 mod literals;
+mod state_boxes;
 mod statements;
 mod tables;
 mod words;
 
-pub use fault::ReadFault;
+pub use line_fault::LineFault;
 pub use statements::{Statement, statement_in};
-pub use words::blanks::is_passed_over;
+pub use words::blanks::is_skipped;
 pub use words::lines::{next_full_line, next_line};
 pub use words::numbers::number_of;

@@ -10,10 +10,10 @@ ghost use Rattle.plant_reading.specs.inside.Keywords.{keyword_text};
 ghost use Rattle.plant_reading.specs.Statements.{Statement as Stated, States};
 ghost use Rattle.plant_reading.specs.Words.{words_of};
 
-use crate::boxes::box_in;
 use crate::declarations::{goal_in, input_in, noise_in, state_in, version_in};
 use crate::expression::expression_in;
-use crate::fault::ReadFault;
+use crate::line_fault::LineFault;
+use crate::state_boxes::box_in;
 use crate::words::blanks::next_word;
 use crate::words::expected::{expect_end, expect_word};
 use fixed_expr::Expr;
@@ -80,7 +80,7 @@ fn text_of(keyword: Keyword) -> &'static [u8]
     }
 }
 
-fn keyword_of(word: &[u8]) -> Result<Keyword, ReadFault>
+fn keyword_of(word: &[u8]) -> Result<Keyword, LineFault>
     ensures { Finds (λ k. k) (λ k. word.now ≡ keyword_text k) result }
 {
     for keyword in KEYWORDS {
@@ -88,7 +88,7 @@ fn keyword_of(word: &[u8]) -> Result<Keyword, ReadFault>
             return Ok(keyword);
         }
     }
-    Err(ReadFault::Malformed)
+    Err(LineFault::Malformed)
 }
 
 /// The statement of a line.
@@ -96,28 +96,28 @@ pub fn statement_in<'a>(
     alloc: Global,
     variables: &Variables,
     line: &'a [u8],
-) -> Result<Statement<'a>, ReadFault>
+) -> Result<Statement<'a>, LineFault>
     requires few { length (variable_names variables.now) ≤ 15 }
     requires differ { AllPairs (λ a b. a ≢ b) (variable_names variables.now) }
     requires named { All IsName (variable_names variables.now) }
     requires states { length variables.now.states.items ≤ 6 }
     ensures found { IfOk result (λ s. States (variable_names variables.now) (length variables.now.states.items) (words_of line.now) (statement_of s)) }
-    ensures refused { result ≡ Err ReadFault.Malformed → (s : Stated) → States (variable_names variables.now) (length variables.now.states.items) (words_of line.now) s → ⊥ }
+    ensures refused { result ≡ Err LineFault.Malformed → (s : Stated) → States (variable_names variables.now) (length variables.now.states.items) (words_of line.now) s → ⊥ }
 {
     let Some((word, rest)) = next_word(line) else {
-        return Err(ReadFault::Malformed);
+        return Err(LineFault::Malformed);
     };
     let keyword = keyword_of(word)?;
-    statement_behind(alloc, variables, keyword, rest)
+    statement_after(alloc, variables, keyword, rest)
 }
 
-/// The statement of a line that begins with a keyword, from the bytes behind that.
-fn statement_behind<'a>(
+/// The statement of a line that begins with a keyword, from the bytes after that.
+fn statement_after<'a>(
     alloc: Global,
     variables: &Variables,
     keyword: Keyword,
     bytes: &'a [u8],
-) -> Result<Statement<'a>, ReadFault>
+) -> Result<Statement<'a>, LineFault>
     requires few { length (variable_names variables.now) ≤ 15 }
     requires differ { AllPairs (λ a b. a ≢ b) (variable_names variables.now) }
     requires named { All IsName (variable_names variables.now) }
@@ -129,7 +129,7 @@ fn statement_behind<'a>(
         Keyword::State => Ok(Statement::State(state_in(alloc, bytes)?)),
         Keyword::Input => Ok(Statement::Input(input_in(alloc, bytes)?)),
         Keyword::Noise => Ok(Statement::Noise(noise_in(alloc, bytes)?)),
-        Keyword::Next => equation_behind(alloc, variables, bytes),
+        Keyword::Next => equation_after(alloc, variables, bytes),
         Keyword::Target => Ok(Statement::Target(box_in(bytes, variables.states.len())?)),
         Keyword::Obstacle => Ok(Statement::Obstacle(box_in(bytes, variables.states.len())?)),
         Keyword::Goal => Ok(Statement::Goal(goal_in(bytes)?)),
@@ -141,18 +141,18 @@ fn statement_behind<'a>(
 }
 
 /// `NAME = EXPRESSION`.
-fn equation_behind<'a>(
+fn equation_after<'a>(
     alloc: Global,
     variables: &Variables,
     bytes: &'a [u8],
-) -> Result<Statement<'a>, ReadFault>
+) -> Result<Statement<'a>, LineFault>
     requires few { length (variable_names variables.now) ≤ 15 }
     requires differ { AllPairs (λ a b. a ≢ b) (variable_names variables.now) }
     requires named { All IsName (variable_names variables.now) }
     ensures { Finds statement_of (States (variable_names variables.now) (length variables.now.states.items) (codes "next" ∷ words_of bytes.now)) result }
 {
     let Some((state, rest)) = next_word(bytes) else {
-        return Err(ReadFault::Malformed);
+        return Err(LineFault::Malformed);
     };
     let rest = expect_word(rest, b"=")?;
     let equation = expression_in(alloc, variables, rest)?;

@@ -6,9 +6,9 @@ ghost use Rattle.std.specs.Str.{bytes_eq};
 ghost use Rattle.std.specs.Option.{option_map};
 ghost use Rattle.fixed_expr.specs.Curves.{IsShort};
 ghost use Rattle.plant_reading.specs.inside.LineTokens.{tokens_in};
-ghost use Rattle.plant_reading.specs.inside.TokenReaders.{Gives, negative_of, signed_of, behind_colon, point_of, points_of, rises, curve_of};
+ghost use Rattle.plant_reading.specs.inside.TokenReaders.{Gives, negative_of, signed_of, after_colon, point_of, points_of, rises, curve_of};
 
-use crate::fault::ReadFault;
+use crate::line_fault::LineFault;
 use crate::literals::literal_of;
 use crate::words::tokens::next_token;
 use fixed_expr::Curve;
@@ -17,9 +17,9 @@ use std::alloc::Global;
 /// The most points of a table.
 const POINT_LIMIT: usize = 32;
 
-/// 2 to 32 points that rise with the bracket behind them, and the bytes after that.
+/// 2 to 32 points that rise with the bracket after them, and the bytes after that.
 #[tactic(auto, unfolding(crate::specs::inside::TokenReaders::curve_of))]
-pub fn curve_in(alloc: Global, bytes: &[u8]) -> Result<(Curve, &[u8]), ReadFault>
+pub fn curve_in(alloc: Global, bytes: &[u8]) -> Result<(Curve, &[u8]), LineFault>
     ensures curve { Gives (λ x. (x.0, tokens_in x.1.now)) result (curve_of (tokens_in bytes.now)) }
     ensures no_longer { IfOk result (λ x. length x.1.now < length bytes.now) }
 {
@@ -28,22 +28,22 @@ pub fn curve_in(alloc: Global, bytes: &[u8]) -> Result<(Curve, &[u8]), ReadFault
 }
 
 /// The table with these points.
-fn curve_through(alloc: Global, points: &[(i128, i128)]) -> Result<Curve, ReadFault>
+fn curve_through(alloc: Global, points: &[(i128, i128)]) -> Result<Curve, LineFault>
     requires few { length points.now ≤ 32 }
     requires short { All IsShort points.now }
     ensures { Gives (λ curve. curve) result (if nat_le 2 (length points.now) && rises points.now then Some points.now else None) }
 {
     if points.len() < 2 || !rises(points) {
-        return Err(ReadFault::Malformed);
+        return Err(LineFault::Malformed);
     }
     match Curve::new(alloc, points) {
         Ok(curve) => Ok(curve),
-        Err(_) => Err(ReadFault::Memory),
+        Err(_) => Err(LineFault::Memory),
     }
 }
 
-/// Points with commas between and the bracket behind them, and the bytes after that.
-fn points_in(alloc: Global, bytes: &[u8]) -> Result<(Vec<(i128, i128)>, &[u8]), ReadFault>
+/// Points with commas between and the bracket after them, and the bytes after that.
+fn points_in(alloc: Global, bytes: &[u8]) -> Result<(Vec<(i128, i128)>, &[u8]), LineFault>
     ensures points { Gives (λ x. (x.0.items, tokens_in x.1.now)) result (points_of 32 (tokens_in bytes.now)) }
     ensures short { IfOk result (λ x. All IsShort x.0.items) }
     ensures no_longer { IfOk result (λ x. length x.1.now < length bytes.now) }
@@ -52,21 +52,21 @@ fn points_in(alloc: Global, bytes: &[u8]) -> Result<(Vec<(i128, i128)>, &[u8]), 
     let mut rest = bytes;
     while points.len() < POINT_LIMIT {
         let Some((point, after)) = point_in(rest) else {
-            return Err(ReadFault::Malformed);
+            return Err(LineFault::Malformed);
         };
         points.push(point)?;
         let Some((token, after)) = next_token(after) else {
-            return Err(ReadFault::Malformed);
+            return Err(LineFault::Malformed);
         };
         if is_bracket(token) {
             return Ok((points, after));
         }
         if !is_comma(token) {
-            return Err(ReadFault::Malformed);
+            return Err(LineFault::Malformed);
         }
         rest = after;
     }
-    Err(ReadFault::Malformed)
+    Err(LineFault::Malformed)
 }
 
 fn is_bracket(token: &[u8]) -> bool
@@ -99,15 +99,15 @@ pub fn point_in(bytes: &[u8]) -> Option<((i128, i128), &[u8])>
     ensures shorter { IfSome result (λ x. length x.1.now < length bytes.now) }
 {
     let (x, rest) = signed_in(bytes)?;
-    let rest = behind_colon(rest)?;
+    let rest = after_colon(rest)?;
     let (y, rest) = signed_in(rest)?;
     Some(((x, y), rest))
 }
 
 /// The bytes after a colon.
-#[tactic(auto, unfolding(crate::specs::inside::TokenReaders::behind_colon))]
-fn behind_colon(bytes: &[u8]) -> Option<&[u8]>
-    ensures tokens { option_map (λ x. tokens_in x.now) result ≡ behind_colon (tokens_in bytes.now) }
+#[tactic(auto, unfolding(crate::specs::inside::TokenReaders::after_colon))]
+fn after_colon(bytes: &[u8]) -> Option<&[u8]>
+    ensures tokens { option_map (λ x. tokens_in x.now) result ≡ after_colon (tokens_in bytes.now) }
     ensures shorter { IfSome result (λ x. length x.now < length bytes.now) }
 {
     match next_token(bytes)? {
@@ -130,7 +130,7 @@ fn signed_in(bytes: &[u8]) -> Option<(i128, &[u8])>
     }
 }
 
-/// A number below 0 behind its sign, and the bytes after it.
+/// A number below 0 after its sign, and the bytes after it.
 #[tactic(auto, unfolding(crate::specs::inside::TokenReaders::negative_of))]
 fn negative_in(bytes: &[u8]) -> Option<(i128, &[u8])>
     ensures number { option_map (λ x. (x.0, tokens_in x.1.now)) result ≡ negative_of (tokens_in bytes.now) }

@@ -1,9 +1,9 @@
 -- Lemmas that several proofs use.
 pub mod Axes
-pub mod InputPlaces
+pub mod ValueIndices
 pub mod InputVectors
 pub mod Limits
-pub mod NamePlaces
+pub mod NamePositions
 pub mod NextPoints
 pub mod Numbers
 pub mod OrderedBoxes

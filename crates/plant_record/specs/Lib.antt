@@ -1,7 +1,7 @@
 pub mod Boxes
 pub mod Description
 pub mod Equations
-pub mod InputPlaces
+pub mod ValueIndices
 pub mod Limits
 pub mod Marks
 pub mod Names

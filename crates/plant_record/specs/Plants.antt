@@ -6,7 +6,7 @@ use Rattle.plant_record.specs.declared.version.PlantVersion.TheVariants.{One}
 use Rattle.plant_record.specs.Description.{Description, names_of}
 use Rattle.plant_record.specs.Variables.{IsStateVariable, IsInputVariable, IsNoiseVariable}
 use Rattle.plant_record.specs.Boxes.{IsStateBox}
-use Rattle.plant_record.specs.Equations.{IsEquation, HasNoTable}
+use Rattle.plant_record.specs.Equations.{IsEquation, HasNoLut}
 
 -- 1 to 6 states with an equation each, up to 3 inputs, 6 noises, 64 targets and 64 obstacles, all names
 -- different. A plant that is to be kept off its obstacles has no target, and one of version 1 no table.
@@ -25,5 +25,5 @@ pub record IsPlant (p : Description) : Type 0 where
   pub targets : All (IsStateBox (length p.states)) p.targets
   pub obstacles_bound : length p.obstacles ≤ 64
   pub obstacles : All (IsStateBox (length p.states)) p.obstacles
-  pub tables : p.version ≡ One → All HasNoTable p.equations
+  pub tables : p.version ≡ One → All HasNoLut p.equations
   pub kept_aims_nowhere : p.goal ≡ Keep → p.targets ≡ []

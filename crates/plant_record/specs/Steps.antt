@@ -1,7 +1,7 @@
 -- The step of a plant from one sample to the next.
 use Rattle.std.specs.Prelude.{ℕ, ℤ, pos, ◌≤ℤ◌, List, [], ◌∷◌, ◌++◌, length, map, take, slice_index_or}
 use Rattle.std.specs.List.{All}
-use Rattle.fixed_expr.specs.Expression.{Expression, Number}
+use Rattle.fixed_expr.specs.Expression.{Expression, NumExpr}
 use Rattle.fixed_expr.specs.Value.{value_of, StaysInRange}
 use Rattle.plant_record.specs.declared.variables.NoiseVariable.{NoiseVariable}
 use Rattle.plant_record.specs.Description.{Description, vector_of}
@@ -12,7 +12,7 @@ values_at p x u w = take (length p.states) x ++ vector_of p.inputs u ++ take (le
 
 -- the equation of a state
 abbrev pub equation_at : Description → ℕ → Expression
-equation_at p i = slice_index_or p.equations i (Number (pos 0))
+equation_at p i = slice_index_or p.equations i (NumExpr (pos 0))
 
 -- the next state: the equations' values, all taken at the old state
 abbrev pub step_of : Description → List ℤ → ℕ → List ℤ → List ℤ

@@ -67,7 +67,7 @@ impl<'a> Equations<'a> {
     }
 }
 
-/// The first input vectors, one behind the other.
+/// The first input vectors, one after the other.
 fn input_rows(p: &Plant) -> [i128; CASE_VALUES] {
     let width = p.input_variables() as usize;
     let values = ((p.vectors() as usize).min(CASES) * width).min(CASE_VALUES);

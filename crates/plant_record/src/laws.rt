@@ -1,7 +1,7 @@
 //! What holds of every plant.
 
 ghost use Rattle.plant_record.specs.Soundness.{PlantsAreSound, VectorsHaveOneEach};
-ghost use Rattle.plant_record.specs.InputPlaces.{InputsRestOnTheirPlaces};
+ghost use Rattle.plant_record.specs.ValueIndices.{InputsDependOnTheirIndices};
 ghost use Rattle.plant_record.specs.Limits.{IsWithinLimits};
 
 use crate::plant::Plant;
@@ -17,8 +17,8 @@ pub fn vectors_have_one_each()
 {}
 
 /// The value of a variable in an input vector rests on its place among the variable's values alone.
-pub fn inputs_rest_on_their_places()
-    ensures { InputsRestOnTheirPlaces }
+pub fn inputs_depend_on_their_indices()
+    ensures { InputsDependOnTheirIndices }
 {}
 
 /// Every `Plant` is within the limits.

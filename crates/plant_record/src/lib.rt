@@ -5,10 +5,10 @@
 #![tactic(auto)]
 
 mod aims;
+mod cell_marks;
 mod equations;
-mod fault;
 pub mod laws;
-mod marks;
+mod limit_kind;
 mod plant;
 mod plant_parts;
 mod transition;
@@ -18,7 +18,7 @@ mod version;
 
 pub use aims::{GoalKind, StateBox};
 pub use equations::Equations;
-pub use fault::{LimitKind, NoMemory};
+pub use limit_kind::{LimitKind, NoMemory};
 pub use plant::{Plant, VARIABLES_LIMIT};
 pub use plant_parts::{PlantParts, numbers_along};
 pub use transition::{step, step_along};

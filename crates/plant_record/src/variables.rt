@@ -127,7 +127,7 @@ impl Variables {
     }
 
     /// The place of the variable of this name.
-    pub fn place_of(&self, name: &[u8]) -> Option<u32>
+    pub fn position_of(&self, name: &[u8]) -> Option<u32>
         requires { length (names_over self.now.states.items self.now.inputs.items self.now.noises.items) ≤ 15 }
         ensures found { IfSome result (λ i. slice_get (names_over self.now.states.items self.now.inputs.items self.now.noises.items) i ≡ Some name.now) }
         ensures none { IfNone result (Contains (names_over self.now.states.items self.now.inputs.items self.now.noises.items) name.now → ⊥) }
@@ -146,21 +146,21 @@ impl Variables {
 }
 
 fn state_named(states: &[StateVariable], name: &[u8]) -> Option<usize>
-    ensures place { result ≡ position (λ (s : StateVariable). bytes_eq s.name name.now) states.now }
+    ensures position { result ≡ position (λ (s : StateVariable). bytes_eq s.name name.now) states.now }
     ensures within { IfSome result (λ i. i < length states.now) }
 {
     states.iter().position(|s| s.name.as_bytes() == name)
 }
 
 fn input_named(inputs: &[InputVariable], name: &[u8]) -> Option<usize>
-    ensures place { result ≡ position (λ (i : InputVariable). bytes_eq i.name name.now) inputs.now }
+    ensures position { result ≡ position (λ (i : InputVariable). bytes_eq i.name name.now) inputs.now }
     ensures within { IfSome result (λ i. i < length inputs.now) }
 {
     inputs.iter().position(|i| i.name.as_bytes() == name)
 }
 
 fn noise_named(noises: &[NoiseVariable], name: &[u8]) -> Option<usize>
-    ensures place { result ≡ position (λ (w : NoiseVariable). bytes_eq w.name name.now) noises.now }
+    ensures position { result ≡ position (λ (w : NoiseVariable). bytes_eq w.name name.now) noises.now }
     ensures within { IfSome result (λ i. i < length noises.now) }
 {
     noises.iter().position(|w| w.name.as_bytes() == name)

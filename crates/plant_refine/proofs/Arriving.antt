@@ -8,13 +8,13 @@ use Rattle.game_core.specs.declared.game.Row.{Row}
 use Rattle.game_core.specs.Solution.{row_of}
 use Rattle.grid_quantiser.specs.declared.axis.Axis.{Axis}
 use Rattle.grid_quantiser.specs.Axes.{cells_of}
-use Rattle.grid_quantiser.specs.Cells.{IsInDomain, cell_of, place_of, point_of}
+use Rattle.grid_quantiser.specs.Cells.{IsInDomain, cell_of, index_of, point_of}
 use Rattle.plant_record.specs.Description.{Description, axes_of, axis_of}
 use Rattle.plant_record.specs.Steps.{step_of}
 use Rattle.successor_box.proofs.Padding.{point_lies}
 use Rattle.controller_table.specs.Choice.{Chooses, HasRowAt}
 use Rattle.plant_record.specs.States.{LiesInSome, IsClear}
-use Rattle.plant_refine.specs.Runs.{Moves, IsStateAt, ArrivesFirst}
+use Rattle.plant_refine.specs.Trajectories.{StepsTo, IsStateAt, ArrivesFirst}
 use Rattle.plant_refine.specs.inside.Descents.{HasLowerRow, LeadDown}
 use Rattle.plant_refine.proofs.Choosing.{one_row, one_choice_at}
 
@@ -27,7 +27,7 @@ inside_take (a ∷ axes) (x ∷ xs) h = let rest = inside_take axes xs h.2 in ((
 cell_take : (axes : List Axis) (xs : List ℤ) → cell_of axes (take (length axes) xs) ≡ cell_of axes xs
 cell_take [] xs = refl
 cell_take (a ∷ axes) [] = refl
-cell_take (a ∷ axes) (x ∷ xs) = ap (λ (n : ℕ). place_of a x * cells_of axes + n) (cell_take axes xs)
+cell_take (a ∷ axes) (x ∷ xs) = ap (λ (n : ℕ). index_of a x * cells_of axes + n) (cell_take axes xs)
 
 -- a row stands at the start as at the state
 at_start : (p : Description) (rows : List (Option Row)) (x : List ℤ) (row : Row) → HasRowAt p rows x row → HasRowAt p rows (point_of (take (length p.states) x)) row
@@ -85,7 +85,7 @@ module _ {p : Description} {rows : List (Option Row)} (down : LeadDown p rows) (
         clear = clear_to 0 y row is there (λ t z lt. absurd (omega (arith, lt)));
       }
 
-  pub goes_on : (n : ℕ) (y w z : List ℤ) → IsUnderWay p rows x ws n y → slice_get ws n ≡ Some w → Moves p rows y w z → ((row : Row) → HasRowAt p rows y row → HasLowerRow p rows row.rank z) → (LiesInSome p p.targets y → ⊥) → IsUnderWay p rows x ws (suc n) z
+  pub goes_on : (n : ℕ) (y w z : List ℤ) → IsUnderWay p rows x ws n y → slice_get ws n ≡ Some w → StepsTo p rows y w z → ((row : Row) → HasRowAt p rows y row → HasLowerRow p rows row.rank z) → (LiesInSome p p.targets y → ⊥) → IsUnderWay p rows x ws (suc n) z
   goes_on n y w z h is moves lower out =
       let next = lower h.row h.has in
       let state : IsStateAt p rows x ws (suc n) z = (y, w, h.state, is, moves) in

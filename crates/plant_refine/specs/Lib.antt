@@ -2,6 +2,6 @@ pub mod Drives
 pub mod Stays
 pub mod Controls
 pub mod RightRows
-pub mod Runs
+pub mod Trajectories
 pub mod Laws
 pub mod inside

@@ -8,7 +8,7 @@ ghost use Rattle.plant_record.specs.Steps.{IsNoise};
 ghost use Rattle.successor_box.specs.Deviations.{HasNoOverflow, deviations_of};
 ghost use Rattle.controller_table.specs.Choice.{HasRowAt};
 ghost use Rattle.plant_refine.specs.RightRows.{AreRightRowsOf};
-ghost use Rattle.plant_refine.specs.Runs.{Moves, ArrivesFirst};
+ghost use Rattle.plant_refine.specs.Trajectories.{StepsTo, ArrivesFirst};
 ghost use Rattle.plant_refine.specs.inside.Descents.{HasLowerRow};
 
 use crate::cells::next_cell;
@@ -65,7 +65,7 @@ fn next_state(p: &Plant, s: &Slopes, t: &Table, x: &Point, noise: &Point) -> Poi
     requires right { AreRightRowsOf p.now t.now.rows }
     requires row { (row : Row) × HasRowAt p.now t.now.rows x.now row × (0 < row.rank) }
     requires noise { IsNoise p.now.noises noise.now }
-    ensures moves { Moves p.now t.now.rows x.now noise.now result }
+    ensures moves { StepsTo p.now t.now.rows x.now noise.now result }
     ensures lower { (row : Row) → HasRowAt p.now t.now.rows x.now row → HasLowerRow p.now t.now.rows row.rank result }
 {
     let Some(input) = t.choice(x) else {

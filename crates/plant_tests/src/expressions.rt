@@ -1,6 +1,6 @@
 //! Tests of `fixed_expr`.
 
-use fixed_expr::{Curve, Expr, LANES, eval, eval_rows};
+use fixed_expr::{Curve, Expr, LANES, eval, eval_lanes};
 use std::alloc::{AllocError, Global};
 use std::test::Fail;
 
@@ -62,7 +62,7 @@ fn rows_have_their_values(alloc: Global) -> Result<bool, AllocError> {
     columns[1][31] = 9;
     let mut found = [0; LANES];
     Ok(
-        eval_rows(&e, &columns, &mut found) == Some(())
+        eval_lanes(&e, &columns, &mut found) == Some(())
             && [found[0], found[1], found[30], found[31]] == [-2, 2, 2, 1]
             && eval(&e, &[-9, -7]) == Some(-2),
     )
@@ -82,9 +82,9 @@ fn one_row_decides(alloc: Global) -> Result<bool, AllocError> {
     );
     let mut columns = [[-(1 << 62); LANES]];
     let mut found = [0; LANES];
-    let fits = eval_rows(&double, &columns, &mut found) == Some(()) && found[31] == i64::MIN;
+    let fits = eval_lanes(&double, &columns, &mut found) == Some(()) && found[31] == i64::MIN;
     columns[0][31] = 1 << 62;
-    Ok(fits && eval_rows(&double, &columns, &mut found) == None)
+    Ok(fits && eval_lanes(&double, &columns, &mut found) == None)
 }
 
 #[test]
@@ -108,10 +108,10 @@ fn only_a_summand_of_its_own_moves(alloc: Global) -> Result<bool, AllocError> {
     let e = Expr::Sub(Box::new(alloc, sum)?, Box::new(alloc, Expr::Var(2))?);
     let mentioned = [e.mentions(0), e.mentions(1), e.mentions(2), e.mentions(3)];
     let moving = [
-        e.moves_with(0),
-        e.moves_with(1),
-        e.moves_with(2),
-        e.moves_with(3),
+        e.shifts_with(0),
+        e.shifts_with(1),
+        e.shifts_with(2),
+        e.shifts_with(3),
     ];
     Ok(mentioned == [true; 4] && !e.mentions(4) && moving == [false, true, false, false])
 }
@@ -122,7 +122,7 @@ fn a_difference_moves_with_a_summand_of_its_own(rt: HostRuntime) -> Result<(), F
     Ok(())
 }
 
-/// -3/4, -6/4 and -9/4 have the floors -1, -2 and -3. Before 0 and behind 4 the values stay as they are.
+/// -3/4, -6/4 and -9/4 have the floors -1, -2 and -3. Before 0 and after 4 the values stay as they are.
 fn falling_table_rounds_down(alloc: Global) -> Result<bool, Fail> {
     let curve = Curve::new(alloc, &[(0, 0), (4, -3)])?;
     let has_its_points = curve.points() == [(0, 0), (4, -3)].as_slice();

@@ -1,6 +1,6 @@
 //! Tests of `grid_quantiser`.
 
-use grid_quantiser::{Axis, CellBox, Grid, Point, Side};
+use grid_quantiser::{Axis, CellBox, Extent, Grid, Point};
 
 /// Five cells of three numbers: 0 to 2, 3 to 5, 6 to 8, 9 to 11 and 12 to 14.
 const ROW: [Axis; 1] = [Axis {
@@ -74,7 +74,7 @@ fn cells_hold_the_numbers_between_their_ends(rt: HostRuntime) {
     assert!(rt; cells_of_a_row());
 }
 
-/// (35, -6) stands at place 3 of 6 and place 0 of 4, in cell 3 * 4 + 0, which reaches from (30, -10) to (39, -6).
+/// (35, -6) stands at index 3 of 6 and index 0 of 4, in cell 3 * 4 + 0, which reaches from (30, -10) to (39, -6).
 fn cell_12_of_the_plane() -> bool {
     let Ok(grid) = Grid::new(&PLANE) else {
         return false;
@@ -91,7 +91,7 @@ fn the_first_state_varies_slowest(rt: HostRuntime) {
     assert!(rt; cell_12_of_the_plane());
 }
 
-/// Places 0, 1, 1, 2, 2 and 0 of three each stand for 81 + 27 + 2 * 9 + 2 * 3.
+/// Indices 0, 1, 1, 2, 2 and 0 of three each stand for 81 + 27 + 2 * 9 + 2 * 3.
 fn cell_132_of_six_states() -> bool {
     let axis = Axis {
         lo: 0,
@@ -111,7 +111,7 @@ fn six_states_count_like_digits(rt: HostRuntime) {
     assert!(rt; cell_132_of_six_states());
 }
 
-/// From (35, -6) to (41, -5) lie the places 3 and 4 by 0 and 1: the cells 12, 13, 16 and 17.
+/// From (35, -6) to (41, -5) lie the indices 3 and 4 by 0 and 1: the cells 12, 13, 16 and 17.
 fn four_cells_meet_a_box() -> bool {
     let Ok(grid) = Grid::new(&PLANE) else {
         return false;
@@ -132,8 +132,8 @@ fn a_box_has_the_cells_that_meet_it(rt: HostRuntime) {
     assert!(rt; four_cells_meet_a_box());
 }
 
-/// Of 3 by 3 by 3 cells of two numbers, the places 0 and 1 by 1 and 2 by 0 to 2.
-fn runs_of_three_states() -> bool {
+/// Of 3 by 3 by 3 cells of two numbers, the indices 0 and 1 by 1 and 2 by 0 to 2.
+fn segments_of_three_states() -> bool {
     let axis = Axis {
         lo: 0,
         width: 2,
@@ -145,17 +145,17 @@ fn runs_of_three_states() -> bool {
     let Some(b) = grid.meeting(&[0, 2, 0, 0, 0, 0], &[3, 5, 5, 0, 0, 0]) else {
         return false;
     };
-    let mut runs = grid.runs(b);
+    let mut segments = grid.segments(b);
     [(3, 3), (6, 3), (12, 3), (15, 3)]
         .iter()
-        .all(|run| runs.next_run() == Some(*run))
-        && runs.next_run() == None
-        && runs.next_run() == None
+        .all(|segment| segments.next_segment() == Some(*segment))
+        && segments.next_segment() == None
+        && segments.next_segment() == None
 }
 
 #[test]
-fn runs_of_a_box_rise_and_then_end(rt: HostRuntime) {
-    assert!(rt; runs_of_three_states());
+fn segments_of_a_box_rise_and_then_end(rt: HostRuntime) {
+    assert!(rt; segments_of_three_states());
 }
 
 /// Cell 12 reaches from (30, -10) to (39, -6).
@@ -202,7 +202,7 @@ fn boxes_have_the_cells_that_touch_them_and_those_within(rt: HostRuntime) {
     assert!(rt; boxes_of_a_row());
 }
 
-/// From (35, any) to (99, -5) the places 3 to 5 by 0 and 1 touch, and 4 and 5 by 0 lie within.
+/// From (35, any) to (99, -5) the indices 3 to 5 by 0 and 1 touch, and 4 and 5 by 0 lie within.
 fn box_of_a_plane() -> bool {
     let Ok(grid) = Grid::new(&PLANE) else {
         return false;
@@ -217,33 +217,33 @@ fn boxes_may_reach_to_the_end_of_the_numbers(rt: HostRuntime) {
     assert!(rt; box_of_a_plane());
 }
 
-/// 35 and 41 stand at the places 3 and 4, and 60 past the last. On the axis prolonged from -60 on -5 and 3 stand at 5 and 6, and
+/// 35 and 41 stand at the indices 3 and 4, and 60 past the last. On the axis prolonged from -60 on -5 and 3 stand at 5 and 6, and
 /// -61 before the first.
-fn sides_of_the_plane() -> bool {
+fn extents_of_the_plane() -> bool {
     let Ok(grid) = Grid::new(&PLANE) else {
         return false;
     };
     grid.states() == 2
-        && grid.side(0, 35, 41) == Some(Side { first: 3, last: 4 })
-        && grid.side(0, 35, 60) == None
-        && grid.prolonged_ruler(0).side(-5, 3) == Some(Side { first: 5, last: 6 })
-        && grid.prolonged_ruler(0).side(-61, 3) == None
+        && grid.extent(0, 35, 41) == Some(Extent { first: 3, last: 4 })
+        && grid.extent(0, 35, 60) == None
+        && grid.extended_quantiser(0).extent(-5, 3) == Some(Extent { first: 5, last: 6 })
+        && grid.extended_quantiser(0).extent(-61, 3) == None
 }
 
 #[test]
-fn a_side_has_the_places_of_both_its_ends(rt: HostRuntime) {
-    assert!(rt; sides_of_the_plane());
+fn a_extent_has_the_indices_of_both_its_ends(rt: HostRuntime) {
+    assert!(rt; extents_of_the_plane());
 }
 
-/// Cell 13 of the plane stands at the places 3 of six and 1 of four, and there is no third axis.
-fn cell_of_the_plane_has_two_places() -> bool {
+/// Cell 13 of the plane stands at the indices 3 of six and 1 of four, and there is no third axis.
+fn cell_of_the_plane_has_two_indices() -> bool {
     let Ok(grid) = Grid::new(&PLANE) else {
         return false;
     };
-    grid.places(13) == [3, 1, 0, 0, 0, 0]
+    grid.indices(13) == [3, 1, 0, 0, 0, 0]
 }
 
 #[test]
-fn a_cell_has_no_place_past_the_last_axis(rt: HostRuntime) {
-    assert!(rt; cell_of_the_plane_has_two_places());
+fn a_cell_has_no_index_past_the_last_axis(rt: HostRuntime) {
+    assert!(rt; cell_of_the_plane_has_two_indices());
 }

@@ -1,6 +1,6 @@
 //! Tests of `text_pieces`.
 
-use text_pieces::{Pieces, copy_front};
+use text_pieces::{Pieces, copy_prefix};
 
 /// A text of which at most three bytes are copied at once.
 #[derive(Drop)]
@@ -11,13 +11,13 @@ impl Pieces for Threes<'_> {
 
     fn copy_some(&mut self, buf: &mut [u8]) -> usize {
         let some = self.0.len().min(3);
-        let count = copy_front(&self.0[..some], buf);
+        let count = copy_prefix(&self.0[..some], buf);
         self.0 = &self.0[count..];
         count
     }
 }
 
-/// Eleven bytes come as eight, three and none, and what lies behind a piece stays.
+/// Eleven bytes come as eight, three and none, and what lies after a piece stays.
 fn comes_in_pieces(text: &mut impl Pieces) -> bool {
     let mut buf = *b"????????";
     text.next_piece(&mut buf) == 8
@@ -35,9 +35,9 @@ fn a_piece_is_filled_by_several_copies(rt: HostRuntime) {
 
 fn copies_two_and_then_four() -> bool {
     let mut buf = *b"????";
-    copy_front(b"ab", &mut buf) == 2
+    copy_prefix(b"ab", &mut buf) == 2
         && buf == *b"ab??"
-        && copy_front(b"cdefg", &mut buf) == 4
+        && copy_prefix(b"cdefg", &mut buf) == 4
         && buf == *b"cdef"
 }
 

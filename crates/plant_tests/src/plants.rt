@@ -10,12 +10,12 @@ use std::test::Fail;
 const LOOSE: &[u8] =
     b"# a comment\nplant 1\n\nstate  x 0 14 3\ninput u -3 3\nnext x = (x)+u*(2-1)\nobstacle 0 0\ntarget 12 14\ngoal reach\nend\n";
 
-/// Behind what was written before, the same in one space between words, no more brackets than are needed,
+/// After what was written before, the same in one space between words, no more brackets than are needed,
 /// and the target before the obstacle.
 const WRITTEN: &[u8] =
     b"table 1\nplant 1\nstate x 0 14 3\ninput u -3 3\nnext x = x + u * (2 - 1)\ntarget 12 14\nobstacle 0 0\ngoal reach\nend\n";
 
-/// A plant text of 79 bytes, and a line behind it.
+/// A plant text of 79 bytes, and a line after it.
 const FRONT: &[u8] =
     b"plant 1\nstate x 0 14 3\ninput u -3 3\nnext x = x + u\ntarget 12 14\ngoal reach\nend\nrows 5\n";
 
@@ -23,7 +23,7 @@ fn on_line(x: i128) -> Point {
     [x, 0, 0, 0, 0, 0]
 }
 
-fn is_written_behind_the_rest(alloc: Global) -> Result<bool, Fail> {
+fn is_written_after_the_rest(alloc: Global) -> Result<bool, Fail> {
     let plant = read_plant(alloc, LOOSE)?;
     let mut text = Vec::from_slice(alloc, b"table 1\n")?;
     write_plant(alloc, &plant, &mut text)?;
@@ -32,7 +32,7 @@ fn is_written_behind_the_rest(alloc: Global) -> Result<bool, Fail> {
 
 #[test]
 fn a_plant_is_appended_in_its_canonical_text(rt: HostRuntime) -> Result<(), Fail> {
-    assert!(rt; is_written_behind_the_rest(rt.alloc())?);
+    assert!(rt; is_written_after_the_rest(rt.alloc())?);
     Ok(())
 }
 
@@ -96,7 +96,7 @@ fn cells_are_marked_by_the_boxes_of_the_text(rt: HostRuntime) -> Result<(), Fail
     Ok(())
 }
 
-/// From 13 to 10 and 16, and none from the greatest value, of which there is no third behind it.
+/// From 13 to 10 and 16, and none from the greatest value, of which there is no third after it.
 fn steps_by_three(plant: &Plant) -> bool {
     plant.vectors() == 2
         && step(plant, &on_line(13), 0, &on_line(0)) == Some(on_line(10))

@@ -2,7 +2,7 @@
 
 use fixed_expr::{Curve, Expr, LANES};
 use interval_eval::laws::{nested_spans_stay, spans_nest};
-use interval_eval::{Interval, IntervalColumn, span, span_rows};
+use interval_eval::{Interval, IntervalColumn, span, span_lanes};
 use std::alloc::{AllocError, Global};
 use std::test::Fail;
 
@@ -66,10 +66,10 @@ fn squares_in_rows(alloc: Global) -> Result<bool, AllocError> {
     }];
     area[0].lo[31] = 1;
     let mut found = area[0];
-    let fits = span_rows(&square, &area, &mut found) == Some(());
+    let fits = span_lanes(&square, &area, &mut found) == Some(());
     let ends = [found.lo[0], found.hi[0], found.lo[31], found.hi[31]];
     area[0].hi[31] = 1 << 32;
-    Ok(fits && ends == [-6, 9, 1, 4] && span_rows(&square, &area, &mut found) == None)
+    Ok(fits && ends == [-6, 9, 1, 4] && span_lanes(&square, &area, &mut found) == None)
 }
 
 #[test]

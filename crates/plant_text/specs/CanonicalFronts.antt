@@ -1,14 +1,14 @@
 -- The canonical text of a plant at the front of some bytes, and the first line that isn't of one.
 use Rattle.std.specs.Prelude.{◌≡◌, ℕ, suc, ◌≤◌, false, List, [], ◌∷◌, ◌++◌, length, take, codes}
-use Rattle.plant_text.specs.declared.fault.PlantFault.{PlantFault}
-use Rattle.plant_text.specs.declared.fault.PlantFault.TheVariants as faults
+use Rattle.plant_text.specs.declared.plant_fault.PlantFault.{PlantFault}
+use Rattle.plant_text.specs.declared.plant_fault.PlantFault.TheVariants as faults
 use Rattle.plant_record.specs.Description.{Description}
 use Rattle.plant_record.specs.Plants.{IsPlant}
 use Rattle.plant_record.specs.Limits.{Exceeds}
 use Rattle.plant_record.specs.Spelling.{line, version_word, goal_word}
 use Rattle.plant_writing.specs.CanonicalText.{text_of, state_line, input_line, noise_line, equation_line, box_line}
 use Rattle.plant_reading.specs.Statements.{Statement, Version, State, Input, Noise, Next, Target, Obstacle, Goal, End}
-use Rattle.plant_text.specs.Grammar.{Part, nothing_yet, names_in, IsStated}
+use Rattle.plant_text.specs.Grammar.{PartialPlant, nothing_yet, names_in, IsStated}
 use Rattle.plant_reading.specs.Lines.{with_line_feeds}
 
 -- a statement's line in the canonical text, where the variables have these names and the first n are states
@@ -24,7 +24,7 @@ statement_line names n (Goal kind) = line (codes "goal" ∷ goal_word kind ∷ [
 statement_line names n End = line (codes "end" ∷ [])
 
 -- all targets stand before all obstacles
-abbrev pub IsInOrder : Part → Statement → Type 0
+abbrev pub IsInOrder : PartialPlant → Statement → Type 0
 IsInOrder q (Target b) = q.obstacles ≡ []
 IsInOrder q (Version v) = Unit {0}
 IsInOrder q (State s) = Unit {0}
@@ -36,27 +36,27 @@ IsInOrder q (Goal kind) = Unit {0}
 IsInOrder q End = Unit {0}
 
 -- A line states something in its canonical spelling, and in the canonical order.
-pub record ExtendsCanonically (q : Part) (words : List ℕ) (r : Part) : Type 0 where
+pub record ExtendsCanonically (q : PartialPlant) (words : List ℕ) (r : PartialPlant) : Type 0 where
   pub stated : IsStated q words r
   pub spelling : words ++ codes "\n" ≡ statement_line (names_in q) (length q.states) stated.statement
   pub order : IsInOrder q stated.statement
 
 -- lines lead in this way from one part to another
-abbrev pub LeadsCanonically : Part → List (List ℕ) → Part → Type 0
+abbrev pub LeadsCanonically : PartialPlant → List (List ℕ) → PartialPlant → Type 0
 LeadsCanonically q [] r = r ≡ q
-LeadsCanonically q (words ∷ lines) r = (m : Part) × ExtendsCanonically q words m × LeadsCanonically m lines r
+LeadsCanonically q (words ∷ lines) r = (m : PartialPlant) × ExtendsCanonically q words m × LeadsCanonically m lines r
 
 -- The n-th line, from 1, is the first that isn't one of a canonical plant text, or that has no line feed, or
 -- that isn't there.
 pub record IsFirstRefusedAtFront (bytes : List ℕ) (n : ℕ) : Type 0 where
   pub lines : List (List ℕ)
   pub next : n ≡ suc (length lines)
-  pub part : Part
+  pub part : PartialPlant
   pub leads : LeadsCanonically nothing_yet lines part
   pub goes_on : part.ended ≡ false
   pub rest : List ℕ
   pub are : bytes ≡ with_line_feeds lines ++ rest
-  pub refused : (words behind : List ℕ) (r : Part) → rest ≡ words ++ codes "\n" ++ behind → ExtendsCanonically part words r → ⊥
+  pub refused : (words after : List ℕ) (r : PartialPlant) → rest ≡ words ++ codes "\n" ++ after → ExtendsCanonically part words r → ⊥
 
 -- the first so many bytes are the canonical text of a plant
 pub record IsFront (bytes : List ℕ) (p : Description) (count : ℕ) : Type 0 where

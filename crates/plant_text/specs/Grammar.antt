@@ -10,14 +10,14 @@ use Rattle.plant_record.specs.declared.aims.GoalKind.{GoalKind}
 use Rattle.plant_record.specs.declared.aims.GoalKind.TheVariants.{Keep}
 use Rattle.plant_record.specs.declared.version.PlantVersion.{PlantVersion}
 use Rattle.plant_record.specs.declared.version.PlantVersion.TheVariants.{One}
-use Rattle.plant_record.specs.Equations.{HasNoTable}
+use Rattle.plant_record.specs.Equations.{HasNoLut}
 use Rattle.plant_record.specs.Description.{Description, names_over}
 use Rattle.plant_reading.specs.Lines.{lines_of}
-use Rattle.plant_reading.specs.Words.{words_of, is_passed_over}
+use Rattle.plant_reading.specs.Words.{words_of, is_skipped}
 use Rattle.plant_reading.specs.Statements.{Statement, Version, State, Input, Noise, Next, Target, Obstacle, Goal, End, States}
 
 -- The part of a plant that some lines spell.
-pub record Part : Type 0 where
+pub record PartialPlant : Type 0 where
   pub version : Option PlantVersion
   pub states : List StateVariable
   pub inputs : List InputVariable
@@ -29,34 +29,34 @@ pub record Part : Type 0 where
   pub ended : Bool
 
 -- the part that no line has begun
-abbrev pub nothing_yet : Part
+abbrev pub nothing_yet : PartialPlant
 nothing_yet = record { version = None; states = []; inputs = []; noises = []; equations = []; targets = []; obstacles = []; goal = None; ended = false }
 
-abbrev pub names_in : Part → List (List ℕ)
+abbrev pub names_in : PartialPlant → List (List ℕ)
 names_in q = names_over q.states q.inputs q.noises
 
 -- each state has its equation
-abbrev pub HasEquations : Part → Type 0
+abbrev pub HasEquations : PartialPlant → Type 0
 HasEquations q = (1 ≤ length q.states) × (length q.equations ≡ length q.states)
 
 -- a name of no variable yet
-abbrev pub IsNewIn : Part → List ℕ → Type 0
+abbrev pub IsNewIn : PartialPlant → List ℕ → Type 0
 IsNewIn q name = Contains (names_in q) name → ⊥
 
--- a statement has its place behind a part: in what order the lines stand, how many there are of each kind, and that version 1 has no table
-abbrev pub FitsAfter : Part → Statement → Type 0
+-- a statement has its position after a part: in what order the lines stand, how many there are of each kind, and that version 1 has no table
+abbrev pub FitsAfter : PartialPlant → Statement → Type 0
 FitsAfter q (Version v) = q.version ≡ None
 FitsAfter q (State s) = (q.version ≢ None) × (q.inputs ≡ []) × (q.noises ≡ []) × (q.equations ≡ []) × (length q.states < 6) × IsNewIn q s.name
 FitsAfter q (Input i) = (1 ≤ length q.states) × (q.noises ≡ []) × (q.equations ≡ []) × (length q.inputs < 3) × IsNewIn q i.name
 FitsAfter q (Noise w) = (1 ≤ length q.states) × (q.equations ≡ []) × (length q.noises < 6) × IsNewIn q w.name
-FitsAfter q (Next name e) = (length q.equations < length q.states) × (slice_index_or (names_in q) (length q.equations) [] ≡ name) × (q.version ≡ Some One → HasNoTable e)
+FitsAfter q (Next name e) = (length q.equations < length q.states) × (slice_index_or (names_in q) (length q.equations) [] ≡ name) × (q.version ≡ Some One → HasNoLut e)
 FitsAfter q (Target b) = HasEquations q × (q.goal ≡ None) × (length q.targets < 64)
 FitsAfter q (Obstacle b) = HasEquations q × (q.goal ≡ None) × (length q.obstacles < 64)
 FitsAfter q (Goal kind) = HasEquations q × (q.goal ≡ None) × (kind ≡ Keep → q.targets ≡ [])
 FitsAfter q End = (q.goal ≢ None) × (q.ended ≡ false)
 
 -- the part with the statement
-abbrev pub extended : Part → Statement → Part
+abbrev pub extended : PartialPlant → Statement → PartialPlant
 extended q (Version v) = record q { version = Some v }
 extended q (State s) = record q { states = q.states ++ s ∷ [] }
 extended q (Input i) = record q { inputs = q.inputs ++ i ∷ [] }
@@ -67,28 +67,28 @@ extended q (Obstacle b) = record q { obstacles = q.obstacles ++ b ∷ [] }
 extended q (Goal kind) = record q { goal = Some kind }
 extended q End = record q { ended = true }
 
--- A line states something that has its place behind a part, and leads to another part.
-pub record IsStated (q : Part) (line : List ℕ) (r : Part) : Type 0 where
+-- A line states something that has its position after a part, and leads to another part.
+pub record IsStated (q : PartialPlant) (line : List ℕ) (r : PartialPlant) : Type 0 where
   pub statement : Statement
   pub states : States (names_in q) (length q.states) (words_of line) statement
   pub fits : FitsAfter q statement
   pub leads_to : r ≡ extended q statement
 
 -- a line is passed over or states something
-abbrev pub Extends : Part → List ℕ → Part → Type 0
-Extends q line r = ((is_passed_over line ≡ true) × (r ≡ q)) ⊎ IsStated q line r
+abbrev pub Extends : PartialPlant → List ℕ → PartialPlant → Type 0
+Extends q line r = ((is_skipped line ≡ true) × (r ≡ q)) ⊎ IsStated q line r
 
 -- lines lead from one part to another
-abbrev pub Leads : Part → List (List ℕ) → Part → Type 0
+abbrev pub Leads : PartialPlant → List (List ℕ) → PartialPlant → Type 0
 Leads q [] r = r ≡ q
-Leads q (line ∷ lines) r = (m : Part) × Extends q line m × Leads m lines r
+Leads q (line ∷ lines) r = (m : PartialPlant) × Extends q line m × Leads m lines r
 
 -- lines spell a part
-abbrev pub Reads : List (List ℕ) → Part → Type 0
+abbrev pub Reads : List (List ℕ) → PartialPlant → Type 0
 Reads lines q = Leads nothing_yet lines q
 
 -- a part is closed by its last line, and holds this plant
-pub record IsWhole (q : Part) (p : Description) : Type 0 where
+pub record IsWhole (q : PartialPlant) (p : Description) : Type 0 where
   pub closed : q.ended ≡ true
   pub version : q.version ≡ Some p.version
   pub states : q.states ≡ p.states
@@ -101,13 +101,13 @@ pub record IsWhole (q : Part) (p : Description) : Type 0 where
 
 -- the bytes are a text of the plant
 abbrev pub Spells : List ℕ → Description → Type 0
-Spells bytes p = (q : Part) × Reads (lines_of bytes) q × IsWhole q p
+Spells bytes p = (q : PartialPlant) × Reads (lines_of bytes) q × IsWhole q p
 
--- The n-th line, from 1, is the first that doesn't fit behind the lines before it, or the text ends before
+-- The n-th line, from 1, is the first that doesn't fit after the lines before it, or the text ends before
 -- its `end` and n is one more than its lines.
 pub record IsFirstRefused (lines : List (List ℕ)) (n : ℕ) : Type 0 where
   pub before : ℕ
   pub next : n ≡ suc before
-  pub part : Part
+  pub part : PartialPlant
   pub reads : Reads (take before lines) part
-  pub refused : ((before < length lines) × ((r : Part) → Reads (take n lines) r → ⊥)) ⊎ ((before ≡ length lines) × (part.ended ≡ false))
+  pub refused : ((before < length lines) × ((r : PartialPlant) → Reads (take n lines) r → ⊥)) ⊎ ((before ≡ length lines) × (part.ended ≡ false))

@@ -5,7 +5,7 @@ use Rattle.plant_reading.specs.Separators.{is_word}
 use Rattle.plant_record.specs.Numbers.{IsLiteral}
 use Rattle.plant_record.specs.Description.{Description}
 use Rattle.plant_writing.specs.CanonicalText.{text_of}
-use Rattle.plant_text.specs.declared.fault.PlantFault.{PlantFault}
+use Rattle.plant_text.specs.declared.plant_fault.PlantFault.{PlantFault}
 use Rattle.plant_record.specs.Plants.{IsPlant}
 use Rattle.plant_record.specs.Limits.{IsWithinLimits}
 use Rattle.plant_text.specs.Grammar.{Spells}

@@ -2,7 +2,7 @@
 pub mod CanonicalNext
 pub mod DraftsInMemory
 pub mod FormedEquations
-pub mod PartRules
-pub mod PartText
+pub mod PartialPlantRules
+pub mod PartialPlantText
 pub mod ReadInFront
 pub mod ReadUpTo

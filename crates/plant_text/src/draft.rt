@@ -1,24 +1,24 @@
 ghost use Rattle.std.specs.Prelude.{◌≡◌, ◌≢◌, ◌<◌, ◌≤◌, ◌↔◌, [], length, None, Some, Err, IsTrue, IfOk, IfErr, OnOk, slice_index_or, true, false};
-ghost use Rattle.plant_reading.specs.declared.fault.ReadFault.TheVariants.{Malformed};
+ghost use Rattle.plant_reading.specs.declared.line_fault.LineFault.TheVariants.{Malformed};
 ghost use Rattle.fixed_expr.specs.Expression.{expression_of};
 ghost use Rattle.plant_record.specs.declared.aims.GoalKind.TheVariants.{Keep};
 ghost use Rattle.plant_record.specs.declared.version.PlantVersion.TheVariants.{One};
-ghost use Rattle.plant_record.specs.Equations.{HasNoTable};
+ghost use Rattle.plant_record.specs.Equations.{HasNoLut};
 ghost use Rattle.plant_reading.specs.Statements.{State, Input, Noise, Next, Target, Obstacle, Goal};
-ghost use Rattle.plant_text.specs.Grammar.{Part, nothing_yet, names_in, HasEquations, IsNewIn, FitsAfter, extended, Extends, IsWhole};
+ghost use Rattle.plant_text.specs.Grammar.{PartialPlant, nothing_yet, names_in, HasEquations, IsNewIn, FitsAfter, extended, Extends, IsWhole};
 ghost use Rattle.plant_record.specs.Description.{Description};
 ghost use Rattle.plant_record.specs.Limits.{IsWithinLimits, Exceeds};
-ghost use Rattle.plant_text.specs.inside.PartRules.{KeepsRules};
+ghost use Rattle.plant_text.specs.inside.PartialPlantRules.{KeepsRules};
 ghost use Rattle.plant_reading.specs.StatementsRead.{statement_of};
-ghost use Rattle.plant_text.specs.inside.DraftsInMemory.{part_of};
+ghost use Rattle.plant_text.specs.inside.DraftsInMemory.{partial_of};
 ghost use Rattle.plant_text.specs.CanonicalFronts.{IsInOrder, ExtendsCanonically};
 ghost use Rattle.plant_text.specs.inside.FormedEquations.{HasFormedEquation};
 ghost use Rattle.plant_text.specs.inside.CanonicalNext.{IsCanonicalNext};
 
-use crate::equations::has_no_table;
 use crate::statement_writer::is_canonical;
+use crate::version_rules::has_no_lut;
 use fixed_expr::Expr;
-use plant_reading::{ReadFault, Statement, is_passed_over, statement_in};
+use plant_reading::{LineFault, Statement, is_skipped, statement_in};
 use plant_record::{
     GoalKind, LimitKind, Name, Plant, PlantParts, PlantVersion, StateBox, Variables,
 };
@@ -50,7 +50,7 @@ pub struct Draft {
 
 impl Draft {
     pub fn new(alloc: Global) -> Draft
-        ensures { part_of result ≡ nothing_yet }
+        ensures { partial_of result ≡ nothing_yet }
     {
         Draft {
             version: None,
@@ -68,18 +68,18 @@ impl Draft {
     }
 
     /// Passes over a line, or takes in what it states.
-    pub fn read_line(&mut self, alloc: Global, line: &[u8]) -> Result<(), ReadFault>
-        requires { KeepsRules (part_of self.old) }
-        ensures read { OnOk result (Extends (part_of self.old) line.now (part_of self.new)) }
-        ensures rules { OnOk result (KeepsRules (part_of self.new)) }
-        ensures refused { result ≡ Err Malformed → (r : Part) → Extends (part_of self.old) line.now r → ⊥ }
+    pub fn read_line(&mut self, alloc: Global, line: &[u8]) -> Result<(), LineFault>
+        requires { KeepsRules (partial_of self.old) }
+        ensures read { OnOk result (Extends (partial_of self.old) line.now (partial_of self.new)) }
+        ensures rules { OnOk result (KeepsRules (partial_of self.new)) }
+        ensures refused { result ≡ Err Malformed → (r : PartialPlant) → Extends (partial_of self.old) line.now r → ⊥ }
     {
-        if is_passed_over(line) {
+        if is_skipped(line) {
             return Ok(());
         }
         let statement = statement_in(alloc, &self.variables, line)?;
         if !self.fits(&statement) {
-            return Err(ReadFault::Malformed);
+            return Err(LineFault::Malformed);
         }
         self.add(statement)
     }
@@ -91,11 +91,11 @@ impl Draft {
         alloc: Global,
         line: &[u8],
         scratch: &mut Vec<u8>,
-    ) -> Result<(), ReadFault>
-        requires { KeepsRules (part_of self.old) }
-        ensures read { OnOk result (ExtendsCanonically (part_of self.old) line.now (part_of self.new)) }
-        ensures rules { OnOk result (KeepsRules (part_of self.new)) }
-        ensures refused { result ≡ Err Malformed → (r : Part) → ExtendsCanonically (part_of self.old) line.now r → ⊥ }
+    ) -> Result<(), LineFault>
+        requires { KeepsRules (partial_of self.old) }
+        ensures read { OnOk result (ExtendsCanonically (partial_of self.old) line.now (partial_of self.new)) }
+        ensures rules { OnOk result (KeepsRules (partial_of self.new)) }
+        ensures refused { result ≡ Err Malformed → (r : PartialPlant) → ExtendsCanonically (partial_of self.old) line.now r → ⊥ }
     {
         let statement = statement_in(alloc, &self.variables, line)?;
         self.check_canonical(&statement, line, scratch)?;
@@ -111,11 +111,11 @@ impl Draft {
 
     /// The plant that the lines spell, or the first limit that it exceeds.
     pub fn finish(self) -> Result<Plant, LimitKind>
-        requires rules { KeepsRules (part_of self) }
+        requires rules { KeepsRules (partial_of self) }
         requires closed { self.ended ≡ true }
-        ensures whole { IfOk result (λ p. IsWhole (part_of self) p) }
+        ensures whole { IfOk result (λ p. IsWhole (partial_of self) p) }
         ensures limits { IfOk result (λ p. IsWithinLimits p) }
-        ensures exceeded { IfErr result (λ what. (p : Description) × IsWhole (part_of self) p × Exceeds p what) }
+        ensures exceeded { IfErr result (λ what. (p : Description) × IsWhole (partial_of self) p × Exceeds p what) }
     {
         let Draft {
             version,
@@ -142,10 +142,10 @@ impl Draft {
         })
     }
 
-    /// Whether a statement has its place behind the lines so far.
+    /// Whether a statement has its position after the lines so far.
     fn fits(&self, statement: &Statement) -> bool
-        requires { KeepsRules (part_of self.now) }
-        ensures { IsTrue result ↔ FitsAfter (part_of self.now) (statement_of statement.now) }
+        requires { KeepsRules (partial_of self.now) }
+        ensures { IsTrue result ↔ FitsAfter (partial_of self.now) (statement_of statement.now) }
     {
         match statement {
             Statement::Version(_) => self.version.is_none(),
@@ -160,39 +160,39 @@ impl Draft {
         }
     }
 
-    /// Whether a statement has its place behind the lines so far, and its place in the canonical order.
+    /// Whether a statement has its position after the lines so far, and its position in the canonical order.
     fn fits_in_order(&self, statement: &Statement) -> bool
-        requires { KeepsRules (part_of self.now) }
-        ensures { IsTrue result ↔ (FitsAfter (part_of self.now) (statement_of statement.now) × IsInOrder (part_of self.now) (statement_of statement.now)) }
+        requires { KeepsRules (partial_of self.now) }
+        ensures { IsTrue result ↔ (FitsAfter (partial_of self.now) (statement_of statement.now) × IsInOrder (partial_of self.now) (statement_of statement.now)) }
     {
         self.fits(statement) && self.is_in_order(statement)
     }
 
-    /// Refuses a statement that has no place behind the lines so far or in the canonical order, or
+    /// Refuses a statement that has no position after the lines so far or in the canonical order, or
     /// whose canonical line is another one.
     fn check_canonical(
         &self,
         statement: &Statement<'_>,
         line: &[u8],
         scratch: &mut Vec<u8>,
-    ) -> Result<(), ReadFault>
-        requires rules { KeepsRules (part_of self.now) }
-        requires formed { HasFormedEquation (length (names_in (part_of self.now))) (statement_of statement.now) }
-        ensures taken { OnOk result (IsCanonicalNext (part_of self.now) line.now (statement_of statement.now)) }
-        ensures refused { result ≡ Err Malformed → IsCanonicalNext (part_of self.now) line.now (statement_of statement.now) → ⊥ }
+    ) -> Result<(), LineFault>
+        requires rules { KeepsRules (partial_of self.now) }
+        requires formed { HasFormedEquation (length (names_in (partial_of self.now))) (statement_of statement.now) }
+        ensures taken { OnOk result (IsCanonicalNext (partial_of self.now) line.now (statement_of statement.now)) }
+        ensures refused { result ≡ Err Malformed → IsCanonicalNext (partial_of self.now) line.now (statement_of statement.now) → ⊥ }
     {
         if !self.fits_in_order(statement) {
-            return Err(ReadFault::Malformed);
+            return Err(LineFault::Malformed);
         }
         if !is_canonical(&self.variables, statement, line, scratch)? {
-            return Err(ReadFault::Malformed);
+            return Err(LineFault::Malformed);
         }
         Ok(())
     }
 
     /// Whether no obstacle stands before a target.
     fn is_in_order(&self, statement: &Statement) -> bool
-        ensures { IsTrue result ↔ IsInOrder (part_of self.now) (statement_of statement.now) }
+        ensures { IsTrue result ↔ IsInOrder (partial_of self.now) (statement_of statement.now) }
     {
         match statement {
             Statement::Target(_) => self.obstacles.is_empty(),
@@ -228,15 +228,15 @@ impl Draft {
     }
 
     fn is_new(&self, name: &Name) -> bool
-        requires { KeepsRules (part_of self.now) }
-        ensures { IsTrue result ↔ IsNewIn (part_of self.now) name.now }
+        requires { KeepsRules (partial_of self.now) }
+        ensures { IsTrue result ↔ IsNewIn (partial_of self.now) name.now }
     {
-        self.variables.place_of(name.as_bytes()).is_none()
+        self.variables.position_of(name.as_bytes()).is_none()
     }
 
     /// Whether the next equation is that of this state.
     fn is_next(&self, state: &[u8]) -> bool
-        ensures { IsTrue result ↔ ((length (part_of self.now).equations < length (part_of self.now).states) × (slice_index_or (names_in (part_of self.now)) (length (part_of self.now).equations) [] ≡ state.now)) }
+        ensures { IsTrue result ↔ ((length (partial_of self.now).equations < length (partial_of self.now).states) × (slice_index_or (names_in (partial_of self.now)) (length (partial_of self.now).equations) [] ≡ state.now)) }
     {
         match self.variables.states.get(self.equations.len()) {
             Some(next) => next.name.as_bytes() == state,
@@ -246,14 +246,14 @@ impl Draft {
 
     /// Whether the version has what stands in an equation.
     fn takes(&self, equation: &Expr) -> bool
-        ensures { IsTrue result ↔ ((part_of self.now).version ≡ Some One → HasNoTable (expression_of equation.now)) }
+        ensures { IsTrue result ↔ ((partial_of self.now).version ≡ Some One → HasNoLut (expression_of equation.now)) }
     {
-        self.version != Some(PlantVersion::One) || has_no_table(equation)
+        self.version != Some(PlantVersion::One) || has_no_lut(equation)
     }
 
     /// Whether all equations stand, and no goal yet.
     fn takes_boxes(&self) -> bool
-        ensures { IsTrue result ↔ (HasEquations (part_of self.now) × ((part_of self.now).goal ≡ None)) }
+        ensures { IsTrue result ↔ (HasEquations (partial_of self.now) × ((partial_of self.now).goal ≡ None)) }
     {
         !self.variables.states.is_empty()
             && self.equations.len() == self.variables.states.len()
@@ -261,13 +261,13 @@ impl Draft {
     }
 
     fn takes_goal(&self, kind: GoalKind) -> bool
-        ensures { IsTrue result ↔ (kind ≡ Keep → (part_of self.now).targets ≡ []) }
+        ensures { IsTrue result ↔ (kind ≡ Keep → (partial_of self.now).targets ≡ []) }
     {
         kind == GoalKind::Reach || self.targets.is_empty()
     }
 
-    fn add(&mut self, statement: Statement) -> Result<(), ReadFault>
-        ensures added { OnOk result (part_of self.new ≡ extended (part_of self.old) (statement_of statement.entry)) }
+    fn add(&mut self, statement: Statement) -> Result<(), LineFault>
+        ensures added { OnOk result (partial_of self.new ≡ extended (partial_of self.old) (statement_of statement.entry)) }
         ensures memory { result ≢ Err Malformed }
     {
         match statement {

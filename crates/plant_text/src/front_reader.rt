@@ -1,13 +1,13 @@
 ghost use Rattle.std.specs.Prelude.{◌≡◌, ◌≢◌, ◌+◌, ◌≤◌, length, take, IfOk, IfErr, true};
-ghost use Rattle.plant_text.specs.declared.fault.PlantFault.TheVariants.{Memory};
+ghost use Rattle.plant_text.specs.declared.plant_fault.PlantFault.TheVariants.{Memory};
 ghost use Rattle.plant_record.specs.Limits.{IsWithinLimits};
 ghost use Rattle.plant_text.specs.CanonicalFronts.{IsFront, IsFrontRefusedFor};
-ghost use Rattle.plant_text.specs.inside.PartText.{part_text, IsOrderly};
-ghost use Rattle.plant_text.specs.inside.PartRules.{KeepsRules};
-ghost use Rattle.plant_text.specs.inside.DraftsInMemory.{part_of};
+ghost use Rattle.plant_text.specs.inside.PartialPlantText.{partial_text, IsOrderly};
+ghost use Rattle.plant_text.specs.inside.PartialPlantRules.{KeepsRules};
+ghost use Rattle.plant_text.specs.inside.DraftsInMemory.{partial_of};
 
 use crate::draft::Draft;
-use crate::fault::{PlantFault, at_line};
+use crate::plant_fault::{PlantFault, at_line};
 use plant_reading::next_full_line;
 use plant_record::Plant;
 use std::alloc::Global;
@@ -37,11 +37,11 @@ pub fn read_front(alloc: Global, bytes: &[u8]) -> Result<Front, PlantFault>
 /// Reads canonical lines up to the line `end`. Answers also how many bytes they are.
 fn read_lines(alloc: Global, bytes: &[u8]) -> Result<(Draft, usize), PlantFault>
     requires { length bytes.now ≤ 67108864 }
-    ensures rules { IfOk result (λ r. KeepsRules (part_of r.0)) }
+    ensures rules { IfOk result (λ r. KeepsRules (partial_of r.0)) }
     ensures closed { IfOk result (λ r. r.0.ended ≡ true) }
-    ensures orderly { IfOk result (λ r. IsOrderly (part_of r.0)) }
+    ensures orderly { IfOk result (λ r. IsOrderly (partial_of r.0)) }
     ensures within { IfOk result (λ r. r.1 ≤ length bytes.now) }
-    ensures text { IfOk result (λ r. take r.1 bytes.now ≡ part_text (part_of r.0)) }
+    ensures text { IfOk result (λ r. take r.1 bytes.now ≡ partial_text (partial_of r.0)) }
     ensures refused { IfErr result (λ fault. fault ≢ Memory → IsFrontRefusedFor bytes.now fault) }
 {
     let mut draft = Draft::new(alloc);

@@ -7,15 +7,15 @@
 #![tactic(auto)]
 
 mod draft;
-mod equations;
-mod fault;
 mod front_reader;
 pub mod laws;
+mod plant_fault;
 mod plant_reader;
 mod statement_writer;
+mod version_rules;
 
-pub use fault::PlantFault;
 pub use front_reader::{Front, read_front};
+pub use plant_fault::PlantFault;
 pub use plant_reader::{TEXT_LIMIT, read_plant};
 pub use plant_record::{GoalKind, LimitKind, NoMemory, Plant, step};
 pub use plant_writing::write_plant;

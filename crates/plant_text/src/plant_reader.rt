@@ -1,14 +1,14 @@
 ghost use Rattle.std.specs.Prelude.{◌≡◌, ◌≢◌, ◌<◌, IfOk, IfErr, true};
-ghost use Rattle.plant_text.specs.declared.fault.PlantFault.TheVariants.{Memory};
+ghost use Rattle.plant_text.specs.declared.plant_fault.PlantFault.TheVariants.{Memory};
 ghost use Rattle.plant_reading.specs.Lines.{lines_of};
 ghost use Rattle.plant_text.specs.Grammar.{Reads, Spells};
 ghost use Rattle.plant_record.specs.Limits.{IsWithinLimits};
 ghost use Rattle.plant_text.specs.Refusals.{IsShort, IsRefusedFor};
-ghost use Rattle.plant_text.specs.inside.PartRules.{KeepsRules};
-ghost use Rattle.plant_text.specs.inside.DraftsInMemory.{part_of};
+ghost use Rattle.plant_text.specs.inside.PartialPlantRules.{KeepsRules};
+ghost use Rattle.plant_text.specs.inside.DraftsInMemory.{partial_of};
 
 use crate::draft::Draft;
-use crate::fault::{PlantFault, at_line};
+use crate::plant_fault::{PlantFault, at_line};
 use plant_reading::next_line;
 use plant_record::{LimitKind, Plant};
 use std::alloc::Global;
@@ -36,8 +36,8 @@ pub fn read_plant(alloc: Global, bytes: &[u8]) -> Result<Plant, PlantFault>
 /// Reads the lines of a text, the last of which is `end` but for those that are passed over.
 fn read_lines(alloc: Global, bytes: &[u8]) -> Result<Draft, PlantFault>
     requires { IsShort bytes.now }
-    ensures read { IfOk result (λ d. Reads (lines_of bytes.now) (part_of d)) }
-    ensures rules { IfOk result (λ d. KeepsRules (part_of d)) }
+    ensures read { IfOk result (λ d. Reads (lines_of bytes.now) (partial_of d)) }
+    ensures rules { IfOk result (λ d. KeepsRules (partial_of d)) }
     ensures closed { IfOk result (λ d. d.ended ≡ true) }
     ensures refused { IfErr result (λ fault. fault ≢ Memory → IsRefusedFor bytes.now fault) }
 {

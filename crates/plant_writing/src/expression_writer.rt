@@ -69,13 +69,13 @@ fn push_bare(text: &mut Vec<u8>, names: &Names<'_>, e: &Expr) -> Result<(), Allo
             push_expression(text, names, Level::Sum, a)?;
             text.extend_from_slice(b")")
         }
-        Expr::Lut(a, curve) => push_table(text, names, a, curve.points()),
+        Expr::Lut(a, curve) => push_lut(text, names, a, curve.points()),
     }
 }
 
 /// A table: its expression, and its points.
 #[cycle(expression)]
-fn push_table(
+fn push_lut(
     text: &mut Vec<u8>,
     names: &Names<'_>,
     a: &Expr,

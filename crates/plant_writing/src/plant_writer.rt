@@ -71,7 +71,7 @@ fn push_states(text: &mut Vec<u8>, states: &[StateVariable]) -> Result<(), Alloc
     Ok(())
 }
 
-/// Appends the line of one state. Behind an Err the text may hold a part of it.
+/// Appends the line of one state. After an Err the text may hold a part of it.
 pub fn push_state(text: &mut Vec<u8>, state: &StateVariable) -> Result<(), AllocError>
     ensures { OnOk result (text.new.items ≡ text.old.items ++ state_line state.now) }
 {
@@ -92,7 +92,7 @@ fn push_inputs(text: &mut Vec<u8>, inputs: &[InputVariable]) -> Result<(), Alloc
     Ok(())
 }
 
-/// Appends the line of one input variable. Behind an Err the text may hold a part of it.
+/// Appends the line of one input variable. After an Err the text may hold a part of it.
 pub fn push_input(text: &mut Vec<u8>, input: &InputVariable) -> Result<(), AllocError>
     ensures { OnOk result (text.new.items ≡ text.old.items ++ input_line input.now) }
 {
@@ -120,7 +120,7 @@ fn push_noises(text: &mut Vec<u8>, noises: &[NoiseVariable]) -> Result<(), Alloc
     Ok(())
 }
 
-/// Appends the line of one noise. Behind an Err the text may hold a part of it.
+/// Appends the line of one noise. After an Err the text may hold a part of it.
 pub fn push_noise(text: &mut Vec<u8>, noise: &NoiseVariable) -> Result<(), AllocError>
     ensures { OnOk result (text.new.items ≡ text.old.items ++ noise_line noise.now) }
 {
@@ -147,7 +147,7 @@ fn push_equations(
     Ok(())
 }
 
-/// Appends the line of one state's equation. Behind an Err the text may hold a part of it.
+/// Appends the line of one state's equation. After an Err the text may hold a part of it.
 pub fn push_equation(
     text: &mut Vec<u8>,
     names: &Names<'_>,
@@ -179,7 +179,7 @@ fn push_boxes(
     Ok(())
 }
 
-/// Appends the line of one target or obstacle, by its keyword. Behind an Err the text may hold a part of it.
+/// Appends the line of one target or obstacle, by its keyword. After an Err the text may hold a part of it.
 pub fn push_box(
     text: &mut Vec<u8>,
     keyword: &[u8],

@@ -8,8 +8,8 @@ use Rattle.cell_counters.specs.declared.account.Log.{Log}
 use Rattle.cell_counters.specs.declared.account.Account.{Account}
 use Rattle.cell_counters.specs.Accounts.{all_logs}
 use Rattle.game_core.specs.Game.{Game, pairs_of}
-use Rattle.board_crew.specs.Crew.{cuts_in, offers_in, logged_cells, claimed, counters_of}
-use Rattle.reach_avoid.specs.Reckoned.{bid_of, bid_at}
+use Rattle.board_rounds.specs.Crew.{cuts_in, offers_in, logged_cells, claimed, counters_of}
+use Rattle.reach_avoid.specs.Reckoned.{word_and_value, due_offer}
 use Rattle.reach_avoid.specs.inside.Rounds.{last_cuts, KeepsRule}
 
 pub last_cuts-append : (xs ys : List Cut) → last_cuts (xs ++ ys) ≡ last_cuts xs ++ last_cuts ys
@@ -24,12 +24,12 @@ claimed-append xs ys =
 
 module _ (g : Game) (rank : ℕ) where
   -- a pair bids with the cut that uses it up
-  pub offers_added : (more : List Account) → All (KeepsRule g rank) more → map bid_of (offers_in more) ≡ map (bid_at g (suc rank)) (last_cuts (cuts_in more))
+  pub offers_added : (more : List Account) → All (KeepsRule g rank) more → map word_and_value (offers_in more) ≡ map (due_offer g (suc rank)) (last_cuts (cuts_in more))
   offers_added [] h = refl
   offers_added (a ∷ more) h =
-      map-append bid_of a.offers (offers_in more)
+      map-append word_and_value a.offers (offers_in more)
       ∙ (ap₂ ◌++◌ (All-head (KeepsRule g rank) a more h).offers (offers_added more (All-tail (KeepsRule g rank) a more h))
-      ∙ sym (ap (map (bid_at g (suc rank))) (last_cuts-append a.cuts (cuts_in more)) ∙ map-append (bid_at g (suc rank)) (last_cuts a.cuts) (last_cuts (cuts_in more))))
+      ∙ sym (ap (map (due_offer g (suc rank))) (last_cuts-append a.cuts (cuts_in more)) ∙ map-append (due_offer g (suc rank)) (last_cuts a.cuts) (last_cuts (cuts_in more))))
 
   -- the cells that are logged are those whose offers are first
   pub logs_added : (more : List Account) → All (KeepsRule g rank) more → logged_cells (all_logs more) ≡ claimed (offers_in more)

@@ -22,14 +22,14 @@ use Rattle.game_core.specs.Game.{Game, IsGraph, mark_of, pairs_of, successors_at
 use Rattle.game_core.specs.Solution.{row_of}
 use Rattle.game_core.specs.Tally.{all_pairs}
 use Rattle.game_core.proofs.Counts.{sum_zeros}
-use Rattle.game_core.proofs.Times.{counts_tell}
-use Rattle.board_crew.specs.Crew.{offers_in, logged_cells, claimed}
-use Rattle.board_crew.proofs.Accounts.{firsts_are}
-use Rattle.board_crew.proofs.Graphs.{few_successors}
-use Rattle.board_crew.proofs.Sums.{All-range}
+use Rattle.game_core.proofs.Times.{counts_agree}
+use Rattle.board_rounds.specs.Crew.{offers_in, logged_cells, claimed}
+use Rattle.board_rounds.proofs.Accounts.{firsts_are}
+use Rattle.board_rounds.proofs.Graphs.{few_successors}
+use Rattle.board_rounds.proofs.Sums.{All-range}
 use Rattle.reach_avoid.specs.Boards.{word_at}
-use Rattle.reach_avoid.specs.inside.Rounds.{row_in, word_after, rows_told, below_in, rank_is, taken_in, is_done, bids_done, IsLawfulFor, IsBid, IsReached, is_goal, goals_of, IsFull, IsNext}
-use Rattle.reach_avoid.proofs.Words.{row_from_word, no_row_from_word, row_told, word_of_row}
+use Rattle.reach_avoid.specs.inside.Rounds.{row_in, word_after, decoded_rows, below_in, rank_is, taken_in, is_done, due_offers, IsLawfulFor, IsDueOffer, IsReached, is_goal, goals_of, IsFull, IsNext}
+use Rattle.reach_avoid.proofs.Words.{row_from_word, no_row_from_word, decoded_row, word_of_row}
 use Rattle.reach_avoid.proofs.Ranks.{done_parts}
 
 filter_none : {X : Type 0} (p : X → Bool) (xs : List X) → All (λ x. p x ≡ false) xs → filter p xs ≡ []
@@ -41,28 +41,28 @@ below_zero None = refl
 below_zero (Some row) = le-ltb row.rank 0 (omega arith)
 
 module _ (g : Game) (a : IsGraph g) where
-  none_taken : (pair : ℕ) → taken_in g (rows_told g []) 0 pair ≡ 0
-  none_taken pair = sum_zeros (λ s. one_if (below_in 0 (row_of (rows_told g []) s))) (successors_at g pair) (λ i d lt. ap one_if (below_zero (row_of (rows_told g []) (get_or (successors_at g pair) i d))))
+  none_taken : (pair : ℕ) → taken_in g (decoded_rows g []) 0 pair ≡ 0
+  none_taken pair = sum_zeros (λ s. one_if (below_in 0 (row_of (decoded_rows g []) s))) (successors_at g pair) (λ i d lt. ap one_if (below_zero (row_of (decoded_rows g []) (get_or (successors_at g pair) i d))))
 
-  none_done : (pair : ℕ) → is_done g (rows_told g []) 0 pair ≡ false
-  none_done pair = by_test (is_done g (rows_told g []) 0 pair) refl
+  none_done : (pair : ℕ) → is_done g (decoded_rows g []) 0 pair ≡ false
+  none_done pair = by_test (is_done g (decoded_rows g []) 0 pair) refl
     where
-      by_test : (b : Bool) → is_done g (rows_told g []) 0 pair ≡ b → b ≡ false
+      by_test : (b : Bool) → is_done g (decoded_rows g []) 0 pair ≡ b → b ≡ false
       by_test false e = refl
-      by_test true e = let parts = done_parts g (rows_told g []) 0 pair e in let some' = parts.0 in let all = parts.1 in let none' = none_taken pair in absurd (omega arith)
+      by_test true e = let parts = done_parts g (decoded_rows g []) 0 pair e in let some' = parts.0 in let all = parts.1 in let none' = none_taken pair in absurd (omega arith)
 
-  first_row : (c : ℕ) → c < g.cells → (m : Mark) → mark_of g c ≡ m → row_of (rows_told g []) c ≡ row_in (word_at m)
-  first_row c lt m e = row_told g [] c lt ∙ ap (λ m. row_in (word_at m)) e
+  first_row : (c : ℕ) → c < g.cells → (m : Mark) → mark_of g c ≡ m → row_of (decoded_rows g []) c ≡ row_in (word_at m)
+  first_row c lt m e = decoded_row g [] c lt ∙ ap (λ m. row_in (word_at m)) e
 
-  first_cells : (c : ℕ) → c < g.cells → times c (goals_of g) ≡ one_if (rank_is 0 (row_of (rows_told g []) c))
-  first_cells c lt = counts_tell.filtered (λ c. is_goal (mark_of g c)) c (range_with_len 0 g.cells) ∙ by_mark (mark_of g c) refl
+  first_cells : (c : ℕ) → c < g.cells → times c (goals_of g) ≡ one_if (rank_is 0 (row_of (decoded_rows g []) c))
+  first_cells c lt = counts_agree.filtered (λ c. is_goal (mark_of g c)) c (range_with_len 0 g.cells) ∙ by_mark (mark_of g c) refl
     where
-      by_mark : (m : Mark) → mark_of g c ≡ m → cond (is_goal m) (times c (range_with_len 0 g.cells)) 0 ≡ one_if (rank_is 0 (row_of (rows_told g []) c))
-      by_mark Goal m = counts_tell.in_range c 0 g.cells (omega arith) (omega arith) ∙ sym (ap (λ o. one_if (rank_is 0 o)) (first_row c lt Goal m ∙ row_from_word 1 (omega arith) (omega arith)))
+      by_mark : (m : Mark) → mark_of g c ≡ m → cond (is_goal m) (times c (range_with_len 0 g.cells)) 0 ≡ one_if (rank_is 0 (row_of (decoded_rows g []) c))
+      by_mark Goal m = counts_agree.in_range c 0 g.cells (omega arith) (omega arith) ∙ sym (ap (λ o. one_if (rank_is 0 o)) (first_row c lt Goal m ∙ row_from_word 1 (omega arith) (omega arith)))
       by_mark Obstacle m = sym (ap (λ o. one_if (rank_is 0 o)) (first_row c lt Obstacle m ∙ no_row_from_word 0 (inl refl)))
       by_mark Plain m = sym (ap (λ o. one_if (rank_is 0 o)) (first_row c lt Plain m ∙ no_row_from_word NONE (inr refl)))
 
-  first_highest : (c : ℕ) (row : Row) → row_of (rows_told g []) c ≡ Some row → row.rank ≤ 0
+  first_highest : (c : ℕ) (row : Row) → row_of (decoded_rows g []) c ≡ Some row → row.rank ≤ 0
   first_highest c row e = by_mark (mark_of g c) refl
     where
       by_mark : (m : Mark) → mark_of g c ≡ m → row.rank ≤ 0
@@ -83,9 +83,9 @@ module _ (g : Game) (a : IsGraph g) where
     cuts = λ pair lt. sym (none_taken pair);
     no_other_cut = All-nil (λ (c : Cut). c.counter < pairs_of g);
     offers =
-        let none' : bids_done g (rows_told g []) 0 ≡ [] = ap (map _) (filter_none (is_done g (rows_told g []) 0) (all_pairs g) (λ i d lt. none_done (get_or (all_pairs g) i d))) in
+        let none' : due_offers g (decoded_rows g []) 0 ≡ [] = ap (map _) (filter_none (is_done g (decoded_rows g []) 0) (all_pairs g) (λ i d lt. none_done (get_or (all_pairs g) i d))) in
         subst (λ l. IsPermutation l []) (sym none') (IsPermutation-refl []);
-    valued = All-nil (IsBid g);
+    valued = All-nil (IsDueOffer g);
     logs = refl;
     highest = first_highest;
     cells = first_cells;
@@ -93,17 +93,17 @@ module _ (g : Game) (a : IsGraph g) where
   }
 
   -- a list that isn't empty has a cell of its rank
-  pub full_after : (rank : ℕ) (list : List ℕ) (accounts : List Account) (new : List (Option Row)) → IsReached g rank list accounts → IsNext rank (rows_told g accounts) new → 0 < length list → IsFull new (suc rank)
+  pub full_after : (rank : ℕ) (list : List ℕ) (accounts : List Account) (new : List (Option Row)) → IsReached g rank list accounts → IsNext rank (decoded_rows g accounts) new → 0 < length list → IsFull new (suc rank)
   full_after rank list accounts new was next some' =
       let c = get_or list 0 0 in
       let lt = was.within 0 0 some' in
       let once = was.cells c lt in
       let there = first_counted list some' in
-      let row = row_of_rank (row_of (rows_told g accounts) c) (omega arith) in
+      let row = row_of_rank (row_of (decoded_rows g accounts) c) (omega arith) in
       inr (c, row.0, next.stays c row.0 row.1, ap suc row.2)
     where
       first_counted : (list : List ℕ) → 0 < length list → 0 < times (get_or list 0 0) list
-      first_counted list lt = counts_tell.counted (get_or list 0 0) list (Contains-get_or list 0 0 lt)
+      first_counted list lt = counts_agree.counted (get_or list 0 0) list (Contains-get_or list 0 0 lt)
 
       row_of_rank : (o : Option Row) → 0 < one_if (rank_is rank o) → (row : Row) × (o ≡ Some row) × (row.rank ≡ rank)
       row_of_rank None lt = absurd (omega arith)
@@ -114,13 +114,13 @@ module _ (g : Game) (a : IsGraph g) where
           is_one false lt = absurd (omega arith)
 
   -- each cell is logged at most once
-  pub few_logs : (accounts : List Account) → IsLawfulFor g accounts → All (IsBid g) (offers_in accounts) → logged_cells (all_logs accounts) ≡ claimed (offers_in accounts) → log_count accounts ≤ g.cells
+  pub few_logs : (accounts : List Account) → IsLawfulFor g accounts → All (IsDueOffer g) (offers_in accounts) → logged_cells (all_logs accounts) ≡ claimed (offers_in accounts) → log_count accounts ≤ g.cells
   few_logs accounts lawful valued logs =
       let within =
       All-map (λ c. c < g.cells) (λ (o : Offer). o.word) (filter (λ (o : Offer). o.first) (offers_in accounts))
       (All-filter (λ (o : Offer). o.first) (λ (o : Offer). o.word < g.cells) (offers_in accounts)
-      (All-weaker (IsBid g) (λ (o : Offer). o.word < g.cells) (λ o b. b.word) (offers_in accounts) valued)) in
-      let all = counts_tell.of_all_below g.cells (claimed (offers_in accounts)) within in
+      (All-weaker (IsDueOffer g) (λ (o : Offer). o.word < g.cells) (λ o b. b.word) (offers_in accounts) valued)) in
+      let all = counts_agree.of_all_below g.cells (claimed (offers_in accounts)) within in
       let many : log_count accounts ≡ length (claimed (offers_in accounts)) = sym (length-map (all_logs accounts) (λ (l : Log). l.cell)) ∙ ap length logs in
       let in' = All-range g.cells in
       let le = sum_by-le (λ c. times c (claimed (offers_in accounts))) 1 (range_with_len 0 g.cells) (λ i d lt.

@@ -8,19 +8,19 @@ use Rattle.game_core.specs.Game.{Game, IsGraph}
 use Rattle.game_core.specs.Solution.{row_of, IsReachSolution}
 use Rattle.game_core.specs.Tally.{IsReachTally}
 use Rattle.game_core.proofs.Right.{right_rows_are_the_solution}
-use Rattle.board_crew.specs.declared.resolving.Resolved.{Resolved}
-use Rattle.board_crew.specs.Resolving.{IsResolved}
-use Rattle.board_crew.specs.Rules.{IsAtEnd}
+use Rattle.board_rounds.specs.declared.resolving.Resolved.{Resolved}
+use Rattle.board_rounds.specs.Resolving.{IsResolved}
+use Rattle.board_rounds.specs.Rules.{IsAtEnd}
 use Rattle.reach_avoid.specs.Boards.{IsBoardOf}
 use Rattle.reach_avoid.specs.Reckoned.{IsReckoned}
 use Rattle.reach_avoid.specs.Solved.{IsSolved}
-use Rattle.reach_avoid.specs.inside.Rounds.{row_in, word_after, rows_told}
-use Rattle.reach_avoid.specs.inside.Standing.{StandsAt}
+use Rattle.reach_avoid.specs.inside.Rounds.{row_in, word_after, decoded_rows}
+use Rattle.reach_avoid.specs.inside.Standing.{HoldsBefore}
 use Rattle.reach_avoid.proofs.Settled.{right, reckoned, cuts_count, offers_count, few_cuts, few_offers, rounds_count}
 
 module _ (g : Game) (a : IsGraph g) where
   -- ranks are small
-  pub low_ranks : (accounts : List Account) → IsAtEnd g.cells (StandsAt g) accounts → (c : ℕ) (row : Row) → row_of (rows_told g accounts) c ≡ Some row → row.rank < 2 ^ 32
+  pub low_ranks : (accounts : List Account) → IsAtEnd g.cells (HoldsBefore g) accounts → (c : ℕ) (row : Row) → row_of (decoded_rows g accounts) c ≡ Some row → row.rank < 2 ^ 32
   low_ranks accounts end c row e =
       let le = end.stood.reached.highest c row e in
       let few = end.in_time in
@@ -28,11 +28,11 @@ module _ (g : Game) (a : IsGraph g) where
       omega arith
 
   -- the game is solved
-  pub solved : (board : BoardModel) → IsBoardOf g board → (s : Resolved) → IsResolved g.cells (StandsAt g) (λ accounts c row. row ≡ row_in (word_after g accounts c)) board s → IsSolved g s
+  pub solved : (board : BoardModel) → IsBoardOf g board → (s : Resolved) → IsResolved g.cells (HoldsBefore g) (λ accounts c row. row ≡ row_in (word_after g accounts c)) board s → IsSolved g s
   solved board of_game s r =
       let accounts = s.root.accounts in
       let rank = s.tally.rounds in
-      let rows = rows_told g accounts in
+      let rows = decoded_rows g accounts in
       let was = r.stood.reached in
       let answer : s.answer ≡ rows = fill_by_all (λ c. row_in (word_after g accounts c)) s.answer g.cells None r.told.one_each r.told.each in
       let solution = right_rows_are_the_solution g rows a.game (right g a rank accounts was) in

@@ -7,14 +7,14 @@ use Rattle.cell_counters.specs.declared.account.Offer.{Offer}
 use Rattle.cell_counters.specs.declared.account.Account.{Account}
 use Rattle.cell_counters.specs.Accounts.{all_offers, values}
 use Rattle.game_core.specs.Game.{Game, IsGraph, pairs_of}
-use Rattle.board_crew.specs.Crew.{offers_in}
-use Rattle.board_crew.proofs.Accounts.{offers_are}
-use Rattle.board_crew.proofs.Graphs.{cell_below}
-use Rattle.reach_avoid.specs.Reckoned.{bid_of, bid_at}
-use Rattle.reach_avoid.specs.inside.Rounds.{IsBid}
+use Rattle.board_rounds.specs.Crew.{offers_in}
+use Rattle.board_rounds.proofs.Accounts.{offers_are}
+use Rattle.board_rounds.proofs.Graphs.{cell_below}
+use Rattle.reach_avoid.specs.Reckoned.{word_and_value, due_offer}
+use Rattle.reach_avoid.specs.inside.Rounds.{IsDueOffer}
 
 -- an offer is what some pair bids at a rank
-pub record IsBidOf (g : Game) (rank : ℕ) (o : Offer) : Type 0 where
+pub record IsDueOfferOf (g : Game) (rank : ℕ) (o : Offer) : Type 0 where
   pub pair : ℕ
   pub below : pair < pairs_of g
   pub word : o.word ≡ pair / g.inputs
@@ -25,16 +25,16 @@ module _ (g : Game) (a : IsGraph g) where
   input_of_pair pair = let some' = a.some_input in omega arith
 
   -- what pairs bid at a rank are bids, one after another
-  pub bids_of : (rank : ℕ) (offers : List Offer) (pairs : List ℕ) → All (λ pair. pair < pairs_of g) pairs → map bid_of offers ≡ map (bid_at g rank) pairs → All (IsBidOf g rank) offers
-  bids_of rank offers pairs below same i d lt =
+  pub due_offers_of : (rank : ℕ) (offers : List Offer) (pairs : List ℕ) → All (λ pair. pair < pairs_of g) pairs → map word_and_value offers ≡ map (due_offer g rank) pairs → All (IsDueOfferOf g rank) offers
+  due_offers_of rank offers pairs below same i d lt =
       let o = get_or offers i d in
-      let many : length offers ≡ length pairs = sym (length-map offers bid_of) ∙ (ap length same ∙ length-map pairs (bid_at g rank)) in
-      let at : bid_of o ≡ bid_at g rank (get_or pairs i 0) =
-      sym (get_or-map bid_of offers i d (0, 0) lt) ∙ (ap (λ l. get_or l i (0, 0)) same ∙ get_or-map (bid_at g rank) pairs i 0 (0, 0) (omega arith)) in
+      let many : length offers ≡ length pairs = sym (length-map offers word_and_value) ∙ (ap length same ∙ length-map pairs (due_offer g rank)) in
+      let at : word_and_value o ≡ due_offer g rank (get_or pairs i 0) =
+      sym (get_or-map word_and_value offers i d (0, 0) lt) ∙ (ap (λ l. get_or l i (0, 0)) same ∙ get_or-map (due_offer g rank) pairs i 0 (0, 0) (omega arith)) in
       record { pair = get_or pairs i 0; below = below i 0 (omega arith); word = ap (λ p. p.0) at; value = ap (λ p. p.1) at }
 
-  pub bid_valued : (rank : ℕ) → rank < 2 ^ 32 → (o : Offer) → IsBidOf g rank o → IsBid g o
-  bid_valued rank small o b =
+  pub due_valued : (rank : ℕ) → rank < 2 ^ 32 → (o : Offer) → IsDueOfferOf g rank o → IsDueOffer g o
+  due_valued rank small o b =
       let word = b.word in
       let value = b.value in
       let cell = cell_below g a b.pair b.below in
@@ -43,23 +43,23 @@ module _ (g : Game) (a : IsGraph g) where
       record { word = omega arith; some = omega arith; less = omega arith }
 
   -- the values of a rank lie together
-  pub values_of_rank : (rank c : ℕ) (accounts : List Account) → All (IsBidOf g rank) (offers_in accounts) → All (λ v. (1 + rank * 4096 ≤ v) × (v < 1 + rank * 4096 + 4096)) (values (all_offers c accounts))
+  pub values_of_rank : (rank c : ℕ) (accounts : List Account) → All (IsDueOfferOf g rank) (offers_in accounts) → All (λ v. (1 + rank * 4096 ≤ v) × (v < 1 + rank * 4096 + 4096)) (values (all_offers c accounts))
   values_of_rank rank c accounts h =
       All-map (λ v. (1 + rank * 4096 ≤ v) × (v < 1 + rank * 4096 + 4096)) (λ (o : Offer). o.value) (all_offers c accounts)
       (subst (λ l. All (λ (o : Offer). (1 + rank * 4096 ≤ o.value) × (o.value < 1 + rank * 4096 + 4096)) l) (sym (offers_are c accounts))
       (All-filter (λ (o : Offer). o.word == c) (λ (o : Offer). (1 + rank * 4096 ≤ o.value) × (o.value < 1 + rank * 4096 + 4096)) (offers_in accounts)
-      (All-weaker (IsBidOf g rank) (λ (o : Offer). (1 + rank * 4096 ≤ o.value) × (o.value < 1 + rank * 4096 + 4096)) (λ o b. in_range o b) (offers_in accounts) h)))
+      (All-weaker (IsDueOfferOf g rank) (λ (o : Offer). (1 + rank * 4096 ≤ o.value) × (o.value < 1 + rank * 4096 + 4096)) (λ o b. in_range o b) (offers_in accounts) h)))
     where
-      in_range : (o : Offer) → IsBidOf g rank o → (1 + rank * 4096 ≤ o.value) × (o.value < 1 + rank * 4096 + 4096)
+      in_range : (o : Offer) → IsDueOfferOf g rank o → (1 + rank * 4096 ≤ o.value) × (o.value < 1 + rank * 4096 + 4096)
       in_range o b =
           let value = b.value in
           let input = input_of_pair b.pair in
           let most = a.inputs_bound in
           (omega arith, omega arith)
 
-pub values_valued : (g : Game) (c : ℕ) (accounts : List Account) → All (IsBid g) (offers_in accounts) → All (λ v. (1 ≤ v) × (v < NONE)) (values (all_offers c accounts))
+pub values_valued : (g : Game) (c : ℕ) (accounts : List Account) → All (IsDueOffer g) (offers_in accounts) → All (λ v. (1 ≤ v) × (v < NONE)) (values (all_offers c accounts))
 values_valued g c accounts h =
     All-map (λ v. (1 ≤ v) × (v < NONE)) (λ (o : Offer). o.value) (all_offers c accounts)
     (subst (λ l. All (λ (o : Offer). (1 ≤ o.value) × (o.value < NONE)) l) (sym (offers_are c accounts))
     (All-filter (λ (o : Offer). o.word == c) (λ (o : Offer). (1 ≤ o.value) × (o.value < NONE)) (offers_in accounts)
-    (All-weaker (IsBid g) (λ (o : Offer). (1 ≤ o.value) × (o.value < NONE)) (λ o b. (let s = b.some in omega arith, b.less)) (offers_in accounts) h)))
+    (All-weaker (IsDueOffer g) (λ (o : Offer). (1 ≤ o.value) × (o.value < NONE)) (λ o b. (let s = b.some in omega arith, b.less)) (offers_in accounts) h)))

@@ -7,28 +7,28 @@ use Rattle.cell_counters.specs.Accounts.{all_logs}
 use Rattle.cell_counters.specs.Tokens.{BoardModel, IsLawful}
 use Rattle.game_core.specs.Counts.{times}
 use Rattle.game_core.specs.Game.{Game, IsGraph, pairs_of, mark_of}
-use Rattle.board_crew.specs.Crew.{logged_cells}
-use Rattle.board_crew.specs.Rules.{IsRound, LeadsOn}
+use Rattle.board_rounds.specs.Crew.{logged_cells}
+use Rattle.board_rounds.specs.Rules.{IsRound, LeadsOn}
 use Rattle.reach_avoid.specs.Boards.{IsBoardOf}
-use Rattle.reach_avoid.specs.inside.Rounds.{rows_told, KeepsRule, IsLawfulFor, is_goal}
-use Rattle.reach_avoid.specs.inside.Standing.{StandsAt, IsPlayable}
+use Rattle.reach_avoid.specs.inside.Rounds.{decoded_rows, KeepsRule, IsLawfulFor, is_goal}
+use Rattle.reach_avoid.specs.inside.Standing.{HoldsBefore, IsRunnable}
 use Rattle.reach_avoid.proofs.OnBoards.{counters_of_board, lawful_for}
 use Rattle.reach_avoid.proofs.Added.{logs_added}
 use Rattle.reach_avoid.proofs.LeadsOn.{next_rows, round_leads_on}
 use Rattle.reach_avoid.proofs.Begins.{begins, full_after, few_logs}
 
 module _ (g : Game) (a : IsGraph g) (board : BoardModel) (of_game : IsBoardOf g board) where
-  next_stand : (rank : ℕ) (list next : List ℕ) (accounts more : List Account) → rank ≤ g.cells → 0 < length list → StandsAt g rank list accounts → IsRound g (KeepsRule g rank) list more
-      → IsLawful (accounts ++ more) board.starts board.least → ((c : ℕ) → times c next ≡ times c (logged_cells (all_logs more))) → StandsAt g (suc rank) next (accounts ++ more)
+  next_stand : (rank : ℕ) (list next : List ℕ) (accounts more : List Account) → rank ≤ g.cells → 0 < length list → HoldsBefore g rank list accounts → IsRound g (KeepsRule g rank) list more
+      → IsLawful (accounts ++ more) board.starts board.least → ((c : ℕ) → times c next ≡ times c (logged_cells (all_logs more))) → HoldsBefore g (suc rank) next (accounts ++ more)
   next_stand rank list next accounts more early some' was round lawful same =
       let low : rank < 2 ^ 31 = (let b = a.cells_bound in omega arith) in
       let after : IsLawfulFor g (accounts ++ more) = lawful_for g a board of_game (accounts ++ more) lawful in
       record {
         reached = round_leads_on g a rank low list accounts more was.reached round after next (λ c. same c ∙ ap (times c) (logs_added g rank more round.each));
-        full = full_after g a rank list accounts (rows_told g (accounts ++ more)) was.reached (next_rows g a rank low list accounts more was.reached round after) some';
+        full = full_after g a rank list accounts (decoded_rows g (accounts ++ more)) was.reached (next_rows g a rank low list accounts more was.reached round after) some';
       }
 
-  leads_on : LeadsOn g board (λ c. is_goal (mark_of g c)) (KeepsRule g) (StandsAt g)
+  leads_on : LeadsOn g board (λ c. is_goal (mark_of g c)) (KeepsRule g) (HoldsBefore g)
   leads_on = record {
     graph = a;
     counters = let many = counters_of_board g a board of_game in omega arith;
@@ -40,5 +40,5 @@ module _ (g : Game) (a : IsGraph g) (board : BoardModel) (of_game : IsBoardOf g 
     next = next_stand;
   }
 
-  pub playable : IsPlayable g board
-  playable = record { of_game = of_game; leads = leads_on }
+  pub runnable : IsRunnable g board
+  runnable = record { of_game = of_game; leads = leads_on }

@@ -8,7 +8,7 @@ use Rattle.game_core.specs.Game.{Game, successors_at}
 use Rattle.game_core.specs.Solution.{row_of, rank_in, rank_at, greatest, greatest_rank}
 use Rattle.game_core.specs.Tally.{rank_by}
 use Rattle.game_core.specs.Counts.{one_if}
-use Rattle.game_core.proofs.Times.{counts_tell}
+use Rattle.game_core.proofs.Times.{counts_agree}
 use Rattle.reach_avoid.specs.inside.Rounds.{below_in, rank_is, taken_in, is_done, IsNext}
 
 pub done_parts : (g : Game) (rows : List (Option Row)) (k pair : ℕ) → is_done g rows k pair ≡ true → (0 < length (successors_at g pair)) × (taken_in g rows k pair ≡ length (successors_at g pair))
@@ -99,8 +99,8 @@ module _ (g : Game) (rank : ℕ) (rows new : List (Option Row)) (next : IsNext r
   -- the successors of this rank are taken besides
   pub taken_after : (pair : ℕ) → taken_in g new (suc rank) pair ≡ taken_in g rows rank pair + count_by (λ s. rank_is rank (row_of rows s)) (successors_at g pair)
   taken_after pair =
-      counts_tell.alike (λ s. one_if (below_in (suc rank) (row_of new s))) (λ s. one_if (below_in rank (row_of rows s)) + one_if (rank_is rank (row_of rows s))) (successors_at g pair) (λ i d lt. below_after (get_or (successors_at g pair) i d))
-      ∙ counts_tell.added (λ s. one_if (below_in rank (row_of rows s))) (λ s. one_if (rank_is rank (row_of rows s))) (successors_at g pair)
+      counts_agree.alike (λ s. one_if (below_in (suc rank) (row_of new s))) (λ s. one_if (below_in rank (row_of rows s)) + one_if (rank_is rank (row_of rows s))) (successors_at g pair) (λ i d lt. below_after (get_or (successors_at g pair) i d))
+      ∙ counts_agree.added (λ s. one_if (below_in rank (row_of rows s))) (λ s. one_if (rank_is rank (row_of rows s))) (successors_at g pair)
 
   pub taken_more : (pair : ℕ) → taken_in g rows rank pair ≤ taken_in g new (suc rank) pair
   taken_more pair = let e = taken_after pair in omega arith
@@ -117,7 +117,7 @@ module _ (g : Game) (rank : ℕ) (rows new : List (Option Row)) (next : IsNext r
 
   pub rank_by-stays : (pair : ℕ) → is_done g rows rank pair ≡ true → rank_by g new pair ≡ rank_by g rows pair
   rank_by-stays pair e =
-      let all = counts_tell.each_passes (λ s. below_in rank (row_of rows s)) (successors_at g pair) (done_parts g rows rank pair e).1 in
+      let all = counts_agree.each_passes (λ s. below_in rank (row_of rows s)) (successors_at g pair) (done_parts g rows rank pair e).1 in
       ap suc (sym (greatest_rank-same rows new (successors_at g pair) (λ i d lt.
       let s = get_or (successors_at g pair) i d in
       let row = row_below rank (row_of rows s) (all i d lt) in
@@ -127,14 +127,14 @@ module _ (g : Game) (rank : ℕ) (rows new : List (Option Row)) (next : IsNext r
   pub rank_by-new : (pair : ℕ) → is_done g rows rank pair ≡ false → is_done g new (suc rank) pair ≡ true → rank_by g new pair ≡ suc rank
   rank_by-new pair before now =
       let is = done_parts g new (suc rank) pair now in
-      let all = counts_tell.each_passes (λ s. below_in (suc rank) (row_of new s)) (successors_at g pair) is.1 in
+      let all = counts_agree.each_passes (λ s. below_in (suc rank) (row_of new s)) (successors_at g pair) is.1 in
       let most = greatest_rank-le new rank (successors_at g pair) (λ i d lt.
       let s = get_or (successors_at g pair) i d in
       let row = row_below (suc rank) (row_of new s) (all i d lt) in
       let e : rank_at new s ≡ row.0.rank = ap rank_in row.1 in
       let lt' = row.2 in
       omega arith) in
-      let fails = counts_tell.one_fails (λ s. below_in rank (row_of rows s)) (successors_at g pair) (not_done g rows rank pair before is.0) in
+      let fails = counts_agree.one_fails (λ s. below_in rank (row_of rows s)) (successors_at g pair) (not_done g rows rank pair before is.0) in
       let at = fails.1 in
       let s = fails.0 in
       let here : All (λ s. rank_at new s ≤ greatest_rank new (successors_at g pair)) (successors_at g pair) = rank_at-le new (successors_at g pair) in

@@ -19,18 +19,18 @@ use Rattle.game_core.specs.declared.game.Mark.TheVariants.{Goal, Obstacle, Plain
 use Rattle.game_core.specs.declared.game.Row.{Row}
 use Rattle.game_core.specs.Game.{Game, IsGraph, mark_of, pair_of, pairs_of, successors_at, successors_of}
 use Rattle.game_core.specs.Solution.{row_of, rank_in, rank_at, greatest, greatest_rank, HasRow}
-use Rattle.game_core.specs.Right.{IsBestInput, IsLost, IsRightRanked, IsRightPlain, IsRightAt, AreRight}
+use Rattle.game_core.specs.Right.{IsBestInput, IsUnwinnable, IsRightRanked, IsRightPlain, IsRightAt, AreRight}
 use Rattle.game_core.specs.Tally.{all_pairs, ranked_in, is_resolved, rank_by, rounds_to}
-use Rattle.game_core.proofs.Times.{counts_tell}
-use Rattle.board_crew.specs.Crew.{cuts_in, offers_in}
-use Rattle.board_crew.proofs.Accounts.{cuts_are, offers_are}
+use Rattle.game_core.proofs.Times.{counts_agree}
+use Rattle.board_rounds.specs.Crew.{cuts_in, offers_in}
+use Rattle.board_rounds.proofs.Accounts.{cuts_are, offers_are}
 use Rattle.reach_avoid.specs.Boards.{word_at}
-use Rattle.reach_avoid.specs.Reckoned.{bid_of, bid_at, IsReckonedBy}
-use Rattle.reach_avoid.specs.inside.Rounds.{row_in, least_from, word_after, rows_told, below_in, rank_is, taken_in, is_done, IsReached, IsFull}
-use Rattle.reach_avoid.proofs.Words.{least_from-le, least_from-lower, least_from-among, least_from-keeps, row_from_word, no_row_from_word, row_told, cell_of_row, word_of_row}
+use Rattle.reach_avoid.specs.Reckoned.{word_and_value, due_offer, IsReckonedBy}
+use Rattle.reach_avoid.specs.inside.Rounds.{row_in, least_from, word_after, decoded_rows, below_in, rank_is, taken_in, is_done, IsReached, IsFull}
+use Rattle.reach_avoid.proofs.Words.{least_from-le, least_from-lower, least_from-among, least_from-keeps, row_from_word, no_row_from_word, decoded_row, cell_of_row, word_of_row}
 use Rattle.reach_avoid.proofs.Ranks.{greatest_of, greatest_rank-le}
 use Rattle.reach_avoid.proofs.Games.{input_of_pair, values_valued}
-use Rattle.board_crew.proofs.Sums.{All-range}
+use Rattle.board_rounds.proofs.Sums.{All-range}
 
 -- elements of maps and filters
 contains_map : {X Y : Type 0} (f : X → Y) (xs : List X) (x : X) → Contains xs x → Contains (map f xs) (f x)
@@ -38,17 +38,17 @@ contains_map f xs x has = let len = length-map xs f in (has.0, (let lt = has.1 i
 
 contains_filter : {X : Type 0} (p : X → Bool) (xs : List X) (x : X) → Contains xs x → p x ≡ true → Contains (filter p xs) x
 contains_filter p [] x has e = absurd (let lt = has.1 in omega arith)
-contains_filter {X} p (y ∷ ys) x has e = by_place has (λ more. contains_filter p ys x more e)
+contains_filter {X} p (y ∷ ys) x has e = by_slot has (λ more. contains_filter p ys x more e)
   where
-    behind : (b : Bool) → Contains (filter p ys) x → Contains (cond b (y ∷ filter p ys) (filter p ys)) x
-    behind true (k, lt, is) = (suc k, omega arith, is)
-    behind false h = h
+    after : (b : Bool) → Contains (filter p ys) x → Contains (cond b (y ∷ filter p ys) (filter p ys)) x
+    after true (k, lt, is) = (suc k, omega arith, is)
+    after false h = h
 
-    by_place : Contains (y ∷ ys) x → (Contains ys x → Contains (filter p ys) x) → Contains (filter p (y ∷ ys)) x
-    by_place (zero, lt, is) later =
+    by_slot : Contains (y ∷ ys) x → (Contains ys x → Contains (filter p ys) x) → Contains (filter p (y ∷ ys)) x
+    by_slot (zero, lt, is) later =
         let passes : true ≡ p y = sym (ap p is ∙ e) in
         subst (λ b. Contains (cond b (y ∷ filter p ys) (filter p ys)) x) passes (0, omega arith, is)
-    by_place (suc k, lt, is) later = behind (p y) (later (k, omega arith, is))
+    by_slot (suc k, lt, is) later = after (p y) (later (k, omega arith, is))
 
 filled : {X : Type 0} (xs : List X) → 0 < length xs → xs ≢ []
 filled xs lt e = let n = ap length e in absurd (omega arith)
@@ -77,7 +77,7 @@ module _ (g : Game) (rows : List (Option Row)) where
   resolved_parts : (pair : ℕ) → is_resolved g rows pair ≡ true → (0 < length (successors_at g pair)) × All (HasRow rows) (successors_at g pair)
   resolved_parts pair e =
       let both = and_parts (nat_lt 0 (length (successors_at g pair))) (ranked_in g rows pair == length (successors_at g pair)) e in
-      let all = counts_tell.each_passes (λ s. is_some (row_of rows s)) (successors_at g pair) (eqb-true (ranked_in g rows pair) (length (successors_at g pair)) both.1) in
+      let all = counts_agree.each_passes (λ s. is_some (row_of rows s)) (successors_at g pair) (eqb-true (ranked_in g rows pair) (length (successors_at g pair)) both.1) in
       (ltb-true 0 (length (successors_at g pair)) both.0, λ i d lt. some_row (row_of rows (get_or (successors_at g pair) i d)) (all i d lt))
 
   resolved_from : (pair : ℕ) → 0 < length (successors_at g pair) → ranked_in g rows pair ≡ length (successors_at g pair) → is_resolved g rows pair ≡ true
@@ -85,11 +85,11 @@ module _ (g : Game) (rows : List (Option Row)) where
       and_from (nat_lt 0 (length (successors_at g pair))) (ranked_in g rows pair == length (successors_at g pair)) (lt-ltb 0 (length (successors_at g pair)) lt) (eq-eqb (ranked_in g rows pair) (length (successors_at g pair)) e)
 
   resolved_all : (pair : ℕ) → 0 < length (successors_at g pair) → All (HasRow rows) (successors_at g pair) → is_resolved g rows pair ≡ true
-  resolved_all pair lt all = resolved_from pair lt (counts_tell.all_pass (λ s. is_some (row_of rows s)) (successors_at g pair) (λ i d li. let r = all i d li in ap is_some r.1))
+  resolved_all pair lt all = resolved_from pair lt (counts_agree.all_pass (λ s. is_some (row_of rows s)) (successors_at g pair) (λ i d li. let r = all i d li in ap is_some r.1))
 
 module _ (g : Game) (a : IsGraph g) (rank : ℕ) (accounts : List Account) (was : IsReached g rank [] accounts) where
   abbrev rows : List (Option Row)
-  rows = rows_told g accounts
+  rows = decoded_rows g accounts
 
   -- no row has this rank
   all_below : (c : ℕ) (row : Row) → row_of rows c ≡ Some row → row.rank < rank
@@ -111,7 +111,7 @@ module _ (g : Game) (a : IsGraph g) (rank : ℕ) (accounts : List Account) (was 
       by_row (Some row) e = lt-ltb row.rank rank (all_below s row e)
 
   taken_is_ranked : (pair : ℕ) → taken_in g rows rank pair ≡ ranked_in g rows pair
-  taken_is_ranked pair = counts_tell.alike (λ s. one_if (below_in rank (row_of rows s))) (λ s. one_if (is_some (row_of rows s))) (successors_at g pair) (λ i d lt. ap one_if (below_is_some (get_or (successors_at g pair) i d)))
+  taken_is_ranked pair = counts_agree.alike (λ s. one_if (below_in rank (row_of rows s))) (λ s. one_if (is_some (row_of rows s))) (successors_at g pair) (λ i d lt. ap one_if (below_is_some (get_or (successors_at g pair) i d)))
 
   done_is_resolved : (pair : ℕ) → is_done g rows rank pair ≡ is_resolved g rows pair
   done_is_resolved pair = ap (λ n. nat_lt 0 (length (successors_at g pair)) && (n == length (successors_at g pair))) (taken_is_ranked pair)
@@ -119,49 +119,49 @@ module _ (g : Game) (a : IsGraph g) (rank : ℕ) (accounts : List Account) (was 
   abbrev resolved : List ℕ
   resolved = filter (is_resolved g rows) (all_pairs g)
 
-  abbrev bid : ℕ → ℕ × ℕ
-  bid pair = bid_at g (rank_by g rows pair) pair
+  abbrev offer_row : ℕ → ℕ × ℕ
+  offer_row pair = due_offer g (rank_by g rows pair) pair
 
-  bids : IsPermutation (map bid resolved) (map bid_of (offers_in accounts))
-  bids = subst (λ l. IsPermutation (map bid l) (map bid_of (offers_in accounts))) (filter_agree (is_done g rows rank) (is_resolved g rows) done_is_resolved (all_pairs g)) was.offers
+  offers_due : IsPermutation (map offer_row resolved) (map word_and_value (offers_in accounts))
+  offers_due = subst (λ l. IsPermutation (map offer_row l) (map word_and_value (offers_in accounts))) (filter_agree (is_done g rows rank) (is_resolved g rows) done_is_resolved (all_pairs g)) was.offers
 
   -- the accounts have what the rows reckon
   pub reckoned : IsReckonedBy g rows accounts
-  reckoned = record { cuts = λ pair lt. was.cuts pair lt ∙ taken_is_ranked pair; no_other_cut = was.no_other_cut; offers = bids }
+  reckoned = record { cuts = λ pair lt. was.cuts pair lt ∙ taken_is_ranked pair; no_other_cut = was.no_other_cut; offers = offers_due }
 
   -- each offer is the bid of a resolved pair
-  offered_by : (o : Offer) → Contains (offers_in accounts) o → (pair : ℕ) × (pair < pairs_of g) × (is_resolved g rows pair ≡ true) × (bid_of o ≡ bid pair)
+  offered_by : (o : Offer) → Contains (offers_in accounts) o → (pair : ℕ) × (pair < pairs_of g) × (is_resolved g rows pair ≡ true) × (word_and_value o ≡ offer_row pair)
   offered_by o has =
-      let there = Contains-permutation (map bid_of (offers_in accounts)) (map bid resolved) (bid_of o) (IsPermutation-sym (map bid resolved) (map bid_of (offers_in accounts)) bids) (contains_map bid_of (offers_in accounts) o has) in
+      let there = Contains-permutation (map word_and_value (offers_in accounts)) (map offer_row resolved) (word_and_value o) (IsPermutation-sym (map offer_row resolved) (map word_and_value (offers_in accounts)) offers_due) (contains_map word_and_value (offers_in accounts) o has) in
       let i = there.0 in
-      let lt : i < length resolved = (let l = there.1 in let len = length-map resolved bid in omega arith) in
+      let lt : i < length resolved = (let l = there.1 in let len = length-map resolved offer_row in omega arith) in
       let pair = get_or resolved i 0 in
       let passes = filter_passes (is_resolved g rows) (all_pairs g) in
       let below = All-filter (is_resolved g rows) (λ pair. pair < pairs_of g) (all_pairs g) (All-range (pairs_of g)) in
-      (pair, below i 0 lt, passes i 0 lt, sym there.2 ∙ get_or-map bid resolved i 0 (bid_of o) lt)
+      (pair, below i 0 lt, passes i 0 lt, sym there.2 ∙ get_or-map offer_row resolved i 0 (word_and_value o) lt)
 
   -- the word of a cell is at most what its resolved pairs bid
   word_below : (pair : ℕ) → pair < pairs_of g → is_resolved g rows pair ≡ true → (word_after g accounts (pair / g.inputs) ≤ 1 + rank_by g rows pair * 4096 + pair % g.inputs) × (word_after g accounts (pair / g.inputs) < NONE)
   word_below pair lt e =
       let c = pair / g.inputs in
-      let once : times pair resolved ≡ 1 = counts_tell.filtered (is_resolved g rows) pair (all_pairs g) ∙ (ap (λ b. cond b (times pair (all_pairs g)) 0) e ∙ counts_tell.in_range pair 0 (pairs_of g) (omega arith) (omega arith)) in
-      let there = Contains-permutation (map bid resolved) (map bid_of (offers_in accounts)) (bid pair) bids (contains_map bid resolved pair (counts_tell.found pair resolved (omega arith))) in
+      let once : times pair resolved ≡ 1 = counts_agree.filtered (is_resolved g rows) pair (all_pairs g) ∙ (ap (λ b. cond b (times pair (all_pairs g)) 0) e ∙ counts_agree.in_range pair 0 (pairs_of g) (omega arith) (omega arith)) in
+      let there = Contains-permutation (map offer_row resolved) (map word_and_value (offers_in accounts)) (offer_row pair) offers_due (contains_map offer_row resolved pair (counts_agree.found pair resolved (omega arith))) in
       let i = there.0 in
       let nothing : Offer = record { word = 0; value = 0; first = false } in
-      let li : i < length (offers_in accounts) = (let l = there.1 in let len = length-map (offers_in accounts) bid_of in omega arith) in
+      let li : i < length (offers_in accounts) = (let l = there.1 in let len = length-map (offers_in accounts) word_and_value in omega arith) in
       let o = get_or (offers_in accounts) i nothing in
-      let is : bid_of o ≡ bid pair = sym (get_or-map bid_of (offers_in accounts) i nothing (bid pair) li) ∙ there.2 in
+      let is : word_and_value o ≡ offer_row pair = sym (get_or-map word_and_value (offers_in accounts) i nothing (offer_row pair) li) ∙ there.2 in
       let word : o.word ≡ c = ap (λ p. p.0) is in
       let value : o.value ≡ 1 + rank_by g rows pair * 4096 + pair % g.inputs = ap (λ p. p.1) is in
-      let stands : Contains (all_offers c accounts) o = subst (λ l. Contains l o) (sym (offers_are c accounts)) (contains_filter (λ (o : Offer). o.word == c) (offers_in accounts) o (Contains-get_or (offers_in accounts) i nothing li) (eq-eqb o.word c word)) in
-      let le = All-contains (λ v. word_after g accounts c ≤ v) (values (all_offers c accounts)) o.value (least_from-lower (word_at (mark_of g c)) (values (all_offers c accounts))) (contains_map (λ (o : Offer). o.value) (all_offers c accounts) o stands) in
+      let holds_before : Contains (all_offers c accounts) o = subst (λ l. Contains l o) (sym (offers_are c accounts)) (contains_filter (λ (o : Offer). o.word == c) (offers_in accounts) o (Contains-get_or (offers_in accounts) i nothing li) (eq-eqb o.word c word)) in
+      let le = All-contains (λ v. word_after g accounts c ≤ v) (values (all_offers c accounts)) o.value (least_from-lower (word_at (mark_of g c)) (values (all_offers c accounts))) (contains_map (λ (o : Offer). o.value) (all_offers c accounts) o holds_before) in
       let less = (was.valued i nothing li).less in
       (omega arith, omega arith)
 
   -- an enabled input of a cell, as a pair
   module _ (c v : ℕ) (lt : c < g.cells) (in' : v < g.inputs) where
     pair_below : pair_of g c v < pairs_of g
-    pair_below = let place = mul-add-lt c g.inputs v g.cells lt in' in omega arith
+    pair_below = let slot = mul-add-lt c g.inputs v g.cells lt in' in omega arith
 
     cell_is : pair_of g c v / g.inputs ≡ c
     cell_is = div-mul-add c g.inputs v in'
@@ -199,14 +199,14 @@ module _ (g : Game) (a : IsGraph g) (rank : ℕ) (accounts : List Account) (was 
             let by = offered_by o (both.1 i nothing li) in
             let pair = by.0 in
             let cell : o.word ≡ pair / g.inputs = ap (λ p. p.0) by.3 in
-            let bids' : o.value ≡ 1 + rank_by g rows pair * 4096 + pair % g.inputs = ap (λ p. p.1) by.3 in
+            let offers_due' : o.value ≡ 1 + rank_by g rows pair * 4096 + pair % g.inputs = ap (λ p. p.1) by.3 in
             let parts = div-add-mod' pair g.inputs in
             let same : pair ≡ pair_of g c (pair % g.inputs) = sym (ap (λ d. d * g.inputs + pair % g.inputs) (sym word ∙ cell) ∙ parts) in
             record {
               input = pair % g.inputs;
               enabled = input_of_pair g a pair;
               resolved = subst (λ p. is_resolved g rows p ≡ true) same by.2;
-              word = sym value ∙ (bids' ∙ ap (λ p. 1 + rank_by g rows p * 4096 + pair % g.inputs) same);
+              word = sym value ∙ (offers_due' ∙ ap (λ p. 1 + rank_by g rows p * 4096 + pair % g.inputs) same);
             }
       ]
 
@@ -215,13 +215,13 @@ module _ (g : Game) (a : IsGraph g) (rank : ℕ) (accounts : List Account) (was 
       let start : word_at (mark_of g c) ≡ 1 = ap word_at m in
       let old = values_valued g c accounts was.valued in
       let w : word_after g accounts c ≡ 1 = ap (λ n. least_from n (values (all_offers c accounts))) start ∙ least_from-keeps 1 (values (all_offers c accounts)) (λ i d li. (old i d li).0) in
-      row_told g accounts c lt ∙ (ap row_in w ∙ row_from_word 1 (omega arith) (omega arith))
+      decoded_row g accounts c lt ∙ (ap row_in w ∙ row_from_word 1 (omega arith) (omega arith))
 
   right_obstacle : (c : ℕ) → c < g.cells → mark_of g c ≡ Obstacle → row_of rows c ≡ None
   right_obstacle c lt m =
       let start : word_at (mark_of g c) ≡ 0 = ap word_at m in
       let le = least_from-le (word_at (mark_of g c)) (values (all_offers c accounts)) in
-      row_told g accounts c lt ∙ no_row_from_word (word_after g accounts c) (inl (omega arith))
+      decoded_row g accounts c lt ∙ no_row_from_word (word_after g accounts c) (inl (omega arith))
 
   -- the word of a plain cell isn't 0
   word_above : (c : ℕ) → mark_of g c ≡ Plain → 0 < word_after g accounts c
@@ -235,18 +235,18 @@ module _ (g : Game) (a : IsGraph g) (rank : ℕ) (accounts : List Account) (was 
             omega arith
       ]
 
-  lost : (c : ℕ) → c < g.cells → mark_of g c ≡ Plain → row_of rows c ≡ None → IsLost g rows c
+  lost : (c : ℕ) → c < g.cells → mark_of g c ≡ Plain → row_of rows c ≡ None → IsUnwinnable g rows c
   lost c lt m none' v enabled =
       let pair = pair_of g c v in
       elim (cases_lt (ranked_in g rows pair) (length (successors_at g pair))) [
         | inl less ↦
-            let f = counts_tell.one_fails (λ s. is_some (row_of rows s)) (successors_at g pair) less in
+            let f = counts_agree.one_fails (λ s. is_some (row_of rows s)) (successors_at g pair) less in
             (f.0, f.1, no_row (row_of rows f.0) f.2)
         | inr ge ↦
             let most = count_by-le-length (λ s. is_some (row_of rows s)) (successors_at g pair) in
             let e = resolved_from g rows pair (unfilled (successors_at g pair) enabled.1) (omega arith) in
             let low = word_below_input c v lt enabled.0 e in
-            absurd (let is = row_from_word (word_after g accounts c) (word_above c m) low.1 in let told' = row_told g accounts c lt in cc)
+            absurd (let is = row_from_word (word_after g accounts c) (word_above c m) low.1 in let told' = decoded_row g accounts c lt in cc)
       ]
 
   best : (c k u : ℕ) → c < g.cells → u < g.inputs → is_resolved g rows (pair_of g c u) ≡ true → greatest_rank rows (successors_of g c u) ≡ k → word_after g accounts c ≡ 1 + suc k * 4096 + u → IsBestInput g rows c u k
@@ -305,21 +305,21 @@ module _ (g : Game) (a : IsGraph g) (rank : ℕ) (accounts : List Account) (was 
       let counters = map (λ (c : Cut). c.counter) (cuts_in accounts) in
       let in' = All-range (pairs_of g) in
       sym (length-map (cuts_in accounts) (λ (c : Cut). c.counter))
-      ∙ (sym (counts_tell.of_all_below (pairs_of g) counters (All-map (λ n. n < pairs_of g) (λ (c : Cut). c.counter) (cuts_in accounts) was.no_other_cut))
-      ∙ counts_tell.alike (λ pair. times pair counters) (ranked_in g rows) (all_pairs g) (λ i d lt.
+      ∙ (sym (counts_agree.of_all_below (pairs_of g) counters (All-map (λ n. n < pairs_of g) (λ (c : Cut). c.counter) (cuts_in accounts) was.no_other_cut))
+      ∙ counts_agree.alike (λ pair. times pair counters) (ranked_in g rows) (all_pairs g) (λ i d lt.
       let pair = get_or (all_pairs g) i d in
       sym (cuts_are pair accounts) ∙ (was.cuts pair (in' i d lt) ∙ taken_is_ranked pair)))
 
   pub offers_count : length (offers_in accounts) ≡ count_by (is_resolved g rows) (all_pairs g)
   offers_count =
-      sym (length-map (offers_in accounts) bid_of)
-      ∙ (length_permutation (map bid resolved) (map bid_of (offers_in accounts)) bids
-      ∙ (length-map resolved bid ∙ length-filter (is_resolved g rows) (all_pairs g)))
+      sym (length-map (offers_in accounts) word_and_value)
+      ∙ (length_permutation (map offer_row resolved) (map word_and_value (offers_in accounts)) offers_due
+      ∙ (length-map resolved offer_row ∙ length-filter (is_resolved g rows) (all_pairs g)))
 
   pub few_cuts : length (cuts_in accounts) ≤ 2 ^ 25
   few_cuts =
-      let le = counts_tell.lesser (ranked_in g rows) (λ pair. length (successors_at g pair)) (all_pairs g) (λ i d lt. count_by-le-length (λ s. is_some (row_of rows s)) (successors_at g (get_or (all_pairs g) i d))) in
-      let all = counts_tell.places_of_lists length g.successors in
+      let le = counts_agree.lesser (ranked_in g rows) (λ pair. length (successors_at g pair)) (all_pairs g) (λ i d lt. count_by-le-length (λ s. is_some (row_of rows s)) (successors_at g (get_or (all_pairs g) i d))) in
+      let all = counts_agree.positions_of_lists length g.successors in
       let many = a.game.one_list_each in
       let same : sum_by (λ pair. length (successors_at g pair)) (all_pairs g) ≡ sum_by length g.successors = ap (λ n. sum_by (λ pair. length (successors_at g pair)) (range_with_len 0 n)) (sym many) ∙ all in
       let most = a.edges_bound in

@@ -15,7 +15,7 @@ use Rattle.game_core.specs.declared.game.Row.{Row}
 use Rattle.game_core.specs.Game.{Game, mark_of}
 use Rattle.game_core.specs.Solution.{row_of}
 use Rattle.reach_avoid.specs.Boards.{word_at}
-use Rattle.reach_avoid.specs.inside.Rounds.{row_in, least_from, word_after, rows_told}
+use Rattle.reach_avoid.specs.inside.Rounds.{row_in, least_from, word_after, decoded_rows}
 
 pub least_from-append : (start : ℕ) (xs ys : List ℕ) → least_from start (xs ++ ys) ≡ least_from (least_from start xs) ys
 least_from-append start [] ys = refl
@@ -135,13 +135,13 @@ word_at-le Obstacle = omega arith
 word_at-le Plain = omega arith
 
 module _ (g : Game) (accounts : List Account) where
-  pub row_told : (c : ℕ) → c < g.cells → row_of (rows_told g accounts) c ≡ row_in (word_after g accounts c)
-  row_told c lt = get_or-map-range_with_len (λ c. row_in (word_after g accounts c)) 0 g.cells c c None lt (omega arith)
+  pub decoded_row : (c : ℕ) → c < g.cells → row_of (decoded_rows g accounts) c ≡ row_in (word_after g accounts c)
+  decoded_row c lt = get_or-map-range_with_len (λ c. row_in (word_after g accounts c)) 0 g.cells c c None lt (omega arith)
 
-  pub row_past : (c : ℕ) → g.cells ≤ c → row_of (rows_told g accounts) c ≡ None
-  row_past c le = let len = length-map-range_with_len (λ c. row_in (word_after g accounts c)) 0 g.cells in get_or_past (rows_told g accounts) c None (omega arith)
+  pub row_past : (c : ℕ) → g.cells ≤ c → row_of (decoded_rows g accounts) c ≡ None
+  row_past c le = let len = length-map-range_with_len (λ c. row_in (word_after g accounts c)) 0 g.cells in get_or_past (decoded_rows g accounts) c None (omega arith)
 
-  pub cell_of_row : (c : ℕ) (row : Row) → row_of (rows_told g accounts) c ≡ Some row → c < g.cells
+  pub cell_of_row : (c : ℕ) (row : Row) → row_of (decoded_rows g accounts) c ≡ Some row → c < g.cells
   cell_of_row c row e = elim (cases_lt c g.cells) [ inl lt ↦ lt | inr ge ↦ absurd (let none' = row_past c ge in cc) ]
 
   pub word_after-le : (c : ℕ) → word_after g accounts c ≤ NONE
@@ -150,8 +150,8 @@ module _ (g : Game) (accounts : List Account) where
       let b = word_at-le (mark_of g c) in
       omega arith
 
-  pub word_of_row : (c : ℕ) (row : Row) → row_of (rows_told g accounts) c ≡ Some row → IsWordOf row (word_after g accounts c)
-  word_of_row c row e = word_from_row (word_after g accounts c) row (word_after-le c) (sym (row_told c (cell_of_row c row e)) ∙ e)
+  pub word_of_row : (c : ℕ) (row : Row) → row_of (decoded_rows g accounts) c ≡ Some row → IsWordOf row (word_after g accounts c)
+  word_of_row c row e = word_from_row (word_after g accounts c) row (word_after-le c) (sym (decoded_row c (cell_of_row c row e)) ∙ e)
 
 pub word_after-more : (g : Game) (accounts more : List Account) (c : ℕ) → word_after g (accounts ++ more) c ≡ least_from (word_after g accounts c) (values (all_offers c more))
 word_after-more g accounts more c =

@@ -7,8 +7,8 @@ use Rattle.cell_counters.specs.declared.account.Cut.{Cut}
 use Rattle.cell_counters.specs.Tokens.{HandModel}
 use Rattle.game_core.specs.Counts.{times, one_if}
 use Rattle.game_core.specs.Game.{Game, pairs_of}
-use Rattle.board_crew.specs.Rules.{CutsOnce}
-use Rattle.reach_avoid.specs.Reckoned.{bid_of, bid_at}
+use Rattle.board_rounds.specs.Rules.{CutsOnce}
+use Rattle.reach_avoid.specs.Reckoned.{word_and_value, due_offer}
 use Rattle.reach_avoid.specs.inside.Rounds.{last_cuts, KeepsRule}
 use Rattle.reach_avoid.specs.inside.Workers.{Cuts}
 use Rattle.reach_avoid.proofs.Added.{last_cuts-append}
@@ -30,10 +30,10 @@ module _ (g : Game) (rank pair : ℕ) (was now : HandModel) (c : Cuts g rank pai
       let cuts = was.account.cuts in
       record {
         no_other_cut = subst (λ l. All (λ (c : Cut). c.counter < pairs_of g) l) (sym c.cuts) (All-push (λ (c : Cut). c.counter < pairs_of g) cuts cut h.no_other_cut below);
-        offers = c.offers ∙ (bids (c.left == 0) ∙ ap (map (bid_at g (suc rank))) (sym (ap last_cuts c.cuts ∙ last_cuts-append cuts (cut ∷ []))));
+        offers = c.offers ∙ (offers_due (c.left == 0) ∙ ap (map (due_offer g (suc rank))) (sym (ap last_cuts c.cuts ∙ last_cuts-append cuts (cut ∷ []))));
         logs = c.logs h.logs;
       }
     where
-      bids : (b : Bool) → map bid_of was.account.offers ++ cond b (bid_at g (suc rank) pair ∷ []) [] ≡ map (bid_at g (suc rank)) (last_cuts was.account.cuts ++ map (λ (c : Cut). c.counter) (cond b (record { counter = pair; left = c.left } ∷ []) []))
-      bids true = ap (λ l. l ++ bid_at g (suc rank) pair ∷ []) h.offers ∙ sym (map_push (bid_at g (suc rank)) (last_cuts was.account.cuts) pair)
-      bids false = append-nil (map bid_of was.account.offers) ∙ (h.offers ∙ ap (map (bid_at g (suc rank))) (sym (append-nil (last_cuts was.account.cuts))))
+      offers_due : (b : Bool) → map word_and_value was.account.offers ++ cond b (due_offer g (suc rank) pair ∷ []) [] ≡ map (due_offer g (suc rank)) (last_cuts was.account.cuts ++ map (λ (c : Cut). c.counter) (cond b (record { counter = pair; left = c.left } ∷ []) []))
+      offers_due true = ap (λ l. l ++ due_offer g (suc rank) pair ∷ []) h.offers ∙ sym (map_push (due_offer g (suc rank)) (last_cuts was.account.cuts) pair)
+      offers_due false = append-nil (map word_and_value was.account.offers) ∙ (h.offers ∙ ap (map (due_offer g (suc rank))) (sym (append-nil (last_cuts was.account.cuts))))

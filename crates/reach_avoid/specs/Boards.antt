@@ -5,7 +5,7 @@ use Rattle.cell_counters.specs.Tokens.{BoardModel}
 use Rattle.game_core.specs.declared.game.Mark.{Mark}
 use Rattle.game_core.specs.declared.game.Mark.TheVariants.{Goal, Obstacle, Plain}
 use Rattle.game_core.specs.Game.{Game, mark_of}
-use Rattle.board_crew.specs.Boards.{IsBegunWith, fans_of, for_each_cell}
+use Rattle.board_rounds.specs.Boards.{IsBegunWith, fans_of, for_each_cell}
 
 -- the number with which the least word of a cell begins
 abbrev pub word_at : Mark → ℕ
@@ -20,7 +20,7 @@ word_for g c = word_at (mark_of g c)
 abbrev pub words_of : Game → List ℕ
 words_of g = for_each_cell g (word_for g)
 
--- a counter for each pair, which begins as the number of its successors, a least word for each cell, and a place in the
+-- a counter for each pair, which begins as the number of its successors, a least word for each cell, and a slot in the
 -- log for each cell
 abbrev pub IsBoardOf : Game → BoardModel → Type 0
 IsBoardOf g board = IsBegunWith (fans_of g) (words_of g) g board

@@ -8,21 +8,21 @@ use Rattle.game_core.specs.declared.game.Row.{Row}
 use Rattle.game_core.specs.Game.{Game, pairs_of}
 use Rattle.game_core.specs.Solution.{IsReachSolution}
 use Rattle.game_core.specs.Tally.{all_pairs, ranked_in, is_resolved, rank_by}
-use Rattle.board_crew.specs.Crew.{cuts_in, offers_in}
+use Rattle.board_rounds.specs.Crew.{cuts_in, offers_in}
 
 -- on which word an offer was made, and which value
-abbrev pub bid_of : Offer → ℕ × ℕ
-bid_of o = (o.word, o.value)
+abbrev pub word_and_value : Offer → ℕ × ℕ
+word_and_value o = (o.word, o.value)
 
 -- what a pair offers at a rank: on the word of its cell a value that is less for a lesser rank, and then for a lesser input
-abbrev pub bid_at : Game → ℕ → ℕ → ℕ × ℕ
-bid_at g rank pair = (pair / g.inputs, 1 + rank * 4096 + pair % g.inputs)
+abbrev pub due_offer : Game → ℕ → ℕ → ℕ × ℕ
+due_offer g rank pair = (pair / g.inputs, 1 + rank * 4096 + pair % g.inputs)
 
 -- as many cuts of each pair as it has ranked successors, one offer for each resolved pair, and no other cut or offer
 pub record IsReckonedBy (g : Game) (rows : List (Option Row)) (accounts : List Account) : Type 0 where
   pub cuts : (pair : ℕ) → pair < pairs_of g → cut_count pair accounts ≡ ranked_in g rows pair
   pub no_other_cut : All (λ (c : Cut). c.counter < pairs_of g) (cuts_in accounts)
-  pub offers : IsPermutation (map (λ pair. bid_at g (rank_by g rows pair) pair) (filter (is_resolved g rows) (all_pairs g))) (map bid_of (offers_in accounts))
+  pub offers : IsPermutation (map (λ pair. due_offer g (rank_by g rows pair) pair) (filter (is_resolved g rows) (all_pairs g))) (map word_and_value (offers_in accounts))
 
 -- the accounts have the cuts and the offers of a game's solution
 abbrev pub IsReckoned : Game → List Account → Type 0

@@ -3,7 +3,7 @@ use Rattle.std.specs.Prelude.{◌≡◌}
 use Rattle.game_core.specs.Game.{Game}
 use Rattle.game_core.specs.Solution.{IsReachSolution}
 use Rattle.game_core.specs.Tally.{IsReachTally}
-use Rattle.board_crew.specs.declared.resolving.Resolved.{Resolved}
+use Rattle.board_rounds.specs.declared.resolving.Resolved.{Resolved}
 use Rattle.reach_avoid.specs.Boards.{IsBoardOf}
 use Rattle.reach_avoid.specs.Reckoned.{IsReckoned}
 

@@ -7,11 +7,11 @@
 #![tactic(auto)]
 
 mod outcome;
-mod rule;
+mod reach_rule;
+mod reach_solver;
 mod scratch;
-mod solver;
 
 pub use game_core::{NoMemory, Tally};
 pub use outcome::Solved;
+pub use reach_solver::{solve, solve_in};
 pub use scratch::{ReachStart, Scratch};
-pub use solver::{solve, solve_in};

@@ -4,4 +4,4 @@
 ///
 /// `tally` has as cuts the edges into cells with a row, as offers the enabled pairs all of whose successors have one, and the rounds up
 /// to the greatest rank.
-pub type Solved = board_crew::Resolved;
+pub type Solved = board_rounds::Resolved;

@@ -2,7 +2,7 @@
 ghost use Rattle.std.specs.Prelude.{◌≡◌};
 ghost use Rattle.reach_avoid.specs.Boards.{word_at};
 
-use board_crew::Start;
+use board_rounds::Start;
 use cell_counters::NONE;
 use game_core::{Forward, Mark};
 
@@ -10,11 +10,11 @@ use game_core::{Forward, Mark};
 pub struct ReachStart;
 
 /// The memory in which a reach game is solved.
-pub type Scratch = board_crew::Scratch<ReachStart>;
+pub type Scratch = board_rounds::Scratch<ReachStart>;
 
 impl Start for ReachStart {
     ghost use Rattle.std.specs.Prelude.{refl};
-    ghost use Rattle.board_crew.specs.Boards.{fans_of};
+    ghost use Rattle.board_rounds.specs.Boards.{fans_of};
     ghost use Rattle.reach_avoid.specs.Boards.{word_for, words_of};
 
     ghost number = { word_for };
@@ -31,7 +31,7 @@ impl Start for ReachStart {
         first_word(g.mark(c))
     }
 
-    ghost parts = { λ g. refl };
+    ghost joined = { λ g. refl };
 }
 
 fn first_word(mark: Mark) -> u64

@@ -3,7 +3,7 @@ use Rattle.std.proofs.Common.{◌≡◌, ℕ, Bool, true, false, List, [], ◌�
 use Rattle.std.specs.List.{list_all}
 use Rattle.std.proofs.lemmas.Bool.{and_parts}
 
--- Two fronts, the elements behind them, and the rests.
+-- Two fronts, the elements after them, and the rests.
 pub record AreOneCut (v w : List ℕ) (a b : ℕ) (s t : List ℕ) : Type 0 where
   pub front : v ≡ w
   pub stop : a ≡ b

@@ -13,7 +13,7 @@ pub record IsLine (line : List ℕ) : Type 0 where
   pub no_other : list_all no_feed front ≡ true
   pub are : line ≡ front ++ codes "\n"
 
--- Two lines, and what stands behind them.
+-- Two lines, and what stands after them.
 pub record AreSame (k l s t : List ℕ) : Type 0 where
   pub line : k ≡ l
   pub rest : s ≡ t

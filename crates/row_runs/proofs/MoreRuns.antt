@@ -1,35 +1,35 @@
--- One run more behind those that are read, and the rows of its cells.
+-- One run more after those that are read, and the rows of its cells.
 use Rattle.std.proofs.Common.{◌≡◌, ◌⊎◌, ℕ, ◌<◌, ◌≤◌, List, [], ◌∷◌, ◌++◌, Some, refl, sym, ap, ◌∙◌, arith, inl, inr}
 use Rattle.std.proofs.lemmas.Bool.{cases_lt}
 use Rattle.game_core.specs.declared.game.Row.{Row}
 use Rattle.row_runs.specs.declared.run.Run.{Run}
 use Rattle.game_core.specs.Solution.{row_of}
-use Rattle.row_runs.specs.declared.run.Version.{Version}
-use Rattle.row_runs.specs.declared.run.Version.TheVariants.{First, Second}
+use Rattle.row_runs.specs.declared.run.TableVersion.{TableVersion}
+use Rattle.row_runs.specs.declared.run.TableVersion.TheVariants.{First, Second}
 use Rattle.row_runs.specs.Runs.{MayFollow, HasCells, AreRuns, Gives}
 use Rattle.row_runs.specs.inside.Steps.{MayEnd, OneRunMore}
 use Rattle.row_runs.proofs.Telling.{some_same, forward}
 
-pub are_more : (v : Version) (runs : List Run) (r : Run) → AreRuns v runs → HasCells v r → MayEnd v runs r → AreRuns v (runs ++ r ∷ [])
+pub are_more : (v : TableVersion) (runs : List Run) (r : Run) → AreRuns v runs → HasCells v r → MayEnd v runs r → AreRuns v (runs ++ r ∷ [])
 are_more v [] r are cells end = (cells, tt, tt)
 are_more v (x ∷ []) r are cells end = (are.0, end, (cells, tt, tt))
 are_more v (x ∷ y ∷ runs) r are cells end = (are.0, are.1, are_more v (y ∷ runs) r are.2 cells end)
 
-behind : (v : Version) (r s : Run) → MayFollow v r s → r.last < s.first
-behind First r s h = h
-behind Second r s h = h.0
+comes_later : (v : TableVersion) (r s : Run) → MayFollow v r s → r.last < s.first
+comes_later First r s h = h
+comes_later Second r s h = h.0
 
 -- all cells of the runs lie before the next one
-pub gives_below : (v : Version) (runs : List Run) (r : Run) (c : ℕ) (row : Row) → AreRuns v runs → MayEnd v runs r → Gives runs c row → c < r.first
+pub gives_below : (v : TableVersion) (runs : List Run) (r : Run) (c : ℕ) (row : Row) → AreRuns v runs → MayEnd v runs r → Gives runs c row → c < r.first
 gives_below v [] r c row are end given = absurd given
 gives_below v (x ∷ []) r c row are end given = elim given [
-  | inl here ↦ let high = here.1 in let past = behind v x r end in omega (arith, high, past)
+  | inl here ↦ let high = here.1 in let past = comes_later v x r end in omega (arith, high, past)
   | inr rest ↦ absurd rest
 ]
 gives_below v (x ∷ y ∷ runs) r c row are end given = elim given [
   | inl here ↦
       let high = here.1 in
-      let past = behind v x y are.1 in
+      let past = comes_later v x y are.1 in
       let next = gives_below v (y ∷ runs) r y.first y.row are.2 end (inl (omega arith, forward v y are.2.0, refl)) in
       omega (arith, high, past, next)
   | inr rest ↦ gives_below v (y ∷ runs) r c row are.2 end rest

@@ -4,8 +4,8 @@ use Rattle.std.proofs.lemmas.List.{get_or_past, get_or-drop, length-drop}
 use Rattle.std.proofs.lemmas.Bool.{cases_lt}
 use Rattle.game_core.specs.declared.game.Row.{Row}
 use Rattle.game_core.specs.Solution.{row_of}
-use Rattle.row_runs.specs.declared.run.Version.{Version}
-use Rattle.row_runs.specs.declared.run.Version.TheVariants.{Second}
+use Rattle.row_runs.specs.declared.run.TableVersion.{TableVersion}
+use Rattle.row_runs.specs.declared.run.TableVersion.TheVariants.{Second}
 use Rattle.row_runs.specs.Runs.{runs_from}
 use Rattle.row_runs.proofs.NextRun.{next_run}
 
@@ -13,12 +13,12 @@ none_some : (row : Row) → None ≡ Some row → ⊥
 none_some row e = cc
 
 -- where no cell has a row there is no run
-no_runs : (v : Version) (c : ℕ) (rows : List (Option Row)) → ((i : ℕ) → i < length rows → row_of rows i ≡ None) → runs_from v c rows ≡ []
+no_runs : (v : TableVersion) (c : ℕ) (rows : List (Option Row)) → ((i : ℕ) → i < length rows → row_of rows i ≡ None) → runs_from v c rows ≡ []
 no_runs v c [] none = refl
 no_runs v c (o ∷ rows) none =
     ap (λ (x : Option Row). runs_from v c (x ∷ rows)) (none 0 (omega arith)) ∙ no_runs v (suc c) rows (λ i lt. none (suc i) (omega (arith, lt)))
 
-pub no_runs_left : (v : Version) (c : ℕ) (rows : List (Option Row)) → c ≤ length rows → ((i : ℕ) → c ≤ i → i < length rows → row_of rows i ≡ None) → runs_from v c (drop c rows) ≡ []
+pub no_runs_left : (v : TableVersion) (c : ℕ) (rows : List (Option Row)) → c ≤ length rows → ((i : ℕ) → c ≤ i → i < length rows → row_of rows i ≡ None) → runs_from v c (drop c rows) ≡ []
 no_runs_left v c rows le none =
     no_runs v c (drop c rows) (λ i lt. get_or-drop c rows i None ∙ none (c + i) (omega arith) (omega (arith, lt, le, length-drop c rows)))
 

@@ -1,11 +1,11 @@
--- The first run from a cell on: equal rows up to a cell, and another row or none behind it.
+-- The first run from a cell on: equal rows up to a cell, and another row or none after it.
 use Rattle.std.proofs.Common.{◌≡◌, ℕ, suc, ◌+◌, ◌-◌, ◌<◌, ◌≤◌, List, [], ◌∷◌, Option, Some, None, drop, refl, sym, ap, ◌∙◌, subst, arith, inl, inr}
 use Rattle.std.proofs.lemmas.Bool.{cases_lt}
 use Rattle.std.proofs.lemmas.List.{get_or-drop}
 use Rattle.game_core.specs.declared.game.Row.{Row}
 use Rattle.row_runs.specs.declared.run.Run.{Run}
 use Rattle.game_core.specs.Solution.{row_of}
-use Rattle.row_runs.specs.declared.run.Version.TheVariants.{Second}
+use Rattle.row_runs.specs.declared.run.TableVersion.TheVariants.{Second}
 use Rattle.row_runs.specs.Runs.{runs_from, MayLead, AreRuns, Gives}
 use Rattle.row_runs.proofs.Telling.{some_same, gives_above, AreOf, runs_are}
 use Rattle.row_runs.proofs.Uniqueness.{same_runs}
@@ -24,8 +24,8 @@ module _ (c first last : ℕ) (row : Row) (rows : List (Option Row)) (from : c �
   all : AreOf Second c (drop c rows) whole
   all = runs_are Second c (drop c rows)
 
-  behind : AreOf Second (suc last) (drop (suc last) rows) rest
-  behind = runs_are Second (suc last) (drop (suc last) rows)
+  after : AreOf Second (suc last) (drop (suc last) rows) rest
+  after = runs_are Second (suc last) (drop (suc last) rows)
 
   -- what runs from a cell on give is the row itself
   row_given : (k d : ℕ) (x : Row) → AreOf Second k (drop k rows) (runs_from Second k (drop k rows)) → Gives (runs_from Second k (drop k rows)) d x → row_of rows d ≡ Some x
@@ -47,7 +47,7 @@ module _ (c first last : ℕ) (row : Row) (rows : List (Option Row)) (from : c �
       (omega (arith, past), λ next same. ends (ap (row_of rows) next ∙ here.1 ∙ ap (λ (r : Row). Some r) (sym same)))
 
   joined_are : AreRuns Second (run ∷ rest)
-  joined_are = (some, lead rest behind.are (λ d x given. (gives_above Second (suc last) rest d x behind.are behind.begin given, row_given (suc last) d x behind given)), behind.are)
+  joined_are = (some, lead rest after.are (λ d x given. (gives_above Second (suc last) rest d x after.are after.begin given, row_given (suc last) d x after given)), after.are)
 
   no_row : (x : Row) → None ≡ Some x → ⊥
   no_row x e = cc
@@ -59,7 +59,7 @@ module _ (c first last : ℕ) (row : Row) (rows : List (Option Row)) (from : c �
       elim (cases_lt d first) [
         | inl early ↦ absurd (no_row x (sym (before d above early) ∙ is))
         | inr late ↦ elim (cases_lt last d) [
-          | inl past ↦ inr (given_row (suc last) d x behind (omega (arith, past)) is)
+          | inl past ↦ inr (given_row (suc last) d x after (omega (arith, past)) is)
           | inr here ↦ inl (late, here, some_same row x (sym (within d late here) ∙ is))
         ]
       ]
@@ -68,8 +68,8 @@ module _ (c first last : ℕ) (row : Row) (rows : List (Option Row)) (from : c �
   back d x given = elim given [
     | inl here ↦ let low = here.0 in given_row c d x all (omega (arith, from, low)) (within d here.0 here.1 ∙ ap (λ (r : Row). Some r) here.2)
     | inr later ↦
-        let above = gives_above Second (suc last) rest d x behind.are behind.begin later in
-        given_row c d x all (omega (arith, from, some, above)) (row_given (suc last) d x behind later)
+        let above = gives_above Second (suc last) rest d x after.are after.begin later in
+        given_row c d x all (omega (arith, from, some, above)) (row_given (suc last) d x after later)
   ]
 
   pub next_run : runs_from Second c (drop c rows) ≡ record { first = first; last = last; row = row } ∷ runs_from Second (suc last) (drop (suc last) rows)

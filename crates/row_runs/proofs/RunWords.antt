@@ -10,15 +10,15 @@ use Rattle.std.proofs.lemmas.List.{get_or_past}
 use Rattle.std.proofs.lemmas.List.Folds.{list_all-append}
 use Rattle.game_core.specs.declared.game.Row.{Row}
 use Rattle.game_core.specs.Solution.{row_of}
-use Rattle.row_runs.specs.declared.row_words.RowWords.TheVariants.{Both}
+use Rattle.row_runs.specs.declared.row_format.RowFormat.TheVariants.{Both}
 use Rattle.row_runs.specs.declared.run.Run.{Run}
-use Rattle.row_runs.specs.declared.run.Version.TheVariants.{Second}
+use Rattle.row_runs.specs.declared.run.TableVersion.TheVariants.{Second}
 use Rattle.row_runs.specs.Runs.{AreRuns, Gives, runs_from}
 use Rattle.row_runs.specs.RunText.{run_line, count_line, end_line}
 use Rattle.row_runs.proofs.Cuts.{one_cut}
 use Rattle.row_runs.proofs.Lines.{IsLine, no_feed}
-use Rattle.row_runs.proofs.SameRows.{tell_apart}
-use Rattle.row_runs.proofs.Telling.{runs_tell}
+use Rattle.row_runs.proofs.SameRows.{differ}
+use Rattle.row_runs.proofs.Telling.{runs_encode}
 
 -- ---- words
 
@@ -157,9 +157,9 @@ module _ (rows : List (Option Row)) (h : AreSpelledOut rows) where
       (run_spelled r order.0 (told r.last r.row (inl (order.0, omega arith, refl))), each_run runs order.2 (λ c row given. told c row (inr given)))
 
   pub spelled_runs : AllByRecursion IsSpelledOut (runs_from Second 0 rows)
-  spelled_runs = let own = runs_tell Second rows in each_run (runs_from Second 0 rows) own.0 (λ c row given. (own.1 c row).1 given)
+  spelled_runs = let own = runs_encode Second rows in each_run (runs_from Second 0 rows) own.0 (λ c row given. (own.1 c row).1 given)
 
 -- the lines of the runs tell as many rows apart
-pub lines_tell_apart : (rows others : List (Option Row)) → AreSpelledOut rows → AreSpelledOut others → length rows ≡ length others → map (run_line Second Both) (runs_from Second 0 rows) ≡ map (run_line Second Both) (runs_from Second 0 others) → rows ≡ others
-lines_tell_apart rows others h k len e =
-    tell_apart Second rows others len (same_runs (runs_from Second 0 rows) (runs_from Second 0 others) (spelled_runs rows h) (spelled_runs others k) e)
+pub lines_differ : (rows others : List (Option Row)) → AreSpelledOut rows → AreSpelledOut others → length rows ≡ length others → map (run_line Second Both) (runs_from Second 0 rows) ≡ map (run_line Second Both) (runs_from Second 0 others) → rows ≡ others
+lines_differ rows others h k len e =
+    differ Second rows others len (same_runs (runs_from Second 0 rows) (runs_from Second 0 others) (spelled_runs rows h) (spelled_runs others k) e)

@@ -3,9 +3,9 @@ use Rattle.std.proofs.Common.{◌≡◌, ℕ, zero, suc, List, [], ◌∷◌, le
 use Rattle.game_core.specs.declared.game.Row.{Row}
 use Rattle.game_core.specs.Solution.{row_of}
 use Rattle.row_runs.specs.declared.run.Run.{Run}
-use Rattle.row_runs.specs.Runs.{runs_from, TellRows}
-use Rattle.row_runs.specs.Laws.{RunsTellApart}
-use Rattle.row_runs.proofs.Telling.{runs_tell}
+use Rattle.row_runs.specs.Runs.{runs_from, EncodeRows}
+use Rattle.row_runs.specs.Laws.{RunsDiffer}
+use Rattle.row_runs.proofs.Telling.{runs_encode}
 
 -- one list has a row of the other, wherever that has one
 abbrev Agree : List (Option Row) → List (Option Row) → Type 0
@@ -28,8 +28,8 @@ same_rows (a ∷ rows) (b ∷ others) len f g =
     ap (λ (o : Option Row). o ∷ rows) head
     ∙ ap (λ (os : List (Option Row)). b ∷ os) (same_rows rows others (omega (arith, len)) (λ c row. f (suc c) row) (λ c row. g (suc c) row))
 
-pub tell_apart : RunsTellApart
-tell_apart v rows others len e =
-    let told = (runs_tell v rows).1 in
-    let also : TellRows (runs_from v 0 rows) others = subst (λ (runs : List Run). TellRows runs others) (sym e) (runs_tell v others).1 in
+pub differ : RunsDiffer
+differ v rows others len e =
+    let told = (runs_encode v rows).1 in
+    let also : EncodeRows (runs_from v 0 rows) others = subst (λ (runs : List Run). EncodeRows runs others) (sym e) (runs_encode v others).1 in
     same_rows rows others len (λ c row is. (also c row).1 ((told c row).0 is)) (λ c row is. (told c row).1 ((also c row).0 is))

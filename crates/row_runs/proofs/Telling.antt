@@ -5,10 +5,10 @@ use Rattle.std.proofs.lemmas.Bool.{and_parts, eqb-true, eq-eqb, false≢true}
 use Rattle.game_core.specs.declared.game.Row.{Row}
 use Rattle.row_runs.specs.declared.run.Run.{Run}
 use Rattle.game_core.specs.Solution.{row_of}
-use Rattle.row_runs.specs.declared.run.Version.{Version}
-use Rattle.row_runs.specs.declared.run.Version.TheVariants.{First, Second}
+use Rattle.row_runs.specs.declared.run.TableVersion.{TableVersion}
+use Rattle.row_runs.specs.declared.run.TableVersion.TheVariants.{First, Second}
 use Rattle.row_runs.specs.Runs.{is_same_row, prepend_row, runs_from, MayFollow, HasCells, MayLead, AreRuns, Gives}
-use Rattle.row_runs.specs.Laws.{RunsTellTheRows}
+use Rattle.row_runs.specs.Laws.{RunsEncodeTheRows}
 
 same_row : (a b : Row) → is_same_row a b ≡ true → a ≡ b
 same_row a b e =
@@ -34,16 +34,16 @@ abbrev pub BeginAt : ℕ → List Run → Type 0
 BeginAt c [] = Unit {0}
 BeginAt c (r ∷ runs) = c ≤ r.first
 
-pub forward : (v : Version) (r : Run) → HasCells v r → r.first ≤ r.last
+pub forward : (v : TableVersion) (r : Run) → HasCells v r → r.first ≤ r.last
 forward First r h = omega (arith, h)
 forward Second r h = h
 
-later : (v : Version) (r s : Run) → MayFollow v r s → r.last < s.first
+later : (v : TableVersion) (r s : Run) → MayFollow v r s → r.last < s.first
 later First r s h = h
 later Second r s h = h.0
 
--- the runs behind one begin behind its last cell
-pub begin_later : (v : Version) (r : Run) (runs : List Run) → MayLead v r runs → BeginAt (suc r.last) runs
+-- the runs after one begin after its last cell
+pub begin_later : (v : TableVersion) (r : Run) (runs : List Run) → MayLead v r runs → BeginAt (suc r.last) runs
 begin_later v r [] h = tt
 begin_later v r (s ∷ runs) h = let below = later v r s h in omega (arith, below)
 
@@ -52,7 +52,7 @@ begin_lower c d [] le h = tt
 begin_lower c d (r ∷ runs) le h = omega (arith, le, h)
 
 -- a cell that is given a row isn't below the first run
-pub gives_above : (v : Version) (b : ℕ) (runs : List Run) (c : ℕ) (row : Row) → AreRuns v runs → BeginAt b runs → Gives runs c row → b ≤ c
+pub gives_above : (v : TableVersion) (b : ℕ) (runs : List Run) (c : ℕ) (row : Row) → AreRuns v runs → BeginAt b runs → Gives runs c row → b ≤ c
 gives_above v b [] c row are begin given = absurd given
 gives_above v b (r ∷ runs) c row are begin given = elim given [
   | inl here ↦ let low = here.0 in omega (arith, begin, low)
@@ -63,7 +63,7 @@ gives_above v b (r ∷ runs) c row are begin given = elim given [
 ]
 
 -- What the runs of rows from a cell on are.
-pub record AreOf (v : Version) (c : ℕ) (rows : List (Option Row)) (runs : List Run) : Type 0 where
+pub record AreOf (v : TableVersion) (c : ℕ) (rows : List (Option Row)) (runs : List Run) : Type 0 where
   pub are : AreRuns v runs
   pub begin : BeginAt c runs
   pub tell : (i : ℕ) (row : Row) → (row_of rows i ≡ Some row) ↔ Gives runs (c + i) row
@@ -71,7 +71,7 @@ pub record AreOf (v : Version) (c : ℕ) (rows : List (Option Row)) (runs : List
 none_here : (row : Row) → None ≡ Some row → ⊥
 none_here row e = cc
 
-skipped : (v : Version) (c : ℕ) (rows : List (Option Row)) (runs : List Run) → AreOf v (suc c) rows runs → AreOf v c (None ∷ rows) runs
+skipped : (v : TableVersion) (c : ℕ) (rows : List (Option Row)) (runs : List Run) → AreOf v (suc c) rows runs → AreOf v c (None ∷ rows) runs
 skipped v c rows runs h = record { are = h.are; begin = begin_lower c (suc c) runs (omega arith) h.begin; tell = tells }
   where
     tells : (i : ℕ) (row : Row) → (row_of (None ∷ rows) i ≡ Some row) ↔ Gives runs (c + i) row
@@ -81,11 +81,11 @@ skipped v c rows runs h = record { are = h.are; begin = begin_lower c (suc c) ru
         subst (λ (n : ℕ). (row_of rows i ≡ Some row) ↔ Gives runs n row) same (h.tell i row)
 
 -- a run of one cell before others
-single : (v : Version) (c : ℕ) (row : Row) (rows : List (Option Row)) (runs : List Run) → HasCells v (record { first = c; last = c; row = row }) → MayLead v (record { first = c; last = c; row = row }) runs → AreOf v (suc c) rows runs → AreOf v c (Some row ∷ rows) (record { first = c; last = c; row = row } ∷ runs)
+single : (v : TableVersion) (c : ℕ) (row : Row) (rows : List (Option Row)) (runs : List Run) → HasCells v (record { first = c; last = c; row = row }) → MayLead v (record { first = c; last = c; row = row }) runs → AreOf v (suc c) rows runs → AreOf v c (Some row ∷ rows) (record { first = c; last = c; row = row } ∷ runs)
 single v c row rows runs one lead h = record { are = (one, lead, h.are); begin = omega arith; tell = tells }
   where
-    behind : (i : ℕ) (other : Row) → Gives runs (c + suc i) other ↔ Gives runs (suc c + i) other
-    behind i other =
+    after : (i : ℕ) (other : Row) → Gives runs (c + suc i) other ↔ Gives runs (suc c + i) other
+    after i other =
         let same : suc c + i ≡ c + suc i = omega arith in
         ((λ g. subst (λ (n : ℕ). Gives runs n other) (sym same) g), (λ g. subst (λ (n : ℕ). Gives runs n other) same g))
 
@@ -98,10 +98,10 @@ single v c row rows runs one lead h = record { are = (one, lead, h.are); begin =
       ]),
     )
     tells (suc i) other = (
-      (λ e. inr ((behind i other).1 ((h.tell i other).0 e))),
+      (λ e. inr ((after i other).1 ((h.tell i other).0 e))),
       (λ given. elim given [
         | inl here ↦ absurd (let low = here.1 in omega (arith, low))
-        | inr rest ↦ (h.tell i other).1 ((behind i other).0 rest)
+        | inr rest ↦ (h.tell i other).1 ((after i other).0 rest)
       ]),
     )
 
@@ -116,8 +116,8 @@ joined c row rows r runs next same h = record { are = (cells, lead (begin_later 
     lead begin [] may = tt
     lead begin (s ∷ more) may = (may.0, λ right is. may.1 right (sym same ∙ is))
 
-    behind : (i : ℕ) (other : Row) → Gives (r ∷ runs) (suc c + i) other ↔ Gives (record { first = c; last = r.last; row = row } ∷ runs) (c + suc i) other
-    behind i other =
+    after : (i : ℕ) (other : Row) → Gives (r ∷ runs) (suc c + i) other ↔ Gives (record { first = c; last = r.last; row = row } ∷ runs) (c + suc i) other
+    after i other =
         let at : suc c + i ≡ c + suc i = omega arith in (
           (λ given. elim given [
             | inl here ↦ let low = here.0 in let high = here.1 in inl (omega arith, omega (arith, high), same ∙ here.2)
@@ -138,11 +138,11 @@ joined c row rows r runs next same h = record { are = (cells, lead (begin_later 
       ]),
     )
     tells (suc i) other = (
-      (λ e. (behind i other).0 ((h.tell i other).0 e)),
-      (λ given. (h.tell i other).1 ((behind i other).1 given)),
+      (λ e. (after i other).0 ((h.tell i other).0 e)),
+      (λ given. (h.tell i other).1 ((after i other).1 given)),
     )
 
-put : (v : Version) (c : ℕ) (row : Row) (rows : List (Option Row)) (runs : List Run) → AreOf v (suc c) rows runs → AreOf v c (Some row ∷ rows) (prepend_row v c row runs)
+put : (v : TableVersion) (c : ℕ) (row : Row) (rows : List (Option Row)) (runs : List Run) → AreOf v (suc c) rows runs → AreOf v c (Some row ∷ rows) (prepend_row v c row runs)
 put First c row rows runs h = single First c row rows runs refl (lead runs h.begin) h
   where
     lead : (runs : List Run) → BeginAt (suc c) runs → MayLead First (record { first = c; last = c; row = row }) runs
@@ -160,12 +160,12 @@ put Second c row rows (r ∷ runs) h = by (eqb r.first (suc c)) (is_same_row row
     by true false e f = single Second c row rows (r ∷ runs) (omega arith) (apart (inr (other_row row r.row f))) h
     by false t e f = single Second c row rows (r ∷ runs) (omega arith) (apart (inl (λ is. false≢true (sym e ∙ eq-eqb r.first (suc c) is)))) h
 
-pub runs_are : (v : Version) (c : ℕ) (rows : List (Option Row)) → AreOf v c rows (runs_from v c rows)
+pub runs_are : (v : TableVersion) (c : ℕ) (rows : List (Option Row)) → AreOf v c rows (runs_from v c rows)
 runs_are v c [] = record { are = tt; begin = tt; tell = λ i row. ((λ e. absurd (none_here row e)), (λ given. absurd given)) }
 runs_are v c (None ∷ rows) = skipped v c rows (runs_from v (suc c) rows) (runs_are v (suc c) rows)
 runs_are v c (Some row ∷ rows) = put v c row rows (runs_from v (suc c) rows) (runs_are v (suc c) rows)
 
-pub runs_tell : RunsTellTheRows
-runs_tell v rows =
+pub runs_encode : RunsEncodeTheRows
+runs_encode v rows =
     let h = runs_are v 0 rows in
     (h.are, λ c row. let same : 0 + c ≡ c = omega arith in subst (λ (n : ℕ). (row_of rows c ≡ Some row) ↔ Gives (runs_from v 0 rows) n row) same (h.tell c row))

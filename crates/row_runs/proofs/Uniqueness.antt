@@ -3,8 +3,8 @@ use Rattle.std.proofs.Common.{◌≡◌, ℕ, suc, ◌<◌, ◌≤◌, List, [],
 use Rattle.std.proofs.lemmas.Bool.{cases_lt}
 use Rattle.game_core.specs.declared.game.Row.{Row}
 use Rattle.row_runs.specs.declared.run.Run.{Run}
-use Rattle.row_runs.specs.declared.run.Version.{Version}
-use Rattle.row_runs.specs.declared.run.Version.TheVariants.{First, Second}
+use Rattle.row_runs.specs.declared.run.TableVersion.{TableVersion}
+use Rattle.row_runs.specs.declared.run.TableVersion.TheVariants.{First, Second}
 use Rattle.row_runs.specs.Runs.{HasCells, AreRuns, Gives}
 use Rattle.row_runs.specs.Laws.{OneListOfRuns}
 use Rattle.row_runs.proofs.Telling.{gives_above, begin_later, forward}
@@ -13,13 +13,13 @@ use Rattle.row_runs.proofs.Telling.{gives_above, begin_later, forward}
 abbrev GiveAs : List Run → List Run → Type 0
 GiveAs runs others = (c : ℕ) (row : Row) → Gives runs c row → Gives others c row
 
-first_given : (v : Version) (r : Run) (runs : List Run) → HasCells v r → Gives (r ∷ runs) r.first r.row
+first_given : (v : TableVersion) (r : Run) (runs : List Run) → HasCells v r → Gives (r ∷ runs) r.first r.row
 first_given v r runs cells = inl (omega arith, forward v r cells, refl)
 
-begins : (v : Version) (r s : Run) (runs others : List Run) → AreRuns v (r ∷ runs) → AreRuns v (s ∷ others) → GiveAs (r ∷ runs) (s ∷ others) → s.first ≤ r.first
+begins : (v : TableVersion) (r s : Run) (runs others : List Run) → AreRuns v (r ∷ runs) → AreRuns v (s ∷ others) → GiveAs (r ∷ runs) (s ∷ others) → s.first ≤ r.first
 begins v r s runs others are also alike = gives_above v s.first (s ∷ others) r.first r.row also (omega arith) (alike r.first r.row (first_given v r runs are.0))
 
-same_row_first : (v : Version) (r s : Run) (runs others : List Run) → AreRuns v (r ∷ runs) → AreRuns v (s ∷ others) → GiveAs (r ∷ runs) (s ∷ others) → r.first ≡ s.first → s.row ≡ r.row
+same_row_first : (v : TableVersion) (r s : Run) (runs others : List Run) → AreRuns v (r ∷ runs) → AreRuns v (s ∷ others) → GiveAs (r ∷ runs) (s ∷ others) → r.first ≡ s.first → s.row ≡ r.row
 same_row_first v r s runs others are also alike same = elim (alike r.first r.row (first_given v r runs are.0)) [
   | inl here ↦ here.2
   | inr rest ↦ absurd (
@@ -28,7 +28,7 @@ same_row_first v r s runs others are also alike same = elim (alike r.first r.row
       omega (arith, above, some, same))
 ]
 
--- a run doesn't go on with the one behind it
+-- a run doesn't go on with the one after it
 goes_no_further : (r : Run) (runs : List Run) (row : Row) → AreRuns Second (r ∷ runs) → r.row ≡ row → Gives runs (suc r.last) row → ⊥
 goes_no_further r [] row are same given = given
 goes_no_further r (t ∷ runs) row are same given = elim given [
@@ -44,7 +44,7 @@ goes_no_further r (t ∷ runs) row are same given = elim given [
       omega (arith, above, some, past)
 ]
 
-ends : (v : Version) (r s : Run) (runs others : List Run) → AreRuns v (r ∷ runs) → AreRuns v (s ∷ others) → GiveAs (s ∷ others) (r ∷ runs) → r.first ≡ s.first → r.row ≡ s.row → s.last ≤ r.last
+ends : (v : TableVersion) (r s : Run) (runs others : List Run) → AreRuns v (r ∷ runs) → AreRuns v (s ∷ others) → GiveAs (s ∷ others) (r ∷ runs) → r.first ≡ s.first → r.row ≡ s.row → s.last ≤ r.last
 ends First r s runs others are also alike same row = let one = are.0 in let two = also.0 in omega (arith, one, two, same)
 ends Second r s runs others are also alike same row =
     elim (cases_lt r.last s.last) [
@@ -58,7 +58,7 @@ ends Second r s runs others are also alike same row =
       | inr rest ↦ goes_no_further r runs s.row are row rest
     ]
 
-rest_gives : (v : Version) (r s : Run) (runs others : List Run) → AreRuns v (r ∷ runs) → GiveAs (r ∷ runs) (s ∷ others) → r.last ≡ s.last → GiveAs runs others
+rest_gives : (v : TableVersion) (r s : Run) (runs others : List Run) → AreRuns v (r ∷ runs) → GiveAs (r ∷ runs) (s ∷ others) → r.last ≡ s.last → GiveAs runs others
 rest_gives v r s runs others are alike same c row given = elim (alike c row (inr given)) [
   | inl here ↦ absurd (
       let above = gives_above v (suc r.last) runs c row are.2 (begin_later v r runs are.1) given in
@@ -67,7 +67,7 @@ rest_gives v r s runs others are alike same c row given = elim (alike c row (inr
   | inr rest ↦ rest
 ]
 
-pub same_runs : (v : Version) (runs others : List Run) → AreRuns v runs → AreRuns v others → GiveAs runs others → GiveAs others runs → runs ≡ others
+pub same_runs : (v : TableVersion) (runs others : List Run) → AreRuns v runs → AreRuns v others → GiveAs runs others → GiveAs others runs → runs ≡ others
 same_runs v [] [] are also alike back = refl
 same_runs v [] (s ∷ others) are also alike back = absurd (back s.first s.row (first_given v s others also.0))
 same_runs v (r ∷ runs) [] are also alike back = absurd (alike r.first r.row (first_given v r runs are.0))

@@ -3,11 +3,11 @@ use Rattle.std.specs.Prelude.{ℕ, ◌==◌, List, [], ◌∷◌, ◌++◌, map,
 use Rattle.std.specs.List.{join_with_byte}
 use Rattle.std.specs.Fmt.{decimal}
 use Rattle.game_core.specs.declared.game.Row.{Row}
-use Rattle.row_runs.specs.declared.row_words.RowWords.{RowWords}
-use Rattle.row_runs.specs.declared.row_words.RowWords.TheVariants.{InputAboveZero, InputAlone, Both}
+use Rattle.row_runs.specs.declared.row_format.RowFormat.{RowFormat}
+use Rattle.row_runs.specs.declared.row_format.RowFormat.TheVariants.{InputAboveZero, InputAlone, Both}
 use Rattle.row_runs.specs.declared.run.Run.{Run}
-use Rattle.row_runs.specs.declared.run.Version.{Version}
-use Rattle.row_runs.specs.declared.run.Version.TheVariants.{First, Second}
+use Rattle.row_runs.specs.declared.run.TableVersion.{TableVersion}
+use Rattle.row_runs.specs.declared.run.TableVersion.TheVariants.{First, Second}
 use Rattle.row_runs.specs.Runs.{runs_from}
 
 -- words with a space between two, and a line feed
@@ -15,25 +15,25 @@ abbrev pub line : List (List ℕ) → List ℕ
 line words = join_with_byte 32 words ++ codes "\n"
 
 -- the rank's number, or `-` where there are no ranks
-abbrev pub rank_word : RowWords → Row → List ℕ
-rank_word InputAboveZero row = decimal row.rank
-rank_word InputAlone row = codes "-"
-rank_word Both row = decimal row.rank
+abbrev pub rank_field : RowFormat → Row → List ℕ
+rank_field InputAboveZero row = decimal row.rank
+rank_field InputAlone row = codes "-"
+rank_field Both row = decimal row.rank
 
 -- the input's number, or `-` at rank 0 where nothing is applied
-abbrev pub input_word : RowWords → Row → List ℕ
-input_word InputAboveZero row = if row.rank == 0 then codes "-" else decimal row.input
-input_word InputAlone row = decimal row.input
-input_word Both row = decimal row.input
+abbrev pub input_field : RowFormat → Row → List ℕ
+input_field InputAboveZero row = if row.rank == 0 then codes "-" else decimal row.input
+input_field InputAlone row = decimal row.input
+input_field Both row = decimal row.input
 
 -- the line of a run: its cell in the first version, its first and last cell in the second, and the words of its row
-abbrev pub run_line : Version → RowWords → Run → List ℕ
-run_line First words r = line (decimal r.first ∷ rank_word words r.row ∷ input_word words r.row ∷ [])
+abbrev pub run_line : TableVersion → RowFormat → Run → List ℕ
+run_line First words r = line (decimal r.first ∷ rank_field words r.row ∷ input_field words r.row ∷ [])
 run_line Second words r =
-    line (decimal r.first ∷ decimal r.last ∷ rank_word words r.row ∷ input_word words r.row ∷ [])
+    line (decimal r.first ∷ decimal r.last ∷ rank_field words r.row ∷ input_field words r.row ∷ [])
 
 -- the lines of the longest runs of cells with one row, in these words
-abbrev pub run_lines : RowWords → List (Option Row) → List (List ℕ)
+abbrev pub run_lines : RowFormat → List (Option Row) → List (List ℕ)
 run_lines words rows = map (run_line Second words) (runs_from Second 0 rows)
 
 -- the line that tells how many lines of runs follow

@@ -4,14 +4,14 @@ use Rattle.std.specs.Prelude.{◌≡◌, ◌≢◌, ◌⊎◌, ℕ, suc, ◌<◌
 use Rattle.game_core.specs.declared.game.Row.{Row}
 use Rattle.game_core.specs.Solution.{row_of}
 use Rattle.row_runs.specs.declared.run.Run.{Run}
-use Rattle.row_runs.specs.declared.run.Version.{Version}
-use Rattle.row_runs.specs.declared.run.Version.TheVariants.{First, Second}
+use Rattle.row_runs.specs.declared.run.TableVersion.{TableVersion}
+use Rattle.row_runs.specs.declared.run.TableVersion.TheVariants.{First, Second}
 
 abbrev pub is_same_row : Row → Row → Bool
 is_same_row a b = (a.rank == b.rank) && (a.input == b.input)
 
--- a cell's row before the runs of the cells behind it
-abbrev pub prepend_row : Version → ℕ → Row → List Run → List Run
+-- a cell's row before the runs of the cells after it
+abbrev pub prepend_row : TableVersion → ℕ → Row → List Run → List Run
 prepend_row First c row runs = record { first = c; last = c; row = row } ∷ runs
 prepend_row Second c row [] = record { first = c; last = c; row = row } ∷ []
 prepend_row Second c row (r ∷ runs) =
@@ -19,28 +19,28 @@ prepend_row Second c row (r ∷ runs) =
     else record { first = c; last = c; row = row } ∷ r ∷ runs
 
 -- the runs of rows, the first of which is that of cell c
-abbrev pub runs_from : Version → ℕ → List (Option Row) → List Run
+abbrev pub runs_from : TableVersion → ℕ → List (Option Row) → List Run
 runs_from version c [] = []
 runs_from version c (None ∷ rows) = runs_from version (suc c) rows
 runs_from version c (Some row ∷ rows) = prepend_row version c row (runs_from version (suc c) rows)
 
--- a run may stand right behind another: its cells come later, and in the second version neighbours have different rows
-abbrev pub MayFollow : Version → Run → Run → Type 0
+-- a run may stand right after another: its cells come later, and in the second version neighbours have different rows
+abbrev pub MayFollow : TableVersion → Run → Run → Type 0
 MayFollow First r s = r.last < s.first
 MayFollow Second r s = (r.last < s.first) × (suc r.last ≡ s.first → r.row ≢ s.row)
 
 -- a run has cells, in the first version one
-abbrev pub HasCells : Version → Run → Type 0
+abbrev pub HasCells : TableVersion → Run → Type 0
 HasCells First r = r.first ≡ r.last
 HasCells Second r = r.first ≤ r.last
 
 -- a run may stand before the first of these
-abbrev pub MayLead : Version → Run → List Run → Type 0
+abbrev pub MayLead : TableVersion → Run → List Run → Type 0
 MayLead version r [] = Unit {0}
 MayLead version r (s ∷ runs) = MayFollow version r s
 
--- runs, one behind another
-abbrev pub AreRuns : Version → List Run → Type 0
+-- runs, one after another
+abbrev pub AreRuns : TableVersion → List Run → Type 0
 AreRuns version [] = Unit {0}
 AreRuns version (r ∷ runs) = HasCells version r × MayLead version r runs × AreRuns version runs
 
@@ -50,8 +50,8 @@ Gives [] c row = ⊥
 Gives (r ∷ runs) c row = ((r.first ≤ c) × (c ≤ r.last) × (r.row ≡ row)) ⊎ Gives runs c row
 
 -- runs tell the rows: each gives its row to its cells, and no other cell has a row
-abbrev pub TellRows : List Run → List (Option Row) → Type 0
-TellRows runs rows = (c : ℕ) (row : Row) → (row_of rows c ≡ Some row) ↔ Gives runs c row
+abbrev pub EncodeRows : List Run → List (Option Row) → Type 0
+EncodeRows runs rows = (c : ℕ) (row : Row) → (row_of rows c ≡ Some row) ↔ Gives runs c row
 
 -- Rows after a run's row was given to its cells.
 pub record IsFilled (run : Run) (rows after : List (Option Row)) : Type 0 where

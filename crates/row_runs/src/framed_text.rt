@@ -2,7 +2,7 @@ ghost use Rattle.std.specs.Prelude.{◌≡◌, ◌++◌};
 ghost use Rattle.row_runs.specs.RunText.{end_line};
 
 use std::marker::Model;
-use text_pieces::{Pieces, copy_front};
+use text_pieces::{Pieces, copy_prefix};
 
 /// The last line.
 const END: &[u8] = b"end\n";
@@ -11,7 +11,7 @@ const END: &[u8] = b"end\n";
 #[derive(Drop)]
 pub struct FramedText<T: Pieces + Drop> {
     /// The front, and how many of its bytes are written.
-    front: Vec<u8>,
+    header: Vec<u8>,
     at: usize,
     body: T,
     /// How many bytes of the last line are written.
@@ -24,18 +24,18 @@ impl<T: Pieces + Drop> Model for FramedText<T> {
 
     ghost Value = { List ℕ };
 
-    ghost view = { λ t. drop t.at t.front.items ++ (T.left t.body ++ drop t.end_at end_line) };
+    ghost view = { λ t. drop t.at t.header.items ++ (T.left t.body ++ drop t.end_at end_line) };
 
-    ghost invariant = { λ t. (t.at ≤ length t.front.items) × (t.end_at ≤ length end_line) };
+    ghost invariant = { λ t. (t.at ≤ length t.header.items) × (t.end_at ≤ length end_line) };
 }
 
 impl<T: Pieces + Drop> FramedText<T> {
     /// The whole text.
-    pub fn new(front: Vec<u8>, body: T) -> FramedText<T>
-        ensures { result ≡ front.items ++ (T.left body ++ end_line) }
+    pub fn new(header: Vec<u8>, body: T) -> FramedText<T>
+        ensures { result ≡ header.items ++ (T.left body ++ end_line) }
     {
         FramedText {
-            front,
+            header,
             at: 0,
             body,
             end_at: 0,
@@ -47,8 +47,8 @@ impl<T: Pieces + Drop> Pieces for FramedText<T> {
     ghost left = { λ t. t };
 
     fn copy_some(&mut self, buf: &mut [u8]) -> usize {
-        if self.at < self.front.len() {
-            let count = copy_front(&self.front[self.at..], buf);
+        if self.at < self.header.len() {
+            let count = copy_prefix(&self.header[self.at..], buf);
             self.at += count;
             return count;
         }
@@ -56,7 +56,7 @@ impl<T: Pieces + Drop> Pieces for FramedText<T> {
         if count > 0 {
             return count;
         }
-        let count = copy_front(&END[self.end_at..], buf);
+        let count = copy_prefix(&END[self.end_at..], buf);
         self.end_at += count;
         count
     }

@@ -1,10 +1,10 @@
 //! What holds of every list of rows.
 
-ghost use Rattle.row_runs.specs.Laws.{RunsTellTheRows, OneListOfRuns, RunsTellApart};
+ghost use Rattle.row_runs.specs.Laws.{RunsEncodeTheRows, OneListOfRuns, RunsDiffer};
 
-/// The runs of rows stand one behind another, and tell the rows.
-pub fn runs_tell_the_rows()
-    ensures { RunsTellTheRows }
+/// The runs of rows stand one after another, and tell the rows.
+pub fn runs_encode_the_rows()
+    ensures { RunsEncodeTheRows }
 {}
 
 /// No two lists of runs tell the same rows.
@@ -13,6 +13,6 @@ pub fn one_list_of_runs()
 {}
 
 /// No two lists of as many rows have the same runs.
-pub fn runs_tell_rows_apart()
-    ensures { RunsTellApart }
+pub fn different_rows_have_different_runs()
+    ensures { RunsDiffer }
 {}

@@ -1,34 +1,34 @@
 ghost use Rattle.std.specs.Prelude.{◌≡◌, ◌+◌, ◌<◌, ◌≤◌, ◌∷◌, ◌++◌, [], length, drop};
 ghost use Rattle.std.specs.Fmt.{decimal};
-ghost use Rattle.row_runs.specs.RunText.{rank_word, input_word, run_line, count_line};
-ghost use Rattle.row_runs.specs.declared.run.Version.TheVariants.{Second};
+ghost use Rattle.row_runs.specs.RunText.{rank_field, input_field, run_line, count_line};
+ghost use Rattle.row_runs.specs.declared.run.TableVersion.TheVariants.{Second};
 
-use crate::row_words::RowWords;
+use crate::row_format::RowFormat;
 use crate::run::Run;
 use game_core::Row;
 use itoa::write_digits;
 use std::marker::Model;
 
-/// As many bytes as the longest line has: a word, three numbers of 32 bits and six of 128 bits, with a byte behind each.
-const ROOM: usize = 320;
+/// As many bytes as the longest line has: a word, three numbers of 32 bits and six of 128 bits, with a byte after each.
+const LINE_CAPACITY: usize = 320;
 
 /// A line that is written from its end, and then taken from its front. Seen as its bytes.
 #[derive(Drop)]
 pub struct LineText {
-    bytes: [u8; ROOM],
+    bytes: [u8; LINE_CAPACITY],
     /// The bytes from here on.
     start: usize,
 }
 
 impl Model for LineText {
     ghost use Rattle.std.specs.Prelude.{List, ℕ, drop, ◌≤◌};
-    ghost use Rattle.row_runs.specs.declared.line_text.TheConstants.{ROOM};
+    ghost use Rattle.row_runs.specs.declared.line_text.TheConstants.{LINE_CAPACITY};
 
     ghost Value = { List ℕ };
 
     ghost view = { λ l. drop l.start l.bytes };
 
-    ghost invariant = { λ l. l.start ≤ ROOM };
+    ghost invariant = { λ l. l.start ≤ LINE_CAPACITY };
 }
 
 impl LineText {
@@ -38,8 +38,8 @@ impl LineText {
         ensures length { length result ≡ 0 }
     {
         LineText {
-            bytes: [0; ROOM],
-            start: ROOM,
+            bytes: [0; LINE_CAPACITY],
+            start: LINE_CAPACITY,
         }
     }
 
@@ -56,12 +56,12 @@ impl LineText {
         ensures text { self.new ≡ [] }
         ensures length { length self.new ≡ 0 }
     {
-        self.start = ROOM;
+        self.start = LINE_CAPACITY;
     }
 
     /// Puts bytes before the rest.
     pub fn put_before(&mut self, text: &[u8])
-        requires { length text.now + length self.old ≤ ROOM }
+        requires { length text.now + length self.old ≤ LINE_CAPACITY }
         ensures text { self.new ≡ text.now ++ self.old }
         ensures length { length self.new ≡ length text.now + length self.old }
     {
@@ -72,7 +72,7 @@ impl LineText {
 
     /// Puts a number's digits before the rest.
     pub fn put_number_before(&mut self, number: u32)
-        requires { 10 + length self.old ≤ ROOM }
+        requires { 10 + length self.old ≤ LINE_CAPACITY }
         ensures text { self.new ≡ decimal number ++ self.old }
         ensures length { length self.new ≤ 10 + length self.old }
     {
@@ -80,9 +80,9 @@ impl LineText {
     }
 
     /// Puts the words of a row before the rest, with a space before each.
-    pub fn put_row_before(&mut self, words: RowWords, row: Row)
-        requires { 22 + length self.old ≤ ROOM }
-        ensures text { self.new ≡ 32 ∷ (rank_word words row ++ 32 ∷ (input_word words row ++ self.old)) }
+    pub fn put_row_before(&mut self, words: RowFormat, row: Row)
+        requires { 22 + length self.old ≤ LINE_CAPACITY }
+        ensures text { self.new ≡ 32 ∷ (rank_field words row ++ 32 ∷ (input_field words row ++ self.old)) }
         ensures length { length self.new ≤ 22 + length self.old }
     {
         self.put_input_before(words, row);
@@ -92,7 +92,7 @@ impl LineText {
     }
 
     /// The line of a run.
-    pub(crate) fn write_run(&mut self, words: RowWords, run: Run)
+    pub(crate) fn write_run(&mut self, words: RowFormat, run: Run)
         ensures text { self.new ≡ run_line Second words run }
         ensures some { 0 < length self.new }
     {
@@ -112,25 +112,25 @@ impl LineText {
         self.put_before(b"rows ");
     }
 
-    fn put_input_before(&mut self, words: RowWords, row: Row)
-        requires { 10 + length self.old ≤ ROOM }
-        ensures text { self.new ≡ input_word words row ++ self.old }
+    fn put_input_before(&mut self, words: RowFormat, row: Row)
+        requires { 10 + length self.old ≤ LINE_CAPACITY }
+        ensures text { self.new ≡ input_field words row ++ self.old }
         ensures length { length self.new ≤ 10 + length self.old }
     {
         match words {
-            RowWords::InputAboveZero if row.rank == 0 => self.put_before(b"-"),
+            RowFormat::InputAboveZero if row.rank == 0 => self.put_before(b"-"),
             _ => self.put_number_before(row.input),
         }
     }
 
-    fn put_rank_before(&mut self, words: RowWords, row: Row)
-        requires { 10 + length self.old ≤ ROOM }
-        ensures text { self.new ≡ rank_word words row ++ self.old }
+    fn put_rank_before(&mut self, words: RowFormat, row: Row)
+        requires { 10 + length self.old ≤ LINE_CAPACITY }
+        ensures text { self.new ≡ rank_field words row ++ self.old }
         ensures length { length self.new ≤ 10 + length self.old }
     {
         match words {
-            RowWords::InputAlone => self.put_before(b"-"),
-            RowWords::InputAboveZero | RowWords::Both => self.put_number_before(row.rank),
+            RowFormat::InputAlone => self.put_before(b"-"),
+            RowFormat::InputAboveZero | RowFormat::Both => self.put_number_before(row.rank),
         }
     }
 

@@ -2,7 +2,7 @@ use game_core::Row;
 
 /// How lines tell rows.
 #[derive(Clone, Copy, PartialEq, Eq)]
-pub enum Version {
+pub enum TableVersion {
     /// Cell by cell.
     First,
     /// By the longest runs of cells with one row.

@@ -3,26 +3,26 @@ ghost use Rattle.std.specs.List.{concat};
 ghost use Rattle.row_runs.specs.RunText.{run_lines, count_line};
 
 use crate::line_text::LineText;
-use crate::row_words::RowWords;
+use crate::row_format::RowFormat;
 use crate::runs::{Runs, count_runs};
 use game_core::Answer;
 use std::marker::Model;
-use text_pieces::{Pieces, copy_front};
+use text_pieces::{Pieces, copy_prefix};
 
 /// The lines of the runs of rows, piece by piece. Seen as the bytes that are still to come.
 #[derive(Drop)]
 pub struct RunLines<'a> {
-    words: RowWords,
+    words: RowFormat,
     /// What is left of the line that is being written.
     line: LineText,
-    /// The runs behind it.
+    /// The runs after it.
     runs: Runs<'a>,
 }
 
 impl<'a> Model for RunLines<'a> {
     ghost use Rattle.std.specs.Prelude.{List, ℕ, map, ◌++◌};
     ghost use Rattle.std.specs.List.{concat};
-    ghost use Rattle.row_runs.specs.declared.run.Version.TheVariants.{Second};
+    ghost use Rattle.row_runs.specs.declared.run.TableVersion.TheVariants.{Second};
     ghost use Rattle.row_runs.specs.RunText.{run_line};
 
     ghost Value = { List ℕ };
@@ -32,7 +32,7 @@ impl<'a> Model for RunLines<'a> {
 
 impl<'a> RunLines<'a> {
     /// The lines of all runs.
-    pub fn new(words: RowWords, answer: &'a Answer) -> RunLines<'a>
+    pub fn new(words: RowFormat, answer: &'a Answer) -> RunLines<'a>
         ensures { result ≡ concat (run_lines words answer.now) }
     {
         RunLines {
@@ -42,8 +42,8 @@ impl<'a> RunLines<'a> {
         }
     }
 
-    /// The lines of all runs, behind the line that tells how many they are.
-    pub fn counted(words: RowWords, answer: &'a Answer) -> RunLines<'a>
+    /// The lines of all runs, after the line that tells how many they are.
+    pub fn counted(words: RowFormat, answer: &'a Answer) -> RunLines<'a>
         ensures { result ≡ concat (count_line (length (run_lines words answer.now)) ∷ run_lines words answer.now) }
     {
         let mut line = LineText::empty();
@@ -66,7 +66,7 @@ impl Pieces for RunLines<'_> {
             };
             self.line.write_run(self.words, run);
         }
-        let count = copy_front(self.line.as_slice(), buf);
+        let count = copy_prefix(self.line.as_slice(), buf);
         self.line.advance(count);
         count
     }

@@ -3,7 +3,7 @@
 ghost use Rattle.std.specs.Prelude.{◌≡◌, ◌≢◌, ℕ, ◌+◌, ◌^◌, ◌<◌, ◌≤◌, [], ◌∷◌, length, drop, Some, None, IfSome};
 ghost use Rattle.std.specs.Option.{IfNone};
 ghost use Rattle.game_core.specs.Solution.{row_of};
-ghost use Rattle.row_runs.specs.declared.run.Version.TheVariants.{Second};
+ghost use Rattle.row_runs.specs.declared.run.TableVersion.TheVariants.{Second};
 ghost use Rattle.row_runs.specs.Runs.{runs_from};
 
 use crate::run::Run;
@@ -21,7 +21,7 @@ pub struct Runs<'a> {
 impl<'a> Model for Runs<'a> {
     ghost use Rattle.std.specs.Prelude.{List, ◌≤◌, length, drop};
     ghost use Rattle.row_runs.specs.declared.run.Run.{Run};
-    ghost use Rattle.row_runs.specs.declared.run.Version.TheVariants.{Second};
+    ghost use Rattle.row_runs.specs.declared.run.TableVersion.TheVariants.{Second};
     ghost use Rattle.row_runs.specs.Runs.{runs_from};
 
     ghost Value = { List Run };

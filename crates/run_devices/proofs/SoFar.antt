@@ -51,17 +51,17 @@ gains_kept (Some bytes) (Some got) None front p q = absurd q
 gains_kept (Some bytes) (Some got) (Some now) front p q = ap (λ (x : List ℕ). Some x) q ∙ p
 
 -- a sink that doesn't promise what is left hadn't promised the whole
-pub short_of_room : (room now rest text : ℕ) → room + rest ≤ now + text → (rest ≤ now → ⊥) → room < text
-short_of_room room now rest text within none = elim (cases_lt now rest) [ inl lt ↦ omega (arith, lt, within) | inr le ↦ absurd (none le) ]
+pub short_of_capacity : (capacity now rest text : ℕ) → capacity + rest ≤ now + text → (rest ≤ now → ⊥) → capacity < text
+short_of_capacity capacity now rest text within none = elim (cases_lt now rest) [ inl lt ↦ omega (arith, lt, within) | inr le ↦ absurd (none le) ]
 
 -- the write of what is left failed
-pub written_part : (sink : Writing) (before : Option (List ℕ)) (text rest : List ℕ) → WrittenSoFar sink.before before text rest → Keeps before sink.after → 0 < length rest → sink.faults_after ≡ next_count sink.faults_before → sink.room < length text → GainsPart sink text
-written_part sink before text rest w kept some fault no_room = record {
+pub written_part : (sink : Writing) (before : Option (List ℕ)) (text rest : List ℕ) → WrittenSoFar sink.before before text rest → Keeps before sink.after → 0 < length rest → sink.faults_after ≡ next_count sink.faults_before → sink.capacity < length text → GainsPart sink text
+written_part sink before text rest w kept some fault no_capacity = record {
   count = length w.front;
   proper = omega (arith, length-append w.front rest, ap length w.parts);
   gained = rw front_is (gains_kept sink.before before sink.after w.front w.gained kept);
   fault = fault;
-  no_room = no_room;
+  no_capacity = no_capacity;
 }
   where
     front_is : take (length w.front) text ≡ w.front
@@ -80,14 +80,14 @@ piece_more start before after text rest piece more w cut gains = record {
   gained = gains_more start before after w.front piece w.gained gains;
 }
 
-take_past : (front behind : List ℕ) (k : ℕ) → take (length front + k) (front ++ behind) ≡ front ++ take k behind
-take_past [] behind k = ap (λ (n : ℕ). take n behind) (zero-add k)
-take_past (x ∷ front) behind k = ap (λ (n : ℕ). take n (x ∷ (front ++ behind))) (suc-add (length front) k) ∙ ap (λ (y : List ℕ). x ∷ y) (take_past front behind k)
+take_past : (front rest_after : List ℕ) (k : ℕ) → take (length front + k) (front ++ rest_after) ≡ front ++ take k rest_after
+take_past [] rest_after k = ap (λ (n : ℕ). take n rest_after) (zero-add k)
+take_past (x ∷ front) rest_after k = ap (λ (n : ℕ). take n (x ∷ (front ++ rest_after))) (suc-add (length front) k) ∙ ap (λ (y : List ℕ). x ∷ y) (take_past front rest_after k)
 
 -- a part of a piece is a part of the whole
-pub piece_part : (sink : Writing) (before : Option (List ℕ)) (faults room : ℕ) (text rest piece more : List ℕ) → WrittenSoFar sink.before before text rest → faults ≡ sink.faults_before → sink.room + length rest ≤ room + length text → rest ≡ piece ++ more
-    → GainsPart (record { before = before; after = sink.after; faults_before = faults; faults_after = sink.faults_after; room = room }) piece → GainsPart sink text
-piece_part sink before faults room text rest piece more w same within cut part =
+pub piece_part : (sink : Writing) (before : Option (List ℕ)) (faults capacity : ℕ) (text rest piece more : List ℕ) → WrittenSoFar sink.before before text rest → faults ≡ sink.faults_before → sink.capacity + length rest ≤ capacity + length text → rest ≡ piece ++ more
+    → GainsPart (record { before = before; after = sink.after; faults_before = faults; faults_after = sink.faults_after; capacity = capacity }) piece → GainsPart sink text
+piece_part sink before faults capacity text rest piece more w same within cut part =
     let whole : text ≡ w.front ++ (piece ++ more) = w.parts ∙ ap (λ (x : List ℕ). w.front ++ x) cut in
     let front_is : take (length w.front + part.count) text ≡ w.front ++ take part.count piece =
     ap (take (length w.front + part.count)) whole
@@ -98,9 +98,9 @@ piece_part sink before faults room text rest piece more w same within cut part =
       proper = (let lt = part.proper in omega (arith, lt, ap length whole, length-append w.front (piece ++ more), length-append piece more));
       gained = subst (λ (x : List ℕ). Gains sink.before sink.after x) (sym front_is) (gains_more sink.before before sink.after w.front (take part.count piece) w.gained part.gained);
       fault = part.fault ∙ ap next_count same;
-      no_room = (let none = part.no_room in omega (arith, none, within, ap length cut, length-append piece more));
+      no_capacity = (let none = part.no_capacity in omega (arith, none, within, ap length cut, length-append piece more));
     }
 
--- the pieces from one on are that piece and those behind it
+-- the pieces from one on are that piece and those after it
 pub pieces_from : {X : Type 0} (f : X → List ℕ) (pieces : List X) (i : ℕ) (d : X) → i < length pieces → flat_map f (drop i pieces) ≡ f (get_or pieces i d) ++ flat_map f (drop (i + 1) pieces)
 pieces_from f pieces i d lt = rw (add-one i) (ap (flat_map f) (drop-cons pieces i d lt))

@@ -40,7 +40,7 @@ pub record Writing : Type 0 where
   pub after : Option (List ℕ)
   pub faults_before : ℕ
   pub faults_after : ℕ
-  pub room : ℕ
+  pub capacity : ℕ
 
 -- a source between two moments, by its meanings
 abbrev pub reading : {D : Type 0} → (D → Option (List ℕ)) → (D → ℕ) → (D → Bool) → D → D → Reading
@@ -48,7 +48,7 @@ reading left faults is_sound old new = record { before = left old; after = left 
 
 -- a sink between two moments, by its meanings
 abbrev pub writing : {D : Type 0} → (D → Option (List ℕ)) → (D → ℕ) → (D → ℕ) → D → D → Writing
-writing got faults room old new = record { before = got old; after = got new; faults_before = faults old; faults_after = faults new; room = room old }
+writing got faults capacity old new = record { before = got old; after = got new; faults_before = faults old; faults_after = faults new; capacity = capacity old }
 
 -- The whole text was appended, and no fault was counted.
 pub record GainsWhole (sink : Writing) (text : List ℕ) : Type 0 where
@@ -61,7 +61,7 @@ pub record GainsPart (sink : Writing) (text : List ℕ) : Type 0 where
   pub proper : count < length text
   pub gained : Gains sink.before sink.after (take count text)
   pub fault : sink.faults_after ≡ next_count sink.faults_before
-  pub no_room : sink.room < length text
+  pub no_capacity : sink.capacity < length text
 
 -- a line was appended whole and no fault was counted, or one was, and a part of the line was appended
 abbrev pub Reports : Writing → List ℕ → Type 0

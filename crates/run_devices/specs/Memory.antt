@@ -12,7 +12,7 @@ pub record MemoryLeft : Type 0 where
 -- numbers of the calls that fail, and the faults so far.
 pub record MemoryTaken : Type 0 where
   pub got : List ℕ
-  pub room : ℕ
+  pub capacity : ℕ
   pub at_once : ℕ
   pub calls : ℕ
   pub fails : List ℕ
@@ -24,6 +24,6 @@ is_none_listed [] = true
 is_none_listed (n ∷ fails) = false
 
 -- the room that is left where no call is to fail, and otherwise none that could be relied upon
-abbrev pub room_of : List ℕ → ℕ → List ℕ → ℕ
-room_of [] room got = room - length got
-room_of (n ∷ fails) room got = 0
+abbrev pub capacity_of : List ℕ → ℕ → List ℕ → ℕ
+capacity_of [] capacity got = capacity - length got
+capacity_of (n ∷ fails) capacity got = 0

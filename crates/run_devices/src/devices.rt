@@ -18,7 +18,7 @@ pub trait Source {
     ghost is_sound: { Self → Bool } = { λ _. false };
 
     /// Takes bytes from the front into the front of a buffer. `Ok(0)` for a buffer that isn't empty
-    /// comes only at the end. Of the buffer behind a failed call nothing is said, since std says nothing of it.
+    /// comes only at the end. Of the buffer after a failed call nothing is said, since std says nothing of it.
     fn read(&mut self, buf: &mut [u8]) -> Result<usize, Failed>
         ensures bound { IfOk result (λ n. n ≤ length buf.old) }
         ensures taken { IfOk result (λ n. Takes (left self.old) (left self.new) n buf.new) }
@@ -42,7 +42,7 @@ pub trait Sink {
     ghost faults: { Self → ℕ };
 
     /// For how many more bytes the sink promises that no call fails.
-    ghost room: { Self → ℕ } = { λ _. 0 };
+    ghost capacity: { Self → ℕ } = { λ _. 0 };
 
     /// Appends bytes from the front of a piece, at least one of a piece that isn't empty.
     fn write(&mut self, piece: &[u8]) -> Result<usize, Failed>
@@ -55,6 +55,6 @@ pub trait Sink {
         ensures failed { OnErr result (faults self.new ≡ next_count (faults self.old)) }
         ensures never_falls { faults self.old ≤ faults self.new }
 
-        ensures room { 0 < length piece.now → length piece.now ≤ room self.old → IsOk result }
-        ensures room_left { IfOk result (λ n. room self.old ≤ room self.new + n) };
+        ensures capacity { 0 < length piece.now → length piece.now ≤ capacity self.old → IsOk result }
+        ensures capacity_left { IfOk result (λ n. capacity self.old ≤ capacity self.new + n) };
 }

@@ -4,7 +4,7 @@ ghost use Rattle.std.specs.Prelude.{◌≡◌, ◌<◌, ◌≤◌, ◌+◌, ◌-
 ghost use Rattle.std.specs.Io.KnownBytes.{Keeps};
 ghost use Rattle.std.specs.List.{Contains};
 ghost use Rattle.run_devices.specs.Devices.{next_count, Takes, Gains};
-ghost use Rattle.run_devices.specs.Memory.{MemoryLeft, MemoryTaken, is_none_listed, room_of};
+ghost use Rattle.run_devices.specs.Memory.{MemoryLeft, MemoryTaken, is_none_listed, capacity_of};
 
 use crate::devices::{Failed, Sink, Source};
 use std::alloc::{AllocError, Global};
@@ -129,7 +129,7 @@ impl Source for MemorySource {
 #[derive(Drop)]
 pub struct MemorySink {
     got: Vec<u8>,
-    room: usize,
+    capacity: usize,
     at_once: usize,
     calls: u64,
     fails: Vec<u64>,
@@ -142,9 +142,9 @@ impl Model for MemorySink {
 
     ghost Value = { MemoryTaken };
 
-    ghost view = { λ s. record { got = s.got.items; room = s.room; at_once = s.at_once; calls = s.calls; fails = s.fails.items; faults = s.faults } };
+    ghost view = { λ s. record { got = s.got.items; capacity = s.capacity; at_once = s.at_once; calls = s.calls; fails = s.fails.items; faults = s.faults } };
 
-    ghost invariant = { λ s. (length s.got.items ≤ s.room) × (s.room ≤ vec_capacity s.got) };
+    ghost invariant = { λ s. (length s.got.items ≤ s.capacity) × (s.capacity ≤ vec_capacity s.got) };
 }
 
 impl MemorySink {
@@ -152,15 +152,15 @@ impl MemorySink {
     /// whose numbers, from 1, stand in `fails` fail, and those that find no room left.
     pub fn new(
         alloc: Global,
-        room: usize,
+        capacity: usize,
         at_once: usize,
         fails: Vec<u64>,
     ) -> Result<MemorySink, NoMemory>
-        ensures { IfOk result (λ s. s ≡ record { got = []; room = room; at_once = at_once; calls = 0; fails = fails.items; faults = 0 }) }
+        ensures { IfOk result (λ s. s ≡ record { got = []; capacity = capacity; at_once = at_once; calls = 0; fails = fails.items; faults = 0 }) }
     {
         Ok(MemorySink {
-            got: Vec::with_capacity(alloc, room)?,
-            room,
+            got: Vec::with_capacity(alloc, capacity)?,
+            capacity,
             at_once,
             calls: 0,
             fails,
@@ -181,7 +181,7 @@ impl Sink for MemorySink {
 
     ghost faults = { λ s. s.faults };
 
-    ghost room = { λ s. room_of s.fails s.room s.got };
+    ghost capacity = { λ s. capacity_of s.fails s.capacity s.got };
 
     fn write(&mut self, piece: &[u8]) -> Result<usize, Failed>
         ensures bound { IfOk result (λ n. n ≤ length piece.now) }
@@ -191,23 +191,23 @@ impl Sink for MemorySink {
         ensures counted { OnOk result (self.new.faults ≡ self.old.faults) }
         ensures failed { OnErr result (self.new.faults ≡ next_count self.old.faults) }
         ensures never_falls { self.old.faults ≤ self.new.faults }
-        ensures room { 0 < length piece.now → length piece.now ≤ room_of self.old.fails self.old.room self.old.got → IsOk result }
-        ensures room_left { IfOk result (λ n. room_of self.old.fails self.old.room self.old.got ≤ room_of self.new.fails self.new.room self.new.got + n) }
+        ensures capacity { 0 < length piece.now → length piece.now ≤ capacity_of self.old.fails self.old.capacity self.old.got → IsOk result }
+        ensures capacity_left { IfOk result (λ n. capacity_of self.old.fails self.old.capacity self.old.got ≤ capacity_of self.new.fails self.new.capacity self.new.got + n) }
 
         ensures at_once { IfOk result (λ n. n ≤ max self.old.at_once 1) }
         ensures calls { self.new.calls ≡ next_count self.old.calls }
-        ensures same { (self.new.fails ≡ self.old.fails) × (self.new.room ≡ self.old.room) × (self.new.at_once ≡ self.old.at_once) }
-        ensures chosen { IsErr result ↔ (Contains self.old.fails self.new.calls ⊎ (self.old.room ≤ length self.old.got)) }
+        ensures same { (self.new.fails ≡ self.old.fails) × (self.new.capacity ≡ self.old.capacity) × (self.new.at_once ≡ self.old.at_once) }
+        ensures chosen { IsErr result ↔ (Contains self.old.fails self.new.calls ⊎ (self.old.capacity ≤ length self.old.got)) }
     {
         self.calls = self.calls.saturating_add(1);
-        if self.fails.contains(&self.calls) || self.room <= self.got.len() {
+        if self.fails.contains(&self.calls) || self.capacity <= self.got.len() {
             self.faults = self.faults.saturating_add(1);
             return Err(Failed);
         }
         let n = piece
             .len()
             .min(self.at_once.max(1))
-            .min(self.room - self.got.len());
+            .min(self.capacity - self.got.len());
         match self.got.extend_from_slice(&piece[..n]) {
             Ok(()) => Ok(n),
             Err(_) => unreachable!(),
@@ -250,7 +250,7 @@ impl Sink for CountSink {
 
     ghost faults = { λ _. 0 };
 
-    ghost room = { λ _. 2 ^ 64 - 1 };
+    ghost capacity = { λ _. 2 ^ 64 - 1 };
 
     fn write(&mut self, piece: &[u8]) -> Result<usize, Failed>
         ensures whole { result ≡ Ok (length piece.now) }

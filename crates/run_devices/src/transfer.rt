@@ -82,8 +82,8 @@ pub fn read_up_to<S: Source>(
     let mut bytes = Vec::new(alloc);
     let mut buffer = [0; READ_BUFFER];
     while bytes.len() < most {
-        let room = (most - bytes.len()).min(buffer.len());
-        let n = source.read(&mut buffer[..room])?;
+        let capacity = (most - bytes.len()).min(buffer.len());
+        let n = source.read(&mut buffer[..capacity])?;
         if n == 0 {
             break;
         }
@@ -94,9 +94,9 @@ pub fn read_up_to<S: Source>(
 
 /// Writes a whole text; a failed write ends it.
 pub fn write_whole<O: Sink>(out: &mut O, text: &[u8]) -> Result<(), Failed>
-    ensures whole { OnOk result (GainsWhole (writing O.got O.faults O.room out.old out.new) text.now) }
-    ensures part { OnErr result (GainsPart (writing O.got O.faults O.room out.old out.new) text.now) }
-    ensures room { OnOk result (O.room out.old ≤ O.room out.new + length text.now) }
+    ensures whole { OnOk result (GainsWhole (writing O.got O.faults O.capacity out.old out.new) text.now) }
+    ensures part { OnErr result (GainsPart (writing O.got O.faults O.capacity out.old out.new) text.now) }
+    ensures capacity { OnOk result (O.capacity out.old ≤ O.capacity out.new + length text.now) }
 {
     let mut rest = text;
     while !rest.is_empty() {
@@ -109,8 +109,8 @@ pub fn write_whole<O: Sink>(out: &mut O, text: &[u8]) -> Result<(), Failed>
 
 /// Writes a text in pieces; a failed write ends it.
 pub fn write_pieces<O: Sink>(out: &mut O, pieces: &[&[u8]]) -> Result<(), Failed>
-    ensures whole { OnOk result (GainsWhole (writing O.got O.faults O.room out.old out.new) (flat_map (λ piece. piece.now) pieces.now)) }
-    ensures part { OnErr result (GainsPart (writing O.got O.faults O.room out.old out.new) (flat_map (λ piece. piece.now) pieces.now)) }
+    ensures whole { OnOk result (GainsWhole (writing O.got O.faults O.capacity out.old out.new) (flat_map (λ piece. piece.now) pieces.now)) }
+    ensures part { OnErr result (GainsPart (writing O.got O.faults O.capacity out.old out.new) (flat_map (λ piece. piece.now) pieces.now)) }
 {
     for piece in pieces {
         write_whole(out, piece)?;
@@ -118,15 +118,15 @@ pub fn write_pieces<O: Sink>(out: &mut O, pieces: &[&[u8]]) -> Result<(), Failed
     Ok(())
 }
 
-/// Writes all that is left of a text, through one buffer. At want of memory the text is left as it was; behind a failed write
+/// Writes all that is left of a text, through one buffer. At want of memory the text is left as it was; after a failed write
 /// nothing is said of what is left of it.
 pub fn write_buffered<O: Sink, T: Pieces>(
     alloc: Global,
     out: &mut O,
     text: &mut T,
 ) -> Result<(), WriteFault>
-    ensures whole { OnOk result (GainsWhole (writing O.got O.faults O.room out.old out.new) (T.left text.old)) }
-    ensures stopped { IfErr result (λ fault. StopsBy fault (writing O.got O.faults O.room out.old out.new) (T.left text.old)) }
+    ensures whole { OnOk result (GainsWhole (writing O.got O.faults O.capacity out.old out.new) (T.left text.old)) }
+    ensures stopped { IfErr result (λ fault. StopsBy fault (writing O.got O.faults O.capacity out.old out.new) (T.left text.old)) }
     ensures kept { result ≡ Err WriteFault.Memory → T.left text.new ≡ T.left text.old }
 {
     let mut buffer = zeros(alloc, WRITE_BUFFER)?;
@@ -148,8 +148,8 @@ fn write_through<O: Sink, T: Pieces>(
     buffer: &mut [u8],
 ) -> Result<(), Failed>
     requires { 0 < length buffer.old }
-    ensures whole { OnOk result (GainsWhole (writing O.got O.faults O.room out.old out.new) (T.left text.old)) }
-    ensures part { OnErr result (GainsPart (writing O.got O.faults O.room out.old out.new) (T.left text.old)) }
+    ensures whole { OnOk result (GainsWhole (writing O.got O.faults O.capacity out.old out.new) (T.left text.old)) }
+    ensures part { OnErr result (GainsPart (writing O.got O.faults O.capacity out.old out.new) (T.left text.old)) }
 {
     loop {
         let count = text.next_piece(buffer);

@@ -31,7 +31,7 @@ fn clean_devices_take_the_whole_table(rt: HostRuntime) -> Result<(), Fail> {
 
 /// A read that fails ends the reading: what it didn't take is still there. The line is `read fault`.
 #[test]
-fn nothing_is_read_behind_a_failed_read(rt: HostRuntime) -> Result<(), Fail> {
+fn nothing_is_read_after_a_failed_read(rt: HostRuntime) -> Result<(), Fail> {
     let fails = Vec::from_slice(rt.alloc(), &[1])?;
     let mut source = MemorySource::new(Vec::from_slice(rt.alloc(), PLANT)?, fails);
     let told = synthesised(&rt, rt.alloc(), &mut source, &mut CountSink::new());
@@ -56,9 +56,9 @@ fn gives<R: Threads + Sync>(
 }
 
 #[test]
-fn line_without_room_is_cut(rt: HostRuntime) -> Result<(), Fail> {
+fn line_without_capacity_is_cut(rt: HostRuntime) -> Result<(), Fail> {
     let devices = Devices {
-        room_for_line: 5,
+        capacity_for_line: 5,
         ..CLEAN
     };
     assert!(rt; gives(&rt, rt.alloc(), b"", &devices, 3, b"", b"malfo")?);
@@ -103,22 +103,22 @@ fn write_that_fails_leaves_the_front_of_the_table(rt: HostRuntime) -> Result<(),
 }
 
 /// One byte a call, into room for fewer bytes than the table has: the front of it that fits.
-fn is_cut_at<R: Threads + Sync>(rt: &R, alloc: Global, room: usize) -> Result<bool, Fail> {
+fn is_cut_at<R: Threads + Sync>(rt: &R, alloc: Global, capacity: usize) -> Result<bool, Fail> {
     let devices = Devices {
         at_once: 1,
-        room,
+        capacity,
         ..CLEAN
     };
-    let status = if room < TABLE.len() { 7 } else { 0 };
-    let front = TABLE.get(..room).ok_or("past the end of the table")?;
+    let status = if capacity < TABLE.len() { 7 } else { 0 };
+    let front = TABLE.get(..capacity).ok_or("past the end of the table")?;
     gives(rt, alloc, PLANT, &devices, status, front, b"")
 }
 
 #[test]
-fn table_without_room_is_cut(rt: HostRuntime) -> Result<(), Fail> {
+fn table_without_capacity_is_cut(rt: HostRuntime) -> Result<(), Fail> {
     let mut good = true;
-    for room in 0..TABLE.len() + 1 {
-        good = good && is_cut_at(&rt, rt.alloc(), room)?;
+    for capacity in 0..TABLE.len() + 1 {
+        good = good && is_cut_at(&rt, rt.alloc(), capacity)?;
     }
     assert!(rt; good);
     Ok(())

@@ -7,7 +7,7 @@ use synth_run::Gate;
 /// Turns enough for another thread to come.
 pub const MANY: u32 = 100_000_000;
 
-/// Holds the first two items of a round, each until the other has come, and those behind them until the first has come, for
+/// Holds the first two items of a round, each until the other has come, and those after them until the first has come, for
 /// so many turns at most: a worker that came earlier would find nothing to steal, and go.
 #[derive(Drop)]
 pub struct Rendezvous {

@@ -19,8 +19,8 @@ pub struct Devices<'a> {
     pub failing_reads: &'a [u64],
     pub failing_writes: &'a [u64],
     pub at_once: usize,
-    pub room: usize,
-    pub room_for_line: usize,
+    pub capacity: usize,
+    pub capacity_for_line: usize,
 }
 
 /// No call fails, and the text is written in several pieces.
@@ -28,8 +28,8 @@ pub const CLEAN: Devices = Devices {
     failing_reads: &[],
     failing_writes: &[],
     at_once: 7,
-    room: 300,
-    room_for_line: 200,
+    capacity: 300,
+    capacity_for_line: 200,
 };
 
 /// What a run did, and whether it left a board.
@@ -60,8 +60,8 @@ pub fn run_on<R: Threads + Sync, G: Gate>(
     let failing_reads = Vec::from_slice(alloc, devices.failing_reads)?;
     let failing_writes = Vec::from_slice(alloc, devices.failing_writes)?;
     let mut source = MemorySource::new(Vec::from_slice(alloc, text)?, failing_reads);
-    let mut out = MemorySink::new(alloc, devices.room, devices.at_once, failing_writes)?;
-    let mut err = MemorySink::new(alloc, devices.room_for_line, 200, Vec::new(alloc))?;
+    let mut out = MemorySink::new(alloc, devices.capacity, devices.at_once, failing_writes)?;
+    let mut err = MemorySink::new(alloc, devices.capacity_for_line, 200, Vec::new(alloc))?;
     let mut played = None;
     let status = run(
         rt,

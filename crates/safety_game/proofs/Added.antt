@@ -1,7 +1,7 @@
 -- What the accounts of a round add to those before.
 use Rattle.std.proofs.Common.{◌≡◌, List, [], ◌∷◌, ◌++◌, All, refl, ap₂}
 use Rattle.std.proofs.lemmas.List.Elements.{All-head, All-tail, All-weaker}
-use Rattle.board_crew.specs.Crew.{cuts_in, offers_in, logged_cells}
+use Rattle.board_rounds.specs.Crew.{cuts_in, offers_in, logged_cells}
 use Rattle.cell_counters.specs.declared.account.Account.{Account}
 use Rattle.cell_counters.specs.Accounts.{all_logs}
 use Rattle.game_core.specs.Game.{Game}

@@ -70,7 +70,7 @@ range_shift f n b (suc m) =
     let same : sum_by f (range_with_len (n + (b + 1)) m) ≡ sum_by f (range_with_len (n + b + 1) m) = ap (λ k. sum_by f (range_with_len k m)) {x = n + (b + 1)} {y = n + b + 1} (omega arith) in
     omega arith
 
--- a sum over ranges of one length, one behind the other
+-- a sum over ranges of one length, one after the other
 pub range_rows : (f : ℕ → ℕ) (k b n : ℕ) → sum_by (λ c. sum_by f (range_with_len (c * k) k)) (range_with_len b n) ≡ sum_by f (range_with_len (b * k) (n * k))
 range_rows f k b zero = let z : sum_by f (range_with_len (b * k) (zero * k)) ≡ sum_by f (range_with_len (b * k) 0) = ap (λ m. sum_by f (range_with_len (b * k) m)) {x = zero * k} {y = 0} (omega arith) in sym z
 range_rows f k b (suc n) =

@@ -4,34 +4,34 @@ use Rattle.cell_counters.specs.declared.account.Account.{Account}
 use Rattle.cell_counters.specs.Tokens.{BoardModel}
 use Rattle.game_core.specs.Game.{Game, IsGraph}
 use Rattle.game_core.specs.Tally.{IsKeepTally}
-use Rattle.game_core.proofs.Keep.{settled_rows_are_the_keep_solution}
-use Rattle.board_crew.specs.declared.resolving.Resolved.{Resolved}
-use Rattle.board_crew.specs.Crew.{offers_in}
-use Rattle.board_crew.specs.Resolving.{IsResolved}
-use Rattle.board_crew.specs.Rules.{IsAtEnd}
+use Rattle.game_core.proofs.Keep.{stable_rows_are_the_keep_solution}
+use Rattle.board_rounds.specs.declared.resolving.Resolved.{Resolved}
+use Rattle.board_rounds.specs.Crew.{offers_in}
+use Rattle.board_rounds.specs.Resolving.{IsResolved}
+use Rattle.board_rounds.specs.Rules.{IsAtEnd}
 use Rattle.safety_game.specs.Boards.{IsBoardOf}
 use Rattle.safety_game.specs.Kept.{IsKeepSolved}
-use Rattle.safety_game.specs.inside.Rounds.{AreFewCuts, IsRowTold}
-use Rattle.safety_game.specs.inside.Standing.{StandsAt}
+use Rattle.safety_game.specs.inside.Rounds.{AreFewCuts, IsRowDecoded}
+use Rattle.safety_game.specs.inside.Standing.{HoldsBefore}
 use Rattle.safety_game.proofs.Falls.{gone_few}
 use Rattle.safety_game.proofs.Settled.{settled, reckoned, cuts_count, few_cuts, all_fell, no_sooner}
 
 module _ (g : Game) (a : IsGraph g) where
   -- no pair is cut too often
-  pub few_each : (accounts : List Account) → IsAtEnd g.cells (StandsAt g) accounts → AreFewCuts g accounts
+  pub few_each : (accounts : List Account) → IsAtEnd g.cells (HoldsBefore g) accounts → AreFewCuts g accounts
   few_each accounts end pair lt =
       let e = end.stood.falling.cuts pair lt in
       let le = gone_few g end.rounds pair in
       omega arith
 
   -- the game is solved
-  pub solved : (board : BoardModel) → IsBoardOf g board → (k : Resolved) → IsResolved g.cells (StandsAt g) (IsRowTold g) board k → IsKeepSolved g k
+  pub solved : (board : BoardModel) → IsBoardOf g board → (k : Resolved) → IsResolved g.cells (HoldsBefore g) (IsRowDecoded g) board k → IsKeepSolved g k
   solved board of_game k r =
       let accounts = k.root.accounts in
       let d = k.tally.rounds in
       let rows = k.answer in
       let was = r.stood.falling in
-      let solution = settled_rows_are_the_keep_solution g rows a.game (settled g a d accounts was rows r.told) in
+      let solution = stable_rows_are_the_keep_solution g rows a.game (settled g a d accounts was rows r.told) in
       let cuts = cuts_count g a d accounts was rows r.told in
       let few = few_cuts g a d accounts was rows r.told in
       let told_cuts = r.tallied.cuts in

@@ -8,9 +8,9 @@ use Rattle.std.proofs.lemmas.List.Sums.{count_by-le-length, sum_by-le-sum_by, li
 use Rattle.game_core.specs.Counts.{one_if}
 use Rattle.game_core.specs.Fallen.{is_obstacle, is_useless, is_helpless, has_fallen}
 use Rattle.game_core.specs.Game.{Game, mark_of, pair_of, successors_at, successors_of}
-use Rattle.game_core.proofs.Times.{counts_tell}
+use Rattle.game_core.proofs.Times.{counts_agree}
 use Rattle.safety_game.specs.Boards.{pairs_at, enabled_at}
-use Rattle.safety_game.specs.inside.Rounds.{fell_before, gone_in, is_hit, hits_at}
+use Rattle.safety_game.specs.inside.Rounds.{fell_before, gone_in, is_cell_cut, cell_cuts_at}
 use Rattle.game_core.proofs.Counts.{one_if_le, count_none}
 use Rattle.safety_game.proofs.Counting.{any_counts}
 use Rattle.safety_game.proofs.Pairs.{cell_of, All-pairs_at, All-at_input}
@@ -53,7 +53,7 @@ module _ (g : Game) (test : ℕ → Bool) where
     helpless_counts clear e =
         let useless = AllPass-from_list_all (is_useless g test c) (range_with_len 0 g.inputs) e in
         let len = length-range_with_len 0 g.inputs in
-        counts_tell.lesser (λ pair. one_if (is_enabled g pair)) (λ pair. one_if (touched g test pair)) (pairs_at g c)
+        counts_agree.lesser (λ pair. one_if (is_enabled g pair)) (λ pair. one_if (touched g test pair)) (pairs_at g c)
         (All-pairs_at g (λ pair. one_if (is_enabled g pair) ≤ one_if (touched g test pair)) c (λ u lt.
         let at : get_or (range_with_len 0 g.inputs) u u ≡ u = (let i = get_or-range_with_len 0 g.inputs u u lt in omega arith) in
         let here : is_useless g test c u ≡ true = subst (λ u. is_useless g test c u ≡ true) at (useless u u (omega arith)) in
@@ -68,7 +68,7 @@ module _ (g : Game) (test : ℕ → Bool) where
 
     pub counts_helpless : enabled_at g c ≤ count_by (touched g test) (pairs_at g c) → is_helpless g test c ≡ true
     counts_helpless le =
-        let alike = counts_tell.pass_alike (touched g test) (is_enabled g) touched_enabled (pairs_at g c) le in
+        let alike = counts_agree.pass_alike (touched g test) (is_enabled g) touched_enabled (pairs_at g c) le in
         let len = length-range_with_len 0 g.inputs in
         list_all-from_AllPass (is_useless g test c) (range_with_len 0 g.inputs) (λ i d lt.
         let u = get_or (range_with_len 0 g.inputs) i d in
@@ -94,7 +94,7 @@ module _ (g : Game) where
       sum_by-le-sum_by (λ s. one_if (fell_before g d s)) (λ s. one_if (fell_before g (suc d) s)) (successors_at g pair)
       (λ s. one_if_le (fell_before g d s) (fell_before g (suc d) s) (fell_stays d s))
 
-  pub hit_stays : (d pair : ℕ) → is_hit g d pair ≡ true → is_hit g (suc d) pair ≡ true
+  pub hit_stays : (d pair : ℕ) → is_cell_cut g d pair ≡ true → is_cell_cut g (suc d) pair ≡ true
   hit_stays d pair e =
       let clear = not (is_obstacle (mark_of g (pair / g.inputs))) in
       let parts = and_parts clear (nat_lt 0 (gone_in g d pair)) e in
@@ -102,25 +102,25 @@ module _ (g : Game) where
       let more = gone_grows d pair in
       and_from clear (nat_lt 0 (gone_in g (suc d) pair)) parts.0 (lt-ltb 0 (gone_in g (suc d) pair) (omega arith))
 
-  pub hits_grow : (d c : ℕ) → hits_at g d c ≤ hits_at g (suc d) c
-  hits_grow d c = sum_by-le-sum_by (λ p. one_if (is_hit g d p)) (λ p. one_if (is_hit g (suc d) p)) (pairs_at g c) (λ p. one_if_le (is_hit g d p) (is_hit g (suc d) p) (hit_stays d p))
+  pub hits_grow : (d c : ℕ) → cell_cuts_at g d c ≤ cell_cuts_at g (suc d) c
+  hits_grow d c = sum_by-le-sum_by (λ p. one_if (is_cell_cut g d p)) (λ p. one_if (is_cell_cut g (suc d) p)) (pairs_at g c) (λ p. one_if_le (is_cell_cut g d p) (is_cell_cut g (suc d) p) (hit_stays d p))
 
-  pub hits_few : (d c : ℕ) → hits_at g d c ≤ enabled_at g c
-  hits_few d c = sum_by-le-sum_by (λ p. one_if (is_hit g d p)) (λ p. one_if (is_enabled g p)) (pairs_at g c) (λ p. one_if_le (is_hit g d p) (is_enabled g p) (touched_enabled g (fell_before g d) p))
+  pub cell_cuts_few : (d c : ℕ) → cell_cuts_at g d c ≤ enabled_at g c
+  cell_cuts_few d c = sum_by-le-sum_by (λ p. one_if (is_cell_cut g d p)) (λ p. one_if (is_enabled g p)) (pairs_at g c) (λ p. one_if_le (is_cell_cut g d p) (is_enabled g p) (touched_enabled g (fell_before g d) p))
 
   pub gone_few : (d pair : ℕ) → gone_in g d pair ≤ length (successors_at g pair)
   gone_few d pair = count_by-le-length (fell_before g d) (successors_at g pair)
 
   -- a cell has fallen where all its enabled pairs are hit, and the other way round
-  pub falls_by_hits : (d c : ℕ) → enabled_at g c ≤ hits_at g d c → has_fallen g d c ≡ true
-  falls_by_hits zero c le = ap (λ b. is_obstacle (mark_of g c) || b) (counts_helpless g (λ s. false) c le) ∙ or-true (is_obstacle (mark_of g c))
-  falls_by_hits (suc d) c le = ap (λ b. has_fallen g d c || b) (counts_helpless g (has_fallen g d) c le) ∙ or-true (has_fallen g d c)
+  pub falls_by_cell_cuts : (d c : ℕ) → enabled_at g c ≤ cell_cuts_at g d c → has_fallen g d c ≡ true
+  falls_by_cell_cuts zero c le = ap (λ b. is_obstacle (mark_of g c) || b) (counts_helpless g (λ s. false) c le) ∙ or-true (is_obstacle (mark_of g c))
+  falls_by_cell_cuts (suc d) c le = ap (λ b. has_fallen g d c || b) (counts_helpless g (has_fallen g d) c le) ∙ or-true (has_fallen g d c)
 
-  pub hits_by_fall : (d c : ℕ) → is_obstacle (mark_of g c) ≡ false → has_fallen g d c ≡ true → enabled_at g c ≤ hits_at g d c
-  hits_by_fall zero c clear e = helpless_counts g (λ s. false) c clear (right_of (is_obstacle (mark_of g c)) (is_helpless g (λ s. false) c) clear e)
-  hits_by_fall (suc d) c clear e =
+  pub cell_cuts_by_fall : (d c : ℕ) → is_obstacle (mark_of g c) ≡ false → has_fallen g d c ≡ true → enabled_at g c ≤ cell_cuts_at g d c
+  cell_cuts_by_fall zero c clear e = helpless_counts g (λ s. false) c clear (right_of (is_obstacle (mark_of g c)) (is_helpless g (λ s. false) c) clear e)
+  cell_cuts_by_fall (suc d) c clear e =
       elim (or_cases (has_fallen g d c) (is_helpless g (has_fallen g d) c) e) [
-        | inl before ↦ let le = hits_by_fall d c clear before in let more = hits_grow d c in omega arith
+        | inl before ↦ let le = cell_cuts_by_fall d c clear before in let more = hits_grow d c in omega arith
         | inr helpless ↦ helpless_counts g (has_fallen g d) c clear helpless
       ]
 
@@ -129,7 +129,7 @@ module _ (g : Game) where
   obstacle_falls zero c e = ap (λ b. b || is_helpless g (λ s. false) c) e
   obstacle_falls (suc d) c e = ap (λ b. b || is_helpless g (has_fallen g d) c) (obstacle_falls d c e)
 
-  pub obstacle_unhit : (d c : ℕ) → is_obstacle (mark_of g c) ≡ true → hits_at g d c ≡ 0
+  pub obstacle_unhit : (d c : ℕ) → is_obstacle (mark_of g c) ≡ true → cell_cuts_at g d c ≡ 0
   obstacle_unhit d c e =
-      count_none (is_hit g d) (pairs_at g c) (All-pairs_at g (λ pair. is_hit g d pair ≡ false) c (λ u lt.
+      count_none (is_cell_cut g d) (pairs_at g c) (All-pairs_at g (λ pair. is_cell_cut g d pair ≡ false) c (λ u lt.
       ap (λ b. not b && nat_lt 0 (gone_in g d (pair_of g c u))) (ap (λ c. is_obstacle (mark_of g c)) (cell_of g c u lt) ∙ e)))

@@ -3,7 +3,7 @@ use Rattle.std.proofs.Common.{inl, inr, ◌≡◌, ◌≢◌, ℕ, ◌+◌, ◌-
 use Rattle.std.proofs.lemmas.Bool.{cases_eq}
 use Rattle.std.proofs.lemmas.List.{map-append}
 use Rattle.std.proofs.lemmas.List.Elements.{All-nil, All-cons, All-append, All-head, All-tail, filter-append}
-use Rattle.board_crew.specs.Crew.{cuts_in, logged_cells, counters_of, cut_to}
+use Rattle.board_rounds.specs.Crew.{cuts_in, logged_cells, counters_of, cut_to}
 use Rattle.game_core.specs.Counts.{one_if, times}
 use Rattle.cell_counters.specs.declared.account.Cut.{Cut}
 use Rattle.cell_counters.specs.declared.account.Log.{Log}
@@ -11,10 +11,10 @@ use Rattle.cell_counters.specs.declared.account.Account.{Account}
 use Rattle.cell_counters.specs.Accounts.{all_logs}
 use Rattle.game_core.specs.Fallen.{is_obstacle}
 use Rattle.game_core.specs.Game.{Game, mark_of, pairs_of, successors_at}
-use Rattle.game_core.proofs.Times.{counts_tell}
+use Rattle.game_core.proofs.Times.{counts_agree}
 use Rattle.safety_game.specs.Boards.{pairs_at}
-use Rattle.safety_game.specs.inside.Rounds.{firsts_in, hits_in, IsInStep}
-use Rattle.safety_game.specs.inside.Workers.{is_blow}
+use Rattle.safety_game.specs.inside.Rounds.{firsts_in, cell_cuts_in, IsInStep}
+use Rattle.safety_game.specs.inside.Workers.{is_first_cut}
 use Rattle.game_core.proofs.Counts.{sum_zeros}
 use Rattle.safety_game.proofs.Counting.{times-append, times_single, here, elsewhere}
 use Rattle.safety_game.proofs.Pairs.{at_home, away, pairs_below}
@@ -52,22 +52,22 @@ other_cut_to n v counter left ne = one_cut_to n v counter left ∙ (ap (λ m. co
     none false = refl
 
 module _ (g : Game) where
-  pub hits-append : (xs ys : List Cut) (c : ℕ) → hits_in g (xs ++ ys) c ≡ hits_in g xs c + hits_in g ys c
-  hits-append xs ys c = by_mark (is_obstacle (mark_of g c))
+  pub cell_cuts-append : (xs ys : List Cut) (c : ℕ) → cell_cuts_in g (xs ++ ys) c ≡ cell_cuts_in g xs c + cell_cuts_in g ys c
+  cell_cuts-append xs ys c = by_mark (is_obstacle (mark_of g c))
     where
       all : sum_by (firsts_in g (xs ++ ys)) (pairs_at g c) ≡ sum_by (firsts_in g xs) (pairs_at g c) + sum_by (firsts_in g ys) (pairs_at g c)
       all =
-          counts_tell.alike (firsts_in g (xs ++ ys)) (λ pair. firsts_in g xs pair + firsts_in g ys pair) (pairs_at g c)
+          counts_agree.alike (firsts_in g (xs ++ ys)) (λ pair. firsts_in g xs pair + firsts_in g ys pair) (pairs_at g c)
           (λ i d lt. let p = get_or (pairs_at g c) i d in times_cut_to p (length (successors_at g p) - 1) xs ys)
-          ∙ counts_tell.added (firsts_in g xs) (firsts_in g ys) (pairs_at g c)
+          ∙ counts_agree.added (firsts_in g xs) (firsts_in g ys) (pairs_at g c)
 
       by_mark : (b : Bool) → cond b 0 (sum_by (firsts_in g (xs ++ ys)) (pairs_at g c)) ≡ cond b 0 (sum_by (firsts_in g xs) (pairs_at g c)) + cond b 0 (sum_by (firsts_in g ys) (pairs_at g c))
       by_mark true = refl
       by_mark false = all
 
   -- where nothing was a pair's first cut, nothing is a hit
-  pub no_hits : (cuts : List Cut) (c : ℕ) → All (λ pair. firsts_in g cuts pair ≡ 0) (pairs_at g c) → hits_in g cuts c ≡ 0
-  no_hits cuts c none = by_mark (is_obstacle (mark_of g c))
+  pub no_cell_cuts : (cuts : List Cut) (c : ℕ) → All (λ pair. firsts_in g cuts pair ≡ 0) (pairs_at g c) → cell_cuts_in g cuts c ≡ 0
+  no_cell_cuts cuts c none = by_mark (is_obstacle (mark_of g c))
     where
       by_mark : (b : Bool) → cond b 0 (sum_by (firsts_in g cuts) (pairs_at g c)) ≡ 0
       by_mark true = refl
@@ -75,7 +75,7 @@ module _ (g : Game) where
 
   pub nothing_in_step : IsInStep g [] []
   nothing_in_step = record {
-    cells = λ c lt. sym (no_hits [] c (λ i d li. refl));
+    cells = λ c lt. sym (no_cell_cuts [] c (λ i d li. refl));
     logs = λ c. refl;
     no_other_cut = All-nil (λ (c : Cut). c.counter < pairs_of g + g.cells);
   }
@@ -84,7 +84,7 @@ module _ (g : Game) where
   in_step-append xs ys ls ms x y = record {
     cells = λ c lt.
         let both = times_counters (pairs_of g + c) xs ys in
-        let hits = hits-append xs ys c in
+        let cell_cuts = cell_cuts-append xs ys c in
         let a = x.cells c lt in
         let b = y.cells c lt in
         omega arith;
@@ -128,7 +128,7 @@ module _ (g : Game) (some' : 0 < g.inputs) (pair left : ℕ) (lt : pair < pairs_
   -- how many firsts of pairs of a cell that cut is
   firsts_at : (c : ℕ) → sum_by (firsts_in g (cut pair left ∷ [])) (pairs_at g c) ≡ cond is_first (times pair (pairs_at g c)) 0
   firsts_at c =
-      counts_tell.alike (firsts_in g (cut pair left ∷ [])) (λ q. cond is_first (one_if (q == pair)) 0) (pairs_at g c) (λ i d li. firsts_of_one (get_or (pairs_at g c) i d))
+      counts_agree.alike (firsts_in g (cut pair left ∷ [])) (λ q. cond is_first (one_if (q == pair)) 0) (pairs_at g c) (λ i d li. firsts_of_one (get_or (pairs_at g c) i d))
       ∙ by_test is_first
     where
       by_test : (b : Bool) → sum_by (λ q. cond b (one_if (q == pair)) 0) (pairs_at g c) ≡ cond b (times pair (pairs_at g c)) 0
@@ -140,7 +140,7 @@ module _ (g : Game) (some' : 0 < g.inputs) (pair left : ℕ) (lt : pair < pairs_
   no_cell c e = absurd (omega arith)
 
   -- with no blow there is no hit
-  quiet_hits : is_blow g pair left ≡ false → (c : ℕ) → hits_in g (cut pair left ∷ []) c ≡ 0
+  quiet_hits : is_first_cut g pair left ≡ false → (c : ℕ) → cell_cuts_in g (cut pair left ∷ []) c ≡ 0
   quiet_hits quiet c = by_mark (is_obstacle (mark_of g c)) refl is_first refl
     where
       by_mark : (b : Bool) → is_obstacle (mark_of g c) ≡ b → (f : Bool) → is_first ≡ f → cond b 0 (sum_by (firsts_in g (cut pair left ∷ [])) (pairs_at g c)) ≡ 0
@@ -151,10 +151,10 @@ module _ (g : Game) (some' : 0 < g.inputs) (pair left : ℕ) (lt : pair < pairs_
           ∙ (ap (λ f. cond f (times pair (pairs_at g c)) 0) h
           ∙ away g some' pair c (λ same.
           let clear : is_obstacle (mark_of g (pair / g.inputs)) ≡ false = ap (λ c. is_obstacle (mark_of g c)) same ∙ e in
-          let blow : is_blow g pair left ≡ true = ap (λ f. f && not (is_obstacle (mark_of g (pair / g.inputs)))) h ∙ ap not clear in
+          let first_cut : is_first_cut g pair left ≡ true = ap (λ f. f && not (is_obstacle (mark_of g (pair / g.inputs)))) h ∙ ap not clear in
           cc))
 
-  pub quiet_in_step : is_blow g pair left ≡ false → IsInStep g (cut pair left ∷ []) []
+  pub quiet_in_step : is_first_cut g pair left ≡ false → IsInStep g (cut pair left ∷ []) []
   quiet_in_step quiet = record {
     cells = λ c li. one_counter (pairs_of g + c) pair left ∙ (elsewhere pair (pairs_of g + c) (no_cell c) ∙ sym (quiet_hits quiet c));
     logs = λ c. sym (other_cut_to (pairs_of g + c) 0 pair left (no_cell c));
@@ -162,7 +162,7 @@ module _ (g : Game) (some' : 0 < g.inputs) (pair left : ℕ) (lt : pair < pairs_
   }
 
   -- a blow is a hit of the cell, and of no other
-  blow_parts : is_blow g pair left ≡ true → (is_first ≡ true) × (is_obstacle (mark_of g (pair / g.inputs)) ≡ false)
+  blow_parts : is_first_cut g pair left ≡ true → (is_first ≡ true) × (is_obstacle (mark_of g (pair / g.inputs)) ≡ false)
   blow_parts e = parts is_first (is_obstacle (mark_of g (pair / g.inputs))) e
     where
       parts : (f b : Bool) → (f && not b) ≡ true → (f ≡ true) × (b ≡ false)
@@ -170,9 +170,9 @@ module _ (g : Game) (some' : 0 < g.inputs) (pair left : ℕ) (lt : pair < pairs_
       parts true false e = (refl, refl)
       parts false b e = absurd (cc)
 
-  blow_hits : is_blow g pair left ≡ true → (c : ℕ) → hits_in g (cut pair left ∷ []) c ≡ one_if (pair / g.inputs == c)
-  blow_hits blow c =
-      let parts = blow_parts blow in
+  blow_hits : is_first_cut g pair left ≡ true → (c : ℕ) → cell_cuts_in g (cut pair left ∷ []) c ≡ one_if (pair / g.inputs == c)
+  blow_hits first_cut c =
+      let parts = blow_parts first_cut in
       let first = firsts_at c ∙ ap (λ f. cond f (times pair (pairs_at g c)) 0) parts.0 in
       elim (cases_eq (pair / g.inputs) c) [
         | inl e ↦
@@ -194,10 +194,10 @@ module _ (g : Game) (some' : 0 < g.inputs) (pair left : ℕ) (lt : pair < pairs_
     second = cut (pairs_of g + cell) cell_left ∷ []
 
     -- the cut of the cell is no pair's
-    second_hits : (c : ℕ) → c < g.cells → hits_in g second c ≡ 0
+    second_hits : (c : ℕ) → c < g.cells → cell_cuts_in g second c ≡ 0
     second_hits c lc =
         let below = pairs_below g c lc in
-        no_hits g second c (λ i d li.
+        no_cell_cuts g second c (λ i d li.
         let p = get_or (pairs_at g c) i d in
         other_cut_to p (length (successors_at g p) - 1) (pairs_of g + cell) cell_left (λ e. let l = below i d li in absurd (omega arith)))
 
@@ -212,16 +212,16 @@ module _ (g : Game) (some' : 0 < g.inputs) (pair left : ℕ) (lt : pair < pairs_
     logged_once c true = times_single c cell
     logged_once c false = refl
 
-    pub blow_in_step : is_blow g pair left ≡ true → IsInStep g ((cut pair left ∷ []) ++ second) (cond (cell_left == 0) (cell ∷ []) [])
-    blow_in_step blow = record {
+    pub first_cut_in_step : is_first_cut g pair left ≡ true → IsInStep g ((cut pair left ∷ []) ++ second) (cond (cell_left == 0) (cell ∷ []) [])
+    first_cut_in_step first_cut = record {
       cells = λ c lc.
           let both = times_counters (pairs_of g + c) (cut pair left ∷ []) second in
           let pair_is = one_counter (pairs_of g + c) pair left in
           let no_pair = elsewhere pair (pairs_of g + c) (no_cell c) in
           let cell_is = one_counter (pairs_of g + c) (pairs_of g + cell) cell_left in
           let same = same_counter c in
-          let hits = hits-append g (cut pair left ∷ []) second c in
-          let first = blow_hits blow c in
+          let cell_cuts = cell_cuts-append g (cut pair left ∷ []) second c in
+          let first = blow_hits first_cut c in
           let rest = second_hits c lc in
           omega arith;
       logs = λ c.

@@ -9,9 +9,9 @@ use Rattle.cell_counters.specs.Accounts.{IsLawfulCounter, cut_count}
 use Rattle.cell_counters.specs.Tokens.{BoardModel, RootModel, IsLawful, new_root}
 use Rattle.cell_counters.proofs.Consequences.{counts_down}
 use Rattle.game_core.specs.Game.{Game, IsGraph, pairs_of, successors_at}
-use Rattle.board_crew.specs.Boards.{fans_of, for_each_cell}
-use Rattle.board_crew.proofs.Boards.{fans_many, numbers_many}
-use Rattle.board_crew.proofs.Graphs.{few_successors}
+use Rattle.board_rounds.specs.Boards.{fans_of, for_each_cell}
+use Rattle.board_rounds.proofs.Boards.{fans_many, numbers_many}
+use Rattle.board_rounds.proofs.Graphs.{few_successors}
 use Rattle.safety_game.specs.Boards.{enabled_at, counters_of, IsBoardOf}
 use Rattle.safety_game.specs.inside.Rounds.{IsLawfulFor, is_whole}
 use Rattle.safety_game.proofs.Pairs.{few_enabled}

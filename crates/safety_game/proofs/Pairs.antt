@@ -7,7 +7,7 @@ use Rattle.std.proofs.lemmas.List.Sums.{count_by-le-length}
 use Rattle.std.proofs.lemmas.Nat.{div-mul-add, div-add-mod', mod_below, mul-add-lt}
 use Rattle.game_core.specs.Counts.{times}
 use Rattle.game_core.specs.Game.{Game, pair_of, pairs_of, successors_at}
-use Rattle.game_core.proofs.Times.{counts_tell}
+use Rattle.game_core.proofs.Times.{counts_agree}
 use Rattle.safety_game.specs.Boards.{pairs_at, enabled_at}
 
 module _ (g : Game) where
@@ -41,7 +41,7 @@ module _ (g : Game) where
   -- a pair is among those of its cell, once, and of no other
   module _ (some' : 0 < g.inputs) where
     in_parts : (pair a r : ℕ) → a + r ≡ pair → r < g.inputs → times pair (range_with_len a g.inputs) ≡ 1
-    in_parts pair a r e lt = counts_tell.in_range pair a g.inputs (omega arith) (omega arith)
+    in_parts pair a r e lt = counts_agree.in_range pair a g.inputs (omega arith) (omega arith)
 
     pub at_home : (pair : ℕ) → times pair (pairs_at g (pair / g.inputs)) ≡ 1
     at_home pair = in_parts pair (pair / g.inputs * g.inputs) (pair % g.inputs) (div-add-mod' pair g.inputs) (mod_below pair g.inputs some')
@@ -51,7 +51,7 @@ module _ (g : Game) where
         elim (cases_lt 0 (times pair (pairs_at g c))) [
           | inr none' ↦ omega arith
           | inl has' ↦
-              let has = counts_tell.found pair (pairs_at g c) has' in
+              let has = counts_agree.found pair (pairs_at g c) has' in
               let len = length-range_with_len (c * g.inputs) g.inputs in
               let lt : has.0 < g.inputs = (let l = has.1 in omega arith) in
               let same : pair_of g c has.0 ≡ pair = sym (get_or-range_with_len (c * g.inputs) g.inputs has.0 pair lt) ∙ has.2 in

@@ -6,25 +6,25 @@ use Rattle.cell_counters.specs.Tokens.{BoardModel, IsLawful}
 use Rattle.game_core.specs.Counts.{times}
 use Rattle.game_core.specs.Fallen.{has_fallen}
 use Rattle.game_core.specs.Game.{Game, IsGraph}
-use Rattle.board_crew.specs.Crew.{logged_cells}
-use Rattle.board_crew.specs.Rules.{IsRound, LeadsOn}
+use Rattle.board_rounds.specs.Crew.{logged_cells}
+use Rattle.board_rounds.specs.Rules.{IsRound, LeadsOn}
 use Rattle.safety_game.specs.Boards.{IsBoardOf}
 use Rattle.safety_game.specs.inside.Rounds.{KeepsRule}
-use Rattle.safety_game.specs.inside.Standing.{StandsAt, IsPlayable}
+use Rattle.safety_game.specs.inside.Standing.{HoldsBefore, IsRunnable}
 use Rattle.safety_game.proofs.OnBoards.{counters_of_board, lawful_for}
 use Rattle.safety_game.proofs.InStep.{nothing_in_step}
 use Rattle.safety_game.proofs.LeadsOn.{round_leads_on}
 use Rattle.safety_game.proofs.Begins.{begins, full_after, few_logs}
 
 module _ (g : Game) (a : IsGraph g) (board : BoardModel) (of_game : IsBoardOf g board) where
-  next_stand : (d : ℕ) (list next : List ℕ) (accounts more : List Account) → d ≤ g.cells → 0 < length list → StandsAt g d list accounts → IsRound g (KeepsRule g) list more
-      → IsLawful (accounts ++ more) board.starts board.least → ((c : ℕ) → times c next ≡ times c (logged_cells (all_logs more))) → StandsAt g (suc d) next (accounts ++ more)
+  next_stand : (d : ℕ) (list next : List ℕ) (accounts more : List Account) → d ≤ g.cells → 0 < length list → HoldsBefore g d list accounts → IsRound g (KeepsRule g) list more
+      → IsLawful (accounts ++ more) board.starts board.least → ((c : ℕ) → times c next ≡ times c (logged_cells (all_logs more))) → HoldsBefore g (suc d) next (accounts ++ more)
   next_stand d list next accounts more early some' was round lawful same = record {
     falling = round_leads_on g a d list accounts more was.falling round (lawful_for g a board of_game (accounts ++ more) lawful) next same;
     full = full_after g a d list accounts was.falling some';
   }
 
-  leads_on : LeadsOn g board (has_fallen g 0) (λ d. KeepsRule g) (StandsAt g)
+  leads_on : LeadsOn g board (has_fallen g 0) (λ d. KeepsRule g) (HoldsBefore g)
   leads_on = record {
     graph = a;
     counters = let many = counters_of_board g a board of_game in omega arith;
@@ -36,5 +36,5 @@ module _ (g : Game) (a : IsGraph g) (board : BoardModel) (of_game : IsBoardOf g 
     next = next_stand;
   }
 
-  pub playable : IsPlayable g board
-  playable = record { of_game = of_game; leads = leads_on }
+  pub runnable : IsRunnable g board
+  runnable = record { of_game = of_game; leads = leads_on }

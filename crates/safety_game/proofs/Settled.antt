@@ -6,29 +6,29 @@ use Rattle.std.proofs.lemmas.List.{length-map}
 use Rattle.std.proofs.lemmas.List.Elements.{All-map}
 use Rattle.std.proofs.lemmas.List.FromFn.{length-range_with_len}
 use Rattle.std.proofs.lemmas.List.Sums.{count_by-le-length}
-use Rattle.board_crew.specs.Crew.{cuts_in, counters_of}
+use Rattle.board_rounds.specs.Crew.{cuts_in, counters_of}
 use Rattle.game_core.specs.Counts.{one_if, times}
-use Rattle.board_crew.proofs.Accounts.{cuts_are}
+use Rattle.board_rounds.proofs.Accounts.{cuts_are}
 use Rattle.cell_counters.specs.declared.account.Cut.{Cut}
 use Rattle.cell_counters.specs.declared.account.Account.{Account}
 use Rattle.cell_counters.specs.Accounts.{cut_count}
 use Rattle.game_core.specs.declared.game.Mark.{Mark}
 use Rattle.game_core.specs.declared.game.Mark.TheVariants.{Goal, Obstacle, Plain}
 use Rattle.game_core.specs.declared.game.Row.{Row}
-use Rattle.game_core.specs.Fallen.{is_obstacle, has_fallen, IsSettled, AreSettled, LeadsToRows}
+use Rattle.game_core.specs.Fallen.{is_obstacle, has_fallen, IsStable, AreStable, LeadsToRows}
 use Rattle.game_core.specs.Game.{Game, IsGraph, mark_of, pair_of, pairs_of, successors_at, successors_of}
 use Rattle.game_core.specs.Solution.{row_of, HasRow}
 use Rattle.game_core.specs.Tally.{all_pairs, unkept_in, is_lost, FellBefore}
-use Rattle.game_core.proofs.Times.{counts_tell}
+use Rattle.game_core.proofs.Times.{counts_agree}
 use Rattle.safety_game.specs.Boards.{pairs_at}
 use Rattle.safety_game.specs.Reckoned.{lost_at, IsReckonedBy}
-use Rattle.safety_game.specs.inside.Rounds.{fell_before, gone_in, is_hit, hits_at, AreFalling, IsFull, is_whole, IsRowTold, AreRowsTold}
+use Rattle.safety_game.specs.inside.Rounds.{fell_before, gone_in, is_cell_cut, cell_cuts_at, AreFalling, IsFull, is_whole, IsRowDecoded, AreRowsDecoded}
 use Rattle.game_core.proofs.Counts.{one_if_le, one_if_same, count_none}
-use Rattle.board_crew.proofs.Graphs.{successors_within}
-use Rattle.board_crew.proofs.Sums.{All-range}
+use Rattle.board_rounds.proofs.Graphs.{successors_within}
+use Rattle.board_rounds.proofs.Sums.{All-range}
 use Rattle.safety_game.proofs.Counting.{range_split, range_shift, range_rows}
 use Rattle.safety_game.proofs.Pairs.{cell_of, pair_below, pairs_below, All-pairs_at, All-at_input}
-use Rattle.safety_game.proofs.Falls.{is_enabled, touched_enabled, fell_later, falls_by_hits, hits_by_fall, obstacle_falls}
+use Rattle.safety_game.proofs.Falls.{is_enabled, touched_enabled, fell_later, falls_by_cell_cuts, cell_cuts_by_fall, obstacle_falls}
 
 clear_if : (m : Mark) → m ≢ Obstacle → is_obstacle m ≡ false
 clear_if Goal ne = refl
@@ -55,7 +55,7 @@ fell_in : (g : Game) (d c : ℕ) → fell_before g d c ≡ true → (k : ℕ) ×
 fell_in g zero c e = absurd (let f : false ≡ true = e in cc)
 fell_in g (suc d) c e = (d, omega arith, e)
 
-module _ (g : Game) (a : IsGraph g) (d : ℕ) (accounts : List Account) (was : AreFalling g d [] accounts) (rows : List (Option Row)) (told : AreRowsTold g accounts rows) where
+module _ (g : Game) (a : IsGraph g) (d : ℕ) (accounts : List Account) (was : AreFalling g d [] accounts) (rows : List (Option Row)) (told : AreRowsDecoded g accounts rows) where
   -- no cell falls any more
   over : (c : ℕ) → c < g.cells → fell_before g d c ≡ has_fallen g d c
   over c lt = one_if_same (fell_before g d c) (has_fallen g d c) (let e = was.cells c lt in let z : times c [] ≡ 0 = refl in omega arith)
@@ -71,7 +71,7 @@ module _ (g : Game) (a : IsGraph g) (d : ℕ) (accounts : List Account) (was : A
       and_from (nat_lt 0 (length (successors_at g pair))) (cut_count pair accounts == 0) (lt-ltb 0 (length (successors_at g pair)) some') (eq-eqb (cut_count pair accounts) 0 (was.cuts pair lt ∙ none))
 
   -- a cell without a row fell
-  hit_if : (c u : ℕ) → c < g.cells → u < g.inputs → is_obstacle (mark_of g c) ≡ false → is_whole g accounts (pair_of g c u) ≡ false → is_enabled g (pair_of g c u) ≡ true → is_hit g d (pair_of g c u) ≡ true
+  hit_if : (c u : ℕ) → c < g.cells → u < g.inputs → is_obstacle (mark_of g c) ≡ false → is_whole g accounts (pair_of g c u) ≡ false → is_enabled g (pair_of g c u) ≡ true → is_cell_cut g d (pair_of g c u) ≡ true
   hit_if c u lt lu clear broken enabled =
       let pair = pair_of g c u in
       let here : not (is_obstacle (mark_of g (pair / g.inputs))) ≡ true = ap (λ c. not (is_obstacle (mark_of g c))) (cell_of g c u lu) ∙ ap not clear in
@@ -80,30 +80,30 @@ module _ (g : Game) (a : IsGraph g) (d : ℕ) (accounts : List Account) (was : A
         | inr none ↦ absurd (let w = whole_from pair (pair_below g c u lt lu) (ltb-true 0 (length (successors_at g pair)) enabled) (omega arith) in cc)
       ]
 
-  rowless_fell : (c : ℕ) → c < g.cells → IsRowTold g accounts c None → has_fallen g d c ≡ true
+  rowless_fell : (c : ℕ) → c < g.cells → IsRowDecoded g accounts c None → has_fallen g d c ≡ true
   rowless_fell c lt (inl m) = obstacle_falls g d c (ap is_obstacle m)
   rowless_fell c lt (inr none) =
       elim (cases_Bool (is_obstacle (mark_of g c))) [
         | inl blocked ↦ obstacle_falls g d c blocked
         | inr clear ↦
-            falls_by_hits g d c (counts_tell.lesser (λ pair. one_if (is_enabled g pair)) (λ pair. one_if (is_hit g d pair)) (pairs_at g c)
-            (All-pairs_at g (λ pair. one_if (is_enabled g pair) ≤ one_if (is_hit g d pair)) c (λ u lu.
-            one_if_le (is_enabled g (pair_of g c u)) (is_hit g d (pair_of g c u)) (hit_if c u lt lu clear (none u lu)))))
+            falls_by_cell_cuts g d c (counts_agree.lesser (λ pair. one_if (is_enabled g pair)) (λ pair. one_if (is_cell_cut g d pair)) (pairs_at g c)
+            (All-pairs_at g (λ pair. one_if (is_enabled g pair) ≤ one_if (is_cell_cut g d pair)) c (λ u lu.
+            one_if_le (is_enabled g (pair_of g c u)) (is_cell_cut g d (pair_of g c u)) (hit_if c u lt lu clear (none u lu)))))
       ]
 
   -- a cell with a row stands
-  row_stands : (c : ℕ) (row : Row) → c < g.cells → IsRowTold g accounts c (Some row) → has_fallen g d c ≡ false
+  row_stands : (c : ℕ) (row : Row) → c < g.cells → IsRowDecoded g accounts c (Some row) → has_fallen g d c ≡ false
   row_stands c row lt is =
       elim (cases_Bool (has_fallen g d c)) [
-        | inr stands ↦ stands
+        | inr holds_before ↦ holds_before
         | inl fell ↦
             let pair = pair_of g c row.input in
-            let all = hits_by_fall g d c (clear_if (mark_of g c) is.0) fell in
-            let alike = counts_tell.pass_alike (is_hit g d) (is_enabled g) (touched_enabled g (fell_before g d)) (pairs_at g c) all in
-            let here : is_hit g d pair ≡ is_enabled g pair = All-at_input g (λ pair. is_hit g d pair ≡ is_enabled g pair) c alike row.input is.2 in
+            let all = cell_cuts_by_fall g d c (clear_if (mark_of g c) is.0) fell in
+            let alike = counts_agree.pass_alike (is_cell_cut g d) (is_enabled g) (touched_enabled g (fell_before g d)) (pairs_at g c) all in
+            let here : is_cell_cut g d pair ≡ is_enabled g pair = All-at_input g (λ pair. is_cell_cut g d pair ≡ is_enabled g pair) c alike row.input is.2 in
             let parts = whole_parts pair (pair_below g c row.input lt is.2) is.3 in
             let enabled : is_enabled g pair ≡ true = lt-ltb 0 (length (successors_at g pair)) parts.0 in
-            let hit = ltb-true 0 (gone_in g d pair) (and_parts (not (is_obstacle (mark_of g (pair / g.inputs)))) (nat_lt 0 (gone_in g d pair)) (here ∙ enabled)).1 in
+            let cut_cell = ltb-true 0 (gone_in g d pair) (and_parts (not (is_obstacle (mark_of g (pair / g.inputs)))) (nat_lt 0 (gone_in g d pair)) (here ∙ enabled)).1 in
             let none = parts.1 in
             absurd (omega arith)
       ]
@@ -112,7 +112,7 @@ module _ (g : Game) (a : IsGraph g) (d : ℕ) (accounts : List Account) (was : A
   fell_is : (c : ℕ) → c < g.cells → fell_before g d c ≡ not (is_some (row_of rows c))
   fell_is c lt = over c lt ∙ by_row (row_of rows c) (told.each c lt)
     where
-      by_row : (o : Option Row) → IsRowTold g accounts c o → has_fallen g d c ≡ not (is_some o)
+      by_row : (o : Option Row) → IsRowDecoded g accounts c o → has_fallen g d c ≡ not (is_some o)
       by_row None is = rowless_fell c lt is
       by_row (Some row) is = row_stands c row lt is
 
@@ -129,7 +129,7 @@ module _ (g : Game) (a : IsGraph g) (d : ℕ) (accounts : List Account) (was : A
       let lp = pair_below g c u lt lu in
       let parts = whole_parts pair lp e in
       let below = successors_within g a pair lp in
-      let none = counts_tell.none_passes (fell_before g d) (successors_at g pair) parts.1 in
+      let none = counts_agree.none_passes (fell_before g d) (successors_at g pair) parts.1 in
       ((lu, filled (successors_of g c u) parts.0), λ i e' li. has_row (get_or (successors_at g pair) i e') (below i e' li) (none i e' li))
 
   leads_whole : (c u : ℕ) → c < g.cells → LeadsToRows g rows c u → is_whole g accounts (pair_of g c u) ≡ true
@@ -139,7 +139,7 @@ module _ (g : Game) (a : IsGraph g) (d : ℕ) (accounts : List Account) (was : A
       let below = successors_within g a pair lp in
       whole_from pair lp (unfilled (successors_of g c u) leads.0.1) (count_none (fell_before g d) (successors_at g pair) (λ i e li. row_kept (get_or (successors_at g pair) i e) (below i e li) (leads.1 i e li)))
 
-  held : (c : ℕ) → c < g.cells → (o : Option Row) → IsRowTold g accounts c o → IsSettled g rows c o
+  held : (c : ℕ) → c < g.cells → (o : Option Row) → IsRowDecoded g accounts c o → IsStable g rows c o
   held c lt None is = (d, rowless_fell c lt is)
   held c lt (Some row) is = record {
     clear = is.0;
@@ -152,19 +152,19 @@ module _ (g : Game) (a : IsGraph g) (d : ℕ) (accounts : List Account) (was : A
         ];
   }
 
-  pub settled : AreSettled g rows
+  pub settled : AreStable g rows
   settled = record { one_each = told.one_each; each = λ c lt. held c lt (row_of rows c) (told.each c lt) }
 
   -- the accounts have what the rows reckon
   unkept : (pair : ℕ) → pair < pairs_of g → gone_in g d pair ≡ unkept_in g rows pair
   unkept pair lt =
       let below = successors_within g a pair lt in
-      counts_tell.alike (λ s. one_if (fell_before g d s)) (λ s. one_if (not (is_some (row_of rows s)))) (successors_at g pair) (λ i e li. ap one_if (fell_is (get_or (successors_at g pair) i e) (below i e li)))
+      counts_agree.alike (λ s. one_if (fell_before g d s)) (λ s. one_if (not (is_some (row_of rows s)))) (successors_at g pair) (λ i e li. ap one_if (fell_is (get_or (successors_at g pair) i e) (below i e li)))
 
-  lost : (c : ℕ) → c < g.cells → hits_at g d c ≡ lost_at g rows c
+  lost : (c : ℕ) → c < g.cells → cell_cuts_at g d c ≡ lost_at g rows c
   lost c lt =
       let below = pairs_below g c lt in
-      counts_tell.alike (λ pair. one_if (is_hit g d pair)) (λ pair. one_if (is_lost g rows pair)) (pairs_at g c) (λ i e li.
+      counts_agree.alike (λ pair. one_if (is_cell_cut g d pair)) (λ pair. one_if (is_lost g rows pair)) (pairs_at g c) (λ i e li.
       let pair = get_or (pairs_at g c) i e in
       ap (λ n. one_if (not (is_obstacle (mark_of g (pair / g.inputs))) && nat_lt 0 n)) (unkept pair (below i e li)))
 
@@ -183,16 +183,16 @@ module _ (g : Game) (a : IsGraph g) (d : ℕ) (accounts : List Account) (was : A
   pub cuts_count : length (cuts_in accounts) ≡ sum_by (unkept_in g rows) (all_pairs g) + count_by (is_lost g rows) (all_pairs g)
   cuts_count =
       let len = length-map (cuts_in accounts) (λ (c : Cut). c.counter) in
-      let all = counts_tell.of_all_below (pairs_of g + g.cells) counters (All-map (λ n. n < pairs_of g + g.cells) (λ (c : Cut). c.counter) (cuts_in accounts) was.no_other_cut) in
+      let all = counts_agree.of_all_below (pairs_of g + g.cells) counters (All-map (λ n. n < pairs_of g + g.cells) (λ (c : Cut). c.counter) (cuts_in accounts) was.no_other_cut) in
       let split = range_split (λ i. times i counters) 0 (pairs_of g) g.cells in
       let shift = range_shift (λ i. times i counters) (pairs_of g) 0 g.cells in
       let from : sum_by (λ i. times i counters) (range_with_len (0 + pairs_of g) g.cells) ≡ sum_by (λ i. times i counters) (range_with_len (pairs_of g + 0) g.cells) = ap (λ n. sum_by (λ i. times i counters) (range_with_len n g.cells)) {x = 0 + pairs_of g} {y = pairs_of g + 0} (omega arith) in
       let in' = All-range (pairs_of g) in
-      let of_pairs = counts_tell.alike (λ i. times i counters) (unkept_in g rows) (all_pairs g) (λ i e li.
+      let of_pairs = counts_agree.alike (λ i. times i counters) (unkept_in g rows) (all_pairs g) (λ i e li.
       let pair = get_or (all_pairs g) i e in
       sym (cuts_are pair accounts) ∙ reckoned.cuts pair (in' i e li)) in
       let in'' = All-range g.cells in
-      let of_cells = counts_tell.alike (λ c. times (pairs_of g + c) counters) (lost_at g rows) (range_with_len 0 g.cells) (λ i e li.
+      let of_cells = counts_agree.alike (λ c. times (pairs_of g + c) counters) (lost_at g rows) (range_with_len 0 g.cells) (λ i e li.
       let c = get_or (range_with_len 0 g.cells) i e in
       sym (cuts_are (pairs_of g + c) accounts) ∙ reckoned.cell_cuts c (in'' i e li)) in
       let rows' = range_rows (λ pair. one_if (is_lost g rows pair)) g.inputs 0 g.cells in
@@ -202,8 +202,8 @@ module _ (g : Game) (a : IsGraph g) (d : ℕ) (accounts : List Account) (was : A
   pub few_cuts : length (cuts_in accounts) < 2 ^ 26
   few_cuts =
       let is = cuts_count in
-      let le = counts_tell.lesser (unkept_in g rows) (λ pair. length (successors_at g pair)) (all_pairs g) (λ i e li. count_by-le-length (λ s. not (is_some (row_of rows s))) (successors_at g (get_or (all_pairs g) i e))) in
-      let all = counts_tell.places_of_lists length g.successors in
+      let le = counts_agree.lesser (unkept_in g rows) (λ pair. length (successors_at g pair)) (all_pairs g) (λ i e li. count_by-le-length (λ s. not (is_some (row_of rows s))) (successors_at g (get_or (all_pairs g) i e))) in
+      let all = counts_agree.positions_of_lists length g.successors in
       let same : sum_by (λ pair. length (successors_at g pair)) (all_pairs g) ≡ sum_by (λ pair. length (successors_at g pair)) (range_with_len 0 (length g.successors)) = ap (λ n. sum_by (λ pair. length (successors_at g pair)) (range_with_len 0 n)) (sym a.game.one_list_each) in
       let edges = a.edges_bound in
       let less = count_by-le-length (is_lost g rows) (all_pairs g) in

@@ -1,16 +1,16 @@
 -- A worker that cuts a pair keeps the rule.
 use Rattle.std.proofs.Common.{◌≡◌, ℕ, ◌+◌, ◌/◌, ◌<◌, ◌==◌, Bool, true, false, cond, List, [], ◌∷◌, ◌++◌, arith, sym, ◌∙◌, ap, subst, append_assoc}
 use Rattle.std.proofs.lemmas.List.{append-nil}
-use Rattle.board_crew.specs.Crew.{logged_cells, counters_of}
-use Rattle.board_crew.specs.Rules.{CutsOnce}
+use Rattle.board_rounds.specs.Crew.{logged_cells, counters_of}
+use Rattle.board_rounds.specs.Rules.{CutsOnce}
 use Rattle.cell_counters.specs.declared.account.Cut.{Cut}
 use Rattle.cell_counters.specs.Tokens.{HandModel}
 use Rattle.game_core.specs.Counts.{times, one_if}
 use Rattle.game_core.specs.Game.{Game, pairs_of}
 use Rattle.safety_game.specs.inside.Rounds.{IsInStep, KeepsRule}
-use Rattle.safety_game.specs.inside.Workers.{Takes, HitsAfter, Cuts}
+use Rattle.safety_game.specs.inside.Workers.{CutsFirst, CellCutsAfter, Cuts}
 use Rattle.safety_game.proofs.Counting.{elsewhere}
-use Rattle.safety_game.proofs.InStep.{cut, times_counters, one_counter, in_step-append, quiet_in_step, blow_in_step}
+use Rattle.safety_game.proofs.InStep.{cut, times_counters, one_counter, in_step-append, quiet_in_step, first_cut_in_step}
 
 -- what a worker did for one pair
 pub record HasCut (g : Game) (pair : ℕ) (was now : HandModel) : Type 0 where
@@ -26,7 +26,7 @@ pub record HasCut (g : Game) (pair : ℕ) (was now : HandModel) : Type 0 where
 
 module _ (g : Game) (some' : 0 < g.inputs) (pair : ℕ) (lt : pair < pairs_of g) (inside : pair / g.inputs < g.cells) where
   -- no blow
-  quiet : (was between now : HandModel) → Takes g pair was between false → HitsAfter g (pair / g.inputs) false between now → HasCut g pair was now
+  quiet : (was between now : HandModel) → CutsFirst g pair was between false → CellCutsAfter g (pair / g.inputs) false between now → HasCut g pair was now
   quiet was between now t same =
       let is : now ≡ record was { account = record was.account { cuts = was.account.cuts ++ cut pair t.left ∷ [] } } = same ∙ t.taken in
       let cuts : now.account.cuts ≡ was.account.cuts ++ cut pair t.left ∷ [] = ap (λ (h : HandModel). h.account.cuts) is in
@@ -43,8 +43,8 @@ module _ (g : Game) (some' : 0 < g.inputs) (pair : ℕ) (lt : pair < pairs_of g)
       }
 
   -- a blow to the cell
-  blow : (was between now : HandModel) → Takes g pair was between true → HitsAfter g (pair / g.inputs) true between now → HasCut g pair was now
-  blow was between now t h =
+  first_cut : (was between now : HandModel) → CutsFirst g pair was between true → CellCutsAfter g (pair / g.inputs) true between now → HasCut g pair was now
+  first_cut was between now t h =
       let cell = pair / g.inputs in
       let first = cut pair t.left in
       let second = cut (pairs_of g + cell) h.left in
@@ -59,7 +59,7 @@ module _ (g : Game) (some' : 0 < g.inputs) (pair : ℕ) (lt : pair < pairs_of g)
         offers = h.offers ∙ ap (λ (w : HandModel). w.account.offers) t.taken;
         cuts = cuts;
         logs = h.logs ∙ ap (λ (w : HandModel). logged_cells w.account.logs ++ cond (h.left == 0) (cell ∷ []) []) t.taken;
-        in_step = blow_in_step g some' pair t.left lt h.left inside (sym t.told);
+        in_step = first_cut_in_step g some' pair t.left lt h.left inside (sym t.told);
         once = λ p lp.
             let both : times p (counters_of (first ∷ second ∷ [])) ≡ times p (counters_of (first ∷ [])) + times p (counters_of (second ∷ [])) = times_counters p (first ∷ []) (second ∷ []) in
             let a = one_counter p pair t.left in
@@ -69,11 +69,11 @@ module _ (g : Game) (some' : 0 < g.inputs) (pair : ℕ) (lt : pair < pairs_of g)
       }
 
   pub has_cut : (was now : HandModel) → Cuts g pair was now → HasCut g pair was now
-  has_cut was now c = by_blow c.blow c.takes c.hits
+  has_cut was now c = by_first_cut c.first_cut c.takes c.cell_cuts
     where
-      by_blow : (b : Bool) → Takes g pair was c.between b → HitsAfter g (pair / g.inputs) b c.between now → HasCut g pair was now
-      by_blow true t h = blow was c.between now t h
-      by_blow false t h = quiet was c.between now t h
+      by_first_cut : (b : Bool) → CutsFirst g pair was c.between b → CellCutsAfter g (pair / g.inputs) b c.between now → HasCut g pair was now
+      by_first_cut true t h = first_cut was c.between now t h
+      by_first_cut false t h = quiet was c.between now t h
 
   pub cuts_once : (was now : HandModel) → Cuts g pair was now → CutsOnce (pairs_of g) pair was now
   cuts_once was now c =

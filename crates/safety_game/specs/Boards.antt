@@ -3,7 +3,7 @@ use Rattle.std.specs.Prelude.{ℕ, ◌*◌, nat_lt, List, [], ◌++◌, length, 
 use Rattle.std.specs.List.{range_with_len}
 use Rattle.cell_counters.specs.Tokens.{BoardModel}
 use Rattle.game_core.specs.Game.{Game, successors_at}
-use Rattle.board_crew.specs.Boards.{IsBegunWith, fans_of, for_each_cell}
+use Rattle.board_rounds.specs.Boards.{IsBegunWith, fans_of, for_each_cell}
 
 -- the pairs of a cell
 abbrev pub pairs_at : Game → ℕ → List ℕ
@@ -17,6 +17,6 @@ enabled_at g c = count_by (λ pair. nat_lt 0 (length (successors_at g pair))) (p
 abbrev pub counters_of : Game → List ℕ
 counters_of g = fans_of g ++ for_each_cell g (enabled_at g)
 
--- counters for the pairs and for the cells, no least word, and a place in the log for each cell
+-- counters for the pairs and for the cells, no least word, and a slot in the log for each cell
 abbrev pub IsBoardOf : Game → BoardModel → Type 0
 IsBoardOf g board = IsBegunWith (counters_of g) [] g board

@@ -3,7 +3,7 @@ use Rattle.std.specs.Prelude.{◌≡◌}
 use Rattle.game_core.specs.Game.{Game}
 use Rattle.game_core.specs.Keep.{IsKeepSolution}
 use Rattle.game_core.specs.Tally.{IsKeepTally}
-use Rattle.board_crew.specs.declared.resolving.Resolved.{Resolved}
+use Rattle.board_rounds.specs.declared.resolving.Resolved.{Resolved}
 use Rattle.safety_game.specs.Boards.{IsBoardOf}
 use Rattle.safety_game.specs.Reckoned.{IsReckoned}
 

@@ -7,7 +7,7 @@ use Rattle.game_core.specs.declared.game.Row.{Row}
 use Rattle.game_core.specs.Game.{Game, pairs_of}
 use Rattle.game_core.specs.Keep.{IsKeepSolution}
 use Rattle.game_core.specs.Tally.{unkept_in, is_lost}
-use Rattle.board_crew.specs.Crew.{cuts_in, offers_in}
+use Rattle.board_rounds.specs.Crew.{cuts_in, offers_in}
 use Rattle.safety_game.specs.Boards.{pairs_at}
 
 -- how many pairs of a cell have a successor without a row, none where the cell is an obstacle

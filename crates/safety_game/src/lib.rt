@@ -5,12 +5,12 @@
 //! of workers and every interleaving. `keep_in` does the same in a `Scratch` made beforehand, and can't fail.
 #![tactic(auto)]
 
+mod keep_rule;
+mod keep_solver;
 mod outcome;
-mod rule;
 mod scratch;
-mod solver;
 
 pub use game_core::{NoMemory, Tally};
+pub use keep_solver::{keep, keep_in};
 pub use outcome::Kept;
 pub use scratch::{KeepStart, Scratch};
-pub use solver::{keep, keep_in};

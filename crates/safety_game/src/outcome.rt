@@ -4,4 +4,4 @@
 ///
 /// `tally` has as cuts the edges into cells that aren't kept and the pairs that are lost by them, no offers, and the rounds in which a
 /// cell falls.
-pub type Kept = board_crew::Resolved;
+pub type Kept = board_rounds::Resolved;

@@ -2,14 +2,14 @@
 ghost use Rattle.std.specs.Prelude.{◌≡◌, ◌<◌};
 ghost use Rattle.safety_game.specs.Boards.{enabled_at};
 
-use board_crew::Start;
+use board_rounds::Start;
 use game_core::Forward;
 
 /// A counter for each pair, then one for each cell, and no least word.
 pub struct KeepStart;
 
 /// The memory in which a keep game is solved.
-pub type Scratch = board_crew::Scratch<KeepStart>;
+pub type Scratch = board_rounds::Scratch<KeepStart>;
 
 impl Start for KeepStart {
     ghost use Rattle.std.specs.Prelude.{[]};
@@ -30,7 +30,7 @@ impl Start for KeepStart {
         count_enabled(g, c)
     }
 
-    ghost parts = { λ g. append-nil (counters_of g) };
+    ghost joined = { λ g. append-nil (counters_of g) };
 }
 
 /// How many inputs of a cell are enabled.

@@ -4,7 +4,7 @@ use Rattle.std.proofs.lemmas.List.FromFn.{length-map-range_with_len, get_or-map-
 use Rattle.game_core.specs.declared.game.Mark.{Mark}
 use Rattle.game_core.specs.declared.game.Mark.TheVariants.{Goal, Obstacle, Plain}
 use Rattle.game_core.specs.declared.game.Row.{Row}
-use Rattle.game_core.specs.Game.{Game, IsGame, mark_of, pair_of, successors_of, remarked}
+use Rattle.game_core.specs.Game.{Game, IsGame, mark_of, pair_of, successors_of, with_marks}
 use Rattle.game_core.specs.Strategy.{Tree, Leaf, Apply, LeadsTo, depth_of, IsRankTo, IsRank}
 use Rattle.game_core.specs.Keep.{IsKeptBy, IsKeepRow, IsKeepSolution}
 use Rattle.game_core.specs.Solution.{row_of, LeadsWithinTo, IsReachRow, IsChosenInput, IsReachSolution}
@@ -41,7 +41,7 @@ module _ (g : Game) (a : IsGame g) (kept : List (Option Row)) (k : IsKeepSolutio
   no_row_is_lost : (c : ℕ) → c < g.cells → row_of kept c ≡ None → IsHeld g c → ⊥
   no_row_is_lost c lt e held = (subst (IsKeepRow (goals_alone g) c) e (k.each c lt)) (kept_if_held g a c lt held)
 
-  end_at : (c : ℕ) → c < g.cells → mark_of (remarked g (marks_to_reach g kept)) c ≡ end_mark (mark_of g c) (row_of kept c)
+  end_at : (c : ℕ) → c < g.cells → mark_of (with_marks g (marks_to_reach g kept)) c ≡ end_mark (mark_of g c) (row_of kept c)
   end_at c lt = get_or-map-range_with_len (λ c. end_mark (mark_of g c) (row_of kept c)) 0 g.cells c c Plain lt (omega arith)
 
   pub ends_are_held : AreMarksFor g (IsHeld g) (marks_to_reach g kept)
@@ -71,7 +71,7 @@ end_from_leaf g End c (Apply u next) l e = absurd (omega arith)
 held_rank : (g : Game) (c : ℕ) → IsHeld g c → IsRankTo (IsHeld g) g c 0
 held_rank g c held = record { reached = (Leaf, held, refl); least = λ t l. omega arith }
 
-module _ (g : Game) (a : IsGame g) (kept others : List (Option Row)) (k : IsKeepSolution (goals_alone g) kept) (r : IsReachSolution (remarked g (marks_to_reach g kept)) others) where
+module _ (g : Game) (a : IsGame g) (kept others : List (Option Row)) (k : IsKeepSolution (goals_alone g) kept) (r : IsReachSolution (with_marks g (marks_to_reach g kept)) others) where
   marks : AreMarksFor g (IsHeld g) (marks_to_reach g kept)
   marks = ends_are_held g a kept k
 
@@ -95,7 +95,7 @@ module _ (g : Game) (a : IsGame g) (kept others : List (Option Row)) (k : IsKeep
         );
       }
 
-  by_rank : (c n u : ℕ) → c < g.cells → row_of kept c ≡ None → IsRank (remarked g (marks_to_reach g kept)) c n → IsChosenInput (remarked g (marks_to_reach g kept)) c n u → IsStayedBy g c (record { rank = n; input = u })
+  by_rank : (c n u : ℕ) → c < g.cells → row_of kept c ≡ None → IsRank (with_marks g (marks_to_reach g kept)) c n → IsChosenInput (with_marks g (marks_to_reach g kept)) c n u → IsStayedBy g c (record { rank = n; input = u })
   by_rank c zero u lt none rank chosen =
       let here = from_rank g a (IsHeld g) (marks_to_reach g kept) marks c 0 lt rank in
       let tree = here.reached in
@@ -111,10 +111,10 @@ module _ (g : Game) (a : IsGame g) (kept others : List (Option Row)) (k : IsKeep
   either : (c : ℕ) → c < g.cells → (o p : Option Row) → row_of kept c ≡ o → row_of others c ≡ p → IsStayRow g c (either_row o p)
   either c lt (Some row) p e f = by_kept c row lt e
   either c lt None None e f =
-      let none = subst (IsReachRow (remarked g (marks_to_reach g kept)) c) f (r.each c lt) in
+      let none = subst (IsReachRow (with_marks g (marks_to_reach g kept)) c) f (r.each c lt) in
       λ t l. none t (to_wins g a (IsHeld g) (marks_to_reach g kept) marks t c lt l)
   either c lt None (Some row) e f =
-      let is = subst (IsReachRow (remarked g (marks_to_reach g kept)) c) f (r.each c lt) in
+      let is = subst (IsReachRow (with_marks g (marks_to_reach g kept)) c) f (r.each c lt) in
       by_rank c row.rank row.input lt e is.0 is.1
 
   pub stays : IsStaySolution g (rows_over g.cells kept others)

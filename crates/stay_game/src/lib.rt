@@ -5,7 +5,7 @@
 //! depth of such a strategy and the input to apply. A held cell has rank 0 and the least input that holds it.
 #![tactic(auto)]
 
-mod marks;
 mod reach_and_stay;
+mod stay_marks;
 
 pub use reach_and_stay::stay;

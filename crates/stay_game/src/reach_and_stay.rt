@@ -3,7 +3,7 @@ ghost use Rattle.std.specs.Prelude.{◌≡◌, ◌≤◌, length, IfOk};
 ghost use Rattle.stay_game.specs.Stay.{IsStaySolution};
 ghost use Rattle.stay_game.specs.inside.StayMarks.{rows_over};
 
-use crate::marks::{marks_to_hold, marks_to_reach};
+use crate::stay_marks::{marks_to_hold, marks_to_reach};
 use frontier_pool::Gate;
 use game_core::{Answer, Graph, NoMemory, Remark};
 use reach_avoid::solve;

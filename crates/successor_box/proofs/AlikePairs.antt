@@ -1,4 +1,4 @@
--- The side of a pair along a state's axis rests on its places in the variables of the state's equation.
+-- The extent of a pair along a state's axis depends on its indices in the variables of the state's equation.
 use Rattle.std.proofs.Common.{◌≡◌, ◌⊎◌, ℕ, ◌+◌, ◌-◌, ◌<◌, ◌≤◌, List, ◌++◌, map, length, take, get_or, true, false, not, ◌&&◌, eqb, refl, sym, ap, ap₂, subst₂, ◌∙◌, arith, inl, inr}
 use Rattle.std.specs.Prelude.{ℤ, pos, ◌-ℤ◌, ◌*ℤ◌, Option}
 use Rattle.std.specs.Int.{int_min, int_max}
@@ -8,37 +8,37 @@ use Rattle.std.proofs.lemmas.List.{length-map, get_or-take, length-take-le}
 use Rattle.fixed_expr.specs.Expression.{Expression}
 use Rattle.fixed_expr.specs.Mentions.{mentions}
 use Rattle.fixed_expr.specs.inside.Alike.{AreSameIn, AreSameBut}
-use Rattle.fixed_expr.proofs.Laws.{values_rest_on_variables, values_move_with_variables}
+use Rattle.fixed_expr.proofs.Laws.{values_depend_on_variables, values_move_with_variables}
 use Rattle.fixed_expr.specs.Value.{value_of}
 use Rattle.interval_eval.specs.declared.interval.Interval.{Interval}
 use Rattle.interval_eval.specs.Span.{span_of}
 use Rattle.interval_eval.specs.inside.Nested.{HaveSameRangesBut}
-use Rattle.interval_eval.proofs.SpanLaws.{spans_rest_on_variables, spans_move_with_variables}
-use Rattle.growth_bound.proofs.Laws.{deviations_rest_on_variables}
+use Rattle.interval_eval.proofs.SpanLaws.{spans_depend_on_variables, spans_move_with_variables}
+use Rattle.growth_bound.proofs.Laws.{deviations_depend_on_variables}
 use Rattle.grid_quantiser.specs.declared.axis.Axis.{Axis}
-use Rattle.grid_quantiser.specs.declared.sides.Side.{Side}
+use Rattle.grid_quantiser.specs.declared.extents.Extent.{Extent}
 use Rattle.grid_quantiser.specs.Axes.{no_axis, cells_of}
 use Rattle.grid_quantiser.specs.Cells.{centre_of, radius_of}
-use Rattle.grid_quantiser.specs.Places.{place_along, middle_of}
-use Rattle.grid_quantiser.specs.Sides.{IsSideOf, prolonged}
+use Rattle.grid_quantiser.specs.Indices.{index_along, middle_of}
+use Rattle.grid_quantiser.specs.Extents.{IsExtentOf, extended}
 use Rattle.plant_record.specs.declared.variables.StateVariable.{StateVariable}
 use Rattle.plant_record.specs.declared.variables.NoiseVariable.{NoiseVariable}
 use Rattle.plant_record.specs.Description.{Description, axis_of, axes_of, vectors_of, vector_of}
 use Rattle.plant_record.specs.declared.version.PlantVersion.{PlantVersion}
 use Rattle.plant_record.specs.declared.version.PlantVersion.TheVariants.{One, Two}
-use Rattle.plant_record.specs.InputPlaces.{input_place}
-use Rattle.plant_record.proofs.lemmas.InputPlaces.{inputs_rest}
+use Rattle.plant_record.specs.ValueIndices.{value_index}
+use Rattle.plant_record.proofs.lemmas.ValueIndices.{inputs_rest}
 use Rattle.plant_record.specs.Soundness.{IsSound}
 use Rattle.plant_record.specs.Steps.{equation_at}
-use Rattle.successor_box.specs.Boxes.{noise_centre, area_of, radii_of, deviation_at, central_values, cell_area_of, growth_of, reach_of, low_corner, high_corner}
-use Rattle.successor_box.specs.Sides.{place_in, moves_along, moved_by, IsSideBeforeAt, rests_on, AreAlikeIn}
+use Rattle.successor_box.specs.Boxes.{noise_centre, area_of, radii_of, deviation_at, central_values, cell_area_of, growth_of, next_interval_of, low_corner, high_corner}
+use Rattle.successor_box.specs.Extents.{index_in, moves_along, shifted_by, IsExtentBeforeAt, depends_on, AreAlikeIn}
 use Rattle.successor_box.specs.inside.Area.{no_range, offsets_of, moved_to}
-use Rattle.successor_box.proofs.Below.{centres_rest_on_their_places}
+use Rattle.successor_box.proofs.Below.{centres_depend_on_their_indices}
 use Rattle.successor_box.proofs.CellOffsets.{cell_range, same_constants, same_offsets, same_cell_range}
 use Rattle.successor_box.proofs.CellValues.{vector_count}
 use Rattle.successor_box.proofs.Centres.{centre_count}
 use Rattle.successor_box.proofs.Ranges.{in_first, in_second, in_third, input_range}
-use Rattle.successor_box.proofs.SideEnds.{low_is, high_is}
+use Rattle.successor_box.proofs.ExtentEnds.{low_is, high_is}
 
 -- inputs have no radius
 same_radii : (p : Description) (u v : ℕ) → radii_of p v ≡ radii_of p u
@@ -109,30 +109,30 @@ module _ (p : Description) (c u d v k : ℕ) where
           in_third state_ranges (ranges v) noise_ranges k no_range (length p.states) (length p.inputs) states_count (ranges_count v) noise
           ∙ sym (in_third state_ranges (ranges u) noise_ranges k no_range (length p.states) (length p.inputs) states_count (ranges_count u) noise)
 
-  -- the same place brings the same central value
+  -- the same index brings the same central value
   module _ (sound : IsSound p) (cell : c < cells_of (axes_of p)) (input : u < vectors_of p.inputs) (other_cell : d < cells_of (axes_of p)) (other_input : v < vectors_of p.inputs) where
-    same_state : k < length p.states → place_in p c u k ≡ place_in p d v k → get_or (central_values p d v) k (pos 0) ≡ get_or (central_values p c u) k (pos 0)
+    same_state : k < length p.states → index_in p c u k ≡ index_in p d v k → get_or (central_values p d v) k (pos 0) ≡ get_or (central_values p c u) k (pos 0)
     same_state lt alike =
         let axes = axes_of p in
         let within : k < length axes = omega (arith, lt, length-map p.states axis_of) in
-        let place : place_along axes k d ≡ place_along axes k c =
-        cond_below k (length p.states) (place_along axes k d) (input_place p.inputs (k - length p.states) v) lt ∙ sym alike ∙ sym (cond_below k (length p.states) (place_along axes k c) (input_place p.inputs (k - length p.states) u) lt) in
+        let index : index_along axes k d ≡ index_along axes k c =
+        cond_below k (length p.states) (index_along axes k d) (value_index p.inputs (k - length p.states) v) lt ∙ sym alike ∙ sym (cond_below k (length p.states) (index_along axes k c) (value_index p.inputs (k - length p.states) u) lt) in
         central_state p d v k lt
-        ∙ centres_rest_on_their_places axes d k sound.axes other_cell within
-        ∙ ap (middle_of (get_or axes k no_axis)) place
-        ∙ sym (centres_rest_on_their_places axes c k sound.axes cell within)
+        ∙ centres_depend_on_their_indices axes d k sound.axes other_cell within
+        ∙ ap (middle_of (get_or axes k no_axis)) index
+        ∙ sym (centres_depend_on_their_indices axes c k sound.axes cell within)
         ∙ sym (central_state p c u k lt)
 
-    same_input : length p.states ≤ k → k < length p.states + length p.inputs → place_in p c u k ≡ place_in p d v k → get_or (central_values p d v) k (pos 0) ≡ get_or (central_values p c u) k (pos 0)
+    same_input : length p.states ≤ k → k < length p.states + length p.inputs → index_in p c u k ≡ index_in p d v k → get_or (central_values p d v) k (pos 0) ≡ get_or (central_values p c u) k (pos 0)
     same_input past lt alike =
         let j : ℕ = k - length p.states in
-        let place : input_place p.inputs j v ≡ input_place p.inputs j u =
-        cond_above k (length p.states) (place_along (axes_of p) k d) (input_place p.inputs j v) (input_place p.inputs j v) past refl ∙ sym alike ∙ sym (cond_above k (length p.states) (place_along (axes_of p) k c) (input_place p.inputs j u) (input_place p.inputs j u) past refl) in
+        let index : value_index p.inputs j v ≡ value_index p.inputs j u =
+        cond_above k (length p.states) (index_along (axes_of p) k d) (value_index p.inputs j v) (value_index p.inputs j v) past refl ∙ sym alike ∙ sym (cond_above k (length p.states) (index_along (axes_of p) k c) (value_index p.inputs j u) (value_index p.inputs j u) past refl) in
         central_input p d v k past lt
-        ∙ inputs_rest p.inputs j v u (omega (arith, past, lt)) other_input input place
+        ∙ inputs_rest p.inputs j v u (omega (arith, past, lt)) other_input input index
         ∙ sym (central_input p c u k past lt)
 
-    same_value : (k < length p.states + length p.inputs → place_in p c u k ≡ place_in p d v k) → get_or (central_values p d v) k (pos 0) ≡ get_or (central_values p c u) k (pos 0)
+    same_value : (k < length p.states + length p.inputs → index_in p c u k ≡ index_in p d v k) → get_or (central_values p d v) k (pos 0) ≡ get_or (central_values p c u) k (pos 0)
     same_value alike =
         elim (cases_lt k (length p.states)) [
           | inl state ↦ same_state state (alike (omega (arith, state)))
@@ -145,9 +145,9 @@ module _ (p : Description) (c u d v k : ℕ) where
 
 -- ---- one side
 
--- a variable that stands in the equation, and isn't a state that moves the side
-rests : (p : Description) (i k : ℕ) → mentions (equation_at p i) k ≡ true → (moves_along p i ≡ true → k ≡ i → ⊥) → rests_on p i k ≡ true
-rests p i k stands other = and_from (mentions (equation_at p i) k) (not (moves_along p i && eqb k i)) stands (not_from_false (moves_along p i && eqb k i) (apart (cases_Bool (moves_along p i))))
+-- a variable that stands in the equation, and isn't a state that moves the extent
+depends : (p : Description) (i k : ℕ) → mentions (equation_at p i) k ≡ true → (moves_along p i ≡ true → k ≡ i → ⊥) → depends_on p i k ≡ true
+depends p i k stands other = and_from (mentions (equation_at p i) k) (not (moves_along p i && eqb k i)) stands (not_from_false (moves_along p i && eqb k i) (apart (cases_Bool (moves_along p i))))
   where
     apart : (moves_along p i ≡ true) ⊎ (moves_along p i ≡ false) → (moves_along p i && eqb k i) ≡ false
     apart (inl moves) = and_right (moves_along p i) (eqb k i) (ne_eqb k i (other moves))
@@ -165,30 +165,30 @@ module _ (p : Description) (i c u d v : ℕ) (sound : IsSound p) (lt : i < lengt
   state_lt = omega (arith, lt, sound.one_each)
 
   same : (k : ℕ) → mentions e k ≡ true → (moves_along p i ≡ true → k ≡ i → ⊥) → get_or (central_values p d v) k (pos 0) ≡ get_or (central_values p c u) k (pos 0)
-  same k stands other = same_value p c u d v k sound cell input other_cell other_input (λ here. alike k here (rests p i k stands other))
+  same k stands other = same_value p c u d v k sound cell input other_cell other_input (λ here. alike k here (depends p i k stands other))
 
   same_deviation : deviation_at p v e ≡ deviation_at p u e
   same_deviation =
       let ranges : AreSameIn no_range e (area_of p v) (area_of p u) = λ k stands. same_range p c u d v k (λ past. same k stands (λ moves is. omega (arith, past, is, state_lt))) in
       let radii : AreSameIn (pos 0) e (radii_of p v) (radii_of p u) = λ k stands. ap (λ (rs : List ℤ). get_or rs k (pos 0)) (same_radii p u v) in
-      ap pos (deviations_rest_on_variables e (area_of p v) (area_of p u) (radii_of p v) (radii_of p u) ranges radii)
+      ap pos (deviations_depend_on_variables e (area_of p v) (area_of p u) (radii_of p v) (radii_of p u) ranges radii)
 
-  -- the state's own value is the middle of its place
-  own_value : (b w : ℕ) → b < cells_of (axes_of p) → get_or (central_values p b w) i (pos 0) ≡ middle_of axis (place_along (axes_of p) i b)
-  own_value b w within = central_state p b w i state_lt ∙ centres_rest_on_their_places (axes_of p) b i sound.axes within (omega (arith, state_lt, length-map p.states axis_of))
+  -- the state's own value is the middle of its index
+  own_value : (b w : ℕ) → b < cells_of (axes_of p) → get_or (central_values p b w) i (pos 0) ≡ middle_of axis (index_along (axes_of p) i b)
+  own_value b w within = central_state p b w i state_lt ∙ centres_depend_on_their_indices (axes_of p) b i sound.axes within (omega (arith, state_lt, length-map p.states axis_of))
 
-  -- the same end of two intervals, each so many places before
+  -- the same end of two intervals, each so many indices before
   abbrev shift : ℕ → ℤ
-  shift b = axis.width *ℤ pos (moved_by p i b)
+  shift b = axis.width *ℤ pos (shifted_by p i b)
 
   abbrev IsSameBefore : ℤ → ℤ → Type 0
   IsSameBefore there here = there -ℤ shift d ≡ here -ℤ shift c
 
-  moved_here : moves_along p i ≡ true → (b : ℕ) → moved_by p i b ≡ place_along (axes_of p) i b
-  moved_here moves b = cond-true (moves_along p i) (place_along (axes_of p) i b) 0 moves
+  moved_here : moves_along p i ≡ true → (b : ℕ) → shifted_by p i b ≡ index_along (axes_of p) i b
+  moved_here moves b = cond-true (moves_along p i) (index_along (axes_of p) i b) 0 moves
 
-  fixed_here : moves_along p i ≡ false → (b : ℕ) → moved_by p i b ≡ 0
-  fixed_here fixed b = cond-false (moves_along p i) (place_along (axes_of p) i b) 0 fixed
+  fixed_here : moves_along p i ≡ false → (b : ℕ) → shifted_by p i b ≡ 0
+  fixed_here fixed b = cond-false (moves_along p i) (index_along (axes_of p) i b) 0 fixed
 
   -- the value at the centre
   same_centre : (moves_along p i ≡ true) ⊎ (moves_along p i ≡ false) → IsSameBefore (value_of e (central_values p d v)) (value_of e (central_values p c u))
@@ -197,14 +197,14 @@ module _ (p : Description) (i c u d v : ℕ) (sound : IsSound p) (lt : i < lengt
       let apart = values_move_with_variables e i (central_values p d v) (central_values p c u) moves but in
       rw (moved_here moves c, moved_here moves d) (omega (arith, ints, apart, own_value c u cell, own_value d v other_cell))
   same_centre (inr fixed) =
-      let value = values_rest_on_variables e (central_values p d v) (central_values p c u) (λ k stands. same k stands (λ m is. both_ways (moves_along p i) fixed m)) in
+      let value = values_depend_on_variables e (central_values p d v) (central_values p c u) (λ k stands. same k stands (λ m is. both_ways (moves_along p i) fixed m)) in
       rw (fixed_here fixed c, fixed_here fixed d) (ap (λ (x : ℤ). x -ℤ (axis.width *ℤ pos 0)) value)
 
   -- the span over the cell
   abbrev span : ℕ → ℕ → Interval
   span b w = span_of e (cell_area_of p b w)
 
-  own_range : (b w : ℕ) → b < cells_of (axes_of p) → get_or (cell_area_of p b w) i no_range ≡ moved_to (middle_of axis (place_along (axes_of p) i b)) (get_or (offsets_of p u) i no_range)
+  own_range : (b w : ℕ) → b < cells_of (axes_of p) → get_or (cell_area_of p b w) i no_range ≡ moved_to (middle_of axis (index_along (axes_of p) i b)) (get_or (offsets_of p u) i no_range)
   own_range b w within =
       cell_range p b w i (omega (arith, state_lt))
       ∙ ap₂ (λ (x : ℤ) (os : List Interval). moved_to x (get_or os i no_range)) (own_value b w within) (same_offsets p u w)
@@ -218,7 +218,7 @@ module _ (p : Description) (i c u d v : ℕ) (sound : IsSound p) (lt : i < lengt
       rw (moved_here moves c, moved_here moves d)
       (omega (arith, ints, apart.0, ap (λ (r : Interval). r.lo) here, ap (λ (r : Interval). r.lo) there), omega (arith, ints, apart.1, ap (λ (r : Interval). r.hi) here, ap (λ (r : Interval). r.hi) there))
   same_span (inr fixed) =
-      let is = spans_rest_on_variables e (cell_area_of p d v) (cell_area_of p c u) (λ k stands. same_cell_range p c u d v k (same k stands (λ m is. both_ways (moves_along p i) fixed m))) in
+      let is = spans_depend_on_variables e (cell_area_of p d v) (cell_area_of p c u) (λ k stands. same_cell_range p c u d v k (same k stands (λ m is. both_ways (moves_along p i) fixed m))) in
       rw (fixed_here fixed c, fixed_here fixed d) (ap (λ (s : Interval). s.lo -ℤ (axis.width *ℤ pos 0)) is, ap (λ (s : Interval). s.hi -ℤ (axis.width *ℤ pos 0)) is)
 
   -- where the equation leads
@@ -233,15 +233,15 @@ module _ (p : Description) (i c u d v : ℕ) (sound : IsSound p) (lt : i < lengt
       let value = same_centre (cases_Bool (moves_along p i)) in
       (omega (arith, ints, value, same_deviation), omega (arith, ints, value, same_deviation))
 
-  same_reach : (version : PlantVersion) → IsSameBefore (reach_of version p d v e).lo (reach_of version p c u e).lo × IsSameBefore (reach_of version p d v e).hi (reach_of version p c u e).hi
-  same_reach One = same_growth
-  same_reach Two =
+  same_next_interval : (version : PlantVersion) → IsSameBefore (next_interval_of version p d v e).lo (next_interval_of version p c u e).lo × IsSameBefore (next_interval_of version p d v e).hi (next_interval_of version p c u e).hi
+  same_next_interval One = same_growth
+  same_next_interval Two =
       let s = same_span (cases_Bool (moves_along p i)) in
       (greater_before _ _ _ _ same_growth.0 s.0, lesser_before _ _ _ _ same_growth.1 s.1)
 
-  pub alike_side : (side : Option Side) → IsSideBeforeAt p d v i (moved_by p i d) side → IsSideBeforeAt p c u i (moved_by p i c) side
-  alike_side side is =
-      let reach = same_reach p.version in
-      let low : get_or (low_corner p d v) i (pos 0) -ℤ shift d ≡ get_or (low_corner p c u) i (pos 0) -ℤ shift c = omega (arith, ints, reach.0, low_is p c u i lt, low_is p d v i lt) in
-      let high : get_or (high_corner p d v) i (pos 0) -ℤ shift d ≡ get_or (high_corner p c u) i (pos 0) -ℤ shift c = omega (arith, ints, reach.1, high_is p c u i lt, high_is p d v i lt) in
-      subst₂ (λ (x y : ℤ). IsSideOf (prolonged axis) x y side) low high is
+  pub alike_extent : (extent : Option Extent) → IsExtentBeforeAt p d v i (shifted_by p i d) extent → IsExtentBeforeAt p c u i (shifted_by p i c) extent
+  alike_extent extent is =
+      let next_interval = same_next_interval p.version in
+      let low : get_or (low_corner p d v) i (pos 0) -ℤ shift d ≡ get_or (low_corner p c u) i (pos 0) -ℤ shift c = omega (arith, ints, next_interval.0, low_is p c u i lt, low_is p d v i lt) in
+      let high : get_or (high_corner p d v) i (pos 0) -ℤ shift d ≡ get_or (high_corner p c u) i (pos 0) -ℤ shift c = omega (arith, ints, next_interval.1, high_is p c u i lt, high_is p d v i lt) in
+      subst₂ (λ (x y : ℤ). IsExtentOf (extended axis) x y extent) low high is

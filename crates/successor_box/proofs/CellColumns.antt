@@ -1,15 +1,15 @@
--- The ranges over the cells of the pairs in a block's rows, and the spans over them.
+-- The ranges over the cells of the pairs in a block's lanes, and the spans over them.
 use Rattle.std.proofs.Common.{◌≡◌, ℕ, zero, suc, ◌^◌, ◌<◌, ◌≤◌, List, [], ◌∷◌, All, length, map, take, get_or, refl, sym, subst, subst₂, ◌∙◌, w64, arith}
 use Rattle.std.specs.Prelude.{ℤ, pos, nat_abs, ◌+ℤ◌, FitsSigned}
 use Rattle.std.proofs.lemmas.Int.{ints}
 use Rattle.std.proofs.lemmas.List.{length-map, length-take-le, get_or-map, get_or-take, ext_get_or}
 use Rattle.std.proofs.lemmas.List.Elements.{All-append, All-map, All-weaker, All-from_get_or}
-use Rattle.fixed_expr.specs.Expression.{Number}
+use Rattle.fixed_expr.specs.Expression.{NumExpr}
 use Rattle.fixed_expr.specs.Narrow.{IsNarrow}
 use Rattle.fixed_expr.specs.Value.{IsWellFormed}
 use Rattle.interval_eval.specs.declared.interval.Interval.{Interval}
 use Rattle.interval_eval.specs.declared.columns.IntervalColumn.{IntervalColumn}
-use Rattle.interval_eval.specs.Rows.{interval_in, area_in}
+use Rattle.interval_eval.specs.LaneSpans.{interval_in, area_in}
 use Rattle.interval_eval.specs.Span.{IsIn, AreIn, IsInterval, SpanStaysInRange}
 use Rattle.interval_eval.specs.Parts.{IsPartOf, ArePartsOf}
 use Rattle.interval_eval.proofs.SpanLaws.{nested_spans_stay_in_range}
@@ -94,20 +94,20 @@ module _ (p : Description) (c u : ℕ) (sound : IsSound p) (cell : c < cells_of 
   -- no node's span over the cell leaves the range
   pub cell_stays : HasNoOverflow p → u < vectors_of p.inputs → (i : ℕ) → i < length p.equations → SpanStaysInRange (equation_at p i) (cell_area_of p c u)
   cell_stays fits input i lt =
-      nested_spans_stay_in_range (equation_at p i) (cell_area_of p c u) (area_of p u) (formed_over p u sound i (Number (pos 0)) lt) (cell_intervals p c u sound) (cell_parts p c u sound cell) (fits i u lt input).span
+      nested_spans_stay_in_range (equation_at p i) (cell_area_of p c u) (area_of p u) (formed_over p u sound i (NumExpr (pos 0)) lt) (cell_intervals p c u sound) (cell_parts p c u sound cell) (fits i u lt input).span
 
 -- an equation is well-formed over as many columns as there are variables
 pub formed_over_columns : (p : Description) (n i : ℕ) → IsSound p → i < length p.equations → n ≡ variables_of p → IsWellFormed (equation_at p i) n
-formed_over_columns p n i sound lt all = subst (IsWellFormed (equation_at p i)) (sym (all ∙ sym (cell_area_long p 0 0) ∙ cell_area_count p 0 0)) (sound.formed i (Number (pos 0)) lt)
+formed_over_columns p n i sound lt all = subst (IsWellFormed (equation_at p i)) (sym (all ∙ sym (cell_area_long p 0 0) ∙ cell_area_count p 0 0)) (sound.formed i (NumExpr (pos 0)) lt)
 
 -- so many are at most 15
 pub few_variables : (p : Description) (n : ℕ) → IsPlant p → n ≡ variables_of p → n ≤ 15
 few_variables p n plant all = omega (arith, all, plant.states_bound, plant.inputs_bound, plant.noises_bound)
 
--- a row of columns that hold the ranges
-pub area_row_is : (p : Description) (c u : ℕ) (columns : List IntervalColumn) (n row : ℕ) → n ≡ variables_of p → n ≤ length columns → ((k : ℕ) → k < variables_of p → interval_in (get_or columns k no_column) row ≡ get_or (cell_area_of p c u) k no_range) → area_in (take n columns) row ≡ cell_area_of p c u
-area_row_is p c u columns n row all within each =
-    let at : IntervalColumn → Interval = λ (column : IntervalColumn). interval_in column row in
+-- a lane of columns that hold the ranges
+pub area_lane_is : (p : Description) (c u : ℕ) (columns : List IntervalColumn) (n lane : ℕ) → n ≡ variables_of p → n ≤ length columns → ((k : ℕ) → k < variables_of p → interval_in (get_or columns k no_column) lane ≡ get_or (cell_area_of p c u) k no_range) → area_in (take n columns) lane ≡ cell_area_of p c u
+area_lane_is p c u columns n lane all within each =
+    let at : IntervalColumn → Interval = λ (column : IntervalColumn). interval_in column lane in
     let front : length (take n columns) ≡ n = length-take-le n columns within in
     let long : length (map at (take n columns)) ≡ length (cell_area_of p c u) = length-map (take n columns) at ∙ front ∙ all ∙ sym (cell_area_long p c u) in
     ext_get_or no_range (map at (take n columns)) (cell_area_of p c u) long (λ k lt.

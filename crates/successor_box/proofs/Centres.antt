@@ -4,7 +4,7 @@ use Rattle.std.specs.Prelude.{ℤ, pos, ◌+ℤ◌, ◌-ℤ◌, ◌≤ℤ◌}
 use Rattle.std.proofs.lemmas.Int.{ints}
 use Rattle.std.proofs.lemmas.List.{length-map, take-append-le}
 use Rattle.fixed_expr.specs.Range.{IsInRange}
-use Rattle.fixed_expr.specs.Expression.{Expression, Number}
+use Rattle.fixed_expr.specs.Expression.{Expression, NumExpr}
 use Rattle.fixed_expr.specs.Value.{value_of}
 use Rattle.interval_eval.specs.declared.interval.Interval.{Interval}
 use Rattle.interval_eval.proofs.SpanLaws.{numbers_lie_in_range, values_lie_in_spans}
@@ -48,6 +48,6 @@ pub ends_fit : (p : Description) → IsSound p → HasNoOverflow p → (c u i : 
 ends_fit p sound fits c u i cell input lt =
     let e : Expression = equation_at p i in
     let inside = central_in p c u [] (map noise_centre p.noises ++ []) (centres_are_noise p.noises [] sound.noises) sound.whole (centres_are_near (axes_of p) c sound.axes cell).0.0 in
-    let value = values_lie_in_spans e (area_of p u) (central_values p c u) (formed_over p u sound i (Number (pos 0)) lt) inside in
+    let value = values_lie_in_spans e (area_of p u) (central_values p c u) (formed_over p u sound i (NumExpr (pos 0)) lt) inside in
     let f = fits i u lt input in
     ends_between (span_of e (area_of p u)).lo (span_of e (area_of p u)).hi (value_of e (central_values p c u)) (deviation_of e (area_of p u) (radii_of p u)) f.low_end f.high_end value.0 value.1

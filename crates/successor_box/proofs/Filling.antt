@@ -3,19 +3,19 @@ use Rattle.std.proofs.Common.{◌≡◌, ◌≢◌, ℕ, ◌+◌, ◌*◌, ◌<�
 use Rattle.std.proofs.lemmas.List.{take_more, take_more_set, take_all}
 
 pub fill_more : {X : Type 0} (filled wanted : List X) (k : ℕ) (y d : X) → k < length filled → k < length wanted → take k filled ≡ take k wanted → y ≡ get_or wanted k d → take (k + 1) (set filled k y) ≡ take (k + 1) wanted
-fill_more {X} filled wanted k y d room lt so_far is = take_more_set filled k y room ∙ ap₂ (λ (xs : List X) (z : X). xs ++ z ∷ []) so_far is ∙ sym (take_more wanted k d lt)
+fill_more {X} filled wanted k y d capacity lt so_far is = take_more_set filled k y capacity ∙ ap₂ (λ (xs : List X) (z : X). xs ++ z ∷ []) so_far is ∙ sym (take_more wanted k d lt)
 
 pub fill_all : {X : Type 0} (filled wanted : List X) (k n : ℕ) → k ≡ n → length wanted ≡ n → take k filled ≡ take k wanted → take n filled ≡ wanted
 fill_all filled wanted k n last all so_far = rw (← last) (so_far ∙ take_all k wanted (omega (arith, last, all)))
 
--- one place more of what is known place by place
-pub place_more : {X : Type 0} (P : ℕ → X → Type 0) (d : X) (xs : List X) (k : ℕ) (x : X) → k < length xs → ((i : ℕ) → i < k → P i (get_or xs i d)) → P k x → (i : ℕ) → i < k + 1 → P i (get_or (set xs k x) i d)
-place_more P d xs k x room so_far here =
+-- one index more of what is known index by index
+pub index_more : {X : Type 0} (P : ℕ → X → Type 0) (d : X) (xs : List X) (k : ℕ) (x : X) → k < length xs → ((i : ℕ) → i < k → P i (get_or xs i d)) → P k x → (i : ℕ) → i < k + 1 → P i (get_or (set xs k x) i d)
+index_more P d xs k x capacity so_far here =
     below_more (λ (i : ℕ). P i (get_or (set xs k x) i d)) k
     (λ i before. let other : i ≢ k = omega (arith, before) in subst (P i) (sym (get_or-set_other xs k i x d other)) (so_far i before))
-    (subst (P k) (sym (get_or-set_same xs k x d room)) here)
+    (subst (P k) (sym (get_or-set_same xs k x d capacity)) here)
 
--- ---- the lanes of a row
+-- ---- the lanes of a lane
 
 pub nothing_yet : {A : Type 0} (i : ℕ) → i < 0 → A
 nothing_yet i none = absurd (omega (arith, none))

@@ -8,7 +8,7 @@ use Rattle.std.proofs.lemmas.List.{drop_all, get_or_past}
 use Rattle.std.proofs.lemmas.List.Elements.{All-get_or, All-head, All-tail}
 use Rattle.plant_record.specs.declared.variables.InputVariable.{InputVariable}
 use Rattle.plant_record.specs.Description.{vectors_of, vector_of}
-use Rattle.plant_record.specs.InputPlaces.{value_count, input_place}
+use Rattle.plant_record.specs.ValueIndices.{value_count, value_index}
 use Rattle.plant_record.specs.Variables.{IsInputVariable}
 use Rattle.plant_record.specs.Numbers.{IsLiteral}
 
@@ -22,7 +22,7 @@ vectors_next (i ∷ inputs) (suc k) lt =
 pub number_none : (inputs : List InputVariable) (u : ℕ) → u < vectors_of inputs → 0 ≡ u / vectors_of (drop 0 inputs)
 number_none inputs u lt = sym (div-eq_of_lt lt)
 
-pub number_more : (inputs : List InputVariable) (k u : ℕ) → k < length inputs → u / vectors_of (drop k inputs) * value_count inputs k + input_place inputs k u ≡ u / vectors_of (drop (k + 1) inputs)
+pub number_more : (inputs : List InputVariable) (k u : ℕ) → k < length inputs → u / vectors_of (drop k inputs) * value_count inputs k + value_index inputs k u ≡ u / vectors_of (drop (k + 1) inputs)
 number_more inputs k u lt =
     let m : ℕ = value_count inputs k in
     let v : ℕ = vectors_of (drop (k + 1) inputs) in
@@ -34,7 +34,7 @@ pub number_all : (inputs : List InputVariable) (k u : ℕ) → length inputs ≤
 number_all inputs k u past = ap (λ (l : List InputVariable). u / vectors_of l) (drop_all k inputs past) ∙ (let whole : u / 1 ≡ u = omega arith in whole)
 
 -- no digit makes more than the number
-pub number_below : (inputs : List InputVariable) (k u : ℕ) → k < length inputs → u / vectors_of (drop k inputs) * value_count inputs k + input_place inputs k u ≤ u
+pub number_below : (inputs : List InputVariable) (k u : ℕ) → k < length inputs → u / vectors_of (drop k inputs) * value_count inputs k + value_index inputs k u ≤ u
 number_below inputs k u lt = subst (λ (n : ℕ). n ≤ u) (sym (number_more inputs k u lt)) (div-le_self u (vectors_of (drop (k + 1) inputs)))
 
 -- each value of an input vector is a literal
@@ -42,8 +42,8 @@ pub value_literal : (inputs : List InputVariable) (u k : ℕ) → All IsInputVar
 value_literal [] u k each = omega arith
 value_literal (i ∷ inputs) u (suc k) each = value_literal inputs (u % vectors_of inputs) k (All-tail IsInputVariable i inputs each)
 value_literal (i ∷ inputs) u zero each =
-    let place : ℕ = u / vectors_of inputs in
-    elim (cases_lt place (length i.values)) [
-      | inl within ↦ All-get_or IsLiteral i.values place (pos 0) within (All-head IsInputVariable i inputs each).each
-      | inr past ↦ subst IsLiteral (sym (get_or_past i.values place (pos 0) past)) (omega arith)
+    let index : ℕ = u / vectors_of inputs in
+    elim (cases_lt index (length i.values)) [
+      | inl within ↦ All-get_or IsLiteral i.values index (pos 0) within (All-head IsInputVariable i inputs each).each
+      | inr past ↦ subst IsLiteral (sym (get_or_past i.values index (pos 0) past)) (omega arith)
     ]

@@ -1,4 +1,4 @@
--- The middles of the places along an axis, in 64 bits.
+-- The middles of the indices along an axis, in 64 bits.
 use Rattle.std.proofs.Common.{◌≡◌, ℕ, zero, suc, ◌+◌, ◌*◌, ◌/◌, ◌%◌, ◌^◌, ◌<◌, ◌≤◌, List, [], ◌∷◌, length, get_or, refl, ap, ◌∙◌, w64, arith}
 use Rattle.std.specs.Prelude.{ℤ, pos, negsuc, nat_abs, neg_ℤ, ◌+ℤ◌, ◌-ℤ◌, ◌*ℤ◌, ◌≤ℤ◌, FitsSigned}
 use Rattle.std.specs.Int.{w128}
@@ -9,7 +9,7 @@ use Rattle.std.proofs.lemmas.List.{get_or_append_left}
 use Rattle.grid_quantiser.specs.declared.axis.Axis.{Axis}
 use Rattle.grid_quantiser.specs.Axes.{IsAxis, no_axis, cells_of}
 use Rattle.grid_quantiser.specs.Cells.{low_of, high_of, radius_of, point_of}
-use Rattle.grid_quantiser.specs.Places.{middle_of}
+use Rattle.grid_quantiser.specs.Indices.{middle_of}
 
 -- a number within 10^18 has room in 64 bits
 pub literal_fits : (z : ℤ) → nat_abs z < 10 ^ 18 → FitsSigned w64 z
@@ -48,15 +48,15 @@ high_at axes k x lt is = is ∙ get_or_append_left (high_of axes 0) _ (pos 0) k 
 
 -- ---- bounds
 
--- places before the last one
-record AreSteps (width : ℤ) (count place : ℕ) : Type 0 where
-  pub forward : pos 0 ≤ℤ (width *ℤ pos place)
-  pub within : ((width *ℤ pos place) +ℤ width) ≤ℤ (width *ℤ pos count)
+-- indices before the last one
+record AreSteps (width : ℤ) (count index : ℕ) : Type 0 where
+  pub forward : pos 0 ≤ℤ (width *ℤ pos index)
+  pub within : ((width *ℤ pos index) +ℤ width) ≤ℤ (width *ℤ pos count)
 
-steps : (width : ℤ) (count place : ℕ) → pos 1 ≤ℤ width → place < count → AreSteps width count place
-steps (negsuc w) count place some lt = absurd (omega (arith, ints, some))
-steps (pos w) count place some lt =
-    let more : (place + 1) * w ≤ count * w = mul-le (place + 1) w count w (omega (arith, lt)) (omega arith) in
+steps : (width : ℤ) (count index : ℕ) → pos 1 ≤ℤ width → index < count → AreSteps width count index
+steps (negsuc w) count index some lt = absurd (omega (arith, ints, some))
+steps (pos w) count index some lt =
+    let more : (index + 1) * w ≤ count * w = mul-le (index + 1) w count w (omega (arith, lt)) (omega arith) in
     record { forward = omega (arith, ints); within = omega (arith, ints, more) }
 
 radius_below : (width : ℤ) → pos 1 ≤ℤ width → pos (nat_abs width / 2) ≤ℤ (width -ℤ pos 1)
@@ -64,14 +64,14 @@ radius_below (negsuc w) some = absurd (omega (arith, ints, some))
 radius_below (pos w) some = omega (arith, ints, some)
 
 -- the numbers that lead to a middle have room
-pub record HasRoom (a : Axis) (place : ℕ) : Type 0 where
+pub record HasCapacity (a : Axis) (index : ℕ) : Type 0 where
   pub width : FitsSigned w64 a.width
-  pub way : FitsSigned w64 (a.width *ℤ pos place)
-  pub middle : FitsSigned w64 (middle_of a place)
+  pub way : FitsSigned w64 (a.width *ℤ pos index)
+  pub middle : FitsSigned w64 (middle_of a index)
 
-pub has_room : (a : Axis) (place : ℕ) → IsAxis a → place < a.count → HasRoom a place
-has_room a place is lt =
-    let s = steps a.width a.count place is.some_width lt in
+pub has_capacity : (a : Axis) (index : ℕ) → IsAxis a → index < a.count → HasCapacity a index
+has_capacity a index is lt =
+    let s = steps a.width a.count index is.some_width lt in
     let r = radius_below a.width is.some_width in
     let low = is.low_bound in
     let high : (a.lo +ℤ (a.width *ℤ pos a.count)) ≤ℤ pos (10 ^ 18) = is.high_bound in
@@ -83,10 +83,10 @@ has_room a place is lt =
     }
 
 -- a middle from the first one
-pub middle_from : (a : Axis) (place : ℕ) (first width : ℤ) → first ≡ middle_of a 0 → width ≡ a.width → first +ℤ (width *ℤ pos place) ≡ middle_of a place
-middle_from a place first width first-is width-is = rw (first-is, width-is) (omega (arith, ints))
+pub middle_from : (a : Axis) (index : ℕ) (first width : ℤ) → first ≡ middle_of a 0 → width ≡ a.width → first +ℤ (width *ℤ pos index) ≡ middle_of a index
+middle_from a index first width first-is width-is = rw (first-is, width-is) (omega (arith, ints))
 
--- what is found of the first place
+-- what is found of the first index
 pub record IsFirstCell (a : Axis) (low high radius : ℤ) : Type 0 where
   pub low_fits : FitsSigned w128 low
   pub high_fits : FitsSigned w128 high

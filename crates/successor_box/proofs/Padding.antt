@@ -1,11 +1,11 @@
--- A point has six places; those past the axes are not looked at.
+-- A point has six indices; those past the axes are not looked at.
 use Rattle.std.proofs.Common.{◌≡◌, ℕ, suc, ◌+◌, ◌-◌, ◌*◌, ◌<◌, ◌≤◌, List, [], ◌∷◌, ◌++◌, length, take, set, get_or, replicate, refl, sym, ap, ◌∙◌, append_assoc, arith}
 use Rattle.std.specs.Prelude.{ℤ, pos, ◌↔◌}
 use Rattle.std.proofs.lemmas.List.{length-map, take_more, set_at, length-take-le}
 use Rattle.plant_record.specs.Description.{Description, axis_of, axes_of}
 use Rattle.grid_quantiser.specs.declared.axis.Axis.{Axis}
 use Rattle.grid_quantiser.specs.Axes.{cells_of}
-use Rattle.grid_quantiser.specs.Cells.{IsInDomain, place_of, cell_of, point_of}
+use Rattle.grid_quantiser.specs.Cells.{IsInDomain, index_of, cell_of, point_of}
 
 -- ---- the domain
 
@@ -22,7 +22,7 @@ domain_less (a ∷ axes) (x ∷ xs) past long h = (h.0, h.1, domain_less axes xs
 pub cell_same : (axes : List Axis) (xs past : List ℤ) → length axes ≤ length xs → cell_of axes (xs ++ past) ≡ cell_of axes xs
 cell_same [] xs past long = refl
 cell_same (a ∷ axes) [] past long = absurd (omega (arith, long))
-cell_same (a ∷ axes) (x ∷ xs) past long = ap (λ (c : ℕ). place_of a x * cells_of axes + c) (cell_same axes xs past (omega (arith, long)))
+cell_same (a ∷ axes) (x ∷ xs) past long = ap (λ (c : ℕ). index_of a x * cells_of axes + c) (cell_same axes xs past (omega (arith, long)))
 
 pub point_lies : (p : Description) (xs : List ℤ) → length p.states ≤ length xs → (IsInDomain (axes_of p) (point_of xs) ↔ IsInDomain (axes_of p) xs) × (cell_of (axes_of p) (point_of xs) ≡ cell_of (axes_of p) xs)
 point_lies p xs long =
@@ -35,7 +35,7 @@ point_lies p xs long =
 padded : (xs : List ℤ) (n : ℕ) → length xs ≡ n → point_of xs ≡ xs ++ replicate (6 - n) (pos 0)
 padded xs n is = ap (λ (k : ℕ). xs ++ replicate (6 - k) (pos 0)) is
 
--- one more number stands in its place
+-- one more number stands in its index
 pub point_more : (xs : List ℤ) (i : ℕ) (y : ℤ) → i < length xs → length xs ≤ 6 → y ≡ get_or xs i (pos 0) → set (point_of (take i xs)) i y ≡ point_of (take (i + 1) xs)
 point_more xs i y lt few is =
     let front : length (take i xs) ≡ i = length-take-le i xs (omega (arith, lt)) in

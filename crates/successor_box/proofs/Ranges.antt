@@ -6,7 +6,7 @@ use Rattle.std.proofs.lemmas.Int.{ints}
 use Rattle.std.proofs.lemmas.Option.{none-some, same_Some}
 use Rattle.std.proofs.lemmas.List.{length-append, length-map, get_or-map, get_or_append_left, get_or-append_right, take-append-le, take_all}
 use Rattle.std.proofs.lemmas.List.Elements.{All-head, All-tail}
-use Rattle.fixed_expr.specs.Quotient.{floor_div}
+use Rattle.fixed_expr.specs.DivExpr.{floor_div}
 use Rattle.interval_eval.specs.declared.interval.Interval.{Interval}
 use Rattle.grid_quantiser.specs.declared.axis.Axis.{Axis}
 use Rattle.grid_quantiser.specs.Axes.{end_of, no_axis, cells_of}
@@ -126,28 +126,28 @@ module _ (p : Description) (u : ℕ) where
   inputs_count : length inputs_in ≡ length p.inputs
   inputs_count = length-map (vector_of p.inputs u) _ ∙ vector_count p.inputs u
 
-  -- behind as many ranges as there are states
+  -- after as many ranges as there are states
   module _ (front : List Interval) (long : length front ≡ length p.states) where
-    pub behind_count : length (front ++ inputs_in ++ noises_in) ≡ variables_of p
-    behind_count = omega (arith, length-append (front ++ inputs_in) noises_in, length-append front inputs_in, long, inputs_count, noises_count)
+    pub after_count : length (front ++ inputs_in ++ noises_in) ≡ variables_of p
+    after_count = omega (arith, length-append (front ++ inputs_in) noises_in, length-append front inputs_in, long, inputs_count, noises_count)
 
     -- the range of an input
-    input_behind : (k : ℕ) (d : Interval) → length p.states ≤ k → k < length p.states + length p.inputs →
+    input_after : (k : ℕ) (d : Interval) → length p.states ≤ k → k < length p.states + length p.inputs →
         ◌≡◌ {A = Interval} (record { lo = get_or (vector_of p.inputs u) (k - length p.states) (pos 0); hi = get_or (vector_of p.inputs u) (k - length p.states) (pos 0) }) (get_or (front ++ inputs_in ++ noises_in) k d)
-    input_behind k d le lt =
+    input_after k d le lt =
         let below : k - length p.states < length (vector_of p.inputs u) = omega (arith, le, lt, vector_count p.inputs u) in
         sym (in_second front inputs_in noises_in k d (length p.states) long le (omega (arith, lt, inputs_count))
         ∙ get_or-map (λ v. record { lo = v; hi = v }) (vector_of p.inputs u) (k - length p.states) (pos 0) d below)
 
     -- the range of a noise
-    noise_behind : (k : ℕ) (r : ℤ × ℤ) (d : Interval) → length p.states + length p.inputs ≤ k → option_map (λ (w : NoiseVariable). (w.low, w.high)) (slice_get p.noises (k - length p.states - length p.inputs)) ≡ Some r →
+    noise_after : (k : ℕ) (r : ℤ × ℤ) (d : Interval) → length p.states + length p.inputs ≤ k → option_map (λ (w : NoiseVariable). (w.low, w.high)) (slice_get p.noises (k - length p.states - length p.inputs)) ≡ Some r →
         ◌≡◌ {A = Interval} (record { lo = r.0; hi = r.1 }) (get_or (front ++ inputs_in ++ noises_in) k d)
-    noise_behind k r d le is = noise_at p.noises (k - length p.states - length p.inputs) r d is ∙ sym (in_third front inputs_in noises_in k d (length p.states) (length p.inputs) long inputs_count le)
+    noise_after k r d le is = noise_at p.noises (k - length p.states - length p.inputs) r d is ∙ sym (in_third front inputs_in noises_in k d (length p.states) (length p.inputs) long inputs_count le)
 
   -- the range of an input in the domain
   pub input_range : (k : ℕ) (d : Interval) → length p.states ≤ k → k < length p.states + length p.inputs →
       ◌≡◌ {A = Interval} (record { lo = get_or (vector_of p.inputs u) (k - length p.states) (pos 0); hi = get_or (vector_of p.inputs u) (k - length p.states) (pos 0) }) (get_or (area_of p u) k d)
-  input_range k d le lt = input_behind states_in states_count k d le lt
+  input_range k d le lt = input_after states_in states_count k d le lt
 
   -- the ranges where the states lie between two points
   module _ (xs ys : List ℤ) (first : length xs ≡ length p.states) (second : length ys ≡ length p.states) where
@@ -155,7 +155,7 @@ module _ (p : Description) (u : ℕ) where
     between_long = ranges_long xs ys (length p.states) first second
 
     pub between_count : length (area_between p xs ys u) ≡ variables_of p
-    between_count = behind_count (ranges_between xs ys) between_long
+    between_count = after_count (ranges_between xs ys) between_long
 
     pub state_between : (k : ℕ) (d : Interval) → k < length p.states → ◌≡◌ {A = Interval} (record { lo = get_or xs k (pos 0); hi = get_or ys k (pos 0) }) (get_or (area_between p xs ys u) k d)
     state_between k d lt =
@@ -164,11 +164,11 @@ module _ (p : Description) (u : ℕ) where
 
     pub input_between : (k : ℕ) (d : Interval) → length p.states ≤ k → k < length p.states + length p.inputs →
         ◌≡◌ {A = Interval} (record { lo = get_or (vector_of p.inputs u) (k - length p.states) (pos 0); hi = get_or (vector_of p.inputs u) (k - length p.states) (pos 0) }) (get_or (area_between p xs ys u) k d)
-    input_between k d le lt = input_behind (ranges_between xs ys) between_long k d le lt
+    input_between k d le lt = input_after (ranges_between xs ys) between_long k d le lt
 
     pub noise_between : (k : ℕ) (r : ℤ × ℤ) (d : Interval) → length p.states + length p.inputs ≤ k → option_map (λ (w : NoiseVariable). (w.low, w.high)) (slice_get p.noises (k - length p.states - length p.inputs)) ≡ Some r →
         ◌≡◌ {A = Interval} (record { lo = r.0; hi = r.1 }) (get_or (area_between p xs ys u) k d)
-    noise_between k r d le is = noise_behind (ranges_between xs ys) between_long k r d le is
+    noise_between k r d le is = noise_after (ranges_between xs ys) between_long k r d le is
 
   abbrev cell_radii : List ℤ
   cell_radii = map radius_of (axes_of p)

@@ -2,7 +2,7 @@
 -- the spans over the cell.
 use Rattle.std.specs.Prelude.{◌≡◌, ℕ, ℤ, pos, ◌+ℤ◌, ◌-ℤ◌, ◌↔◌, List, [], ◌∷◌, ◌++◌, map, Option, Some, None, IsSome, IfSome}
 use Rattle.std.specs.Int.{int_min, int_max}
-use Rattle.fixed_expr.specs.Quotient.{floor_div}
+use Rattle.fixed_expr.specs.DivExpr.{floor_div}
 use Rattle.fixed_expr.specs.Expression.{Expression}
 use Rattle.fixed_expr.specs.Value.{value_of}
 use Rattle.interval_eval.specs.declared.interval.Interval.{Interval}
@@ -69,20 +69,20 @@ growth_of p c u e = record {
 }
 
 -- what two intervals have in common
-abbrev pub meet_of : Interval → Interval → Interval
-meet_of a b = record { lo = int_max a.lo b.lo; hi = int_min a.hi b.hi }
+abbrev pub intersection_of : Interval → Interval → Interval
+intersection_of a b = record { lo = int_max a.lo b.lo; hi = int_min a.hi b.hi }
 
 -- where an equation leads from a cell under an input: version 2 meets the growth bound with the span over the cell
-abbrev pub reach_of : PlantVersion → Description → ℕ → ℕ → Expression → Interval
-reach_of One p c u e = growth_of p c u e
-reach_of Two p c u e = meet_of (growth_of p c u e) (span_of e (cell_area_of p c u))
+abbrev pub next_interval_of : PlantVersion → Description → ℕ → ℕ → Expression → Interval
+next_interval_of One p c u e = growth_of p c u e
+next_interval_of Two p c u e = intersection_of (growth_of p c u e) (span_of e (cell_area_of p c u))
 
 -- the ends of the successor box, one for each state
 abbrev pub low_corner : Description → ℕ → ℕ → List ℤ
-low_corner p c u = map (λ e. (reach_of p.version p c u e).lo) p.equations
+low_corner p c u = map (λ e. (next_interval_of p.version p c u e).lo) p.equations
 
 abbrev pub high_corner : Description → ℕ → ℕ → List ℤ
-high_corner p c u = map (λ e. (reach_of p.version p c u e).hi) p.equations
+high_corner p c u = map (λ e. (next_interval_of p.version p c u e).hi) p.equations
 
 -- the successor box of a cell under an input lies in the domain
 abbrev pub IsEnabledAt : Description → ℕ → ℕ → Type 0

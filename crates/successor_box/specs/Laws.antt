@@ -2,16 +2,16 @@
 use Rattle.std.specs.Prelude.{◌≡◌, ℕ, ◌+◌, ◌<◌, ◌≤◌, ◌↔◌, ℤ, List, [], length, slice_index_or, Option, IfSome}
 use Rattle.std.specs.List.{Contains}
 use Rattle.grid_quantiser.specs.declared.boxes.CellBox.{CellBox}
-use Rattle.grid_quantiser.specs.declared.sides.Side.{Side}
+use Rattle.grid_quantiser.specs.declared.extents.Extent.{Extent}
 use Rattle.grid_quantiser.specs.Axes.{no_axis, cells_of}
-use Rattle.grid_quantiser.specs.SideBoxes.{one_cell, with_side}
+use Rattle.grid_quantiser.specs.ExtentBoxes.{one_cell, with_extent}
 use Rattle.grid_quantiser.specs.Cells.{IsInDomain, IsPointOf, cell_of, point_of}
 use Rattle.plant_record.specs.Description.{Description, axes_of, vectors_of}
 use Rattle.plant_record.specs.Steps.{IsNoise, step_of, StepStaysInRange}
 use Rattle.plant_record.specs.Soundness.{IsSound}
 use Rattle.successor_box.specs.Boxes.{IsEnabledAt, AreSuccessors, IsBoxOf, cells_in}
 use Rattle.successor_box.specs.Deviations.{HasNoOverflow}
-use Rattle.successor_box.specs.Sides.{IsSideAt, IsBoxAlong, moved_by, IsSideBeforeAt, AreAlikeIn}
+use Rattle.successor_box.specs.Extents.{IsExtentAt, IsBoxAlong, shifted_by, IsExtentBeforeAt, AreAlikeIn}
 
 -- a step from a point of a cell, under an enabled input and a noise in range, lies in the domain, and its cell
 -- is a successor
@@ -33,25 +33,25 @@ BoxesHoldTheSuccessors = (p : Description) (c u : ℕ) (b : Option CellBox) → 
 abbrev pub EnabledPairsHaveSuccessors : Type 0
 EnabledPairsHaveSuccessors = (p : Description) (c u : ℕ) (cells : List ℕ) → IsSound p → AreSuccessors p c u cells → (cells ≡ [] → ⊥) ↔ IsEnabledAt p c u
 
--- a state's point, with 0 in the places past the states, lies where the state does
+-- a state's point, with 0 in the indices past the states, lies where the state does
 abbrev pub PointsLieWithTheirStates : Type 0
 PointsLieWithTheirStates =
     (p : Description) (xs : List ℤ) → length p.states ≤ length xs →
     (IsInDomain (axes_of p) (point_of xs) ↔ IsInDomain (axes_of p) xs) × (cell_of (axes_of p) (point_of xs) ≡ cell_of (axes_of p) xs)
 
--- the side along a state's axis, as many places before as its cell moves it, rests on the pair's places in the
+-- the extent along a state's axis, as many indices before as its cell moves it, depends on the pair's indices in the
 -- variables of the state's equation alone, but for the state itself where it moves with that
-abbrev pub SidesRestOnPlaces : Type 0
-SidesRestOnPlaces =
-    (p : Description) (i c u d v : ℕ) (side : Option Side) → IsSound p → i < length p.equations →
+abbrev pub ExtentsDependOnIndices : Type 0
+ExtentsDependOnIndices =
+    (p : Description) (i c u d v : ℕ) (extent : Option Extent) → IsSound p → i < length p.equations →
     c < cells_of (axes_of p) → u < vectors_of p.inputs → d < cells_of (axes_of p) → v < vectors_of p.inputs →
-    AreAlikeIn p i c u d v → IsSideBeforeAt p d v i (moved_by p i d) side → IsSideBeforeAt p c u i (moved_by p i c) side
+    AreAlikeIn p i c u d v → IsExtentBeforeAt p d v i (shifted_by p i d) extent → IsExtentBeforeAt p c u i (shifted_by p i c) extent
 
--- A pair's box is made of its sides, from the one cell on no axis, state by state. At each state its
+-- A pair's box is made of its extents, from the one cell on no axis, state by state. At each state its
 -- corners are in order, and cells of the grid.
-pub record SidesMakeBoxes : Type 0 where
+pub record ExtentsMakeBoxes : Type 0 where
   pub start : (p : Description) (c u : ℕ) → IsBoxAlong p 0 c u one_cell
-  pub more : (p : Description) (k c u : ℕ) (found : Option CellBox) (side : Option Side) → IsSound p → k < length p.equations →
-      IsBoxAlong p k c u found → IsSideAt p c u k side → IsBoxAlong p (k + 1) c u (with_side (slice_index_or (axes_of p) k no_axis) found side)
+  pub more : (p : Description) (k c u : ℕ) (found : Option CellBox) (extent : Option Extent) → IsSound p → k < length p.equations →
+      IsBoxAlong p k c u found → IsExtentAt p c u k extent → IsBoxAlong p (k + 1) c u (with_extent (slice_index_or (axes_of p) k no_axis) found extent)
   pub within : (p : Description) (k c u : ℕ) (found : Option CellBox) → IsSound p → IsBoxAlong p k c u found → IfSome found (λ b. (b.first ≤ b.last) × (b.last < cells_of (axes_of p)))
   pub all : (p : Description) (c u : ℕ) (found : Option CellBox) → IsSound p → IsBoxAlong p (length p.equations) c u found → IsBoxOf p c u found

@@ -1,5 +1,5 @@
 pub mod Boxes
 pub mod Deviations
-pub mod Sides
+pub mod Extents
 pub mod Laws
 pub mod inside

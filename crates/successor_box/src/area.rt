@@ -8,14 +8,14 @@ ghost use Rattle.plant_record.specs.Description.{axes_of, vectors_of};
 ghost use Rattle.successor_box.specs.Boxes.{area_between, cell_area_of, radii_of};
 ghost use Rattle.successor_box.specs.inside.Area.{AreRanges, AreRangesBetween, AreRadii, offsets_of, no_range, variables_of};
 
-use crate::noise::{noise_offset, noise_radius};
+use crate::noise_centres::{noise_offset, noise_radius};
 use grid_quantiser::Point;
 use interval_eval::Interval;
 use plant_record::{Plant, VARIABLES_LIMIT};
 
 pub(crate) const NO_RANGE: Interval = Interval { lo: 0, hi: 0 };
 
-/// Where each variable lies under an input vector. Nothing is said of the places past the last.
+/// Where each variable lies under an input vector. Nothing is said of the indices past the last.
 pub(crate) fn ranges(p: &Plant, input: u32) -> [Interval; VARIABLES_LIMIT]
     requires plant { IsWithinLimits p.now }
     requires input { input < vectors_of p.now.inputs }
@@ -26,7 +26,7 @@ pub(crate) fn ranges(p: &Plant, input: u32) -> [Interval; VARIABLES_LIMIT]
     ranges_between(p, &grid.low(0), &grid.high(last), input)
 }
 
-/// Where each variable lies while the state is in a cell, under an input vector. Nothing is said of the places past the last.
+/// Where each variable lies while the state is in a cell, under an input vector. Nothing is said of the indices past the last.
 pub(crate) fn cell_ranges(p: &Plant, c: u32, input: u32) -> [Interval; VARIABLES_LIMIT]
     requires cell { c < cells_of (axes_of p.now) }
     requires input { input < vectors_of p.now.inputs }
@@ -110,7 +110,7 @@ fn cell_offset(p: &Plant, state: u32) -> Interval
     }
 }
 
-/// How far each variable is at most from its centre. Nothing is said of the places past the last.
+/// How far each variable is at most from its centre. Nothing is said of the indices past the last.
 pub(crate) fn radii(p: &Plant) -> [i128; VARIABLES_LIMIT]
     ensures { AreRadii p.now result }
 {

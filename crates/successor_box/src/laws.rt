@@ -1,6 +1,6 @@
 //! What holds of every sound plant's successor boxes.
 
-ghost use Rattle.successor_box.specs.Laws.{StepsLieInTheBoxes, StepsStayInRange, BoxesHoldTheSuccessors, EnabledPairsHaveSuccessors, PointsLieWithTheirStates, SidesRestOnPlaces, SidesMakeBoxes};
+ghost use Rattle.successor_box.specs.Laws.{StepsLieInTheBoxes, StepsStayInRange, BoxesHoldTheSuccessors, EnabledPairsHaveSuccessors, PointsLieWithTheirStates, ExtentsDependOnIndices, ExtentsMakeBoxes};
 
 /// Every step from a cell, under an enabled input and a noise in range, leads into a successor.
 pub fn steps_lie_in_the_boxes()
@@ -22,19 +22,19 @@ pub fn enabled_pairs_have_successors()
     ensures { EnabledPairsHaveSuccessors }
 {}
 
-/// The places of a point past the states decide nothing.
+/// The indices of a point past the states decide nothing.
 pub fn points_lie_with_their_states()
     ensures { PointsLieWithTheirStates }
 {}
 
-/// The side of a pair along a state's axis rests on its places in the variables of the state's equation
+/// The extent of a pair along a state's axis depends on its indices in the variables of the state's equation
 /// alone: pairs that are alike in these have one side. Where the equation moves with the state itself, the
-/// side rests on the others, and moves with the pair's place along the axis.
-pub fn sides_rest_on_places()
-    ensures { SidesRestOnPlaces }
+/// extent depends on the others, and moves with the pair's index along the axis.
+pub fn extents_depend_on_indices()
+    ensures { ExtentsDependOnIndices }
 {}
 
-/// The box of a pair is made of its sides, state by state.
-pub fn sides_make_boxes()
-    ensures { SidesMakeBoxes }
+/// The box of a pair is made of its extents, state by state.
+pub fn extents_make_boxes()
+    ensures { ExtentsMakeBoxes }
 {}

@@ -6,19 +6,19 @@
 #![tactic(auto)]
 
 mod area;
-mod blocks;
-mod boxes;
-mod fault;
+mod cell_spans;
+mod extents;
+mod index_columns;
+mod lane_extents;
 pub mod laws;
-mod noise;
-mod places;
-mod sides;
+mod noise_centres;
+mod one_pair;
+mod slope_fault;
 mod slopes;
-mod spans;
 mod variable_columns;
 
-pub use blocks::prolonged_sides;
-pub use boxes::successors;
-pub use fault::SlopeFault;
-pub use places::{PLACES_LIMIT, PlaceColumns};
+pub use index_columns::{INDEX_COLUMNS, IndexColumns};
+pub use lane_extents::relative_extents;
+pub use one_pair::successors;
+pub use slope_fault::SlopeFault;
 pub use slopes::{Slopes, find_slopes};

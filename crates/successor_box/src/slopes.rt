@@ -10,7 +10,7 @@ ghost use Rattle.successor_box.specs.Deviations.{HasNoOverflowOver, HasNoOverflo
 ghost use Rattle.successor_box.specs.inside.Area.{AreRadii, IsOverflowAlong};
 
 use crate::area::{radii, ranges};
-use crate::fault::SlopeFault;
+use crate::slope_fault::SlopeFault;
 use fixed_expr::Expr;
 use fixed_expr::arithmetic::{difference, sum};
 use growth_bound::span_and_deviation;
@@ -22,7 +22,7 @@ use std::marker::Model;
 /// How far each equation of a plant moves within a cell, by input vector.
 #[derive(Drop)]
 pub struct Slopes {
-    rows: Vec<Vec<i128>>,
+    lanes: Vec<Vec<i128>>,
 }
 
 impl Model for Slopes {
@@ -31,7 +31,7 @@ impl Model for Slopes {
 
     ghost Value = { List (List ℤ) };
 
-    ghost view = { λ s. map (λ (row : Vec ℤ). row.items) s.rows.items };
+    ghost view = { λ s. map (λ (lane : Vec ℤ). lane.items) s.lanes.items };
 }
 
 impl Slopes {
@@ -42,7 +42,7 @@ impl Slopes {
         requires input { input < length (slice_index_or self.now equation []) }
         ensures { result ≡ slice_index_or (slice_index_or self.now equation []) input (pos 0) }
     {
-        self.rows[equation as usize][input as usize]
+        self.lanes[equation as usize][input as usize]
     }
 
     /// How far an equation moves within a cell, by input vector.
@@ -51,7 +51,7 @@ impl Slopes {
         requires { equation < length self.now }
         ensures { result.now ≡ slice_index_or self.now equation [] }
     {
-        &self.rows[equation as usize]
+        &self.lanes[equation as usize]
     }
 }
 
@@ -63,11 +63,11 @@ pub fn find_slopes(alloc: Global, p: &Plant) -> Result<Slopes, SlopeFault>
     ensures overflow { IfErr result (λ f. IsOverflow p.now f) }
 {
     let radii = radii(p);
-    let mut rows = Vec::new(alloc);
+    let mut lanes = Vec::new(alloc);
     for equation in 0..p.equations().len() {
-        rows.push(deviations_along(alloc, p, &radii, equation as u32)?)?;
+        lanes.push(deviations_along(alloc, p, &radii, equation as u32)?)?;
     }
-    Ok(Slopes { rows })
+    Ok(Slopes { lanes })
 }
 
 /// The deviations of one equation, by input vector.
@@ -79,7 +79,7 @@ fn deviations_along(
 ) -> Result<Vec<i128>, SlopeFault>
     requires equation { equation < length p.now.equations }
     requires radii { AreRadii p.now radii.now }
-    ensures found { IfOk result (λ row. row.items ≡ deviations_along p.now (equation_at p.now equation)) }
+    ensures found { IfOk result (λ lane. lane.items ≡ deviations_along p.now (equation_at p.now equation)) }
     ensures fits { IfOk result (λ _. (u : ℕ) → u < vectors_of p.now.inputs → HasNoOverflowAt p.now equation u) }
     ensures overflow { IfErr result (λ f. IsOverflowAlong p.now equation f) }
 {

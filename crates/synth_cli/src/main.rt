@@ -25,15 +25,15 @@ fn main(rt: HostRuntime) -> ExitCode {
     let mut source = StdSource::new(rt.stdin());
     let mut out = StdSink::new(rt.stdout());
     let mut err = StdErrSink::new(rt.stderr());
-    let words = match own_words(&rt) {
-        Ok(words) => words,
+    let arguments = match own_words(&rt) {
+        Ok(arguments) => arguments,
         Err(status) => return ExitCode::from(status),
     };
-    let words = match borrowed(rt.alloc(), &words) {
-        Ok(words) => words,
+    let arguments = match borrowed(rt.alloc(), &arguments) {
+        Ok(arguments) => arguments,
         Err(_) => return ExitCode::from(NO_MEMORY),
     };
-    let status = carry_out(&rt, rt.alloc(), &words, &mut source, &mut out, &mut err);
+    let status = carry_out(&rt, rt.alloc(), &arguments, &mut source, &mut out, &mut err);
     ExitCode::from(status)
 }
 
@@ -41,38 +41,38 @@ fn main(rt: HostRuntime) -> ExitCode {
 fn carry_out<R: Threads + Wait + Sync>(
     rt: &R,
     alloc: Global,
-    words: &[&str],
+    arguments: &[&str],
     source: &mut StdSource,
     out: &mut StdSink,
     err: &mut StdErrSink,
 ) -> u8 {
-    if words.first().is_some_and(|word| *word == "live") {
-        run_live(rt, alloc, words, source, out, err)
+    if arguments.first().is_some_and(|word| *word == "live") {
+        run_live(rt, alloc, arguments, source, out, err)
     } else {
-        run(rt, alloc, words, source, out, err, &Open, &mut None)
+        run(rt, alloc, arguments, source, out, err, &Open, &mut None)
     }
 }
 
-/// The words behind the program's name, or the status that their lack gives.
+/// The words after the program's name, or the status that their lack gives.
 fn own_words<R: Env + AllocGlobal>(rt: &R) -> Result<Vec<String>, u8> {
     let args = match env::args(rt) {
         Ok(args) => args,
         Err(e) if e.kind() == ErrorKind::OutOfMemory => return Err(NO_MEMORY),
         Err(_) => return Err(UNREADABLE_WORDS),
     };
-    let mut words = Vec::new(rt.alloc());
+    let mut arguments = Vec::new(rt.alloc());
     for word in args.skip(1) {
-        if words.push(word).is_err() {
+        if arguments.push(word).is_err() {
             return Err(NO_MEMORY);
         }
     }
-    Ok(words)
+    Ok(arguments)
 }
 
 /// The words as they are passed on.
-fn borrowed(alloc: Global, words: &[String]) -> Result<Vec<&str>, AllocError> {
+fn borrowed(alloc: Global, arguments: &[String]) -> Result<Vec<&str>, AllocError> {
     let mut texts = Vec::new(alloc);
-    for word in words {
+    for word in arguments {
         texts.push(word.as_str())?;
     }
     Ok(texts)

@@ -1,6 +1,6 @@
 -- Facts of texts, tables and solutions, by the statements that stand in the crates below.
 use Rattle.game_core.proofs.RankBound.{rank_below}
-use Rattle.plant_reading.proofs.lemmas.StatementLaws.{one_statement, passed_over}
+use Rattle.plant_reading.proofs.lemmas.StatementLaws.{one_statement, skipped}
 use Rattle.plant_text.specs.Laws.{OnePlantPerText, OneRefusal, ReadOrRefused}
 use Rattle.plant_text.proofs.lemmas.CanonicalFronts as fronts
 use Rattle.plant_text.proofs.lemmas.LinesLead as lines
@@ -11,13 +11,13 @@ use Rattle.controller_table.proofs.ShortTables.{tables_are_short}
 use Rattle.controller_table.proofs.SolutionsFit as fitting
 
 pub one_plant_per_text : OnePlantPerText
-one_plant_per_text = lines.one_plant one_statement passed_over
+one_plant_per_text = lines.one_plant one_statement skipped
 
 pub one_refusal : OneRefusal
-one_refusal = lines.one_refusal one_statement passed_over
+one_refusal = lines.one_refusal one_statement skipped
 
 pub read_or_refused : ReadOrRefused
-read_or_refused = lines.read_or_refused one_statement passed_over
+read_or_refused = lines.read_or_refused one_statement skipped
 
 pub one_table_per_text : OneTablePerText
 one_table_per_text = tables.one_table (fronts.one_plant_at_the_front one_statement)

@@ -1,10 +1,10 @@
--- How a run of a form ends.
+-- How a run of a command ends.
 use Rattle.std.proofs.Common.{inl, inr, ◌≡◌, Option, None, refl, sym, subst}
 use Rattle.cell_counters.specs.Tokens.{BoardModel, RootModel}
 use Rattle.run_devices.specs.Devices.{Reading, Writing, GainsWhole, GainsPart}
 use Rattle.run_devices.specs.Transfers.{IsUntouched}
-use Rattle.run_words.specs.declared.form.Form.{Form}
-use Rattle.run_words.specs.declared.form.Form.TheVariants.{Synth, Check, Upgrade, Sim, Demo, Stay, Patrol}
+use Rattle.command_line.specs.declared.command.Command.{Command}
+use Rattle.command_line.specs.declared.command.Command.TheVariants.{Synth, Check, Upgrade, Sim, Demo, Stay, Patrol}
 use Rattle.synth_run.specs.declared.outcome.Outcome.{Outcome}
 use Rattle.synth_run.specs.declared.outcome.Outcome.TheVariants.{Done, WriteFault, NoMemory}
 use Rattle.synth_run.specs.declared.text.Text.{Text}
@@ -12,12 +12,12 @@ use Rattle.synth_run.specs.Headline.{IsAnswer}
 use Rattle.synth_run.specs.Played.{SolvesNothing}
 use Rattle.synth_run.specs.Runs.{CanEnd, IsAnswered, IsCutOff, IsRunOf}
 use Rattle.synth_run.specs.Sources.{given}
-use Rattle.synth_run.specs.inside.Resolving.{IsToBeLeft}
+use Rattle.synth_run.specs.inside.SolvedGames.{IsToBeLeft}
 use Rattle.synth_run.specs.inside.Texts.{bytes_of}
-use Rattle.synth_run.specs.inside.Working.{IsWorkedOut, IsTurnedDown, IsWrittenOut, IsLeftAfter}
+use Rattle.synth_run.specs.inside.Working.{IsWorkedOut, IsRefusalFor, IsWrittenOut, IsLeftAfter}
 use Rattle.synth_run.proofs.Working.{if_some_more}
 
-solves_none : (form : Form) → SolvesNothing form None
+solves_none : (command : Command) → SolvesNothing command None
 solves_none (Synth workers) = tt
 solves_none Check = refl
 solves_none Upgrade = refl
@@ -26,7 +26,7 @@ solves_none (Demo number workers) = tt
 solves_none (Stay workers) = refl
 solves_none (Patrol workers) = refl
 
-can_end_done : (form : Form) → CanEnd form Done
+can_end_done : (command : Command) → CanEnd command Done
 can_end_done (Synth workers) = tt
 can_end_done Check = tt
 can_end_done Upgrade = tt
@@ -35,7 +35,7 @@ can_end_done (Demo number workers) = inl refl
 can_end_done (Stay workers) = tt
 can_end_done (Patrol workers) = tt
 
-can_end_cut_off : (form : Form) → CanEnd form WriteFault
+can_end_cut_off : (command : Command) → CanEnd command WriteFault
 can_end_cut_off (Synth workers) = tt
 can_end_cut_off Check = tt
 can_end_cut_off Upgrade = tt
@@ -44,7 +44,7 @@ can_end_cut_off (Demo number workers) = inr (inl refl)
 can_end_cut_off (Stay workers) = tt
 can_end_cut_off (Patrol workers) = tt
 
-can_end_without_memory : (form : Form) → CanEnd form NoMemory
+can_end_without_memory : (command : Command) → CanEnd command NoMemory
 can_end_without_memory (Synth workers) = tt
 can_end_without_memory Check = tt
 can_end_without_memory Upgrade = tt
@@ -54,8 +54,8 @@ can_end_without_memory (Stay workers) = tt
 can_end_without_memory (Patrol workers) = tt
 
 -- there is no answer, and nothing is written
-pub ends_turned_down : (form : Form) (outcome : Outcome) (source : Reading) (out : Writing) → IsTurnedDown form outcome source → IsUntouched out → IsRunOf form outcome source out None
-ends_turned_down form outcome source out h untouched = record {
+pub ends_turned_down : (command : Command) (outcome : Outcome) (source : Reading) (out : Writing) → IsRefusalFor command outcome source → IsUntouched out → IsRunOf command outcome source out None
+ends_turned_down command outcome source out h untouched = record {
   not_usage = h.not_usage;
   can_end = h.can_end;
   answered = λ e. absurd (h.not_done e);
@@ -64,11 +64,11 @@ ends_turned_down form outcome source out h untouched = record {
   leaves = λ e. absurd (h.not_done e);
   leaves_a_game = λ e. absurd (h.not_done e);
   leaves_nothing = λ _. refl;
-  solves_nothing = solves_none form;
+  solves_nothing = solves_none command;
   read = h.read;
   never_past = h.never_past;
   leaves_alone = h.leaves_alone;
-  demanded = h.demanded;
+  cause = h.cause;
   read_fault = h.fault;
   no_read_fault = h.no_fault;
   sound_source = h.sound;
@@ -77,11 +77,11 @@ ends_turned_down form outcome source out h untouched = record {
 }
 
 -- the whole answer is written
-ends_done : (form : Form) (text : Text) (source : Reading) (out : Writing) (played : Option (BoardModel × RootModel)) → IsWorkedOut form text source → IsToBeLeft form played source → GainsWhole out (bytes_of text) → IsRunOf form Done source out played
-ends_done form text source out played h left whole = record {
+ends_done : (command : Command) (text : Text) (source : Reading) (out : Writing) (played : Option (BoardModel × RootModel)) → IsWorkedOut command text source → IsToBeLeft command played source → GainsWhole out (bytes_of text) → IsRunOf command Done source out played
+ends_done command text source out played h left whole = record {
   not_usage = λ e. cc;
-  can_end = can_end_done form;
-  answered = λ _. if_some_more (given form source.before) (λ bytes. IsAnswer form bytes (bytes_of text)) (λ bytes. IsAnswered form bytes out) (λ bytes answer. (bytes_of text, answer, whole)) h.answer;
+  can_end = can_end_done command;
+  answered = λ _. if_some_more (given command source.before) (λ bytes. IsAnswer command bytes (bytes_of text)) (λ bytes. IsAnswered command bytes out) (λ bytes answer. (bytes_of text, answer, whole)) h.answer;
   cut_off = λ e. absurd (let clash : Done ≡ WriteFault = e in cc);
   nothing_written = λ not_done _. absurd (not_done refl);
   leaves = λ _. left.leaves;
@@ -91,7 +91,7 @@ ends_done form text source out played h left whole = record {
   read = λ _ _. h.read;
   never_past = h.never_past;
   leaves_alone = h.leaves_alone;
-  demanded = λ _. h.demanded;
+  cause = λ _. h.cause;
   read_fault = λ e. absurd (cc);
   no_read_fault = λ _. h.no_fault;
   sound_source = λ _ e. cc;
@@ -100,21 +100,21 @@ ends_done form text source out played h left whole = record {
 }
 
 -- a write fails within the answer
-ends_cut_off : (form : Form) (text : Text) (source : Reading) (out : Writing) → IsWorkedOut form text source → GainsPart out (bytes_of text) → IsRunOf form WriteFault source out None
-ends_cut_off form text source out h part = record {
+ends_cut_off : (command : Command) (text : Text) (source : Reading) (out : Writing) → IsWorkedOut command text source → GainsPart out (bytes_of text) → IsRunOf command WriteFault source out None
+ends_cut_off command text source out h part = record {
   not_usage = λ e. cc;
-  can_end = can_end_cut_off form;
+  can_end = can_end_cut_off command;
   answered = λ e. absurd (let clash : WriteFault ≡ Done = e in cc);
-  cut_off = λ _. if_some_more (given form source.before) (λ bytes. IsAnswer form bytes (bytes_of text)) (λ bytes. IsCutOff form bytes out) (λ bytes answer. (bytes_of text, answer, part)) h.answer;
+  cut_off = λ _. if_some_more (given command source.before) (λ bytes. IsAnswer command bytes (bytes_of text)) (λ bytes. IsCutOff command bytes out) (λ bytes answer. (bytes_of text, answer, part)) h.answer;
   nothing_written = λ _ other. absurd (other refl);
   leaves = λ e. absurd (let clash : WriteFault ≡ Done = e in cc);
   leaves_a_game = λ e. absurd (let clash : WriteFault ≡ Done = e in cc);
   leaves_nothing = λ _. refl;
-  solves_nothing = solves_none form;
+  solves_nothing = solves_none command;
   read = λ _ _. h.read;
   never_past = h.never_past;
   leaves_alone = h.leaves_alone;
-  demanded = λ texts. absurd texts;
+  cause = λ texts. absurd texts;
   read_fault = λ e. absurd (cc);
   no_read_fault = λ _. h.no_fault;
   sound_source = λ _ e. cc;
@@ -123,21 +123,21 @@ ends_cut_off form text source out h part = record {
 }
 
 -- there is no memory for writing the answer
-ends_without_memory : (form : Form) (text : Text) (source : Reading) (out : Writing) → IsWorkedOut form text source → IsUntouched out → IsRunOf form NoMemory source out None
-ends_without_memory form text source out h untouched = record {
+ends_without_memory : (command : Command) (text : Text) (source : Reading) (out : Writing) → IsWorkedOut command text source → IsUntouched out → IsRunOf command NoMemory source out None
+ends_without_memory command text source out h untouched = record {
   not_usage = λ e. cc;
-  can_end = can_end_without_memory form;
+  can_end = can_end_without_memory command;
   answered = λ e. absurd (let clash : NoMemory ≡ Done = e in cc);
   cut_off = λ e. absurd (let clash : NoMemory ≡ WriteFault = e in cc);
   nothing_written = λ _ _. untouched.nothing;
   leaves = λ e. absurd (let clash : NoMemory ≡ Done = e in cc);
   leaves_a_game = λ e. absurd (let clash : NoMemory ≡ Done = e in cc);
   leaves_nothing = λ _. refl;
-  solves_nothing = solves_none form;
+  solves_nothing = solves_none command;
   read = λ _ some. absurd (some refl);
   never_past = h.never_past;
   leaves_alone = h.leaves_alone;
-  demanded = λ texts. absurd texts;
+  cause = λ texts. absurd texts;
   read_fault = λ e. absurd (cc);
   no_read_fault = λ _. h.no_fault;
   sound_source = λ _ e. cc;
@@ -145,11 +145,11 @@ ends_without_memory form text source out h untouched = record {
   no_write_fault = λ _. untouched.no_fault;
 }
 
-pub ends_written_out : (form : Form) (text : Text) (source : Reading) (out : Writing) (played left : Option (BoardModel × RootModel)) (outcome : Outcome) → IsWorkedOut form text source → IsToBeLeft form played source → IsWrittenOut text outcome out → IsLeftAfter outcome played left → IsRunOf form outcome source out left
-ends_written_out form text source out played left Done h to_leave end after =
-    subst (λ (l : Option (BoardModel × RootModel)). IsRunOf form Done source out l) (sym (after.all refl)) (ends_done form text source out played h to_leave end)
-ends_written_out form text source out played left WriteFault h to_leave end after =
-    subst (λ (l : Option (BoardModel × RootModel)). IsRunOf form WriteFault source out l) (sym (after.nothing (λ e. cc))) (ends_cut_off form text source out h end)
-ends_written_out form text source out played left NoMemory h to_leave end after =
-    subst (λ (l : Option (BoardModel × RootModel)). IsRunOf form NoMemory source out l) (sym (after.nothing (λ e. cc))) (ends_without_memory form text source out h end)
-ends_written_out form text source out played left outcome h to_leave end after = absurd end
+pub ends_written_out : (command : Command) (text : Text) (source : Reading) (out : Writing) (played left : Option (BoardModel × RootModel)) (outcome : Outcome) → IsWorkedOut command text source → IsToBeLeft command played source → IsWrittenOut text outcome out → IsLeftAfter outcome played left → IsRunOf command outcome source out left
+ends_written_out command text source out played left Done h to_leave end after =
+    subst (λ (l : Option (BoardModel × RootModel)). IsRunOf command Done source out l) (sym (after.all refl)) (ends_done command text source out played h to_leave end)
+ends_written_out command text source out played left WriteFault h to_leave end after =
+    subst (λ (l : Option (BoardModel × RootModel)). IsRunOf command WriteFault source out l) (sym (after.nothing (λ e. cc))) (ends_cut_off command text source out h end)
+ends_written_out command text source out played left NoMemory h to_leave end after =
+    subst (λ (l : Option (BoardModel × RootModel)). IsRunOf command NoMemory source out l) (sym (after.nothing (λ e. cc))) (ends_without_memory command text source out h end)
+ends_written_out command text source out played left outcome h to_leave end after = absurd end

@@ -1,6 +1,6 @@
 pub mod Below
 pub mod Completeness
-pub mod Demanded
+pub mod Outcomes
 pub mod Ending
 pub mod Giving
 pub mod Leaving
@@ -17,4 +17,4 @@ pub mod Undeniable
 pub mod SomeGame
 pub mod SomePlant
 pub mod SomeTable
-pub mod SomeDemand
+pub mod SomeOutcome

@@ -2,24 +2,24 @@
 use Rattle.std.proofs.Common.{inl, inr, ◌≡◌, ℕ, ◌<◌, List, length, take, drop, Option, Some, None, subst, arith, length-take}
 use Rattle.std.specs.Prelude.{◌⊎◌, IfSome}
 use Rattle.std.proofs.lemmas.Bool.{cases_lt}
-use Rattle.plant_record.specs.declared.fault.LimitKind.{LimitKind}
-use Rattle.plant_record.specs.declared.fault.LimitKind.TheVariants.{PlantText, TableText, Vectors, Cells, Pairs, Edges}
-use Rattle.plant_text.specs.declared.fault.PlantFault.TheVariants as plants
+use Rattle.plant_record.specs.declared.limit_kind.LimitKind.{LimitKind}
+use Rattle.plant_record.specs.declared.limit_kind.LimitKind.TheVariants.{PlantText, TableText, Vectors, Cells, Pairs, Edges}
+use Rattle.plant_text.specs.declared.plant_fault.PlantFault.TheVariants as plants
 use Rattle.plant_text.specs.Refusals.{IsShort, IsRefusedFor}
 use Rattle.game_core.specs.declared.game.Row.{Row}
 use Rattle.plant_record.specs.Description.{Description}
-use Rattle.controller_table.specs.declared.fault.TableFault.TheVariants as tables
+use Rattle.controller_table.specs.declared.table_fault.TableFault.TheVariants as tables
 use Rattle.controller_table.specs.Tables.{IsTable}
 use Rattle.controller_table.specs.Refusals.{IsShortTable, IsTableRefusedFor}
 use Rattle.controller_table.specs.Laws.{TablesAreShort}
-use Rattle.run_words.specs.declared.form.Form.{Form}
-use Rattle.run_words.specs.declared.form.Form.TheVariants.{Synth, Check, Upgrade, Sim, Demo, Stay, Patrol}
+use Rattle.command_line.specs.declared.command.Command.{Command}
+use Rattle.command_line.specs.declared.command.Command.TheVariants.{Synth, Check, Upgrade, Sim, Demo, Stay, Patrol}
 use Rattle.synth_run.specs.declared.outcome.Outcome.{Outcome}
 use Rattle.synth_run.specs.declared.outcome.Outcome.TheVariants.{Done, Invalid, NoRow, Usage, Malformed, Overflow, Limit, TooManyTurns, ReadFault, WriteFault, NoMemory}
 use Rattle.run_devices.specs.Transfers.{ReadUpTo}
 use Rattle.synth_run.specs.Sources.{most_read}
-use Rattle.synth_run.specs.Traces.{RangeDemands, TraceDemands}
-use Rattle.synth_run.specs.Demands.{PlantDemands, PatrolDemands, TableDemands, IsRefusal, IsAccepted, IsRefused, IsRefusedTable, IsTableThatDemands, Demands}
+use Rattle.synth_run.specs.Traces.{IsRangeOutcome, IsTraceOutcome}
+use Rattle.synth_run.specs.IsOutcomeFor.{IsPlantOutcome, IsPatrolOutcome, IsTableOutcome, IsRefusal, IsAccepted, IsRefused, IsRefusedTable, IsTableWithOutcome, IsOutcomeFor}
 use Rattle.synth_run.specs.Headline.{IsAnswer}
 use Rattle.std.proofs.lemmas.List.{take_all}
 
@@ -85,18 +85,18 @@ refused_table_of_longer bytes outcome lt h = passes _ _ _ _ (λ line h. absurd (
     limit Pairs h = absurd (long_table_front bytes lt h.0)
     limit Edges h = h
 
--- ---- forms
+-- ---- commands
 
--- What a text demands of a form as far as it is read, and how it is answered, holds of the whole text if it is longer.
-pub record PassesOn (form : Form) : Type 0 where
-  pub demands : (outcome : Outcome) (bytes : List ℕ) → most_read form < length bytes → Demands form (take (most_read form) bytes) outcome → Demands form bytes outcome
-  pub answers : (text bytes : List ℕ) → most_read form < length bytes → IsAnswer form (take (most_read form) bytes) text → IsAnswer form bytes text
+-- What a text demands of a command as far as it is read, and how it is answered, holds of the whole text if it is longer.
+pub record PassesOn (command : Command) : Type 0 where
+  pub outcomes_for : (outcome : Outcome) (bytes : List ℕ) → most_read command < length bytes → IsOutcomeFor command (take (most_read command) bytes) outcome → IsOutcomeFor command bytes outcome
+  pub answers : (text bytes : List ℕ) → most_read command < length bytes → IsAnswer command (take (most_read command) bytes) text → IsAnswer command bytes text
 
 plant_of_longer :
-    (Demanded : Description → Type 0) (bytes : List ℕ) (outcome : Outcome) → 65537 < length bytes
-    → IsRefused (take 65537 bytes) outcome ⊎ ((p : Description) × IsAccepted (take 65537 bytes) p × Demanded p)
-    → IsRefused bytes outcome ⊎ ((p : Description) × IsAccepted bytes p × Demanded p)
-plant_of_longer Demanded bytes outcome lt h =
+    (Outcomes : Description → Type 0) (bytes : List ℕ) (outcome : Outcome) → 65537 < length bytes
+    → IsRefused (take 65537 bytes) outcome ⊎ ((p : Description) × IsAccepted (take 65537 bytes) p × Outcomes p)
+    → IsRefused bytes outcome ⊎ ((p : Description) × IsAccepted bytes p × Outcomes p)
+plant_of_longer Outcomes bytes outcome lt h =
     elim h [
       | inl refused ↦ inl (refused_of_longer bytes outcome lt refused)
       | inr plant ↦ absurd (long_front bytes lt plant.1.short)
@@ -106,38 +106,38 @@ no_table_front : TablesAreShort → (bytes : List ℕ) (p : Description) (rows :
 no_table_front short bytes p rows lt table = long_table_front bytes lt (short (take 67108865 bytes) p rows table)
 
 table_of_longer :
-    TablesAreShort → (Demanded : Description → List (Option Row) → Type 0) (bytes : List ℕ) (outcome : Outcome) → 67108865 < length bytes
-    → IsRefusedTable (take 67108865 bytes) outcome ⊎ IsTableThatDemands Demanded (take 67108865 bytes)
-    → IsRefusedTable bytes outcome ⊎ IsTableThatDemands Demanded bytes
-table_of_longer short Demanded bytes outcome lt h =
+    TablesAreShort → (Outcomes : Description → List (Option Row) → Type 0) (bytes : List ℕ) (outcome : Outcome) → 67108865 < length bytes
+    → IsRefusedTable (take 67108865 bytes) outcome ⊎ IsTableWithOutcome Outcomes (take 67108865 bytes)
+    → IsRefusedTable bytes outcome ⊎ IsTableWithOutcome Outcomes bytes
+table_of_longer short Outcomes bytes outcome lt h =
     elim h [
       | inl refused ↦ inl (refused_table_of_longer bytes outcome lt refused)
       | inr table ↦ absurd (no_table_front short bytes table.plant table.rows lt table.table)
     ]
 
-pub passes_on : TablesAreShort → (form : Form) → PassesOn form
+pub passes_on : TablesAreShort → (command : Command) → PassesOn command
 passes_on short (Synth workers) = record {
-  demands = λ outcome bytes lt h. plant_of_longer (λ p. PlantDemands p outcome) bytes outcome lt h;
+  outcomes_for = λ outcome bytes lt h. plant_of_longer (λ p. IsPlantOutcome p outcome) bytes outcome lt h;
   answers = λ text bytes lt h. absurd (long_front bytes lt h.1.short);
 }
 passes_on short Check = record {
-  demands = λ outcome bytes lt h. table_of_longer short (λ p rows. TableDemands p rows outcome) bytes outcome lt h;
+  outcomes_for = λ outcome bytes lt h. table_of_longer short (λ p rows. IsTableOutcome p rows outcome) bytes outcome lt h;
   answers = λ text bytes lt h. absurd (no_table_front short bytes h.0.plant h.0.rows lt h.0.table);
 }
 passes_on short Upgrade = record {
-  demands = λ outcome bytes lt h. table_of_longer short (λ p rows. RangeDemands p outcome) bytes outcome lt h;
+  outcomes_for = λ outcome bytes lt h. table_of_longer short (λ p rows. IsRangeOutcome p outcome) bytes outcome lt h;
   answers = λ text bytes lt h. absurd (no_table_front short bytes h.plant h.rows lt h.table);
 }
 passes_on short (Sim samples seed start) = record {
-  demands = λ outcome bytes lt h. table_of_longer short (λ p rows. TraceDemands p rows start outcome) bytes outcome lt h;
+  outcomes_for = λ outcome bytes lt h. table_of_longer short (λ p rows. IsTraceOutcome p rows start outcome) bytes outcome lt h;
   answers = λ text bytes lt h. absurd (no_table_front short bytes h.plant h.rows lt h.table);
 }
-passes_on short (Demo number workers) = record { demands = λ outcome bytes lt h. h; answers = λ text bytes lt h. h }
+passes_on short (Demo number workers) = record { outcomes_for = λ outcome bytes lt h. h; answers = λ text bytes lt h. h }
 passes_on short (Stay workers) = record {
-  demands = λ outcome bytes lt h. plant_of_longer (λ p. PlantDemands p outcome) bytes outcome lt h;
+  outcomes_for = λ outcome bytes lt h. plant_of_longer (λ p. IsPlantOutcome p outcome) bytes outcome lt h;
   answers = λ text bytes lt h. absurd (long_front bytes lt h.1.short);
 }
 passes_on short (Patrol workers) = record {
-  demands = λ outcome bytes lt h. plant_of_longer (λ p. PatrolDemands p outcome) bytes outcome lt h;
+  outcomes_for = λ outcome bytes lt h. plant_of_longer (λ p. IsPatrolOutcome p outcome) bytes outcome lt h;
   answers = λ text bytes lt h. absurd (long_front bytes lt h.1.short);
 }

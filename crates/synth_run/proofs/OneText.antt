@@ -10,7 +10,7 @@ use Rattle.stay_game.specs.Held.{IsHeld}
 use Rattle.stay_game.specs.Stay.{IsStayedBy, IsStayRow, IsStaySolution}
 use Rattle.temporal_games.specs.StayText.{stay_text}
 use Rattle.patrol_game.specs.Targets.{IsInTarget}
-use Rattle.patrol_game.specs.Patrol.{IsTravelledBy, IsPatrolRow, IsPatrol, rows_for}
+use Rattle.patrol_game.specs.Patrol.{IsReachedLaterBy, IsPatrolRow, IsPatrol, rows_for}
 use Rattle.temporal_games.specs.PatrolText.{patrol_text}
 use Rattle.synth_run.specs.Headline.{IsStayTableOf, IsPatrolTableOf}
 use Rattle.synth_run.specs.Laws.{OneStayTextForBytes, OnePatrolTextForBytes}
@@ -57,8 +57,8 @@ one_stay_text bytes a b first second =
 
 -- ---- patrol
 
-same_travel : (End : ℕ → Type 0) (g : Game) (c : ℕ) (p q : Row) → IsTravelledBy End g c p → IsTravelledBy End g c q → Some p ≡ Some q
-same_travel End g c p q a b =
+same_later_reach : (End : ℕ → Type 0) (g : Game) (c : ℕ) (p q : Row) → IsReachedLaterBy End g c p → IsReachedLaterBy End g c q → Some p ≡ Some q
+same_later_reach End g c p q a b =
     let below : p.rank ≤ q.rank = omega (arith, a.least q.input b.reached.0 b.reached.1, b.reached.2) in
     let above : q.rank ≤ p.rank = omega (arith, b.least p.input a.reached.0 a.reached.1, a.reached.2) in
     let ranks : p.rank ≡ q.rank = le_antisymm below above in
@@ -70,7 +70,7 @@ same_patrol_row : (g : Game) (In : ℕ → ℕ → Type 0) (turns j c : ℕ) (a 
 same_patrol_row g In turns j c None None h k = refl
 same_patrol_row g In turns j c None (Some row) h k = absurd (h k.0)
 same_patrol_row g In turns j c (Some row) None h k = absurd (k h.0)
-same_patrol_row g In turns j c (Some p) (Some q) h k = same_travel _ g c p q h.1 k.1
+same_patrol_row g In turns j c (Some p) (Some q) h k = same_later_reach _ g c p q h.1 k.1
 
 one_patrol : (g : Game) (In : ℕ → ℕ → Type 0) (turns : ℕ) (rows others : List (List (Option Row))) → IsPatrol g In turns rows → IsPatrol g In turns others → rows ≡ others
 one_patrol g In turns rows others a b =

@@ -11,7 +11,7 @@ use Rattle.temporal_games.specs.PatrolText.{patrol_text}
 use Rattle.temporal_games.proofs.PatrolLaws.{solution_has_patrol_text, patrol_text_patrols}
 use Rattle.synth_run.specs.declared.outcome.Outcome.{Outcome}
 use Rattle.synth_run.specs.declared.outcome.Outcome.TheVariants.{Done, Invalid, NoRow, Usage, Malformed, Overflow, Limit, TooManyTurns, ReadFault, WriteFault, NoMemory}
-use Rattle.synth_run.specs.Demands.{PlantDemands, PlantTextDemands, PatrolDemands, PatrolTextDemands}
+use Rattle.synth_run.specs.IsOutcomeFor.{IsPlantOutcome, IsPlantTextOutcome, IsPatrolOutcome, IsPatrolTextOutcome}
 use Rattle.synth_run.specs.Headline.{IsPatrolTableOf}
 
 -- the text of a plant within the limits and of the solution of its patrol
@@ -26,22 +26,22 @@ patrol_table p g rows limits abstraction solution = record {
 }
 
 -- what refuses a plant refuses a patrol of its targets
-patrol_demands : (p : Description) (outcome : Outcome) → (outcome ≡ Done → ⊥) → PlantDemands p outcome → PatrolDemands p outcome
-patrol_demands p Done failed h = absurd (failed refl)
-patrol_demands p (Invalid cell) failed h = h
-patrol_demands p NoRow failed h = h
-patrol_demands p Usage failed h = h
-patrol_demands p (Malformed line) failed h = h
-patrol_demands p (Overflow i u) failed h = h
-patrol_demands p (Limit what) failed h = h
-patrol_demands p TooManyTurns failed h = absurd h
-patrol_demands p ReadFault failed h = h
-patrol_demands p WriteFault failed h = h
-patrol_demands p NoMemory failed h = h
+patrol_outcome_is : (p : Description) (outcome : Outcome) → (outcome ≡ Done → ⊥) → IsPlantOutcome p outcome → IsPatrolOutcome p outcome
+patrol_outcome_is p Done failed h = absurd (failed refl)
+patrol_outcome_is p (Invalid cell) failed h = h
+patrol_outcome_is p NoRow failed h = h
+patrol_outcome_is p Usage failed h = h
+patrol_outcome_is p (Malformed line) failed h = h
+patrol_outcome_is p (Overflow i u) failed h = h
+patrol_outcome_is p (Limit what) failed h = h
+patrol_outcome_is p TooManyTurns failed h = absurd h
+patrol_outcome_is p ReadFault failed h = h
+patrol_outcome_is p WriteFault failed h = h
+patrol_outcome_is p NoMemory failed h = h
 
-pub patrol_text_demands : (bytes : List ℕ) (outcome : Outcome) → (outcome ≡ Done → ⊥) → PlantTextDemands bytes outcome → PatrolTextDemands bytes outcome
+pub patrol_text_demands : (bytes : List ℕ) (outcome : Outcome) → (outcome ≡ Done → ⊥) → IsPlantTextOutcome bytes outcome → IsPatrolTextOutcome bytes outcome
 patrol_text_demands bytes outcome failed h =
     elim h [
       | inl refused ↦ inl refused
-      | inr accepted ↦ inr (accepted.0, accepted.1, patrol_demands accepted.0 outcome failed accepted.2)
+      | inr accepted ↦ inr (accepted.0, accepted.1, patrol_outcome_is accepted.0 outcome failed accepted.2)
     ]

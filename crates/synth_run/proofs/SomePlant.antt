@@ -4,16 +4,16 @@ use Rattle.std.specs.Prelude.{sum_by}
 use Rattle.std.proofs.lemmas.Bool.{cases_lt}
 use Rattle.std.proofs.lemmas.List.{take_all}
 use Rattle.grid_quantiser.specs.Axes.{cells_of}
-use Rattle.plant_record.specs.declared.fault.LimitKind.TheVariants.{Vectors, Cells, Pairs, PlantText, Edges}
+use Rattle.plant_record.specs.declared.limit_kind.LimitKind.TheVariants.{Vectors, Cells, Pairs, PlantText, Edges}
 use Rattle.plant_record.specs.declared.aims.GoalKind.{GoalKind}
 use Rattle.plant_record.specs.declared.version.PlantVersion.{PlantVersion}
 use Rattle.plant_record.specs.Description.{Description, axes_of, vectors_of}
 use Rattle.plant_record.specs.Limits.{IsWithinLimits, Exceeds}
 use Rattle.plant_record.specs.Plants.{IsPlant}
 use Rattle.plant_reading.specs.Lines.{lines_of}
-use Rattle.plant_text.specs.Grammar.{Part, nothing_yet, Reads, IsWhole, Spells, IsFirstRefused}
+use Rattle.plant_text.specs.Grammar.{PartialPlant, nothing_yet, Reads, IsWhole, Spells, IsFirstRefused}
 use Rattle.plant_text.specs.Refusals.{IsShort}
-use Rattle.plant_text.specs.inside.PartRules.{KeepsRules}
+use Rattle.plant_text.specs.inside.PartialPlantRules.{KeepsRules}
 use Rattle.plant_text.proofs.lemmas.RulesKept.{rules_of_nothing, rules_led}
 use Rattle.plant_text.proofs.lemmas.LinesLead.{spelled_is_plant}
 use Rattle.successor_box.specs.Deviations.{HasNoOverflow, HasNoOverflowAt, IsFirstOverflow}
@@ -21,7 +21,7 @@ use Rattle.plant_game.specs.Abstraction.{AreEdges}
 use Rattle.plant_game.proofs.EdgeCounts.{games_count_their_edges}
 use Rattle.synth_run.specs.declared.outcome.Outcome.{Outcome}
 use Rattle.synth_run.specs.declared.outcome.Outcome.TheVariants.{Done, Malformed, Overflow, Limit, TooManyTurns}
-use Rattle.synth_run.specs.Demands.{IsAccepted, IsRefused, IsSolvable, ExceedsEdges, turns_of, PlantDemands, PatrolDemands}
+use Rattle.synth_run.specs.IsOutcomeFor.{IsAccepted, IsRefused, IsSolvable, ExceedsEdges, turns_of, IsPlantOutcome, IsPatrolOutcome}
 use Rattle.synth_run.proofs.Undeniable.{either, first_without}
 use Rattle.synth_run.proofs.SomeGame.{some_game}
 
@@ -69,13 +69,13 @@ plant_end p limits deny =
         ]
 
 -- what such a plant demands
-pub plant_demanded : (p : Description) → PlantEnd p → (outcome : Outcome) × PlantDemands p outcome
+pub plant_demanded : (p : Description) → PlantEnd p → (outcome : Outcome) × IsPlantOutcome p outcome
 plant_demanded p (is_solvable s) = (Done, s)
 plant_demanded p (overflows i u first) = (Overflow i u, first)
 plant_demanded p (has_many_edges many) = (Limit Edges, many)
 
 -- what it demands of a patrol
-pub patrol_demanded : (p : Description) → PlantEnd p → (outcome : Outcome) × PatrolDemands p outcome
+pub patrol_demanded : (p : Description) → PlantEnd p → (outcome : Outcome) × IsPatrolOutcome p outcome
 patrol_demanded p (is_solvable s) =
     elim (cases_lt (2 ^ 22) (turns_of p)) [
       | inl many ↦ (TooManyTurns, (s, many))
@@ -87,12 +87,12 @@ patrol_demanded p (has_many_edges many) = (Limit Edges, many)
 -- ---- a text's lines
 
 -- the first lines spell a part, or one of them is refused
-read_up_to : (lines : List (List ℕ)) (n : ℕ) → n ≤ length lines → (((k : ℕ) × IsFirstRefused lines k) ⊎ ((q : Part) × Reads (take n lines) q) → ⊥) → ⊥
+read_up_to : (lines : List (List ℕ)) (n : ℕ) → n ≤ length lines → (((k : ℕ) × IsFirstRefused lines k) ⊎ ((q : PartialPlant) × Reads (take n lines) q) → ⊥) → ⊥
 read_up_to lines zero le deny = deny (inr (nothing_yet, refl))
 read_up_to lines (suc n) le deny =
     read_up_to lines n (omega (arith, le)) (λ found. elim found [
       | inl stopped ↦ deny (inl stopped)
-      | inr (q, reads) ↦ either ((r : Part) × Reads (take (suc n) lines) r) (λ more. elim more [
+      | inr (q, reads) ↦ either ((r : PartialPlant) × Reads (take (suc n) lines) r) (λ more. elim more [
         | inl onwards ↦ deny (inr onwards)
         | inr none ↦ deny (inl (suc n, record { before = n; next = refl; part = q; reads = reads; refused = inl (omega (arith, le), λ r led. none (r, led)) }))
       ])
@@ -101,7 +101,7 @@ read_up_to lines (suc n) le deny =
 -- all lines spell a part that is closed, or one is refused
 data LinesEnd (lines : List (List ℕ)) : Type 0 where
   stop : (n : ℕ) → IsFirstRefused lines n → LinesEnd lines
-  are_closed : (q : Part) → Reads lines q → q.ended ≡ true → LinesEnd lines
+  are_closed : (q : PartialPlant) → Reads lines q → q.ended ≡ true → LinesEnd lines
 
 lines_end : (lines : List (List ℕ)) → (LinesEnd lines → ⊥) → ⊥
 lines_end lines deny =
@@ -110,12 +110,12 @@ lines_end lines deny =
       | inr (q, reads) ↦ by_end q reads q.ended refl
     ])
   where
-    by_end : (q : Part) → Reads (take (length lines) lines) q → (b : Bool) → q.ended ≡ b → ⊥
+    by_end : (q : PartialPlant) → Reads (take (length lines) lines) q → (b : Bool) → q.ended ≡ b → ⊥
     by_end q reads true e = deny (are_closed q (subst (λ (x : List (List ℕ)). Reads x q) (take_all (length lines) lines (omega arith)) reads) e)
     by_end q reads false e = deny (stop (suc (length lines)) (record { before = length lines; next = refl; part = q; reads = reads; refused = inr (refl, e) }))
 
 -- the plant that a closed part holds
-pub whole : (q : Part) → KeepsRules q → q.ended ≡ true → (p : Description) × IsWhole q p
+pub whole : (q : PartialPlant) → KeepsRules q → q.ended ≡ true → (p : Description) × IsWhole q p
 whole q rules closed = by q.version q.goal refl refl
   where
     by : (version : Option PlantVersion) (goal : Option GoalKind) → q.version ≡ version → q.goal ≡ goal → (p : Description) × IsWhole q p

@@ -1,4 +1,4 @@
--- What can't be denied: classical logic in the form that needs no axiom. Each lemma leads to whatever its last argument gives.
+-- What can't be denied: classical logic in the command that needs no axiom. Each lemma leads to whatever its last argument gives.
 use Rattle.std.proofs.Common.{inl, inr, ◌≡◌, ◌⊎◌, ℕ, zero, suc, ◌<◌, List, [], ◌∷◌, length, get_or, refl, sym, subst, arith}
 use Rattle.std.proofs.lemmas.Bool.{cases_eq}
 use Rattle.table_check.specs.Verdicts.{IsFirstWithout}

@@ -1,4 +1,4 @@
--- What status 0 means: the text that was written is the answer of the form for the bytes on the source.
+-- What status 0 means: the text that was written is the answer of the command for the bytes on the source.
 use Rattle.std.specs.Prelude.{◌≡◌, ℕ, List, length, Option, codes}
 use Rattle.game_core.specs.declared.game.Row.{Row}
 use Rattle.game_core.specs.Game.{Game}
@@ -16,11 +16,11 @@ use Rattle.controller_table.specs.TableText.{written, table_text}
 use Rattle.controller_table.specs.Tables.{RowsFit, IsTable}
 use Rattle.successor_box.specs.Deviations.{HasNoOverflow}
 use Rattle.plant_refine.specs.Controls.{Controls}
-use Rattle.run_words.specs.declared.form.Form.{Form}
-use Rattle.run_words.specs.declared.form.Form.TheVariants.{Synth, Check, Upgrade, Sim, Demo, Stay, Patrol}
+use Rattle.command_line.specs.declared.command.Command.{Command}
+use Rattle.command_line.specs.declared.command.Command.TheVariants.{Synth, Check, Upgrade, Sim, Demo, Stay, Patrol}
 use Rattle.demo_plants.specs.Demo.{IsDemoLine}
 use Rattle.synth_run.specs.declared.outcome.Outcome.TheVariants.{Done}
-use Rattle.synth_run.specs.Demands.{IsAccepted, IsSolvable, PatrolDemands}
+use Rattle.synth_run.specs.IsOutcomeFor.{IsAccepted, IsSolvable, IsPatrolOutcome}
 use Rattle.synth_run.specs.Traces.{IsTraceFor}
 
 -- The text is the table of the solution of a plant's game.
@@ -94,13 +94,13 @@ pub record IsPatrolTableOf (p : Description) (text : List ℕ) : Type 0 where
 
 -- the bytes spell a plant that nothing refuses, with few enough turns, and the text is that of its patrol
 abbrev pub IsPatrolTableFor : List ℕ → List ℕ → Type 0
-IsPatrolTableFor bytes text = (p : Description) × IsAccepted bytes p × PatrolDemands p Done × IsPatrolTableOf p text
+IsPatrolTableFor bytes text = (p : Description) × IsAccepted bytes p × IsPatrolOutcome p Done × IsPatrolTableOf p text
 
--- the answer of a form for some bytes: that of `synth` is the plant's one table, whatever the number of workers, that of
+-- the answer of a command for some bytes: that of `synth` is the plant's one table, whatever the number of workers, that of
 -- `check` is `valid` where the bytes are one, that of `upgrade` is the text of the table that the bytes are, that of `sim`
 -- is a trace of it, that of `demo` is the line of the demo plant, and those of `stay` and `patrol` are the texts by which
 -- the plant comes into its targets to stay there, and visits them in turn
-abbrev pub IsAnswer : Form → List ℕ → List ℕ → Type 0
+abbrev pub IsAnswer : Command → List ℕ → List ℕ → Type 0
 IsAnswer (Synth workers) bytes text = IsTableFor bytes text
 IsAnswer Check bytes text = IsValid bytes × (text ≡ codes "valid\n")
 IsAnswer Upgrade bytes text = IsUpgradeOf bytes text

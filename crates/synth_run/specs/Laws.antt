@@ -1,18 +1,18 @@
 -- What holds of every run.
 use Rattle.std.specs.Prelude.{◌≡◌, ℕ, ℤ, List}
-use Rattle.run_words.specs.declared.form.Form.{Form}
+use Rattle.command_line.specs.declared.command.Command.{Command}
 use Rattle.synth_run.specs.declared.outcome.Outcome.{Outcome}
-use Rattle.synth_run.specs.Demands.{Demands}
+use Rattle.synth_run.specs.IsOutcomeFor.{IsOutcomeFor}
 use Rattle.synth_run.specs.Headline.{IsTableFor, IsStayTableFor, IsPatrolTableFor}
 use Rattle.synth_run.specs.Traces.{IsTraceFor}
 
--- a text demands one thing of a form
-abbrev pub OneDemandPerText : Type 0
-OneDemandPerText = (form : Form) (bytes : List ℕ) (a b : Outcome) → Demands form bytes a → Demands form bytes b → a ≡ b
+-- a text demands one thing of a command
+abbrev pub OneOutcomePerText : Type 0
+OneOutcomePerText = (command : Command) (bytes : List ℕ) (a b : Outcome) → IsOutcomeFor command bytes a → IsOutcomeFor command bytes b → a ≡ b
 
--- no text demands nothing of a form
-abbrev pub SomeDemandPerText : Type 0
-SomeDemandPerText = (form : Form) (bytes : List ℕ) → ((outcome : Outcome) → Demands form bytes outcome → ⊥) → ⊥
+-- no text demands nothing of a command
+abbrev pub SomeOutcomePerText : Type 0
+SomeOutcomePerText = (command : Command) (bytes : List ℕ) → ((outcome : Outcome) → IsOutcomeFor command bytes outcome → ⊥) → ⊥
 
 -- bytes have one table
 abbrev pub OneTableForBytes : Type 0

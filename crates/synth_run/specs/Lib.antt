@@ -1,6 +1,6 @@
 pub mod Sources
 pub mod Traces
-pub mod Demands
+pub mod IsOutcomeFor
 pub mod Headline
 pub mod Played
 pub mod Statuses

@@ -12,9 +12,9 @@ use Rattle.reach_avoid.specs.Boards.{IsBoardOf as IsReachBoardOf}
 use Rattle.reach_avoid.specs.Reckoned.{IsReckoned as IsReachReckoned}
 use Rattle.safety_game.specs.Boards.{IsBoardOf as IsKeepBoardOf}
 use Rattle.safety_game.specs.Reckoned.{IsReckoned as IsKeepReckoned}
-use Rattle.run_words.specs.declared.form.Form.{Form}
-use Rattle.run_words.specs.declared.form.Form.TheVariants.{Synth, Check, Upgrade, Sim, Demo, Stay, Patrol}
-use Rattle.synth_run.specs.Demands.{IsAccepted}
+use Rattle.command_line.specs.declared.command.Command.{Command}
+use Rattle.command_line.specs.declared.command.Command.TheVariants.{Synth, Check, Upgrade, Sim, Demo, Stay, Patrol}
+use Rattle.synth_run.specs.IsOutcomeFor.{IsAccepted}
 use Rattle.demo_plants.specs.Demo.{demo_plant_of}
 
 -- a board began with the numbers of a game, by the goal kind
@@ -29,7 +29,7 @@ IsReckonedFor Keep g accounts = IsKeepReckoned g accounts
 
 -- The board on which a plant's game was resolved, with its root: no hand is out, and the accounts have exactly the cuts
 -- and the offers that the solution asks for. Of logs and notes nothing is said.
-pub record IsResolvedOn (p : Description) (board : BoardModel) (root : RootModel) : Type 0 where
+pub record IsSolvedOn (p : Description) (board : BoardModel) (root : RootModel) : Type 0 where
   pub game : Game
   pub abstraction : IsGameOf p game
   pub of_game : IsBoardFor p.goal game board
@@ -39,10 +39,10 @@ pub record IsResolvedOn (p : Description) (board : BoardModel) (root : RootModel
 
 -- a board and its root are left, on which the plant's game was resolved
 abbrev pub LeavesTheGameOf : Description → Option (BoardModel × RootModel) → Type 0
-LeavesTheGameOf p played = (board : BoardModel) × (root : RootModel) × (played ≡ Some (board, root)) × IsResolvedOn p board root
+LeavesTheGameOf p played = (board : BoardModel) × (root : RootModel) × (played ≡ Some (board, root)) × IsSolvedOn p board root
 
--- what a form leaves that was done for some bytes: `synth` and `demo` the game of their plant, the others nothing
-abbrev pub IsPlayed : Form → List ℕ → Option (BoardModel × RootModel) → Type 0
+-- what a command leaves that was done for some bytes: `synth` and `demo` the game of their plant, the others nothing
+abbrev pub IsPlayed : Command → List ℕ → Option (BoardModel × RootModel) → Type 0
 IsPlayed (Synth workers) bytes played = (p : Description) × IsAccepted bytes p × LeavesTheGameOf p played
 IsPlayed Check bytes played = played ≡ None
 IsPlayed Upgrade bytes played = played ≡ None
@@ -51,9 +51,9 @@ IsPlayed (Demo number workers) bytes played = LeavesTheGameOf (demo_plant_of num
 IsPlayed (Stay workers) bytes played = played ≡ None
 IsPlayed (Patrol workers) bytes played = played ≡ None
 
--- what a form leaves that was done, whatever its source tells: `synth` the game of a plant within the limits, `demo` that
+-- what a command leaves that was done, whatever its source tells: `synth` the game of a plant within the limits, `demo` that
 -- of its plant, the others nothing
-abbrev pub LeavesAGame : Form → Option (BoardModel × RootModel) → Type 0
+abbrev pub LeavesAGame : Command → Option (BoardModel × RootModel) → Type 0
 LeavesAGame (Synth workers) played = (p : Description) × IsWithinLimits p × LeavesTheGameOf p played
 LeavesAGame Check played = played ≡ None
 LeavesAGame Upgrade played = played ≡ None
@@ -63,7 +63,7 @@ LeavesAGame (Stay workers) played = played ≡ None
 LeavesAGame (Patrol workers) played = played ≡ None
 
 -- `check`, `upgrade` and `sim` solve no game on a board, and `stay` and `patrol` more than one: they leave none, whatever their source tells
-abbrev pub SolvesNothing : Form → Option (BoardModel × RootModel) → Type 0
+abbrev pub SolvesNothing : Command → Option (BoardModel × RootModel) → Type 0
 SolvesNothing (Synth workers) played = Unit {0}
 SolvesNothing Check played = played ≡ None
 SolvesNothing Upgrade played = played ≡ None

@@ -1,11 +1,11 @@
--- What a form takes from its source. `demo` takes nothing.
+-- What a command takes from its source. `demo` takes nothing.
 use Rattle.std.specs.Prelude.{◌≡◌, ℕ, ◌+◌, List, [], Option, Some}
 use Rattle.run_devices.specs.Devices.{Rose, Reading}
-use Rattle.run_words.specs.declared.form.Form.{Form}
-use Rattle.run_words.specs.declared.form.Form.TheVariants.{Synth, Check, Upgrade, Sim, Demo, Stay, Patrol}
+use Rattle.command_line.specs.declared.command.Command.{Command}
+use Rattle.command_line.specs.declared.command.Command.TheVariants.{Synth, Check, Upgrade, Sim, Demo, Stay, Patrol}
 
--- the bytes that a form works on, from what the source tells; `demo` works on none
-abbrev pub given : Form → Option (List ℕ) → Option (List ℕ)
+-- the bytes that a command works on, from what the source tells; `demo` works on none
+abbrev pub given : Command → Option (List ℕ) → Option (List ℕ)
 given (Synth workers) told = told
 given Check told = told
 given Upgrade told = told
@@ -14,8 +14,8 @@ given (Demo number workers) told = Some []
 given (Stay workers) told = told
 given (Patrol workers) told = told
 
--- how many bytes a form reads at most: one past the limit of its text, or none
-abbrev pub most_read : Form → ℕ
+-- how many bytes a command reads at most: one past the limit of its text, or none
+abbrev pub most_read : Command → ℕ
 most_read (Synth workers) = 65536 + 1
 most_read Check = 67108864 + 1
 most_read Upgrade = 67108864 + 1
@@ -29,8 +29,8 @@ pub record IsLeftAlone (source : Reading) : Type 0 where
   pub bytes : source.after ≡ source.before
   pub faults : source.faults_after ≡ source.faults_before
 
--- a source that a form has no use for is left alone
-abbrev pub LeavesAlone : Form → Reading → Type 0
+-- a source that a command has no use for is left alone
+abbrev pub LeavesAlone : Command → Reading → Type 0
 LeavesAlone (Synth workers) source = Unit {0}
 LeavesAlone Check source = Unit {0}
 LeavesAlone Upgrade source = Unit {0}
@@ -39,8 +39,8 @@ LeavesAlone (Demo number workers) source = IsLeftAlone source
 LeavesAlone (Stay workers) source = Unit {0}
 LeavesAlone (Patrol workers) source = Unit {0}
 
--- no read of a form failed, by its source's count of faults; `demo` makes none, whatever the count
-abbrev pub NoReadFailed : Form → ℕ → ℕ → Type 0
+-- no read of a command failed, by its source's count of faults; `demo` makes none, whatever the count
+abbrev pub NoReadFailed : Command → ℕ → ℕ → Type 0
 NoReadFailed (Synth workers) before after = Rose before after → ⊥
 NoReadFailed Check before after = Rose before after → ⊥
 NoReadFailed Upgrade before after = Rose before after → ⊥

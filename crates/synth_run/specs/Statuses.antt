@@ -3,7 +3,7 @@ use Rattle.std.specs.Prelude.{ℕ, List, [], ◌++◌, codes}
 use Rattle.std.specs.Fmt.{decimal}
 use Rattle.synth_run.specs.declared.outcome.Outcome.{Outcome}
 use Rattle.synth_run.specs.declared.outcome.Outcome.TheVariants.{Done, Invalid, NoRow, Usage, Malformed, Overflow, Limit, TooManyTurns, ReadFault, WriteFault, NoMemory}
-use Rattle.run_words.specs.Limits.{limit_words}
+use Rattle.command_line.specs.Limits.{limit_line}
 
 -- the exit status
 abbrev pub status_of : Outcome → ℕ
@@ -27,7 +27,7 @@ line_of NoRow = codes "no row\n"
 line_of Usage = codes "usage\n"
 line_of (Malformed line) = codes "malformed: line " ++ decimal line ++ codes "\n"
 line_of (Overflow equation input) = codes "overflow: equation " ++ decimal equation ++ codes " input " ++ decimal input ++ codes "\n"
-line_of (Limit what) = codes "limit: " ++ limit_words what ++ codes "\n"
+line_of (Limit what) = codes "limit: " ++ limit_line what ++ codes "\n"
 line_of TooManyTurns = codes "limit: turns\n"
 line_of ReadFault = codes "read fault\n"
 line_of WriteFault = []

@@ -22,36 +22,36 @@ HasNoRowFor p rows start = (length start ≢ length p.states) ⊎ (row_at p rows
 
 -- what a plant within the limits demands of its numbers, whatever its goal and however many edges it has: that they
 -- stay in the range, or to be refused for the first that doesn't
-abbrev pub RangeDemands : Description → Outcome → Type 0
-RangeDemands p Done = HasNoOverflow p
-RangeDemands p (Invalid cell) = ⊥
-RangeDemands p NoRow = ⊥
-RangeDemands p Usage = ⊥
-RangeDemands p (Malformed line) = ⊥
-RangeDemands p (Overflow equation input) = IsFirstOverflow p equation input
-RangeDemands p (Limit what) = ⊥
-RangeDemands p TooManyTurns = ⊥
-RangeDemands p ReadFault = ⊥
-RangeDemands p WriteFault = ⊥
-RangeDemands p NoMemory = ⊥
+abbrev pub IsRangeOutcome : Description → Outcome → Type 0
+IsRangeOutcome p Done = HasNoOverflow p
+IsRangeOutcome p (Invalid cell) = ⊥
+IsRangeOutcome p NoRow = ⊥
+IsRangeOutcome p Usage = ⊥
+IsRangeOutcome p (Malformed line) = ⊥
+IsRangeOutcome p (Overflow equation input) = IsFirstOverflow p equation input
+IsRangeOutcome p (Limit what) = ⊥
+IsRangeOutcome p TooManyTurns = ⊥
+IsRangeOutcome p ReadFault = ⊥
+IsRangeOutcome p WriteFault = ⊥
+IsRangeOutcome p NoMemory = ⊥
 
 -- what a plant within the limits demands with rows of a start: to be refused, or to be driven from there, or to be told that there is
 -- no row for it
-abbrev pub TraceDemands : Description → List (Option Row) → List ℤ → Outcome → Type 0
-TraceDemands p rows start Done = RangeDemands p Done × HasRowFor p rows start
-TraceDemands p rows start (Invalid cell) = ⊥
-TraceDemands p rows start NoRow = RangeDemands p Done × HasNoRowFor p rows start
-TraceDemands p rows start Usage = ⊥
-TraceDemands p rows start (Malformed line) = ⊥
-TraceDemands p rows start (Overflow equation input) = RangeDemands p (Overflow equation input)
-TraceDemands p rows start (Limit what) = ⊥
-TraceDemands p rows start TooManyTurns = ⊥
-TraceDemands p rows start ReadFault = ⊥
-TraceDemands p rows start WriteFault = ⊥
-TraceDemands p rows start NoMemory = ⊥
+abbrev pub IsTraceOutcome : Description → List (Option Row) → List ℤ → Outcome → Type 0
+IsTraceOutcome p rows start Done = IsRangeOutcome p Done × HasRowFor p rows start
+IsTraceOutcome p rows start (Invalid cell) = ⊥
+IsTraceOutcome p rows start NoRow = IsRangeOutcome p Done × HasNoRowFor p rows start
+IsTraceOutcome p rows start Usage = ⊥
+IsTraceOutcome p rows start (Malformed line) = ⊥
+IsTraceOutcome p rows start (Overflow equation input) = IsRangeOutcome p (Overflow equation input)
+IsTraceOutcome p rows start (Limit what) = ⊥
+IsTraceOutcome p rows start TooManyTurns = ⊥
+IsTraceOutcome p rows start ReadFault = ⊥
+IsTraceOutcome p rows start WriteFault = ⊥
+IsTraceOutcome p rows start NoMemory = ⊥
 
 -- The text is the trace, from the start, of the plant under the rows of the table that the bytes are, under noises that
--- the seed decides, with at most so many samples behind the first.
+-- the seed decides, with at most so many samples after the first.
 pub record IsTraceFor (bytes : List ℕ) (samples seed : ℕ) (start : List ℤ) (text : List ℕ) : Type 0 where
   pub plant : Description
   pub rows : List (Option Row)

@@ -1,6 +1,6 @@
 pub mod Causes
 pub mod Judging
 pub mod Making
-pub mod Resolving
+pub mod SolvedGames
 pub mod Texts
 pub mod Working

@@ -4,11 +4,11 @@ ghost use Rattle.std.specs.Prelude.{◌≡◌, ◌≢◌, IfOk, IfErr, OnOk};
 ghost use Rattle.synth_run.specs.declared.outcome.Outcome.TheVariants as ends;
 ghost use Rattle.plant_record.specs.declared.aims.GoalKind.TheVariants.{Reach, Keep};
 ghost use Rattle.plant_game.specs.Solution.{IsSolutionOf};
-ghost use Rattle.synth_run.specs.Demands.{TableTextDemands, TableDemands, IsSolvable};
+ghost use Rattle.synth_run.specs.IsOutcomeFor.{IsTableTextOutcome, IsTableOutcome, IsSolvable};
 ghost use Rattle.synth_run.specs.Headline.{IsValid};
 ghost use Rattle.synth_run.specs.inside.Judging.{IsJudged};
 
-use crate::game::{game_of, outlook_of};
+use crate::abstraction::{forward_of, game_of};
 use crate::outcome::Outcome;
 use controller_table::{Table, read_table};
 use plant_record::GoalKind;
@@ -19,7 +19,7 @@ use table_check::{Verdict, check_keep, check_reach};
 /// Checks that the bytes are the table of their plant.
 pub fn check_text<R: Threads + Sync>(rt: &R, alloc: Global, bytes: &[u8]) -> Result<(), Outcome>
     ensures valid { OnOk result (IsValid bytes.now) }
-    ensures demanded { IfErr result (λ outcome. outcome ≢ ends.NoMemory → TableTextDemands bytes.now outcome) }
+    ensures cause { IfErr result (λ outcome. outcome ≢ ends.NoMemory → IsTableTextOutcome bytes.now outcome) }
     ensures failed { IfErr result (λ outcome. outcome ≢ ends.Done) }
 {
     let table = read_table(alloc, bytes)?;
@@ -30,7 +30,7 @@ pub fn check_text<R: Threads + Sync>(rt: &R, alloc: Global, bytes: &[u8]) -> Res
 fn check_table<R: Threads + Sync>(rt: &R, alloc: Global, table: &Table) -> Result<(), Outcome>
     ensures solvable { OnOk result (IsSolvable table.now.plant) }
     ensures solution { OnOk result (IsSolutionOf table.now.plant table.now.rows) }
-    ensures demanded { IfErr result (λ outcome. outcome ≢ ends.NoMemory → TableDemands table.now.plant table.now.rows outcome) }
+    ensures cause { IfErr result (λ outcome. outcome ≢ ends.NoMemory → IsTableOutcome table.now.plant table.now.rows outcome) }
     ensures failed { IfErr result (λ outcome. outcome ≢ ends.Done) }
 {
     let verdict = verdict_on(rt, alloc, table)?;
@@ -44,7 +44,7 @@ fn check_table<R: Threads + Sync>(rt: &R, alloc: Global, table: &Table) -> Resul
 fn verdict_on<R: Threads + Sync>(rt: &R, alloc: Global, table: &Table) -> Result<Verdict, Outcome>
     ensures solvable { IfOk result (λ _. IsSolvable table.now.plant) }
     ensures verdict { IfOk result (IsJudged table.now.plant table.now.rows) }
-    ensures demanded { IfErr result (λ outcome. outcome ≢ ends.NoMemory → TableDemands table.now.plant table.now.rows outcome) }
+    ensures cause { IfErr result (λ outcome. outcome ≢ ends.NoMemory → IsTableOutcome table.now.plant table.now.rows outcome) }
     ensures failed { IfErr result (λ outcome. outcome ≢ ends.Done) }
 {
     match table.plant().goal() {
@@ -62,10 +62,10 @@ fn reach_verdict<R: Threads + Sync>(
     requires { table.now.plant.goal ≡ Reach }
     ensures solvable { IfOk result (λ _. IsSolvable table.now.plant) }
     ensures verdict { IfOk result (IsJudged table.now.plant table.now.rows) }
-    ensures demanded { IfErr result (λ outcome. outcome ≢ ends.NoMemory → TableDemands table.now.plant table.now.rows outcome) }
+    ensures cause { IfErr result (λ outcome. outcome ≢ ends.NoMemory → IsTableOutcome table.now.plant table.now.rows outcome) }
     ensures failed { IfErr result (λ outcome. outcome ≢ ends.Done) }
 {
-    let game = outlook_of(rt, alloc, table.plant())?;
+    let game = forward_of(rt, alloc, table.plant())?;
     Ok(check_reach(&game, table))
 }
 
@@ -74,7 +74,7 @@ fn keep_verdict<R: Threads + Sync>(rt: &R, alloc: Global, table: &Table) -> Resu
     requires { table.now.plant.goal ≡ Keep }
     ensures solvable { IfOk result (λ _. IsSolvable table.now.plant) }
     ensures verdict { IfOk result (IsJudged table.now.plant table.now.rows) }
-    ensures demanded { IfErr result (λ outcome. outcome ≢ ends.NoMemory → TableDemands table.now.plant table.now.rows outcome) }
+    ensures cause { IfErr result (λ outcome. outcome ≢ ends.NoMemory → IsTableOutcome table.now.plant table.now.rows outcome) }
     ensures failed { IfErr result (λ outcome. outcome ≢ ends.Done) }
 {
     let game = game_of(rt, alloc, table.plant())?;

@@ -1,6 +1,6 @@
 //! What holds of every run.
 
-ghost use Rattle.synth_run.specs.Laws.{OneTableForBytes, OneStayTextForBytes, OnePatrolTextForBytes, OneTraceForBytes, OneDemandPerText, SomeDemandPerText};
+ghost use Rattle.synth_run.specs.Laws.{OneTableForBytes, OneStayTextForBytes, OnePatrolTextForBytes, OneTraceForBytes, OneOutcomePerText, SomeOutcomePerText};
 
 /// What holds of every demo plant.
 pub mod demo {
@@ -31,11 +31,11 @@ pub fn one_trace_for_bytes()
 {}
 
 /// A text demands one thing: one refusal, or one answer.
-pub fn one_demand_per_text()
-    ensures { OneDemandPerText }
+pub fn one_outcome_per_text()
+    ensures { OneOutcomePerText }
 {}
 
 /// No text demands nothing: each is refused for some reason, or is to be answered.
-pub fn some_demand_per_text()
-    ensures { SomeDemandPerText }
+pub fn some_outcome_per_text()
+    ensures { SomeOutcomePerText }
 {}

@@ -6,25 +6,25 @@
 //! settles the plant or patrols its targets.
 #![tactic(auto)]
 
+mod abstraction;
 mod checking;
 mod demo;
-mod game;
 pub mod laws;
 mod outcome;
 mod patrolling;
-mod resolving;
 mod settling;
 mod simulating;
+mod solved_game;
 mod solving;
 mod text;
 mod top;
 mod upgrading;
 
+pub use command_line::{Command, StateNumbers};
 pub use demo_plants::demo_plant;
 pub use frontier_pool::{Gate, Open};
 pub use outcome::Outcome;
 pub use run_devices::{
     CleanSource, CountSink, Failed, MemorySink, MemorySource, NoMemory, Sink, Source,
 };
-pub use run_words::{Form, StateNumbers};
 pub use top::run;

@@ -7,12 +7,12 @@ ghost use Rattle.synth_run.specs.Statuses.{status_of, line_of};
 ghost use Rattle.synth_run.specs.inside.Causes.{of_plant, of_table, of_slopes, of_build, of_read};
 
 use abstraction_table::BuildFault;
+use command_line::limit_line;
 use controller_table::TableFault;
 use itoa::Buffer;
 use plant_record::LimitKind;
 use plant_text::PlantFault;
 use run_devices::{NoMemory, ReadFault, Sink, write_pieces};
-use run_words::limit_words;
 use successor_box::SlopeFault;
 
 /// How a run ended.
@@ -24,9 +24,9 @@ pub enum Outcome {
     Invalid { cell: u32 },
     /// A trace would begin where the table has no row.
     NoRow,
-    /// The words are of no form; nothing was read.
+    /// The words are of no command; nothing was read.
     Usage,
-    /// The first line that doesn't fit behind those before it, counted from 1; one past the last where the text ends too soon.
+    /// The first line that doesn't fit after those before it, counted from 1; one past the last where the text ends too soon.
     Malformed { line: u32 },
     /// A number of this equation leaves the range under this input vector, both counted from 0: the first equation, and for it
     /// the first input vector.
@@ -138,7 +138,7 @@ impl Outcome {
 
     /// Writes the line; a sink that fails gets a part of it.
     pub fn report<E: Sink>(self, err: &mut E)
-        ensures { Reports (writing E.got E.faults E.room err.old err.new) (line_of self) }
+        ensures { Reports (writing E.got E.faults E.capacity err.old err.new) (line_of self) }
     {
         match self {
             Outcome::Done | Outcome::WriteFault => {}
@@ -147,7 +147,7 @@ impl Outcome {
             Outcome::Usage => report_pieces(err, &[b"usage\n"]),
             Outcome::Malformed { line } => report_number(err, b"malformed: line ", line),
             Outcome::Overflow { equation, input } => report_overflow(err, equation, input),
-            Outcome::Limit { what } => report_pieces(err, &[b"limit: ", limit_words(what), b"\n"]),
+            Outcome::Limit { what } => report_pieces(err, &[b"limit: ", limit_line(what), b"\n"]),
             Outcome::TooManyTurns => report_pieces(err, &[b"limit: turns\n"]),
             Outcome::ReadFault => report_pieces(err, &[b"read fault\n"]),
             Outcome::NoMemory => report_pieces(err, &[b"no memory\n"]),
@@ -157,23 +157,23 @@ impl Outcome {
 
 /// Writes a line in pieces.
 fn report_pieces<E: Sink>(err: &mut E, pieces: &[&[u8]])
-    ensures { Reports (writing E.got E.faults E.room err.old err.new) (flat_map (λ piece. piece.now) pieces.now) }
+    ensures { Reports (writing E.got E.faults E.capacity err.old err.new) (flat_map (λ piece. piece.now) pieces.now) }
 {
     let _ = write_pieces(err, pieces);
 }
 
 /// Writes a line of words and a number.
-fn report_number<E: Sink>(err: &mut E, words: &[u8], number: u32)
-    ensures { Reports (writing E.got E.faults E.room err.old err.new) (words.now ++ decimal number ++ codes "\n") }
+fn report_number<E: Sink>(err: &mut E, arguments: &[u8], number: u32)
+    ensures { Reports (writing E.got E.faults E.capacity err.old err.new) (arguments.now ++ decimal number ++ codes "\n") }
 {
     let mut buffer = Buffer::new();
     let digits = buffer.format(number).as_bytes();
-    report_pieces(err, &[words, digits, b"\n"]);
+    report_pieces(err, &[arguments, digits, b"\n"]);
 }
 
 /// Writes the line of an overflow.
 fn report_overflow<E: Sink>(err: &mut E, equation: u32, input: u32)
-    ensures { Reports (writing E.got E.faults E.room err.old err.new) (line_of (ends.Overflow equation input)) }
+    ensures { Reports (writing E.got E.faults E.capacity err.old err.new) (line_of (ends.Overflow equation input)) }
 {
     let mut first = Buffer::new();
     let mut second = Buffer::new();

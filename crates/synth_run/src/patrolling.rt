@@ -2,12 +2,12 @@
 
 ghost use Rattle.std.specs.Prelude.{◌≡◌, ◌≢◌, IfOk, IfErr};
 ghost use Rattle.temporal_games.specs.PatrolText.{patrol_text};
-ghost use Rattle.run_words.specs.Form.{AreWorkers};
+ghost use Rattle.command_line.specs.Command.{AreWorkers};
 ghost use Rattle.synth_run.specs.declared.outcome.Outcome.TheVariants.{Done, NoMemory};
-ghost use Rattle.synth_run.specs.Demands.{turns_of, PatrolTextDemands};
+ghost use Rattle.synth_run.specs.IsOutcomeFor.{turns_of, IsPatrolTextOutcome};
 ghost use Rattle.synth_run.specs.Headline.{IsPatrolTableFor};
 
-use crate::game::game_of_text;
+use crate::abstraction::game_of_text;
 use crate::outcome::Outcome;
 use frontier_pool::Gate;
 use plant_record::Plant;
@@ -35,7 +35,7 @@ pub fn patrol_text<R: Threads + Sync, T: Gate>(
 ) -> Result<Patrolled, Outcome>
     requires { AreWorkers workers }
     ensures table { IfOk result (λ patrolled. IsPatrolTableFor bytes.now (patrol_text patrolled.plant patrolled.rows)) }
-    ensures demanded { IfErr result (λ outcome. outcome ≢ NoMemory → PatrolTextDemands bytes.now outcome) }
+    ensures cause { IfErr result (λ outcome. outcome ≢ NoMemory → IsPatrolTextOutcome bytes.now outcome) }
     ensures failed { IfErr result (λ outcome. outcome ≢ Done) }
 {
     let (plant, game) = game_of_text(rt, alloc, bytes)?;

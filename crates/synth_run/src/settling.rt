@@ -2,12 +2,12 @@
 
 ghost use Rattle.std.specs.Prelude.{◌≢◌, IfOk, IfErr};
 ghost use Rattle.temporal_games.specs.StayText.{stay_text};
-ghost use Rattle.run_words.specs.Form.{AreWorkers};
+ghost use Rattle.command_line.specs.Command.{AreWorkers};
 ghost use Rattle.synth_run.specs.declared.outcome.Outcome.TheVariants.{Done, NoMemory};
-ghost use Rattle.synth_run.specs.Demands.{PlantTextDemands};
+ghost use Rattle.synth_run.specs.IsOutcomeFor.{IsPlantTextOutcome};
 ghost use Rattle.synth_run.specs.Headline.{IsStayTableFor};
 
-use crate::game::game_of_text;
+use crate::abstraction::game_of_text;
 use crate::outcome::Outcome;
 use frontier_pool::Gate;
 use game_core::Answer;
@@ -33,7 +33,7 @@ pub fn settle_text<R: Threads + Sync, T: Gate>(
 ) -> Result<Settled, Outcome>
     requires { AreWorkers workers }
     ensures table { IfOk result (λ settled. IsStayTableFor bytes.now (stay_text settled.plant settled.rows)) }
-    ensures demanded { IfErr result (λ outcome. outcome ≢ NoMemory → PlantTextDemands bytes.now outcome) }
+    ensures cause { IfErr result (λ outcome. outcome ≢ NoMemory → IsPlantTextOutcome bytes.now outcome) }
     ensures failed { IfErr result (λ outcome. outcome ≢ Done) }
 {
     let (plant, game) = game_of_text(rt, alloc, bytes)?;

@@ -3,16 +3,16 @@
 ghost use Rattle.std.specs.Prelude.{◌≡◌, ◌≢◌, ◌≤◌, IfSome, IfNone, IfOk, IfErr, OnOk};
 ghost use Rattle.successor_box.specs.Deviations.{deviations_of};
 ghost use Rattle.synth_run.specs.declared.outcome.Outcome.TheVariants.{Done, NoMemory};
-ghost use Rattle.synth_run.specs.Demands.{TraceTextDemands};
-ghost use Rattle.synth_run.specs.Traces.{HasRowFor, HasNoRowFor, TraceDemands, IsTraceFor};
+ghost use Rattle.synth_run.specs.IsOutcomeFor.{IsTraceTextOutcome};
+ghost use Rattle.synth_run.specs.Traces.{HasRowFor, HasNoRowFor, IsTraceOutcome, IsTraceFor};
 ghost use Rattle.synth_run.specs.inside.Texts.{trace_of, IsReady};
 
 use crate::outcome::Outcome;
+use command_line::StateNumbers;
 use controller_table::{Table, read_table};
 use game_core::Row;
 use grid_quantiser::Point;
 use loop_sim::{TraceWriter, row_at};
-use run_words::StateNumbers;
 use std::alloc::Global;
 use successor_box::{Slopes, find_slopes};
 
@@ -58,7 +58,7 @@ pub fn simulate_text(
     requires { samples ≤ 1000000 }
     ensures trace { IfOk result (λ simulation. IsTraceFor bytes.now samples seed start.now (trace_of simulation)) }
     ensures ready { IfOk result IsReady }
-    ensures demanded { IfErr result (λ outcome. outcome ≢ NoMemory → TraceTextDemands start.now bytes.now outcome) }
+    ensures cause { IfErr result (λ outcome. outcome ≢ NoMemory → IsTraceTextOutcome start.now bytes.now outcome) }
     ensures failed { IfErr result (λ outcome. outcome ≢ Done) }
 {
     let table = read_table(alloc, bytes)?;
@@ -75,8 +75,8 @@ pub fn simulate_text(
 /// The slopes of a table's plant, where the table has a row for the start.
 fn slopes_of(alloc: Global, table: &Table, start: &StateNumbers) -> Result<Slopes, Outcome>
     ensures slopes { IfOk result (λ slopes. slopes ≡ deviations_of table.now.plant) }
-    ensures done { OnOk result (TraceDemands table.now.plant table.now.rows start.now Done) }
-    ensures demanded { IfErr result (λ outcome. outcome ≢ NoMemory → TraceDemands table.now.plant table.now.rows start.now outcome) }
+    ensures done { OnOk result (IsTraceOutcome table.now.plant table.now.rows start.now Done) }
+    ensures cause { IfErr result (λ outcome. outcome ≢ NoMemory → IsTraceOutcome table.now.plant table.now.rows start.now outcome) }
     ensures failed { IfErr result (λ outcome. outcome ≢ Done) }
 {
     let slopes = find_slopes(alloc, table.plant())?;

@@ -1,18 +1,18 @@
 //! From the bytes of a plant's text to the solution of its game.
 
 ghost use Rattle.std.specs.Prelude.{◌≢◌, Some, IfOk, IfErr};
-ghost use Rattle.run_words.specs.declared.form.Form.{Form};
+ghost use Rattle.command_line.specs.declared.command.Command.{Command};
 ghost use Rattle.synth_run.specs.declared.outcome.Outcome.TheVariants as ends;
 ghost use Rattle.controller_table.specs.TableText.{written, table_text};
 ghost use Rattle.controller_table.specs.Tables.{RowsFit};
-ghost use Rattle.synth_run.specs.Demands.{PlantTextDemands};
-ghost use Rattle.run_words.specs.Form.{AreWorkers};
+ghost use Rattle.synth_run.specs.IsOutcomeFor.{IsPlantTextOutcome};
+ghost use Rattle.command_line.specs.Command.{AreWorkers};
 ghost use Rattle.synth_run.specs.Headline.{IsTableFor};
 ghost use Rattle.synth_run.specs.Played.{IsPlayed};
 
-use crate::game::outlook_of_text;
+use crate::abstraction::forward_of_text;
 use crate::outcome::Outcome;
-use crate::resolving::resolve;
+use crate::solved_game::solve_game;
 use cell_counters::{Board, Root};
 use frontier_pool::Gate;
 use game_core::Answer;
@@ -38,15 +38,12 @@ pub fn solve_text<R: Threads + Sync, T: Gate>(
     requires { AreWorkers workers }
     ensures table { IfOk result (λ made. IsTableFor bytes.now (table_text written made.0.plant made.0.answer)) }
     ensures fits { IfOk result (λ made. RowsFit made.0.plant made.0.answer) }
-    ensures played { IfOk result (λ made. IsPlayed (Form.Synth workers) bytes.now (Some made.1)) }
-    ensures demanded { IfErr result (λ outcome. outcome ≢ ends.NoMemory → PlantTextDemands bytes.now outcome) }
+    ensures played { IfOk result (λ made. IsPlayed (Command.Synth workers) bytes.now (Some made.1)) }
+    ensures cause { IfErr result (λ outcome. outcome ≢ ends.NoMemory → IsPlantTextOutcome bytes.now outcome) }
     ensures failed { IfErr result (λ outcome. outcome ≢ ends.Done) }
 {
-    let (plant, ahead) = outlook_of_text(rt, alloc, bytes)?;
-    let resolved = resolve(rt, alloc, plant.goal(), ahead, workers, gate)?;
-    let answer = resolved.answer;
-    Ok((
-        SolvedPlant { plant, answer },
-        (resolved.board, resolved.root),
-    ))
+    let (plant, forward) = forward_of_text(rt, alloc, bytes)?;
+    let solved = solve_game(rt, alloc, plant.goal(), forward, workers, gate)?;
+    let answer = solved.answer;
+    Ok((SolvedPlant { plant, answer }, (solved.board, solved.root)))
 }

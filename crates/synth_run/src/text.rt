@@ -1,4 +1,4 @@
-//! What a form writes, and how it is written.
+//! What a command writes, and how it is written.
 
 ghost use Rattle.std.specs.Prelude.{OnOk, IfErr};
 ghost use Rattle.controller_table.specs.TableText.{written, table_text};
@@ -21,7 +21,7 @@ use temporal_games::{PatrolWriter, StayWriter};
 /// How many bytes are asked for before a trace is written: more than its writer takes of the stack.
 const TRACE_STACK: usize = 1 << 18;
 
-/// What a form writes.
+/// What a command writes.
 #[derive(Drop)]
 pub enum Text {
     Table(SolvedPlant),
@@ -37,8 +37,8 @@ impl Text {
     /// Writes all of it. All memory is taken before the first byte is written.
     pub fn write<O: Sink>(&self, alloc: Global, out: &mut O) -> Result<(), WriteFault>
         requires { CanBeWritten self.now }
-        ensures whole { OnOk result (GainsWhole (writing O.got O.faults O.room out.old out.new) (bytes_of self.now)) }
-        ensures stopped { IfErr result (λ fault. StopsBy fault (writing O.got O.faults O.room out.old out.new) (bytes_of self.now)) }
+        ensures whole { OnOk result (GainsWhole (writing O.got O.faults O.capacity out.old out.new) (bytes_of self.now)) }
+        ensures stopped { IfErr result (λ fault. StopsBy fault (writing O.got O.faults O.capacity out.old out.new) (bytes_of self.now)) }
     {
         match self {
             Text::Table(solved) => write_table(alloc, solved, out),
@@ -56,8 +56,8 @@ impl Text {
 }
 
 fn write_bytes<O: Sink>(bytes: &[u8], out: &mut O) -> Result<(), WriteFault>
-    ensures whole { OnOk result (GainsWhole (writing O.got O.faults O.room out.old out.new) bytes.now) }
-    ensures stopped { IfErr result (λ fault. StopsBy fault (writing O.got O.faults O.room out.old out.new) bytes.now) }
+    ensures whole { OnOk result (GainsWhole (writing O.got O.faults O.capacity out.old out.new) bytes.now) }
+    ensures stopped { IfErr result (λ fault. StopsBy fault (writing O.got O.faults O.capacity out.old out.new) bytes.now) }
 {
     write_whole(out, bytes)?;
     Ok(())
@@ -65,8 +65,8 @@ fn write_bytes<O: Sink>(bytes: &[u8], out: &mut O) -> Result<(), WriteFault>
 
 fn write_table<O: Sink>(alloc: Global, solved: &SolvedPlant, out: &mut O) -> Result<(), WriteFault>
     requires { RowsFit solved.now.plant solved.now.answer }
-    ensures whole { OnOk result (GainsWhole (writing O.got O.faults O.room out.old out.new) (table_text written solved.now.plant solved.now.answer)) }
-    ensures stopped { IfErr result (λ fault. StopsBy fault (writing O.got O.faults O.room out.old out.new) (table_text written solved.now.plant solved.now.answer)) }
+    ensures whole { OnOk result (GainsWhole (writing O.got O.faults O.capacity out.old out.new) (table_text written solved.now.plant solved.now.answer)) }
+    ensures stopped { IfErr result (λ fault. StopsBy fault (writing O.got O.faults O.capacity out.old out.new) (table_text written solved.now.plant solved.now.answer)) }
 {
     let Ok(mut writer) = TableWriter::new(alloc, &solved.plant, &solved.answer) else {
         return Err(WriteFault::Memory);
@@ -76,8 +76,8 @@ fn write_table<O: Sink>(alloc: Global, solved: &SolvedPlant, out: &mut O) -> Res
 
 /// Writes a table that was read.
 fn write_upgraded<O: Sink>(alloc: Global, table: &Table, out: &mut O) -> Result<(), WriteFault>
-    ensures whole { OnOk result (GainsWhole (writing O.got O.faults O.room out.old out.new) (table_text written table.now.plant table.now.rows)) }
-    ensures stopped { IfErr result (λ fault. StopsBy fault (writing O.got O.faults O.room out.old out.new) (table_text written table.now.plant table.now.rows)) }
+    ensures whole { OnOk result (GainsWhole (writing O.got O.faults O.capacity out.old out.new) (table_text written table.now.plant table.now.rows)) }
+    ensures stopped { IfErr result (λ fault. StopsBy fault (writing O.got O.faults O.capacity out.old out.new) (table_text written table.now.plant table.now.rows)) }
 {
     let Ok(mut writer) = TableWriter::of(alloc, table) else {
         return Err(WriteFault::Memory);
@@ -88,8 +88,8 @@ fn write_upgraded<O: Sink>(alloc: Global, table: &Table, out: &mut O) -> Result<
 /// Asks for so much memory as the writer of a trace takes of the stack, and gives it back: a run that has less is to end for want
 /// of memory, and not by its stack.
 fn ask_for_trace_stack(alloc: Global) -> Result<(), AllocError> {
-    let room: Vec<u8> = Vec::with_capacity(alloc, TRACE_STACK)?;
-    drop(room);
+    let capacity: Vec<u8> = Vec::with_capacity(alloc, TRACE_STACK)?;
+    drop(capacity);
     Ok(())
 }
 
@@ -101,15 +101,15 @@ fn write_trace<O: Sink>(
     out: &mut O,
 ) -> Result<(), WriteFault>
     requires { IsReady simulation.now }
-    ensures whole { OnOk result (GainsWhole (writing O.got O.faults O.room out.old out.new) (trace_of simulation.now)) }
-    ensures stopped { IfErr result (λ fault. StopsBy fault (writing O.got O.faults O.room out.old out.new) (trace_of simulation.now)) }
+    ensures whole { OnOk result (GainsWhole (writing O.got O.faults O.capacity out.old out.new) (trace_of simulation.now)) }
+    ensures stopped { IfErr result (λ fault. StopsBy fault (writing O.got O.faults O.capacity out.old out.new) (trace_of simulation.now)) }
 {
     write_buffered(alloc, out, &mut simulation.writer())
 }
 
 fn write_stay<O: Sink>(alloc: Global, settled: &Settled, out: &mut O) -> Result<(), WriteFault>
-    ensures whole { OnOk result (GainsWhole (writing O.got O.faults O.room out.old out.new) (stay_text settled.now.plant settled.now.rows)) }
-    ensures stopped { IfErr result (λ fault. StopsBy fault (writing O.got O.faults O.room out.old out.new) (stay_text settled.now.plant settled.now.rows)) }
+    ensures whole { OnOk result (GainsWhole (writing O.got O.faults O.capacity out.old out.new) (stay_text settled.now.plant settled.now.rows)) }
+    ensures stopped { IfErr result (λ fault. StopsBy fault (writing O.got O.faults O.capacity out.old out.new) (stay_text settled.now.plant settled.now.rows)) }
 {
     let Ok(mut writer) = StayWriter::new(alloc, &settled.plant, &settled.rows) else {
         return Err(WriteFault::Memory);
@@ -122,8 +122,8 @@ fn write_patrol<O: Sink>(
     patrolled: &Patrolled,
     out: &mut O,
 ) -> Result<(), WriteFault>
-    ensures whole { OnOk result (GainsWhole (writing O.got O.faults O.room out.old out.new) (patrol_text patrolled.now.plant patrolled.now.rows)) }
-    ensures stopped { IfErr result (λ fault. StopsBy fault (writing O.got O.faults O.room out.old out.new) (patrol_text patrolled.now.plant patrolled.now.rows)) }
+    ensures whole { OnOk result (GainsWhole (writing O.got O.faults O.capacity out.old out.new) (patrol_text patrolled.now.plant patrolled.now.rows)) }
+    ensures stopped { IfErr result (λ fault. StopsBy fault (writing O.got O.faults O.capacity out.old out.new) (patrol_text patrolled.now.plant patrolled.now.rows)) }
 {
     let Ok(mut writer) = PatrolWriter::new(alloc, &patrolled.plant, &patrolled.rows) else {
         return Err(WriteFault::Memory);

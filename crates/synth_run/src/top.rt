@@ -1,13 +1,13 @@
 ghost use Rattle.std.specs.Prelude.{◌≡◌, ℕ, ◌≤◌, List, map, None, IfSome, IfOk, IfErr};
 ghost use Rattle.run_devices.specs.Devices.{Rose, reading, writing};
-ghost use Rattle.run_words.specs.Form.{AreWorkers, IsOfForm, IsDemoNumber};
+ghost use Rattle.command_line.specs.Command.{AreWorkers, IsOfCommand, IsDemoNumber};
 ghost use Rattle.synth_run.specs.Sources.{given, most_read, NoReadFailed};
 ghost use Rattle.synth_run.specs.Runs.{Gives, IsRun, IsRunOf, IsAnswered, IsCompleteAnswer};
-ghost use Rattle.run_words.specs.declared.form.Form.{Form};
-ghost use Rattle.synth_run.specs.inside.Making.{IsReadFor, IsMade, IsDeclined};
-ghost use Rattle.synth_run.specs.inside.Resolving.{IsToBeLeft};
+ghost use Rattle.command_line.specs.declared.command.Command.{Command};
+ghost use Rattle.synth_run.specs.inside.Making.{IsReadFor, IsMade, IsRefusalOf};
+ghost use Rattle.synth_run.specs.inside.SolvedGames.{IsToBeLeft};
 ghost use Rattle.synth_run.specs.inside.Texts.{CanBeWritten};
-ghost use Rattle.synth_run.specs.inside.Working.{IsWorkedOut, IsTurnedDown, IsWrittenOut, IsLeftAfter};
+ghost use Rattle.synth_run.specs.inside.Working.{IsWorkedOut, IsRefusalFor, IsWrittenOut, IsLeftAfter};
 
 use crate::checking::check_text;
 use crate::demo::solved_line;
@@ -19,15 +19,15 @@ use crate::solving::solve_text;
 use crate::text::Text;
 use crate::upgrading::upgrade_text;
 use cell_counters::{Board, Root};
+use command_line::{Command, StateNumbers, parse_command};
 use controller_table::TABLE_LIMIT;
 use frontier_pool::Gate;
 use plant_text::TEXT_LIMIT;
 use run_devices::{Sink, Source, WriteFault, read_up_to};
-use run_words::{Form, StateNumbers, form_of};
 use std::alloc::Global;
 use std::thread::Threads;
 
-/// What a form has worked out: its text, and the board and the root of the game that it solved.
+/// What a command has worked out: its text, and the board and the root of the game that it solved.
 #[derive(Drop)]
 struct Work {
     text: Text,
@@ -52,8 +52,8 @@ fn synth<R: Threads + Sync, G: Gate>(
     gate: &G,
 ) -> Result<Work, Outcome>
     requires { AreWorkers workers }
-    ensures made { IfOk result (λ work. IsMade (Form.Synth workers) bytes.now work.text work.played) }
-    ensures declined { IfErr result (IsDeclined (Form.Synth workers) bytes.now) }
+    ensures made { IfOk result (λ work. IsMade (Command.Synth workers) bytes.now work.text work.played) }
+    ensures declined { IfErr result (IsRefusalOf (Command.Synth workers) bytes.now) }
 {
     let (solved, played) = solve_text(rt, alloc, bytes, workers, gate)?;
     Ok(Work {
@@ -64,8 +64,8 @@ fn synth<R: Threads + Sync, G: Gate>(
 
 /// That the table that the bytes are is valid.
 fn check<R: Threads + Sync>(rt: &R, alloc: Global, bytes: &[u8]) -> Result<Work, Outcome>
-    ensures made { IfOk result (λ work. IsMade Form.Check bytes.now work.text work.played) }
-    ensures declined { IfErr result (IsDeclined Form.Check bytes.now) }
+    ensures made { IfOk result (λ work. IsMade Command.Check bytes.now work.text work.played) }
+    ensures declined { IfErr result (IsRefusalOf Command.Check bytes.now) }
 {
     check_text(rt, alloc, bytes)?;
     Ok(Work::of_text(Text::Line(b"valid\n")))
@@ -73,8 +73,8 @@ fn check<R: Threads + Sync>(rt: &R, alloc: Global, bytes: &[u8]) -> Result<Work,
 
 /// The table that the bytes are, to be written anew.
 fn upgrade(alloc: Global, bytes: &[u8]) -> Result<Work, Outcome>
-    ensures made { IfOk result (λ work. IsMade Form.Upgrade bytes.now work.text work.played) }
-    ensures declined { IfErr result (IsDeclined Form.Upgrade bytes.now) }
+    ensures made { IfOk result (λ work. IsMade Command.Upgrade bytes.now work.text work.played) }
+    ensures declined { IfErr result (IsRefusalOf Command.Upgrade bytes.now) }
 {
     let table = upgrade_text(alloc, bytes)?;
     Ok(Work::of_text(Text::Upgraded(table)))
@@ -89,8 +89,8 @@ fn sim(
     start: &StateNumbers,
 ) -> Result<Work, Outcome>
     requires { samples ≤ 1000000 }
-    ensures made { IfOk result (λ work. IsMade (Form.Sim samples seed start.now) bytes.now work.text work.played) }
-    ensures declined { IfErr result (IsDeclined (Form.Sim samples seed start.now) bytes.now) }
+    ensures made { IfOk result (λ work. IsMade (Command.Sim samples seed start.now) bytes.now work.text work.played) }
+    ensures declined { IfErr result (IsRefusalOf (Command.Sim samples seed start.now) bytes.now) }
 {
     let simulation = simulate_text(alloc, bytes, samples, seed, start)?;
     Ok(Work::of_text(Text::Trace(simulation)))
@@ -106,8 +106,8 @@ fn demo<R: Threads + Sync, G: Gate>(
 ) -> Result<Work, Outcome>
     requires number { IsDemoNumber number }
     requires workers { AreWorkers workers }
-    ensures made { IfOk result (λ work. (bytes : List ℕ) → IsMade (Form.Demo number workers) bytes work.text work.played) }
-    ensures declined { IfErr result (λ outcome. (bytes : List ℕ) → IsDeclined (Form.Demo number workers) bytes outcome) }
+    ensures made { IfOk result (λ work. (bytes : List ℕ) → IsMade (Command.Demo number workers) bytes work.text work.played) }
+    ensures declined { IfErr result (λ outcome. (bytes : List ℕ) → IsRefusalOf (Command.Demo number workers) bytes outcome) }
 {
     let (line, played) = solved_line(rt, alloc, number, workers, gate)?;
     Ok(Work {
@@ -125,8 +125,8 @@ fn stay<R: Threads + Sync, G: Gate>(
     gate: &G,
 ) -> Result<Work, Outcome>
     requires { AreWorkers workers }
-    ensures made { IfOk result (λ work. IsMade (Form.Stay workers) bytes.now work.text work.played) }
-    ensures declined { IfErr result (IsDeclined (Form.Stay workers) bytes.now) }
+    ensures made { IfOk result (λ work. IsMade (Command.Stay workers) bytes.now work.text work.played) }
+    ensures declined { IfErr result (IsRefusalOf (Command.Stay workers) bytes.now) }
 {
     let settled = settle_text(rt, alloc, bytes, workers, gate)?;
     Ok(Work::of_text(Text::Stay(settled)))
@@ -141,93 +141,93 @@ fn patrol<R: Threads + Sync, G: Gate>(
     gate: &G,
 ) -> Result<Work, Outcome>
     requires { AreWorkers workers }
-    ensures made { IfOk result (λ work. IsMade (Form.Patrol workers) bytes.now work.text work.played) }
-    ensures declined { IfErr result (IsDeclined (Form.Patrol workers) bytes.now) }
+    ensures made { IfOk result (λ work. IsMade (Command.Patrol workers) bytes.now work.text work.played) }
+    ensures declined { IfErr result (IsRefusalOf (Command.Patrol workers) bytes.now) }
 {
     let patrolled = patrol_text(rt, alloc, bytes, workers, gate)?;
     Ok(Work::of_text(Text::Patrol(patrolled)))
 }
 
-/// What a form makes of the bytes that it works on.
+/// What a command makes of the bytes that it works on.
 fn work_on<R: Threads + Sync, G: Gate>(
     rt: &R,
     alloc: Global,
-    form: Form,
+    command: Command,
     bytes: &[u8],
     gate: &G,
 ) -> Result<Work, Outcome>
-    requires { (words : List (List ℕ)) × IsOfForm words form }
-    ensures made { IfOk result (λ work. IsMade form bytes.now work.text work.played) }
-    ensures declined { IfErr result (IsDeclined form bytes.now) }
+    requires { (arguments : List (List ℕ)) × IsOfCommand arguments command }
+    ensures made { IfOk result (λ work. IsMade command bytes.now work.text work.played) }
+    ensures declined { IfErr result (IsRefusalOf command bytes.now) }
 {
-    match form {
-        Form::Synth { workers } => synth(rt, alloc, bytes, workers, gate),
-        Form::Check => check(rt, alloc, bytes),
-        Form::Upgrade => upgrade(alloc, bytes),
-        Form::Sim {
+    match command {
+        Command::Synth { workers } => synth(rt, alloc, bytes, workers, gate),
+        Command::Check => check(rt, alloc, bytes),
+        Command::Upgrade => upgrade(alloc, bytes),
+        Command::Sim {
             samples,
             seed,
             start,
         } => sim(alloc, bytes, samples, seed, &start),
-        Form::Demo { number, workers } => demo(rt, alloc, number, workers, gate),
-        Form::Stay { workers } => stay(rt, alloc, bytes, workers, gate),
-        Form::Patrol { workers } => patrol(rt, alloc, bytes, workers, gate),
+        Command::Demo { number, workers } => demo(rt, alloc, number, workers, gate),
+        Command::Stay { workers } => stay(rt, alloc, bytes, workers, gate),
+        Command::Patrol { workers } => patrol(rt, alloc, bytes, workers, gate),
     }
 }
 
-/// How many bytes a form reads at most: one past the limit of its text, or none.
-fn most_read(form: &Form) -> usize
-    ensures { result ≡ most_read form.now }
+/// How many bytes a command reads at most: one past the limit of its text, or none.
+fn most_read(command: &Command) -> usize
+    ensures { result ≡ most_read command.now }
 {
-    match form {
-        Form::Synth { .. } | Form::Stay { .. } | Form::Patrol { .. } => TEXT_LIMIT + 1,
-        Form::Check | Form::Upgrade | Form::Sim { .. } => TABLE_LIMIT + 1,
-        Form::Demo { .. } => 0,
+    match command {
+        Command::Synth { .. } | Command::Stay { .. } | Command::Patrol { .. } => TEXT_LIMIT + 1,
+        Command::Check | Command::Upgrade | Command::Sim { .. } => TABLE_LIMIT + 1,
+        Command::Demo { .. } => 0,
     }
 }
 
-/// The bytes that a form works on. `demo` works on none, and leaves its source alone.
-fn read_for<S: Source>(alloc: Global, form: &Form, source: &mut S) -> Result<Vec<u8>, Outcome>
-    ensures read { IfOk result (λ bytes. IsReadFor form.now bytes.items (reading S.left S.faults S.is_sound source.old source.new)) }
-    ensures refusal { IfErr result (λ outcome. IsTurnedDown form.now outcome (reading S.left S.faults S.is_sound source.old source.new)) }
+/// The bytes that a command works on. `demo` works on none, and leaves its source alone.
+fn read_for<S: Source>(alloc: Global, command: &Command, source: &mut S) -> Result<Vec<u8>, Outcome>
+    ensures read { IfOk result (λ bytes. IsReadFor command.now bytes.items (reading S.left S.faults S.is_sound source.old source.new)) }
+    ensures refusal { IfErr result (λ outcome. IsRefusalFor command.now outcome (reading S.left S.faults S.is_sound source.old source.new)) }
 {
-    if let Form::Demo { .. } = form {
+    if let Command::Demo { .. } = command {
         return Ok(Vec::new(alloc));
     }
-    let bytes = read_up_to(alloc, source, most_read(form))?;
+    let bytes = read_up_to(alloc, source, most_read(command))?;
     Ok(bytes)
 }
 
-/// What a form writes, and the game that it leaves.
+/// What a command writes, and the game that it leaves.
 fn work_of<R: Threads + Sync, S: Source, G: Gate>(
     rt: &R,
     alloc: Global,
-    form: Form,
+    command: Command,
     source: &mut S,
     gate: &G,
 ) -> Result<Work, Outcome>
-    requires { (words : List (List ℕ)) × IsOfForm words form }
-    ensures answer { IfOk result (λ work. IsWorkedOut form work.text (reading S.left S.faults S.is_sound source.old source.new)) }
-    ensures played { IfOk result (λ work. IsToBeLeft form work.played (reading S.left S.faults S.is_sound source.old source.new)) }
-    ensures refusal { IfErr result (λ outcome. IsTurnedDown form outcome (reading S.left S.faults S.is_sound source.old source.new)) }
+    requires { (arguments : List (List ℕ)) × IsOfCommand arguments command }
+    ensures answer { IfOk result (λ work. IsWorkedOut command work.text (reading S.left S.faults S.is_sound source.old source.new)) }
+    ensures played { IfOk result (λ work. IsToBeLeft command work.played (reading S.left S.faults S.is_sound source.old source.new)) }
+    ensures refusal { IfErr result (λ outcome. IsRefusalFor command outcome (reading S.left S.faults S.is_sound source.old source.new)) }
 {
-    let bytes = read_for(alloc, &form, source)?;
-    work_on(rt, alloc, form, &bytes, gate)
+    let bytes = read_for(alloc, &command, source)?;
+    work_on(rt, alloc, command, &bytes, gate)
 }
 
-/// Works the answer of a form out, and writes it. The game is left only where the whole answer was written.
+/// Works the answer of a command out, and writes it. The game is left only where the whole answer was written.
 fn carry_out<R: Threads + Sync, S: Source, O: Sink, G: Gate>(
     rt: &R,
     alloc: Global,
-    form: Form,
+    command: Command,
     source: &mut S,
     out: &mut O,
     gate: &G,
 ) -> (Outcome, Option<(Board, Root)>)
-    requires { (words : List (List ℕ)) × IsOfForm words form }
-    ensures { IsRunOf form result.0 (reading S.left S.faults S.is_sound source.old source.new) (writing O.got O.faults O.room out.old out.new) result.1 }
+    requires { (arguments : List (List ℕ)) × IsOfCommand arguments command }
+    ensures { IsRunOf command result.0 (reading S.left S.faults S.is_sound source.old source.new) (writing O.got O.faults O.capacity out.old out.new) result.1 }
 {
-    match work_of(rt, alloc, form, source, gate) {
+    match work_of(rt, alloc, command, source, gate) {
         Ok(work) => {
             let Work { text, played } = work;
             let outcome = write_out(alloc, &text, out);
@@ -240,7 +240,7 @@ fn carry_out<R: Threads + Sync, S: Source, O: Sink, G: Gate>(
 /// Writes what was worked out.
 fn write_out<O: Sink>(alloc: Global, text: &Text, out: &mut O) -> Outcome
     requires { CanBeWritten text.now }
-    ensures { IsWrittenOut text.now result (writing O.got O.faults O.room out.old out.new) }
+    ensures { IsWrittenOut text.now result (writing O.got O.faults O.capacity out.old out.new) }
 {
     match text.write(alloc, out) {
         Ok(()) => Outcome::Done,
@@ -263,22 +263,22 @@ fn left_after(outcome: Outcome, played: Option<(Board, Root)>) -> Option<(Board,
 fn outcome_of<R: Threads + Sync, S: Source, O: Sink, G: Gate>(
     rt: &R,
     alloc: Global,
-    words: &[&str],
+    arguments: &[&str],
     source: &mut S,
     out: &mut O,
     gate: &G,
 ) -> (Outcome, Option<(Board, Root)>)
-    ensures { Gives (map (λ w. w.now) words.now) result.0 (reading S.left S.faults S.is_sound source.old source.new) (writing O.got O.faults O.room out.old out.new) result.1 }
+    ensures { Gives (map (λ w. w.now) arguments.now) result.0 (reading S.left S.faults S.is_sound source.old source.new) (writing O.got O.faults O.capacity out.old out.new) result.1 }
 {
-    match form_of(words) {
-        Some(form) => carry_out(rt, alloc, form, source, out, gate),
+    match parse_command(arguments) {
+        Some(command) => carry_out(rt, alloc, command, source, out, gate),
         None => (Outcome::Usage, None),
     }
 }
 
 /// The top call: does what the words ask for, and answers the exit status.
 ///
-/// 0: the answer was written. 1: a row of the table isn't right, or there is none where a trace would begin. 2: the words are of no form.
+/// 0: the answer was written. 1: a row of the table isn't right, or there is none where a trace would begin. 2: the words are of no command.
 /// 3: a line of the text is malformed. 4: a number leaves the range. 5: a limit is exceeded. 6: a read failed. 7: a write failed. 8: there
 /// was no memory left.
 ///
@@ -287,7 +287,7 @@ fn outcome_of<R: Threads + Sync, S: Source, O: Sink, G: Gate>(
 pub fn run<R: Threads + Sync, S: Source, O: Sink, E: Sink, G: Gate>(
     rt: &R,
     alloc: Global,
-    words: &[&str],
+    arguments: &[&str],
     source: &mut S,
     out: &mut O,
     err: &mut E,
@@ -295,16 +295,16 @@ pub fn run<R: Threads + Sync, S: Source, O: Sink, E: Sink, G: Gate>(
     played: &mut Option<(Board, Root)>,
 ) -> u8
     // The headline: status 0 means that the answer was written whole, that of `synth` being the plant's one table.
-    ensures solved { (form : Form) → IsOfForm (map (λ w. w.now) words.now) form → result ≡ 0 → IfSome (given form (S.left source.old)) (λ bytes. IsAnswered form bytes (writing O.got O.faults O.room out.old out.new)) }
+    ensures solved { (command : Command) → IsOfCommand (map (λ w. w.now) arguments.now) command → result ≡ 0 → IfSome (given command (S.left source.old)) (λ bytes. IsAnswered command bytes (writing O.got O.faults O.capacity out.old out.new)) }
 
     // Every status: what was read, written and reported, which fault or refusal it tells, and what is left of the game.
-    ensures gives { IsRun (map (λ w. w.now) words.now) result (reading S.left S.faults S.is_sound source.old source.new) (writing O.got O.faults O.room out.old out.new) (writing E.got E.faults E.room err.old err.new) played.new }
+    ensures gives { IsRun (map (λ w. w.now) arguments.now) result (reading S.left S.faults S.is_sound source.old source.new) (writing O.got O.faults O.capacity out.old out.new) (writing E.got E.faults E.capacity err.old err.new) played.new }
 
     // Where no device fails, only want of memory keeps a text from what it demands.
-    ensures complete { (form : Form) → IsOfForm (map (λ w. w.now) words.now) form → NoReadFailed form (S.faults source.old) (S.faults source.new) → (Rose (O.faults out.old) (O.faults out.new) → ⊥) → IfSome (given form (S.left source.old)) (IsCompleteAnswer form result) }
+    ensures complete { (command : Command) → IsOfCommand (map (λ w. w.now) arguments.now) command → NoReadFailed command (S.faults source.old) (S.faults source.new) → (Rose (O.faults out.old) (O.faults out.new) → ⊥) → IfSome (given command (S.left source.old)) (IsCompleteAnswer command result) }
 {
-    let (outcome, resolved) = outcome_of(rt, alloc, words, source, out, gate);
-    *played = resolved;
+    let (outcome, solved) = outcome_of(rt, alloc, arguments, source, out, gate);
+    *played = solved;
     outcome.report(err);
     outcome.status()
 }

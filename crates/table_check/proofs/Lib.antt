@@ -1,4 +1,4 @@
 pub mod Best
-pub mod Lost
+pub mod Unwinnable
 pub mod Fitting
 pub mod Verdicts

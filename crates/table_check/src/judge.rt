@@ -4,7 +4,7 @@ ghost use Rattle.plant_record.specs.declared.aims.GoalKind.TheVariants.{Reach};
 ghost use Rattle.plant_record.specs.Description.{axes_of, vectors_of};
 ghost use Rattle.game_core.specs.Game.{pairs_of};
 ghost use Rattle.game_core.specs.Solution.{HasRowBelow};
-ghost use Rattle.game_core.specs.Right.{IsLost, IsRight, IsRightRanked};
+ghost use Rattle.game_core.specs.Right.{IsUnwinnable, IsRight, IsRightRanked};
 ghost use Rattle.controller_table.specs.Tables.{RowsFit};
 ghost use Rattle.table_check.specs.inside.Below.{LeadsBelow, NoneLeadsBelow};
 
@@ -44,7 +44,7 @@ impl<'a, G: Forward> Judge<'a, G> {
             Mark::Goal => row == Some(Row { rank: 0, input: 0 }),
             Mark::Plain => match row {
                 Some(row) => self.is_best(c, row),
-                None => self.is_lost(c),
+                None => self.is_unwinnable(c),
             },
         }
     }
@@ -63,10 +63,10 @@ impl<'a, G: Forward> Judge<'a, G> {
     }
 
     /// Whether a plain cell is right to have no row. No rank is as great as the number of cells.
-    fn is_lost(&self, c: u32) -> bool
+    fn is_unwinnable(&self, c: u32) -> bool
         requires fit { RowsFit self.now.table.now.plant self.now.table.now.rows }
         requires cell { c < (G.game self.now.graph.now).cells }
-        ensures { IsTrue result ↔ IsLost (G.game self.now.graph.now) self.now.table.now.rows c }
+        ensures { IsTrue result ↔ IsUnwinnable (G.game self.now.graph.now) self.now.table.now.rows c }
     {
         self.none_leads_below(c, 0, self.graph.inputs(), self.graph.cells())
     }

@@ -9,7 +9,7 @@ use Rattle.std.proofs.lemmas.List.Elements.{All-from_get_or}
 use Rattle.game_core.specs.declared.game.Mark.{Mark}
 use Rattle.game_core.specs.declared.game.Mark.TheVariants.{Goal, Obstacle, Plain}
 use Rattle.game_core.specs.declared.game.Row.{Row}
-use Rattle.game_core.specs.Game.{Game, IsGame, mark_of, remarked}
+use Rattle.game_core.specs.Game.{Game, IsGame, mark_of, with_marks}
 use Rattle.game_core.specs.Solution.{row_of, LeadsWithinTo, IsReachRow, IsReachSolution}
 use Rattle.game_core.specs.Strategy.{Tree, Leaf, Apply, LeadsTo, depth_of}
 use Rattle.game_core.proofs.RankBound.{rank_below}
@@ -63,7 +63,7 @@ module _ (g : Game) (a : IsGame g) (rows : List (Option Row)) (s : IsStaySolutio
   reach_rows : List (Option Row)
   reach_rows = map (λ c. reach_row (row_of rows c)) (range_with_len 0 g.cells)
 
-  mark_at : (c : ℕ) → c < g.cells → mark_of (remarked g marks) c ≡ mark_by (mark_of g c) (row_of rows c)
+  mark_at : (c : ℕ) → c < g.cells → mark_of (with_marks g marks) c ≡ mark_by (mark_of g c) (row_of rows c)
   unfolding marks
   mark_at c lt = get_or-map-range_with_len (λ c. mark_by (mark_of g c) (row_of rows c)) 0 g.cells c c Plain lt (omega arith)
 
@@ -118,7 +118,7 @@ module _ (g : Game) (a : IsGame g) (rows : List (Option Row)) (s : IsStaySolutio
           by_rank false f = ap way_mark m
           by_rank true f = absurd (let h = goal_held c lt (Some row) e (ap (λ (b : Bool). cond b Goal (way_mark (mark_of g c))) f) in let goal : mark_of g c ≡ Goal = h 0 in cc)
 
-  by_stay : (c k u : ℕ) → c < g.cells → IsStayedBy g c (record { rank = k; input = u }) → IsReachRow (remarked g marks) c (Some (row_for k u))
+  by_stay : (c k u : ℕ) → c < g.cells → IsStayedBy g c (record { rank = k; input = u }) → IsReachRow (with_marks g marks) c (Some (row_for k u))
   by_stay c zero u lt by = (to_rank g a (IsHeld g) marks ends c 0 lt by.rank, refl)
   by_stay c (suc k) u lt by =
       let less : suc k - 1 ≡ k = omega arith in (
@@ -129,7 +129,7 @@ module _ (g : Game) (a : IsGame g) (rows : List (Option Row)) (s : IsStaySolutio
         ),
       )
 
-  by_row : (c : ℕ) → c < g.cells → (o : Option Row) → row_of rows c ≡ o → IsReachRow (remarked g marks) c (reach_row o)
+  by_row : (c : ℕ) → c < g.cells → (o : Option Row) → row_of rows c ≡ o → IsReachRow (with_marks g marks) c (reach_row o)
   by_row c lt None e = λ t w. stayed c None lt e t (from_wins g a (IsHeld g) marks ends t c lt w)
   by_row c lt (Some row) e = by_stay c row.rank row.input lt (stayed c (Some row) lt e)
 
@@ -137,18 +137,18 @@ module _ (g : Game) (a : IsGame g) (rows : List (Option Row)) (s : IsStaySolutio
   unfolding reach_rows
   row_at c lt = get_or-map-range_with_len (λ c. reach_row (row_of rows c)) 0 g.cells c c None lt (omega arith)
 
-  reaches : IsReachSolution (remarked g marks) reach_rows
+  reaches : IsReachSolution (with_marks g marks) reach_rows
   unfolding reach_rows
   reaches = record {
     one_each = length-map-range_with_len (λ c. reach_row (row_of rows c)) 0 g.cells;
-    each = λ c lt. subst (IsReachRow (remarked g marks) c) (sym (row_at c lt)) (by_row c lt (row_of rows c) refl);
+    each = λ c lt. subst (IsReachRow (with_marks g marks) c) (sym (row_at c lt)) (by_row c lt (row_of rows c) refl);
   }
 
   pub ranks_fit : (c : ℕ) (row : Row) → row_of rows c ≡ Some row → row.rank < g.cells
   ranks_fit c row e =
       let at = below_from_row rows c row e in
       let lt : c < g.cells = omega (arith, at, s.one_each) in
-      let low = rank_below (remarked g marks) reach_rows (remarked_game g marks ends.one_each a) reaches c (row_for row.rank row.input) (row_at c lt ∙ ap reach_row e) in
+      let low = rank_below (with_marks g marks) reach_rows (remarked_game g marks ends.one_each a) reaches c (row_for row.rank row.input) (row_at c lt ∙ ap reach_row e) in
       omega (arith, low, rank_of row.rank row.input)
 
 pub stay_rows_fit : (p : Description) (g : Game) (rows : List (Option Row)) → IsGameOf p g → IsStaySolution g rows → StayRowsFit p rows

@@ -13,13 +13,13 @@ use Rattle.plant_record.specs.Limits.{IsWithinLimits}
 use Rattle.plant_writing.specs.CanonicalText.{text_of}
 use Rattle.plant_reading.proofs.lemmas.StatementLaws.{one_statement}
 use Rattle.plant_text.proofs.lemmas.CanonicalFronts.{one_plant_at_the_front}
-use Rattle.row_runs.specs.declared.row_words.RowWords.TheVariants.{Both}
-use Rattle.row_runs.specs.declared.run.Version.TheVariants.{Second}
+use Rattle.row_runs.specs.declared.row_format.RowFormat.TheVariants.{Both}
+use Rattle.row_runs.specs.declared.run.TableVersion.TheVariants.{Second}
 use Rattle.row_runs.specs.Runs.{runs_from}
 use Rattle.row_runs.specs.RunText.{run_line, run_lines, end_line}
 use Rattle.row_runs.proofs.FewRuns.{few_runs}
 use Rattle.row_runs.proofs.Lines.{no_feed, IsLine, same_lines, lines_then, same_front}
-use Rattle.row_runs.proofs.RunWords.{decimal_no_feed, one_number, AreSpelledOut, spelled_runs, runs_are_lines, end_is_line, lines_tell_apart}
+use Rattle.row_runs.proofs.RunWords.{decimal_no_feed, one_number, AreSpelledOut, spelled_runs, runs_are_lines, end_is_line, lines_differ}
 use Rattle.temporal_games.specs.PatrolText.{patrol_line, turn_line, turn_lines, IsPatrolRowOf, PatrolRowsFit, IsPatrolText}
 
 -- ---- the line of a turn
@@ -39,8 +39,8 @@ turn_is_line j n hj hn = record {
 
 turn_tells : (j m n : ℕ) → m < 2 ^ 64 → n < 2 ^ 64 → turn_line j m ≡ turn_line j n → m ≡ n
 turn_tells j m n hm hn e =
-    let behind = append_cancel_left (codes "turn " ++ decimal j) (codes " rows " ++ (decimal m ++ 10 ∷ [])) (codes " rows " ++ (decimal n ++ 10 ∷ [])) (sym (turn_words j m) ∙ e ∙ turn_words j n) in
-    (one_number m n 10 [] [] hm hn refl (ap (drop 6) behind)).0
+    let after = append_cancel_left (codes "turn " ++ decimal j) (codes " rows " ++ (decimal m ++ 10 ∷ [])) (codes " rows " ++ (decimal n ++ 10 ∷ [])) (sym (turn_words j m) ∙ e ∙ turn_words j n) in
+    (one_number m n 10 [] [] hm hn refl (ap (drop 6) after)).0
 
 -- ---- the lines of all turns
 
@@ -74,17 +74,17 @@ split (x ∷ xs) (y ∷ ys) s t n e =
     let rest = split xs ys s t (omega (arith, n)) (tail_same x y (xs ++ s) (ys ++ t) e) in
     (ap (λ (z : List ℕ). z ∷ xs) (head_same x y (xs ++ s) (ys ++ t) e) ∙ ap (λ (z : List (List ℕ)). y ∷ z) rest.0, rest.1)
 
-turns_told : (cells j : ℕ) (rows others : List (List (Option Row))) → AllByRecursion (AreTold cells) rows → AllByRecursion (AreTold cells) others → length rows ≡ length others → turn_lines j rows ≡ turn_lines j others → rows ≡ others
-turns_told cells j [] [] h k n e = refl
-turns_told cells j [] (s ∷ others) h k n e = absurd (omega (arith, n))
-turns_told cells j (r ∷ rows) [] h k n e = absurd (omega (arith, n))
-turns_told cells j (r ∷ rows) (s ∷ others) h k n e =
+encoded_turns : (cells j : ℕ) (rows others : List (List (Option Row))) → AllByRecursion (AreTold cells) rows → AllByRecursion (AreTold cells) others → length rows ≡ length others → turn_lines j rows ≡ turn_lines j others → rows ≡ others
+encoded_turns cells j [] [] h k n e = refl
+encoded_turns cells j [] (s ∷ others) h k n e = absurd (omega (arith, n))
+encoded_turns cells j (r ∷ rows) [] h k n e = absurd (omega (arith, n))
+encoded_turns cells j (r ∷ rows) (s ∷ others) h k n e =
     let first = head_same (turn_line j (length (run_lines Both r))) (turn_line j (length (run_lines Both s))) (run_lines Both r ++ turn_lines (suc j) rows) (run_lines Both s ++ turn_lines (suc j) others) e in
-    let behind = tail_same (turn_line j (length (run_lines Both r))) (turn_line j (length (run_lines Both s))) (run_lines Both r ++ turn_lines (suc j) rows) (run_lines Both s ++ turn_lines (suc j) others) e in
+    let after = tail_same (turn_line j (length (run_lines Both r))) (turn_line j (length (run_lines Both s))) (run_lines Both r ++ turn_lines (suc j) rows) (run_lines Both s ++ turn_lines (suc j) others) e in
     let count = turn_tells j (length (run_lines Both r)) (length (run_lines Both s)) (few r h.0.spelled) (few s k.0.spelled) first in
-    let both = split (run_lines Both r) (run_lines Both s) (turn_lines (suc j) rows) (turn_lines (suc j) others) count behind in
-    let one = lines_tell_apart r s h.0.spelled k.0.spelled (h.0.one_each ∙ sym k.0.one_each) both.0 in
-    ap (λ (x : List (Option Row)). x ∷ rows) one ∙ ap (λ (x : List (List (Option Row))). s ∷ x) (turns_told cells (suc j) rows others h.1 k.1 (omega (arith, n)) both.1)
+    let both = split (run_lines Both r) (run_lines Both s) (turn_lines (suc j) rows) (turn_lines (suc j) others) count after in
+    let one = lines_differ r s h.0.spelled k.0.spelled (h.0.one_each ∙ sym k.0.one_each) both.0 in
+    ap (λ (x : List (Option Row)). x ∷ rows) one ∙ ap (λ (x : List (List (Option Row))). s ∷ x) (encoded_turns cells (suc j) rows others h.1 k.1 (omega (arith, n)) both.1)
 
 -- ---- the whole text
 
@@ -116,12 +116,12 @@ lines_are p rows within fit =
 
 pub one_patrol_text : (bytes : List ℕ) (p q : Description) (rows others : List (List (Option Row))) → IsPatrolText bytes p rows → IsPatrolText bytes q others → (p ≡ q) × (rows ≡ others)
 one_patrol_text bytes p q rows others h k =
-    let behind : List ℕ = concat (turn_lines 0 rows ++ end_line ∷ []) in
+    let after : List ℕ = concat (turn_lines 0 rows ++ end_line ∷ []) in
     let other : List ℕ = concat (turn_lines 0 others ++ end_line ∷ []) in
-    let whole : patrol_line ++ (text_of p ++ behind) ≡ patrol_line ++ (text_of q ++ other) =
-    sym (append_assoc patrol_line (text_of p) behind) ∙ sym h.text ∙ k.text ∙ append_assoc patrol_line (text_of q) other in
-    let plant = one_plant_at_the_front one_statement p q behind other h.limits.plant k.limits.plant (ap (drop 9) whole) in
+    let whole : patrol_line ++ (text_of p ++ after) ≡ patrol_line ++ (text_of q ++ other) =
+    sym (append_assoc patrol_line (text_of p) after) ∙ sym h.text ∙ k.text ∙ append_assoc patrol_line (text_of q) other in
+    let plant = one_plant_at_the_front one_statement p q after other h.limits.plant k.limits.plant (ap (drop 9) whole) in
     let fit : PatrolRowsFit p others = subst (λ (d : Description). PatrolRowsFit d others) (sym plant.0) k.fitting in
     let lines = same_lines (turn_lines 0 rows ++ end_line ∷ []) (turn_lines 0 others ++ end_line ∷ []) (lines_are p rows h.limits h.fitting) (lines_are p others h.limits fit) plant.1 in
     let turns = same_front (turn_lines 0 rows) (turn_lines 0 others) end_line lines in
-    (plant.0, turns_told (cells_of (axes_of p)) 0 rows others (are_told p rows h.limits h.fitting) (are_told p others h.limits fit) (h.fitting.one_list_each ∙ sym fit.one_list_each) turns)
+    (plant.0, encoded_turns (cells_of (axes_of p)) 0 rows others (are_told p rows h.limits h.fitting) (are_told p others h.limits fit) (h.fitting.one_list_each ∙ sym fit.one_list_each) turns)

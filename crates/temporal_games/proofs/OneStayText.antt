@@ -10,18 +10,18 @@ use Rattle.plant_record.specs.Limits.{IsWithinLimits}
 use Rattle.plant_writing.specs.CanonicalText.{text_of}
 use Rattle.plant_reading.proofs.lemmas.StatementLaws.{one_statement}
 use Rattle.plant_text.proofs.lemmas.CanonicalFronts.{one_plant_at_the_front}
-use Rattle.row_runs.specs.declared.row_words.RowWords.TheVariants.{Both}
-use Rattle.row_runs.specs.declared.run.Version.TheVariants.{Second}
+use Rattle.row_runs.specs.declared.row_format.RowFormat.TheVariants.{Both}
+use Rattle.row_runs.specs.declared.run.TableVersion.TheVariants.{Second}
 use Rattle.row_runs.specs.Runs.{runs_from}
 use Rattle.row_runs.specs.RunText.{run_line, run_lines, count_line, end_line}
 use Rattle.row_runs.proofs.FewRuns.{few_runs}
 use Rattle.row_runs.proofs.Lines.{IsLine, same_lines, lines_then, same_front}
-use Rattle.row_runs.proofs.RunWords.{AreSpelledOut, spelled_runs, runs_are_lines, count_is_line, end_is_line, lines_tell_apart}
+use Rattle.row_runs.proofs.RunWords.{AreSpelledOut, spelled_runs, runs_are_lines, count_is_line, end_is_line, lines_differ}
 use Rattle.temporal_games.specs.StayText.{stay_line, IsStayRowOf, StayRowsFit, IsStayText}
 
--- the lines behind the plant's text
-abbrev lines_behind : List (Option Row) → List (List ℕ)
-lines_behind rows = count_line (length (run_lines Both rows)) ∷ run_lines Both rows ++ end_line ∷ []
+-- the lines after the plant's text
+abbrev lines_after : List (Option Row) → List (List ℕ)
+lines_after rows = count_line (length (run_lines Both rows)) ∷ run_lines Both rows ++ end_line ∷ []
 
 are_spelled_out : (p : Description) (rows : List (Option Row)) → IsWithinLimits p → StayRowsFit p rows → AreSpelledOut rows
 are_spelled_out p rows within fit = record {
@@ -33,26 +33,26 @@ are_spelled_out p rows within fit = record {
     small None h = tt
     small (Some row) h = let cells = within.cells in let vectors = within.vectors in (omega (arith, h.rank, cells), omega (arith, h.input, vectors))
 
-are_lines : (rows : List (Option Row)) → AreSpelledOut rows → AllByRecursion IsLine (lines_behind rows)
+are_lines : (rows : List (Option Row)) → AreSpelledOut rows → AllByRecursion IsLine (lines_after rows)
 are_lines rows h =
     let few = h.few in (
       count_is_line (length (run_lines Both rows)) (omega (arith, few, few_runs Second 0 rows, length-map (runs_from Second 0 rows) (run_line Second Both))),
       lines_then (run_lines Both rows) (end_line ∷ []) (runs_are_lines (runs_from Second 0 rows) (spelled_runs rows h)) (end_is_line, tt),
     )
 
--- the lines behind the plant's text tell the rows of as many cells
-rows_told : (rows others : List (Option Row)) → AreSpelledOut rows → AreSpelledOut others → length rows ≡ length others → concat (lines_behind rows) ≡ concat (lines_behind others) → rows ≡ others
-rows_told rows others h k len e =
-    let lines = same_lines (lines_behind rows) (lines_behind others) (are_lines rows h) (are_lines others k) e in
-    lines_tell_apart rows others h k len (same_front (run_lines Both rows) (run_lines Both others) end_line (tails (count_line (length (run_lines Both rows))) (count_line (length (run_lines Both others))) (run_lines Both rows ++ end_line ∷ []) (run_lines Both others ++ end_line ∷ []) lines))
+-- the lines after the plant's text tell the rows of as many cells
+decoded_rows : (rows others : List (Option Row)) → AreSpelledOut rows → AreSpelledOut others → length rows ≡ length others → concat (lines_after rows) ≡ concat (lines_after others) → rows ≡ others
+decoded_rows rows others h k len e =
+    let lines = same_lines (lines_after rows) (lines_after others) (are_lines rows h) (are_lines others k) e in
+    lines_differ rows others h k len (same_front (run_lines Both rows) (run_lines Both others) end_line (tails (count_line (length (run_lines Both rows))) (count_line (length (run_lines Both others))) (run_lines Both rows ++ end_line ∷ []) (run_lines Both others ++ end_line ∷ []) lines))
   where
     tails : (x y : List ℕ) (xs ys : List (List ℕ)) → x ∷ xs ≡ y ∷ ys → xs ≡ ys
     tails x y xs ys e = cc
 
 pub one_stay_text : (bytes : List ℕ) (p q : Description) (rows others : List (Option Row)) → IsStayText bytes p rows → IsStayText bytes q others → (p ≡ q) × (rows ≡ others)
 one_stay_text bytes p q rows others h k =
-    let whole : stay_line ++ (text_of p ++ concat (lines_behind rows)) ≡ stay_line ++ (text_of q ++ concat (lines_behind others)) =
-    sym (append_assoc stay_line (text_of p) (concat (lines_behind rows))) ∙ sym h.text ∙ k.text ∙ append_assoc stay_line (text_of q) (concat (lines_behind others)) in
-    let plant = one_plant_at_the_front one_statement p q (concat (lines_behind rows)) (concat (lines_behind others)) h.limits.plant k.limits.plant (ap (drop 7) whole) in
+    let whole : stay_line ++ (text_of p ++ concat (lines_after rows)) ≡ stay_line ++ (text_of q ++ concat (lines_after others)) =
+    sym (append_assoc stay_line (text_of p) (concat (lines_after rows))) ∙ sym h.text ∙ k.text ∙ append_assoc stay_line (text_of q) (concat (lines_after others)) in
+    let plant = one_plant_at_the_front one_statement p q (concat (lines_after rows)) (concat (lines_after others)) h.limits.plant k.limits.plant (ap (drop 7) whole) in
     let fit : StayRowsFit p others = subst (λ (d : Description). StayRowsFit d others) (sym plant.0) k.fitting in
-    (plant.0, rows_told rows others (are_spelled_out p rows h.limits h.fitting) (are_spelled_out p others h.limits fit) (h.fitting.one_each ∙ sym fit.one_each) plant.1)
+    (plant.0, decoded_rows rows others (are_spelled_out p rows h.limits h.fitting) (are_spelled_out p others h.limits fit) (h.fitting.one_each ∙ sym fit.one_each) plant.1)

@@ -15,8 +15,8 @@ use Rattle.plant_game.specs.Abstraction.{IsGameOf}
 use Rattle.plant_game.specs.Refinement.{IsRefinement}
 use Rattle.patrol_game.specs.Targets.{IsInTarget}
 use Rattle.patrol_game.specs.Visits.{next_turn, VisitsOn, IsArrival}
-use Rattle.patrol_game.specs.Patrol.{IsTravelledBy, IsPatrolRow, IsPatrol, rows_for}
-use Rattle.patrol_game.proofs.Laws.{targets_are_told, travellers_have_rows}
+use Rattle.patrol_game.specs.Patrol.{IsReachedLaterBy, IsPatrolRow, IsPatrol, rows_for}
+use Rattle.patrol_game.proofs.Laws.{targets_are_told, later_reachers_have_rows}
 use Rattle.plant_game.proofs.GameLaws.{below_from_row, refines, clear_at, lands}
 use Rattle.temporal_games.specs.PatrolText.{IsPatrolText, HasPatrolRow, IsArrivalIn}
 use Rattle.temporal_games.specs.Patrols.{LandsWell, Goes, Patrols}
@@ -46,7 +46,7 @@ module _ {bytes : List ℕ} {p : Description} {g : Game} {rows : List (List (Opt
   cell_below : (j c : ℕ) (row : Row) → j < turns → row_of (rows_for rows j) c ≡ Some row → c < g.cells
   cell_below j c row lj is = omega (arith, below_from_row (rows_for rows j) c row is, k.solution.one_row_each j lj)
 
-  patrolled : (j c : ℕ) (row : Row) → j < turns → row_of (rows_for rows j) c ≡ Some row → IsTravelledBy (IsArrival g (IsInTarget p) turns j) g c row
+  patrolled : (j c : ℕ) (row : Row) → j < turns → row_of (rows_for rows j) c ≡ Some row → IsReachedLaterBy (IsArrival g (IsInTarget p) turns j) g c row
   patrolled j c row lj is = (subst (IsPatrolRow g (IsInTarget p) turns j c) is (k.solution.each j c lj (cell_below j c row lj is))).1
 
   row_at : (j c : ℕ) → j < turns → c < g.cells → VisitsOn g (IsInTarget p) turns j c → (row : Row) × (row_of (rows_for rows j) c ≡ Some row)
@@ -96,7 +96,7 @@ module _ {bytes : List ℕ} {p : Description} {g : Game} {rows : List (List (Opt
       s : ℕ
       s = cell_of (axes_of p) y
 
-      by : IsTravelledBy (IsArrival g (IsInTarget p) turns j) g c row
+      by : IsReachedLaterBy (IsArrival g (IsInTarget p) turns j) g c row
       by = patrolled j c row lj is
 
       landed : IsInDomain (axes_of p) y × Contains (successors_of g c row.input) s × (s < g.cells)
@@ -114,7 +114,7 @@ module _ {bytes : List ℕ} {p : Description} {g : Game} {rows : List (List (Opt
           let there = row_at (next_turn turns j) s (k.next_below j lj) landed.2 l.1 in
           absurd (out there.0 (record { target = l.0; next = has_row (next_turn turns j) y there.0 (k.next_below j lj) landed.0 there.1 }))
       on_the_way out (Apply v next) l deep =
-          let there = travellers_have_rows g (IsInTarget p) turns rows k.abstraction.game k.solution j s v next lj landed.2 l in
+          let there = later_reachers_have_rows g (IsInTarget p) turns rows k.abstraction.game k.solution j s v next lj landed.2 l in
           let below = there.below in
           let some' = (patrolled j s there.row lj there.is).reached.2 in
           (there.row, there.is, omega (arith, below, deep), omega (arith, some'))

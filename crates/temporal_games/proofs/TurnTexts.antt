@@ -4,8 +4,8 @@ use Rattle.std.specs.List.{concat}
 use Rattle.std.proofs.lemmas.List.{length-map, drop_more, take-append-le, drop-append-le}
 use Rattle.std.proofs.lemmas.List.Folds.{concat-append}
 use Rattle.game_core.specs.declared.game.Row.{Row}
-use Rattle.row_runs.specs.declared.row_words.RowWords.TheVariants.{Both}
-use Rattle.row_runs.specs.declared.run.Version.TheVariants.{Second}
+use Rattle.row_runs.specs.declared.row_format.RowFormat.TheVariants.{Both}
+use Rattle.row_runs.specs.declared.run.TableVersion.TheVariants.{Second}
 use Rattle.row_runs.specs.Runs.{runs_from}
 use Rattle.row_runs.specs.RunText.{run_line, run_lines}
 use Rattle.patrol_game.specs.Patrol.{rows_for}

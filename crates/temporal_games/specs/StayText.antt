@@ -3,7 +3,7 @@ use Rattle.std.specs.Prelude.{◌≡◌, ℕ, ◌<◌, ℤ, List, [], ◌∷◌,
 use Rattle.std.specs.List.{All, concat}
 use Rattle.game_core.specs.declared.game.Row.{Row}
 use Rattle.game_core.specs.Solution.{row_of}
-use Rattle.row_runs.specs.declared.row_words.RowWords.TheVariants.{Both}
+use Rattle.row_runs.specs.declared.row_format.RowFormat.TheVariants.{Both}
 use Rattle.row_runs.specs.RunText.{line, run_lines, count_line, end_line}
 use Rattle.grid_quantiser.specs.Axes.{cells_of}
 use Rattle.grid_quantiser.specs.Cells.{IsInDomain, cell_of}

@@ -4,7 +4,7 @@ ghost use Rattle.temporal_games.specs.StayText.{stay_text};
 use crate::header::header_of;
 use game_core::{Answer, NoMemory};
 use plant_record::Plant;
-use row_runs::{FramedText, RowWords, RunLines};
+use row_runs::{FramedText, RowFormat, RunLines};
 use std::alloc::Global;
 use std::marker::Model;
 use text_pieces::Pieces;
@@ -29,7 +29,7 @@ impl<'a> StayWriter<'a> {
         ensures { IfOk result (λ w. w ≡ stay_text p.now a.now) }
     {
         let header = header_of(alloc, b"stay 1\n", p)?;
-        let lines = RunLines::counted(RowWords::Both, a);
+        let lines = RunLines::counted(RowFormat::Both, a);
         Ok(StayWriter {
             text: FramedText::new(header, lines),
         })

@@ -4,9 +4,9 @@ ghost use Rattle.temporal_games.specs.PatrolText.{turn_line, turn_lines};
 ghost use Rattle.temporal_games.specs.inside.Left.{left_of};
 
 use patrol_game::PatrolRows;
-use row_runs::{LineText, RowWords, RunLines, count_runs};
+use row_runs::{LineText, RowFormat, RunLines, count_runs};
 use std::marker::Model;
-use text_pieces::{Pieces, copy_front};
+use text_pieces::{Pieces, copy_prefix};
 
 /// The lines of all turns, piece by piece. Seen as the bytes that are still to come.
 #[derive(Drop)]
@@ -60,10 +60,10 @@ impl Pieces for TurnLines<'_> {
             }
             let rows = self.rows.turn(self.turn);
             write_turn(&mut self.line, self.turn, count_runs(rows));
-            self.runs = Some(RunLines::new(RowWords::Both, rows));
+            self.runs = Some(RunLines::new(RowFormat::Both, rows));
             self.turn += 1;
         }
-        let count = copy_front(self.line.as_slice(), buf);
+        let count = copy_prefix(self.line.as_slice(), buf);
         self.line.advance(count);
         count
     }

@@ -8,23 +8,23 @@ front_length : (n : ℕ) (xs : List ℕ) → n ≤ length xs → length (take n 
 front_length n xs le = omega (arith, length-take n xs)
 
 -- the buffer with one more piece of the text
-pub more_pieces : (text buf new mid : List ℕ) (filled count room : ℕ) → filled ≤ length buf → filled + count ≤ length text → take filled buf ≡ take filled text → new ≡ take count (drop filled text) ++ drop count mid → count ≤ length (drop filled text) → take (filled + count) (put_mid filled room buf new) ≡ take (filled + count) text
-more_pieces text buf new mid filled count room le enough same copied within =
+pub more_pieces : (text buf new mid : List ℕ) (filled count capacity : ℕ) → filled ≤ length buf → filled + count ≤ length text → take filled buf ≡ take filled text → new ≡ take count (drop filled text) ++ drop count mid → count ≤ length (drop filled text) → take (filled + count) (put_mid filled capacity buf new) ≡ take (filled + count) text
+more_pieces text buf new mid filled count capacity le enough same copied within =
     let front = front_length filled buf le in
     let piece = front_length count (drop filled text) within in
-    ap (λ (n : ℕ). take (n + count) (put_mid filled room buf new)) (sym front)
-    ∙ take-append-add (take filled buf) (new ++ post_of filled room buf) count
-    ∙ ap (λ (x : List ℕ). take filled buf ++ take count (x ++ post_of filled room buf)) copied
-    ∙ ap (λ (x : List ℕ). take filled buf ++ take count x) (append_assoc (take count (drop filled text)) (drop count mid) (post_of filled room buf))
-    ∙ ap (λ (n : ℕ). take filled buf ++ take n (take count (drop filled text) ++ (drop count mid ++ post_of filled room buf))) (sym piece)
-    ∙ ap (λ (x : List ℕ). take filled buf ++ x) (take-append_seam (take count (drop filled text)) (drop count mid ++ post_of filled room buf))
+    ap (λ (n : ℕ). take (n + count) (put_mid filled capacity buf new)) (sym front)
+    ∙ take-append-add (take filled buf) (new ++ post_of filled capacity buf) count
+    ∙ ap (λ (x : List ℕ). take filled buf ++ take count (x ++ post_of filled capacity buf)) copied
+    ∙ ap (λ (x : List ℕ). take filled buf ++ take count x) (append_assoc (take count (drop filled text)) (drop count mid) (post_of filled capacity buf))
+    ∙ ap (λ (n : ℕ). take filled buf ++ take n (take count (drop filled text) ++ (drop count mid ++ post_of filled capacity buf))) (sym piece)
+    ∙ ap (λ (x : List ℕ). take filled buf ++ x) (take-append_seam (take count (drop filled text)) (drop count mid ++ post_of filled capacity buf))
     ∙ ap (λ (x : List ℕ). x ++ take count (drop filled text)) same
     ∙ sym (take-add filled count text)
 
-pub room_for : (buf new : List ℕ) (filled count room : ℕ) → filled ≤ length buf → count ≤ length new → filled + count ≤ length (put_mid filled room buf new)
-room_for buf new filled count room le within =
-    let whole = length-append (take filled buf) (new ++ post_of filled room buf) in
-    let rest = length-append new (post_of filled room buf) in
+pub capacity_for : (buf new : List ℕ) (filled count capacity : ℕ) → filled ≤ length buf → count ≤ length new → filled + count ≤ length (put_mid filled capacity buf new)
+capacity_for buf new filled count capacity le within =
+    let whole = length-append (take filled buf) (new ++ post_of filled capacity buf) in
+    let rest = length-append new (post_of filled capacity buf) in
     let front = front_length filled buf le in
     omega (arith, whole, rest, front)
 

@@ -1,7 +1,7 @@
 ghost use Rattle.std.specs.Prelude.{◌≡◌, ◌++◌, length, take, drop, min};
 
 /// Copies as many bytes as fit.
-pub fn copy_front(from: &[u8], to: &mut [u8]) -> usize
+pub fn copy_prefix(from: &[u8], to: &mut [u8]) -> usize
     ensures count { result ≡ min (length from.now) (length to.old) }
     ensures copied { to.new ≡ take result from.now ++ drop result to.old }
 {

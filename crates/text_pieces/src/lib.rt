@@ -7,5 +7,5 @@
 mod copying;
 mod pieces;
 
-pub use copying::copy_front;
+pub use copying::copy_prefix;
 pub use pieces::Pieces;

@@ -9,7 +9,7 @@ use Rattle.grid_quantiser.specs.Axes.{cells_of}
 use Rattle.grid_quantiser.specs.Boxes.{IsCellBox}
 use Rattle.abstraction_table.specs.declared.shapes.Shapes.{Shapes}
 use Rattle.abstraction_table.specs.inside.Fans.{HasFan, FanIsKnown}
-use Rattle.abstraction_table.specs.inside.Shapes.{HasRunsOf}
+use Rattle.abstraction_table.specs.inside.Shapes.{HasSegmentsOf}
 use Rattle.abstraction_table.specs.inside.Sources.{IsBox}
 
 pub IsCellBox-prop : (axes : List Axis) (first last : ℕ) → IsProp (IsCellBox axes first last)
@@ -27,11 +27,11 @@ pub FanIsKnown-prop : (axes : List Axis) (fans : List ℕ) (b : Option CellBox) 
 FanIsKnown-prop axes fans None = Unit-prop
 FanIsKnown-prop axes fans (Some b) = HasFan-prop axes fans b
 
-HasRunsOf-prop : (axes : List Axis) (s : Shapes) (b : CellBox) → IsProp (HasRunsOf axes s b)
-HasRunsOf-prop axes s b = Prim.hlevel props
+HasSegmentsOf-prop : (axes : List Axis) (s : Shapes) (b : CellBox) → IsProp (HasSegmentsOf axes s b)
+HasSegmentsOf-prop axes s b = Prim.hlevel props
 
-pub HasRuns-prop : (axes : List Axis) (s : Shapes) (b : Option CellBox) → IsProp (IfSome b (HasRunsOf axes s))
-HasRuns-prop axes s None = Unit-prop
-HasRuns-prop axes s (Some b) = HasRunsOf-prop axes s b
+pub HasSegments-prop : (axes : List Axis) (s : Shapes) (b : Option CellBox) → IsProp (IfSome b (HasSegmentsOf axes s))
+HasSegments-prop axes s None = Unit-prop
+HasSegments-prop axes s (Some b) = HasSegmentsOf-prop axes s b
 
-pub ruleset box_props = (props, IsCellBox-prop, IsBox-prop, FanIsKnown-prop, HasRuns-prop)
+pub ruleset box_props = (props, IsCellBox-prop, IsBox-prop, FanIsKnown-prop, HasSegments-prop)

@@ -1,64 +1,64 @@
--- The runs of the cells of boxes, listed by the shapes of the boxes.
+-- The segments of the cells of boxes, listed by the shapes of the boxes.
 use Rattle.std.specs.Prelude.{◌≡◌, ℕ, ◌+◌, ◌-◌, ◌<◌, ◌≤◌, List, ◌++◌, take, drop, length, slice_index, slice_index_or, Option, IfSome}
 use Rattle.std.specs.List.{All, flat_map, range_with_len}
 use Rattle.grid_quantiser.specs.declared.axis.Axis.{Axis}
 use Rattle.grid_quantiser.specs.declared.boxes.CellBox.{CellBox}
 use Rattle.grid_quantiser.specs.Boxes.{cells_between}
-use Rattle.abstraction_table.specs.declared.shapes.ShapeRun.{ShapeRun}
-use Rattle.abstraction_table.specs.declared.shapes.Span.{Span}
+use Rattle.abstraction_table.specs.declared.shapes.Segment.{Segment}
+use Rattle.abstraction_table.specs.declared.shapes.SegmentRange.{SegmentRange}
 use Rattle.abstraction_table.specs.declared.shapes.Shapes.{Shapes}
 
--- the cells of runs, counted from a first cell
-abbrev pub cells_from : ℕ → List ShapeRun → List ℕ
-cells_from first runs = flat_map (λ (r : ShapeRun). range_with_len (first + r.start) r.len) runs
+-- the cells of segments, counted from a first cell
+abbrev pub cells_from : ℕ → List Segment → List ℕ
+cells_from first segments = flat_map (λ (r : Segment). range_with_len (first + r.start) r.len) segments
 
--- the cells of a run, counted from a first cell, end by a bound
-abbrev pub EndsBy : ℕ → ℕ → ShapeRun → Type 0
+-- the cells of a segment, counted from a first cell, end by a bound
+abbrev pub EndsBy : ℕ → ℕ → Segment → Type 0
 EndsBy bound first r = first + r.start + r.len ≤ bound
 
--- where the runs of a shape stand
-abbrev pub span_at : Shapes → ℕ → Span
-span_at s extent = slice_index_or s.spans.items extent (record { from = 0; to = 0 })
+-- where the segments of a shape stand
+abbrev pub range_at : Shapes → ℕ → SegmentRange
+range_at s distance_along = slice_index_or s.spans.items distance_along (record { from = 0; to = 0 })
 
--- the runs of a shape
-abbrev pub runs_at : Shapes → ℕ → List ShapeRun
-runs_at s extent = take ((span_at s extent).to - (span_at s extent).from) (drop (span_at s extent).from s.runs.items)
+-- the segments of a shape
+abbrev pub segments_at : Shapes → ℕ → List Segment
+segments_at s distance_along = take ((range_at s distance_along).to - (range_at s distance_along).from) (drop (range_at s distance_along).from s.segments.items)
 
--- The runs of a shape stand among those of all.
-pub record IsListed (s : Shapes) (extent : ℕ) : Type 0 where
-  pub within : extent < length s.spans.items
-  pub forward : (span_at s extent).from ≤ (span_at s extent).to
-  pub inside : (span_at s extent).to ≤ length s.runs.items
+-- The segments of a shape stand among those of all.
+pub record IsListed (s : Shapes) (distance_along : ℕ) : Type 0 where
+  pub within : distance_along < length s.spans.items
+  pub ordered_ends : (range_at s distance_along).from ≤ (range_at s distance_along).to
+  pub inside : (range_at s distance_along).to ≤ length s.segments.items
 
--- The runs of a shape are those of the box of that shape whose first cell is the first of all.
-pub record HasRunsAt (axes : List Axis) (s : Shapes) (extent : ℕ) : Type 0 where
-  pub listed : IsListed s extent
-  pub some : All (λ (r : ShapeRun). 1 ≤ r.len) (runs_at s extent)
-  pub cells : cells_between axes 0 extent ≡ cells_from 0 (runs_at s extent)
+-- The segments of a shape are those of the box of that shape whose first cell is the first of all.
+pub record HasSegmentsAt (axes : List Axis) (s : Shapes) (distance_along : ℕ) : Type 0 where
+  pub listed : IsListed s distance_along
+  pub some : All (λ (r : Segment). 1 ≤ r.len) (segments_at s distance_along)
+  pub cells : cells_between axes 0 distance_along ≡ cells_from 0 (segments_at s distance_along)
 
--- The runs of the shape of a box are those of the box, counted from its first cell.
-pub record HasRunsOf (axes : List Axis) (s : Shapes) (b : CellBox) : Type 0 where
+-- The segments of the shape of a box are those of the box, counted from its first cell.
+pub record HasSegmentsOf (axes : List Axis) (s : Shapes) (b : CellBox) : Type 0 where
   pub ordered : b.first ≤ b.last
   pub listed : IsListed s (b.last - b.first)
-  pub some : All (λ (r : ShapeRun). 1 ≤ r.len) (runs_at s (b.last - b.first))
-  pub cells : cells_between axes b.first b.last ≡ cells_from b.first (runs_at s (b.last - b.first))
+  pub some : All (λ (r : Segment). 1 ≤ r.len) (segments_at s (b.last - b.first))
+  pub cells : cells_between axes b.first b.last ≡ cells_from b.first (segments_at s (b.last - b.first))
 
--- each box has its runs
-abbrev pub HaveRuns : List Axis → Shapes → List (Option CellBox) → Type 0
-HaveRuns axes s boxes = All (λ b. IfSome b (HasRunsOf axes s)) boxes
+-- each box has its segments
+abbrev pub HaveSegments : List Axis → Shapes → List (Option CellBox) → Type 0
+HaveSegments axes s boxes = All (λ b. IfSome b (HasSegmentsOf axes s)) boxes
 
--- each shape whose cells are counted has its runs
-abbrev pub HaveRunsAt : List Axis → Shapes → List ℕ → Type 0
-HaveRunsAt axes s fans = (distance : ℕ) → 1 ≤ slice_index fans distance → HasRunsAt axes s distance
+-- each shape whose cells are counted has its segments
+abbrev pub HaveSegmentsAt : List Axis → Shapes → List ℕ → Type 0
+HaveSegmentsAt axes s fans = (distance : ℕ) → 1 ≤ slice_index fans distance → HasSegmentsAt axes s distance
 
--- each shape that had its runs still has them
-abbrev pub KeepsRuns : List Axis → Shapes → Shapes → Type 0
-KeepsRuns axes before after = (extent : ℕ) → HasRunsAt axes before extent → HasRunsAt axes after extent
+-- each shape that had its segments still has them
+abbrev pub KeepsSegments : List Axis → Shapes → Shapes → Type 0
+KeepsSegments axes before after = (distance_along : ℕ) → HasSegmentsAt axes before distance_along → HasSegmentsAt axes after distance_along
 
--- The runs of cells were put behind those before.
-pub record ListsRuns (before after : List ShapeRun) (cells : List ℕ) : Type 0 where
-  pub more : List ShapeRun
-  pub behind : after ≡ before ++ more
-  pub some : All (λ (r : ShapeRun). 1 ≤ r.len) more
+-- The segments of cells were put after those before.
+pub record ListsSegments (before after : List Segment) (cells : List ℕ) : Type 0 where
+  pub more : List Segment
+  pub appended : after ≡ before ++ more
+  pub some : All (λ (r : Segment). 1 ≤ r.len) more
   pub parts : cells ≡ cells_from 0 more
   pub few : length more ≤ length cells

@@ -1,12 +1,12 @@
 -- Boxes as sums.
 use Rattle.std.specs.Prelude.{ℕ, ◌+◌, ◌*◌, Option, None, Some}
 use Rattle.grid_quantiser.specs.declared.boxes.CellBox.{CellBox}
-use Rattle.grid_quantiser.specs.declared.sides.Side.{Side}
+use Rattle.grid_quantiser.specs.declared.extents.Extent.{Extent}
 
--- what a side adds to a box, where one place along its axis makes so many cells
-abbrev pub part : ℕ → Option Side → Option CellBox
-part stride None = None
-part stride (Some s) = Some (record { first = s.first * stride; last = s.last * stride })
+-- what an extent adds to a box, where one slot along its axis makes so many cells
+abbrev pub term : ℕ → Option Extent → Option CellBox
+term stride None = None
+term stride (Some s) = Some (record { first = s.first * stride; last = s.last * stride })
 
 -- the sum of two boxes, end by end
 abbrev pub plus : Option CellBox → Option CellBox → Option CellBox

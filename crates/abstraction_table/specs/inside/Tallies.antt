@@ -25,12 +25,12 @@ abbrev pub CountsFit : List ℕ → List ℕ → Type 0
 CountsFit counts cells = (c : ℕ) → slice_index counts c + times c cells < 2 ^ 32
 
 -- There is room for a pair at each of the cells.
-abbrev pub HasRoomFor : Filling → List ℕ → Type 0
-HasRoomFor f cells = (c : ℕ) → c < length f.rows → length (row_at f.rows c) + times c cells ≤ slice_index f.lengths c
+abbrev pub HasCapacityFor : Filling → List ℕ → Type 0
+HasCapacityFor f cells = (c : ℕ) → c < length f.rows → length (row_at f.rows c) + times c cells ≤ slice_index f.lengths c
 
--- the places in a band, which has len cells from `from` on, of the cells that lie in it
-abbrev pub places_in : ℕ → ℕ → List ℕ → List ℕ
-places_in from len cells = map (λ c. c - from) (filter (λ c. leb from c && ltb c (from + len)) cells)
+-- the indices in a band, which has len cells from `from` on, of the cells that lie in it
+abbrev pub indices_in : ℕ → ℕ → List ℕ → List ℕ
+indices_in from len cells = map (λ c. c - from) (filter (λ c. leb from c && ltb c (from + len)) cells)
 
 -- how many edges boxes have
 abbrev pub edges_of : List Axis → List (Option CellBox) → ℕ

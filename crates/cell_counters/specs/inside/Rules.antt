@@ -14,15 +14,15 @@ use Rattle.cell_counters.specs.Tokens.{BoardModel, RootModel, HandModel, blank, 
 
 -- the numbers with which a board with this key began
 abbrev pub setup_of : Beginning → Setup
-setup_of b = record { starts = take b.counters b.words.value.items; least = drop b.counters b.words.value.items; places = b.places }
+setup_of b = record { starts = take b.counters b.words.value.items; least = drop b.counters b.words.value.items; slots = b.slots }
 
--- the word that counts the logs: it stands behind the counters and the least words
+-- the word that counts the logs: it stands after the counters and the least words
 abbrev pub tail_of : Setup → ℕ
 tail_of n = length n.starts + length n.least
 
--- the word of a place of the log
-abbrev pub place_of : Setup → ℕ → ℕ
-place_of n k = tail_of n + 1 + k
+-- the word of a slot of the log
+abbrev pub slot_of : Setup → ℕ → ℕ
+slot_of n k = tail_of n + 1 + k
 
 -- the accounts of all views
 abbrev pub accounts_of : List View → List Account
@@ -52,23 +52,23 @@ pub record IsCounted (logs : List Log) (now : ℕ) : Type 0 where
   pub count : now ≡ length logs % 2 ^ 64
   pub drawn : length logs < 2 ^ 64 → IsPermutation (range_with_len 0 (length logs)) (numbers logs)
 
--- the place of this log has its cell, unless it is still to be stored
+-- the slot of this log has its cell, unless it is still to be stored
 abbrev pub IsStored : Setup → List ℕ → Option ℕ → Log → Type 0
-IsStored n words awaits l = l.number < n.places → awaits ≢ Some l.number → slice_index words (place_of n l.number) ≡ l.cell
+IsStored n words awaits l = l.number < n.slots → awaits ≢ Some l.number → slice_index words (slot_of n l.number) ≡ l.cell
 
 -- the same of all that a view has logged
 abbrev pub HasStored : Setup → List ℕ → View → Type 0
 HasStored n words v = All (IsStored n words v.awaits) (all_logs v.accounts)
 
--- the tail counts the logs, and each place that was drawn has its cell, unless a view has still to store it
+-- the tail counts the logs, and each slot that was drawn has its cell, unless a view has still to store it
 pub record KeepsLog (n : Setup) (words : List ℕ) (views : List View) : Type 0 where
   pub counted : IsCounted (all_logs (accounts_of views)) (slice_index words (tail_of n))
-  pub cells : (k : ℕ) → k < n.places → slice_index words (place_of n k) < 2 ^ 32
+  pub cells : (k : ℕ) → k < n.slots → slice_index words (slot_of n k) < 2 ^ 32
   pub stored : log_count (accounts_of views) < 2 ^ 64 → All (HasStored n words) views
 
 -- the view of a hand that was taken in
 abbrev pub nobody : View
-nobody = record { began = record { starts = []; least = []; places = 0 }; made = 0; accounts = []; awaits = None }
+nobody = record { began = record { starts = []; least = []; slots = 0 }; made = 0; accounts = []; awaits = None }
 
 -- a view knows how the board began, unless it was taken in
 abbrev pub Knows : Setup → View → Type 0
@@ -76,7 +76,7 @@ Knows n v = (v ≡ nobody) ⊎ (v.began ≡ n)
 
 -- the rule: the accounts of all views are together lawful, there are as many as hands were made, and each view knows how the board began
 pub record Keeps (n : Setup) (state : State (Unit {0}) View) : Type 0 where
-  pub width : length state.words ≡ tail_of n + 1 + n.places
+  pub width : length state.words ≡ tail_of n + 1 + n.slots
   pub made : made_of state.views ≡ length (accounts_of state.views)
   pub known : All (Knows n) state.views
   pub cuts : ExplainsCounters n.starts state.words (accounts_of state.views)
@@ -112,13 +112,13 @@ account_of v = first_of v.accounts
 abbrev pub with_account : View → Account → View
 with_account v a = record v { accounts = a ∷ [] }
 
--- the place that is to be stored, where the log has it
+-- the slot that is to be stored, where the log has it
 abbrev pub awaited : ℕ → ℕ → Option ℕ
-awaited places number = cond (nat_lt number places) (Some number) None
+awaited slots number = cond (nat_lt number slots) (Some number) None
 
 -- the hand's view after a number was drawn for a cell
 abbrev pub drawn : View → ℕ → ℕ → View
-drawn v cell number = record v { accounts = with_log (account_of v) cell number ∷ []; awaits = awaited v.began.places number }
+drawn v cell number = record v { accounts = with_log (account_of v) cell number ∷ []; awaits = awaited v.began.slots number }
 
 -- the hand's view after the cell was stored
 abbrev pub settled : View → View
@@ -126,7 +126,7 @@ settled v = record v { awaits = None }
 
 -- the board that began so
 abbrev pub board_of : TableId → Setup → BoardModel
-board_of table n = record { table = table; starts = n.starts; least = n.least; places = n.places }
+board_of table n = record { table = table; starts = n.starts; least = n.least; slots = n.slots }
 
 -- a board as contracts see it
 abbrev pub board_model : TableId → Beginning → BoardModel
@@ -144,13 +144,13 @@ hand_model table v = record { board = board_of table v.began; account = account_
 abbrev pub Seated : Type 0
 Seated = Me (Unit {0}) View
 
--- the table has the counters first, then the least words, the tail and the places
-pub record IsSized (b : Beginning) (counters tail places words : ℕ) : Type 0 where
+-- the table has the counters first, then the least words, the tail and the slots
+pub record IsSized (b : Beginning) (counters tail slots words : ℕ) : Type 0 where
   pub split : counters ≡ b.counters
   pub within : counters ≤ tail
   pub both : tail ≡ length b.words.value.items
-  pub log : places ≡ b.places
-  pub all : words ≡ tail + 1 + places
+  pub log : slots ≡ b.slots
+  pub all : words ≡ tail + 1 + slots
 
 -- the first seat, which knows how many hands it made
 pub record IsRoot (id : ℕ) (me : Seated) (out : ℕ) : Type 0 where
@@ -198,8 +198,8 @@ pub record Explains (n : Setup) (accounts : List Account) (word found : ℕ) : T
   pub counter : word < length n.starts → IsLawfulCounter accounts word (slice_index n.starts word) found
   pub least : (w : ℕ) → w < length n.least → word ≡ length n.starts + w → IsLawfulLeast accounts w (slice_index n.least w) found
   pub tail : word ≡ tail_of n → found ≡ log_count accounts % 2 ^ 64
-  pub cell : tail_of n < word → word < place_of n n.places → found < 2 ^ 32
-  pub place : (k : ℕ) → k < filled accounts n.places → word ≡ place_of n k → log_count accounts < 2 ^ 64 → found ≡ cell_at k (all_logs accounts)
+  pub cell : tail_of n < word → word < slot_of n n.slots → found < 2 ^ 32
+  pub slot : (k : ℕ) → k < filled accounts n.slots → word ≡ slot_of n k → log_count accounts < 2 ^ 64 → found ≡ cell_at k (all_logs accounts)
 
 -- what a look by the root tells: no more were taken in than were made, and where none is out, its accounts explain the word
 pub record Looks (s : Step (Unit {0})) (me : Seated) (found : ℕ) (after : Seated) : Type 0 where

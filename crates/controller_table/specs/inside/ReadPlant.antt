@@ -1,11 +1,11 @@
--- Why no plant is read behind a table's first line. No public clause names this.
+-- Why no plant is read after a table's first line. No public clause names this.
 use Rattle.std.specs.Prelude.{◌≡◌, ℕ, suc, List}
-use Rattle.plant_text.specs.declared.fault.PlantFault.TheVariants as front
+use Rattle.plant_text.specs.declared.plant_fault.PlantFault.TheVariants as front
 use Rattle.plant_text.specs.CanonicalFronts.{IsFrontRefusedFor}
-use Rattle.controller_table.specs.declared.fault.TableFault.{TableFault}
-use Rattle.controller_table.specs.declared.fault.TableFault.TheVariants as faults
+use Rattle.controller_table.specs.declared.table_fault.TableFault.{TableFault}
+use Rattle.controller_table.specs.declared.table_fault.TableFault.TheVariants as faults
 
--- a line is one further than behind the first line
+-- a line is one further than after the first line
 abbrev pub IsPlantRefused : List ℕ → TableFault → Type 0
 IsPlantRefused bytes (faults.Malformed n) = (line : ℕ) × (n ≡ suc line) × IsFrontRefusedFor bytes (front.Malformed line)
 IsPlantRefused bytes (faults.Limit what) = IsFrontRefusedFor bytes (front.Limit what)

@@ -2,8 +2,8 @@
 use Rattle.std.specs.Prelude.{◌≡◌, length}
 use Rattle.edge_rows.specs.declared.block.Block.TheInside.{Inside}
 
--- the places and the deed are those of one block of len places
+-- the slots and the deed are those of one block of len slots
 pub record IsWhole (b : Inside) : Type 0 where
-  pub start : (b.places.at ≡ b.base.ptr) × (b.deed.at ≡ b.base.ptr)
-  pub count : (length b.places.slots ≡ b.len) × (b.deed.len ≡ b.len)
+  pub start : (b.slots.at ≡ b.base.ptr) × (b.deed.at ≡ b.base.ptr)
+  pub count : (length b.slots.contents ≡ b.len) × (b.deed.len ≡ b.len)
   pub owner : b.deed.alloc ≡ b.alloc

@@ -4,10 +4,10 @@ use Rattle.edge_rows.specs.Rows.{Filling}
 use Rattle.edge_rows.specs.inside.Layout.{laid, starts_from, ends_from, gaps, rows_between, IsWithin}
 use Rattle.edge_rows.specs.declared.fill.RowFill.TheInside.{Inside}
 
--- the fields are those of this filling: in each row exactly the places below its end are written
+-- the fields are those of this filling: in each row exactly the slots below its end are written
 pub record IsFilledAs (fields : Inside) (f : Filling) : Type 0 where
   pub within : IsWithin f.rows f.lengths
-  pub places : fields.block ≡ laid f.rows f.lengths
+  pub slots : fields.block ≡ laid f.rows f.lengths
   pub starts : fields.starts.items ≡ starts_from 0 f.lengths
   pub ends : fields.ends.items ≡ ends_from 0 f.rows f.lengths
 

@@ -1,10 +1,10 @@
--- How rows lie in one block: row after row, in each the values and then the places that are not written.
+-- How rows lie in one block: row after row, in each the values and then the slots that are not written.
 use Rattle.std.specs.Prelude.{◌≡◌, ℕ, ◌+◌, ◌-◌, ◌^◌, ◌≤◌, List, [], ◌∷◌, ◌++◌, map, length, take, drop, sum, replicate, Option, Some, None}
 use Rattle.std.specs.List.{AllZip}
 
--- the len places from the index from on are written
+-- the len slots from the index from on are written
 abbrev pub IsRun : {X : Type 0} → List (Option X) → ℕ → ℕ → Type 0
-IsRun {X = X} places from len = (from + len ≤ length places) × ((xs : List X) × (take len (drop from places) ≡ map Some xs))
+IsRun {X = X} slots from len = (from + len ≤ length slots) × ((xs : List X) × (take len (drop from slots) ≡ map Some xs))
 
 -- rows of these lengths, one after another
 abbrev pub laid : List (List ℕ) → List ℕ → List (Option ℕ)
@@ -17,7 +17,7 @@ abbrev pub starts_from : ℕ → List ℕ → List ℕ
 starts_from at [] = at ∷ []
 starts_from at (n ∷ lengths) = at ∷ starts_from (at + n) lengths
 
--- the first place of each row that is not written
+-- the first slot of each row that is not written
 abbrev pub ends_from : ℕ → List (List ℕ) → List ℕ → List ℕ
 ends_from at [] lengths = []
 ends_from at (xs ∷ rows) [] = []
@@ -32,16 +32,16 @@ gaps (start ∷ next ∷ starts) = (next - start) ∷ gaps (next ∷ starts)
 -- the values that are written there
 abbrev pub values : List (Option ℕ) → List ℕ
 values [] = []
-values (None ∷ places) = values places
-values (Some x ∷ places) = x ∷ values places
+values (None ∷ slots) = values slots
+values (Some x ∷ slots) = x ∷ values slots
 
 -- the rows that lie from these starts up to these ends
 abbrev pub rows_between : List (Option ℕ) → List ℕ → List ℕ → List (List ℕ)
-rows_between places [] ends = []
-rows_between places (start ∷ starts) [] = []
-rows_between places (start ∷ starts) (end ∷ ends) = values (take (end - start) (drop start places)) ∷ rows_between places starts ends
+rows_between slots [] ends = []
+rows_between slots (start ∷ starts) [] = []
+rows_between slots (start ∷ starts) (end ∷ ends) = values (take (end - start) (drop start slots)) ∷ rows_between slots starts ends
 
--- no row has more values than places, and their counts are few enough for `u32`
+-- no row has more values than slots, and their counts are few enough for `u32`
 pub record IsWithin (rows : List (List ℕ)) (lengths : List ℕ) : Type 0 where
   pub fits : AllZip (λ xs n. length xs ≤ n) rows lengths
   pub small : (length lengths ≤ 2 ^ 20) × (sum lengths ≤ 2 ^ 25)

@@ -3,10 +3,10 @@ use Rattle.std.specs.Prelude.{◌≡◌, ℕ, List, drop, length, map}
 use Rattle.edge_rows.specs.inside.Layout.{laid, starts_from, rows_between, IsWithin}
 use Rattle.edge_rows.specs.declared.rows.Rows.TheInside.{Inside}
 
--- the fields are those of these rows: every place of every row is written
+-- the fields are those of these rows: every slot of every row is written
 pub record IsStoredAs (fields : Inside) (rows : List (List ℕ)) : Type 0 where
   pub within : IsWithin rows (map length rows)
-  pub places : fields.block ≡ laid rows (map length rows)
+  pub slots : fields.block ≡ laid rows (map length rows)
   pub starts : fields.starts.items ≡ starts_from 0 (map length rows)
 
 -- what the fields hold

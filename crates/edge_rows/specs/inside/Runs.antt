@@ -1,12 +1,12 @@
--- Places that are written one after another.
+-- Slots that are written one after another.
 use Rattle.std.specs.Prelude.{◌≡◌, ℕ, ◌<◌, List, [], ◌∷◌, length, get_or, slice_set, Option, Some, None}
 
--- the slots once a value is written at each of these places
+-- the slots once a value is written at each of these slots
 abbrev pub written : List (Option ℕ) → List ℕ → ℕ → List (Option ℕ)
-written slots [] value = slots
-written slots (end ∷ ends) value = written (slice_set slots end (Some value)) ends value
+written contents [] value = contents
+written contents (end ∷ ends) value = written (slice_set contents end (Some value)) ends value
 
--- each of these places is empty, also when those before it are written
+-- each of these slots is empty, also when those before it are written
 abbrev pub AreFree : List (Option ℕ) → List ℕ → ℕ → Type 0
-AreFree slots [] value = Unit {0}
-AreFree slots (end ∷ ends) value = (end < length slots) × (get_or slots end None ≡ None) × AreFree (slice_set slots end (Some value)) ends value
+AreFree contents [] value = Unit {0}
+AreFree contents (end ∷ ends) value = (end < length contents) × (get_or contents end None ≡ None) × AreFree (slice_set contents end (Some value)) ends value

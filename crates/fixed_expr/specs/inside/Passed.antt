@@ -5,4 +5,4 @@ use Rattle.std.specs.Prelude.{ℕ, ◌<◌, ◌≤◌, ℤ, ◌≤ℤ◌, ◌<�
 pub record ArePassed (points : List (ℤ × ℤ)) (x : ℤ) (n : ℕ) : Type 0 where
   pub whole : n ≤ length points
   pub before : (k : ℕ) (d : ℤ × ℤ) → k < n → (slice_index_or points k d).0 ≤ℤ x
-  pub behind : (k : ℕ) (d : ℤ × ℤ) → n ≤ k → k < length points → x <ℤ (slice_index_or points k d).0
+  pub after : (k : ℕ) (d : ℤ × ℤ) → n ≤ k → k < length points → x <ℤ (slice_index_or points k d).0

@@ -10,9 +10,9 @@ SeatOf = Seat (Unit {0}) SeatView
 
 -- what the seat claimed and what the hand did grew by the same items
 pub record Gained (items : ℕ) (was now : SeatOf) (did does : List ℕ) : Type 0 where
-  pub part : List ℕ
-  pub within : All (λ n. n < items) part
+  pub claim_list : List ℕ
+  pub within : All (λ n. n < items) claim_list
   pub table : now.table_id ≡ was.table_id
   pub id : now.id ≡ was.id
-  pub claims : now.me ≡ (grown was.me.0 part, was.me.1)
-  pub done : does ≡ did ++ part
+  pub claims : now.me ≡ (grown was.me.0 claim_list, was.me.1)
+  pub done : does ≡ did ++ claim_list

@@ -1,7 +1,7 @@
 -- The rule of the table below a sweep, and what a step tells.
 use Rattle.std.specs.Prelude.{◌≡◌, ℕ, zero, suc, ◌+◌, ◌≤◌, ◌==◌, List, [], ◌∷◌, ◌++◌, length, slice_index, sum_by, count_by}
 use Rattle.atomic_table.specs.Table.{State, Step, Me}
-use Rattle.frontier_pool.specs.declared.rule.Part.{Part}
+use Rattle.frontier_pool.specs.declared.rule.ClaimList.{ClaimList}
 use Rattle.frontier_pool.specs.declared.rule.SeatView.{SeatView}
 
 -- how often a number stands in a list
@@ -9,16 +9,16 @@ abbrev pub times : ℕ → List ℕ → ℕ
 times n xs = count_by (λ x. x == n) xs
 
 -- how often an item stands in some parts
-abbrev pub times_in : ℕ → List Part → ℕ
-times_in n parts = sum_by (λ (p : Part). times n p.items) parts
+abbrev pub times_in : ℕ → List ClaimList → ℕ
+times_in n claim_lists = sum_by (λ (p : ClaimList). times n p.items) claim_lists
 
 -- how often a view has an item
 abbrev pub claims : ℕ → SeatView → ℕ
-claims n v = times_in n v.parts
+claims n v = times_in n v.claim_lists
 
 -- how many parts a view has
-abbrev pub part_count : SeatView → ℕ
-part_count v = length v.parts
+abbrev pub claim_count : SeatView → ℕ
+claim_count v = length v.claim_lists
 
 -- how many parts were made: the first view is the caller's
 abbrev pub made_of : List SeatView → ℕ
@@ -28,25 +28,25 @@ made_of (caller ∷ members) = caller.made
 -- the rule: there is a word for each item, all parts that were made are in the views, and each word is how often its item stands in them, at most once
 pub record Keeps (items : ℕ) (state : State (Unit {0}) SeatView) : Type 0 where
   pub width : length state.words ≡ items
-  pub made : made_of state.views ≡ sum_by part_count state.views
+  pub made : made_of state.views ≡ sum_by claim_count state.views
   pub counted : (n : ℕ) → slice_index state.words n ≡ sum_by (claims n) state.views
   pub once : (n : ℕ) → slice_index state.words n ≤ 1
 
 -- the part in which nothing is
-abbrev pub no_items : Part
+abbrev pub no_items : ClaimList
 no_items = record { items = [] }
 
 -- the caller's view of a new table
 abbrev pub first_view : SeatView
-first_view = record { made = 1; parts = no_items ∷ [] }
+first_view = record { made = 1; claim_lists = no_items ∷ [] }
 
 -- a new member's view
 abbrev pub fresh : SeatView
-fresh = record { made = 0; parts = no_items ∷ [] }
+fresh = record { made = 0; claim_lists = no_items ∷ [] }
 
 -- the view of a member that was collected
 abbrev pub nobody : SeatView
-nobody = record { made = 0; parts = [] }
+nobody = record { made = 0; claim_lists = [] }
 
 -- the caller's view with one more member
 abbrev pub one_more : SeatView → SeatView
@@ -54,16 +54,16 @@ one_more v = record v { made = v.made + 1 }
 
 -- the caller's view with a member's parts
 abbrev pub collected : SeatView → SeatView → SeatView
-collected v w = record v { parts = v.parts ++ w.parts }
+collected v w = record v { claim_lists = v.claim_lists ++ w.claim_lists }
 
 -- the parts, of which the first has these items besides
-abbrev pub longer : List Part → List ℕ → List Part
+abbrev pub longer : List ClaimList → List ℕ → List ClaimList
 longer [] more = []
-longer (p ∷ parts) more = record { items = p.items ++ more } ∷ parts
+longer (p ∷ claim_lists) more = record { items = p.items ++ more } ∷ claim_lists
 
 -- the view, whose own part has these items besides
 abbrev pub grown : SeatView → List ℕ → SeatView
-grown v more = record v { parts = longer v.parts more }
+grown v more = record v { claim_lists = longer v.claim_lists more }
 
 -- the view after a claim that found this number: the item is claimed where it found 0
 abbrev pub claimed : SeatView → ℕ → ℕ → SeatView
@@ -80,9 +80,9 @@ Claims s me found after = after ≡ (claimed me.0 s.word found, me.1)
 
 -- the caller has all parts that were made
 abbrev pub IsAlone : SeatView → Type 0
-IsAlone v = v.made ≡ length v.parts
+IsAlone v = v.made ≡ length v.claim_lists
 
 -- what a claim by the caller tells: where it has all parts, the item stands in them once
-pub record Settles (s : Step (Unit {0})) (me : Seated) (found : ℕ) (after : Seated) : Type 0 where
+pub record MakesFinalClaim (s : Step (Unit {0})) (me : Seated) (found : ℕ) (after : Seated) : Type 0 where
   pub claim : Claims s me found after
   pub once : IsAlone me.0 → claims s.word after.0 ≡ 1

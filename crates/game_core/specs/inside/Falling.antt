@@ -13,9 +13,9 @@ pub record Progress : Type 0 where
   pub left : List ℕ
   pub queue : List ℕ
 
--- There is a place for each cell.
-pub record HasPlaces (left order : List ℕ) (found : ℕ) : Type 0 where
-  pub one_place_each : length order ≡ length left
+-- There is a position for each cell.
+pub record HasPositions (left order : List ℕ) (found : ℕ) : Type 0 where
+  pub one_position_each : length order ≡ length left
   pub found_bound : found ≤ length order
 
 -- a pair whose cell is no obstacle and whose input is enabled

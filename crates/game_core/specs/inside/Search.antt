@@ -15,9 +15,9 @@ pub record Progress : Type 0 where
   pub rows : List (Option Row)
   pub queue : List ℕ
 
--- There is a place for each cell, and as many are used as there are rows.
-pub record HasRoom (rows : List (Option Row)) (order : List ℕ) (found : ℕ) : Type 0 where
-  pub one_place_each : length order ≡ length rows
+-- There is a position for each cell, and as many are used as there are rows.
+pub record HasCapacity (rows : List (Option Row)) (order : List ℕ) (found : ℕ) : Type 0 where
+  pub one_position_each : length order ≡ length rows
   pub counted : found ≡ count_by is_some rows
 
 -- nothing is taken, and no cell has a row
@@ -85,7 +85,7 @@ pub record IsConsistent (g : Game) (rows : List (Option Row)) : Type 0 where
 -- and no rank is above top.
 pub record IsQueue (head top : ℕ) (rows : List (Option Row)) (queue : List ℕ) : Type 0 where
   pub has_row : (s : ℕ) → Contains queue s → (row : Row) × (row_of rows s ≡ Some row)
-  pub has_place : (s : ℕ) (row : Row) → row_of rows s ≡ Some row → Contains queue s
+  pub has_position : (s : ℕ) (row : Row) → row_of rows s ≡ Some row → Contains queue s
   pub once : AllPairs (λ a b. a ≢ b) queue
   pub size : length queue ≡ count_by is_some rows
   pub rising : IsNonDecreasingBy (rank_at rows) queue

@@ -1,18 +1,18 @@
--- One of the numbers of a place, on one axis and on each.
+-- One of the numbers of an index, on one axis and on each.
 use Rattle.std.specs.Prelude.{ℕ, ◌/◌, ◌%◌, ℤ, pos, ◌+ℤ◌, ◌-ℤ◌, ◌*ℤ◌, List, [], ◌∷◌}
 use Rattle.grid_quantiser.specs.declared.axis.Axis.{Axis}
-use Rattle.grid_quantiser.specs.declared.axis.Spot.{Spot}
-use Rattle.grid_quantiser.specs.declared.axis.Spot.TheVariants.{Least, Centre, Greatest}
+use Rattle.grid_quantiser.specs.declared.axis.CellPoint.{CellPoint}
+use Rattle.grid_quantiser.specs.declared.axis.CellPoint.TheVariants.{Low, Centre, High}
 use Rattle.grid_quantiser.specs.Axes.{cells_of}
 use Rattle.grid_quantiser.specs.Cells.{radius_of}
 
--- the least number of a place, its centre, or its greatest number
-abbrev pub number_of : Spot → Axis → ℕ → ℤ
-number_of Least a place = a.lo +ℤ (a.width *ℤ pos place)
-number_of Centre a place = (a.lo +ℤ (a.width *ℤ pos place)) +ℤ radius_of a
-number_of Greatest a place = (a.lo +ℤ (a.width *ℤ pos place)) +ℤ (a.width -ℤ pos 1)
+-- the least number of an index, its centre, or its greatest number
+abbrev pub coordinate_of : CellPoint → Axis → ℕ → ℤ
+coordinate_of Low a index = a.lo +ℤ (a.width *ℤ pos index)
+coordinate_of Centre a index = (a.lo +ℤ (a.width *ℤ pos index)) +ℤ radius_of a
+coordinate_of High a index = (a.lo +ℤ (a.width *ℤ pos index)) +ℤ (a.width -ℤ pos 1)
 
 -- that number in each state of a cell
-abbrev pub numbers_of : Spot → List Axis → ℕ → List ℤ
-numbers_of spot [] c = []
-numbers_of spot (a ∷ axes) c = number_of spot a (c / cells_of axes) ∷ numbers_of spot axes (c % cells_of axes)
+abbrev pub numbers_of : CellPoint → List Axis → ℕ → List ℤ
+numbers_of cell_point [] c = []
+numbers_of cell_point (a ∷ axes) c = coordinate_of cell_point a (c / cells_of axes) ∷ numbers_of cell_point axes (c % cells_of axes)

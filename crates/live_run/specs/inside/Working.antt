@@ -1,11 +1,11 @@
 -- What was worked out from what was read. No public clause names this.
 use Rattle.std.specs.Prelude.{◌≡◌, ◌≢◌, ℕ, List, drop, Some, IfSome, IsTrue}
 use Rattle.run_devices.specs.Devices.{next_count, Reading, TakesAtMost}
-use Rattle.live_script.specs.declared.fault.ScriptFault.{ScriptFault}
+use Rattle.live_script.specs.declared.script_fault.ScriptFault.{ScriptFault}
 use Rattle.live_script.specs.LiveText.{IsLiveText}
 use Rattle.live_script.specs.Refusals.{IsScriptRefusedFor}
-use Rattle.live_run.specs.declared.outcome.LiveOutcome.{LiveOutcome}
-use Rattle.live_run.specs.declared.outcome.LiveOutcome.TheVariants.{Done, Usage, ReadFault, WriteFault, NoMemory}
+use Rattle.live_run.specs.declared.live_outcome.LiveOutcome.{LiveOutcome}
+use Rattle.live_run.specs.declared.live_outcome.LiveOutcome.TheVariants.{Done, Usage, ReadFault, WriteFault, NoMemory}
 use Rattle.live_run.specs.Causes.{of_script}
 use Rattle.live_run.specs.LiveRuns.{most_read}
 
@@ -17,7 +17,7 @@ pub record IsWorkedOut (text : List ℕ) (source : Reading) : Type 0 where
   pub no_fault : source.faults_after ≡ source.faults_before
 
 -- There is no text, for this reason.
-pub record IsTurnedDown (outcome : LiveOutcome) (source : Reading) : Type 0 where
+pub record IsRefusalFor (outcome : LiveOutcome) (source : Reading) : Type 0 where
   pub not_done : outcome ≢ Done
   pub not_usage : outcome ≢ Usage
   pub not_write_fault : outcome ≢ WriteFault

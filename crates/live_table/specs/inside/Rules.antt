@@ -1,15 +1,15 @@
--- The rules of the history and of the two sides, and what their steps tell. No public clause names this.
+-- The rules of the history and of the two copies, and what their steps tell. No public clause names this.
 use Rattle.std.specs.Prelude.{◌≡◌, ℕ, ℤ, ◌-◌, ◌<◌, ◌==◌, true, List, [], ◌∷◌, ◌++◌, length, Option, Some, None, MatchBool, Result, MatchResult}
 use mathlib.Core.Option.{some}
 use mathlib.Core.List.{IsPrefix}
 use lib.ListN.{get_elem?}
 use Rattle.logbook.specs.Pages.{Cell, Step, View, Book, Named}
 use Rattle.controller_table.specs.Tables.{TableModel}
-use Rattle.live_table.specs.declared.fault.LiveFault.{LiveFault}
+use Rattle.live_table.specs.declared.live_fault.LiveFault.{LiveFault}
 use Rattle.live_table.specs.declared.reader.Answered.{Answered}
 use Rattle.live_table.specs.Publishes.{Published, LastChooses}
 
--- The one word of a history counts the tables behind the first.
+-- The one word of a history counts the tables after the first.
 pub record IsKept (cells : List Cell) (log : List TableModel) : Type 0 where
   pub words : cells ≡ (length log - 1, true) ∷ []
   pub some_table : 0 < length log
@@ -28,7 +28,7 @@ Begins None now = Unit {0}
 Begins (Some known) None = ⊥
 Begins (Some known) (Some now) = (known.opening ≡ now.opening) × IsPrefix known.list now.list
 
--- the rule of the sides: at every moment the lists of all seats are prefixes of the list in force
+-- the rule of the copies: at every moment the lists of all seats are prefixes of the list in force
 abbrev pub AllBegin : Option Published → List (Option Published) → Type 0
 AllBegin now views = (seat : ℕ) (v : Option Published) → get_elem? views seat ≡ some v → Begins v now
 
@@ -39,11 +39,11 @@ pub record Covers (known : Option Published) (list : Published) : Type 0 where
   pub opening : list.opening ≡ all.opening
   pub begins : IsPrefix list.list all.list
 
--- The list is what lies on the side in force, and what the publisher's seat knows.
+-- The list is what lies on the copy in force, and what the publisher's seat knows.
 pub record IsInForce (now known : Option Published) (list : Published) : Type 0 where
   pub shown : now ≡ Some list
   pub is : known ≡ Some list
 
--- what a look at the side in force tells
+-- what a look at the copy in force tells
 abbrev pub Looked : Option Published → Option Published → List ℤ → Result (Answered × Published) LiveFault → Type 0
 Looked v w x found = MatchResult found (λ t. Begins v w × (w ≡ Some t.1) × (t.0.number ≡ length t.1.list) × LastChooses t.1.list x t.0.choice) (λ _. w ≡ v)

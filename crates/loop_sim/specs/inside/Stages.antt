@@ -5,11 +5,11 @@ use Rattle.grid_quantiser.specs.Cells.{point_of}
 use Rattle.plant_record.specs.Steps.{step_of}
 use Rattle.plant_record.specs.Description.{Description}
 use Rattle.controller_table.specs.Tables.{TableModel}
-use Rattle.loop_sim.specs.declared.line.SimLine.{SimLine}
+use Rattle.loop_sim.specs.declared.sim_line.SimLine.{SimLine}
 use Rattle.loop_sim.specs.declared.closed_loop.Sample.{Sample}
 use Rattle.loop_sim.specs.declared.closed_loop.Stage.{Stage}
 use Rattle.loop_sim.specs.declared.closed_loop.Stage.TheVariants.{Due, Ending, Over}
-use Rattle.loop_sim.specs.declared.line.SimLine.TheVariants.{Arrived, Stopped}
+use Rattle.loop_sim.specs.declared.sim_line.SimLine.TheVariants.{Arrived, Stopped}
 use Rattle.loop_sim.specs.Noise.{generator, noises_at}
 use Rattle.loop_sim.specs.Trace.{has_arrived, trace_lines}
 
@@ -19,15 +19,15 @@ lines_left t (Due s) = trace_lines t.plant t.rows s.seed s.left s.time s.x
 lines_left t (Ending line) = line ∷ []
 lines_left t Over = []
 
--- the lines behind the first line of a sample that has a row and does not end the trace
+-- the lines after the first line of a sample that has a row and does not end the trace
 abbrev pub lines_on : TableModel → ℕ → ℕ → ℕ → List ℤ → Row → List SimLine
 lines_on t seed zero time x row = Stopped time ∷ []
 lines_on t seed (suc left) time x row =
     trace_lines t.plant t.rows seed left (suc time) (point_of (step_of t.plant x row.input (noises_at t.plant seed time)))
 
--- the lines behind the first line of a sample that has a row
-abbrev pub lines_behind : TableModel → Sample → Row → List SimLine
-lines_behind t s row =
+-- the lines after the first line of a sample that has a row
+abbrev pub lines_after : TableModel → Sample → Row → List SimLine
+lines_after t s row =
     if has_arrived t.plant.goal row then Arrived s.time ∷ [] else lines_on t s.seed s.left s.time s.x row
 
 -- A sample before whose noises the generator is at this state.

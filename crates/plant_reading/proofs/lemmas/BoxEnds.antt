@@ -10,7 +10,7 @@ use Rattle.plant_record.specs.Boxes.{AreEnds}
 use Rattle.plant_record.specs.Spelling.{end_words}
 use Rattle.plant_reading.specs.inside.LineReaders.{StartsWithEnds, SpellsBox}
 
--- The first i ends of a box are read, and its other places are 0.
+-- The first i ends of a box are read, and its other positions are 0.
 pub record AreRead (i : ℕ) (low high : List ℤ) (words rest : List (List ℕ)) : Type 0 where
   pub lows : List ℤ
   pub highs : List ℤ
@@ -70,30 +70,30 @@ all_read n low high words rest r e =
       },
     )
 
--- ---- what a box has behind the ends that are read
+-- ---- what a box has after the ends that are read
 
-ends_behind : (i n : ℕ) (lows highs low high : List ℤ) (rest : List (List ℕ)) → length lows ≡ i → length highs ≡ i → end_words i lows highs ++ rest ≡ end_words n low high → length (take n low) ≡ n → AllZip AreEnds (take n low) (take n high) → i < n → (y : (ℤ × ℤ) × List (List ℕ)) × StartsWithEnds rest y
-ends_behind i zero lows highs low high rest e f text count ends lt = absurd (omega (arith, lt))
-ends_behind i (suc n) lows highs [] high rest e f text count ends lt = absurd (omega (arith, count))
-ends_behind i (suc n) lows highs (x ∷ low) [] rest e f text count ends lt = absurd ends
-ends_behind zero (suc n) lows highs (x ∷ low) (y ∷ high) rest e f text count ends lt = (((x, y), end_words n low high), (ends.0, text))
-ends_behind (suc i) (suc n) [] highs (x ∷ low) (y ∷ high) rest e f text count ends lt = absurd (omega (arith, e))
-ends_behind (suc i) (suc n) (l ∷ lows) [] (x ∷ low) (y ∷ high) rest e f text count ends lt = absurd (omega (arith, f))
-ends_behind (suc i) (suc n) (l ∷ lows) (h ∷ highs) (x ∷ low) (y ∷ high) rest e f text count ends lt =
-    ends_behind i n lows highs low high rest (omega (arith, e)) (omega (arith, f)) (cc text) (omega (arith, count)) ends.1 (omega (arith, lt))
+ends_after : (i n : ℕ) (lows highs low high : List ℤ) (rest : List (List ℕ)) → length lows ≡ i → length highs ≡ i → end_words i lows highs ++ rest ≡ end_words n low high → length (take n low) ≡ n → AllZip AreEnds (take n low) (take n high) → i < n → (y : (ℤ × ℤ) × List (List ℕ)) × StartsWithEnds rest y
+ends_after i zero lows highs low high rest e f text count ends lt = absurd (omega (arith, lt))
+ends_after i (suc n) lows highs [] high rest e f text count ends lt = absurd (omega (arith, count))
+ends_after i (suc n) lows highs (x ∷ low) [] rest e f text count ends lt = absurd ends
+ends_after zero (suc n) lows highs (x ∷ low) (y ∷ high) rest e f text count ends lt = (((x, y), end_words n low high), (ends.0, text))
+ends_after (suc i) (suc n) [] highs (x ∷ low) (y ∷ high) rest e f text count ends lt = absurd (omega (arith, e))
+ends_after (suc i) (suc n) (l ∷ lows) [] (x ∷ low) (y ∷ high) rest e f text count ends lt = absurd (omega (arith, f))
+ends_after (suc i) (suc n) (l ∷ lows) (h ∷ highs) (x ∷ low) (y ∷ high) rest e f text count ends lt =
+    ends_after i n lows highs low high rest (omega (arith, e)) (omega (arith, f)) (cc text) (omega (arith, count)) ends.1 (omega (arith, lt))
 
-nothing_behind : (n : ℕ) (lows highs low high : List ℤ) (rest : List (List ℕ)) → length lows ≡ n → length highs ≡ n → end_words n lows highs ++ rest ≡ end_words n low high → length (take n low) ≡ n → AllZip AreEnds (take n low) (take n high) → rest ≡ []
-nothing_behind zero lows highs low high rest e f text count ends = text
-nothing_behind (suc n) lows highs [] high rest e f text count ends = absurd (omega (arith, count))
-nothing_behind (suc n) lows highs (x ∷ low) [] rest e f text count ends = absurd ends
-nothing_behind (suc n) [] highs (x ∷ low) (y ∷ high) rest e f text count ends = absurd (omega (arith, e))
-nothing_behind (suc n) (l ∷ lows) [] (x ∷ low) (y ∷ high) rest e f text count ends = absurd (omega (arith, f))
-nothing_behind (suc n) (l ∷ lows) (h ∷ highs) (x ∷ low) (y ∷ high) rest e f text count ends =
-    nothing_behind n lows highs low high rest (omega (arith, e)) (omega (arith, f)) (cc text) (omega (arith, count)) ends.1
+nothing_after : (n : ℕ) (lows highs low high : List ℤ) (rest : List (List ℕ)) → length lows ≡ n → length highs ≡ n → end_words n lows highs ++ rest ≡ end_words n low high → length (take n low) ≡ n → AllZip AreEnds (take n low) (take n high) → rest ≡ []
+nothing_after zero lows highs low high rest e f text count ends = text
+nothing_after (suc n) lows highs [] high rest e f text count ends = absurd (omega (arith, count))
+nothing_after (suc n) lows highs (x ∷ low) [] rest e f text count ends = absurd ends
+nothing_after (suc n) [] highs (x ∷ low) (y ∷ high) rest e f text count ends = absurd (omega (arith, e))
+nothing_after (suc n) (l ∷ lows) [] (x ∷ low) (y ∷ high) rest e f text count ends = absurd (omega (arith, f))
+nothing_after (suc n) (l ∷ lows) (h ∷ highs) (x ∷ low) (y ∷ high) rest e f text count ends =
+    nothing_after n lows highs low high rest (omega (arith, e)) (omega (arith, f)) (cc text) (omega (arith, count)) ends.1
 
 pub next_ends : (i n : ℕ) (low high : List ℤ) (words rest : List (List ℕ)) → AreRead i low high words rest → i < n → (b : StateBox) → SpellsBox n words b → (y : (ℤ × ℤ) × List (List ℕ)) × StartsWithEnds rest y
-next_ends i n low high words rest r lt b h = ends_behind i n r.lows r.highs b.low b.high rest r.low_count r.high_count (sym r.text ∙ h.0) h.1.low_count h.1.ends lt
+next_ends i n low high words rest r lt b h = ends_after i n r.lows r.highs b.low b.high rest r.low_count r.high_count (sym r.text ∙ h.0) h.1.low_count h.1.ends lt
 
 pub no_more_ends : (i n : ℕ) (low high : List ℤ) (words rest : List (List ℕ)) → AreRead i low high words rest → i ≡ n → (b : StateBox) → SpellsBox n words b → rest ≡ []
 no_more_ends i n low high words rest r e b h =
-    nothing_behind n r.lows r.highs b.low b.high rest (r.low_count ∙ e) (r.high_count ∙ e) (ap (λ k. end_words k r.lows r.highs ++ rest) (sym e) ∙ sym r.text ∙ h.0) h.1.low_count h.1.ends
+    nothing_after n r.lows r.highs b.low b.high rest (r.low_count ∙ e) (r.high_count ∙ e) (ap (λ k. end_words k r.lows r.highs ++ rest) (sym e) ∙ sym r.text ∙ h.0) h.1.low_count h.1.ends

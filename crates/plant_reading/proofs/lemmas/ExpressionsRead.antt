@@ -4,16 +4,16 @@ use Rattle.std.specs.Prelude.{Result, Ok, Err, IfOk}
 use Rattle.std.specs.List.{All, AllPairs}
 use Rattle.std.proofs.lemmas.List.{append-nil}
 use Rattle.fixed_expr.specs.declared.expr.Expr.{Expr}
-use Rattle.plant_reading.specs.declared.fault.ReadFault.{ReadFault}
-use Rattle.fixed_expr.specs.Expression.{expression_of, Expression, Number, Variable, Negation, Sum, Difference, Product, Quotient, Minimum, Maximum, Absolute, Lookup}
+use Rattle.plant_reading.specs.declared.line_fault.LineFault.{LineFault}
+use Rattle.fixed_expr.specs.Expression.{expression_of, Expression, NumExpr, VarExpr, NegExpr, AddExpr, SubExpr, MulExpr, DivExpr, MinExpr, MaxExpr, AbsExpr, LutExpr}
 use Rattle.plant_reading.specs.declared.items.Item.{Item}
 use Rattle.plant_record.specs.Names.{IsName}
 use Rattle.plant_reading.specs.SyntaxTrees.{Syntax, AreTokensOf, meaning_of, yield_of}
 use Rattle.plant_record.specs.Equations.{nodes_of, depth_of}
-use Rattle.plant_reading.specs.inside.ExpressionItems.{AreNames, items_before, turned, spelling_of, AreItems, nodes_made, nodes_in, open_behind, most_open, open_after, next_item}
+use Rattle.plant_reading.specs.inside.ExpressionItems.{AreNames, items_before, turned, spelling_of, AreItems, nodes_made, nodes_in, open_brackets_after, most_open, open_after, next_item}
 use Rattle.plant_reading.specs.inside.TokenReaders.{◌>>=◌}
 use Rattle.plant_reading.specs.declared.expression.Counts.{Counts}
-use Rattle.plant_reading.specs.inside.ExpressionMachine.{Pending, Machine, stepped, steps, state_after, IsEnd, counts_behind, AreWithinLimits}
+use Rattle.plant_reading.specs.inside.ExpressionMachine.{Pending, Machine, stepped, steps, state_after, IsEnd, counts_after, AreWithinLimits}
 use Rattle.plant_reading.proofs.lemmas.TreesAreTaken.{whole}
 use Rattle.plant_reading.proofs.lemmas.TermsAreTrees.{sum_spans}
 use Rattle.plant_reading.proofs.lemmas.Literals.{then_some}
@@ -57,21 +57,21 @@ spelled_once names (x ∷ xs) (y ∷ ys) ok hx hy e =
     let first : x ≡ y = s.0 in
     cc
 
--- what is left of some items behind those that are taken
+-- what is left of some items after those that are taken
 pub record Left (names : List (List ℕ)) (all taken : List Item) (ts : List (List ℕ)) : Type 0 where
   pub items : List Item
   pub valid : AreItems (length names) items
   pub joined : all ≡ turned taken items
   pub spelling : spelled names items ≡ ts
 
--- each of the items that are taken was read before the tokens behind it
+-- each of the items that are taken was read before the tokens after it
 abbrev pub WereRead : List (List ℕ) → List Item → List (List ℕ) → Type 0
 WereRead names [] ts = Unit {0}
 WereRead names (x ∷ xs) ts = (next_item names (spelling_of names x ++ ts) ≡ Some (Some (x, ts))) × WereRead names xs (spelling_of names x ++ ts)
 
-left_behind : (names : List (List ℕ)) (all taken : List Item) (x : Item) (ts : List (List ℕ)) (ys : List Item) → AreNames names → next_item names (spelling_of names x ++ ts) ≡ Some (Some (x, ts)) → AreItems (length names) ys → all ≡ turned taken ys → spelled names ys ≡ spelling_of names x ++ ts → Left names all (x ∷ taken) ts
-left_behind names all taken x ts [] ok hx hy joined e = absurd (some_token names x ts hx (sym e))
-left_behind names all taken x ts (y ∷ ys) ok hx hy joined e =
+left_after : (names : List (List ℕ)) (all taken : List Item) (x : Item) (ts : List (List ℕ)) (ys : List Item) → AreNames names → next_item names (spelling_of names x ++ ts) ≡ Some (Some (x, ts)) → AreItems (length names) ys → all ≡ turned taken ys → spelled names ys ≡ spelling_of names x ++ ts → Left names all (x ∷ taken) ts
+left_after names all taken x ts [] ok hx hy joined e = absurd (some_token names x ts hx (sym e))
+left_after names all taken x ts (y ∷ ys) ok hx hy joined e =
     let s = same_read names y x (spelled names ys) ts (first_again names y ys ok hy) hx e in
     record { items = ys; valid = hy.1; joined = joined ∙ ap (λ (z : Item). turned taken (z ∷ ys)) s.0; spelling = s.1 }
 
@@ -79,7 +79,7 @@ left_of : (names : List (List ℕ)) (all taken : List Item) (ts : List (List ℕ
 left_of names all [] ts ok ha ht e = record { items = all; valid = ha; joined = refl; spelling = e }
 left_of names all (x ∷ taken) ts ok ha ht e =
     let l = left_of names all taken (spelling_of names x ++ ts) ok ha ht.1 e in
-    left_behind names all taken x ts l.items ok ht.0 l.valid l.joined l.spelling
+    left_after names all taken x ts l.items ok ht.0 l.valid l.joined l.spelling
 
 -- ---- the whole of a line
 
@@ -104,17 +104,17 @@ one_expression names tokens e f differ each h k =
 
 -- an expression has some depth
 pub some_depth : (e : Expression) → 1 ≤ depth_of e
-some_depth (Number k) = omega arith
-some_depth (Variable i) = omega arith
-some_depth (Negation a) = omega arith
-some_depth (Sum a b) = omega arith
-some_depth (Difference a b) = omega arith
-some_depth (Product a b) = omega arith
-some_depth (Quotient a k) = omega arith
-some_depth (Minimum a b) = omega arith
-some_depth (Maximum a b) = omega arith
-some_depth (Absolute a) = omega arith
-some_depth (Lookup a points) = omega arith
+some_depth (NumExpr k) = omega arith
+some_depth (VarExpr i) = omega arith
+some_depth (NegExpr a) = omega arith
+some_depth (AddExpr a b) = omega arith
+some_depth (SubExpr a b) = omega arith
+some_depth (MulExpr a b) = omega arith
+some_depth (DivExpr a k) = omega arith
+some_depth (MinExpr a b) = omega arith
+some_depth (MaxExpr a b) = omega arith
+some_depth (AbsExpr a) = omega arith
+some_depth (LutExpr a points) = omega arith
 
 -- ---- item by item
 
@@ -133,12 +133,12 @@ pub record Taken (names tokens rest : List (List ℕ)) (n : Machine) (c : Counts
 pub taken_within : (names tokens rest : List (List ℕ)) (n : Machine) (c : Counts) → Taken names tokens rest n c → AreWithinLimits c
 taken_within names tokens rest n c k = (k.few, omega (arith, k.open_now, open_bound k.items k.bounded))
 
-pub one_taken : (names tokens rest ts : List (List ℕ)) (n r : Machine) (c d : Counts) (x : Item) → Taken names tokens rest n c → next_item names rest ≡ Some (Some (x, ts)) → stepped x n.0 n.1 ≡ Some r → d ≡ counts_behind c x → AreWithinLimits d → Taken names tokens ts r d
+pub one_taken : (names tokens rest ts : List (List ℕ)) (n r : Machine) (c d : Counts) (x : Item) → Taken names tokens rest n c → next_item names rest ≡ Some (Some (x, ts)) → stepped x n.0 n.1 ≡ Some r → d ≡ counts_after c x → AreWithinLimits d → Taken names tokens ts r d
 one_taken names tokens rest ts n r c d x h read step counts within =
     let b = next_takes names rest x ts read in
     let more : d.nodes ≡ c.nodes + nodes_made x = ap (λ (k : Counts). k.nodes) counts in
-    let opened : d.brackets ≡ open_behind c.brackets x = ap (λ (k : Counts). k.brackets) counts in
-    let open_now : d.brackets ≡ open_after (x ∷ h.items) = opened ∙ ap (λ (k : ℕ). open_behind k x) h.open_now in
+    let opened : d.brackets ≡ open_brackets_after c.brackets x = ap (λ (k : Counts). k.brackets) counts in
+    let open_now : d.brackets ≡ open_after (x ∷ h.items) = opened ∙ ap (λ (k : ℕ). open_brackets_after k x) h.open_now in
     record {
       items = x ∷ h.items;
       valid = (b.valid, h.valid);
@@ -208,16 +208,16 @@ opened_at_least d [] = omega arith
 opened_at_least d (x ∷ xs) = omega arith
 
 -- where an item exceeds a limit, too
-pub no_room : (names tokens rest ts : List (List ℕ)) (n : Machine) (c : Counts) (x : Item) (e : Expression) → AreNames names → Taken names tokens rest n c → next_item names rest ≡ Some (Some (x, ts)) → (AreWithinLimits (counts_behind c x) → ⊥) → AreTokensOf names tokens e → ⊥
-no_room names tokens rest ts n c x e ok k read exceeded h =
+pub no_capacity : (names tokens rest ts : List (List ℕ)) (n : Machine) (c : Counts) (x : Item) (e : Expression) → AreNames names → Taken names tokens rest n c → next_item names rest ≡ Some (Some (x, ts)) → (AreWithinLimits (counts_after c x) → ⊥) → AreTokensOf names tokens e → ⊥
+no_capacity names tokens rest ts n c x e ok k read exceeded h =
     let l = next_left names rest ts (items_before h.syntax_tree []) k.items x ok (goes_on names tokens rest n c e ok k h) read in
     let t = h.syntax_tree in
     let all_nodes : nodes_of (meaning_of t) ≡ nodes_of e = ap nodes_of h.means in
     let taken_nodes : nodes_in (items_before t []) ≡ nodes_in (turned k.items (x ∷ l.0)) = ap nodes_in l.1 in
     let nodes : c.nodes + nodes_made x ≤ 256 = omega (arith, all_nodes, taken_nodes, nodes_are t [], turned_nodes k.items (x ∷ l.0), k.nodes, h.nodes) in
     let taken_open : most_open 0 (items_before t []) ≡ most_open 0 (turned k.items (x ∷ l.0)) = ap (most_open 0) l.1 in
-    let now : open_behind c.brackets x ≡ open_behind (open_after k.items) x = ap (λ (d : ℕ). open_behind d x) k.open_now in
-    let brackets : open_behind c.brackets x ≤ 64 = omega (arith, now, taken_open, open_are t 0 [], turned_open k.items (x ∷ l.0), opened_at_least (open_behind (open_after k.items) x) l.0, h.brackets) in
+    let now : open_brackets_after c.brackets x ≡ open_brackets_after (open_after k.items) x = ap (λ (d : ℕ). open_brackets_after d x) k.open_now in
+    let brackets : open_brackets_after c.brackets x ≤ 64 = omega (arith, now, taken_open, open_are t 0 [], turned_open k.items (x ∷ l.0), opened_at_least (open_brackets_after (open_after k.items) x) l.0, h.brackets) in
     exceeded (nodes, brackets)
 
 -- ---- the end
@@ -262,6 +262,6 @@ end_spelled names tokens rest (Some term, S) c e k read end =
     }
 
 -- what a reader's end gives
-pub result_spelled : (names tokens : List (List ℕ)) (n : Machine) (r : Result Expr ReadFault) → ((e : Expression) → IsEnd n e → AreTokensOf names tokens e) → IfOk r (λ e. IsEnd n (expression_of e)) → IfOk r (λ e. AreTokensOf names tokens (expression_of e))
+pub result_spelled : (names tokens : List (List ℕ)) (n : Machine) (r : Result Expr LineFault) → ((e : Expression) → IsEnd n e → AreTokensOf names tokens e) → IfOk r (λ e. IsEnd n (expression_of e)) → IfOk r (λ e. AreTokensOf names tokens (expression_of e))
 result_spelled names tokens n (Ok e) spelled end = spelled (expression_of e) end
 result_spelled names tokens n (Err f) spelled end = tt

@@ -1,4 +1,4 @@
--- The first token of a line, and the tokens of what is behind it.
+-- The first token of a line, and the tokens of what is after it.
 use Rattle.std.proofs.Common.{◌≡◌, ℕ, suc, ◌+◌, true, false, cond, eqb, List, [], ◌∷◌, ◌++◌, length, take, drop, refl, sym, ap, subst, ◌∙◌, arith, append_assoc, ◌⊎◌, ◌&&◌, ◌||◌, inl, inr}
 use Rattle.std.specs.List.{flat_map, prefix_len}
 use Rattle.std.proofs.lemmas.Bool.{cases_Bool, eqb-true, and_parts, or_cases, false_from_ne_true}
@@ -55,11 +55,11 @@ abbrev begun_words : List ℕ → List (List ℕ) → List (List ℕ)
 begun_words token [] = token ∷ []
 begun_words token (w ∷ words) = tokens_after token w ++ flat_map tokens_of words
 
--- the tokens of bytes behind a token that is begun
-abbrev behind_begun : List ℕ → List ℕ → List (List ℕ)
-behind_begun token bytes = cond (ends_word bytes) (token ∷ tokens_in bytes) (begun_words token (words_of bytes))
+-- the tokens of bytes after a token that is begun
+abbrev after_begun : List ℕ → List ℕ → List (List ℕ)
+after_begun token bytes = cond (ends_word bytes) (token ∷ tokens_in bytes) (begun_words token (words_of bytes))
 
-begun : (b : ℕ) (bytes : List ℕ) → is_blank b ≡ false → tokens_in (b ∷ bytes) ≡ behind_begun (b ∷ []) bytes
+begun : (b : ℕ) (bytes : List ℕ) → is_blank b ≡ false → tokens_in (b ∷ bytes) ≡ after_begun (b ∷ []) bytes
 begun b bytes e =
     elim (cases_Bool (ends_word bytes)) [
       | inl ends ↦ rw (e, ends) refl
@@ -78,23 +78,23 @@ joined_ends : (token : List ℕ) (c : ℕ) (words : List (List ℕ)) → goes_on
 joined_ends token c [] stops = rw stops refl
 joined_ends token c (w ∷ words) stops = rw stops refl
 
-behind_goes_on : (token : List ℕ) (c : ℕ) (bytes : List ℕ) → is_blank c ≡ false → goes_on token c ≡ true → behind_begun token (c ∷ bytes) ≡ behind_begun (token ++ c ∷ []) bytes
-behind_goes_on token c bytes e on =
+after_goes_on : (token : List ℕ) (c : ℕ) (bytes : List ℕ) → is_blank c ≡ false → goes_on token c ≡ true → after_begun token (c ∷ bytes) ≡ after_begun (token ++ c ∷ []) bytes
+after_goes_on token c bytes e on =
     elim (cases_Bool (ends_word bytes)) [
       | inl ends ↦ rw (e, ends, on) refl
       | inr goes ↦ rw (e, goes) (joined_goes_on token c (words_of bytes) on)
     ]
 
-behind_ends : (token : List ℕ) (c : ℕ) (bytes : List ℕ) → is_blank c ≡ false → goes_on token c ≡ false → behind_begun token (c ∷ bytes) ≡ token ∷ tokens_in (c ∷ bytes)
-behind_ends token c bytes e stops =
+after_ends : (token : List ℕ) (c : ℕ) (bytes : List ℕ) → is_blank c ≡ false → goes_on token c ≡ false → after_begun token (c ∷ bytes) ≡ token ∷ tokens_in (c ∷ bytes)
+after_ends token c bytes e stops =
     elim (cases_Bool (ends_word bytes)) [
       | inl ends ↦ rw (e, ends, stops) refl
       | inr goes ↦ rw (e, goes) (joined_ends token c (words_of bytes) stops)
     ]
 
-behind_is : (first : ℕ) (more bytes : List ℕ) → behind_begun (first ∷ more) bytes ≡ ((first ∷ more) ++ take (prefix_len (goes_on (first ∷ [])) bytes) bytes) ∷ tokens_in (drop (prefix_len (goes_on (first ∷ [])) bytes) bytes)
-behind_is first more [] = ap (λ (t : List ℕ). t ∷ []) (sym (append-nil (first ∷ more)))
-behind_is first more (c ∷ bytes) =
+after_is : (first : ℕ) (more bytes : List ℕ) → after_begun (first ∷ more) bytes ≡ ((first ∷ more) ++ take (prefix_len (goes_on (first ∷ [])) bytes) bytes) ∷ tokens_in (drop (prefix_len (goes_on (first ∷ [])) bytes) bytes)
+after_is first more [] = ap (λ (t : List ℕ). t ∷ []) (sym (append-nil (first ∷ more)))
+after_is first more (c ∷ bytes) =
     elim (cases_Bool (is_blank c)) [
       | inl blank ↦
           let stops = blank_ends first c blank in
@@ -102,24 +102,24 @@ behind_is first more (c ∷ bytes) =
           rw (blank, stops, whole, blank) refl
       | inr e ↦ elim (cases_Bool (goes_on (first ∷ []) c)) [
         | inl on ↦
-            behind_goes_on (first ∷ more) c bytes e on
-            ∙ behind_is first (more ++ c ∷ []) bytes
+            after_goes_on (first ∷ more) c bytes e on
+            ∙ after_is first (more ++ c ∷ []) bytes
             ∙ rw (on, one_more (prefix_len (goes_on (first ∷ [])) bytes), append_assoc) refl
-        | inr stops ↦ behind_ends (first ∷ more) c bytes e stops ∙ rw (stops, append-nil more) refl
+        | inr stops ↦ after_ends (first ∷ more) c bytes e stops ∙ rw (stops, append-nil more) refl
       ]
     ]
 
--- the first token, and the tokens behind it
+-- the first token, and the tokens after it
 pub first_token : (b : ℕ) (after : List ℕ) → is_blank b ≡ false → tokens_in (b ∷ after) ≡ (b ∷ take (prefix_len (goes_on (b ∷ [])) after) after) ∷ tokens_in (drop (prefix_len (goes_on (b ∷ [])) after) after)
-first_token b after e = begun b after e ∙ behind_is b [] after
+first_token b after e = begun b after e ∙ after_is b [] after
 
 -- the same as the reader finds it
-pub token_found : (bytes rest after token behind : List ℕ) (n m b : ℕ) → n ≡ prefix_len is_blank bytes → rest ≡ drop n bytes → rest ≡ b ∷ after → m ≡ prefix_len (goes_on (b ∷ [])) after → token ≡ take (1 + m) rest → behind ≡ drop (1 + m) rest
-    → tokens_in bytes ≡ token ∷ tokens_in behind
-token_found bytes rest after token behind n m b blanks at first more front back =
+pub token_found : (bytes rest after token rest_after : List ℕ) (n m b : ℕ) → n ≡ prefix_len is_blank bytes → rest ≡ drop n bytes → rest ≡ b ∷ after → m ≡ prefix_len (goes_on (b ∷ [])) after → token ≡ take (1 + m) rest → rest_after ≡ drop (1 + m) rest
+    → tokens_in bytes ≡ token ∷ tokens_in rest_after
+token_found bytes rest after token rest_after n m b blanks at first more front back =
     let here : drop (prefix_len is_blank bytes) bytes ≡ b ∷ after = ap (λ (k : ℕ). drop k bytes) (sym blanks) ∙ sym at ∙ first in
     let front_is : b ∷ take (prefix_len (goes_on (b ∷ [])) after) after ≡ token = sym (rw (front, first, more, one_more (prefix_len (goes_on (b ∷ [])) after)) refl) in
-    let back_is : drop (prefix_len (goes_on (b ∷ [])) after) after ≡ behind = sym (rw (back, first, more, one_more (prefix_len (goes_on (b ∷ [])) after)) refl) in
+    let back_is : drop (prefix_len (goes_on (b ∷ [])) after) after ≡ rest_after = sym (rw (back, first, more, one_more (prefix_len (goes_on (b ∷ [])) after)) refl) in
     sym (blanks_pass bytes) ∙ ap tokens_in here ∙ first_token b after (no_blank bytes after b here)
     ∙ ap (λ (t : List ℕ). t ∷ tokens_in (drop (prefix_len (goes_on (b ∷ [])) after) after)) front_is
     ∙ ap (λ (t : List ℕ). token ∷ tokens_in t) back_is

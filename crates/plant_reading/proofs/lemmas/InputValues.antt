@@ -7,17 +7,17 @@ use Rattle.std.proofs.lemmas.List.Elements.{All-head, All-tail}
 use Rattle.plant_record.specs.Numbers.{IsLiteral}
 use Rattle.plant_reading.specs.inside.LineReaders.{SpellsValues}
 
--- The numbers behind those that have been read.
-pub record AreBehind (ws : List (List ℕ)) : Type 0 where
+-- The numbers after those that have been read.
+pub record AreAfter (ws : List (List ℕ)) : Type 0 where
   pub more : List ℤ
   pub words : ws ≡ map signed_decimal more
   pub each : All IsLiteral more
 
-behind_values : (zs ys : List ℤ) (ws : List (List ℕ)) → map signed_decimal zs ++ ws ≡ map signed_decimal ys → All IsLiteral ys → AreBehind ws
-behind_values [] ys ws e each = record { more = ys; words = e; each = each }
-behind_values (z ∷ zs) [] ws e each = absurd cc
-behind_values (z ∷ zs) (y ∷ ys) ws e each =
-    let rest : AreBehind ws = behind_values zs ys ws (cc) (All-tail IsLiteral y ys each) in
+after_values : (zs ys : List ℤ) (ws : List (List ℕ)) → map signed_decimal zs ++ ws ≡ map signed_decimal ys → All IsLiteral ys → AreAfter ws
+after_values [] ys ws e each = record { more = ys; words = e; each = each }
+after_values (z ∷ zs) [] ws e each = absurd cc
+after_values (z ∷ zs) (y ∷ ys) ws e each =
+    let rest : AreAfter ws = after_values zs ys ws (cc) (All-tail IsLiteral y ys each) in
     record { more = rest.more; words = rest.words; each = rest.each }
 
 -- where a word is left, a number is left
@@ -27,5 +27,5 @@ next_of (z ∷ more) w others e each = (z, (All-head IsLiteral z more each, cc))
 
 pub next_value : (words ws others : List (List ℕ)) (w : List ℕ) (zs : List ℤ) → words ≡ map signed_decimal zs ++ ws → ws ≡ w ∷ others → (ys : List ℤ) → SpellsValues words ys → (z : ℤ) × (IsLiteral z × (w ≡ signed_decimal z))
 next_value words ws others w zs e f ys h =
-    let rest = behind_values zs ys ws (sym e ∙ h.0) h.3 in
+    let rest = after_values zs ys ws (sym e ∙ h.0) h.3 in
     next_of rest.more w others (sym f ∙ rest.words) rest.each

@@ -14,8 +14,8 @@ use Rattle.plant_reading.specs.declared.items.Bracket.TheVariants as bracket
 use Rattle.plant_reading.specs.declared.items.Item.{Item}
 use Rattle.plant_reading.specs.declared.items.Item.TheVariants as item
 use Rattle.plant_record.specs.Names.{is_letter, is_digit, is_name_byte, is_reserved, IsName}
-use Rattle.plant_reading.specs.inside.ExpressionItems.{AreNames, opening_of, spelling_of, IsItem, AreItems, function_of, symbol_of, place_in, leaf_of, item_of, divided, opened, comma_behind, plain_behind, item_behind, next_item}
-use Rattle.plant_reading.specs.inside.TokenReaders.{◌>>=◌, literal_of, negative_of, signed_of, behind_colon, point_of, curve_of}
+use Rattle.plant_reading.specs.inside.ExpressionItems.{AreNames, opening_of, spelling_of, IsItem, AreItems, function_of, symbol_of, position_in, leaf_of, item_of, divided, opened, comma_after, plain_after, item_after, next_item}
+use Rattle.plant_reading.specs.inside.TokenReaders.{◌>>=◌, literal_of, negative_of, signed_of, after_colon, point_of, curve_of}
 use Rattle.plant_reading.proofs.lemmas.NumberBytes.{no_name, letter_no_digit}
 use Rattle.plant_reading.proofs.lemmas.Literals.{same, is_same, differs, first_differs, if_some, or_else_some, map_some, then_some, literal_again, literal_takes, digit_first, nonzero_if, cond_cases, not_literal}
 use Rattle.plant_reading.proofs.lemmas.TablePoints.{pair_tokens, curve_again, curve_takes}
@@ -25,52 +25,52 @@ use Rattle.plant_reading.proofs.lemmas.Booleans.{neither_of}
 
 -- ---- names
 
-pub no_place : (names : List (List ℕ)) (w : List ℕ) → ((i : ℕ) → i < length names → get_or names i [] ≡ w → ⊥) → place_in names w ≡ None
-no_place [] w h = refl
-no_place (name ∷ names) w h =
+pub no_position : (names : List (List ℕ)) (w : List ℕ) → ((i : ℕ) → i < length names → get_or names i [] ≡ w → ⊥) → position_in names w ≡ None
+no_position [] w h = refl
+no_position (name ∷ names) w h =
     let unlike : bytes_eq name w ≡ false = differs name w (h 0 (omega arith)) in
-    let later : place_in names w ≡ None = no_place names w (λ i lt. h (suc i) (omega arith)) in
+    let later : position_in names w ≡ None = no_position names w (λ i lt. h (suc i) (omega arith)) in
     rw (unlike, later) refl
 
-first_place : (name : List ℕ) (names : List (List ℕ)) (w : List ℕ) (i : ℕ) → i ≡ 0 → name ≡ w → (i < length (name ∷ names)) × (get_or (name ∷ names) i [] ≡ w)
-first_place name names w i z e = rw z (omega arith, e)
+first_position : (name : List ℕ) (names : List (List ℕ)) (w : List ℕ) (i : ℕ) → i ≡ 0 → name ≡ w → (i < length (name ∷ names)) × (get_or (name ∷ names) i [] ≡ w)
+first_position name names w i z e = rw z (omega arith, e)
 
-later_place : (name : List ℕ) (names : List (List ℕ)) (w : List ℕ) (i j : ℕ) → i ≡ suc j → j < length names → get_or names j [] ≡ w → (i < length (name ∷ names)) × (get_or (name ∷ names) i [] ≡ w)
-later_place name names w i j s lt e = rw s (omega arith, e)
+later_position : (name : List ℕ) (names : List (List ℕ)) (w : List ℕ) (i j : ℕ) → i ≡ suc j → j < length names → get_or names j [] ≡ w → (i < length (name ∷ names)) × (get_or (name ∷ names) i [] ≡ w)
+later_position name names w i j s lt e = rw s (omega arith, e)
 
-pub place_takes : (names : List (List ℕ)) (w : List ℕ) (i : ℕ) → place_in names w ≡ Some i → (i < length names) × (get_or names i [] ≡ w)
-place_takes [] w i e = absurd cc
-place_takes (name ∷ names) w i e =
-    elim (if_some (bytes_eq name w) 0 (option_map suc (place_in names w)) i e) [
-      | inl p ↦ first_place name names w i (sym p.1) (same name w p.0)
+pub position_takes : (names : List (List ℕ)) (w : List ℕ) (i : ℕ) → position_in names w ≡ Some i → (i < length names) × (get_or names i [] ≡ w)
+position_takes [] w i e = absurd cc
+position_takes (name ∷ names) w i e =
+    elim (if_some (bytes_eq name w) 0 (option_map suc (position_in names w)) i e) [
+      | inl p ↦ first_position name names w i (sym p.1) (same name w p.0)
       | inr later ↦
-          let m = map_some suc (place_in names w) i later in
-          let t = place_takes names w m.0 m.1 in
-          later_place name names w i m.0 (sym m.2) t.0 t.1
+          let m = map_some suc (position_in names w) i later in
+          let t = position_takes names w m.0 m.1 in
+          later_position name names w i m.0 (sym m.2) t.0 t.1
     ]
 
 -- a list without its first name
 rest_differs : (name : List ℕ) (names : List (List ℕ)) → AllPairs (λ (a : List ℕ) (b : List ℕ). a ≢ b) (name ∷ names) → AllPairs (λ (a : List ℕ) (b : List ℕ). a ≢ b) names
 rest_differs name names h i j d lt within = h (suc i) (suc j) d (omega arith) (omega arith)
 
-pub place_again : (names : List (List ℕ)) (i : ℕ) → AllPairs (λ (a : List ℕ) (b : List ℕ). a ≢ b) names → i < length names → place_in names (get_or names i []) ≡ Some i
-place_again [] i h lt = absurd (omega arith)
-place_again (name ∷ names) zero h lt = let alike : bytes_eq name name ≡ true = is_same name name refl in rw alike refl
-place_again (name ∷ names) (suc i) h lt =
+pub position_again : (names : List (List ℕ)) (i : ℕ) → AllPairs (λ (a : List ℕ) (b : List ℕ). a ≢ b) names → i < length names → position_in names (get_or names i []) ≡ Some i
+position_again [] i h lt = absurd (omega arith)
+position_again (name ∷ names) zero h lt = let alike : bytes_eq name name ≡ true = is_same name name refl in rw alike refl
+position_again (name ∷ names) (suc i) h lt =
     let unlike : bytes_eq name (get_or names i []) ≡ false = differs name (get_or names i []) (h 0 (suc i) [] (omega arith) (omega arith)) in
-    let later : place_in names (get_or names i []) ≡ Some i = place_again names i (rest_differs name names h) (omega arith) in
+    let later : position_in names (get_or names i []) ≡ Some i = position_again names i (rest_differs name names h) (omega arith) in
     rw (unlike, later) refl
 
--- ---- leaves, by the place that is found
+-- ---- leaves, by the position that is found
 
 pub leaf_named : (names : List (List ℕ)) (w : List ℕ) (i : ℕ) → AreNames names → slice_get names i ≡ Some w → Some (item.Variable i) ≡ leaf_of names w
 leaf_named names w i ok e =
     let within : i < length names = slice_get_within names i w e in
-    let place : place_in names w ≡ Some i = ap (place_in names) (sym (get_or_from_slice_get names i w [] e)) ∙ place_again names i ok.differ within in
-    rw place refl
+    let position : position_in names w ≡ Some i = ap (position_in names) (sym (get_or_from_slice_get names i w [] e)) ∙ position_again names i ok.differ within in
+    rw position refl
 
-placed_nowhere : (names : List (List ℕ)) (w : List ℕ) → (Contains names w → ⊥) → place_in names w ≡ None
-placed_nowhere names w h = no_place names w (λ i lt e. h (i, lt, get_or_default names i w [] lt ∙ e))
+placed_nowhere : (names : List (List ℕ)) (w : List ℕ) → (Contains names w → ⊥) → position_in names w ≡ None
+placed_nowhere names w h = no_position names w (λ i lt e. h (i, lt, get_or_default names i w [] lt ∙ e))
 
 pub leaf_number : (names : List (List ℕ)) (w : List ℕ) (k : ℕ) → (Contains names w → ⊥) → Some k ≡ literal_of w → Some (item.Number k) ≡ leaf_of names w
 leaf_number names w k h e = rw (placed_nowhere names w h, ← e) refl
@@ -110,22 +110,22 @@ name_token w name =
       rw (first_differs is_letter w (codes "+") l refl, first_differs is_letter w (codes "-") l refl, first_differs is_letter w (codes "*") l refl, first_differs is_letter w (codes "(") l refl, first_differs is_letter w (codes ")") l refl) refl,
     )
 
-no_number_named : (names : List (List ℕ)) (k : ℕ) → All IsName names → k < 10 ^ 18 → place_in names (decimal k) ≡ None
-no_number_named names k each lt = no_place names (decimal k) (λ i within e. no_name k (get_or names i []) (omega arith) (each i [] within) (sym e))
+no_number_named : (names : List (List ℕ)) (k : ℕ) → All IsName names → k < 10 ^ 18 → position_in names (decimal k) ≡ None
+no_number_named names k each lt = no_position names (decimal k) (λ i within e. no_name k (get_or names i []) (omega arith) (each i [] within) (sym e))
 
 points_again : (names : List (List ℕ)) (p : ℤ × ℤ) (points : List (ℤ × ℤ)) (rest : List (List ℕ)) → IsCurve (p ∷ points) → next_item names (spelling_of names (item.Points (p ∷ points)) ++ rest) ≡ Some (Some (item.Points (p ∷ points), rest))
-unfolding next_item item_behind comma_behind
+unfolding next_item item_after comma_after
 points_again names p points rest curve =
     let k = curve_again p points rest curve in
     let all : spelling_of names (item.Points (p ∷ points)) ++ rest ≡ codes "," ∷ (pair_tokens p ++ (flat_map point_tokens points ++ codes ")" ∷ rest)) = simp append_assoc in
     let read : next_item names (codes "," ∷ (pair_tokens p ++ (flat_map point_tokens points ++ codes ")" ∷ rest))) ≡ Some (Some (item.Points (p ∷ points), rest)) = rw (k.0, k.1) refl in
     ap (next_item names) all ∙ read
 
--- ---- no point behind a comma that stands between sums
+-- ---- no point after a comma that stands between sums
 
 -- no item begins with a colon
-no_colon : (names : List (List ℕ)) (xs : List Item) → AreNames names → AreItems (length names) xs → behind_colon (spelled names xs) ≡ None
-unfolding behind_colon
+no_colon : (names : List (List ℕ)) (xs : List Item) → AreNames names → AreItems (length names) xs → after_colon (spelled names xs) ≡ None
+unfolding after_colon
 no_colon names [] ok h = refl
 no_colon names (item.Number k ∷ xs) ok h = rw (first_differs is_digit (decimal k) (codes ":") (digit_first k h.0) refl) refl
 no_colon names (item.Variable i ∷ xs) ok h =
@@ -145,14 +145,14 @@ no_colon names (item.Close ∷ xs) ok h = refl
 no_colon names (item.Points [] ∷ xs) ok h = refl
 no_colon names (item.Points (p ∷ points) ∷ xs) ok h = refl
 
--- what a number's token and the tokens behind it are read as
+-- what a number's token and the tokens after it are read as
 abbrev Read : Type 0
 Read = Option (ℤ × List (List ℕ))
 
--- what stands behind a number that is read at the front of items begins with no colon
-abbrev NoColonBehind : Read → Type 0
-NoColonBehind None = Unit {0}
-NoColonBehind (Some x) = behind_colon x.1 ≡ None
+-- what stands after a number that is read at the front of items begins with no colon
+abbrev NoColonAfter : Read → Type 0
+NoColonAfter None = Unit {0}
+NoColonAfter (Some x) = after_colon x.1 ≡ None
 
 no_number : (names : List (List ℕ)) (i : ℕ) → AreNames names → i < length names → literal_of (get_or names i []) ≡ None
 no_number names i ok lt = not_literal (get_or names i []) (no_digit (get_or (get_or names i []) 0 0) (and_parts (is_letter (get_or (get_or names i []) 0 0)) _ (ok.each i [] lt)).0)
@@ -160,58 +160,58 @@ no_number names i ok lt = not_literal (get_or names i []) (no_digit (get_or (get
     no_digit : (b : ℕ) → is_letter b ≡ true → is_digit b ≡ false
     no_digit b l = letter_no_digit b l
 
-negative_behind : (names : List (List ℕ)) (xs : List Item) → AreNames names → AreItems (length names) xs → NoColonBehind (negative_of (spelled names xs))
+negative_after : (names : List (List ℕ)) (xs : List Item) → AreNames names → AreItems (length names) xs → NoColonAfter (negative_of (spelled names xs))
 unfolding negative_of
-negative_behind names [] ok h = tt
-negative_behind names (item.Number k ∷ xs) ok h = rw (literal_again k h.0) (if_none (eqb k 0) (neg_ℤ (pos k), spelled names xs) (no_colon names xs ok h.1))
+negative_after names [] ok h = tt
+negative_after names (item.Number k ∷ xs) ok h = rw (literal_again k h.0) (if_none (eqb k 0) (neg_ℤ (pos k), spelled names xs) (no_colon names xs ok h.1))
   where
-    if_none : (b : Bool) (x : ℤ × List (List ℕ)) → behind_colon x.1 ≡ None → NoColonBehind (cond b None (Some x))
+    if_none : (b : Bool) (x : ℤ × List (List ℕ)) → after_colon x.1 ≡ None → NoColonAfter (cond b None (Some x))
     if_none true x e = tt
     if_none false x e = e
-negative_behind names (item.Variable i ∷ xs) ok h = rw (no_number names i ok h.0) tt
-negative_behind names (item.Plus ∷ xs) ok h = rw (not_literal (codes "+") refl) tt
-negative_behind names (item.Minus ∷ xs) ok h = rw (not_literal (codes "-") refl) tt
-negative_behind names (item.Times ∷ xs) ok h = rw (not_literal (codes "*") refl) tt
-negative_behind names (item.Over k ∷ xs) ok h = rw (not_literal (codes "/") refl) tt
-negative_behind names (item.Open bracket.Plain ∷ xs) ok h = rw (not_literal (codes "(") refl) tt
-negative_behind names (item.Open bracket.Least ∷ xs) ok h = rw (not_literal (codes "min") refl) tt
-negative_behind names (item.Open bracket.Greatest ∷ xs) ok h = rw (not_literal (codes "max") refl) tt
-negative_behind names (item.Open bracket.Size ∷ xs) ok h = rw (not_literal (codes "abs") refl) tt
-negative_behind names (item.Open bracket.Table ∷ xs) ok h = rw (not_literal (codes "lut") refl) tt
-negative_behind names (item.Comma ∷ xs) ok h = rw (not_literal (codes ",") refl) tt
-negative_behind names (item.Close ∷ xs) ok h = rw (not_literal (codes ")") refl) tt
-negative_behind names (item.Points [] ∷ xs) ok h = rw (not_literal (codes ")") refl) tt
-negative_behind names (item.Points (p ∷ points) ∷ xs) ok h = rw (not_literal (codes ",") refl) tt
+negative_after names (item.Variable i ∷ xs) ok h = rw (no_number names i ok h.0) tt
+negative_after names (item.Plus ∷ xs) ok h = rw (not_literal (codes "+") refl) tt
+negative_after names (item.Minus ∷ xs) ok h = rw (not_literal (codes "-") refl) tt
+negative_after names (item.Times ∷ xs) ok h = rw (not_literal (codes "*") refl) tt
+negative_after names (item.Over k ∷ xs) ok h = rw (not_literal (codes "/") refl) tt
+negative_after names (item.Open bracket.Plain ∷ xs) ok h = rw (not_literal (codes "(") refl) tt
+negative_after names (item.Open bracket.Least ∷ xs) ok h = rw (not_literal (codes "min") refl) tt
+negative_after names (item.Open bracket.Greatest ∷ xs) ok h = rw (not_literal (codes "max") refl) tt
+negative_after names (item.Open bracket.Size ∷ xs) ok h = rw (not_literal (codes "abs") refl) tt
+negative_after names (item.Open bracket.Table ∷ xs) ok h = rw (not_literal (codes "lut") refl) tt
+negative_after names (item.Comma ∷ xs) ok h = rw (not_literal (codes ",") refl) tt
+negative_after names (item.Close ∷ xs) ok h = rw (not_literal (codes ")") refl) tt
+negative_after names (item.Points [] ∷ xs) ok h = rw (not_literal (codes ")") refl) tt
+negative_after names (item.Points (p ∷ points) ∷ xs) ok h = rw (not_literal (codes ",") refl) tt
 
-signed_behind : (names : List (List ℕ)) (xs : List Item) → AreNames names → AreItems (length names) xs → NoColonBehind (signed_of (spelled names xs))
+signed_after : (names : List (List ℕ)) (xs : List Item) → AreNames names → AreItems (length names) xs → NoColonAfter (signed_of (spelled names xs))
 unfolding signed_of
-signed_behind names [] ok h = tt
-signed_behind names (item.Number k ∷ xs) ok h = rw (first_differs is_digit (decimal k) (codes "-") (digit_first k h.0) refl, literal_again k h.0) (no_colon names xs ok h.1)
-signed_behind names (item.Variable i ∷ xs) ok h =
+signed_after names [] ok h = tt
+signed_after names (item.Number k ∷ xs) ok h = rw (first_differs is_digit (decimal k) (codes "-") (digit_first k h.0) refl, literal_again k h.0) (no_colon names xs ok h.1)
+signed_after names (item.Variable i ∷ xs) ok h =
     let letter : is_letter (get_or (get_or names i []) 0 0) ≡ true = (and_parts (is_letter (get_or (get_or names i []) 0 0)) _ (ok.each i [] h.0)).0 in
     rw (first_differs is_letter (get_or names i []) (codes "-") letter refl, no_number names i ok h.0) tt
-signed_behind names (item.Plus ∷ xs) ok h = rw (not_literal (codes "+") refl) tt
-signed_behind names (item.Minus ∷ xs) ok h = negative_behind names xs ok h.1
-signed_behind names (item.Times ∷ xs) ok h = rw (not_literal (codes "*") refl) tt
-signed_behind names (item.Over k ∷ xs) ok h = rw (not_literal (codes "/") refl) tt
-signed_behind names (item.Open bracket.Plain ∷ xs) ok h = rw (not_literal (codes "(") refl) tt
-signed_behind names (item.Open bracket.Least ∷ xs) ok h = rw (not_literal (codes "min") refl) tt
-signed_behind names (item.Open bracket.Greatest ∷ xs) ok h = rw (not_literal (codes "max") refl) tt
-signed_behind names (item.Open bracket.Size ∷ xs) ok h = rw (not_literal (codes "abs") refl) tt
-signed_behind names (item.Open bracket.Table ∷ xs) ok h = rw (not_literal (codes "lut") refl) tt
-signed_behind names (item.Comma ∷ xs) ok h = rw (not_literal (codes ",") refl) tt
-signed_behind names (item.Close ∷ xs) ok h = rw (not_literal (codes ")") refl) tt
-signed_behind names (item.Points [] ∷ xs) ok h = rw (not_literal (codes ")") refl) tt
-signed_behind names (item.Points (p ∷ points) ∷ xs) ok h = rw (not_literal (codes ",") refl) tt
+signed_after names (item.Plus ∷ xs) ok h = rw (not_literal (codes "+") refl) tt
+signed_after names (item.Minus ∷ xs) ok h = negative_after names xs ok h.1
+signed_after names (item.Times ∷ xs) ok h = rw (not_literal (codes "*") refl) tt
+signed_after names (item.Over k ∷ xs) ok h = rw (not_literal (codes "/") refl) tt
+signed_after names (item.Open bracket.Plain ∷ xs) ok h = rw (not_literal (codes "(") refl) tt
+signed_after names (item.Open bracket.Least ∷ xs) ok h = rw (not_literal (codes "min") refl) tt
+signed_after names (item.Open bracket.Greatest ∷ xs) ok h = rw (not_literal (codes "max") refl) tt
+signed_after names (item.Open bracket.Size ∷ xs) ok h = rw (not_literal (codes "abs") refl) tt
+signed_after names (item.Open bracket.Table ∷ xs) ok h = rw (not_literal (codes "lut") refl) tt
+signed_after names (item.Comma ∷ xs) ok h = rw (not_literal (codes ",") refl) tt
+signed_after names (item.Close ∷ xs) ok h = rw (not_literal (codes ")") refl) tt
+signed_after names (item.Points [] ∷ xs) ok h = rw (not_literal (codes ")") refl) tt
+signed_after names (item.Points (p ∷ points) ∷ xs) ok h = rw (not_literal (codes ",") refl) tt
 
 -- no point stands at the front of items
 pub no_point : (names : List (List ℕ)) (xs : List Item) → AreNames names → AreItems (length names) xs → point_of (spelled names xs) ≡ None
 unfolding point_of
-no_point names xs ok h = none_behind (λ x rest. signed_of rest >>= λ y. Some ((x.0, y.0), y.1)) (signed_of (spelled names xs)) (signed_behind names xs ok h)
+no_point names xs ok h = none_after (λ x rest. signed_of rest >>= λ y. Some ((x.0, y.0), y.1)) (signed_of (spelled names xs)) (signed_after names xs ok h)
   where
-    none_behind : (f : ℤ × List (List ℕ) → List (List ℕ) → Option ((ℤ × ℤ) × List (List ℕ))) (r : Read) → NoColonBehind r → (r >>= λ x. behind_colon x.1 >>= f x) ≡ None
-    none_behind f None e = refl
-    none_behind f (Some x) e = rw e refl
+    none_after : (f : ℤ × List (List ℕ) → List (List ℕ) → Option ((ℤ × ℤ) × List (List ℕ))) (r : Read) → NoColonAfter r → (r >>= λ x. after_colon x.1 >>= f x) ≡ None
+    none_after f None e = refl
+    none_after f (Some x) e = rw e refl
 
 -- a comma stands before no point
 abbrev pub IsBefore : Item → List (List ℕ) → Type 0
@@ -219,13 +219,13 @@ IsBefore x rest = x ≡ item.Comma → point_of rest ≡ None
 
 -- what an item is spelled by is read as that item
 pub item_again : (names : List (List ℕ)) (x : Item) (rest : List (List ℕ)) → AreNames names → IsItem (length names) x → IsBefore x rest → next_item names (spelling_of names x ++ rest) ≡ Some (Some (x, rest))
-unfolding next_item item_behind plain_behind comma_behind item_of divided opened
+unfolding next_item item_after plain_after comma_after item_of divided opened
 item_again names (item.Number k) rest ok valid plain =
     let t = number_token (decimal k) (digit_first k valid) in
     rw (t.0, t.1, t.2, t.3, no_number_named names k ok.each valid, literal_again k valid) refl
 item_again names (item.Variable i) rest ok valid plain =
     let t = name_token (get_or names i []) (ok.each i [] valid) in
-    rw (t.0, t.1, t.2, t.3, place_again names i ok.differ valid) refl
+    rw (t.0, t.1, t.2, t.3, position_again names i ok.differ valid) refl
 item_again names item.Plus rest ok valid plain = refl
 item_again names item.Minus rest ok valid plain = refl
 item_again names item.Times rest ok valid plain = refl
@@ -279,9 +279,9 @@ unfolding item_of
 item_takes names w x rest h =
     elim (or_else_some (symbol_of w) _ _ x h) [
       | inr s ↦ symbol_takes names w x rest (s.1 ∙ s.2)
-      | inl h ↦ elim (or_else_some (place_in names w) _ _ x h) [
+      | inl h ↦ elim (or_else_some (position_in names w) _ _ x h) [
         | inr s ↦
-            let t = place_takes names w s.0 s.1 in
+            let t = position_takes names w s.0 s.1 in
             let e : item.Variable s.0 ≡ x = cc s.2 in
             begins names (w ∷ rest) (item.Variable s.0) x rest rest (ap (λ (u : List ℕ). u ∷ rest) (sym t.1)) t.0 e refl
         | inl h ↦
@@ -341,8 +341,8 @@ function_takes names w b rest h =
       ]
     ]
 
-plain_takes : (names : List (List ℕ)) (w : List ℕ) (ts : List (List ℕ)) (x : Item) (rest : List (List ℕ)) → plain_behind names w ts ≡ Some (x, rest) → Begins names (w ∷ ts) x rest
-unfolding plain_behind
+plain_takes : (names : List (List ℕ)) (w : List ℕ) (ts : List (List ℕ)) (x : Item) (rest : List (List ℕ)) → plain_after names w ts ≡ Some (x, rest) → Begins names (w ∷ ts) x rest
+unfolding plain_after
 plain_takes names w ts x rest h =
     elim (cond_cases (bytes_eq w (codes "/")) _ _ (Some (x, rest)) h) [
       | inl p ↦
@@ -359,8 +359,8 @@ plain_takes names w ts x rest h =
       ]
     ]
 
-comma_takes : (names : List (List ℕ)) (ts : List (List ℕ)) (x : Item) (rest : List (List ℕ)) → comma_behind ts ≡ Some (x, rest) → Begins names (codes "," ∷ ts) x rest
-unfolding comma_behind
+comma_takes : (names : List (List ℕ)) (ts : List (List ℕ)) (x : Item) (rest : List (List ℕ)) → comma_after ts ≡ Some (x, rest) → Begins names (codes "," ∷ ts) x rest
+unfolding comma_after
 comma_takes names ts x rest h =
     elim (or_else_some (point_of ts) _ _ (x, rest) h) [
       | inl e ↦
@@ -372,10 +372,10 @@ comma_takes names ts x rest h =
           begins names (codes "," ∷ ts) (item.Points m.0.0) x m.0.1 rest k.0 k.1 (ap (λ (r : Item × List (List ℕ)). r.0) m.2) (ap (λ (r : Item × List (List ℕ)). r.1) m.2)
     ]
 
-behind_takes : (names : List (List ℕ)) (w : List ℕ) (ts : List (List ℕ)) (x : Item) (rest : List (List ℕ)) → item_behind names w ts ≡ Some (x, rest) → Begins names (w ∷ ts) x rest
-unfolding item_behind
-behind_takes names w ts x rest h =
-    elim (cond_cases (bytes_eq w (codes ",")) (comma_behind ts) (plain_behind names w ts) (Some (x, rest)) h) [
+after_takes : (names : List (List ℕ)) (w : List ℕ) (ts : List (List ℕ)) (x : Item) (rest : List (List ℕ)) → item_after names w ts ≡ Some (x, rest) → Begins names (w ∷ ts) x rest
+unfolding item_after
+after_takes names w ts x rest h =
+    elim (cond_cases (bytes_eq w (codes ",")) (comma_after ts) (plain_after names w ts) (Some (x, rest)) h) [
       | inl p ↦ subst (λ (v : List ℕ). Begins names (v ∷ ts) x rest) (sym (same w (codes ",") p.0)) (comma_takes names ts x rest p.1)
       | inr p ↦ plain_takes names w ts x rest p.1
     ]
@@ -384,14 +384,14 @@ pub next_takes : (names : List (List ℕ)) (tokens : List (List ℕ)) (x : Item)
 unfolding next_item
 next_takes names [] x rest h = absurd cc
 next_takes names (w ∷ ts) x rest h =
-    let m = map_some (λ (y : Item × List (List ℕ)). Some y) (item_behind names w ts) (Some (x, rest)) h in
+    let m = map_some (λ (y : Item × List (List ℕ)). Some y) (item_after names w ts) (Some (x, rest)) h in
     let e : ◌≡◌ {A = Item × List (List ℕ)} m.0 (x, rest) = cc m.2 in
-    behind_takes names w ts x rest (m.1 ∙ ap (λ (y : Item × List (List ℕ)). Some y) e)
+    after_takes names w ts x rest (m.1 ∙ ap (λ (y : Item × List (List ℕ)). Some y) e)
 
 pub next_ends : (names : List (List ℕ)) (tokens : List (List ℕ)) → next_item names tokens ≡ Some None → tokens ≡ []
 unfolding next_item
 next_ends names [] h = refl
 next_ends names (w ∷ ts) h =
-    let m = map_some (λ (y : Item × List (List ℕ)). Some y) (item_behind names w ts) None h in
+    let m = map_some (λ (y : Item × List (List ℕ)). Some y) (item_after names w ts) None h in
     let e : Some m.0 ≡ None = m.2 in
     absurd cc

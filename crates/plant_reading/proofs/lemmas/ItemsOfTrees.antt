@@ -145,12 +145,12 @@ pub turned_nodes : (ys xs : List Item) → nodes_in (turned ys xs) ≡ nodes_in 
 turned_nodes [] xs = omega arith
 turned_nodes (y ∷ ys) xs = omega (arith, turned_nodes ys (y ∷ xs))
 
--- how many brackets are open behind the items is at most how many are open at some time
+-- how many brackets are open after the items is at most how many are open at some time
 pub turned_open : (ys xs : List Item) → most_open (open_after ys) xs ≤ most_open 0 (turned ys xs)
 turned_open [] xs = omega arith
 turned_open (y ∷ ys) xs = omega (arith, turned_open ys (y ∷ xs))
 
--- at most 64 brackets are open behind each of the items
+-- at most 64 brackets are open after each of the items
 abbrev pub StaysOpen : List Item → Type 0
 StaysOpen [] = Unit {0}
 StaysOpen (x ∷ xs) = (open_after (x ∷ xs) ≤ 64) × StaysOpen xs

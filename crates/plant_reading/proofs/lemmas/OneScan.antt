@@ -16,7 +16,7 @@ abbrev pub flushed : List ℕ → List (List ℕ) → List (List ℕ)
 flushed [] tokens = tokens
 flushed (b ∷ token) tokens = (b ∷ token) ∷ tokens
 
--- the tokens of a text behind a token that is begun, which is empty where none is
+-- the tokens of a text after a token that is begun, which is empty where none is
 abbrev pub scan : List ℕ → List ℕ → List (List ℕ)
 scan token [] = flushed token []
 scan token (b ∷ text) = cond (is_blank b) (flushed token (scan [] text)) (cond (goes_on token b) (scan (token ++ b ∷ []) text) (token ∷ scan (b ∷ []) text))

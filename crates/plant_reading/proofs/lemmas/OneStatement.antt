@@ -18,13 +18,13 @@ use Rattle.plant_record.specs.Names.{IsName}
 use Rattle.plant_record.specs.Numbers.{IsLiteral}
 use Rattle.plant_record.specs.Boxes.{AreEnds}
 use Rattle.plant_record.specs.Spelling.{version_word, end_words, goal_word}
-use Rattle.plant_reading.specs.Words.{words_of, is_passed_over}
+use Rattle.plant_reading.specs.Words.{words_of, is_skipped}
 use Rattle.plant_reading.specs.Tokens.{tokens_of}
 use Rattle.plant_reading.specs.SyntaxTrees.{AreTokensOf}
 use Rattle.plant_reading.specs.inside.LineReaders.{SpellsState, SpellsInput, SpellsNoise, SpellsBox}
 use Rattle.plant_reading.specs.Statements.{Statement, Version, State, Input, Noise, Next, Target, Obstacle, Goal, End, States}
 use Rattle.plant_reading.proofs.lemmas.NumberWords.{one_number}
-use Rattle.plant_reading.proofs.lemmas.KeywordsTell.{front_of, kind_of, front_is}
+use Rattle.plant_reading.proofs.lemmas.KeywordsDiffer.{front_of, kind_of, front_is}
 
 -- tokens spell one expression
 abbrev pub OneExpression : Type 0
@@ -139,9 +139,9 @@ one_statement names n words s t one differ named h k = absurd (omega (arith, sam
 
 -- ---- lines that are passed over
 
-first_of_passed : (line : List ℕ) (words : List (List ℕ)) → words_of line ≡ words → is_passed_over line ≡ true → (front_of words).0 < 36
-first_of_passed line [] e passed = omega arith
-first_of_passed line (w ∷ ws) e passed =
+first_of_skipped : (line : List ℕ) (words : List (List ℕ)) → words_of line ≡ words → is_skipped line ≡ true → (front_of words).0 < 36
+first_of_skipped line [] e passed = omega arith
+first_of_skipped line (w ∷ ws) e passed =
     let mark : get_or w 0 0 ≡ 35 = eqb-true (get_or w 0 0) 35 (rw e at passed) in
     omega (arith, mark)
 
@@ -156,7 +156,7 @@ first_of_kind (Obstacle b) = omega arith
 first_of_kind (Goal kind) = omega arith
 first_of_kind End = omega arith
 
-pub states_nothing : (names : List (List ℕ)) (n : ℕ) (line : List ℕ) (s : Statement) → is_passed_over line ≡ true → States names n (words_of line) s → ⊥
+pub states_nothing : (names : List (List ℕ)) (n : ℕ) (line : List ℕ) (s : Statement) → is_skipped line ≡ true → States names n (words_of line) s → ⊥
 states_nothing names n line s passed h =
     let same : (front_of (words_of line)).0 ≡ (kind_of s).0 = ap (λ (p : ℕ × ℕ). p.0) (front_is names n (words_of line) s h) in
-    omega (arith, first_of_passed line (words_of line) refl passed, first_of_kind s, same)
+    omega (arith, first_of_skipped line (words_of line) refl passed, first_of_kind s, same)

@@ -12,20 +12,20 @@ none_if : {A : Type 0} (b : Bool) (x : A) → cond b (Some x) None ≡ None → 
 none_if true x e = absurd cc
 none_if false x e = refl
 
-pub place_some : (p : ℕ → Bool) (xs : List ℕ) (n : ℕ) → Some n ≡ position p xs → (position_or_len p xs ≡ n) × (position_or_len p xs < length xs)
-place_some p xs n e =
+pub position_some : (p : ℕ → Bool) (xs : List ℕ) (n : ℕ) → Some n ≡ position p xs → (position_or_len p xs ≡ n) × (position_or_len p xs < length xs)
+position_some p xs n e =
     let f = some_if _ _ n (sym e) in
     (f.1, ltb-true _ _ f.0)
 
-pub place_none : (p : ℕ → Bool) (xs : List ℕ) → None ≡ position p xs → length xs ≤ position_or_len p xs
-place_none p xs e = ltb-false _ _ (none_if _ _ (sym e))
+pub position_none : (p : ℕ → Bool) (xs : List ℕ) → None ≡ position p xs → length xs ≤ position_or_len p xs
+position_none p xs e = ltb-false _ _ (none_if _ _ (sym e))
 
 or_len : (p : ℕ → Bool) (xs : List ℕ) (t : Bool) → ltb (position_or_len p xs) (length xs) ≡ t → unwrap_or (position p xs) (length xs) ≡ position_or_len p xs
 or_len p xs true e = rw e refl
 or_len p xs false e = rw e (omega (arith, ltb-false _ _ e, prefix_len-le-length (λ x. not (p x)) xs))
 
-pub place_or_len : (p : ℕ → Bool) (xs : List ℕ) → unwrap_or (position p xs) (length xs) ≡ position_or_len p xs
-place_or_len p xs = or_len p xs (ltb (position_or_len p xs) (length xs)) refl
+pub position_or_length : (p : ℕ → Bool) (xs : List ℕ) → unwrap_or (position p xs) (length xs) ≡ position_or_len p xs
+position_or_length p xs = or_len p xs (ltb (position_or_len p xs) (length xs)) refl
 
 -- the items before the first that fails a test
 before_failing : (p : ℕ → Bool) (xs : List ℕ) → position_or_len (λ x. not (p x)) xs ≡ prefix_len p xs
@@ -37,4 +37,4 @@ before_failing p (x ∷ xs) =
     ]
 
 pub failing_or_len : (p : ℕ → Bool) (xs : List ℕ) → unwrap_or (position (λ x. not (p x)) xs) (length xs) ≡ prefix_len p xs
-failing_or_len p xs = place_or_len (λ x. not (p x)) xs ∙ before_failing p xs
+failing_or_len p xs = position_or_length (λ x. not (p x)) xs ∙ before_failing p xs

@@ -1,10 +1,10 @@
 -- The words of a line state one thing at most, and a line that is passed over states nothing.
-use Rattle.plant_reading.specs.inside.StatementLaws.{OneStatement, PassedOverStatesNothing}
+use Rattle.plant_reading.specs.inside.StatementLaws.{OneStatement, SkippedLinesStateNothing}
 use Rattle.plant_reading.proofs.lemmas.OneStatement as lines
 use Rattle.plant_reading.proofs.lemmas.ExpressionsRead.{one_expression}
 
 pub one_statement : OneStatement
 one_statement names n words s t differ named h k = lines.one_statement names n words s t one_expression differ named h k
 
-pub passed_over : PassedOverStatesNothing
-passed_over = lines.states_nothing
+pub skipped : SkippedLinesStateNothing
+skipped = lines.states_nothing

@@ -12,7 +12,7 @@ use Rattle.std.proofs.lemmas.List.Elements.{All-head, All-tail, All-nil, All-con
 use Rattle.fixed_expr.specs.Curves.{IsCurve, IsShort, Rise, RiseFrom}
 use Rattle.plant_record.specs.Names.{is_digit}
 use Rattle.plant_reading.specs.SyntaxTrees.{signed_tokens, point_tokens}
-use Rattle.plant_reading.specs.inside.TokenReaders.{◌>>=◌, literal_of, negative_of, signed_of, behind_colon, point_of, points_behind, points_of, rises, curve_of}
+use Rattle.plant_reading.specs.inside.TokenReaders.{◌>>=◌, literal_of, negative_of, signed_of, after_colon, point_of, points_after, points_of, rises, curve_of}
 use Rattle.plant_reading.proofs.lemmas.Literals.{same, first_differs, if_some, map_some, then_some, literal_again, literal_takes, digit_first, nonzero_if, cond_cases}
 
 -- the tokens of a point without the comma before it
@@ -55,7 +55,7 @@ signed_again (negsuc n) rest lt =
     rw (literal_again (suc n) lt) (nonzero_if (suc n) None (Some (negsuc n, rest)) (omega arith))
 
 point_again : (p : ℤ × ℤ) (rest : List (List ℕ)) → IsShort p → point_of (pair_tokens p ++ rest) ≡ Some (p, rest)
-unfolding point_of behind_colon
+unfolding point_of after_colon
 point_again p rest short =
     let all : pair_tokens p ++ rest ≡ signed_tokens p.0 ++ (codes ":" ∷ (signed_tokens p.1 ++ rest)) = append_assoc (signed_tokens p.0) (codes ":" ∷ signed_tokens p.1) rest in
     rw (all, signed_again p.0 (codes ":" ∷ (signed_tokens p.1 ++ rest)) short.0, signed_again p.1 rest short.1) refl
@@ -67,9 +67,9 @@ all_again zero p points rest lt short each = absurd (omega (arith, lt))
 all_again (suc n) p [] rest lt short each = rw (point_again p (codes ")" ∷ rest) short) refl
 all_again (suc n) p (q ∷ points) rest lt short each =
     let more = flat_map point_tokens points ++ codes ")" ∷ rest in
-    let behind : flat_map point_tokens (q ∷ points) ++ codes ")" ∷ rest ≡ codes "," ∷ (pair_tokens q ++ more) = ap (λ (ts : List (List ℕ)). codes "," ∷ ts) (append_assoc (pair_tokens q) (flat_map point_tokens points) (codes ")" ∷ rest)) in
+    let after : flat_map point_tokens (q ∷ points) ++ codes ")" ∷ rest ≡ codes "," ∷ (pair_tokens q ++ more) = ap (λ (ts : List (List ℕ)). codes "," ∷ ts) (append_assoc (pair_tokens q) (flat_map point_tokens points) (codes ")" ∷ rest)) in
     let later : points_of n (pair_tokens q ++ more) ≡ Some (q ∷ points, rest) = all_again n q points rest (omega (arith, lt)) (All-head IsShort q points each) (All-tail IsShort q points each) in
-    rw (behind, point_again p (codes "," ∷ (pair_tokens q ++ more)) short, later) refl
+    rw (after, point_again p (codes "," ∷ (pair_tokens q ++ more)) short, later) refl
 
 lt_int_lt : (a b : ℤ) → a <ℤ b → int_lt a b ≡ true
 lt_int_lt a b lt = by (int_lt a b) refl
@@ -85,7 +85,7 @@ rising : (p : ℤ × ℤ) (points : List (ℤ × ℤ)) → RiseFrom p points →
 rising p [] h = refl
 rising p (q ∷ points) h = and_from (int_lt p.0 q.0) (rises (q ∷ points)) (lt_int_lt p.0 q.0 h.0) (rising q points h.1)
 
--- the tokens behind the first comma of a table are read as its points
+-- the tokens after the first comma of a table are read as its points
 pub curve_again : (p : ℤ × ℤ) (points : List (ℤ × ℤ)) (rest : List (List ℕ)) → IsCurve (p ∷ points)
     → (point_of (pair_tokens p ++ (flat_map point_tokens points ++ codes ")" ∷ rest)) ≡ Some (p, flat_map point_tokens points ++ codes ")" ∷ rest))
     × (curve_of (pair_tokens p ++ (flat_map point_tokens points ++ codes ")" ∷ rest)) ≡ Some (p ∷ points, rest))
@@ -135,8 +135,8 @@ signed_takes (t ∷ ts) z rest e =
               )
         ]
 
-colon_takes : (tokens rest : List (List ℕ)) → behind_colon tokens ≡ Some rest → tokens ≡ codes ":" ∷ rest
-unfolding behind_colon
+colon_takes : (tokens rest : List (List ℕ)) → after_colon tokens ≡ Some rest → tokens ≡ codes ":" ∷ rest
+unfolding after_colon
 colon_takes [] rest e = absurd cc
 colon_takes (t ∷ ts) rest e =
     elim (if_some (bytes_eq t (codes ":")) ts None rest e) [
@@ -147,8 +147,8 @@ colon_takes (t ∷ ts) rest e =
 point_takes : (tokens : List (List ℕ)) (p : ℤ × ℤ) (rest : List (List ℕ)) → point_of tokens ≡ Some (p, rest) → (tokens ≡ pair_tokens p ++ rest) × IsShort p
 unfolding point_of
 point_takes tokens p rest e =
-    let x = then_some (signed_of tokens) (λ x. behind_colon x.1 >>= λ rest. signed_of rest >>= λ y. Some ((x.0, y.0), y.1)) (p, rest) e in
-    let c = then_some (behind_colon x.0.1) (λ rest. signed_of rest >>= λ y. Some ((x.0.0, y.0), y.1)) (p, rest) x.2 in
+    let x = then_some (signed_of tokens) (λ x. after_colon x.1 >>= λ rest. signed_of rest >>= λ y. Some ((x.0, y.0), y.1)) (p, rest) e in
+    let c = then_some (after_colon x.0.1) (λ rest. signed_of rest >>= λ y. Some ((x.0.0, y.0), y.1)) (p, rest) x.2 in
     let y = then_some (signed_of c.0) (λ y. Some ((x.0.0, y.0), y.1)) (p, rest) c.2 in
     let first = signed_takes tokens x.0.0 x.0.1 x.1 in
     let colon = colon_takes x.0.1 c.0 c.1 in
@@ -160,7 +160,7 @@ point_takes tokens p rest e =
     in
     (tokens_are ∙ ap (λ (r : (ℤ × ℤ) × List (List ℕ)). pair_tokens r.0 ++ r.1) q, subst (λ (r : (ℤ × ℤ) × List (List ℕ)). IsShort r.0) q (first.1, second.1))
 
--- Points with their commas and the bracket behind them, one or more and n at most.
+-- Points with their commas and the bracket after them, one or more and n at most.
 record ArePoints (n : ℕ) (tokens : List (List ℕ)) (points : List (ℤ × ℤ)) (rest : List (List ℕ)) : Type 0 where
   spelling : codes "," ∷ tokens ≡ (flat_map point_tokens points ++ codes ")" ∷ []) ++ rest
   few : length points ≤ n
@@ -170,14 +170,14 @@ all_take : (n : ℕ) (tokens : List (List ℕ)) (points : List (ℤ × ℤ)) (re
 unfolding points_of
 all_take zero tokens points rest e = absurd cc
 all_take (suc n) tokens points rest e =
-    let x = then_some (point_of tokens) (λ x. points_behind (points_of n) x.0 x.1) (points, rest) e in
+    let x = then_some (point_of tokens) (λ x. points_after (points_of n) x.0 x.1) (points, rest) e in
     let p = point_takes tokens x.0.0 x.0.1 x.1 in
-    behind x.0.0 x.0.1 p.0 p.1 x.2 (all_take n)
+    after x.0.0 x.0.1 p.0 p.1 x.2 (all_take n)
   where
-    behind : (p : ℤ × ℤ) (ts : List (List ℕ)) → tokens ≡ pair_tokens p ++ ts → IsShort p → points_behind (points_of n) p ts ≡ Some (points, rest)
+    after : (p : ℤ × ℤ) (ts : List (List ℕ)) → tokens ≡ pair_tokens p ++ ts → IsShort p → points_after (points_of n) p ts ≡ Some (points, rest)
         → ((us : List (List ℕ)) (more : List (ℤ × ℤ)) (others : List (List ℕ)) → points_of n us ≡ Some (more, others) → ArePoints n us more others) → ArePoints (suc n) tokens points rest
-    behind p [] is short e later = absurd cc
-    behind p (t ∷ ts) is short e later =
+    after p [] is short e later = absurd cc
+    after p (t ∷ ts) is short e later =
         elim (if_some (bytes_eq t (codes ")")) (p ∷ [], ts) _ (points, rest) e) [
           | inl h ↦ (
               let one : ArePoints (suc n) tokens (p ∷ []) ts = record {
@@ -261,19 +261,19 @@ nothing_read all = same_again (points_of 32 all)
     same_again None = refl
     same_again (Some r) = refl
 
-next_is : (all left behind : List (List ℕ)) (points : List (ℤ × ℤ)) (p : ℤ × ℤ) → IsReadOn all points left → length points < 32 → Some (p, behind) ≡ point_of left
-    → points_of 32 all ≡ before points (points_behind (points_of (31 - length points)) p behind)
+next_is : (all left after : List (List ℕ)) (points : List (ℤ × ℤ)) (p : ℤ × ℤ) → IsReadOn all points left → length points < 32 → Some (p, after) ≡ point_of left
+    → points_of 32 all ≡ before points (points_after (points_of (31 - length points)) p after)
 unfolding points_of
-next_is all left behind points p read lt e =
+next_is all left after points p read lt e =
     let count : 32 - length points ≡ suc (31 - length points) = omega (arith, lt) in
     read ∙ ap (λ (n : ℕ). before points (points_of n left)) count
-    ∙ ap (λ (o : Option ((ℤ × ℤ) × List (List ℕ))). before points (o >>= λ x. points_behind (points_of (31 - length points)) x.0 x.1)) (sym e)
+    ∙ ap (λ (o : Option ((ℤ × ℤ) × List (List ℕ))). before points (o >>= λ x. points_after (points_of (31 - length points)) x.0 x.1)) (sym e)
 
-pub one_more : (all left behind rest : List (List ℕ)) (points : List (ℤ × ℤ)) (p : ℤ × ℤ) → IsReadOn all points left → length points < 32 → Some (p, behind) ≡ point_of left → behind ≡ codes "," ∷ rest → IsReadOn all (points ++ p ∷ []) rest
-one_more all left behind rest points p read lt e comma =
+pub one_more : (all left after rest : List (List ℕ)) (points : List (ℤ × ℤ)) (p : ℤ × ℤ) → IsReadOn all points left → length points < 32 → Some (p, after) ≡ point_of left → after ≡ codes "," ∷ rest → IsReadOn all (points ++ p ∷ []) rest
+one_more all left after rest points p read lt e comma =
     let count : 31 - length points ≡ 32 - length (points ++ p ∷ []) = omega (arith, lt, length-append points (p ∷ [])) in
-    next_is all left behind points p read lt e
-    ∙ ap (λ (ts : List (List ℕ)). before points (points_behind (points_of (31 - length points)) p ts)) comma
+    next_is all left after points p read lt e
+    ∙ ap (λ (ts : List (List ℕ)). before points (points_after (points_of (31 - length points)) p ts)) comma
     ∙ moved (points_of (31 - length points) rest)
     ∙ ap (λ (n : ℕ). before (points ++ p ∷ []) (points_of n rest)) count
   where
@@ -281,9 +281,9 @@ one_more all left behind rest points p read lt e comma =
     moved None = refl
     moved (Some r) = ap (λ (ps : List (ℤ × ℤ)). Some (ps, r.1)) (sym (append_assoc points (p ∷ []) r.0))
 
-pub all_read : (all left behind rest : List (List ℕ)) (points : List (ℤ × ℤ)) (p : ℤ × ℤ) → IsReadOn all points left → length points < 32 → Some (p, behind) ≡ point_of left → behind ≡ codes ")" ∷ rest → points_of 32 all ≡ Some (points ++ p ∷ [], rest)
-all_read all left behind rest points p read lt e close =
-    next_is all left behind points p read lt e ∙ ap (λ (ts : List (List ℕ)). before points (points_behind (points_of (31 - length points)) p ts)) close
+pub all_read : (all left after rest : List (List ℕ)) (points : List (ℤ × ℤ)) (p : ℤ × ℤ) → IsReadOn all points left → length points < 32 → Some (p, after) ≡ point_of left → after ≡ codes ")" ∷ rest → points_of 32 all ≡ Some (points ++ p ∷ [], rest)
+all_read all left after rest points p read lt e close =
+    next_is all left after points p read lt e ∙ ap (λ (ts : List (List ℕ)). before points (points_after (points_of (31 - length points)) p ts)) close
 
 -- ---- where no table stands
 
@@ -292,17 +292,17 @@ unfolding points_of
 no_point all left points read lt e =
     let count : 32 - length points ≡ suc (31 - length points) = omega (arith, lt) in
     read ∙ ap (λ (n : ℕ). before points (points_of n left)) count
-    ∙ ap (λ (o : Option ((ℤ × ℤ) × List (List ℕ))). before points (o >>= λ x. points_behind (points_of (31 - length points)) x.0 x.1)) (sym e)
+    ∙ ap (λ (o : Option ((ℤ × ℤ) × List (List ℕ))). before points (o >>= λ x. points_after (points_of (31 - length points)) x.0 x.1)) (sym e)
 
-pub no_end : (all left behind : List (List ℕ)) (points : List (ℤ × ℤ)) (p : ℤ × ℤ) → IsReadOn all points left → length points < 32 → Some (p, behind) ≡ point_of left → behind ≡ [] → points_of 32 all ≡ None
-no_end all left behind points p read lt e nil =
-    next_is all left behind points p read lt e ∙ ap (λ (ts : List (List ℕ)). before points (points_behind (points_of (31 - length points)) p ts)) nil
+pub no_end : (all left after : List (List ℕ)) (points : List (ℤ × ℤ)) (p : ℤ × ℤ) → IsReadOn all points left → length points < 32 → Some (p, after) ≡ point_of left → after ≡ [] → points_of 32 all ≡ None
+no_end all left after points p read lt e nil =
+    next_is all left after points p read lt e ∙ ap (λ (ts : List (List ℕ)). before points (points_after (points_of (31 - length points)) p ts)) nil
 
-pub other_token : (all left behind rest : List (List ℕ)) (t : List ℕ) (points : List (ℤ × ℤ)) (p : ℤ × ℤ) → IsReadOn all points left → length points < 32 → Some (p, behind) ≡ point_of left → behind ≡ t ∷ rest → bytes_eq t (codes ")") ≡ false → bytes_eq t (codes ",") ≡ false → points_of 32 all ≡ None
-other_token all left behind rest t points p read lt e token no_close no_comma =
-    let neither : points_behind (points_of (31 - length points)) p (t ∷ rest) ≡ None = rw (no_close, no_comma) refl in
-    next_is all left behind points p read lt e
-    ∙ ap (λ (ts : List (List ℕ)). before points (points_behind (points_of (31 - length points)) p ts)) token
+pub other_token : (all left after rest : List (List ℕ)) (t : List ℕ) (points : List (ℤ × ℤ)) (p : ℤ × ℤ) → IsReadOn all points left → length points < 32 → Some (p, after) ≡ point_of left → after ≡ t ∷ rest → bytes_eq t (codes ")") ≡ false → bytes_eq t (codes ",") ≡ false → points_of 32 all ≡ None
+other_token all left after rest t points p read lt e token no_close no_comma =
+    let neither : points_after (points_of (31 - length points)) p (t ∷ rest) ≡ None = rw (no_close, no_comma) refl in
+    next_is all left after points p read lt e
+    ∙ ap (λ (ts : List (List ℕ)). before points (points_after (points_of (31 - length points)) p ts)) token
     ∙ ap (before points) neither
 
 pub too_many : (all left : List (List ℕ)) (points : List (ℤ × ℤ)) → IsReadOn all points left → 32 ≤ length points → points_of 32 all ≡ None

@@ -2,7 +2,7 @@
 use Rattle.std.proofs.Common.{◌≡◌, ℕ, ◌≤◌, List, [], ◌∷◌, Option, Some, None, refl, ap, subst, ◌∙◌, arith}
 use Rattle.std.specs.Prelude.{ℤ, pos}
 use Rattle.std.specs.Option.{option_map}
-use Rattle.fixed_expr.specs.Expression.{Expression, Number, Variable, Negation, Quotient, Absolute, Lookup}
+use Rattle.fixed_expr.specs.Expression.{Expression, NumExpr, VarExpr, NegExpr, DivExpr, AbsExpr, LutExpr}
 use Rattle.plant_reading.specs.declared.items.Bracket.TheVariants as bracket
 use Rattle.plant_reading.specs.declared.items.Item.{Item}
 use Rattle.plant_reading.specs.declared.items.Item.TheVariants as item
@@ -10,9 +10,9 @@ use Rattle.plant_reading.specs.SyntaxTrees.{Syntax, Literal, Named, Minus, Plus,
 use Rattle.plant_reading.specs.inside.ExpressionItems.{items_onto, IsItem, AreItems}
 use Rattle.plant_reading.specs.inside.TokenReaders.{◌>>=◌}
 use Rattle.fixed_expr.specs.Curves.{IsCurve}
-use Rattle.plant_reading.specs.inside.ExpressionMachine.{Pending, Sign, AddTo, TakeFrom, Multiply, Opened, LeastOf, GreatestOf, Machine, factor_ended, term_ended, close_bracket, take_points, take_comma, complete, take_operand, take_behind_term, take_behind_sum, stepped, state_after}
+use Rattle.plant_reading.specs.inside.ExpressionMachine.{Pending, Sign, AddTo, TakeFrom, Multiply, Opened, LeastOf, GreatestOf, Machine, factor_ended, term_ended, close_bracket, take_points, take_comma, complete, take_operand, take_after_term, take_after_sum, stepped, state_after}
 
--- A tree of at least a level means an expression, and its items stand behind others, the last first.
+-- A tree of at least a level means an expression, and its items stand after others, the last first.
 pub record Spans (m n : ℕ) (e : Expression) (before items : List Item) : Type 0 where
   pub tree : Syntax
   pub grammatical : IsGrammatical m tree
@@ -36,7 +36,7 @@ abbrev pub Stands : ℕ → Machine → List Item → Type 0
 Stands m (None, S) items = Awaits m S items
 Stands m (Some c, S) items = (ys : List Item) × Awaits m S ys × Spans m 2 c ys items
 
--- the same behind a sum
+-- the same after a sum
 abbrev pub StandsAtSum : ℕ → Expression × List Pending → List Item → Type 0
 StandsAtSum m (c, S) items = (ys : List Item) × Awaits m S ys × Spans m 1 c ys items
 
@@ -46,11 +46,11 @@ lowered m c ys items s = record { tree = s.tree; grammatical = s.grammatical; le
 factor_stands : (m : ℕ) (c : Expression) (S : List Pending) (ys items : List Item) → Awaits m S ys → Spans m 3 c ys items → Stands m (complete (factor_ended c S)) items
 factor_stands m c [] ys items w s = (ys, w, record { tree = s.tree; grammatical = s.grammatical; level = omega arith; means = s.means; spans = s.spans })
 factor_stands m c (Sign ∷ S) ys items w s =
-    factor_stands m (Negation c) S w.0 items w.1 (record {
+    factor_stands m (NegExpr c) S w.0 items w.1 (record {
       tree = Minus s.tree;
       grammatical = (s.grammatical, s.level);
       level = omega arith;
-      means = ap Negation s.means;
+      means = ap NegExpr s.means;
       spans = s.spans ∙ ap (items_onto s.tree) w.2;
     })
 factor_stands m c (AddTo a ∷ S) ys items w s = (ys, w, record { tree = s.tree; grammatical = s.grammatical; level = omega arith; means = s.means; spans = s.spans })
@@ -133,7 +133,7 @@ bracket_stands m c (Opened bracket.Size ∷ S) items h =
         tree = Size s.tree;
         grammatical = s.grammatical;
         level = omega arith;
-        means = ap Absolute s.means;
+        means = ap AbsExpr s.means;
         spans = ap (λ (zs : List Item). item.Close ∷ zs) (s.spans ∙ ap (items_onto s.tree) w.2);
       },
     )
@@ -167,7 +167,7 @@ bracket_stands m c (GreatestOf a ∷ S) items h =
     )
 bracket_stands m c _ items h = tt
 
--- the points of a table stand behind a sum: what they make is a factor
+-- the points of a table stand after a sum: what they make is a factor
 points_stand : (m : ℕ) (points : List (ℤ × ℤ)) (c : Expression) (S : List Pending) (items : List Item) → IsCurve points → StandsAtSum m (c, S) items
     → IfStands (λ (x : Expression × List Pending). (ys : List Item) × Awaits m x.1 ys × Spans m 3 x.0 ys (item.Points points ∷ items)) (take_points points c S)
 unfolding take_points
@@ -180,13 +180,13 @@ points_stand m points c (Opened bracket.Table ∷ S) items curve h =
         tree = Tabled s.tree points;
         grammatical = (s.grammatical, curve);
         level = omega arith;
-        means = ap (λ (a : Expression). Lookup a points) s.means;
+        means = ap (λ (a : Expression). LutExpr a points) s.means;
         spans = ap (λ (zs : List Item). item.Points points ∷ zs) (s.spans ∙ ap (items_onto s.tree) w.2);
       },
     )
 points_stand m points c _ items curve h = tt
 
--- a comma stands behind the first of two sums
+-- a comma stands after the first of two sums
 comma_stands : (m : ℕ) (c : Expression) (S : List Pending) (items : List Item) → StandsAtSum m (c, S) items → IfStands (λ (R : List Pending). Awaits m R (item.Comma ∷ items)) (take_comma c S)
 comma_stands m c (Opened bracket.Least ∷ S) items h =
     let s = h.2 in
@@ -200,8 +200,8 @@ comma_stands m c _ items h = tt
 
 operand_stands : (m : ℕ) (x : Item) (S : List Pending) (items : List Item) → IsItem m x → Awaits m S items → IfStands (λ (n : Machine). Stands m n (x ∷ items)) (take_operand x S)
 unfolding take_operand
-operand_stands m (item.Number k) S items valid w = factor_stands m (Number (pos k)) S items (item.Number k ∷ items) w (record { tree = Literal k; grammatical = valid; level = omega arith; means = refl; spans = refl })
-operand_stands m (item.Variable i) S items valid w = factor_stands m (Variable i) S items (item.Variable i ∷ items) w (record { tree = Named i; grammatical = valid; level = omega arith; means = refl; spans = refl })
+operand_stands m (item.Number k) S items valid w = factor_stands m (NumExpr (pos k)) S items (item.Number k ∷ items) w (record { tree = Literal k; grammatical = valid; level = omega arith; means = refl; spans = refl })
+operand_stands m (item.Variable i) S items valid w = factor_stands m (VarExpr i) S items (item.Variable i ∷ items) w (record { tree = Named i; grammatical = valid; level = omega arith; means = refl; spans = refl })
 operand_stands m item.Minus S items valid w = (items, w, refl)
 operand_stands m (item.Open b) S items valid w = (items, w, refl)
 operand_stands m item.Plus S items valid w = tt
@@ -221,8 +221,8 @@ bracket_next : (m : ℕ) (y : Item) (items : List Item) (r : Option (Expression 
 bracket_next m y items None h = tt
 bracket_next m y items (Some x) h = factor_stands m x.0 x.1 h.0 (y ∷ items) h.1 h.2
 
-term_goes_on : (m : ℕ) (x : Item) (c : Expression) (S : List Pending) (items : List Item) → IsItem m x → Stands m (Some c, S) items → IfStands (λ (n : Machine). Stands m n (x ∷ items)) (take_behind_term x c S)
-unfolding take_behind_term take_behind_sum
+term_goes_on : (m : ℕ) (x : Item) (c : Expression) (S : List Pending) (items : List Item) → IsItem m x → Stands m (Some c, S) items → IfStands (λ (n : Machine). Stands m n (x ∷ items)) (take_after_term x c S)
+unfolding take_after_term take_after_sum
 term_goes_on m item.Plus c S items valid h = let t = term_stands m c S h.0 items h.1 h.2 in (t.0, items, t.1, t.2, refl)
 term_goes_on m item.Minus c S items valid h = let t = term_stands m c S h.0 items h.1 h.2 in (t.0, items, t.1, t.2, refl)
 term_goes_on m item.Times c S items valid h = (h.0, items, h.1, h.2, refl)
@@ -234,7 +234,7 @@ term_goes_on m (item.Over k) c S items valid h =
         tree = Over s.tree k;
         grammatical = (s.grammatical, s.level, valid.0, valid.1);
         level = omega arith;
-        means = ap (λ (a : Expression). Quotient a (pos k)) s.means;
+        means = ap (λ (a : Expression). DivExpr a (pos k)) s.means;
         spans = ap (λ (zs : List Item). item.Over k ∷ zs) s.spans;
       },
     )
@@ -263,7 +263,7 @@ state_stands : (m : ℕ) (items : List Item) → AreItems m items → IfStands (
 state_stands m [] valid = refl
 state_stands m (x ∷ items) valid = state_next m x items (state_after items) valid.0 (state_stands m items valid.1)
 
--- where nothing waits behind the last sum, the items are those of a tree
+-- where nothing waits after the last sum, the items are those of a tree
 pub sum_spans : (m : ℕ) (c e : Expression) (S : List Pending) (items : List Item) → AreItems m items → state_after items ≡ Some (Some c, S) → term_ended c S ≡ (e, []) → Spans m 1 e [] items
 sum_spans m c e S items valid state sum =
     let h : Stands m (Some c, S) items = subst (IfStands (λ (n : Machine). Stands m n items)) state (state_stands m items valid) in

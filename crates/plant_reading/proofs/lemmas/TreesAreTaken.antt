@@ -6,7 +6,7 @@ use Rattle.plant_reading.specs.declared.items.Item.{Item}
 use Rattle.plant_reading.specs.declared.items.Item.TheVariants as item
 use Rattle.plant_reading.specs.SyntaxTrees.{Syntax, Literal, Named, Minus, Plus, Less, Times, Over, Least, Greatest, Size, Tabled, Bracketed, level_of, IsGrammatical, meaning_of}
 use Rattle.plant_reading.specs.inside.ExpressionItems.{items_before}
-use Rattle.plant_reading.specs.inside.ExpressionMachine.{Pending, Sign, AddTo, TakeFrom, Multiply, Opened, LeastOf, GreatestOf, factor_ended, term_ended, take_points, complete, take_operand, take_behind_term, take_behind_sum, steps}
+use Rattle.plant_reading.specs.inside.ExpressionMachine.{Pending, Sign, AddTo, TakeFrom, Multiply, Opened, LeastOf, GreatestOf, factor_ended, term_ended, take_points, complete, take_operand, take_after_term, take_after_sum, steps}
 
 -- what waits last takes a term: it is no sign and no product
 abbrev TakesTerm : List Pending → Type 0
@@ -93,7 +93,7 @@ from_factor t h =
     record { factor = λ _. h; term = λ _. term; sum = sum_of_term t term }
 
 leads : (m : ℕ) (t : Syntax) → IsGrammatical m t → Leads t
-unfolding take_operand take_behind_term take_behind_sum take_points
+unfolding take_operand take_after_term take_after_sum take_points
 leads m (Literal k) g = from_factor (Literal k) (λ S xs. refl)
 leads m (Named i) g = from_factor (Named i) (λ S xs. refl)
 leads m (Minus a) g = from_factor (Minus a) (λ S xs. (leads m a g.0).factor g.1 (Sign ∷ S) xs)

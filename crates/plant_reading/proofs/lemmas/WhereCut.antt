@@ -6,7 +6,7 @@ use Rattle.std.proofs.lemmas.List.{take_all, drop_all, take_rest, take-append-dr
 use Rattle.std.proofs.lemmas.List.Sums.{passes_at_first, prefix_len_passes}
 use Rattle.plant_reading.specs.Lines.{lines_of, joined}
 use Rattle.plant_reading.specs.Words.{words_of, is_blank, ends_word}
-use Rattle.plant_reading.proofs.lemmas.Positions.{place_some, place_none}
+use Rattle.plant_reading.proofs.lemmas.Positions.{position_some, position_none}
 use Rattle.std.proofs.lemmas.Bool.{ne_eqb}
 
 -- a byte above the space is no blank
@@ -51,25 +51,25 @@ line_at_end [] = λ some le. absurd (omega arith)
 line_at_end (b ∷ []) = last_byte b (eqb b 10) refl
 line_at_end (b ∷ c ∷ bytes) = one_byte_at_end b c bytes (eqb b 10) refl (line_at_end (c ∷ bytes))
 
--- the line before the first line feed, and the bytes behind that
+-- the line before the first line feed, and the bytes after that
 pub first_line : (bytes : List ℕ) (n : ℕ) → Some n ≡ position is_feed bytes → lines_of bytes ≡ take n bytes ∷ lines_of (take (length bytes - (n + 1)) (drop (n + 1) bytes))
 first_line bytes n e =
-    let at = place_some is_feed bytes n e in
+    let at = position_some is_feed bytes n e in
     rw (take_rest bytes (n + 1), ← at.0) (line_before bytes at.1)
 
--- the bytes of that line, its line feed and those behind
+-- the bytes of that line, its line feed and those after
 pub first_cut : (bytes : List ℕ) (n : ℕ) → Some n ≡ position is_feed bytes → bytes ≡ (take n bytes ++ 10 ∷ []) ++ take (length bytes - (n + 1)) (drop (n + 1) bytes)
 first_cut bytes n e =
-    let at = place_some is_feed bytes n e in
+    let at = position_some is_feed bytes n e in
     let feed : is_feed (get_or bytes n 0) ≡ true = rw at.0 at (passes_at_first is_feed bytes 0 at.1) in
     let lt : n < length bytes = omega (arith, at.0, at.1) in
     let here : drop n bytes ≡ 10 ∷ drop (n + 1) bytes = drop-cons bytes n 0 lt ∙ ap (λ b. b ∷ drop (suc n) bytes) (eqb-true (get_or bytes n 0) 10 feed) ∙ ap (λ k. 10 ∷ drop k bytes) (sym (add-one n)) in
     rw (take_rest bytes (n + 1), append_assoc (take n bytes) (10 ∷ []) (drop (n + 1) bytes), ← here) (sym (take-append-drop n bytes))
 
--- a line feed has a place
-pub feed_has_place : (line after : List ℕ) → None ≡ position is_feed (line ++ 10 ∷ after) → ⊥
-feed_has_place line after e =
-    let le : length (line ++ 10 ∷ after) ≤ position_or_len is_feed (line ++ 10 ∷ after) = place_none is_feed (line ++ 10 ∷ after) e in
+-- a line feed has a position
+pub feed_has_position : (line after : List ℕ) → None ≡ position is_feed (line ++ 10 ∷ after) → ⊥
+feed_has_position line after e =
+    let le : length (line ++ 10 ∷ after) ≤ position_or_len is_feed (line ++ 10 ∷ after) = position_none is_feed (line ++ 10 ∷ after) e in
     let passes : not (is_feed (get_or (line ++ 10 ∷ after) (length line) 0)) ≡ true =
     prefix_len_passes (λ b. not (is_feed b)) (line ++ 10 ∷ after) (length line) 0 (omega (arith, le, length-append line (10 ∷ after))) in
     let feed : get_or (line ++ 10 ∷ after) (length line) 0 ≡ 10 = get_or_at line 10 after 0 (length line) refl in
@@ -78,15 +78,15 @@ feed_has_place line after e =
 
 -- the last line, where no line feed follows
 pub last_line : (bytes : List ℕ) → 0 < length bytes → None ≡ position is_feed bytes → lines_of bytes ≡ take (length bytes) bytes ∷ lines_of (drop (length bytes) bytes)
-last_line bytes some e = rw (take_all (length bytes) bytes (omega arith), drop_all (length bytes) bytes (omega arith)) (line_at_end bytes some (place_none is_feed bytes e))
+last_line bytes some e = rw (take_all (length bytes) bytes (omega arith), drop_all (length bytes) bytes (omega arith)) (line_at_end bytes some (position_none is_feed bytes e))
 
 -- ---- words
 
 abbrev is_inside : ℕ → Bool
 is_inside b = not (is_blank b)
 
-behind_blank : (b : ℕ) (bytes : List ℕ) → is_blank b ≡ true → words_of (b ∷ bytes) ≡ words_of bytes
-behind_blank b bytes e = rw e refl
+after_blank : (b : ℕ) (bytes : List ℕ) → is_blank b ≡ true → words_of (b ∷ bytes) ≡ words_of bytes
+after_blank b bytes e = rw e refl
 
 one_byte_word : (b : ℕ) (bytes : List ℕ) → is_blank b ≡ false → ends_word bytes ≡ true → words_of (b ∷ bytes) ≡ (b ∷ []) ∷ words_of bytes
 one_byte_word b bytes e f = rw (e, f) refl
@@ -95,21 +95,21 @@ one_byte_word b bytes e f = rw (e, f) refl
 pub longer_word : (b : ℕ) (bytes : List ℕ) → is_blank b ≡ false → ends_word bytes ≡ false → words_of (b ∷ bytes) ≡ joined b (words_of bytes)
 longer_word b bytes e f = rw (e, f) refl
 
-abbrev IsBehindBlanks : List ℕ → Type 0
-IsBehindBlanks bytes = words_of bytes ≡ words_of (drop (position_or_len is_inside bytes) bytes)
+abbrev IsAfterBlanks : List ℕ → Type 0
+IsAfterBlanks bytes = words_of bytes ≡ words_of (drop (position_or_len is_inside bytes) bytes)
 
-one_blank_more : (b : ℕ) (bytes : List ℕ) (t : Bool) → is_blank b ≡ t → IsBehindBlanks bytes → IsBehindBlanks (b ∷ bytes)
+one_blank_more : (b : ℕ) (bytes : List ℕ) (t : Bool) → is_blank b ≡ t → IsAfterBlanks bytes → IsAfterBlanks (b ∷ bytes)
 one_blank_more b bytes true e others =
     let n : position_or_len is_inside (b ∷ bytes) ≡ 1 + position_or_len is_inside bytes = rw e refl in
-    rw (n, one-add) (behind_blank b bytes e ∙ others)
+    rw (n, one-add) (after_blank b bytes e ∙ others)
 one_blank_more b bytes false e others =
     let n : position_or_len is_inside (b ∷ bytes) ≡ 0 = rw e refl in
     ap (λ k. words_of (drop k (b ∷ bytes))) (sym n)
 
 -- the blanks at the front make no word
-behind_blanks : (bytes : List ℕ) → IsBehindBlanks bytes
-behind_blanks [] = refl
-behind_blanks (b ∷ bytes) = one_blank_more b bytes (is_blank b) refl (behind_blanks bytes)
+after_blanks : (bytes : List ℕ) → IsAfterBlanks bytes
+after_blanks [] = refl
+after_blanks (b ∷ bytes) = one_blank_more b bytes (is_blank b) refl (after_blanks bytes)
 
 abbrev StartsWithWord : List ℕ → Type 0
 StartsWithWord bytes = words_of bytes ≡ take (position_or_len is_blank bytes) bytes ∷ words_of (drop (position_or_len is_blank bytes) bytes)
@@ -141,12 +141,12 @@ pub record IsFirstWord (bytes after : List ℕ) : Type 0 where
 
 pub first_word : (bytes : List ℕ) (n : ℕ) → Some n ≡ position is_inside bytes → IsFirstWord bytes (take (length bytes - n) (drop n bytes))
 first_word bytes n e =
-    let at = place_some is_inside bytes n e in
+    let at = position_some is_inside bytes n e in
     let inside : is_inside (get_or bytes n 0) ≡ true = rw at.0 at (passes_at_first is_inside bytes 0 at.1) in
     let here : is_blank (get_or (drop n bytes) 0 0) ≡ false = rw (get_or-drop n bytes 0 0, add-zero) (not-true _ inside) in
     let word = some_byte (drop n bytes) (omega (arith, length-drop n bytes, at)) here in
     subst (λ after. IsFirstWord bytes after) (sym (take_rest bytes n))
-    (record { words = behind_blanks bytes ∙ ap (λ k. words_of (drop k bytes)) at.0 ∙ word.0; some_byte = word.1 })
+    (record { words = after_blanks bytes ∙ ap (λ k. words_of (drop k bytes)) at.0 ∙ word.0; some_byte = word.1 })
 
 pub no_word : (bytes : List ℕ) → None ≡ position is_inside bytes → words_of bytes ≡ []
-no_word bytes e = behind_blanks bytes ∙ ap words_of (drop_all _ bytes (place_none is_inside bytes e))
+no_word bytes e = after_blanks bytes ∙ ap words_of (drop_all _ bytes (position_none is_inside bytes e))

@@ -1,5 +1,5 @@
 -- The items of an expression, by which it is read: its tokens, but a `/` with its divisor, a function
--- with its bracket, and the points of a table with the bracket behind them are one. No public clause names this.
+-- with its bracket, and the points of a table with the bracket after them are one. No public clause names this.
 use Rattle.std.specs.Prelude.{◌≢◌, ℕ, suc, ◌+◌, ◌-◌, ◌^◌, ◌<◌, ◌≤◌, max, ◌==◌, if◌then◌else◌, List, [], ◌∷◌, ◌++◌, Option, Some, None, slice_index_or, codes}
 use Rattle.std.specs.List.{All, AllPairs, flat_map}
 use Rattle.std.specs.Option.{option_map}
@@ -116,28 +116,28 @@ abbrev pub nodes_in : List Item → ℕ
 nodes_in [] = 0
 nodes_in (x ∷ xs) = nodes_in xs + nodes_made x
 
--- how many brackets are open behind an item
-abbrev pub open_behind : ℕ → Item → ℕ
-open_behind d (item.Number k) = d
-open_behind d (item.Variable i) = d
-open_behind d item.Plus = d
-open_behind d item.Minus = d
-open_behind d item.Times = d
-open_behind d (item.Over k) = d
-open_behind d (item.Open b) = d + 1
-open_behind d item.Comma = d
-open_behind d item.Close = d - 1
-open_behind d (item.Points points) = d - 1
+-- how many brackets are open after an item
+abbrev pub open_brackets_after : ℕ → Item → ℕ
+open_brackets_after d (item.Number k) = d
+open_brackets_after d (item.Variable i) = d
+open_brackets_after d item.Plus = d
+open_brackets_after d item.Minus = d
+open_brackets_after d item.Times = d
+open_brackets_after d (item.Over k) = d
+open_brackets_after d (item.Open b) = d + 1
+open_brackets_after d item.Comma = d
+open_brackets_after d item.Close = d - 1
+open_brackets_after d (item.Points points) = d - 1
 
 -- how many are open at most, where d are open before
 abbrev pub most_open : ℕ → List Item → ℕ
 most_open d [] = d
-most_open d (x ∷ xs) = max d (most_open (open_behind d x) xs)
+most_open d (x ∷ xs) = max d (most_open (open_brackets_after d x) xs)
 
--- how many are open behind items, of which the last comes first
+-- how many are open after items, of which the last comes first
 abbrev pub open_after : List Item → ℕ
 open_after [] = 0
-open_after (x ∷ xs) = open_behind (open_after xs) x
+open_after (x ∷ xs) = open_brackets_after (open_after xs) x
 
 -- ---- reading one item
 
@@ -157,43 +157,43 @@ symbol_of token =
     else (if bytes_eq token (codes "(") then Some (item.Open bracket.Plain)
     else (if bytes_eq token (codes ")") then Some item.Close else None))))
 
--- the place of a name
-abbrev pub place_in : List (List ℕ) → List ℕ → Option ℕ
-place_in [] token = None
-place_in (name ∷ names) token = if bytes_eq name token then Some 0 else option_map suc (place_in names token)
+-- the position of a name
+abbrev pub position_in : List (List ℕ) → List ℕ → Option ℕ
+position_in [] token = None
+position_in (name ∷ names) token = if bytes_eq name token then Some 0 else option_map suc (position_in names token)
 
 -- a variable or a number
 abbrev pub leaf_of : List (List ℕ) → List ℕ → Option Item
-leaf_of names token = or_else (place_in names token) (option_map item.Number (literal_of token)) (λ i. Some (item.Variable i))
+leaf_of names token = or_else (position_in names token) (option_map item.Number (literal_of token)) (λ i. Some (item.Variable i))
 
 unfoldable pub item_of : List (List ℕ) → List ℕ → Option Item
 item_of names token = or_else (symbol_of token) (leaf_of names token) (λ x. Some x)
 
--- a divisor, and the tokens behind it
+-- a divisor, and the tokens after it
 unfoldable pub divided : List (List ℕ) → Option (Item × List (List ℕ))
 divided [] = None
 divided (token ∷ rest) = literal_of token >>= λ k. if k == 0 then None else Some (item.Over k, rest)
 
--- an open bracket, and the tokens behind it
+-- an open bracket, and the tokens after it
 unfoldable pub opened : Bracket → List (List ℕ) → Option (Item × List (List ℕ))
 opened b [] = None
 opened b (token ∷ rest) = if bytes_eq token (codes "(") then Some (item.Open b, rest) else None
 
 -- what a comma begins: the points of a table, or the second of two sums
-unfoldable pub comma_behind : List (List ℕ) → Option (Item × List (List ℕ))
-comma_behind rest = or_else (point_of rest) (Some (item.Comma, rest)) (λ _. option_map (λ r. (item.Points r.0, r.1)) (curve_of rest))
+unfoldable pub comma_after : List (List ℕ) → Option (Item × List (List ℕ))
+comma_after rest = or_else (point_of rest) (Some (item.Comma, rest)) (λ _. option_map (λ r. (item.Points r.0, r.1)) (curve_of rest))
 
--- an item that begins with a token which is no comma, and the tokens behind it
-unfoldable pub plain_behind : List (List ℕ) → List ℕ → List (List ℕ) → Option (Item × List (List ℕ))
-plain_behind names token rest =
+-- an item that begins with a token which is no comma, and the tokens after it
+unfoldable pub plain_after : List (List ℕ) → List ℕ → List (List ℕ) → Option (Item × List (List ℕ))
+plain_after names token rest =
     if bytes_eq token (codes "/") then divided rest
     else or_else (function_of token) (option_map (λ x. (x, rest)) (item_of names token)) (λ b. opened b rest)
 
--- an item that begins with a token, and the tokens behind it
-unfoldable pub item_behind : List (List ℕ) → List ℕ → List (List ℕ) → Option (Item × List (List ℕ))
-item_behind names token rest = if bytes_eq token (codes ",") then comma_behind rest else plain_behind names token rest
+-- an item that begins with a token, and the tokens after it
+unfoldable pub item_after : List (List ℕ) → List ℕ → List (List ℕ) → Option (Item × List (List ℕ))
+item_after names token rest = if bytes_eq token (codes ",") then comma_after rest else plain_after names token rest
 
--- the first item and the tokens behind it, or None at the end; None at all where no item begins
+-- the first item and the tokens after it, or None at the end; None at all where no item begins
 unfoldable pub next_item : List (List ℕ) → List (List ℕ) → Option (Option (Item × List (List ℕ)))
 next_item names [] = Some None
-next_item names (token ∷ rest) = option_map (λ x. Some x) (item_behind names token rest)
+next_item names (token ∷ rest) = option_map (λ x. Some x) (item_after names token rest)

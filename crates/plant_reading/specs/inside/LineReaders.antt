@@ -1,4 +1,4 @@
--- What the words of a line spell behind its keyword. No public clause names this.
+-- What the words of a line spell after its keyword. No public clause names this.
 use Rattle.std.specs.Prelude.{◌≡◌, ℕ, ◌%◌, ◌≤◌, ℤ, pos, nat_abs, ◌+ℤ◌, ◌-ℤ◌, ◌≤ℤ◌, List, [], ◌∷◌, length, map}
 use Rattle.std.specs.List.{All}
 use Rattle.std.specs.Fmt.{signed_decimal}
@@ -13,7 +13,7 @@ use Rattle.plant_record.specs.Variables.{IsStateVariable, IsInputVariable, IsNoi
 use Rattle.plant_record.specs.Boxes.{IsStateBox, AreEnds}
 use Rattle.plant_record.specs.Spelling.{version_word, end_words, goal_word}
 
--- what the words behind `plant`, `state`, `input`, `noise`, a box's keyword and `goal` spell
+-- what the words after `plant`, `state`, `input`, `noise`, a box's keyword and `goal` spell
 abbrev pub SpellsVersion : List (List ℕ) → PlantVersion → Type 0
 SpellsVersion words v = words ≡ version_word v ∷ []
 

@@ -2,7 +2,7 @@
 use Rattle.std.specs.Prelude.{◌≡◌, ◌≢◌, ℕ, true, List, AllPairs}
 use Rattle.std.specs.List.{All}
 use Rattle.plant_record.specs.Names.{IsName}
-use Rattle.plant_reading.specs.Words.{words_of, is_passed_over}
+use Rattle.plant_reading.specs.Words.{words_of, is_skipped}
 use Rattle.plant_reading.specs.Statements.{Statement, States}
 
 -- the words of a line state one thing at most
@@ -11,6 +11,6 @@ OneStatement =
     (names : List (List ℕ)) (n : ℕ) (words : List (List ℕ)) (s t : Statement) → AllPairs (λ a b. a ≢ b) names → All IsName names → States names n words s → States names n words t → s ≡ t
 
 -- a line that is passed over states nothing
-abbrev pub PassedOverStatesNothing : Type 0
-PassedOverStatesNothing =
-    (names : List (List ℕ)) (n : ℕ) (line : List ℕ) (s : Statement) → is_passed_over line ≡ true → States names n (words_of line) s → ⊥
+abbrev pub SkippedLinesStateNothing : Type 0
+SkippedLinesStateNothing =
+    (names : List (List ℕ)) (n : ℕ) (line : List ℕ) (s : Statement) → is_skipped line ≡ true → States names n (words_of line) s → ⊥

@@ -1,22 +1,22 @@
 -- How a reader answers, and which words it finds. No public clause names this.
 use Rattle.std.specs.Prelude.{◌≡◌, ℕ, ℤ, List, ◌∷◌, Result, Ok, Err}
 use Rattle.std.specs.Fmt.{signed_decimal}
-use Rattle.plant_reading.specs.declared.fault.ReadFault.{ReadFault}
-use Rattle.plant_reading.specs.declared.fault.ReadFault.TheVariants.{Malformed, Memory}
+use Rattle.plant_reading.specs.declared.line_fault.LineFault.{LineFault}
+use Rattle.plant_reading.specs.declared.line_fault.LineFault.TheVariants.{Malformed, Memory}
 use Rattle.plant_record.specs.Names.{IsName}
 use Rattle.plant_record.specs.Numbers.{IsLiteral}
 
 -- nothing fits, unless memory ran out
-abbrev pub Refuses : {Y : Type 0} → (Y → Type 0) → ReadFault → Type 0
+abbrev pub Refuses : {Y : Type 0} → (Y → Type 0) → LineFault → Type 0
 Refuses Fits Malformed = (y : _) → Fits y → ⊥
 Refuses Fits Memory = Unit {0}
 
 -- what was found fits, seen by view
-abbrev pub Finds : {X Y : Type 0} → (X → Y) → (Y → Type 0) → Result X ReadFault → Type 0
+abbrev pub Finds : {X Y : Type 0} → (X → Y) → (Y → Type 0) → Result X LineFault → Type 0
 Finds view Fits (Ok x) = Fits (view x)
 Finds view Fits (Err e) = Refuses Fits e
 
--- a word with the words behind it: a name, a number
+-- a word with the words after it: a name, a number
 abbrev pub StartsWithName : List (List ℕ) → List ℕ × List (List ℕ) → Type 0
 StartsWithName words y = IsName y.0 × (words ≡ y.0 ∷ y.1)
 

@@ -3,9 +3,9 @@
 ghost use Rattle.std.specs.Prelude.{◌≡◌, ◌<◌, ◌≤◌, Some, [], ◌∷◌, length, position, not, IfSome};
 ghost use Rattle.std.specs.List.{position_or_len};
 ghost use Rattle.std.specs.Option.{IfNone};
-ghost use Rattle.plant_reading.specs.Words.{is_blank, words_of, is_passed_over};
+ghost use Rattle.plant_reading.specs.Words.{is_blank, words_of, is_skipped};
 
-/// The first word and the bytes behind it: None where the line has no more words.
+/// The first word and the bytes after it: None where the line has no more words.
 pub fn next_word(bytes: &[u8]) -> Option<(&[u8], &[u8])>
     ensures word { IfSome result (λ r. words_of bytes.now ≡ r.0.now ∷ words_of r.1.now) }
     ensures some_byte { IfSome result (λ r. 0 < length r.0.now) }
@@ -18,7 +18,7 @@ pub fn next_word(bytes: &[u8]) -> Option<(&[u8], &[u8])>
 }
 
 pub fn first_byte_of_word(bytes: &[u8]) -> Option<usize>
-    ensures place { result ≡ position (λ b. not (is_blank b)) bytes.now }
+    ensures position { result ≡ position (λ b. not (is_blank b)) bytes.now }
     ensures within { IfSome result (λ n. n < length bytes.now) }
 {
     bytes.iter().position(|b| !is_blank(*b))
@@ -45,8 +45,8 @@ pub fn is_blank(b: u8) -> bool
 }
 
 /// Whether a line states nothing: one of blanks, or one whose first word begins with `#`.
-pub fn is_passed_over(line: &[u8]) -> bool
-    ensures { result ≡ is_passed_over line.now }
+pub fn is_skipped(line: &[u8]) -> bool
+    ensures { result ≡ is_skipped line.now }
 {
     match next_word(line) {
         Some((word, _)) => word.starts_with(b"#"),

@@ -4,7 +4,7 @@ ghost use Rattle.std.specs.Prelude.{◌≡◌, ◌==◌, ◌<◌, [], ◌∷◌,
 ghost use Rattle.std.specs.Option.{IfNone};
 ghost use Rattle.plant_reading.specs.Lines.{lines_of};
 
-/// The first line and the bytes behind it: None at the end of the text.
+/// The first line and the bytes after it: None at the end of the text.
 pub fn next_line(bytes: &[u8]) -> Option<(&[u8], &[u8])>
     ensures line { IfSome result (λ r. lines_of bytes.now ≡ r.0.now ∷ lines_of r.1.now) }
     ensures shorter { IfSome result (λ r. length r.1.now < length bytes.now) }
@@ -19,7 +19,7 @@ pub fn next_line(bytes: &[u8]) -> Option<(&[u8], &[u8])>
     }
 }
 
-/// The first line and the bytes behind its line feed: None where there is no line feed.
+/// The first line and the bytes after its line feed: None where there is no line feed.
 pub fn next_full_line(bytes: &[u8]) -> Option<(&[u8], &[u8])>
     ensures line { IfSome result (λ r. lines_of bytes.now ≡ r.0.now ∷ lines_of r.1.now) }
     ensures cut { IfSome result (λ r. bytes.now ≡ r.0.now ++ codes "\n" ++ r.1.now) }
@@ -31,7 +31,7 @@ pub fn next_full_line(bytes: &[u8]) -> Option<(&[u8], &[u8])>
 }
 
 fn line_feed(bytes: &[u8]) -> Option<usize>
-    ensures place { result ≡ position (λ b. b == 10) bytes.now }
+    ensures position { result ≡ position (λ b. b == 10) bytes.now }
     ensures within { IfSome result (λ n. n < length bytes.now) }
 {
     bytes.iter().position(|b| *b == b'\n')

@@ -29,9 +29,9 @@ fn blanks_before(bytes: &[u8]) -> usize
     first_byte_of_word(bytes).unwrap_or(bytes.len())
 }
 
-/// Where a token ends, behind its first byte.
+/// Where a token ends, after its first byte.
 fn token_end(first: u8, after: &[u8]) -> Option<usize>
-    ensures place { result ≡ position (λ b. not (goes_on (first ∷ []) b)) after.now }
+    ensures position { result ≡ position (λ b. not (goes_on (first ∷ []) b)) after.now }
     ensures within { IfSome result (λ n. n < length after.now) }
 {
     after.iter().position(|b| !goes_on(first, *b))

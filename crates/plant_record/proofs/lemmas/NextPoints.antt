@@ -18,7 +18,7 @@ point_more ys i v count lt =
     ∙ sym (append_assoc ys (v ∷ []) (replicate (5 - length ys) (pos 0)))
     ∙ ap (λ (n : ℕ). (ys ++ v ∷ []) ++ replicate n (pos 0)) less
 
--- the equations stay in range, and next holds their values and 0 behind them
+-- the equations stay in range, and next holds their values and 0 after them
 abbrev pub AreTaken : {A : Type 0} → (A → Expression) → List ℤ → List A → List ℤ → Type 0
 AreTaken expression values equations next =
     All (λ e. StaysInRange (expression e) values) equations × (next ≡ point_of (map (λ e. value_of (expression e) values) equations))

@@ -61,7 +61,7 @@ noise_value p x w u i six ge lt =
     ∙ get_or-take (length p.noises) w (i - (length p.states + length p.inputs)) (pos 0) (omega (arith, lt, ge, names_count p)))
 
 -- one place more
-pub values_more : (places values : List ℤ) (i : ℕ) (v : ℤ) → i < length places → i < length values → take i places ≡ take i values → v ≡ get_or values i (pos 0)
-    → take (i + 1) (set places i v) ≡ take (i + 1) values
-values_more places values i v lt lt' so_far v-is =
-    take_more_set places i v lt ∙ ap (λ xs. xs ++ v ∷ []) so_far ∙ ap (λ y. take i values ++ y ∷ []) v-is ∙ sym (take_more values i (pos 0) lt')
+pub values_more : (positions values : List ℤ) (i : ℕ) (v : ℤ) → i < length positions → i < length values → take i positions ≡ take i values → v ≡ get_or values i (pos 0)
+    → take (i + 1) (set positions i v) ≡ take (i + 1) values
+values_more positions values i v lt lt' so_far v-is =
+    take_more_set positions i v lt ∙ ap (λ xs. xs ++ v ∷ []) so_far ∙ ap (λ y. take i values ++ y ∷ []) v-is ∙ sym (take_more values i (pos 0) lt')

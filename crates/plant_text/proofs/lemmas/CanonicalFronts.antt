@@ -2,29 +2,29 @@
 use Rattle.std.proofs.Common.{inl, inr, ◌≡◌, ℕ, true, List, [], ◌∷◌, ◌++◌, length, drop, refl, sym, ap, ◌∙◌, append_assoc, append-nil, subst, arith, length-drop}
 use Rattle.std.specs.Prelude.{codes}
 use Rattle.std.proofs.lemmas.List.{take-append-drop}
-use Rattle.plant_text.specs.declared.fault.PlantFault.TheVariants as faults
+use Rattle.plant_text.specs.declared.plant_fault.PlantFault.TheVariants as faults
 use Rattle.plant_reading.specs.Lines.{with_line_feeds}
 use Rattle.plant_record.specs.Description.{Description}
 use Rattle.plant_record.specs.Limits.{Exceeds}
 use Rattle.plant_writing.specs.CanonicalText.{text_of}
-use Rattle.plant_text.specs.Grammar.{Part, nothing_yet, IsWhole}
+use Rattle.plant_text.specs.Grammar.{PartialPlant, nothing_yet, IsWhole}
 use Rattle.plant_text.specs.CanonicalFronts.{LeadsCanonically, IsFirstRefusedAtFront, IsFront}
 use Rattle.plant_reading.specs.inside.StatementLaws.{OneStatement}
 use Rattle.plant_text.specs.Laws.{OnePlantAtTheFront, OneFront, OneFrontRefusal, FrontReadOrRefused}
 use Rattle.plant_record.proofs.lemmas.Limits.{one_limit, exceeds_none}
 use Rattle.plant_text.proofs.lemmas.LinesLead.{one_whole}
 use Rattle.plant_text.proofs.lemmas.CanonicalWays.{GoesOnFrom, at_the_beginning, all_the_way, ends_here, one_way}
-use Rattle.plant_text.proofs.lemmas.PlantLines.{plant_lines, whole_part, is_whole}
+use Rattle.plant_text.proofs.lemmas.PlantLines.{plant_lines, whole_plant_part, is_whole}
 
 -- the ways of two plants end together
-same_end : (p r : Description) (first second : List (List ℕ)) (rest others : List ℕ) → LeadsCanonically nothing_yet first (whole_part p) → GoesOnFrom first second (whole_part p) (whole_part r) rest others → (p ≡ r) × (rest ≡ others)
+same_end : (p r : Description) (first second : List (List ℕ)) (rest others : List ℕ) → LeadsCanonically nothing_yet first (whole_plant_part p) → GoesOnFrom first second (whole_plant_part p) (whole_plant_part r) rest others → (p ≡ r) × (rest ≡ others)
 same_end p r first second rest others leads g =
-    let none : g.more ≡ [] = ends_here (whole_part p) g.more (whole_part r) (all_the_way nothing_yet first (whole_part p) at_the_beginning leads) refl g.leads in
-    let part : whole_part r ≡ whole_part p = subst (λ (x : List (List ℕ)). LeadsCanonically (whole_part p) x (whole_part r)) none g.leads in
-    (one_whole (whole_part p) p r (is_whole p) (subst (λ (x : Part). IsWhole x r) part (is_whole r)), g.are ∙ ap (λ (x : List (List ℕ)). with_line_feeds x ++ others) none)
+    let none : g.more ≡ [] = ends_here (whole_plant_part p) g.more (whole_plant_part r) (all_the_way nothing_yet first (whole_plant_part p) at_the_beginning leads) refl g.leads in
+    let part : whole_plant_part r ≡ whole_plant_part p = subst (λ (x : List (List ℕ)). LeadsCanonically (whole_plant_part p) x (whole_plant_part r)) none g.leads in
+    (one_whole (whole_plant_part p) p r (is_whole p) (subst (λ (x : PartialPlant). IsWhole x r) part (is_whole r)), g.are ∙ ap (λ (x : List (List ℕ)). with_line_feeds x ++ others) none)
 
--- no line leads on behind the last that is read
-stops : (bytes : List ℕ) (n : ℕ) (f : IsFirstRefusedAtFront bytes n) (second : List (List ℕ)) (r : Part) (others : List ℕ) → (g : GoesOnFrom f.lines second f.part r f.rest others) → g.more ≡ []
+-- no line leads on after the last that is read
+stops : (bytes : List ℕ) (n : ℕ) (f : IsFirstRefusedAtFront bytes n) (second : List (List ℕ)) (r : PartialPlant) (others : List ℕ) → (g : GoesOnFrom f.lines second f.part r f.rest others) → g.more ≡ []
 stops bytes n f second r others g = none g.more g.leads g.are
   where
     none : (more : List (List ℕ)) → LeadsCanonically f.part more r → f.rest ≡ with_line_feeds more ++ others → more ≡ []
@@ -40,7 +40,7 @@ module _ (one : OneStatement) where
       let a = plant_lines p hp in
       let b = plant_lines r hr in
       let both : with_line_feeds a.lines ++ rest ≡ with_line_feeds b.lines ++ others = ap (λ (x : List ℕ). x ++ rest) a.are ∙ e ∙ ap (λ (x : List ℕ). x ++ others) (sym b.are) in
-      elim (one_way one nothing_yet a.lines b.lines (whole_part p) (whole_part r) rest others at_the_beginning a.leads b.leads both) [
+      elim (one_way one nothing_yet a.lines b.lines (whole_plant_part p) (whole_plant_part r) rest others at_the_beginning a.leads b.leads both) [
         | inl g ↦ same_end p r a.lines b.lines rest others a.leads g
         | inr g ↦ (let same = same_end r p b.lines a.lines others rest b.leads g in (sym same.0, sym same.1))
       ]
@@ -59,16 +59,16 @@ module _ (one : OneStatement) where
       let open_still = f.goes_on in
       let both : with_line_feeds f.lines ++ f.rest ≡ with_line_feeds a.lines ++ drop count bytes =
       sym f.are ∙ sym (take-append-drop count bytes) ∙ ap (λ (x : List ℕ). x ++ drop count bytes) (front.text ∙ sym a.are) in
-      elim (one_way one nothing_yet f.lines a.lines f.part (whole_part p) f.rest (drop count bytes) at_the_beginning f.leads a.leads both) [
+      elim (one_way one nothing_yet f.lines a.lines f.part (whole_plant_part p) f.rest (drop count bytes) at_the_beginning f.leads a.leads both) [
         | inl on ↦ (
-            let none = stops bytes n f a.lines (whole_part p) (drop count bytes) on in
-            let part : whole_part p ≡ f.part = subst (λ (x : List (List ℕ)). LeadsCanonically f.part x (whole_part p)) none on.leads in
-            let ends : true ≡ f.part.ended = ap (λ (x : Part). x.ended) part in
+            let none = stops bytes n f a.lines (whole_plant_part p) (drop count bytes) on in
+            let part : whole_plant_part p ≡ f.part = subst (λ (x : List (List ℕ)). LeadsCanonically f.part x (whole_plant_part p)) none on.leads in
+            let ends : true ≡ f.part.ended = ap (λ (x : PartialPlant). x.ended) part in
             cc)
         | inr on ↦ (
-            let none = ends_here (whole_part p) on.more f.part (all_the_way nothing_yet a.lines (whole_part p) at_the_beginning a.leads) refl on.leads in
-            let part : f.part ≡ whole_part p = subst (λ (x : List (List ℕ)). LeadsCanonically (whole_part p) x f.part) none on.leads in
-            let ends : f.part.ended ≡ true = ap (λ (x : Part). x.ended) part in
+            let none = ends_here (whole_plant_part p) on.more f.part (all_the_way nothing_yet a.lines (whole_plant_part p) at_the_beginning a.leads) refl on.leads in
+            let part : f.part ≡ whole_plant_part p = subst (λ (x : List (List ℕ)). LeadsCanonically (whole_plant_part p) x f.part) none on.leads in
+            let ends : f.part.ended ≡ true = ap (λ (x : PartialPlant). x.ended) part in
             cc)
       ]
 

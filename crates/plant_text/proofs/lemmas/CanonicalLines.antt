@@ -15,9 +15,9 @@ use Rattle.plant_writing.specs.ExpressionText.{expression_text}
 use Rattle.plant_reading.specs.Words.{words_of}
 use Rattle.plant_reading.specs.Tokens.{tokens_of}
 use Rattle.plant_reading.specs.Statements.{Statement, Version, State, Input, Noise, Next, Target, Obstacle, Goal, End, States}
-use Rattle.plant_text.specs.Grammar.{Part, names_in, FitsAfter, extended}
+use Rattle.plant_text.specs.Grammar.{PartialPlant, names_in, FitsAfter, extended}
 use Rattle.plant_text.specs.CanonicalFronts.{statement_line, ExtendsCanonically}
-use Rattle.plant_text.specs.inside.PartRules.{KeepsRules}
+use Rattle.plant_text.specs.inside.PartialPlantRules.{KeepsRules}
 use Rattle.plant_reading.specs.inside.StatementLaws.{OneStatement}
 use Rattle.plant_text.specs.inside.FormedEquations.{HasFormedEquation}
 use Rattle.plant_text.specs.inside.CanonicalNext.{IsCanonicalNext}
@@ -44,14 +44,14 @@ printable_words line first words dark each e =
     ap is_printable (append_cancel_right line (join_with_byte 32 (first ∷ words)) (codes "\n") e) ∙ printable_joined first words dark each
 
 -- the name of the state whose equation is next
-next_named : (q : Part) → KeepsRules q → length q.equations < length q.states → IsName (get_or (names_in q) (length q.equations) [])
+next_named : (q : PartialPlant) → KeepsRules q → length q.equations < length q.states → IsName (get_or (names_in q) (length q.equations) [])
 next_named q k lt =
     let states = map (λ (s : StateVariable). s.name) q.states in
     let inputs = map (λ (i : InputVariable). i.name) q.inputs in
     let noises = map (λ (w : NoiseVariable). w.name) q.noises in
     All-get_or IsName (names_in q) (length q.equations) [] (omega (arith, lt, length-map q.states (λ (s : StateVariable). s.name), length-append states inputs, length-append (states ++ inputs) noises)) k.names
 
-pub printable_line : (q : Part) (line : List ℕ) (s : Statement) → KeepsRules q → States (names_in q) (length q.states) (words_of line) s → FitsAfter q s → line ++ codes "\n" ≡ statement_line (names_in q) (length q.states) s
+pub printable_line : (q : PartialPlant) (line : List ℕ) (s : Statement) → KeepsRules q → States (names_in q) (length q.states) (words_of line) s → FitsAfter q s → line ++ codes "\n" ≡ statement_line (names_in q) (length q.states) s
     → is_printable line ≡ true
 printable_line q line (Version v) k says fits e = printable_words line (codes "plant") (version_word v ∷ []) (record { dark = refl; some = omega arith }) (version_dark v, tt) e
 printable_line q line (State s) k says fits e =
@@ -76,11 +76,11 @@ printable_line q line (Obstacle b) k says fits e =
 printable_line q line (Goal kind) k says fits e = printable_words line (codes "goal") (goal_word kind ∷ []) (record { dark = refl; some = omega arith }) (goal_dark kind, tt) e
 printable_line q line End k says fits e = printable_words line (codes "end") [] (record { dark = refl; some = omega arith }) tt e
 
-pub extends_canonically : (q : Part) (line : List ℕ) (s : Statement) (r : Part) → States (names_in q) (length q.states) (words_of line) s → IsCanonicalNext q line s → r ≡ extended q s → ExtendsCanonically q line r
+pub extends_canonically : (q : PartialPlant) (line : List ℕ) (s : Statement) (r : PartialPlant) → States (names_in q) (length q.states) (words_of line) s → IsCanonicalNext q line s → r ≡ extended q s → ExtendsCanonically q line r
 extends_canonically q line s r says next is = record { stated = record { statement = s; states = says; fits = next.fits; leads_to = is }; spelling = next.spelling; order = next.order }
 
--- a line that states something in another place, spelling or order leads nowhere
-pub leads_nowhere : OneStatement → (q : Part) (line : List ℕ) (s : Statement) → KeepsRules q → States (names_in q) (length q.states) (words_of line) s → (IsCanonicalNext q line s → ⊥) → (r : Part) → ExtendsCanonically q line r → ⊥
+-- a line that states something in another position, spelling or order leads nowhere
+pub leads_nowhere : OneStatement → (q : PartialPlant) (line : List ℕ) (s : Statement) → KeepsRules q → States (names_in q) (length q.states) (words_of line) s → (IsCanonicalNext q line s → ⊥) → (r : PartialPlant) → ExtendsCanonically q line r → ⊥
 leads_nowhere one q line s k says unfit r e =
     let t = e.stated.statement in
     let same : t ≡ s = one (names_in q) (length q.states) (words_of line) t s k.names_differ k.names e.stated.states says in

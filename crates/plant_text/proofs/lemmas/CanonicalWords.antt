@@ -6,7 +6,7 @@ use Rattle.std.specs.Fmt.{decimal, signed_decimal}
 use Rattle.std.proofs.lemmas.Bool.{lt-ltb, leb-true, and_parts, and_from}
 use Rattle.std.proofs.lemmas.Fmt.{decimal_nonempty}
 use Rattle.std.proofs.lemmas.List.Elements.{All-get_or, recursion_from_All}
-use Rattle.fixed_expr.specs.Expression.{Expression, Number, Variable, Negation, Sum, Difference, Product, Quotient, Minimum, Maximum, Absolute, Lookup}
+use Rattle.fixed_expr.specs.Expression.{Expression, NumExpr, VarExpr, NegExpr, AddExpr, SubExpr, MulExpr, DivExpr, MinExpr, MaxExpr, AbsExpr, LutExpr}
 use Rattle.fixed_expr.specs.Curves.{IsShort}
 use Rattle.plant_record.specs.declared.aims.GoalKind.{GoalKind}
 use Rattle.plant_record.specs.declared.aims.GoalKind.TheVariants.{Reach, Keep}
@@ -86,29 +86,29 @@ points_printable [] each = refl
 points_printable (p ∷ points) each = printable_both (point_text p) (flat_map point_text points) (point_printable p each.0) (points_printable points each.1)
 
 pub expression_printable : (names : List (List ℕ)) (asked : ℕ) (e : Expression) → All IsName names → HasLiterals (length names) e → is_printable (expression_text names asked e) ≡ true
-expression_printable names asked (Number k) named h = dark_printable (signed_decimal k) (number_dark k h.1).dark
-expression_printable names asked (Variable i) named h = dark_printable (get_or names i []) (name_dark (get_or names i []) (All-get_or IsName names i [] h named)).dark
-expression_printable names asked (Negation a) named h = expression_printable names 3 a named h
-expression_printable names asked (Sum a b) named h =
+expression_printable names asked (NumExpr k) named h = dark_printable (signed_decimal k) (number_dark k h.1).dark
+expression_printable names asked (VarExpr i) named h = dark_printable (get_or names i []) (name_dark (get_or names i []) (All-get_or IsName names i [] h named)).dark
+expression_printable names asked (NegExpr a) named h = expression_printable names 3 a named h
+expression_printable names asked (AddExpr a b) named h =
     level_printable (nat_lt 1 asked) (expression_text names 1 a ++ codes " + " ++ expression_text names 2 b)
     (three (expression_text names 1 a) (codes " + ") (expression_text names 2 b) (expression_printable names 1 a named h.0) refl (expression_printable names 2 b named h.1))
-expression_printable names asked (Difference a b) named h =
+expression_printable names asked (SubExpr a b) named h =
     level_printable (nat_lt 1 asked) (expression_text names 1 a ++ codes " - " ++ expression_text names 2 b)
     (three (expression_text names 1 a) (codes " - ") (expression_text names 2 b) (expression_printable names 1 a named h.0) refl (expression_printable names 2 b named h.1))
-expression_printable names asked (Product a b) named h =
+expression_printable names asked (MulExpr a b) named h =
     level_printable (nat_lt 2 asked) (expression_text names 2 a ++ codes " * " ++ expression_text names 3 b)
     (three (expression_text names 2 a) (codes " * ") (expression_text names 3 b) (expression_printable names 2 a named h.0) refl (expression_printable names 3 b named h.1))
-expression_printable names asked (Quotient a k) named h =
+expression_printable names asked (DivExpr a k) named h =
     level_printable (nat_lt 2 asked) (expression_text names 2 a ++ codes " / " ++ signed_decimal k)
     (three (expression_text names 2 a) (codes " / ") (signed_decimal k) (expression_printable names 2 a named h.0) refl (dark_printable (signed_decimal k) (number_dark k h.2).dark))
-expression_printable names asked (Minimum a b) named h =
+expression_printable names asked (MinExpr a b) named h =
     printable_both (codes "min(" ++ expression_text names 1 a ++ codes ", " ++ expression_text names 1 b) (codes ")")
     (three (codes "min(" ++ expression_text names 1 a) (codes ", ") (expression_text names 1 b) (expression_printable names 1 a named h.0) refl (expression_printable names 1 b named h.1)) refl
-expression_printable names asked (Maximum a b) named h =
+expression_printable names asked (MaxExpr a b) named h =
     printable_both (codes "max(" ++ expression_text names 1 a ++ codes ", " ++ expression_text names 1 b) (codes ")")
     (three (codes "max(" ++ expression_text names 1 a) (codes ", ") (expression_text names 1 b) (expression_printable names 1 a named h.0) refl (expression_printable names 1 b named h.1)) refl
-expression_printable names asked (Absolute a) named h = printable_both (codes "abs(" ++ expression_text names 1 a) (codes ")") (expression_printable names 1 a named h) refl
-expression_printable names asked (Lookup a points) named h =
+expression_printable names asked (AbsExpr a) named h = printable_both (codes "abs(" ++ expression_text names 1 a) (codes ")") (expression_printable names 1 a named h) refl
+expression_printable names asked (LutExpr a points) named h =
     printable_both (codes "lut(" ++ expression_text names 1 a ++ flat_map point_text points) (codes ")")
     (printable_both (codes "lut(" ++ expression_text names 1 a) (flat_map point_text points) (expression_printable names 1 a named h.0) (points_printable points (recursion_from_All IsShort points h.1.short))) refl
 

@@ -6,7 +6,7 @@ use Rattle.std.specs.Fmt.{decimal, signed_decimal}
 use Rattle.std.proofs.lemmas.Int.{ints}
 use Rattle.std.proofs.lemmas.Fmt.{decimal_nonempty}
 use Rattle.std.proofs.lemmas.List.Elements.{All-get_or, recursion_from_All}
-use Rattle.fixed_expr.specs.Expression.{Expression, Number, Variable, Negation, Sum, Difference, Product, Quotient, Minimum, Maximum, Absolute, Lookup}
+use Rattle.fixed_expr.specs.Expression.{Expression, NumExpr, VarExpr, NegExpr, AddExpr, SubExpr, MulExpr, DivExpr, MinExpr, MaxExpr, AbsExpr, LutExpr}
 use Rattle.fixed_expr.specs.Curves.{IsShort}
 use Rattle.plant_record.specs.Names.{is_letter, is_digit, IsName}
 use Rattle.plant_record.specs.Numbers.{IsLiteral}
@@ -19,11 +19,11 @@ use Rattle.plant_reading.proofs.lemmas.OneScan.{scan, is_break, is_run, symbol_f
 
 -- ---- texts and their tokens
 
--- the tokens of a text, whatever stands behind it
+-- the tokens of a text, whatever stands after it
 abbrev pub Spells : List ℕ → List (List ℕ) → Type 0
 Spells text tokens = (rest : List ℕ) → scan [] (text ++ rest) ≡ tokens ++ scan [] rest
 
--- the tokens of a text, where no name and no number goes on behind it
+-- the tokens of a text, where no name and no number goes on after it
 abbrev pub Yields : List ℕ → List (List ℕ) → Type 0
 Yields text tokens = (rest : List ℕ) → is_break rest ≡ true → scan [] (text ++ rest) ≡ tokens ++ scan [] rest
 
@@ -38,9 +38,9 @@ opened : (before text : List ℕ) (first tokens : List (List ℕ)) → Spells be
 opened before text first tokens left right = λ rest ends.
     ap (scan []) (append_assoc before text rest) ∙ left (text ++ rest) ∙ ap (λ (ts : List (List ℕ)). first ++ ts) (right rest ends) ∙ sym (append_assoc first tokens (scan [] rest))
 
-closed : (text behind : List ℕ) (tokens last : List (List ℕ)) → Yields text tokens → Spells behind last → Breaks behind → Spells (text ++ behind) (tokens ++ last)
-closed text behind tokens last left right breaks = λ rest.
-    ap (scan []) (append_assoc text behind rest) ∙ left (behind ++ rest) (breaks rest) ∙ ap (λ (ts : List (List ℕ)). tokens ++ ts) (right rest) ∙ sym (append_assoc tokens last (scan [] rest))
+closed : (text after : List ℕ) (tokens last : List (List ℕ)) → Yields text tokens → Spells after last → Breaks after → Spells (text ++ after) (tokens ++ last)
+closed text after tokens last left right breaks = λ rest.
+    ap (scan []) (append_assoc text after rest) ∙ left (after ++ rest) (breaks rest) ∙ ap (λ (ts : List (List ℕ)). tokens ++ ts) (right rest) ∙ sym (append_assoc tokens last (scan [] rest))
 
 retold : (text : List ℕ) (tokens others : List (List ℕ)) → tokens ≡ others → Yields text tokens → Yields text others
 retold text tokens others same h = λ rest ends. h rest ends ∙ ap (λ (ts : List (List ℕ)). ts ++ scan [] rest) same
@@ -150,42 +150,42 @@ table text tokens points each h =
 
 -- a number that has no sign
 abbrev pub tree : ℕ → Expression → Syntax
-tree asked (Number k) = Literal (nat_abs k)
-tree asked (Variable i) = Named i
-tree asked (Negation a) = Minus (tree 3 a)
-tree asked (Sum a b) = wrapped 1 asked (Plus (tree 1 a) (tree 2 b))
-tree asked (Difference a b) = wrapped 1 asked (Less (tree 1 a) (tree 2 b))
-tree asked (Product a b) = wrapped 2 asked (Times (tree 2 a) (tree 3 b))
-tree asked (Quotient a k) = wrapped 2 asked (Over (tree 2 a) (nat_abs k))
-tree asked (Minimum a b) = Least (tree 1 a) (tree 1 b)
-tree asked (Maximum a b) = Greatest (tree 1 a) (tree 1 b)
-tree asked (Absolute a) = Size (tree 1 a)
-tree asked (Lookup a points) = Tabled (tree 1 a) points
+tree asked (NumExpr k) = Literal (nat_abs k)
+tree asked (VarExpr i) = Named i
+tree asked (NegExpr a) = Minus (tree 3 a)
+tree asked (AddExpr a b) = wrapped 1 asked (Plus (tree 1 a) (tree 2 b))
+tree asked (SubExpr a b) = wrapped 1 asked (Less (tree 1 a) (tree 2 b))
+tree asked (MulExpr a b) = wrapped 2 asked (Times (tree 2 a) (tree 3 b))
+tree asked (DivExpr a k) = wrapped 2 asked (Over (tree 2 a) (nat_abs k))
+tree asked (MinExpr a b) = Least (tree 1 a) (tree 1 b)
+tree asked (MaxExpr a b) = Greatest (tree 1 a) (tree 1 b)
+tree asked (AbsExpr a) = Size (tree 1 a)
+tree asked (LutExpr a points) = Tabled (tree 1 a) points
 
 number_yields : (k : ℤ) → pos 0 ≤ℤ k → IsLiteral k → Yields (signed_decimal k) (decimal (nat_abs k) ∷ [])
 number_yields (pos n) some lt = λ rest ends. digits_front (decimal n) rest (decimal_digits n (omega (arith, lt))) (decimal_nonempty n (omega (arith, lt))) ends
 number_yields (negsuc n) some lt = absurd (omega (arith, ints, some))
 
 pub yields : (names : List (List ℕ)) (asked : ℕ) (e : Expression) → All IsName names → HasLiterals (length names) e → Yields (expression_text names asked e) (yield_of names (tree asked e))
-yields names asked (Number k) named h = number_yields k h.0 h.1
-yields names asked (Variable i) named h = λ rest ends. name_front (get_or names i []) rest (All-get_or IsName names i [] h named) ends
-yields names asked (Negation a) named h =
+yields names asked (NumExpr k) named h = number_yields k h.0 h.1
+yields names asked (VarExpr i) named h = λ rest ends. name_front (get_or names i []) rest (All-get_or IsName names i [] h named) ends
+yields names asked (NegExpr a) named h =
     opened (codes "-") (expression_text names 3 a) (codes "-" ∷ []) (yield_of names (tree 3 a)) (λ rest. symbol_front 45 rest refl refl refl) (yields names 3 a named h)
-yields names asked (Sum a b) named h =
+yields names asked (AddExpr a b) named h =
     at_its_level (nat_lt 1 asked) names _ (Plus (tree 1 a) (tree 2 b))
     (two (expression_text names 1 a) (codes " + ") (expression_text names 2 b) (yield_of names (tree 1 a)) (codes "+") (yield_of names (tree 2 b)) (yields names 1 a named h.0) (operator 43 refl refl refl) (λ rest. refl) (yields names 2 b named h.1))
-yields names asked (Difference a b) named h =
+yields names asked (SubExpr a b) named h =
     at_its_level (nat_lt 1 asked) names _ (Less (tree 1 a) (tree 2 b))
     (two (expression_text names 1 a) (codes " - ") (expression_text names 2 b) (yield_of names (tree 1 a)) (codes "-") (yield_of names (tree 2 b)) (yields names 1 a named h.0) (operator 45 refl refl refl) (λ rest. refl) (yields names 2 b named h.1))
-yields names asked (Product a b) named h =
+yields names asked (MulExpr a b) named h =
     at_its_level (nat_lt 2 asked) names _ (Times (tree 2 a) (tree 3 b))
     (two (expression_text names 2 a) (codes " * ") (expression_text names 3 b) (yield_of names (tree 2 a)) (codes "*") (yield_of names (tree 3 b)) (yields names 2 a named h.0) (operator 42 refl refl refl) (λ rest. refl) (yields names 3 b named h.1))
-yields names asked (Quotient a k) named h =
+yields names asked (DivExpr a k) named h =
     at_its_level (nat_lt 2 asked) names _ (Over (tree 2 a) (nat_abs k))
     (two (expression_text names 2 a) (codes " / ") (signed_decimal k) (yield_of names (tree 2 a)) (codes "/") (decimal (nat_abs k) ∷ []) (yields names 2 a named h.0) (operator 47 refl refl refl) (λ rest. refl) (number_yields k (omega (arith, ints, h.1)) h.2))
-yields names asked (Minimum a b) named h =
+yields names asked (MinExpr a b) named h =
     call (codes "min(") (codes "min") (expression_text names 1 a) (expression_text names 1 b) (yield_of names (tree 1 a)) (yield_of names (tree 1 b)) (opening 109 (105 ∷ 110 ∷ []) refl refl) (yields names 1 a named h.0) (yields names 1 b named h.1)
-yields names asked (Maximum a b) named h =
+yields names asked (MaxExpr a b) named h =
     call (codes "max(") (codes "max") (expression_text names 1 a) (expression_text names 1 b) (yield_of names (tree 1 a)) (yield_of names (tree 1 b)) (opening 109 (97 ∷ 120 ∷ []) refl refl) (yields names 1 a named h.0) (yields names 1 b named h.1)
-yields names asked (Absolute a) named h = size (expression_text names 1 a) (yield_of names (tree 1 a)) (yields names 1 a named h)
-yields names asked (Lookup a points) named h = table (expression_text names 1 a) (yield_of names (tree 1 a)) points (recursion_from_All IsShort points h.1.short) (yields names 1 a named h.0)
+yields names asked (AbsExpr a) named h = size (expression_text names 1 a) (yield_of names (tree 1 a)) (yields names 1 a named h)
+yields names asked (LutExpr a points) named h = table (expression_text names 1 a) (yield_of names (tree 1 a)) points (recursion_from_All IsShort points h.1.short) (yields names 1 a named h.0)

@@ -1,9 +1,9 @@
 -- Lines lead to one part, a text spells one plant, and it has one first refused line.
 use Rattle.std.proofs.Common.{inl, inr, ◌≡◌, ◌⊎◌, ℕ, ◌<◌, ◌≤◌, List, [], ◌∷◌, ◌++◌, length, Some, None, arith, refl, sym, ◌∙◌, ap, subst, take, drop}
 use Rattle.std.proofs.lemmas.List.{take-append-drop, take_all, take-take}
-use Rattle.plant_record.specs.declared.fault.LimitKind.{LimitKind}
-use Rattle.plant_record.specs.declared.fault.LimitKind.TheVariants.{PlantText, TableText, Vectors, Cells, Pairs, Edges}
-use Rattle.plant_text.specs.declared.fault.PlantFault.TheVariants as faults
+use Rattle.plant_record.specs.declared.limit_kind.LimitKind.{LimitKind}
+use Rattle.plant_record.specs.declared.limit_kind.LimitKind.TheVariants.{PlantText, TableText, Vectors, Cells, Pairs, Edges}
+use Rattle.plant_text.specs.declared.plant_fault.PlantFault.TheVariants as faults
 use Rattle.plant_record.specs.declared.aims.GoalKind.{GoalKind}
 use Rattle.plant_record.specs.declared.version.PlantVersion.{PlantVersion}
 use Rattle.plant_record.specs.Description.{Description}
@@ -12,32 +12,32 @@ use Rattle.plant_record.specs.Limits.{Exceeds}
 use Rattle.plant_reading.specs.Lines.{lines_of}
 use Rattle.plant_reading.specs.Words.{words_of}
 use Rattle.plant_reading.specs.Statements.{Statement, States}
-use Rattle.plant_text.specs.Grammar.{Part, nothing_yet, names_in, HasEquations, FitsAfter, extended, Extends, Leads, Reads, IsWhole, Spells, IsFirstRefused}
+use Rattle.plant_text.specs.Grammar.{PartialPlant, nothing_yet, names_in, HasEquations, FitsAfter, extended, Extends, Leads, Reads, IsWhole, Spells, IsFirstRefused}
 use Rattle.plant_text.specs.Refusals.{IsShort, ExceedsLimit}
 use Rattle.plant_text.specs.Laws.{OneRefusal, ReadOrRefused, SpelledPlantsArePlants}
-use Rattle.plant_text.specs.inside.PartRules.{KeepsRules, IsAimless}
-use Rattle.plant_reading.specs.inside.StatementLaws.{OneStatement, PassedOverStatesNothing}
+use Rattle.plant_text.specs.inside.PartialPlantRules.{KeepsRules, IsAimless}
+use Rattle.plant_reading.specs.inside.StatementLaws.{OneStatement, SkippedLinesStateNothing}
 use Rattle.plant_record.proofs.lemmas.Limits.{one_limit, exceeds_none}
 use Rattle.plant_text.proofs.lemmas.RulesKept.{rules_of_nothing, rules_after, rules_led}
 
 -- lines in two pieces lead first through the one and then through the other
-pub led_apart : (q : Part) (first rest : List (List ℕ)) (r : Part) → Leads q (first ++ rest) r → (m : Part) × Leads q first m × Leads m rest r
+pub led_apart : (q : PartialPlant) (first rest : List (List ℕ)) (r : PartialPlant) → Leads q (first ++ rest) r → (m : PartialPlant) × Leads q first m × Leads m rest r
 led_apart q [] rest r leads = (q, refl, leads)
 led_apart q (line ∷ first) rest r leads =
     let later = led_apart leads.0 first rest r leads.2 in
     (later.0, (leads.0, leads.1, later.1), later.2)
 
-pub led_on : (q : Part) (lines : List (List ℕ)) (m : Part) (line : List ℕ) (r : Part) → Leads q lines m → Extends m line r → Leads q (lines ++ line ∷ []) r
-led_on q [] m line r leads extends = (r, subst (λ (x : Part). Extends x line r) leads extends, refl)
+pub led_on : (q : PartialPlant) (lines : List (List ℕ)) (m : PartialPlant) (line : List ℕ) (r : PartialPlant) → Leads q lines m → Extends m line r → Leads q (lines ++ line ∷ []) r
+led_on q [] m line r leads extends = (r, subst (λ (x : PartialPlant). Extends x line r) leads extends, refl)
 led_on q (first ∷ lines) m line r leads extends = (leads.0, leads.1, led_on leads.0 lines m line r leads.2 extends)
 
 -- the first lines spell a part where all do
-pub read_front : (lines : List (List ℕ)) (n : ℕ) (r : Part) → Reads lines r → (m : Part) × Reads (take n lines) m
+pub read_front : (lines : List (List ℕ)) (n : ℕ) (r : PartialPlant) → Reads lines r → (m : PartialPlant) × Reads (take n lines) m
 read_front lines n r reads =
     let parts = led_apart nothing_yet (take n lines) (drop n lines) r (subst (λ (x : List (List ℕ)). Reads x r) (sym (take-append-drop n lines)) reads) in
     (parts.0, parts.1)
 
-read_less : (lines : List (List ℕ)) (n m : ℕ) (r : Part) → n ≤ m → Reads (take m lines) r → (s : Part) × Reads (take n lines) s
+read_less : (lines : List (List ℕ)) (n m : ℕ) (r : PartialPlant) → n ≤ m → Reads (take m lines) r → (s : PartialPlant) × Reads (take n lines) s
 read_less lines n m r le reads =
     let front = read_front (take m lines) n r reads in
     (front.0, subst (λ (x : List (List ℕ)). Reads x front.0) (take-take n m lines le) front.1)
@@ -49,7 +49,7 @@ same_goal : (a b : GoalKind) → Some a ≡ Some b → a ≡ b
 same_goal a b e = cc
 
 -- a whole part holds one plant
-pub one_whole : (q : Part) (p r : Description) → IsWhole q p → IsWhole q r → p ≡ r
+pub one_whole : (q : PartialPlant) (p r : Description) → IsWhole q p → IsWhole q r → p ≡ r
 one_whole q p r first second = λ i.
     record {
       version = same_version p.version r.version (sym first.version ∙ second.version) i;
@@ -63,14 +63,14 @@ one_whole q p r first second = λ i.
     }
 
 -- where a goal stands, each state has its equation
-pub has_equations : (q : Part) → HasEquations q ⊎ IsAimless q → (q.goal ≡ None → ⊥) → HasEquations q
+pub has_equations : (q : PartialPlant) → HasEquations q ⊎ IsAimless q → (q.goal ≡ None → ⊥) → HasEquations q
 has_equations q placed some = elim placed [
   | inl has ↦ has
   | inr aims ↦ absurd (some aims.2)
 ]
 
-module _ (one : OneStatement) (nothing : PassedOverStatesNothing) where
-  once : (q : Part) (line : List ℕ) (r s : Part) → KeepsRules q → Extends q line r → Extends q line s → r ≡ s
+module _ (one : OneStatement) (nothing : SkippedLinesStateNothing) where
+  once : (q : PartialPlant) (line : List ℕ) (r s : PartialPlant) → KeepsRules q → Extends q line r → Extends q line s → r ≡ s
   once q line r s k first second =
       elim first [
         | inl over ↦ elim second [
@@ -83,18 +83,18 @@ module _ (one : OneStatement) (nothing : PassedOverStatesNothing) where
         ]
       ]
 
-  led_once : (q : Part) (lines : List (List ℕ)) (r s : Part) → KeepsRules q → Leads q lines r → Leads q lines s → r ≡ s
+  led_once : (q : PartialPlant) (lines : List (List ℕ)) (r s : PartialPlant) → KeepsRules q → Leads q lines r → Leads q lines s → r ≡ s
   led_once q [] r s k first second = first ∙ sym second
   led_once q (line ∷ lines) r s k first second =
       let same : second.0 ≡ first.0 = once q line second.0 first.0 k second.1 first.1 in
-      led_once first.0 lines r s (rules_after q line first.0 k first.1) first.2 (subst (λ (x : Part). Leads x lines s) same second.2)
+      led_once first.0 lines r s (rules_after q line first.0 k first.1) first.2 (subst (λ (x : PartialPlant). Leads x lines s) same second.2)
 
-  pub read_once : (lines : List (List ℕ)) (r s : Part) → Reads lines r → Reads lines s → r ≡ s
+  pub read_once : (lines : List (List ℕ)) (r s : PartialPlant) → Reads lines r → Reads lines s → r ≡ s
   read_once lines r s first second = led_once nothing_yet lines r s rules_of_nothing first second
 
   pub one_plant : (bytes : List ℕ) (p r : Description) → Spells bytes p → Spells bytes r → p ≡ r
   one_plant bytes p r first second =
-      one_whole first.0 p r first.2 (subst (λ (x : Part). IsWhole x r) (read_once (lines_of bytes) second.0 first.0 second.1 first.1) second.2)
+      one_whole first.0 p r first.2 (subst (λ (x : PartialPlant). IsWhole x r) (read_once (lines_of bytes) second.0 first.0 second.1 first.1) second.2)
 
   -- no line before a refused one is refused
   none_earlier : (lines : List (List ℕ)) (n m : ℕ) (f : IsFirstRefused lines n) (g : IsFirstRefused lines m) → f.before < g.before → ⊥
@@ -124,7 +124,7 @@ module _ (one : OneStatement) (nothing : PassedOverStatesNothing) where
             let same : f.part ≡ spells.0 = read_once (lines_of bytes) f.part spells.0 reads spells.1 in
             let closed = spells.2.closed in
             let open_still = all.1 in
-            let ends : f.part.ended ≡ spells.0.ended = ap (λ (x : Part). x.ended) same in
+            let ends : f.part.ended ≡ spells.0.ended = ap (λ (x : PartialPlant). x.ended) same in
             cc)
       ]
 
@@ -187,7 +187,7 @@ module _ (one : OneStatement) (nothing : PassedOverStatesNothing) where
       ]
 
 -- what a closed part holds is a plant
-pub whole_is_plant : (q : Part) (p : Description) → KeepsRules q → IsWhole q p → IsPlant p
+pub whole_is_plant : (q : PartialPlant) (p : Description) → KeepsRules q → IsWhole q p → IsPlant p
 whole_is_plant q p k whole =
     let placed : HasEquations q = has_equations q k.placed (λ none. (let g = whole.goal in cc)) in
     rw (sym whole.states, sym whole.inputs, sym whole.noises, sym whole.equations, sym whole.targets, sym whole.obstacles) (record {
@@ -212,8 +212,8 @@ whole_is_plant q p k whole =
 pub spelled_is_plant : SpelledPlantsArePlants
 spelled_is_plant bytes p spells = whole_is_plant spells.0 p (rules_led nothing_yet (lines_of bytes) spells.0 rules_of_nothing spells.1) spells.2
 
--- a line whose statement has no place behind a part leads nowhere
-pub nowhere : OneStatement → PassedOverStatesNothing → (q : Part) (line : List ℕ) (s : Statement) → KeepsRules q → States (names_in q) (length q.states) (words_of line) s → (FitsAfter q s → ⊥) → (r : Part) → Extends q line r → ⊥
+-- a line whose statement has no position after a part leads nowhere
+pub nowhere : OneStatement → SkippedLinesStateNothing → (q : PartialPlant) (line : List ℕ) (s : Statement) → KeepsRules q → States (names_in q) (length q.states) (words_of line) s → (FitsAfter q s → ⊥) → (r : PartialPlant) → Extends q line r → ⊥
 nowhere one nothing q line s k says unfit r extends =
     elim extends [
       | inl over ↦ nothing (names_in q) (length q.states) line s over.0 says

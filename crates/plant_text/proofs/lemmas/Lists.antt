@@ -36,20 +36,20 @@ differ names name all new =
     all_pairs_push (λ a b. a ≢ b) names name all (λ k d lt e. new (subst (λ (x : List ℕ). Contains names x) e (Contains-get_or names k d lt)))
 
 -- a name stands once among names that differ
-pub is_new : (names : List (List ℕ)) (before : List (List ℕ)) (name : List ℕ) (behind : List (List ℕ)) → AllPairs (λ a b. a ≢ b) names → before ++ name ∷ behind ≡ names → Contains before name → ⊥
-is_new names before name behind differ together found =
+pub is_new : (names : List (List ℕ)) (before : List (List ℕ)) (name : List ℕ) (after : List (List ℕ)) → AllPairs (λ a b. a ≢ b) names → before ++ name ∷ after ≡ names → Contains before name → ⊥
+is_new names before name after differ together found =
     let apart = subst (λ (ns : List (List ℕ)). AllPairs (λ a b. a ≢ b) ns) (sym together) differ in
-    let first : get_or (before ++ name ∷ behind) found.0 name ≡ name = get_or_append_left before (name ∷ behind) name found.0 found.1 ∙ found.2 in
-    let second : get_or (before ++ name ∷ behind) (length before) name ≡ name = get_or_at before name behind name (length before) refl in
-    apart found.0 (length before) name found.1 (omega (arith, length-append before (name ∷ behind))) (first ∙ sym second)
+    let first : get_or (before ++ name ∷ after) found.0 name ≡ name = get_or_append_left before (name ∷ after) name found.0 found.1 ∙ found.2 in
+    let second : get_or (before ++ name ∷ after) (length before) name ≡ name = get_or_at before name after name (length before) refl in
+    apart found.0 (length before) name found.1 (omega (arith, length-append before (name ∷ after))) (first ∙ sym second)
 
 -- one more of a list
 pub next : {X : Type 0} (done : List X) (x : X) (more all : List X) → done ++ x ∷ more ≡ all → (done ++ x ∷ []) ++ more ≡ all
 next done x more all whole = append_assoc done (x ∷ []) more ∙ whole
 
 -- there is room for one more
-pub room : {X : Type 0} (done : List X) (x : X) (more all : List X) (n : ℕ) → done ++ x ∷ more ≡ all → length all ≤ n → length done < n
-room done x more all n whole bound = omega (arith, bound, length-append done (x ∷ more), ap length whole)
+pub capacity : {X : Type 0} (done : List X) (x : X) (more all : List X) (n : ℕ) → done ++ x ∷ more ≡ all → length all ≤ n → length done < n
+capacity done x more all n whole bound = omega (arith, bound, length-append done (x ∷ more), ap length whole)
 
 pub all_of : {X : Type 0} (done : List X) (all : List X) → done ++ [] ≡ all → done ≡ all
 all_of done all whole = sym (append-nil done) ∙ whole

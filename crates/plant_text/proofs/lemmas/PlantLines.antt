@@ -18,7 +18,7 @@ use Rattle.plant_record.specs.Numbers.{IsLiteral}
 use Rattle.plant_record.specs.Description.{Description, names_over, names_of}
 use Rattle.plant_record.specs.Variables.{IsStateVariable, IsInputVariable, IsNoiseVariable}
 use Rattle.plant_record.specs.Boxes.{IsStateBox}
-use Rattle.plant_record.specs.Equations.{IsEquation, HasNoTable}
+use Rattle.plant_record.specs.Equations.{IsEquation, HasNoLut}
 use Rattle.plant_record.specs.Plants.{IsPlant}
 use Rattle.plant_writing.specs.CanonicalText.{text_of, state_line, input_line, noise_line, equation_line, equation_lines, box_line}
 use Rattle.plant_record.specs.Spelling.{line, version_word, end_words, goal_word}
@@ -26,23 +26,23 @@ use Rattle.plant_writing.specs.ExpressionText.{expression_text}
 use Rattle.plant_reading.specs.Lines.{with_line_feeds}
 use Rattle.plant_reading.specs.Words.{words_of}
 use Rattle.plant_reading.specs.Statements.{Statement, Version, State, Input, Noise, Next, Target, Obstacle, Goal, End, States}
-use Rattle.plant_text.specs.Grammar.{Part, nothing_yet, names_in, FitsAfter, extended, IsWhole}
+use Rattle.plant_text.specs.Grammar.{PartialPlant, nothing_yet, names_in, FitsAfter, extended, IsWhole}
 use Rattle.plant_text.specs.CanonicalFronts.{statement_line, IsInOrder, LeadsCanonically}
 use Rattle.plant_reading.proofs.lemmas.PutTogether.{IsDarkWord, words_front, words_joined}
 use Rattle.plant_text.proofs.lemmas.CanonicalWords.{name_dark, number_dark, numbers_dark, box_dark, goal_dark}
 use Rattle.plant_text.proofs.lemmas.CanonicalTrees.{tokens_spell}
 use Rattle.plant_writing.proofs.lemmas.WrittenLines.{name_of_state}
 use Rattle.plant_record.proofs.lemmas.VariableValues.{names_count}
-use Rattle.plant_text.proofs.lemmas.Lists.{is_new, next, room, all_of}
+use Rattle.plant_text.proofs.lemmas.Lists.{is_new, next, capacity, all_of}
 
 -- A text is that of lines that lead canonically from one part to another.
-pub record LeadsBy (q : Part) (text : List ℕ) (r : Part) : Type 0 where
+pub record LeadsBy (q : PartialPlant) (text : List ℕ) (r : PartialPlant) : Type 0 where
   pub lines : List (List ℕ)
   pub are : with_line_feeds lines ≡ text
   pub leads : LeadsCanonically q lines r
 
 -- a line that states something, in front of others
-stated : (q : Part) (body rest : List ℕ) (statement : Statement) (r : Part) → States (names_in q) (length q.states) (words_of body) statement → FitsAfter q statement → body ++ codes "\n" ≡ statement_line (names_in q) (length q.states) statement
+stated : (q : PartialPlant) (body rest : List ℕ) (statement : Statement) (r : PartialPlant) → States (names_in q) (length q.states) (words_of body) statement → FitsAfter q statement → body ++ codes "\n" ≡ statement_line (names_in q) (length q.states) statement
     → IsInOrder q statement → LeadsBy (extended q statement) rest r → LeadsBy q ((body ++ codes "\n") ++ rest) r
 stated q body rest statement r says fits spelled order more = record {
   lines = body ∷ more.lines;
@@ -51,7 +51,7 @@ stated q body rest statement r says fits spelled order more = record {
 }
 
 -- the parts on the way
-abbrev part : PlantVersion → List StateVariable → List InputVariable → List NoiseVariable → List Expression → List StateBox → List StateBox → Option GoalKind → Part
+abbrev part : PlantVersion → List StateVariable → List InputVariable → List NoiseVariable → List Expression → List StateBox → List StateBox → Option GoalKind → PartialPlant
 part version states inputs noises equations targets obstacles goal =
     record { version = Some version; states = states; inputs = inputs; noises = noises; equations = equations; targets = targets; obstacles = obstacles; goal = goal; ended = false }
 
@@ -74,7 +74,7 @@ noises_before states inputs done w more = simp (map-append, append_assoc)
 
 -- ---- the variables
 
-states_lead : (p : Description) (done more : List StateVariable) (rest : List ℕ) (r : Part) → IsPlant p → done ++ more ≡ p.states → AllByRecursion IsStateVariable more
+states_lead : (p : Description) (done more : List StateVariable) (rest : List ℕ) (r : PartialPlant) → IsPlant p → done ++ more ≡ p.states → AllByRecursion IsStateVariable more
     → LeadsBy (part p.version p.states [] [] [] [] [] None) rest r → LeadsBy (part p.version done [] [] [] [] [] None) (flat_map state_line more ++ rest) r
 states_lead p done [] rest r h whole each then_rest = subst (λ (xs : List StateVariable). LeadsBy (part p.version xs [] [] [] [] [] None) rest r) (sym (all_of done p.states whole)) then_rest
 states_lead p done (s ∷ more) rest r h whole each then_rest =
@@ -88,13 +88,13 @@ states_lead p done (s ∷ more) rest r h whole each then_rest =
       refl,
       refl,
       refl,
-      room done s more p.states 6 whole h.states_bound,
+      capacity done s more p.states 6 whole h.states_bound,
       is_new (names_of p) (names_over done [] []) s.name (names_over more p.inputs p.noises) h.names_differ (states_before done s more p.inputs p.noises ∙ ap (λ (xs : List StateVariable). names_over xs p.inputs p.noises) whole),
     )
     refl tt
     (states_lead p (done ++ s ∷ []) more rest r h (next done s more p.states whole) each.1 then_rest))
 
-inputs_lead : (p : Description) (done more : List InputVariable) (rest : List ℕ) (r : Part) → IsPlant p → done ++ more ≡ p.inputs → AllByRecursion IsInputVariable more
+inputs_lead : (p : Description) (done more : List InputVariable) (rest : List ℕ) (r : PartialPlant) → IsPlant p → done ++ more ≡ p.inputs → AllByRecursion IsInputVariable more
     → LeadsBy (part p.version p.states p.inputs [] [] [] [] None) rest r → LeadsBy (part p.version p.states done [] [] [] [] None) (flat_map input_line more ++ rest) r
 inputs_lead p done [] rest r h whole each then_rest = subst (λ (xs : List InputVariable). LeadsBy (part p.version p.states xs [] [] [] [] None) rest r) (sym (all_of done p.inputs whole)) then_rest
 inputs_lead p done (i ∷ more) rest r h whole each then_rest =
@@ -107,13 +107,13 @@ inputs_lead p done (i ∷ more) rest r h whole each then_rest =
       h.some_state,
       refl,
       refl,
-      room done i more p.inputs 3 whole h.inputs_bound,
+      capacity done i more p.inputs 3 whole h.inputs_bound,
       is_new (names_of p) (names_over p.states done []) i.name (names_over [] more p.noises) h.names_differ (inputs_before p.states done i more p.noises ∙ ap (λ (xs : List InputVariable). names_over p.states xs p.noises) whole),
     )
     refl tt
     (inputs_lead p (done ++ i ∷ []) more rest r h (next done i more p.inputs whole) each.1 then_rest))
 
-noises_lead : (p : Description) (done more : List NoiseVariable) (rest : List ℕ) (r : Part) → IsPlant p → done ++ more ≡ p.noises → AllByRecursion IsNoiseVariable more
+noises_lead : (p : Description) (done more : List NoiseVariable) (rest : List ℕ) (r : PartialPlant) → IsPlant p → done ++ more ≡ p.noises → AllByRecursion IsNoiseVariable more
     → LeadsBy (part p.version p.states p.inputs p.noises [] [] [] None) rest r → LeadsBy (part p.version p.states p.inputs done [] [] [] None) (flat_map noise_line more ++ rest) r
 noises_lead p done [] rest r h whole each then_rest = subst (λ (xs : List NoiseVariable). LeadsBy (part p.version p.states p.inputs xs [] [] [] None) rest r) (sym (all_of done p.noises whole)) then_rest
 noises_lead p done (w ∷ more) rest r h whole each then_rest =
@@ -125,7 +125,7 @@ noises_lead p done (w ∷ more) rest r h whole each then_rest =
     (words_joined (codes "noise") words first dark, each.0) (
       h.some_state,
       refl,
-      room done w more p.noises 6 whole h.noises_bound,
+      capacity done w more p.noises 6 whole h.noises_bound,
       is_new (names_of p) (names_over p.states p.inputs done) w.name (names_over [] [] more) h.names_differ (noises_before p.states p.inputs done w more ∙ ap (λ (xs : List NoiseVariable). names_over p.states p.inputs xs) whole),
     )
     refl tt
@@ -150,8 +150,8 @@ equation_words name text named =
 same_version : (v u : PlantVersion) → Some v ≡ Some u → v ≡ u
 same_version v u e = cc
 
-equations_lead : (p : Description) (done more : List Expression) (passed states : List StateVariable) (rest : List ℕ) (r : Part) → IsPlant p → done ++ more ≡ p.equations → passed ++ states ≡ p.states → length done ≡ length passed
-    → AllByRecursion (IsEquation (length (names_of p))) more → (p.version ≡ One → AllByRecursion HasNoTable more)
+equations_lead : (p : Description) (done more : List Expression) (passed states : List StateVariable) (rest : List ℕ) (r : PartialPlant) → IsPlant p → done ++ more ≡ p.equations → passed ++ states ≡ p.states → length done ≡ length passed
+    → AllByRecursion (IsEquation (length (names_of p))) more → (p.version ≡ One → AllByRecursion HasNoLut more)
     → LeadsBy (part p.version p.states p.inputs p.noises p.equations [] [] None) rest r → LeadsBy (part p.version p.states p.inputs p.noises done [] [] None) (equation_lines (names_of p) states more ++ rest) r
 equations_lead p done [] passed [] rest r h whole along same each plain then_rest = subst (λ (xs : List Expression). LeadsBy (part p.version p.states p.inputs p.noises xs [] [] None) rest r) (sym (all_of done p.equations whole)) then_rest
 equations_lead p done [] passed (s ∷ states) rest r h whole along same each plain then_rest =
@@ -176,7 +176,7 @@ equations_lead p done (e ∷ more) passed (s ∷ states) rest r h whole along sa
 
 -- ---- the boxes
 
-targets_lead : (p : Description) (done more : List StateBox) (rest : List ℕ) (r : Part) → IsPlant p → done ++ more ≡ p.targets → AllByRecursion (IsStateBox (length p.states)) more
+targets_lead : (p : Description) (done more : List StateBox) (rest : List ℕ) (r : PartialPlant) → IsPlant p → done ++ more ≡ p.targets → AllByRecursion (IsStateBox (length p.states)) more
     → LeadsBy (part p.version p.states p.inputs p.noises p.equations p.targets [] None) rest r
     → LeadsBy (part p.version p.states p.inputs p.noises p.equations done [] None) (flat_map (box_line (codes "target") (length p.states)) more ++ rest) r
 targets_lead p done [] rest r h whole each then_rest = subst (λ (xs : List StateBox). LeadsBy (part p.version p.states p.inputs p.noises p.equations xs [] None) rest r) (sym (all_of done p.targets whole)) then_rest
@@ -187,11 +187,11 @@ targets_lead p done (b ∷ more) rest r h whole each then_rest =
     subst (λ (t : List ℕ). LeadsBy (part p.version p.states p.inputs p.noises p.equations done [] None) t r) (sym (append_assoc (box_line (codes "target") n b) (flat_map (box_line (codes "target") n) more) rest))
     (stated (part p.version p.states p.inputs p.noises p.equations done [] None) (join_with_byte 32 (codes "target" ∷ words)) (flat_map (box_line (codes "target") n) more ++ rest) (Target b) r
     (words_joined (codes "target") words first (box_dark n b each.0), each.0)
-    ((h.some_state, h.one_each), refl, room done b more p.targets 64 whole h.targets_bound)
+    ((h.some_state, h.one_each), refl, capacity done b more p.targets 64 whole h.targets_bound)
     refl refl
     (targets_lead p (done ++ b ∷ []) more rest r h (next done b more p.targets whole) each.1 then_rest))
 
-obstacles_lead : (p : Description) (done more : List StateBox) (rest : List ℕ) (r : Part) → IsPlant p → done ++ more ≡ p.obstacles → AllByRecursion (IsStateBox (length p.states)) more
+obstacles_lead : (p : Description) (done more : List StateBox) (rest : List ℕ) (r : PartialPlant) → IsPlant p → done ++ more ≡ p.obstacles → AllByRecursion (IsStateBox (length p.states)) more
     → LeadsBy (part p.version p.states p.inputs p.noises p.equations p.targets p.obstacles None) rest r
     → LeadsBy (part p.version p.states p.inputs p.noises p.equations p.targets done None) (flat_map (box_line (codes "obstacle") (length p.states)) more ++ rest) r
 obstacles_lead p done [] rest r h whole each then_rest =
@@ -203,42 +203,42 @@ obstacles_lead p done (b ∷ more) rest r h whole each then_rest =
     subst (λ (t : List ℕ). LeadsBy (part p.version p.states p.inputs p.noises p.equations p.targets done None) t r) (sym (append_assoc (box_line (codes "obstacle") n b) (flat_map (box_line (codes "obstacle") n) more) rest))
     (stated (part p.version p.states p.inputs p.noises p.equations p.targets done None) (join_with_byte 32 (codes "obstacle" ∷ words)) (flat_map (box_line (codes "obstacle") n) more ++ rest) (Obstacle b) r
     (words_joined (codes "obstacle") words first (box_dark n b each.0), each.0)
-    ((h.some_state, h.one_each), refl, room done b more p.obstacles 64 whole h.obstacles_bound)
+    ((h.some_state, h.one_each), refl, capacity done b more p.obstacles 64 whole h.obstacles_bound)
     refl tt
     (obstacles_lead p (done ++ b ∷ []) more rest r h (next done b more p.obstacles whole) each.1 then_rest))
 
 -- ---- the whole
 
 -- all of a plant
-abbrev pub whole_part : Description → Part
-whole_part p = record (part p.version p.states p.inputs p.noises p.equations p.targets p.obstacles (Some p.goal)) { ended = true }
+abbrev pub whole_plant_part : Description → PartialPlant
+whole_plant_part p = record (part p.version p.states p.inputs p.noises p.equations p.targets p.obstacles (Some p.goal)) { ended = true }
 
 some_goal : (goal : GoalKind) → Some goal ≢ None
 some_goal goal = λ e. cc
 
-no_more : {q : Part} → LeadsBy q [] q
+no_more : {q : PartialPlant} → LeadsBy q [] q
 no_more = record { lines = []; are = refl; leads = refl }
 
-goal_leads : (p : Description) → IsPlant p → LeadsBy (part p.version p.states p.inputs p.noises p.equations p.targets p.obstacles None) (line (codes "goal" ∷ goal_word p.goal ∷ []) ++ (line (codes "end" ∷ []) ++ [])) (whole_part p)
+goal_leads : (p : Description) → IsPlant p → LeadsBy (part p.version p.states p.inputs p.noises p.equations p.targets p.obstacles None) (line (codes "goal" ∷ goal_word p.goal ∷ []) ++ (line (codes "end" ∷ []) ++ [])) (whole_plant_part p)
 goal_leads p h =
     let first : IsDarkWord (codes "goal") = record { dark = refl; some = omega arith } in
-    stated (part p.version p.states p.inputs p.noises p.equations p.targets p.obstacles None) (join_with_byte 32 (codes "goal" ∷ goal_word p.goal ∷ [])) (line (codes "end" ∷ []) ++ []) (Goal p.goal) (whole_part p)
+    stated (part p.version p.states p.inputs p.noises p.equations p.targets p.obstacles None) (join_with_byte 32 (codes "goal" ∷ goal_word p.goal ∷ [])) (line (codes "end" ∷ []) ++ []) (Goal p.goal) (whole_plant_part p)
     (words_joined (codes "goal") (goal_word p.goal ∷ []) first (goal_dark p.goal, tt))
     ((h.some_state, h.one_each), refl, h.kept_aims_nowhere)
     refl tt
-    (stated (part p.version p.states p.inputs p.noises p.equations p.targets p.obstacles (Some p.goal)) (codes "end") [] End (whole_part p) refl (some_goal p.goal, refl) refl tt no_more)
+    (stated (part p.version p.states p.inputs p.noises p.equations p.targets p.obstacles (Some p.goal)) (codes "end") [] End (whole_plant_part p) refl (some_goal p.goal, refl) refl tt no_more)
 
 regrouped : (a b c d e f g i j : List ℕ) → a ++ b ++ c ++ d ++ e ++ f ++ g ++ i ++ j ≡ a ++ (b ++ (c ++ (d ++ (e ++ (f ++ (g ++ (i ++ (j ++ []))))))))
 regrouped a b c d e f g i j = simp (append_assoc, append-nil)
 
-pub is_whole : (p : Description) → IsWhole (whole_part p) p
+pub is_whole : (p : Description) → IsWhole (whole_plant_part p) p
 is_whole p = record { closed = refl; version = refl; states = refl; inputs = refl; noises = refl; equations = refl; targets = refl; obstacles = refl; goal = refl }
 
 version_words : (v : PlantVersion) → words_of (join_with_byte 32 (codes "plant" ∷ version_word v ∷ [])) ≡ codes "plant" ∷ version_word v ∷ []
 version_words One = refl
 version_words Two = refl
 
-pub plant_lines : (p : Description) → IsPlant p → LeadsBy nothing_yet (text_of p) (whole_part p)
+pub plant_lines : (p : Description) → IsPlant p → LeadsBy nothing_yet (text_of p) (whole_plant_part p)
 plant_lines p h =
     let n = length p.states in
     let ending = line (codes "goal" ∷ goal_word p.goal ∷ []) ++ (line (codes "end" ∷ []) ++ []) in
@@ -254,12 +254,12 @@ plant_lines p h =
     (flat_map (box_line (codes "target") n) p.targets) (flat_map (box_line (codes "obstacle") n) p.obstacles) (line (codes "goal" ∷ goal_word p.goal ∷ [])) (line (codes "end" ∷ []))
     )
     in
-    subst (λ (t : List ℕ). LeadsBy nothing_yet t (whole_part p)) text
-    (stated nothing_yet (join_with_byte 32 (codes "plant" ∷ version_word p.version ∷ [])) from_states (Version p.version) (whole_part p) (version_words p.version) refl refl tt
-    (states_lead p [] p.states from_inputs (whole_part p) h refl (recursion_from_All IsStateVariable p.states h.states)
-    (inputs_lead p [] p.inputs from_noises (whole_part p) h refl (recursion_from_All IsInputVariable p.inputs h.inputs)
-    (noises_lead p [] p.noises from_equations (whole_part p) h refl (recursion_from_All IsNoiseVariable p.noises h.noises)
-    (equations_lead p [] p.equations [] p.states from_targets (whole_part p) h refl refl refl (recursion_from_All (IsEquation (length (names_of p))) p.equations h.equations) (λ one. recursion_from_All HasNoTable p.equations (h.tables one))
-    (targets_lead p [] p.targets from_obstacles (whole_part p) h refl (recursion_from_All (IsStateBox n) p.targets h.targets)
-    (obstacles_lead p [] p.obstacles ending (whole_part p) h refl (recursion_from_All (IsStateBox n) p.obstacles h.obstacles)
+    subst (λ (t : List ℕ). LeadsBy nothing_yet t (whole_plant_part p)) text
+    (stated nothing_yet (join_with_byte 32 (codes "plant" ∷ version_word p.version ∷ [])) from_states (Version p.version) (whole_plant_part p) (version_words p.version) refl refl tt
+    (states_lead p [] p.states from_inputs (whole_plant_part p) h refl (recursion_from_All IsStateVariable p.states h.states)
+    (inputs_lead p [] p.inputs from_noises (whole_plant_part p) h refl (recursion_from_All IsInputVariable p.inputs h.inputs)
+    (noises_lead p [] p.noises from_equations (whole_plant_part p) h refl (recursion_from_All IsNoiseVariable p.noises h.noises)
+    (equations_lead p [] p.equations [] p.states from_targets (whole_plant_part p) h refl refl refl (recursion_from_All (IsEquation (length (names_of p))) p.equations h.equations) (λ one. recursion_from_All HasNoLut p.equations (h.tables one))
+    (targets_lead p [] p.targets from_obstacles (whole_plant_part p) h refl (recursion_from_All (IsStateBox n) p.targets h.targets)
+    (obstacles_lead p [] p.obstacles ending (whole_plant_part p) h refl (recursion_from_All (IsStateBox n) p.obstacles h.obstacles)
     (goal_leads p h))))))))

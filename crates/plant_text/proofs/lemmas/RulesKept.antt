@@ -16,24 +16,24 @@ use Rattle.plant_record.specs.declared.version.PlantVersion.TheVariants.{One}
 use Rattle.plant_record.specs.Names.{IsName}
 use Rattle.plant_record.specs.Variables.{IsStateVariable, IsInputVariable, IsNoiseVariable}
 use Rattle.plant_record.specs.Boxes.{IsStateBox}
-use Rattle.plant_record.specs.Equations.{IsEquation, HasLiterals, HasNoTable}
+use Rattle.plant_record.specs.Equations.{IsEquation, HasLiterals, HasNoLut}
 use Rattle.plant_reading.specs.Words.{words_of}
 use Rattle.plant_reading.specs.Tokens.{tokens_of}
 use Rattle.plant_reading.specs.SyntaxTrees.{AreTokensOf}
 use Rattle.plant_reading.specs.Statements.{Statement, Version, State, Input, Noise, Next, Target, Obstacle, Goal, End, States}
-use Rattle.plant_text.specs.Grammar.{Part, nothing_yet, names_in, HasEquations, FitsAfter, extended, Extends, Leads}
-use Rattle.plant_text.specs.inside.PartRules.{KeepsRules, IsAimless}
+use Rattle.plant_text.specs.Grammar.{PartialPlant, nothing_yet, names_in, HasEquations, FitsAfter, extended, Extends, Leads}
+use Rattle.plant_text.specs.inside.PartialPlantRules.{KeepsRules, IsAimless}
 use Rattle.plant_reading.proofs.lemmas.ItemsOfTrees.{tree_literals}
 use Rattle.plant_text.proofs.lemmas.Lists.{differ}
 
 -- a new name at the end of the names
-pub with_state : (q : Part) (s : StateVariable) → q.inputs ≡ [] → q.noises ≡ [] → names_in (extended q (State s)) ≡ names_in q ++ s.name ∷ []
+pub with_state : (q : PartialPlant) (s : StateVariable) → q.inputs ≡ [] → q.noises ≡ [] → names_in (extended q (State s)) ≡ names_in q ++ s.name ∷ []
 with_state q s i w = rw (i, w, map-append (λ (t : StateVariable). t.name) q.states (s ∷ [])) (simp (append_assoc, append-nil))
 
-pub with_input : (q : Part) (i : InputVariable) → q.noises ≡ [] → names_in (extended q (Input i)) ≡ names_in q ++ i.name ∷ []
+pub with_input : (q : PartialPlant) (i : InputVariable) → q.noises ≡ [] → names_in (extended q (Input i)) ≡ names_in q ++ i.name ∷ []
 with_input q i w = rw (w, map-append (λ (t : InputVariable). t.name) q.inputs (i ∷ [])) (simp (append_assoc, append-nil))
 
-pub with_noise : (q : Part) (w : NoiseVariable) → names_in (extended q (Noise w)) ≡ names_in q ++ w.name ∷ []
+pub with_noise : (q : PartialPlant) (w : NoiseVariable) → names_in (extended q (Noise w)) ≡ names_in q ++ w.name ∷ []
 with_noise q w = rw (map-append (λ (t : NoiseVariable). t.name) q.noises (w ∷ [])) (simp append_assoc)
 
 pub rules_of_nothing : KeepsRules nothing_yet
@@ -49,7 +49,7 @@ rules_of_nothing = record {
   names_differ = λ i j d lt below. absurd (omega (arith, below));
   equations_bound = omega arith;
   equations = All-nil (IsEquation 0);
-  tables = λ _. All-nil HasNoTable;
+  tables = λ _. All-nil HasNoLut;
   targets_bound = omega arith;
   targets = All-nil (IsStateBox 0);
   obstacles_bound = omega arith;
@@ -60,23 +60,23 @@ rules_of_nothing = record {
 }
 
 -- where no equation stands, nothing is aimed at
-pub aimless : (q : Part) → KeepsRules q → (HasEquations q → ⊥) → IsAimless q
+pub aimless : (q : PartialPlant) → KeepsRules q → (HasEquations q → ⊥) → IsAimless q
 aimless q k none = elim k.placed [
   | inl has ↦ absurd (none has)
   | inr aims ↦ aims
 ]
 
-pub no_equations : (q : Part) → q.equations ≡ [] → HasEquations q → ⊥
+pub no_equations : (q : PartialPlant) → q.equations ≡ [] → HasEquations q → ⊥
 no_equations q none has = let count : length q.equations ≡ 0 = ap length none in omega (arith, count, has.0, has.1)
 
-rules_state : (q : Part) (s : StateVariable) → KeepsRules q → IsStateVariable s → FitsAfter q (State s) → KeepsRules (extended q (State s))
+rules_state : (q : PartialPlant) (s : StateVariable) → KeepsRules q → IsStateVariable s → FitsAfter q (State s) → KeepsRules (extended q (State s))
 rules_state q s k is fits =
     let names : names_in (extended q (State s)) ≡ names_in q ++ s.name ∷ [] = with_state q s fits.1 fits.2 in
-    let room : length q.states < 6 = fits.4 in
+    let capacity : length q.states < 6 = fits.4 in
     let aims = aimless q k (no_equations q fits.3) in
     record {
       unbegun = λ none. absurd (fits.0 none);
-      states_bound = omega (arith, room, length-append q.states (s ∷ []));
+      states_bound = omega (arith, capacity, length-append q.states (s ∷ []));
       states = All-push IsStateVariable q.states s k.states is;
       inputs_bound = k.inputs_bound;
       inputs = k.inputs;
@@ -96,15 +96,15 @@ rules_state q s k is fits =
       closed = k.closed;
     }
 
-rules_input : (q : Part) (i : InputVariable) → KeepsRules q → IsInputVariable i → FitsAfter q (Input i) → KeepsRules (extended q (Input i))
+rules_input : (q : PartialPlant) (i : InputVariable) → KeepsRules q → IsInputVariable i → FitsAfter q (Input i) → KeepsRules (extended q (Input i))
 rules_input q i k is fits =
     let names : names_in (extended q (Input i)) ≡ names_in q ++ i.name ∷ [] = with_input q i fits.1 in
-    let room : length q.inputs < 3 = fits.3 in
+    let capacity : length q.inputs < 3 = fits.3 in
     record {
       unbegun = k.unbegun;
       states_bound = k.states_bound;
       states = k.states;
-      inputs_bound = omega (arith, room, length-append q.inputs (i ∷ []));
+      inputs_bound = omega (arith, capacity, length-append q.inputs (i ∷ []));
       inputs = All-push IsInputVariable q.inputs i k.inputs is;
       noises_bound = k.noises_bound;
       noises = k.noises;
@@ -122,17 +122,17 @@ rules_input q i k is fits =
       closed = k.closed;
     }
 
-rules_noise : (q : Part) (w : NoiseVariable) → KeepsRules q → IsNoiseVariable w → FitsAfter q (Noise w) → KeepsRules (extended q (Noise w))
+rules_noise : (q : PartialPlant) (w : NoiseVariable) → KeepsRules q → IsNoiseVariable w → FitsAfter q (Noise w) → KeepsRules (extended q (Noise w))
 rules_noise q w k is fits =
     let names : names_in (extended q (Noise w)) ≡ names_in q ++ w.name ∷ [] = with_noise q w in
-    let room : length q.noises < 6 = fits.2 in
+    let capacity : length q.noises < 6 = fits.2 in
     record {
       unbegun = k.unbegun;
       states_bound = k.states_bound;
       states = k.states;
       inputs_bound = k.inputs_bound;
       inputs = k.inputs;
-      noises_bound = omega (arith, room, length-append q.noises (w ∷ []));
+      noises_bound = omega (arith, capacity, length-append q.noises (w ∷ []));
       noises = All-push IsNoiseVariable q.noises w k.noises is;
       names = subst (All IsName) (sym names) (All-push IsName (names_in q) w.name k.names is.name);
       names_differ = subst (AllPairs (λ a b. a ≢ b)) (sym names) (differ (names_in q) w.name k.names_differ fits.3);
@@ -148,11 +148,11 @@ rules_noise q w k is fits =
       closed = k.closed;
     }
 
-module _ (q : Part) (k : KeepsRules q) where
-  -- other equations, boxes and goal behind the same variables
+module _ (q : PartialPlant) (k : KeepsRules q) where
+  -- other equations, boxes and goal after the same variables
   same_variables : (version : Option PlantVersion) (equations : List Expression) (targets obstacles : List StateBox) (goal : Option GoalKind) (ended : Bool)
       → let r = record q { version = version; equations = equations; targets = targets; obstacles = obstacles; goal = goal; ended = ended } in
-      (version ≡ None → q.states ≡ []) → (version ≡ Some One → All HasNoTable equations) → length equations ≤ length q.states → All (IsEquation (length (names_in q))) equations → length targets ≤ 64 → All (IsStateBox (length q.states)) targets → length obstacles ≤ 64 → All (IsStateBox (length q.states)) obstacles
+      (version ≡ None → q.states ≡ []) → (version ≡ Some One → All HasNoLut equations) → length equations ≤ length q.states → All (IsEquation (length (names_in q))) equations → length targets ≤ 64 → All (IsStateBox (length q.states)) targets → length obstacles ≤ 64 → All (IsStateBox (length q.states)) obstacles
       → HasEquations r ⊎ IsAimless r → (goal ≡ Some Keep → targets ≡ []) → (ended ≡ true → (goal ≢ None) × (version ≢ None)) → KeepsRules r
   same_variables version equations targets obstacles goal ended unbegun tables equations_bound equations_are targets_bound targets_are obstacles_bound obstacles_are placed kept_aims_nowhere closed = record {
     unbegun = unbegun;
@@ -180,28 +180,28 @@ module _ (q : Part) (k : KeepsRules q) where
   rules_version v fits =
       let states : q.states ≡ [] = k.unbegun fits in
       let none : q.equations ≡ [] = nil_from_length q.equations (let b = k.equations_bound in let n : length q.states ≡ 0 = ap length states in omega (arith, b, n)) in
-      same_variables (Some v) q.equations q.targets q.obstacles q.goal q.ended (λ e. absurd cc) (λ _. All-same HasNoTable q.equations [] none (All-nil HasNoTable))
+      same_variables (Some v) q.equations q.targets q.obstacles q.goal q.ended (λ e. absurd cc) (λ _. All-same HasNoLut q.equations [] none (All-nil HasNoLut))
       k.equations_bound k.equations k.targets_bound k.targets k.obstacles_bound k.obstacles k.placed k.kept_aims_nowhere (λ ended. ((k.closed ended).0, λ e. cc))
 
   rules_next : (name : List ℕ) (e : Expression) → IsEquation (length (names_in q)) e → FitsAfter q (Next name e) → KeepsRules (extended q (Next name e))
   rules_next name e is fits =
-      let room : length q.equations < length q.states = fits.0 in
-      same_variables q.version (q.equations ++ e ∷ []) q.targets q.obstacles q.goal q.ended k.unbegun (λ v. All-push HasNoTable q.equations e (k.tables v) (fits.2 v))
-      (omega (arith, room, length-append q.equations (e ∷ []))) (All-push (IsEquation (length (names_in q))) q.equations e k.equations is) k.targets_bound k.targets k.obstacles_bound k.obstacles
-      (inr (aimless q k (λ has. omega (arith, room, has.1)))) k.kept_aims_nowhere k.closed
+      let capacity : length q.equations < length q.states = fits.0 in
+      same_variables q.version (q.equations ++ e ∷ []) q.targets q.obstacles q.goal q.ended k.unbegun (λ v. All-push HasNoLut q.equations e (k.tables v) (fits.2 v))
+      (omega (arith, capacity, length-append q.equations (e ∷ []))) (All-push (IsEquation (length (names_in q))) q.equations e k.equations is) k.targets_bound k.targets k.obstacles_bound k.obstacles
+      (inr (aimless q k (λ has. omega (arith, capacity, has.1)))) k.kept_aims_nowhere k.closed
 
   rules_target : (b : StateBox) → IsStateBox (length q.states) b → FitsAfter q (Target b) → KeepsRules (extended q (Target b))
   rules_target b is fits =
-      let room : length q.targets < 64 = fits.2 in
+      let capacity : length q.targets < 64 = fits.2 in
       same_variables q.version q.equations (q.targets ++ b ∷ []) q.obstacles q.goal q.ended k.unbegun k.tables
-      k.equations_bound k.equations (omega (arith, room, length-append q.targets (b ∷ []))) (All-push (IsStateBox (length q.states)) q.targets b k.targets is) k.obstacles_bound k.obstacles
+      k.equations_bound k.equations (omega (arith, capacity, length-append q.targets (b ∷ []))) (All-push (IsStateBox (length q.states)) q.targets b k.targets is) k.obstacles_bound k.obstacles
       (inl fits.0) (λ e. (let g : q.goal ≡ None = fits.1 in cc)) k.closed
 
   rules_obstacle : (b : StateBox) → IsStateBox (length q.states) b → FitsAfter q (Obstacle b) → KeepsRules (extended q (Obstacle b))
   rules_obstacle b is fits =
-      let room : length q.obstacles < 64 = fits.2 in
+      let capacity : length q.obstacles < 64 = fits.2 in
       same_variables q.version q.equations q.targets (q.obstacles ++ b ∷ []) q.goal q.ended k.unbegun k.tables
-      k.equations_bound k.equations k.targets_bound k.targets (omega (arith, room, length-append q.obstacles (b ∷ []))) (All-push (IsStateBox (length q.states)) q.obstacles b k.obstacles is)
+      k.equations_bound k.equations k.targets_bound k.targets (omega (arith, capacity, length-append q.obstacles (b ∷ []))) (All-push (IsStateBox (length q.states)) q.obstacles b k.obstacles is)
       (inl fits.0) k.kept_aims_nowhere k.closed
 
   rules_goal : (kind : GoalKind) → FitsAfter q (Goal kind) → KeepsRules (extended q (Goal kind))
@@ -229,7 +229,7 @@ pub equation_spelled : (names : List (List ℕ)) (tokens : List (List ℕ)) (e :
 equation_spelled names tokens e t =
     record { literals = subst (HasLiterals (length names)) t.means (tree_literals (length names) t.syntax_tree t.grammatical); nodes = t.nodes; depth = t.depth }
 
-pub rules_extended : (q : Part) (words : List (List ℕ)) (s : Statement) → KeepsRules q → States (names_in q) (length q.states) words s → FitsAfter q s → KeepsRules (extended q s)
+pub rules_extended : (q : PartialPlant) (words : List (List ℕ)) (s : Statement) → KeepsRules q → States (names_in q) (length q.states) words s → FitsAfter q s → KeepsRules (extended q s)
 rules_extended q words (Version v) k says fits = rules_version q k v fits
 rules_extended q words (State s) k says fits = rules_state q s k says.1 fits
 rules_extended q words (Input i) k says fits = rules_input q i k says.1 fits
@@ -240,16 +240,16 @@ rules_extended q words (Obstacle b) k says fits = rules_obstacle q k b says.1 fi
 rules_extended q words (Goal kind) k says fits = rules_goal q k kind fits
 rules_extended q words End k says fits = rules_end q k fits
 
-pub rules_after : (q : Part) (line : List ℕ) (r : Part) → KeepsRules q → Extends q line r → KeepsRules r
+pub rules_after : (q : PartialPlant) (line : List ℕ) (r : PartialPlant) → KeepsRules q → Extends q line r → KeepsRules r
 rules_after q line r k e =
     elim e [
       | inl over ↦ subst KeepsRules (sym over.1) k
       | inr stated ↦ subst KeepsRules (sym stated.leads_to) (rules_extended q (words_of line) stated.statement k stated.states stated.fits)
     ]
 
-pub rules_led : (q : Part) (lines : List (List ℕ)) (r : Part) → KeepsRules q → Leads q lines r → KeepsRules r
+pub rules_led : (q : PartialPlant) (lines : List (List ℕ)) (r : PartialPlant) → KeepsRules q → Leads q lines r → KeepsRules r
 rules_led q [] r k leads = subst KeepsRules (sym leads) k
 rules_led q (line ∷ lines) r k leads = rules_led leads.0 lines r (rules_after q line leads.0 k leads.1) leads.2
 
-pub rules_stated : (q : Part) (words : List (List ℕ)) (s : Statement) (r : Part) → KeepsRules q → States (names_in q) (length q.states) words s → FitsAfter q s → r ≡ extended q s → KeepsRules r
+pub rules_stated : (q : PartialPlant) (words : List (List ℕ)) (s : Statement) (r : PartialPlant) → KeepsRules q → States (names_in q) (length q.states) words s → FitsAfter q s → r ≡ extended q s → KeepsRules r
 rules_stated q words s r k says fits is = subst KeepsRules (sym is) (rules_extended q words s k says fits)

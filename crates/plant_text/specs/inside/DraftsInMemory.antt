@@ -2,10 +2,10 @@
 use Rattle.std.specs.Prelude.{map}
 use Rattle.fixed_expr.specs.Expression.{expression_of}
 use Rattle.plant_text.specs.declared.draft.Draft.{Draft}
-use Rattle.plant_text.specs.Grammar.{Part}
+use Rattle.plant_text.specs.Grammar.{PartialPlant}
 
-abbrev pub part_of : Draft → Part
-part_of d = record {
+abbrev pub partial_of : Draft → PartialPlant
+partial_of d = record {
   version = d.version;
   states = d.variables.states.items;
   inputs = d.variables.inputs.items;

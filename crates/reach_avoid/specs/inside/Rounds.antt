@@ -13,9 +13,9 @@ use Rattle.game_core.specs.Counts.{times, one_if}
 use Rattle.game_core.specs.Game.{Game, mark_of, pairs_of, successors_at}
 use Rattle.game_core.specs.Solution.{row_of}
 use Rattle.game_core.specs.Tally.{all_pairs, rank_by}
-use Rattle.board_crew.specs.Crew.{cuts_in, offers_in, logged_cells, claimed, cut_to}
+use Rattle.board_rounds.specs.Crew.{cuts_in, offers_in, logged_cells, claimed, cut_to}
 use Rattle.reach_avoid.specs.Boards.{word_at}
-use Rattle.reach_avoid.specs.Reckoned.{bid_of, bid_at}
+use Rattle.reach_avoid.specs.Reckoned.{word_and_value, due_offer}
 
 -- the row that a word tells
 abbrev pub row_in : ℕ → Option Row
@@ -31,8 +31,8 @@ abbrev pub word_after : Game → List Account → ℕ → ℕ
 word_after g accounts c = least_from (word_at (mark_of g c)) (values (all_offers c accounts))
 
 -- the rows that these accounts tell
-abbrev pub rows_told : Game → List Account → List (Option Row)
-rows_told g accounts = map (λ c. row_in (word_after g accounts c)) (range_with_len 0 g.cells)
+abbrev pub decoded_rows : Game → List Account → List (Option Row)
+decoded_rows g accounts = map (λ c. row_in (word_after g accounts c)) (range_with_len 0 g.cells)
 
 -- a row of a rank below k
 abbrev pub below_in : ℕ → Option Row → Bool
@@ -53,8 +53,8 @@ abbrev pub is_done : Game → List (Option Row) → ℕ → ℕ → Bool
 is_done g rows k pair = nat_lt 0 (length (successors_at g pair)) && (taken_in g rows k pair == length (successors_at g pair))
 
 -- the bids of the pairs that are done, by the ranks of their successors
-abbrev pub bids_done : Game → List (Option Row) → ℕ → List (ℕ × ℕ)
-bids_done g rows k = map (λ pair. bid_at g (rank_by g rows pair) pair) (filter (is_done g rows k) (all_pairs g))
+abbrev pub due_offers : Game → List (Option Row) → ℕ → List (ℕ × ℕ)
+due_offers g rows k = map (λ pair. due_offer g (rank_by g rows pair) pair) (filter (is_done g rows k) (all_pairs g))
 
 -- lawful for each pair, which begins with its successors, and for each cell
 pub record IsLawfulFor (g : Game) (accounts : List Account) : Type 0 where
@@ -62,7 +62,7 @@ pub record IsLawfulFor (g : Game) (accounts : List Account) : Type 0 where
   pub cells : (c : ℕ) → c < g.cells → (now : ℕ) × IsLawfulLeast accounts c (word_at (mark_of g c)) now
 
 -- an offer on the word of a cell, of a value that tells a row
-pub record IsBid (g : Game) (o : Offer) : Type 0 where
+pub record IsDueOffer (g : Game) (o : Offer) : Type 0 where
   pub word : o.word < g.cells
   pub some : 0 < o.value
   pub less : o.value < NONE
@@ -70,13 +70,13 @@ pub record IsBid (g : Game) (o : Offer) : Type 0 where
 -- before the round of a rank: all cells of lesser ranks are taken, and those of this rank are on the list
 pub record IsReached (g : Game) (rank : ℕ) (list : List ℕ) (accounts : List Account) : Type 0 where
   pub lawful : IsLawfulFor g accounts
-  pub cuts : (pair : ℕ) → pair < pairs_of g → cut_count pair accounts ≡ taken_in g (rows_told g accounts) rank pair
+  pub cuts : (pair : ℕ) → pair < pairs_of g → cut_count pair accounts ≡ taken_in g (decoded_rows g accounts) rank pair
   pub no_other_cut : All (λ (c : Cut). c.counter < pairs_of g) (cuts_in accounts)
-  pub offers : IsPermutation (bids_done g (rows_told g accounts) rank) (map bid_of (offers_in accounts))
-  pub valued : All (IsBid g) (offers_in accounts)
+  pub offers : IsPermutation (due_offers g (decoded_rows g accounts) rank) (map word_and_value (offers_in accounts))
+  pub valued : All (IsDueOffer g) (offers_in accounts)
   pub logs : logged_cells (all_logs accounts) ≡ claimed (offers_in accounts)
-  pub highest : (c : ℕ) (row : Row) → row_of (rows_told g accounts) c ≡ Some row → row.rank ≤ rank
-  pub cells : (c : ℕ) → c < g.cells → times c list ≡ one_if (rank_is rank (row_of (rows_told g accounts) c))
+  pub highest : (c : ℕ) (row : Row) → row_of (decoded_rows g accounts) c ≡ Some row → row.rank ≤ rank
+  pub cells : (c : ℕ) → c < g.cells → times c list ≡ one_if (rank_is rank (row_of (decoded_rows g accounts) c))
   pub within : All (λ c. c < g.cells) list
 
 abbrev pub is_goal : Mark → Bool
@@ -99,7 +99,7 @@ last_cuts cuts = cut_to 0 cuts
 -- what the account of a worker keeps in the round of a rank: each cut that used up a pair bid, and each cell that was first bid on was logged
 pub record KeepsRule (g : Game) (rank : ℕ) (a : Account) : Type 0 where
   pub no_other_cut : All (λ (c : Cut). c.counter < pairs_of g) a.cuts
-  pub offers : map bid_of a.offers ≡ map (bid_at g (suc rank)) (last_cuts a.cuts)
+  pub offers : map word_and_value a.offers ≡ map (due_offer g (suc rank)) (last_cuts a.cuts)
   pub logs : logged_cells a.logs ≡ claimed a.offers
 
 -- a row stays as it is, and one that comes has the next rank

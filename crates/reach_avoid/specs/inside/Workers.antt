@@ -2,14 +2,14 @@
 use Rattle.std.specs.Prelude.{◌≡◌, ℕ, suc, ◌==◌, cond, [], ◌∷◌, ◌++◌, map}
 use Rattle.cell_counters.specs.Tokens.{HandModel}
 use Rattle.game_core.specs.Game.{Game}
-use Rattle.board_crew.specs.Crew.{logged_cells, claimed}
-use Rattle.reach_avoid.specs.Reckoned.{bid_of, bid_at}
+use Rattle.board_rounds.specs.Crew.{logged_cells, claimed}
+use Rattle.reach_avoid.specs.Reckoned.{word_and_value, due_offer}
 
 -- a worker has bid for a pair, and logged the pair's cell where it was the first to bid on it
-pub record Bids (g : Game) (rank pair : ℕ) (before after : HandModel) : Type 0 where
+pub record DueOffers (g : Game) (rank pair : ℕ) (before after : HandModel) : Type 0 where
   pub at : after.board ≡ before.board
   pub cuts : after.account.cuts ≡ before.account.cuts
-  pub offers : map bid_of after.account.offers ≡ map bid_of before.account.offers ++ bid_at g (suc rank) pair ∷ []
+  pub offers : map word_and_value after.account.offers ≡ map word_and_value before.account.offers ++ due_offer g (suc rank) pair ∷ []
   pub logs : logged_cells before.account.logs ≡ claimed before.account.offers → logged_cells after.account.logs ≡ claimed after.account.offers
   pub notes : after.account.notes ≡ before.account.notes
 
@@ -18,6 +18,6 @@ pub record Cuts (g : Game) (rank pair : ℕ) (before after : HandModel) : Type 0
   pub left : ℕ
   pub at : after.board ≡ before.board
   pub cuts : after.account.cuts ≡ before.account.cuts ++ record { counter = pair; left = left } ∷ []
-  pub offers : map bid_of after.account.offers ≡ map bid_of before.account.offers ++ cond (left == 0) (bid_at g (suc rank) pair ∷ []) []
+  pub offers : map word_and_value after.account.offers ≡ map word_and_value before.account.offers ++ cond (left == 0) (due_offer g (suc rank) pair ∷ []) []
   pub logs : logged_cells before.account.logs ≡ claimed before.account.offers → logged_cells after.account.logs ≡ claimed after.account.offers
   pub notes : after.account.notes ≡ before.account.notes

@@ -14,7 +14,7 @@ use std::thread::{Threads, join, map_vec, yield_now};
 /// How many tables are published before the readers are told.
 const TOLD: u32 = 2;
 
-/// How many tables are published behind these, while the readers ask.
+/// How many tables are published after these, while the readers ask.
 const PUBLISHES: u32 = 200;
 
 /// A reader, and what it is to be told.
@@ -25,7 +25,7 @@ struct Pupil {
     ghost same: { told.opening ≡ reader.opening },
 }
 
-/// Asks until an answer comes from a table of this number, or behind it. None where a number falls before that.
+/// Asks until an answer comes from a table of this number, or after it. None where a number falls before that.
 fn follow(reader: &mut Reader, from: u32, until: u32) -> Option<u32> {
     let mut last = from;
     for _ in 0..MANY {

@@ -1,8 +1,8 @@
 -- What stands between the rounds of a keep game, and what a round adds.
 use Rattle.std.specs.Prelude.{◌≡◌, ◌≢◌, ℕ, zero, suc, ◌+◌, ◌-◌, ◌/◌, ◌<◌, ◌≤◌, ◌⊎◌, Bool, true, false, not, ◌&&◌, ◌==◌, nat_lt, cond, List, [], filter, length, sum_by, count_by, Option, Some, None, All}
 use Rattle.std.specs.List.{range_with_len}
-use Rattle.board_crew.specs.Resolving.{AreTold}
-use Rattle.board_crew.specs.Crew.{cuts_in, offers_in, logged_cells, counters_of, cut_to}
+use Rattle.board_rounds.specs.Resolving.{AreTold}
+use Rattle.board_rounds.specs.Crew.{cuts_in, offers_in, logged_cells, counters_of, cut_to}
 use Rattle.game_core.specs.Counts.{one_if, times}
 use Rattle.cell_counters.specs.declared.account.Cut.{Cut}
 use Rattle.cell_counters.specs.declared.account.Account.{Account}
@@ -23,12 +23,12 @@ abbrev pub gone_in : Game → ℕ → ℕ → ℕ
 gone_in g d pair = count_by (fell_before g d) (successors_at g pair)
 
 -- the cell of a pair is no obstacle, and a successor fell in a round before d
-abbrev pub is_hit : Game → ℕ → ℕ → Bool
-is_hit g d pair = not (is_obstacle (mark_of g (pair / g.inputs))) && nat_lt 0 (gone_in g d pair)
+abbrev pub is_cell_cut : Game → ℕ → ℕ → Bool
+is_cell_cut g d pair = not (is_obstacle (mark_of g (pair / g.inputs))) && nat_lt 0 (gone_in g d pair)
 
 -- how many pairs of a cell are hit
-abbrev pub hits_at : Game → ℕ → ℕ → ℕ
-hits_at g d c = count_by (is_hit g d) (pairs_at g c)
+abbrev pub cell_cuts_at : Game → ℕ → ℕ → ℕ
+cell_cuts_at g d c = count_by (is_cell_cut g d) (pairs_at g c)
 
 -- lawful for each pair, which begins with its successors, and for each cell, which begins with its enabled inputs
 pub record IsLawfulFor (g : Game) (accounts : List Account) : Type 0 where
@@ -39,7 +39,7 @@ pub record IsLawfulFor (g : Game) (accounts : List Account) : Type 0 where
 pub record AreFalling (g : Game) (d : ℕ) (list : List ℕ) (accounts : List Account) : Type 0 where
   pub lawful : IsLawfulFor g accounts
   pub cuts : (pair : ℕ) → pair < pairs_of g → cut_count pair accounts ≡ gone_in g d pair
-  pub cell_cuts : (c : ℕ) → c < g.cells → cut_count (pairs_of g + c) accounts ≡ hits_at g d c
+  pub cell_cuts : (c : ℕ) → c < g.cells → cut_count (pairs_of g + c) accounts ≡ cell_cuts_at g d c
   pub no_other_cut : All (λ (c : Cut). c.counter < pairs_of g + g.cells) (cuts_in accounts)
   pub no_offer : offers_in accounts ≡ []
   -- logged are the cells that fell after round 0
@@ -61,12 +61,12 @@ abbrev pub firsts_in : Game → List Cut → ℕ → ℕ
 firsts_in g cuts pair = times pair (cut_to (length (successors_at g pair) - 1) cuts)
 
 -- how many of these cuts were the first of a pair of the cell, none where the cell is an obstacle
-abbrev pub hits_in : Game → List Cut → ℕ → ℕ
-hits_in g cuts c = cond (is_obstacle (mark_of g c)) 0 (sum_by (firsts_in g cuts) (pairs_at g c))
+abbrev pub cell_cuts_in : Game → List Cut → ℕ → ℕ
+cell_cuts_in g cuts c = cond (is_obstacle (mark_of g c)) 0 (sum_by (firsts_in g cuts) (pairs_at g c))
 
 -- a cell is cut for the first cut of each of its pairs, and logged for the cut that uses it up
 pub record IsInStep (g : Game) (cuts : List Cut) (logged : List ℕ) : Type 0 where
-  pub cells : (c : ℕ) → c < g.cells → times (pairs_of g + c) (counters_of cuts) ≡ hits_in g cuts c
+  pub cells : (c : ℕ) → c < g.cells → times (pairs_of g + c) (counters_of cuts) ≡ cell_cuts_in g cuts c
   pub logs : (c : ℕ) → times c logged ≡ times (pairs_of g + c) (cut_to 0 cuts)
   pub no_other_cut : All (λ (c : Cut). c.counter < pairs_of g + g.cells) cuts
 
@@ -84,12 +84,12 @@ abbrev pub AreFewCuts : Game → List Account → Type 0
 AreFewCuts g accounts = (pair : ℕ) → pair < pairs_of g → cut_count pair accounts ≤ length (successors_at g pair)
 
 -- the row of a cell: none where it is an obstacle or has no whole pair, else that of the least input whose pair is whole
-abbrev pub IsRowTold : Game → List Account → ℕ → Option Row → Type 0
-IsRowTold g accounts c None = (mark_of g c ≡ Obstacle) ⊎ ((u : ℕ) → u < g.inputs → is_whole g accounts (pair_of g c u) ≡ false)
-IsRowTold g accounts c (Some row) =
+abbrev pub IsRowDecoded : Game → List Account → ℕ → Option Row → Type 0
+IsRowDecoded g accounts c None = (mark_of g c ≡ Obstacle) ⊎ ((u : ℕ) → u < g.inputs → is_whole g accounts (pair_of g c u) ≡ false)
+IsRowDecoded g accounts c (Some row) =
     (mark_of g c ≢ Obstacle) × (row.rank ≡ 0) × (row.input < g.inputs) × (is_whole g accounts (pair_of g c row.input) ≡ true)
     × ((u : ℕ) → u < row.input → is_whole g accounts (pair_of g c u) ≡ false)
 
 -- the rows that these accounts tell
-abbrev pub AreRowsTold : Game → List Account → List (Option Row) → Type 0
-AreRowsTold g accounts rows = AreTold g.cells (IsRowTold g accounts) rows
+abbrev pub AreRowsDecoded : Game → List Account → List (Option Row) → Type 0
+AreRowsDecoded g accounts rows = AreTold g.cells (IsRowDecoded g accounts) rows

@@ -4,7 +4,7 @@ use Rattle.std.specs.List.{range_with_len}
 use Rattle.game_core.specs.declared.game.Mark.{Mark}
 use Rattle.game_core.specs.declared.game.Mark.TheVariants.{Goal, Obstacle, Plain}
 use Rattle.game_core.specs.declared.game.Row.{Row}
-use Rattle.game_core.specs.Game.{Game, mark_of, remarked}
+use Rattle.game_core.specs.Game.{Game, mark_of, with_marks}
 use Rattle.game_core.specs.Solution.{row_of}
 
 -- all but goals are obstacles
@@ -18,7 +18,7 @@ marks_to_hold g = map (λ c. hold_mark (mark_of g c)) (range_with_len 0 g.cells)
 
 -- the game in which all but goals are obstacles
 abbrev pub goals_alone : Game → Game
-goals_alone g = remarked g (marks_to_hold g)
+goals_alone g = with_marks g (marks_to_hold g)
 
 -- a cell with a row is a goal, and no other
 abbrev pub end_mark : Mark → Option Row → Mark

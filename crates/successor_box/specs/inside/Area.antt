@@ -5,8 +5,8 @@ use Rattle.grid_quantiser.specs.declared.axis.Axis.{Axis}
 use Rattle.grid_quantiser.specs.Cells.{radius_of}
 use Rattle.plant_record.specs.declared.variables.NoiseVariable.{NoiseVariable}
 use Rattle.plant_record.specs.Description.{Description, axes_of, vectors_of, vector_of}
-use Rattle.successor_box.specs.declared.fault.SlopeFault.{SlopeFault}
-use Rattle.successor_box.specs.declared.fault.SlopeFault.TheVariants.{Overflow, Memory}
+use Rattle.successor_box.specs.declared.slope_fault.SlopeFault.{SlopeFault}
+use Rattle.successor_box.specs.declared.slope_fault.SlopeFault.TheVariants.{Overflow, Memory}
 use Rattle.successor_box.specs.Boxes.{noise_centre, area_of, area_between, radii_of}
 use Rattle.successor_box.specs.Deviations.{HasNoOverflowAt}
 

@@ -1,13 +1,13 @@
 -- The outcome of a fault of a layer below.
-use Rattle.plant_record.specs.declared.fault.LimitKind.TheVariants.{Edges}
-use Rattle.plant_text.specs.declared.fault.PlantFault.{PlantFault}
-use Rattle.plant_text.specs.declared.fault.PlantFault.TheVariants as plants
-use Rattle.controller_table.specs.declared.fault.TableFault.{TableFault}
-use Rattle.controller_table.specs.declared.fault.TableFault.TheVariants as tables
-use Rattle.successor_box.specs.declared.fault.SlopeFault.{SlopeFault}
-use Rattle.successor_box.specs.declared.fault.SlopeFault.TheVariants as slopes
-use Rattle.abstraction_table.specs.declared.fault.BuildFault.{BuildFault}
-use Rattle.abstraction_table.specs.declared.fault.BuildFault.TheVariants as builds
+use Rattle.plant_record.specs.declared.limit_kind.LimitKind.TheVariants.{Edges}
+use Rattle.plant_text.specs.declared.plant_fault.PlantFault.{PlantFault}
+use Rattle.plant_text.specs.declared.plant_fault.PlantFault.TheVariants as plants
+use Rattle.controller_table.specs.declared.table_fault.TableFault.{TableFault}
+use Rattle.controller_table.specs.declared.table_fault.TableFault.TheVariants as tables
+use Rattle.successor_box.specs.declared.slope_fault.SlopeFault.{SlopeFault}
+use Rattle.successor_box.specs.declared.slope_fault.SlopeFault.TheVariants as slopes
+use Rattle.abstraction_table.specs.declared.build_fault.BuildFault.{BuildFault}
+use Rattle.abstraction_table.specs.declared.build_fault.BuildFault.TheVariants as builds
 use Rattle.run_devices.specs.declared.transfer.ReadFault.{ReadFault}
 use Rattle.run_devices.specs.declared.transfer.ReadFault.TheVariants as reads
 use Rattle.synth_run.specs.declared.outcome.Outcome.{Outcome}

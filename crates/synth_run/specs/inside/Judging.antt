@@ -8,7 +8,7 @@ use Rattle.plant_game.specs.Abstraction.{IsGameOf}
 use Rattle.plant_game.specs.Solution.{Solves}
 use Rattle.table_check.specs.declared.verdict.Verdict.{Verdict}
 use Rattle.table_check.specs.Verdicts.{IsVerdict}
-use Rattle.synth_run.specs.Demands.{IsRightFor}
+use Rattle.synth_run.specs.IsOutcomeFor.{IsRightFor}
 
 -- the verdict on rows for a goal: valid exactly for the solution, else the first cell that isn't right
 abbrev pub IsVerdictFor : GoalKind → Game → List (Option Row) → Verdict → Type 0

@@ -1,4 +1,4 @@
--- The bytes of what a form writes.
+-- The bytes of what a command writes.
 use Rattle.std.specs.Prelude.{◌≡◌, ℕ, ◌≤◌, List, Some}
 use Rattle.game_core.specs.declared.game.Row.{Row}
 use Rattle.successor_box.specs.Deviations.{HasNoOverflow, deviations_of}

@@ -3,7 +3,7 @@ use Rattle.std.proofs.lemmas.List.{length-map}
 use Rattle.grid_quantiser.specs.declared.axis.Axis.{Axis}
 use Rattle.grid_quantiser.specs.Axes.{no_axis}
 use Rattle.plant_record.specs.Description.{axis_of}
-use Rattle.plant_record.specs.InputPlaces.{value_count}
+use Rattle.plant_record.specs.ValueIndices.{value_count}
 use Rattle.abstraction_table.proofs.PairDigits.{count_along, count_among}
 use Rattle.abstraction_table.proofs.digits.count_of.Goals as goal
 

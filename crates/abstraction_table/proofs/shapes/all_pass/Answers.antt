@@ -2,16 +2,16 @@ use Rattle.std.proofs.Common.{◌≡◌, All, take, refl, sym, subst, ◌∙◌,
 use Rattle.std.proofs.lemmas.Bool.{false≢true}
 use Rattle.std.proofs.lemmas.List.{take_all}
 use Rattle.abstraction_table.specs.inside.Shapes.{cells_from}
-use Rattle.abstraction_table.proofs.PassingBoxes.{run_passes_too}
-use Rattle.abstraction_table.proofs.ShapeRuns.{no_run}
+use Rattle.abstraction_table.proofs.PassingBoxes.{segment_passes_too}
+use Rattle.abstraction_table.proofs.Segments.{no_segment}
 use Rattle.abstraction_table.proofs.shapes.all_pass.Goals as goal
 
-pub returns-then-not-run_passes : goal.returns-then-not-run_passes
-returns-then-not-run_passes g c =
-    let here = run_passes_too (g.T.CellTest.passes c.args.test.now) c.args.first c.args.runs.now c.loop-run.run-index no_run c.loop-run-test.true in
-    (λ e. absurd (false≢true e), λ all. absurd (false≢true (sym c.if-not-run_passes.true ∙ c.run_passes.ensures.1 (here all))))
+pub returns-then-not-segment_passes : goal.returns-then-not-segment_passes
+returns-then-not-segment_passes g c =
+    let here = segment_passes_too (g.T.CellTest.passes c.args.test.now) c.args.first c.args.segments.now c.loop-segment.segment-index no_segment c.loop-segment-test.true in
+    (λ e. absurd (false≢true e), λ all. absurd (false≢true (sym c.if-not-segment_passes.true ∙ c.segment_passes.ensures.1 (here all))))
 
 pub returns : goal.returns
 returns g c =
-    let whole : take c.loop-run.run-index c.args.runs.now ≡ c.args.runs.now = take_all c.loop-run.run-index c.args.runs.now (omega (arith, c.loop-run-test.false)) in
-    (λ e. subst (λ runs. All (g.T.CellTest.passes c.args.test.now) (cells_from c.args.first runs)) whole c.loop-run.invariant, λ all. refl)
+    let whole : take c.loop-segment.segment-index c.args.segments.now ≡ c.args.segments.now = take_all c.loop-segment.segment-index c.args.segments.now (omega (arith, c.loop-segment-test.false)) in
+    (λ e. subst (λ segments. All (g.T.CellTest.passes c.args.test.now) (cells_from c.args.first segments)) whole c.loop-segment.invariant, λ all. refl)

@@ -12,7 +12,7 @@ loop-at-init c =
 pub loop-at-preserved : goal.loop-at-preserved
 loop-at-preserved c =
     read_on c.args.version c.args.plant.now c.args.bytes.now c.loop-at.rest.now c.loop-at.answer c.loop-at.at c.loop-at.before c.loop-at.invariant.0 c.loop-at.invariant.1
-    c.in-Some.run' c.in-Some.behind.now c.fill_run.new.answer c.in-Some.ensures c.fill_run.ensures.rows c.fill_run.ensures.length
+    c.in-Some.run' c.in-Some.after.now c.fill_run.new.answer c.in-Some.ensures c.fill_run.ensures.rows c.fill_run.ensures.length
 
 pub returns-in_default-clause-refused : goal.returns-in_default-clause-refused
 returns-in_default-clause-refused c =

@@ -13,9 +13,9 @@ returns-else-may_follow c = λ y h.
     let v = c.args.version in
     let p = c.args.plant.now in
     let run = c.in_ok-run.run' in
-    let behind = c.in_ok-run.behind.now in
-    let found : IsRunAt v p.goal c.args.bytes.now (run, behind) = subst (λ (k : GoalKind). IsRunAt v k c.args.bytes.now (run, behind)) c.goal.ensures c.in_ok-run.ensures in
-    let same : run ≡ y.0 = one_run v p.goal run y.0 behind y.1 found.0 (spelled_run v p y.0 c.requires h.cells h.is) (sym found.1 ∙ h.text) in
+    let after = c.in_ok-run.after.now in
+    let found : IsRunAt v p.goal c.args.bytes.now (run, after) = subst (λ (k : GoalKind). IsRunAt v k c.args.bytes.now (run, after)) c.goal.ensures c.in_ok-run.ensures in
+    let same : run ≡ y.0 = one_run v p.goal run y.0 after y.1 found.0 (spelled_run v p y.0 c.requires h.cells h.is) (sym found.1 ∙ h.text) in
     let fits : IsRunOf p run = subst (IsRunOf p) (sym same) h.is in
     let follows : MayFollowOn v c.args.before run = subst (MayFollowOn v c.args.before) (sym same) h.follows in
     elim c.else-may_follow.branch [

@@ -2,7 +2,7 @@ use Rattle.std.proofs.Common.{◌≡◌, ◌+◌, ◌^◌, ◌<◌, ◌++◌, le
 use Rattle.edge_rows.specs.inside.Runs.{AreFree, written}
 use Rattle.edge_rows.proofs.fill.write_each.Given as goal
 
--- the places so far are written, and those behind them come next
+-- the slots so far are written, and those after them come next
 abbrev pub invariant-loop-end : goal.invariant-loop-end
 invariant-loop-end l = record {
   small : length l.block < 2 ^ 32;

@@ -15,5 +15,5 @@ returns c =
     record {
       whole = c.partition_point.ensures.bound;
       before = λ k d below. omega (arith, ints, is, point.0 k d (omega arith) below);
-      behind = λ k d above below. omega (arith, ints, is, point.1 k d above below);
+      after = λ k d above below. omega (arith, ints, is, point.1 k d above below);
     }

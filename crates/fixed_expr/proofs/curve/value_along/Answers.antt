@@ -2,7 +2,7 @@ use Rattle.std.proofs.Common.{◌≡◌, ◌<◌, ◌^◌, nat_abs, arith, ap, t
 use Rattle.std.specs.Prelude.{ℤ, ◌+ℤ◌, ◌-ℤ◌, ◌*ℤ◌, ◌≤ℤ◌, ◌<ℤ◌, FitsSigned}
 use Rattle.std.specs.Int.{w128}
 use Rattle.std.proofs.lemmas.Int.{ints, to_z-of_z}
-use Rattle.fixed_expr.specs.Quotient.{floor_div}
+use Rattle.fixed_expr.specs.DivExpr.{floor_div}
 use Rattle.fixed_expr.specs.Curves.{IsShort, value_along}
 use Rattle.fixed_expr.proofs.Pieces.{short_between, between_points}
 use Rattle.fixed_expr.proofs.curve.value_along.Goals as goal
@@ -16,16 +16,16 @@ apart_fits y z h k = omega (arith, ints, h, k)
 abbrev held : ℤ → ℤ
 held z = to_z w128 (of_z w128 z)
 
-module _ (p q : ℤ × ℤ) (x : ℤ) (from : IsShort p) (to : IsShort q) (behind : p.0 ≤ℤ x) (before : x <ℤ q.0) where
+module _ (p q : ℤ × ℤ) (x : ℤ) (from : IsShort p) (to : IsShort q) (after : p.0 ≤ℤ x) (before : x <ℤ q.0) where
   -- the value is as short as those of the points
   short_value : nat_abs (value_along p q x) < 10 ^ 18
   short_value =
-      let rises : p.0 <ℤ q.0 = omega (arith, ints, behind, before) in
-      short_between p q (value_along p q x) from to (between_points p q rises x behind (omega (arith, ints, before)))
+      let rises : p.0 <ℤ q.0 = omega (arith, ints, after, before) in
+      short_between p q (value_along p q x) from to (between_points p q rises x after (omega (arith, ints, before)))
 
   sum_is : (r : ℤ) → r ≡ floor_div (held (held q.1 -ℤ held p.1) *ℤ held (held x -ℤ held p.0)) (held (held q.0 -ℤ held p.0)) → p.1 +ℤ r ≡ value_along p q x
   sum_is r is =
-      let short : nat_abs x < 10 ^ 18 = along p.0 q.0 from.0 to.0 behind before in
+      let short : nat_abs x < 10 ^ 18 = along p.0 q.0 from.0 to.0 after before in
       ap (λ (k : ℤ). p.1 +ℤ k)
       (rw (
         to_z-of_z w128 q.1 (short_fits q.1 to.1),
@@ -47,8 +47,8 @@ overflow_add-result c =
     let q = c.args.q in
     let x : ℤ = c.args.x in
     let r : ℤ = c.part_of.result in
-    let short = short_value p q x c.requires.from c.requires.to c.requires.behind c.requires.before in
-    rw (to_z-of_z w128 p.1 (short_fits p.1 c.requires.from.1), to_z-of_z w128 r (record { sfits = c.part_of.type_inv }), sum_is p q x c.requires.from c.requires.to c.requires.behind c.requires.before r c.part_of.ensures)
+    let short = short_value p q x c.requires.from c.requires.to c.requires.after c.requires.before in
+    rw (to_z-of_z w128 p.1 (short_fits p.1 c.requires.from.1), to_z-of_z w128 r (record { sfits = c.part_of.type_inv }), sum_is p q x c.requires.from c.requires.to c.requires.after c.requires.before r c.part_of.ensures)
     (short_fits (value_along p q x) short)
 
 pub returns-clause-value : goal.returns-clause-value
@@ -57,10 +57,10 @@ returns-clause-value c =
     let q = c.args.q in
     let x : ℤ = c.args.x in
     let r : ℤ = c.part_of.result in
-    let short = short_value p q x c.requires.from c.requires.to c.requires.behind c.requires.before in
-    rw (to_z-of_z w128 p.1 (short_fits p.1 c.requires.from.1), to_z-of_z w128 r (record { sfits = c.part_of.type_inv }), sum_is p q x c.requires.from c.requires.to c.requires.behind c.requires.before r c.part_of.ensures)
+    let short = short_value p q x c.requires.from c.requires.to c.requires.after c.requires.before in
+    rw (to_z-of_z w128 p.1 (short_fits p.1 c.requires.from.1), to_z-of_z w128 r (record { sfits = c.part_of.type_inv }), sum_is p q x c.requires.from c.requires.to c.requires.after c.requires.before r c.part_of.ensures)
     (to_z-of_z w128 (value_along p q x) (short_fits (value_along p q x) short))
 
 pub returns-clause-short : goal.returns-clause-short
 returns-clause-short c =
-    rw (returns-clause-value c) (short_value c.args.p c.args.q c.args.x c.requires.from c.requires.to c.requires.behind c.requires.before)
+    rw (returns-clause-value c) (short_value c.args.p c.args.q c.args.x c.requires.from c.requires.to c.requires.after c.requires.before)

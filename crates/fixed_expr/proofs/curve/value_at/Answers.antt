@@ -4,7 +4,7 @@ use Rattle.std.specs.Int.{w128}
 use Rattle.std.proofs.lemmas.Int.{to_z-of_z}
 use Rattle.fixed_expr.specs.Curves.{IsCurve, value_along, curve_value}
 use Rattle.fixed_expr.specs.inside.Passed.{ArePassed}
-use Rattle.fixed_expr.proofs.PointsPassed.{value_before, value_behind, value_between}
+use Rattle.fixed_expr.proofs.PointsPassed.{value_before, value_after, value_between}
 use Rattle.fixed_expr.proofs.curve.value_at.Goals as goal
 
 between : (points : List (ℤ × ℤ)) (x : ℤ) (n : ℕ) → IsCurve points → ArePassed points x n → (n ≡ 0 → ⊥) → (n ≡ length points → ⊥) → value_along (get_or points (n - 1) (pos 0, pos 0)) (get_or points n (pos 0, pos 0)) x ≡ curve_value points x
@@ -26,7 +26,7 @@ returns-then-passed-points-clause-value c =
     let n : ℕ = c.points_passed-passed.result in
     let passed = rw (to_z-of_z w128 c.args.x c.ranges.x) at c.points_passed-passed.ensures in
     let fits : FitsSigned w128 (get_or points (n - 1) (pos 0, pos 0)).1 = search rules in
-    to_z-of_z w128 (get_or points (n - 1) (pos 0, pos 0)).1 fits ∙ value_behind points c.args.x n (pos 0, pos 0) c.requires passed c.if-passed-points.true
+    to_z-of_z w128 (get_or points (n - 1) (pos 0, pos 0)).1 fits ∙ value_after points c.args.x n (pos 0, pos 0) c.requires passed c.if-passed-points.true
 
 pub returns-else-passed-points-clause-value : goal.returns-else-passed-points-clause-value
 returns-else-passed-points-clause-value c =

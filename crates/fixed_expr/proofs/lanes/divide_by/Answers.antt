@@ -1,5 +1,5 @@
 use Rattle.std.proofs.Common.{rules, pos}
-use Rattle.fixed_expr.specs.Quotient.{floor_div}
+use Rattle.fixed_expr.specs.DivExpr.{floor_div}
 use Rattle.fixed_expr.specs.Lanes.{at}
 use Rattle.fixed_expr.proofs.LaneSteps.{one_more}
 use Rattle.fixed_expr.proofs.lanes.divide_by.Goals as goal

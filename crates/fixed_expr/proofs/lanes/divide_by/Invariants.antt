@@ -1,5 +1,5 @@
 use Rattle.std.proofs.Common.{◌≡◌, length, pos}
-use Rattle.fixed_expr.specs.Quotient.{floor_div}
+use Rattle.fixed_expr.specs.DivExpr.{floor_div}
 use Rattle.fixed_expr.specs.Lanes.{at}
 use Rattle.fixed_expr.specs.inside.Progress.{AreDone}
 use Rattle.fixed_expr.proofs.lanes.divide_by.Given as goal

@@ -13,10 +13,10 @@ returns-then-items-eq0-clause-swept g c = none_sweeps g.T.Toil.done c.args.membe
 
 pub do_all-requires-clause-sound : goal.do_all-requires-clause-sound
 do_all-requires-clause-sound g c κs within =
-    All-hands (g.T.Toil.sound c.args.toil.now) c.args.members.now c.forget_rooms.new.members
-    (c.forget_rooms.ensures.hands ∙ told c.share_out.result (hands c.share_out.new.members ≡ hands c.args.members.now) c.share_out.ensures.same (sym c.is_err.ensures.value ∙ c.if-is_err.true)) c.requires.sound
+    All-hands (g.T.Toil.sound c.args.job.now) c.args.members.now c.forget_locals.new.members
+    (c.forget_locals.ensures.hands ∙ told c.run_in_batches.result (hands c.run_in_batches.new.members ≡ hands c.args.members.now) c.run_in_batches.ensures.same (sym c.is_err.ensures.value ∙ c.if-is_err.true)) c.requires.sound
 
 pub returns-then-is_err-clause-swept : goal.returns-then-is_err-clause-swept
 returns-then-is_err-clause-swept g c =
-    sweeps_as g.T.Toil.done c.args.members.now c.forget_rooms.new.members _ c.args.items
-    (c.forget_rooms.ensures.hands ∙ told c.share_out.result (hands c.share_out.new.members ≡ hands c.args.members.now) c.share_out.ensures.same (sym c.is_err.ensures.value ∙ c.if-is_err.true)) c.do_all.ensures.swept
+    sweeps_as g.T.Toil.done c.args.members.now c.forget_locals.new.members _ c.args.items
+    (c.forget_locals.ensures.hands ∙ told c.run_in_batches.result (hands c.run_in_batches.new.members ≡ hands c.args.members.now) c.run_in_batches.ensures.same (sym c.is_err.ensures.value ∙ c.if-is_err.true)) c.do_all.ensures.swept

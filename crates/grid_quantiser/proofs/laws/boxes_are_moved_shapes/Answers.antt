@@ -1,5 +1,5 @@
 use Rattle.grid_quantiser.proofs.BoxCells.{corners_below}
-use Rattle.grid_quantiser.proofs.BoxRuns.{box_ordered}
+use Rattle.grid_quantiser.proofs.BoxSegments.{box_ordered}
 use Rattle.grid_quantiser.proofs.BoxShapes.{shape_box, moved_shape}
 use Rattle.grid_quantiser.proofs.laws.boxes_are_moved_shapes.Goals as goal
 

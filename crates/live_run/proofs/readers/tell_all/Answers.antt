@@ -12,10 +12,10 @@ loop-reader-preserved c =
     let lt : i < length readers = omega arith in
     let x = get_or readers i c.reader-item.result in
     let told = c.in_ok-tell.ensures.told ∙ inv.same in
-    let step = in_step_again p x c.learn.new.self (inv.opening i c.reader-item.result (omega arith) lt) (inv.behind i c.reader-item.result (omega arith) lt) (c.learn.ensures ∙ ap (λ (q : Published). record x { told = longer x.told q.list }) told) in
+    let step = in_step_again p x c.learn.new.self (inv.opening i c.reader-item.result (omega arith) lt) (inv.after i c.reader-item.result (omega arith) lt) (c.learn.ensures ∙ ap (λ (q : Published). record x { told = longer x.told q.list }) told) in
     record {
       same = c.in_ok-tell.ensures.same ∙ inv.same;
       told = told_more p readers i c.learn.new.self lt inv.told step;
       opening = others_stay (λ (r : Listener). r.opening ≡ p.opening) readers i c.learn.new.self inv.opening;
-      behind = others_stay (λ (r : Listener). length r.told < length p.list) readers i c.learn.new.self inv.behind;
+      after = others_stay (λ (r : Listener). length r.told < length p.list) readers i c.learn.new.self inv.after;
     }

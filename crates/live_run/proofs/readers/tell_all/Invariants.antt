@@ -8,5 +8,5 @@ invariant-loop-reader l = record {
   same : l.publisher ≡ l.fn.publisher;
   told : (k : ℕ) (d : Listener) → k < l.reader-index → InStep l.fn.publisher (get_or l.readers k d);
   opening : (k : ℕ) (d : Listener) → l.reader-index ≤ k → k < length l.readers → (get_or l.readers k d).opening ≡ l.fn.publisher.opening;
-  behind : (k : ℕ) (d : Listener) → l.reader-index ≤ k → k < length l.readers → length (get_or l.readers k d).told < length l.fn.publisher.list;
+  after : (k : ℕ) (d : Listener) → l.reader-index ≤ k → k < length l.readers → length (get_or l.readers k d).told < length l.fn.publisher.list;
 }

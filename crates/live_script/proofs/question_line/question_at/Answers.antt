@@ -14,11 +14,11 @@ returns-in-Some c =
     let numbers = c.loop-rest.question in
     let z = c.in_ok-number.number in
     let pushed : c.push.new.self ≡ numbers ++ z ∷ [] = c.push.ensures ∙ ap (λ (y : ℤ). numbers ++ y ∷ []) (widened z c.from.result c.in_ok-number.ensures.2.0 c.from.ensures) in
-    rw pushed (ended c.args.bytes.now numbers c.loop-rest.rest.now c.in_ok-number.behind.now c.in-Some.next.now z c.loop-rest.invariant (omega (arith, c.loop-rest-test.true, c.count.ensures)) c.in_ok-number.ensures c.in-Some.ensures)
+    rw pushed (ended c.args.bytes.now numbers c.loop-rest.rest.now c.in_ok-number.after.now c.in-Some.next.now z c.loop-rest.invariant (omega (arith, c.loop-rest-test.true, c.count.ensures)) c.in_ok-number.ensures c.in-Some.ensures)
 
 pub loop-rest-preserved : goal.loop-rest-preserved
 loop-rest-preserved c =
     let numbers = c.loop-rest.question in
     let z = c.in_ok-number.number in
     let pushed : c.push.new.self ≡ numbers ++ z ∷ [] = c.push.ensures ∙ ap (λ (y : ℤ). numbers ++ y ∷ []) (widened z c.from.result c.in_ok-number.ensures.2.0 c.from.ensures) in
-    rw pushed (read_more c.args.bytes.now numbers c.loop-rest.rest.now c.in_ok-number.behind.now z c.loop-rest.invariant (omega (arith, c.loop-rest-test.true, c.count.ensures)) c.in_ok-number.ensures c.in_default.ensures)
+    rw pushed (read_more c.args.bytes.now numbers c.loop-rest.rest.now c.in_ok-number.after.now z c.loop-rest.invariant (omega (arith, c.loop-rest-test.true, c.count.ensures)) c.in_ok-number.ensures c.in_default.ensures)

@@ -7,8 +7,8 @@ use Rattle.live_table.proofs.publisher.show.Goals as goal
 pub show_as-requires : goal.show_as-requires
 show_as-requires g c =
     let now = c.open-open.result.0 in
-    turns _ _ now.shown.value (record { in_force = Some c.args.in_force })
-    (subst (λ (z : Option Published). Begins z (Some c.args.in_force)) (sym (ap (λ p. p.value.in_force) c.open-open.ensures.values.0)) c.requires)
+    turns _ _ now.shown.value (record { current = Some c.args.current })
+    (subst (λ (z : Option Published). Begins z (Some c.args.current)) (sym (ap (λ p. p.value.current) c.open-open.ensures.values.0)) c.requires)
 
 pub returns : goal.returns
-returns g c = record { shown = ap (λ s. s.in_force) c.show_as.ensures.values.0; is = c.show_as.ensures.rule.1.1 }
+returns g c = record { shown = ap (λ s. s.current) c.show_as.ensures.values.0; is = c.show_as.ensures.rule.1.1 }

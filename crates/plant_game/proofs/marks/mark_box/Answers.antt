@@ -10,4 +10,4 @@ mark_cells-requires c =
     let axes = c.args.grid.now in
     let b = c.in-Some.b in
     let box : IsCellBox axes b.first b.last = subst (λ (o : Option CellBox). IfSome o (λ (b : CellBox). IsCellBox axes b.first b.last)) c.in-Some.is c.requires.ordered in
-    rw (c.runs.ensures, c.requires.one_each) (box_below axes b.first b.last box)
+    rw (c.segments.ensures, c.requires.one_each) (box_below axes b.first b.last box)

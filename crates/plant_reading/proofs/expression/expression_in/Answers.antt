@@ -1,7 +1,7 @@
 use Rattle.std.proofs.Common.{◌≡◌, ap}
 use Rattle.std.specs.Prelude.{Err}
 use Rattle.std.proofs.lemmas.Result.{err_from_is_err_and}
-use Rattle.plant_reading.specs.declared.fault.ReadFault.TheVariants as faults
+use Rattle.plant_reading.specs.declared.line_fault.LineFault.TheVariants as faults
 use Rattle.plant_reading.specs.inside.LineTokens.{tokens_in}
 use Rattle.plant_reading.specs.inside.ExpressionMachine.{machine_of}
 use Rattle.plant_record.specs.Parts.{variable_names}

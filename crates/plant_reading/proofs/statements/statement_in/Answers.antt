@@ -5,7 +5,7 @@ use Rattle.plant_reading.specs.Statements.{States}
 use Rattle.plant_reading.specs.Words.{words_of}
 use Rattle.plant_reading.specs.declared.statements.Keyword.{Keyword}
 use Rattle.plant_reading.proofs.lemmas.RefusalsPassOn.{refused_whole}
-use Rattle.plant_reading.proofs.lemmas.KeywordsTell.{has_keyword}
+use Rattle.plant_reading.proofs.lemmas.KeywordsDiffer.{has_keyword}
 use Rattle.plant_reading.proofs.statements.statement_in.Goals as goal
 
 pub returns-in_err-keyword-clause-refused : goal.returns-in_err-keyword-clause-refused

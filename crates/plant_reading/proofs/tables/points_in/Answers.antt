@@ -36,14 +36,14 @@ returns-then-not-is_comma-clause-points c =
 pub loop-rest-preserved : goal.loop-rest-preserved
 loop-rest-preserved c =
     let comma : c.in-Some-next_token.token.now ≡ codes "," = same c.in-Some-next_token.token.now (codes ",") (cc (c.is_comma.ensures, c.if-not-is_comma.false)) in
-    let room : length c.loop-rest.points.items < 32 = omega (arith, c.loop-rest-test.true, c.len.ensures) in
+    let capacity : length c.loop-rest.points.items < 32 = omega (arith, c.loop-rest-test.true, c.len.ensures) in
     let more : c.push.new.self.items ≡ c.loop-rest.points.items ++ c.in-Some.point ∷ [] = c.in_ok-push.ensures.items in
     let count : length c.push.new.self.items ≡ length (c.loop-rest.points.items ++ c.in-Some.point ∷ []) = ap length more in
     record {
-      read = rw more (one_more (tokens_in c.args.bytes.now) (tokens_in c.loop-rest.rest.now) (tokens_in c.in-Some.after.now) (tokens_in c.in-Some-next_token.after.now) c.loop-rest.points.items c.in-Some.point c.loop-rest.invariant.read room c.in-Some.ensures.point
+      read = rw more (one_more (tokens_in c.args.bytes.now) (tokens_in c.loop-rest.rest.now) (tokens_in c.in-Some.after.now) (tokens_in c.in-Some-next_token.after.now) c.loop-rest.points.items c.in-Some.point c.loop-rest.invariant.read capacity c.in-Some.ensures.point
           (c.in-Some-next_token.ensures.tokens ∙ ap (λ (t : List ℕ). t ∷ tokens_in c.in-Some-next_token.after.now) comma));
       short = rw more (All-push IsShort c.loop-rest.points.items c.in-Some.point c.loop-rest.invariant.short c.in-Some.ensures.short);
-      bound = omega (arith, room, count, length-append c.loop-rest.points.items (c.in-Some.point ∷ []));
+      bound = omega (arith, capacity, count, length-append c.loop-rest.points.items (c.in-Some.point ∷ []));
       no_longer = omega (arith, c.loop-rest.invariant.no_longer, c.in-Some.ensures.shorter, c.in-Some-next_token.ensures.shorter);
     }
 

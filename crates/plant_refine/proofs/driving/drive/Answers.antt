@@ -3,7 +3,7 @@ use Rattle.grid_quantiser.specs.Axes.{cells_of}
 use Rattle.plant_record.specs.Description.{axes_of}
 use Rattle.plant_record.specs.Limits.{HasFewCells}
 use Rattle.plant_record.specs.Plants.{IsPlant}
-use Rattle.plant_refine.specs.Runs.{ArrivesFirst}
+use Rattle.plant_refine.specs.Trajectories.{ArrivesFirst}
 use Rattle.plant_refine.specs.inside.Descents.{LeadDown}
 use Rattle.plant_refine.proofs.Choosing.{rank_below}
 use Rattle.plant_refine.proofs.InBoxes.{gets}

@@ -1,6 +1,6 @@
-use Rattle.plant_reading.proofs.lemmas.StatementLaws.{one_statement, passed_over}
+use Rattle.plant_reading.proofs.lemmas.StatementLaws.{one_statement, skipped}
 use Rattle.plant_text.proofs.lemmas.LinesLead as leading
 use Rattle.plant_text.proofs.laws.one_refusal.Goals as goal
 
 pub returns : goal.returns
-returns c = leading.one_refusal one_statement passed_over
+returns c = leading.one_refusal one_statement skipped

@@ -15,5 +15,5 @@ decreases-push_two l = 4 * max (depth_of (expression_of l.left.1.now)) (depth_of
 abbrev pub decreases-push_call : goal.decreases-push_call
 decreases-push_call l = 4 * max (depth_of (expression_of l.a.now)) (depth_of (expression_of l.b.now)) + 3
 
-abbrev pub decreases-push_table : goal.decreases-push_table
-decreases-push_table l = 4 * depth_of (expression_of l.a.now) + 2
+abbrev pub decreases-push_lut : goal.decreases-push_lut
+decreases-push_lut l = 4 * depth_of (expression_of l.a.now) + 2

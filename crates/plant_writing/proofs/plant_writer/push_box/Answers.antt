@@ -11,9 +11,9 @@ loop-i-preserved c =
     let low : FitsSigned w128 (get_or b.low c.loop-i.i (pos 0)) = search rules in
     let high : FitsSigned w128 (get_or b.high c.loop-i.i (pos 0)) = search rules in
     let before : c.loop-i.i < length b.low = omega arith in
-    let behind : c.loop-i.i < length b.high = omega arith in
+    let after : c.loop-i.i < length b.high = omega arith in
     rw (c.in_ok-push_spaced-2.ensures, c.in_ok-push_spaced.ensures, c.loop-i.invariant, to_z-of_z w128 (get_or b.low c.loop-i.i (pos 0)) low, to_z-of_z w128 (get_or b.high c.loop-i.i (pos 0)) high)
-    (box_more c.args.text.now.items c.args.keyword.now c.loop-i.i b.low b.high before behind)
+    (box_more c.args.text.now.items c.args.keyword.now c.loop-i.i b.low b.high before after)
 
 pub returns : goal.returns
 returns c =

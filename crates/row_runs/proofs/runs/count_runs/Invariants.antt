@@ -1,5 +1,5 @@
 use Rattle.std.proofs.Common.{◌≡◌, ◌+◌, ◌-◌, ◌≤◌, length, drop}
-use Rattle.row_runs.specs.declared.run.Version.TheVariants.{Second}
+use Rattle.row_runs.specs.declared.run.TableVersion.TheVariants.{Second}
 use Rattle.row_runs.specs.Runs.{runs_from}
 use Rattle.row_runs.proofs.runs.count_runs.Given as goal
 

@@ -1,4 +1,4 @@
-use Rattle.row_runs.specs.declared.run.Version.TheVariants.{Second}
+use Rattle.row_runs.specs.declared.run.TableVersion.TheVariants.{Second}
 use Rattle.row_runs.proofs.NextRows.{no_runs_left, run_is_next}
 use Rattle.row_runs.proofs.runs.next_run.Goals as goal
 

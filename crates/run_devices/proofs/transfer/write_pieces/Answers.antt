@@ -11,9 +11,9 @@ returns-in_err-write_whole-clause-part g c =
     let bytes : Bor (List ℕ) → List ℕ = λ piece. piece.now in
     let piece : List ℕ = (get_or c.args.pieces.now c.loop-piece.piece-index (record { ref_ptr = (0, 0); now = [] })).now in
     let more : List ℕ = flat_map bytes (drop (c.loop-piece.piece-index + 1) c.args.pieces.now) in
-    rw p.1 (piece_part (writing g.O.Sink.got g.O.Sink.faults g.O.Sink.room c.args.out.now c.write_whole.new.out) (g.O.Sink.got c.loop-piece.out) (g.O.Sink.faults c.loop-piece.out) (g.O.Sink.room c.loop-piece.out)
+    rw p.1 (piece_part (writing g.O.Sink.got g.O.Sink.faults g.O.Sink.capacity c.args.out.now c.write_whole.new.out) (g.O.Sink.got c.loop-piece.out) (g.O.Sink.faults c.loop-piece.out) (g.O.Sink.capacity c.loop-piece.out)
     (flat_map bytes c.args.pieces.now) (flat_map bytes (drop c.loop-piece.piece-index c.args.pieces.now)) piece more
-    c.loop-piece.invariant.written c.loop-piece.invariant.faults c.loop-piece.invariant.room
+    c.loop-piece.invariant.written c.loop-piece.invariant.faults c.loop-piece.invariant.capacity
     (pieces_from bytes c.args.pieces.now c.loop-piece.piece-index (record { ref_ptr = (0, 0); now = [] }) c.loop-piece-test.true)
     c.in_err-write_whole.ensures.part)
 
@@ -26,5 +26,5 @@ loop-piece-preserved g c =
     record {
       written = piece_more _ _ _ _ _ _ _ c.loop-piece.invariant.written cut c.in_ok-write_whole.ensures.whole.gained;
       faults = c.in_ok-write_whole.ensures.whole.no_fault ∙ c.loop-piece.invariant.faults;
-      room = omega (arith, c.loop-piece.invariant.room, c.in_ok-write_whole.ensures.room, ap length cut, length-append piece more);
+      capacity = omega (arith, c.loop-piece.invariant.capacity, c.in_ok-write_whole.ensures.capacity, ap length cut, length-append piece more);
     }

@@ -7,5 +7,5 @@ abbrev pub invariant-loop-piece : goal.invariant-loop-piece
 invariant-loop-piece g l = record {
   written : WrittenSoFar (g.O.Sink.got l.fn.out) (g.O.Sink.got l.out) (flat_map (λ piece. piece.now) l.pieces) (flat_map (λ piece. piece.now) (drop l.piece-index l.pieces));
   faults : g.O.Sink.faults l.out ≡ g.O.Sink.faults l.fn.out;
-  room : g.O.Sink.room l.fn.out + length (flat_map (λ piece. piece.now) (drop l.piece-index l.pieces)) ≤ g.O.Sink.room l.out + length (flat_map (λ piece. piece.now) l.pieces);
+  capacity : g.O.Sink.capacity l.fn.out + length (flat_map (λ piece. piece.now) (drop l.piece-index l.pieces)) ≤ g.O.Sink.capacity l.out + length (flat_map (λ piece. piece.now) l.pieces);
 }

@@ -15,7 +15,7 @@ loop-count-preserved g c =
     (record {
       written = piece_more _ _ _ _ _ piece more c.loop-count.invariant.written cut c.in_ok-write_whole.ensures.whole.gained;
       faults = c.in_ok-write_whole.ensures.whole.no_fault ∙ c.loop-count.invariant.faults;
-      room = omega (arith, c.loop-count.invariant.room, c.in_ok-write_whole.ensures.room, ap length cut, length-append piece more);
+      capacity = omega (arith, c.loop-count.invariant.capacity, c.in_ok-write_whole.ensures.capacity, ap length cut, length-append piece more);
     })
 
 pub returns-in_err-write_whole-clause-part : goal.returns-in_err-write_whole-clause-part
@@ -25,8 +25,8 @@ returns-in_err-write_whole-clause-part g c =
     let left : List ℕ = g.T.Pieces.left c.loop-count.text in
     let piece : List ℕ = take n c.next_piece-count.new.buf in
     let more : List ℕ = drop n left in
-    rw p.1 (piece_part (writing g.O.Sink.got g.O.Sink.faults g.O.Sink.room c.args.out.now c.write_whole.new.out) (g.O.Sink.got c.loop-count.out) (g.O.Sink.faults c.loop-count.out) (g.O.Sink.room c.loop-count.out)
+    rw p.1 (piece_part (writing g.O.Sink.got g.O.Sink.faults g.O.Sink.capacity c.args.out.now c.write_whole.new.out) (g.O.Sink.got c.loop-count.out) (g.O.Sink.faults c.loop-count.out) (g.O.Sink.capacity c.loop-count.out)
     (g.T.Pieces.left c.args.text.now) left piece more
-    c.loop-count.invariant.written c.loop-count.invariant.faults c.loop-count.invariant.room
+    c.loop-count.invariant.written c.loop-count.invariant.faults c.loop-count.invariant.capacity
     (piece_cut left c.next_piece-count.new.buf n c.next_piece-count.ensures.piece)
     c.in_err-write_whole.ensures.part)

@@ -6,7 +6,7 @@ abbrev pub invariant-loop-count : goal.invariant-loop-count
 invariant-loop-count g l = record {
   written : WrittenSoFar (g.O.Sink.got l.fn.out) (g.O.Sink.got l.out) (g.T.Pieces.left l.fn.text) (g.T.Pieces.left l.text);
   faults : g.O.Sink.faults l.out ≡ g.O.Sink.faults l.fn.out;
-  room : g.O.Sink.room l.fn.out + length (g.T.Pieces.left l.text) ≤ g.O.Sink.room l.out + length (g.T.Pieces.left l.fn.text);
+  capacity : g.O.Sink.capacity l.fn.out + length (g.T.Pieces.left l.text) ≤ g.O.Sink.capacity l.out + length (g.T.Pieces.left l.fn.text);
 }
 
 abbrev pub decreases-loop-count : goal.decreases-loop-count

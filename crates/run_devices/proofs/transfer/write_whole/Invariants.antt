@@ -6,7 +6,7 @@ abbrev pub invariant-loop-rest : goal.invariant-loop-rest
 invariant-loop-rest g l = record {
   written : WrittenSoFar (g.O.Sink.got l.fn.out) (g.O.Sink.got l.out) l.text l.rest;
   faults : g.O.Sink.faults l.out ≡ g.O.Sink.faults l.fn.out;
-  room : g.O.Sink.room l.fn.out + length l.rest ≤ g.O.Sink.room l.out + length l.text;
+  capacity : g.O.Sink.capacity l.fn.out + length l.rest ≤ g.O.Sink.capacity l.out + length l.text;
 }
 
 abbrev pub decreases-loop-rest : goal.decreases-loop-rest

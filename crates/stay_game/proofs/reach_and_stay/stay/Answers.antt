@@ -2,7 +2,7 @@ use Rattle.std.proofs.Common.{ℕ, List, length, Option, ap, sym, subst, ◌∙�
 use Rattle.std.proofs.lemmas.List.FromFn.{length-map-range_with_len}
 use Rattle.game_core.specs.declared.game.Mark.{Mark}
 use Rattle.game_core.specs.declared.game.Row.{Row}
-use Rattle.game_core.specs.Game.{Game, IsGraph, mark_of, remarked}
+use Rattle.game_core.specs.Game.{Game, IsGraph, mark_of, with_marks}
 use Rattle.game_core.specs.Keep.{IsKeepSolution}
 use Rattle.game_core.specs.Solution.{IsReachSolution}
 use Rattle.stay_game.specs.Stay.{IsStaySolution}
@@ -22,10 +22,10 @@ returns g c =
     let held : List (Option Row) = c.in_ok-held.field-0.answer in
     let others : List (Option Row) = c.in_ok-rows.field-0.answer in
     let keeps : IsKeepSolution (goals_alone game) held =
-    subst (λ (m : Game). IsKeepSolution m held) (c.new.ensures ∙ ap (remarked game) (c.deref.ensures.value ∙ c.in_ok-marks.ensures)) c.in_ok-held.ensures.solution
+    subst (λ (m : Game). IsKeepSolution m held) (c.new.ensures ∙ ap (with_marks game) (c.deref.ensures.value ∙ c.in_ok-marks.ensures)) c.in_ok-held.ensures.solution
     in
-    let reaches : IsReachSolution (remarked game (marks_to_reach game held)) others =
-    subst (λ (m : Game). IsReachSolution m others) (c.new-2.ensures ∙ ap (remarked game) (c.deref-2.ensures.value ∙ c.in_ok-marks-2.ensures)) c.in_ok-rows.ensures.solution
+    let reaches : IsReachSolution (with_marks game (marks_to_reach game held)) others =
+    subst (λ (m : Game). IsReachSolution m others) (c.new-2.ensures ∙ ap (with_marks game) (c.deref-2.ensures.value ∙ c.in_ok-marks-2.ensures)) c.in_ok-rows.ensures.solution
     in
     subst (IsStaySolution game) (sym (c.put_over.ensures ∙ ap (λ (n : ℕ). rows_over n held others) keeps.one_each))
     (stays game lawful.game held others keeps reaches)

@@ -3,10 +3,10 @@ use Rattle.std.specs.Prelude.{ℤ, pos}
 use Rattle.std.specs.Global.{Vec}
 use borrow.Author.Count.{below_more}
 use Rattle.std.proofs.lemmas.List.{map-append, map_more, take_all}
-use Rattle.fixed_expr.specs.Expression.{Number}
+use Rattle.fixed_expr.specs.Expression.{NumExpr}
 use Rattle.plant_record.specs.Description.{vectors_of}
 use Rattle.successor_box.specs.Deviations.{HasNoOverflowAt, deviations_along}
-use Rattle.successor_box.proofs.DeviationRows.{equations_count}
+use Rattle.successor_box.proofs.DeviationLanes.{equations_count}
 use Rattle.successor_box.proofs.slopes.find_slopes.Goals as goal
 
 pub deviations_along-requires-clause-equation : goal.deviations_along-requires-clause-equation
@@ -19,9 +19,9 @@ loop-equation-preserved c =
     let each = equations_count _ _ c.equations-equation-end.ensures.same in
     let below : k < length p.equations = omega (arith, each) in
     record {
-      so_far = ap (map (λ (row : Vec ℤ). row.items)) c.in_ok-push.ensures.items ∙ map-append (λ (row : Vec ℤ). row.items) c.loop-equation.rows.items (c.in_ok-deviations_along.field-0 ∷ [])
+      so_far = ap (map (λ (lane : Vec ℤ). lane.items)) c.in_ok-push.ensures.items ∙ map-append (λ (lane : Vec ℤ). lane.items) c.loop-equation.lanes.items (c.in_ok-deviations_along.field-0 ∷ [])
           ∙ ap₂ (λ (xs : List (List ℤ)) (x : List ℤ). xs ++ x ∷ []) c.loop-equation.invariant.so_far c.in_ok-deviations_along.ensures.found
-          ∙ sym (map_more (deviations_along p) p.equations k (Number (pos 0)) below);
+          ∙ sym (map_more (deviations_along p) p.equations k (NumExpr (pos 0)) below);
       fits = λ i u lt lu. below_more (λ j. (v : ℕ) → v < vectors_of p.inputs → HasNoOverflowAt p j v) k (λ j before v lv. c.loop-equation.invariant.fits j v before lv) c.in_ok-deviations_along.ensures.fits i lt u lu;
     }
 

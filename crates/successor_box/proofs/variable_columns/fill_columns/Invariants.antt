@@ -1,7 +1,7 @@
 use Rattle.std.proofs.Common.{◌≡◌, ℕ, ◌<◌, [], length, get_or}
 use Rattle.std.specs.Prelude.{pos}
 use Rattle.successor_box.specs.Boxes.{central_values}
-use Rattle.successor_box.specs.Sides.{IsPairInRow}
+use Rattle.successor_box.specs.Extents.{IsPairInLane}
 use Rattle.fixed_expr.specs.declared.lanes.TheConstants.{LANES}
 use Rattle.successor_box.proofs.variable_columns.fill_columns.Given as goal
 
@@ -9,5 +9,5 @@ use Rattle.successor_box.proofs.variable_columns.fill_columns.Given as goal
 abbrev pub invariant-loop-k : goal.invariant-loop-k
 invariant-loop-k l = record {
   long : length l.columns ≡ length l.fn.columns;
-  each : (i : ℕ) → i < l.k → (row c u : ℕ) → row < LANES → IsPairInRow l.p l.places row c u → get_or (get_or l.columns i []) row (pos 0) ≡ get_or (central_values l.p c u) i (pos 0);
+  each : (i : ℕ) → i < l.k → (lane c u : ℕ) → lane < LANES → IsPairInLane l.p l.indices lane c u → get_or (get_or l.columns i []) lane (pos 0) ≡ get_or (central_values l.p c u) i (pos 0);
 }

@@ -3,7 +3,7 @@ use Rattle.std.specs.Prelude.{ℤ, pos, FitsSigned}
 use Rattle.std.proofs.lemmas.Int.{to_z-of_z}
 use Rattle.std.proofs.lemmas.List.{length-set}
 use Rattle.plant_record.specs.Description.{vector_of}
-use Rattle.successor_box.proofs.Filling.{place_more}
+use Rattle.successor_box.proofs.Filling.{index_more}
 use Rattle.successor_box.proofs.variable_columns.input_values.Goals as goal
 
 pub loop-j-preserved : goal.loop-j-preserved
@@ -16,5 +16,5 @@ loop-j-preserved c =
     rw (to_z-of_z w64 x fits)
     (record {
       long = length-set values j x ∙ c.loop-j.invariant.long;
-      each = place_more (λ (i : ℕ) (y : ℤ). y ≡ get_or (vector_of inputs (get_or c.args.inputs.now i 0)) c.args.variable (pos 0)) (pos 0) values j x (omega arith) c.loop-j.invariant.each c.input_value-value.ensures;
+      each = index_more (λ (i : ℕ) (y : ℤ). y ≡ get_or (vector_of inputs (get_or c.args.inputs.now i 0)) c.args.variable (pos 0)) (pos 0) values j x (omega arith) c.loop-j.invariant.each c.input_value-value.ensures;
     })

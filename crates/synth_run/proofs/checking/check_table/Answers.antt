@@ -9,8 +9,8 @@ returns-in-Valid-clause-solution g c =
       solution = judged.judged.valid.0 c.in-Valid.is;
     }
 
-pub returns-in-Invalid-clause-demanded : goal.returns-in-Invalid-clause-demanded
-returns-in-Invalid-clause-demanded g c =
+pub returns-in-Invalid-clause-cause : goal.returns-in-Invalid-clause-cause
+returns-in-Invalid-clause-cause g c =
     let judged = c.in_ok-verdict.ensures.verdict in
     λ _. (
       c.in_ok-verdict.ensures.solvable,

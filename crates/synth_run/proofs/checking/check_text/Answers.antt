@@ -22,6 +22,6 @@ returns-clause-valid g c =
     c.check_table.ensures.solvable
     c.check_table.ensures.solution
 
-pub returns-in_err-table-clause-demanded : goal.returns-in_err-table-clause-demanded
-returns-in_err-table-clause-demanded g c =
+pub returns-in_err-table-clause-cause : goal.returns-in_err-table-clause-cause
+returns-in_err-table-clause-cause g c =
     exits c.from_residual.result (of_table c.in_err-table.field-0.0) _ c.from_residual.ensures.1 (λ some. inl (refused_by_fault c.args.bytes.now c.in_err-table.field-0.0 c.in_err-table.ensures.refused some))

@@ -2,8 +2,8 @@ use Rattle.std.proofs.Common.{sym, subst}
 use Rattle.plant_record.specs.declared.aims.GoalKind.{GoalKind}
 use Rattle.plant_record.specs.Description.{Description}
 use Rattle.plant_game.specs.Abstraction.{IsGameOf}
-use Rattle.abstraction_table.specs.Table.{game_ahead}
-use Rattle.synth_run.specs.Demands.{IsSolvable}
+use Rattle.abstraction_table.specs.Table.{forward_game}
+use Rattle.synth_run.specs.IsOutcomeFor.{IsSolvable}
 use Rattle.synth_run.specs.inside.Judging.{IsVerdictFor}
 use Rattle.synth_run.proofs.checking.reach_verdict.Goals as goal
 
@@ -12,7 +12,7 @@ returns-clause-solvable g c = subst IsSolvable c.plant.ensures c.in_ok-game.ensu
 
 pub returns-clause-verdict : goal.returns-clause-verdict
 returns-clause-verdict g c =
-    let game = game_ahead c.in_ok-game.game in
+    let game = forward_game c.in_ok-game.game in
     record {
       game = game;
       abstraction = subst (λ (q : Description). IsGameOf q game) c.plant.ensures c.in_ok-game.ensures.game;

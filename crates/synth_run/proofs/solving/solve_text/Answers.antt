@@ -4,7 +4,7 @@ use Rattle.plant_game.specs.Abstraction.{IsGameOf}
 use Rattle.abstraction_table.specs.Table.{game_of}
 use Rattle.controller_table.specs.TableText.{written, table_text}
 use Rattle.plant_refine.proofs.SolutionTables.{tables_control}
-use Rattle.synth_run.proofs.Leaving.{left, resolved_on}
+use Rattle.synth_run.proofs.Leaving.{left, solved_on}
 use Rattle.synth_run.proofs.Tables.{is_solution, solution_fits}
 use Rattle.synth_run.proofs.solving.solve_text.Goals as goal
 
@@ -12,14 +12,14 @@ pub returns-clause-table : goal.returns-clause-table
 returns-clause-table g c =
     let p = c.in_ok-plant.plant in
     let accepted = c.in_ok-plant.ensures.accepted in
-    let game = game_of c.in_ok-resolved.resolved.game in
-    let abstraction = subst (λ (h : Game). IsGameOf p h) (sym c.in_ok-resolved.ensures.game) c.in_ok-plant.ensures.game in
-    let rows = c.in_ok-resolved.resolved.answer in
-    let solution = is_solution p game rows c.goal.result c.goal.ensures abstraction c.in_ok-resolved.ensures.resolved.solution in
+    let game = game_of c.in_ok-solved.solved.game in
+    let abstraction = subst (λ (h : Game). IsGameOf p h) (sym c.in_ok-solved.ensures.game) c.in_ok-plant.ensures.game in
+    let rows = c.in_ok-solved.solved.answer in
+    let solution = is_solution p game rows c.goal.result c.goal.ensures abstraction c.in_ok-solved.ensures.solved.solution in
     let fits =
     solution_fits p game rows c.goal.result c.goal.ensures
-    (record { graph = c.in_ok-resolved.resolved.game.ahead.in_memory.graph; cells = abstraction.cells; inputs = abstraction.inputs })
-    c.in_ok-resolved.ensures.resolved.solution in (
+    (record { graph = c.in_ok-solved.solved.game.boxed.in_memory.graph; cells = abstraction.cells; inputs = abstraction.inputs })
+    c.in_ok-solved.ensures.solved.solution in (
       p,
       accepted,
       c.in_ok-plant.ensures.solvable,
@@ -35,16 +35,16 @@ returns-clause-table g c =
 pub returns-clause-fits : goal.returns-clause-fits
 returns-clause-fits g c =
     let p = c.in_ok-plant.plant in
-    let resolved = c.in_ok-resolved.resolved in
-    let abstraction = subst (λ (h : Game). IsGameOf p h) (sym c.in_ok-resolved.ensures.game) c.in_ok-plant.ensures.game in
-    solution_fits p (game_of resolved.game) resolved.answer c.goal.result c.goal.ensures
-    (record { graph = c.in_ok-resolved.resolved.game.ahead.in_memory.graph; cells = abstraction.cells; inputs = abstraction.inputs })
-    c.in_ok-resolved.ensures.resolved.solution
+    let solved = c.in_ok-solved.solved in
+    let abstraction = subst (λ (h : Game). IsGameOf p h) (sym c.in_ok-solved.ensures.game) c.in_ok-plant.ensures.game in
+    solution_fits p (game_of solved.game) solved.answer c.goal.result c.goal.ensures
+    (record { graph = c.in_ok-solved.solved.game.boxed.in_memory.graph; cells = abstraction.cells; inputs = abstraction.inputs })
+    c.in_ok-solved.ensures.solved.solution
 
 pub returns-clause-played : goal.returns-clause-played
 returns-clause-played g c =
     let p = c.in_ok-plant.plant in
-    let resolved = c.in_ok-resolved.resolved in
-    let abstraction = subst (λ (h : Game). IsGameOf p h) (sym c.in_ok-resolved.ensures.game) c.in_ok-plant.ensures.game in
-    let on = resolved_on p c.goal.result resolved c.goal.ensures abstraction c.in_ok-resolved.ensures.resolved in
-    (p, c.in_ok-plant.ensures.accepted, left p resolved.board resolved.root on)
+    let solved = c.in_ok-solved.solved in
+    let abstraction = subst (λ (h : Game). IsGameOf p h) (sym c.in_ok-solved.ensures.game) c.in_ok-plant.ensures.game in
+    let on = solved_on p c.goal.result solved c.goal.ensures abstraction c.in_ok-solved.ensures.solved in
+    (p, c.in_ok-plant.ensures.accepted, left p solved.board solved.root on)

@@ -1,6 +1,6 @@
 use Rattle.std.proofs.Common.{refl}
-use Rattle.run_words.specs.declared.form.Form.TheVariants.{Check}
-use Rattle.synth_run.specs.inside.Making.{IsDeclined}
+use Rattle.command_line.specs.declared.command.Command.TheVariants.{Check}
+use Rattle.synth_run.specs.inside.Making.{IsRefusalOf}
 use Rattle.synth_run.proofs.Reporting.{exits}
 use Rattle.synth_run.proofs.top.check.Goals as goal
 
@@ -9,5 +9,5 @@ returns-clause-made g c = rw c.of_text.ensures (record { can_be_written = tt; an
 
 pub returns-in_err-check_text-clause-declined : goal.returns-in_err-check_text-clause-declined
 returns-in_err-check_text-clause-declined g c =
-    exits c.from_residual.result c.in_err-check_text.field-0.0 (IsDeclined Check c.args.bytes.now) c.from_residual.ensures.1
-    (record { not_done = c.in_err-check_text.ensures.failed; can_end = tt; demanded = c.in_err-check_text.ensures.demanded })
+    exits c.from_residual.result c.in_err-check_text.field-0.0 (IsRefusalOf Check c.args.bytes.now) c.from_residual.ensures.1
+    (record { not_done = c.in_err-check_text.ensures.failed; can_end = tt; cause = c.in_err-check_text.ensures.cause })

@@ -1,7 +1,7 @@
 use Rattle.std.proofs.Common.{ℕ, List}
-use Rattle.run_words.specs.declared.form.Form.TheVariants.{Demo}
+use Rattle.command_line.specs.declared.command.Command.TheVariants.{Demo}
 use Rattle.synth_run.specs.declared.outcome.Outcome.{Outcome}
-use Rattle.synth_run.specs.inside.Making.{IsDeclined}
+use Rattle.synth_run.specs.inside.Making.{IsRefusalOf}
 use Rattle.synth_run.proofs.Leaving.{left}
 use Rattle.synth_run.proofs.Reporting.{exits}
 use Rattle.synth_run.proofs.Working.{demo_declined}
@@ -15,5 +15,5 @@ returns-clause-made g c =
 
 pub returns-in_err-line-clause-declined : goal.returns-in_err-line-clause-declined
 returns-in_err-line-clause-declined g c =
-    exits c.from_residual.result c.in_err-line.field-0.0 (λ (outcome : Outcome). (bytes : List ℕ) → IsDeclined (Demo c.args.number c.args.workers) bytes outcome) c.from_residual.ensures.1
+    exits c.from_residual.result c.in_err-line.field-0.0 (λ (outcome : Outcome). (bytes : List ℕ) → IsRefusalOf (Demo c.args.number c.args.workers) bytes outcome) c.from_residual.ensures.1
     (λ bytes. demo_declined c.args.number c.args.workers bytes c.in_err-line.field-0.0 c.in_err-line.ensures.memory)

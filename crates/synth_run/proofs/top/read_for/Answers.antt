@@ -13,7 +13,7 @@ pub returns-clause-read : goal.returns-clause-read
 returns-clause-read g c =
     let source = reading g.S.Source.left g.S.Source.faults g.S.Source.is_sound c.args.source.now c.read_up_to.new.source in
     let read = c.in_ok-bytes.bytes.items in
-    is_read c.args.form.now (λ number workers e. c.in_default.not-Demo number workers e) source read
+    is_read c.args.command.now (λ number workers e. c.in_default.not-Demo number workers e) source read
     (subst (λ (most : ℕ). ReadUpTo source.before source.after most read) c.most_read.ensures c.in_ok-bytes.ensures.read)
     (subst (λ (most : ℕ). TakesAtMost source.before source.after most) c.most_read.ensures c.read_up_to.ensures.never_past)
     (c.in_ok-bytes.ensures.no_fault (λ e. cc))
@@ -23,7 +23,7 @@ returns-in_err-bytes-clause-refusal g c =
     let source = reading g.S.Source.left g.S.Source.faults g.S.Source.is_sound c.args.source.now c.read_up_to.new.source in
     let fault = c.in_err-bytes.field-0.0 in
     exits c.from_residual.result (of_read fault) _ c.from_residual.ensures.1
-    (is_unread c.args.form.now (λ number workers e. c.in_default.not-Demo number workers e) source fault
+    (is_unread c.args.command.now (λ number workers e. c.in_default.not-Demo number workers e) source fault
     (subst (λ (most : ℕ). TakesAtMost source.before source.after most) c.most_read.ensures c.read_up_to.ensures.never_past)
     (λ e. c.in_err-bytes.ensures.fault (cc))
     (λ other. c.in_err-bytes.ensures.no_fault (λ e. other (cc)))

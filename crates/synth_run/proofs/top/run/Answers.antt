@@ -4,10 +4,10 @@ use Rattle.synth_run.proofs.top.run.Goals as goal
 
 pub returns-clause-complete : goal.returns-clause-complete
 returns-clause-complete g c =
-    λ form of_form no_read_fault no_write_fault.
-    let gives = c.outcome_of-outcome.ensures.of_form form of_form in
+    λ command of_command no_read_fault no_write_fault.
+    let gives = c.outcome_of-outcome.ensures.of_command command of_command in
     rw c.status.ensures
-    (answer_is_complete form c.outcome_of-outcome.result.0 _ gives.not_usage
-    (read_did_not_fail form c.outcome_of-outcome.result.0 _ _ gives.can_end gives.read_fault no_read_fault)
+    (answer_is_complete command c.outcome_of-outcome.result.0 _ gives.not_usage
+    (read_did_not_fail command c.outcome_of-outcome.result.0 _ _ gives.can_end gives.read_fault no_read_fault)
     (λ e. no_write_fault (rose_by_one _ _ (gives.write_fault e)))
-    gives.demanded)
+    gives.cause)

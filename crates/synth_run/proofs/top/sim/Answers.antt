@@ -1,6 +1,6 @@
 use Rattle.std.proofs.Common.{refl}
-use Rattle.run_words.specs.declared.form.Form.TheVariants.{Sim}
-use Rattle.synth_run.specs.inside.Making.{IsDeclined}
+use Rattle.command_line.specs.declared.command.Command.TheVariants.{Sim}
+use Rattle.synth_run.specs.inside.Making.{IsRefusalOf}
 use Rattle.synth_run.proofs.Reporting.{exits}
 use Rattle.synth_run.proofs.top.sim.Goals as goal
 
@@ -9,5 +9,5 @@ returns-clause-made c = rw c.of_text.ensures (record { can_be_written = c.in_ok-
 
 pub returns-in_err-simulation-clause-declined : goal.returns-in_err-simulation-clause-declined
 returns-in_err-simulation-clause-declined c =
-    exits c.from_residual.result c.in_err-simulation.field-0.0 (IsDeclined (Sim c.args.samples c.args.seed c.args.start.now) c.args.bytes.now) c.from_residual.ensures.1
-    (record { not_done = c.in_err-simulation.ensures.failed; can_end = tt; demanded = c.in_err-simulation.ensures.demanded })
+    exits c.from_residual.result c.in_err-simulation.field-0.0 (IsRefusalOf (Sim c.args.samples c.args.seed c.args.start.now) c.args.bytes.now) c.from_residual.ensures.1
+    (record { not_done = c.in_err-simulation.ensures.failed; can_end = tt; cause = c.in_err-simulation.ensures.cause })

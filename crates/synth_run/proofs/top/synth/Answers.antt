@@ -1,5 +1,5 @@
-use Rattle.run_words.specs.declared.form.Form.TheVariants.{Synth}
-use Rattle.synth_run.specs.inside.Making.{IsDeclined}
+use Rattle.command_line.specs.declared.command.Command.TheVariants.{Synth}
+use Rattle.synth_run.specs.inside.Making.{IsRefusalOf}
 use Rattle.synth_run.proofs.Reporting.{exits}
 use Rattle.synth_run.proofs.top.synth.Goals as goal
 
@@ -8,5 +8,5 @@ returns-clause-made g c = record { can_be_written = c.in_ok-solved.ensures.fits;
 
 pub returns-in_err-solved-clause-declined : goal.returns-in_err-solved-clause-declined
 returns-in_err-solved-clause-declined g c =
-    exits c.from_residual.result c.in_err-solved.field-0.0 (IsDeclined (Synth c.args.workers) c.args.bytes.now) c.from_residual.ensures.1
-    (record { not_done = c.in_err-solved.ensures.failed; can_end = tt; demanded = c.in_err-solved.ensures.demanded })
+    exits c.from_residual.result c.in_err-solved.field-0.0 (IsRefusalOf (Synth c.args.workers) c.args.bytes.now) c.from_residual.ensures.1
+    (record { not_done = c.in_err-solved.ensures.failed; can_end = tt; cause = c.in_err-solved.ensures.cause })

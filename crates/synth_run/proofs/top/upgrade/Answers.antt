@@ -1,6 +1,6 @@
 use Rattle.std.proofs.Common.{refl}
-use Rattle.run_words.specs.declared.form.Form.TheVariants.{Upgrade}
-use Rattle.synth_run.specs.inside.Making.{IsDeclined}
+use Rattle.command_line.specs.declared.command.Command.TheVariants.{Upgrade}
+use Rattle.synth_run.specs.inside.Making.{IsRefusalOf}
 use Rattle.synth_run.proofs.Reporting.{exits}
 use Rattle.synth_run.proofs.top.upgrade.Goals as goal
 
@@ -9,5 +9,5 @@ returns-clause-made c = rw c.of_text.ensures (record { can_be_written = tt; answ
 
 pub returns-in_err-table-clause-declined : goal.returns-in_err-table-clause-declined
 returns-in_err-table-clause-declined c =
-    exits c.from_residual.result c.in_err-table.field-0.0 (IsDeclined Upgrade c.args.bytes.now) c.from_residual.ensures.1
-    (record { not_done = c.in_err-table.ensures.failed; can_end = tt; demanded = c.in_err-table.ensures.demanded })
+    exits c.from_residual.result c.in_err-table.field-0.0 (IsRefusalOf Upgrade c.args.bytes.now) c.from_residual.ensures.1
+    (record { not_done = c.in_err-table.ensures.failed; can_end = tt; cause = c.in_err-table.ensures.cause })

@@ -7,5 +7,5 @@ use Rattle.synth_run.proofs.top.write_out.Goals as goal
 
 pub returns-in-Err-Device : goal.returns-in-Err-Device
 returns-in-Err-Device g c =
-    let out = writing g.O.Sink.got g.O.Sink.faults g.O.Sink.room c.args.out.now c.write.new.out in
+    let out = writing g.O.Sink.got g.O.Sink.faults g.O.Sink.capacity c.args.out.now c.write.new.out in
     subst (λ (f : WriteFault). StopsBy f out (bytes_of c.args.text.now)) c.in-Err-Device.field-0-is c.in-Err-Device.ensures.stopped

@@ -1,18 +1,18 @@
 use Rattle.std.proofs.Common.{arith}
-use Rattle.abstraction_table.proofs.BandPlaces.{run_outside, run_clipped}
+use Rattle.abstraction_table.proofs.BandIndices.{segment_outside, segment_clipped}
 use Rattle.abstraction_table.proofs.band.Band.clip.Goals as goal
 
-pub returns-then-high-low-clause-places : goal.returns-then-high-low-clause-places
-returns-then-high-low-clause-places c =
+pub returns-then-high-low-clause-indices : goal.returns-then-high-low-clause-indices
+returns-then-high-low-clause-indices c =
     let band = c.args.self.now in
-    run_outside band.from band.len c.args.first c.args.len (λ x from_first to_last low high. omega (arith, from_first, to_last, low, high, c.max-low.ensures, c.min-high.ensures, c.if-high-low.true))
+    segment_outside band.from band.len c.args.first c.args.len (λ x from_first to_last low high. omega (arith, from_first, to_last, low, high, c.max-low.ensures, c.min-high.ensures, c.if-high-low.true))
 
-pub returns-clause-places : goal.returns-clause-places
-returns-clause-places c =
+pub returns-clause-indices : goal.returns-clause-indices
+returns-clause-indices c =
     let band = c.args.self.now in
     let low = c.max-low.ensures in
     let high = c.min-high.ensures in
-    run_clipped band.from band.len c.args.first c.args.len c.max-low.result c.min-high.result
+    segment_clipped band.from band.len c.args.first c.args.len c.max-low.result c.min-high.result
     (omega (arith, low)) (omega (arith, c.if-high-low.false)) (omega (arith, high)) (omega (arith, low)) (omega (arith, high))
     (λ x from_first to_low. omega (arith, from_first, to_low, low))
     (λ x from_high to_last. omega (arith, from_high, to_last, high))

@@ -6,5 +6,5 @@ use Rattle.abstraction_table.proofs.digits.Digits.add_states.Given as goal
 abbrev pub invariant-loop-variable : goal.invariant-loop-variable
 invariant-loop-variable l = record {
   pairs : l.in_pair ≡ combinations (drop l.variable (counts_of l.p));
-  so_far : AreDigitsBetween l.p l.state l.variable (length l.p.states) l.self.each.items l.self.places;
+  so_far : AreDigitsBetween l.p l.state l.variable (length l.p.states) l.self.each.items l.self.indices;
 }

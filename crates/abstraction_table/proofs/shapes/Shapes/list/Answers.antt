@@ -3,7 +3,7 @@ use Rattle.std.specs.Vec.{with_item}
 use Rattle.grid_quantiser.specs.declared.axis.Axis.{Axis}
 use Rattle.grid_quantiser.specs.Boxes.{cells_between}
 use Rattle.abstraction_table.specs.declared.shapes.Shapes.{Shapes}
-use Rattle.abstraction_table.specs.inside.Shapes.{HasRunsAt, KeepsRuns, ListsRuns}
+use Rattle.abstraction_table.specs.inside.Shapes.{HasSegmentsAt, KeepsSegments, ListsSegments}
 use Rattle.abstraction_table.proofs.ListedShapes.{has_here, keeps}
 use Rattle.abstraction_table.proofs.shapes.Shapes.list.Goals as goal
 
@@ -15,21 +15,21 @@ module _ (c : goal.After-self-1) where
   before = c.args.self.now
 
   abbrev after : Shapes
-  after = record { spans = with_item before.spans c.args.distance (record { from = c.len-from.result; to = c.len-to.result }); runs = c.list_runs.new.runs }
+  after = record { spans = with_item before.spans c.args.distance (record { from = c.len-from.result; to = c.len-to.result }); segments = c.list_segments.new.segments }
 
-  spans : after.spans.items ≡ set before.spans.items c.args.distance (record { from = length before.runs.items; to = length after.runs.items })
+  spans : after.spans.items ≡ set before.spans.items c.args.distance (record { from = length before.segments.items; to = length after.segments.items })
   spans =
-      let from : c.len-from.result ≡ length before.runs.items = omega (arith, c.len-from.ensures, before.runs.ok.0) in
-      let to : c.len-to.result ≡ length after.runs.items = omega (arith, c.len-to.ensures, after.runs.ok.0) in
+      let from : c.len-from.result ≡ length before.segments.items = omega (arith, c.len-from.ensures, before.segments.ok.0) in
+      let to : c.len-to.result ≡ length after.segments.items = omega (arith, c.len-to.ensures, after.segments.ok.0) in
       λ i. set before.spans.items c.args.distance (record { from = from i; to = to i })
 
-  lists : ListsRuns before.runs.items after.runs.items (cells_between axes 0 c.args.distance)
-  lists = subst (ListsRuns before.runs.items after.runs.items) c.runs.ensures c.in_ok-list_runs.ensures
+  lists : ListsSegments before.segments.items after.segments.items (cells_between axes 0 c.args.distance)
+  lists = subst (ListsSegments before.segments.items after.segments.items) c.segments.ensures c.in_ok-list_segments.ensures
 
-  kept : KeepsRuns axes before after
+  kept : KeepsSegments axes before after
   kept = keeps axes before after c.args.distance c.requires.within spans lists
 
-  has : HasRunsAt axes after c.args.distance
+  has : HasSegmentsAt axes after c.args.distance
   has = has_here axes before after c.args.distance c.requires.within spans lists
 
 pub returns-clause-kept : goal.returns-clause-kept

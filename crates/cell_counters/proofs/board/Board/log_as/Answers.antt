@@ -17,13 +17,13 @@ store-requires g c =
     let number = c.fetch_add-number.result in
     let began = setup_is _ _ _ _ (ap (λ (h : HandModel). h.board) c.hand.view_is ∙ c.requires.hand ∙ sym c.self.view_is) in
     let drew = c.fetch_add-number.ensures.2 in
-    let below : number < own.began.places = omega (arith, ap (λ (n : Setup). n.places) began, c.self.invariant.log, c.from.ensures) in
+    let below : number < own.began.slots = omega (arith, ap (λ (n : Setup). n.slots) began, c.self.invariant.log, c.from.ensures) in
     let tail = tail_is _ _ _ _ _ c.self.invariant in (
       search rules,
       omega arith,
       store_allowed _ _ _ _ number _ _ (account_of own)
           (ap (λ (me : Seated). me.0.accounts) drew ∙ ap (λ cell. with_log (account_of own) cell number ∷ []) (sym c.requires.item ∙ sym c.from-2.ensures))
-          (ap (λ (me : Seated). me.0.awaits) drew ∙ awaited_is own.began.places number below)
+          (ap (λ (me : Seated). me.0.awaits) drew ∙ awaited_is own.began.slots number below)
           (omega (arith, c.self.invariant.log, c.from.ensures))
           (omega (arith, c.from-2.ensures))
           (omega (arith, tail)),

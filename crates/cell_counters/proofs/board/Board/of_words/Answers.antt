@@ -15,14 +15,14 @@ pub of_words-requires : goal.of_words-requires
 of_words-requires c =
     let given = c.args.words.items in
     let tail = c.len-tail.result in
-    let places = c.args.places in
-    let b : Beginning = record { words = c.of.result; counters = c.args.counters; places = places } in
+    let slots = c.args.slots in
+    let b : Beginning = record { words = c.of.result; counters = c.args.counters; slots = slots } in
     let same : c.of.result.value.items ≡ given = ap (λ v. v.items) c.of.ensures in
-    let all : c.as_slice-all.result.now ≡ c.of.result.value.items ++ replicate (1 + places) 0 =
-    c.as_slice-all.ensures.value ∙ c.in_ok-all.ensures ∙ ap (λ l. l ++ replicate (1 + places) 0) (sym same) in
+    let all : c.as_slice-all.result.now ≡ c.of.result.value.items ++ replicate (1 + slots) 0 =
+    c.as_slice-all.ensures.value ∙ c.in_ok-all.ensures ∙ ap (λ l. l ++ replicate (1 + slots) 0) (sym same) in
     let counted : vec_len c.args.words ≡ length given = c.args.words.ok.0 in
-    let sized : IsSized b c.args.counters tail places (tail + 1 + places) =
+    let sized : IsSized b c.args.counters tail slots (tail + 1 + slots) =
     record { split = refl; within = omega arith; both = c.len-tail.ensures ∙ counted ∙ ap length (sym same); log = refl; all = refl } in
-    let small : All (λ n. n < 2 ^ 64) c.of.result.value.items = small_front c.of.result.value.items (replicate (1 + places) 0)
+    let small : All (λ n. n < 2 ^ 64) c.of.result.value.items = small_front c.of.result.value.items (replicate (1 + slots) 0)
     (subst (All (λ n. n < 2 ^ 64)) all (All-from_get_or (λ n. n < 2 ^ 64) c.as_slice-all.result.now 0 (λ i lt. omega (arith, c.type_inv.all i)))) in
-    subst (λ l. Keeps (setup_of b) (opening {S = Unit {0}} l [] (root_of b))) (sym all) (begins b c.args.counters tail places (tail + 1 + places) sized small)
+    subst (λ l. Keeps (setup_of b) (opening {S = Unit {0}} l [] (root_of b))) (sym all) (begins b c.args.counters tail slots (tail + 1 + slots) sized small)

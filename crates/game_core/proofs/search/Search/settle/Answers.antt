@@ -7,9 +7,9 @@ use Rattle.game_core.specs.Solution.{row_of}
 use Rattle.game_core.specs.inside.Search.{Progress, settled}
 use Rattle.game_core.proofs.search.Search.settle.Goals as goal
 
--- a cell without a row leaves a place in the queue
-has_place : (rows : List (Option Row)) (order : List ℕ) (found c : ℕ) (row : Row) → length order ≡ length rows → found ≡ count_by is_some rows → c < length rows → row_of rows c ≡ None → found < length order
-has_place rows order found c row places counted lt none =
+-- a cell without a row leaves a position in the queue
+has_position : (rows : List (Option Row)) (order : List ℕ) (found c : ℕ) (row : Row) → length order ≡ length rows → found ≡ count_by is_some rows → c < length rows → row_of rows c ≡ None → found < length order
+has_position rows order found c row positions counted lt none =
     let more = count_first rows c row lt none in
     let le = count_by-le-length is_some (set rows c (Some row)) in
     let same = length-set rows c (Some row) in
@@ -22,7 +22,7 @@ index_mut-requires c =
     let within = c.requires.within in
     let lt : c.args.c < length s.answer = omega arith in
     let none : row_of s.answer c.args.c ≡ None = ap (λ (p : Progress). row_of p.rows c.args.c) c.self.view_is ∙ c.requires.first in
-    let place = has_place s.answer s.order.items s.found c.args.c c.args.row c.self.invariant.one_place_each c.self.invariant.counted lt none in
+    let position = has_position s.answer s.order.items s.found c.args.c c.args.row c.self.invariant.one_position_each c.self.invariant.counted lt none in
     let len = s.order.ok in
     omega arith
 
@@ -36,6 +36,6 @@ returns c =
     let within = c.requires.within in
     let lt : c.args.c < length s.answer = omega arith in
     let none : row_of s.answer c.args.c ≡ None = ap (λ (p : Progress). row_of p.rows c.args.c) c.self.view_is ∙ c.requires.first in
-    let place = has_place s.answer s.order.items s.found c.args.c c.args.row c.self.invariant.one_place_each c.self.invariant.counted lt none in
-    ap₂ (with_rows s.left.items) c.set.ensures (take_more_set s.order.items s.found c.args.c place)
+    let position = has_position s.answer s.order.items s.found c.args.c c.args.row c.self.invariant.one_position_each c.self.invariant.counted lt none in
+    ap₂ (with_rows s.left.items) c.set.ensures (take_more_set s.order.items s.found c.args.c position)
     ∙ ap (settled c.args.c c.args.row) c.self.view_is

@@ -2,7 +2,7 @@ use Rattle.std.proofs.Common.{◌≡◌, ◌/◌, ◌%◌, ◌-◌, arith, ap, �
 use Rattle.std.specs.Int.{w128}
 use Rattle.std.proofs.lemmas.Int.{to_z-of_z}
 use Rattle.grid_quantiser.specs.Axes.{cells_of}
-use Rattle.grid_quantiser.specs.inside.Spots.{number_of}
+use Rattle.grid_quantiser.specs.inside.Spots.{coordinate_of}
 use Rattle.grid_quantiser.proofs.Suffixes.{next_axis, rest_none, div_step}
 use Rattle.grid_quantiser.proofs.PointSteps.{part_of, part_none, part_more, part_all}
 use Rattle.grid_quantiser.proofs.grid.Grid.point.Goals as goal
@@ -10,7 +10,7 @@ use Rattle.grid_quantiser.proofs.grid.Grid.point.Goals as goal
 pub loop-i-init : goal.loop-i-init
 loop-i-init c = record {
   rest = c.from-rest.ensures ∙ rest_none c.axes-axes.result.now c.args.c;
-  point = part_none c.args.spot c.axes-axes.result.now c.args.c c.axes-axes.ensures.axes.states_bound;
+  point = part_none c.args.cell_point c.axes-axes.result.now c.args.c c.axes-axes.ensures.axes.states_bound;
 }
 
 pub loop-i-preserved : goal.loop-i-preserved
@@ -24,15 +24,15 @@ loop-i-preserved c =
       point = ap (λ v. set c.loop-i.point (i - 1) v)
           (to_z-of_z w128 c.number.result fits
           ∙ c.number.ensures
-          ∙ ap (λ k. number_of c.args.spot (next_axis axes i) (k % (next_axis axes i).count)) c.loop-i.invariant.rest)
-          ∙ ap (λ point. set point (i - 1) (number_of c.args.spot (next_axis axes i) (c.args.c / cells_of (drop i axes) % (next_axis axes i).count))) c.loop-i.invariant.point
-          ∙ part_more c.args.spot axes c.args.c i c.axes-axes.ensures.axes.each c.loop-i-test.true c.loop-i.auto.i;
+          ∙ ap (λ k. coordinate_of c.args.cell_point (next_axis axes i) (k % (next_axis axes i).count)) c.loop-i.invariant.rest)
+          ∙ ap (λ point. set point (i - 1) (coordinate_of c.args.cell_point (next_axis axes i) (c.args.c / cells_of (drop i axes) % (next_axis axes i).count))) c.loop-i.invariant.point
+          ∙ part_more c.args.cell_point axes c.args.c i c.axes-axes.ensures.axes.each c.loop-i-test.true c.loop-i.auto.i;
     }
 
 pub returns : goal.returns
 returns c =
     let done : c.loop-i.i ≡ 0 = omega arith in
     c.loop-i.invariant.point
-    ∙ ap (λ axes. part_of c.args.spot axes c.args.c c.loop-i.i) c.axes-axes.ensures.same
-    ∙ ap (part_of c.args.spot c.args.self.now c.args.c) done
-    ∙ part_all c.args.spot c.args.self.now c.args.c c.requires
+    ∙ ap (λ axes. part_of c.args.cell_point axes c.args.c c.loop-i.i) c.axes-axes.ensures.same
+    ∙ ap (part_of c.args.cell_point c.args.self.now c.args.c) done
+    ∙ part_all c.args.cell_point c.args.self.now c.args.c c.requires

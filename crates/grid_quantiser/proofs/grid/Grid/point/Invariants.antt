@@ -6,5 +6,5 @@ use Rattle.grid_quantiser.proofs.grid.Grid.point.Given as goal
 abbrev pub invariant-loop-i : goal.invariant-loop-i
 invariant-loop-i l = record {
   rest : l.rest ≡ l.c / cells_of (drop l.i l.axes);
-  point : l.point ≡ part_of l.spot l.axes l.c l.i;
+  point : l.point ≡ part_of l.cell_point l.axes l.c l.i;
 }

@@ -1,11 +1,11 @@
 use Rattle.std.proofs.Common.{◌<◌, subst, List}
 use Rattle.std.specs.List.{All}
 use Rattle.grid_quantiser.specs.declared.axis.Axis.{Axis}
-use Rattle.grid_quantiser.specs.declared.axis.Share.TheVariants.{Whole}
+use Rattle.grid_quantiser.specs.declared.axis.Overlap.TheVariants.{Whole}
 use Rattle.grid_quantiser.specs.Axes.{IsAxis, cells_of}
 use Rattle.grid_quantiser.specs.Boxes.{IsBoxWith}
-use Rattle.grid_quantiser.specs.inside.Shares.{HasShare}
-use Rattle.grid_quantiser.proofs.ShareCells.{box_of_inside}
+use Rattle.grid_quantiser.specs.inside.Overlaps.{HasOverlap}
+use Rattle.grid_quantiser.proofs.OverlapCells.{box_of_inside}
 use Rattle.grid_quantiser.proofs.grid.Grid.within.Goals as goal
 
 pub returns : goal.returns
@@ -14,5 +14,5 @@ returns c =
     let hi = c.args.hi.now in
     let found = c.cells_with.result in
     let each = subst (λ (axes : List Axis). All IsAxis axes) c.axes.ensures.same c.axes.ensures.axes.each in
-    let box = subst (λ (axes : List Axis). IsBoxWith axes (λ k. (k < cells_of axes) × HasShare Whole axes lo hi k) found) c.axes.ensures.same c.cells_with.ensures in
+    let box = subst (λ (axes : List Axis). IsBoxWith axes (λ k. (k < cells_of axes) × HasOverlap Whole axes lo hi k) found) c.axes.ensures.same c.cells_with.ensures in
     box_of_inside c.args.self.now lo hi found each box

@@ -4,8 +4,8 @@ use Rattle.std.proofs.lemmas.Int.{to_z-of_z}
 use Rattle.fixed_expr.specs.Narrow.{IsNarrow}
 use Rattle.interval_eval.specs.declared.interval.Interval.{Interval}
 use Rattle.interval_eval.specs.Span.{absolute_of}
-use Rattle.interval_eval.specs.Rows.{interval_in}
-use Rattle.interval_eval.proofs.IntervalColumns.{one_row_more, as_it_was}
+use Rattle.interval_eval.specs.LaneSpans.{interval_in}
+use Rattle.interval_eval.proofs.IntervalColumns.{one_span_lane_more, as_it_was}
 use Rattle.interval_eval.proofs.columns.IntervalColumn.absolute.Goals as goal
 
 pub lanes-preserved : goal.lanes-preserved
@@ -16,5 +16,5 @@ lanes-preserved c =
     let high_fits : FitsSigned w64 (slice_index_or c.lanes.self.hi c.lanes.k (pos 0)) = search rules in
     let low = simp to_z-of_z at c.in_ok-lo.ensures in
     let high = simp to_z-of_z at c.in_ok-self.ensures in
-    one_row_more c.args.self.now c.lanes.self wanted c.lanes.k c.in_ok-lo.lo c.in_ok-self.field-0 (search rules) c.lanes.invariant
+    one_span_lane_more c.args.self.now c.lanes.self wanted c.lanes.k c.in_ok-lo.lo c.in_ok-self.field-0 (search rules) c.lanes.invariant
     (subst IsNarrow (sym low.1) low.0) (low.1 ∙ ap (λ (i : Interval). i.lo) same) (subst IsNarrow (sym high.1) high.0) (high.1 ∙ ap (λ (i : Interval). i.hi) same)

@@ -5,8 +5,8 @@ use Rattle.std.proofs.lemmas.Int.{to_z-of_z}
 use Rattle.fixed_expr.specs.Narrow.{IsNarrow}
 use Rattle.interval_eval.specs.declared.interval.Interval.{Interval}
 use Rattle.interval_eval.specs.Span.{lookup_of}
-use Rattle.interval_eval.specs.Rows.{interval_in}
-use Rattle.interval_eval.proofs.IntervalColumns.{one_row_more, as_it_was}
+use Rattle.interval_eval.specs.LaneSpans.{interval_in}
+use Rattle.interval_eval.proofs.IntervalColumns.{one_span_lane_more, as_it_was}
 use Rattle.interval_eval.proofs.columns.IntervalColumn.lookup.Goals as goal
 
 pub lanes-preserved : goal.lanes-preserved
@@ -17,5 +17,5 @@ lanes-preserved c =
     let high_fits : FitsSigned w128 c.looked_up-values.result.hi = search rules in
     let low = simp to_z-of_z at c.in_ok-self.ensures in
     let high = simp to_z-of_z at c.in_ok-self-2.ensures in
-    one_row_more c.args.self.now c.lanes.self wanted c.lanes.k c.in_ok-self.field-0 c.in_ok-self-2.field-0 (search rules) c.lanes.invariant
+    one_span_lane_more c.args.self.now c.lanes.self wanted c.lanes.k c.in_ok-self.field-0 c.in_ok-self-2.field-0 (search rules) c.lanes.invariant
     (subst IsNarrow (sym low.1) low.0) (low.1 ∙ ap (λ (i : Interval). i.lo) same) (subst IsNarrow (sym high.1) high.0) (high.1 ∙ ap (λ (i : Interval). i.hi) same)

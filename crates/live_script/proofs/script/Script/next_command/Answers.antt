@@ -6,10 +6,10 @@ use Rattle.live_script.proofs.script.Script.next_command.Goals.{else-is_empty-vi
 
 pub returns-in-Some-clause-taken : goal.returns-in-Some-clause-taken
 returns-in-Some-clause-taken c =
-    rw (← c.self.view_is) (table_taken c.self.inside.tables c.self.inside.line c.in-Some.size c.self.inside.rest.now c.in-Some.behind.now c.in_ok-table.text.now c.in_ok-table.rest.now c.in_ok-table.table c.line_count.result c.in-Some.ensures c.in_ok-table.ensures.few c.in_ok-table.ensures.table c.in_ok-table.ensures.cut.0 c.in_ok-table.ensures.cut.1 c.line_count.ensures.count)
+    rw (← c.self.view_is) (table_taken c.self.inside.tables c.self.inside.line c.in-Some.size c.self.inside.rest.now c.in-Some.after.now c.in_ok-table.text.now c.in_ok-table.rest.now c.in_ok-table.table c.line_count.result c.in-Some.ensures c.in_ok-table.ensures.few c.in_ok-table.ensures.table c.in_ok-table.ensures.cut.0 c.in_ok-table.ensures.cut.1 c.line_count.ensures.count)
 
-pub returns-in_default-question_behind-clause-refused : goal.returns-in_default-question_behind-clause-refused
-returns-in_default-question_behind-clause-refused c = λ _.
+pub returns-in_default-question_after-clause-refused : goal.returns-in_default-question_after-clause-refused
+returns-in_default-question_after-clause-refused c = λ _.
     let s = c.self.inside in
     let unfinished : s.rest.now ≡ [] → s.tables ≡ 0 = λ none. elim c.else-is_empty.branch [
       | else-is_empty-via-then-is_empty+else-self-gt0 w ↦ omega (arith, w.if-self-gt0.false)
@@ -19,14 +19,14 @@ returns-in_default-question_behind-clause-refused c = λ _.
       refl,
       record {
         unfinished = unfinished;
-        no_table = λ size behind told _. c.in_default.ensures (size, behind) told;
-        no_question = λ numbers behind some question at. c.in_default-question_behind.ensures (numbers, behind) (some, question, at);
+        no_table = λ size after told _. c.in_default.ensures (size, after) told;
+        no_question = λ numbers after some question at. c.in_default-question_after.ensures (numbers, after) (some, question, at);
       },
     ))
 
 pub returns-clause-taken : goal.returns-clause-taken
 returns-clause-taken c =
     let s = c.self.inside in
-    let found = c.in-Some-question_behind in
+    let found = c.in-Some-question_after in
     let taken = question_taken s.tables s.line s.rest.now found.rest.now found.question found.ensures.0 found.ensures.1 found.ensures.2 in
     rw (← c.self.view_is) (search (rules, taken))

@@ -6,7 +6,7 @@ use Rattle.live_table.proofs.reader.Reader.choice.Goals as goal
 pub returns : goal.returns
 returns c =
     let before = c.self.inside in let k = c.in_ok-answer.ensures in let found = c.in_ok-answer.prefix in
-    let v = known before.sides.place in let w = known c.replace_with.new.dest.place in
+    let v = known before.copies.place in let w = known c.replace_with.new.dest.place in
     let seen = covers_found v w before.seen found c.self.invariant.0 k.0 k.1 in
     let told = covers_found v w before.told found c.self.invariant.1 k.0 k.1 in
     rw (← c.self.view_is) (record {

@@ -3,7 +3,7 @@ use Rattle.std.specs.Prelude.{List, SomeIff}
 use Rattle.game_core.specs.declared.game.Row.{Row}
 use Rattle.grid_quantiser.specs.Cells.{point_of}
 use Rattle.controller_table.specs.Choice.{HasRowAt}
-use Rattle.loop_sim.specs.declared.line.SimLine.{SimLine}
+use Rattle.loop_sim.specs.declared.sim_line.SimLine.{SimLine}
 use Rattle.loop_sim.specs.Trace.{trace_lines}
 use Rattle.loop_sim.proofs.Rows.{has_row, no_row}
 use Rattle.loop_sim.proofs.sim.Sim.new.Goals as goal

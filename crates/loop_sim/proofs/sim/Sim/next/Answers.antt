@@ -2,7 +2,7 @@ use Rattle.std.proofs.Common.{◌≡◌, sym, ap, ◌∙◌}
 use Rattle.loop_sim.specs.declared.closed_loop.Sample.{Sample}
 use Rattle.loop_sim.specs.declared.closed_loop.Stage.{Stage}
 use Rattle.loop_sim.specs.declared.closed_loop.Stage.TheVariants.{Due, Over}
-use Rattle.loop_sim.specs.declared.line.SimLine.{SimLine}
+use Rattle.loop_sim.specs.declared.sim_line.SimLine.{SimLine}
 use Rattle.loop_sim.proofs.sim.Sim.next.Goals as goal
 use Rattle.loop_sim.proofs.sim.Sim.next.Goals.{in-Due, in-Ending}
 

@@ -1,7 +1,7 @@
 use Rattle.std.proofs.Common.{◌≤◌, ◌++◌, List, ℕ, length, map, ap₂, ◌∙◌, arith}
 use Rattle.std.specs.List.{concat}
 use Rattle.plant_record.specs.Description.{axes_of}
-use Rattle.loop_sim.specs.declared.line.SimLine.{SimLine}
+use Rattle.loop_sim.specs.declared.sim_line.SimLine.{SimLine}
 use Rattle.loop_sim.specs.TraceText.{line_text}
 use Rattle.loop_sim.proofs.Starts.{long_inside, axes_many, trace_same}
 use Rattle.loop_sim.proofs.trace_writer.TraceWriter.new.Goals as goal

@@ -1,12 +1,12 @@
 use Rattle.std.proofs.Common.{◌≡◌, ap, inl, inr}
 use Rattle.std.specs.Prelude.{Err}
 use Rattle.std.proofs.lemmas.Result.{err_from_is_err_and}
-use Rattle.plant_reading.specs.declared.fault.ReadFault.TheVariants as faults
+use Rattle.plant_reading.specs.declared.line_fault.LineFault.TheVariants as faults
 use Rattle.plant_reading.specs.inside.LineTokens.{tokens_in}
 use Rattle.plant_reading.specs.inside.ExpressionItems.{AreNames}
 use Rattle.plant_record.specs.Parts.{variable_names}
 use Rattle.plant_reading.specs.inside.ExpressionMachine.{machine_of}
-use Rattle.plant_reading.proofs.lemmas.ExpressionsRead.{taken_within, one_taken, no_item, no_step, no_room, end_spelled, end_meant}
+use Rattle.plant_reading.proofs.lemmas.ExpressionsRead.{taken_within, one_taken, no_item, no_step, no_capacity, end_spelled, end_meant}
 use Rattle.plant_reading.proofs.expression.ExpressionReader.take_all.Goals as goal
 
 pub returns-in_err-item-clause-refused : goal.returns-in_err-item-clause-refused
@@ -35,7 +35,7 @@ returns-in_err-take-clause-refused c =
       | inl stuck ↦
           no_step names (tokens_in c.args.bytes.now) (tokens_in c.loop-item.rest.now) (tokens_in c.in-Some.after.now) (machine_of c.loop-item.self) c.loop-item.self.counts c.in-Some.item e ok c.loop-item.invariant.taken read stuck h
       | inr full ↦
-          no_room names (tokens_in c.args.bytes.now) (tokens_in c.loop-item.rest.now) (tokens_in c.in-Some.after.now) (machine_of c.loop-item.self) c.loop-item.self.counts c.in-Some.item e ok c.loop-item.invariant.taken read full h
+          no_capacity names (tokens_in c.args.bytes.now) (tokens_in c.loop-item.rest.now) (tokens_in c.in-Some.after.now) (machine_of c.loop-item.self) c.loop-item.self.counts c.in-Some.item e ok c.loop-item.invariant.taken read full h
     ]
 
 pub loop-item-preserved : goal.loop-item-preserved

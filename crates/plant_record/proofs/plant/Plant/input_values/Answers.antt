@@ -1,6 +1,6 @@
 use Rattle.std.proofs.Common.{length, sym, ap, ◌∙◌}
 use Rattle.plant_record.specs.declared.variables.InputVariable.{InputVariable}
-use Rattle.plant_record.proofs.lemmas.InputPlaces.{count_is}
+use Rattle.plant_record.proofs.lemmas.ValueIndices.{count_is}
 use Rattle.plant_record.proofs.plant.Plant.input_values.Goals as goal
 
 pub returns : goal.returns

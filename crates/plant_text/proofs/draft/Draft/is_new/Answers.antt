@@ -3,13 +3,13 @@ use Rattle.std.specs.List.{slice_get}
 use Rattle.std.proofs.lemmas.List.{length-map}
 use Rattle.std.proofs.lemmas.Option.{slice_get_within, get_or_from_slice_get}
 use Rattle.plant_text.specs.Grammar.{names_in}
-use Rattle.plant_text.specs.inside.DraftsInMemory.{part_of}
+use Rattle.plant_text.specs.inside.DraftsInMemory.{partial_of}
 use Rattle.std.specs.Prelude.{Option, None, Bool, true, false, not, IfSome, ◌↔◌, IsTrue}
 use Rattle.std.specs.Option.{IfNone, is_some}
 use Rattle.plant_text.proofs.draft.Draft.is_new.Goals as goal
 
-pub place_of-requires : goal.place_of-requires
-place_of-requires c =
+pub position_of-requires : goal.position_of-requires
+position_of-requires c =
     let k = c.requires in
     simp (length-append, length-map) (omega (arith, k.states_bound, k.inputs_bound, k.noises_bound))
 
@@ -24,5 +24,5 @@ new_where_none names name None b found none is = (λ _. none, λ _. not_false b 
 
 pub returns : goal.returns
 returns c =
-    let new = new_where_none (names_in (part_of c.args.self.now)) c.as_bytes.result.now c.place_of.result c.is_none.result c.place_of.ensures.found c.place_of.ensures.none c.is_none.ensures in
+    let new = new_where_none (names_in (partial_of c.args.self.now)) c.as_bytes.result.now c.position_of.result c.is_none.result c.position_of.ensures.found c.position_of.ensures.none c.is_none.ensures in
     rw c.as_bytes.ensures at new

@@ -1,5 +1,5 @@
 use Rattle.std.proofs.Common.{ℕ, ◌*◌, sym, ◌∙◌, ap₂}
-use Rattle.board_crew.proofs.Boards.{fans_many}
+use Rattle.board_rounds.proofs.Boards.{fans_many}
 use Rattle.reach_avoid.proofs.scratch.ReachStartStart.count_counters.Goals as goal
 
 pub returns : goal.returns

@@ -2,7 +2,7 @@ use Rattle.std.proofs.Common.{List, ℕ, ◌++◌, length, map, sym, ap, ◌∙�
 use Rattle.std.specs.List.{concat}
 use Rattle.std.proofs.lemmas.List.{length-map}
 use Rattle.row_runs.specs.declared.run.Run.{Run}
-use Rattle.row_runs.specs.declared.run.Version.TheVariants.{Second}
+use Rattle.row_runs.specs.declared.run.TableVersion.TheVariants.{Second}
 use Rattle.row_runs.specs.Runs.{runs_from}
 use Rattle.row_runs.specs.RunText.{run_line, run_lines, count_line}
 use Rattle.row_runs.proofs.run_lines.RunLines.counted.Goals as goal

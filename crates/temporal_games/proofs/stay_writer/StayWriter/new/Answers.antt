@@ -1,6 +1,6 @@
 use Rattle.std.proofs.Common.{◌∷◌, ◌++◌, length, ◌∙◌}
 use Rattle.plant_writing.specs.CanonicalText.{text_of}
-use Rattle.row_runs.specs.declared.row_words.RowWords.TheVariants.{Both}
+use Rattle.row_runs.specs.declared.row_format.RowFormat.TheVariants.{Both}
 use Rattle.row_runs.specs.RunText.{run_lines, count_line}
 use Rattle.row_runs.proofs.FramedRows.{framed_lines}
 use Rattle.temporal_games.specs.StayText.{stay_line}

@@ -2,8 +2,8 @@ use Rattle.std.proofs.Common.{◌≡◌, ◌≤◌, ◌++◌, length, take, drop
 use Rattle.std.proofs.lemmas.Bool.{eqb-true}
 use Rattle.std.specs.List.{concat}
 use Rattle.game_core.specs.declared.game.Row.{Row}
-use Rattle.row_runs.specs.declared.row_words.RowWords.TheVariants.{Both}
-use Rattle.row_runs.specs.declared.run.Version.TheVariants.{Second}
+use Rattle.row_runs.specs.declared.row_format.RowFormat.TheVariants.{Both}
+use Rattle.row_runs.specs.declared.run.TableVersion.TheVariants.{Second}
 use Rattle.row_runs.specs.Runs.{runs_from}
 use Rattle.row_runs.specs.RunText.{run_lines}
 use Rattle.temporal_games.specs.PatrolText.{turn_lines}
@@ -12,12 +12,12 @@ use Rattle.temporal_games.proofs.TurnTexts.{begun, copied_within, taken, dropped
 use Rattle.temporal_games.proofs.turn_lines.TurnLinesPieces.copy_some.Goals.{then-is_empty+else-count-gt0+else-self-turns, else-is_empty}
 use Rattle.temporal_games.proofs.turn_lines.TurnLinesPieces.copy_some.Goals as goal
 
--- what is left behind the line, once there is one
-behind : goal.After-advance → List ℕ
-behind c = left_of c.if-is_empty.self-inside.runs ++ concat (turn_lines c.if-is_empty.self-inside.turn (drop c.if-is_empty.self-inside.turn c.if-is_empty.self-inside.rows.now))
+-- what is left after the line, once there is one
+after : goal.After-advance → List ℕ
+after c = left_of c.if-is_empty.self-inside.runs ++ concat (turn_lines c.if-is_empty.self-inside.turn (drop c.if-is_empty.self-inside.turn c.if-is_empty.self-inside.rows.now))
 
-in_pieces : (c : goal.After-advance) → c.args.self.now ≡ c.if-is_empty.self-inside.line ++ behind c
-unfolding behind
+in_pieces : (c : goal.After-advance) → c.args.self.now ≡ c.if-is_empty.self-inside.line ++ after c
+unfolding after
 in_pieces c = elim c.if-is_empty.branch [
   | then-is_empty+else-count-gt0+else-self-turns w ↦ (
       let empty : length c.as_slice.result.now ≡ 0 = eqb-true (length c.as_slice.result.now) 0 (sym c.is_empty.ensures ∙ w.if-is_empty.true) in
@@ -30,8 +30,8 @@ in_pieces c = elim c.if-is_empty.branch [
   | else-is_empty w ↦ subst (λ s. c.args.self.now ≡ s.line ++ (left_of s.runs ++ concat (turn_lines s.turn (drop s.turn s.rows.now)))) (sym w.self-inside-is) (sym c.self.view_is)
 ]
 
-within : (c : goal.After-advance) → c.copy_front-count.result ≤ length c.if-is_empty.self-inside.line
-within c = let count = c.copy_front-count.ensures.count in let line = ap (λ (x : List ℕ). length x) c.as_slice-2.ensures in omega (arith, count, line)
+within : (c : goal.After-advance) → c.copy_prefix-count.result ≤ length c.if-is_empty.self-inside.line
+within c = let count = c.copy_prefix-count.ensures.count in let line = ap (λ (x : List ℕ). length x) c.as_slice-2.ensures in omega (arith, count, line)
 
 -- the buffer is as it was
 same_buffer : (c : goal.After-advance) → c.if-is_empty.buf ≡ c.args.buf.now
@@ -44,16 +44,16 @@ same_buffer c = elim c.if-is_empty.branch [
 ]
 
 pub returns-clause-within : goal.returns-clause-within
-returns-clause-within c = copied_within c.args.self.now c.if-is_empty.self-inside.line (behind c) c.copy_front-count.result (in_pieces c) (within c)
+returns-clause-within c = copied_within c.args.self.now c.if-is_empty.self-inside.line (after c) c.copy_prefix-count.result (in_pieces c) (within c)
 
 pub returns-clause-copied : goal.returns-clause-copied
 returns-clause-copied c =
-    c.copy_front-count.ensures.copied
-    ∙ ap (λ (x : List ℕ). take c.copy_front-count.result x ++ drop c.copy_front-count.result c.if-is_empty.buf) c.as_slice-2.ensures
-    ∙ ap (λ (x : List ℕ). x ++ drop c.copy_front-count.result c.if-is_empty.buf) (taken c.args.self.now c.if-is_empty.self-inside.line (behind c) c.copy_front-count.result (in_pieces c) (within c))
-    ∙ ap (λ (x : List ℕ). take c.copy_front-count.result c.args.self.now ++ drop c.copy_front-count.result x) (same_buffer c)
+    c.copy_prefix-count.ensures.copied
+    ∙ ap (λ (x : List ℕ). take c.copy_prefix-count.result x ++ drop c.copy_prefix-count.result c.if-is_empty.buf) c.as_slice-2.ensures
+    ∙ ap (λ (x : List ℕ). x ++ drop c.copy_prefix-count.result c.if-is_empty.buf) (taken c.args.self.now c.if-is_empty.self-inside.line (after c) c.copy_prefix-count.result (in_pieces c) (within c))
+    ∙ ap (λ (x : List ℕ). take c.copy_prefix-count.result c.args.self.now ++ drop c.copy_prefix-count.result x) (same_buffer c)
 
 pub returns-clause-rest : goal.returns-clause-rest
-unfolding behind
+unfolding after
 returns-clause-rest c =
-    ap (λ (x : List ℕ). x ++ behind c) c.advance.ensures ∙ dropped c.args.self.now c.if-is_empty.self-inside.line (behind c) c.copy_front-count.result (in_pieces c) (within c)
+    ap (λ (x : List ℕ). x ++ after c) c.advance.ensures ∙ dropped c.args.self.now c.if-is_empty.self-inside.line (after c) c.copy_prefix-count.result (in_pieces c) (within c)

@@ -1,6 +1,6 @@
 use Rattle.std.proofs.Common.{◌≡◌, ◌+◌, ◌-◌, ◌≤◌, ◌∙◌, ◌++◌, length, take, drop, List, ℕ, ap, arith, length-drop}
 use Rattle.std.proofs.lemmas.List.{drop-drop}
-use Rattle.text_pieces.proofs.Copies.{more_pieces, room_for, piece_length}
+use Rattle.text_pieces.proofs.Copies.{more_pieces, capacity_for, piece_length}
 use Rattle.text_pieces.proofs.pieces.Pieces.next_piece.Goals as goal
 
 pub loop-filled-preserved : goal.loop-filled-preserved
@@ -16,8 +16,8 @@ loop-filled-preserved g c =
     let copied : new ≡ take count (drop filled text) ++ drop count (take (length buf - filled) (drop filled buf)) =
     c.copy_some-count.ensures.copied ∙ ap (λ (x : List ℕ). take count x ++ drop count (take (length buf - filled) (drop filled buf))) rest in
     record {
-      room = room_for buf new filled count (length buf - filled) c.loop-filled.invariant.room (piece_length (drop filled text) new (take (length buf - filled) (drop filled buf)) count within copied);
+      capacity = capacity_for buf new filled count (length buf - filled) c.loop-filled.invariant.capacity (piece_length (drop filled text) new (take (length buf - filled) (drop filled buf)) count within copied);
       enough = enough;
-      piece = more_pieces text buf new (take (length buf - filled) (drop filled buf)) filled count (length buf - filled) c.loop-filled.invariant.room enough c.loop-filled.invariant.piece copied within;
+      piece = more_pieces text buf new (take (length buf - filled) (drop filled buf)) filled count (length buf - filled) c.loop-filled.invariant.capacity enough c.loop-filled.invariant.piece copied within;
       left = c.copy_some-count.ensures.rest ∙ ap (drop count) rest ∙ drop-drop count filled text;
     }

@@ -1,0 +1,121 @@
+-- Cells in a row differ in the place along the last state alone.
+use Rattle.std.proofs.Common.{◌≡◌, ◌≢◌, ℕ, zero, suc, ◌+◌, ◌*◌, ◌/◌, ◌%◌, ◌<◌, ◌≤◌, List, [], ◌∷◌, All, Bool, true, false, length, drop, set, get_or, get_or-set_other, get_or-set_same, refl, sym, ap, subst, ◌∙◌, arith, inl, inr}
+use Rattle.std.specs.Prelude.{sum_by, IsTrue, if◌then◌else◌}
+use Rattle.std.proofs.Math.Nat.{mul_assoc, mul_comm, div-div-eq-div-mul, div-one, div-add-mod'}
+use Rattle.std.proofs.lemmas.Bool.{cases_lt}
+use Rattle.std.proofs.lemmas.List.{length-map, drop_all}
+use Rattle.std.proofs.lemmas.List.Elements.{All-head, All-tail}
+use Rattle.std.proofs.lemmas.List.Sums.{sum_by-cons}
+use Rattle.std.proofs.lemmas.Nat.{div-mul-add, mod-mul-add}
+use Rattle.grid_quantiser.specs.declared.axis.Axis.{Axis}
+use Rattle.grid_quantiser.specs.Axes.{no_axis, cells_of}
+use Rattle.grid_quantiser.specs.Indices.{index_along}
+use Rattle.plant_record.specs.Description.{Description, axis_of, axes_of}
+use Rattle.plant_record.specs.Plants.{IsPlant}
+use Rattle.successor_box.specs.Extents.{index_in, moves_along}
+use Rattle.abstraction_table.specs.declared.digits.Digit.{Digit}
+use Rattle.abstraction_table.specs.declared.terms.TermTable.{TermTable}
+use Rattle.abstraction_table.specs.inside.Rows.{last_state, line_length, AreInLine, IsInLineOf, StaysAlongLines}
+use Rattle.abstraction_table.specs.inside.Terms.{AreIndicesOf, BringAs, HoldsTermsAlong}
+use Rattle.abstraction_table.proofs.PairDigits.{state_slot, no_value_index}
+
+-- the cells along the later axes are whole rows
+whole_rows : (axes : List Axis) (k last : ℕ) → length axes ≡ suc last → k ≤ last → (g : ℕ) × (cells_of (drop k axes) ≡ g * (get_or axes last no_axis).count)
+whole_rows [] k last long le = absurd (omega (arith, long))
+whole_rows (a ∷ []) zero zero long le = (1, omega arith)
+whole_rows (a ∷ b ∷ axes) zero zero long le = absurd (omega (arith, long))
+whole_rows (a ∷ axes) zero (suc last) long le =
+    let later = whole_rows axes 0 last (omega (arith, long)) (omega arith) in
+    (a.count * later.0, ap (λ (n : ℕ). a.count * n) later.1 ∙ sym (mul_assoc a.count later.0 (get_or axes last no_axis).count))
+whole_rows (a ∷ axes) (suc k) zero long le = absurd (omega (arith, le))
+whole_rows (a ∷ axes) (suc k) (suc last) long le = whole_rows axes k last (omega (arith, long)) (omega (arith, le))
+
+-- the slot along an earlier axis depends on the row alone
+row_slot : (axes : List Axis) (last i c d : ℕ) → length axes ≡ suc last → i < last → d / (get_or axes last no_axis).count ≡ c / (get_or axes last no_axis).count → index_along axes i c ≡ index_along axes i d
+row_slot axes last i c d long lt same =
+    let r : ℕ = (get_or axes last no_axis).count in
+    let n : ℕ = (get_or axes i no_axis).count in
+    let rows = whole_rows axes (i + 1) last long (omega (arith, lt)) in
+    let in_lines : (e : ℕ) → index_along axes i e ≡ e / r / rows.0 % n =
+    λ e. ap (λ (m : ℕ). e / m % n) (rows.1 ∙ mul_comm rows.0 r) ∙ ap (λ (m : ℕ). m % n) (sym (div-div-eq-div-mul e r rows.0))
+    in
+    in_lines c ∙ ap (λ (q : ℕ). q / rows.0 % n) (sym same) ∙ sym (in_lines d)
+
+last_slot : (axes : List Axis) (last c : ℕ) → length axes ≡ suc last → index_along axes last c ≡ c % (get_or axes last no_axis).count
+last_slot axes last c long =
+    let none : drop (last + 1) axes ≡ [] = drop_all (last + 1) axes (omega (arith, long)) in
+    ap (λ (later : List Axis). c / cells_of later % (get_or axes last no_axis).count) none ∙ ap (λ (n : ℕ). n % (get_or axes last no_axis).count) (div-one c)
+
+-- a cell some indices further in the row
+line_step : (c k r : ℕ) → c % r + k < r → ((c + k) / r ≡ c / r) × ((c + k) % r ≡ c % r + k)
+line_step c k r within =
+    let terms : c / r * r + (c % r + k) ≡ c + k = omega (arith, div-add-mod' c r) in
+    (ap (λ (n : ℕ). n / r) (sym terms) ∙ div-mul-add (c / r) r (c % r + k) within, ap (λ (n : ℕ). n % r) (sym terms) ∙ mod-mul-add (c / r) r (c % r + k) within)
+
+module _ (p : Description) (plant : IsPlant p) where
+  long : length (axes_of p) ≡ suc (last_state p)
+  long = omega (arith, length-map p.states axis_of, plant.some_state)
+
+  -- a slot of a cell in another's row
+  same_slot : (c d k : ℕ) → d / line_length p ≡ c / line_length p → k ≢ last_state p → index_in p c 0 k ≡ index_in p d 0 k
+  same_slot c d k same other =
+      elim (cases_lt k (length p.states)) [
+        | inl state ↦
+            let earlier : k < last_state p = omega (arith, state, other) in
+            sym (state_slot p c 0 k state) ∙ row_slot (axes_of p) (last_state p) k c d long earlier same ∙ state_slot p d 0 k state
+        | inr past ↦ sym (no_value_index p c k past) ∙ no_value_index p d k past
+      ]
+
+  -- what a cell brings to a table that depends on no slot along the last state
+  same_first : (c d : ℕ) (ds : List Digit) → d / line_length p ≡ c / line_length p → All (λ (e : Digit). e.variable ≢ last_state p) ds → sum_by (λ (e : Digit). index_in p c 0 e.variable * e.in_table) ds ≡ sum_by (λ (e : Digit). index_in p d 0 e.variable * e.in_table) ds
+  same_first c d [] same stays = refl
+  same_first c d (e ∷ ds) same stays =
+      let here : index_in p c 0 e.variable * e.in_table ≡ index_in p d 0 e.variable * e.in_table =
+      ap (λ (n : ℕ). n * e.in_table) (same_slot c d e.variable same (All-head (λ (e : Digit). e.variable ≢ last_state p) e ds stays))
+      in
+      omega (arith, sum_by-cons (λ (e : Digit). index_in p c 0 e.variable * e.in_table) e ds, sum_by-cons (λ (e : Digit). index_in p d 0 e.variable * e.in_table) e ds, here, same_first c d ds same (All-tail (λ (e : Digit). e.variable ≢ last_state p) e ds stays))
+
+  same_moves : (i c d : ℕ) (b : Bool) → i < length p.states → d / line_length p ≡ c / line_length p → (IsTrue b → i ≢ last_state p) → (if b then index_along (axes_of p) i c else 0) ≡ (if b then index_along (axes_of p) i d else 0)
+  same_moves i c d true lt same stays = state_slot p c 0 i lt ∙ same_slot c d i same (stays refl) ∙ sym (state_slot p d 0 i lt)
+  same_moves i c d false lt same stays = refl
+
+  -- what brings to a table what a cell does, does so for its whole row
+  pub brings_in_row : (i : ℕ) (t : TermTable) (indices : List ℕ) (c d : ℕ) → i < length p.states → HoldsTermsAlong p i t → StaysAlongLines (last_state p) i t → IsInLineOf p c d → BringAs p i t indices c → BringAs p i t indices d
+  brings_in_row i t indices c d lt held stays row brought = record {
+    cell = row.0;
+    first = brought.first ∙ same_first c d t.digits.items row.1 stays.digits;
+    moves = brought.moves ∙ same_moves i c d (moves_along p i) lt row.1 (λ moves. stays.moves (subst IsTrue (sym held.moves) moves));
+  }
+
+  -- the indices of a cell further in the row
+  pub indices_in_line : (c k n first : ℕ) (indices : List ℕ) → AreInLine p c n → k < n → last_state p < length indices → first ≡ index_in p c 0 (last_state p) →
+      ((j : ℕ) → j < length p.states + length p.inputs → j ≢ last_state p → get_or indices j 0 ≡ index_in p c 0 j) → AreIndicesOf p (c + k) (set indices (last_state p) (first + k))
+  indices_in_line c k n first indices row lt wide is others = λ j within.
+      let step = line_step c k (line_length p) (omega (arith, row.row, lt)) in
+      let last : last_state p < length p.states = omega (arith, plant.some_state) in
+      elim (cases_lt j (last_state p)) [
+        | inl before ↦ let other : j ≢ last_state p = omega (arith, before) in get_or-set_other indices (last_state p) j (first + k) 0 other ∙ others j within other ∙ same_slot c (c + k) j step.0 other
+        | inr past ↦
+            elim (cases_lt (last_state p) j) [
+              | inl after ↦ let other : j ≢ last_state p = omega (arith, after) in get_or-set_other indices (last_state p) j (first + k) 0 other ∙ others j within other ∙ same_slot c (c + k) j step.0 other
+              | inr at ↦
+                  let here : j ≡ last_state p = omega (arith, past, at) in
+                  let there : first + k ≡ index_in p (c + k) 0 (last_state p) =
+                  omega (arith, is, state_slot p c 0 (last_state p) last, state_slot p (c + k) 0 (last_state p) last, last_slot (axes_of p) (last_state p) c long, last_slot (axes_of p) (last_state p) (c + k) long, step.1)
+                  in
+                  subst (λ (i : ℕ). get_or (set indices (last_state p) (first + k)) i 0 ≡ index_in p (c + k) 0 i) (sym here) (get_or-set_same indices (last_state p) (first + k) 0 wide ∙ there)
+            ]
+      ]
+
+  pub last_among : last_state p < length p.states + length p.inputs
+  last_among = omega (arith, plant.some_state)
+
+  -- the slot along the last state is at most the cell
+  pub last_slot_few : (c n first : ℕ) → AreInLine p c n → first ≡ index_in p c 0 (last_state p) → first ≤ c
+  last_slot_few c n first row is =
+      let last : last_state p < length p.states = omega (arith, plant.some_state) in
+      omega (arith, is, state_slot p c 0 (last_state p) last, last_slot (axes_of p) (last_state p) c long, div-add-mod' c (line_length p))
+
+  -- a cell further in the row is in the row
+  pub further_in_line : (c k n : ℕ) → AreInLine p c n → k < n → IsInLineOf p c (c + k)
+  further_in_line c k n row lt = (omega (arith, row.within, lt), (line_step c k (line_length p) (omega (arith, row.row, lt))).0)

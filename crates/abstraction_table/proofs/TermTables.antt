@@ -1,0 +1,93 @@
+-- Tables of the terms of all boxes.
+use Rattle.std.proofs.Common.{◌≡◌, ℕ, ◌+◌, ◌*◌, ◌/◌, ◌^◌, ◌<◌, ◌-◌, List, [], ◌∷◌, ◌++◌, All, drop, length, get_or, Bool, refl, sym, ap, ap₂, subst, ◌∙◌, arith, inl, inr}
+use Rattle.std.specs.Prelude.{sum_by, if◌then◌else◌, IsTrue}
+use Rattle.std.proofs.lemmas.Bool.{cases_lt, cond_both}
+use Rattle.std.proofs.lemmas.List.{length-map, get_or_append_left, get_or-append_right}
+use Rattle.std.proofs.lemmas.List.Elements.{All-get_or, All-head, All-tail, All-weaker}
+use Rattle.std.proofs.lemmas.List.Sums.{sum_by-cons}
+use Rattle.std.proofs.lemmas.Nat.{mod_below}
+use Rattle.grid_quantiser.specs.Axes.{IsAxis, no_axis, cells_of}
+use Rattle.grid_quantiser.specs.Indices.{index_along}
+use Rattle.plant_record.specs.Description.{Description, axis_of, axes_of, vectors_of}
+use Rattle.plant_record.specs.Plants.{IsPlant}
+use Rattle.plant_record.specs.Soundness.{IsSound}
+use Rattle.successor_box.specs.Extents.{index_in, moves_along, shifted_by}
+use Rattle.abstraction_table.specs.declared.digits.Digit.{Digit}
+use Rattle.abstraction_table.specs.declared.terms.TermTable.{TermTable}
+use Rattle.abstraction_table.specs.inside.Extents.{first_of}
+use Rattle.abstraction_table.specs.inside.Terms.{AreIndicesOf, first_in, count_of, HasTermAt, Brings, BringAs, HoldsTermsAlong}
+use Rattle.abstraction_table.proofs.PairDigits.{state_slot, some_vectors}
+
+-- a digit is that of a state or an input variable
+abbrev pub HasVariable : Description → Digit → Type 0
+HasVariable p d = d.variable < length p.states + length p.inputs
+
+-- one table more
+pub tables_more : (p : Description) (tables : List TermTable) (n : ℕ) (t : TermTable) → length tables ≡ n → ((i : ℕ) (d : TermTable) → i < n → HoldsTermsAlong p i (get_or tables i d)) → HoldsTermsAlong p n t → (i : ℕ) (d : TermTable) → i < n + 1 → HoldsTermsAlong p i (get_or (tables ++ t ∷ []) i d)
+tables_more p tables n t long each here i d lt =
+    elim (cases_lt i n) [
+      | inl before ↦ subst (HoldsTermsAlong p i) (sym (get_or_append_left tables (t ∷ []) d i (omega (arith, before, long)))) (each i d before)
+      | inr past ↦
+          let last : i ≡ n = omega (arith, lt, past) in
+          let slot : i - n ≡ 0 = omega (arith, last) in
+          let found : get_or (tables ++ t ∷ []) i d ≡ t = get_or-append_right tables (t ∷ []) n i d long (omega (arith, last)) ∙ ap (λ (k : ℕ). get_or (t ∷ []) k d) slot in
+          subst (HoldsTermsAlong p i) (sym found) (subst (λ (k : ℕ). HoldsTermsAlong p k t) (sym last) here)
+    ]
+
+-- a cell moves an extent along by less than the axis is long
+pub moved_below : (p : Description) → IsSound p → (i c : ℕ) → i < length p.equations → shifted_by p i c < (get_or (axes_of p) i no_axis).count
+moved_below p sound i c lt =
+    let count : ℕ = (get_or (axes_of p) i no_axis).count in
+    let within : i < length (axes_of p) = omega (arith, lt, sound.one_each, length-map p.states axis_of) in
+    let some : 0 < count = (All-get_or IsAxis (axes_of p) i no_axis within sound.axes.each).some_cell in
+    cond_both (moves_along p i) (index_along (axes_of p) i c) 0 (λ (n : ℕ). n < count) (λ moves. mod_below (c / cells_of (drop (i + 1) (axes_of p))) count some) (λ fixed. some)
+
+-- what the indices of a cell bring is what the cell brings
+pub first_is : (p : Description) (t : TermTable) (c : ℕ) (indices : List ℕ) → All (HasVariable p) t.digits.items → AreIndicesOf p c indices → first_in t indices ≡ first_of p t.digits.items c
+first_is p t c indices each are = same_sums t.digits.items each
+  where
+    same_sums : (ds : List Digit) → All (HasVariable p) ds → sum_by (λ (d : Digit). get_or indices d.variable 0 * d.in_table) ds ≡ sum_by (λ (d : Digit). index_in p c 0 d.variable * d.in_table) ds
+    same_sums [] each = refl
+    same_sums (d ∷ ds) each =
+        let here : get_or indices d.variable 0 * d.in_table ≡ index_in p c 0 d.variable * d.in_table = ap (λ (n : ℕ). n * d.in_table) (are d.variable (All-head (HasVariable p) d ds each)) in
+        omega (arith, sum_by-cons (λ (d : Digit). get_or indices d.variable 0 * d.in_table) d ds, sum_by-cons (λ (d : Digit). index_in p c 0 d.variable * d.in_table) d ds, here, same_sums ds (All-tail (HasVariable p) d ds each))
+
+-- a cell's indices bring to each table what the cell does
+pub brings : (p : Description) → IsSound p → (i : ℕ) (t : TermTable) (c : ℕ) (indices : List ℕ) → i < length p.equations → HoldsTermsAlong p i t → c < cells_of (axes_of p) → AreIndicesOf p c indices → BringAs p i t indices c
+brings p sound i t c indices lt held cell are =
+    let state : i < length p.states = omega (arith, lt, sound.one_each) in
+    let here : get_or indices i 0 ≡ index_along (axes_of p) i c = are i (omega (arith, state)) ∙ sym (state_slot p c 0 i state) in
+    record {
+      cell = cell;
+      first = first_is p t c indices held.digits are;
+      moves = ap₂ (λ (b : Bool) (n : ℕ). if b then n else 0) held.moves here;
+    }
+
+-- the variables are among the nine
+pub variables_few : (p : Description) → IsPlant p → (ds : List Digit) → All (HasVariable p) ds → All (λ (d : Digit). d.variable < 9) ds
+variables_few p plant ds each = All-weaker (HasVariable p) (λ (d : Digit). d.variable < 9) (λ d h. omega (arith, h, plant.states_bound, plant.inputs_bound)) ds each
+
+-- what indices bring is among the terms
+pub first_fits : (p : Description) → IsPlant p → (i : ℕ) (t : TermTable) (indices : List ℕ) (c : ℕ) → HoldsTermsAlong p i t → BringAs p i t indices c → first_in t indices < 2 ^ 32
+first_fits p plant i t indices c held brought = omega (arith, brought.first, held.slot c 0 brought.cell (some_vectors p plant), held.few)
+
+pub brought_by : (p : Description) (i : ℕ) (t : TermTable) (indices : List ℕ) (first own c : ℕ) → first ≡ first_in t indices → own ≡ (if t.moves then get_or indices i 0 else 0) → BringAs p i t indices c → Brings p i t first own c
+brought_by p i t indices first own c first_is own_is brought = record { cell = brought.cell; first = first_is ∙ brought.first; moves = own_is ∙ brought.moves }
+
+-- in a free table each input brings nothing
+pub none_brought : (p : Description) (i : ℕ) (t : TermTable) (u : ℕ) → HoldsTermsAlong p i t → IsTrue t.free → u < vectors_of p.inputs → get_or t.inputs.items u 0 ≡ 0
+none_brought p i t u held free input = All-get_or (λ (n : ℕ). n ≡ 0) t.inputs.items u 0 (omega (arith, input, held.inputs)) (held.free free)
+
+-- a cell's term stands at the slot that it and the input bring
+module _ (p : Description) (sound : IsSound p) (i : ℕ) (lt : i < length p.equations) (t : TermTable) (held : HoldsTermsAlong p i t) (first own input slot : ℕ) (slot_is : slot ≡ first + get_or t.inputs.items input 0) where
+  same_slot : (c u : ℕ) → Brings p i t first own c → get_or t.inputs.items u 0 ≡ get_or t.inputs.items input 0 → first_of p t.digits.items c + get_or t.inputs.items u 0 ≡ slot
+  same_slot c u brought same = omega (arith, slot_is, brought.first, same)
+
+  pub has_term : (c u : ℕ) → Brings p i t first own c → u < vectors_of p.inputs → get_or t.inputs.items u 0 ≡ get_or t.inputs.items input 0 → HasTermAt p c u i t.terms slot
+  has_term c u brought below same = subst (HasTermAt p c u i t.terms) (same_slot c u brought same) (held.term c u brought.cell below)
+
+  pub slot_within : (c : ℕ) → Brings p i t first own c → input < vectors_of p.inputs → slot < count_of t.terms
+  slot_within c brought below = subst (λ (n : ℕ). n < count_of t.terms) (same_slot c input brought refl) (held.slot c input brought.cell below)
+
+  pub own_below : (c : ℕ) → Brings p i t first own c → own < (get_or (axes_of p) i no_axis).count
+  own_below c brought = omega (arith, brought.moves, moved_below p sound i c lt)

@@ -1,0 +1,35 @@
+use Rattle.std.proofs.Common.{◌^◌, ◌≤◌, arith}
+use Rattle.abstraction_table.specs.inside.Tallies.{edges_of}
+use Rattle.plant_record.specs.Description.{axes_of, vectors_of}
+use Rattle.plant_record.proofs.lemmas.SoundPlants.{sound}
+use Rattle.abstraction_table.proofs.PlantGame.{ordered, are_edges, in_memory, is_game_of}
+use Rattle.abstraction_table.proofs.builders.build_game.Goals as goal
+
+pub count_fans-requires-clause-grid : goal.count_fans-requires-clause-grid
+count_fans-requires-clause-grid g c =
+    rw c.grid.ensures (sound c.args.p.now c.every_plant_is_within_limits.ensures.plant).axes
+
+pub count_fans-requires-clause-ordered : goal.count_fans-requires-clause-ordered
+count_fans-requires-clause-ordered g c =
+    rw (c.grid.ensures, c.deref.ensures.value) (ordered c.args.p.now c.every_plant_is_within_limits.ensures c.in_ok-boxes.boxes.items c.in_ok-boxes.ensures)
+
+pub returns-then-edges-gt-EDGES_LIMIT-clause-fault : goal.returns-then-edges-gt-EDGES_LIMIT-clause-fault
+returns-then-edges-gt-EDGES_LIMIT-clause-fault g c =
+    let counted = rw (c.grid.ensures, c.deref.ensures.value) at c.in_ok-fans.ensures.edges in
+    (are_edges c.args.p.now c.every_plant_is_within_limits.ensures c.in_ok-boxes.boxes.items c.in_ok-boxes.ensures c.in_ok-fans.fans.edges counted, c.if-edges-gt-EDGES_LIMIT.true)
+
+pub invariant_of-result : goal.invariant_of-result
+invariant_of-result g c =
+    let counted = rw (c.grid.ensures, c.deref.ensures.value) at c.in_ok-fans.ensures.edges in
+    let few : edges_of (axes_of c.args.p.now) c.in_ok-boxes.boxes.items ≤ 2 ^ 25 = omega (arith, counted, c.if-edges-gt-EDGES_LIMIT.false) in
+    let counted_fans = rw (c.grid.ensures, c.deref.ensures.value) at c.in_ok-fans.ensures.fans in
+    let some_input : 1 ≤ vectors_of c.args.p.now.inputs = omega (arith, c.vectors.ensures.some, c.vectors.ensures.count) in
+    record {
+      in_memory = rw (c.grid.ensures, c.vectors.ensures.count)
+          (in_memory c.args.p.now c.every_plant_is_within_limits.ensures c.in_ok-boxes.boxes.items c.in_ok-boxes.ensures c.in_ok-marks.marks.items c.in_ok-marks.ensures some_input few c.in_ok-fans.fans.counts.items counted_fans);
+    }
+
+pub returns-clause-game : goal.returns-clause-game
+returns-clause-game g c =
+    rw (c.grid.ensures, c.vectors.ensures.count)
+    (is_game_of c.args.p.now c.every_plant_is_within_limits.ensures c.in_ok-boxes.boxes.items c.in_ok-boxes.ensures c.in_ok-marks.marks.items c.in_ok-marks.ensures)

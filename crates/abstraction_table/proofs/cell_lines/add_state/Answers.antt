@@ -1,0 +1,29 @@
+use Rattle.std.proofs.Common.{◌+◌, Option, None, get_or, sym, subst, arith}
+use Rattle.grid_quantiser.specs.declared.boxes.CellBox.{CellBox}
+use Rattle.plant_record.proofs.lemmas.SoundPlants.{sound as sound_plant}
+use Rattle.abstraction_table.specs.inside.Terms.{IsSumAlong}
+use Rattle.abstraction_table.proofs.BoxSums.{ends_fit, term_few, base_more}
+use Rattle.abstraction_table.proofs.PairDigits.{some_vectors}
+use Rattle.abstraction_table.proofs.cell_lines.add_state.Goals as goal
+
+pub plus-requires-clause-one : goal.plus-requires-clause-one
+plus-requires-clause-one c =
+    let p = c.args.p.now in
+    let plant = c.requires.plant.plant in
+    ends_fit c.args.state c.args.base (omega (arith, c.requires.state, plant.one_each, plant.states_bound)) (c.requires.cell.2 0 (some_vectors p plant)).base_few
+
+pub plus-requires-clause-other : goal.plus-requires-clause-other
+plus-requires-clause-other c =
+    let p = c.args.p.now in
+    let limits = c.requires.plant in
+    let cell = c.requires.cell in
+    let some = some_vectors p limits.plant in
+    ends_fit 1 c.free_term.result (omega arith) (term_few p (sound_plant p limits.plant) c.args.state c.requires.state limits.cells cell.0 0 c.free_term.result (c.free_term.ensures cell.0 0 cell.1 some))
+
+pub returns-clause-added : goal.returns-clause-added
+returns-clause-added c = λ cell brought before u input.
+    let p = c.args.p.now in
+    let limits = c.requires.plant in
+    let rest : Option CellBox = get_or c.args.boxes.now u None in
+    subst (λ (b : Option CellBox). IsSumAlong p (c.args.state + 1) cell u b rest) (sym c.plus.ensures)
+    (base_more p (sound_plant p limits.plant) c.args.state c.requires.state limits.cells cell u c.free_term.result (c.free_term.ensures cell u brought input) c.args.base rest (before u input))

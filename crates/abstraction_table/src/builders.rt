@@ -1,0 +1,115 @@
+//! Building the abstraction of a plant.
+ghost use Rattle.std.specs.Prelude.{◌≡◌, IfOk, IfErr};
+ghost use Rattle.successor_box.specs.Deviations.{HasNoOverflow, deviations_of};
+ghost use Rattle.plant_game.specs.Abstraction.{IsGameOf, AreBoxesOf};
+ghost use Rattle.abstraction_table.specs.Faults.{IsFaultOf};
+ghost use Rattle.abstraction_table.specs.Table.{game_in, game_of, boxes_of, forward_game, boxes_forward};
+
+use crate::abstraction::Abstraction;
+use crate::boxed_game::BoxedGame;
+use crate::build_fault::BuildFault;
+use crate::fans::count_fans;
+use crate::forward::ForwardAbstraction;
+use crate::pair_boxes::build_boxes;
+use crate::shapes::build_shapes;
+use crate::sources::build_sources;
+use game_core::NoMemory;
+use plant_game::find_marks;
+use plant_record::Plant;
+use plant_record::laws::every_plant_is_within_limits;
+use std::alloc::Global;
+use std::thread::Threads;
+use successor_box::Slopes;
+
+/// The most edges of an abstraction.
+const EDGES_LIMIT: u64 = 1 << 25;
+
+/// The game of a plant as it is seen ahead. The number of edges is known before any edge is kept.
+/// What can be done side by side is handed to `rayon`.
+pub fn build_forward<R: Threads + Sync>(
+    rt: &R,
+    alloc: Global,
+    p: &Plant,
+    s: &Slopes,
+) -> Result<ForwardAbstraction, BuildFault>
+    requires slopes { s.now ≡ deviations_of p.now }
+    requires fits { HasNoOverflow p.now }
+    ensures game { IfOk result (λ o. IsGameOf p.now (forward_game o)) }
+    ensures boxes { IfOk result (λ o. AreBoxesOf p.now (boxes_forward o)) }
+    ensures fault { IfErr result (IsFaultOf p.now) }
+{
+    let boxed = build_game(rt, alloc, p, s)?;
+    let shapes = build_shapes(alloc, &boxed.grid, &boxed.fans)?;
+    Ok(ForwardAbstraction { boxed, shapes })
+}
+
+/// The abstraction whose game is the one that is seen ahead: the pairs that lead to each cell are found, and kept as well. What can
+/// be done side by side is handed to `rayon`.
+pub fn add_sources<R: Threads + Sync>(
+    rt: &R,
+    alloc: Global,
+    forward: ForwardAbstraction,
+) -> Result<Abstraction, NoMemory>
+    ensures game { IfOk result (λ a. game_of a ≡ forward_game forward) }
+    ensures boxes { IfOk result (λ a. boxes_of a ≡ boxes_forward forward) }
+{
+    let boxed = forward.boxed;
+    let found = build_sources(
+        rt,
+        alloc,
+        &boxed.grid,
+        &boxed.boxes,
+        boxed.fans.edges,
+        &forward.shapes,
+    );
+    let sources = found.map_err(|_| NoMemory)?;
+    Ok(Abstraction { boxed, sources })
+}
+
+/// The abstraction of a plant. What can be done side by side is handed to `rayon`.
+pub fn build<R: Threads + Sync>(
+    rt: &R,
+    alloc: Global,
+    p: &Plant,
+    s: &Slopes,
+) -> Result<Abstraction, BuildFault>
+    requires slopes { s.now ≡ deviations_of p.now }
+    requires fits { HasNoOverflow p.now }
+    ensures game { IfOk result (λ a. IsGameOf p.now (game_of a)) }
+    ensures boxes { IfOk result (λ a. AreBoxesOf p.now (boxes_of a)) }
+    ensures fault { IfErr result (IsFaultOf p.now) }
+{
+    let forward = build_forward(rt, alloc, p, s)?;
+    Ok(add_sources(rt, alloc, forward)?)
+}
+
+/// The game of a plant by the boxes of its pairs.
+fn build_game<R: Threads + Sync>(
+    rt: &R,
+    alloc: Global,
+    p: &Plant,
+    s: &Slopes,
+) -> Result<BoxedGame, BuildFault>
+    requires slopes { s.now ≡ deviations_of p.now }
+    requires fits { HasNoOverflow p.now }
+    ensures game { IfOk result (λ g. IsGameOf p.now (game_in g)) }
+    ensures boxes { IfOk result (λ g. AreBoxesOf p.now g.boxes.items) }
+    ensures fault { IfErr result (IsFaultOf p.now) }
+{
+    every_plant_is_within_limits(p);
+    let grid = *p.grid();
+    let boxes = build_boxes(rt, alloc, p, s)?;
+    let fans = count_fans(alloc, &grid, &boxes)?;
+    let edges = fans.edges;
+    if edges > EDGES_LIMIT {
+        return Err(BuildFault::TooManyEdges { edges });
+    }
+    let marks = find_marks(alloc, p)?;
+    Ok(BoxedGame {
+        grid,
+        inputs: p.vectors(),
+        marks,
+        boxes,
+        fans,
+    })
+}

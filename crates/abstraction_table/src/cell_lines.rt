@@ -1,0 +1,216 @@
+//! The boxes of the cells in a row.
+ghost use Rattle.std.specs.Prelude.{◌≡◌, ℕ, ◌+◌, ◌*◌, ◌^◌, ◌<◌, ◌≤◌, length, slice_index, slice_index_or, Option, None, IsTrue, IfSome};
+ghost use Rattle.std.specs.List.{All};
+ghost use Rattle.grid_quantiser.specs.declared.boxes.CellBox.{CellBox};
+ghost use Rattle.grid_quantiser.specs.Axes.{cells_of};
+ghost use Rattle.grid_quantiser.specs.ExtentBoxes.{one_cell};
+ghost use Rattle.plant_record.specs.Description.{axes_of, vectors_of};
+ghost use Rattle.plant_record.specs.Limits.{IsWithinLimits};
+ghost use Rattle.successor_box.specs.Boxes.{IsBoxOf};
+ghost use Rattle.abstraction_table.specs.inside.Sums.{plus};
+ghost use Rattle.abstraction_table.specs.inside.Rows.{AreInLine, IsInLineOf, AreBoxesFrom};
+ghost use Rattle.abstraction_table.specs.inside.Terms.{AreIndicesOf, Brings, BringAs, IsTermAt, AreSumsAlong, HoldsTermsAlong, HoldTerms};
+
+use crate::pair_box::PairBox;
+use crate::terms::{TermTable, Terms};
+use grid_quantiser::CellBox;
+use plant_record::Plant;
+use successor_box::INDEX_COLUMNS;
+
+/// The boxes of cells in a row, one for each input, which differ in the place along the last state alone. What the
+/// first states bring is the same along the row, and is found once: the first cell's boxes keep it for the others.
+pub(crate) fn boxes_in_line(p: &Plant, tables: &[TermTable], c: u32, boxes: &mut [PairBox])
+    requires plant { IsWithinLimits p.now }
+    requires tables { HoldTerms p.now tables.now }
+    requires row { (n : ℕ) × (length boxes.old ≡ n * vectors_of p.now.inputs) × AreInLine p.now c n }
+    requires start { All (λ b. b ≡ one_cell) boxes.old }
+    ensures long { length boxes.new ≡ length boxes.old }
+    ensures each { AreBoxesFrom p.now c boxes.new }
+{
+    let inputs = p.vectors() as usize;
+    let last = p.states() as usize - 1;
+    let mut indices = indices_of(p, c);
+    let first = indices[last];
+    let early = add_early(p, tables, &indices, &mut boxes[..inputs]);
+    for cell in (0..boxes.len() / inputs).rev() {
+        indices[last] = first + cell as u32;
+        let at = cell * inputs;
+        boxes.copy_within(..inputs, at);
+        add_late(p, tables, early, &indices, &mut boxes[at..at + inputs]);
+    }
+}
+
+/// Adds the terms of the first states, as far as they are the same all along a row, and tells how many.
+fn add_early(
+    p: &Plant,
+    tables: &[TermTable],
+    indices: &[u32; INDEX_COLUMNS],
+    boxes: &mut [PairBox],
+) -> usize
+    requires plant { IsWithinLimits p.now }
+    requires tables { HoldTerms p.now tables.now }
+    requires cell { (c : ℕ) × (c < cells_of (axes_of p.now)) × AreIndicesOf p.now c indices.now }
+    requires one_each { length boxes.old ≡ vectors_of p.now.inputs }
+    requires start { All (λ b. b ≡ one_cell) boxes.old }
+    ensures long { length boxes.new ≡ length boxes.old }
+    ensures states { result ≤ length p.now.equations }
+    ensures along { (c d : ℕ) → c < cells_of (axes_of p.now) → AreIndicesOf p.now c indices.now → IsInLineOf p.now c d → AreSumsAlong p.now result d one_cell boxes.new }
+{
+    let last = p.states() - 1;
+    let mut state: usize = 0;
+    while state < tables.len() && tables[state].stays_along_lines(state as u32, last) {
+        add_terms(p, &tables[state], state as u32, indices, boxes);
+        state += 1;
+    }
+    state
+}
+
+/// Adds the terms of the states from one on to the boxes of a cell. Those that depend on no input are summed apart, and
+/// added to all boxes once.
+fn add_late(
+    p: &Plant,
+    tables: &[TermTable],
+    from: usize,
+    indices: &[u32; INDEX_COLUMNS],
+    boxes: &mut [PairBox],
+)
+    requires plant { IsWithinLimits p.now }
+    requires tables { HoldTerms p.now tables.now }
+    requires from { from ≤ length p.now.equations }
+    requires cell { (c : ℕ) × (c < cells_of (axes_of p.now)) × AreIndicesOf p.now c indices.now × AreSumsAlong p.now from c one_cell boxes.old }
+    requires one_each { length boxes.old ≡ vectors_of p.now.inputs }
+    ensures long { length boxes.new ≡ length boxes.old }
+    ensures each { (c : ℕ) → c < cells_of (axes_of p.now) → AreIndicesOf p.now c indices.now → AreSumsAlong p.now from c one_cell boxes.old → (u : ℕ) → u < vectors_of p.now.inputs → IsBoxOf p.now c u (slice_index_or boxes.new u None) }
+{
+    let mut base = PairBox::new(Some(CellBox { first: 0, last: 0 }));
+    for state in from..tables.len() {
+        base = add_state(p, &tables[state], state as u32, indices, base, boxes);
+    }
+    add_base(base, boxes);
+}
+
+/// Adds the terms of a state to the boxes of a cell, or to the sum of what is the same under all inputs.
+#[inline]
+fn add_state(
+    p: &Plant,
+    table: &TermTable,
+    state: u32,
+    indices: &[u32; INDEX_COLUMNS],
+    base: PairBox,
+    boxes: &mut [PairBox],
+) -> PairBox
+    requires plant { IsWithinLimits p.now }
+    requires table { HoldsTermsAlong p.now state table.now }
+    requires state { state < length p.now.equations }
+    requires cell { (c : ℕ) × BringAs p.now state table.now indices.now c × AreSumsAlong p.now state c base boxes.old }
+    requires one_each { length boxes.old ≡ vectors_of p.now.inputs }
+    ensures long { length boxes.new ≡ length boxes.old }
+    ensures added { (c : ℕ) → BringAs p.now state table.now indices.now c → AreSumsAlong p.now state c base boxes.old → AreSumsAlong p.now (state + 1) c result boxes.new }
+{
+    if !table.free {
+        add_terms(p, table, state, indices, boxes);
+        return base;
+    }
+    base.plus(free_term(p, table, state, indices))
+}
+
+/// The term of a state that depends on no input.
+#[inline]
+fn free_term(p: &Plant, table: &TermTable, state: u32, indices: &[u32; INDEX_COLUMNS]) -> PairBox
+    requires plant { IsWithinLimits p.now }
+    requires table { HoldsTermsAlong p.now state table.now }
+    requires state { state < length p.now.equations }
+    requires cell { (c : ℕ) × BringAs p.now state table.now indices.now c }
+    requires free { IsTrue table.now.free }
+    ensures { (c u : ℕ) → BringAs p.now state table.now indices.now c → u < vectors_of p.now.inputs → IsTermAt p.now c u state result }
+{
+    let first = table.first(indices);
+    let own = table.shifted_by(indices[state as usize]);
+    table.term(p, state, first, own, 0)
+}
+
+/// Adds the terms of a state to the boxes of a cell, one for each input.
+fn add_terms(
+    p: &Plant,
+    table: &TermTable,
+    state: u32,
+    indices: &[u32; INDEX_COLUMNS],
+    boxes: &mut [PairBox],
+)
+    requires plant { IsWithinLimits p.now }
+    requires table { HoldsTermsAlong p.now state table.now }
+    requires state { state < length p.now.equations }
+    requires cell { (c : ℕ) × (base : Option CellBox) × BringAs p.now state table.now indices.now c × AreSumsAlong p.now state c base boxes.old }
+    requires one_each { length boxes.old ≡ vectors_of p.now.inputs }
+    ensures long { length boxes.new ≡ length boxes.old }
+    ensures added { (c : ℕ) (base : Option CellBox) → BringAs p.now state table.now indices.now c → AreSumsAlong p.now state c base boxes.old → AreSumsAlong p.now (state + 1) c base boxes.new }
+{
+    let first = table.first(indices);
+    match &table.terms {
+        Terms::Listed(terms) => add_listed(&table.inputs, &terms[first as usize..], boxes),
+        Terms::Moved(_) => {
+            let own = table.shifted_by(indices[state as usize]);
+            add_moved(p, table, state, first, own, boxes)
+        }
+    }
+}
+
+/// Adds terms to boxes, by the slot that each input has among them.
+fn add_listed(inputs: &[u32], terms: &[PairBox], boxes: &mut [PairBox])
+    requires one_each { length boxes.old ≡ length inputs.now }
+    requires indices { All (λ n. n < length terms.now) inputs.now }
+    requires terms { All (λ n. IfSome (slice_index_or terms.now n None) (λ b. b.last < 2 ^ 28)) inputs.now }
+    requires boxes { All (λ b. IfSome b (λ b. b.last < 2 ^ 28)) boxes.old }
+    ensures long { length boxes.new ≡ length boxes.old }
+    ensures each { (u : ℕ) → u < length boxes.old → slice_index_or boxes.new u None ≡ plus (slice_index_or boxes.old u None) (slice_index_or terms.now (slice_index inputs.now u) None) }
+{
+    for i in 0..boxes.len() {
+        boxes[i] = boxes[i].plus(terms[inputs[i] as usize]);
+    }
+}
+
+/// Adds the terms of a state, found one by one, to the boxes of a cell that brings `first` and moves the extents so many indices.
+fn add_moved(p: &Plant, table: &TermTable, state: u32, first: u32, own: u32, boxes: &mut [PairBox])
+    requires plant { IsWithinLimits p.now }
+    requires table { HoldsTermsAlong p.now state table.now }
+    requires state { state < length p.now.equations }
+    requires cell { (c : ℕ) × (base : Option CellBox) × Brings p.now state table.now first own c × AreSumsAlong p.now state c base boxes.old }
+    requires one_each { length boxes.old ≡ vectors_of p.now.inputs }
+    ensures long { length boxes.new ≡ length boxes.old }
+    ensures added { (c : ℕ) (base : Option CellBox) → Brings p.now state table.now first own c → AreSumsAlong p.now state c base boxes.old → AreSumsAlong p.now (state + 1) c base boxes.new }
+{
+    for input in 0..p.vectors() {
+        let term = table.term(p, state, first, own, input);
+        boxes[input as usize] = boxes[input as usize].plus(term);
+    }
+}
+
+/// Adds to all boxes of a cell what is the same under all inputs.
+#[inline]
+fn add_base(base: PairBox, boxes: &mut [PairBox])
+    requires base { IfSome base (λ b. b.last < 2 ^ 28) }
+    requires boxes { All (λ b. IfSome b (λ b. b.last < 2 ^ 28)) boxes.old }
+    ensures long { length boxes.new ≡ length boxes.old }
+    ensures each { (u : ℕ) → u < length boxes.old → slice_index_or boxes.new u None ≡ plus base (slice_index_or boxes.old u None) }
+{
+    if base.is_one_cell() {
+        return;
+    }
+    for i in 0..boxes.len() {
+        boxes[i] = base.plus(boxes[i]);
+    }
+}
+
+/// The indices of a cell along the axes, and 0 for each input variable.
+#[inline]
+fn indices_of(p: &Plant, c: u32) -> [u32; INDEX_COLUMNS]
+    requires plant { IsWithinLimits p.now }
+    ensures { AreIndicesOf p.now c result }
+{
+    let along = p.grid().indices(c);
+    let mut indices = [0; INDEX_COLUMNS];
+    for state in 0..p.states() {
+        indices[state as usize] = along[state as usize];
+    }
+    indices
+}

@@ -1,0 +1,109 @@
+//! The extents of all boxes, state by state.
+ghost use Rattle.std.specs.Prelude.{◌≡◌, ℕ, ◌+◌, ◌^◌, ◌<◌, length, slice_index_or, None, IfOk};
+ghost use Rattle.plant_record.specs.Description.{vectors_of};
+ghost use Rattle.plant_record.specs.Limits.{IsWithinLimits};
+ghost use Rattle.successor_box.specs.Deviations.{HasNoOverflow, deviations_of};
+ghost use Rattle.abstraction_table.specs.inside.Digits.{AreDigitsOf, slot_at};
+ghost use Rattle.abstraction_table.specs.inside.Extents.{HoldsExtentsAlong, IsExtentFor};
+
+use crate::digits::{Digit, Digits, build_digits, slot_of};
+use crate::extent_blocks::{EXTENTS_PER_TASK, fill_chunk};
+use grid_quantiser::Extent;
+use plant_record::Plant;
+use rayon::prelude::*;
+use std::alloc::{AllocError, Global};
+use std::thread::Threads;
+use successor_box::Slopes;
+
+/// The extents along the axis of a state: one for each combination of the indices in the variables of the
+/// state's equation, since those of all pairs depend on these. Where the equation moves with the state itself,
+/// the extents are those at its first slot, and move with the cell's own.
+#[derive(Drop)]
+pub(crate) struct ExtentTable {
+    pub(crate) digits: Vec<Digit>,
+    pub(crate) inputs: Vec<u32>,
+    pub(crate) extents: Vec<Option<Extent>>,
+    pub(crate) moves: bool,
+}
+
+/// The extents along the axis of one state.
+pub(crate) fn build_table<R: Threads + Sync>(
+    rt: &R,
+    alloc: Global,
+    p: &Plant,
+    s: &Slopes,
+    state: u32,
+) -> Result<ExtentTable, AllocError>
+    requires plant { IsWithinLimits p.now }
+    requires slopes { s.now ≡ deviations_of p.now }
+    requires fits { HasNoOverflow p.now }
+    requires state { state < length p.now.equations }
+    ensures { IfOk result (λ table. HoldsExtentsAlong p.now state table) }
+{
+    let digits = build_digits(alloc, p, state)?;
+    let inputs = build_inputs(alloc, p, state, &digits)?;
+    let extents = build_extents(rt, alloc, p, s, state, &digits)?;
+    Ok(ExtentTable {
+        digits: digits.each,
+        inputs,
+        extents,
+        moves: p.equation(state).shifts_with(state),
+    })
+}
+
+/// What each input brings to the slot of an extent.
+fn build_inputs(
+    alloc: Global,
+    p: &Plant,
+    state: u32,
+    digits: &Digits,
+) -> Result<Vec<u32>, AllocError>
+    requires plant { IsWithinLimits p.now }
+    requires digits { AreDigitsOf p.now state digits.now.each.items digits.now.indices }
+    ensures long { IfOk result (λ inputs. length inputs.items ≡ vectors_of p.now.inputs) }
+    ensures each { IfOk result (λ inputs. (u : ℕ) → u < vectors_of p.now.inputs → slice_index_or inputs.items u 0 ≡ slot_at digits.now.each.items u) }
+{
+    let vectors = p.vectors();
+    let mut inputs = Vec::with_capacity(alloc, vectors as usize)?;
+    for input in 0..vectors {
+        inputs.push(slot_of(&digits.each, input))?;
+    }
+    Ok(inputs)
+}
+
+/// The extents along the axis of one state, one for each slot.
+fn build_extents<R: Threads + Sync>(
+    rt: &R,
+    alloc: Global,
+    p: &Plant,
+    s: &Slopes,
+    state: u32,
+    digits: &Digits,
+) -> Result<Vec<Option<Extent>>, AllocError>
+    requires plant { IsWithinLimits p.now }
+    requires slopes { s.now ≡ deviations_of p.now }
+    requires fits { HasNoOverflow p.now }
+    requires state { state < length p.now.equations }
+    requires digits { AreDigitsOf p.now state digits.now.each.items digits.now.indices }
+    ensures long { IfOk result (λ extents. length extents.items ≡ digits.now.indices) }
+    ensures each { IfOk result (λ extents. (slot : ℕ) → slot < digits.now.indices → IsExtentFor p.now state digits.now.each.items slot (slice_index_or extents.items slot None)) }
+{
+    let mut extents = vec![in alloc; None; digits.indices as usize]?;
+    par_chunks_mut_for_each(
+        rt,
+        &mut extents,
+        EXTENTS_PER_TASK,
+        |slot: usize, chunk: &mut [Option<Extent>]|
+            requires plant { IsWithinLimits p.now }
+            requires slopes { s.now ≡ deviations_of p.now }
+            requires fits { HasNoOverflow p.now }
+            requires state { state < length p.now.equations }
+            requires digits { AreDigitsOf p.now state digits.now.each.items digits.now.indices }
+            requires capacity { slot + length chunk.now < 2 ^ 32 }
+            ensures { (j : ℕ) → j < length chunk.entry.now → IsExtentFor p.entry.now state digits.entry.now.each.items (slot + j) (slice_index_or chunk.exit.now j None) }
+        {
+            fill_chunk(p, s, state, digits, slot as u32, chunk);
+        },
+    );
+    Ok(extents)
+}

@@ -1,0 +1,68 @@
+ghost use Rattle.abstraction_table.specs.inside.Props.{box_props};
+ghost use Rattle.abstraction_table.specs.inside.Shapes.{HaveSegments};
+
+use crate::boxed_game::BoxedGame;
+use crate::shapes::{Shapes, all_pass};
+use game_core::{CellTest, Forward, Mark};
+use grid_quantiser::CellBox;
+
+/// The game of a plant as it is seen ahead, with the segments of its boxes.
+#[derive(Drop)]
+pub struct ForwardAbstraction {
+    pub(crate) boxed: BoxedGame,
+    pub(crate) shapes: Shapes,
+    ghost listed: { HaveSegments boxed.grid shapes boxed.boxes.items } by { Prim.hlevel box_props },
+}
+
+impl ForwardAbstraction {
+    ghost use Rattle.std.specs.Prelude.{◌≡◌, ◌<◌};
+    ghost use Rattle.game_core.specs.Game.{pairs_of};
+    ghost use Rattle.plant_game.specs.Abstraction.{box_at};
+    ghost use Rattle.abstraction_table.specs.Table.{forward_game, boxes_forward};
+
+    /// The box of a pair: None where its input isn't enabled.
+    pub fn boxes(&self, pair: u32) -> Option<CellBox>
+        requires { pair < pairs_of (forward_game self.now) }
+        ensures { result ≡ box_at (boxes_forward self.now) pair }
+    {
+        self.boxed.boxes(pair)
+    }
+}
+
+impl Forward for ForwardAbstraction {
+    ghost use Rattle.abstraction_table.specs.Table.{forward_game};
+
+    ghost game = { forward_game };
+
+    fn cells(&self) -> u32 {
+        self.boxed.cells()
+    }
+
+    fn inputs(&self) -> u32 {
+        self.boxed.inputs()
+    }
+
+    fn mark(&self, c: u32) -> Mark {
+        self.boxed.mark(c)
+    }
+
+    fn fan(&self, pair: u32) -> u32 {
+        self.boxed.fan(pair)
+    }
+
+    fn successor(&self, pair: u32, at: u32) -> u32 {
+        self.boxed.successor(pair, at)
+    }
+
+    /// The corners of a box come first, since they mostly tell that not all of its cells pass.
+    fn leads_only_to<T: CellTest>(&self, pair: u32, test: &T) -> bool {
+        let Some(b) = self.boxes(pair) else {
+            return false;
+        };
+        test.passes(b.last)
+            && test.passes(b.first)
+            && all_pass(b.first, self.shapes.segments_of(b), test)
+    }
+
+    ghost lawful = { λ o. o.boxed.in_memory.graph };
+}

@@ -1,0 +1,100 @@
+//! The boxes of all pairs.
+ghost use Rattle.std.specs.Prelude.{◌≡◌, ℕ, ◌+◌, ◌*◌, ◌/◌, ◌≤◌, ◌<◌, length, IfOk};
+ghost use Rattle.std.specs.List.{All};
+ghost use Rattle.grid_quantiser.specs.Axes.{cells_of};
+ghost use Rattle.grid_quantiser.specs.ExtentBoxes.{one_cell};
+ghost use Rattle.plant_record.specs.Description.{axes_of, vectors_of};
+ghost use Rattle.plant_record.specs.Limits.{IsWithinLimits};
+ghost use Rattle.successor_box.specs.Deviations.{HasNoOverflow, deviations_of};
+ghost use Rattle.plant_game.specs.Abstraction.{AreBoxesOf};
+ghost use Rattle.abstraction_table.specs.declared.pair_boxes.TheConstants.{BOXES_PER_TASK};
+ghost use Rattle.abstraction_table.specs.inside.Rows.{AreBoxesFrom};
+ghost use Rattle.abstraction_table.specs.inside.Terms.{HoldTerms};
+
+use crate::cell_lines::boxes_in_line;
+use crate::pair_box::PairBox;
+use crate::terms::{TermTable, build_tables};
+use grid_quantiser::CellBox;
+use plant_record::Plant;
+use rayon::prelude::*;
+use std::alloc::{AllocError, Global};
+use std::thread::Threads;
+use successor_box::Slopes;
+
+/// About how many pairs one call finds the boxes of: to start a thread takes as long as some thousands of them.
+const BOXES_PER_TASK: usize = 4096;
+
+/// The box of each pair of a cell and an input. What the extents along each axis add to it is found first, once for
+/// all pairs that share one.
+pub(crate) fn build_boxes<R: Threads + Sync>(
+    rt: &R,
+    alloc: Global,
+    p: &Plant,
+    s: &Slopes,
+) -> Result<Vec<PairBox>, AllocError>
+    requires plant { IsWithinLimits p.now }
+    requires slopes { s.now ≡ deviations_of p.now }
+    requires fits { HasNoOverflow p.now }
+    ensures { IfOk result (λ boxes. AreBoxesOf p.now boxes.items) }
+{
+    let tables = build_tables(rt, alloc, p, s)?;
+    let tables = tables.as_slice();
+    let inputs = p.vectors() as usize;
+    let pairs = p.grid().cells() as usize * inputs;
+    let mut boxes = vec![in alloc; PairBox::new(Some(CellBox { first: 0, last: 0 })); pairs]?;
+    if pairs <= BOXES_PER_TASK {
+        boxes_of_cells(p, tables, 0, &mut boxes);
+        return Ok(boxes);
+    }
+    par_chunks_mut_for_each(
+        rt,
+        &mut boxes,
+        cells_in_chunk(inputs) * inputs,
+        |at: usize, boxes: &mut [PairBox]|
+            requires plant { IsWithinLimits p.now }
+            requires tables { HoldTerms p.now tables.now }
+            requires inputs { inputs ≡ vectors_of p.now.inputs }
+            requires some_input { 0 < inputs }
+            requires cells { (n : ℕ) × (length boxes.now ≡ n * inputs) × (at / inputs + n ≤ cells_of (axes_of p.now)) }
+            requires start { All (λ b. b ≡ one_cell) boxes.now }
+            ensures { AreBoxesFrom p.entry.now (at / inputs) boxes.exit.now }
+        {
+            boxes_of_cells(p, tables, (at / inputs) as u32, boxes);
+        },
+    );
+    Ok(boxes)
+}
+
+/// How many cells share a call.
+fn cells_in_chunk(inputs: usize) -> usize
+    requires { 0 < inputs }
+    ensures some { 1 ≤ result }
+    ensures few { result ≤ BOXES_PER_TASK }
+{
+    (BOXES_PER_TASK / inputs).max(1)
+}
+
+/// The boxes of cells from one on, row by row.
+fn boxes_of_cells(p: &Plant, tables: &[TermTable], c: u32, boxes: &mut [PairBox])
+    requires plant { IsWithinLimits p.now }
+    requires tables { HoldTerms p.now tables.now }
+    requires cells { (n : ℕ) × (length boxes.old ≡ n * vectors_of p.now.inputs) × (c + n ≤ cells_of (axes_of p.now)) }
+    requires start { All (λ b. b ≡ one_cell) boxes.old }
+    ensures long { length boxes.new ≡ length boxes.old }
+    ensures each { AreBoxesFrom p.now c boxes.new }
+{
+    let inputs = p.vectors() as usize;
+    let cells = boxes.len() / inputs;
+    let row = p.grid().count(p.states() - 1) as usize;
+    let mut done: usize = 0;
+    while done < cells {
+        let end = cells.min(done + row - (c as usize + done) % row);
+        boxes_in_line(
+            p,
+            tables,
+            c + done as u32,
+            &mut boxes[done * inputs..end * inputs],
+        );
+        done = end;
+    }
+}

@@ -1,0 +1,258 @@
+//! What the extents of all boxes add to them, state by state: a box is a sum of terms, one for each state.
+ghost use Rattle.std.specs.Prelude.{◌≡◌, ℕ, ◌+◌, ◌*◌, ◌^◌, ◌<◌, ◌≤◌, length, slice_index, slice_index_or, None, if◌then◌else◌, IsTrue, IfOk};
+ghost use Rattle.std.specs.List.{All};
+ghost use Rattle.grid_quantiser.specs.Axes.{no_axis};
+ghost use Rattle.plant_record.specs.Description.{axes_of, vectors_of};
+ghost use Rattle.plant_record.specs.Limits.{IsWithinLimits};
+ghost use Rattle.successor_box.specs.Deviations.{HasNoOverflow, deviations_of};
+ghost use Rattle.successor_box.specs.Extents.{moves_along};
+ghost use Rattle.successor_box.specs.declared.index_columns.TheConstants.{INDEX_COLUMNS};
+ghost use Rattle.abstraction_table.specs.inside.Rows.{StaysAlongLines};
+ghost use Rattle.abstraction_table.specs.inside.Extents.{IsRelativeExtent, HoldsExtentsAlong};
+ghost use Rattle.abstraction_table.specs.inside.Terms.{first_in, stride_of, own_count, IsTermAt, IsTermFrom, Brings, HoldsTermsAlong, HoldTerms};
+
+use crate::digits::Digit;
+use crate::extent_table::{ExtentTable, build_table};
+use crate::pair_box::PairBox;
+use grid_quantiser::Extent;
+use plant_record::Plant;
+use std::alloc::{AllocError, Global};
+use std::thread::Threads;
+use successor_box::{INDEX_COLUMNS, Slopes};
+
+/// Terms are listed where there are at least so many pairs for each.
+const PAIRS_FOR_EACH_TERM: usize = 8;
+
+/// What the extents along an axis add to boxes.
+#[derive(Drop)]
+pub(crate) enum Terms {
+    /// The terms, of each slot of a cell along the axis, where these move the extents, one slot after another.
+    Listed(Vec<PairBox>),
+    /// The extents, of which each term is found as it is asked for.
+    Moved(Vec<Option<Extent>>),
+}
+
+/// What the extents along the axis of a state add to boxes, by the digits that find them. Where the terms are listed and
+/// the extents move with a cell's own slot, that is one more digit. `stride` is how many cells one slot along the axis
+/// makes, and in a `free` table no term depends on an input.
+#[derive(Drop)]
+pub(crate) struct TermTable {
+    pub(crate) digits: Vec<Digit>,
+    pub(crate) inputs: Vec<u32>,
+    pub(crate) terms: Terms,
+    pub(crate) moves: bool,
+    pub(crate) free: bool,
+    pub(crate) stride: u32,
+}
+
+impl TermTable {
+    /// What the indices of a cell bring to the slot of its terms.
+    #[inline]
+    pub(crate) fn first(&self, indices: &[u32; INDEX_COLUMNS]) -> u32
+        requires variables { All (λ d. d.variable < INDEX_COLUMNS) self.now.digits.items }
+        requires fits { first_in self.now indices.now < 2 ^ 32 }
+        ensures { result ≡ first_in self.now indices.now }
+    {
+        let mut first = 0;
+        for d in &self.digits {
+            first += indices[d.variable as usize] * d.in_table;
+        }
+        first
+    }
+
+    /// How many indices a cell moves the extents, by its own slot along the axis.
+    #[inline]
+    pub(crate) fn shifted_by(&self, slot: u32) -> u32
+        ensures { result ≡ (if self.now.moves then slot else 0) }
+    {
+        if self.moves { slot } else { 0 }
+    }
+
+    /// Whether a state's terms are the same all along each row: they depend on no slot along the last state, nor
+    /// move with it.
+    pub(crate) fn stays_along_lines(&self, state: u32, last: u32) -> bool
+        ensures { IsTrue result → StaysAlongLines last state self.now }
+    {
+        for d in &self.digits {
+            if d.variable == last {
+                return false;
+            }
+        }
+        !(self.moves && state == last)
+    }
+
+    /// The term of the box of a cell that brings `first` and moves the extents so many indices, under an input.
+    #[inline]
+    pub(crate) fn term(&self, p: &Plant, state: u32, first: u32, own: u32, input: u32) -> PairBox
+        requires plant { IsWithinLimits p.now }
+        requires table { HoldsTermsAlong p.now state self.now }
+        requires state { state < length p.now.equations }
+        requires cell { (c : ℕ) × Brings p.now state self.now first own c }
+        requires input { input < vectors_of p.now.inputs }
+        ensures { (c u : ℕ) → Brings p.now state self.now first own c → u < vectors_of p.now.inputs → slice_index self.now.inputs.items u ≡ slice_index self.now.inputs.items input → IsTermAt p.now c u state result }
+    {
+        let slot = first as usize + self.inputs[input as usize] as usize;
+        match &self.terms {
+            Terms::Listed(terms) => terms[slot],
+            Terms::Moved(extents) => term_of(p, state, self.stride, extents[slot], own),
+        }
+    }
+}
+
+/// What an extent adds to a box, so many indices further along the axis.
+#[inline]
+fn term_of(p: &Plant, state: u32, stride: u32, extent: Option<Extent>, indices: u32) -> PairBox
+    requires plant { IsWithinLimits p.now }
+    requires state { state < length p.now.equations }
+    requires stride { stride ≡ stride_of p.now state }
+    requires indices { indices < (slice_index_or (axes_of p.now) state no_axis).count }
+    requires extent { IsRelativeExtent p.now state extent }
+    ensures { IsTermFrom p.now state indices extent result }
+{
+    PairBox::term(p.grid().shifted_extent(state, extent, indices), stride)
+}
+
+/// The terms of all boxes, one table for each state.
+pub(crate) fn build_tables<R: Threads + Sync>(
+    rt: &R,
+    alloc: Global,
+    p: &Plant,
+    s: &Slopes,
+) -> Result<Vec<TermTable>, AllocError>
+    requires plant { IsWithinLimits p.now }
+    requires slopes { s.now ≡ deviations_of p.now }
+    requires fits { HasNoOverflow p.now }
+    ensures { IfOk result (λ tables. HoldTerms p.now tables.items) }
+{
+    let mut tables = Vec::new(alloc);
+    let mut stride = p.grid().cells();
+    for state in 0..p.states() {
+        stride /= p.grid().count(state);
+        let extents = build_table(rt, alloc, p, s, state)?;
+        tables.push(build_terms(alloc, p, state, stride, extents)?)?;
+    }
+    Ok(tables)
+}
+
+/// The terms along the axis of one state, listed if they are few.
+fn build_terms(
+    alloc: Global,
+    p: &Plant,
+    state: u32,
+    stride: u32,
+    table: ExtentTable,
+) -> Result<TermTable, AllocError>
+    requires plant { IsWithinLimits p.now }
+    requires state { state < length p.now.equations }
+    requires stride { stride ≡ stride_of p.now state }
+    requires table { HoldsExtentsAlong p.now state table }
+    ensures { IfOk result (λ terms. HoldsTermsAlong p.now state terms) }
+{
+    let own = own_indices_along(p, state, table.moves);
+    let pairs = p.grid().cells() as usize * p.vectors() as usize;
+    if table.extents.as_slice().len() <= pairs / PAIRS_FOR_EACH_TERM / own as usize {
+        return listed(alloc, p, state, stride, own, table);
+    }
+    let free = are_zero(&table.inputs);
+    Ok(TermTable {
+        digits: table.digits,
+        inputs: table.inputs,
+        terms: Terms::Moved(table.extents),
+        moves: table.moves,
+        free,
+        stride,
+    })
+}
+
+/// The terms that extents make, for each of so many indices of a cell along the axis.
+fn listed(
+    alloc: Global,
+    p: &Plant,
+    state: u32,
+    stride: u32,
+    own: u32,
+    table: ExtentTable,
+) -> Result<TermTable, AllocError>
+    requires plant { IsWithinLimits p.now }
+    requires state { state < length p.now.equations }
+    requires stride { stride ≡ stride_of p.now state }
+    requires own { own ≡ own_count p.now state }
+    requires few { own * length table.extents.items ≤ 2 ^ 22 }
+    requires table { HoldsExtentsAlong p.now state table }
+    ensures { IfOk result (λ terms. HoldsTermsAlong p.now state terms) }
+{
+    let ExtentTable {
+        mut digits,
+        inputs,
+        extents,
+        moves,
+    } = table;
+    let terms = list_terms(alloc, p, state, stride, own, &extents)?;
+    if moves {
+        digits.push(Digit {
+            variable: state,
+            count: own,
+            in_pair: stride * p.vectors(),
+            in_table: extents.len() as u32,
+        })?;
+    }
+    let free = are_zero(&inputs);
+    Ok(TermTable {
+        digits,
+        inputs,
+        terms: Terms::Listed(terms),
+        moves,
+        free,
+        stride,
+    })
+}
+
+/// Whether all numbers are 0.
+fn are_zero(numbers: &[u32]) -> bool
+    ensures { IsTrue result → All (λ n. n ≡ 0) numbers.now }
+{
+    for n in numbers {
+        if *n != 0 {
+            return false;
+        }
+    }
+    true
+}
+
+/// How many indices of cells along the axis of a state there are, by which its extents move.
+fn own_indices_along(p: &Plant, state: u32, moves: bool) -> u32
+    requires plant { IsWithinLimits p.now }
+    requires state { state < length p.now.equations }
+    requires moves { moves ≡ moves_along p.now state }
+    ensures { result ≡ own_count p.now state }
+{
+    if moves { p.grid().count(state) } else { 1 }
+}
+
+/// The terms of extents, moved by each of so many indices, one slot after another.
+fn list_terms(
+    alloc: Global,
+    p: &Plant,
+    state: u32,
+    stride: u32,
+    own: u32,
+    extents: &[Option<Extent>],
+) -> Result<Vec<PairBox>, AllocError>
+    requires plant { IsWithinLimits p.now }
+    requires state { state < length p.now.equations }
+    requires stride { stride ≡ stride_of p.now state }
+    requires own { own ≡ own_count p.now state }
+    requires few { own * length extents.now ≤ 2 ^ 22 }
+    requires extents { All (IsRelativeExtent p.now state) extents.now }
+    ensures long { IfOk result (λ terms. length terms.items ≡ own * length extents.now) }
+    ensures each { IfOk result (λ terms. (o k : ℕ) → o < own → k < length extents.now → IsTermFrom p.now state o (slice_index_or extents.now k None) (slice_index_or terms.items (o * length extents.now + k) None)) }
+{
+    let indices = extents.len();
+    let all = own as usize * indices;
+    let mut terms = Vec::with_capacity(alloc, all)?;
+    for n in 0..all {
+        let moved = (n / indices) as u32;
+        terms.push(term_of(p, state, stride, extents[n % indices], moved))?;
+    }
+    Ok(terms)
+}

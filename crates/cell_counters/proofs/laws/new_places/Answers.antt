@@ -1,5 +1,0 @@
-use Rattle.cell_counters.proofs.Consequences as law
-use Rattle.cell_counters.proofs.laws.new_places.Goals as goal
-
-pub returns : goal.returns
-returns c = law.new_places

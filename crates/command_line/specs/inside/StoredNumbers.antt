@@ -1,0 +1,14 @@
+-- The numbers of a state are kept in six positions.
+use Rattle.std.specs.Prelude.{◌≡◌, ℕ, ◌≤◌, ℤ, List, length, take, refl}
+use Rattle.grid_quantiser.specs.Cells.{point_of}
+use Rattle.command_line.specs.declared.state_numbers.StateNumbers.TheInside.{Inside}
+
+-- Six positions keep up to six numbers, beside how many they are.
+pub record IsStored (six : List ℤ) (count : ℕ) : Type 0 where
+  pub few : count ≤ 6
+  pub rest : six ≡ point_of (take count six)
+  pub count_is : count ≡ length (take count six)
+
+-- the numbers give back what is kept
+pub restored : (s : Inside) → IsStored s.six s.count → ◌≡◌ {A = Inside} (record { six = point_of (take s.count s.six); count = length (take s.count s.six) }) s
+restored s stored = rw (← stored.rest, ← stored.count_is) refl

@@ -1,0 +1,254 @@
+ghost use Rattle.std.specs.Prelude.{◌≡◌, ◌↔◌, ◌^◌, ◌<◌, ◌≤◌, ℕ, ℤ, List, Some, [], ◌∷◌, length, map, codes, IfSome, IfNone, IsTrue};
+ghost use Rattle.std.specs.Fmt.{decimal, signed_decimal};
+ghost use Rattle.plant_record.specs.Numbers.{IsLiteral};
+ghost use Rattle.command_line.specs.Command.{IsDemoNumber, AreWorkers, IsOfCommand};
+ghost use Rattle.command_line.specs.inside.Spelling.{Spell};
+ghost use Rattle.command_line.specs.declared.command.Command.{Command};
+
+use crate::state_numbers::StateNumbers;
+use itoa::Buffer;
+
+/// The greatest number of samples of a trace.
+const MOST_SAMPLES: u64 = 1_000_000;
+
+/// The greatest number of workers.
+const MOST_WORKERS: u64 = 64;
+
+/// The greatest number of a demo plant.
+const MOST_DEMO: u64 = 500;
+
+/// One more than the greatest magnitude of a number in the words.
+const NUMBER_LIMIT: u64 = 1_000_000_000_000_000_000;
+
+/// What the words ask for.
+#[derive(Clone, Copy, PartialEq, Eq)]
+pub enum Command {
+    /// Solve the plant on the source with so many workers.
+    Synth {
+        workers: u32,
+    },
+    /// Judge the table on the source.
+    Check,
+    /// Rewrite the table on the source in the newest text.
+    Upgrade,
+    /// Drive the plant of the table on the source from a start, for at most so many samples, under the noises of a seed.
+    Sim {
+        samples: u32,
+        seed: u64,
+        start: StateNumbers,
+    },
+    /// Solve the demo plant of a number with so many workers.
+    Demo {
+        number: u32,
+        workers: u32,
+    },
+    /// Bring the plant on the source into its targets and keep it there, solved with so many workers.
+    Stay {
+        workers: u32,
+    },
+    /// Visit the targets of the plant on the source in turn, solved with so many workers.
+    Patrol {
+        workers: u32,
+    },
+}
+
+/// The command that the words are of.
+pub fn parse_command(arguments: &[&str]) -> Option<Command>
+    ensures found { IfSome result (IsOfCommand (map (λ w. w.now) arguments.now)) }
+    ensures none { IfNone result ((f : Command) → IsOfCommand (map (λ w. w.now) arguments.now) f → ⊥) }
+{
+    match arguments.len() {
+        1 => parse_one(arguments[0]),
+        2 => parse_two(arguments[0], arguments[1]),
+        3 => parse_three(arguments[0], arguments[1], arguments[2]),
+        4..=9 => parse_more(arguments[0], arguments[1], arguments[2], &arguments[3..]),
+        _ => None,
+    }
+}
+
+fn parse_one(name: &str) -> Option<Command>
+    ensures found { IfSome result (IsOfCommand (name.now ∷ [])) }
+    ensures none { IfNone result ((f : Command) → IsOfCommand (name.now ∷ []) f → ⊥) }
+{
+    if is_check(name) {
+        Some(Command::Check)
+    } else if is_upgrade(name) {
+        Some(Command::Upgrade)
+    } else {
+        None
+    }
+}
+
+fn parse_two(name: &str, workers: &str) -> Option<Command>
+    ensures found { IfSome result (IsOfCommand (name.now ∷ workers.now ∷ [])) }
+    ensures none { IfNone result ((f : Command) → IsOfCommand (name.now ∷ workers.now ∷ []) f → ⊥) }
+{
+    let workers = workers_of(workers)?;
+    if is_synth(name) {
+        Some(Command::Synth { workers })
+    } else if is_stay(name) {
+        Some(Command::Stay { workers })
+    } else if is_patrol(name) {
+        Some(Command::Patrol { workers })
+    } else {
+        None
+    }
+}
+
+fn parse_three(name: &str, number: &str, workers: &str) -> Option<Command>
+    ensures found { IfSome result (IsOfCommand (name.now ∷ number.now ∷ workers.now ∷ [])) }
+    ensures none { IfNone result ((f : Command) → IsOfCommand (name.now ∷ number.now ∷ workers.now ∷ []) f → ⊥) }
+{
+    let number = demo_number_of(number)?;
+    let workers = workers_of(workers)?;
+    if is_demo(name) {
+        Some(Command::Demo { number, workers })
+    } else {
+        None
+    }
+}
+
+fn parse_more(name: &str, samples: &str, seed: &str, numbers: &[&str]) -> Option<Command>
+    requires some { 1 ≤ length numbers.now }
+    requires most { length numbers.now ≤ 6 }
+    ensures found { IfSome result (IsOfCommand (name.now ∷ samples.now ∷ seed.now ∷ map (λ w. w.now) numbers.now)) }
+    ensures none { IfNone result ((f : Command) → IsOfCommand (name.now ∷ samples.now ∷ seed.now ∷ map (λ w. w.now) numbers.now) f → ⊥) }
+{
+    let samples = number_of(samples, MOST_SAMPLES)? as u32;
+    let seed = number_of(seed, u64::MAX)?;
+    let start = start_of(numbers)?;
+    if is_sim(name) {
+        Some(Command::Sim {
+            samples,
+            seed,
+            start,
+        })
+    } else {
+        None
+    }
+}
+
+/// How many workers a word asks for.
+pub fn workers_of(word: &str) -> Option<u32>
+    ensures found { IfSome result (λ n. AreWorkers n × (word.now ≡ decimal n)) }
+    ensures none { IfNone result ((n : ℕ) → AreWorkers n → word.now ≡ decimal n → ⊥) }
+{
+    match number_of(word, MOST_WORKERS)? {
+        0 => None,
+        workers => Some(workers as u32),
+    }
+}
+
+/// The number of a demo plant that a word spells.
+fn demo_number_of(word: &str) -> Option<u32>
+    ensures found { IfSome result (λ n. IsDemoNumber n × (word.now ≡ decimal n)) }
+    ensures none { IfNone result ((n : ℕ) → IsDemoNumber n → word.now ≡ decimal n → ⊥) }
+{
+    match number_of(word, MOST_DEMO)? {
+        0 => None,
+        number => Some(number as u32),
+    }
+}
+
+/// The start whose numbers the words spell.
+fn start_of(arguments: &[&str]) -> Option<StateNumbers>
+    requires { length arguments.now ≤ 6 }
+    ensures found { IfSome result (Spell (map (λ w. w.now) arguments.now)) }
+    ensures none { IfNone result ((numbers : List ℤ) → Spell (map (λ w. w.now) arguments.now) numbers → ⊥) }
+{
+    let mut start = StateNumbers::empty();
+    for word in arguments {
+        start.push(state_number_of(word)?);
+    }
+    Some(start)
+}
+
+/// The number up to a bound that a word spells.
+fn number_of(word: &str, most: u64) -> Option<u64>
+    ensures found { IfSome result (λ n. (n ≤ most) × (word.now ≡ decimal n)) }
+    ensures none { IfNone result ((n : ℕ) → n ≤ most → word.now ≡ decimal n → ⊥) }
+{
+    match parsed(word) {
+        Some(n) if n <= most && is_spelling(n, word) => Some(n),
+        _ => None,
+    }
+}
+
+/// The number of a state that a word spells.
+fn state_number_of(word: &str) -> Option<i128>
+    ensures found { IfSome result (λ n. IsLiteral n × (word.now ≡ signed_decimal n)) }
+    ensures none { IfNone result ((n : ℤ) → IsLiteral n → word.now ≡ signed_decimal n → ⊥) }
+{
+    match parsed_state(word) {
+        Some(n) if n.unsigned_abs() < NUMBER_LIMIT && is_state_spelling(n, word) => Some(n.into()),
+        _ => None,
+    }
+}
+
+/// The number of its own spelling. Of other words nothing is said.
+fn parsed(word: &str) -> Option<u64>
+    ensures { (n : ℕ) → n < 2 ^ 64 → word.now ≡ decimal n → result ≡ Some n }
+{
+    word.parse::<u64>().ok()
+}
+
+/// The number of its own spelling, with its sign. Of other words nothing is said.
+fn parsed_state(word: &str) -> Option<i64>
+    ensures { (n : ℤ) → IsLiteral n → word.now ≡ signed_decimal n → result ≡ Some n }
+{
+    word.parse::<i64>().ok()
+}
+
+fn is_spelling(number: u64, word: &str) -> bool
+    ensures { IsTrue result ↔ (word.now ≡ decimal number) }
+{
+    Buffer::new().format(number) == word
+}
+
+fn is_state_spelling(number: i64, word: &str) -> bool
+    ensures { IsTrue result ↔ (word.now ≡ signed_decimal number) }
+{
+    Buffer::new().format(number) == word
+}
+
+fn is_sim(word: &str) -> bool
+    ensures { IsTrue result ↔ (word.now ≡ codes "sim") }
+{
+    word == "sim"
+}
+
+fn is_demo(word: &str) -> bool
+    ensures { IsTrue result ↔ (word.now ≡ codes "demo") }
+{
+    word == "demo"
+}
+
+fn is_check(word: &str) -> bool
+    ensures { IsTrue result ↔ (word.now ≡ codes "check") }
+{
+    word == "check"
+}
+
+fn is_upgrade(word: &str) -> bool
+    ensures { IsTrue result ↔ (word.now ≡ codes "upgrade") }
+{
+    word == "upgrade"
+}
+
+fn is_synth(word: &str) -> bool
+    ensures { IsTrue result ↔ (word.now ≡ codes "synth") }
+{
+    word == "synth"
+}
+
+fn is_stay(word: &str) -> bool
+    ensures { IsTrue result ↔ (word.now ≡ codes "stay") }
+{
+    word == "stay"
+}
+
+fn is_patrol(word: &str) -> bool
+    ensures { IsTrue result ↔ (word.now ≡ codes "patrol") }
+{
+    word == "patrol"
+}

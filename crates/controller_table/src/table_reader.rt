@@ -1,0 +1,79 @@
+ghost use Rattle.std.specs.Prelude.{◌≡◌, ◌≢◌, ◌≤◌, length, IfOk, IfErr};
+ghost use Rattle.plant_record.specs.Limits.{IsWithinLimits};
+ghost use Rattle.plant_text.specs.CanonicalFronts.{IsFront};
+ghost use Rattle.controller_table.specs.declared.table_fault.TableFault.TheVariants.{Memory};
+ghost use Rattle.controller_table.specs.Tables.{IsTableIn};
+ghost use Rattle.controller_table.specs.Refusals.{IsTableRefusedFor, line_count};
+ghost use Rattle.controller_table.specs.Found.{Finds};
+ghost use Rattle.controller_table.specs.inside.Reading.{IsVersionAt};
+ghost use Rattle.controller_table.specs.inside.ReadPlant.{IsPlantRefused};
+
+use crate::front::{after_prefix, line_count};
+use crate::row_reader::rows_after;
+use crate::table::Table;
+use crate::table_fault::TableFault;
+use plant_record::LimitKind;
+use plant_text::{Front, PlantFault, read_front};
+use row_runs::TableVersion;
+use std::alloc::Global;
+
+/// The most bytes of a table's text.
+pub const TABLE_LIMIT: usize = 67_108_864;
+
+/// How many bytes the line of a version has.
+const VERSION_LENGTH: usize = 8;
+
+/// Reads the table that the bytes are, or answers why they are none.
+pub fn read_table(alloc: Global, bytes: &[u8]) -> Result<Table, TableFault>
+    ensures read { IfOk result (λ t. IsTableIn t.version bytes.now t.plant t.rows) }
+    ensures refused { IfErr result (λ fault. fault ≢ Memory → IsTableRefusedFor bytes.now fault) }
+{
+    if bytes.len() > TABLE_LIMIT {
+        let what = LimitKind::TableText;
+        return Err(TableFault::Limit { what });
+    }
+    let Some((version, rest)) = version_at(bytes) else {
+        return Err(TableFault::Malformed { line: 1 });
+    };
+    let Front { plant, length } = plant_in(alloc, rest)?;
+    let lines = front_lines(&bytes[..VERSION_LENGTH + length]);
+    match rows_after(alloc, version, &plant, &rest[length..]) {
+        Ok(answer) => Ok(Table::new(version, plant, answer)),
+        Err(TableFault::Malformed { line }) => Err(TableFault::Malformed { line: lines + line }),
+        Err(fault) => Err(fault),
+    }
+}
+
+/// The number of lines in the bytes before the rows.
+fn front_lines(bytes: &[u8]) -> u32
+    requires { length bytes.now ≤ 67108864 }
+    ensures count { result ≡ line_count bytes.now }
+    ensures bound { result ≤ length bytes.now }
+{
+    line_count(bytes) as u32
+}
+
+/// The version of the first line, and what stands after it.
+fn version_at(bytes: &[u8]) -> Option<(TableVersion, &[u8])>
+    ensures { Finds (λ r. (r.0, r.1.now)) (IsVersionAt bytes.now) result }
+{
+    if let Some(rest) = after_prefix(bytes, b"table 1\n") {
+        return Some((TableVersion::First, rest));
+    }
+    let rest = after_prefix(bytes, b"table 2\n")?;
+    Some((TableVersion::Second, rest))
+}
+
+/// The plant whose text stands after the first line.
+fn plant_in(alloc: Global, bytes: &[u8]) -> Result<Front, TableFault>
+    requires { length bytes.now ≤ 67108864 }
+    ensures read { IfOk result (λ f. IsFront bytes.now f.plant f.length × IsWithinLimits f.plant) }
+    ensures refused { IfErr result (λ fault. IsPlantRefused bytes.now fault) }
+{
+    match read_front(alloc, bytes) {
+        Ok(front) => Ok(front),
+        Err(PlantFault::Malformed { line }) => Err(TableFault::Malformed { line: line + 1 }),
+        Err(PlantFault::Limit { what }) => Err(TableFault::Limit { what }),
+        Err(PlantFault::Memory) => Err(TableFault::Memory),
+    }
+}

@@ -1,0 +1,58 @@
+ghost use Rattle.std.specs.Prelude.{◌≡◌, IfOk};
+ghost use Rattle.controller_table.specs.TableText.{written, table_text};
+ghost use Rattle.controller_table.specs.Tables.{RowsFit};
+
+use crate::goal_format::format_of;
+use crate::table::Table;
+use crate::table_fault::NoMemory;
+use game_core::Answer;
+use plant_record::Plant;
+use plant_writing::write_plant;
+use row_runs::{FramedText, RunLines};
+use std::alloc::Global;
+use std::marker::Model;
+use text_pieces::Pieces;
+
+/// Writes the text of a table piece by piece. Seen as the bytes that are still to come.
+#[derive(Drop)]
+pub struct TableWriter<'a> {
+    text: FramedText<RunLines<'a>>,
+}
+
+impl<'a> Model for TableWriter<'a> {
+    ghost use Rattle.std.specs.Prelude.{List, ℕ};
+
+    ghost Value = { List ℕ };
+
+    ghost view = { λ w. w.text };
+}
+
+impl<'a> TableWriter<'a> {
+    /// The writer of a plant's table. It takes all its memory here.
+    pub fn new(alloc: Global, p: &Plant, a: &'a Answer) -> Result<TableWriter<'a>, NoMemory>
+        requires { RowsFit p.now a.now }
+        ensures { IfOk result (λ w. w ≡ table_text written p.now a.now) }
+    {
+        let mut front = Vec::from_slice(alloc, b"table 2\n")?;
+        write_plant(alloc, p, &mut front)?;
+        let lines = RunLines::counted(format_of(p.goal()), a);
+        Ok(TableWriter {
+            text: FramedText::new(front, lines),
+        })
+    }
+
+    /// The writer of a table that was read.
+    pub fn of(alloc: Global, t: &'a Table) -> Result<TableWriter<'a>, NoMemory>
+        ensures { IfOk result (λ w. w ≡ table_text written t.now.plant t.now.rows) }
+    {
+        TableWriter::new(alloc, t.plant(), t.answer())
+    }
+}
+
+impl Pieces for TableWriter<'_> {
+    ghost left = { λ w. w };
+
+    fn copy_some(&mut self, buf: &mut [u8]) -> usize {
+        self.text.copy_some(buf)
+    }
+}

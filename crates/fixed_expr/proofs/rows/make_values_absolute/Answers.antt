@@ -1,5 +1,0 @@
-use Rattle.std.proofs.Common.{rules}
-use Rattle.fixed_expr.proofs.rows.make_values_absolute.Goals as goal
-
-pub returns-in_err-make_absolute-in-Listed : goal.returns-in_err-make_absolute-in-Listed
-returns-in_err-make_absolute-in-Listed c = rw c.in-Listed.is (search rules)

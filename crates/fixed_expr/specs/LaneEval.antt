@@ -1,0 +1,22 @@
+-- Values of variables in many rows at once, given by columns.
+use Rattle.std.specs.Prelude.{◌≡◌, ℕ, ◌<◌, ℤ, pos, List, map, slice_index_or, Option, MatchOption}
+use Rattle.fixed_expr.specs.declared.lanes.TheConstants.{LANES}
+use Rattle.fixed_expr.specs.Expression.{Expression}
+use Rattle.fixed_expr.specs.Value.{value_of}
+use Rattle.fixed_expr.specs.Narrow.{StaysNarrow}
+
+-- the values of the variables in row k
+abbrev pub row_of : List (List ℤ) → ℕ → List ℤ
+row_of columns k = map (λ column. slice_index_or column k (pos 0)) columns
+
+-- in each row the value of every node lies in 64 bits, and so does every divisor
+abbrev pub StaysNarrowInLanes : Expression → List (List ℤ) → Type 0
+StaysNarrowInLanes e columns = (k : ℕ) → k < LANES → StaysNarrow e (row_of columns k)
+
+-- the list holds the value in each row at its position
+abbrev pub HoldsValuesInLanes : Expression → List (List ℤ) → List ℤ → Type 0
+HoldsValuesInLanes e columns found = (k : ℕ) → k < LANES → slice_index_or found k (pos 0) ≡ value_of e (row_of columns k)
+
+-- an answer is given exactly where each row stays in 64 bits, and then the list holds the values
+abbrev pub EvaluatesLanes : {T : Type 0} → Option T → Expression → List (List ℤ) → List ℤ → Type 0
+EvaluatesLanes answer e columns found = MatchOption answer (¬ (StaysNarrowInLanes e columns)) (λ _. StaysNarrowInLanes e columns × HoldsValuesInLanes e columns found)

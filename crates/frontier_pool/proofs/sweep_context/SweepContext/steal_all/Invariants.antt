@@ -1,0 +1,8 @@
+use Rattle.frontier_pool.specs.inside.Gains.{Gained}
+use Rattle.frontier_pool.proofs.sweep_context.SweepContext.steal_all.Given as goal
+
+abbrev pub invariant-loop-position : goal.invariant-loop-position
+invariant-loop-position g l = record {
+  gained : Gained l.self.items l.fn.seat l.seat (g.T.Toil.done l.fn.hand) (g.T.Toil.done l.hand);
+  sound : g.T.Toil.sound l.self.job.now l.hand;
+}

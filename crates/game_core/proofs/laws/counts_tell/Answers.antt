@@ -1,5 +1,0 @@
-use Rattle.game_core.proofs.Times as laws
-use Rattle.game_core.proofs.laws.counts_tell.Goals as goal
-
-pub returns : goal.returns
-returns c = laws.counts_tell

@@ -1,5 +1,0 @@
-use Rattle.game_core.proofs.Keep as laws
-use Rattle.game_core.proofs.laws.settled_rows_are_the_keep_solution.Goals as goal
-
-pub returns : goal.returns
-returns c = laws.settled_rows_are_the_keep_solution

@@ -1,0 +1,175 @@
+-- The cells with an overlap in a box of states: along each axis a row of indices.
+use Rattle.std.proofs.Common.{◌≡◌, ℕ, zero, suc, ◌+◌, ◌-◌, ◌*◌, ◌/◌, ◌%◌, ◌<◌, ◌≤◌, ◌↔◌, arith, refl, ◌∙◌, List, [], ◌∷◌, length, drop, get_or, ℤ, pos, Option, None, Some}
+use Rattle.std.specs.List.{All, Contains}
+use Rattle.std.proofs.Math.Nat.{mul_comm}
+use Rattle.std.proofs.lemmas.Bool.{false≢true}
+use Rattle.std.proofs.lemmas.List.{get_or_default}
+use Rattle.std.proofs.lemmas.List.Elements.{All-tail, All-drop}
+use Rattle.std.proofs.lemmas.Nat.{div-mul-add, mod-mul-add, div_below, mod_below, mul-add-lt}
+use Rattle.grid_quantiser.specs.declared.axis.Axis.{Axis}
+use Rattle.grid_quantiser.specs.declared.axis.Overlap.{Overlap}
+use Rattle.grid_quantiser.specs.declared.axis.Overlap.TheVariants.{Partial, Whole}
+use Rattle.grid_quantiser.specs.declared.boxes.CellBox.{CellBox}
+use Rattle.grid_quantiser.specs.Axes.{IsAxis, no_axis, cells_of}
+use Rattle.grid_quantiser.specs.Cells.{low_of, high_of}
+use Rattle.grid_quantiser.specs.Boxes.{IsAtMost, Touches, LiesInside, IsCellBox, cells_between, IsBoxWith}
+use Rattle.grid_quantiser.specs.inside.Overlaps.{HasOverlapIn, AreIndicesIn, HasOverlap}
+use Rattle.grid_quantiser.proofs.Suffixes.{next_axis, some_cells, drop_step}
+use Rattle.grid_quantiser.proofs.Domain.{numbers_step, cell_below}
+use Rattle.grid_quantiser.proofs.AtMost.{IsAtMost-trans}
+use Rattle.grid_quantiser.proofs.CellPoints.{ends_from_touches, touches_from_ends, ends_from_inside, inside_from_ends}
+use Rattle.grid_quantiser.proofs.BoxCells.{between_below}
+use Rattle.grid_quantiser.proofs.BetweenCells.{IsBetween, between_from_contains, contains_from_between}
+
+-- The corners of the cells with such an overlap.
+pub record AreCornersOf (overlap : Overlap) (axes : List Axis) (lo hi : List ℤ) (f l : ℕ) : Type 0 where
+  pub first_below : f < cells_of axes
+  pub last_below : l < cells_of axes
+  pub ordered : IsCellBox axes f l
+  pub exactly : (c : ℕ) → c < cells_of axes → IsBetween axes f l c ↔ HasOverlap overlap axes lo hi c
+
+-- one axis more
+more_corners : (overlap : Overlap) (a : Axis) (axes : List Axis) (x y : ℤ) (lo hi : List ℤ) (p q f l : ℕ) → All IsAxis axes → AreIndicesIn overlap a x y p q → AreCornersOf overlap axes lo hi f l →
+    AreCornersOf overlap (a ∷ axes) (x ∷ lo) (y ∷ hi) (p * cells_of axes + f) (q * cells_of axes + l)
+more_corners overlap a axes x y lo hi p q f l each indices corners =
+    let n : ℕ = cells_of axes in
+    let turned : n * a.count ≡ a.count * n = mul_comm n a.count in
+    let first : (p * n + f) / n ≡ p = div-mul-add p n f corners.first_below in
+    let last : (q * n + l) / n ≡ q = div-mul-add q n l corners.last_below in
+    let first_rest : (p * n + f) % n ≡ f = mod-mul-add p n f corners.first_below in
+    let last_rest : (q * n + l) % n ≡ l = mod-mul-add q n l corners.last_below in
+    let first_index : p < a.count = omega (arith, indices.ordered, indices.below) in
+    record {
+      first_below = omega (arith, mul-add-lt p n f a.count first_index corners.first_below, turned);
+      last_below = omega (arith, mul-add-lt q n l a.count indices.below corners.last_below, turned);
+      ordered = rw (first, last, first_rest, last_rest) (indices.ordered, indices.below, corners.ordered);
+      exactly = λ c below.
+          let here = indices.exactly (c / n) (div_below c n a.count (some_cells axes each) below) in
+          let there = corners.exactly (c % n) (mod_below c n (some_cells axes each)) in
+          rw (first, last, first_rest, last_rest) (
+            λ (between : (p ≤ c / n) × (c / n ≤ q) × IsBetween axes f l (c % n)). (here.0 (between.0, between.1), there.0 between.2),
+            λ has. ((here.1 has.0).0, (here.1 has.0).1, there.1 has.1),
+          );
+    }
+
+-- one step of the loop
+pub corners_step : (overlap : Overlap) (axes : List Axis) (lo hi : List ℤ) (i p q f l : ℕ) → All IsAxis axes → 0 < i → i ≤ length axes → length axes ≤ length lo → length axes ≤ length hi →
+    AreIndicesIn overlap (next_axis axes i) (get_or lo (i - 1) (pos 0)) (get_or hi (i - 1) (pos 0)) p q → AreCornersOf overlap (drop i axes) (drop i lo) (drop i hi) f l →
+    AreCornersOf overlap (drop (i - 1) axes) (drop (i - 1) lo) (drop (i - 1) hi) (p * cells_of (drop i axes) + f) (q * cells_of (drop i axes) + l)
+corners_step overlap axes lo hi i p q f l each some within long_lo long_hi indices corners =
+    let short_lo : i ≤ length lo = omega arith in
+    let short_hi : i ≤ length hi = omega arith in
+    rw (drop_step axes i some within, numbers_step lo i some short_lo, numbers_step hi i some short_hi)
+    (more_corners overlap (next_axis axes i) (drop i axes) (get_or lo (i - 1) (pos 0)) (get_or hi (i - 1) (pos 0)) (drop i lo) (drop i hi) p q f l (All-drop IsAxis i axes each) indices corners)
+
+-- a cell with an overlap in each state has an index with one along an axis
+pub overlap_along : (overlap : Overlap) (axes : List Axis) (lo hi : List ℤ) (c i : ℕ) → All IsAxis axes → c < cells_of axes → HasOverlap overlap axes lo hi c → i < length axes →
+    (p : ℕ) × (p < (get_or axes i no_axis).count) × HasOverlapIn overlap (get_or axes i no_axis) (get_or lo i (pos 0)) (get_or hi i (pos 0)) p
+overlap_along overlap [] lo hi c i each below has within = absurd (omega (arith, within))
+overlap_along overlap (a ∷ axes) [] hi c i each below has within = absurd has
+overlap_along overlap (a ∷ axes) (x ∷ lo) [] c i each below has within = absurd has
+overlap_along overlap (a ∷ axes) (x ∷ lo) (y ∷ hi) c zero each below has within =
+    (c / cells_of axes, div_below c (cells_of axes) a.count (some_cells axes (All-tail IsAxis a axes each)) below, has.0)
+overlap_along overlap (a ∷ axes) (x ∷ lo) (y ∷ hi) c (suc i) each below has within =
+    let later : All IsAxis axes = All-tail IsAxis a axes each in
+    overlap_along overlap axes lo hi (c % cells_of axes) i later (mod_below c (cells_of axes) (some_cells axes later)) has.1 (omega (arith, within))
+
+-- where an axis has no index with an overlap, no cell has one in each state
+pub no_box : (overlap : Overlap) (axes : List Axis) (lo hi : List ℤ) (i : ℕ) → All IsAxis axes → i < length axes →
+    (((p : ℕ) × (p < (get_or axes i no_axis).count) × HasOverlapIn overlap (get_or axes i no_axis) (get_or lo i (pos 0)) (get_or hi i (pos 0)) p) → ⊥) →
+    IsBoxWith axes (λ c. (c < cells_of axes) × HasOverlap overlap axes lo hi c) None
+no_box overlap axes lo hi i each within none = record {
+  some = (λ some. absurd (false≢true some), λ has. absurd (none (overlap_along overlap axes lo hi has.0 i each has.1.0 has.1.1 within)));
+  corners = tt;
+  exactly = tt;
+}
+
+-- ---- the box of the corners
+
+-- the first corner is between the corners
+first_between : (axes : List Axis) (f l : ℕ) → IsCellBox axes f l → IsBetween axes f l f
+first_between [] f l box = tt
+first_between (a ∷ axes) f l box = (omega arith, box.0, first_between axes (f % cells_of axes) (l % cells_of axes) box.2)
+
+pub box_of_corners : (overlap : Overlap) (axes : List Axis) (lo hi : List ℤ) (b : CellBox) → All IsAxis axes → AreCornersOf overlap axes lo hi b.first b.last →
+    IsBoxWith axes (λ c. (c < cells_of axes) × HasOverlap overlap axes lo hi c) (Some b)
+box_of_corners overlap axes lo hi b each corners =
+    let f : ℕ = b.first in
+    let l : ℕ = b.last in
+    record {
+      some = (λ some. (f, (corners.first_below, (corners.exactly f corners.first_below).0 (first_between axes f l corners.ordered))), λ has. refl);
+      corners = corners.ordered;
+      exactly = λ c. (
+        λ (has : Contains (cells_between axes f l) c).
+            let inner : get_or (cells_between axes f l) has.0 0 < cells_of axes = between_below axes f l has.0 each corners.ordered has.1 in
+            let is : get_or (cells_between axes f l) has.0 0 ≡ c = get_or_default (cells_between axes f l) has.0 0 c has.1 ∙ has.2 in
+            let below : c < cells_of axes = omega (arith, inner, is) in
+            (below, (corners.exactly c below).0 (between_from_contains axes f l c each corners.ordered has)),
+        λ (is : (c < cells_of axes) × HasOverlap overlap axes lo hi c). contains_from_between axes f l c each is.0 ((corners.exactly c is.0).1 is.1),
+      );
+    }
+
+-- ---- cells that touch a box, and cells that lie in it
+
+ends_from_part : (axes : List Axis) (lo hi : List ℤ) (c : ℕ) → HasOverlap Partial axes lo hi c → IsAtMost axes lo hi × IsAtMost axes lo (high_of axes c) × IsAtMost axes (low_of axes c) hi
+ends_from_part [] lo hi c has = (tt, tt, tt)
+ends_from_part (a ∷ axes) [] hi c has = absurd has
+ends_from_part (a ∷ axes) (x ∷ lo) [] c has = absurd has
+ends_from_part (a ∷ axes) (x ∷ lo) (y ∷ hi) c has =
+    let later = ends_from_part axes lo hi (c % cells_of axes) has.1 in ((has.0.0, later.0), (has.0.1, later.1), (has.0.2, later.2))
+
+part_from_ends : (axes : List Axis) (lo hi : List ℤ) (c : ℕ) → IsAtMost axes lo hi → IsAtMost axes lo (high_of axes c) → IsAtMost axes (low_of axes c) hi → HasOverlap Partial axes lo hi c
+part_from_ends [] lo hi c ordered first last = tt
+part_from_ends (a ∷ axes) [] hi c ordered first last = absurd first
+part_from_ends (a ∷ axes) (x ∷ lo) [] c ordered first last = absurd last
+part_from_ends (a ∷ axes) (x ∷ lo) (y ∷ hi) c ordered first last =
+    ((ordered.0, first.0, last.0), part_from_ends axes lo hi (c % cells_of axes) ordered.1 first.1 last.1)
+
+ends_from_whole : (axes : List Axis) (lo hi : List ℤ) (c : ℕ) → HasOverlap Whole axes lo hi c → IsAtMost axes lo (low_of axes c) × IsAtMost axes (high_of axes c) hi
+ends_from_whole [] lo hi c has = (tt, tt)
+ends_from_whole (a ∷ axes) [] hi c has = absurd has
+ends_from_whole (a ∷ axes) (x ∷ lo) [] c has = absurd has
+ends_from_whole (a ∷ axes) (x ∷ lo) (y ∷ hi) c has =
+    let later = ends_from_whole axes lo hi (c % cells_of axes) has.1 in ((has.0.0, later.0), (has.0.1, later.1))
+
+whole_from_ends : (axes : List Axis) (lo hi : List ℤ) (c : ℕ) → IsAtMost axes lo (low_of axes c) → IsAtMost axes (high_of axes c) hi → HasOverlap Whole axes lo hi c
+whole_from_ends [] lo hi c first last = tt
+whole_from_ends (a ∷ axes) [] hi c first last = absurd first
+whole_from_ends (a ∷ axes) (x ∷ lo) [] c first last = absurd last
+whole_from_ends (a ∷ axes) (x ∷ lo) (y ∷ hi) c first last = ((first.0, last.0), whole_from_ends axes lo hi (c % cells_of axes) first.1 last.1)
+
+-- a box of the cells with a property is that of the cells with a like property
+pub same_box : (axes : List Axis) (P Q : ℕ → Type 0) (found : Option CellBox) → ((c : ℕ) → P c ↔ Q c) → IsBoxWith axes P found → IsBoxWith axes Q found
+same_box axes P Q None same box = record {
+  some = (λ some. let it = box.some.0 some in (it.0, (same it.0).0 it.1), λ it. box.some.1 (it.0, (same it.0).1 it.1));
+  corners = tt;
+  exactly = tt;
+}
+same_box axes P Q (Some b) same box = record {
+  some = (λ some. let it = box.some.0 some in (it.0, (same it.0).0 it.1), λ it. refl);
+  corners = box.corners;
+  exactly = λ c. (λ has. (same c).0 ((box.exactly c).0 has), λ it. (box.exactly c).1 ((same c).1 it));
+}
+
+module _ (axes : List Axis) (lo hi : List ℤ) (found : Option CellBox) (each : All IsAxis axes) where
+  pub box_of_touching : IsBoxWith axes (λ c. (c < cells_of axes) × HasOverlap Partial axes lo hi c) found → IsBoxWith axes (λ c. Touches axes c lo hi) found
+  box_of_touching box = same_box axes (λ c. (c < cells_of axes) × HasOverlap Partial axes lo hi c) (λ c. Touches axes c lo hi) found
+      (λ c. (
+        λ (is : (c < cells_of axes) × HasOverlap Partial axes lo hi c).
+            let ends = ends_from_part axes lo hi c is.1 in touches_from_ends axes c lo hi each is.0 ends.0 ends.1 ends.2,
+        λ (touch : Touches axes c lo hi).
+            let ends = ends_from_touches axes c lo hi each touch in
+            let below : c < cells_of axes = omega (arith, cell_below axes touch.0 each touch.1.0, touch.1.1) in
+            (below, part_from_ends axes lo hi c (IsAtMost-trans axes lo touch.0 hi touch.2.0 touch.2.1) ends.0 ends.1),
+      ))
+      box
+
+  pub box_of_inside : IsBoxWith axes (λ c. (c < cells_of axes) × HasOverlap Whole axes lo hi c) found → IsBoxWith axes (λ c. (c < cells_of axes) × LiesInside axes c lo hi) found
+  box_of_inside box = same_box axes (λ c. (c < cells_of axes) × HasOverlap Whole axes lo hi c) (λ c. (c < cells_of axes) × LiesInside axes c lo hi) found
+      (λ c. (
+        λ (is : (c < cells_of axes) × HasOverlap Whole axes lo hi c).
+            let ends = ends_from_whole axes lo hi c is.1 in (is.0, inside_from_ends axes c lo hi each ends.0 ends.1),
+        λ (is : (c < cells_of axes) × LiesInside axes c lo hi).
+            let ends = ends_from_inside axes c lo hi each is.0 is.1 in (is.0, whole_from_ends axes lo hi c ends.0 ends.1),
+      ))
+      box

@@ -1,0 +1,29 @@
+//! The boxes of targets and obstacles, as a line spells them.
+
+ghost use Rattle.std.specs.Prelude.{◌≤◌};
+ghost use Rattle.plant_reading.specs.Words.{words_of};
+ghost use Rattle.plant_reading.specs.inside.WordReaders.{Finds};
+ghost use Rattle.plant_reading.specs.inside.LineReaders.{SpellsBox};
+
+use crate::declarations::ends_in;
+use crate::line_fault::LineFault;
+use crate::words::expected::expect_end;
+use plant_record::StateBox;
+
+/// `LOW HIGH` for each state in turn. The positions past the states are 0.
+pub fn box_in(bytes: &[u8], states: usize) -> Result<StateBox, LineFault>
+    requires { states ≤ 6 }
+    ensures { Finds (λ b. b) (SpellsBox states (words_of bytes.now)) result }
+{
+    let mut low = [0; 6];
+    let mut high = [0; 6];
+    let mut rest = bytes;
+    for i in 0..states {
+        let (least, greatest, after) = ends_in(rest)?;
+        low[i] = least;
+        high[i] = greatest;
+        rest = after;
+    }
+    expect_end(rest)?;
+    Ok(StateBox { low, high })
+}

@@ -1,0 +1,5 @@
+use Rattle.row_runs.proofs.SameRows.{differ}
+use Rattle.row_runs.proofs.laws.different_rows_have_different_runs.Goals as goal
+
+pub returns : goal.returns
+returns c = differ

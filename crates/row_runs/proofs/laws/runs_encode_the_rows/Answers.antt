@@ -1,0 +1,5 @@
+use Rattle.row_runs.proofs.Telling.{runs_encode}
+use Rattle.row_runs.proofs.laws.runs_encode_the_rows.Goals as goal
+
+pub returns : goal.returns
+returns c = runs_encode

@@ -1,0 +1,48 @@
+//! The solver.
+ghost use Rattle.std.specs.Prelude.{◌≤◌, IfOk};
+ghost use Rattle.safety_game.specs.Boards.{IsBoardOf};
+ghost use Rattle.safety_game.specs.Kept.{IsKeepSolved};
+
+use crate::keep_rule::Keep;
+use crate::outcome::Kept;
+use crate::scratch::Scratch;
+use board_rounds::resolve;
+use frontier_pool::Gate;
+use game_core::{Graph, NoMemory};
+use std::alloc::Global;
+use std::thread::Threads;
+
+/// Solves the keep game of a graph by 1 to 64 workers. The gate is passed before each cell of each round (tested: `Gate`).
+pub fn keep<R: Threads + Sync, G: Graph + Sync, T: Gate>(
+    rt: &R,
+    alloc: Global,
+    g: &G,
+    workers: u32,
+    gate: &T,
+) -> Result<Kept, NoMemory>
+    requires { (1 ≤ workers) × (workers ≤ 64) }
+    ensures { IfOk result (IsKeepSolved (G.game g.now)) }
+{
+    let scratch = Scratch::new(rt, alloc, g, workers)?;
+    Ok(keep_in(rt, alloc, g, scratch, gate))
+}
+
+/// The same in a scratch that was made for the graph. What memory its rounds ask for they can do without.
+pub fn keep_in<R: Threads + Sync, G: Graph + Sync, T: Gate>(
+    rt: &R,
+    alloc: Global,
+    g: &G,
+    scratch: Scratch,
+    gate: &T,
+) -> Kept
+    requires { IsBoardOf (G.game g.now) scratch }
+    ensures { IsKeepSolved (G.game g.now) result }
+{
+    let inputs = g.inputs();
+    let rule = Keep {
+        graph: g,
+        inputs,
+        pairs: g.cells() * inputs,
+    };
+    resolve(rt, alloc, scratch, &rule, gate)
+}

@@ -1,8 +1,0 @@
-use Rattle.std.proofs.Common.{◌≡◌, map, take}
-use Rattle.grid_quantiser.specs.Cells.{point_of}
-use Rattle.successor_box.specs.Boxes.{noise_centre}
-use Rattle.successor_box.proofs.noise.noise_centres.Given as goal
-
--- the centres so far
-abbrev pub invariant-loop-k : goal.invariant-loop-k
-invariant-loop-k l = l.centres ≡ point_of (take l.k (map noise_centre l.p.noises))

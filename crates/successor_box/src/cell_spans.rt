@@ -1,0 +1,147 @@
+//! The spans of an equation over the cells of many pairs, in blocks of lanes.
+ghost use Rattle.std.specs.Prelude.{◌≡◌, ℕ, ◌<◌, ◌≤◌, length, slice_index_or, pos, ◌+ℤ◌};
+ghost use Rattle.fixed_expr.specs.declared.lanes.TheConstants.{LANES};
+ghost use Rattle.fixed_expr.specs.Expression.{expression_of};
+ghost use Rattle.fixed_expr.specs.Narrow.{IsNarrow};
+ghost use Rattle.fixed_expr.specs.Value.{IsWellFormed};
+ghost use Rattle.interval_eval.specs.LaneSpans.{interval_in, area_in};
+ghost use Rattle.interval_eval.specs.Span.{SpanStaysInRange, span_of};
+ghost use Rattle.plant_record.specs.Limits.{IsWithinLimits};
+ghost use Rattle.plant_record.specs.Steps.{equation_at};
+ghost use Rattle.successor_box.specs.Boxes.{cell_area_of};
+ghost use Rattle.successor_box.specs.Deviations.{HasNoOverflow};
+ghost use Rattle.successor_box.specs.Extents.{IsPairInLane, HasPairInEachLane};
+ghost use Rattle.successor_box.specs.inside.Area.{variables_of, no_range};
+ghost use Rattle.successor_box.specs.inside.Blocks.{HoldCentralValues, HoldCellRanges};
+
+use crate::area::{NO_RANGE, offset};
+use crate::index_columns::IndexColumns;
+use fixed_expr::{Expr, LANES};
+use interval_eval::{Interval, IntervalColumn, NO_INTERVALS, span, span_lanes};
+use plant_record::{Plant, VARIABLES_LIMIT};
+
+/// The span of an equation over the cell of each pair, given by the values of the variables at its centre.
+pub(crate) fn spans(
+    p: &Plant,
+    indices: &IndexColumns,
+    columns: &[[i64; LANES]],
+    state: u32,
+) -> [Interval; LANES]
+    requires fits { HasNoOverflow p.now }
+    requires pairs { HasPairInEachLane p.now indices.now }
+    requires state { state < length p.now.equations }
+    requires columns { HoldCentralValues p.now indices.now columns.now }
+    ensures { (j c u : ℕ) → j < LANES → IsPairInLane p.now indices.now j c u → slice_index_or result j no_range ≡ span_of (equation_at p.now state) (cell_area_of p.now c u) }
+{
+    let ranges = cell_columns(p, indices, columns);
+    spans_in_lanes(p.equation(state), &ranges[..p.variables() as usize])
+}
+
+/// The ranges of the variables over the cells of the pairs, one column for each. Nothing is said of the columns past the last.
+fn cell_columns(
+    p: &Plant,
+    indices: &IndexColumns,
+    columns: &[[i64; LANES]],
+) -> [IntervalColumn; VARIABLES_LIMIT]
+    requires pairs { HasPairInEachLane p.now indices.now }
+    requires columns { HoldCentralValues p.now indices.now columns.now }
+    ensures { HoldCellRanges p.now indices.now result }
+{
+    let mut ranges = [NO_INTERVALS; VARIABLES_LIMIT];
+    for k in 0..p.variables() {
+        ranges[k as usize] = cell_column(p, indices, columns, k);
+    }
+    ranges
+}
+
+/// The ranges of one variable: its values at the centres, moved by how far the ends of its range lie from there.
+fn cell_column(
+    p: &Plant,
+    indices: &IndexColumns,
+    columns: &[[i64; LANES]],
+    k: u32,
+) -> IntervalColumn
+    requires plant { IsWithinLimits p.now }
+    requires pairs { HasPairInEachLane p.now indices.now }
+    requires columns { HoldCentralValues p.now indices.now columns.now }
+    requires variable { k < variables_of p.now }
+    ensures { (j c u : ℕ) → j < LANES → IsPairInLane p.now indices.now j c u → interval_in result j ≡ slice_index_or (cell_area_of p.now c u) k no_range }
+{
+    let offset = offset(p, k);
+    let centres = &columns[k as usize];
+    IntervalColumn {
+        lo: moved(centres, offset.lo as i64),
+        hi: moved(centres, offset.hi as i64),
+    }
+}
+
+/// Each number moved by another.
+fn moved(numbers: &[i64; LANES], by: i64) -> [i64; LANES]
+    requires { (j : ℕ) → j < LANES → IsNarrow (slice_index_or numbers.now j (pos 0) +ℤ by) }
+    ensures { (j : ℕ) → j < LANES → slice_index_or result j (pos 0) ≡ slice_index_or numbers.now j (pos 0) +ℤ by }
+{
+    let mut moved = [0; LANES];
+    for j in 0..LANES {
+        moved[j] = numbers[j] + by;
+    }
+    moved
+}
+
+/// The span of an expression in each lane: in 64 bits for all at once, or lane by lane where that leaves them.
+fn spans_in_lanes(e: &Expr, columns: &[IntervalColumn]) -> [Interval; LANES]
+    requires formed { IsWellFormed (expression_of e.now) (length columns.now) }
+    requires few { length columns.now ≤ 15 }
+    requires fits { (j : ℕ) → j < LANES → SpanStaysInRange (expression_of e.now) (area_in columns.now j) }
+    ensures { (j : ℕ) → j < LANES → slice_index_or result j no_range ≡ span_of (expression_of e.now) (area_in columns.now j) }
+{
+    let mut narrow = NO_INTERVALS;
+    match span_lanes(e, columns, &mut narrow) {
+        Some(()) => widened(&narrow),
+        None => wide_spans_in_lanes(e, columns),
+    }
+}
+
+/// The same intervals in 128 bits.
+#[inline]
+fn widened(narrow: &IntervalColumn) -> [Interval; LANES]
+    ensures { (j : ℕ) → j < LANES → slice_index_or result j no_range ≡ interval_in narrow.now j }
+{
+    let mut wide = [NO_RANGE; LANES];
+    for j in 0..LANES {
+        wide[j] = narrow.interval_at(j);
+    }
+    wide
+}
+
+/// The span of an expression in each lane, one lane after the other.
+#[cold]
+fn wide_spans_in_lanes(e: &Expr, columns: &[IntervalColumn]) -> [Interval; LANES]
+    requires formed { IsWellFormed (expression_of e.now) (length columns.now) }
+    requires few { length columns.now ≤ 15 }
+    requires fits { (j : ℕ) → j < LANES → SpanStaysInRange (expression_of e.now) (area_in columns.now j) }
+    ensures { (j : ℕ) → j < LANES → slice_index_or result j no_range ≡ span_of (expression_of e.now) (area_in columns.now j) }
+{
+    let mut spans = [NO_RANGE; LANES];
+    for j in 0..LANES {
+        spans[j] = span_in_lane(e, columns, j);
+    }
+    spans
+}
+
+/// The span of an expression in one lane.
+fn span_in_lane(e: &Expr, columns: &[IntervalColumn], j: usize) -> Interval
+    requires formed { IsWellFormed (expression_of e.now) (length columns.now) }
+    requires few { length columns.now ≤ 15 }
+    requires lane { j < LANES }
+    requires fits { SpanStaysInRange (expression_of e.now) (area_in columns.now j) }
+    ensures { result ≡ span_of (expression_of e.now) (area_in columns.now j) }
+{
+    let mut area = [NO_RANGE; VARIABLES_LIMIT];
+    for k in 0..columns.len() {
+        area[k] = columns[k].interval_at(j);
+    }
+    match span(e, &area[..columns.len()]) {
+        Some(ends) => ends,
+        None => unreachable!(),
+    }
+}

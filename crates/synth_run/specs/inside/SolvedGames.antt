@@ -1,0 +1,26 @@
+-- What is worked out of a game by workers at a board.
+use Rattle.std.specs.Prelude.{◌≡◌, Option, IfSome}
+use Rattle.cell_counters.specs.Tokens.{BoardModel, RootModel}
+use Rattle.plant_record.specs.declared.aims.GoalKind.{GoalKind}
+use Rattle.plant_game.specs.Solution.{Solves}
+use Rattle.abstraction_table.specs.Table.{game_of}
+use Rattle.command_line.specs.declared.command.Command.{Command}
+use Rattle.synth_run.specs.declared.solved_game.SolvedGame.{SolvedGame}
+use Rattle.run_devices.specs.Devices.{Reading}
+use Rattle.synth_run.specs.Sources.{given}
+use Rattle.synth_run.specs.Played.{IsBoardFor, IsReckonedFor, IsPlayed, LeavesAGame, SolvesNothing}
+
+-- A game with its solution for a goal, its board and the board's root, whose accounts are reckoned and which has no
+-- hand out.
+pub record IsSolvedGame (goal : GoalKind) (solved : SolvedGame) : Type 0 where
+  pub solution : Solves goal (game_of solved.game) solved.answer
+  pub of_game : IsBoardFor goal (game_of solved.game) solved.board
+  pub at : solved.root.board ≡ solved.board
+  pub settled : solved.root.out ≡ 0
+  pub reckoned : IsReckonedFor goal (game_of solved.game) solved.root.accounts
+
+-- What a command is to leave, once its answer is written.
+pub record IsToBeLeft (command : Command) (played : Option (BoardModel × RootModel)) (source : Reading) : Type 0 where
+  pub leaves : IfSome (given command source.before) (λ bytes. IsPlayed command bytes played)
+  pub leaves_a_game : LeavesAGame command played
+  pub solves_nothing : SolvesNothing command played
