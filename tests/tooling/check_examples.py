@@ -1,6 +1,7 @@
 """Each example is solved, its README states its numbers, its plant is what tools/scale makes of its model, and the table of one
 with `goal reach` drives it."""
 
+import os
 import random
 import re
 import subprocess
@@ -9,6 +10,7 @@ import sys
 from gaffcurrant_plant.reader import read_plant
 from gaffcurrant_plant.table import read_text
 
+from .check_doubles import has_numpy
 from .check_temporal import runs_of
 
 STARTS = 60
@@ -18,7 +20,7 @@ def check(report):
     for name in report.examples():
         check_model(report, name)
         check_table(report, name)
-    for script, words in (("vehicle/compare", []), ("pendulum/compare", ["2000"])):
+    for script, words in (("pendulum/compare", ["2000"]),):
         done = subprocess.run([sys.executable, str(report.top / "examples" / script), *words], capture_output=True, check=False)
         report.expect(f"examples/{script}", (0, b""), (done.returncode, done.stderr))
         with open("/dev/full", "wb") as full:
@@ -29,8 +31,9 @@ def check(report):
 def check_model(report, name):
     model = report.top / "examples" / name / f"{name}.model"
     needs_mpmath = model.exists() and re.search(r"^d |^next.*[a-z]\(", model.read_text(), re.M)
-    if model.exists() and (report.has_mpmath() or not needs_mpmath):
-        status, text, _ = report.tool("scale", model)
+    needs_numpy = model.exists() and re.search(r"^between", model.read_text(), re.M)
+    if model.exists() and (report.has_mpmath() or not needs_mpmath) and (has_numpy() or not needs_numpy):
+        status, text, _ = report.tool("scale", model, env=os.environ | {"GAFFCURRANT": str(report.program)})
         report.expect(f"{name}: the plant is that of its model", (0, report.plant_text(name).decode()), (status, text))
 
 
@@ -89,7 +92,7 @@ def stated(report, name):
     if at is None:
         return None
     words = [word.strip().replace(",", "") for word in lines[at + 2].strip("|").split("|")]
-    return [int(word) for word in words[:-1]] if all(re.match(r"[0-9.]+\Z", word) for word in words) else None
+    return [int(word) for word in words[:-1]] if all(re.match(r"[0-9.]+\Z", word) for word in words[:-1]) else None
 
 
 def faults_of(table):

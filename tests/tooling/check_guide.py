@@ -1,5 +1,6 @@
 """The numbers and the code of docs/GUIDE.md."""
 
+import importlib.util
 import os
 import re
 from fractions import Fraction
@@ -21,18 +22,35 @@ def check(report):
         report.expect(f"the gate at {time} s", (int(won.replace(",", "")), int(rank)), solved(report, gate_at(report, Fraction(time))))
     wide = (report.top / "examples/double_integrator/double_integrator.model").read_text()
     narrow = wide.replace("target -0.21 0.21 -0.21 0.21", "target -0.20 0.20 -0.20 0.20")
-    report.expect("the double integrator with its target on the cells' bounds, and within them", (2559, 36),
+    report.expect("the double integrator with its target on the cells' bounds, and within them", (2559, 32),
                   (solved(report, wide)[0], solved(report, narrow)[0]))
     if report.reads_version_2():
         check_versions(report, guide)
     if report.has_mpmath():
         check_sweep(report, guide)
+        check_rail(report, guide)
         pendulum = re.search(r"```\n(version 2.*?)```", guide, re.DOTALL).group(1)
         report.expect("the guide's pendulum is scaled", (0, ""), report.tool("scale", "-", data=pendulum.encode())[::2])
     for expression, moves in (("e + (u - e) * 2 / 5", 7), ("(3 * e + 2 * u) / 5", 3)):
         plant = read_plant(f"plant 1\nstate e 0 199 10\ninput u 0 100\nnext e = {expression}\ngoal reach\nend\n".encode())
         report.expect(f"the deviation of `{expression}`", [moves], plant.deviations(1))
         report.holds(f"the guide has `{expression}`", expression in guide)
+
+
+def check_rail(report, guide):
+    """The guide's model that wins little, and what tools/sweep and tools/why say of it."""
+    model = re.search(r"`rail.model`:\n\n((?:    .*\n)+)", guide).group(1)
+    rows = [tuple(word.replace(",", "") for word in row) for row in re.findall(r"^\| ([0-9.]+) \| ([0-9.]+) \| ([0-9,]+) \| ([0-9,]+) \| ([0-9]+) \|$", guide, re.M)]
+    report.expect("lines of the guide's carriage", 6, len(rows))
+    program = os.environ | {"GAFFCURRANT": str(report.program)}
+    status, output, error = report.tool("sweep", "-", "--times", "0.2", "0.4", "0.8", "--widths", "1", "0.5", data=model.encode(), env=program)
+    report.expect("tools/sweep of the guide's carriage", (0, "", rows),
+                  (status, error, [(words[0], words[1], words[2], words[5], words[6]) for words in map(str.split, output.splitlines()[1:])]))
+    (report.room / "rail.model").write_text(model)
+    (report.room / "rail.table").write_bytes(report.run(("synth", "1"), report.tool("scale", "-", data=model.encode())[1].encode())[1])
+    if importlib.util.find_spec("numpy"):
+        output = report.tool("why", "--deep", report.room / "rail.table", "1", "0.1", "--model", report.room / "rail.model")[1]
+        report.holds("tools/why --deep of the guide's carriage", "what is won: 20;" in output and "  15: the input may come back to the cell itself" in output, output)
 
 
 def check_versions(report, guide):

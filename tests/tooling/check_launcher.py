@@ -10,7 +10,8 @@ from pathlib import Path
 # Notes each crate that it proves. `rt ci` makes a program that prints its words and ends with the status that stands in the first word's file,
 # else 0.
 KIT = """#!/usr/bin/env bash
-if [[ $1 == try ]]; then echo "${PWD##*/} try" >>"$CALLS"; cat; exit 0; fi
+if [[ $1 == version ]]; then echo "a kit"; exit 0; fi
+if [[ $1 == try ]]; then echo "${PWD##*/} try" >>"$CALLS"; [[ "$*" == "try -- synth 1" ]] || echo "${*:2}" >>"$CALLS"; cat; exit 0; fi
 compgen -G "crates/*/must-fail" >>"$CALLS"
 while IFS=": " read -r crate _; do
   echo "$crate $1" >>"$CALLS"
@@ -22,6 +23,7 @@ printf '%s\\n' '#!/usr/bin/env bash' 'echo "$@"' '[[ $1 == check ]] && exit 7' '
 chmod +x crates/synth_cli/out/synth_cli
 """
 CRATES = "# lowest first\nlow: itoa\nmiddle tests_may=Threads: low\naside: low\nsynth_cli: middle low\n"
+VERSION = "gaffcurrant 4.5.6\ncommit: not known: the sources aren't a clone of the repository\nkit: a kit\n"
 BUILDS = ["low ci", "middle ci", "synth_cli ci"]
 
 
@@ -41,18 +43,19 @@ class Small:
         (self.top / "crates.seconds").write_text("# crate, seconds\nlow 100\nmiddle 200\nsynth_cli 60\n")
         (self.top / "examples/line").mkdir(parents=True)
         (self.top / "examples/line/line.plant").write_text("a plant\n")
+        (self.top / "CITATION.cff").write_text("cff-version: 1.2.0\nversion: 4.5.6\n")
         shutil.copy(report.top / "gaffcurrant", self.top)
         (room / "kit").mkdir()
         (room / "kit/rt").write_text(KIT)
         (room / "kit/rt").chmod(0o755)
         self.calls = room / "calls"
 
-    def run(self, *words, top=None):
+    def run(self, *words, top=None, data=""):
         """Status, output, error, and the calls of the kit."""
         self.calls.write_text("")
         path = f"{self.room / 'kit'}:{os.environ['PATH']}"
         done = subprocess.run([(top or self.top) / "gaffcurrant", *words], capture_output=True, text=True, check=False,
-                              env=os.environ | {"PATH": path, "CALLS": str(self.calls)}, stdin=subprocess.DEVNULL)
+                              env=os.environ | {"PATH": path, "CALLS": str(self.calls), "GIT_CEILING_DIRECTORIES": str(self.room)}, input=data)
         return done.returncode, done.stdout, done.stderr, self.calls.read_text().splitlines()
 
     def built(self, **more):
@@ -75,13 +78,17 @@ def check(report):
 
 def check_words(report, small):
     """Before anything is built: forms are told at once, and a look proves nothing."""
-    for words, wanted, first in ((["--help"], 0, "forms:"), (["solve"], 2, "usage"), ([], 2, "usage")):
+    for words, wanted, first in ((["--help"], 0, "forms:"), (["-h"], 0, "forms:"), (["solve"], 2, "usage"), ([], 2, "usage"), (["--look", "solve"], 2, "usage")):
         status, output, error, calls = small.run(*words)
         report.expect(f"launcher {words}", (wanted, "", first, []), (status, output, error.split("\n")[0], calls))
         report.holds(f"launcher {words} tells the forms", "sim N SEED X1 .. Xm" in error)
     status, output, error, calls = small.run("--look")
     report.expect("launcher --look", (0, "a plant\n", ["synth_cli try"]), (status, output, calls))
     report.holds("launcher --look says that nothing is proved", error.count("proved") == 2 and "not proved" in error, error)
+    status, output, error, calls = small.run("--look", "stay", "2", data="my plant\n")
+    report.expect("launcher --look with words", (0, "my plant\n", ["synth_cli try", "-- stay 2"]), (status, output, calls))
+    report.holds("launcher --look with words says that nothing is proved", error.count("proved") == 2 and "./gaffcurrant stay 2 proves" in error, error)
+    report.expect("launcher --version before a build", (0, VERSION + "program: not built yet: the first command proves and builds it\n", "", []), small.run("--version"))
 
 
 def check_first(report, small):
@@ -94,6 +101,7 @@ def check_first(report, small):
     report.expect("launcher tells how far it is", [("0", "3", str(whole), "the first are being proved"), ("1", "3", "low is proved"),
                                                    ("2", "3", "middle is proved"), ("3", "3", "0", "synth_cli is proved")],
                   told[:1] + [(done, of, what) for done, of, _, what in told[1:-1]] + told[-1:])
+    report.expect("launcher --version behind a build", (0, VERSION + "program: proved, and built from these sources\n", "", []), small.run("--version"))
     status, output, error, _ = small.run("check")
     report.expect("launcher at a full device", (7, 1), (status, error.count("\n")))
     report.holds("launcher tells a full device", "device is full" in error, error)

@@ -84,6 +84,10 @@ KEPT_NOTES = [("10", "moves v down for sure, out of its cell: that takes a step 
               ("12", "for sure", False)]
 
 
+BARE = "x has no noise, and moves by whole cells, by -3 under u = -3: a measurement that is a rounding beside a cell's bound counts for the next cell; add a " \
+       "noise of -1 to 1, unless the state is a whole number by itself"
+
+
 def check(report):
     check_cases(report)
     for step, said, wanted in KEPT_NOTES:
@@ -109,7 +113,7 @@ def check(report):
     twice = changed(LINE, 4, "next x = x + u / 2 * 3 + u / 2 * 3")
     for what, data, count in (("by hand", twice, 1), ("by tools/scale", b"# Made by tools/scale from a model with real coefficients.\n" + twice, 0)):
         report.expect(f"lint of a text {what} notes each product of a quotient once", count, report.tool("lint", "-", data=data)[1].count("multiplies what"))
-    report.expect("lint of the line example", (0, "accepted\nsize: deviation of x: 1; half a cell is 1; a box meets up to 2 "
+    report.expect("lint of the line example", (0, f"accepted\nnote: {BARE}\nsize: deviation of x: 1; half a cell is 1; a box meets up to 2 "
                   "places\nsize: step of x: -3 under u = -3; 3 under u = 3; a cell is 3 wide\nsize: 5 cells, 2 input vectors, "
                   "10 pairs, 8 edges: under 0.01 per cent of the 33554432 that are the most\n", ""),
                   report.tool("lint", "-", data=changed(LINE, 1, "plant 1")))

@@ -1,11 +1,15 @@
 """The module for notebooks: docs/PYTHON.md line by line, runs beside those of the program, tools/diff, and half-planes of a model."""
 
 import doctest
+import importlib.util
 import os
 import random
+import shutil
+import subprocess
+import sys
 from fractions import Fraction
 
-from gaffcurrant_plant import NoRow, Refused, read_plant, read_table, simulate, solve
+from gaffcurrant_plant import NoRow, Refused, Trouble, Units, read_plant, read_table, scale, simulate, solve
 from gaffcurrant_plant.loop import read_trace
 from gaffcurrant_plant.model import read_model
 
@@ -33,6 +37,10 @@ def check(report):
     os.environ["GAFFCURRANT"] = str(report.program)
     check_page(report)
     check_runs(report)
+    check_real(report)
+    check_arrays(report)
+    check_types(report)
+    check_install(report)
     check_diff(report)
     check_halves(report)
 
@@ -68,9 +76,96 @@ def check_runs(report):
         report.expect(f"{what} is refused", fault.__name__, fault_of(call))
 
 
+def check_real(report):
+    """States and inputs in a model's units, floats as the decimals that they are printed as."""
+    table = read_table((report.top / "examples/cart/cart.table").read_bytes())
+    real = table.in_units(Units({"p": Fraction(1, 10), "v": Fraction(1, 100), "a": Fraction(1, 2)}))
+    report.expect("a real state", ([395, 55], 1, (-10.0,)), (real.whole([39.5, 0.55]), real.rank([39.5, 0.55]), real.choice([39.59, 0.559])))
+    report.expect("floats are decimals", [[3, 30], [3, 30], [2, 29]], [real.whole([0.3, 0.3]), real.whole([Fraction(3, 10), 0.30]), real.whole([0.29999, 0.29999])])
+    report.expect("the middle of a unit", (39.55, 0.555), real.middle([395, 55]))
+    for what, state in (("too long", [1, 2, 3]), ("no number", [float("nan"), 0]), ("without end", [float("inf"), 0])):
+        report.expect(f"a real state {what} is refused", "ValueError", fault_of(lambda state=state: real.rank(state)))
+    report.expect("scale by its line", "line 1: `bogus` begins no line", str(fault_of(lambda: scale("bogus\n")))[:30])
+    report.expect("scale gives a plant", 2, read_plant(scale("state x 0 1 0.1 0.1\nnext x = x\ngoal keep\n", 2).encode()).version)
+
+
+def check_arrays(report):
+    """Answers for arrays of states beside those for one, and a run as arrays."""
+    if not importlib.util.find_spec("numpy"):
+        print("skipped: numpy isn't there, so arrays of states aren't tried")
+        return
+    from gaffcurrant_plant import arrays
+    data, draws = (report.top / "examples/cart/cart.table").read_bytes(), random.Random(5)
+    table, cells = read_table(data), arrays.Cells(data)
+    states = [[draws.randrange(-20, 620), draws.randrange(-120, 120)] for _ in range(500)]
+    rows = [table.rows.get(table.plant.cell_of(state)) for state in states]
+    report.expect("ranks over an array", [-1 if row is None else row[0] for row in rows], cells.rank(states).tolist())
+    report.expect("inputs over an array", [None if row is None or row[1] is None else table.plant.vector(row[1])[0] for row in rows],
+                  cells.choice(states)[:, 0].tolist())
+    report.expect("real states are no whole ones", "ValueError", fault_of(lambda: cells.rank([[0.5, 1.0]])))
+    report.expect("an array of another width", "ValueError", fault_of(lambda: cells.rank([[1, 2, 3]])))
+    samples = simulate(table, [350, 0])
+    run = arrays.run_of(samples)
+    report.expect("a run as arrays", ([list(sample.state) for sample in samples], [sample.rank for sample in samples], -20, None),
+                  (run.states.tolist(), run.ranks.tolist(), run.inputs[-2, 0], run.inputs[-1:].tolist()[0][0]))
+    units = Units({"p": Fraction(1, 10), "v": Fraction(1, 100)})
+    report.expect("whole numbers of real states", [[3, 30], [395, -1]], arrays.whole_states(table.plant, units, [[0.3, 0.3], [39.59, -0.001]]).tolist())
+    report.expect("a run in units", [35.05, 0.005], arrays.run_of(samples, units, table.plant).states[0].round(6).tolist())
+
+
+USE = """from gaffcurrant_plant import Sample, Table, read_table, read_units, scale, simulate, solve
+text: str = scale("", version=2)
+table: Table = solve(text)
+values = table.choice((1, 2))
+assert values is not None
+first: int = values[0]
+run: list[Sample] = simulate(table, [1, 2], samples=3)
+speeds = table.in_units(read_units("model", b"")).choice([0.5, 1])
+"""
+
+
+def check_types(report):
+    """Type hints, where mypy is there."""
+    if not shutil.which("mypy"):
+        print("skipped: mypy isn't there, so type hints aren't tried")
+        return
+    (report.room / "use.py").write_text(USE)
+    files = [report.top / "tools/gaffcurrant_plant" / name for name in ("table.py", "solving.py", "asking.py")]
+    done = subprocess.run(["mypy", "--cache-dir", report.room / "cache", "--config-file", report.top / "tools/pyproject.toml", report.room / "use.py", *files],
+                          capture_output=True, check=False, text=True, env=os.environ | {"MYPYPATH": str(report.top / "tools")})
+    report.holds("mypy on the module and a use of it", done.returncode == 0, done.stdout)
+    (report.room / "use.py").write_text(USE + "wrong: int = table.choice([1])\n")
+    done = subprocess.run(["mypy", "--cache-dir", report.room / "cache", "--config-file", report.top / "tools/pyproject.toml", report.room / "use.py"],
+                          capture_output=True, check=False, text=True, env=os.environ | {"MYPYPATH": str(report.top / "tools")})
+    report.holds("mypy sees a wrong use", done.returncode == 1 and "Incompatible types" in done.stdout, done.stdout)
+
+
+def check_install(report):
+    """`pip install ./tools` without a network, into a new environment; the programs and the module of it."""
+    room = report.room / "installed"
+    made = subprocess.run([sys.executable, "-m", "venv", room], capture_output=True, check=False)
+    if made.returncode:
+        print("skipped: this Python makes no environments, so pip install ./tools isn't tried")
+        return
+    environment = {"PATH": os.environ["PATH"], "HOME": str(report.room)}
+    done = subprocess.run([room / "bin/pip", "install", "-q", "--no-index", report.top / "tools"], capture_output=True, check=False, text=True, env=environment)
+    report.holds("pip install ./tools", done.returncode == 0, done.stderr)
+    table = report.top / "examples/line/line.table"
+    done = subprocess.run([room / "bin/gaffcurrant-why", table, "7", "--input", "1"], capture_output=True, check=False, text=True, env=environment, cwd=report.room)
+    report.expect("gaffcurrant-why", (0, "  wins within 2 samples", ""), (done.returncode, done.stdout.splitlines()[-1:] and done.stdout.splitlines()[-1], done.stderr))
+    names = sorted(path.name for path in (room / "bin").glob("gaffcurrant-*"))
+    tools = [path for path in (report.top / "tools").iterdir() if path.is_file() and not path.suffix]
+    report.expect("a program for each of tools/", sorted(f"gaffcurrant-{path.name}" for path in tools), names)
+    done = subprocess.run([room / "bin/python", "-c", "from gaffcurrant_plant.solving import program; print(program())"], capture_output=True, check=False, text=True,
+                          env=environment, cwd=report.room)
+    report.expect("the installed module runs the launcher", str(report.top / "gaffcurrant"), done.stdout.strip())
+
+
 def fault_of(call):
     try:
         return call()
+    except Trouble as trouble:
+        return str(trouble)
     except (NoRow, Refused, ValueError) as fault:
         return type(fault).__name__
 

@@ -61,7 +61,7 @@ def check_lines(report, device, compiler, room):
         report.expect(f"{what}: what the README tells", (0, said.group(2) + "\n", ""), called(program, room, said.group(1) + "\n"))
         for line, reason in STATES_REFUSED:
             status, output, error = called(program, room, f"20 0\n{line}\n20 0\n")
-            report.expect(f"{what} of `{line}`", (1, "60\n", 1), (status, output, error.count("\n")))
+            report.expect(f"{what} of `{line}`", (1, "100\n", 1), (status, output, error.count("\n")))
             report.holds(f"{what} of `{line}` says why", reason in error or len(program) == 1, error)
         full = subprocess.run(["bash", "-c", 'exec "$@" >/dev/full', "bash", *program], input=b"20 0\n", cwd=room, capture_output=True, check=False)
         report.expect(f"{what} at a full device", (1, 1), (full.returncode, full.stderr.count(b"\n")))
@@ -74,7 +74,7 @@ def check_lines(report, device, compiler, room):
 def check_drive(report, device, compiler, room):
     """The README's loop in real units brings the gate's model into its target, never into its obstacle."""
     model = report.top / "examples/gate/gate.model"
-    (room / "table.h").write_text(report.tool("header", "--model", model, room / "gate.table")[1])
+    (room / "table.h").write_text(report.tool("header", "--ranks", "--model", model, room / "gate.table")[1])
     (room / "drive.c").write_text(re.search(r"```c\n(.*?)```", (device / "README.md").read_text(), re.DOTALL).group(1))
     shutil.copy(device / "control.c", room)
     built = subprocess.run([compiler, "-std=c99", "-O2", "-Wall", "-Wextra", "-Werror", "drive.c", "-lm", "-o", "drive"], cwd=room, capture_output=True, check=False)
@@ -85,6 +85,8 @@ def check_drive(report, device, compiler, room):
     places = [(float(words[1]), float(words[3])) for words in map(str.split, samples)]
     report.expect("the README's loop keeps off the obstacle", [], [(x, v) for x, v in places if 3.8 <= x < 5.3 and v >= 0.6])
     report.expect("the README's loop counts its samples", f"arrived after {len(places)} samples", last)
+    status, output, error = called(["./drive", "push"], room, "")
+    report.expect("the README's loop stops by its monitor", (3, "the rank hasn't fallen at sample 5: stop", ""), (status, output.splitlines()[-1], error))
 
 
 def check_sizes(report, said):
@@ -103,7 +105,7 @@ def check_no_table(report, device, room, text):
                           ("lines.table", text.replace(b"\n", b"\r\n"))):
         (room / name).write_bytes(content)
         status, output, error = called([sys.executable, str(device / "control.py"), name], room, "20 0\n")
-        wanted = (0, "60\n", 0) if name == "lines.table" else (1, "", 1)
+        wanted = (0, "100\n", 0) if name == "lines.table" else (1, "", 1)
         report.expect(f"control.py of {name}", wanted, (status, output, error.count("\n")))
     for words, wanted in (([], 2), (["gate.table", "more"], 2), (["nowhere"], 1), (["/"], 1)):
         status, output, error = called([sys.executable, str(device / "control.py"), *words], room, "20 0\n")

@@ -31,8 +31,8 @@ MODELS = {
 }
 
 COMPLAINTS = [
-    ("state x 0 1 0.1 0.1\nnext x = x / x\n", "a quotient's divisor may lie between 0 and 1"),
-    ("state x 0 1 0.1 0.1\nnext x = sqrt(x - 0.5)\n", "what stands in sqrt may lie between -0.6 and 0.6"),
+    ("state x 0 1 0.1 0.1\nnext x = x / x\n", "the divisor `x` may lie between -0.0001 and 1"),
+    ("state x 0 1 0.1 0.1\nnext x = sqrt(x - 0.5)\n", "what stands in `sqrt(x - 0.5)` may lie between -0.6003 and 0.6003"),
     ("state x 0 3 0.1 0.1\nnext x = tan(x)\n", "with a pole between"),
     ("state x 0 1 0.1 0.1\nnext x = sin x\n", "line 2: behind `sin` an opening bracket"),
     ("state x 0 1 0.1 0.1\nnext x = min(x)\n", "line 2: `min` takes 2, here are 1"),
@@ -125,8 +125,9 @@ class Real:
         self.ranges = [(float(words[2]), float(words[3])) for words in lines if words[0] == "state"]
         self.units = {words[1]: float(words[2]) for words in lines if words[0] == "input"}
         self.noises = [(words[1], float(words[2]), float(words[3])) for words in lines if words[0] == "noise"]
+        self.exact, self.wraps = ([words[1] for words in lines if words[0] == keyword] for keyword in ("exact", "wrap"))
         sides = ["".join(words[3:]).replace("^", "**") for words in lines if words[0] in ("d", "next")]
-        room = {name: getattr(math, name) for name in ("sin", "cos", "tan", "sqrt", "exp", "log")}
+        room = {name: getattr(math, name) for name in ("sin", "cos", "tan", "asin", "acos", "atan", "sinh", "cosh", "tanh", "sqrt", "exp", "log", "pi")}
         exec("\n    ".join(self.lines_of_plain(sides) if self.time is None else self.lines_of_path(sides)), room)
         self.after = room["after"]
 
@@ -168,14 +169,18 @@ def outside(real, plant, count):
     ranges = {name: (low, high) for name, low, high in plant.noises}
     ends = [ranges.get(f"r_{name}", (0, 0)) for name in real.names]
     sizes, still = units_of(real, plant), [0] * len(plant.noises)
+    counts = {name: high + 1 - low for name, low, high, _ in plant.states}
     vectors = [(plant.vector(k), [value * unit for value, unit in zip(plant.vector(k), real.units.values())]) for k in range(plant.vectors)]
     for _ in range(count):
         whole = [round(drawn(draws, low, high)) for _, low, high, _ in plant.states]
-        state = [(value + drawn(draws, 0.0, ALMOST_ONE)) * size for value, size in zip(whole, sizes)]
+        state = [(value + (0 if name in real.exact else drawn(draws, 0.0, ALMOST_ONE))) * size for name, value, size in zip(real.names, whole, sizes)]
         vector, inputs = draws.choice(vectors)
         after, step = real.step(state, inputs, draws), plant.step(whole, vector, still)
         for name, one, other, size, (low, high) in zip(real.names, after, step, sizes, ends):
-            if not low - NEAR <= one / size - other < high + 1 + NEAR:
+            beside = one / size - other
+            if name in real.wraps:
+                beside -= round(beside / counts[name]) * counts[name]
+            if not low - NEAR <= beside < high + 1 + NEAR:
                 faults.append(f"{name} at {state}, {inputs}: {one / size} for {other}, noise {low} to {high}")
     return faults
 

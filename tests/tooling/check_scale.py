@@ -12,16 +12,17 @@ HEAD = "state x 0 9.99 0.09 0.01\nstate v -1.21 1.22 0.09 0.01\ninput u 0.01 -1 
 # A model, and lines that its plant has.
 SCALED = [
     # x + v/2 + u/8 = (8x + 4v + u) / 8 with u a multiple of 20: the remainder is 0 or 4 eighths; quantising x and v moves
-    # by 0 up to 1.5; so below 2: the noise is 0 to 1. In v the quotient by 2 is exact, and the noise 0.
+    # by 0 up to 1.5, so below 2. A measurement that is a rounding beside reaches 2, and below 0: the noise is -1 to 2. In v the quotient by 2 is
+    # exact, quantising moves below 1, and a rounding makes that -1 to 1.
     (HEAD + "next x = x + 0.5*v + 0.125*u\nnext v = v + 0.5*u\ntarget 8 9 -0.2 0.2\ngoal reach\n",
-     ["state x 0 998 9", "state v -121 121 9", "input u -100 -60 0 20 100", "noise r_x 0 1",
-      "next x = x + (4 * v + u) / 8 + r_x", "next v = v + u / 2", "target 800 899 -20 19"]),
-    # The same as a linear system, with 0.02 of disturbance on v: 2 units to each side, and below one more by quantising.
+     ["state x 0 998 9", "state v -121 121 9", "input u -100 -60 0 20 100", "noise r_x -1 2", "noise r_v -1 1",
+      "next x = x + (4 * v + u) / 8 + r_x", "next v = v + u / 2 + r_v", "target 800 899 -20 19"]),
+    # The same as a linear system, with 0.02 of disturbance on v: 2 units to each side, and one more by quantising and rounding.
     (HEAD + "A 1 0.5\nA 0 1\nB 0.125\nB 0.5\nw 0 0\nw -0.02 0.02\ntarget 8 9 -0.2 0.2\ngoal reach\n",
-     ["noise r_x 0 1", "noise r_v -2 2", "next x = x + (4 * v + u) / 8 + r_x", "next v = v + u / 2 + r_v"]),
+     ["noise r_x -1 2", "noise r_v -3 3", "next x = x + (4 * v + u) / 8 + r_x", "next v = v + u / 2 + r_v"]),
     # The same from the differential equation.
     (HEAD + "sample 0.5\nA 0 1\nA 0 0\nB 0\nB 1\nw 0 0\nw -0.02 0.02\ntarget 8 9 -0.2 0.2\ngoal reach\n",
-     ["noise r_x 0 1", "noise r_v -2 2", "next x = x + (4 * v + u) / 8 + r_x", "next v = v + u / 2 + r_v"]),
+     ["noise r_x -1 2", "noise r_v -3 3", "next x = x + (4 * v + u) / 8 + r_x", "next v = v + u / 2 + r_v"]),
     # exp(-0.1) is 0.904837, 1 - exp(-0.1) is 0.095163.
     ("denominator 1000000\nsample 0.1\nstate x 0 10 0.1 0.001\ninput u 1 0 10\nA -1\nB 1\ntarget 5 6\ngoal reach\n",
      ["next x = (904837 * x + 95162582 * u) / 1000000 + r_x"]),
@@ -35,11 +36,16 @@ SCALED = [
      "goal reach\n", ["next x = x * (2 - m) / 4 + r_x", "target 12 19", "obstacle 11 19"]),
     # Behind another term a quotient doesn't begin with a minus: x - v / 2 would round v / 2 down, and -v / 2 up.
     (HEAD + "next x = x - 0.5*v\nnext v = v + 0.5*u\ntarget 8 9 -0.2 0.2\ngoal reach\n",
-     ["next x = x + (-v) / 2 + r_x", "next v = v + u / 2"]),
+     ["next x = x + (-v) / 2 + r_x", "next v = v + u / 2 + r_v"]),
     # A state that stands in another term too stays in the quotient with it.
     ("state x 0 10 0.1 0.01\nnext x = x - x*x/10\ngoal keep\n", ["next x = (1000 * x - x * x) / 1000 + r_x"]),
-    # -x turns the quantising round: the real value lies up to one below.
-    ("state x -5 5 1 1\nnext x = -x\ngoal keep\n", ["noise r_x -1 0", "next x = -x + r_x"]),
+    # -x turns the quantising round: the real value lies up to one below, and a rounding more.
+    ("state x -5 5 1 1\nnext x = -x\ngoal keep\n", ["noise r_x -2 0", "next x = -x + r_x"]),
+    # An exact state is a whole number by itself, and no rounding moves it; one that wraps comes round.
+    ("state h 0 12 1 1\nexact h\nstate x 0 9 1 1\ninput t 1 -1 1\nnext h = h + t\nnext x = x + h\ngoal keep\n",
+     ["# unit h 1: a whole number by itself", "noise r_x -1 1", "next h = h + t", "next x = x + h + r_x"]),
+    ("state h -6 6 3 0.5\nexact h\nwrap h\ninput t 0.5 -1 1\nnext h = h + t\ngoal keep\n",
+     ["state h -12 11 6", "next h = h + t - (h + t + 12) / 24 * 24"]),
 ]
 
 LINE = "state x 0 1 0.1 0.1\n"
@@ -56,6 +62,10 @@ COMPLAINTS = [
     ("sample 100\nstate x 0 1 0.1 0.1\nA -1\ngoal reach\n", "the sampling time is too long"),
     ("sample 0\nstate x 0 1 0.1 0.1\nA -1\ngoal reach\n", "line 1: a sampling time is above 0"),
     ("bogus\n", "line 1: `bogus` begins no line"),
+    ("exact x\n", "line 1: `exact NAME` has the name of a state"),
+    ("wrap x\n", "line 1: `wrap NAME` has the name of a state"),
+    ("version 1\n" + LINE + "wrap x\nnext x = x\ngoal keep\n", "line 3: `wrap x` needs a plant of version 2"),
+    (LINE + "exact x\nnext x = x / 2\ngoal keep\n", "`exact x` is for a state that is a whole number of units by itself, and its next value may lie 0 to 0.5"),
     ("samples 1\n", "is `sample` meant?"),
     ("disturbance w 0 1\n", "is `noise` meant?"),
     ("plant 1\n", "the text is a plant text, and no model"),
@@ -76,7 +86,7 @@ COMPLAINTS = [
     (LINE + "next y = x\n", "`next x = ..` is due here, not `next y`"),
     (LINE + "next x = 2x\n", "between `2` and `x` a sign is due, as in 2 * x"),
     (LINE + "next x = 1,5*x\n", "decimals stand behind a point"),
-    (LINE + "next x = tanh(x)\n", "the function `tanh` isn't known"),
+    (LINE + "next x = sgn(x)\n", "the function `sgn` isn't known"),
     (LINE + "next x =\n", "an expression is due"),
     (LINE + "next x = y\n", "no variable of this model; they are x"),
     ("target 0 1\n", "the `state` lines are due before `target`"),
@@ -102,7 +112,7 @@ def check(report):
         for line in lines:
             report.holds(f"scale says `{line}`", line in output.splitlines(), output)
         if not status:
-            if "sample" not in model:
+            if "sample" not in model and "wrap" not in model:
                 compare(report, model[:60], model, output)
     for model, said in COMPLAINTS + COMPLAINTS_OF_FUNCTIONS * report.has_mpmath():
         status, output, error = report.tool("scale", "-", data=model.encode())

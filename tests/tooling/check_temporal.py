@@ -1,6 +1,7 @@
 """Stay texts and patrol texts: how the module reads, writes and drives by them, what tools/why, tools/sim and the readers of examples/device say of
 them, and what the program writes beside a few lines of brute force. The games' brute force is that of tests/hostility/oracle.py."""
 
+import os
 import random
 import re
 import shutil
@@ -63,10 +64,43 @@ def check(report):
         report.expect(f"sim {words} of a {text[:6]} text", (0, ["trace 1", *lines], ""), with_lines(report.tool("sim", "-", *words, data=text.encode())))
     formats = (report.top / "docs/FORMATS.md").read_text()
     report.holds("FORMATS has both texts", all(f"```\n{text}```" in formats for text in (STAY, PATROL)))
+    check_again(report)
+    check_diff(report)
     check_sim(report)
     check_readers(report)
     for word in ("stay", "patrol"):
         check_program(report, word)
+
+
+def check_again(report):
+    """tools/check solves stay and patrol texts again."""
+    os.environ["GAFFCURRANT"] = str(report.program)
+    line = (report.top / "examples/line/line.table").read_text()
+    for text, wanted in ((STAY, "valid"), (PATROL, "valid"), (line, "valid"), (STAY.replace("2 2 2 2\n3 3 1 2", "2 3 1 2").replace("rows 5", "rows 4"), "invalid: cell 2"),
+                         (STAY.replace("rows 5\n0 0 4 2\n", "rows 4\n"), "invalid: cell 0"), (PATROL.replace("2 3 1 1\n4 4 1 0", "2 4 1 1").replace("turn 1 rows 4", "turn 1 rows 3"), "invalid: turn 1 cell 4"),
+                         (line.replace("1 1 3 1\n", "").replace("rows 5", "rows 4"), "invalid: cell 0"), (STAY.replace("rows 5", "rows x"), "malformed: line 9")):
+        status, output, error = report.tool("check", "-", data=text.encode())
+        is_valid = wanted == "valid"
+        report.expect(f"tools/check of a {text[:6]} text: {wanted}", (1 - is_valid, "valid\n" if is_valid else "", 1 - is_valid), (status, output, error.count("\n")))
+        report.holds(f"tools/check says `{wanted}`", wanted in output + error, error)
+
+
+def check_diff(report):
+    """tools/diff of stay and patrol texts, and what it refuses."""
+    paths = {}
+    for name, text in (("stay", STAY), ("less", STAY.replace("rows 5\n0 0 4 2\n", "rows 4\n")), ("patrol", PATROL),
+                       ("other", PATROL.replace("0 0 3 1\n1 1 2 1", "0 1 3 1").replace("turn 1 rows 4", "turn 1 rows 3"))):
+        paths[name] = report.room / f"{name}.text"
+        paths[name].write_text(text)
+    report.expect("diff of stay texts", (0, ["5 cells; rows: 5 and 4", "rows in the first alone: 1", "  cell 0 (x 0 to 2)", "rows in the second alone: 0",
+                                             "ranks in both: 4; the same at 4, lesser in the first at 0, lesser in the second at 0",
+                                             "other inputs in both: 0"], ""), with_lines(report.tool("diff", paths["stay"], paths["less"])))
+    status, output, error = report.tool("diff", paths["patrol"], paths["other"])
+    report.expect("diff of patrol texts", (0, ["turn 0: 5 cells; rows: 5 and 5", "turn 1: 5 cells; rows: 5 and 5"], ""),
+                  (status, [line for line in output.splitlines() if line.startswith("turn")], error))
+    report.holds("diff of patrol texts compares ranks turn by turn", "the same at 4, lesser in the first at 1 (by up to 1, 1 on the average)" in output, output)
+    status, output, error = report.tool("diff", paths["stay"], paths["patrol"])
+    report.expect("diff of a stay text and a patrol text", (1, "", True), (status, output, "states" in error or "grid" in error or "patrol text alone" in error))
 
 
 def with_lines(answer):
@@ -98,7 +132,7 @@ def check_sim(report):
     for seed, start in ((3, ("5", "0")), (4, ("350", "-40"))):
         wanted = report.run(("sim", "60", str(seed), *start), cart)
         report.expect(f"tools/sim of the cart from {start}", (wanted[0], wanted[1].decode()), report.tool("sim", "-", "60", seed, *start, data=cart)[:2])
-    for words, status, said in ((["9", "0", "15"], 1, "no row"), (["9", "0"], 2, "required"), (["9", "0", "7", "--turn", "2"], 1, "2 turns"),
+    for words, status, said in ((["9", "0", "15"], 1, "no row"), (["9", "0"], 2, "the words are"), (["9", "0", "7", "--turn", "2"], 1, "2 turns"),
                                 (["-1", "0", "7"], 2, "at least 0"), (["9", "0", "x"], 2, "no whole number")):
         got, output, error = report.tool("sim", "-", *words, data=PATROL.encode())
         report.expect(f"sim {words}", (status, "", 1), (got, output, error.count("\n")))

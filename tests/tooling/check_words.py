@@ -4,15 +4,16 @@ import os
 import subprocess
 import sys
 
-TOOLS = ("lint", "why", "scale", "header", "picture", "diff", "sweep", "sim")
+TOOLS = ("lint", "why", "scale", "header", "picture", "diff", "sweep", "sim", "check")
 
 
 def check(report):
+    os.environ["GAFFCURRANT"] = str(report.program)
     table = report.top / "examples/line/line.table"
     plant = report.top / "examples/line/line.plant"
     model = report.top / "examples/gate/gate.model"
     right = {"lint": [plant], "why": [table, "7"], "scale": [model], "header": [table], "diff": [table, table], "sweep": [model],
-             "sim": [table, "3", "0", "7"]}
+             "sim": [table, "3", "0", "7"], "check": [table]}
     for name in TOOLS:
         status, output, error = report.tool(name, "--help")
         report.expect(f"{name} --help", (0, ""), (status, error))

@@ -4,9 +4,12 @@
 refused, `plant` has the cells and the boxes, `table` what the program writes of it, `rows` reads the row lines, `loop` runs, `command` what every
 program of tools/ does alike. docs/FORMATS.md gives the texts, docs/DEFINITIONS.md the words."""
 
+from .command import Trouble
+from .monitor import Monitor
 from .reader import Refused, read_plant
-from .solving import NoRow, Sample, patrol, simulate, solve, stay
+from .solving import NoRow, Sample, patrol, scale, simulate, solve, stay
 from .table import Patrol, Stay, Table, read_table, read_text, text_of_patrol, text_of_stay, text_of_table
+from .units import Units, read_units
 
-__all__ = ["NoRow", "Patrol", "Refused", "Sample", "Stay", "Table", "patrol", "read_plant", "read_table", "read_text", "simulate", "solve", "stay",
-           "text_of_patrol", "text_of_stay", "text_of_table"]
+__all__ = ["Monitor", "NoRow", "Patrol", "Refused", "Sample", "Stay", "Table", "Trouble", "Units", "patrol", "read_plant", "read_table", "read_text",
+           "read_units", "scale", "simulate", "solve", "stay", "text_of_patrol", "text_of_stay", "text_of_table"]

@@ -2,6 +2,7 @@
 
 import re
 import warnings
+from typing import NamedTuple
 
 import numpy
 
@@ -35,6 +36,33 @@ class Cells:
         rank, choice = int(self.ranks[cell]), int(self.inputs[cell])
         return None if rank == NONE else rank, None if choice == NONE else choice
 
+    def cell_of(self, states):
+        """The cells of states, an array of one line each, or NONE outside of the domain."""
+        states = numpy.asarray(states)
+        wide = len(self.plant.states)
+        if states.ndim != 2 or states.shape[1] != wide:
+            raise ValueError(f"states are an array of {wide} columns, here is one of the shape {states.shape}")
+        if not numpy.issubdtype(states.dtype, numpy.integer):
+            raise ValueError("states are whole numbers; whole_states makes them of real ones")
+        low, high, width = (numpy.array([state[k] for state in self.plant.states]) for k in (1, 2, 3))
+        cells = numpy.zeros(len(states), dtype=numpy.int64)
+        for column, count in zip(((states - low) // width).T, self.plant.counts):
+            cells = cells * count + column
+        return numpy.where(numpy.all((low <= states) & (states <= high), axis=1), cells, NONE)
+
+    def rank(self, states):
+        """The ranks at states; NONE where there is no row, and with goal keep."""
+        cells = self.cell_of(states)
+        return numpy.where(cells == NONE, NONE, self.ranks[cells])
+
+    def choice(self, states):
+        """The values to apply at states, a line for each, masked where there is no row, and in the target of a table."""
+        cells = self.cell_of(states)
+        numbers = numpy.where(cells == NONE, NONE, self.inputs[cells])
+        vectors = numpy.array([self.plant.vector(number) for number in range(self.plant.vectors)], dtype=numpy.int64).reshape(self.plant.vectors, -1)
+        mask = numpy.broadcast_to((numbers == NONE)[:, None], (len(numbers), vectors.shape[1]))
+        return numpy.ma.masked_array(vectors[numbers], mask)
+
     def of_turn(self, turn):
         """The cells of another turn of the same patrol."""
         return self.turns.cells(turn)
@@ -66,6 +94,34 @@ class Cells:
     def share(self, axes, fixed):
         """Over the places of some axes, the share of the places of the other states that have a row."""
         return self.arranged(self.won, axes, fixed).mean(axis=-1)
+
+
+def whole_states(plant, units, states):
+    """The whole numbers of real states, an array of one line each, in a model's units. A value within 10^-9 of a unit's end counts as at that end."""
+    sizes = numpy.array([float(units.size(name)) for name, *_ in plant.states])
+    return numpy.floor(numpy.asarray(states, dtype=float) / sizes + 1e-9).astype(numpy.int64)
+
+
+class Run(NamedTuple):
+    """A run as arrays: the times, the states and the inputs, a line each, and the ranks and turns, NONE where there is none."""
+    times: numpy.ndarray
+    states: numpy.ndarray
+    ranks: numpy.ndarray
+    inputs: numpy.ndarray
+    turns: numpy.ndarray
+
+
+def run_of(samples, units=None, plant=None):
+    """The Run of what `simulate` gives. With a plant's units states and inputs are in these: states at the middles of their units."""
+    states = numpy.array([sample.state for sample in samples])
+    wide = max((len(sample.inputs) for sample in samples if sample.inputs is not None), default=0)
+    inputs = numpy.ma.masked_array([sample.inputs or (0,) * wide for sample in samples], [[sample.inputs is None] * wide for sample in samples])
+    ranks, turns = (numpy.array([NONE if value is None else value for value in column]) for column in
+                    ([sample.rank for sample in samples], [sample.turn for sample in samples]))
+    if units:
+        states = (states + 0.5) * [float(units.size(name)) for name, *_ in plant.states]
+        inputs = inputs * numpy.array([float(units.size(name)) for name, _ in plant.inputs][:wide])
+    return Run(numpy.array([sample.time for sample in samples]), states, ranks, inputs, turns)
 
 
 class Turns:

@@ -4,10 +4,11 @@ import argparse
 import importlib.util
 import os
 import sys
+import time
 
-from .reader import Refused
+from .refused import Refused
 
-DEBIAN = "/usr/bin/python3"
+DEBIAN, DEBIAN_MODULES = "/usr/bin/python3", ("/usr/lib/python3/dist-packages", "/usr/local/lib/python3/dist-packages")
 
 
 class Trouble(Exception):
@@ -38,12 +39,48 @@ def read_bytes(path):
         raise Trouble(f"{path}: {error.strerror}") from None
 
 
-def prefer(module):
-    """Goes over to Debian's Python, once, where this one lacks a module that Debian's may have. For programs, before they read anything."""
-    if importlib.util.find_spec(module) or os.environ.get("GAFFCURRANT_PYTHON") or not os.path.exists(DEBIAN):
+def prefer(*modules):
+    """Goes over to Debian's Python, once, where this one lacks a module that Debian's has. For programs, before they read anything."""
+    missing = [module for module in modules if not importlib.util.find_spec(module)]
+    if not missing or os.environ.get("GAFFCURRANT_PYTHON") or not os.path.exists(DEBIAN):
         return
-    os.environ["GAFFCURRANT_PYTHON"] = module
-    os.execv(DEBIAN, [DEBIAN, os.path.abspath(sys.argv[0])] + sys.argv[1:])
+    if sum(map(is_in_debian, modules)) > len(modules) - len(missing):
+        os.environ["GAFFCURRANT_PYTHON"] = missing[0]
+        os.execv(DEBIAN, [DEBIAN, os.path.abspath(sys.argv[0])] + sys.argv[1:])
+
+
+def is_in_debian(module):
+    return any(os.path.isdir(os.path.join(folder, module)) for folder in DEBIAN_MODULES)
+
+
+def need_numpy(what):
+    """Goes over to a Python with numpy, or raises Trouble."""
+    prefer("numpy")
+    if not importlib.util.find_spec("numpy"):
+        raise Trouble(f"{what} needs numpy; on Debian: apt-get install python3-numpy")
+
+
+class Progress:
+    """How far something is that takes more than two seconds, in one line on a terminal; nothing anywhere else."""
+
+    def __init__(self, name):
+        self.name, self.begun, self.told = name, time.monotonic(), 0.0
+        self.is_on = sys.stderr is not None and sys.stderr.isatty()
+        self.is_shown = False
+
+    def show(self, share):
+        """Tells what share is done, at most some times a second."""
+        now = time.monotonic()
+        if self.is_on and now - self.begun > 2 and now - self.told > 0.2:
+            self.told, self.is_shown = now, True
+            left = (now - self.begun) * (1 - share) / share if share > 0 else 0
+            print(f"\r{self.name}: {share:.0%}, about {left:.0f} s left ", end="", file=sys.stderr, flush=True)
+
+    def end(self):
+        """Takes the line away."""
+        if self.is_shown:
+            print("\r\033[K", end="", file=sys.stderr, flush=True)
+            self.is_shown = False
 
 
 def start(name, main):

@@ -7,14 +7,15 @@ each piece by interval arithmetic."""
 
 import math
 from fractions import Fraction
+from functools import lru_cache
 from itertools import combinations
+from typing import NamedTuple
 
 from .command import Trouble
-from .formula import derivative, value_of
-from .maths import Floats
+from .formula import derivative, made, value_of
+from .maths import Floats, Intervals
 
 LOOKED = 400
-VARIABLE = "t"
 
 
 def combined(one, other):
@@ -30,38 +31,63 @@ def hull(intervals):
     return min(one[0] for one in intervals), max(one[1] for one in intervals)
 
 
+class Argument(NamedTuple):
+    """The whole number that stands for a function's argument: its unit, its ends, and those of real value / unit - whole number."""
+    unit: Fraction
+    low: int
+    high: int
+    error: tuple
+
+
+@lru_cache(maxsize=4096)
+def curve_of(function, argument, pieces, said):
+    """The Curve of a function; the same one is made once, for all plants that are tried."""
+    return Curve(function, intervals(), argument, pieces, said)
+
+
+@lru_cache(maxsize=1)
+def intervals():
+    return Intervals()
+
+
 class Curve:
     """A function of a whole number that stands for an argument: real argument / unit - whole number lies in `error`.
 
     points: pairs of whole numbers; error_out: what (real value / unit_out - value of the pieces) may be, before any rounding down."""
 
-    def __init__(self, function, maths, argument, pieces, unit_out=None):
+    def __init__(self, function, maths, argument, pieces, said):
         self.maths, self.unit, self.error = maths, argument.unit, argument.error
-        self.node = ("call", function, ("var", VARIABLE))
-        self.slope = derivative(self.node, VARIABLE)
-        self.bend = derivative(self.slope, VARIABLE)
+        # The argument is a variable by what the model writes, which messages tell.
+        self.variable = said
+        self.node = made("call", function, made("var", said))
+        self.slope = derivative(self.node, said)
+        self.bend = derivative(self.slope, said)
         self.first, self.last = argument.low, max(argument.high, argument.low + 1)
+        self.values = {}
         self.range = self.over(self.node, self.first + min(self.error[0], 0), self.last + max(self.error[1], 0))
-        self.unit_out = unit_out or unit_for(self.range)
+        self.unit_out = unit_for(self.range)
         xs = self.places(pieces)
         self.points = [(x, self.rounded(x)) for x in xs]
         self.error_out = hull([self.piece_error(*pair) for pair in zip(self.points, self.points[1:])])
 
     def over(self, node, low, high):
         """The ends of a node over arguments from low to high units."""
-        area = {VARIABLE: self.maths.between(low * self.unit, high * self.unit)}
+        area = {self.variable: self.maths.between(low * self.unit, high * self.unit)}
         return self.maths.ends(value_of(node, area, self.maths))
 
+    def at(self, x):
+        """The ends of the value at a whole number."""
+        if x not in self.values:
+            self.values[x] = self.over(self.node, x, x)
+        return self.values[x]
+
     def rounded(self, x):
-        low, high = self.over(self.node, x, x)
+        low, high = self.at(x)
         return round((low + high) / 2 / self.unit_out)
 
     def places(self, pieces):
         """The ends of the pieces, denser where the curve bends more."""
-        bends, step = [], Fraction(self.last - self.first, LOOKED)
-        for k in range(LOOKED):
-            at = float((self.first + (k + Fraction(1, 2)) * step) * self.unit)
-            bends.append(math.sqrt(abs(value_of(self.bend, {VARIABLE: at}, Floats))))
+        bends, step = bends_of(self.bend, self.variable, self.first, self.last, self.unit), Fraction(self.last - self.first, LOOKED)
         floor = sum(bends) / LOOKED / 20 or 1.0
         total, places, seen = sum(max(bend, floor) for bend in bends), [self.first], 0.0
         for k, bend in enumerate(bends):
@@ -78,12 +104,22 @@ class Curve:
         chord = -share * max(bend[1], 0), share * max(-bend[0], 0)
         ends = []
         for at, value in ((x, y), (next_x, next_y)):
-            low, high = self.over(self.node, at, at)
+            low, high = self.at(at)
             ends += [low - value * self.unit_out, high - value * self.unit_out]
         slope = self.over(self.slope, x + min(self.error[0], 0), next_x + max(self.error[1], 0))
         moved = product(slope, (self.error[0] * self.unit, self.error[1] * self.unit))
         total = combined(combined(chord, (min(ends), max(ends))), moved)
         return total[0] / self.unit_out, total[1] / self.unit_out
+
+
+@lru_cache(maxsize=1024)
+def bends_of(bend, name, first, last, unit):
+    """The roots of the second derivative's size at places that are spread evenly."""
+    bends, step = [], Fraction(last - first, LOOKED)
+    for k in range(LOOKED):
+        at = float((first + (k + Fraction(1, 2)) * step) * unit)
+        bends.append(math.sqrt(abs(value_of(bend, {name: at}, Floats))))
+    return bends
 
 
 def unit_for(interval, fineness=20000):

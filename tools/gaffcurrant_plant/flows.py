@@ -14,6 +14,8 @@ from fractions import Fraction
 from .command import Trouble
 from .formula import add, derivative, is_smooth, mul, number, replaced, value_of
 
+# How far a measurement may be beside its real value, in units of the state, as by the rounding of doubles.
+BESIDE = Fraction(1, 1000)
 MOST_BOXES, MOST_TRIALS, TERMS, FASTEST = 96, 30, 24, 100
 TINY = Fraction(1, 10 ** 12)
 
@@ -24,12 +26,12 @@ class Flow:
 
     def __init__(self, model, maths, order, count):
         self.model, self.maths, self.order, self.count = model, maths, order, count
-        self.time = model.sample / count
+        self.time, self.found = model.sample / count, {}
         self.names = [state[0] for state in model.states]
         self.sides = model.flows
         middles = {name: number((low + high) / 2) for name, low, high in model.noises}
         self.held = [replaced(side, middles) for side in self.sides]
-        if self.order > 1 and not all(map(is_smooth, self.sides)):
+        if self.order > 1 and not all(is_smooth(side, held_names(model)) for side in self.sides):
             raise Trouble("with min, max or abs a differential equation is sampled by order 1 alone")
         self.derivatives = [self.held]
         for _ in range(self.order):
@@ -73,13 +75,29 @@ class Flow:
         at the middle, and the derivatives times the way from it."""
         maths = self.maths
         middle = {name: maths.number(sum(maths.ends(area[name])) / 2) for name in self.names}
-        at_middle, narrow = area | middle, dict(end)
+        at_middle, narrow, known, middle_known = area | middle, dict(end), {}, {}
         for polynomial, slopes, name, rest in zip(self.polynomials, self.slopes, self.names, rests):
-            moved = value_of(polynomial, at_middle, maths) + maths.between(*rest)
+            moved = self.value(name, polynomial, at_middle, middle_known) + maths.between(*rest)
             for other, slope in zip(self.names, slopes):
-                moved += value_of(slope, area, maths) * (area[other] - middle[other])
+                moved += self.value(name, slope, area, known) * (area[other] - middle[other])
             narrow[name] = maths.common(end[name], moved)
         return narrow
+
+    def slope(self, side, name):
+        """The derivative of a side, found once."""
+        if (id(side), name) not in self.found:
+            self.found[id(side), name] = derivative(side, name)
+        return self.found[id(side), name]
+
+    def value(self, name, node, area, known):
+        """The value over an area of a node that a state's equation gave; known has those that were found before. Trouble names the equation's line."""
+        with self.model.at_equation(self.names.index(name)):
+            return value_of(node, area, self.maths, known)
+
+    def bound(self, state, node, box, known, signed=False):
+        """The greatest absolute value of a node over a box; with `signed` the greatest value, or 0 where that is below it."""
+        low, high = self.maths.ends(self.value(state, node, box, known))
+        return max(high, Fraction(0)) if signed else max(abs(low), abs(high))
 
     def areas(self):
         """The domain in boxes, with each input vector, or with the inputs' ranges where these are too many."""
@@ -89,7 +107,8 @@ class Flow:
             choices = [[(min(values), max(values))] for _, _, values in model.inputs]
         vectors = list(itertools.product(*choices))
         parts = max(1, int((MOST_BOXES / len(vectors)) ** (1 / len(model.states))))
-        cuts = [[(low + (high - low) * k / parts, low + (high - low) * (k + 1) / parts) for k in range(parts)] for _, low, high, *_ in model.states]
+        ranges = [(low - BESIDE * unit, high + BESIDE * unit) for _, low, high, _, unit in model.states]
+        cuts = [[(low + (high - low) * k / parts, low + (high - low) * (k + 1) / parts) for k in range(parts)] for low, high in ranges]
         noises = {name: maths.between(low, high) for name, low, high in model.noises}
         for box in itertools.product(*cuts):
             for vector in vectors:
@@ -114,7 +133,8 @@ class Flow:
         maths, box = self.maths, dict(area)
         whole, end = maths.between(0, time), maths.number(time)
         for _ in range(MOST_TRIALS):
-            slopes = {name: value_of(side, box, maths) for name, side in zip(self.names, self.sides)}
+            known = {}
+            slopes = {name: self.value(name, side, box, known) for name, side in zip(self.names, self.sides)}
             after = {name: area[name] + whole * slope for name, slope in slopes.items()}
             if all(box[name].a <= one.a and one.b <= box[name].b for name, one in after.items()):
                 return box, area | {name: area[name] + end * slope for name, slope in slopes.items()}
@@ -124,21 +144,21 @@ class Flow:
 
     def rests_in(self, box):
         """For each state the ends of what the polynomial of a step leaves out, where a box holds the solutions."""
-        maths = self.maths
+        maths, known = self.maths, {}
         share = number(self.time ** (self.order + 1) / math.factorial(self.order + 1))
-        rests = [maths.ends(value_of(mul(share, node), box, maths)) for node in self.derivatives[self.order]]
-        moved = self.disturbed(box)
+        rests = [maths.ends(self.value(name, mul(share, node), box, known)) for name, node in zip(self.names, self.derivatives[self.order])]
+        moved = self.disturbed(box, known)
         return [(low - more, high + more) for (low, high), more in zip(rests, moved)]
 
-    def disturbed(self, box):
-        """By how much disturbances move each state within a step."""
-        maths, size = self.maths, len(self.names)
-        pushes = [sum((bound(maths, derivative(side, name), box) * (high - low) / 2 for name, low, high in self.model.noises), Fraction(0))
-                  for side in self.sides]
+    def disturbed(self, box, known):
+        """By how much disturbances move each state within a step. known has the values of nodes over the box."""
+        size = len(self.names)
+        pushes = [sum((self.bound(state, self.slope(side, name), box, known) * (high - low) / 2 for name, low, high in self.model.noises), Fraction(0))
+                  for state, side in zip(self.names, self.sides)]
         if not any(pushes):
             return [Fraction(0)] * size
-        matrix = [[bound(maths, derivative(side, name), box, signed=i == j) for j, name in enumerate(self.names)]
-                  for i, side in enumerate(self.sides)]
+        matrix = [[self.bound(state, self.slope(side, name), box, known, signed=state == name) for name in self.names]
+                  for state, side in zip(self.names, self.sides)]
         norm = max(map(sum, matrix))
         if self.time * norm > FASTEST:
             raise Trouble("the sampling time is too long beside the fastest time of the system")
@@ -150,12 +170,11 @@ class Flow:
         return [a + 2 * max(power) if a else a for a in total]
 
 
+def held_names(model):
+    """The variables that stay as they are within a sample: the inputs."""
+    return [name for name, *_ in model.inputs]
+
+
 def rounded_up(value):
     """A fraction of few digits that isn't less."""
     return Fraction(math.ceil(value * 10 ** 24), 10 ** 24)
-
-
-def bound(maths, node, box, signed=False):
-    """The greatest absolute value of a node over a box; with `signed` the greatest value, or 0 where that is below it."""
-    low, high = maths.ends(value_of(node, box, maths))
-    return max(high, Fraction(0)) if signed else max(abs(low), abs(high))

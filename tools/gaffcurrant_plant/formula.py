@@ -1,7 +1,8 @@
 """Real expressions of models: sums, products, quotients, powers, min, max, abs and functions; read from text, derived, evaluated.
 
 A node is a tuple whose first place is its kind: ('num', fraction), ('var', name), ('add', a, b), ('mul', a, b), ('call', function, a)
-with a function of CURVES or a power ('power', exponent), ('min', a, b), ('max', a, b), ('abs', a), ('sign', a)."""
+with a function of CURVES or a power ('power', exponent), ('min', a, b), ('max', a, b), ('atan2', a, b), ('abs', a), ('sign', a). Nodes are made
+by `made`, each once, so that what stands more than once is worked out once."""
 
 import re
 from fractions import Fraction
@@ -10,17 +11,29 @@ from .polynomial import Fault, added, multiplied, number_of
 
 TOKEN = re.compile(r"\s*([A-Za-z][A-Za-z0-9_]*|(?:[0-9]+\.?[0-9]*|\.[0-9]+)(?:[eE][+-]?[0-9]+)?|.)", re.DOTALL)
 OPEN = 64
-CURVES = ("sin", "cos", "tan", "sqrt", "exp", "log")
+CURVES = ("sin", "cos", "tan", "asin", "acos", "atan", "sinh", "cosh", "tanh", "sqrt", "exp", "log")
+# Functions beside these, with how many arguments they take.
+OTHERS = {"abs": 1, "min": 2, "max": 2, "atan2": 2}
 PI = Fraction("3.14159265358979323846264338327950288419716939937510582097494")
-ZERO, ONE = ("num", Fraction(0)), ("num", Fraction(1))
 MOST_POWER, MOST_TOKENS = 12, 1000
 # Functions that are looked for, and what may stand in their place.
 CLIPPED = "; a piece of a line may stand for it, as max(-1, min(1, x/0.1)), and a `noise` for what that leaves out"
-INSTEAD = {"tanh": CLIPPED, "sign": CLIPPED, "sgn": CLIPPED, "ln": "; the natural logarithm is `log`"}
+INSTEAD = {"sign": CLIPPED, "sgn": CLIPPED, "ln": "; the natural logarithm is `log`", "arctan": "; it is `atan`",
+           "arcsin": "; it is `asin`", "arccos": "; it is `acos`", "arctan2": "; it is `atan2`"}
+_MADE = {}
+
+
+def made(kind, *parts):
+    """The node with this kind and these parts; equal nodes are one."""
+    key = kind, *(id(part) if isinstance(part, tuple) and part[0] != "power" else part for part in parts)
+    return _MADE.setdefault(key, (kind, *parts))
 
 
 def number(value):
-    return "num", Fraction(value)
+    return made("num", Fraction(value))
+
+
+ZERO, ONE = number(0), number(1)
 
 
 def add(a, b):
@@ -28,7 +41,7 @@ def add(a, b):
         return b if a == ZERO else a
     if a[0] == b[0] == "num":
         return number(a[1] + b[1])
-    return "add", a, b
+    return made("add", a, b)
 
 
 def mul(a, b):
@@ -38,7 +51,7 @@ def mul(a, b):
         return b if a == ONE else a
     if a[0] == b[0] == "num":
         return number(a[1] * b[1])
-    return "mul", a, b
+    return made("mul", a, b)
 
 
 def minus(a):
@@ -54,13 +67,13 @@ def power(a, exponent):
         return result
     if a[0] == "num" and exponent.denominator == 1 and a[1]:
         return number(a[1] ** int(exponent))
-    return "call", ("power", exponent), a
+    return made("call", ("power", exponent), a)
 
 
 class _Reader:
-    def __init__(self, text, names):
+    def __init__(self, text, names, parameters):
         self.tokens = [token for token in TOKEN.findall(text.strip())]
-        self.names, self.at, self.open = names, 0, 0
+        self.names, self.parameters, self.at, self.open = names, parameters, 0, 0
 
     def peek(self):
         return self.tokens[self.at] if self.at < len(self.tokens) else None
@@ -127,26 +140,26 @@ class _Reader:
         if token == "(":
             return self.bracketed(1, "(")[0]
         if token in self.names:
-            return "var", token
+            return made("var", token)
+        if token in self.parameters:
+            return number(self.parameters[token])
         if re.match(r"[0-9.]", token):
             return number(number_of(token))
         if token == "pi":
             return number(PI)
-        if token in CURVES + ("abs", "min", "max"):
+        if token in CURVES or token in OTHERS:
             return self.called(token)
         if not token[0].isalpha():
             raise Fault(f"`{token}` isn't expected")
         if self.peek() == "(":
-            raise Fault(f"the function `{token}` isn't known; there are {', '.join(CURVES)}, abs, min and max" + INSTEAD.get(token.lower(), ""))
+            raise Fault(f"the function `{token}` isn't known; there are {', '.join(CURVES + tuple(OTHERS))}" + INSTEAD.get(token.lower(), ""))
         raise Fault(f"`{token}` is no variable of this model; they are {', '.join(self.names)}")
 
     def called(self, name):
         if self.take() != "(":
             raise Fault(f"behind `{name}` an opening bracket is due")
-        parts = self.bracketed(2 if name in ("min", "max") else 1, name)
-        if name in ("min", "max"):
-            return name, *parts
-        return ("abs", parts[0]) if name == "abs" else ("call", name, parts[0])
+        parts = self.bracketed(OTHERS.get(name, 1), name)
+        return made(name, *parts) if name in OTHERS else made("call", name, parts[0])
 
     def bracketed(self, count, opener):
         self.deeper()
@@ -162,9 +175,9 @@ class _Reader:
         return parts
 
 
-def parse(text, names):
-    """The node that a text spells over the names; else raises Fault."""
-    reader = _Reader(text.replace("**", "^"), names)
+def parse(text, names, parameters=None):
+    """The node that a text spells over the names, and over parameters, which are numbers; else raises Fault."""
+    reader = _Reader(text.replace("**", "^"), names, parameters or {})
     if not reader.tokens:
         raise Fault("an expression is due, and nothing stands there")
     if len(reader.tokens) > MOST_TOKENS:
@@ -193,9 +206,23 @@ def polynomial_of(node, other):
     return other(node)
 
 
-def is_smooth(node):
-    """Whether it has no min, max and abs."""
-    return node[0] not in ("min", "max", "abs") and all(map(is_smooth, parts_of(node)))
+_NAMES = {}
+
+
+def names_of(node):
+    """The variables that a node names."""
+    if id(node) not in _NAMES:
+        # The node is kept beside its names, so that no other one gets its number.
+        below = [names_of(part) for part in parts_of(node)]
+        _NAMES[id(node)] = node, frozenset([node[1]]) if node[0] == "var" else frozenset().union(*below)
+    return _NAMES[id(node)][1]
+
+
+def is_smooth(node, held=()):
+    """Whether it has no min, max and abs but of variables that are held."""
+    if node[0] in ("min", "max", "abs"):
+        return names_of(node) <= set(held)
+    return all(is_smooth(part, held) for part in parts_of(node))
 
 
 def replaced(node, nodes):
@@ -207,57 +234,96 @@ def replaced(node, nodes):
         return add(*parts)
     if node[0] == "mul":
         return mul(*parts)
-    return node[:len(node) - len(parts)] + tuple(parts)
+    return made(*node[:len(node) - len(parts)], *parts)
 
 
 def derivative(node, name):
     """The derivative by a variable; that of abs, min and max has `sign` in it, anything from -1 to 1 where its argument may be 0."""
     kind = node[0]
     if kind in ("num", "var"):
-        return ONE if node == ("var", name) else ZERO
+        return ONE if node[:2] == ("var", name) else ZERO
     if kind == "call":
         return mul(outer_derivative(node[1], node[2]), derivative(node[2], name))
     if kind == "abs":
-        return mul(("sign", node[1]), derivative(node[1], name))
+        return mul(made("sign", node[1]), derivative(node[1], name))
     a, b = node[1:]
     left, right = derivative(a, name), derivative(b, name)
+    if kind == "atan2":
+        return mul(add(mul(b, left), minus(mul(a, right))), power(add(mul(a, a), mul(b, b)), Fraction(-1)))
     if kind == "add":
         return add(left, right)
     if kind == "mul":
         return add(mul(left, b), mul(a, right))
     # max(a, b) is (a + b + |a - b|) / 2, and min(a, b) with a minus there.
-    turned = mul(("sign", add(a, minus(b))), add(left, minus(right)))
+    turned = mul(made("sign", add(a, minus(b))), add(left, minus(right)))
     return mul(number(Fraction(1, 2)), add(add(left, right), turned if kind == "max" else minus(turned)))
 
 
 def outer_derivative(function, a):
     """The derivative of a function at a node."""
-    if function == "sin":
-        return "call", "cos", a
-    if function == "cos":
-        return minus(("call", "sin", a))
-    if function == "tan":
-        return add(ONE, power(("call", "tan", a), Fraction(2)))
-    if function == "exp":
-        return "call", "exp", a
-    if function == "log":
-        return power(a, Fraction(-1))
-    exponent = Fraction(1, 2) if function == "sqrt" else function[1]
-    return mul(number(exponent), power(a, exponent - 1))
+    if not isinstance(function, str):
+        return mul(number(function[1]), power(a, function[1] - 1))
+    square, itself = mul(a, a), made("call", function, a)
+    return {
+        "sin": lambda: made("call", "cos", a),
+        "cos": lambda: minus(made("call", "sin", a)),
+        "tan": lambda: add(ONE, mul(itself, itself)),
+        "asin": lambda: power(add(ONE, minus(square)), Fraction(-1, 2)),
+        "acos": lambda: minus(power(add(ONE, minus(square)), Fraction(-1, 2))),
+        "atan": lambda: power(add(ONE, square), Fraction(-1)),
+        "sinh": lambda: made("call", "cosh", a),
+        "cosh": lambda: made("call", "sinh", a),
+        "tanh": lambda: add(ONE, minus(mul(itself, itself))),
+        "exp": lambda: itself,
+        "log": lambda: power(a, Fraction(-1)),
+        "sqrt": lambda: mul(number(Fraction(1, 2)), power(a, Fraction(-1, 2))),
+    }[function]()
 
 
-def value_of(node, values, maths):
-    """The value where `values` has the variables' and `maths` the functions and the numbers: real numbers or intervals."""
+def text_of(node):
+    """A node as a model writes it, for messages."""
     kind = node[0]
     if kind == "num":
-        return maths.number(node[1])
+        return f"{float(node[1]):.6g}"
     if kind == "var":
+        return node[1]
+    parts = [text_of(part) for part in parts_of(node)]
+    if kind == "add":
+        return f"{parts[0]} - {parts[1][1:]}" if parts[1].startswith("-") else f"{parts[0]} + {parts[1]}"
+    if kind == "mul":
+        return f"-{factor_text(node[2])}" if node[1] == number(-1) else " * ".join(map(factor_text, node[1:]))
+    if kind == "call" and not isinstance(node[1], str):
+        return f"1 / {factor_text(node[2])}" if node[1][1] == -1 else f"{factor_text(node[2])}^{float(node[1][1]):g}"
+    return f"{node[1] if kind == 'call' else kind}({', '.join(parts)})"
+
+
+def factor_text(node):
+    return f"({text_of(node)})" if node[0] in ("add", "mul") else text_of(node)
+
+
+def value_of(node, values, maths, known=None):
+    """The value where `values` has the variables' and `maths` the functions and the numbers: real numbers or intervals. `known` has the
+    values that were found before by the same of both."""
+    if node[0] == "num":
+        return maths.number(node[1])
+    if node[0] == "var":
         return values[node[1]]
+    known = {} if known is None else known
+    if id(node) not in known:
+        known[id(node)] = worked_out(node, values, maths, known)
+    return known[id(node)]
+
+
+def worked_out(node, values, maths, known):
+    """The value of a node that is no number and no variable."""
+    kind = node[0]
     if kind == "call":
-        return maths.call(node[1], value_of(node[2], values, maths))
-    parts = [value_of(part, values, maths) for part in parts_of(node)]
+        return maths.call(node[1], value_of(node[2], values, maths, known), node[2])
+    parts = [value_of(part, values, maths, known) for part in parts_of(node)]
     if kind == "add":
         return parts[0] + parts[1]
     if kind == "mul":
-        return maths.square(parts[0]) if node[1] == node[2] else parts[0] * parts[1]
+        return maths.square(parts[0]) if node[1] is node[2] else parts[0] * parts[1]
+    if kind == "atan2":
+        return maths.atan2(*parts, node)
     return getattr(maths, {"min": "least", "max": "greatest", "abs": "size", "sign": "sign"}[kind])(*parts)

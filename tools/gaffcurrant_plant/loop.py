@@ -29,10 +29,10 @@ def run(plant, row_of, start, seed, most):
     return states
 
 
-def patrol_run(plant, row_of, arrives, start, seed, most):
-    """The samples of a run by a patrol as (turn, state), from turn 0: until a cell without a row, or `most` steps. row_of gives the row of a
+def patrol_run(plant, row_of, arrives, start, seed, most, turn=0):
+    """The samples of a run by a patrol as (turn, state), from a turn: until a cell without a row, or `most` steps. row_of gives the row of a
     cell in a turn, or None; arrives tells whether a cell is an arrival of a turn."""
-    samples, turn, state = [(0, list(start))], 0, list(start)
+    samples, state = [(turn, list(start))], list(start)
     for _, noise in zip(range(most), noises(plant, seed)):
         cell = plant.cell_of(state)
         row = None if cell is None else row_of(turn, cell)

@@ -5,6 +5,7 @@ import math
 from fractions import Fraction
 
 from .command import Trouble
+from .formula import parts_of, text_of
 
 # Ends of intervals are fractions: a number of more bits before or behind the point would fill the memory, and help no plant.
 MOST_BITS, FEWEST_BITS = 1000, 20_000
@@ -38,19 +39,42 @@ class Floats:
         return (value > 0) - (value < 0)
 
     @staticmethod
-    def call(function, value):
+    def held(_, new):
+        return new
+
+    @staticmethod
+    def atan2(one, other, _):
+        return math.atan2(one, other)
+
+    @staticmethod
+    def call(function, value, _):
         return getattr(math, function)(value) if isinstance(function, str) else value ** float(function[1])
+
+
+class Exact(Floats):
+    """Fractions, for formulas without functions."""
+
+    @staticmethod
+    def number(value):
+        return value
+
+
+def is_exact(node):
+    """Whether a formula has sums, products, min, max and abs alone."""
+    return node[0] not in ("call", "atan2") and all(map(is_exact, parts_of(node)))
 
 
 class Intervals:
     """Intervals by mpmath, from fractions and back."""
 
     def __init__(self):
-        self.iv = load_mpmath()
+        self.iv, self.numbers = load_mpmath(), {}
 
     def number(self, value):
-        value = Fraction(value)
-        return self.iv.mpf(value.numerator) / self.iv.mpf(value.denominator)
+        if value not in self.numbers:
+            exact = Fraction(value)
+            self.numbers[value] = self.iv.mpf(exact.numerator) / self.iv.mpf(exact.denominator)
+        return self.numbers[value]
 
     def between(self, low, high):
         return self.hull(self.number(low), self.number(high))
@@ -84,22 +108,60 @@ class Intervals:
     def sign(self, value):
         return self.iv.mpf([-1 if value.a < 0 else 0 if value.a == 0 else 1, 1 if value.b > 0 else 0 if value.b == 0 else -1])
 
-    def call(self, function, value):
+    # Functions that rise or fall all over, but for cosh, from those that mpmath has for intervals.
+    BY_ENDS = {
+        "atan": lambda iv, x: iv.atan2(x, iv.mpf(1)),
+        "asin": lambda iv, x: iv.atan2(x, iv.sqrt(1 - x ** 2)),
+        "acos": lambda iv, x: iv.atan2(iv.sqrt(1 - x ** 2), x),
+        "sinh": lambda iv, x: (iv.exp(x) - iv.exp(-x)) / 2,
+        "cosh": lambda iv, x: (iv.exp(x) + iv.exp(-x)) / 2,
+        "tanh": lambda iv, x: 1 - 2 / (iv.exp(2 * x) + 1),
+    }
+
+    def by_ends(self, name, value):
+        """A function that rises or falls all over, by the interval's ends; cosh has its least value, 1, at 0."""
+        at_ends = [self.BY_ENDS[name](self.iv, self.iv.mpf([end, end])) for end in (value.a, value.b)]
+        least = [self.iv.mpf(1)] if name == "cosh" and value.a <= 0 <= value.b else []
+        return self.hull(*at_ends, *least)
+
+    def atan2(self, one, other, node):
+        if one.a <= 0 <= one.b and other.a <= 0:
+            raise Trouble(f"`{text_of(node)}` jumps where its first argument is 0 and its second below it, and these may be so; narrower ranges do it")
+        return self.iv.atan2(one, other)
+
+    def call(self, function, value, argument):
         low, high = self.ends(value)
         name = function if isinstance(function, str) else f"power {function[1]}"
         is_whole = not isinstance(function, str) and function[1].denominator == 1
         if name in ("sqrt", "log") and low <= 0 or not isinstance(function, str) and (low <= 0 if not is_whole else low <= 0 <= high):
-            what = "a quotient's divisor" if function == ("power", Fraction(-1)) else f"what stands in {name}"
-            raise Trouble(f"{what} may lie between {float(low):.4g} and {float(high):.4g}, and has to keep off 0" if is_whole else
-                          f"{what} may lie between {float(low):.4g} and {float(high):.4g}, and has to be above 0; a `max` does it, as in "
-                          f"sqrt(max(x, 0.01))")
+            raise Trouble(off_zero(function, low, high, argument))
         if name == "tan" and high - low >= 3 or name == "tan" and self.iv.cos(value).a <= 0 <= self.iv.cos(value).b:
-            raise Trouble(f"what stands in tan may lie between {float(low):.4g} and {float(high):.4g}, with a pole between")
+            raise Trouble(f"what stands in `tan({text_of(argument)})` may lie between {float(low):.4g} and {float(high):.4g}, with a pole between; a "
+                          f"narrower range does it, or tan(max(-1.5, min(1.5, {text_of(argument)})))")
+        if name in ("asin", "acos") and not -1 < low <= high < 1:
+            raise Trouble(f"what stands in `{name}({text_of(argument)})` may lie between {float(low):.4g} and {float(high):.4g}, and has to be within -1 and "
+                          f"1; {name}(max(-0.999, min(0.999, {text_of(argument)}))) does it")
+        if name in self.BY_ENDS:
+            return self.by_ends(name, value)
         if isinstance(function, str):
             return getattr(self.iv, name)(value)
         if is_whole:
             return 1 / value ** int(-function[1]) if function[1] < 0 else value ** int(function[1])
         return self.iv.exp(self.iv.log(value) * self.number(function[1]))
+
+
+def off_zero(function, low, high, argument):
+    """What to say of a root, a logarithm or a quotient whose argument may be 0, or below it, and what would do."""
+    text, least = text_of(argument), f"{max(float(high), 1.0) / 100:.1g}"
+    ends = f"between {float(low):.4g} and {float(high):.4g}"
+    if function == ("power", Fraction(-1)):
+        # What is below 0 by a measurement's rounding alone keeps to one side.
+        clipped = f"; a `max` does it, as in 1 / max({text}, {least})" if low * 500 >= -high else f", as 1 / max({text}, {least}) does, or 1 / min({text}, -{least})"
+        return f"the divisor `{text}` may lie {ends}, and has to keep off 0{clipped}"
+    if isinstance(function, str):
+        return f"what stands in `{function}({text})` may lie {ends}, and has to be above 0; a `max` does it, as in {function}(max({text}, {least}))"
+    sign = "keep off 0" if function[1].denominator == 1 else "be above 0"
+    return f"what stands in the power `{text if text.isidentifier() else f'({text})'}^{float(function[1]):g}` may lie {ends}, and has to {sign}; a `max` does it, as in max({text}, {least})"
 
 
 def fraction_of(parts):

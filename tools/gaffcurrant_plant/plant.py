@@ -1,11 +1,13 @@
 """A plant, its cells and its successor boxes: the words of docs/DEFINITIONS.md as functions."""
 
+import importlib.util
 import math
 import random
 
 from .bounds import TOP, Overflow, bounds_of, compiled, compiled_span
 from .counting import TooMuch, edges_of
 from .expression import text_of, uses_of
+from .units import Units
 
 CELLS, VECTORS, PAIRS, EDGES = 2 ** 20, 4096, 2 ** 22, 2 ** 25
 
@@ -26,7 +28,9 @@ class Plant:
         self.rest = [(low + high) // 2 for _, low, high in noises]
         self.functions, self.spans = [compiled(node) for node in equations], [compiled_span(node) for node in equations]
         self.uses = [uses_of(node) for node in equations]
-        self._moves = {}
+        # In which words of the plant are told: in its whole numbers, or in a model's units.
+        self.units = Units()
+        self._moves, self._batch = {}, None
 
     # Names and texts
 
@@ -57,8 +61,15 @@ class Plant:
 
     def input_said(self, number):
         """An input vector in words: u = 3, v = 0."""
-        said = ", ".join(f"{name} = {value}" for (name, _), value in zip(self.inputs, self.vector(number)))
+        said = ", ".join(self.units.said(name, value) for (name, _), value in zip(self.inputs, self.vector(number)))
         return said if said else "no input"
+
+    def ranges_said(self, low, high):
+        """Two corners in words: p 200 to 209, v 80 to 89; or in the model's units."""
+        return ", ".join(f"{name} {self.units.span_said(name, *ends)}" for (name, *_), *ends in zip(self.states, low, high))
+
+    def cell_said(self, cell):
+        return f"cell {cell} ({self.ranges_said(self.low(cell), self.high(cell))})"
 
     def step(self, state, values, noise):
         variables = list(state) + list(values) + list(noise)
@@ -176,6 +187,18 @@ class Plant:
             cells = [cell * count + place for cell in cells for place in range(first, last + 1)]
         return cells
 
+    def boxes(self, cells, vectors):
+        """The boxes of all pairs of some cells and input vectors, cell by cell: by numpy where it is there, else one by one."""
+        batch = self.batch()
+        return batch.pairs(cells, vectors) if batch else [self.box(cell, vector) for cell in cells for vector in vectors]
+
+    def batch(self):
+        """What works out many boxes at once; None without numpy."""
+        if self._batch is None and importlib.util.find_spec("numpy"):
+            from .batch import Batch
+            self._batch = Batch(self)
+        return self._batch
+
     # Limits
 
     def check_limits(self, refused):
@@ -211,7 +234,9 @@ class Plant:
                                   "leaves the range of 127 bits and a sign: choose coarser units or fewer digits") from None
 
     def edges(self, sample=20000):
-        """The number of successors of all pairs, and whether it is exact or estimated from a sample of pairs."""
+        """The number of successors of all pairs, and whether it is exact or, without numpy, estimated from a sample of pairs."""
+        if batch := self.batch():
+            return batch.edges(), True
         try:
             return edges_of(self), True
         except TooMuch:

@@ -5,6 +5,7 @@ import re
 
 from . import expression
 from .plant import Plant
+from .refused import Refused
 
 TEXT_LIMIT = 65536
 MOST = {"state": 6, "input": 3, "noise": 6, "target": 64, "obstacle": 64}
@@ -22,14 +23,6 @@ FORMS = {
     "goal": "goal reach",
     "end": "end",
 }
-
-
-class Refused(Exception):
-    """The one answer of the program to a text that it refuses, and the reason in words."""
-
-    def __init__(self, answer, reason, line=None):
-        super().__init__(answer)
-        self.answer, self.reason, self.line = answer, reason, line
 
 
 def too_long():

@@ -1,10 +1,15 @@
 """Reads the lines behind the plant of a table, of a stay text and of a patrol text: which rows they give to which cells."""
 
 import re
+from operator import le, lt
 
 from .reader import Refused, lines_of, read_lines
 
 NUMBER = re.compile(r"(0|[1-9][0-9]*)\Z")
+# Row lines whose numbers are written as they have to be, of runs of cells and of single cells.
+WORD = "(?:0|[1-9][0-9]{0,8})"
+IN_RUNS = re.compile(f"(?:{WORD} {WORD} (?:{WORD}|-) (?:{WORD}|-)\n)*")
+SINGLE = re.compile(f"(?:{WORD} (?:{WORD}|-) (?:{WORD}|-)\n)*")
 VERSIONS = {"table": (1, 2), "stay": (1,), "patrol": (1,)}
 
 
@@ -79,18 +84,35 @@ class Lines:
         return int(number)
 
     def rows(self, before):
-        """The row lines behind a line of the words `before` and their number."""
-        count = self.counted(before, f"`{before.strip()} N` is due here, with at most {self.front.plant.cells} lines behind it")
-        rows, last, words = {}, -1, None
+        """The rows by the row lines behind a line of the words `before` and their number."""
+        count = self.row_count(before)
+        quick = quick_rows(self.lines[self.at:self.at + count], self.front) if self.at + count < len(self.lines) else None
+        if quick is not None:
+            self.at += count
+            return quick
+        # Some line is wrong: the first one is looked for.
+        rows = {}
+        for first, last, rank, choice in self.run_lines(before, count):
+            rows.update(dict.fromkeys(range(first, last + 1), (rank, choice)))
+        return rows
+
+    def runs(self, before):
+        """The first and last cell, rank and input of each row line behind a line of the words `before` and their number."""
+        return self.run_lines(before, self.row_count(before))
+
+    def row_count(self, before):
+        return self.counted(before, f"`{before.strip()} N` is due here, with at most {self.front.plant.cells} lines behind it")
+
+    def run_lines(self, before, count):
+        """The first and last cell, rank and input of each of so many row lines."""
+        last, words = -1, None
         for k in range(count):
             row_words = self.take(f"{count} row lines are due behind `{before}{count}`, here are {k}").split(" ")
             wrong = row_fault(row_words, self.front, last, words)
             if wrong:
                 self.refuse(wrong, 1)
             first, last, words = int(row_words[0]), int(row_words[-3]), row_words[-2:]
-            row = tuple(None if word == "-" else int(word) for word in words)
-            rows.update(dict.fromkeys(range(first, last + 1), row))
-        return rows
+            yield first, last, *(None if word == "-" else int(word) for word in words)
 
     def finish(self):
         """Takes the last line, `end`."""
@@ -98,6 +120,35 @@ class Lines:
             self.refuse("`end` is due behind the row lines that are counted", 1)
         if self.at < len(self.lines):
             self.refuse("nothing follows `end`")
+
+
+def quick_rows(lines, front):
+    """The rows of row lines that are all right, or None."""
+    wide, text = 3 + front.in_runs(), "".join([f"{line}\n" for line in lines])
+    if not (IN_RUNS if wide == 4 else SINGLE).fullmatch(text):
+        return None
+    numbers = list(map(int, text.replace("-", "-1").split()))
+    firsts, lasts, ranks, inputs = numbers[::wide], numbers[wide - 3::wide], numbers[wide - 2::wide], numbers[wide - 1::wide]
+    pairs = list(zip(ranks, inputs))
+    if not (all(map(le, firsts, lasts)) and all(map(lt, lasts, firsts[1:])) and (not lasts or lasts[-1] < front.plant.cells)):
+        return None
+    if any(is_wrong_pair(*pair, front) for pair in set(pairs)):
+        return None
+    if wide == 4 and any(first == last + 1 and pair == before for first, last, pair, before in zip(firsts[1:], lasts, pairs[1:], pairs)):
+        return None
+    rows = {}
+    for first, last, (rank, choice) in zip(firsts, lasts, pairs):
+        row = None if rank < 0 else rank, None if choice < 0 else choice
+        if first == last:
+            rows[first] = row
+        else:
+            rows.update(dict.fromkeys(range(first, last + 1), row))
+    return rows
+
+
+def is_wrong_pair(rank, choice, front):
+    """Whether two numbers, -1 for `-`, are no rank and input of a row."""
+    return pair_fault(*("-" if word < 0 else str(word) for word in (rank, choice)), front) is not None
 
 
 def row_fault(words, front, last, row):

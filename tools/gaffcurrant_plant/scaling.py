@@ -7,8 +7,11 @@ from fractions import Fraction
 
 from . import polynomial
 from .command import Trouble
-from .curves import Curve, as_lines, as_lut, combined, hull, product, unit_for
-from .formula import polynomial_of
+from .curves import Argument, as_lines, as_lut, combined, curve_of, hull, intervals, product, unit_for
+from .expression import MOST_POINTS
+from .flows import BESIDE
+from .formula import PI, add, made, minus, mul, names_of, number, parts_of, polynomial_of, power, text_of, value_of
+from .maths import is_exact
 from .reader import TEXT_LIMIT, too_long
 
 NEVER = (Fraction(0), Fraction(0))
@@ -40,7 +43,8 @@ class Room:
         self.version, self.pieces, self.curves, self.maths = model.version, pieces, {}, None
         self.variables = {}
         for name, low, high, _, unit in model.states:
-            self.variables[name] = Variable("state", unit, low / unit, high / unit - 1, (Fraction(0), Fraction(1)), name)
+            error = NEVER if name in model.exact else (-BESIDE, 1 + BESIDE)
+            self.variables[name] = Variable("state", unit, low / unit, high / unit - 1, error, name)
         for name, unit, values in model.inputs:
             whole = {value / unit for value in values}
             self.variables[name] = Variable("input", unit, min(whole), max(whole), NEVER, name, whole)
@@ -49,12 +53,25 @@ class Room:
 
     def flattened(self, equation):
         """A formula as a polynomial of variables, with a new variable for each of its functions; a polynomial stays as it is."""
-        return equation if isinstance(equation, dict) else polynomial_of(equation, self.replaced)
+        return equation if isinstance(equation, dict) else polynomial_of(self.gathered(equation), self.replaced)
+
+    def gathered(self, node):
+        """A formula with a variable in the place of each function of one input alone, as large as it is."""
+        names = list(names_of(node))
+        if len(names) == 1 and self.variables[names[0]].kind == "input":
+            values = sorted(self.variables[names[0]].choices)
+            if is_exact(node) or len(values) > (MOST_POINTS if self.version > 1 else self.pieces + 1):
+                return node
+            (((name,), _),) = self.named(("listed", id(node)), lambda: self.made_list(node, names[0], values)).items()
+            return made("var", name)
+        return made(*node[:len(node) - len(parts_of(node))], *map(self.gathered, parts_of(node))) if names else node
 
     def replaced(self, node):
         """The polynomial for a function, min, max or abs."""
         if node[0] == "call":
-            return self.curve(node[1], self.flattened(node[2]))
+            return self.curve(node[1], self.flattened(node[2]), text_of(node[2]))
+        if node[0] == "atan2":
+            return self.flattened(self.turned(node, [self.range_of(self.flattened(part)) for part in node[1:]]))
         return self.chosen(node[0], [self.flattened(part) for part in node[1:]])
 
     def named(self, key, make):
@@ -64,17 +81,37 @@ class Room:
             self.variables[self.curves[key]] = make()
         return {(self.curves[key],): Fraction(1)}
 
-    def curve(self, function, argument):
+    def curve(self, function, argument, said):
         key = function, tuple(sorted(argument.items()))
-        return self.named(key, lambda: self.made_curve(function, argument))
+        return self.named(key, lambda: self.made_curve(function, argument, said))
 
-    def made_curve(self, function, argument):
-        from .maths import Intervals
-        self.maths = self.maths or Intervals()
+    def made_curve(self, function, argument, said):
         whole = Whole(self, argument)
-        curve = Curve(function, self.maths, whole, self.pieces)
+        curve = curve_of(function, Argument(whole.unit, whole.low, whole.high, whole.error), self.pieces, said)
         text, (low, high), error = (as_lut if self.version > 1 else as_lines)(curve, whole.text)
         return Variable("curve", curve.unit_out, low, high, error, text)
+
+    def turned(self, node, ranges):
+        """atan2(y, x) by atan, where x is above 0, or y keeps off it."""
+        (_, y, x), ((low, high), (least, _)) = node, ranges
+        if least > 0:
+            return made("call", "atan", mul(y, power(x, Fraction(-1))))
+        if low > 0 or high < 0:
+            quarter = number(PI / 2 if low > 0 else -PI / 2)
+            return add(quarter, minus(made("call", "atan", mul(x, power(y, Fraction(-1))))))
+        raise Trouble(f"`{text_of(node)}`: its second argument has to be above 0, or its first to keep off 0, over the ranges; else it jumps")
+
+    def made_list(self, node, name, values):
+        """The variable of a function of one input alone: what it is at the input's listed values, to a part of some 20,000 of its range."""
+        unit, points = self.variables[name].unit, [values[0] + k for k in range(2)] if len(values) == 1 else values
+        maths = intervals()
+        ends = [maths.ends(value_of(node, {name: maths.number(min(point, values[-1]) * unit)}, maths)) for point in points]
+        listed = Listed([int(point) for point in points], ends, unit_for(hull(ends)))
+        if self.version == 1:
+            text, (low, high), error = as_lines(listed, name)
+            return Variable("curve", listed.unit_out, low, high, error, text)
+        text, (low, high), _ = as_lut(listed, name)
+        return Variable("listed", listed.unit_out, low, high, listed.error_out, text, {y for _, y in listed.points})
 
     def chosen(self, kind, parts):
         """min, max or abs of polynomials."""
@@ -129,6 +166,15 @@ def single_of(argument):
     return None
 
 
+class Listed:
+    """A function at listed whole numbers, by the ends of its values there: its points in a unit, as of a Curve."""
+
+    def __init__(self, xs, ends, unit):
+        self.first, self.last, self.unit_out = xs[0], xs[-1], unit
+        self.points = [(x, round((low + high) / 2 / unit)) for x, (low, high) in zip(xs, ends)]
+        self.error_out = hull([(low / unit - y, high / unit - y) for (low, high), (_, y) in zip(ends, self.points)])
+
+
 class Whole:
     """A polynomial as a whole number of units: its text, ends and error. The ends of its real value may be given."""
 
@@ -151,7 +197,14 @@ def finest(room, equation, unit, name=None):
         scaled = Scaled(room, equation, unit, 10 ** exponent, name)
         if scaled.rounding <= Fraction(1, 10):
             return scaled
-    raise Trouble("no denominator up to 10^15 keeps the rounding below a tenth of a unit; give one")
+    raise Trouble(no_denominator(scaled, f"`{scaled.text()[:60]}`"))
+
+
+def no_denominator(scaled, name):
+    """What to say of an equation whose rounding is coarse over the greatest denominator, and what would do."""
+    coarser = 10 ** math.ceil(math.log10(scaled.rounding * 10))
+    return f"no denominator up to 10^15 keeps the rounding of {name} below a tenth of a unit: over the greatest one it is {float(scaled.rounding):.3g} " \
+           f"units. A unit {coarser} times as coarse would do, or coarser units of what stands in products; a line `denominator {10 ** 15}` takes it as it is"
 
 
 class Scaled:
@@ -187,7 +240,7 @@ class Scaled:
 
     def varies(self, name):
         """Whether a variable is none of the inputs, whose values are known."""
-        return self.room.variables[name].kind != "input"
+        return self.room.variables[name].kind not in ("input", "listed")
 
     def left_over(self):
         """The most that the quotient's rounding down may leave. The states add multiples of `step` to the dividend, and
@@ -207,11 +260,10 @@ class Scaled:
         return low, self.left_over() + self.rounding + self.quantising[1] + self.disturbance[1]
 
     def noise(self):
-        """The whole numbers by which the real next state, rounded down, may differ from the plant's."""
+        """The whole numbers by which the real next state, rounded down, may differ from the plant's. A measurement may be a rounding beside: so a
+        value on the bound of a unit may count for the unit below or above."""
         low, high = self.error()
-        # A real state lies below the next whole number: so the greatest end isn't taken where quantising reaches up.
-        is_open = self.quantising[1] > 0 and not self.has_curves and not self.has_steps
-        return math.floor(low), math.ceil(high) - 1 if is_open else math.floor(high)
+        return math.floor(low - BESIDE), math.floor(high + BESIDE)
 
     def text(self):
         """The equation without its noise. Where the state itself is only added, as in `x + v / 2`, it stands before the quotient

@@ -34,8 +34,7 @@ def draw_solid(figure, axes, view, colouring):
     halves = [size // 2 for size in filled.shape]
     filled[halves[0]:, :halves[1], halves[2]:] = False
     edges = [numpy.minimum(numpy.arange(size + 1) * block, count) for size, block, count in zip(filled.shape, sizes, counts)]
-    edges = [view.at(place, view.plant.states[i][1] + edge * view.plant.states[i][3])
-             for place, (i, edge) in enumerate(zip(view.axes, edges))]
+    edges = [ends_of(view, place, edge) for place, edge in enumerate(edges)]
     low, high = colouring.limits()
     palette = colouring.palette()
     colours = palette((numbers - low) / ((high - low) or 1))
@@ -46,6 +45,13 @@ def draw_solid(figure, axes, view, colouring):
         return [Patch(facecolor=palette(i), label=view.input_said(number)) for i, number in enumerate(colouring.present)]
     drawing.draw_bar(figure, axes, (low, high), colouring.label(), not colouring.is_share, 0.12)
     return []
+
+
+def ends_of(view, place, edge):
+    """The ends of blocks along an axis, in its units, by the numbers of the places at which they begin."""
+    import numpy
+    _, low, _, width = view.plant.states[view.axes[place]]
+    return numpy.array([view.at(place, low + int(number) * width) for number in edge], dtype=float)
 
 
 def towards_viewer():

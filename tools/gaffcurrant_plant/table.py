@@ -1,11 +1,33 @@
 """What the program writes of a plant, to be asked for rows, ranks and inputs: a table, a stay text that brings the plant into its target and
 keeps it there, and a patrol text that visits the targets in turn. docs/FORMATS.md gives the texts."""
 
+from __future__ import annotations
+
+from typing import TYPE_CHECKING, Any, Iterable, Mapping, Optional, Sequence
+
 from .rows import Lines, front_of
+
+if TYPE_CHECKING:
+    from .plant import Plant
+    from .asking import Real
+    from .units import Units
+
+Row = tuple[Optional[int], Optional[int]]
 
 
 class NoRow(LookupError):
     """A state is outside the domain, or its cell has no row: the table promises nothing there."""
+
+
+def whole_of(value: Any) -> int:
+    """A value of a state as an int; raises ValueError where it is none: a fraction, an infinity, no number."""
+    try:
+        number = int(value)
+    except (OverflowError, ValueError):
+        number = None
+    if number is None or number != value:
+        raise ValueError(f"{value} is no whole number; a state is told in whole units, floor(value / unit)")
+    return number
 
 
 class Table:
@@ -13,39 +35,44 @@ class Table:
 
     kind = "table"
 
-    def __init__(self, plant, rows, version=1):
+    def __init__(self, plant: Plant, rows: dict[int, Row], version: int = 1) -> None:
         self.plant, self.rows, self.version = plant, rows, version
 
     @property
-    def keeps(self):
+    def keeps(self) -> bool:
         """Whether the plant is to be kept, and has no target to come to."""
         return self.plant.goal == "keep"
 
-    def row(self, state):
+    def row(self, state: Iterable[Any]) -> Row:
         """Rank and input of the row of a state's cell; raises NoRow. A state has a whole number for each of the plant's."""
-        state = [int(value) for value in state]
-        if len(state) != len(self.plant.states):
+        whole = [whole_of(value) for value in state]
+        if len(whole) != len(self.plant.states):
             names = ", ".join(name for name, *_ in self.plant.states)
-            raise ValueError(f"a state has {len(self.plant.states)} numbers ({names}), here are {len(state)}")
-        row = self.rows.get(self.plant.cell_of(state))
+            raise ValueError(f"a state has {len(self.plant.states)} numbers ({names}), here are {len(whole)}")
+        row = self.rows.get(self.plant.cell_of(whole))
         if row is None:
-            raise NoRow(f"{state} has no row")
+            raise NoRow(f"{whole} has no row")
         return row
 
-    def rank(self, state):
+    def rank(self, state: Iterable[Any]) -> Optional[int]:
         """The number of samples that suffice from a state, or None with goal keep; raises NoRow."""
         return self.row(state)[0]
 
-    def choice(self, state):
+    def choice(self, state: Iterable[Any]) -> Optional[tuple[int, ...]]:
         """The values to apply at a state, one for each input, or None in a target, where nothing has to be; raises NoRow."""
         number = self.row(state)[1]
         return None if number is None else tuple(self.plant.vector(number))
 
-    def has(self, cell):
+    def in_units(self, units: Units) -> Real:
+        """The same rows, asked in a model's units, by what `read_units` reads."""
+        from .asking import Real
+        return Real(self, units)
+
+    def has(self, cell: Optional[int]) -> bool:
         """Whether a step into a cell goes on well."""
         return cell in self.rows
 
-    def left(self, cell):
+    def left(self, cell: int) -> Optional[int]:
         """How many samples suffice from a cell with a row, or None with goal keep."""
         return self.rows[cell][0]
 
@@ -77,7 +104,7 @@ class Patrol:
 
     kind = "patrol"
 
-    def __init__(self, plant, rows, version=1):
+    def __init__(self, plant: Plant, rows: Sequence[dict[int, Row]], version: int = 1) -> None:
         self.plant, self.version = plant, version
         arrivals = [arrivals_of(plant, box, rows[self.behind(number, rows)]) for number, box in enumerate(plant.targets)]
         self.turns = [Turn(plant, *entry) for entry in zip(rows, range(len(rows)), arrivals)]
@@ -86,7 +113,7 @@ class Patrol:
         """The turn behind a turn."""
         return (number + 1) % len(self.turns if turns is None else turns)
 
-    def turn_after(self, number, state):
+    def turn_after(self, number: int, state: Sequence[int]) -> int:
         """The turn after a sample: the one behind where the state has come to the turn's target, else the same."""
         return self.behind(number) if self.plant.cell_of(state) in self.turns[number].arrivals else number
 
@@ -97,12 +124,13 @@ def arrivals_of(plant, box, next_rows):
             if all(low <= bottom and top <= high for (low, high), bottom, top in zip(box, plant.low(cell), plant.high(cell)))}
 
 
-def read_table(data):
+def read_table(data: bytes) -> Table:
     """The table that the bytes spell, or raises Refused for the first line that is none of a table."""
-    return read_text(data, ("table",))
+    table: Table = read_text(data, ("table",))
+    return table
 
 
-def read_text(data, kinds=("table", "stay", "patrol")):
+def read_text(data: bytes, kinds: Sequence[str] = ("table", "stay", "patrol")) -> Any:
     """What the bytes spell, a Table, a Stay or a Patrol, or raises Refused for the first line that is none of such a text."""
     front = front_of(data, kinds)
     lines = Lines(data, front)
@@ -130,19 +158,19 @@ def said(lines):
     return [" ".join("-" if word is None else str(word) for word in line) for line in lines]
 
 
-def text_of_table(plant, rows, version=2):
+def text_of_table(plant: Plant, rows: Mapping[int, Row], version: int = 2) -> str:
     """The text of a plant and its rows in either version."""
     lines = said(runs_of(rows) if version > 1 else [[cell, *rows[cell]] for cell in sorted(rows)])
     return "\n".join([f"table {version}", plant.text() + f"rows {len(lines)}", *lines, "end", ""])
 
 
-def text_of_stay(plant, rows):
+def text_of_stay(plant: Plant, rows: Mapping[int, Row]) -> str:
     """The stay text of a plant and its rows."""
     lines = said(runs_of(rows))
     return "\n".join(["stay 1", plant.text() + f"rows {len(lines)}", *lines, "end", ""])
 
 
-def text_of_patrol(plant, turns):
+def text_of_patrol(plant: Plant, turns: Iterable[Mapping[int, Row]]) -> str:
     """The patrol text of a plant and its rows, turn by turn."""
     lines = []
     for number, rows in enumerate(turns):

@@ -5,10 +5,11 @@ import math
 import re
 from fractions import Fraction
 
-from .command import Trouble
+from .command import Trouble, read_bytes
 from .polynomial import Fault, number_of
 
-COMMENT = re.compile(r"# unit ([A-Za-z][A-Za-z0-9_]*) ([0-9.eE+-]+)(?: ([^:]*))?(?::.*)?\Z")
+NUMBER = re.compile(r"(0|-?[1-9][0-9]{0,17})\Z")
+COMMENT = re.compile(r"# unit ([A-Za-z][A-Za-z0-9_]*) ([0-9.eE+-]+|[0-9]+/[1-9][0-9]*)(?: ([^:]*))?(?::.*)?\Z")
 
 
 class Units:
@@ -34,14 +35,69 @@ class Units:
             raise Trouble(f"`{word}` is no whole number; give --model for the model's units", 2)
         return math.floor(value / self.size(name))
 
+    def word(self, name):
+        """What stands behind a number: a blank and the unit's word, or nothing."""
+        return f" {self.words[name]}" if self.words.get(name) else ""
+
+    def size_said(self, name, whole):
+        """A width or a way of so many whole numbers: `0.5 m`."""
+        return short(whole * self.size(name)) + self.word(name)
+
+    def span_said(self, name, low, high):
+        """The whole numbers from low to high: `390 to 399`, or `3.9 to 4 m`, since a real value lies between a whole number and the next."""
+        if not self.sizes:
+            return str(low) if low == high else f"{low} to {high}"
+        return f"{short(low * self.size(name))} to {short((high + 1) * self.size(name))}{self.word(name)}"
+
     def label(self, name):
         """A name with what its unit is called: `v in m/s`."""
         return f"{name} in {self.words[name]}" if self.words.get(name) else name
 
     def said(self, name, whole):
         """A value in words: `v = 0.6 m/s`."""
-        value = decimal(whole * self.size(name))
-        return f"{name} = {value}" + (f" {self.words[name]}" if self.words.get(name) else "")
+        return f"{name} = {short(whole * self.size(name))}{self.word(name)}"
+
+
+def short(value):
+    """A fraction as a decimal number, of six digits where it isn't short."""
+    said = decimal(value)
+    return said if len(said) <= 12 else f"{float(value):.6g}"
+
+
+MODEL_HELP = "the model, or the plant text that tools/scale made of it: states, widths and inputs are in its units, in the words and in what is printed"
+
+
+def units_for(path, plant):
+    """The units of a plant by the file that --model names, none without one; raises Trouble where it is of another plant."""
+    if path is None:
+        return Units()
+    units = read_units(path, read_bytes(path))
+    for name in [entry[0] for entry in plant.states + plant.inputs]:
+        if name not in units.sizes:
+            raise Trouble(f"{path}: it has no `{name}`, which the text's plant has; is it the model of another one?")
+    return units
+
+
+def state_of(plant, words, units):
+    """The whole numbers of a state that words give, in a model's units where these are known; raises Trouble."""
+    if len(words) != len(plant.states):
+        names = " ".join(state[0] for state in plant.states)
+        raise Trouble(f"a state of this plant has {len(plant.states)} numbers ({names}), here are {len(words)}", 2)
+    if units.sizes:
+        return [units.whole(name, word) for (name, *_), word in zip(plant.states, words)]
+    if wrong := [word for word in words if not NUMBER.match(word)]:
+        raise Trouble(f"`{wrong[0][:60]}` is no whole number; a state is told in the plant's whole units, floor(value / unit), or by --model MODEL in "
+                      "the model's own", 2)
+    return [int(word) for word in words]
+
+
+def outside_said(plant, state, units):
+    """In which states a state is outside of the domain, and in which numbers it was understood; None where it is in it."""
+    out = [f"{name} = {units.size_said(name, value)} is outside {units.span_said(name, low, high)}"
+           for value, (name, low, high, _) in zip(state, plant.states) if not low <= value <= high]
+    told = "; without --model these are whole numbers of the plant's units" if not units.sizes else \
+        "; with --model these are numbers in the model's units, and none of the plant's"
+    return ", ".join(out) + told if out else None
 
 
 def decimal(value):
@@ -53,6 +109,12 @@ def decimal(value):
             said = digits[:-places] + "." + digits[-places:] if places else digits
             return "-" * (value < 0) + said
     return f"{float(value):.12g}"
+
+
+def exactly(value):
+    """A fraction as a decimal number where that ends, else as numerator and denominator, `2/875`."""
+    said = decimal(value)
+    return said if Fraction(said) == value else str(Fraction(value))
 
 
 def read_units(path, data):
@@ -70,6 +132,6 @@ def read_units(path, data):
     if not found:
         raise Trouble(f"{path}: the text has no comments `# unit NAME SIZE`, which tools/scale writes; give the model")
     try:
-        return Units({name: number_of(size) for name, size, _ in found}, {name: word for name, _, word in found if word})
+        return Units({name: Fraction(size) if "/" in size else number_of(size) for name, size, _ in found}, {name: word for name, _, word in found if word})
     except Fault as fault:
         raise Trouble(f"{path}: {fault}") from None

@@ -1,0 +1,92 @@
+"""tools/between and the line `between`: the enclosures hold ways that are followed by fine steps, walls that ways touch are widened until none does, and
+what is wrong is told in a line."""
+
+import os
+import re
+import subprocess
+import sys
+
+from gaffcurrant_plant.command import DEBIAN
+
+from .check_doubles import has_numpy, text_of
+
+# A carriage that steps by up to a metre and a half, and a wall a tenth of a metre thick with a gap; and the same between two stations in turn.
+ROOM = "state x 0 10 cells 20\nstate y 0 10 cells 20\ninput u 0.5 0 -1 1 -1.5 1.5\ninput v 0.5 0 -1 1 -1.5 1.5\nnoise w -0.05 0.05\nnext x = x + u + w\n" \
+       "next y = y + v + w\ntarget 8 10 0 2\n{}obstacle 4.9 5 0 6\ngoal reach\n"
+COMPLAINTS = [(ROOM.format("") + "between for ever\n", "`between` stands alone"), (ROOM.format("").replace("target 8 10 0 2", "target 8 8.1 0 2") + "between\n", None)]
+
+
+def check(report):
+    if not has_numpy():
+        print("skipped: numpy isn't there, so ways between samples aren't enclosed")
+        return
+    python = sys.executable if subprocess.run([sys.executable, "-c", "import numpy"], capture_output=True, check=False).returncode == 0 else DEBIAN
+    done = subprocess.run([python, str(report.top / "tests/tooling/ways.py"), str(report.top / "tools")], capture_output=True, check=False)
+    report.expect("enclosures hold the ways", (0, b"", b""), (done.returncode, done.stdout[:300], done.stderr[-300:]))
+    check_room(report)
+    check_examples(report)
+    check_refused(report)
+
+
+def check_room(report):
+    """By the wall as it is ways may touch it; a line `between`, and --between, widen it until none may, by synth and by patrol."""
+    program = os.environ | {"GAFFCURRANT": str(report.program)}
+    for word, boxes, more in (("synth", "", []), ("patrol", "target 0 2 0 2\n", ["--by", "patrol"])):
+        model, lined = report.room / "room.model", report.room / "lined.model"
+        model.write_text(ROOM.format(boxes))
+        lined.write_text(ROOM.format(boxes) + f"between{' patrol' * (word == 'patrol')}\n")
+        plain = report.tool("scale", model)[1]
+        status, text, error = report.tool("scale", "--between", *more, model, env=program)
+        report.expect(f"scale --between by {word}", (0, ""), (status, error))
+        report.expect(f"a line between by {word}", text, report.tool("scale", lined, env=program)[1])
+        said = re.search(rf"^#   this leaves (\d+) of (\d+) rows, by `{word}`$", text, re.M)
+        report.holds(f"between by {word} tells its cost", said and 0 < int(said[1]) < int(said[2]) and "#   obstacle 1 is widened to" in text, text[:800])
+        for what, plant, touches in (("as it is", plain, True), ("widened", text, False)):
+            table = report.run((word, "1"), plant.encode())[1]
+            status, output, error = report.tool("between", "-", "--model", model, data=table)
+            found = re.match(r"(\d+) rows: the ways of (\d+) may touch, of (\d+) an obstacle, of (\d+) a bound of the domain\n", output)
+            report.holds(f"between by {word}, the wall {what}", found and (int(found[3]) > 0) == touches and status == (int(found[2]) > 0), output[:300] + error)
+            output = report.tool("sim", "--real", model, "-", "--runs", "1000", data=table)[1]
+            report.holds(f"runs by {word}, the wall {what}", ("between samples: 0 runs touch" not in output) == touches, output)
+    status, text, error = report.tool("scale", "--between", "--bounds", report.room / "room.model", env=program)
+    report.holds("scale --between --bounds", status == 0 and "touches an obstacle of the model or leaves its domain" in text or "no row is left" in error, text[:300] + error)
+
+
+def check_examples(report):
+    """The examples with a line `between`: no way touches an obstacle."""
+    for name in report.examples():
+        model = report.top / "examples" / name / f"{name}.model"
+        is_kept = model.exists() and re.search(r"^between", model.read_text(), re.M)
+        text = text_of(report, name) if is_kept else None
+        if text:
+            output = report.tool("between", "-", "--model", model, data=text)[1]
+            report.holds(f"{name}: no way touches an obstacle", re.match(r"[1-9]\d* rows: the ways of \d+ may touch, of 0 an obstacle,", output), output[:300])
+
+
+def check_refused(report):
+    program = os.environ | {"GAFFCURRANT": str(report.program)}
+    for model, said in COMPLAINTS:
+        status, output, error = report.tool("scale", "-", data=model.encode(), env=program)
+        if said:
+            report.expect(f"scale of `{model[-20:]}`", (1, "", 1), (status, output, error.count("\n")))
+            report.holds(f"scale says `{said}`", said in error, error)
+        else:
+            report.holds("between ends with a text or a line", status == 0 and "# no way" in output or error.count("\n") == 1, error)
+    gate, table = report.top / "examples/gate/gate.model", report.table_text("gate")
+    for words, data, wanted, said in ((["-"], table, 2, "--model"), (["-", "--model", "nowhere"], table, 1, "nowhere"), (["-", "--model", gate], b"table 3\n", 1, "begins with"),
+                                      (["-", "--model", report.top / "examples/rooms/rooms.model"], table, 1, "isn't the table's")):
+        status, output, error = report.tool("between", *words, data=data)
+        report.expect(f"between {words}", (wanted, "", 1), (status, output, error.count("\n")))
+        report.holds(f"between {words} says `{said}`", said in error, error)
+    check_without(report, gate, table)
+
+
+def check_without(report, gate, table):
+    """Without numpy each of them says so in a line."""
+    (report.room / "numpy.py").write_text("raise ImportError\n")
+    (report.room / "between.model").write_text(ROOM.format("") + "between\n")
+    without = os.environ | {"PYTHONPATH": str(report.room), "GAFFCURRANT": str(report.program)}
+    for name, words in (("sim", ["--real", gate, "-"]), ("between", ["-", "--model", gate]), ("scale", [report.room / "between.model"])):
+        status, output, error = report.tool(name, *words, data=table, env=without)
+        report.expect(f"{name} without numpy", (1, "", 1), (status, output, error.count("\n")))
+        report.holds(f"{name} without numpy says so", "python3-numpy" in error, error)

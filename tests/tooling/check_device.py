@@ -1,0 +1,262 @@
+"""tools/header for devices: a model that isn't the table's is refused, two tables go into one C program, changed numbers and other tables are told, ranks are
+watched by C, Python and the module, and structured text and the function of MATLAB answer as the table does."""
+
+import importlib.util
+import random
+import re
+import shutil
+import subprocess
+import sys
+import tempfile
+import zlib
+from fractions import Fraction
+from pathlib import Path
+
+from gaffcurrant_plant.monitor import Monitor
+from gaffcurrant_plant.table import read_text, text_of_table
+
+from .check_readers import called, expected, python_answers, random_states
+from .structured_text import Fault, Machine
+
+# A line of the gate's model, what stands in its place, and a part of what is said.
+OTHERS = [("state x 0 9.99 0.09 0.01", "state y 0 9.99 0.09 0.01", "its states are y, v, those of the table x, v"),
+          ("state x 0 9.99 0.09 0.01", "state x 0 9.99 0.03 0.01", "x has 0 to 998 in cells of 3 units, and in the table 0 to 998 in cells of 9"),
+          ("state x 0 9.99 0.09 0.01", "state x 0 9.99 0.09 0.03", "x has 0 to 332 in cells of 3 units"),
+          ("-0.6 -0.4 -0.2", "-0.6 -0.5 -0.2", "the values of u are -100 -60 -50 -20 0"),
+          ("input u", "input f 1 0\ninput u", "its inputs are f, u, those of the table u")]
+WORDS = [(["--prefix", "9a"], 2, "--prefix takes a letter"), (["--st", "--matlab"], 2, "not allowed with"), (["--model", "nowhere"], 1, "nowhere")]
+TWO = """#include <stdio.h>
+#include "one.h"
+#define PREFIX one
+#include "control.c"
+#include "two.h"
+#define PREFIX two
+#include "control.c"
+int main(void)
+{
+    int64_t state[3] = {20, 0, 0}, input[3];
+    if (one_control(state, input) != 1) return 1;
+    printf("%d ", (int)input[0]);
+    state[0] = 360, state[1] = 180;
+    if (two_control(state, input) != 1 || !one_is_intact() || !two_is_intact()) return 1;
+    printf("%d %d %d\\n", (int)input[0], (int)input[1], one_CHECKSUM != two_CHECKSUM);
+    return 0;
+}
+"""
+MEASURE = """#include <math.h>
+#include <stdio.h>
+#include "control.c"
+int main(void)
+{
+    double values[][STATES] = {{0.205, -0.005}, {0.0, 0.0}, {NAN, 0.0}, {0.0, INFINITY}, {0.0, -INFINITY}, {1e300, 0.0}};
+    int64_t state[STATES] = {7, 7};
+    for (int k = 0; k < 6; k++) {
+        int is_measured = measure(values[k], state);
+        printf("%d %d %d\\n", is_measured, (int)state[0], (int)state[1]);
+    }
+    return 0;
+}
+"""
+
+
+def check(report):
+    report.gate = report.table_text("gate")
+    report.docks = (report.top / "examples/docks/docks.patrol").read_bytes()
+    check_models(report)
+    check_units(report)
+    check_monitor(report)
+    compiler = shutil.which("cc") or shutil.which("gcc") or shutil.which("clang")
+    with tempfile.TemporaryDirectory() as room:
+        if compiler:
+            check_programs(report, compiler, Path(room))
+        check_structured(report)
+        check_matlab(report, Path(room))
+    check_python(report)
+
+
+def check_models(report):
+    model = (report.top / "examples/gate/gate.model").read_text()
+    for old, new, said in OTHERS:
+        other = report.room / "other.model"
+        text = model.replace(old, new, 1)
+        other.write_text(re.sub(r"\bx\b", "y", text) if "state y" in new else text)
+        status, output, error = report.tool("header", "--model", other, "-", data=report.gate)
+        report.expect(f"header with the model of `{new}`", (1, "", 1), (status, output, error.count("\n")))
+        report.holds(f"header with the model of `{new}` says `{said}`", said in error, error)
+    plant = (report.top / "examples/gate/gate.plant").read_text()
+    for text, wanted in ((plant, 0), (plant.replace("noise r_v -3 3", "noise r_v -4 4"), 1), (plant.replace("x 0 998 9", "x 0 998 27"), 1)):
+        (report.room / "other.plant").write_text(text)
+        report.expect("header with a plant text", wanted, report.tool("header", "--model", report.room / "other.plant", "-", data=report.gate)[0])
+    for words, wanted, said in WORDS:
+        status, output, error = report.tool("header", *words, "-", data=report.gate)
+        report.expect(f"header {words}", (wanted, "", 1), (status, output, error.count("\n")))
+        report.holds(f"header {words} says `{said}`", said in error, error)
+
+
+def check_units(report):
+    """Units that are no decimal numbers: 17 digits and a fraction in the header, and the fraction in the plant's comment."""
+    model = "state x 0 2 cells 7\nexact x\nstate y 0 1 cells 6\ninput u 0.1 0 1\nnext x = x\nnext y = y + 0*u\ngoal keep\n"
+    (report.room / "seven.model").write_text(model)
+    plant = report.tool("scale", "-", data=model.encode())[1]
+    report.holds("a unit that doesn't end stands as a fraction", "# unit x 2/875: a whole number by itself" in plant.splitlines(), plant)
+    (report.room / "seven.plant").write_text(plant)
+    table = text_of_table(read_text(report.run(("synth", "1"), plant.encode())[1]).plant, {})
+    for name in ("seven.model", "seven.plant"):
+        header = report.tool("header", "--model", report.room / name, "-", data=table.encode())[1]
+        sizes = re.search(r"double UNIT\[STATES\] = \{(\S+), (\S+)\};", header)
+        report.expect(f"units by {name}", [float(Fraction(2, 875)), float(Fraction(1, 750))], [float(word) for word in sizes.groups()] if sizes else header)
+        report.holds(f"fractions of units by {name}", "UNIT_FRACTION[][2] = {{2, 875}, {1, 750}};" in header and "EXACT[STATES] = {1, 0};" in header, header)
+
+
+def check_monitor(report):
+    """The module and control.py say where the rank doesn't fall: along a run it does, and where a state comes twice it doesn't."""
+    table, patrol = read_text(report.gate), read_text(report.docks)
+    for text, data, start in ((table, report.gate, [20, 0]), (patrol, report.docks, [360, 180])):
+        states = [start]
+        plant, turn = text.plant, 0
+        for _ in range(60):
+            if text.kind == "patrol" and len(states) > 1:
+                turn = text.turn_after(turn, states[-1])
+            choice = (text.turns[turn] if text.kind == "patrol" else text).choice(states[-1])
+            if choice is None:
+                break
+            states.append(plant.step(states[-1], choice, plant.rest))
+        monitor, controller = Monitor(text), controller_of(report, data.decode())
+        report.expect(f"a {text.kind}'s ranks fall along a run", [(True, True)] * len(states), [(monitor.falls(state), falls_of(controller, state)) for state in states])
+        monitor, controller = Monitor(text), controller_of(report, data.decode())
+        seen = [(monitor.falls(state), falls_of(controller, state)) for state in (states[0], states[1], states[0], states[1], [10 ** 6, 0])]
+        report.expect(f"a {text.kind}'s rank that doesn't fall", [(True, True)] * 2 + [(False, False), (True, True), (False, False)], seen)
+
+
+def controller_of(report, text):
+    spec = importlib.util.spec_from_file_location("control", report.top / "examples/device/control.py")
+    module = importlib.util.module_from_spec(spec)
+    spec.loader.exec_module(module)
+    return module.Controller(text)
+
+
+def falls_of(controller, state):
+    controller.control(state)
+    return controller.falls
+
+
+def built(compiler, room, name, source=None):
+    if source:
+        (room / f"{name}.c").write_text(source)
+    done = subprocess.run([compiler, "-std=c99", "-O1", "-Wall", "-Wextra", "-Werror", f"{name}.c", "-lm", "-o", name], cwd=room, capture_output=True, check=False)
+    return done.returncode, done.stderr.decode("utf-8", "replace")[:300]
+
+
+def check_programs(report, compiler, room):
+    for name in ("control.c", "main.c"):
+        shutil.copy(report.top / "examples/device" / name, room)
+    (room / "one.h").write_text(report.tool("header", "--prefix", "one", "--ranks", "--runs", "-", data=report.gate)[1])
+    (room / "two.h").write_text(report.tool("header", "--prefix", "two", "--ranks", "-", data=report.docks)[1])
+    report.expect("two tables in one program are compiled", (0, ""), built(compiler, room, "two", TWO))
+    report.expect("two tables in one program", (0, "100 -24 0 1\n", ""), called(["./two"], room, ""))
+    model = report.top / "examples/gate/gate.model"
+    header = report.tool("header", "--ranks", "--model", model, "-", data=report.gate)[1]
+    (room / "table.h").write_text(header)
+    report.expect("measured values are compiled", (0, ""), built(compiler, room, "measured", MEASURE))
+    report.expect("measured values", (0, "1 20 -1\n1 0 0\n0 0 0\n0 0 0\n0 0 0\n0 0 0\n", ""), called(["./measured"], room, ""))
+    report.expect("main.c with ranks is compiled", (0, ""), built(compiler, room, "main"))
+    checksum = f"{zlib.crc32(report.gate):08x}"
+    table = read_text(report.gate)
+    after = table.plant.step([20, 0], table.choice([20, 0]), table.plant.rest)
+    report.expect("a run whose rank falls", (0, "".join(f"{table.choice(state)[0]}\n" for state in ([20, 0], after)), ""),
+                  called(["./main", checksum], room, f"20 0\n{after[0]} {after[1]}\n"))
+    status, output, error = called(["./main", checksum], room, "20 0\n20 0\n")
+    report.expect("a state that comes twice", (1, "100\n", 1), (status, output, error.count("\n")))
+    report.holds("the monitor says why", "the rank hasn't fallen" in error, error)
+    for word, wanted, said in (("1a2b", 1, "of another table"), ("xyz", 2, "checksum")):
+        status, output, error = called(["./main", word], room, "20 0\n")
+        report.holds(f"main.c with {word}", (status, output) == (wanted, "") and said in error, error)
+    changed = re.sub(r"(ROW\[2997\] = \{\n    )\d+,", r"\g<1>3,", header)
+    (room / "table.h").write_text(changed if changed != header else "")
+    built(compiler, room, "main")
+    status, output, error = called(["./main"], room, "20 0\n")
+    report.holds("changed numbers are told", (status, output) == (1, "") and "aren't those that tools/header has written" in error, error)
+
+
+def samples(text):
+    """States of a run in order, and random ones, and for each what is due by control.py."""
+    draws, plant = random.Random(5), text.plant
+    states = random_states(plant)[:120]
+    if text.kind == "patrol":
+        states, state, turn = [], [360, 180], 0
+        for _ in range(90):
+            turn = text.turn_after(turn, state) if states else turn
+            states.append(state)
+            noise = [draws.choice([low, high]) for _, low, high in plant.noises]
+            state = plant.step(state, text.turns[turn].choice(state), noise)
+    return states
+
+
+def due(report, text, data, states):
+    return expected(text, states) if text.kind == "table" else python_answers(report.top / "examples/device", data.decode())(states)
+
+
+def said_of(status, inputs):
+    return "no row" if status == -1 else "arrived" if status == 0 else " ".join(map(str, inputs))
+
+
+def check_structured(report):
+    for name, data in (("gate", report.gate), ("docks", report.docks)):
+        text = read_text(data)
+        states = samples(text)
+        for words in ([], ["--runs"], ["--ranks"], ["--runs", "--ranks"]):
+            source = report.tool("header", "--st", *words, "-", data=data)[1]
+            report.expect(f"{name}: structured text {words}", due(report, text, data, states), run_machine(source, text, states))
+    big = report.gate.decode().replace("input u -100", "input u -3000000000").encode()
+    status, output, error = report.tool("header", "--st", "-", data=big)
+    report.expect("structured text of values past 32 bits", (1, "", 1), (status, output, error.count("\n")))
+    machine = Machine(report.tool("header", "--st", "--ranks", "--prefix", "GATE", "-", data=report.gate)[1])
+    report.expect("the block's name, and its monitor", ("GATE", [True, False]), (machine.name, [bool(machine.call(STATE=[20, 0])["FALLS"]) for _ in range(2)]))
+
+
+def run_machine(source, text, states):
+    try:
+        machine, said = Machine(source), []
+        for state in states:
+            answer = machine.call(STATE=list(state))
+            said.append(said_of(answer["STATUS"], answer["INPUTS"][:len(text.plant.inputs)]))
+        return said
+    except Fault as fault:
+        return [str(fault)]
+
+
+def check_matlab(report, room):
+    octave = shutil.which("octave-cli") or shutil.which("octave")
+    if octave is None:
+        print("skipped: Octave isn't there, so the function of MATLAB isn't run")
+        return
+    for name, data in (("gate", report.gate), ("docks", report.docks)):
+        text = read_text(data)
+        states, of_turns = samples(text), text.kind == "patrol"
+        for words in ([], ["--runs", "--ranks"]):
+            (room / "told.m").write_text(report.tool("header", "--matlab", "--prefix", "told", *words, "-", data=data)[1])
+            call = "[status, input, turn] = told(states(k, :), turn);" if of_turns else "[status, input] = told(states(k, :));"
+            rows = "; ".join(" ".join(map(str, state)) for state in states)
+            script = f"states = [{rows}];\nturn = [];\nfor k = 1:rows(states)\n  {call}\n  printf('%d', status);\n  printf(' %d', input);\n  printf('\\n');\nend\n"
+            (room / "ask.m").write_text(script)
+            done = subprocess.run([octave, "--no-gui", "--quiet", "ask.m"], cwd=room, capture_output=True, check=False)
+            got = [said_of(int(line.split()[0]), line.split()[1:]) for line in done.stdout.decode().splitlines()]
+            report.expect(f"{name}: the function of MATLAB {words}", due(report, text, data, states), got or done.stderr.decode()[:200])
+
+
+def check_python(report):
+    """control.py: the checksum, the monitor, and what is no number."""
+    device, table = report.top / "examples/device/control.py", report.room / "gate.table"
+    table.write_bytes(report.gate)
+    for words, text, wanted, said in (([f"{zlib.crc32(report.gate):08x}"], "20 0\n", 0, ""), (["00000001"], "20 0\n", 1, "it is another table, or was changed"),
+                                      (["xyz"], "20 0\n", 2, "checksum"), (["--watch"], "20 0\n20 0\n", 1, "the rank hasn't fallen")):
+        status, _, error = called([sys.executable, str(device), str(table), *words], report.room, text)
+        report.holds(f"control.py {words}", status == wanted and said in error and error.count("\n") == (wanted > 0), error)
+    controller, known = controller_of(report, report.gate.decode()), read_text(report.gate)
+    for state in ([float("nan"), 0], [float("inf"), 0], [20.5, 0]):
+        for what, ask in (("control.py", controller.control), ("the module", known.choice)):
+            try:
+                told = f"answers {ask(state)}"
+            except ValueError as error:
+                told = str(error)
+            report.holds(f"{what} of {state}", "is no whole number" in told, told)

@@ -1,0 +1,28 @@
+"""Watches a plant that a table drives: whether the rank falls as the table promises."""
+
+from .table import NoRow
+
+
+class Monitor:
+    """Takes the state of each sample. Where the rank hasn't fallen, a disturbance, a sensor or the timing is out of its range: stop safely."""
+
+    def __init__(self, table, turn=0):
+        self.table, self.turn, self.rank, self.has_begun = table, turn, None, False
+
+    def falls(self, state):
+        """Whether the state has a row, and its rank has fallen since the sample before; at the first sample, and behind the target of a table or of a
+        patrol's turn, any rank will do. With goal keep there are no ranks, and the row alone counts."""
+        rows = self.table
+        if self.table.kind == "patrol":
+            after = self.table.turn_after(self.turn, state) if self.has_begun else self.turn
+            if after != self.turn or self.has_begun and self.table.plant.cell_of(state) in self.table.turns[self.turn].arrivals:
+                self.turn, self.rank = after, None
+            rows = self.table.turns[self.turn]
+        self.has_begun = True
+        try:
+            rank, choice = rows.row(state)
+        except NoRow:
+            return False
+        now, before = rank or 0, self.rank
+        self.rank = None if choice is None else now
+        return before is None or now < before or now == before == 0

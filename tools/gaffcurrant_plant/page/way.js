@@ -1,0 +1,71 @@
+// The way between two samples by the model's differential equations, in doubles.
+
+const REALS = {
+  num: (node) => () => node[1],
+  var: (node) => (v) => v[node[1]],
+  add: (node, a, b) => (v) => a(v) + b(v),
+  mul: (node, a, b) => (v) => a(v) * b(v),
+  min: (node, a, b) => (v) => Math.min(a(v), b(v)),
+  max: (node, a, b) => (v) => Math.max(a(v), b(v)),
+  atan2: (node, a, b) => (v) => Math.atan2(a(v), b(v)),
+  abs: (node, a) => (v) => Math.abs(a(v)),
+  call: (node, a) => (v) => Math[node[1]](a(v)),
+  power: (node, a) => (v) => Math.pow(a(v), node[1]),
+};
+
+/** A function from the list of the model's variables to the value of a real expression. */
+function realFunction(node) {
+  return REALS[node[0]](node, ...node.slice(1).filter(Array.isArray).map(realFunction));
+}
+
+const STEPS = 12;
+
+/** The model's differential equations: their right sides, their sampling time, and their disturbances in rest. */
+class Flow {
+  constructor({ time, sides, noises }) {
+    this.time = time;
+    this.sides = sides.map(realFunction);
+    this.noises = noises;
+  }
+
+  slope(state, values) {
+    const variables = [...state, ...values, ...this.noises];
+    return this.sides.map((side) => side(variables));
+  }
+
+  /** The states on the way of a sample from one state on, by Runge and Kutta's method of order four. */
+  course(state, values) {
+    const step = this.time / STEPS, way = [state];
+    const moved = (from, slope, by) => from.map((x, i) => x + by * slope[i]);
+    for (let k = 0; k < STEPS; k++) {
+      const at = way[k];
+      const one = this.slope(at, values), two = this.slope(moved(at, one, step / 2), values);
+      const three = this.slope(moved(at, two, step / 2), values), four = this.slope(moved(at, three, step), values);
+      way.push(at.map((x, i) => x + (step / 6) * (one[i] + 2 * two[i] + 2 * three[i] + four[i])));
+    }
+    return way;
+  }
+
+  /** The same bent so that it ends where the next sample was: what the disturbance and the rounding did is spread over
+   * the sample. */
+  between(state, values, next) {
+    const way = this.course(state, values), end = way[STEPS];
+    return way.map((at, k) => at.map((x, i) => x + (k / STEPS) * (next[i] - end[i])));
+  }
+}
+
+/** For each sample of a run but the last the states on the way to the next one, as fractions of places; without a flow
+ * just the two. */
+function waysOf(run, units, flow) {
+  const { plant } = run.text, ends = run.samples.map(({ state }) => state.map((value, i) => plant.partOf(i, value)));
+  return run.samples.slice(0, -1).map((_, k) => (flow && flowBetween(run, k, units, flow)) || [ends[k], ends[k + 1]]);
+}
+
+/** The way behind a sample by a flow, as fractions of places, or null where the flow has no number there. */
+function flowBetween(run, k, units, flow) {
+  const { plant } = run.text, real = ({ state }) => state.map((value, i) => units.middle(plant.states[i][0], value));
+  const applied = plant.vector(run.samples[k].row.input);
+  const values = applied.map((value, i) => units.value(plant.inputs[i][0], value));
+  const way = flow.between(real(run.samples[k]), values, real(run.samples[k + 1]));
+  return way.flat().every(Number.isFinite) ? way.map((at) => at.map((x, i) => units.partOf(plant.states[i], x))) : null;
+}
