@@ -1,7 +1,9 @@
-"""From the measured state to the input, by a table, a stay text or a patrol text. Run with a text's name, it answers states, one a line."""
+"""From the measured state to the input, by a table, a stay text or a patrol text. Run with a text's name, it answers states, one a line; with the
+checksum of the text behind it, it refuses another one; with --watch it stops where the rank doesn't fall as the text promises."""
 
 import os
 import sys
+import zlib
 from bisect import bisect_right
 
 HEADS = (["table", "1"], ["table", "2"], ["stay", "1"], ["patrol", "1"])
@@ -13,18 +15,24 @@ class Rows:
     def __init__(self, lines):
         self.first = [int(line[0]) for line in lines]
         self.last = [int(line[-3]) for line in lines]
+        self.rank = [line[-2] for line in lines]
         self.input = [line[-1] for line in lines]
 
-    def input_at(self, cell):
-        """The word of a row's input, or None where the cell has no row."""
+    def at(self, cell):
+        """The words of a row's rank and input, or None where the cell has no row."""
         row = bisect_right(self.first, cell) - 1
-        return None if row < 0 or cell > self.last[row] else self.input[row]
+        return None if row < 0 or cell > self.last[row] else (self.rank[row], self.input[row])
 
 
 class Controller:
-    """turn: of a patrol, the number of the target that the plant is on its way to; it goes on with the states that are asked for."""
+    """turn: of a patrol, the number of the target that the plant is on its way to; it goes on with the states that are asked for. falls: whether the rank
+    has fallen, at the last state that was asked for, as the text promises; where it hasn't, a disturbance, a sensor or the timing is out of its
+    range: stop safely. checksum: the CRC-32 of the text's bytes, as tools/header writes it."""
 
-    def __init__(self, text):
+    def __init__(self, text, checksum=None):
+        self.checksum = zlib.crc32(text.encode("ascii"))
+        if checksum not in (None, self.checksum):
+            raise ValueError(f"the text has the checksum {self.checksum:08x}, not {checksum:08x}: it is another table, or was changed")
         lines = [line.split() for line in text.splitlines()]
         if not lines or lines[0] not in HEADS or lines[-1] != ["end"]:
             heads = ", ".join(f"`{' '.join(head)}`" for head in HEADS)
@@ -34,6 +42,7 @@ class Controller:
         self.inputs = [list(map(int, line[2:])) for line in front if line[0] == "input"]
         self.targets = [list(map(int, line[1:])) for line in front if line[0] == "target"]
         self.is_patrol, self.turn, self.has_begun = lines[0][0] == "patrol", 0, False
+        self.falls, self.last_rank = True, None
         self.rows = self.rows_of(lines[len(front) + 1:-1])
 
     def rows_of(self, lines):
@@ -50,18 +59,35 @@ class Controller:
         if len(state) != len(self.states):
             names = " ".join(name for name, *_ in self.states)
             raise ValueError(f"a state of this table has {len(self.states)} numbers ({names}), here are {len(state)}")
-        cell = 0
-        for value, (_, low, high, width) in zip(state, self.states):
-            if not low <= value <= high:
-                return "no row"
-            cell = cell * ((high - low + 1) // width) + (value - low) // width
+        self.falls, cell = False, self.cell_of(list(map(whole, state)))
+        if cell is None:
+            return "no row"
         if self.is_patrol and self.has_begun and self.rows:
             self.visit(state, cell)
         self.has_begun = True
-        row = self.rows[self.turn].input_at(cell) if self.rows else None
+        row = self.rows[self.turn].at(cell) if self.rows else None
         if row is None:
             return "no row"
-        return "arrived" if row == "-" else self.values(int(row))
+        self.watch(*row)
+        return "arrived" if row[1] == "-" else self.values(int(row[1]))
+
+    def cell_of(self, state):
+        cell = 0
+        for value, (_, low, high, width) in zip(state, self.states):
+            if not low <= value <= high:
+                return None
+            cell = cell * ((high - low + 1) // width) + (value - low) // width
+        return cell
+
+    def watch(self, rank, choice):
+        """Compares the rank with the one before. In the target of a table the promise has ended; with goal keep there are no ranks."""
+        now, before = 0 if rank == "-" else int(rank), self.last_rank
+        self.falls = before is None or now < before or now == before == 0
+        self.last_rank = None if choice == "-" else now
+
+    def restart(self):
+        """Forgets the rank of the last sample, before a new start."""
+        self.last_rank = None
 
     def visit(self, state, cell):
         """Begins the next turn where the state's cell lies in the turn's target, and has a row for the next turn."""
@@ -70,8 +96,8 @@ class Controller:
         firsts = [value - (value - low) % width for value, (_, low, _, width) in zip(state, self.states)]
         widths = [width for *_, width in self.states]
         if all(low <= first and first + width - 1 <= high for first, width, (low, high) in zip(firsts, widths, ends)):
-            if self.rows[after].input_at(cell) is not None:
-                self.turn = after
+            if self.rows[after].at(cell) is not None:
+                self.turn, self.last_rank = after, None
 
     def values(self, number):
         """The values of the inputs in an input vector, of which the first varies slowest."""
@@ -82,6 +108,17 @@ class Controller:
         return applied
 
 
+def whole(value):
+    """A whole number; raises ValueError for a fraction, an infinity and what is no number."""
+    try:
+        number = int(value)
+    except (ValueError, OverflowError, TypeError):
+        number = None
+    if number is None or number != value:
+        raise ValueError(f"`{value}` is no whole number of units, floor(value / unit)")
+    return number
+
+
 def number_of(word):
     """A whole number in decimal digits."""
     if not word.removeprefix("-").isdecimal() or len(word) > 19:
@@ -89,21 +126,37 @@ def number_of(word):
     return int(word)
 
 
-def answer_states(name):
-    with open(name, encoding="ascii") as file:
-        controller = Controller(file.read())
+def answer_states(name, checksum, watches):
+    # The bytes as they are, for the checksum.
+    with open(name, encoding="ascii", newline="") as file:
+        controller = Controller(file.read(), checksum)
     for line in sys.stdin.buffer:
         answer = controller.control([number_of(word) for word in line.decode("ascii").split()])
+        if watches and answer != "no row" and not controller.falls:
+            raise ValueError("the rank hasn't fallen as the table promises")
         print(answer if isinstance(answer, str) else " ".join(map(str, answer)), flush=True)
+
+
+def checksum_of(words):
+    """The checksum that the words give, or None; raises ValueError where they are no checksum."""
+    if len(words) > 1 or any(len(word) > 8 or word.strip("0123456789abcdef") for word in words):
+        raise ValueError("give the name of a table, and the checksum of its text, eight digits as 0a1b2c3d; states come on standard input, one a line")
+    return int(words[0], 16) if words else None
 
 
 def main(words):
     """Ends with 1 and a line on standard error at the first state or table that can't be read, and with 2 at wrong words."""
-    if len(words) != 1:
+    watches, words = "--watch" in words, [word for word in words if word != "--watch"]
+    try:
+        checksum = checksum_of(words[1:])
+    except ValueError as error:
+        print(f"control.py: {error}", file=sys.stderr)
+        return 2
+    if not words:
         print("control.py: give the name of a table; states come on standard input, one a line", file=sys.stderr)
         return 2
     try:
-        answer_states(words[0])
+        answer_states(words[0], checksum, watches)
     except UnicodeDecodeError:
         print("control.py: there is a byte that is no ASCII character; save the text without a byte order mark", file=sys.stderr)
     except (ValueError, IndexError, OSError) as error:

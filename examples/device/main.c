@@ -1,5 +1,6 @@
-/* Reads states, one a line, and prints what to apply: the values of the inputs, `arrived` or `no row`. Ends with 1 and a line
-   on standard error at the first line that is no state. */
+/* Reads states, one a line, and prints what to apply: the values of the inputs, `arrived` or `no row`. Ends with 1 and a line on standard error at the first
+   line that is no state; where the header's numbers were changed; where a CHECKSUM is given and the header is of another table; and, of a header with
+   ranks, where the rank doesn't fall as the table promises. */
 #include <errno.h>
 #include <inttypes.h>
 #include <stdio.h>
@@ -20,11 +21,23 @@ static int read_state(const char *line, int64_t state[])
     return line[strspn(line, " \t\r\n")] == 0;
 }
 
-int main(void)
+static int complain(const char *what)
+{
+    fprintf(stderr, "control: %s\n", what);
+    return 1;
+}
+
+int main(int count, char *words[])
 {
     int64_t state[STATES], input[INPUTS + 1];
     char line[STATES * 32 + 2];
-#ifdef TURNS
+    if (count > 2 || (count == 2 && strspn(words[1], "0123456789abcdef") != strlen(words[1]))) {
+        complain("the one word is the checksum of the table, eight digits as 0a1b2c3d");
+        return 2;
+    }
+    if (count == 2 && strtoul(words[1], NULL, 16) != CHECKSUM) return complain("the header is of another table");
+    if (!is_intact()) return complain("the numbers of table.h aren't those that tools/header has written");
+#if HAS_TURNS
     int has_begun = 0;
 #endif
     while (fgets(line, sizeof line, stdin)) {
@@ -32,18 +45,18 @@ int main(void)
             fprintf(stderr, "control: a state of this table is a line of %d whole numbers\n", STATES);
             return 1;
         }
-#ifdef TURNS
+#if HAS_TURNS
         if (has_begun) visit(state);
         has_begun = 1;
 #endif
         int answer = control(state, input);
+#if HAS_RANKS
+        if (answer >= 0 && !falls(state)) return complain("the rank hasn't fallen as the table promises");
+#endif
         if (answer == 1)
             for (int i = 0; i < INPUTS; i++) printf("%s%" PRId64, i ? " " : "", input[i]);
         puts(answer == 1 ? "" : answer == 0 ? "arrived" : "no row");
-        if (fflush(stdout)) {
-            fputs("control: the answer couldn't be written\n", stderr);
-            return 1;
-        }
+        if (fflush(stdout)) return complain("the answer couldn't be written");
     }
     return 0;
 }
