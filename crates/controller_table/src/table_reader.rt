@@ -1,4 +1,4 @@
-ghost use Rattle.std.specs.Prelude.{◌≡◌, ◌≢◌, ◌≤◌, length, IfOk, IfErr};
+ghost use Rattle.std.specs.Prelude.{◌≡◌, ◌≢◌, ◌+◌, ◌^◌, ◌<◌, ◌≤◌, ℕ, length, IfOk, IfErr};
 ghost use Rattle.plant_record.specs.Limits.{IsWithinLimits};
 ghost use Rattle.plant_text.specs.CanonicalFronts.{IsFront};
 ghost use Rattle.controller_table.specs.declared.table_fault.TableFault.TheVariants.{Memory};
@@ -6,7 +6,7 @@ ghost use Rattle.controller_table.specs.Tables.{IsTableIn};
 ghost use Rattle.controller_table.specs.Refusals.{IsTableRefusedFor, line_count};
 ghost use Rattle.controller_table.specs.Found.{Finds};
 ghost use Rattle.controller_table.specs.inside.Reading.{IsVersionAt};
-ghost use Rattle.controller_table.specs.inside.ReadPlant.{IsPlantRefused};
+ghost use Rattle.controller_table.specs.inside.ReadPlant.{IsPlantRefused, of_front};
 
 use crate::front::{after_prefix, line_count};
 use crate::row_reader::rows_after;
@@ -72,8 +72,18 @@ fn plant_in(alloc: Global, bytes: &[u8]) -> Result<Front, TableFault>
 {
     match read_front(alloc, bytes) {
         Ok(front) => Ok(front),
-        Err(PlantFault::Malformed { line }) => Err(TableFault::Malformed { line: line + 1 }),
-        Err(PlantFault::Limit { what }) => Err(TableFault::Limit { what }),
-        Err(PlantFault::Memory) => Err(TableFault::Memory),
+        Err(fault) => Err(behind_first_line(fault)),
+    }
+}
+
+/// The fault of a table whose plant has this fault.
+fn behind_first_line(fault: PlantFault) -> TableFault
+    requires { (line : ℕ) → fault ≡ PlantFault.Malformed line → line + 1 < 2 ^ 32 }
+    ensures { result ≡ of_front fault }
+{
+    match fault {
+        PlantFault::Malformed { line } => TableFault::Malformed { line: line + 1 },
+        PlantFault::Limit { what } => TableFault::Limit { what },
+        PlantFault::Memory => TableFault::Memory,
     }
 }
