@@ -1,11 +1,11 @@
 //! Reach and stay, patrols, and their texts.
 //!
 //! Passes on `stay`, whose solution brings a plant into its targets and keeps it there, `patrol`, whose solution visits
-//! them in turn, and the writers of both texts. What they promise is in `stay_game`, `patrol_game`, `stay_table` and
-//! `patrol_table`.
+//! them in turn, and the writers of both texts. What they promise is in `stay_game`, `patrol_game` and here.
 #![tactic(auto)]
 
 mod header;
+pub mod laws;
 mod patrol_writer;
 mod stay_writer;
 mod turn_lines;
