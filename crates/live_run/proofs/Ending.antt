@@ -10,7 +10,7 @@ use Rattle.live_script.specs.declared.script_fault.ScriptFault.TheVariants as sc
 use Rattle.live_script.specs.Scripts.{IsShortScript}
 use Rattle.live_script.specs.LiveText.{IsLiveText}
 use Rattle.live_script.specs.Refusals.{IsScriptRefusedFor}
-use Rattle.live_script.proofs.Laws.{one_script_refusal, script_or_refused}
+use Rattle.live_script.proofs.ScriptLaws.{one_script_refusal, script_or_refused}
 use Rattle.live_run.specs.declared.live_outcome.LiveOutcome.{LiveOutcome}
 use Rattle.live_run.specs.declared.live_outcome.LiveOutcome.TheVariants.{Done, Usage, Malformed, Limit, ScriptTooLong, TooManyTables, ReadFault as ReadFailed, WriteFault, NoMemory}
 use Rattle.live_run.specs.Causes.{of_script}

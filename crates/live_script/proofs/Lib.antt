@@ -3,5 +3,7 @@ pub mod QuestionLines
 pub mod TableLines
 pub mod Counting
 pub mod OneCommand
-pub mod Laws
+pub mod ScriptLaws
+pub mod SomeEnd
+pub mod OneText
 pub mod Taking

@@ -1,13 +1,18 @@
 -- The lines before the texts of tables.
-use Rattle.std.proofs.Common.{◌≡◌, ℕ, ◌<◌, ◌≤◌, List, [], ◌∷◌, ◌++◌, length, drop, get_or, refl, ap, sym, ◌∙◌, arith, append_assoc, to_z, of_z}
+use Rattle.std.proofs.Common.{◌≡◌, ℕ, ◌<◌, ◌≤◌, List, [], ◌∷◌, ◌++◌, length, drop, get_or, refl, ap, sym, ◌∙◌, arith, append_assoc, to_z, of_z, inr}
 use Rattle.std.specs.Prelude.{ℤ, pos, negsuc, codes, FitsSigned}
 use Rattle.std.specs.Int.{w64}
 use Rattle.std.proofs.lemmas.Int.{ints, to_z-of_z}
 use Rattle.std.specs.Fmt.{decimal, signed_decimal}
 use Rattle.plant_record.specs.Numbers.{IsLiteral}
+use Rattle.controller_table.specs.declared.table_fault.TableFault.{TableFault}
+use Rattle.controller_table.specs.declared.table_fault.TableFault.TheVariants as tables
+use Rattle.controller_table.specs.Refusals.{IsTableRefusedFor}
 use Rattle.controller_table.proofs.Digits.{one_number}
+use Rattle.live_script.specs.declared.script_fault.ScriptFault.TheVariants.{Memory}
 use Rattle.live_script.specs.Scripts.{publish_line, ask_line}
-use Rattle.live_script.specs.Refusals.{Announce, IsMalformedAfter}
+use Rattle.live_script.specs.Refusals.{Announce, IsMalformedAfter, IsRefusedAfter}
+use Rattle.live_script.specs.inside.Faults.{of_table}
 use Rattle.live_script.specs.inside.Words.{BeginsWithSeparator, IsNumberAt, spaced}
 use Rattle.live_script.proofs.WordsCut.{one_number_at}
 use Rattle.live_script.proofs.QuestionLines.{line_opened}
@@ -87,3 +92,22 @@ ends_too_early count size bytes few some most short = record {
   where
     told : Announce (publish_line size ++ bytes) size bytes
     told = record { some = some; most = most; are = refl }
+
+-- ---- a text that is refused
+
+-- the fault of a table's text is the script's, after so many lines
+pub table_refused : (count number size : ℕ) (bytes text rest : List ℕ) (fault : TableFault) → count < 8 → 1 ≤ size → size ≤ 67108864 → length text ≡ size → bytes ≡ text ++ rest
+    → ((fault ≡ tables.Memory → ⊥) → IsTableRefusedFor text fault) → (of_table number fault ≡ Memory → ⊥) → IsRefusedAfter count number (publish_line size ++ bytes) (of_table number fault)
+table_refused count number size bytes text rest fault few some most long cut refused = by_fault fault refused
+  where
+    told : Announce (publish_line size ++ bytes) (length text) (text ++ rest)
+    told = record {
+      some = omega (arith, some, long);
+      most = omega (arith, most, long);
+      are = ap (λ (n : ℕ). publish_line n ++ bytes) (sym long) ∙ ap (λ (x : List ℕ). publish_line (length text) ++ x) cut;
+    }
+
+    by_fault : (f : TableFault) → ((f ≡ tables.Memory → ⊥) → IsTableRefusedFor text f) → (of_table number f ≡ Memory → ⊥) → IsRefusedAfter count number (publish_line size ++ bytes) (of_table number f)
+    by_fault (tables.Malformed line) h other = inr (line, refl, record { few = few; text = text; rest = rest; announced = told; refused = h (λ e. cc) })
+    by_fault (tables.Limit what) h other = record { few = few; text = text; rest = rest; announced = told; refused = h (λ e. cc) }
+    by_fault tables.Memory h other = absurd (other refl)

@@ -8,6 +8,7 @@
 mod ask_numbers;
 mod command;
 mod cuts;
+pub mod laws;
 mod question_line;
 mod script;
 mod script_fault;

@@ -7,6 +7,7 @@ ghost use Rattle.live_script.specs.declared.script_fault.ScriptFault.TheVariants
 ghost use Rattle.live_script.specs.Scripts.{publish_line, ask_line, IsShortScript};
 ghost use Rattle.live_script.specs.Refusals.{IsRefusedAfter, IsScriptRefusedFor};
 ghost use Rattle.live_script.specs.Reading.{IsTaken};
+ghost use Rattle.live_script.specs.inside.Faults.{of_table};
 
 use crate::command::ScriptCommand;
 use crate::question_line::question_at;
@@ -60,10 +61,11 @@ impl<'a> Script<'a> {
         })
     }
 
-    /// Takes the next command away. None at the script's end.
+    /// Takes the next command away. None at the script's end, which leaves the script as it is.
     pub fn next_command(&mut self, alloc: Global) -> Result<Option<ScriptCommand>, ScriptFault>
         ensures taken { IfOk result (λ next. IfSome next (λ command. IsTaken self.old command self.new)) }
         ensures ended { IfOk result (λ next. IfNone next ((self.old.rest ≡ []) × (0 < self.old.tables))) }
+        ensures stays { IfOk result (λ next. IfNone next (self.new ≡ self.old)) }
         ensures refused { IfErr result (λ fault. fault ≢ Memory → IsRefusedAfter self.old.tables self.old.line self.old.rest fault) }
         ensures kept { OnErr result (self.new ≡ self.old) }
     {
@@ -121,10 +123,20 @@ fn table_at(
     let (text, rest) = bytes.split_at(size);
     match read_table(alloc, text) {
         Ok(table) => Ok((table, text, rest)),
-        Err(TableFault::Malformed { line: within }) => Err(ScriptFault::Malformed {
+        Err(fault) => Err(after_line(line, fault)),
+    }
+}
+
+/// The fault of a script in which the table after the line of this number has this fault.
+fn after_line(line: u64, fault: TableFault) -> ScriptFault
+    requires { line < 2 ^ 32 }
+    ensures { result ≡ of_table line fault }
+{
+    match fault {
+        TableFault::Malformed { line: within } => ScriptFault::Malformed {
             line: line + u64::from(within),
-        }),
-        Err(TableFault::Limit { what }) => Err(ScriptFault::Limit { what }),
-        Err(TableFault::Memory) => Err(ScriptFault::Memory),
+        },
+        TableFault::Limit { what } => ScriptFault::Limit { what },
+        TableFault::Memory => ScriptFault::Memory,
     }
 }

@@ -14,7 +14,7 @@ use Rattle.live_script.specs.declared.script_fault.ScriptFault.{ScriptFault}
 use Rattle.live_script.specs.declared.script_fault.ScriptFault.TheVariants.{Malformed, Limit, ScriptTooLong, TooManyTables, Memory}
 use Rattle.live_script.specs.Scripts.{Spell, FitsAfter, tables_after, published, SpellAfter, IsShortScript, IsScript}
 use Rattle.live_script.specs.Refusals.{Announce, IsMalformedAfter, IsTableRefusedAfter, IsNinthTable, IsRefusedAfter, IsFirstRefusal, IsScriptRefusedFor}
-use Rattle.live_script.specs.inside.Laws.{OneScriptRefusal, ScriptOrRefused}
+use Rattle.live_script.specs.Laws.{OneScript, OneScriptRefusal, ScriptOrRefused}
 use Rattle.std.specs.Prelude.{codes}
 use Rattle.live_script.specs.inside.Words.{spaced}
 use Rattle.live_script.proofs.QuestionLines.{line_opened}
@@ -225,7 +225,7 @@ one_script_refusal script f g h k = elim (of_length script f h) [
 
 -- ---- a script isn't refused
 
-some_bytes : (first : List ℕ) (c : ScriptCommand) → Spell first c → (rest : List ℕ) → [] ≡ first ++ rest → ⊥
+pub some_bytes : (first : List ℕ) (c : ScriptCommand) → Spell first c → (rest : List ℕ) → [] ≡ first ++ rest → ⊥
 some_bytes first (Publish t) spells rest none = announced_is_some (first ++ rest) (length spells.text) (spells.text ++ rest) (announces t first rest spells) (sym none)
 some_bytes first (Ask xs) spells rest none =
     let asked : [] ≡ codes "ask" ++ (spaced xs ++ 10 ∷ rest) = none ∙ ap (λ (x : List ℕ). x ++ rest) spells.1 ∙ line_opened xs rest in omega (arith, ap (λ (x : List ℕ). get_or x 0 0) asked)
@@ -254,4 +254,15 @@ pub script_or_refused : ScriptOrRefused
 script_or_refused script commands f h k = elim (of_length script f k) [
   | inl long ↦ long.1 h.short
   | inr first ↦ accepted script commands f h first.1
+]
+
+-- ---- a script is one list
+
+pub one_script : OneScript
+one_script script cs ds h k = elim (compared 0 script script [] [] cs ds h.spell k.spell refl) [
+  | inl even ↦ even.commands
+  | inr apart ↦ elim apart [
+    | inl on ↦ absurd (some_bytes on.first on.command on.spells on.rest on.at)
+    | inr on ↦ absurd (some_bytes on.first on.command on.spells on.rest on.at)
+  ]
 ]

@@ -1,0 +1,58 @@
+-- The answers of a script are one text.
+use Rattle.std.proofs.Common.{◌≡◌, ℕ, List, [], ◌∷◌, ◌++◌, length, Option, Some, None, refl, sym, ap, ap₂, subst, ◌∙◌, arith, length-append}
+use Rattle.std.specs.Prelude.{ℤ}
+use Rattle.game_core.specs.declared.game.Row.{Row}
+use Rattle.plant_record.specs.declared.aims.GoalKind.{GoalKind}
+use Rattle.plant_record.specs.declared.aims.GoalKind.TheVariants.{Reach, Keep}
+use Rattle.plant_record.specs.Description.{Description}
+use Rattle.controller_table.specs.Tables.{TableModel}
+use Rattle.controller_table.specs.Choice.{Applies, Chooses}
+use Rattle.live_script.specs.declared.command.ScriptCommand.{ScriptCommand}
+use Rattle.live_script.specs.declared.command.ScriptCommand.TheVariants.{Publish, Ask}
+use Rattle.live_script.specs.Questions.{IsAnswerOf}
+use Rattle.live_script.specs.LiveText.{answer_line, IsAnswerLine, AreAnswers}
+use Rattle.live_script.specs.Laws.{OneLiveText}
+use Rattle.live_script.proofs.ScriptLaws.{one_script}
+
+same_row : (a b : Row) → Some a ≡ Some b → a ≡ b
+same_row a b e = cc
+
+applied : (goal : GoalKind) (row : Row) (u : ℕ) → Applies goal row u → row.input ≡ u
+applied Reach row u h = h.1
+applied Keep row u h = h
+
+one_input : (p : Description) (rows : List (Option Row)) (x : List ℤ) (u v : ℕ) → Chooses p rows x u → Chooses p rows x v → u ≡ v
+one_input p rows x u v h k =
+    let same = same_row h.0 k.0 (sym h.1.is ∙ k.1.is) in
+    sym (applied p.goal h.0 u h.2) ∙ ap (λ (r : Row). r.input) same ∙ applied p.goal k.0 v k.2
+
+one_answer : (table : TableModel) (numbers : List ℤ) (a b : Option ℕ) → IsAnswerOf table numbers a → IsAnswerOf table numbers b → a ≡ b
+one_answer table numbers None None h k = refl
+one_answer table numbers None (Some v) h k = absurd (h.none v k.chosen.0 k.chosen.1)
+one_answer table numbers (Some u) None h k = absurd (k.none u h.chosen.0 h.chosen.1)
+one_answer table numbers (Some u) (Some v) h k = ap Some (one_input table.plant table.rows _ u v h.chosen.1 k.chosen.1)
+
+one_last : (a b : List TableModel) (t s : TableModel) → a ++ t ∷ [] ≡ b ++ s ∷ [] → t ≡ s
+one_last [] [] t s e = cc
+one_last [] (y ∷ b) t s e = absurd (omega (arith, ap length e, length-append b (s ∷ [])))
+one_last (x ∷ a) [] t s e = absurd (omega (arith, ap length e, length-append a (t ∷ [])))
+one_last (x ∷ a) (y ∷ b) t s e = let tails : a ++ t ∷ [] ≡ b ++ s ∷ [] = cc in one_last a b t s tails
+
+one_line : (tables : List TableModel) (numbers : List ℤ) (a b : List ℕ) → IsAnswerLine tables numbers a → IsAnswerLine tables numbers b → a ≡ b
+one_line tables numbers a b h k =
+    let last = one_last h.before k.before h.table k.table (sym h.last ∙ k.last) in
+    let same = one_answer k.table numbers h.answer k.answer (subst (λ (t : TableModel). IsAnswerOf t numbers h.answer) last h.answers) k.answers in
+    h.is ∙ ap (answer_line (length tables)) same ∙ sym k.is
+
+one_list_of_answers : (tables : List TableModel) (commands : List ScriptCommand) (a b : List ℕ) → AreAnswers tables commands a → AreAnswers tables commands b → a ≡ b
+one_list_of_answers tables [] a b h k = h ∙ sym k
+one_list_of_answers tables (Publish table ∷ commands) a b h k = one_list_of_answers (tables ++ table ∷ []) commands a b h k
+one_list_of_answers tables (Ask numbers ∷ commands) a b h k =
+    let first = one_line tables numbers h.0 k.0 h.3 k.3 in
+    let rest = one_list_of_answers tables commands h.1 k.1 h.4 k.4 in
+    h.2 ∙ ap₂ (λ (x y : List ℕ). x ++ y) first rest ∙ sym k.2
+
+pub one_live_text : OneLiveText
+one_live_text bytes a b h k =
+    let same = one_script bytes h.commands k.commands h.is_script k.is_script in
+    one_list_of_answers [] k.commands a b (subst (λ (cs : List ScriptCommand). AreAnswers [] cs a) same h.answers) k.answers
