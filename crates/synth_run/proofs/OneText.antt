@@ -53,7 +53,7 @@ one_stay_text bytes a b first second =
     let other : IsStayTableOf p b = second.3 in
     let game : other.game ≡ table.game = one_game p other.game table.game second.1.limits.plant other.abstraction table.abstraction in
     let rows : table.rows ≡ other.rows = one_stay_solution table.game table.rows other.rows table.solution (subst (λ (g : Game). IsStaySolution g other.rows) game other.solution) in
-    table.text_is ∙ ap (stay_text p) rows ∙ sym other.text_is
+    table.table.text ∙ ap (stay_text p) rows ∙ sym other.table.text
 
 -- ---- patrol
 
@@ -95,4 +95,4 @@ one_patrol_text bytes a b first second =
     let rows : table.rows ≡ other.rows =
     one_patrol table.game (IsInTarget p) (length p.targets) table.rows other.rows table.solution (subst (λ (g : Game). IsPatrol g (IsInTarget p) (length p.targets) other.rows) game other.solution)
     in
-    table.text_is ∙ ap (patrol_text p) rows ∙ sym other.text_is
+    table.table.text ∙ ap (patrol_text p) rows ∙ sym other.table.text

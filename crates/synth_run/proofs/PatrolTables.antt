@@ -16,14 +16,16 @@ use Rattle.synth_run.specs.Headline.{IsPatrolTableOf}
 
 -- the text of a plant within the limits and of the solution of its patrol
 pub patrol_table : (p : Description) (g : Game) (rows : List (List (Option Row))) → IsWithinLimits p → IsGameOf p g → IsPatrol g (IsInTarget p) (length p.targets) rows → IsPatrolTableOf p (patrol_text p rows)
-patrol_table p g rows limits abstraction solution = record {
-  game = g;
-  abstraction = abstraction;
-  rows = rows;
-  solution = solution;
-  text_is = refl;
-  patrols = patrol_text_patrols (patrol_text p rows) p g rows (solution_has_patrol_text p g rows limits abstraction solution) abstraction solution;
-}
+patrol_table p g rows limits abstraction solution =
+    let table = solution_has_patrol_text p g rows limits abstraction solution in
+    record {
+      game = g;
+      abstraction = abstraction;
+      rows = rows;
+      solution = solution;
+      table = table;
+      patrols = patrol_text_patrols (patrol_text p rows) p g rows table abstraction solution;
+    }
 
 -- what refuses a plant refuses a patrol of its targets
 patrol_outcome_is : (p : Description) (outcome : Outcome) → (outcome ≡ Done → ⊥) → IsPlantOutcome p outcome → IsPatrolOutcome p outcome

@@ -6,11 +6,11 @@ use Rattle.plant_record.specs.Description.{Description}
 use Rattle.plant_game.specs.Abstraction.{IsGameOf}
 use Rattle.plant_game.specs.Solution.{IsSolutionOf}
 use Rattle.stay_game.specs.Stay.{IsStaySolution}
-use Rattle.temporal_games.specs.StayText.{stay_text}
+use Rattle.temporal_games.specs.StayText.{IsStayText}
 use Rattle.temporal_games.specs.Settles.{Settles}
 use Rattle.patrol_game.specs.Targets.{IsInTarget}
 use Rattle.patrol_game.specs.Patrol.{IsPatrol}
-use Rattle.temporal_games.specs.PatrolText.{patrol_text}
+use Rattle.temporal_games.specs.PatrolText.{IsPatrolText}
 use Rattle.temporal_games.specs.Patrols.{Patrols}
 use Rattle.controller_table.specs.TableText.{written, table_text}
 use Rattle.controller_table.specs.Tables.{RowsFit, IsTable}
@@ -71,7 +71,7 @@ pub record IsStayTableOf (p : Description) (text : List ℕ) : Type 0 where
   pub abstraction : IsGameOf p game
   pub rows : List (Option Row)
   pub solution : IsStaySolution game rows
-  pub text_is : text ≡ stay_text p rows
+  pub table : IsStayText text p rows
   pub settles : Settles p text
 
 -- the bytes spell a plant that nothing refuses, and the text is that of its reach and stay
@@ -89,7 +89,7 @@ pub record IsPatrolTableOf (p : Description) (text : List ℕ) : Type 0 where
   pub abstraction : IsGameOf p game
   pub rows : List (List (Option Row))
   pub solution : IsPatrol game (IsInTarget p) (length p.targets) rows
-  pub text_is : text ≡ patrol_text p rows
+  pub table : IsPatrolText text p rows
   pub patrols : Patrols p text
 
 -- the bytes spell a plant that nothing refuses, with few enough turns, and the text is that of its patrol
