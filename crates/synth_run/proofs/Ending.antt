@@ -1,5 +1,5 @@
 -- How a run of a command ends.
-use Rattle.std.proofs.Common.{inl, inr, ◌≡◌, Option, None, refl, sym, subst}
+use Rattle.std.proofs.Common.{◌≡◌, Option, None, refl, sym, subst}
 use Rattle.cell_counters.specs.Tokens.{BoardModel, RootModel}
 use Rattle.run_devices.specs.Devices.{Reading, Writing, GainsWhole, GainsPart}
 use Rattle.run_devices.specs.Transfers.{IsUntouched}
@@ -10,11 +10,12 @@ use Rattle.synth_run.specs.declared.outcome.Outcome.TheVariants.{Done, WriteFaul
 use Rattle.synth_run.specs.declared.text.Text.{Text}
 use Rattle.synth_run.specs.Headline.{IsAnswer}
 use Rattle.synth_run.specs.Played.{SolvesNothing}
-use Rattle.synth_run.specs.Runs.{CanEnd, IsAnswered, IsCutOff, IsRunOf}
+use Rattle.synth_run.specs.Runs.{IsAnswered, IsCutOff, IsRunOf}
 use Rattle.synth_run.specs.Sources.{given}
 use Rattle.synth_run.specs.inside.SolvedGames.{IsToBeLeft}
 use Rattle.synth_run.specs.inside.Texts.{bytes_of}
 use Rattle.synth_run.specs.inside.Working.{IsWorkedOut, IsRefusalFor, IsWrittenOut, IsLeftAfter}
+use Rattle.synth_run.proofs.CommandEnds.{can_end_done, can_end_cut_off, can_end_without_memory}
 use Rattle.synth_run.proofs.Working.{if_some_more}
 
 solves_none : (command : Command) → SolvesNothing command None
@@ -25,33 +26,6 @@ solves_none (Sim samples seed start) = refl
 solves_none (Demo number workers) = tt
 solves_none (Stay workers) = refl
 solves_none (Patrol workers) = refl
-
-can_end_done : (command : Command) → CanEnd command Done
-can_end_done (Synth workers) = tt
-can_end_done Check = tt
-can_end_done Upgrade = tt
-can_end_done (Sim samples seed start) = tt
-can_end_done (Demo number workers) = inl refl
-can_end_done (Stay workers) = tt
-can_end_done (Patrol workers) = tt
-
-can_end_cut_off : (command : Command) → CanEnd command WriteFault
-can_end_cut_off (Synth workers) = tt
-can_end_cut_off Check = tt
-can_end_cut_off Upgrade = tt
-can_end_cut_off (Sim samples seed start) = tt
-can_end_cut_off (Demo number workers) = inr (inl refl)
-can_end_cut_off (Stay workers) = tt
-can_end_cut_off (Patrol workers) = tt
-
-can_end_without_memory : (command : Command) → CanEnd command NoMemory
-can_end_without_memory (Synth workers) = tt
-can_end_without_memory Check = tt
-can_end_without_memory Upgrade = tt
-can_end_without_memory (Sim samples seed start) = tt
-can_end_without_memory (Demo number workers) = inr (inr refl)
-can_end_without_memory (Stay workers) = tt
-can_end_without_memory (Patrol workers) = tt
 
 -- there is no answer, and nothing is written
 pub ends_turned_down : (command : Command) (outcome : Outcome) (source : Reading) (out : Writing) → IsRefusalFor command outcome source → IsUntouched out → IsRunOf command outcome source out None

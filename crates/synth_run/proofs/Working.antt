@@ -20,6 +20,7 @@ use Rattle.synth_run.specs.Runs.{CanEnd}
 use Rattle.synth_run.specs.Statuses.{IsTheTexts}
 use Rattle.synth_run.specs.inside.Causes.{of_read}
 use Rattle.synth_run.specs.inside.Making.{IsReadFor, IsRefusalOf}
+use Rattle.synth_run.proofs.CommandEnds.{can_end_without_memory}
 use Rattle.synth_run.proofs.Limits.{of_front, passes_on, read_to_the_limit}
 
 -- a text that has an answer demands it
@@ -108,16 +109,16 @@ turned_down command source read outcome whole h = record {
 record WorksOnAll (command : Command) : Type 0 where
   given_is : (told : Option (List ℕ)) → given command told ≡ told
   uses : (source : Reading) → LeavesAlone command source
-  ends : (outcome : Outcome) → CanEnd command outcome
+  unread : CanEnd command ReadFault
 
 works_on_all : (command : Command) → ((number workers : ℕ) → command ≡ Demo number workers → ⊥) → WorksOnAll command
-works_on_all (Synth workers) other = record { given_is = λ _. refl; uses = λ _. tt; ends = λ _. tt }
-works_on_all Check other = record { given_is = λ _. refl; uses = λ _. tt; ends = λ _. tt }
-works_on_all Upgrade other = record { given_is = λ _. refl; uses = λ _. tt; ends = λ _. tt }
-works_on_all (Sim samples seed start) other = record { given_is = λ _. refl; uses = λ _. tt; ends = λ _. tt }
+works_on_all (Synth workers) other = record { given_is = λ _. refl; uses = λ _. tt; unread = tt }
+works_on_all Check other = record { given_is = λ _. refl; uses = λ _. tt; unread = inr tt }
+works_on_all Upgrade other = record { given_is = λ _. refl; uses = λ _. tt; unread = tt }
+works_on_all (Sim samples seed start) other = record { given_is = λ _. refl; uses = λ _. tt; unread = inr tt }
 works_on_all (Demo number workers) other = absurd (other number workers refl)
-works_on_all (Stay workers) other = record { given_is = λ _. refl; uses = λ _. tt; ends = λ _. tt }
-works_on_all (Patrol workers) other = record { given_is = λ _. refl; uses = λ _. tt; ends = λ _. tt }
+works_on_all (Stay workers) other = record { given_is = λ _. refl; uses = λ _. tt; unread = tt }
+works_on_all (Patrol workers) other = record { given_is = λ _. refl; uses = λ _. tt; unread = inr tt }
 
 front_of : (most : ℕ) (told after : Option (List ℕ)) (read : List ℕ) → ReadUpTo told after most read → IfSome told (λ bytes. read ≡ take most bytes)
 front_of most None after read up_to = tt
@@ -149,7 +150,7 @@ is_unread command other source reads.Device within failed stood sound =
       not_done = λ e. cc;
       not_usage = λ e. cc;
       not_write_fault = λ e. cc;
-      can_end = all.ends ReadFault;
+      can_end = all.unread;
       cause = λ texts. absurd texts;
       read = λ other _. absurd (other refl);
       never_past = within;
@@ -164,7 +165,7 @@ is_unread command other source reads.Memory within failed stood sound =
       not_done = λ e. cc;
       not_usage = λ e. cc;
       not_write_fault = λ e. cc;
-      can_end = all.ends NoMemory;
+      can_end = can_end_without_memory command;
       cause = λ texts. absurd texts;
       read = λ _ some. absurd (some refl);
       never_past = within;

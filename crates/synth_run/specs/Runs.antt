@@ -4,7 +4,7 @@ use Rattle.cell_counters.specs.Tokens.{BoardModel, RootModel}
 use Rattle.command_line.specs.declared.command.Command.{Command}
 use Rattle.command_line.specs.declared.command.Command.TheVariants.{Synth, Check, Upgrade, Sim, Demo, Stay, Patrol}
 use Rattle.synth_run.specs.declared.outcome.Outcome.{Outcome}
-use Rattle.synth_run.specs.declared.outcome.Outcome.TheVariants.{Done, Usage, ReadFault, WriteFault, NoMemory}
+use Rattle.synth_run.specs.declared.outcome.Outcome.TheVariants.{Done, Invalid, NoRow, Usage, Malformed, Overflow, Limit, TooManyTurns, ReadFault, WriteFault, NoMemory}
 use Rattle.run_devices.specs.Devices.{next_count, Reading, Writing, GainsWhole, GainsPart, TakesAtMost, Reports, AreUnused}
 use Rattle.command_line.specs.Command.{IsOfCommand, AreOfNoCommand}
 use Rattle.synth_run.specs.Sources.{given, most_read, LeavesAlone}
@@ -25,15 +25,30 @@ IsCutOff command bytes out = (text : List ℕ) × IsAnswer command bytes text ×
 abbrev pub IsRead : Command → Reading → Type 0
 IsRead command source = IfSome source.before (λ bytes. source.after ≡ Some (drop (most_read command) bytes))
 
--- how a command can end whose words are right, whatever its source tells: nothing refuses `demo`, and no read of it fails
+-- it tells neither of a row that isn't right, nor of a start without a row, nor of too many turns
+abbrev pub IsCommonEnd : Outcome → Type 0
+IsCommonEnd Done = Unit {0}
+IsCommonEnd (Invalid cell) = ⊥
+IsCommonEnd NoRow = ⊥
+IsCommonEnd Usage = Unit {0}
+IsCommonEnd (Malformed line) = Unit {0}
+IsCommonEnd (Overflow equation input) = Unit {0}
+IsCommonEnd (Limit what) = Unit {0}
+IsCommonEnd TooManyTurns = ⊥
+IsCommonEnd ReadFault = Unit {0}
+IsCommonEnd WriteFault = Unit {0}
+IsCommonEnd NoMemory = Unit {0}
+
+-- how a command can end whose words are right, whatever its source tells: `check` alone tells of a row, `sim` alone of a
+-- start, and `patrol` alone of turns; nothing refuses `demo`, and no read of it fails
 abbrev pub CanEnd : Command → Outcome → Type 0
-CanEnd (Synth workers) outcome = Unit {0}
-CanEnd Check outcome = Unit {0}
-CanEnd Upgrade outcome = Unit {0}
-CanEnd (Sim samples seed start) outcome = Unit {0}
+CanEnd (Synth workers) outcome = IsCommonEnd outcome
+CanEnd Check outcome = ((cell : ℕ) × (outcome ≡ Invalid cell)) ⊎ IsCommonEnd outcome
+CanEnd Upgrade outcome = IsCommonEnd outcome
+CanEnd (Sim samples seed start) outcome = (outcome ≡ NoRow) ⊎ IsCommonEnd outcome
 CanEnd (Demo number workers) outcome = (outcome ≡ Done) ⊎ ((outcome ≡ WriteFault) ⊎ (outcome ≡ NoMemory))
-CanEnd (Stay workers) outcome = Unit {0}
-CanEnd (Patrol workers) outcome = Unit {0}
+CanEnd (Stay workers) outcome = IsCommonEnd outcome
+CanEnd (Patrol workers) outcome = (outcome ≡ TooManyTurns) ⊎ IsCommonEnd outcome
 
 -- What a run of a command gives, by how it ends.
 pub record IsRunOf (command : Command) (outcome : Outcome) (source : Reading) (out : Writing) (played : Option (BoardModel × RootModel)) : Type 0 where

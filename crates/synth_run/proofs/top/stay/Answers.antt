@@ -1,6 +1,7 @@
 use Rattle.std.proofs.Common.{refl}
 use Rattle.command_line.specs.declared.command.Command.TheVariants.{Stay}
 use Rattle.synth_run.specs.inside.Making.{IsRefusalOf}
+use Rattle.synth_run.proofs.CommandEnds.{can_end_declined}
 use Rattle.synth_run.proofs.Reporting.{exits}
 use Rattle.synth_run.proofs.top.stay.Goals as goal
 
@@ -10,4 +11,4 @@ returns-clause-made g c = rw c.of_text.ensures (record { can_be_written = tt; an
 pub returns-in_err-settled-clause-declined : goal.returns-in_err-settled-clause-declined
 returns-in_err-settled-clause-declined g c =
     exits c.from_residual.result c.in_err-settled.field-0.0 (IsRefusalOf (Stay c.args.workers) c.args.bytes.now) c.from_residual.ensures.1
-    (record { not_done = c.in_err-settled.ensures.failed; can_end = tt; cause = c.in_err-settled.ensures.cause })
+    (record { not_done = c.in_err-settled.ensures.failed; can_end = can_end_declined (Stay c.args.workers) c.args.bytes.now c.in_err-settled.field-0.0 c.in_err-settled.ensures.cause; cause = c.in_err-settled.ensures.cause })

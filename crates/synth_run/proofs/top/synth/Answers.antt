@@ -1,5 +1,6 @@
 use Rattle.command_line.specs.declared.command.Command.TheVariants.{Synth}
 use Rattle.synth_run.specs.inside.Making.{IsRefusalOf}
+use Rattle.synth_run.proofs.CommandEnds.{can_end_declined}
 use Rattle.synth_run.proofs.Reporting.{exits}
 use Rattle.synth_run.proofs.top.synth.Goals as goal
 
@@ -9,4 +10,4 @@ returns-clause-made g c = record { can_be_written = c.in_ok-solved.ensures.fits;
 pub returns-in_err-solved-clause-declined : goal.returns-in_err-solved-clause-declined
 returns-in_err-solved-clause-declined g c =
     exits c.from_residual.result c.in_err-solved.field-0.0 (IsRefusalOf (Synth c.args.workers) c.args.bytes.now) c.from_residual.ensures.1
-    (record { not_done = c.in_err-solved.ensures.failed; can_end = tt; cause = c.in_err-solved.ensures.cause })
+    (record { not_done = c.in_err-solved.ensures.failed; can_end = can_end_declined (Synth c.args.workers) c.args.bytes.now c.in_err-solved.field-0.0 c.in_err-solved.ensures.cause; cause = c.in_err-solved.ensures.cause })
