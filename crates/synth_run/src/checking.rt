@@ -1,6 +1,7 @@
 //! From the bytes of a table's text to the verdict on its rows.
 
-ghost use Rattle.std.specs.Prelude.{◌≡◌, ◌≢◌, IfOk, IfErr, OnOk};
+ghost use Rattle.std.specs.Prelude.{◌≡◌, ◌≢◌, ℕ, IfOk, IfErr, OnOk};
+ghost use Rattle.table_check.specs.declared.verdict.Verdict.TheVariants.{Valid, Invalid};
 ghost use Rattle.synth_run.specs.declared.outcome.Outcome.TheVariants as ends;
 ghost use Rattle.plant_record.specs.declared.aims.GoalKind.TheVariants.{Reach, Keep};
 ghost use Rattle.plant_game.specs.Solution.{IsSolutionOf};
@@ -34,6 +35,14 @@ fn check_table<R: Threads + Sync>(rt: &R, alloc: Global, table: &Table) -> Resul
     ensures failed { IfErr result (λ outcome. outcome ≢ ends.Done) }
 {
     let verdict = verdict_on(rt, alloc, table)?;
+    refuse_invalid(verdict)
+}
+
+/// Refuses rows of which one isn't right, for the first such cell.
+fn refuse_invalid(verdict: Verdict) -> Result<(), Outcome>
+    ensures valid { OnOk result (verdict ≡ Valid) }
+    ensures invalid { IfErr result (λ outcome. (cell : ℕ) × (verdict ≡ Invalid cell) × (outcome ≡ ends.Invalid cell)) }
+{
     match verdict {
         Verdict::Valid => Ok(()),
         Verdict::Invalid { cell } => Err(Outcome::Invalid { cell }),

@@ -1,9 +1,9 @@
 //! From the bytes of a plant's text to a patrol of its targets in turn.
 
-ghost use Rattle.std.specs.Prelude.{◌≡◌, ◌≢◌, IfOk, IfErr};
+ghost use Rattle.std.specs.Prelude.{◌≡◌, ◌≢◌, ◌^◌, ◌<◌, ◌≤◌, IfOk, IfErr, OnOk};
 ghost use Rattle.temporal_games.specs.PatrolText.{patrol_text};
 ghost use Rattle.command_line.specs.Command.{AreWorkers};
-ghost use Rattle.synth_run.specs.declared.outcome.Outcome.TheVariants.{Done, NoMemory};
+ghost use Rattle.synth_run.specs.declared.outcome.Outcome.TheVariants.{Done, TooManyTurns, NoMemory};
 ghost use Rattle.synth_run.specs.IsOutcomeFor.{turns_of, IsPatrolTextOutcome};
 ghost use Rattle.synth_run.specs.Headline.{IsPatrolTableFor};
 
@@ -40,11 +40,20 @@ pub fn patrol_text<R: Threads + Sync, T: Gate>(
 {
     let (plant, game) = game_of_text(rt, alloc, bytes)?;
     let turns = turns_of(&plant);
+    limit_turns(turns)?;
+    let rows = patrol(rt, alloc, &game, &plant, workers, gate)?;
+    Ok(Patrolled { plant, rows })
+}
+
+/// Refuses more pairs of a turn and a cell than the limit.
+fn limit_turns(turns: u64) -> Result<(), Outcome>
+    ensures few { OnOk result (turns ≤ 2 ^ 22) }
+    ensures many { IfErr result (λ outcome. (outcome ≡ TooManyTurns) × (2 ^ 22 < turns)) }
+{
     if turns > TURNS_LIMIT {
         return Err(Outcome::TooManyTurns);
     }
-    let rows = patrol(rt, alloc, &game, &plant, workers, gate)?;
-    Ok(Patrolled { plant, rows })
+    Ok(())
 }
 
 /// How many pairs of a turn and a cell there are.

@@ -2,7 +2,7 @@
 
 ghost use Rattle.std.specs.Prelude.{◌≡◌, ◌≢◌, ◌≤◌, IfSome, IfNone, IfOk, IfErr, OnOk};
 ghost use Rattle.successor_box.specs.Deviations.{deviations_of};
-ghost use Rattle.synth_run.specs.declared.outcome.Outcome.TheVariants.{Done, NoMemory};
+ghost use Rattle.synth_run.specs.declared.outcome.Outcome.TheVariants.{Done, NoRow, NoMemory};
 ghost use Rattle.synth_run.specs.IsOutcomeFor.{IsTraceTextOutcome};
 ghost use Rattle.synth_run.specs.Traces.{HasRowFor, HasNoRowFor, IsTraceOutcome, IsTraceFor};
 ghost use Rattle.synth_run.specs.inside.Texts.{trace_of, IsReady};
@@ -80,8 +80,17 @@ fn slopes_of(alloc: Global, table: &Table, start: &StateNumbers) -> Result<Slope
     ensures failed { IfErr result (λ outcome. outcome ≢ Done) }
 {
     let slopes = find_slopes(alloc, table.plant())?;
+    refuse_no_row(table, start)?;
+    Ok(slopes)
+}
+
+/// Refuses a start at which a table has no row.
+fn refuse_no_row(table: &Table, start: &StateNumbers) -> Result<(), Outcome>
+    ensures found { OnOk result (HasRowFor table.now.plant table.now.rows start.now) }
+    ensures none { IfErr result (λ outcome. (outcome ≡ NoRow) × HasNoRowFor table.now.plant table.now.rows start.now) }
+{
     match row_for(table, start) {
-        Some(_) => Ok(slopes),
+        Some(_) => Ok(()),
         None => Err(Outcome::NoRow),
     }
 }
