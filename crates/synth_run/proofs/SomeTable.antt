@@ -22,6 +22,7 @@ use Rattle.row_runs.specs.declared.run.TableVersion.{TableVersion}
 use Rattle.row_runs.specs.Runs.{AreRuns, Gives, EncodeRows}
 use Rattle.row_runs.specs.RunText.{run_line, count_line, end_line}
 use Rattle.row_runs.proofs.Telling.{begin_later, gives_above}
+use Rattle.controller_table.specs.declared.table_fault.TableFault.TheVariants as tables
 use Rattle.controller_table.specs.TableText.{version_line, format_of, lines_after}
 use Rattle.controller_table.specs.Tables.{RowsFit, IsTable}
 use Rattle.controller_table.specs.RowLines.{IsRunOf, AreRunsOf, AreWhole, MayStand, IsFirstRefusedAfter}
@@ -30,8 +31,9 @@ use Rattle.controller_table.specs.inside.ReadRows.{AreRead}
 use Rattle.controller_table.proofs.ReadTable.{table_read, rows_refused, few_lines}
 use Rattle.controller_table.proofs.RefusedRows.{all_read, rows_fit}
 use Rattle.synth_run.specs.declared.outcome.Outcome.{Outcome}
-use Rattle.synth_run.specs.declared.outcome.Outcome.TheVariants.{Malformed, Limit}
+use Rattle.synth_run.specs.declared.outcome.Outcome.TheVariants.{Done, Invalid, NoRow, Usage, Malformed, Overflow, Limit, TooManyTurns, ReadFault, WriteFault, NoMemory}
 use Rattle.synth_run.specs.IsOutcomeFor.{IsRefusedTable}
+use Rattle.synth_run.specs.Laws.{NoTableTextIsNeither}
 use Rattle.synth_run.proofs.Undeniable.{either, chosen}
 use Rattle.synth_run.proofs.SomePlant.{whole, LimitsEnd, is_within, has_many_vectors, has_many_cells, has_many_pairs, limits_end}
 
@@ -266,3 +268,23 @@ table_end bytes deny =
   where
     not_short : 67108864 < length bytes → IsShortTable bytes → ⊥
     not_short long short = omega (arith, long, short)
+
+pub no_table_text_is_neither : NoTableTextIsNeither
+no_table_text_is_neither bytes no_table no_refusal = table_end bytes by_end
+  where
+    refused : (outcome : Outcome) → IsRefusedTable bytes outcome → ⊥
+    refused Done h = h
+    refused (Invalid cell) h = h
+    refused NoRow h = h
+    refused Usage h = h
+    refused (Malformed line) h = no_refusal (tables.Malformed line) h
+    refused (Overflow equation input) h = h
+    refused (Limit what) h = no_refusal (tables.Limit what) h
+    refused TooManyTurns h = h
+    refused ReadFault h = h
+    refused WriteFault h = h
+    refused NoMemory h = h
+
+    by_end : TableEnd bytes → ⊥
+    by_end (is_refused_table outcome h) = refused outcome h
+    by_end (is_table p rows table) = no_table p rows table
