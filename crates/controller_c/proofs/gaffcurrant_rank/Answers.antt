@@ -1,0 +1,16 @@
+use Rattle.std.proofs.Common.{Option, Some, sym, subst, w32, rules}
+use Rattle.std.specs.Prelude.{FitsSigned}
+use Rattle.std.proofs.lemmas.Int.{to_z-of_z}
+use Rattle.controller_table.specs.Tables.{TableModel}
+use Rattle.controller_c.specs.Exports.{IsRanked}
+use Rattle.controller_c.proofs.gaffcurrant_rank.Goals as goal
+
+pub returns-in-Some-clause-rank : goal.returns-in-Some-clause-rank
+returns-in-Some-clause-rank c =
+    let x = c.args.state.now in
+    let rank = c.tell_rank-status.new.rank in
+    let status = c.tell_rank-status.result in
+    let fits : FitsSigned w32 status = search rules in
+    rw (to_z-of_z w32 status fits)
+    (subst (λ (o : Option TableModel). IsRanked o x rank status) (sym c.in-Some.ensures.taken)
+    (subst (λ (t : TableModel). IsRanked (Some t) x rank status) c.deref.ensures c.tell_rank-status.ensures))

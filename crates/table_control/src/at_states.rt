@@ -1,0 +1,52 @@
+//! The inputs at many states.
+
+ghost use Rattle.std.specs.Prelude.{◌≡◌, ◌↔◌, ◌*◌, length, IsTrue};
+ghost use Rattle.table_control.specs.Each.{AreSizedEach, AreReplies, IsReplyEach};
+
+use crate::at_state::control;
+use controller_table::Table;
+
+/// Puts what is to be applied at each state into its inputs, and the number of the reply there into the replies. The
+/// states' numbers stand one state after another, and so do the inputs. False where these aren't as many numbers as
+/// the replies' states and inputs have.
+pub fn control_each(table: &Table, states: &[i64], inputs: &mut [i64], replies: &mut [i32]) -> bool
+    ensures { IsReplyEach table.now states.now inputs.old inputs.new replies.old replies.new result }
+{
+    if !are_sized_each(table, states, inputs, replies.len()) {
+        return false;
+    }
+    reply_each(table, states, inputs, replies);
+    true
+}
+
+fn are_sized_each(table: &Table, states: &[i64], inputs: &[i64], count: usize) -> bool
+    ensures { IsTrue result ↔ AreSizedEach table.now count states.now inputs.now }
+{
+    let plant = table.plant();
+    is_product(states.len(), count, plant.states())
+        && is_product(inputs.len(), count, plant.input_variables())
+}
+
+/// Whether a length is that of so many pieces of this size.
+fn is_product(length: usize, count: usize, size: u32) -> bool
+    ensures { IsTrue result ↔ (length ≡ count * size) }
+{
+    match count.checked_mul(size as usize) {
+        Some(all) => length == all,
+        None => false,
+    }
+}
+
+fn reply_each(table: &Table, states: &[i64], inputs: &mut [i64], replies: &mut [i32])
+    requires { AreSizedEach table.now (length replies.old) states.now inputs.old }
+    ensures long { length replies.new ≡ length replies.old }
+    ensures each { AreReplies table.now states.now inputs.old inputs.new replies.new }
+{
+    let size = table.plant().states() as usize;
+    let room = table.plant().input_variables() as usize;
+    for k in 0..replies.len() {
+        let state = &states[k * size..(k + 1) * size];
+        let input = &mut inputs[k * room..(k + 1) * room];
+        replies[k] = control(table, state, input).number();
+    }
+}
