@@ -1,0 +1,91 @@
+/* gaffcurrant.h: a controller by the text of a table, for C99 and C++.
+
+   Link libgaffcurrant.a or libgaffcurrant.so, which tools/library makes. The library is proved (crates/controller_c): for
+   any bytes that are the table that a controller holds, the answer 1 of gaffcurrant_control says that the values are those of
+   the input vector that the text chooses at the state. Each answer below is proved in both directions. This header is
+   written by hand, and nothing proves that it fits the library.
+
+   Units. A state is one whole number for each state variable of the table's plant, in the order of its `state` lines:
+   floor(measured value / unit). An input is one whole number for each `input` line: the value to apply is the number times
+   the unit. Every number of a table is below 10^18 in size; a state may be any number of 64 bits.
+
+   What the caller upholds:
+   - each pointer is valid for as many elements as the call is told, and the arguments of a call don't overlap. Where a
+     length is 0 the pointer may be NULL; the other pointers may not be;
+   - a controller begins as {0}, is changed by these calls alone, and isn't used through a copy;
+   - one thread at a time uses a controller, the one that opened it. Several controllers are independent;
+   - malloc, realloc and free are those of one allocator. Only gaffcurrant_open and gaffcurrant_close call them. */
+#ifndef GAFFCURRANT_H
+#define GAFFCURRANT_H
+
+#ifdef __cplusplus
+#include <cstddef>
+#include <cstdint>
+extern "C" {
+#else
+#include <stdbool.h>
+#include <stddef.h>
+#include <stdint.h>
+#endif
+
+/* What the calls answer. */
+#define GAFFCURRANT_OPEN 0         /* gaffcurrant_open: the table is open */
+#define GAFFCURRANT_MALFORMED 1    /* gaffcurrant_open: the bytes are no table */
+#define GAFFCURRANT_LIMIT 2        /* gaffcurrant_open: a table past a limit */
+#define GAFFCURRANT_NO_MEMORY 3    /* gaffcurrant_open: malloc had none */
+#define GAFFCURRANT_APPLY 1        /* the inputs are to be applied */
+#define GAFFCURRANT_ARRIVED 0      /* the state has come to the targets: nothing has to be applied */
+#define GAFFCURRANT_NO_ROW (-1)    /* the table promises nothing at the state */
+#define GAFFCURRANT_WRONG_SIZE (-2)/* not as many numbers as the table has states and inputs */
+#define GAFFCURRANT_CLOSED (-3)    /* the controller holds no table */
+
+/* A controller: it holds a table, or none. Begin with `struct gaffcurrant controller = {0};` (C++: {}). Its members are the
+   library's own. One that is open owns memory until gaffcurrant_close. */
+struct gaffcurrant {
+    bool is_open;
+    void *table;
+};
+
+/* Reads a table, of either version, from its text. The bytes stay the caller's, and may go once the call has returned.
+   A table that was open is closed first, also where the new one is refused.
+
+   0: open, and *line is 0. Else the controller is closed, and *line is the first line that doesn't fit, from 1, at 1
+   (malformed); and 0 at 2 (a limit of docs/FORMATS.md is exceeded) and at 3 (no memory). Stay texts and patrol texts are
+   malformed: this library reads tables alone. */
+int32_t gaffcurrant_open(struct gaffcurrant *controller, const uint8_t *bytes, size_t length, uint32_t *line);
+
+/* Puts what is to be applied at a state into input. Both arrays are the caller's.
+
+   1: apply the inputs. 0: the state has come to the targets (`goal reach` alone); nothing has to be applied. -1: the state is
+   outside the plant's ranges, or its cell has no row: the table promises nothing. -2: states or inputs isn't the number of the
+   plant's states or input variables. -3: closed. At every answer but 1 input is unchanged. */
+int32_t gaffcurrant_control(struct gaffcurrant *controller, const int64_t *state, size_t states, int64_t *input, size_t inputs);
+
+/* The same at `count` states. The numbers of the states stand one state after another, `state_numbers` in all, and so do the
+   inputs, `input_numbers` in all. replies[k] is what gaffcurrant_control answers at the k-th state, and where that isn't 1
+   the k-th inputs are unchanged.
+
+   0: told. -2: state_numbers isn't count times the number of states, or input_numbers isn't count times that of the input
+   variables. -3: closed. At -2 and -3 inputs and replies are unchanged. */
+int32_t gaffcurrant_control_each(struct gaffcurrant *controller, const int64_t *states, size_t state_numbers, int64_t *inputs,
+                                 size_t input_numbers, int32_t *replies, size_t count);
+
+/* How many states and input variables the table's plant has: 1 to 6, and 0 to 3.
+
+   0: told. -3: closed, and both are 0. */
+int32_t gaffcurrant_sizes(struct gaffcurrant *controller, uint32_t *states, uint32_t *inputs);
+
+/* The rank at a state: how many samples suffice to the targets. With `goal keep` every row has rank 0.
+
+   1: told. -1: the state has no row. -2: states isn't the number of the plant's states. -3: closed. At every answer but 1
+   *rank is 0. */
+int32_t gaffcurrant_rank(struct gaffcurrant *controller, const int64_t *state, size_t states, uint32_t *rank);
+
+/* Frees the table. A controller that holds none stays as it is, so it may be closed twice; it may be opened again. */
+void gaffcurrant_close(struct gaffcurrant *controller);
+
+#ifdef __cplusplus
+}
+#endif
+
+#endif

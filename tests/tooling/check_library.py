@@ -1,0 +1,213 @@
+"""The C library: over the examples' tables its answers are those of the table's rows, of `sim` and of control.c, by both compilers' libraries, and by Python;
+its memory is constant, its wrong uses are answered as include/gaffcurrant.h tells, and sanitizers and valgrind find nothing."""
+
+import os
+import re
+import shutil
+import subprocess
+import sys
+import tempfile
+from concurrent.futures import ThreadPoolExecutor
+from pathlib import Path
+
+from gaffcurrant_plant.controller import APPLY, ARRIVED, NO_ROW, Controller
+from gaffcurrant_plant.reader import Refused
+from gaffcurrant_plant.table import NoRow, read_table, text_of_table
+
+from .check_readers import c_answers, expected, random_states
+
+# The calls of the library, which alone the shared object shows.
+CALLS = ["close", "control", "control_each", "open", "rank", "sizes"]
+STRICT = ["-std=c99", "-pedantic", "-Wall", "-Wextra", "-Werror"]
+SANITIZERS = ["-g", "-O1", "-fsanitize=address,undefined", "-fno-sanitize-recover=all"]
+# Tables whose rows control.c is asked for as well.
+IN_C = ("line", "cart", "gate", "vehicle", "lane")
+
+
+def check(report):
+    missing = [program for program in ("rt", "gcc", "g++", "ar") if shutil.which(program) is None]
+    if missing:
+        print(f"skipped: the library isn't built, there is no {', '.join(missing)}")
+        return
+    with tempfile.TemporaryDirectory() as name:
+        room = Path(name)
+        libraries = {backend: built_library(report, room / backend, backend) for backend in ("llvm", "rattle")}
+        if not all(libraries.values()):
+            return
+        tables = {name: report.table_text(name) for name in report.examples()}
+        tables = {name: text for name, text in tables.items() if text is not None}
+        for name, text in tables.items():
+            (room / f"{name}.table").write_bytes(text)
+        check_object(report, libraries["llvm"])
+        check_headers(report, room, libraries["llvm"])
+        programs = {backend: compiled(report, room, f"answer_{backend}", "answer.c", library) for backend, library in libraries.items()}
+        programs["the sanitizers"] = compiled(report, room, "answer_sane", "answer.c", libraries["llvm"], SANITIZERS)
+        with ThreadPoolExecutor(os.cpu_count() or 1) as pool:
+            list(pool.map(lambda name: check_table(report, room, name, tables[name], programs, libraries["llvm"]), tables))
+        check_uses(report, room, libraries)
+        check_python(report, room, libraries["llvm"], tables["cart"])
+        check_readme(report, room, libraries["llvm"])
+
+
+def built_library(report, folder, backend):
+    """The folder with the library as a compiler builds it, or None: over the libraries that `rt ci` left, where they stand."""
+    standing = ["--standing"] if (report.top / "crates/table_control/out/rlib/table_control.rlib").exists() else []
+    done = subprocess.run([report.top / "tools/library", *standing, folder, "--jobs", "1", "--backend", backend], capture_output=True, check=False)
+    report.expect(f"library: tools/library by {backend}", (0, f"{folder}/libgaffcurrant.a\n{folder}/libgaffcurrant.so\n"),
+                  (done.returncode, done.stdout.decode() or done.stderr.decode()[-300:]))
+    return folder if done.returncode == 0 else None
+
+
+def compiled(report, room, name, source, library, words=(), compiler=("gcc", *STRICT)):
+    """The program of a source of tests/library, linked with a library."""
+    done = subprocess.run([*compiler, *(words or ["-O2"]), f"-I{report.top}/include", report.top / "tests/library" / source, library / "libgaffcurrant.a",
+                           "-o", room / name], capture_output=True, check=False)
+    report.expect(f"library: {name} is compiled", (0, b""), (done.returncode, done.stderr[:300]))
+    return room / name
+
+
+def ran(program, *words, data="", before=()):
+    done = subprocess.run([*before, program, *map(str, words)], input=data.encode(), capture_output=True, check=False)
+    return done.returncode, done.stdout.decode(), done.stderr.decode("utf-8", "replace")[-300:]
+
+
+def check_object(report, library):
+    """The shared object shows the calls of the header and nothing else, and needs the C library alone."""
+    shown = ran("nm", "-D", "--defined-only", library / "libgaffcurrant.so")[1].split()[2::3]
+    report.expect("library: what the shared object shows", [f"gaffcurrant_{name}" for name in CALLS], sorted(shown))
+    needed = [line.split("[")[1] for line in ran("readelf", "-d", library / "libgaffcurrant.so")[1].splitlines() if "NEEDED" in line]
+    report.expect("library: what the shared object needs", ["libc.so.6]"], needed)
+
+
+def check_headers(report, room, library):
+    """The header is read by C99, C11 and C++, and each of its calls is found."""
+    for standard in ("c++11", "c++17"):
+        program = compiled(report, room, f"header_{standard}", "header.cpp", library, compiler=("g++", f"-std={standard}", *STRICT[1:]))
+        report.expect(f"library: the header in {standard}", 0, ran(program)[0])
+    text = (report.top / "include/gaffcurrant.h").read_text()
+    report.expect("library: the calls of the header", [], [name for name in CALLS if f" gaffcurrant_{name}(struct gaffcurrant *controller" not in text])
+
+
+def lines_of(states):
+    return "".join(" ".join(map(str, state)) + "\n" for state in states)
+
+
+def wanted_of(table, states):
+    """What answer.c prints: the reply, the rank and the inputs."""
+    said = []
+    for state in states:
+        row = table.rows.get(table.plant.cell_of(state))
+        if row is None:
+            said.append(f"{NO_ROW} 0")
+        elif row[1] is None:
+            said.append(f"{ARRIVED} {row[0]}")
+        else:
+            said.append(" ".join(map(str, (APPLY, row[0] or 0, *table.plant.vector(row[1])))))
+    return [*said, "each the same"]
+
+
+def check_table(report, room, name, text, programs, library):
+    table = read_table(text)
+    states = random_states(table.plant)
+    wanted = wanted_of(table, states)
+    for backend, program in programs.items():
+        report.expect(f"library: {name} at random states by {backend}", (0, wanted, ""), split(ran(program, room / f"{name}.table", data=lines_of(states))))
+    first = room / f"{name}_1.table"
+    first.write_text(text_of_table(table.plant, table.rows, 1))
+    report.expect(f"library: {name} in version 1", (0, wanted, ""), split(ran(programs["llvm"], first, data=lines_of(states))))
+    check_runs(report, room, name, text, table, programs["llvm"])
+    check_controller(report, name, text, table, states, library)
+    if name in IN_C:
+        answers = c_answers(report, "gcc", report.top / "examples/device", text, room / f"{name}_c")(states)
+        report.expect(f"library: {name} by control.c", expected(table, states), answers)
+        told = [" ".join(line.split()[2:]) if line[0] == "1" else "arrived" if line[0] == "0" else "no row" for line in wanted[:-1]]
+        report.expect(f"library: {name} as control.c answers", answers, told)
+
+
+def split(done):
+    return done[0], done[1].splitlines(), done[2]
+
+
+def check_runs(report, room, name, text, table, program):
+    """From cells of the greatest ranks: at each sample of `sim` the library has its rank and its input."""
+    plant = table.plant
+    for seed, cell in enumerate(sorted(table.rows, key=lambda cell: table.rows[cell][0] or 0)[-3:], 5):
+        status, trace, _ = report.run(("sim", "300", str(seed), *map(str, plant.low(cell))), text)
+        report.expect(f"library: {name}: sim answers", 0, status)
+        samples = [line.split(" ") for line in trace.decode().splitlines()[1:]]
+        samples = [words[1:] for words in samples if len(words) == len(plant.states) + 3]
+        states = [words[:-2] for words in samples]
+        wanted = [f"{ARRIVED} {rank}" if choice == "-" else " ".join(map(str, (APPLY, 0 if rank == "-" else rank, *plant.vector(int(choice)))))
+                  for *_, rank, choice in samples]
+        report.expect(f"library: {name} along a run", (0, [*wanted, "each the same"], ""), split(ran(program, room / f"{name}.table", data=lines_of(states))))
+
+
+def check_controller(report, name, text, table, states, library):
+    """Python's Controller by the shared object, and by the module's own Table, tells the same."""
+    replies = [(NO_ROW, None) if row is None else (ARRIVED, None) if row[1] is None else (APPLY, tuple(table.plant.vector(row[1])))
+               for row in (table.rows.get(table.plant.cell_of(state)) for state in states)]
+    for path in (str(library / "libgaffcurrant.so"), ""):
+        with Controller(text, path) as controller:
+            what = f"library: {name} by Python, {'the shared object' if path else 'the module'}"
+            report.expect(what, (bool(path), replies), (controller.is_proved, controller.choices(states)))
+            report.expect(f"{what}, one by one", [answer_of(table.choice, state) for state in states[:40]], [answer_of(controller.choice, state) for state in states[:40]])
+            ranks = [rank or 0 if rank != "NoRow" else rank for rank in (answer_of(table.rank, state) for state in states[:40])]
+            report.expect(f"{what}, ranks", ranks, [answer_of(controller.rank, state) for state in states[:40]])
+
+
+def answer_of(call, *words):
+    """What a call answers, or the name of what it raises."""
+    try:
+        return call(*words)
+    except (NoRow, Refused, ValueError) as error:
+        return type(error).__name__
+
+
+def check_uses(report, room, libraries):
+    cart, line = room / "cart.table", room / "line.table"
+    valgrind = shutil.which("valgrind")
+    if valgrind is None:
+        print("skipped: there is no valgrind, so the library isn't run in it")
+    for backend, library in libraries.items():
+        uses, lasting = (compiled(report, room, f"{name}_{backend}", f"{name}.c", library, ["-O2", "-D_GNU_SOURCE"]) for name in ("uses", "lasting"))
+        report.expect(f"library: uses by {backend}", (0, "as the header tells\n", ""), ran(uses, cart))
+        report.expect(f"library: opened and closed 10,000 times by {backend}", (0, "constant\n", ""), ran(lasting, line, 10000))
+        if valgrind:
+            before = (valgrind, "--quiet", "--error-exitcode=9", "--leak-check=full", "--show-leak-kinds=all", "--errors-for-leak-kinds=all")
+            report.expect(f"library: uses in valgrind by {backend}", (0, "as the header tells\n", ""), ran(uses, cart, before=before))
+    sane = compiled(report, room, "uses_sane", "uses.c", libraries["llvm"], SANITIZERS)
+    report.expect("library: uses under the sanitizers", (0, "as the header tells\n", ""), ran(sane, cart))
+
+
+def check_readme(report, room, library):
+    """The program of examples/device/README.md prints what is told there."""
+    said = (report.top / "examples/device/README.md").read_text()
+    (room / "sample.c").write_text(next(code for code in re.findall(r"```c\n(.*?)```", said, re.DOTALL) if "gaffcurrant.h" in code))
+    program = compiled(report, room, "sample", room / "sample.c", library)
+    wanted = re.search(r"\./sample gate\.table +# prints (\S+):", said).group(1)
+    report.expect("library: what the README tells", (0, f"{wanted}\n", ""), ran(program, room / "gate.table"))
+    report.expect("library: the README's program of no table", (1, "no table: line 1\n", ""), ran(program, room / "sample.c"))
+
+
+def check_python(report, room, library, text):
+    """What Python's Controller raises, the same by the shared object and by the module."""
+    shared = str(library / "libgaffcurrant.so")
+    for path in (shared, ""):
+        what = f"library: Python by {'the shared object' if path else 'the module'}"
+        for data, wanted in ((text[:-1], "malformed"), (b"", "malformed: line 1"), (text.replace(b"table ", b"stay ", 1), "malformed: line 1")):
+            try:
+                Controller(data, path)
+                answer = "open"
+            except Refused as refused:
+                answer = refused.answer[:len(wanted)]
+            report.expect(f"{what} of {data[-20:]!r}", wanted, answer)
+        controller = Controller(text.decode(), path)
+        report.expect(f"{what}: sizes and kinds of states", ["ValueError"] * 3 + ["NoRow"] * 2,
+                      [answer_of(controller.choice, state) for state in ([1], [1, 2, 3], [0.5, 0], [10 ** 30, 0], [0, -10 ** 30])])
+        report.expect(f"{what}: none at once", [], controller.choices([]))
+        controller.close()
+        controller.close()
+        report.expect(f"{what}: closed", ["ValueError"] * 3, [answer_of(*call) for call in ((controller.choice, [1, 2]), (controller.rank, [1, 2]), (controller.choices, [[1, 2]]))])
+    found = subprocess.run([sys.executable, "-c", "from gaffcurrant_plant import Controller; import sys; print(Controller(sys.stdin.read()).is_proved)"], input=text,
+                           capture_output=True, check=False, env={**os.environ, "PYTHONPATH": str(report.top / "tools"), "GAFFCURRANT_LIBRARY": shared})
+    report.expect("library: the shared object that GAFFCURRANT_LIBRARY names", (b"True\n", b""), (found.stdout, found.stderr[-300:]))

@@ -1,0 +1,168 @@
+"""A controller by a table: the proved library of crates/controller_c by ctypes where its shared object is found (tools/library makes it), else the
+module's own Table."""
+
+from __future__ import annotations
+
+import ctypes
+import os
+from pathlib import Path
+from typing import Any, Iterable, Optional, Sequence, Union
+
+from .reader import Refused
+from .table import NoRow, Table, read_table, whole_of
+
+HERE = Path(__file__).resolve().parent
+
+# The replies of include/gaffcurrant.h.
+APPLY, ARRIVED, NO_ROW, WRONG_SIZE, CLOSED = 1, 0, -1, -2, -3
+FAULTS = {1: "malformed: line {}", 2: "limit", 3: "no memory"}
+
+# A state past 64 bits is outside every plant's ranges, as these are.
+FARTHEST = 2 ** 63 - 1
+
+Values = Optional[tuple[int, ...]]
+
+
+class Held(ctypes.Structure):
+    """The struct gaffcurrant."""
+    _fields_ = [("is_open", ctypes.c_bool), ("table", ctypes.c_void_p)]
+
+
+def library_path() -> Optional[str]:
+    """The shared object: what GAFFCURRANT_LIBRARY names, else the one of the repository in which this module lies, where it is built."""
+    if named := os.environ.get("GAFFCURRANT_LIBRARY"):
+        return named
+    built = HERE.parents[1] / "crates/controller_c/out/libgaffcurrant.so"
+    return str(built) if built.is_file() else None
+
+
+def library_at(path: str) -> ctypes.CDLL:
+    library = ctypes.CDLL(path)
+    held, numbers, replies = ctypes.POINTER(Held), ctypes.POINTER(ctypes.c_int64), ctypes.POINTER(ctypes.c_int32)
+    number, size = ctypes.POINTER(ctypes.c_uint32), ctypes.c_size_t
+    for name, words in (("open", [ctypes.c_char_p, size, number]), ("control", [numbers, size, numbers, size]), ("sizes", [number, number]),
+                        ("control_each", [numbers, size, numbers, size, replies, size]), ("rank", [numbers, size, number]), ("close", [])):
+        call = getattr(library, f"gaffcurrant_{name}")
+        call.argtypes, call.restype = [held, *words], None if name == "close" else ctypes.c_int32
+    return library
+
+
+class Library:
+    """A table that the library holds. One thread at a time uses it."""
+
+    def __init__(self, path: str, text: bytes) -> None:
+        self.calls, self.held = library_at(path), Held()
+        line, sizes = ctypes.c_uint32(), (ctypes.c_uint32(), ctypes.c_uint32())
+        status = self.calls.gaffcurrant_open(self.held, text, len(text), line)
+        if status:
+            if status != 3:
+                read_table(text)
+            raise Refused(FAULTS[status].format(line.value), "the library refuses it")
+        self.calls.gaffcurrant_sizes(self.held, *sizes)
+        self.states, self.inputs = (size.value for size in sizes)
+
+    def replies(self, states: Sequence[Sequence[int]]) -> list[tuple[int, Values]]:
+        count = len(states)
+        numbers = [value for state in states for value in state]
+        asked, values, replies = (ctypes.c_int64 * len(numbers))(*numbers), (ctypes.c_int64 * (count * self.inputs))(), (ctypes.c_int32 * count)()
+        status = self.calls.gaffcurrant_control_each(self.held, asked, len(asked), values, len(values), replies, count)
+        if status:
+            raise ValueError("the controller is closed" if status == CLOSED else f"a state has {self.states} numbers")
+        starts = range(0, count * self.inputs, self.inputs) if self.inputs else [0] * count
+        return [(reply, tuple(values[at:at + self.inputs]) if reply == APPLY else None) for reply, at in zip(replies, starts)]
+
+    def rank(self, state: Sequence[int]) -> Optional[int]:
+        rank = ctypes.c_uint32()
+        status = self.calls.gaffcurrant_rank(self.held, (ctypes.c_int64 * len(state))(*state), len(state), rank)
+        if status < NO_ROW:
+            raise ValueError("the controller is closed" if status == CLOSED else f"a state has {self.states} numbers")
+        return rank.value if status == 1 else None
+
+    def close(self) -> None:
+        self.calls.gaffcurrant_close(self.held)
+
+
+class Rows:
+    """The same by a Table."""
+
+    def __init__(self, text: bytes) -> None:
+        self.table: Optional[Table] = read_table(text)
+        self.states = len(self.table.plant.states)
+
+    def replies(self, states: Sequence[Sequence[int]]) -> list[tuple[int, Values]]:
+        return [self.reply(state) for state in states]
+
+    def reply(self, state: Sequence[int]) -> tuple[int, Values]:
+        try:
+            values = self.opened().choice(state)
+        except NoRow:
+            return NO_ROW, None
+        return (ARRIVED if values is None else APPLY), values
+
+    def rank(self, state: Sequence[int]) -> Optional[int]:
+        try:
+            return self.opened().rank(state) or 0
+        except NoRow:
+            return None
+
+    def opened(self) -> Table:
+        if self.table is None:
+            raise ValueError("the controller is closed")
+        return self.table
+
+    def close(self) -> None:
+        self.table = None
+
+
+class Controller:
+    """What a table chooses at states in whole units. is_proved: whether the library answers. Raises Refused where the bytes are no table.
+
+    library names the shared object; it is looked for where that is left out, and '' is for the module's own Table. A controller is closed by
+    `close`, at the end of a `with`, or when it is collected; after that it raises ValueError, as at a state of a wrong size."""
+
+    def __init__(self, text: Union[str, bytes], library: Optional[str] = None) -> None:
+        data = text.encode() if isinstance(text, str) else bytes(text)
+        path = library_path() if library is None else library
+        self.is_proved = bool(path)
+        self._rows: Union[Library, Rows] = Library(path, data) if path else Rows(data)
+
+    def choice(self, state: Iterable[Any]) -> Values:
+        """The values to apply at a state, one for each input, or None in a target, where nothing has to be; raises NoRow."""
+        whole = self.whole(state)
+        (reply, values), = self._rows.replies([whole])
+        if reply == NO_ROW:
+            raise NoRow(f"{whole} has no row")
+        return values
+
+    def choices(self, states: Iterable[Iterable[Any]]) -> list[tuple[int, Values]]:
+        """The reply and the values at each of many states: (APPLY, values), (ARRIVED, None) or (NO_ROW, None)."""
+        return self._rows.replies([self.whole(state) for state in states])
+
+    def rank(self, state: Iterable[Any]) -> int:
+        """The number of samples that suffice from a state, 0 with goal keep; raises NoRow."""
+        whole = self.whole(state)
+        rank = self._rows.rank(whole)
+        if rank is None:
+            raise NoRow(f"{whole} has no row")
+        return rank
+
+    def whole(self, state: Iterable[Any]) -> list[int]:
+        """A state as whole numbers of 64 bits; raises ValueError where it is none, or has too few or too many numbers."""
+        whole = [max(-FARTHEST, min(FARTHEST, whole_of(value))) for value in state]
+        if len(whole) != self._rows.states:
+            raise ValueError(f"a state has {self._rows.states} numbers, here are {len(whole)}")
+        return whole
+
+    def close(self) -> None:
+        """Frees the table; may be called twice."""
+        if hasattr(self, "_rows"):
+            self._rows.close()
+
+    def __enter__(self) -> Controller:
+        return self
+
+    def __exit__(self, *fault: Any) -> None:
+        self.close()
+
+    def __del__(self) -> None:
+        self.close()
