@@ -1,6 +1,5 @@
 pub mod Rows
 pub mod Draws
-pub mod Padding
 pub mod Lines
 pub mod Ends
 pub mod Steps

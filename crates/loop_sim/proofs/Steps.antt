@@ -1,8 +1,7 @@
 -- The step from one sample to the next.
-use Rattle.std.proofs.Common.{◌≡◌, ℕ, zero, suc, ◌+◌, ◌-◌, ◌*◌, ◌<◌, ◌≤◌, List, [], ◌∷◌, ◌++◌, Option, Some, None, All, length, map, take, replicate, sym, ap, subst, ◌∙◌, arith}
-use Rattle.std.specs.Prelude.{ℤ, pos, IfSome, slice_index_or}
+use Rattle.std.proofs.Common.{◌≡◌, ℕ, zero, suc, ◌+◌, ◌-◌, ◌*◌, ◌<◌, ◌≤◌, List, ◌++◌, Option, Some, length, map, take, replicate, sym, ap, subst, ◌∙◌, arith}
+use Rattle.std.specs.Prelude.{ℤ, pos}
 use Rattle.std.proofs.lemmas.List.{take-append-le}
-use Rattle.std.proofs.lemmas.List.Elements.{All-head, All-tail}
 use Rattle.fixed_expr.specs.Value.{value_of}
 use Rattle.game_core.specs.declared.game.Row.{Row}
 use Rattle.grid_quantiser.specs.Cells.{cell_of, point_of}
@@ -13,23 +12,16 @@ use Rattle.plant_record.specs.Steps.{IsNoise, step_of, StepStaysInRange}
 use Rattle.successor_box.specs.Deviations.{HasNoOverflow}
 use Rattle.successor_box.proofs.Steps.{step_stays}
 use Rattle.controller_table.specs.Tables.{TableModel, IsRowOf, RowsFit}
+use Rattle.table_control.proofs.Fitting.{row_fits as fits}
 use Rattle.loop_sim.specs.Noise.{generator, noises_at, noises_from}
 use Rattle.loop_sim.specs.Trace.{row_at, trace_lines}
 use Rattle.loop_sim.specs.inside.Stages.{lines_on}
 use Rattle.loop_sim.proofs.Draws.{noise_count, noises_later, noises_lie}
 use Rattle.loop_sim.proofs.Rows.{has_row}
 
-none_some : (row : Row) → None ≡ Some row → ⊥
-none_some row e = cc
-
-row_is : (p : Description) (rows : List (Option Row)) (c : ℕ) (row : Row) → All (λ r. IfSome r (IsRowOf p)) rows → slice_index_or rows c None ≡ Some row → IsRowOf p row
-row_is p [] c row each e = absurd (none_some row e)
-row_is p (r ∷ rows) zero row each e = subst (λ (o : Option Row). IfSome o (IsRowOf p)) e (All-head (λ r. IfSome r (IsRowOf p)) r rows each)
-row_is p (r ∷ rows) (suc c) row each e = row_is p rows c row (All-tail (λ r. IfSome r (IsRowOf p)) r rows each) e
-
 -- the row at a state fits the plant
 pub row_fits : (p : Description) (rows : List (Option Row)) (x : List ℤ) (row : Row) → RowsFit p rows → row_at p rows x ≡ Some row → IsRowOf p row
-row_fits p rows x row fit e = row_is p rows (cell_of (axes_of p) x) row fit.each (has_row p rows x row e).is
+row_fits p rows x row fit e = fits p rows fit (cell_of (axes_of p) x) row (has_row p rows x row e).is
 
 -- the noises that are drawn keep the step in the range
 pub stays : (p : Description) (rows : List (Option Row)) (x w : List ℤ) (row : Row) (before : ℕ) → IsWithinLimits p → RowsFit p rows → HasNoOverflow p → row_at p rows x ≡ Some row → w ≡ point_of (noises_from p.noises before 0)

@@ -1,21 +1,12 @@
 -- What a row of a table is within.
-use Rattle.std.proofs.Common.{inl, inr, ◌≡◌, ℕ, ◌<◌, List, length, Option, Some, None, IfSome, subst}
-use Rattle.std.proofs.lemmas.Bool.{cases_lt}
-use Rattle.std.proofs.lemmas.List.{get_or_past}
-use Rattle.std.proofs.lemmas.List.Elements.{All-get_or}
+use Rattle.std.proofs.Common.{◌≡◌, ℕ, ◌<◌, List, Option, Some, subst}
 use Rattle.game_core.specs.declared.game.Row.{Row}
 use Rattle.game_core.specs.Solution.{row_of}
 use Rattle.grid_quantiser.specs.Axes.{cells_of}
 use Rattle.plant_record.specs.declared.aims.GoalKind.TheVariants.{Reach}
 use Rattle.plant_record.specs.Description.{Description, axes_of, vectors_of}
-use Rattle.controller_table.specs.Tables.{HasFittingRank, IsRowOf, RowsFit}
-
-row_fits : (p : Description) (rows : List (Option Row)) → RowsFit p rows → (c : ℕ) (row : Row) → row_of rows c ≡ Some row → IsRowOf p row
-row_fits p rows h c row e =
-    elim (cases_lt c (length rows)) [
-      | inl lt ↦ let fits : IfSome (row_of rows c) (IsRowOf p) = All-get_or (λ o. IfSome o (IsRowOf p)) rows c None lt h.each in subst (λ o. IfSome o (IsRowOf p)) e fits
-      | inr ge ↦ let past = get_or_past rows c None ge in absurd (cc)
-    ]
+use Rattle.controller_table.specs.Tables.{HasFittingRank, RowsFit}
+use Rattle.table_control.proofs.Fitting.{row_fits}
 
 pub input_fits : (p : Description) (rows : List (Option Row)) → RowsFit p rows → (c : ℕ) (row : Row) → row_of rows c ≡ Some row → row.input < vectors_of p.inputs
 input_fits p rows h c row e = (row_fits p rows h c row e).input

@@ -2,7 +2,7 @@ use Rattle.std.proofs.Common.{◌<◌, List, get_or, set, pos, refl, ap₂, ◌�
 use Rattle.std.specs.Prelude.{ℤ, FitsSigned}
 use Rattle.std.specs.Int.{w128}
 use Rattle.std.proofs.lemmas.Int.{to_z-of_z}
-use Rattle.loop_sim.proofs.Padding.{point_more}
+use Rattle.successor_box.proofs.Padding.{point_more}
 use Rattle.loop_sim.proofs.sim.start_of.Goals as goal
 
 pub loop-i-preserved : goal.loop-i-preserved
