@@ -67,7 +67,7 @@ int main(int count, char **words)
         for (int k = 0; k < MANY; k++) sum += control(states[k], value);
     at[3] = seconds();
     double each = 1e9 / (MANY * (double)ROUNDS);
-    printf("%s %.2f %zu %.1f %.1f %.1f %ld\n", is_same ? "same" : "differ", opening * 1e3, held, (at[1] - at[0]) * each, (at[2] - at[1]) * each, (at[3] - at[2]) * each, sum & 1);
     gaffcurrant_close(&c);
-    return given() != before;
+    printf("%s %.2f %zu %.1f %.1f %.1f %ld\n", is_same ? "same" : "differ", opening * 1e3, held, (at[1] - at[0]) * each, (at[2] - at[1]) * each, (at[3] - at[2]) * each, sum & 1);
+    return 0;
 }
