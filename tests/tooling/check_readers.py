@@ -75,7 +75,7 @@ def check_drive(report, device, compiler, room):
     """The README's loop in real units brings the gate's model into its target, never into its obstacle."""
     model = report.top / "examples/gate/gate.model"
     (room / "table.h").write_text(report.tool("header", "--ranks", "--model", model, room / "gate.table")[1])
-    (room / "drive.c").write_text(re.search(r"```c\n(.*?)```", (device / "README.md").read_text(), re.DOTALL).group(1))
+    (room / "drive.c").write_text(next(code for code in re.findall(r"```c\n(.*?)```", (device / "README.md").read_text(), re.DOTALL) if "falls(" in code))
     shutil.copy(device / "control.c", room)
     built = subprocess.run([compiler, "-std=c99", "-O2", "-Wall", "-Wextra", "-Werror", "drive.c", "-lm", "-o", "drive"], cwd=room, capture_output=True, check=False)
     report.expect("the README's loop in real units is compiled", (0, b""), (built.returncode, built.stderr[:300]))
