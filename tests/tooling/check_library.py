@@ -20,8 +20,6 @@ from .check_readers import c_answers, expected, random_states
 CALLS = ["close", "control", "control_each", "open", "rank", "sizes"]
 STRICT = ["-std=c99", "-pedantic", "-Wall", "-Wextra", "-Werror"]
 SANITIZERS = ["-g", "-O1", "-fsanitize=address,undefined", "-fno-sanitize-recover=all"]
-# Tables whose rows control.c is asked for as well.
-IN_C = ("line", "cart", "gate", "vehicle", "lane")
 
 
 def check(report):
@@ -117,11 +115,10 @@ def check_table(report, room, name, text, programs, library):
     report.expect(f"library: {name} in version 1", (0, wanted, ""), split(ran(programs["llvm"], first, data=lines_of(states))))
     check_runs(report, room, name, text, table, programs["llvm"])
     check_controller(report, name, text, table, states, library)
-    if name in IN_C:
-        answers = c_answers(report, "gcc", report.top / "examples/device", text, room / f"{name}_c")(states)
-        report.expect(f"library: {name} by control.c", expected(table, states), answers)
-        told = [" ".join(line.split()[2:]) if line[0] == "1" else "arrived" if line[0] == "0" else "no row" for line in wanted[:-1]]
-        report.expect(f"library: {name} as control.c answers", answers, told)
+    answers = c_answers(report, "gcc", report.top / "examples/device", text, room / f"{name}_c")(states)
+    report.expect(f"library: {name} by control.c", expected(table, states), answers)
+    told = [" ".join(line.split()[2:]) if line[0] == "1" else "arrived" if line[0] == "0" else "no row" for line in wanted[:-1]]
+    report.expect(f"library: {name} as control.c answers", answers, told)
 
 
 def split(done):
