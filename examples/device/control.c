@@ -5,6 +5,7 @@
        #define PREFIX NAME
        #include "control.c"
 */
+#include <float.h>
 #include <stddef.h>
 #ifdef PREFIX
 #define PASTED(prefix, name) prefix##_##name
@@ -18,9 +19,14 @@
 #define HAS_TURNS OF(HAS_TURNS)
 #define HAS_RANKS OF(HAS_RANKS)
 #define HAS_SIZES OF(HAS_SIZES)
+#define HAS_FRACTIONS OF(HAS_FRACTIONS)
 #define UNIT OF(UNIT)
+#define UNIT_FRACTION OF(UNIT_FRACTION)
+#define INPUT_UNIT OF(INPUT_UNIT)
+#define INPUT_UNIT_FRACTION OF(INPUT_UNIT_FRACTION)
 #define EXACT OF(EXACT)
 #define measure OF(measure)
+#define is_unit OF(is_unit)
 #define ARRAYS_CHECKSUM OF(ARRAYS_CHECKSUM)
 #define LOW OF(LOW)
 #define HIGH OF(HIGH)
@@ -166,6 +172,15 @@ int measure(const double value[], int64_t state[])
 }
 #endif
 
+#if HAS_FRACTIONS
+/* Whether a unit is its fraction, up to rounding. */
+static int is_unit(double unit, const int64_t fraction[])
+{
+    double whole = (double)fraction[0], beside = unit * (double)fraction[1] - whole;
+    return beside <= 4 * DBL_EPSILON * whole && -beside <= 4 * DBL_EPSILON * whole;
+}
+#endif
+
 /* A checksum that has taken in a number of so many bytes, the lowest first: the CRC-32 of many other programs. */
 static uint32_t fed(uint32_t sum, uint64_t number, size_t bytes)
 {
@@ -179,10 +194,10 @@ static uint32_t fed(uint32_t sum, uint64_t number, size_t bytes)
 #define FEED(array) for (size_t k = 0; k < sizeof (array) / sizeof *(array); k++) sum = fed(sum, (uint64_t)(array)[k], sizeof *(array))
 #define FEED_ROWS(array) for (size_t row = 0; row < sizeof (array) / sizeof *(array); row++) FEED((array)[row])
 
-/* Whether the arrays are those that tools/header has written: to be asked before the first sample. */
+/* Whether the numbers are those that tools/header has written: to be asked before the first sample. */
 int is_intact(void)
 {
-    uint32_t sum = 0xffffffffu;
+    uint32_t sum = fed(fed(0xffffffffu, NO_ROW, 4), ARRIVED, 4);
     FEED(LOW);
     FEED(HIGH);
     FEED(WIDTH);
@@ -203,6 +218,15 @@ int is_intact(void)
 #if HAS_RUNS && HAS_TURNS
     FEED(TURN);
 #endif
+#if HAS_FRACTIONS
+    for (int i = 0; i < STATES; i++) if (!is_unit(UNIT[i], UNIT_FRACTION[i])) return 0;
+    for (int i = 0; i < INPUTS; i++) if (!is_unit(INPUT_UNIT[i], INPUT_UNIT_FRACTION[i])) return 0;
+    FEED_ROWS(UNIT_FRACTION);
+    FEED_ROWS(INPUT_UNIT_FRACTION);
+#endif
+#if HAS_SIZES
+    FEED(EXACT);
+#endif
     return (sum ^ 0xffffffffu) == ARRAYS_CHECKSUM;
 }
 #undef FEED
@@ -216,9 +240,14 @@ int is_intact(void)
 #undef HAS_TURNS
 #undef HAS_RANKS
 #undef HAS_SIZES
+#undef HAS_FRACTIONS
 #undef UNIT
+#undef UNIT_FRACTION
+#undef INPUT_UNIT
+#undef INPUT_UNIT_FRACTION
 #undef EXACT
 #undef measure
+#undef is_unit
 #undef ARRAYS_CHECKSUM
 #undef LOW
 #undef HIGH

@@ -5,18 +5,24 @@ import os
 import sys
 import zlib
 from bisect import bisect_right
+from math import prod
 
 HEADS = (["table", "1"], ["table", "2"], ["stay", "1"], ["patrol", "1"])
 
 
 class Rows:
-    """Row lines, each about a cell or about a run of cells."""
+    """Row lines, each about a cell, of 3 words, or about a run of cells, of 4; raises ValueError where they aren't rows of so many cells and vectors."""
 
-    def __init__(self, lines):
+    def __init__(self, lines, wide, cells, vectors):
+        if not all(len(line) == wide and all(word.isdecimal() or word == "-" for word in line) for line in lines):
+            raise ValueError("a row line isn't of its form: the text was changed")
         self.first = [int(line[0]) for line in lines]
         self.last = [int(line[-3]) for line in lines]
         self.rank = [line[-2] for line in lines]
         self.input = [line[-1] for line in lines]
+        rises = all(first <= last < after for first, last, after in zip(self.first, self.last, self.first[1:] + [cells]))
+        if not rises or any(word != "-" and int(word) >= vectors for word in self.input):
+            raise ValueError("a row line isn't about a cell and an input of the table's plant: the text was changed")
 
     def at(self, cell):
         """The words of a row's rank and input, or None where the cell has no row."""
@@ -38,20 +44,26 @@ class Controller:
             heads = ", ".join(f"`{' '.join(head)}`" for head in HEADS)
             raise ValueError(f"this is no table: it begins with one of {heads}, and ends with `end`")
         front = lines[:lines.index(["end"])]
-        self.states = [(line[1], *map(int, line[2:5])) for line in front if line[0] == "state"]
-        self.inputs = [list(map(int, line[2:])) for line in front if line[0] == "input"]
-        self.targets = [list(map(int, line[1:])) for line in front if line[0] == "target"]
+        self.states = [state_of(line[1:]) for line in front if line[:1] == ["state"]]
+        self.inputs = [list(map(int, line[2:])) for line in front if line[:1] == ["input"]]
+        self.targets = [list(map(int, line[1:])) for line in front if line[:1] == ["target"]]
         self.is_patrol, self.turn, self.has_begun = lines[0][0] == "patrol", 0, False
         self.falls, self.last_rank = True, None
-        self.rows = self.rows_of(lines[len(front) + 1:-1])
+        self.rows = self.rows_of(lines[len(front) + 1:-1], 3 if lines[0] == ["table", "1"] else 4)
 
-    def rows_of(self, lines):
+    def rows_of(self, lines, wide):
         """The rows of each turn, or the one part of a text that has no turns; each begins with a line that counts its row lines."""
         parts, at = [], 0
-        while at < len(lines):
-            count = int(lines[at][-1])
-            parts.append(Rows(lines[at + 1:at + 1 + count]))
-            at += 1 + count
+        cells = prod((high - low + 1) // width for _, low, high, width in self.states)
+        heads = [["turn", str(turn), "rows"] for turn in range(len(self.targets))] if self.is_patrol else [["rows"]]
+        for head in heads:
+            *words, count = lines[at] if at < len(lines) else [""]
+            if words != head or not count.isdecimal():
+                raise ValueError(f"a line `{' '.join(head)} N` is due: the text was changed, or cut off")
+            parts.append(Rows(lines[at + 1:at + 1 + int(count)], wide, cells, prod(map(len, self.inputs))))
+            at += 1 + int(count)
+        if at != len(lines):
+            raise ValueError("there are more or fewer row lines than are counted: the text was changed, or cut off")
         return parts
 
     def control(self, state):
@@ -106,6 +118,13 @@ class Controller:
             applied.insert(0, values[number % len(values)])
             number //= len(values)
         return applied
+
+
+def state_of(words):
+    """Name, least and greatest number, and width of a cell, by the words of a line."""
+    if len(words) != 4 or int(words[1]) > int(words[2]) or int(words[3]) < 1:
+        raise ValueError(f"`state {' '.join(words)}` is no line of a state: the text was changed")
+    return words[0], *map(int, words[1:])
 
 
 def whole(value):

@@ -13,6 +13,7 @@ from fractions import Fraction
 from pathlib import Path
 
 from gaffcurrant_plant.monitor import Monitor
+from gaffcurrant_plant.solving import simulate
 from gaffcurrant_plant.table import read_text, text_of_table
 
 from .check_readers import called, expected, python_answers, random_states
@@ -24,6 +25,11 @@ OTHERS = [("state x 0 9.99 0.09 0.01", "state y 0 9.99 0.09 0.01", "its states a
           ("state x 0 9.99 0.09 0.01", "state x 0 9.99 0.09 0.03", "x has 0 to 332 in cells of 3 units"),
           ("-0.6 -0.4 -0.2", "-0.6 -0.5 -0.2", "the values of u are -100 -60 -50 -20 0"),
           ("input u", "input f 1 0\ninput u", "its inputs are f, u, those of the table u")]
+# A part of the gate's header, what stands in its place, and whether main.c sees it.
+CHANGES = [("NO_ROW 255", "NO_ROW 253", True), ("ARRIVED 254", "ARRIVED 253", True), ("LOW[STATES] = {0,", "LOW[STATES] = {9,", True),
+           ("UNIT[STATES] = {0.01,", "UNIT[STATES] = {0.011,", True), ("INPUT_UNIT[] = {0.01}", "INPUT_UNIT[] = {0.1}", True),
+           ("UNIT_FRACTION[][2] = {{1, 100}, {1, 100}}", "UNIT_FRACTION[][2] = {{2, 200}, {1, 100}}", True), ("EXACT[STATES] = {0, 0}", "EXACT[STATES] = {1, 0}", True),
+           ("/* x in m", "/* x in mm", False)]
 WORDS = [(["--prefix", "9a"], 2, "--prefix takes a letter"), (["--st", "--matlab"], 2, "not allowed with"), (["--model", "nowhere"], 1, "nowhere")]
 TWO = """#include <stdio.h>
 #include "one.h"
@@ -108,24 +114,43 @@ def check_units(report):
         report.holds(f"fractions of units by {name}", "UNIT_FRACTION[][2] = {{2, 875}, {1, 750}};" in header and "EXACT[STATES] = {1, 0};" in header, header)
 
 
+def runs(report):
+    """A text of each kind, and a run by it without disturbances: a table to reach and one to keep, a stay text and a patrol text."""
+    stay = report.run(("stay", "1"), report.plant_text("boost_stay"))[1]
+    for name, data, start in (("gate", report.gate, [20, 0]), ("lane", report.table_text("lane"), [-600, 300]), ("boost_stay", stay, [70000, 530000]),
+                              ("docks", report.docks, [360, 180])):
+        text = read_text(data)
+        yield name, data, text, simulate(text, start, lambda *_, text=text: text.plant.rest, samples=80)
+
+
 def check_monitor(report):
-    """The module and control.py say where the rank doesn't fall: along a run it does, and where a state comes twice it doesn't."""
-    table, patrol = read_text(report.gate), read_text(report.docks)
-    for text, data, start in ((table, report.gate, [20, 0]), (patrol, report.docks, [360, 180])):
-        states = [start]
-        plant, turn = text.plant, 0
-        for _ in range(60):
-            if text.kind == "patrol" and len(states) > 1:
-                turn = text.turn_after(turn, states[-1])
-            choice = (text.turns[turn] if text.kind == "patrol" else text).choice(states[-1])
-            if choice is None:
-                break
-            states.append(plant.step(states[-1], choice, plant.rest))
+    """The module and control.py say where the rank doesn't fall: along a run it does, and where a state comes twice it doesn't, but by a table to keep.
+    From rank 0 of a stay text a greater rank is none that falls. No state that isn't one of the plant's changes anything."""
+    for name, data, text, run in runs(report):
+        states = [list(sample.state) for sample in run]
         monitor, controller = Monitor(text), controller_of(report, data.decode())
-        report.expect(f"a {text.kind}'s ranks fall along a run", [(True, True)] * len(states), [(monitor.falls(state), falls_of(controller, state)) for state in states])
+        report.expect(f"{name}: ranks fall along a run", [(True, True)] * len(states), [(monitor.falls(state), falls_of(controller, state)) for state in states])
+        keeps = text.kind == "table" and text.keeps
+        back = [states[0], states[1], states[0], states[1], [10 ** 6, 0]]
+        wanted = [True, True, keeps, True, False]
+        if text.kind == "stay":
+            report.expect("the run of the stay text comes to a held cell", 0, run[-1].rank)
+            back, wanted = back + [states[-1], states[0]], wanted + [True, False]
         monitor, controller = Monitor(text), controller_of(report, data.decode())
-        seen = [(monitor.falls(state), falls_of(controller, state)) for state in (states[0], states[1], states[0], states[1], [10 ** 6, 0])]
-        report.expect(f"a {text.kind}'s rank that doesn't fall", [(True, True)] * 2 + [(False, False), (True, True), (False, False)], seen)
+        seen = []
+        for state in back:
+            for wrong in (state[:1], [*state, 0], [state[0] + 0.5, state[1]], [float("nan"), state[1]], [float("inf"), state[1]]):
+                report.holds(f"{name}: both refuse {wrong}", is_refused(monitor.falls, wrong) and is_refused(controller.control, wrong))
+            seen.append((monitor.falls(state), falls_of(controller, state)))
+        report.expect(f"{name}: ranks that don't fall", [(fact, fact) for fact in wanted], seen)
+
+
+def is_refused(function, state):
+    try:
+        function(state)
+    except ValueError:
+        return True
+    return False
 
 
 def controller_of(report, text):
@@ -172,10 +197,37 @@ def check_programs(report, compiler, room):
         status, output, error = called(["./main", word], room, "20 0\n")
         report.holds(f"main.c with {word}", (status, output) == (wanted, "") and said in error, error)
     changed = re.sub(r"(ROW\[2997\] = \{\n    )\d+,", r"\g<1>3,", header)
-    (room / "table.h").write_text(changed if changed != header else "")
-    built(compiler, room, "main")
-    status, output, error = called(["./main"], room, "20 0\n")
-    report.holds("changed numbers are told", (status, output) == (1, "") and "aren't those that tools/header has written" in error, error)
+    for what, told, said in [("a row", changed, True)] + [(new, header.replace(old, new, 1), said) for old, new, said in CHANGES]:
+        (room / "table.h").write_text(told if told != header else "")
+        built(compiler, room, "main")
+        status, output, error = called(["./main"], room, "20 0\n")
+        wanted = (1, "", "control: the numbers of table.h aren't those that tools/header has written\n") if said else (0, "100\n", "")
+        report.expect(f"a header that was changed: {what}", wanted, (status, output, error))
+    check_falls(report, compiler, room)
+
+
+def check_falls(report, compiler, room):
+    """main.c and the block of structured text follow a run by each kind of text, and say where the rank doesn't fall."""
+    for name, data, text, run in runs(report):
+        states, plant = [list(sample.state) for sample in run], text.plant
+        said = "".join("arrived\n" if sample.inputs is None else " ".join(map(str, sample.inputs)) + "\n" for sample in run)
+        (room / "table.h").write_text(report.tool("header", "--ranks", "-", data=data)[1])
+        report.expect(f"{name}: main.c with ranks is compiled", (0, ""), built(compiler, room, "main"))
+        report.expect(f"{name}: main.c along a run", (0, said, ""), called(["./main"], room, lines_of(states)))
+        status, _, error = called(["./main"], room, lines_of([states[0], states[1], states[0]]))
+        keeps = text.kind == "table" and text.keeps
+        report.expect(f"{name}: main.c where a state comes twice", (0, "") if keeps else (1, "control: the rank hasn't fallen as the table promises\n"), (status, error))
+        source = report.tool("header", "--st", "--ranks", "-", data=data)[1]
+        machine = Machine(source)
+        falls = [bool(machine.call(STATE=state)["FALLS"]) for state in states]
+        report.expect(f"{name}: structured text along a run", [True] * len(states), falls)
+        machine = Machine(source)
+        back = [bool(machine.call(STATE=state)["FALLS"]) for state in (states[0], states[1], states[0], [plant.states[0][2] + 1, 0])]
+        report.expect(f"{name}: structured text where a state comes twice", [True, True, keeps, False], back)
+
+
+def lines_of(states):
+    return "".join(" ".join(map(str, state)) + "\n" for state in states)
 
 
 def samples(text):
@@ -193,7 +245,7 @@ def samples(text):
 
 
 def due(report, text, data, states):
-    return expected(text, states) if text.kind == "table" else python_answers(report.top / "examples/device", data.decode())(states)
+    return python_answers(report.top / "examples/device", data.decode())(states) if text.kind == "patrol" else expected(text, states)
 
 
 def said_of(status, inputs):
@@ -230,18 +282,38 @@ def check_matlab(report, room):
     if octave is None:
         print("skipped: Octave isn't there, so the function of MATLAB isn't run")
         return
-    for name, data in (("gate", report.gate), ("docks", report.docks)):
-        text = read_text(data)
-        states, of_turns = samples(text), text.kind == "patrol"
+    for name, data, text, run in runs(report):
+        of_turns, states = text.kind == "patrol", samples(text) if text.kind != "stay" else [list(sample.state) for sample in run]
         for words in ([], ["--runs", "--ranks"]):
             (room / "told.m").write_text(report.tool("header", "--matlab", "--prefix", "told", *words, "-", data=data)[1])
-            call = "[status, input, turn] = told(states(k, :), turn);" if of_turns else "[status, input] = told(states(k, :));"
+            results = ", turn" * of_turns + ", rank" * ("--ranks" in words)
+            call = f"[status, input{results}] = told(states(k, :){', turn' * of_turns});"
             rows = "; ".join(" ".join(map(str, state)) for state in states)
-            script = f"states = [{rows}];\nturn = [];\nfor k = 1:rows(states)\n  {call}\n  printf('%d', status);\n  printf(' %d', input);\n  printf('\\n');\nend\n"
-            (room / "ask.m").write_text(script)
-            done = subprocess.run([octave, "--no-gui", "--quiet", "ask.m"], cwd=room, capture_output=True, check=False)
-            got = [said_of(int(line.split()[0]), line.split()[1:]) for line in done.stdout.decode().splitlines()]
-            report.expect(f"{name}: the function of MATLAB {words}", due(report, text, data, states), got or done.stderr.decode()[:200])
+            script = f"states = [{rows}];\nturn = [];\nrank = [];\nfor k = 1:rows(states)\n  {call}\n  printf('%d %d', status, [rank, -1](1));\n  " \
+                "printf(' %d', input);\n  printf('\\n');\nend\n"
+            answers, error = octave_says(octave, room, script)
+            got = [said_of(int(line.split()[0]), line.split()[2:]) for line in answers]
+            report.expect(f"{name}: the function of MATLAB {words}", due(report, text, data, states), got or error)
+            if words and text.kind in ("table", "stay"):
+                ranks = [(text.rows.get(text.plant.cell_of(state), (-1, None))[0] or 0) for state in states]
+                report.expect(f"{name}: the ranks of the function of MATLAB", ranks, [int(line.split()[1]) for line in answers])
+    check_matlab_refuses(report, room, octave)
+
+
+def check_matlab_refuses(report, room, octave):
+    """No number, an infinity and a fraction have no row; a state of the wrong length is an error."""
+    (room / "told.m").write_text(report.tool("header", "--matlab", "--prefix", "told", "-", data=report.gate)[1])
+    script = "for x = {[NaN 0], [Inf 0], [-Inf 0], [20.5 0], [20 0]}\n  printf('%d\\n', told(x{1}));\nend\n" \
+        "for x = {[20], [20 0 0], []}\n  try\n    told(x{1});\n    puts(\"answered\\n\");\n  catch fault\n    printf('%s\\n', fault.message);\n  end\nend\n"
+    answers, error = octave_says(octave, room, script)
+    report.expect("the function of MATLAB of wrong states", ["-1"] * 4 + ["1"] + ["a state of this table has 2 numbers (x v)"] * 3, answers or error)
+
+
+def octave_says(octave, room, script):
+    """The lines that a script prints, and the beginning of what it complains of."""
+    (room / "ask.m").write_text(script)
+    done = subprocess.run([octave, "--no-gui", "--quiet", "--norc", "ask.m"], cwd=room, capture_output=True, check=False)
+    return done.stdout.decode().splitlines(), done.stderr.decode()[:200]
 
 
 def check_python(report):

@@ -20,15 +20,18 @@ class Header:
         self.in_runs, self.with_ranks, self.units, self.exact = in_runs, with_ranks, units, exact
         self.of_turns = text.kind == "patrol"
         self.bytes = bytearray()
+        self.fractions = [fraction_of(units.size(name)) for name, *_ in self.plant.states + self.plant.inputs] if units else [None]
 
     def lines(self):
-        arrays = self.grid() + (self.turns() if self.of_turns else []) + self.rows()
+        for number in (self.codes.none, self.codes.arrived):
+            self.bytes += number.to_bytes(4, "little")
+        arrays = self.grid() + (self.turns() if self.of_turns else []) + self.rows() + self.unit_lines()
         comment = [f"/* {WHAT[self.text.kind]} of Gaffcurrant as constant arrays, made by tools/header."] + [f"   {line}" for line in
                                                                                                              about(self.text, self.checksum)]
         defines = [("STATES", len(self.plant.states)), ("INPUTS", len(self.plant.inputs)), ("NO_ROW", self.codes.none), ("ARRIVED", self.codes.arrived),
                    ("HAS_RUNS", int(self.in_runs)), ("HAS_TURNS", int(self.of_turns)), ("HAS_RANKS", int(self.with_ranks)), ("HAS_SIZES", int(bool(self.units))),
-                   ("CHECKSUM", f"0x{self.checksum:08x}u"), ("ARRAYS_CHECKSUM", f"0x{zlib.crc32(self.bytes):08x}u")]
-        return comment[:-1] + [comment[-1] + " */", "#include <stdint.h>"] + [self.define(*pair) for pair in defines] + arrays + self.unit_lines()
+                   ("HAS_FRACTIONS", int(None not in self.fractions)), ("CHECKSUM", f"0x{self.checksum:08x}u"), ("ARRAYS_CHECKSUM", f"0x{zlib.crc32(self.bytes):08x}u")]
+        return comment[:-1] + [comment[-1] + " */", "#include <stdint.h>"] + [self.define(*pair) for pair in defines] + arrays
 
     def define(self, name, value):
         return f"#define {self.before}{name} {value}"
@@ -93,11 +96,10 @@ class Header:
         lines = [f"/* {words} */"] * bool(words)
         for name, size, names in (("UNIT", self.sized("STATES"), [state[0] for state in plant.states]),
                                   ("INPUT_UNIT", "[]", [name for name, _ in plant.inputs])):
-            sizes = [units.size(one) for one in names]
+            sizes = [units.size(one) for one in names] or [0]
             lines.append(f"static const double {self.before}{name}{size} = {list_of([double_of(one) for one in sizes])};")
-            fractions = [fraction_of(one) for one in sizes]
-            if None not in fractions:
-                lines.append(f"static const int64_t {self.before}{name}_FRACTION[][2] = "
-                             f"{{{', '.join(map(list_of, fractions)) or '{0, 1}'}}};")
+            if None not in self.fractions:
+                pairs = [fraction_of(one) for one in sizes]
+                lines += self.array("int64_t", f"{name}_FRACTION", "[][2]", [number for pair in pairs for number in pair], f"{{{', '.join(map(list_of, pairs))}}}")
         exact = [int(state[0] in self.exact) for state in plant.states]
-        return lines + [f"static const uint8_t {self.before}EXACT{self.sized('STATES')} = {list_of(exact)};"]
+        return lines + self.array("uint8_t", "EXACT", self.sized("STATES"), exact, list_of(exact))

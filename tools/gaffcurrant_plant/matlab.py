@@ -18,7 +18,7 @@ def function_file(text, codes, checksum, given, units):
     head = [f"function [{', '.join(results)}] = {name}(state{', turn' * of_turns})",
             f"% {WHAT[text.kind]} of Gaffcurrant, made by tools/header --matlab."] + [f"% {line}" for line in about(text, checksum)]
     head += ["% STATE is a vector of whole numbers, floor(value ./ unit). STATUS 1: apply INPUT; 0: the state is in the target, nothing has to be applied;",
-             "% -1: there is no row, so nothing is promised."] + [f"% {line}" for line in TURN * of_turns]
+             "% -1: there is no row, or a number isn't whole, infinite or no number, so nothing is promised. A state of the wrong length is an error."] + [f"% {line}" for line in TURN * of_turns]
     if given.ranks:
         head.append("% RANK, where there is a row, falls by one at least from sample to sample; where it doesn't, stop safely.")
     for one in plant.names() if units else ():

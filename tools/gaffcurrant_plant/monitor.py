@@ -1,6 +1,6 @@
 """Watches a plant that a table drives: whether the rank falls as the table promises."""
 
-from .table import NoRow
+from .table import NoRow, whole_state
 
 
 class Monitor:
@@ -11,16 +11,16 @@ class Monitor:
 
     def falls(self, state):
         """Whether the state has a row, and its rank has fallen since the sample before; at the first sample, and behind the target of a table or of a
-        patrol's turn, any rank will do. With goal keep there are no ranks, and the row alone counts."""
-        rows = self.table
+        patrol's turn, any rank will do. With goal keep there are no ranks, and the row alone counts. Raises ValueError, and changes nothing, where the
+        state isn't one whole number for each of the plant's."""
+        whole, rows = whole_state(self.table.plant, state), self.table
         if self.table.kind == "patrol":
-            after = self.table.turn_after(self.turn, state) if self.has_begun else self.turn
-            if after != self.turn or self.has_begun and self.table.plant.cell_of(state) in self.table.turns[self.turn].arrivals:
-                self.turn, self.rank = after, None
+            if self.has_begun and self.table.plant.cell_of(whole) in self.table.turns[self.turn].arrivals:
+                self.turn, self.rank = self.table.behind(self.turn), None
             rows = self.table.turns[self.turn]
         self.has_begun = True
         try:
-            rank, choice = rows.row(state)
+            rank, choice = rows.row(whole)
         except NoRow:
             return False
         now, before = rank or 0, self.rank

@@ -30,6 +30,15 @@ def whole_of(value: Any) -> int:
     return number
 
 
+def whole_state(plant: Plant, state: Iterable[Any]) -> list[int]:
+    """The numbers of a state as ints; raises ValueError where one is no whole number, or where there isn't one for each of the plant's states."""
+    whole = [whole_of(value) for value in state]
+    if len(whole) != len(plant.states):
+        names = ", ".join(name for name, *_ in plant.states)
+        raise ValueError(f"a state has {len(plant.states)} numbers ({names}), here are {len(whole)}")
+    return whole
+
+
 class Table:
     """rows: for a cell with a row its rank (None with goal keep) and its input (None at rank 0)."""
 
@@ -45,10 +54,7 @@ class Table:
 
     def row(self, state: Iterable[Any]) -> Row:
         """Rank and input of the row of a state's cell; raises NoRow. A state has a whole number for each of the plant's."""
-        whole = [whole_of(value) for value in state]
-        if len(whole) != len(self.plant.states):
-            names = ", ".join(name for name, *_ in self.plant.states)
-            raise ValueError(f"a state has {len(self.plant.states)} numbers ({names}), here are {len(whole)}")
+        whole = whole_state(self.plant, state)
         row = self.rows.get(self.plant.cell_of(whole))
         if row is None:
             raise NoRow(f"{whole} has no row")
