@@ -7,6 +7,7 @@ import sys
 import subprocess
 
 from gaffcurrant_plant.command import DEBIAN
+from gaffcurrant_plant.reader import read_plant
 
 RUNS = 2000
 # The heading's plant as it was without noise in the heading: turns of two cells.
@@ -53,10 +54,20 @@ def check_example(report, name, model):
     lines = output.splitlines() or [error]
     report.expect(f"{name}: runs in doubles", (0, ""), (status, error))
     report.holds(f"{name}: {RUNS} runs in doubles break no promise", re.match(rf"{RUNS} runs, [1-9]\d* samples: 0 violations$", lines[0]), output)
+    check_starts(report, name, lines[1])
     # Without `bounds` a way may leave the domain between two samples.
     if line := re.search(r"^between.*", model.read_text(), re.M):
         left = "0" if "bounds" in line[0] else r"\d+"
-        report.holds(f"{name}: ways between samples", re.match(rf"between samples: 0 runs touch an obstacle, {left} leave the domain$", lines[1]), lines[1])
+        report.holds(f"{name}: ways between samples", re.match(rf"between samples: 0 runs touch an obstacle, {left} leave the domain$", lines[2]), lines[2])
+
+
+def check_starts(report, name, line):
+    """The runs begin in each way, with states at 0 where a range has it, and none broke a promise."""
+    begun = {kind: (int(count), int(broken)) for kind, count, broken in re.findall(r"(?:begun|;) (.+?): (\d+) runs, (\d+) broken", line)}
+    has_zero = any(low <= 0 <= high for _, low, high, _ in read_plant(report.plant_text(name)).states)
+    report.expect(f"{name}: how runs begin", ["on corners", "on whole units"] + ["with states at 0"] * has_zero + ["within cells"], sorted(begun))
+    report.holds(f"{name}: many runs begin in each way", all(count >= RUNS // 10 for count, _ in begun.values()), line)
+    report.expect(f"{name}: runs that broke a promise, and all", (0, RUNS), (sum(broken for _, broken in begun.values()), sum(count for count, _ in begun.values())))
 
 
 def check_seen(report):
@@ -71,6 +82,8 @@ def check_seen(report):
     status, output, error = report.tool("sim", "--real", model, "-", data=table)
     broken = re.match(r"2000 runs, \d+ samples: (\d+) violations\n", output)
     report.holds("runs of a heading without noise break promises", status == 1 and broken and int(broken[1]) > 20, output[:300] + error)
+    ways = re.findall(r"(on corners|within cells): \d+ runs, (\d+) broken", output)
+    report.holds("they break on corners, and not within cells", dict(ways).get("within cells") == "0" and dict(ways).get("on corners", "0") != "0", output[:300])
     report.holds("the first broken promise is printed with its run", re.search(r"^first violation: the rank doesn't fall\n  0: x = .* rank \d+, v = ", output, re.M), output)
     lint = report.tool("lint", "-", data=plant.encode())[1]
     report.holds("lint notes a state without noise that moves by whole cells", "note: h has no noise, and moves by whole cells, by " in lint, lint)

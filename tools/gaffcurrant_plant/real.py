@@ -7,7 +7,7 @@ from .command import Trouble
 from .doubles import NEAR, RealPlant, column, numpy
 from .matching import check_model
 from .model import Model, read_model
-from .starting import Pushes, Starts
+from .starting import PUSHES, STARTS, Pushes, Starts
 
 # Samples behind the greatest rank in which a plant is watched in its targets, those with goal keep, and the most of any run.
 STAYED, KEPT, MOST = 50, 200, 2000
@@ -54,11 +54,13 @@ class Rows:
 
 class Outcome:
     """What was seen of so many runs. violations counts the runs that broke a promise, by what they broke; first says what the first one broke, and trace
-    has its samples (time, turn, state, rank, input). touched and left count the runs whose way between samples lay in an obstacle or outside of the
-    domain; touch has the time, the state and the run's number where that came first."""
+    has its samples (time, turn, state, rank, input). starts counts the runs by where they begin, and broken those of them that broke a promise; both are
+    empty where the first state was given. touched and left count the runs whose way between samples lay in an obstacle or outside of the domain; touch
+    has the time, the state and the run's number where that came first."""
 
     def __init__(self, runs):
         self.runs, self.samples, self.violations = runs, 0, Counter()
+        self.starts, self.broken = Counter(), Counter()
         self.touched = self.left = 0
         self.first, self.trace, self.touch = None, [], None
 
@@ -73,9 +75,10 @@ class Loop:
         vectors = [self.rows.plant.vector(k) for k in range(self.rows.plant.vectors)]
         self.vectors = numpy.array([[float(value * size) for value, size in zip(vector, sizes)] for vector in vectors]).reshape(len(vectors), -1).T
         draws = numpy.random.default_rng(seed)
-        self.turns = numpy.arange(runs) % len(self.rows.won)
+        # Each turn has runs of each kind of start and of disturbance.
+        self.turns = numpy.arange(runs) // (len(STARTS) * len(PUSHES)) % len(self.rows.won)
         self.begins, self.pushes = Starts(self.real, self.rows, self.exact, draws), Pushes(self.real, runs, draws)
-        self.has_touched, self.has_left = numpy.zeros((2, runs), dtype=bool)
+        self.has_touched, self.has_left, self.has_broken = numpy.zeros((3, runs), dtype=bool)
         self.history = []
 
     def measured(self, states):
@@ -89,8 +92,8 @@ class Loop:
 
     def drive(self, states, samples):
         """Follows all runs, at most so many samples."""
-        runs = numpy.arange(self.outcome.runs)
-        states = self.begins.states(self.turns, self.measured) if states is None else states
+        runs, is_given = numpy.arange(self.outcome.runs), states is not None
+        states = states if is_given else self.begins.states(self.turns, self.measured)
         cells = self.rows.cell_of(self.measured(states))
         if not self.rows.won[self.turns, cells].all():
             raise Trouble("no row: the first state is outside the domain, or no strategy was found from its cell")
@@ -108,6 +111,9 @@ class Loop:
             go_on = self.follows(time + 1, runs, states, ranks, cells)
             runs, states, cells = runs[go_on], states[:, go_on], cells[go_on]
         self.outcome.touched, self.outcome.left = int(self.has_touched.sum()), int(self.has_left.sum())
+        if not is_given:
+            for kinds, counts in ((self.begins.kinds, self.outcome.starts), (self.begins.kinds[self.has_broken], self.outcome.broken)):
+                counts.update(STARTS[kind] for kind in kinds.tolist())
         return self.outcome
 
     def moved(self, time, runs, states, inputs):
@@ -154,6 +160,7 @@ class Loop:
         """Counts what is wrong, and answers which runs are well; keeps the trace of the first that isn't."""
         if wrong.any():
             self.outcome.violations[what] += int(wrong.sum())
+            self.has_broken[runs[wrong]] = True
             if self.outcome.first is None:
                 at = int(numpy.argmax(wrong))
                 self.outcome.first, self.outcome.trace = what, self.trace_of(time, int(runs[at]), states[:, at])

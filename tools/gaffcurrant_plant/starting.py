@@ -4,12 +4,14 @@ from .command import Trouble
 from .doubles import PARTS, column, numpy
 
 # Kinds of starts, and of disturbances, which the runs take in turn.
-STARTS = ("within", "corner", "whole", "rest")
+STARTS = ("within cells", "on corners", "on whole units", "with states at 0")
+WITHIN, CORNER, WHOLE, REST = range(len(STARTS))
 PUSHES = ("random", "ends", "held", "switching", "still")
 
 
 class Starts:
-    """First states: within cells with a row, on their corners by either way of computing these, on whole units, and with states at 0."""
+    """First states: within cells with a row, on their corners by either way of computing these, on whole units, and with states at 0. kinds: for each
+    run the number of its kind in STARTS."""
 
     def __init__(self, real, rows, exact, draws):
         self.real, self.rows, self.exact, self.draws = real, rows, exact, draws
@@ -25,13 +27,16 @@ class Starts:
         corners = numpy.where(self.draws.random(len(cells)) < 0.5, self.nearest(firsts), self.real.lows + self.widths * places)
         at_zero = (self.rows.low <= 0) & (self.rows.high >= 0) & (self.draws.random(firsts.shape) < 0.7)
         within = self.within(firsts, shares)
-        kinds = numpy.arange(len(cells)) % len(STARTS)
-        states = numpy.select([kinds == 0, kinds == 1, kinds == 2],
+        self.kinds = numpy.arange(len(cells)) % len(STARTS)
+        # Where no state was put at 0 the run begins on a corner.
+        self.kinds[(self.kinds == REST) & ~at_zero.any(axis=0)] = CORNER
+        states = numpy.select([self.kinds == WITHIN, self.kinds == CORNER, self.kinds == WHOLE],
                               [within, corners, self.nearest(firsts + numpy.floor(shares * self.rows.width).astype(int))],
                               numpy.where(at_zero, 0.0, corners))
-        for other in (corners, within):
+        for other, kind in ((corners, CORNER), (within, WITHIN)):
             has_row = self.rows.won[turns, self.rows.cell_of(measured(states))]
             states = numpy.where(has_row, states, other)
+            self.kinds[~has_row] = kind
         return states
 
     def cells(self, turns):
