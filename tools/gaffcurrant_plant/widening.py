@@ -14,15 +14,16 @@ from .solving import written
 from .table import read_text
 
 MOST_ROUNDS = 100
-# By how much dearer a side is that has layers, by their number squared: both are tried, and what leaves more rows is taken.
-DEAR = (4, 0)
+# By how much dearer a side is that has layers, by their number squared; and whether a way asks for a layer where it ends, and not only where it begins. All
+# are tried, and what leaves the most rows is taken.
+CHOICES = ((4, False), (0, False), (4, True), (0, True))
 
 
 class Layers:
     """Layers of cells about each obstacle, and along the bounds of the domain: for each state those at the low and those at the high side."""
 
-    def __init__(self, model, dear):
-        self.model, self.dear = model, dear
+    def __init__(self, model, dear, has_ends):
+        self.model, self.dear, self.has_ends = model, dear, has_ends
         self.obstacles = [box for keyword, box in model.boxes if keyword == "obstacle"]
         states = len(model.states)
         self.about, self.inside = numpy.zeros((len(self.obstacles), states, 2), dtype=int), numpy.zeros((states, 2), dtype=int)
@@ -51,12 +52,12 @@ class Layers:
     def end(self, i, place):
         return self.lows[i] + self.widths[i] * int(place)
 
-    def widen(self, places, walls):
-        """Adds a layer where ways touch: about each obstacle at the side beside which, for a layer's cells, most of the touching cells lie, and rather at one
-        that has few layers, since many close a gap. places: a column for each of these cells; walls: which obstacles its way may touch, and behind
-        them which sides of the domain it may leave."""
+    def widen(self, places, ends, walls):
+        """Adds a layer where ways touch: about each obstacle at the side beside which, for a layer's cells, most of the touching ways begin or end, and rather
+        at one that has few layers, since many close a gap. places and ends: a column for each of these ways, of the cell where it begins and of that
+        where it ends; walls: which obstacles it may touch, and behind them which sides of the domain it may leave."""
         for number in numpy.flatnonzero(walls[:len(self.obstacles)].any(axis=1)):
-            mine = places[:, walls[number]]
+            mine = numpy.concatenate([places[:, walls[number]]] + [ends[:, walls[number]]] * self.has_ends, axis=1)
             first, last = self.taken[number][:, 0] - self.about[number][:, 0], self.taken[number][:, 1] + self.about[number][:, 1]
             size = numpy.minimum(last, numpy.array(self.counts) - 1) - numpy.maximum(first, 0) + 1
             votes = numpy.array([[(mine[i] < first[i]).sum(), (mine[i] > last[i]).sum()] for i in range(len(size))])
@@ -81,9 +82,9 @@ def text_between(planting, word, has_bounds):
     """The plant text whose table keeps the ways off the model's obstacles, and in its domain where that is asked for."""
     need_numpy()
     found, faults = [], []
-    for dear in DEAR:
+    for choice in CHOICES:
         try:
-            found.append(Widened(planting, word, has_bounds, dear))
+            found.append(Widened(planting, word, has_bounds, *choice))
         except Trouble as trouble:
             faults.append(trouble)
         if found and found[0].rounds == 0:
@@ -93,12 +94,19 @@ def text_between(planting, word, has_bounds):
     return max(found, key=lambda one: one.rows).text
 
 
+def ends_of(rows, touch):
+    """The places, in columns, at which the middles of a Touch's cells are a sample later, without disturbances."""
+    batch = rows.plant.batch()
+    middles = batch.middles(batch.lows(batch.places(touch.cells)), rows.inputs[touch.turn, touch.cells])
+    return numpy.array([numpy.broadcast_to((middle - low) // width, touch.cells.shape) for middle, (_, low, _, width) in zip(middles, rows.plant.states)], dtype=int)
+
+
 class Widened:
     """text: the plant text; before and rows: the rows of its table without widened obstacles and with them; rounds: how often they were widened."""
 
-    def __init__(self, planting, word, has_bounds, dear):
+    def __init__(self, planting, word, has_bounds, dear, has_ends):
         self.planting, self.model, self.word, self.has_bounds = planting, planting.model, word, has_bounds
-        self.layers, self.before = Layers(planting.model, dear), None
+        self.layers, self.before = Layers(planting.model, dear, has_ends), None
         for self.rounds in range(MOST_ROUNDS):
             self.text = self.text_of()
             rows = self.rows_of_text()
@@ -106,21 +114,22 @@ class Widened:
             self.before = self.rows if self.before is None else self.before
             if not self.rows:
                 raise Trouble(f"between: no row is left of {self.before} where all ways between samples keep off the obstacles")
-            places, walls = self.touches(rows)
+            places, ends, walls = self.touches(rows)
             if not walls.any():
                 self.text = self.text_of(list(self.comments()))
                 return
-            self.layers.widen(places, walls)
+            self.layers.widen(places, ends, walls)
         raise Trouble(f"between: ways still touch after {MOST_ROUNDS} rounds")
 
     def touches(self, rows):
-        """The places of the cells whose ways touch, in columns, and what they touch."""
+        """The places of the cells where touching ways begin and end, in columns, and what they touch."""
         found = [touching(self.model, rows, turn) for turn in range(len(rows.won))]
         if any(one.lost.any() for one in found):
             raise Trouble("between: no enclosure of the ways was found; the sample is long beside the fastest time of the model")
         walls = numpy.concatenate([one.walls for one in found], axis=1)
         places = numpy.concatenate([numpy.array(numpy.unravel_index(one.cells, rows.plant.counts)) for one in found], axis=1)
-        return places, walls if self.has_bounds else walls[:len(self.layers.obstacles)]
+        ends = numpy.concatenate([ends_of(rows, one) for one in found], axis=1)
+        return places, ends, walls if self.has_bounds else walls[:len(self.layers.obstacles)]
 
     def rows_of_text(self):
         try:
