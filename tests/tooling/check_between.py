@@ -73,7 +73,8 @@ def check_refused(report):
         else:
             report.holds("between ends with a text or a line", status == 0 and "# no way" in output or error.count("\n") == 1, error)
     gate, table = report.top / "examples/gate/gate.model", report.table_text("gate")
-    for words, data, wanted, said in ((["-"], table, 2, "--model"), (["-", "--model", "nowhere"], table, 1, "nowhere"), (["-", "--model", gate], b"table 3\n", 1, "begins with"),
+    for words, data, wanted, said in ((["-"], table, 2, "--model"), (["-", "--model", "nowhere"], table, 1, "between: nowhere: "), (["-", "--model", gate], b"table 3\n", 1, "begins with"),
+                                      (["-", "--model", "/dev/null"], table, 1, "/dev/null: the model has no state"),
                                       (["-", "--model", report.top / "examples/rooms/rooms.model"], table, 1, "isn't the table's")):
         status, output, error = report.tool("between", *words, data=data)
         report.expect(f"between {words}", (wanted, "", 1), (status, output, error.count("\n")))

@@ -2,7 +2,7 @@
 
 import re
 
-from .command import Trouble
+from .command import Trouble, read_bytes
 from .model import read_model
 from .reader import Refused, read_plant
 
@@ -17,6 +17,15 @@ def states_of(model):
 
 def inputs_of(model):
     return [(name, [value / unit for value in values]) for name, unit, values in model.inputs]
+
+
+def model_at(path):
+    """The model in a file; raises Trouble."""
+    data = read_bytes(path)
+    try:
+        return read_model(data)
+    except Trouble as trouble:
+        raise Trouble(f"{path}: {trouble}", trouble.status) from None
 
 
 def check_model(path, model, plant):
