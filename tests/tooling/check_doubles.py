@@ -11,7 +11,7 @@ from gaffcurrant_plant.reader import read_plant
 
 RUNS = 2000
 # The heading's plant as it was without noise in the heading: turns of two cells.
-BARE = [("input t 0.1 0 -0.5 0.5", "input t 0.1 0 -0.4 0.4")]
+BARE = [("input t 0.1 0 -0.5 0.5", "input t 0.1 0 -0.4 0.4"), ("between\n", "")]
 # Words that are refused, the status, and a part of the line.
 REFUSED = [(["--real", "MODEL"], 2, "TEXT"), (["--real", "nowhere", "TEXT"], 1, "nowhere"), (["--real", "MODEL", "TEXT", "--runs", "0"], 2, "--runs takes"),
            (["--real", "MODEL", "TEXT", "5", "1", "nan", "0"], 2, "no number"), (["--real", "MODEL", "TEXT", "5", "1", "1"], 2, "has 2 numbers (x v)"),

@@ -100,11 +100,10 @@ def lines_of(text):
 
 
 def gate_at(report, time):
-    """The model of the gate, sampled exactly with another time, its disturbance in proportion."""
+    """The model of the gate, sampled exactly with another time, its disturbance in proportion, and its gate not widened."""
     text = (report.top / "examples/gate/gate.model").read_text()
-    for old, new in (("0.5*v", f"{float(time)}*v"), ("0.5*u", f"{float(time)}*u"), ("0.125*u", f"{float(time * time / 2)}*u"),
-                     ("0.25*w", f"{float(time / 2)}*w"),
-                     ("noise w -0.02 0.02", f"noise w {float(-time / 25)} {float(time / 25)}")):
+    for old, new in (("sample 0.5", f"sample {float(time)}"), ("w -0.02 0.02", f"w {float(-time / 25)} {float(time / 25)}"),
+                     ("w -0.005 0.005", f"w {float(-time * time / 50)} {float(time * time / 50)}"), ("between\n", "")):
         assert old in text
         text = text.replace(old, new)
     return text

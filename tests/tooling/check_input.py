@@ -25,7 +25,7 @@ class Texts:
     """For each program a right text, as a file and as bytes."""
 
     def __init__(self, report):
-        line, model = report.top / "examples/line", (report.top / "examples/gate/gate.model").read_bytes()
+        line, model = report.top / "examples/line", (report.top / "examples/double_integrator/double_integrator.model").read_bytes()
         table = read_table((line / "line.table").read_bytes())
         text = text_of_table(table.plant, table.rows).encode()
         self.bytes = {"lint": (line / "line.plant").read_bytes(), "scale": model, "sweep": model, "why": text, "header": text, "diff": text, "sim": text}

@@ -160,11 +160,25 @@ def exact(text):
 
 def linear(model, lines):
     rows = {keyword: [one[1:] for one in lines if one[:1] == [keyword]] for keyword in "ABw"}
+    if time := next((Fraction(one[1]) for one in lines if one[:1] == ["sample"]), None):
+        rows |= sampled(*([[Fraction(word) for word in row] for row in rows[keyword]] for keyword in "AB"), time)
     model.noises += [(f"w{i}", Fraction(row[0]), Fraction(row[1])) for i, row in enumerate(rows["w"])]
     names = [state[0] for state in model.states] + [one[0] for one in model.inputs]
     sums = [" + ".join(f"F('{a}') * {name}" for a, name in zip(a_row + b_row, names))
             for a_row, b_row in zip(rows["A"], rows["B"])]
     return [f"{total} + w{i}" for i, total in enumerate(sums)]
+
+
+def sampled(a, b, time):
+    """The matrices of a sample where A^2 is 0, so that the series of the exponential ends: 1 + T A and (T + T^2 / 2 A) B."""
+    assert not any(map(any, product(a, a)))
+    step = product(a, b)
+    return {"A": [[(i == j) + time * entry for j, entry in enumerate(row)] for i, row in enumerate(a)],
+            "B": [[time * one + time ** 2 / 2 * more for one, more in zip(*rows)] for rows in zip(b, step)]}
+
+
+def product(one, other):
+    return [[sum(x * y for x, y in zip(row, column)) for column in zip(*other)] for row in one]
 
 
 def compare(report, what, text, plant_text, count=300):

@@ -11,7 +11,7 @@ def check(report):
     os.environ["GAFFCURRANT"] = str(report.program)
     table = report.top / "examples/line/line.table"
     plant = report.top / "examples/line/line.plant"
-    model = report.top / "examples/gate/gate.model"
+    model = report.top / "examples/double_integrator/double_integrator.model"
     right = {"lint": [plant], "why": [table, "7"], "scale": [model], "header": [table], "diff": [table, table], "sweep": [model],
              "sim": [table, "3", "0", "7"], "check": [table]}
     for name in TOOLS:

@@ -1,6 +1,7 @@
 """Counts what passed and prints what failed; runs programs."""
 
 import importlib.util
+import os
 import re
 import subprocess
 import sys
@@ -37,6 +38,10 @@ class Report:
                               capture_output=True, check=False, **more)
         return done.returncode, done.stdout.decode("utf-8", "replace"), done.stderr.decode("utf-8", "replace")
 
+    def scaled(self, *words):
+        """The plant text of a model by tools/scale, which solves by the program where the model has a line `between`."""
+        return self.tool("scale", *words, env=os.environ | {"GAFFCURRANT": str(self.program)})[1]
+
     @lru_cache(maxsize=None)
     def run(self, words, data):
         """Runs the program; answers its status, output and error as bytes."""
@@ -64,7 +69,7 @@ class Report:
         doesn't have the word."""
         made = {}
         for version, model, word, plant, path in COMMAND.findall((self.top / "examples" / name / "README.md").read_text()):
-            text = self.tool("scale", "--version", version, self.top / model)[1].encode() if model else (self.top / plant).read_bytes()
+            text = self.scaled("--version", version, self.top / model).encode() if model else (self.top / plant).read_bytes()
             status, output, _ = self.run((word, "1"), text)
             made[path] = output if status == 0 else None
         return made
