@@ -12,6 +12,7 @@ import zlib
 from fractions import Fraction
 from pathlib import Path
 
+from gaffcurrant_plant.model import read_model
 from gaffcurrant_plant.monitor import Monitor
 from gaffcurrant_plant.solving import simulate
 from gaffcurrant_plant.table import read_text, text_of_table
@@ -65,6 +66,32 @@ int main(void)
 """
 
 
+# The guide's loop, between sensors and an actuator on the standard streams.
+LOOP = """#include <stdio.h>
+#include <stdlib.h>
+#include "control.c"
+static int sample = 0;
+static void stop(void)
+{
+    puts("stop");
+    exit(0);
+}
+static void read_sensors(double value[])
+{
+    for (int i = 0; i < STATES; i++) if (scanf("%lf", &value[i]) != 1) exit(1);
+}
+static void apply(const int64_t input[])
+{
+    for (int i = 0; i < INPUTS; i++) printf("%d%c", (int)input[i], i + 1 < INPUTS ? ' ' : '\\n');
+    sample++;
+}
+int main(void)
+{
+LOOP}
+"""
+VISIT = "/* of a patrol, from the second sample on: visit(state); */"
+
+
 def check(report):
     report.gate = report.table_text("gate")
     report.docks = (report.top / "examples/docks/docks.patrol").read_bytes()
@@ -75,6 +102,8 @@ def check(report):
     with tempfile.TemporaryDirectory() as room:
         if compiler:
             check_programs(report, compiler, Path(room))
+            check_falls(report, compiler, Path(room))
+            check_loop(report, compiler, Path(room))
         check_structured(report)
         check_matlab(report, Path(room))
     check_python(report)
@@ -85,6 +114,8 @@ def check_models(report):
     for old, new, said in OTHERS:
         other = report.room / "other.model"
         text = model.replace(old, new, 1)
+        # The lines B have a number for each input.
+        text = text.replace("\nB ", "\nB 0 ") if "input f" in new else text
         other.write_text(re.sub(r"\bx\b", "y", text) if "state y" in new else text)
         status, output, error = report.tool("header", "--model", other, "-", data=report.gate)
         report.expect(f"header with the model of `{new}`", (1, "", 1), (status, output, error.count("\n")))
@@ -203,7 +234,6 @@ def check_programs(report, compiler, room):
         status, output, error = called(["./main"], room, "20 0\n")
         wanted = (1, "", "control: the numbers of table.h aren't those that tools/header has written\n") if said else (0, "100\n", "")
         report.expect(f"a header that was changed: {what}", wanted, (status, output, error))
-    check_falls(report, compiler, room)
 
 
 def check_falls(report, compiler, room):
@@ -224,6 +254,27 @@ def check_falls(report, compiler, room):
         machine = Machine(source)
         back = [bool(machine.call(STATE=state)["FALLS"]) for state in (states[0], states[1], states[0], [plant.states[0][2] + 1, 0])]
         report.expect(f"{name}: structured text where a state comes twice", [True, True, keeps, False], back)
+
+
+def check_loop(report, compiler, room):
+    """The guide's loop applies what the text says, and stops where the rank doesn't fall and where a sensor gives no number or an infinity."""
+    guide = (report.top / "docs/GUIDE.md").read_text()
+    loop = re.search(r"```c\n(if \(!is_intact.*?)```", guide, re.DOTALL).group(1)
+    report.holds("the guide's loop says where a patrol's visit stands", VISIT in loop, loop)
+    for name, data, text, run in runs(report):
+        model = report.top / f"examples/{name}/{name}.model"
+        (room / "table.h").write_text(report.tool("header", "--ranks", "--model", model, "-", data=data)[1])
+        visited = loop.replace(VISIT, "if (sample > 0) visit(state);") if text.kind == "patrol" else loop
+        report.expect(f"{name}: the guide's loop is compiled", (0, ""), built(compiler, room, "loop", LOOP.replace("LOOP", visited)))
+        units = [float(state[4]) for state in read_model(model.read_bytes()).states]
+        values = [[(number + 0.5) * unit for number, unit in zip(sample.state, units)] for sample in run]
+        said = [" ".join(map(str, sample.inputs or ["stop"])) + "\n" for sample in run]
+        for wrong in ("nan", "inf", "-inf"):
+            report.expect(f"{name}: the guide's loop at {wrong}", (0, "".join(said[:2]) + "stop\n", ""),
+                          called(["./loop"], room, lines_of([*values[:2], [values[0][0], wrong]])))
+        wanted = (1, "".join(said[:2] + said[:1]), "") if text.kind == "table" and text.keeps else (0, "".join(said[:2]) + "stop\n", "")
+        report.expect(f"{name}: the guide's loop where a state comes twice", wanted, called(["./loop"], room, lines_of([*values[:2], values[0]])))
+        report.expect(f"{name}: the guide's loop along a run", (0 if said[-1] == "stop\n" else 1, "".join(said), ""), called(["./loop"], room, lines_of(values)))
 
 
 def lines_of(states):
