@@ -81,10 +81,10 @@ class Layers:
 def text_between(planting, word, has_bounds):
     """The plant text whose table keeps the ways off the model's obstacles, and in its domain where that is asked for."""
     need_numpy()
-    found, faults = [], []
+    found, faults, known = [], [], {}
     for choice in CHOICES:
         try:
-            found.append(Widened(planting, word, has_bounds, *choice))
+            found.append(Widened(planting, word, has_bounds, known, *choice))
         except Trouble as trouble:
             faults.append(trouble)
         if found and found[0].rounds == 0:
@@ -102,34 +102,35 @@ def ends_of(rows, touch):
 
 
 class Widened:
-    """text: the plant text; before and rows: the rows of its table without widened obstacles and with them; rounds: how often they were widened."""
+    """text: the plant text; before and rows: the rows of its table without widened obstacles and with them; rounds: how often they were widened. known: by
+    their texts the plants that were looked at, since several choices begin alike."""
 
-    def __init__(self, planting, word, has_bounds, dear, has_ends):
+    def __init__(self, planting, word, has_bounds, known, dear, has_ends):
         self.planting, self.model, self.word, self.has_bounds = planting, planting.model, word, has_bounds
         self.layers, self.before = Layers(planting.model, dear, has_ends), None
         for self.rounds in range(MOST_ROUNDS):
             self.text = self.text_of()
-            rows = self.rows_of_text()
-            self.rows = int(rows.won.sum())
+            if self.text not in known:
+                known[self.text] = self.looked_at(self.rows_of_text())
+            self.rows, places, ends, walls = known[self.text]
             self.before = self.rows if self.before is None else self.before
             if not self.rows:
                 raise Trouble(f"between: no row is left of {self.before} where all ways between samples keep off the obstacles")
-            places, ends, walls = self.touches(rows)
             if not walls.any():
                 self.text = self.text_of(list(self.comments()))
                 return
             self.layers.widen(places, ends, walls)
         raise Trouble(f"between: ways still touch after {MOST_ROUNDS} rounds")
 
-    def touches(self, rows):
-        """The places of the cells where touching ways begin and end, in columns, and what they touch."""
+    def looked_at(self, rows):
+        """How many rows there are, the places of the cells where touching ways begin and end, in columns, and what they touch."""
         found = [touching(self.model, rows, turn) for turn in range(len(rows.won))]
         if any(one.lost.any() for one in found):
             raise Trouble("between: no enclosure of the ways was found; the sample is long beside the fastest time of the model")
         walls = numpy.concatenate([one.walls for one in found], axis=1)
         places = numpy.concatenate([numpy.array(numpy.unravel_index(one.cells, rows.plant.counts)) for one in found], axis=1)
         ends = numpy.concatenate([ends_of(rows, one) for one in found], axis=1)
-        return places, ends, walls if self.has_bounds else walls[:len(self.layers.obstacles)]
+        return int(rows.won.sum()), places, ends, walls if self.has_bounds else walls[:len(self.layers.obstacles)]
 
     def rows_of_text(self):
         try:
