@@ -53,14 +53,16 @@ def check_room(report):
 
 
 def check_examples(report):
-    """The examples with a line `between`: no way touches an obstacle."""
+    """The examples with a line `between`: no way touches an obstacle, and with `bounds` none leaves the domain."""
     for name in report.examples():
         model = report.top / "examples" / name / f"{name}.model"
-        is_kept = model.exists() and re.search(r"^between", model.read_text(), re.M)
-        text = text_of(report, name) if is_kept else None
+        line = re.search(r"^between.*", model.read_text(), re.M) if model.exists() else None
+        text = text_of(report, name) if line else None
         if text:
-            output = report.tool("between", "-", "--model", model, data=text)[1]
-            report.holds(f"{name}: no way touches an obstacle", re.match(r"[1-9]\d* rows: the ways of \d+ may touch, of 0 an obstacle,", output), output[:300])
+            status, output, _ = report.tool("between", "-", "--model", model, data=text)
+            wanted = "0 may touch, of 0 an obstacle, of 0 a bound" if "bounds" in line[0] else r"\d+ may touch, of 0 an obstacle,"
+            report.holds(f"{name}: what the ways touch", re.match(rf"[1-9]\d* rows: the ways of {wanted}", output), output[:300])
+            report.expect(f"{name}: the status of between", int(" the ways of 0 " not in output), status)
 
 
 def check_refused(report):
