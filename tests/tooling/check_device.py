@@ -20,12 +20,16 @@ from gaffcurrant_plant.table import read_text, text_of_table
 from .check_readers import called, expected, python_answers, random_states
 from .structured_text import Fault, Machine
 
+# The gate's states and inputs, which another model has in numbers that are ten times as large.
+TENFOLD = "state x 0 9.99 0.09 0.01\nstate v -1.21 1.22 0.09 0.01\ninput u 0.01 -1 -0.6 -0.4 -0.2 0 0.2 0.4 0.6 1"
 # A line of the gate's model, what stands in its place, and a part of what is said.
 OTHERS = [("state x 0 9.99 0.09 0.01", "state y 0 9.99 0.09 0.01", "its states are y, v, those of the table x, v"),
           ("state x 0 9.99 0.09 0.01", "state x 0 9.99 0.03 0.01", "x has 0 to 998 in cells of 3 units, and in the table 0 to 998 in cells of 9"),
           ("state x 0 9.99 0.09 0.01", "state x 0 9.99 0.09 0.03", "x has 0 to 332 in cells of 3 units"),
           ("-0.6 -0.4 -0.2", "-0.6 -0.5 -0.2", "the values of u are -100 -60 -50 -20 0"),
-          ("input u", "input f 1 0\ninput u", "its inputs are f, u, those of the table u")]
+          ("input u", "input f 1 0\ninput u", "its inputs are f, u, those of the table u"),
+          ("w -0.02 0.02", "w -0.03 0.03", "the equation of v or its noise in whole units is another one"), ("A 0 1", "A 0 2", "the equation of x or its noise"),
+          (TENFOLD, "state x 0 99.9 0.9 0.1\nstate v -12.1 12.2 0.9 0.1\ninput u 0.1 -10 -6 -4 -2 0 2 4 6 10", "are the units others?")]
 # A part of the gate's header, what stands in its place, and whether main.c sees it.
 CHANGES = [("NO_ROW 255", "NO_ROW 253", True), ("ARRIVED 254", "ARRIVED 253", True), ("LOW[STATES] = {0,", "LOW[STATES] = {9,", True),
            ("UNIT[STATES] = {0.01,", "UNIT[STATES] = {0.011,", True), ("INPUT_UNIT[] = {0.01}", "INPUT_UNIT[] = {0.1}", True),
@@ -112,6 +116,7 @@ def check(report):
 def check_models(report):
     model = (report.top / "examples/gate/gate.model").read_text()
     for old, new, said in OTHERS:
+        report.holds(f"the gate's model has `{old[:30]}`", old in model)
         other = report.room / "other.model"
         text = model.replace(old, new, 1)
         # The lines B have a number for each input.

@@ -1,9 +1,11 @@
 """Whether a table is of a model, or of a plant text: names, order, ranges, cells and values."""
 
+import importlib.util
 import re
 
 from .command import Trouble, read_bytes
 from .model import read_model
+from .planting import planted
 from .reader import Refused, read_plant
 
 # The comment of tools/scale on a state that its model calls exact.
@@ -33,6 +35,24 @@ def check_model(path, model, plant):
     check_variables(path, "model", states_of(model), inputs_of(model), plant)
 
 
+def check_equations(path, model, plant):
+    """Raises Trouble where a model's equations and noises in whole units aren't a table's, as where all its units are ten times those. Where mpmath is
+    missing, which they may need, they aren't compared."""
+    if importlib.util.find_spec("mpmath") is None:
+        return
+    model.version = plant.version
+    ours, theirs = (equations_of(one) for one in (planted(model).plant, plant))
+    for name, one, other in zip([state[0] for state in plant.states], ours, theirs):
+        if one != other:
+            raise Trouble(f"{path}: the model isn't the table's: the equation of {name} or its noise in whole units is another one; are the units others?")
+
+
+def equations_of(plant):
+    """For each state the line of its equation, and the ranges of the noises that it names."""
+    names, lines = plant.names(), [line for line in plant.text().splitlines() if line.startswith("next ")]
+    return [(line, [noise for noise in plant.noises if names.index(noise[0]) in uses]) for line, uses in zip(lines, plant.uses)]
+
+
 def check_plant(path, other, plant):
     """Raises Trouble where a plant text isn't that of a table."""
     check_variables(path, "plant text", other.states, other.inputs, plant)
@@ -46,6 +66,7 @@ def check_units(path, data, plant):
     if not is_plant_text(data):
         model = read_model(data)
         check_model(path, model, plant)
+        check_equations(path, model, plant)
         return model.exact
     try:
         check_plant(path, read_plant(data), plant)
