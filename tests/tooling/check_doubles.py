@@ -118,3 +118,12 @@ def check_python(report):
     python = sys.executable if importlib.util.find_spec("numpy") else DEBIAN
     done = subprocess.run([python, "-c", script], capture_output=True, check=False)
     report.expect("runs in doubles from Python", (0, b"200 0 True None []\n"), (done.returncode, done.stdout or done.stderr))
+    docks = report.top / "examples/docks"
+    script = (f"import sys; sys.path.insert(0, {str(report.top / 'tools')!r})\n"
+              "from gaffcurrant_plant import read_text\nfrom gaffcurrant_plant.matching import model_at\nfrom gaffcurrant_plant.real import Loop\n"
+              f"loop = Loop(model_at({str(docks / 'docks.model')!r}), read_text(open({str(docks / 'docks.patrol')!r}, 'rb').read()), 200, 1)\n"
+              "turns = loop.turns.copy()\nloop.drive(None, 0)\n"
+              "print(len({(turn, kind, push) for turn, kind, push in zip(turns.tolist(), loop.begins.kinds.tolist(), loop.pushes.kinds.tolist())}))\n")
+    done = subprocess.run([python, "-c", script], capture_output=True, check=False)
+    # 2 turns, 4 kinds of starts and 5 of disturbances.
+    report.expect("runs of a patrol begin in each way in each turn", (0, b"40\n"), (done.returncode, done.stdout or done.stderr))
