@@ -85,7 +85,7 @@ def check_seen(report):
     report.holds("runs of a heading without noise break promises", status == 1 and broken and int(broken[1]) > 20, output[:300] + error)
     ways = re.findall(r"(on corners|within cells): \d+ runs, (\d+) broken", output)
     report.holds("they break on corners, and not within cells", dict(ways).get("within cells") == "0" and dict(ways).get("on corners", "0") != "0", output[:300])
-    report.holds("the first broken promise is printed with its run", re.search(r"^first violation: the rank doesn't fall\n  0: x = .* rank \d+, v = ", output, re.M), output)
+    report.holds("the first broken promise is printed with its run", re.search(r"^first violation: the (?:rank doesn't fall|state has no row)\n  0: x = .* rank \d+, v = ", output, re.M), output)
     lint = report.tool("lint", "-", data=plant.encode())[1]
     report.holds("lint notes a state without noise that moves by whole cells", "note: h has no noise, and moves by whole cells, by " in lint, lint)
     lint = report.tool("lint", report.top / "examples/heading/heading.plant")[1]
