@@ -64,7 +64,7 @@ def check_versions(report, name, texts):
     """The README's lines of both versions: edges, cells with a row, and the greatest rank."""
     lines = re.findall(r"^\| ([12]) \| ([0-9,]+) \| ([0-9,]+) \| ([0-9]+) \|$", (report.top / "examples" / name / "README.md").read_text(), re.M)
     wanted = {int(version): [int(number.replace(",", "")) for number in numbers] for version, *numbers in lines}
-    if wanted and (report.has_mpmath() or all(texts.values())):
+    if wanted and (report.has_mpmath() and has_numpy() or all(texts.values())):
         tables = [read_text(text) for text in texts.values()]
         report.expect(f"{name}: the numbers of both versions", wanted,
                       {table.plant.version: [table.plant.edges()[0], len(table.rows), max(rank for rank, _ in table.rows.values())] for table in tables})
