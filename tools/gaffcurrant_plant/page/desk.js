@@ -68,8 +68,8 @@ class Desk {
       this.panel.showsAll = false;
       this.panel.show(view);
     }
-    if (this.isSaid) byId("said").textContent = this.hasRun ? byId("ran").textContent : this.cellSaid(view.cell);
-    this.isSaid = this.hasRun = false;
+    if (this.toSay) byId("said").textContent = this.toSay === "run" ? byId("ran").textContent : this.cellSaid(view.cell);
+    this.toSay = null;
   }
 
   cellSaid(cell, text = this.view.text) {
@@ -128,8 +128,7 @@ class Desk {
     const isThere = (text) => view.from && text.row(view.begin, view.plant.cellOf(view.from));
     this.runs = view.shown.filter(isThere).map((text) => this.runBy(text));
     this.runKey = key;
-    this.hasRun = Boolean(view.from);
-    this.isSaid = true;
+    this.toSay = view.from ? "run" : "cell";
     return this.runs;
   }
 
@@ -143,7 +142,7 @@ class Desk {
 
   go(cell) {
     this.view.go(cell);
-    this.isSaid = true;
+    this.toSay = "cell";
     this.changed();
   }
 

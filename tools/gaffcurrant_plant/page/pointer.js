@@ -86,7 +86,7 @@ class Pointer {
       return;
     }
     event.preventDefault();
-    [desk.isSaid, view.asked] = [true, this.number];
+    [desk.toSay, view.asked] = ["cell", this.number];
     desk.changed();
   }
 }
