@@ -19,7 +19,7 @@ DOMINATED = b"plant 1\nstate x 0 299 10\nstate y 0 99 10\ninput u -20 20\ninput 
 
 def check(report):
     if not importlib.util.find_spec("numpy"):
-        print("skipped: numpy isn't there, so boxes of many pairs at once aren't tried")
+        print("skipped: numpy isn't there (apt-get install python3-numpy), so boxes of many pairs at once aren't tried")
         return
     plants = [report.plant_text(name) for name in report.examples() if name != "scots_boost"] + [WIDE]
     plants += [games.Draws(number).plant() for number in range(DRAWN)]

@@ -83,7 +83,10 @@ def check_without_numpy(report, table):
     (room / "sitecustomize.py").write_text(lack)
     bare = os.environ | {"PYTHONPATH": str(room), "GAFFCURRANT_PYTHON": "tried"}
     status, output, error = report.tool("why", table, "7", "--deep", env=bare)
-    report.expect("why --deep without numpy", (1, "", "why: --deep needs numpy; on Debian: apt-get install python3-numpy\n"), (status, output, error))
+    wanted = (1, "", "why: --deep needs numpy; on Debian: apt-get install python3-numpy\n")
+    report.expect("why --deep without numpy", wanted, (status, output, error))
+    # Debian's Python is tried once, and has none here either.
+    report.expect("why --deep where no Python has numpy", wanted, report.tool("why", table, "7", "--deep", env=bare | {"GAFFCURRANT_PYTHON": ""}))
     for name in ("gate", "lane"):
         data = report.plant_text(name)
         with_it, without = report.tool("lint", "-", data=data), report.tool("lint", "-", data=data, env=bare)
@@ -95,7 +98,7 @@ def check_without_numpy(report, table):
 def check_film(report, patrol):
     """A film of a patrol has a frame for each sample, and one of the cells of each turn."""
     if not importlib.util.find_spec("matplotlib"):
-        print("skipped: matplotlib isn't there, so a patrol's film isn't made")
+        print("skipped: matplotlib isn't there (apt-get install python3-matplotlib), so a patrol's film isn't made")
         return
     film = report.room / "patrol.gif"
     answer = report.tool("picture", patrol, "--from", "7", "--from-turn", "1", "--samples", "20", "--animate", film)

@@ -39,7 +39,7 @@ def check(report):
 def check_solid(report):
     """Along three states in a model's units there is a picture, and no traceback."""
     if not (importlib.util.find_spec("matplotlib") or Path("/usr/lib/python3/dist-packages/matplotlib").exists()):
-        print("skipped: matplotlib isn't there, so no picture along three states is tried")
+        print("skipped: matplotlib isn't there (apt-get install python3-matplotlib), so no picture along three states is tried")
         return
     model = report.room / "three.model"
     model.write_text("".join(f"state {name} 0 1 0.2 0.02\n" for name in "xyz") + "input u 0.02 -0.02 0.02\n"

@@ -56,7 +56,7 @@ def check(report):
         report.expect(f"scale of {model[-40:]!r}", (1, "", 1), (status, output, error.count("\n")))
         report.holds(f"scale says `{said}`", said in error, error)
     if not report.has_mpmath():
-        print("skipped: mpmath isn't there, so functions of inputs and states that come round aren't tried")
+        print("skipped: mpmath isn't there (apt-get install python3-mpmath), so functions of inputs and states that come round aren't tried")
         return
     for model, said in TRIED:
         status, output, error = report.tool("scale", "-", data=model.encode())

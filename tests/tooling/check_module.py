@@ -92,7 +92,7 @@ def check_real(report):
 def check_arrays(report):
     """Answers for arrays of states beside those for one, and a run as arrays."""
     if not importlib.util.find_spec("numpy"):
-        print("skipped: numpy isn't there, so arrays of states aren't tried")
+        print("skipped: numpy isn't there (apt-get install python3-numpy), so arrays of states aren't tried")
         return
     from gaffcurrant_plant import arrays
     data, draws = (report.top / "examples/cart/cart.table").read_bytes(), random.Random(5)
@@ -127,7 +127,7 @@ speeds = table.in_units(read_units("model", b"")).choice([0.5, 1])
 def check_types(report):
     """Type hints, where mypy is there."""
     if not shutil.which("mypy"):
-        print("skipped: mypy isn't there, so type hints aren't tried")
+        print("skipped: mypy isn't there (apt-get install mypy), so type hints aren't tried")
         return
     (report.room / "use.py").write_text(USE)
     files = [report.top / "tools/gaffcurrant_plant" / name for name in ("table.py", "solving.py", "asking.py")]
@@ -145,7 +145,7 @@ def check_install(report):
     room = report.room / "installed"
     made = subprocess.run([sys.executable, "-m", "venv", room], capture_output=True, check=False)
     if made.returncode:
-        print("skipped: this Python makes no environments, so pip install ./tools isn't tried")
+        print("skipped: this Python makes no environments (apt-get install python3-venv), so pip install ./tools isn't tried")
         return
     environment = {"PATH": os.environ["PATH"], "HOME": str(report.room)}
     done = subprocess.run([room / "bin/pip", "install", "-q", "--no-index", report.top / "tools"], capture_output=True, check=False, text=True, env=environment)
@@ -153,6 +153,9 @@ def check_install(report):
     table = report.top / "examples/line/line.table"
     done = subprocess.run([room / "bin/gaffcurrant-why", table, "7", "--input", "1"], capture_output=True, check=False, text=True, env=environment, cwd=report.room)
     report.expect("gaffcurrant-why", (0, "  wins within 2 samples", ""), (done.returncode, done.stdout.splitlines()[-1:] and done.stdout.splitlines()[-1], done.stderr))
+    done = subprocess.run([room / "bin/gaffcurrant-page", table, "-o", report.room / "line.html"], capture_output=True, check=False, text=True, env=environment,
+                          cwd=report.room)
+    report.expect("gaffcurrant-page", (0, ""), (done.returncode, done.stderr))
     names = sorted(path.name for path in (room / "bin").glob("gaffcurrant-*"))
     tools = [path for path in (report.top / "tools").iterdir() if path.is_file() and not path.suffix and path.name != "library"]
     report.expect("a program for each of tools/ but the script library", sorted(f"gaffcurrant-{path.name}" for path in tools), names)

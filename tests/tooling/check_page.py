@@ -7,7 +7,7 @@ from gaffcurrant_plant.rows import VERSIONS, Lines, front_of
 from gaffcurrant_plant.table import read_text
 
 from . import page_cells, page_hand
-from .browser import Browser, browser_there
+from .browser import Browser, Failed, browser_there
 from .check_temporal import DAMAGED, PATROL, STAY
 
 FILES = ("cart/cart.table", "docks/docks.patrol", "line/line.table")
@@ -30,12 +30,19 @@ def check(report):
     if not path:
         print(SKIPPED)
         return
-    with Browser(path) as browser:
-        page_cells.check(report, browser, texts)
-        page_hand.check(report, browser)
-        report.expect("errors in pages", [], browser.errors)
-        asked = [url for url in browser.requests if not url.startswith(("file:", "about:"))]
-        report.expect("what pages ask of a network", [], asked)
+    try:
+        with Browser(path) as browser:
+            check_in_browser(report, browser, texts)
+    except Failed as failed:
+        report.holds("the browser shows and answers what is waited for", False, str(failed))
+
+
+def check_in_browser(report, browser, texts):
+    page_cells.check(report, browser, texts)
+    page_hand.check(report, browser)
+    report.expect("errors in pages", [], browser.errors)
+    asked = [url for url in browser.requests if not url.startswith(("file:", "about:"))]
+    report.expect("what pages ask of a network", [], asked)
 
 
 def complained(report, words, status, said, data=b""):

@@ -79,7 +79,7 @@ def check_cause(report, browser, table):
     start, stops = next((cell, found) for cell, found in stops if any(stop.kind == "onward" for stop in found))
     browser.evaluate(f"probe.desk().go({start})")
     button = "document.querySelector('#panel li.onward button')"
-    browser.wait(button)
+    browser.wait(f"probe.panelOf({start}) && {button}")
     said = browser.evaluate(f"{button}.textContent")
     browser.evaluate(f"{button}.click()")
     cell = browser.evaluate("probe.desk().view.cell")

@@ -59,6 +59,9 @@ const probe = {
     return Math.max(...gaps.flat());
   },
 
+  /** Whether the panel shows a cell; a little later than the view does. */
+  panelOf: (cell) => [...document.querySelectorAll("#panel dl.cell dd")].pop()?.textContent === counted(cell),
+
   set: (id, value) => {
     const one = document.getElementById(id);
     one.value = value;
@@ -72,17 +75,35 @@ const probe = {
     return Number(slider.max);
   },
 
-  /** How long each frame takes, in milliseconds, while the first slider moves. */
-  frames: async (count) => {
-    const frame = () => new Promise(requestAnimationFrame), times = [], most = probe.slide(0);
+  /** How long each frame takes, in milliseconds, after something was done for it. */
+  framesOf: async (count, act) => {
+    const frame = () => new Promise(requestAnimationFrame), times = [];
     await frame();
     for (let k = 0; k < count; k++) {
       const before = performance.now();
-      probe.slide(k % (most + 1));
+      act(k);
       await frame();
       times.push(performance.now() - before);
     }
     return times;
+  },
+
+  /** Frames while the first slider moves. */
+  frames: (count) => {
+    const most = probe.slide(0);
+    return probe.framesOf(count, (k) => probe.slide(k % (most + 1)));
+  },
+
+  /** To compare with: frames in which as many pixels as the map has cells are made of random numbers, and drawn in its place. */
+  plainFrames: (count) => {
+    const [{ canvas, slice }] = gaffcurrant.desk.maps, board = document.createElement("canvas"), pen = canvas.getContext("2d");
+    [board.width, board.height] = [slice.wide, slice.high];
+    const image = new ImageData(slice.wide, slice.high), pixels = new Uint32Array(image.data.buffer);
+    return probe.framesOf(count, () => {
+      for (let at = 0; at < pixels.length; at++) pixels[at] = Math.random() * 2 ** 32;
+      board.getContext("2d").putImageData(image, 0, 0);
+      pen.drawImage(board, 0, 0, canvas.width, canvas.height);
+    });
   },
 
   /** What is shown, to be compared: the link, the run, the cell, an axis and a slider. */

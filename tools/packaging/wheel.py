@@ -32,10 +32,14 @@ def metadata():
     return "\n".join(lines) + "\n"
 
 
+def module_files():
+    """The files of the module: its code, and the parts of the page."""
+    return sorted(path for path in (TOOLS / MODULE).rglob("*") if path.is_file() and "__pycache__" not in path.parts)
+
+
 def contents():
     """The files of the wheel, by their names in it."""
-    files = {f"{MODULE}/{path.name}": path.read_bytes() for path in sorted((TOOLS / MODULE).glob("*.py"))}
-    files[f"{MODULE}/py.typed"] = b""
+    files = {str(path.relative_to(TOOLS)): path.read_bytes() for path in module_files()}
     files |= {f"{MODULE}/scripts/{path.name}": path.read_bytes() for path in programs()}
     # Where the launcher lies that the module runs.
     files[f"{MODULE}/scripts/ORIGIN"] = f"{TOOLS.parent}\n".encode()
