@@ -1,8 +1,10 @@
-"""The numbers and the code of docs/GUIDE.md."""
+"""The numbers and the code of docs/GUIDE.md, and the node of ROS 2 by stand-ins."""
 
 import importlib.util
 import os
 import re
+import subprocess
+import sys
 from fractions import Fraction
 
 from gaffcurrant_plant.reader import read_plant
@@ -13,7 +15,7 @@ def check(report):
     guide = (report.top / "docs" / "GUIDE.md").read_text()
     code = re.search(r"```c\n(.*?)```", guide, re.DOTALL).group(1)
     report.holds("the guide's C is that of control.c", code in (report.top / "examples/device/control.c").read_text())
-    model = re.search(r"```\n(sample .*?)```", guide, re.DOTALL).group(1)
+    model = re.search(r"```\n(sample 0.4.*?)```", guide, re.DOTALL).group(1)
     report.expect("the guide's model gives the double integrator", lines_of(report.plant_text("double_integrator").decode()),
                   lines_of(report.tool("scale", "-", data=model.encode())[1]))
     rows = re.findall(r"^\| ([0-9.]+) s \| ([0-9,]+) \| ([0-9]+) \|$", guide, re.MULTILINE)
@@ -48,9 +50,63 @@ def check_rail(report, guide):
                   (status, error, [(words[0], words[1], words[2], words[5], words[6]) for words in map(str.split, output.splitlines()[1:])]))
     (report.room / "rail.model").write_text(model)
     (report.room / "rail.table").write_bytes(report.run(("synth", "1"), report.tool("scale", "-", data=model.encode())[1].encode())[1])
+    check_node(report, model)
     if importlib.util.find_spec("numpy"):
         output = report.tool("why", "--deep", report.room / "rail.table", "1", "0.1", "--model", report.room / "rail.model")[1]
         report.holds("tools/why --deep of the guide's carriage", "what is won: 20;" in output and "  15: the input may come back to the cell itself" in output, output)
+
+
+# What stands in for ROS 2: a node that keeps what it publishes, and whose timer and subscription are called by hand.
+STANDINS = {"rclpy/__init__.py": "", "std_msgs/__init__.py": "",
+            "std_msgs/msg.py": "class Float64MultiArray:\n    def __init__(self, data=()):\n        self.data = data\n",
+            "rclpy/node.py": """class Node:
+    def __init__(self, name):
+        self.name, self.sent = name, []
+    def create_publisher(self, kind, topic, depth):
+        return type("Publisher", (), {"publish": lambda _, message: self.sent.append(list(message.data))})()
+    def create_subscription(self, kind, topic, called, depth):
+        self.hear = called
+    def create_timer(self, period, called):
+        self.period, self.tick = period, called
+"""}
+
+
+def check_node(report, model):
+    """The node drives the guide's carriage, mended as the guide says, until it arrives, and applies the safe value where it has no promise."""
+    for old, new in (("sample 0.2", "sample 0.4"), ("p 0 4 0.2", "p 0 4 0.1"), ("1.2 0.12", "1.2 0.06")):
+        assert old in model
+        model = model.replace(old, new)
+    (report.room / "mended.model").write_text(model)
+    (report.room / "mended.table").write_bytes(report.run(("synth", "1"), report.tool("scale", "-", data=model.encode())[1].encode())[1])
+    for name, text in STANDINS.items():
+        path = report.room / name
+        path.parent.mkdir(exist_ok=True)
+        path.write_text(text)
+    script = report.room / "drive.py"
+    script.write_text(f"""import sys
+sys.path[:0] = [{str(report.room)!r}, {str(report.top / "tools")!r}, {str(report.top / "examples/device")!r}]
+sys.dont_write_bytecode = True
+from math import exp
+from std_msgs.msg import Float64MultiArray
+from node import TableNode
+node, place, speed, left = TableNode("mended.table", "mended.model", 0.4), 1.013, 0.5, exp(-0.3 * 0.4)
+node.tick()
+for sample in range(16):
+    node.hear(Float64MultiArray(data=[place, speed]))
+    node.tick()
+    if node.said != "drives":
+        break
+    # What d v = u - 0.3*v gives at the end of a sample.
+    steady = node.sent[-1][0] / 0.3
+    place, speed = place + 0.4 * steady + (speed - steady) * (1 - left) / 0.3, steady + (speed - steady) * left
+print(node.period, node.said, node.sent[0], 3 <= place < 4 and -0.2 <= speed < 0.2)
+for state in ([9.0, 0.0], [float("nan"), 0.0]):
+    node.hear(Float64MultiArray(data=state))
+    node.tick()
+    print(node.said, node.sent[-1])
+""")
+    done = subprocess.run([sys.executable, script], capture_output=True, check=False, text=True, cwd=report.room)
+    report.expect("the node of ROS 2 by stand-ins", "0.4 arrived [0.0] True\nno promise [0.0]\nno promise [0.0]\n", done.stdout + done.stderr[-300:])
 
 
 def check_versions(report, guide):
