@@ -4,6 +4,7 @@ import doctest
 import importlib.util
 import os
 import random
+import re
 import shutil
 import subprocess
 import sys
@@ -108,9 +109,25 @@ def check_arrays(report):
     run = arrays.run_of(samples)
     report.expect("a run as arrays", ([list(sample.state) for sample in samples], [sample.rank for sample in samples], -20, None),
                   (run.states.tolist(), run.ranks.tolist(), run.inputs[-2, 0], run.inputs[-1:].tolist()[0][0]))
+    check_block(report, table)
     units = Units({"p": Fraction(1, 10), "v": Fraction(1, 100)})
     report.expect("whole numbers of real states", [[3, 30], [395, -1]], arrays.whole_states(table.plant, units, [[0.3, 0.3], [39.59, -0.001]]).tolist())
     report.expect("a run in units", [35.05, 0.005], arrays.run_of(samples, units, table.plant).states[0].round(6).tolist())
+
+
+def check_block(report, table):
+    """The lines of docs/PYTHON.md about arrays, each with what its comment says."""
+    block = re.search(r"```python\n(.*?)```", (report.top / "docs/PYTHON.md").read_text(), re.S).group(1)
+    names, said = {"table": table, "simulate": simulate}, []
+    lines = block.replace('"examples/', f'"{report.top}/examples/')
+    exec(lines, names)
+    for line in lines.splitlines():
+        asked, _, comment = line.partition("#")
+        if comment and "=" not in asked:
+            said.append((comment.strip(), eval(asked, names)))
+    report.expect("comments beside lines about arrays", ["array([ 1, -1])", "[[-20], [--]]"], [comment for comment, _ in said])
+    report.expect("lines about arrays", ["array([ 1, -1])", "[[-20] [--]]"], [repr(said[0][1]), str(said[1][1]).replace("\n", "")])
+    report.expect("a run as arrays has its names", 5, len([names["run"].times, names["run"].states, names["run"].ranks, names["run"].inputs, names["run"].turns]))
 
 
 USE = """from gaffcurrant_plant import Sample, Table, read_table, read_units, scale, simulate, solve
