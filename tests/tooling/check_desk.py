@@ -18,6 +18,7 @@ def check(report):
         texts[word] = report.room / f"line.{word}"
         texts[word].write_bytes(report.run((word, "1"), plant.encode())[1])
     check_why(report, model, texts["synth"])
+    check_sim(report, model, texts)
     check_lint(report, plant)
     check_diff(report, model, texts)
     check_sweep(report, model)
@@ -32,7 +33,7 @@ def check_why(report, model, table):
     report.holds("why tells a cell in the model's units", output.startswith("cell 2 (x 0.6 to 0.9 m): its row: rank 2, apply input"), output)
     report.expect("why by the plant text of the model", output, report.tool("why", table, "0.75", "--model", report.room / "line.plant", "--input", "2")[1])
     for words, said in ((["7", "--model", model], "x = 7 m is outside 0 to 1.5 m; with --model these are numbers in the model's units"),
-                        (["0.75"], "`0.75` is no whole number; a state is told in the plant's whole units, floor(value / unit), or by --model MODEL"),
+                        (["0.75"], "`0.75` is no whole number; a state is given in the plant's whole units, floor(value / unit), or with --model MODEL"),
                         (["99"], "x = 99 is outside 0 to 14; without --model these are whole numbers of the plant's units"),
                         (["0.7", "0.1", "--model", model], "has 1 numbers (x)"), (["nan", "--model", model], "`nan` is no number")):
         status, output, error = report.tool("why", table, *words)
@@ -43,6 +44,20 @@ def check_why(report, model, table):
     table.write_bytes(report.run(("synth", "1"), two.read_bytes())[1])
     status, output, error = report.tool("why", table, "0.5", "--model", model)
     report.holds("why by the model of another plant", status == 1 and "it has no `p`, which the text's plant has" in error, error)
+
+
+def check_sim(report, model, texts):
+    """Runs in the model's units; the plant has no noise, so each sample moves by 0.3 m."""
+    for kind, words, lines in (("synth", [], ["# time, x in m, rank, u in m/s", "0 0.7 2 0.3", "1 1 1 0.3", "2 1.3 0 -", "arrived 2"]),
+                               ("patrol", ["--turn", "1"], ["# time, turn, x in m, rank, u in m/s", "0 1 0.7 2 -0.3", "1 1 0.4 1 -0.3", "visited 1 2",
+                                                            "2 0 0.1 4 0.3", "stopped 2"])):
+        answer = report.tool("sim", texts[kind], "2", "1", "0.75", "--model", model, *words)
+        report.expect(f"sim of a {kind} in the model's units", (0, lines, ""), (answer[0], answer[1].splitlines(), answer[2]))
+    for words, status, said in ((["7", "--model", model], 1, "no row: the state is outside the domain: x = 7 m is outside 0 to 1.5 m; with --model these are"),
+                                (["99"], 1, "x = 99 is outside 0 to 14; without --model"), (["0.7"], 2, "or with --model MODEL in the model's own"),
+                                (["0.7", "--model", model, "--real", model], 2, "--real has the model already")):
+        got, output, error = report.tool("sim", texts["synth"], "2", "1", *words)
+        report.holds(f"sim {words} says `{said}`", (got, output, error.count("\n")) == (status, "", 1) and said in error, error)
 
 
 def check_lint(report, plant):

@@ -85,7 +85,7 @@ def check_reasons(report, texts, environment):
     for name, words in (("why", ["7.5"]), ("sim", ["3", "0", "7.5"])):
         report.holds(f"{name} tells in what a state is told", "the plant's whole units" in report.tool(name, texts.table, *words)[2])
     report.holds("sim tells how many numbers a state has", "has 1 numbers (x), here are 2" in report.tool("sim", texts.table, "3", "0", "7", "7")[2])
-    report.holds("sim says where to ask for a start without a row", "tools/why" in report.tool("sim", texts.table, "3", "0", "99")[2])
+    report.holds("sim says where a start lies that is outside", "x = 99 is outside 0 to 14; without --model" in report.tool("sim", texts.table, "3", "0", "99")[2])
 
 
 def check_streams(report, name, texts, environment, right):

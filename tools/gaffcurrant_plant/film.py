@@ -21,7 +21,7 @@ class Scene:
         self.title = axes.set_title("sample 0", fontsize=9)
         figure.set_dpi(dpi)
         self.artists = self.trails + self.heads + [self.title]
-        figure.canvas.draw()
+        figure.draw_without_rendering()
         # The title has its room by now.
         figure.set_layout_engine("none")
         for artist in self.artists:

@@ -86,7 +86,7 @@ def state_of(plant, words, units):
     if units.sizes:
         return [units.whole(name, word) for (name, *_), word in zip(plant.states, words)]
     if wrong := [word for word in words if not NUMBER.match(word)]:
-        raise Trouble(f"`{wrong[0][:60]}` is no whole number; a state is told in the plant's whole units, floor(value / unit), or by --model MODEL in "
+        raise Trouble(f"`{wrong[0][:60]}` is no whole number; a state is given in the plant's whole units, floor(value / unit), or with --model MODEL in "
                       "the model's own", 2)
     return [int(word) for word in words]
 
