@@ -1,6 +1,11 @@
 """tools/page: what is wrong with its words, its texts and its model, and in a real browser (Debian's chromium; skipped
 where it isn't there) what the page answers, draws and does."""
 
+import os
+import re
+import subprocess
+import sys
+
 from gaffcurrant_plant import paging
 from gaffcurrant_plant.reader import Refused
 from gaffcurrant_plant.rows import VERSIONS, Lines, front_of
@@ -26,6 +31,7 @@ def check(report):
     check_refused(report)
     check_faults(report)
     check_columns(report)
+    check_examples(report)
     path = browser_there()
     if not path:
         print(SKIPPED)
@@ -43,6 +49,18 @@ def check_in_browser(report, browser, texts):
     report.expect("errors in pages", [], browser.errors)
     asked = [url for url in browser.requests if not url.startswith(("file:", "about:"))]
     report.expect("what pages ask of a network", [], asked)
+
+
+def check_examples(report):
+    """examples/pages makes the page of an example, and one of pictures that link to pages."""
+    folder = report.room / "pages"
+    words = [sys.executable, report.top / "examples/pages", folder, "line", "nothing"]
+    done = subprocess.run(words, capture_output=True, check=False, text=True, env=os.environ | {"GAFFCURRANT": str(report.program)})
+    said = done.stdout.splitlines()
+    report.expect("examples/pages of one example and of none", (1, 2, "nothing: there is no such example"), (done.returncode, len(said), said[-1:] and said[-1]))
+    index = (folder / "index.html").read_text()
+    links = re.findall(r'(?:href|src)="([^"]+)"', index)
+    report.expect("the page of pictures", (["line.html", "line.png"], []), (links, [link for link in links if not (folder / link).is_file()]))
 
 
 def complained(report, words, status, said, data=b""):
