@@ -1,7 +1,10 @@
-"""A model's units in why, lint and diff; sweep of stays and patrols; films; what is said where numpy isn't there."""
+"""A model's units in why, sim, lint and diff; sweep of stays and patrols; films; progress on a terminal; what is said where numpy isn't there."""
 
 import importlib.util
 import os
+import pty
+import subprocess
+import sys
 
 MODEL = "version 1\nstate x 0 1.5 0.3 0.1\nexact x\ninput u 0.1 -0.3 0 0.3\nunit x m\nunit u m/s\nnext x = x + u\ntarget 1.2 1.5\ntarget 0 0.3\ngoal reach\n"
 TIMES = "version 2\nsample 0.5\nstate x 0 10 cells 40\ninput u 0.1 -1 0 1\nd x = u\ntarget 2 4\ngoal reach\n"
@@ -22,6 +25,7 @@ def check(report):
     check_lint(report, plant)
     check_diff(report, model, texts)
     check_sweep(report, model)
+    check_progress(report, model)
     check_without_numpy(report, texts["synth"])
     check_film(report, texts["patrol"])
 
@@ -88,6 +92,21 @@ def check_sweep(report, model):
     report.holds("sweep --patrol tells both turns", status == 0 and "/" in output.splitlines()[1].split()[5], output + error)
     status, output, error = report.tool("sweep", model, "--patrol", "--stay")
     report.expect("sweep takes one of both", (2, "", 1), (status, output, error.count("\n")))
+
+
+def check_progress(report, model):
+    """What takes over two seconds says so on a terminal, and nothing in a file; here a program that takes its time."""
+    slow = report.room / "slow"
+    slow.write_text(f"#!/bin/sh\nsleep 4\nexec {report.program} \"$@\"\n")
+    slow.chmod(0o755)
+    command, slowly = [sys.executable, report.top / "tools/sweep", model], os.environ | {"GAFFCURRANT": str(slow)}
+    mine, its = pty.openpty()
+    done = subprocess.run(command, stdout=subprocess.PIPE, stderr=its, check=False, env=slowly)
+    os.close(its)
+    said = os.read(mine, 4096).decode()
+    os.close(mine)
+    report.holds("sweep says on a terminal how far it is", "\rsweep: 1 of 1, 2 s so far " in said and said.endswith("\r\033[K"), repr(said))
+    report.expect("sweep to a file", (0, 2, b""), (done.returncode, done.stdout.count(b"\n"), subprocess.run(command, capture_output=True, check=False, env=slowly).stderr))
 
 
 def check_without_numpy(report, table):

@@ -4,7 +4,9 @@ import argparse
 import importlib.util
 import os
 import sys
+import threading
 import time
+from contextlib import contextmanager
 
 from .refused import Refused
 
@@ -61,7 +63,7 @@ def need_numpy(what):
 
 
 class Progress:
-    """How far something is that takes more than two seconds, in one line on a terminal; nothing anywhere else."""
+    """How far something is that takes more than two seconds, or for how long it goes on, in one line on a terminal; nothing anywhere else."""
 
     def __init__(self, name):
         self.name, self.begun, self.told = name, time.monotonic(), 0.0
@@ -72,9 +74,34 @@ class Progress:
         """Tells what share is done, at most some times a second."""
         now = time.monotonic()
         if self.is_on and now - self.begun > 2 and now - self.told > 0.2:
-            self.told, self.is_shown = now, True
             left = (now - self.begun) * (1 - share) / share if share > 0 else 0
-            print(f"\r{self.name}: {share:.0%}, about {left:.0f} s left ", end="", file=sys.stderr, flush=True)
+            self.put(f"{share:.0%}, about {left:.0f} s left", now)
+
+    def put(self, said, now):
+        self.told, self.is_shown = now, True
+        print(f"\r{self.name}: {said} ", end="", file=sys.stderr, flush=True)
+
+    @contextmanager
+    def during(self, what):
+        """Says for how long something goes on that can't say how far it is."""
+        ended = threading.Event()
+
+        def watch():
+            while not ended.wait(0.5):
+                now = time.monotonic()
+                if now - self.begun > 2:
+                    self.put(f"{what}, {now - self.begun:.0f} s so far", now)
+
+        watcher = threading.Thread(target=watch, daemon=True)
+        if self.is_on:
+            watcher.start()
+        try:
+            yield
+        finally:
+            ended.set()
+            if self.is_on:
+                watcher.join()
+            self.end()
 
     def end(self):
         """Takes the line away."""
