@@ -1,6 +1,7 @@
 """What the tools say of a model that can't be scaled names the line, and what would do; a picture along three states takes a model's units."""
 
 import importlib.util
+import re
 from pathlib import Path
 
 CELL = "state x 0 1 0.1 0.01\n"
@@ -13,6 +14,9 @@ MESSAGES = [
      "line 3: no denominator up to 10^15 keeps the rounding of the equation of x below a tenth of a unit"),
     ("state x 0 1 0.1 0.0001\n\nnext x = 0.333*x*x*x*x*x*x\ngoal keep\n", "times as coarse would do"),
     ("denominator 1\nstate x 0 1000000000 1000000 0.0000001\nnext x = x*x*x*x*x\ngoal keep\n", "line 3: the plant would be refused"),
+    ("sample 100\nstate x 0 1 0.1 0.1\nA -1\ngoal keep\n", "line 1: the sampling time is too long beside the fastest time of the system; `sample 50` would do"),
+    ("state x 0 1 0.1 0.1\ninput u -1 0 1\nnext x = x\ngoal keep\n", "line 2: `input NAME UNIT V1 .. Vm`: the unit stands before the values and is above 0, here it is -1"),
+    (CELL + "next x = x\ntarget 0 1\n", "the model has no `goal reach` line, and no `goal keep`"),
     (CELL + "# a comment\nnext x = x\n\ntarget 0.511 0.519\ngoal reach\n", "line 5: a target from 0.511 to 0.519 holds no whole unit of x"),
     (CELL + "state y 0 1 0.1 0.1\nnext x = x\ngoal reach\n", "there are 2 states and 1 equations: `next y = ..` is missing"),
 ]
@@ -23,6 +27,7 @@ MESSAGES_OF_FUNCTIONS = [
      "line 2: the divisor `x - 0.5` may lie between -0.51 and 0.51, and has to keep off 0, as 1 / max(x - 0.5, 0.01) does, or 1 / min(x - 0.5, -0.01)"),
     (CELL + "next x = x / x\ngoal keep\n", "line 2: the divisor `x` may lie between -1e-05 and 1, and has to keep off 0; a `max` does it, as in 1 / max(x, 0.01)"),
     ("sample 1\n" + CELL + "d x = -sqrt(x)\ngoal keep\n", "line 3: what stands in `sqrt(x)`"),
+    ("# stiff\nsample 5\n" + CELL + "d x = -50*x\ngoal keep\n", "line 2: the sampling time is too long: no box was found that holds the solutions up to it; `sample "),
     ("sample 1\nstate x -2 2 0.1 0.1\nd x = tan(x)\ngoal keep\n", "tan(max(-1.5, min(1.5, x)))"),
     (CELL + "next x = (x - 0.5)^0.3\ngoal keep\n", "line 2: what stands in the power `(x - 0.5)^0.3`"),
 ]
@@ -33,7 +38,17 @@ def check(report):
         status, output, error = report.tool("scale", "-", data=model.encode())
         report.expect(f"scale of {model[-40:]!r}", (1, "", 1), (status, output, error.count("\n")))
         report.holds(f"scale says `{said}`", said in error, error)
+    if report.has_mpmath():
+        check_shorter(report)
     check_solid(report)
+
+
+def check_shorter(report):
+    """The shorter sampling time that is named does, and one four times as long does not."""
+    model = "sample {}\n" + CELL + "d x = -50*x\ngoal keep\n"
+    said = re.search(r"; `sample (\S+)` may do", report.tool("scale", "-", data=model.format(5).encode())[2])
+    times = [float(said[1]) * factor for factor in (1, 4)] if said else []
+    report.expect(f"scale at a shorter time, {times}", [0, 1], [report.tool("scale", "-", data=model.format(time).encode())[0] for time in times])
 
 
 def check_solid(report):

@@ -13,11 +13,18 @@ from fractions import Fraction
 
 from .command import Trouble
 from .formula import add, derivative, is_smooth, mul, number, replaced, value_of
+from .sampling import SYSTEM, too_long
 
 # How far a measurement may be beside its real value, in units of the state, as by the rounding of doubles.
 BESIDE = Fraction(1, 1000)
-MOST_BOXES, MOST_TRIALS, TERMS, FASTEST = 96, 30, 24, 100
+MOST_BOXES, MOST_TRIALS, TERMS, FASTEST, HALVINGS = 96, 30, 24, 100, 12
 TINY = Fraction(1, 10 ** 12)
+# In how many parts a box for a step is looked for, one after the other.
+PARTS = (1, 4, 16)
+
+
+class NoBox(Trouble):
+    """No box was found that holds the solutions up to the end of a step."""
 
 
 class Flow:
@@ -117,16 +124,33 @@ class Flow:
 
     def enclosure(self, area):
         """A box that holds the solutions from an area up to the end of a step, and one that holds their ends, found in one part or in several."""
-        for parts in (1, 4, 16):
+        for parts in PARTS:
             try:
-                box, end = None, area
-                for _ in range(parts):
-                    one, end = self.short_enclosure(end, self.time / parts)
-                    box = one if box is None else {name: self.maths.hull(box[name], one[name]) for name in one}
-                return box, end
+                return self.enclosure_in(parts, area, self.time)
+            except NoBox:
+                fault = self.shorter(area)
             except Trouble as trouble:
                 fault = trouble
         raise fault
+
+    def enclosure_in(self, parts, area, time):
+        """The same up to a time, found in so many parts."""
+        box, end = None, area
+        for _ in range(parts):
+            one, end = self.short_enclosure(end, time / parts)
+            box = one if box is None else {name: self.maths.hull(box[name], one[name]) for name in one}
+        return box, end
+
+    def shorter(self, area):
+        """The fault of a sampling time up to which no box was found from an area, with one for which there is a box."""
+        said = ": no box was found that holds the solutions up to it"
+        for halvings in range(1, HALVINGS):
+            try:
+                self.enclosure_in(PARTS[-1], area, self.time / 2 ** halvings)
+                return too_long(self.model, 2 ** halvings, said, "may")
+            except Trouble:
+                continue
+        return Trouble(f"line {self.model.sample_line}: the sampling time is too long{said}")
 
     def short_enclosure(self, area, time):
         """A box that holds the solutions from an area up to a time, and one that holds their ends."""
@@ -140,7 +164,7 @@ class Flow:
                 return box, area | {name: area[name] + end * slope for name, slope in slopes.items()}
             for name, one in after.items():
                 box[name] = one + (one - area[name]) / 20 + maths.between(-TINY, TINY)
-        raise Trouble("the sampling time is too long: no box was found that holds the solutions up to it")
+        raise NoBox("no box")
 
     def rests_in(self, box):
         """For each state the ends of what the polynomial of a step leaves out, where a box holds the solutions."""
@@ -161,7 +185,7 @@ class Flow:
                   for state, side in zip(self.names, self.sides)]
         norm = max(map(sum, matrix))
         if self.time * norm > FASTEST:
-            raise Trouble("the sampling time is too long beside the fastest time of the system")
+            raise too_long(self.model, self.time * norm / FASTEST, SYSTEM)
         power, total = [push * self.time for push in pushes], [Fraction(0)] * size
         for k in range(2, TERMS + 2 * math.ceil(self.time * norm)):
             total = [rounded_up(a + b) for a, b in zip(total, power)]

@@ -4,7 +4,7 @@ from fractions import Fraction
 
 from .command import Trouble
 from .polynomial import added
-from .sampling import TooLong, sampled
+from .sampling import sampled
 
 
 def add_linear_system(model):
@@ -36,7 +36,4 @@ def one_sample(model):
     inputs = [list(b) + c for b, c in zip(model.rows["B"] or [[] for _ in model.states], constants)]
     if not model.sample:
         return model.rows["A"], inputs
-    try:
-        return sampled(model.rows["A"], inputs, model.sample)
-    except TooLong:
-        raise Trouble("the sampling time is too long beside the fastest time of the system") from None
+    return sampled(model.rows["A"], inputs, model)

@@ -33,8 +33,8 @@ class Model:
         self.between, self.has_bounds, self.exact = None, False, set()
         # Units' words; numbers by name; the states that come round, with the line that says so.
         self.words, self.parameters, self.wraps = {}, {}, {}
-        # The line that is read, and those of the equations, the boxes and the variables.
-        self.line, self.equation_lines, self.box_lines, self.variable_lines = 0, [], [], {}
+        # The line that is read, and those of the sampling time, the equations, the boxes and the variables.
+        self.line, self.sample_line, self.equation_lines, self.box_lines, self.variable_lines = 0, 0, [], [], {}
 
     def names(self):
         return [entry[0] for entry in self.states + self.inputs + self.noises]
@@ -68,7 +68,7 @@ def read_model(data):
         except Fault as fault:
             raise Trouble(f"line {number}: {fault}") from None
     if not model.states or model.goal is None:
-        raise Trouble("the model has no state" if not model.states else "the model has no `goal reach` line")
+        raise Trouble("the model has no state" if not model.states else "the model has no `goal reach` line, and no `goal keep`")
     check_equations(model)
     cover_half_planes(model)
     return model
@@ -134,7 +134,7 @@ def read_line(model, words):
             fail("the denominator is a whole number of at least 1")
         model.denominator = int(value)
     elif keyword == "sample":
-        model.sample = numbers(rest, 1, keyword)[0]
+        model.sample, model.sample_line = numbers(rest, 1, keyword)[0], model.line
         if model.sample <= 0:
             fail("a sampling time is above 0")
     elif keyword == "unit":
@@ -310,7 +310,7 @@ def read_variable(model, keyword, rest):
             fail("`input NAME UNIT V1 .. Vm` has a unit and at least one value")
         unit, *values = numbers(rest[1:2] + [value for word in rest[2:] for value in listed(model, word)], None, keyword)
         if unit <= 0:
-            fail("a unit is above 0")
+            fail(f"`input NAME UNIT V1 .. Vm`: the unit stands before the values and is above 0, here it is {said(unit)}")
         if len(values) > VALUES:
             fail(f"{VALUES} values are the most of one input, here are {len(values)}")
         if wrong := [value for value in values if value % unit]:
