@@ -51,8 +51,8 @@ def check_why(report, model, table):
 
 
 def check_sim(report, model, texts):
-    """Runs in the model's units; the plant has no noise, so each sample moves by 0.3 m."""
-    for kind, words, lines in (("synth", [], ["# time, x in m, rank, u in m/s", "0 0.7 2 0.3", "1 1 1 0.3", "2 1.3 0 -", "arrived 2"]),
+    """Runs in the model's units; the plant has no noise, so each sample moves by 0.3 m. Both targets are two samples away, and -0.3 is listed first."""
+    for kind, words, lines in (("synth", [], ["# time, x in m, rank, u in m/s", "0 0.7 2 -0.3", "1 0.4 1 -0.3", "2 0.1 0 -", "arrived 2"]),
                                ("patrol", ["--turn", "1"], ["# time, turn, x in m, rank, u in m/s", "0 1 0.7 2 -0.3", "1 1 0.4 1 -0.3", "visited 1 2",
                                                             "2 0 0.1 4 0.3", "stopped 2"])):
         answer = report.tool("sim", texts[kind], "2", "1", "0.75", "--model", model, *words)
@@ -88,6 +88,8 @@ def check_sweep(report, model):
         rows = [line.split() for line in output.splitlines()[1:]]
         report.expect(f"sweep {word}", (0, "", [["0.5", "1", "40"], ["0.5", "2", "20"]]), (status, error, [row[:3] for row in rows]))
         report.holds(f"sweep {word} counts what is won", all(0 < int(row[5]) <= int(row[2]) for row in rows), output)
+    output = report.tool("sweep", "-", "--widths", "3", data=TIMES.encode())[1]
+    report.holds("sweep says which cells can't be wider", "the 40 cells of x can't be 3 times as wide: that would be 13.3333" in output, output)
     status, output, error = report.tool("sweep", model, "--patrol")
     report.holds("sweep --patrol tells both turns", status == 0 and "/" in output.splitlines()[1].split()[5], output + error)
     status, output, error = report.tool("sweep", model, "--patrol", "--stay")
