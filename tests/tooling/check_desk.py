@@ -32,11 +32,11 @@ def check(report):
 
 def check_why(report, model, table):
     status, output, error = report.tool("why", table, "0.75", "--model", model, "--input", "2")
-    report.expect("why in the model's units", (0, "", ["input 2 (u = 0.3 m/s)", "  deviation: x 0.1 m", "  successor box: x 0.9 to 1.2 m", "  successors: 1"]),
+    report.expect("why in the model's units", (0, "", ["input 2 (u = 0.3 m/s)", "  deviation: x 0.1 m", "  successor box: x 0.9 to 1.1 m", "  successors: 1"]),
                   (status, error, output.splitlines()[1:5]))
-    report.holds("why tells a cell in the model's units", output.startswith("cell 2 (x 0.6 to 0.9 m): its row: rank 2, apply input"), output)
+    report.holds("why tells a cell in the model's units", output.startswith("cell 2 (x 0.6 to 0.8 m): its row: rank 2, apply input"), output)
     report.expect("why by the plant text of the model", output, report.tool("why", table, "0.75", "--model", report.room / "line.plant", "--input", "2")[1])
-    for words, said in ((["7", "--model", model], "x = 7 m is outside 0 to 1.5 m; with --model these are numbers in the model's units"),
+    for words, said in ((["7", "--model", model], "x = 7 m is outside 0 to 1.4 m; with --model these are numbers in the model's units"),
                         (["0.75"], "`0.75` is no whole number; a state is given in the plant's whole units, floor(value / unit), or with --model MODEL"),
                         (["99"], "x = 99 is outside 0 to 14; without --model these are whole numbers of the plant's units"),
                         (["0.7", "0.1", "--model", model], "has 1 numbers (x)"), (["nan", "--model", model], "`nan` is no number")):
@@ -57,7 +57,7 @@ def check_sim(report, model, texts):
                                                             "2 0 0.1 4 0.3", "stopped 2"])):
         answer = report.tool("sim", texts[kind], "2", "1", "0.75", "--model", model, *words)
         report.expect(f"sim of a {kind} in the model's units", (0, lines, ""), (answer[0], answer[1].splitlines(), answer[2]))
-    for words, status, said in ((["7", "--model", model], 1, "no row: the state is outside the domain: x = 7 m is outside 0 to 1.5 m; with --model these are"),
+    for words, status, said in ((["7", "--model", model], 1, "no row: the state is outside the domain: x = 7 m is outside 0 to 1.4 m; with --model these are"),
                                 (["99"], 1, "x = 99 is outside 0 to 14; without --model"), (["0.7"], 2, "or with --model MODEL in the model's own"),
                                 (["0.7", "--model", model, "--real", model], 2, "--real has the model already")):
         got, output, error = report.tool("sim", texts["synth"], "2", "1", *words)
@@ -77,7 +77,7 @@ def check_diff(report, model, texts):
     text[at:at + 2] = [f"rows {int(text[at].split()[1]) - 1}"]
     less.write_text("\n".join(text) + "\n")
     status, output, error = report.tool("diff", texts["synth"], less, "--model", model)
-    report.holds("diff in the model's units", status == 0 and " m)" in output and "cell 0 (x 0 to 0.3 m)" in output, output + error)
+    report.holds("diff in the model's units", status == 0 and " m)" in output and "cell 0 (x 0 to 0.2 m)" in output, output + error)
     report.holds("diff of a table and a stay text", report.tool("diff", texts["synth"], texts["stay"])[1].startswith("a table and a stay: 5 cells"))
 
 

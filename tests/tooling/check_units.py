@@ -47,6 +47,9 @@ def check_view(report):
     """Of a state of a picture that lies outside the range is told, in the units in which the state was."""
     plant = read_plant(b"plant 1\nstate x 0 99 10\nnext x = x\ngoal keep\nend\n")
     whole, metres = Units(), Units({"x": Fraction(1, 50)}, {"x": "m"})
+    exact = Units({"x": Fraction(1, 50)}, {"x": "m"}, {"x"})
+    report.expect("a range in units, and of whole numbers by themselves", ["0 to 0.2 m", "0.1 to 0.12 m", "0 to 0.18 m", "0.1 m"],
+                  [units.span_said("x", *ends) for units in (metres, exact) for ends in ((0, 9), (5, 5))])
     for units, words, fix, said in ((whole, ["500"], [], "where x is 0 to 99 in the plant's whole units; --model"),
                                     (metres, ["2"], [], "where x is 0 to 2 in the units of the model, m"), (whole, ["1", "2"], [], "one for each state (x)"),
                                     (whole, ["1"], ["x"], "--fix takes NAME=X, as --fix x=0"), (metres, ["1"], ["x=3"], "it is outside 0 to 2 in the units")):

@@ -24,6 +24,7 @@ def check(report, browser):
     check_fields(report, browser)
     check_link(report, browser)
     check_reading(report, browser)
+    check_exact(report, browser)
 
 
 def check_colours(report, browser, table):
@@ -139,6 +140,17 @@ def check_reading(report, browser):
     report.holds("units are told", "45 m" in browser.evaluate(PANEL), browser.evaluate(PANEL))
     ids = browser.evaluate("[...document.querySelectorAll('[id]')].map((one) => one.id)")
     report.expect("ids stand once", len(ids), len(set(ids)))
+
+
+def check_exact(report, browser):
+    """A state that is a whole number by itself has no range of real values."""
+    open_page(report, browser, [report.room / "vehicle.table", "--model", report.top / "examples/vehicle/vehicle.model"])
+    browser.evaluate("probe.slide(3)")
+    browser.wait("probe.desk().view.places[2] === 3 && document.querySelector('#sliders output').textContent === '3'")
+    browser.evaluate("probe.desk().go(probe.desk().view.plant.cellAt([2, 1, 3]))")
+    browser.wait(f"{PANEL}.includes('0.25 to 0.375 m')")
+    panel = browser.evaluate(PANEL)
+    report.holds("a whole number by itself has one number", "h\n3\n" in panel, panel)
 
 
 def role_of(node):

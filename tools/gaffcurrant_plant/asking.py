@@ -26,8 +26,8 @@ class Real:
         return [math.floor(exact(value) / self.units.size(name)) for value, name in zip(values, names)]
 
     def middle(self, whole: Iterable[int]) -> tuple[float, ...]:
-        """A state in the model's units: the middles of the units of its whole numbers."""
-        return tuple(float((2 * number + 1) * self.units.size(name) / 2) for number, (name, *_) in zip(whole, self.table.plant.states))
+        """A state in the model's units: the middles of the units of its whole numbers, and what is a whole number by itself as it is."""
+        return tuple(float((2 * number + (name not in self.units.exact)) * self.units.size(name) / 2) for number, (name, *_) in zip(whole, self.table.plant.states))
 
     def rank(self, state: Iterable[Any]) -> Optional[int]:
         """The number of samples that suffice from a real state, or None with goal keep; raises NoRow."""

@@ -99,7 +99,7 @@ def model_data(path, data, plant):
         check_model(path, model, plant)
         flow = flow_data(model)
     sizes = {name: float(size) for name, size in units.sizes.items()}
-    return {"units": {"sizes": sizes, "words": units.words}, "flow": flow}
+    return {"units": {"sizes": sizes, "words": units.words, "exact": sorted(units.exact)}, "flow": flow}
 
 
 def first_word(data):

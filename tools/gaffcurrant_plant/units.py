@@ -10,13 +10,15 @@ from .polynomial import Fault, number_of
 
 NUMBER = re.compile(r"(0|-?[1-9][0-9]{0,17})\Z")
 COMMENT = re.compile(r"# unit ([A-Za-z][A-Za-z0-9_]*) ([0-9.eE+-]+|[0-9]+/[1-9][0-9]*)(?: ([^:]*))?(?::.*)?\Z")
+BY_ITSELF = ": a whole number by itself"
 
 
 class Units:
-    """sizes: for a name what its number 1 stands for; words: what the model's unit is called, where it is."""
+    """sizes: for a name what its number 1 stands for; words: what the model's unit is called, where it is; exact: the states that are whole numbers
+    of units by themselves."""
 
-    def __init__(self, sizes=None, words=None):
-        self.sizes, self.words = sizes or {}, words or {}
+    def __init__(self, sizes=None, words=None, exact=()):
+        self.sizes, self.words, self.exact = sizes or {}, words or {}, exact
 
     def size(self, name):
         return self.sizes.get(name, Fraction(1))
@@ -44,9 +46,12 @@ class Units:
         return short(whole * self.size(name)) + self.word(name)
 
     def span_said(self, name, low, high):
-        """The whole numbers from low to high: `390 to 399`, or `3.9 to 4 m`, since a real value lies between a whole number and the next."""
+        """The whole numbers from low to high: `390 to 399`, or `3.9 to 4 m`, since a real value lies between a whole number and the next, if it isn't
+        one by itself."""
         if not self.sizes:
             return str(low) if low == high else f"{low} to {high}"
+        if name in self.exact:
+            return self.size_said(name, low) if low == high else f"{short(low * self.size(name))} to {self.size_said(name, high)}"
         return f"{short(low * self.size(name))} to {short((high + 1) * self.size(name))}{self.word(name)}"
 
     def label(self, name):
@@ -127,11 +132,12 @@ def read_units(path, data):
             model = read_model(data)
         except Trouble as trouble:
             raise Trouble(f"{path}: {trouble}", trouble.status) from None
-        return Units({state[0]: state[4] for state in model.states} | {name: unit for name, unit, _ in model.inputs}, model.words)
+        return Units({state[0]: state[4] for state in model.states} | {name: unit for name, unit, _ in model.inputs}, model.words, model.exact)
     found = [found.groups() for found in map(COMMENT.match, lines) if found]
+    exact = {line.split()[2] for line in lines if COMMENT.match(line) and line.endswith(BY_ITSELF)}
     if not found:
         raise Trouble(f"{path}: the text has no comments `# unit NAME SIZE`, which tools/scale writes; give the model")
     try:
-        return Units({name: Fraction(size) if "/" in size else number_of(size) for name, size, _ in found}, {name: word for name, _, word in found if word})
+        return Units({name: Fraction(size) if "/" in size else number_of(size) for name, size, _ in found}, {name: word for name, _, word in found if word}, exact)
     except Fault as fault:
         raise Trouble(f"{path}: {fault}") from None

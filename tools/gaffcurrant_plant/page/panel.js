@@ -70,7 +70,7 @@ class CellPanel {
       item.append((k ? "; " : "") + words);
       cells.slice(0, SHOWN_CELLS).forEach((cell) => item.append(this.buttonTo(view, cell), " "));
       const left = `${cells.length - SHOWN_CELLS}${cells.length === KEPT_CELLS ? " or more" : ""}`;
-      if (cells.length > SHOWN_CELLS) item.append(`and ${left} others`);
+      if (cells.length > SHOWN_CELLS) item.append(`and ${left} other${left === 1 ? "" : "s"}`);
     });
   }
 

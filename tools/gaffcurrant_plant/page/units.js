@@ -4,6 +4,7 @@ class Units {
   constructor(data) {
     this.sizes = data ? data.sizes : {};
     this.words = data ? data.words : {};
+    this.exact = data ? data.exact : [];
     this.areKnown = Boolean(data);
   }
 
@@ -43,16 +44,20 @@ class Units {
     return this.words[name] ? `${value} ${this.words[name]}` : value;
   }
 
+  /** Whether a state's numbers are whole: without units, and of a state that is a whole number of units by itself. */
+  isWhole(name) {
+    return !this.areKnown || this.exact.includes(name);
+  }
+
   /** Where a range ends: its last whole number, or in units where the next number begins. */
   endSaid(name, high) {
-    return this.areKnown ? this.said(name, Number(high) + 1) : digits(high);
+    return this.said(name, this.isWhole(name) ? high : Number(high) + 1);
   }
 
   /** The range of a cell's numbers: whole ones with both ends, in units up to where the next cell begins. */
   range(name, low, high) {
-    if (!this.areKnown) return low === high ? digits(low) : `${digits(low)} to ${digits(high)}`;
-    const word = this.words[name] ? ` ${this.words[name]}` : "";
-    return `${decimal(this.value(name, low))} to ${decimal((Number(high) + 1) * this.size(name))}${word}`;
+    const first = this.areKnown ? decimal(this.value(name, low)) : digits(low);
+    return this.isWhole(name) && low === high ? this.said(name, low) : `${first} to ${this.endSaid(name, high)}`;
   }
 
   /** A name with what its unit is called. */
