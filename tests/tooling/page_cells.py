@@ -20,7 +20,7 @@ CELLS, LOOKED, RUNS = 1000, 40, 6
 MOST_OF_SIM = 50_000
 # Frames in which a slider moves, and how many times the processor time of frames of random pixels they may take. 60 frames a second leave
 # one second.
-FRAMES, MOST_TIMES = 60, 4
+FRAMES, MOST_TIMES = 60, 8
 
 # Numbers past 2^53, which the page counts by BigInt.
 FAR = 10 ** 17
