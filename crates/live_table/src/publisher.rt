@@ -1,4 +1,5 @@
-ghost use Rattle.std.specs.Prelude.{◌≡◌, ◌+◌, ◌<◌, ◌^◌, length, IfOk, MatchResult, Some};
+ghost use Rattle.std.specs.Prelude.{◌≡◌, ◌+◌, ◌<◌, ◌^◌, length, IfOk, MatchBool, MatchResult, Some};
+ghost use mathlib.Core.List.{IsPrefix};
 ghost use Rattle.left_right.specs.Sides.{view as known};
 ghost use Rattle.live_table.specs.Publishes.{LastChooses, with_table};
 ghost use Rattle.live_table.specs.inside.Rules.{Begins, IsInForce};
@@ -8,6 +9,7 @@ use crate::current::Current;
 use crate::history::History;
 use crate::live_fault::LiveFault;
 use crate::prefix::Prefix;
+use crate::reader::Reader;
 use crate::told::Told;
 use controller_table::Table;
 use core::mem::replace_with;
@@ -57,6 +59,14 @@ impl Publisher {
             Some(current) => current.choice(x),
             None => None,
         }
+    }
+
+    /// Whether its list begins with all that a reader has seen. Both are of one list, so else what was seen goes on from here.
+    pub fn begins_with_seen(&self, reader: &Reader) -> bool
+        requires { reader.now.opening ≡ self.now.opening }
+        ensures { MatchBool result (IsPrefix reader.now.seen self.now.list) (IsPrefix self.now.list reader.now.seen) }
+    {
+        reader.seen.begins(&self.prefix)
     }
 
     /// Brings a table into force. It waits for readers that still read the table before the last.

@@ -2,5 +2,5 @@
 
 mod answers;
 mod refusals;
-mod tables;
+pub mod tables;
 mod threads;

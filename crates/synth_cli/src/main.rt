@@ -4,8 +4,12 @@
 //! status.
 #![tactic(auto)]
 
+ghost use Rattle.std.specs.Prelude.{◌≡◌, ◌↔◌, map, codes, IsTrue};
+ghost use Rattle.run_devices.specs.Devices.{reading, writing};
+ghost use Rattle.synth_cli.specs.inside.Program.{BeginWithLive, DoesAsAsked};
+
 use live_run::run_live;
-use run_devices::{StdErrSink, StdSink, StdSource};
+use run_devices::{Sink, Source, StdErrSink, StdSink, StdSource};
 use std::alloc::{AllocError, Global};
 use std::env;
 use std::io::ErrorKind;
@@ -38,19 +42,34 @@ fn main(rt: HostRuntime) -> ExitCode {
 }
 
 /// Does what the words ask for, and answers the exit status.
-fn carry_out<R: Threads + Wait + Sync>(
+fn carry_out<R: Threads + Wait + Sync, S: Source, O: Sink, E: Sink>(
     rt: &R,
     alloc: Global,
     arguments: &[&str],
-    source: &mut StdSource,
-    out: &mut StdSink,
-    err: &mut StdErrSink,
-) -> u8 {
-    if arguments.first().is_some_and(|word| *word == "live") {
+    source: &mut S,
+    out: &mut O,
+    err: &mut E,
+) -> u8
+    ensures { DoesAsAsked (map (λ w. w.now) arguments.now) result (reading S.left S.faults S.is_sound source.old source.new) (writing O.got O.faults O.capacity out.old out.new) (writing E.got E.faults E.capacity err.old err.new) }
+{
+    if asks_for_live(arguments) {
         run_live(rt, alloc, arguments, source, out, err)
     } else {
         run(rt, alloc, arguments, source, out, err, &Open, &mut None)
     }
+}
+
+/// Whether the first word is `live`.
+fn asks_for_live(arguments: &[&str]) -> bool
+    ensures { IsTrue result ↔ BeginWithLive (map (λ w. w.now) arguments.now) }
+{
+    arguments.len() > 0 && is_live(arguments[0])
+}
+
+fn is_live(word: &str) -> bool
+    ensures { IsTrue result ↔ (word.now ≡ codes "live") }
+{
+    word == "live"
 }
 
 /// The words after the program's name, or the status that their lack gives.

@@ -10,7 +10,7 @@ use std::sync::Wait;
 use std::test::Fail;
 
 /// What is answered while a second table is published and told, in order: by the reader at 1, and twice at 13; then
-/// how many tables the publisher counts, and what it answers at 13.
+/// how many tables the publisher counts, what it answers at 13, and whether its list begins with what the reader has seen.
 #[derive(PartialEq, Eq, Drop)]
 struct Heard {
     at_first: Answered,
@@ -18,6 +18,7 @@ struct Heard {
     later: Answered,
     count: u32,
     published: Option<u32>,
+    seen_is_published: bool,
 }
 
 fn listen<R: Wait>(
@@ -40,6 +41,7 @@ fn listen<R: Wait>(
         later,
         count: publisher.count(),
         published: publisher.choice(&state(13)),
+        seen_is_published: publisher.begins_with_seen(reader),
     })
 }
 
@@ -72,6 +74,7 @@ fn a_told_reader_answers_by_the_new_table(rt: HostRuntime) -> Result<(), Fail> {
         later: second,
         count: 2,
         published: Some(0),
+        seen_is_published: true,
     };
     assert!(rt; heard == want);
     Ok(())
