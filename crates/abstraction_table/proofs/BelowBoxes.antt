@@ -2,7 +2,7 @@
 use Rattle.std.proofs.Common.{◌<◌, get_or}
 use Rattle.std.proofs.lemmas.List.Elements.{All-from_get_or, Contains-get_or}
 use Rattle.grid_quantiser.specs.Axes.{cells_of}
-use Rattle.grid_quantiser.specs.Boxes.{cells_between}
+use Rattle.grid_quantiser.specs.CellBoxes.{cells_between}
 use Rattle.grid_quantiser.specs.Laws.{BoxesHaveCells, CellsLieBetweenCorners, BoxesAreMovedShapes}
 use Rattle.grid_quantiser.proofs.BetweenCells.{between_from_contains, between_by_coordinate, rising_between}
 use Rattle.grid_quantiser.proofs.BoxCells.{between_limit, between_below, corners_below}

@@ -14,7 +14,7 @@ use Rattle.grid_quantiser.specs.Extents.{IsExtentOf}
 use Rattle.grid_quantiser.proofs.Suffixes.{cells_of-drop}
 use Rattle.plant_record.specs.Description.{Description, axis_of, axes_of}
 use Rattle.plant_record.specs.Soundness.{IsSound}
-use Rattle.successor_box.specs.Boxes.{IsBoxOf, low_corner, high_corner}
+use Rattle.successor_box.specs.SuccessorBoxes.{IsBoxOf, low_corner, high_corner}
 use Rattle.successor_box.proofs.Below.{boxes_grow_by_extents}
 use Rattle.successor_box.proofs.PairExtents.{box_more, box_on_all}
 use Rattle.abstraction_table.specs.inside.Sums.{term, plus, enlarged}

@@ -5,7 +5,7 @@ use Rattle.std.proofs.lemmas.Bool.{cases_lt}
 use Rattle.std.proofs.lemmas.Nat.{mul-le}
 use Rattle.grid_quantiser.specs.declared.boxes.CellBox.{CellBox}
 use Rattle.plant_record.specs.Description.{Description}
-use Rattle.successor_box.specs.Boxes.{IsBoxOf}
+use Rattle.successor_box.specs.SuccessorBoxes.{IsBoxOf}
 use Rattle.abstraction_table.proofs.LineBoxes.{later_cell}
 use Rattle.abstraction_table.proofs.WrittenTerms.{written_long, written_before, written_in, written_after}
 

@@ -7,12 +7,12 @@ use Rattle.std.proofs.Math.Nat.{div-lt_iff_lt-mul, mul-zero}
 use Rattle.grid_quantiser.specs.declared.axis.Axis.{Axis}
 use Rattle.grid_quantiser.specs.declared.boxes.CellBox.{CellBox}
 use Rattle.grid_quantiser.specs.Axes.{cells_of, AreAxes}
-use Rattle.grid_quantiser.specs.Boxes.{IsCellBox, cells_between}
+use Rattle.grid_quantiser.specs.CellBoxes.{IsCellBox, cells_between}
 use Rattle.grid_quantiser.specs.Laws.{IsMovedShape}
 use Rattle.grid_quantiser.proofs.Suffixes.{some_cells}
-use Rattle.successor_box.specs.Boxes.{cells_in}
+use Rattle.successor_box.specs.SuccessorBoxes.{cells_in}
 use Rattle.abstraction_table.specs.inside.Fans.{IsCounted, AreShapes, KeepsFans, FanIsKnown, AreFansOf}
-use Rattle.abstraction_table.specs.inside.Sources.{IsBox}
+use Rattle.abstraction_table.specs.inside.SourceLists.{IsBox}
 use Rattle.abstraction_table.specs.inside.Tallies.{edges_of}
 use Rattle.abstraction_table.proofs.BelowBoxes.{boxes_are_moved_shapes}
 use Rattle.abstraction_table.proofs.Tallying.{by_cell}

@@ -15,7 +15,7 @@ use Rattle.plant_record.specs.Description.{Description, axes_of, vectors_of}
 use Rattle.plant_record.specs.Plants.{IsPlant}
 use Rattle.plant_record.specs.Soundness.{IsSound}
 use Rattle.plant_record.specs.Steps.{equation_at}
-use Rattle.successor_box.specs.Extents.{index_in, moves_along, shifted_by, depends_on, AreAlikeIn}
+use Rattle.successor_box.specs.PairExtents.{index_in, moves_along, shifted_by, depends_on, AreAlikeIn}
 use Rattle.abstraction_table.specs.declared.digits.Digit.{Digit}
 use Rattle.plant_game.specs.Abstraction.{pairs_of, pair_of}
 use Rattle.abstraction_table.specs.inside.Digits.{counts_of, combinations, slot_at, pair_at, Moves, IsDigitOf, HasDigit, IsMultiple, AreDigitsBetween, AreDigitsOf}

@@ -7,13 +7,13 @@ use Rattle.grid_quantiser.specs.Axes.{cells_of}
 use Rattle.plant_record.specs.Description.{Description, axes_of, vectors_of}
 use Rattle.plant_record.specs.Plants.{IsPlant}
 use Rattle.plant_record.specs.Soundness.{IsSound}
-use Rattle.successor_box.specs.Extents.{moves_along, shifted_by, IsExtentBeforeAt}
+use Rattle.successor_box.specs.PairExtents.{moves_along, shifted_by, IsExtentBeforeAt}
 use Rattle.successor_box.proofs.AlikePairs.{alike_extent}
 use Rattle.abstraction_table.specs.declared.digits.Digit.{Digit}
 use Rattle.abstraction_table.specs.declared.extent_table.ExtentTable.{ExtentTable}
 use Rattle.plant_game.specs.Abstraction.{pairs_of, pair_of}
 use Rattle.abstraction_table.specs.inside.Digits.{slot_at, pair_at, IsDigitOf, AreDigitsOf}
-use Rattle.abstraction_table.specs.inside.Extents.{first_of, extent_in, IsRelativeExtent, HoldsExtentsAlong, IsExtentFor}
+use Rattle.abstraction_table.specs.inside.ExtentTables.{first_of, extent_in, IsRelativeExtent, HoldsExtentsAlong, IsExtentFor}
 use Rattle.abstraction_table.proofs.EquationDigits.{slot_below, few_indices, cell_below, alike, slot_is}
 use Rattle.abstraction_table.proofs.RelativeExtents.{extended_at}
 

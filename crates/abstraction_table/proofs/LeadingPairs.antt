@@ -18,9 +18,9 @@ use Rattle.grid_quantiser.specs.declared.boxes.CellBox.{CellBox}
 use Rattle.game_core.specs.declared.game.Mark.{Mark}
 use Rattle.game_core.specs.Counts.{times}
 use Rattle.game_core.specs.Game.{AreSources, pairs_of, successors_at}
-use Rattle.successor_box.specs.Boxes.{cells_in}
+use Rattle.successor_box.specs.SuccessorBoxes.{cells_in}
 use Rattle.abstraction_table.specs.BoxGame.{box_game}
-use Rattle.abstraction_table.specs.inside.Sources.{leads_to, sources_among}
+use Rattle.abstraction_table.specs.inside.SourceLists.{leads_to, sources_among}
 use Rattle.abstraction_table.proofs.Tallying.{by_cell}
 
 -- whether a list of cells has a cell

@@ -9,9 +9,9 @@ use Rattle.grid_quantiser.specs.Axes.{cells_of}
 use Rattle.grid_quantiser.specs.ExtentBoxes.{one_cell}
 use Rattle.plant_record.specs.Description.{Description, axes_of, vectors_of}
 use Rattle.plant_record.specs.Plants.{IsPlant}
-use Rattle.successor_box.specs.Boxes.{IsBoxOf}
-use Rattle.successor_box.specs.Extents.{index_in}
-use Rattle.abstraction_table.specs.inside.Rows.{last_state, AreInLine, IsInLineOf}
+use Rattle.successor_box.specs.SuccessorBoxes.{IsBoxOf}
+use Rattle.successor_box.specs.PairExtents.{index_in}
+use Rattle.abstraction_table.specs.inside.CellLines.{last_state, AreInLine, IsInLineOf}
 use Rattle.abstraction_table.specs.inside.Terms.{AreIndicesOf, IsSumAlong, AreSumsAlong}
 use Rattle.abstraction_table.proofs.LineCells.{indices_in_line, further_in_line}
 use Rattle.abstraction_table.proofs.WrittenTerms.{written_long, written_before, written_in, written_after}

@@ -12,10 +12,10 @@ use Rattle.grid_quantiser.specs.Axes.{no_axis, cells_of}
 use Rattle.grid_quantiser.specs.Indices.{index_along}
 use Rattle.plant_record.specs.Description.{Description, axis_of, axes_of}
 use Rattle.plant_record.specs.Plants.{IsPlant}
-use Rattle.successor_box.specs.Extents.{index_in, moves_along}
+use Rattle.successor_box.specs.PairExtents.{index_in, moves_along}
 use Rattle.abstraction_table.specs.declared.digits.Digit.{Digit}
 use Rattle.abstraction_table.specs.declared.terms.TermTable.{TermTable}
-use Rattle.abstraction_table.specs.inside.Rows.{last_state, line_length, AreInLine, IsInLineOf, StaysAlongLines}
+use Rattle.abstraction_table.specs.inside.CellLines.{last_state, line_length, AreInLine, IsInLineOf, StaysAlongLines}
 use Rattle.abstraction_table.specs.inside.Terms.{AreIndicesOf, BringAs, HoldsTermsAlong}
 use Rattle.abstraction_table.proofs.PairDigits.{state_slot, no_value_index}
 

@@ -8,15 +8,15 @@ use Rattle.std.proofs.Math.Seq.{drop-append_seam}
 use Rattle.grid_quantiser.specs.declared.axis.Axis.{Axis}
 use Rattle.grid_quantiser.specs.declared.boxes.CellBox.{CellBox}
 use Rattle.grid_quantiser.specs.Axes.{cells_of, AreAxes}
-use Rattle.grid_quantiser.specs.Boxes.{cells_between}
+use Rattle.grid_quantiser.specs.CellBoxes.{cells_between}
 use Rattle.grid_quantiser.specs.Laws.{IsMovedShape}
-use Rattle.successor_box.specs.Boxes.{cells_in}
+use Rattle.successor_box.specs.SuccessorBoxes.{cells_in}
 use Rattle.abstraction_table.specs.declared.shapes.Segment.{Segment}
 use Rattle.abstraction_table.specs.declared.shapes.SegmentRange.{SegmentRange}
 use Rattle.abstraction_table.specs.declared.shapes.Shapes.{Shapes}
 use Rattle.abstraction_table.specs.inside.Fans.{FanIsKnown, AreFansOf}
 use Rattle.abstraction_table.specs.inside.Shapes.{cells_from, EndsBy, range_at, segments_at, HasSegmentsAt, HasSegmentsOf, HaveSegments, HaveSegmentsAt, KeepsSegments, ListsSegments}
-use Rattle.abstraction_table.specs.inside.Sources.{IsBox}
+use Rattle.abstraction_table.specs.inside.SourceLists.{IsBox}
 use Rattle.abstraction_table.specs.inside.Tallies.{indices_in}
 use Rattle.abstraction_table.proofs.BelowBoxes.{boxes_have_cells, cells_lie_between_corners, boxes_are_moved_shapes}
 use Rattle.abstraction_table.proofs.Tallying.{by_cell}

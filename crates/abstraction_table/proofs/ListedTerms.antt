@@ -12,10 +12,10 @@ use Rattle.grid_quantiser.specs.Axes.{IsAxis, no_axis, cells_of}
 use Rattle.grid_quantiser.specs.Indices.{index_along}
 use Rattle.plant_record.specs.Description.{Description, axis_of, axes_of, vectors_of}
 use Rattle.plant_record.specs.Soundness.{IsSound}
-use Rattle.successor_box.specs.Extents.{index_in, moves_along, shifted_by}
+use Rattle.successor_box.specs.PairExtents.{index_in, moves_along, shifted_by}
 use Rattle.abstraction_table.specs.declared.digits.Digit.{Digit}
 use Rattle.abstraction_table.specs.declared.extent_table.ExtentTable.{ExtentTable}
-use Rattle.abstraction_table.specs.inside.Extents.{first_of, HoldsExtentsAlong}
+use Rattle.abstraction_table.specs.inside.ExtentTables.{first_of, HoldsExtentsAlong}
 use Rattle.abstraction_table.specs.inside.Terms.{own_count, IsTermAt, IsTermFrom}
 use Rattle.abstraction_table.proofs.PairDigits.{state_slot}
 use Rattle.abstraction_table.proofs.TermTables.{HasVariable}

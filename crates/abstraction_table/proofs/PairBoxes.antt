@@ -8,9 +8,9 @@ use Rattle.std.proofs.lemmas.Nat.{div-mul-add, mul-add-lt, mod_below, mul-le}
 use Rattle.grid_quantiser.specs.declared.boxes.CellBox.{CellBox}
 use Rattle.grid_quantiser.specs.Axes.{cells_of}
 use Rattle.plant_record.specs.Description.{Description, axes_of, vectors_of}
-use Rattle.successor_box.specs.Boxes.{IsBoxOf}
+use Rattle.successor_box.specs.SuccessorBoxes.{IsBoxOf}
 use Rattle.plant_game.specs.Abstraction.{pairs_of, pair_of, AreBoxesOf}
-use Rattle.abstraction_table.specs.inside.Rows.{AreBoxesFrom}
+use Rattle.abstraction_table.specs.inside.CellLines.{AreBoxesFrom}
 use Rattle.abstraction_table.proofs.LineBoxes.{later_cell}
 use Rattle.abstraction_table.proofs.CellLineLists.{range, cell_before}
 

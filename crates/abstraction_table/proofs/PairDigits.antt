@@ -15,7 +15,7 @@ use Rattle.plant_record.specs.ValueIndices.{value_count, value_index}
 use Rattle.plant_record.specs.Plants.{IsPlant}
 use Rattle.plant_record.specs.Soundness.{IsSound}
 use Rattle.plant_record.specs.Variables.{IsInputVariable}
-use Rattle.successor_box.specs.Extents.{index_in}
+use Rattle.successor_box.specs.PairExtents.{index_in}
 use Rattle.plant_game.specs.Abstraction.{pairs_of}
 use Rattle.abstraction_table.specs.inside.Digits.{counts_of, combinations}
 use Rattle.abstraction_table.proofs.DigitMoves.{lower_digit}

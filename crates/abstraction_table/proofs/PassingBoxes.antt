@@ -8,17 +8,17 @@ use Rattle.rayon.proofs.ListFacts.{All-parts}
 use Rattle.grid_quantiser.specs.declared.axis.Axis.{Axis}
 use Rattle.grid_quantiser.specs.declared.boxes.CellBox.{CellBox}
 use Rattle.grid_quantiser.specs.Axes.{cells_of}
-use Rattle.grid_quantiser.specs.Boxes.{IsCellBox, cells_between}
+use Rattle.grid_quantiser.specs.CellBoxes.{IsCellBox, cells_between}
 use Rattle.game_core.specs.declared.game.Mark.{Mark}
 use Rattle.game_core.specs.Game.{Game, pairs_of, successors_at}
-use Rattle.successor_box.specs.Boxes.{cells_in}
+use Rattle.successor_box.specs.SuccessorBoxes.{cells_in}
 use Rattle.abstraction_table.specs.declared.shapes.Segment.{Segment}
 use Rattle.abstraction_table.specs.declared.shapes.Shapes.{Shapes}
 use Rattle.abstraction_table.specs.BoxGame.{box_game}
 use Rattle.abstraction_table.specs.inside.Fans.{HasFan, FanIsKnown}
-use Rattle.abstraction_table.specs.inside.Memory.{HoldsBoxes}
+use Rattle.abstraction_table.specs.inside.StoredGame.{HoldsBoxes}
 use Rattle.abstraction_table.specs.inside.Shapes.{cells_from, EndsBy, segments_at, HasSegmentsOf}
-use Rattle.abstraction_table.specs.inside.Sources.{IsBox}
+use Rattle.abstraction_table.specs.inside.SourceLists.{IsBox}
 use Rattle.abstraction_table.proofs.BoxCorners.{first_corner, last_corner}
 use Rattle.abstraction_table.proofs.LeadingPairs.{successors_are}
 use Rattle.abstraction_table.proofs.Segments.{segments_end, segments_split}

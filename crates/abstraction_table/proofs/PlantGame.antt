@@ -13,13 +13,13 @@ use Rattle.game_core.specs.declared.game.Mark.{Mark}
 use Rattle.game_core.specs.Game.{Game, IsGame, IsGraph}
 use Rattle.plant_record.specs.Description.{Description, axes_of, vectors_of}
 use Rattle.plant_record.specs.Limits.{IsWithinLimits}
-use Rattle.successor_box.specs.Boxes.{AreSuccessors, IsBoxOf, cells_in}
+use Rattle.successor_box.specs.SuccessorBoxes.{AreSuccessors, IsBoxOf, cells_in}
 use Rattle.plant_game.specs.Abstraction.{IsGameOf, pairs_of, pair_of, box_at, AreBoxesOf, AreEdges}
 use Rattle.abstraction_table.specs.BoxGame.{box_game}
 use Rattle.abstraction_table.specs.inside.Fans.{AreFansOf}
 use Rattle.plant_game.specs.Marks.{AreMarksOf}
-use Rattle.abstraction_table.specs.inside.Memory.{HoldsBoxes}
-use Rattle.abstraction_table.specs.inside.Sources.{IsBox}
+use Rattle.abstraction_table.specs.inside.StoredGame.{HoldsBoxes}
+use Rattle.abstraction_table.specs.inside.SourceLists.{IsBox}
 use Rattle.abstraction_table.specs.inside.Tallies.{edges_of}
 use Rattle.grid_quantiser.proofs.Suffixes.{some_cells}
 use Rattle.plant_record.proofs.lemmas.SoundPlants.{sound}

@@ -10,10 +10,10 @@ use Rattle.grid_quantiser.proofs.AxisNumbers.{some_width, offset_is}
 use Rattle.grid_quantiser.proofs.General.{quotients_ordered}
 use Rattle.plant_record.specs.Description.{Description, axes_of}
 use Rattle.plant_record.specs.Soundness.{IsSound}
-use Rattle.successor_box.specs.Boxes.{low_corner, high_corner}
-use Rattle.successor_box.specs.Extents.{IsExtentBeforeAt}
+use Rattle.successor_box.specs.SuccessorBoxes.{low_corner, high_corner}
+use Rattle.successor_box.specs.PairExtents.{IsExtentBeforeAt}
 use Rattle.successor_box.proofs.ExtentEnds.{ends_ordered}
-use Rattle.abstraction_table.specs.inside.Extents.{IsRelativeExtent}
+use Rattle.abstraction_table.specs.inside.ExtentTables.{IsRelativeExtent}
 
 -- a pair's extent, so many indices before, is on the prolonged axis
 pub extended_at : (p : Description) → IsSound p → (i : ℕ) → i < length p.equations → (c u indices : ℕ) (extent : Option Extent) → IsExtentBeforeAt p c u i indices extent → IsRelativeExtent p i extent

@@ -10,7 +10,7 @@ use Rattle.std.proofs.Math.Nat.{mul-le-mul_right}
 use Rattle.grid_quantiser.specs.declared.axis.Axis.{Axis}
 use Rattle.grid_quantiser.specs.declared.boxes.CellBox.{CellBox}
 use Rattle.grid_quantiser.specs.Axes.{cells_of}
-use Rattle.abstraction_table.specs.inside.Sources.{AreBandRows, AreSourceBands, band_of, sources_among}
+use Rattle.abstraction_table.specs.inside.SourceLists.{AreBandRows, AreSourceBands, band_of, sources_among}
 use Rattle.abstraction_table.proofs.Mapped.{mapped_at, mapped_long}
 
 -- where all calls gave something

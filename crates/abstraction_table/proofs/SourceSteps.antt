@@ -11,8 +11,8 @@ use Rattle.grid_quantiser.specs.Axes.{cells_of, AreAxes}
 use Rattle.grid_quantiser.specs.Laws.{AreRisingCells}
 use Rattle.game_core.specs.Counts.{times}
 use Rattle.edge_rows.specs.Rows.{Filling, row_at}
-use Rattle.successor_box.specs.Boxes.{cells_in}
-use Rattle.abstraction_table.specs.inside.Sources.{IsBox, sources_among}
+use Rattle.successor_box.specs.SuccessorBoxes.{cells_in}
+use Rattle.abstraction_table.specs.inside.SourceLists.{IsBox, sources_among}
 use Rattle.abstraction_table.specs.inside.Tallies.{AreCounted, CountsFit, ArePut, HasCapacityFor, indices_in, edges_of, AreCountsAmong}
 use Rattle.abstraction_table.proofs.BelowBoxes.{boxes_have_cells}
 use Rattle.abstraction_table.proofs.BandIndices.{indices-times, indices-length}

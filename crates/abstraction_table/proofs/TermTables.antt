@@ -11,10 +11,10 @@ use Rattle.grid_quantiser.specs.Indices.{index_along}
 use Rattle.plant_record.specs.Description.{Description, axis_of, axes_of, vectors_of}
 use Rattle.plant_record.specs.Plants.{IsPlant}
 use Rattle.plant_record.specs.Soundness.{IsSound}
-use Rattle.successor_box.specs.Extents.{index_in, moves_along, shifted_by}
+use Rattle.successor_box.specs.PairExtents.{index_in, moves_along, shifted_by}
 use Rattle.abstraction_table.specs.declared.digits.Digit.{Digit}
 use Rattle.abstraction_table.specs.declared.terms.TermTable.{TermTable}
-use Rattle.abstraction_table.specs.inside.Extents.{first_of}
+use Rattle.abstraction_table.specs.inside.ExtentTables.{first_of}
 use Rattle.abstraction_table.specs.inside.Terms.{AreIndicesOf, first_in, count_of, HasTermAt, Brings, BringAs, HoldsTermsAlong}
 use Rattle.abstraction_table.proofs.PairDigits.{state_slot, some_vectors}
 

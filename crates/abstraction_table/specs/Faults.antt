@@ -4,8 +4,9 @@ use Rattle.plant_record.specs.Description.{Description}
 use Rattle.abstraction_table.specs.declared.build_fault.BuildFault.{BuildFault}
 use Rattle.abstraction_table.specs.declared.build_fault.BuildFault.TheVariants.{TooManyEdges, Memory}
 use Rattle.plant_game.specs.Abstraction.{AreEdges}
+use Rattle.base.specs.declared.limits.TheConstants.{EDGES_LIMIT}
 
 -- what a fault says of the plant: the number of its edges, which is past the limit
 abbrev pub IsFaultOf : Description → BuildFault → Type 0
-IsFaultOf p (TooManyEdges edges) = AreEdges p edges × (2 ^ 25 < edges)
+IsFaultOf p (TooManyEdges edges) = AreEdges p edges × (EDGES_LIMIT < edges)
 IsFaultOf p Memory = Unit {0}

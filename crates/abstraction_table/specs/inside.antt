@@ -1,13 +1,13 @@
 -- What only private clauses and proofs name.
 pub mod Digits
 pub mod Fans
-pub mod Memory
+pub mod StoredGame
 pub mod Packed
 pub mod Terms
 pub mod Props
-pub mod Rows
+pub mod CellLines
 pub mod Shapes
-pub mod Extents
-pub mod Sources
+pub mod ExtentTables
+pub mod SourceLists
 pub mod Sums
 pub mod Tallies

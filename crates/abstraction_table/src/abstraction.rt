@@ -1,4 +1,4 @@
-ghost use Rattle.abstraction_table.specs.inside.Sources.{AreSourceBands};
+ghost use Rattle.abstraction_table.specs.inside.SourceLists.{AreSourceBands};
 ghost use Rattle.abstraction_table.specs.inside.Props.{box_props};
 
 use crate::boxed_game::BoxedGame;

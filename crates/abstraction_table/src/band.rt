@@ -2,9 +2,10 @@
 ghost use Rattle.std.specs.Prelude.{◌≡◌, ◌+◌, ◌^◌, ◌<◌, ◌≤◌, ◌↔◌, [], Some, IsTrue, IfSome, IfNone};
 ghost use Rattle.std.specs.List.{range_with_len};
 ghost use Rattle.grid_quantiser.specs.Axes.{cells_of, AreAxes};
-ghost use Rattle.successor_box.specs.Boxes.{cells_in};
-ghost use Rattle.abstraction_table.specs.inside.Sources.{IsBox};
+ghost use Rattle.successor_box.specs.SuccessorBoxes.{cells_in};
+ghost use Rattle.abstraction_table.specs.inside.SourceLists.{IsBox};
 ghost use Rattle.abstraction_table.specs.inside.Tallies.{indices_in};
+ghost use Rattle.base.specs.declared.limits.TheConstants.{CELLS_LIMIT};
 
 use grid_quantiser::{CellBox, Grid};
 
@@ -20,7 +21,7 @@ impl Band {
     #[inline]
     pub(crate) fn reached(&self, grid: &Grid, b: Option<CellBox>) -> Option<CellBox>
         requires grid { AreAxes grid.now }
-        requires limit { cells_of grid.now ≤ 2 ^ 20 }
+        requires limit { cells_of grid.now ≤ CELLS_LIMIT }
         requires ordered { IsBox grid.now b }
         requires within { self.now.from + self.now.len ≤ cells_of grid.now }
         ensures same { IfSome result (λ reached. b ≡ Some reached) }

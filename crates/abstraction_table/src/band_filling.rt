@@ -3,10 +3,11 @@ ghost use Rattle.std.specs.Prelude.{◌≡◌, ◌+◌, ◌^◌, ◌<◌, ◌≤
 ghost use Rattle.std.specs.List.{All, range_with_len};
 ghost use Rattle.grid_quantiser.specs.Axes.{cells_of, AreAxes};
 ghost use Rattle.edge_rows.specs.Rows.{unfilled, HaveFreeSlots, appended_run};
-ghost use Rattle.successor_box.specs.Boxes.{cells_in};
+ghost use Rattle.successor_box.specs.SuccessorBoxes.{cells_in};
 ghost use Rattle.abstraction_table.specs.inside.Shapes.{cells_from, EndsBy, HasSegmentsOf, HaveSegments};
-ghost use Rattle.abstraction_table.specs.inside.Sources.{IsBox, AreBandRows};
+ghost use Rattle.abstraction_table.specs.inside.SourceLists.{IsBox, AreBandRows};
 ghost use Rattle.abstraction_table.specs.inside.Tallies.{indices_in, AreCounted, CountsFit, ArePut, HasCapacityFor, edges_of, AreCountsAmong};
+ghost use Rattle.base.specs.declared.limits.TheConstants.{CELLS_LIMIT, EDGES_LIMIT, PAIRS_LIMIT};
 
 use crate::band::Band;
 use crate::pair_box::PairBox;
@@ -24,11 +25,11 @@ pub(crate) fn fill_band(
     band: Band,
 ) -> Result<Rows, NoMemory>
     requires grid { AreAxes grid.now }
-    requires limit { cells_of grid.now ≤ 2 ^ 20 }
+    requires limit { cells_of grid.now ≤ CELLS_LIMIT }
     requires ordered { All (IsBox grid.now) boxes.now }
     requires segments { HaveSegments grid.now shapes.now boxes.now }
-    requires pairs { length boxes.now ≤ 2 ^ 22 }
-    requires edges { edges_of grid.now boxes.now ≤ 2 ^ 25 }
+    requires pairs { length boxes.now ≤ PAIRS_LIMIT }
+    requires edges { edges_of grid.now boxes.now ≤ EDGES_LIMIT }
     requires within { band.from + band.len ≤ cells_of grid.now }
     ensures { IfOk result (λ rows. AreBandRows grid.now boxes.now band.from band.len rows) }
 {
@@ -47,11 +48,11 @@ fn count_sources(
     band: Band,
 ) -> Result<Vec<u32>, AllocError>
     requires grid { AreAxes grid.now }
-    requires limit { cells_of grid.now ≤ 2 ^ 20 }
+    requires limit { cells_of grid.now ≤ CELLS_LIMIT }
     requires ordered { All (IsBox grid.now) boxes.now }
     requires segments { HaveSegments grid.now shapes.now boxes.now }
-    requires pairs { length boxes.now ≤ 2 ^ 22 }
-    requires edges { edges_of grid.now boxes.now ≤ 2 ^ 25 }
+    requires pairs { length boxes.now ≤ PAIRS_LIMIT }
+    requires edges { edges_of grid.now boxes.now ≤ EDGES_LIMIT }
     requires within { band.from + band.len ≤ cells_of grid.now }
     ensures counts { IfOk result (λ counts. AreCountsAmong grid.now boxes.now band.from band.len (length boxes.now) counts.items) }
     ensures total { IfOk result (λ counts. sum counts.items ≤ edges_of grid.now boxes.now) }
@@ -66,10 +67,10 @@ fn count_sources(
 /// Puts each pair, in rising order, at the indices of its box in a band.
 fn put_sources(grid: &Grid, shapes: &Shapes, boxes: &[PairBox], band: Band, fill: &mut RowFill)
     requires grid { AreAxes grid.now }
-    requires limit { cells_of grid.now ≤ 2 ^ 20 }
+    requires limit { cells_of grid.now ≤ CELLS_LIMIT }
     requires ordered { All (IsBox grid.now) boxes.now }
     requires segments { HaveSegments grid.now shapes.now boxes.now }
-    requires pairs { length boxes.now ≤ 2 ^ 22 }
+    requires pairs { length boxes.now ≤ PAIRS_LIMIT }
     requires within { band.from + band.len ≤ cells_of grid.now }
     requires empty { fill.old.rows ≡ unfilled fill.old.lengths }
     requires counts { AreCountsAmong grid.now boxes.now band.from band.len (length boxes.now) fill.old.lengths }
@@ -85,7 +86,7 @@ fn put_sources(grid: &Grid, shapes: &Shapes, boxes: &[PairBox], band: Band, fill
 #[inline]
 fn count_box(grid: &Grid, shapes: &Shapes, b: Option<CellBox>, band: Band, counts: &mut [u32])
     requires grid { AreAxes grid.now }
-    requires limit { cells_of grid.now ≤ 2 ^ 20 }
+    requires limit { cells_of grid.now ≤ CELLS_LIMIT }
     requires ordered { IsBox grid.now b }
     requires segments { IfSome b (HasSegmentsOf grid.now shapes.now) }
     requires within { band.from + band.len ≤ cells_of grid.now }
@@ -114,7 +115,7 @@ fn put_box(
     fill: &mut RowFill,
 )
     requires grid { AreAxes grid.now }
-    requires limit { cells_of grid.now ≤ 2 ^ 20 }
+    requires limit { cells_of grid.now ≤ CELLS_LIMIT }
     requires ordered { IsBox grid.now b }
     requires segments { IfSome b (HasSegmentsOf grid.now shapes.now) }
     requires within { band.from + band.len ≤ cells_of grid.now }
@@ -196,8 +197,8 @@ fn put_alike<const LEN: u32>(first: u32, segments: &[Segment], pair: u32, fill: 
 /// Adds one to the count of each slot of the cells of runs in a band.
 #[inline]
 fn count_segments(first: u32, segments: &[Segment], band: Band, counts: &mut [u32])
-    requires within { All (EndsBy (2 ^ 20) first) segments.now }
-    requires limit { band.from + band.len ≤ 2 ^ 20 }
+    requires within { All (EndsBy CELLS_LIMIT first) segments.now }
+    requires limit { band.from + band.len ≤ CELLS_LIMIT }
     requires one_each { length counts.old ≡ band.len }
     requires capacity { CountsFit counts.old (indices_in band.from band.len (cells_from first segments.now)) }
     ensures { AreCounted counts.old counts.new (indices_in band.from band.len (cells_from first segments.now)) }
@@ -211,8 +212,8 @@ fn count_segments(first: u32, segments: &[Segment], band: Band, counts: &mut [u3
 /// Puts a pair at each slot of the cells of runs in a band.
 #[inline]
 fn put_segments(first: u32, segments: &[Segment], band: Band, pair: u32, fill: &mut RowFill)
-    requires within { All (EndsBy (2 ^ 20) first) segments.now }
-    requires limit { band.from + band.len ≤ 2 ^ 20 }
+    requires within { All (EndsBy CELLS_LIMIT first) segments.now }
+    requires limit { band.from + band.len ≤ CELLS_LIMIT }
     requires one_each { length fill.old.rows ≡ band.len }
     requires capacity { HasCapacityFor fill.old (indices_in band.from band.len (cells_from first segments.now)) }
     ensures { ArePut pair fill.old fill.new (indices_in band.from band.len (cells_from first segments.now)) }

@@ -1,7 +1,7 @@
 ghost use Rattle.std.specs.Prelude.{◌≡◌, ◌<◌, length, slice_index};
-ghost use Rattle.grid_quantiser.specs.Boxes.{IsCellBox, cells_between};
+ghost use Rattle.grid_quantiser.specs.CellBoxes.{IsCellBox, cells_between};
 ghost use Rattle.abstraction_table.specs.inside.Fans.{HasFan};
-ghost use Rattle.abstraction_table.specs.inside.Memory.{HoldsBoxes};
+ghost use Rattle.abstraction_table.specs.inside.StoredGame.{HoldsBoxes};
 ghost use Rattle.abstraction_table.specs.inside.Props.{box_props};
 
 use crate::fans::Fans;

@@ -13,6 +13,7 @@ use crate::forward::ForwardAbstraction;
 use crate::pair_boxes::build_boxes;
 use crate::shapes::build_shapes;
 use crate::sources::build_sources;
+use base::limits::EDGES_LIMIT;
 use game_core::NoMemory;
 use plant_game::find_marks;
 use plant_record::Plant;
@@ -20,9 +21,6 @@ use plant_record::laws::every_plant_is_within_limits;
 use std::alloc::Global;
 use std::thread::Threads;
 use successor_box::Slopes;
-
-/// The most edges of an abstraction.
-const EDGES_LIMIT: u64 = 1 << 25;
 
 /// The game of a plant as it is seen ahead. The number of edges is known before any edge is kept.
 /// What can be done side by side is handed to `rayon`.

@@ -6,10 +6,11 @@ ghost use Rattle.grid_quantiser.specs.Axes.{cells_of};
 ghost use Rattle.grid_quantiser.specs.ExtentBoxes.{one_cell};
 ghost use Rattle.plant_record.specs.Description.{axes_of, vectors_of};
 ghost use Rattle.plant_record.specs.Limits.{IsWithinLimits};
-ghost use Rattle.successor_box.specs.Boxes.{IsBoxOf};
+ghost use Rattle.successor_box.specs.SuccessorBoxes.{IsBoxOf};
 ghost use Rattle.abstraction_table.specs.inside.Sums.{plus};
-ghost use Rattle.abstraction_table.specs.inside.Rows.{AreInLine, IsInLineOf, AreBoxesFrom};
+ghost use Rattle.abstraction_table.specs.inside.CellLines.{AreInLine, IsInLineOf, AreBoxesFrom};
 ghost use Rattle.abstraction_table.specs.inside.Terms.{AreIndicesOf, Brings, BringAs, IsTermAt, AreSumsAlong, HoldsTermsAlong, HoldTerms};
+ghost use Rattle.abstraction_table.specs.declared.pair_box.TheConstants.{NO_BOX};
 
 use crate::pair_box::PairBox;
 use crate::terms::{TermTable, Terms};
@@ -159,8 +160,8 @@ fn add_terms(
 fn add_listed(inputs: &[u32], terms: &[PairBox], boxes: &mut [PairBox])
     requires one_each { length boxes.old ≡ length inputs.now }
     requires indices { All (λ n. n < length terms.now) inputs.now }
-    requires terms { All (λ n. IfSome (slice_index_or terms.now n None) (λ b. b.last < 2 ^ 28)) inputs.now }
-    requires boxes { All (λ b. IfSome b (λ b. b.last < 2 ^ 28)) boxes.old }
+    requires terms { All (λ n. IfSome (slice_index_or terms.now n None) (λ b. b.last < NO_BOX)) inputs.now }
+    requires boxes { All (λ b. IfSome b (λ b. b.last < NO_BOX)) boxes.old }
     ensures long { length boxes.new ≡ length boxes.old }
     ensures each { (u : ℕ) → u < length boxes.old → slice_index_or boxes.new u None ≡ plus (slice_index_or boxes.old u None) (slice_index_or terms.now (slice_index inputs.now u) None) }
 {
@@ -188,8 +189,8 @@ fn add_moved(p: &Plant, table: &TermTable, state: u32, first: u32, own: u32, box
 /// Adds to all boxes of a cell what is the same under all inputs.
 #[inline]
 fn add_base(base: PairBox, boxes: &mut [PairBox])
-    requires base { IfSome base (λ b. b.last < 2 ^ 28) }
-    requires boxes { All (λ b. IfSome b (λ b. b.last < 2 ^ 28)) boxes.old }
+    requires base { IfSome base (λ b. b.last < NO_BOX) }
+    requires boxes { All (λ b. IfSome b (λ b. b.last < NO_BOX)) boxes.old }
     ensures long { length boxes.new ≡ length boxes.old }
     ensures each { (u : ℕ) → u < length boxes.old → slice_index_or boxes.new u None ≡ plus base (slice_index_or boxes.old u None) }
 {

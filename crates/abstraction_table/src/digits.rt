@@ -2,7 +2,7 @@
 ghost use Rattle.std.specs.Prelude.{◌≡◌, ◌+◌, ◌*◌, ◌^◌, ◌<◌, [], length, slice_index, IfOk, IsTrue, IsFalse};
 ghost use Rattle.std.specs.List.{All};
 ghost use Rattle.plant_record.specs.Limits.{IsWithinLimits};
-ghost use Rattle.successor_box.specs.Extents.{depends_on};
+ghost use Rattle.successor_box.specs.PairExtents.{depends_on};
 ghost use Rattle.abstraction_table.specs.inside.Digits.{AreDigitsBetween, AreDigitsOf, IsWithDigit, IsAsBefore, counts_of, slot_at};
 
 use plant_record::Plant;

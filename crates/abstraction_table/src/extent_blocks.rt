@@ -4,9 +4,9 @@ ghost use Rattle.fixed_expr.specs.declared.lanes.TheConstants.{LANES};
 ghost use Rattle.plant_record.specs.Description.{vectors_of};
 ghost use Rattle.plant_record.specs.Limits.{IsWithinLimits};
 ghost use Rattle.successor_box.specs.Deviations.{HasNoOverflow, deviations_of};
-ghost use Rattle.successor_box.specs.Extents.{index_in, IsPairInLane};
+ghost use Rattle.successor_box.specs.PairExtents.{index_in, IsPairInLane};
 ghost use Rattle.abstraction_table.specs.inside.Digits.{AreDigitsOf, IsDigitAt, pair_at};
-ghost use Rattle.abstraction_table.specs.inside.Extents.{IsExtentFor};
+ghost use Rattle.abstraction_table.specs.inside.ExtentTables.{IsExtentFor};
 
 use crate::digits::{Digit, Digits};
 use fixed_expr::LANES;

@@ -4,7 +4,7 @@ ghost use Rattle.plant_record.specs.Description.{vectors_of};
 ghost use Rattle.plant_record.specs.Limits.{IsWithinLimits};
 ghost use Rattle.successor_box.specs.Deviations.{HasNoOverflow, deviations_of};
 ghost use Rattle.abstraction_table.specs.inside.Digits.{AreDigitsOf, slot_at};
-ghost use Rattle.abstraction_table.specs.inside.Extents.{HoldsExtentsAlong, IsExtentFor};
+ghost use Rattle.abstraction_table.specs.inside.ExtentTables.{HoldsExtentsAlong, IsExtentFor};
 
 use crate::digits::{Digit, Digits, build_digits, slot_of};
 use crate::extent_blocks::{EXTENTS_PER_TASK, fill_chunk};

@@ -2,10 +2,11 @@
 ghost use Rattle.std.specs.Prelude.{◌≡◌, ◌+◌, ◌-◌, ◌^◌, ◌<◌, ◌≤◌, length, sum, IfOk, IfSome};
 ghost use Rattle.std.specs.List.{All};
 ghost use Rattle.grid_quantiser.specs.Axes.{cells_of, AreAxes};
-ghost use Rattle.successor_box.specs.Boxes.{cells_in};
+ghost use Rattle.successor_box.specs.SuccessorBoxes.{cells_in};
 ghost use Rattle.abstraction_table.specs.inside.Fans.{fan_of, IsCounted, AreShapes, KeepsFans, AreFansOf};
-ghost use Rattle.abstraction_table.specs.inside.Sources.{IsBox};
+ghost use Rattle.abstraction_table.specs.inside.SourceLists.{IsBox};
 ghost use Rattle.abstraction_table.specs.inside.Tallies.{edges_of};
+ghost use Rattle.base.specs.declared.limits.TheConstants.{CELLS_LIMIT, PAIRS_LIMIT};
 
 use crate::pair_box::PairBox;
 use grid_quantiser::{CellBox, Grid};
@@ -39,7 +40,7 @@ impl Fans {
     #[inline]
     fn count(&mut self, grid: &Grid, b: Option<CellBox>) -> u32
         requires grid { AreAxes grid.now }
-        requires limit { cells_of grid.now ≤ 2 ^ 20 }
+        requires limit { cells_of grid.now ≤ CELLS_LIMIT }
         requires ordered { IsBox grid.now b }
         requires distances { length self.old.counts.items ≡ cells_of grid.now }
         requires shapes { AreShapes grid.now self.old.counts.items }
@@ -67,7 +68,7 @@ impl Fans {
 pub(crate) fn count_fans(alloc: Global, grid: &Grid, boxes: &[PairBox]) -> Result<Fans, AllocError>
     requires grid { AreAxes grid.now }
     requires ordered { All (IsBox grid.now) boxes.now }
-    requires limit { length boxes.now ≤ 2 ^ 22 }
+    requires limit { length boxes.now ≤ PAIRS_LIMIT }
     ensures fans { IfOk result (λ fans. AreFansOf grid.now boxes.now fans.counts.items) }
     ensures edges { IfOk result (λ fans. fans.edges ≡ edges_of grid.now boxes.now) }
 {

@@ -2,6 +2,7 @@
 ghost use Rattle.std.specs.Prelude.{◌≡◌, ◌*◌, ◌^◌, ◌<◌, ◌≤◌, IfSome, IsTrue};
 ghost use Rattle.grid_quantiser.specs.ExtentBoxes.{one_cell};
 ghost use Rattle.abstraction_table.specs.inside.Sums.{term, plus};
+ghost use Rattle.abstraction_table.specs.declared.pair_box.TheConstants.{NO_BOX};
 
 use grid_quantiser::{CellBox, Extent};
 use std::marker::Model;
@@ -76,7 +77,7 @@ impl PairBox {
     /// What an extent adds to a box, along an axis of which one slot makes so many cells: none where the extent is missing.
     #[inline]
     pub(crate) fn term(extent: Option<Extent>, stride: u32) -> PairBox
-        requires { IfSome extent (λ s. (s.first ≤ s.last) × (s.last * stride < 2 ^ 28)) }
+        requires { IfSome extent (λ s. (s.first ≤ s.last) × (s.last * stride < NO_BOX)) }
         ensures { result ≡ term stride extent }
     {
         let Some(extent) = extent else {
@@ -91,8 +92,8 @@ impl PairBox {
     /// The sum of two boxes, end by end: none where one of the two is missing.
     #[inline]
     pub(crate) fn plus(self, other: PairBox) -> PairBox
-        requires one { IfSome self (λ b. b.last < 2 ^ 28) }
-        requires other { IfSome other (λ b. b.last < 2 ^ 28) }
+        requires one { IfSome self (λ b. b.last < NO_BOX) }
+        requires other { IfSome other (λ b. b.last < NO_BOX) }
         ensures { result ≡ plus self other }
     {
         let first = self.first + other.first;

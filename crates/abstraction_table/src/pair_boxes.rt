@@ -8,7 +8,7 @@ ghost use Rattle.plant_record.specs.Limits.{IsWithinLimits};
 ghost use Rattle.successor_box.specs.Deviations.{HasNoOverflow, deviations_of};
 ghost use Rattle.plant_game.specs.Abstraction.{AreBoxesOf};
 ghost use Rattle.abstraction_table.specs.declared.pair_boxes.TheConstants.{BOXES_PER_TASK};
-ghost use Rattle.abstraction_table.specs.inside.Rows.{AreBoxesFrom};
+ghost use Rattle.abstraction_table.specs.inside.CellLines.{AreBoxesFrom};
 ghost use Rattle.abstraction_table.specs.inside.Terms.{HoldTerms};
 
 use crate::cell_lines::boxes_in_line;

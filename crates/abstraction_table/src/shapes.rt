@@ -2,9 +2,10 @@
 ghost use Rattle.std.specs.Prelude.{◌≡◌, ◌+◌, ◌-◌, ◌^◌, ◌<◌, ◌≤◌, ◌↔◌, IsTrue, length, sum, IfOk};
 ghost use Rattle.std.specs.List.{All, range_with_len};
 ghost use Rattle.grid_quantiser.specs.Axes.{cells_of};
-ghost use Rattle.grid_quantiser.specs.Boxes.{IsCellBox, cells_between};
+ghost use Rattle.grid_quantiser.specs.CellBoxes.{IsCellBox, cells_between};
 ghost use Rattle.abstraction_table.specs.inside.Fans.{AreShapes};
 ghost use Rattle.abstraction_table.specs.inside.Shapes.{cells_from, EndsBy, IsListed, segments_at, HasSegmentsAt, HaveSegmentsAt, ListsSegments, KeepsSegments};
+ghost use Rattle.base.specs.declared.limits.TheConstants.{CELLS_LIMIT, EDGES_LIMIT};
 
 use crate::fans::Fans;
 use game_core::CellTest;
@@ -54,7 +55,7 @@ impl Shapes {
     fn list(&mut self, grid: &Grid, distance: u32) -> Result<(), AllocError>
         requires shape { IsCellBox grid.now 0 distance }
         requires within { distance < length self.old.spans.items }
-        requires few { length self.old.segments.items + length (cells_between grid.now 0 distance) ≤ 2 ^ 25 }
+        requires few { length self.old.segments.items + length (cells_between grid.now 0 distance) ≤ EDGES_LIMIT }
         ensures distances { length self.new.spans.items ≡ length self.old.spans.items }
         ensures kept { IfOk result (λ _. KeepsSegments grid.now self.old self.new) }
         ensures listed { IfOk result (λ _. HasSegmentsAt grid.now self.new distance) }
@@ -76,7 +77,7 @@ impl Shapes {
 pub(crate) fn build_shapes(alloc: Global, grid: &Grid, fans: &Fans) -> Result<Shapes, AllocError>
     requires distances { length fans.now.counts.items ≡ cells_of grid.now }
     requires shapes { AreShapes grid.now fans.now.counts.items }
-    requires few { sum fans.now.counts.items ≤ 2 ^ 25 }
+    requires few { sum fans.now.counts.items ≤ EDGES_LIMIT }
     ensures { IfOk result (λ shapes. HaveSegmentsAt grid.now shapes fans.now.counts.items) }
 {
     let mut shapes = Shapes {
@@ -105,7 +106,7 @@ fn list_segments(mut cells: Segments, segments: &mut Vec<Segment>) -> Result<(),
 #[inline]
 pub(crate) fn all_pass<T: CellTest>(first: u32, segments: &[Segment], test: &T) -> bool
     requires within { All (EndsBy (T.cells test.now) first) segments.now }
-    requires few { T.cells test.now ≤ 2 ^ 20 }
+    requires few { T.cells test.now ≤ CELLS_LIMIT }
     ensures { IsTrue result ↔ All (T.passes test.now) (cells_from first segments.now) }
 {
     for segment in segments {
@@ -120,7 +121,7 @@ pub(crate) fn all_pass<T: CellTest>(first: u32, segments: &[Segment], test: &T) 
 #[inline]
 fn segment_passes<T: CellTest>(first: u32, len: u32, test: &T) -> bool
     requires within { first + len ≤ T.cells test.now }
-    requires few { T.cells test.now ≤ 2 ^ 20 }
+    requires few { T.cells test.now ≤ CELLS_LIMIT }
     ensures { IsTrue result ↔ All (T.passes test.now) (range_with_len first len) }
 {
     for c in first..first + len {

@@ -5,8 +5,9 @@ ghost use Rattle.grid_quantiser.specs.Axes.{cells_of, AreAxes};
 ghost use Rattle.edge_rows.specs.Rows.{row_at};
 ghost use Rattle.abstraction_table.specs.declared.sources.TheConstants.{BANDS_LIMIT};
 ghost use Rattle.abstraction_table.specs.inside.Shapes.{HaveSegments};
-ghost use Rattle.abstraction_table.specs.inside.Sources.{IsBox, AreBandRows, AreSourceBands, band_of};
+ghost use Rattle.abstraction_table.specs.inside.SourceLists.{IsBox, AreBandRows, AreSourceBands, band_of};
 ghost use Rattle.abstraction_table.specs.inside.Tallies.{edges_of};
+ghost use Rattle.base.specs.declared.limits.TheConstants.{CELLS_LIMIT, EDGES_LIMIT, PAIRS_LIMIT};
 
 use crate::band::Band;
 use crate::band_filling::fill_band;
@@ -63,8 +64,8 @@ pub(crate) fn build_sources<R: Threads + Sync>(
     requires grid { AreAxes grid.now }
     requires ordered { All (IsBox grid.now) boxes.now }
     requires segments { HaveSegments grid.now shapes.now boxes.now }
-    requires pairs { length boxes.now ≤ 2 ^ 22 }
-    requires edges { edges_of grid.now boxes.now ≤ 2 ^ 25 }
+    requires pairs { length boxes.now ≤ PAIRS_LIMIT }
+    requires edges { edges_of grid.now boxes.now ≤ EDGES_LIMIT }
     ensures { IfOk result (λ s. AreSourceBands grid.now boxes.now s.size s.bands.items) }
 {
     let cells = grid.cells();
@@ -77,10 +78,10 @@ pub(crate) fn build_sources<R: Threads + Sync>(
                 requires grid { AreAxes grid.now }
                 requires ordered { All (IsBox grid.now) boxes.now }
                 requires segments { HaveSegments grid.now shapes.now boxes.now }
-                requires pairs { length boxes.now ≤ 2 ^ 22 }
-                requires edges { edges_of grid.now boxes.now ≤ 2 ^ 25 }
+                requires pairs { length boxes.now ≤ PAIRS_LIMIT }
+                requires edges { edges_of grid.now boxes.now ≤ EDGES_LIMIT }
                 requires cells { cells ≡ cells_of grid.now }
-                requires limit { cells ≤ 2 ^ 20 }
+                requires limit { cells ≤ CELLS_LIMIT }
                 requires band { k * size < cells }
                 ensures { IfOk result (λ rows. (len : ℕ) × (len ≡ min size (cells - k * size)) × AreBandRows grid.entry.now boxes.entry.now (k * size) len rows) }
             {

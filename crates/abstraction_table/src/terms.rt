@@ -5,11 +5,12 @@ ghost use Rattle.grid_quantiser.specs.Axes.{no_axis};
 ghost use Rattle.plant_record.specs.Description.{axes_of, vectors_of};
 ghost use Rattle.plant_record.specs.Limits.{IsWithinLimits};
 ghost use Rattle.successor_box.specs.Deviations.{HasNoOverflow, deviations_of};
-ghost use Rattle.successor_box.specs.Extents.{moves_along};
+ghost use Rattle.successor_box.specs.PairExtents.{moves_along};
 ghost use Rattle.successor_box.specs.declared.index_columns.TheConstants.{INDEX_COLUMNS};
-ghost use Rattle.abstraction_table.specs.inside.Rows.{StaysAlongLines};
-ghost use Rattle.abstraction_table.specs.inside.Extents.{IsRelativeExtent, HoldsExtentsAlong};
+ghost use Rattle.abstraction_table.specs.inside.CellLines.{StaysAlongLines};
+ghost use Rattle.abstraction_table.specs.inside.ExtentTables.{IsRelativeExtent, HoldsExtentsAlong};
 ghost use Rattle.abstraction_table.specs.inside.Terms.{first_in, stride_of, own_count, IsTermAt, IsTermFrom, Brings, HoldsTermsAlong, HoldTerms};
+ghost use Rattle.base.specs.declared.limits.TheConstants.{PAIRS_LIMIT};
 
 use crate::digits::Digit;
 use crate::extent_table::{ExtentTable, build_table};
@@ -177,7 +178,7 @@ fn listed(
     requires state { state < length p.now.equations }
     requires stride { stride ≡ stride_of p.now state }
     requires own { own ≡ own_count p.now state }
-    requires few { own * length table.extents.items ≤ 2 ^ 22 }
+    requires few { own * length table.extents.items ≤ PAIRS_LIMIT }
     requires table { HoldsExtentsAlong p.now state table }
     ensures { IfOk result (λ terms. HoldsTermsAlong p.now state terms) }
 {
@@ -242,7 +243,7 @@ fn list_terms(
     requires state { state < length p.now.equations }
     requires stride { stride ≡ stride_of p.now state }
     requires own { own ≡ own_count p.now state }
-    requires few { own * length extents.now ≤ 2 ^ 22 }
+    requires few { own * length extents.now ≤ PAIRS_LIMIT }
     requires extents { All (IsRelativeExtent p.now state) extents.now }
     ensures long { IfOk result (λ terms. length terms.items ≡ own * length extents.now) }
     ensures each { IfOk result (λ terms. (o k : ℕ) → o < own → k < length extents.now → IsTermFrom p.now state o (slice_index_or extents.now k None) (slice_index_or terms.items (o * length extents.now + k) None)) }

@@ -12,7 +12,7 @@ use Rattle.cell_counters.specs.declared.account.Offer.{Offer}
 use Rattle.cell_counters.specs.declared.account.Account.{Account}
 use Rattle.cell_counters.specs.Accounts.{answers, all_answers, cut_count, offers_on, all_offers, first_count, all_logs}
 use Rattle.cell_counters.specs.Laws.{answered}
-use Rattle.cell_counters.specs.Tokens.{HandModel}
+use Rattle.cell_counters.specs.BoardModels.{HandModel}
 use Rattle.frontier_pool.specs.declared.member.Member.{Member}
 use Rattle.game_core.specs.Counts.{one_if, times}
 use Rattle.game_core.proofs.Times.{same}

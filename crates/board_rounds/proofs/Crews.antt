@@ -4,13 +4,13 @@ use Rattle.std.specs.List.{concat, range_with_len}
 use Rattle.std.proofs.lemmas.List.{length-map, map_push, reverse-append, append-nil}
 use Rattle.std.proofs.lemmas.List.Elements.{All-head, All-tail}
 use Rattle.std.proofs.lemmas.List.Sorted.{IsPermutation-refl}
-use Rattle.cell_counters.specs.Tokens.{BoardModel, HandModel}
+use Rattle.cell_counters.specs.BoardModels.{BoardModel, HandModel}
 use Rattle.cell_counters.specs.declared.account.Account.{Account}
 use Rattle.frontier_pool.specs.declared.member.Member.{Member}
 use Rattle.frontier_pool.specs.Sweeps.{followed, Sweeps}
 use Rattle.game_core.specs.declared.tally.Tally.{Tally}
 use Rattle.board_rounds.specs.Crew.{IsFresh, IsTalliedBy, accounts_of, notes_of, cuts_in, offers_in}
-use Rattle.board_rounds.specs.inside.Workers.{IsCounted}
+use Rattle.board_rounds.specs.inside.WorkerSteps.{IsCounted}
 use Rattle.board_rounds.proofs.Accounts.{cuts_in-append, offers_in-append}
 
 -- one member does all

@@ -8,7 +8,7 @@ use Rattle.std.proofs.lemmas.List.FromFn.{length-range_with_len}
 use Rattle.std.proofs.lemmas.List.Sorted.{IsPermutation-reverse, IsPermutation-trans, All-permutation, sum_by-IsPermutation}
 use Rattle.cell_counters.specs.declared.account.Account.{Account}
 use Rattle.cell_counters.specs.Accounts.{IsLawfulLog, all_logs, log_count, cell_at}
-use Rattle.cell_counters.specs.Tokens.{BoardModel, HandModel, IsLawful}
+use Rattle.cell_counters.specs.BoardModels.{BoardModel, HandModel, IsLawful}
 use Rattle.cell_counters.proofs.Consequences.{new_slots}
 use Rattle.frontier_pool.specs.declared.member.Member.{Member}
 use Rattle.game_core.specs.Counts.{one_if, times}
@@ -18,8 +18,8 @@ use Rattle.game_core.proofs.Times.{from_both_sides}
 use Rattle.board_rounds.specs.Crew.{accounts_of, notes_of, logged_cells, IsTalliedBy, counters_of}
 use Rattle.board_rounds.specs.declared.rounds.Rounds.{Rounds}
 use Rattle.board_rounds.specs.Rules.{IsRound, LeadsOn}
-use Rattle.board_rounds.specs.inside.Workers.{cuts_for, IsAtWork, HaveWorked}
-use Rattle.board_rounds.specs.inside.Standing.{HoldsBefore, to_go}
+use Rattle.board_rounds.specs.inside.WorkerSteps.{cuts_for, IsAtWork, HaveWorked}
+use Rattle.board_rounds.specs.inside.RoundInvariant.{HoldsBefore, to_go}
 use Rattle.board_rounds.proofs.Accounts.{notes_in, cuts_by_notes, notes_reversed, all_logs-append}
 
 -- the slots that were filled since

@@ -2,13 +2,13 @@
 use Rattle.std.proofs.Common.{◌≡◌, ℕ, ◌+◌, ◌<◌, ◌==◌, List, [], ◌∷◌, ◌++◌, All, sum_by, arith, refl, sym, ◌∙◌, ap, subst}
 use Rattle.std.proofs.lemmas.List.Sums.{sum_by_push}
 use Rattle.cell_counters.specs.declared.account.Account.{Account}
-use Rattle.cell_counters.specs.Tokens.{BoardModel, HandModel, blank, with_note}
+use Rattle.cell_counters.specs.BoardModels.{BoardModel, HandModel, blank, with_note}
 use Rattle.frontier_pool.specs.declared.member.Member.{Member}
 use Rattle.game_core.specs.Counts.{one_if, times}
 use Rattle.game_core.specs.Game.{Game, pairs_of}
 use Rattle.board_rounds.specs.Crew.{IsFresh, counters_of}
 use Rattle.board_rounds.specs.Rules.{CutsOnce}
-use Rattle.board_rounds.specs.inside.Workers.{cuts_for, IsAtWork, HaveWorked}
+use Rattle.board_rounds.specs.inside.WorkerSteps.{cuts_for, IsAtWork, HaveWorked}
 
 -- a worker that has cut these pairs since it was at work
 pub record IsUnderWay (g : Game) (keeps : Account → Type 0) (board : BoardModel) (list : List ℕ) (pairs : List ℕ) (was now : HandModel) : Type 0 where

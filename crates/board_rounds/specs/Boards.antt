@@ -1,7 +1,7 @@
 -- With what the board of a game begins.
 use Rattle.std.specs.Prelude.{◌≡◌, ℕ, List, map, length}
 use Rattle.std.specs.List.{range_with_len}
-use Rattle.cell_counters.specs.Tokens.{BoardModel}
+use Rattle.cell_counters.specs.BoardModels.{BoardModel}
 use Rattle.game_core.specs.Game.{Game}
 
 -- how many successors each pair has

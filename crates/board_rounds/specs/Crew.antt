@@ -5,7 +5,7 @@ use Rattle.cell_counters.specs.declared.account.Cut.{Cut}
 use Rattle.cell_counters.specs.declared.account.Offer.{Offer}
 use Rattle.cell_counters.specs.declared.account.Log.{Log}
 use Rattle.cell_counters.specs.declared.account.Account.{Account}
-use Rattle.cell_counters.specs.Tokens.{BoardModel, HandModel, fresh_hand}
+use Rattle.cell_counters.specs.BoardModels.{BoardModel, HandModel, fresh_hand}
 use Rattle.frontier_pool.specs.declared.member.Member.{Member}
 use Rattle.game_core.specs.declared.tally.Tally.{Tally}
 

@@ -1,7 +1,7 @@
 -- What a resolved game is, by its rule.
 use Rattle.std.specs.Prelude.{◌≡◌, ℕ, suc, ◌<◌, ◌≤◌, List, [], length, Option}
 use Rattle.cell_counters.specs.declared.account.Account.{Account}
-use Rattle.cell_counters.specs.Tokens.{BoardModel}
+use Rattle.cell_counters.specs.BoardModels.{BoardModel}
 use Rattle.game_core.specs.declared.game.Row.{Row}
 use Rattle.game_core.specs.Solution.{row_of}
 use Rattle.board_rounds.specs.declared.resolving.Resolved.{Resolved}

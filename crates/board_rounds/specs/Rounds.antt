@@ -1,7 +1,7 @@
 -- Rounds before the first one and after the last.
 use Rattle.std.specs.Prelude.{◌≡◌, ℕ, ◌≤◌, suc, []}
 use Rattle.std.specs.Vec.{vec_capacity}
-use Rattle.cell_counters.specs.Tokens.{BoardModel, RootModel}
+use Rattle.cell_counters.specs.BoardModels.{BoardModel, RootModel}
 use Rattle.game_core.specs.declared.tally.Tally.{Tally}
 use Rattle.board_rounds.specs.declared.rounds.Rounds.{Rounds}
 use Rattle.board_rounds.specs.Crew.{IsTalliedBy}

@@ -3,7 +3,7 @@ use Rattle.std.specs.Prelude.{◌≡◌, ℕ, suc, ◌+◌, ◌<◌, ◌≤◌, 
 use Rattle.std.specs.List.{range_with_len}
 use Rattle.cell_counters.specs.declared.account.Account.{Account}
 use Rattle.cell_counters.specs.Accounts.{cut_count, all_logs, log_count}
-use Rattle.cell_counters.specs.Tokens.{BoardModel, HandModel, IsLawful, blank, with_note}
+use Rattle.cell_counters.specs.BoardModels.{BoardModel, HandModel, IsLawful, blank, with_note}
 use Rattle.game_core.specs.Counts.{times, one_if}
 use Rattle.game_core.specs.Game.{Game, IsGraph, pairs_of, successors_at}
 use Rattle.board_rounds.specs.Crew.{logged_cells, counters_of}

@@ -1,4 +1,4 @@
 -- what only private clauses and proofs name
-pub mod Fans
-pub mod Workers
-pub mod Standing
+pub mod FanLists
+pub mod WorkerSteps
+pub mod RoundInvariant

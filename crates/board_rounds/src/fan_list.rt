@@ -1,7 +1,7 @@
 //! With what the counters of pairs begin.
 ghost use Rattle.std.specs.Prelude.{◌≡◌, ◌+◌, ◌≤◌, map, length, IfOk};
 ghost use Rattle.game_core.specs.Game.{pairs_of};
-ghost use Rattle.board_rounds.specs.inside.Fans.{AreFansFrom};
+ghost use Rattle.board_rounds.specs.inside.FanLists.{AreFansFrom};
 
 use crate::capacity::zeros;
 use game_core::{Forward, NoMemory, fans};

@@ -2,7 +2,7 @@
 ghost use Rattle.std.specs.Prelude.{◌≡◌, ◌+◌, ◌<◌, ◌≤◌, [], ◌∷◌, ◌++◌, cond, filter, vec_len};
 ghost use Rattle.std.specs.Vec.{vec_capacity};
 ghost use Rattle.std.specs.List.{range_with_len};
-ghost use Rattle.cell_counters.specs.Tokens.{new_root};
+ghost use Rattle.cell_counters.specs.BoardModels.{new_root};
 
 use crate::rule::Rule;
 use cell_counters::{Board, Root};

@@ -1,6 +1,6 @@
 //! The work of one round: each cell of the list cuts the pairs that lead to it.
 ghost use Rattle.std.specs.Prelude.{◌<◌, length, All};
-ghost use Rattle.board_rounds.specs.inside.Workers.{IsRoundJob, IsAtWork};
+ghost use Rattle.board_rounds.specs.inside.WorkerSteps.{IsRoundJob, IsAtWork};
 
 use crate::rule::Rule;
 use crate::worker::Worker;

@@ -2,11 +2,12 @@
 ghost use Rattle.std.specs.Prelude.{◌≡◌, ◌<◌, ◌≤◌, [], All, IsPermutation, IfOk, length, vec_len};
 ghost use Rattle.std.specs.Vec.{vec_capacity};
 ghost use Rattle.std.specs.List.{range_with_len};
-ghost use Rattle.cell_counters.specs.Tokens.{new_root};
+ghost use Rattle.cell_counters.specs.BoardModels.{new_root};
 ghost use Rattle.board_rounds.specs.Crew.{IsFresh, notes_of};
 ghost use Rattle.board_rounds.specs.Rounds.{IsUnused, IsOver};
-ghost use Rattle.board_rounds.specs.inside.Standing.{HoldsBefore, to_go};
-ghost use Rattle.board_rounds.specs.inside.Workers.{HaveWorked};
+ghost use Rattle.board_rounds.specs.inside.RoundInvariant.{HoldsBefore, to_go};
+ghost use Rattle.board_rounds.specs.inside.WorkerSteps.{HaveWorked};
+ghost use Rattle.base.specs.declared.limits.TheConstants.{WORKERS_LIMIT};
 
 use crate::capacity::capacity_for;
 use crate::first::first_list;
@@ -70,7 +71,7 @@ impl Rounds {
     )
         requires board { L.fits rule.now board.now }
         requires slots { board.now.slots ≡ (L.game rule.now).cells }
-        requires workers { (1 ≤ workers) × (workers ≤ 64) }
+        requires workers { (1 ≤ workers) × (workers ≤ WORKERS_LIMIT) }
         requires unused { IsUnused (new_root board.now) (L.game rule.now).cells workers self.old }
         ensures over { IsOver board.now (L.game rule.now).cells self.new }
         ensures holds_before { L.holds_before rule.now self.new.tally.rounds [] self.new.root.accounts }
@@ -93,7 +94,7 @@ impl Rounds {
     )
         requires board { L.fits rule.now board.now }
         requires slots { board.now.slots ≡ (L.game rule.now).cells }
-        requires workers { (1 ≤ workers) × (workers ≤ 64) }
+        requires workers { (1 ≤ workers) × (workers ≤ WORKERS_LIMIT) }
         requires holds_before { HoldsBefore (L.holds_before rule.now) board.now (L.game rule.now).cells workers self.old }
         requires some { 0 < vec_len self.old.list }
         ensures holds_before { HoldsBefore (L.holds_before rule.now) board.now (L.game rule.now).cells workers self.new }
@@ -139,7 +140,7 @@ fn do_items<R: Threads + Sync, L: Rule, T: Gate>(
     members: &mut Vec<Member<Worker>>,
     gate: &T,
 )
-    requires members { (0 < vec_len members.old) × (vec_len members.old ≤ 64) }
+    requires members { (0 < vec_len members.old) × (vec_len members.old ≤ WORKERS_LIMIT) }
     requires board { L.fits round_job.now.rule.now round_job.now.board.now }
     requires fresh { All (IsFresh round_job.now.board.now) members.old.items }
     ensures worked { HaveWorked (L.game round_job.now.rule.now) (L.fits round_job.now.rule.now) (L.keeps round_job.now.rule.now round_job.now.round) round_job.now.board.now round_job.now.list.now members.new.items }

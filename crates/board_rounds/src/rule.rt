@@ -10,10 +10,11 @@ use game_core::Row;
 pub trait Rule: Sync {
     ghost use Rattle.std.specs.Prelude.{◌≡◌, ℕ, ◌^◌, ◌<◌, ◌≤◌, Bool, List, Option, length};
     ghost use Rattle.cell_counters.specs.declared.account.Account.{Account};
-    ghost use Rattle.cell_counters.specs.Tokens.{BoardModel, new_root};
+    ghost use Rattle.cell_counters.specs.BoardModels.{BoardModel, new_root};
     ghost use Rattle.game_core.specs.declared.game.Row.{Row};
     ghost use Rattle.game_core.specs.Game.{Game, AreSources, pairs_of, successors_at};
     ghost use Rattle.board_rounds.specs.Rules.{CutsOnce, IsAtEnd, LeadsOn};
+    ghost use Rattle.base.specs.declared.limits.TheConstants.{CELLS_LIMIT};
 
     /// The game.
     ghost game: { Self → Game };
@@ -54,7 +55,7 @@ pub trait Rule: Sync {
     fn cut(&self, board: &Board, worker: &mut Worker, round: u32, pair: u32)
         requires board { fits self.now board.now }
         requires worker { worker.old.board ≡ board.now }
-        requires round { round ≤ 2 ^ 20 }
+        requires round { round ≤ CELLS_LIMIT }
         requires pair { pair < pairs_of (game self.now) }
         requires enabled { 0 < length (successors_at (game self.now) pair) }
         ensures once { CutsOnce (pairs_of (game self.now)) pair worker.old worker.new }

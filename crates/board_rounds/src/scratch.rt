@@ -1,6 +1,7 @@
 //! All memory of a solver, taken before it solves.
 ghost use Rattle.std.specs.Prelude.{◌≡◌, ◌≤◌, ◌++◌, IfOk};
 ghost use Rattle.board_rounds.specs.Boards.{IsBegunWith, fans_of, for_each_cell};
+ghost use Rattle.base.specs.declared.limits.TheConstants.{WORKERS_LIMIT};
 
 use crate::fan_list::initial_counters;
 use crate::rounds::Rounds;
@@ -25,8 +26,8 @@ pub struct Scratch<S> {
 }
 
 impl<S> Model for Scratch<S> {
-    ghost use Rattle.cell_counters.specs.Tokens.{BoardModel};
-    ghost use Rattle.board_rounds.specs.inside.Standing.{IsScratch};
+    ghost use Rattle.cell_counters.specs.BoardModels.{BoardModel};
+    ghost use Rattle.board_rounds.specs.inside.RoundInvariant.{IsScratch};
 
     ghost Value = { BoardModel };
 
@@ -45,7 +46,7 @@ impl<S: Start> Scratch<S> {
         g: &G,
         workers: u32,
     ) -> Result<Scratch<S>, NoMemory>
-        requires { (1 ≤ workers) × (workers ≤ 64) }
+        requires { (1 ≤ workers) × (workers ≤ WORKERS_LIMIT) }
         ensures { IfOk result (IsBegunWith (S.counters (G.game g.now)) (S.words (G.game g.now)) (G.game g.now)) }
     {
         let numbers = Scratch::<S>::numbers(rt, alloc, g)?;

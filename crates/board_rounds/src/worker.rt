@@ -1,6 +1,6 @@
 //! What one worker has in a round.
 ghost use Rattle.std.specs.Prelude.{◌≡◌, ◌≢◌, ◌<◌, false, length, slice_index, Any};
-ghost use Rattle.cell_counters.specs.Tokens.{blank, with_cut, with_offer, with_note, Logs};
+ghost use Rattle.cell_counters.specs.BoardModels.{blank, with_cut, with_offer, with_note, Logs};
 ghost use Rattle.cell_counters.specs.declared.account.TheConstants.{NONE};
 
 use cell_counters::{Board, Hand};
@@ -18,8 +18,8 @@ pub struct Worker {
 }
 
 impl Model for Worker {
-    ghost use Rattle.cell_counters.specs.Tokens.{HandModel};
-    ghost use Rattle.board_rounds.specs.inside.Workers.{IsCounted};
+    ghost use Rattle.cell_counters.specs.BoardModels.{HandModel};
+    ghost use Rattle.board_rounds.specs.inside.WorkerSteps.{IsCounted};
 
     ghost Value = { HandModel };
 

@@ -1,9 +1,10 @@
 //! The workers of a round: how they are made, do the items, and are taken in.
 ghost use Rattle.std.specs.Prelude.{◌≡◌, ◌+◌, ◌<◌, ◌≤◌, [], ◌++◌, length, map, reverse, All, vec_len};
 ghost use Rattle.std.specs.Vec.{vec_capacity};
-ghost use Rattle.cell_counters.specs.Tokens.{IsLawful};
+ghost use Rattle.cell_counters.specs.BoardModels.{IsLawful};
 ghost use Rattle.frontier_pool.specs.Sweeps.{Sweeps, IsIdle};
 ghost use Rattle.board_rounds.specs.Crew.{IsFresh, accounts_of, IsTalliedBy};
+ghost use Rattle.base.specs.declared.limits.TheConstants.{WORKERS_LIMIT};
 
 use crate::worker::Worker;
 use cell_counters::{Board, Root};
@@ -20,7 +21,7 @@ pub(crate) fn add_workers(
     count: u32,
 )
     requires root { root.old.board ≡ board.now }
-    requires hands { root.old.out + count ≤ 64 }
+    requires hands { root.old.out + count ≤ WORKERS_LIMIT }
     requires none { members.old.items ≡ [] }
     requires capacity { count ≤ vec_capacity members.old }
     ensures root { root.new ≡ record root.old { out = root.old.out + count } }
@@ -44,7 +45,7 @@ pub(crate) fn work<R: Threads + Sync, T: Toil, G: Gate>(
     members: &mut [Member<T::Hand>],
     gate: &G,
 )
-    requires members { (0 < length members.old) × (length members.old ≤ 64) }
+    requires members { (0 < length members.old) × (length members.old ≤ WORKERS_LIMIT) }
     requires sound { All (λ m. T.sound job.now m.hand) members.old }
     ensures swept { Sweeps (map (λ m. T.done m.hand) members.old) (map (λ m. T.done m.hand) members.new) (T.count job.now) }
     ensures sound { All (λ m. T.sound job.now m.hand) members.new }

@@ -7,7 +7,7 @@ use Rattle.std.proofs.lemmas.List.Elements.{All-map, All-push, All-nil, All-weak
 use Rattle.std.proofs.lemmas.List.Sorted.{IsPermutation-refl, IsPermutation-trans, IsPermutation-cons, IsPermutation-to_front, All-permutation, length_permutation}
 use Rattle.cell_counters.specs.declared.account.Account.{Account}
 use Rattle.cell_counters.specs.Accounts.{minus, lefts, answers, all_answers, cut_count, IsLawfulCounter}
-use Rattle.cell_counters.specs.Tokens.{blank}
+use Rattle.cell_counters.specs.BoardModels.{blank}
 use Rattle.cell_counters.proofs.Lists.{All-front, All-back, IsStrictlyIncreasing-push}
 use Rattle.cell_counters.proofs.Countdown.{minus-zero, minus-more, minus-minus, lefts-more, numbers_below}
 use Rattle.cell_counters.proofs.Parts.{Replaced, entries_were, entries_stay, entries_grow, All-after}

@@ -5,7 +5,7 @@ use Rattle.cell_counters.specs.declared.account.Cut.{Cut}
 use Rattle.cell_counters.specs.declared.account.Offer.{Offer}
 use Rattle.cell_counters.specs.declared.account.Account.{Account}
 use Rattle.cell_counters.specs.Accounts.{answers, offers_on}
-use Rattle.cell_counters.specs.Tokens.{with_cut, with_offer}
+use Rattle.cell_counters.specs.BoardModels.{with_cut, with_offer}
 use Rattle.cell_counters.proofs.Lists.{filter_push_yes, filter_push_no}
 
 pub answers-cut : (a : Account) (counter left : ℕ) → answers counter (with_cut a counter left) ≡ answers counter a ++ left ∷ []

@@ -17,8 +17,8 @@ use Rattle.cell_counters.specs.declared.account.Account.{Account}
 use Rattle.cell_counters.specs.declared.rule.Setup.{Setup}
 use Rattle.cell_counters.specs.declared.rule.View.{View}
 use Rattle.cell_counters.specs.Accounts.{all_logs, log_count, numbers, cell_at}
-use Rattle.cell_counters.specs.Tokens.{blank, with_log}
-use Rattle.cell_counters.specs.inside.Rules.{accounts_of, account_of, tail_of, slot_of, IsCounted, IsStored, HasStored, KeepsLog, awaited, drawn, settled, one_more, new_hand, collected, nobody}
+use Rattle.cell_counters.specs.BoardModels.{blank, with_log}
+use Rattle.cell_counters.specs.inside.BoardProtocol.{accounts_of, account_of, tail_of, slot_of, IsCounted, IsStored, HasStored, KeepsLog, awaited, drawn, settled, one_more, new_hand, collected, nobody}
 use Rattle.cell_counters.proofs.Lists.{All-at, All-parts, All-joined, pushed_inside}
 use Rattle.cell_counters.proofs.Parts.{replaced, entries_were, entries_stay, entries_grow}
 use Rattle.cell_counters.proofs.Counts.{one_at-yes, times, times-cons, times-permutation, range_once, range-append, never}

@@ -11,8 +11,8 @@ use Rattle.cell_counters.specs.declared.account.TheConstants.{NONE}
 use Rattle.cell_counters.specs.declared.account.Offer.{Offer}
 use Rattle.cell_counters.specs.declared.account.Account.{Account}
 use Rattle.cell_counters.specs.Accounts.{offers_on, all_offers, values, first_count, NoneIsFirst, IsLeastOf, IsLawfulLeast}
-use Rattle.cell_counters.specs.Tokens.{blank}
-use Rattle.cell_counters.specs.inside.Rules.{Stands}
+use Rattle.cell_counters.specs.BoardModels.{blank}
+use Rattle.cell_counters.specs.inside.BoardProtocol.{Stands}
 use Rattle.cell_counters.proofs.Counts.{one_if}
 use Rattle.cell_counters.proofs.Parts.{Replaced, entries_were, entries_stay, entries_grow, All-after}
 

@@ -6,7 +6,7 @@ use mathlib.Core.Option.{some, some-injective}
 use lib.ListN.{get_elem?}
 use Rattle.cell_counters.specs.declared.account.Account.{Account}
 use Rattle.cell_counters.specs.declared.rule.View.{View}
-use Rattle.cell_counters.specs.inside.Rules.{accounts_of, made_of}
+use Rattle.cell_counters.specs.inside.BoardProtocol.{accounts_of, made_of}
 use Rattle.cell_counters.proofs.Lists.{around, All-replaced, pushed_inside}
 
 -- one account became another

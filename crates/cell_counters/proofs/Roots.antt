@@ -17,8 +17,8 @@ use Rattle.cell_counters.specs.declared.rule.Setup.{Setup}
 use Rattle.cell_counters.specs.declared.rule.View.{View}
 use Rattle.cell_counters.specs.declared.rule.Beginning.{Beginning}
 use Rattle.cell_counters.specs.Accounts.{answers, offers_on, all_answers, all_offers, all_logs, log_count, IsLawfulCounter, IsLawfulLeast}
-use Rattle.cell_counters.specs.Tokens.{BoardModel, blank}
-use Rattle.cell_counters.specs.inside.Rules.{Keeps, Knows, Stands, IsCounted, IsStored, HasStored, setup_of, tail_of, slot_of, board_of, accounts_of, made_of, root_of, one_more, new_hand, collected, nobody, Seated, Explains, Looks, IsSized}
+use Rattle.cell_counters.specs.BoardModels.{BoardModel, blank}
+use Rattle.cell_counters.specs.inside.BoardProtocol.{Keeps, Knows, Stands, IsCounted, IsStored, HasStored, setup_of, tail_of, slot_of, board_of, accounts_of, made_of, root_of, one_more, new_hand, collected, nobody, Seated, Explains, Looks, IsSized}
 use Rattle.cell_counters.proofs.Lists.{All-at, around, part_moved, flat_map_moved}
 use Rattle.cell_counters.proofs.Logs.{counted_begins, log_welcomes, log_joins, has_number, cell_at-is}
 use Rattle.cell_counters.proofs.Cuts.{counter_begins, counter_moved, counter_welcomes}

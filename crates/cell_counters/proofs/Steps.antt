@@ -13,8 +13,8 @@ use Rattle.cell_counters.specs.declared.account.Account.{Account}
 use Rattle.cell_counters.specs.declared.rule.Setup.{Setup}
 use Rattle.cell_counters.specs.declared.rule.View.{View}
 use Rattle.cell_counters.specs.Accounts.{IsLawfulCounter, answers, offers_on}
-use Rattle.cell_counters.specs.Tokens.{with_cut, with_offer, with_note, with_log}
-use Rattle.cell_counters.specs.inside.Rules.{Keeps, ExplainsCounters, ExplainsLeast, KeepsLog, Knows, Stands, accounts_of, account_of, tail_of, slot_of, nobody, with_account, drawn, settled, Seated, Cuts, Offers, Notes, Draws, Stores}
+use Rattle.cell_counters.specs.BoardModels.{with_cut, with_offer, with_note, with_log}
+use Rattle.cell_counters.specs.inside.BoardProtocol.{Keeps, ExplainsCounters, ExplainsLeast, KeepsLog, Knows, Stands, accounts_of, account_of, tail_of, slot_of, nobody, with_account, drawn, settled, Seated, Cuts, Offers, Notes, Draws, Stores}
 use Rattle.cell_counters.proofs.Lists.{All-at}
 use Rattle.cell_counters.proofs.Logs.{log_stays, log_draws, log_stores}
 use Rattle.cell_counters.proofs.Parts.{Replaced, replaced, made_of-set, length-replaced}

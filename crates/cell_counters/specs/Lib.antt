@@ -1,4 +1,4 @@
 pub mod Accounts
-pub mod Tokens
+pub mod BoardModels
 pub mod Laws
 pub mod inside

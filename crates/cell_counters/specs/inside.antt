@@ -1,2 +1,2 @@
 -- what only private clauses and proofs name
-pub mod Rules
+pub mod BoardProtocol

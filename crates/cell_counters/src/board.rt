@@ -1,7 +1,8 @@
 //! A board, the root of its owner, and the hands of its callers.
 ghost use Rattle.std.specs.Prelude.{◌≡◌, ◌≢◌, ◌+◌, ◌^◌, ◌<◌, ◌≤◌, ◌==◌, false, ◌++◌, length, take, drop, replicate, slice_index, IfOk, Any, vec_len};
 ghost use Rattle.cell_counters.specs.Accounts.{IsLawfulCounter, IsLawfulLeast, IsLawfulLog, log_count, all_logs, cell_at};
-ghost use Rattle.cell_counters.specs.Tokens.{fresh_hand, with_cut, with_offer, with_note, new_root, hand_out, taken_in, IsLawful, Logs, filled};
+ghost use Rattle.cell_counters.specs.BoardModels.{fresh_hand, with_cut, with_offer, with_note, new_root, hand_out, taken_in, IsLawful, Logs, filled};
+ghost use Rattle.base.specs.declared.limits.TheConstants.{WORKERS_LIMIT};
 
 use crate::account::NONE;
 use crate::rule::{
@@ -36,8 +37,8 @@ pub struct Board {
 }
 
 impl Model for Board {
-    ghost use Rattle.cell_counters.specs.Tokens.{BoardModel};
-    ghost use Rattle.cell_counters.specs.inside.Rules.{board_model, IsSized};
+    ghost use Rattle.cell_counters.specs.BoardModels.{BoardModel};
+    ghost use Rattle.cell_counters.specs.inside.BoardProtocol.{board_model, IsSized};
 
     ghost Value = { BoardModel };
 
@@ -56,8 +57,8 @@ pub struct Root {
 }
 
 impl Model for Root {
-    ghost use Rattle.cell_counters.specs.Tokens.{RootModel};
-    ghost use Rattle.cell_counters.specs.inside.Rules.{root_model, IsRoot};
+    ghost use Rattle.cell_counters.specs.BoardModels.{RootModel};
+    ghost use Rattle.cell_counters.specs.inside.BoardProtocol.{root_model, IsRoot};
 
     ghost Value = { RootModel };
 
@@ -75,8 +76,8 @@ pub struct Hand {
 }
 
 impl Model for Hand {
-    ghost use Rattle.cell_counters.specs.Tokens.{HandModel};
-    ghost use Rattle.cell_counters.specs.inside.Rules.{hand_model, IsHand};
+    ghost use Rattle.cell_counters.specs.BoardModels.{HandModel};
+    ghost use Rattle.cell_counters.specs.inside.BoardProtocol.{hand_model, IsHand};
 
     ghost Value = { HandModel };
 
@@ -164,7 +165,7 @@ impl Board {
     /// A new hand.
     pub fn hand(&self, root: &mut Root) -> Hand
         requires root { root.old.board ≡ self.now }
-        requires capacity { root.old.out < 64 }
+        requires capacity { root.old.out < WORKERS_LIMIT }
         ensures hand { result ≡ fresh_hand self.now }
         ensures root { root.new ≡ hand_out root.old }
     {

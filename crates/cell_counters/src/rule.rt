@@ -35,7 +35,7 @@ pub struct Beginning {
 pub struct Lawful;
 
 impl TableRule<(), View, Beginning> for Lawful {
-    ghost use Rattle.cell_counters.specs.inside.Rules.{Keeps, setup_of, root_of};
+    ghost use Rattle.cell_counters.specs.inside.BoardProtocol.{Keeps, setup_of, root_of};
 
     ghost holds = { λ b s. Keeps (setup_of b) s };
 
@@ -45,7 +45,7 @@ impl TableRule<(), View, Beginning> for Lawful {
 pub struct HandSplit;
 
 impl Split<View> for HandSplit {
-    ghost use Rattle.cell_counters.specs.inside.Rules.{one_more, new_hand};
+    ghost use Rattle.cell_counters.specs.inside.BoardProtocol.{one_more, new_hand};
 
     ghost left = { one_more };
 
@@ -55,7 +55,7 @@ impl Split<View> for HandSplit {
 pub struct HandJoin;
 
 impl Join<View> for HandJoin {
-    ghost use Rattle.cell_counters.specs.inside.Rules.{collected, nobody};
+    ghost use Rattle.cell_counters.specs.inside.BoardProtocol.{collected, nobody};
 
     ghost both = { collected };
 
@@ -65,7 +65,7 @@ impl Join<View> for HandJoin {
 pub struct Cutting;
 
 impl Play<(), View> for Cutting {
-    ghost use Rattle.cell_counters.specs.inside.Rules.{Cuts};
+    ghost use Rattle.cell_counters.specs.inside.BoardProtocol.{Cuts};
 
     ghost then = { Cuts };
 }
@@ -73,7 +73,7 @@ impl Play<(), View> for Cutting {
 pub struct Offering;
 
 impl Play<(), View> for Offering {
-    ghost use Rattle.cell_counters.specs.inside.Rules.{Offers};
+    ghost use Rattle.cell_counters.specs.inside.BoardProtocol.{Offers};
 
     ghost then = { Offers };
 }
@@ -94,7 +94,7 @@ pub struct Noting<I: Item> {
 }
 
 impl<I: Item> Play<(), View> for Noting<I> {
-    ghost use Rattle.cell_counters.specs.inside.Rules.{Notes};
+    ghost use Rattle.cell_counters.specs.inside.BoardProtocol.{Notes};
 
     ghost then = { Notes I.item };
 }
@@ -105,7 +105,7 @@ pub struct Drawing<I: Item> {
 }
 
 impl<I: Item> Play<(), View> for Drawing<I> {
-    ghost use Rattle.cell_counters.specs.inside.Rules.{Draws};
+    ghost use Rattle.cell_counters.specs.inside.BoardProtocol.{Draws};
 
     ghost then = { Draws I.item };
 }
@@ -113,7 +113,7 @@ impl<I: Item> Play<(), View> for Drawing<I> {
 pub struct Storing;
 
 impl Play<(), View> for Storing {
-    ghost use Rattle.cell_counters.specs.inside.Rules.{Stores};
+    ghost use Rattle.cell_counters.specs.inside.BoardProtocol.{Stores};
 
     ghost then = { Stores };
 }
@@ -121,7 +121,7 @@ impl Play<(), View> for Storing {
 pub struct Looking;
 
 impl Play<(), View> for Looking {
-    ghost use Rattle.cell_counters.specs.inside.Rules.{Looks};
+    ghost use Rattle.cell_counters.specs.inside.BoardProtocol.{Looks};
 
     ghost then = { Looks };
 }

@@ -12,7 +12,7 @@ use Rattle.std.proofs.lemmas.Int.{fits_signed_from_abs}
 use Rattle.std.proofs.lemmas.List.{length-map, get_or-map}
 use Rattle.std.proofs.lemmas.List.Elements.{All-head, All-tail, All-get_or}
 use Rattle.plant_record.specs.Numbers.{IsLiteral}
-use Rattle.command_line.specs.inside.Spelling.{Spell}
+use Rattle.command_line.specs.inside.ArgumentSpelling.{Spell}
 
 -- ---- a number's own spelling is read
 

@@ -7,7 +7,7 @@ use Rattle.std.proofs.lemmas.List.{length-map}
 use Rattle.command_line.specs.declared.command.Command.{Command}
 use Rattle.command_line.specs.declared.command.Command.TheVariants.{Synth, Check, Upgrade, Sim, Demo, Stay, Patrol}
 use Rattle.command_line.specs.Command.{AreWorkers, IsDemoNumber, IsOfCommand}
-use Rattle.command_line.specs.inside.Spelling.{Spell}
+use Rattle.command_line.specs.inside.ArgumentSpelling.{Spell}
 use Rattle.command_line.proofs.Spellings.{one_spelling}
 
 -- ---- words are of one command

@@ -5,20 +5,21 @@ use Rattle.std.specs.Fmt.{decimal, signed_decimal}
 use Rattle.plant_record.specs.Numbers.{IsLiteral}
 use Rattle.command_line.specs.declared.command.Command.{Command}
 use Rattle.command_line.specs.declared.command.Command.TheVariants.{Synth, Check, Upgrade, Sim, Demo, Stay, Patrol}
+use Rattle.base.specs.declared.limits.TheConstants.{DEMO_LIMIT, SAMPLES_LIMIT, STATES_LIMIT, WORKERS_LIMIT}
 
 -- The numbers of a state, as they are given for any plant: one to six of at most 18 digits.
 pub record AreStateNumbers (numbers : List ℤ) : Type 0 where
   pub some : 1 ≤ length numbers
-  pub most : length numbers ≤ 6
+  pub most : length numbers ≤ STATES_LIMIT
   pub each : All IsLiteral numbers
 
 -- the numbers of demo plants
 abbrev pub IsDemoNumber : ℕ → Type 0
-IsDemoNumber n = (1 ≤ n) × (n ≤ 500)
+IsDemoNumber n = (1 ≤ n) × (n ≤ DEMO_LIMIT)
 
 -- how many workers may resolve a game
 abbrev pub AreWorkers : ℕ → Type 0
-AreWorkers workers = (1 ≤ workers) × (workers ≤ 64)
+AreWorkers workers = (1 ≤ workers) × (workers ≤ WORKERS_LIMIT)
 
 -- the words are of a command
 abbrev pub IsOfCommand : List (List ℕ) → Command → Type 0
@@ -26,7 +27,7 @@ IsOfCommand arguments (Synth workers) = (arguments ≡ codes "synth" ∷ decimal
 IsOfCommand arguments Check = arguments ≡ codes "check" ∷ []
 IsOfCommand arguments Upgrade = arguments ≡ codes "upgrade" ∷ []
 IsOfCommand arguments (Sim samples seed start) =
-    (arguments ≡ codes "sim" ∷ decimal samples ∷ decimal seed ∷ map signed_decimal start) × (samples ≤ 1000000) × (seed < 2 ^ 64) × AreStateNumbers start
+    (arguments ≡ codes "sim" ∷ decimal samples ∷ decimal seed ∷ map signed_decimal start) × (samples ≤ SAMPLES_LIMIT) × (seed < 2 ^ 64) × AreStateNumbers start
 IsOfCommand arguments (Demo number workers) = (arguments ≡ codes "demo" ∷ decimal number ∷ decimal workers ∷ []) × IsDemoNumber number × AreWorkers workers
 IsOfCommand arguments (Stay workers) = (arguments ≡ codes "stay" ∷ decimal workers ∷ []) × AreWorkers workers
 IsOfCommand arguments (Patrol workers) = (arguments ≡ codes "patrol" ∷ decimal workers ∷ []) × AreWorkers workers

@@ -1,3 +1,3 @@
 pub mod Command
-pub mod Limits
+pub mod LimitLines
 pub mod inside

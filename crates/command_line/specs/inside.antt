@@ -1,2 +1,2 @@
-pub mod Spelling
+pub mod ArgumentSpelling
 pub mod StoredNumbers

@@ -2,23 +2,13 @@ ghost use Rattle.std.specs.Prelude.{◌≡◌, ◌↔◌, ◌^◌, ◌<◌, ◌�
 ghost use Rattle.std.specs.Fmt.{decimal, signed_decimal};
 ghost use Rattle.plant_record.specs.Numbers.{IsLiteral};
 ghost use Rattle.command_line.specs.Command.{IsDemoNumber, AreWorkers, IsOfCommand};
-ghost use Rattle.command_line.specs.inside.Spelling.{Spell};
+ghost use Rattle.command_line.specs.inside.ArgumentSpelling.{Spell};
 ghost use Rattle.command_line.specs.declared.command.Command.{Command};
+ghost use Rattle.base.specs.declared.limits.TheConstants.{STATES_LIMIT};
 
 use crate::state_numbers::StateNumbers;
+use base::limits::{DEMO_LIMIT, NUMBER_LIMIT, SAMPLES_LIMIT, WORKERS_LIMIT};
 use itoa::Buffer;
-
-/// The greatest number of samples of a trace.
-const MOST_SAMPLES: u64 = 1_000_000;
-
-/// The greatest number of workers.
-const MOST_WORKERS: u64 = 64;
-
-/// The greatest number of a demo plant.
-const MOST_DEMO: u64 = 500;
-
-/// One more than the greatest magnitude of a number in the words.
-const NUMBER_LIMIT: u64 = 1_000_000_000_000_000_000;
 
 /// What the words ask for.
 #[derive(Clone, Copy, PartialEq, Eq)]
@@ -110,11 +100,11 @@ fn parse_three(name: &str, number: &str, workers: &str) -> Option<Command>
 
 fn parse_more(name: &str, samples: &str, seed: &str, numbers: &[&str]) -> Option<Command>
     requires some { 1 ≤ length numbers.now }
-    requires most { length numbers.now ≤ 6 }
+    requires most { length numbers.now ≤ STATES_LIMIT }
     ensures found { IfSome result (IsOfCommand (name.now ∷ samples.now ∷ seed.now ∷ map (λ w. w.now) numbers.now)) }
     ensures none { IfNone result ((f : Command) → IsOfCommand (name.now ∷ samples.now ∷ seed.now ∷ map (λ w. w.now) numbers.now) f → ⊥) }
 {
-    let samples = number_of(samples, MOST_SAMPLES)? as u32;
+    let samples = number_of(samples, SAMPLES_LIMIT)? as u32;
     let seed = number_of(seed, u64::MAX)?;
     let start = start_of(numbers)?;
     if is_sim(name) {
@@ -133,7 +123,7 @@ pub fn workers_of(word: &str) -> Option<u32>
     ensures found { IfSome result (λ n. AreWorkers n × (word.now ≡ decimal n)) }
     ensures none { IfNone result ((n : ℕ) → AreWorkers n → word.now ≡ decimal n → ⊥) }
 {
-    match number_of(word, MOST_WORKERS)? {
+    match number_of(word, WORKERS_LIMIT)? {
         0 => None,
         workers => Some(workers as u32),
     }
@@ -144,7 +134,7 @@ fn demo_number_of(word: &str) -> Option<u32>
     ensures found { IfSome result (λ n. IsDemoNumber n × (word.now ≡ decimal n)) }
     ensures none { IfNone result ((n : ℕ) → IsDemoNumber n → word.now ≡ decimal n → ⊥) }
 {
-    match number_of(word, MOST_DEMO)? {
+    match number_of(word, DEMO_LIMIT)? {
         0 => None,
         number => Some(number as u32),
     }
@@ -152,7 +142,7 @@ fn demo_number_of(word: &str) -> Option<u32>
 
 /// The start whose numbers the words spell.
 fn start_of(arguments: &[&str]) -> Option<StateNumbers>
-    requires { length arguments.now ≤ 6 }
+    requires { length arguments.now ≤ STATES_LIMIT }
     ensures found { IfSome result (Spell (map (λ w. w.now) arguments.now)) }
     ensures none { IfNone result ((numbers : List ℤ) → Spell (map (λ w. w.now) arguments.now) numbers → ⊥) }
 {

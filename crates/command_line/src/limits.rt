@@ -1,5 +1,5 @@
 ghost use Rattle.std.specs.Prelude.{◌≡◌};
-ghost use Rattle.command_line.specs.Limits.{limit_line};
+ghost use Rattle.command_line.specs.LimitLines.{limit_line};
 
 use plant_record::LimitKind;
 

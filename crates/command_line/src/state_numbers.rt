@@ -1,5 +1,6 @@
 ghost use Rattle.std.specs.Prelude.{◌≡◌, ◌<◌, [], ◌∷◌, ◌++◌, length};
 ghost use Rattle.grid_quantiser.specs.Cells.{point_of};
+ghost use Rattle.base.specs.declared.limits.TheConstants.{STATES_LIMIT};
 
 use grid_quantiser::Point;
 use std::marker::Model;
@@ -40,7 +41,7 @@ impl StateNumbers {
 
     /// Puts a number after the others.
     pub fn push(&mut self, number: i128)
-        requires { length self.old < 6 }
+        requires { length self.old < STATES_LIMIT }
         ensures { self.new ≡ self.old ++ number ∷ [] }
     {
         self.six[self.count as usize] = number;

@@ -3,7 +3,7 @@ use Rattle.std.specs.Prelude.{◌≡◌, ◌≢◌, ◌⊎◌, ℕ, ℤ, pos, ne
 use Rattle.controller_table.specs.declared.table_fault.TableFault.{TableFault}
 use Rattle.controller_table.specs.declared.table_fault.TableFault.TheVariants as faults
 use Rattle.controller_table.specs.Tables.{TableModel, IsTableIn}
-use Rattle.controller_table.specs.Refusals.{IsTableRefusedFor}
+use Rattle.controller_table.specs.TableRefusals.{IsTableRefusedFor}
 use Rattle.table_control.specs.Control.{TellsReply, IsRank, IsUnranked}
 use Rattle.table_control.specs.Each.{IsReplyEach}
 

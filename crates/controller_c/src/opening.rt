@@ -2,7 +2,7 @@
 
 ghost use Rattle.std.specs.Prelude.{◌≡◌, ◌≢◌, IfOk, IfErr};
 ghost use Rattle.controller_table.specs.Tables.{IsTableIn};
-ghost use Rattle.controller_table.specs.Refusals.{IsTableRefusedFor};
+ghost use Rattle.controller_table.specs.TableRefusals.{IsTableRefusedFor};
 ghost use Rattle.controller_table.specs.declared.table_fault.TableFault.TheVariants.{Memory};
 ghost use Rattle.controller_c.specs.Exports.{fault_number, fault_line};
 

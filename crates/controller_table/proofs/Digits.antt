@@ -8,7 +8,7 @@ use Rattle.std.proofs.lemmas.Fmt.{decimal_by_steps, decimal_digit, decimal_step,
 use Rattle.std.proofs.lemmas.List.Folds.{list_all-append}
 use Rattle.std.proofs.lemmas.List.Sums.{fold-append}
 use Rattle.plant_record.specs.Names.{is_digit}
-use Rattle.controller_table.specs.inside.Numbers.{IsNumberTo}
+use Rattle.controller_table.specs.inside.RowNumbers.{IsNumberTo}
 use Rattle.row_runs.proofs.Cuts.{one_cut, not_both}
 
 -- ---- digits

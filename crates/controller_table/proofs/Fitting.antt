@@ -14,7 +14,7 @@ use Rattle.plant_record.specs.Description.{Description, axes_of}
 use Rattle.plant_record.specs.Limits.{IsWithinLimits}
 use Rattle.controller_table.specs.Tables.{HasFittingRank, IsRowOf}
 use Rattle.controller_table.specs.RowLines.{IsRunOf, AreRunsOf}
-use Rattle.controller_table.specs.inside.Reading.{IsSpelled, IsSpelledRow}
+use Rattle.controller_table.specs.inside.TableReading.{IsSpelled, IsSpelledRow}
 
 spelled_at : (goal : GoalKind) (cells : ℕ) (row : Row) → cells ≤ 2 ^ 20 → row.input < 4096 → HasFittingRank goal cells row → IsSpelledRow goal row
 spelled_at Reach cells row few lt h = record { rank = omega (arith, h.0); input = omega arith; tells = h.1 }

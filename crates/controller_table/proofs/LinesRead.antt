@@ -12,8 +12,8 @@ use Rattle.row_runs.specs.declared.run.TableVersion.{TableVersion}
 use Rattle.row_runs.specs.declared.run.TableVersion.TheVariants.{First, Second}
 use Rattle.row_runs.specs.Runs.{HasCells}
 use Rattle.row_runs.specs.RunText.{input_field, count_line}
-use Rattle.controller_table.specs.inside.Numbers.{IsNumberTo}
-use Rattle.controller_table.specs.inside.Reading.{IsLastAt, IsRowAt, IsRunAt, row_format, last_words}
+use Rattle.controller_table.specs.inside.RowNumbers.{IsNumberTo}
+use Rattle.controller_table.specs.inside.TableReading.{IsLastAt, IsRowAt, IsRunAt, row_format, last_words}
 use Rattle.controller_table.proofs.Digits.{one_number}
 use Rattle.controller_table.proofs.RunWords.{count_words, run_words}
 

@@ -12,7 +12,7 @@ use Rattle.row_runs.specs.declared.run.Run.{Run}
 use Rattle.row_runs.specs.declared.run.TableVersion.{TableVersion}
 use Rattle.row_runs.specs.Runs.{HasCells, AreRuns, IsFilled}
 use Rattle.row_runs.specs.RunText.{run_line}
-use Rattle.row_runs.specs.inside.Steps.{MayEnd}
+use Rattle.row_runs.specs.inside.AddedRuns.{MayEnd}
 use Rattle.row_runs.proofs.RunLaws.{one_more}
 use Rattle.grid_quantiser.specs.Axes.{cells_of}
 use Rattle.plant_record.specs.Description.{Description, axes_of}

@@ -23,7 +23,7 @@ use Rattle.row_runs.specs.RunText.{run_line, count_line, end_line}
 use Rattle.controller_table.specs.TableText.{format_of, version_line, lines_after}
 use Rattle.controller_table.specs.Tables.{RowsFit, IsTable}
 use Rattle.controller_table.specs.RowLines.{IsRunOf, AreRunsOf, AreRowLines, AreWhole, MayStand, IsFirstRefusedAfter}
-use Rattle.controller_table.specs.Refusals.{IsShortTable, line_count, HasNoVersion, IsPlantRefusedFor, AreRowsRefusedAt, IsFirstRefusedInTable, ExceedsTableLimit}
+use Rattle.controller_table.specs.TableRefusals.{IsShortTable, line_count, HasNoVersion, IsPlantRefusedFor, AreRowsRefusedAt, IsFirstRefusedInTable, ExceedsTableLimit}
 use Rattle.controller_table.specs.Laws.{OneTableRefusal, TableOrRefused, TablesAreShort}
 use Rattle.row_runs.proofs.Lines.{IsLine, one_line}
 use Rattle.row_runs.proofs.RunWords.{count_is_line}

@@ -28,7 +28,7 @@ use Rattle.controller_table.specs.Laws.{OneTablePerText, OneChoice, OneRank}
 use Rattle.row_runs.proofs.Lines.{IsLine, same_lines, lines_then, same_front}
 use Rattle.row_runs.proofs.FewRuns.{few_runs}
 use Rattle.row_runs.proofs.RunWords.{count_is_line, end_is_line}
-use Rattle.controller_table.specs.inside.Reading.{IsSpelled}
+use Rattle.controller_table.specs.inside.TableReading.{IsSpelled}
 use Rattle.controller_table.proofs.RunWords.{run_is_line, run_same}
 use Rattle.controller_table.proofs.Fitting.{spelled_runs}
 

@@ -23,7 +23,7 @@ use Rattle.plant_record.specs.Names.{IsName}
 use Rattle.plant_record.specs.Numbers.{IsLiteral}
 use Rattle.plant_record.specs.Description.{Description, names_of}
 use Rattle.plant_record.specs.Variables.{IsStateVariable, IsInputVariable, IsNoiseVariable}
-use Rattle.plant_record.specs.Boxes.{AreEnds, IsStateBox}
+use Rattle.plant_record.specs.StateBoxes.{AreEnds, IsStateBox}
 use Rattle.plant_record.specs.Equations.{nodes_of, HasLiterals, IsEquation}
 use Rattle.plant_record.specs.Plants.{IsPlant}
 use Rattle.plant_writing.specs.ExpressionText.{at_level, point_text, expression_text}

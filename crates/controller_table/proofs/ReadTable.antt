@@ -16,8 +16,8 @@ use Rattle.controller_table.specs.TableText.{version_line, lines_after}
 use Rattle.row_runs.specs.RunText.{end_line}
 use Rattle.controller_table.specs.Tables.{RowsFit, IsTableIn}
 use Rattle.controller_table.specs.RowLines.{MayStand, IsFirstRefusedAfter}
-use Rattle.controller_table.specs.Refusals.{IsShortTable, line_count, HasNoVersion, IsTableRefusedFor}
-use Rattle.controller_table.specs.inside.Reading.{IsVersionAt}
+use Rattle.controller_table.specs.TableRefusals.{IsShortTable, line_count, HasNoVersion, IsTableRefusedFor}
+use Rattle.controller_table.specs.inside.TableReading.{IsVersionAt}
 
 pub no_version : (bytes : List ℕ) → ((y : TableVersion × List ℕ) → IsVersionAt bytes y → ⊥) → HasNoVersion bytes
 no_version bytes none v rest e = none (v, rest) e

@@ -20,7 +20,7 @@ use Rattle.controller_table.specs.Tables.{IsRowOf, RowsFit}
 use Rattle.controller_table.specs.RowLines.{IsRunOf, IsFirstRefusedAfter}
 use Rattle.controller_table.specs.declared.table_fault.TableFault.{TableFault}
 use Rattle.controller_table.specs.declared.table_fault.TableFault.TheVariants as faults
-use Rattle.controller_table.specs.inside.Reading.{IsRefusedAfter}
+use Rattle.controller_table.specs.inside.TableReading.{IsRefusedAfter}
 use Rattle.controller_table.specs.inside.ReadRows.{AreRead, IsRunRefused, AreRunsRefused}
 use Rattle.controller_table.proofs.Standing.{first_stands, row_next, end_next, nothing_next, not_whole}
 use Rattle.controller_table.proofs.Text.{after_text}

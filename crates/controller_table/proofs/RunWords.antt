@@ -16,7 +16,7 @@ use Rattle.row_runs.specs.declared.run.TableVersion.{TableVersion}
 use Rattle.row_runs.specs.declared.run.TableVersion.TheVariants.{First, Second}
 use Rattle.row_runs.specs.RunText.{rank_field, input_field, run_line, count_line}
 use Rattle.controller_table.specs.TableText.{format_of}
-use Rattle.controller_table.specs.inside.Reading.{IsSpelled, IsSpelledRow, EncodesAll, row_format, last_words}
+use Rattle.controller_table.specs.inside.TableReading.{IsSpelled, IsSpelledRow, EncodesAll, row_format, last_words}
 use Rattle.row_runs.proofs.Cuts.{one_cut}
 use Rattle.row_runs.proofs.Lines.{IsLine, no_feed}
 

@@ -10,7 +10,7 @@ use Rattle.row_runs.specs.declared.run.TableVersion.{TableVersion}
 use Rattle.row_runs.specs.RunText.{run_line, count_line, end_line}
 use Rattle.controller_table.specs.TableText.{format_of}
 use Rattle.controller_table.specs.RowLines.{AreRunsOf, AreRowLines, AreBegun, AreWhole, MayStand}
-use Rattle.controller_table.specs.inside.Reading.{IsSpelled}
+use Rattle.controller_table.specs.inside.TableReading.{IsSpelled}
 use Rattle.controller_table.proofs.RunWords.{count_same, run_same}
 use Rattle.controller_table.proofs.Fitting.{spelled_runs}
 

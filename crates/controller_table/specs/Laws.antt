@@ -10,7 +10,7 @@ use Rattle.plant_record.specs.Description.{Description, axes_of, vectors_of}
 use Rattle.controller_table.specs.declared.table_fault.TableFault.{TableFault}
 use Rattle.controller_table.specs.Tables.{RowsFit, IsTable}
 use Rattle.controller_table.specs.Choice.{IsChoice, HasRank}
-use Rattle.controller_table.specs.Refusals.{IsShortTable, IsTableRefusedFor}
+use Rattle.controller_table.specs.TableRefusals.{IsShortTable, IsTableRefusedFor}
 
 -- no bytes are the table of two plants, or of one plant with other rows, or in two versions
 abbrev pub OneTablePerText : Type 0

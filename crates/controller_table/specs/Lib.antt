@@ -2,7 +2,7 @@ pub mod TableText
 pub mod Tables
 pub mod Choice
 pub mod RowLines
-pub mod Refusals
+pub mod TableRefusals
 pub mod Found
 pub mod Laws
 pub mod inside

@@ -1,4 +1,4 @@
-pub mod Numbers
-pub mod Reading
+pub mod RowNumbers
+pub mod TableReading
 pub mod ReadRows
 pub mod ReadPlant

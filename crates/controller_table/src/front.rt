@@ -2,7 +2,7 @@
 
 ghost use Rattle.std.specs.Prelude.{◌≡◌, ℕ, ◌≤◌, List, ◌++◌, length};
 ghost use Rattle.controller_table.specs.Found.{Finds};
-ghost use Rattle.controller_table.specs.Refusals.{line_count};
+ghost use Rattle.controller_table.specs.TableRefusals.{line_count};
 
 /// What stands after a front of the bytes.
 pub fn after_prefix<'a>(bytes: &'a [u8], front: &[u8]) -> Option<&'a [u8]>

@@ -21,5 +21,5 @@ pub use front::{after_prefix, line_count};
 pub use goal_format::format_of;
 pub use table::Table;
 pub use table_fault::{NoMemory, TableFault};
-pub use table_reader::{TABLE_LIMIT, read_table};
+pub use table_reader::read_table;
 pub use table_writer::TableWriter;

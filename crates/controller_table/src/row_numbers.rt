@@ -3,7 +3,7 @@
 ghost use Rattle.std.specs.Prelude.{◌≡◌, ◌⊎◌, ◌+◌, ◌*◌, ◌^◌, ◌<◌, ◌≤◌, false, MatchOption};
 ghost use Rattle.plant_record.specs.Names.{is_digit};
 ghost use Rattle.controller_table.specs.Found.{Finds};
-ghost use Rattle.controller_table.specs.inside.Numbers.{IsNumberTo};
+ghost use Rattle.controller_table.specs.inside.RowNumbers.{IsNumberTo};
 
 /// The number that is spelled up to this byte, which is no digit, and what stands after that byte.
 pub(crate) fn number_to(bytes: &[u8], stop: u8) -> Option<(u32, &[u8])>

@@ -9,7 +9,7 @@ ghost use Rattle.controller_table.specs.TableText.{lines_after};
 ghost use Rattle.row_runs.specs.RunText.{count_line};
 ghost use Rattle.controller_table.specs.Tables.{RowsFit};
 ghost use Rattle.controller_table.specs.Found.{Finds};
-ghost use Rattle.controller_table.specs.inside.Reading.{IsRefusedAfter};
+ghost use Rattle.controller_table.specs.inside.TableReading.{IsRefusedAfter};
 ghost use Rattle.controller_table.specs.inside.ReadRows.{AreRead, AreRunsRefused};
 
 use crate::front::after_prefix;

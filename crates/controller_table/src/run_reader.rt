@@ -5,7 +5,7 @@ ghost use Rattle.plant_record.specs.Limits.{IsWithinLimits};
 ghost use Rattle.row_runs.specs.Runs.{MayFollow};
 ghost use Rattle.controller_table.specs.RowLines.{IsRunOf};
 ghost use Rattle.controller_table.specs.Found.{Finds};
-ghost use Rattle.controller_table.specs.inside.Reading.{IsLastAt, IsRowAt, IsRunAt};
+ghost use Rattle.controller_table.specs.inside.TableReading.{IsLastAt, IsRowAt, IsRunAt};
 ghost use Rattle.controller_table.specs.inside.ReadRows.{IsNextRunAt, MayFollowOn};
 
 use crate::front::after_prefix;

@@ -2,6 +2,7 @@
 
 ghost use Rattle.std.specs.Prelude.{◌≡◌, ◌^◌, ◌≤◌, length, IfOk};
 ghost use Rattle.plant_record.specs.Limits.{IsWithinLimits};
+ghost use Rattle.base.specs.declared.limits.TheConstants.{CELLS_LIMIT};
 
 use crate::table_fault::NoMemory;
 use game_core::Answer;
@@ -26,7 +27,7 @@ pub(crate) fn copy_plant(alloc: Global, p: &Plant) -> Result<Plant, NoMemory>
 }
 
 pub(crate) fn copy_answer(alloc: Global, answer: &Answer) -> Result<Answer, NoMemory>
-    requires { length answer.now ≤ 2 ^ 20 }
+    requires { length answer.now ≤ CELLS_LIMIT }
     ensures { IfOk result (λ copy. copy ≡ answer.now) }
 {
     let cells = answer.cells();

@@ -3,22 +3,21 @@ ghost use Rattle.plant_record.specs.Limits.{IsWithinLimits};
 ghost use Rattle.plant_text.specs.CanonicalFronts.{IsFront};
 ghost use Rattle.controller_table.specs.declared.table_fault.TableFault.TheVariants.{Memory};
 ghost use Rattle.controller_table.specs.Tables.{IsTableIn};
-ghost use Rattle.controller_table.specs.Refusals.{IsTableRefusedFor, line_count};
+ghost use Rattle.controller_table.specs.TableRefusals.{IsTableRefusedFor, line_count};
 ghost use Rattle.controller_table.specs.Found.{Finds};
-ghost use Rattle.controller_table.specs.inside.Reading.{IsVersionAt};
+ghost use Rattle.controller_table.specs.inside.TableReading.{IsVersionAt};
 ghost use Rattle.controller_table.specs.inside.ReadPlant.{IsPlantRefused, of_front};
+ghost use Rattle.base.specs.declared.limits.TheConstants.{TABLE_LIMIT};
 
 use crate::front::{after_prefix, line_count};
 use crate::row_reader::rows_after;
 use crate::table::Table;
 use crate::table_fault::TableFault;
+use base::limits::TABLE_LIMIT;
 use plant_record::LimitKind;
 use plant_text::{Front, PlantFault, read_front};
 use row_runs::TableVersion;
 use std::alloc::Global;
-
-/// The most bytes of a table's text.
-pub const TABLE_LIMIT: usize = 67_108_864;
 
 /// How many bytes the line of a version has.
 const VERSION_LENGTH: usize = 8;
@@ -46,7 +45,7 @@ pub fn read_table(alloc: Global, bytes: &[u8]) -> Result<Table, TableFault>
 
 /// The number of lines in the bytes before the rows.
 fn front_lines(bytes: &[u8]) -> u32
-    requires { length bytes.now ≤ 67108864 }
+    requires { length bytes.now ≤ TABLE_LIMIT }
     ensures count { result ≡ line_count bytes.now }
     ensures bound { result ≤ length bytes.now }
 {
@@ -66,7 +65,7 @@ fn version_at(bytes: &[u8]) -> Option<(TableVersion, &[u8])>
 
 /// The plant whose text stands after the first line.
 fn plant_in(alloc: Global, bytes: &[u8]) -> Result<Front, TableFault>
-    requires { length bytes.now ≤ 67108864 }
+    requires { length bytes.now ≤ TABLE_LIMIT }
     ensures read { IfOk result (λ f. IsFront bytes.now f.plant f.length × IsWithinLimits f.plant) }
     ensures refused { IfErr result (λ fault. IsPlantRefused bytes.now fault) }
 {

@@ -6,7 +6,7 @@ use Rattle.std.proofs.lemmas.List.Sums.{sum_by-le}
 use Rattle.fixed_expr.specs.Value.{value_of}
 use Rattle.grid_quantiser.specs.Axes.{cells_of}
 use Rattle.plant_record.specs.Description.{axes_of, count_of, vectors_of}
-use Rattle.successor_box.specs.Boxes.{IsEnabledAt, AreSuccessors, central_values}
+use Rattle.successor_box.specs.SuccessorBoxes.{IsEnabledAt, AreSuccessors, central_values}
 use Rattle.plant_game.specs.Abstraction.{pairs_of, pair_of, AreEdges}
 use Rattle.demo_plants.specs.Demo.{demo_plant_of, position, position_step, speed_step}
 use Rattle.demo_plants.specs.Laws.{DemoPlantsHaveFewEdges}

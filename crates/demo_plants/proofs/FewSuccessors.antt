@@ -6,7 +6,7 @@ use Rattle.std.proofs.lemmas.List.Kept.{AllPairs-from_increasing}
 use Rattle.std.proofs.lemmas.List.Elements.{All-contains_itself}
 use Rattle.grid_quantiser.specs.declared.axis.Axis.{Axis}
 use Rattle.grid_quantiser.specs.Cells.{IsPointOf, index_of}
-use Rattle.grid_quantiser.specs.Boxes.{IsBoxInDomain, IsInBox, Touches, AreCellsMeeting}
+use Rattle.grid_quantiser.specs.CellBoxes.{IsBoxInDomain, IsInBox, Touches, AreCellsMeeting}
 use Rattle.demo_plants.proofs.NineCells.{IsNear, at_most_nine}
 
 -- the axes of positions and speeds

@@ -9,7 +9,7 @@ use Rattle.grid_quantiser.specs.Axes.{cells_of}
 use Rattle.plant_record.specs.Numbers.{IsLiteral}
 use Rattle.plant_record.specs.Description.{axes_of, count_of, vectors_of}
 use Rattle.plant_record.specs.Variables.{IsStateVariable, IsInputVariable, IsNoiseVariable}
-use Rattle.plant_record.specs.Boxes.{IsStateBox}
+use Rattle.plant_record.specs.StateBoxes.{IsStateBox}
 use Rattle.plant_record.specs.Equations.{IsEquation, HasNoLut}
 use Rattle.plant_record.specs.Plants.{IsPlant}
 use Rattle.plant_record.specs.Limits.{IsWithinLimits}

@@ -6,7 +6,7 @@ use Rattle.std.proofs.lemmas.List.{append-nil}
 use Rattle.std.proofs.lemmas.Fmt.{length-decimal-le}
 use Rattle.plant_writing.specs.CanonicalText.{text_of, state_line, box_line}
 use Rattle.plant_text.specs.Grammar.{Spells}
-use Rattle.plant_text.specs.Refusals.{IsShort}
+use Rattle.plant_text.specs.PlantRefusals.{IsShort}
 use Rattle.plant_text.proofs.lemmas.SpelledCanonically.{canonical_texts_spell}
 use Rattle.command_line.specs.Command.{IsDemoNumber}
 use Rattle.demo_plants.specs.Demo.{demo_plant_of, demo_text, position, demo_target, fast_forwards, fast_backwards}

@@ -6,11 +6,12 @@ use Rattle.plant_record.specs.Description.{axes_of}
 use Rattle.plant_record.specs.Limits.{IsWithinLimits}
 use Rattle.plant_writing.specs.CanonicalText.{text_of}
 use Rattle.plant_text.specs.Grammar.{Spells}
-use Rattle.plant_text.specs.Refusals.{IsShort}
+use Rattle.plant_text.specs.PlantRefusals.{IsShort}
 use Rattle.successor_box.specs.Deviations.{HasNoOverflow}
 use Rattle.plant_game.specs.Abstraction.{pairs_of, AreEdges}
 use Rattle.command_line.specs.Command.{IsDemoNumber}
 use Rattle.demo_plants.specs.Demo.{demo_plant_of, demo_text, IsDemoLine}
+use Rattle.base.specs.declared.limits.TheConstants.{EDGES_LIMIT}
 
 -- A demo plant is within the limits: it has 1,200 n cells, and 6,000 n pairs of a cell and an input vector.
 pub record IsOfDemoSize (n : ℕ) : Type 0 where
@@ -45,7 +46,7 @@ pub record IsSolvableDemo (n : ℕ) : Type 0 where
   pub goal : (demo_plant_of n).goal ≡ Reach
   pub limits : IsWithinLimits (demo_plant_of n)
   pub no_overflow : HasNoOverflow (demo_plant_of n)
-  pub edges : (m : ℕ) → AreEdges (demo_plant_of n) m → 2 ^ 25 < m → ⊥
+  pub edges : (m : ℕ) → AreEdges (demo_plant_of n) m → EDGES_LIMIT < m → ⊥
 
 -- each demo plant can be solved
 abbrev pub DemoPlantsAreSolvable : Type 0

@@ -6,7 +6,7 @@ use Rattle.std.proofs.lemmas.Slice.Zip.{AllZip-long}
 use Rattle.std.proofs.Math.ListN.{get_or-map}
 use Rattle.edge_rows.specs.Rows.{Filling, appended, changed_run, appended_run, HasFreeSlot, HaveFreeSlots, slots_left}
 use Rattle.edge_rows.specs.inside.Layout.{gaps, rows_between}
-use Rattle.edge_rows.specs.inside.Runs.{AreFree, written}
+use Rattle.edge_rows.specs.inside.Slices.{AreFree, written}
 use Rattle.edge_rows.specs.inside.FillFields.{filling_of, IsFilledAs, IsFilling}
 use Rattle.edge_rows.specs.declared.fill.RowFill.TheInside.{Inside}
 use Rattle.edge_rows.proofs.Laid.{end_of, length-starts, length-ends, length-laid, start_at, end_at, gaps-starts, read_back, fits-at, end_within, end_free, laid-put, ends-put, fits-put}

@@ -3,7 +3,7 @@ use Rattle.std.proofs.Common.{◌≡◌, ℕ, zero, suc, ◌+◌, ◌<◌, ◌�
 use Rattle.std.proofs.lemmas.List.{drop_more, drop-set-lt, get_or-set_other, length-set, length-map, length-append, take-append-drop}
 use Rattle.edge_rows.specs.Rows.{row_at, appended, changed_run, appended_run}
 use Rattle.edge_rows.specs.inside.Layout.{laid, ends_from}
-use Rattle.edge_rows.specs.inside.Runs.{AreFree, written}
+use Rattle.edge_rows.specs.inside.Slices.{AreFree, written}
 use Rattle.edge_rows.proofs.Laid.{Fits, end_of, length-ends, length-laid, end_at, end_within, end_free, laid-put, ends-put, fits-put}
 
 -- one more item that is changed

@@ -4,4 +4,4 @@ pub mod FillFields
 pub mod Layout
 pub mod Ownership
 pub mod RowsFields
-pub mod Runs
+pub mod Slices

@@ -2,7 +2,8 @@
 ghost use Rattle.std.specs.Prelude.{◌≡◌, ◌+◌, ◌^◌, ◌<◌, ◌≤◌, length, map, sum, IfOk};
 ghost use Rattle.edge_rows.specs.Rows.{appended, appended_run, unfilled, HasFreeSlot, HaveFreeSlots, slots_left};
 ghost use Rattle.edge_rows.specs.inside.Layout.{starts_from};
-ghost use Rattle.edge_rows.specs.inside.Runs.{AreFree, written};
+ghost use Rattle.edge_rows.specs.inside.Slices.{AreFree, written};
+ghost use Rattle.base.specs.declared.limits.TheConstants.{CELLS_LIMIT, EDGES_LIMIT};
 
 use crate::block::Block;
 use crate::rows::Rows;
@@ -43,8 +44,8 @@ impl Model for RowFill {
 
 /// Where rows of these lengths start, and at last where they end.
 fn starts_of(alloc: Global, lengths: &[u32]) -> Result<Vec<u32>, AllocError>
-    requires rows { length lengths.now ≤ 2 ^ 20 }
-    requires slots { sum lengths.now ≤ 2 ^ 25 }
+    requires rows { length lengths.now ≤ CELLS_LIMIT }
+    requires slots { sum lengths.now ≤ EDGES_LIMIT }
     ensures { IfOk result (λ v. v.items ≡ starts_from 0 lengths.now) }
 {
     let mut starts = Vec::with_capacity(alloc, lengths.len() + 1)?;
@@ -75,8 +76,8 @@ fn write_each(block: &mut Block, ends: &mut [u32], value: u32)
 impl RowFill {
     /// Rows of these lengths with nothing written. The block is not cleared.
     pub fn new(alloc: Global, lengths: &[u32]) -> Result<RowFill, NoMemory>
-        requires rows { length lengths.now ≤ 2 ^ 20 }
-        requires slots { sum lengths.now ≤ 2 ^ 25 }
+        requires rows { length lengths.now ≤ CELLS_LIMIT }
+        requires slots { sum lengths.now ≤ EDGES_LIMIT }
         ensures rows { IfOk result (λ fill. fill.rows ≡ unfilled lengths.now) }
         ensures lengths { IfOk result (λ fill. fill.lengths ≡ lengths.now) }
     {

@@ -7,7 +7,7 @@ use Rattle.fixed_expr.specs.declared.operation.Binary.{Binary}
 use Rattle.fixed_expr.specs.declared.operation.Binary.TheVariants.{AddOp, SubOp, MulOp, MinOp, MaxOp}
 use Rattle.fixed_expr.specs.Expression.{Expression}
 use Rattle.fixed_expr.specs.Lanes.{at, AreNarrow, Holds, HoldsNarrow}
-use Rattle.fixed_expr.specs.Narrow.{IsNarrow, StaysNarrow}
+use Rattle.fixed_expr.specs.NarrowValues.{IsNarrow, StaysNarrow}
 use Rattle.fixed_expr.specs.LaneEval.{row_of, StaysNarrowInLanes}
 use Rattle.fixed_expr.specs.Value.{value_of}
 use Rattle.fixed_expr.specs.inside.Listing.{combined, combined_number}

@@ -1,6 +1,7 @@
 -- Piecewise-linear functions over whole numbers, each given by some points.
 use Rattle.std.specs.Prelude.{◌^◌, ◌<◌, ◌≤◌, ℤ, pos, nat_abs, ◌+ℤ◌, ◌-ℤ◌, ◌*ℤ◌, ◌<ℤ◌, int_lt, int_le, List, [], ◌∷◌, length, All, if◌then◌else◌}
 use Rattle.fixed_expr.specs.DivExpr.{floor_div}
+use Rattle.base.specs.declared.limits.TheConstants.{NUMBER_LIMIT, POINTS_LIMIT}
 
 -- an argument, and the value there
 abbrev pub CurvePoint : Type 0
@@ -17,12 +18,12 @@ Rise (p ∷ points) = RiseFrom p points
 
 -- both numbers have at most 18 digits
 abbrev pub IsShort : CurvePoint → Type 0
-IsShort p = (nat_abs p.0 < 10 ^ 18) × (nat_abs p.1 < 10 ^ 18)
+IsShort p = (nat_abs p.0 < NUMBER_LIMIT) × (nat_abs p.1 < NUMBER_LIMIT)
 
 -- The points of a curve.
 pub record IsCurve (points : List CurvePoint) : Type 0 where
   pub some : 2 ≤ length points
-  pub few : length points ≤ 32
+  pub few : length points ≤ POINTS_LIMIT
   pub rising : Rise points
   pub short : All IsShort points
 

@@ -3,7 +3,7 @@ use Rattle.std.specs.Prelude.{◌≡◌, ℕ, ◌<◌, ℤ, pos, List, map, slic
 use Rattle.fixed_expr.specs.declared.lanes.TheConstants.{LANES}
 use Rattle.fixed_expr.specs.Expression.{Expression}
 use Rattle.fixed_expr.specs.Value.{value_of}
-use Rattle.fixed_expr.specs.Narrow.{StaysNarrow}
+use Rattle.fixed_expr.specs.NarrowValues.{StaysNarrow}
 
 -- the values of the variables in row k
 abbrev pub row_of : List (List ℤ) → ℕ → List ℤ

@@ -1,7 +1,7 @@
 -- What an operation on the numbers in many lanes answers.
 use Rattle.std.specs.Prelude.{◌≡◌, ℕ, ◌<◌, ℤ, pos, List, slice_index_or, Option, MatchOption}
 use Rattle.fixed_expr.specs.declared.lanes.TheConstants.{LANES}
-use Rattle.fixed_expr.specs.Narrow.{IsNarrow}
+use Rattle.fixed_expr.specs.NarrowValues.{IsNarrow}
 
 -- the number in a lane
 abbrev pub at : List ℤ → ℕ → ℤ

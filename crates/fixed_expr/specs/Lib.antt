@@ -3,7 +3,7 @@ pub mod DivExpr
 pub mod Curves
 pub mod Expression
 pub mod Value
-pub mod Narrow
+pub mod NarrowValues
 pub mod Lanes
 pub mod LaneEval
 pub mod Mentions

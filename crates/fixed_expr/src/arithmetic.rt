@@ -12,51 +12,51 @@ pub fn within(z: i128) -> Option<i128>
     if z == i128::MIN { None } else { Some(z) }
 }
 
-pub fn negation(a: i128) -> Option<i128>
+pub fn neg_in_range(a: i128) -> Option<i128>
     ensures { SomeIff result (IsInRange (neg_ℤ a)) (neg_ℤ a) }
 {
     within(a.checked_neg()?)
 }
 
-pub fn sum(a: i128, b: i128) -> Option<i128>
+pub fn add_in_range(a: i128, b: i128) -> Option<i128>
     ensures { SomeIff result (IsInRange (a +ℤ b)) (a +ℤ b) }
 {
     within(a.checked_add(b)?)
 }
 
-pub fn difference(a: i128, b: i128) -> Option<i128>
+pub fn sub_in_range(a: i128, b: i128) -> Option<i128>
     ensures { SomeIff result (IsInRange (a -ℤ b)) (a -ℤ b) }
 {
     within(a.checked_sub(b)?)
 }
 
-pub fn product(a: i128, b: i128) -> Option<i128>
+pub fn mul_in_range(a: i128, b: i128) -> Option<i128>
     ensures { SomeIff result (IsInRange (a *ℤ b)) (a *ℤ b) }
 {
     within(a.checked_mul(b)?)
 }
 
 /// Rounds down, where `/` rounds towards 0.
-pub fn quotient(a: i128, k: i128) -> Option<i128>
+pub fn div_in_range(a: i128, k: i128) -> Option<i128>
     requires { pos 1 ≤ℤ k }
     ensures { SomeIff result (IsInRange (floor_div a k)) (floor_div a k) }
 {
     within(a.div_euclid(k))
 }
 
-pub fn lesser(a: i128, b: i128) -> Option<i128>
+pub fn min_in_range(a: i128, b: i128) -> Option<i128>
     ensures { SomeIff result (IsInRange (int_min a b)) (int_min a b) }
 {
     within(a.min(b))
 }
 
-pub fn greater(a: i128, b: i128) -> Option<i128>
+pub fn max_in_range(a: i128, b: i128) -> Option<i128>
     ensures { SomeIff result (IsInRange (int_max a b)) (int_max a b) }
 {
     within(a.max(b))
 }
 
-pub fn absolute(a: i128) -> Option<i128>
+pub fn abs_in_range(a: i128) -> Option<i128>
     ensures { SomeIff result (IsInRange (pos (nat_abs a))) (pos (nat_abs a)) }
 {
     within(a.checked_abs()?)

@@ -4,6 +4,7 @@ ghost use Rattle.std.specs.Prelude.{◌≡◌, ◌<◌, ◌*◌, ◌^◌, pos, �
 ghost use Rattle.fixed_expr.specs.DivExpr.{floor_div};
 ghost use Rattle.fixed_expr.specs.Curves.{IsCurve, IsShort, curve_value, value_along};
 ghost use Rattle.fixed_expr.specs.inside.Passed.{ArePassed};
+ghost use Rattle.base.specs.declared.limits.TheConstants.{NUMBER_LIMIT};
 
 use std::alloc::{AllocError, Global};
 use std::marker::Model;
@@ -59,7 +60,7 @@ impl Curve {
     /// The value at a number.
     pub fn value(&self, x: i128) -> i128
         ensures value { result ≡ curve_value self.now x }
-        ensures short { nat_abs result < 10 ^ 18 }
+        ensures short { nat_abs result < NUMBER_LIMIT }
     {
         value_at(self.points(), x)
     }
@@ -76,7 +77,7 @@ impl Curve {
 fn value_at(points: &[(i128, i128)], x: i128) -> i128
     requires { IsCurve points.now }
     ensures value { result ≡ curve_value points.now x }
-    ensures short { nat_abs result < 10 ^ 18 }
+    ensures short { nat_abs result < NUMBER_LIMIT }
 {
     let passed = points_passed(points, x);
     if passed == 0 {
@@ -103,7 +104,7 @@ fn value_along(p: (i128, i128), q: (i128, i128), x: i128) -> i128
     requires after { p.0 ≤ℤ x }
     requires before { x <ℤ q.0 }
     ensures value { result ≡ value_along p q x }
-    ensures short { nat_abs result < 10 ^ 18 }
+    ensures short { nat_abs result < NUMBER_LIMIT }
 {
     p.1 + part_of(q.1 - p.1, x - p.0, q.0 - p.0)
 }
@@ -111,9 +112,9 @@ fn value_along(p: (i128, i128), q: (i128, i128), x: i128) -> i128
 /// How much of a rise over a run lies at a number of steps, rounded down: in 64 bits where the product
 /// lies there, since quotients in 128 take several times as long.
 fn part_of(rise: i128, steps: i128, run: i128) -> i128
-    requires rise { nat_abs rise < 2 * 10 ^ 18 }
-    requires steps { nat_abs steps < 2 * 10 ^ 18 }
-    requires run { nat_abs run < 2 * 10 ^ 18 }
+    requires rise { nat_abs rise < 2 * NUMBER_LIMIT }
+    requires steps { nat_abs steps < 2 * NUMBER_LIMIT }
+    requires run { nat_abs run < 2 * NUMBER_LIMIT }
     requires some { pos 1 ≤ℤ run }
     ensures { result ≡ floor_div (rise *ℤ steps) run }
 {

@@ -14,8 +14,8 @@ ghost use Rattle.fixed_expr.specs.inside.RowValues.{value_in, AreNumbers, Answer
 use crate::curve::Curve;
 use crate::expr::Expr;
 use crate::lanes::{
-    LANES, add_to, copy_to, divide_by, look_up, lower_to, make_absolute, multiply_by, negate,
-    raise_to, subtract_from,
+    LANES, abs_lanes, add_lanes, copy_lanes, div_lanes, lut_lanes, max_lanes, min_lanes, mul_lanes,
+    neg_lanes, sub_lanes,
 };
 use crate::narrow::narrow;
 use crate::operation::{Binary, combine};
@@ -82,7 +82,7 @@ fn column_values(column: &[i64; LANES], found: &mut [i64; LANES]) -> RowValues
     if are_alike(column) {
         return RowValues::Alike(column[0]);
     }
-    copy_to(found, column);
+    copy_lanes(found, column);
     RowValues::Listed
 }
 
@@ -141,7 +141,7 @@ fn negate_values(values: RowValues, found: &mut [i64; LANES]) -> Option<RowValue
     match values {
         RowValues::Alike(z) => Some(RowValues::Alike(z.checked_neg()?)),
         RowValues::Listed => {
-            negate(found)?;
+            neg_lanes(found)?;
             Some(RowValues::Listed)
         }
     }
@@ -153,7 +153,7 @@ fn make_values_absolute(values: RowValues, found: &mut [i64; LANES]) -> Option<R
     match values {
         RowValues::Alike(z) => Some(RowValues::Alike(z.checked_abs()?)),
         RowValues::Listed => {
-            make_absolute(found)?;
+            abs_lanes(found)?;
             Some(RowValues::Listed)
         }
     }
@@ -166,7 +166,7 @@ fn divide_values(values: RowValues, divisor: i64, found: &mut [i64; LANES]) -> R
     match values {
         RowValues::Alike(z) => RowValues::Alike(z.div_euclid(divisor)),
         RowValues::Listed => {
-            divide_by(found, divisor);
+            div_lanes(found, divisor);
             RowValues::Listed
         }
     }
@@ -179,7 +179,7 @@ fn look_values_up(values: RowValues, curve: &Curve, found: &mut [i64; LANES]) ->
     match values {
         RowValues::Alike(z) => RowValues::Alike(curve.narrow_value(z)),
         RowValues::Listed => {
-            look_up(found, curve);
+            lut_lanes(found, curve);
             RowValues::Listed
         }
     }
@@ -198,15 +198,15 @@ fn combine_lanes(binary: Binary, found: &mut [i64; LANES], other: &[i64; LANES])
     ensures { AnswersLanes result found.new (λ k. combined_number binary (at found.old k) (at other.now k)) }
 {
     match binary {
-        Binary::AddOp => add_to(found, other),
-        Binary::SubOp => subtract_from(found, other),
-        Binary::MulOp => multiply_by(found, other),
+        Binary::AddOp => add_lanes(found, other),
+        Binary::SubOp => sub_lanes(found, other),
+        Binary::MulOp => mul_lanes(found, other),
         Binary::MinOp => {
-            lower_to(found, other);
+            min_lanes(found, other);
             Some(())
         }
         Binary::MaxOp => {
-            raise_to(found, other);
+            max_lanes(found, other);
             Some(())
         }
     }

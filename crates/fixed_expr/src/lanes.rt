@@ -9,12 +9,12 @@ ghost use Rattle.fixed_expr.specs.Lanes.{at, AnswersLanes, HoldsNarrow};
 
 use crate::curve::Curve;
 use crate::narrow::floor_quotient;
-use fixed_divisor::Divisor;
+use base::Divisor;
 
 /// How many rows are evaluated at once.
 pub const LANES: usize = 32;
 
-pub fn copy_to(found: &mut [i64; LANES], column: &[i64; LANES])
+pub fn copy_lanes(found: &mut [i64; LANES], column: &[i64; LANES])
     ensures { HoldsNarrow found.new (λ k. at column.now k) }
 {
     'lanes: for k in 0..LANES {
@@ -22,7 +22,7 @@ pub fn copy_to(found: &mut [i64; LANES], column: &[i64; LANES])
     }
 }
 
-pub fn add_to(found: &mut [i64; LANES], other: &[i64; LANES]) -> Option<()>
+pub fn add_lanes(found: &mut [i64; LANES], other: &[i64; LANES]) -> Option<()>
     ensures { AnswersLanes result found.new (λ k. at found.old k +ℤ at other.now k) }
 {
     'lanes: for k in 0..LANES {
@@ -31,7 +31,7 @@ pub fn add_to(found: &mut [i64; LANES], other: &[i64; LANES]) -> Option<()>
     Some(())
 }
 
-pub fn subtract_from(found: &mut [i64; LANES], other: &[i64; LANES]) -> Option<()>
+pub fn sub_lanes(found: &mut [i64; LANES], other: &[i64; LANES]) -> Option<()>
     ensures { AnswersLanes result found.new (λ k. at found.old k -ℤ at other.now k) }
 {
     'lanes: for k in 0..LANES {
@@ -40,7 +40,7 @@ pub fn subtract_from(found: &mut [i64; LANES], other: &[i64; LANES]) -> Option<(
     Some(())
 }
 
-pub fn multiply_by(found: &mut [i64; LANES], other: &[i64; LANES]) -> Option<()>
+pub fn mul_lanes(found: &mut [i64; LANES], other: &[i64; LANES]) -> Option<()>
     ensures { AnswersLanes result found.new (λ k. at found.old k *ℤ at other.now k) }
 {
     'lanes: for k in 0..LANES {
@@ -50,7 +50,7 @@ pub fn multiply_by(found: &mut [i64; LANES], other: &[i64; LANES]) -> Option<()>
 }
 
 /// The lesser of the two, in each lane.
-pub fn lower_to(found: &mut [i64; LANES], other: &[i64; LANES])
+pub fn min_lanes(found: &mut [i64; LANES], other: &[i64; LANES])
     ensures { HoldsNarrow found.new (λ k. int_min (at found.old k) (at other.now k)) }
 {
     'lanes: for k in 0..LANES {
@@ -59,7 +59,7 @@ pub fn lower_to(found: &mut [i64; LANES], other: &[i64; LANES])
 }
 
 /// The greater of the two, in each lane.
-pub fn raise_to(found: &mut [i64; LANES], other: &[i64; LANES])
+pub fn max_lanes(found: &mut [i64; LANES], other: &[i64; LANES])
     ensures { HoldsNarrow found.new (λ k. int_max (at found.old k) (at other.now k)) }
 {
     'lanes: for k in 0..LANES {
@@ -67,7 +67,7 @@ pub fn raise_to(found: &mut [i64; LANES], other: &[i64; LANES])
     }
 }
 
-pub fn negate(found: &mut [i64; LANES]) -> Option<()>
+pub fn neg_lanes(found: &mut [i64; LANES]) -> Option<()>
     ensures { AnswersLanes result found.new (λ k. neg_ℤ (at found.old k)) }
 {
     'lanes: for k in 0..LANES {
@@ -76,7 +76,7 @@ pub fn negate(found: &mut [i64; LANES]) -> Option<()>
     Some(())
 }
 
-pub(crate) fn make_absolute(found: &mut [i64; LANES]) -> Option<()>
+pub(crate) fn abs_lanes(found: &mut [i64; LANES]) -> Option<()>
     ensures { AnswersLanes result found.new (λ k. pos (nat_abs (at found.old k))) }
 {
     'lanes: for k in 0..LANES {
@@ -86,7 +86,7 @@ pub(crate) fn make_absolute(found: &mut [i64; LANES]) -> Option<()>
 }
 
 /// Rounds down, where `/` rounds towards 0.
-pub fn divide_by(found: &mut [i64; LANES], divisor: i64)
+pub fn div_lanes(found: &mut [i64; LANES], divisor: i64)
     requires { pos 1 ≤ℤ divisor }
     ensures { HoldsNarrow found.new (λ k. floor_div (at found.old k) divisor) }
 {
@@ -97,7 +97,7 @@ pub fn divide_by(found: &mut [i64; LANES], divisor: i64)
 }
 
 /// The values of a table.
-pub(crate) fn look_up(found: &mut [i64; LANES], curve: &Curve)
+pub(crate) fn lut_lanes(found: &mut [i64; LANES], curve: &Curve)
     ensures { HoldsNarrow found.new (λ k. curve_value curve.now (at found.old k)) }
 {
     'lanes: for k in 0..LANES {

@@ -6,7 +6,7 @@ use native.Mathlib.Decide.{ℕ_discrete, dec_lt}
 use Rattle.std.proofs.lemmas.List.Sums.{sum_by-append}
 use Rattle.std.proofs.lemmas.List.Elements.{All-head, All-tail}
 use Rattle.std.proofs.lemmas.List.Sorted.{IsPermutation-refl, IsPermutation-sym, IsPermutation-cons, IsPermutation-trans, IsPermutation-middle}
-use Rattle.frontier_pool.specs.inside.Rules.{times}
+use Rattle.frontier_pool.specs.inside.ClaimProtocol.{times}
 use Rattle.frontier_pool.proofs.Sums.{times-itself, times-other}
 
 pub times-cons : (n x : ℕ) (xs : List ℕ) → times n (x ∷ xs) ≡ times n (x ∷ []) + times n xs

@@ -4,7 +4,7 @@ use Rattle.std.proofs.lemmas.List.{append-nil}
 use Rattle.std.proofs.lemmas.List.Elements.{All-nil, All-append}
 use Rattle.frontier_pool.specs.declared.rule.ClaimList.{ClaimList}
 use Rattle.frontier_pool.specs.declared.rule.SeatView.{SeatView}
-use Rattle.frontier_pool.specs.inside.Rules.{longer, grown, Seated}
+use Rattle.frontier_pool.specs.inside.ClaimProtocol.{longer, grown, Seated}
 use Rattle.frontier_pool.specs.inside.Gains.{SeatOf, Gained}
 use Rattle.atomic_table.specs.Seated.{TableId}
 use Rattle.frontier_pool.specs.inside.Members.{HasAll, MayClaim}

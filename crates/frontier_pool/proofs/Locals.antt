@@ -5,7 +5,7 @@ use Rattle.frontier_pool.specs.declared.member.Member.{Member}
 use Rattle.frontier_pool.specs.declared.member.Local.{Local}
 use Rattle.frontier_pool.specs.declared.rule.ClaimList.{ClaimList}
 use Rattle.frontier_pool.specs.declared.rule.SeatView.{SeatView}
-use Rattle.frontier_pool.specs.inside.Rules.{Seated, no_items, one_more, collected}
+use Rattle.frontier_pool.specs.inside.ClaimProtocol.{Seated, no_items, one_more, collected}
 use Rattle.frontier_pool.specs.inside.Gains.{SeatOf}
 use Rattle.frontier_pool.specs.inside.Members.{IsCaller, IsSeat, HasSeat, IsSeated}
 

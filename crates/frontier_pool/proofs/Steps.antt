@@ -10,7 +10,7 @@ use Rattle.std.proofs.lemmas.List.Sums.{sum_by-cons, sum_by-append, sum_by_push}
 use Rattle.atomic_table.specs.Table.{State, Allows, Splits, Joins, step, keeps, opening}
 use Rattle.frontier_pool.specs.declared.rule.ClaimList.{ClaimList}
 use Rattle.frontier_pool.specs.declared.rule.SeatView.{SeatView}
-use Rattle.frontier_pool.specs.inside.Rules.{Keeps, times, times_in, claims, claim_count, made_of, first_view, fresh, nobody, one_more, collected, grown, claimed, Seated, Claims, IsAlone, MakesFinalClaim}
+use Rattle.frontier_pool.specs.inside.ClaimProtocol.{Keeps, times, times_in, claims, claim_count, made_of, first_view, fresh, nobody, one_more, collected, grown, claimed, Seated, Claims, IsAlone, MakesFinalClaim}
 use Rattle.frontier_pool.proofs.Sums.{sum_by-replaced, within-set, zeros_read, times_in-longer, times-itself, times-other, length-longer}
 
 -- the rule of a new table

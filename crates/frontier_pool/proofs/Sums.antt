@@ -4,7 +4,7 @@ use mathlib.Core.Option.{some, some-ne-none, some-injective}
 use lib.ListN.{get_elem?}
 use Rattle.std.proofs.lemmas.List.Sums.{sum_by-cons, sum_by-append}
 use Rattle.frontier_pool.specs.declared.rule.ClaimList.{ClaimList}
-use Rattle.frontier_pool.specs.inside.Rules.{times, times_in, longer}
+use Rattle.frontier_pool.specs.inside.ClaimProtocol.{times, times_in, longer}
 
 -- one summand is replaced
 pub sum_by-replaced : {X : Type 0} (f : X → ℕ) (xs : List X) (i : ℕ) (a b : X) → get_elem? xs i ≡ some a → sum_by f (set xs i b) + f a ≡ sum_by f xs + f b

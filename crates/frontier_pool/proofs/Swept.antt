@@ -10,7 +10,7 @@ use Rattle.frontier_pool.specs.declared.member.Member.{Member}
 use Rattle.frontier_pool.specs.declared.member.Local.{Local}
 use Rattle.frontier_pool.specs.declared.rule.ClaimList.{ClaimList}
 use Rattle.frontier_pool.specs.Sweeps.{followed, Sweeps}
-use Rattle.frontier_pool.specs.inside.Rules.{Seated, times, times_in, no_items, longer}
+use Rattle.frontier_pool.specs.inside.ClaimProtocol.{Seated, times, times_in, no_items, longer}
 use Rattle.frontier_pool.specs.inside.Gains.{SeatOf, Gained}
 use Rattle.frontier_pool.specs.inside.Members.{IsCaller, HasAll, HasSeat, claim_lists_in, claim_lists_of, hands, Worked, HaveWorked}
 use Rattle.frontier_pool.proofs.Counts.{times-append, permutation_of_range}

@@ -1,4 +1,4 @@
 -- what only private clauses and proofs name
-pub mod Rules
+pub mod ClaimProtocol
 pub mod Gains
 pub mod Members

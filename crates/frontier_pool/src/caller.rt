@@ -1,7 +1,7 @@
 //! What the caller of a sweep does before its members work, and after.
 ghost use Rattle.std.specs.Prelude.{◌≡◌, ℕ, ◌+◌, ◌<◌, [], ◌∷◌, length, All, IfOk};
 ghost use Rattle.frontier_pool.specs.Sweeps.{IsIdle};
-ghost use Rattle.frontier_pool.specs.inside.Rules.{no_items, times_in};
+ghost use Rattle.frontier_pool.specs.inside.ClaimProtocol.{no_items, times_in};
 ghost use Rattle.frontier_pool.specs.inside.Gains.{Gained};
 ghost use Rattle.frontier_pool.specs.inside.Members.{IsCaller, HasAddedWorkers, HasAll, IsReady, IsSeated, claim_lists_of, hands};
 

@@ -1,8 +1,10 @@
 //! A sweep, and how many hands a round is worth.
 ghost use Rattle.std.specs.Prelude.{◌≡◌, ◌+◌, ◌/◌, ◌<◌, ◌≤◌, [], ◌∷◌, length, map, min, max, All, OnOk, OnErr};
 ghost use Rattle.frontier_pool.specs.Sweeps.{Sweeps, IsIdle};
-ghost use Rattle.frontier_pool.specs.inside.Rules.{no_items};
+ghost use Rattle.frontier_pool.specs.inside.ClaimProtocol.{no_items};
 ghost use Rattle.frontier_pool.specs.inside.Members.{IsCaller, IsReady, Worked, HaveWorked, hands};
+ghost use Rattle.frontier_pool.specs.declared.pool.TheConstants.{STEPS_PER_HAND};
+ghost use Rattle.base.specs.declared.limits.TheConstants.{WORKERS_LIMIT};
 
 use crate::caller::{equip, forget_locals, join_seats, open};
 use crate::gate::Gate;
@@ -17,21 +19,21 @@ use std::thread;
 use std::thread::Threads;
 
 /// Fewer steps a hand aren't worth a thread.
-const STEPS_A_HAND: u64 = 10_000;
+pub const STEPS_PER_HAND: u64 = 10_000;
 
 /// How many hands a round is worth whose items take about so many short steps in all: in round 0 as many as there are
 /// items, and later one for each 10,000 steps, but no more than there are items.
 ///
 /// A further hand takes some 20 microseconds, and each item of a shared round a fraction of one. Most rounds are short and
 /// come by the thousand, so threads in each would take longer than all steps. Round 0 comes once.
-pub fn hands_for(sweep_context: u32, items: u32, steps: u64, workers: u32) -> u32
-    ensures first { sweep_context ≡ 0 → result ≡ max 1 (min workers items) }
-    ensures later { 0 < sweep_context → result ≡ max 1 (min workers (min items (steps / 10000))) }
+pub fn hands_for(round: u32, items: u32, steps: u64, workers: u32) -> u32
+    ensures first { round ≡ 0 → result ≡ max 1 (min workers items) }
+    ensures later { 0 < round → result ≡ max 1 (min workers (min items (steps / STEPS_PER_HAND))) }
 {
-    let worth = if sweep_context == 0 {
+    let worth = if round == 0 {
         items
     } else {
-        u64::from(items).min(steps / STEPS_A_HAND) as u32
+        u64::from(items).min(steps / STEPS_PER_HAND) as u32
     };
     workers.min(worth).max(1)
 }
@@ -49,7 +51,7 @@ pub fn sweep<R: Threads + Sync, T: Toil, G: Gate>(
     items: u32,
     gate: &G,
 )
-    requires members { (0 < length members.old) × (length members.old ≤ 64) }
+    requires members { (0 < length members.old) × (length members.old ≤ WORKERS_LIMIT) }
     requires sound { All (λ m. T.sound job.now m.hand) members.old }
     requires items { items ≤ T.count job.now }
     ensures swept { Sweeps (map (λ m. T.done m.hand) members.old) (map (λ m. T.done m.hand) members.new) items }
@@ -88,7 +90,7 @@ fn run_in_batches<R: Threads + Sync, T: Toil, G: Gate>(
     items: u32,
     gate: &G,
 ) -> Result<(), AllocError>
-    requires members { (0 < length members.old) × (length members.old ≤ 64) }
+    requires members { (0 < length members.old) × (length members.old ≤ WORKERS_LIMIT) }
     requires some { 0 < items }
     requires sound { All (λ m. T.sound job.now m.hand) members.old }
     requires items { items ≤ T.count job.now }
@@ -120,7 +122,7 @@ fn hold_sweep_context<R: Threads + Sync, T: Toil, G: Gate>(
     caller: &mut Seat<(), SeatView>,
     members: &mut [Member<T::Hand>],
 )
-    requires count { (length members.old ≡ sweep_context.now.members) × (length members.old ≤ 64) }
+    requires count { (length members.old ≡ sweep_context.now.members) × (length members.old ≤ WORKERS_LIMIT) }
     requires some { 0 < sweep_context.now.items }
     requires caller { IsCaller sweep_context.now.claimed.now.table_id (1 + length members.old) (no_items ∷ []) caller.old }
     requires ready { All (IsReady sweep_context.now.claimed.now.table_id) members.old }
@@ -141,7 +143,7 @@ fn work_all<R: Threads + Sync, T: Toil, G: Gate>(
     sweep_context: &SweepContext<'_, T, G>,
     members: &mut [Member<T::Hand>],
 )
-    requires count { (length members.old ≡ sweep_context.now.members) × (length members.old ≤ 64) }
+    requires count { (length members.old ≡ sweep_context.now.members) × (length members.old ≤ WORKERS_LIMIT) }
     requires ready { All (IsReady sweep_context.now.claimed.now.table_id) members.old }
     requires sound { All (λ m. T.sound sweep_context.now.job.now m.hand) members.old }
     ensures worked { HaveWorked T.done sweep_context.now.claimed.now.table_id sweep_context.now.items members.old members.new }
@@ -154,7 +156,7 @@ fn work_all<R: Threads + Sync, T: Toil, G: Gate>(
         count,
         &|worker: usize, member: &mut Member<T::Hand>|
             requires worker { worker < sweep_context.now.members }
-            requires few { worker < 64 }
+            requires few { worker < WORKERS_LIMIT }
             requires ready { IsReady sweep_context.now.claimed.now.table_id member.now }
             requires sound { T.sound sweep_context.now.job.now member.now.hand }
             ensures worked { Worked T.done sweep_context.entry.now.claimed.now.table_id sweep_context.entry.now.items member.entry.now member.exit.now }

@@ -19,7 +19,7 @@ pub struct SeatView {
 pub struct Once;
 
 impl TableRule<(), SeatView, u32> for Once {
-    ghost use Rattle.frontier_pool.specs.inside.Rules.{Keeps, first_view};
+    ghost use Rattle.frontier_pool.specs.inside.ClaimProtocol.{Keeps, first_view};
 
     ghost holds = { Keeps };
 
@@ -29,7 +29,7 @@ impl TableRule<(), SeatView, u32> for Once {
 pub struct SeatSplit;
 
 impl Split<SeatView> for SeatSplit {
-    ghost use Rattle.frontier_pool.specs.inside.Rules.{one_more, fresh};
+    ghost use Rattle.frontier_pool.specs.inside.ClaimProtocol.{one_more, fresh};
 
     ghost left = { one_more };
 
@@ -39,7 +39,7 @@ impl Split<SeatView> for SeatSplit {
 pub struct SeatJoin;
 
 impl Join<SeatView> for SeatJoin {
-    ghost use Rattle.frontier_pool.specs.inside.Rules.{collected, nobody};
+    ghost use Rattle.frontier_pool.specs.inside.ClaimProtocol.{collected, nobody};
 
     ghost both = { collected };
 
@@ -49,7 +49,7 @@ impl Join<SeatView> for SeatJoin {
 pub struct Claiming;
 
 impl Play<(), SeatView> for Claiming {
-    ghost use Rattle.frontier_pool.specs.inside.Rules.{Claims};
+    ghost use Rattle.frontier_pool.specs.inside.ClaimProtocol.{Claims};
 
     ghost then = { Claims };
 }
@@ -57,7 +57,7 @@ impl Play<(), SeatView> for Claiming {
 pub struct FinalClaim;
 
 impl Play<(), SeatView> for FinalClaim {
-    ghost use Rattle.frontier_pool.specs.inside.Rules.{MakesFinalClaim};
+    ghost use Rattle.frontier_pool.specs.inside.ClaimProtocol.{MakesFinalClaim};
 
     ghost then = { MakesFinalClaim };
 }

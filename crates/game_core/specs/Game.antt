@@ -5,6 +5,7 @@ use Rattle.std.specs.List.{All, Contains}
 use Rattle.std.specs.List.Sorted.{IsStrictlyIncreasing}
 use Rattle.game_core.specs.declared.game.Mark.{Mark}
 use Rattle.game_core.specs.declared.game.Mark.TheVariants.{Plain}
+use Rattle.base.specs.declared.limits.TheConstants.{CELLS_LIMIT, EDGES_LIMIT, PAIRS_LIMIT, VECTORS_LIMIT}
 
 -- One mark for each cell, and one list of successors for each pair, by the pair's number.
 pub record Game : Type 0 where
@@ -48,11 +49,11 @@ pub record IsGame (g : Game) : Type 0 where
 pub record IsGraph (g : Game) : Type 0 where
   pub game : IsGame g
   pub some_cell : 1 ≤ g.cells
-  pub cells_bound : g.cells ≤ 2 ^ 20
+  pub cells_bound : g.cells ≤ CELLS_LIMIT
   pub some_input : 1 ≤ g.inputs
-  pub inputs_bound : g.inputs ≤ 4096
-  pub pairs_bound : pairs_of g ≤ 2 ^ 22
-  pub edges_bound : sum_by length g.successors ≤ 2 ^ 25
+  pub inputs_bound : g.inputs ≤ VECTORS_LIMIT
+  pub pairs_bound : pairs_of g ≤ PAIRS_LIMIT
+  pub edges_bound : sum_by length g.successors ≤ EDGES_LIMIT
 
 -- the same game with other marks
 abbrev pub with_marks : Game → List Mark → Game

@@ -1,5 +1,6 @@
 ghost use Rattle.std.specs.Prelude.{◌≡◌, ◌^◌, ◌<◌, ◌≤◌, None, replicate, length, slice_set, IfOk};
 ghost use Rattle.game_core.specs.Solution.{row_of};
+ghost use Rattle.base.specs.declared.limits.TheConstants.{CELLS_LIMIT};
 
 use crate::game::Row;
 use std::alloc::{AllocError, Global};
@@ -24,18 +25,19 @@ pub struct Answer {
 impl Model for Answer {
     ghost use Rattle.std.specs.Prelude.{List, Option, length, ◌≤◌, ◌^◌};
     ghost use Rattle.game_core.specs.declared.game.Row.{Row};
+    ghost use Rattle.base.specs.declared.limits.TheConstants.{CELLS_LIMIT};
 
     ghost Value = { List (Option Row) };
 
     ghost view = { λ a. a.rows.items };
 
-    ghost invariant = { λ a. length a.rows.items ≤ 2 ^ 20 };
+    ghost invariant = { λ a. length a.rows.items ≤ CELLS_LIMIT };
 }
 
 impl Answer {
     /// No row at any cell.
     pub fn blank(alloc: Global, cells: u32) -> Result<Answer, NoMemory>
-        requires { cells ≤ 2 ^ 20 }
+        requires { cells ≤ CELLS_LIMIT }
         ensures { IfOk result (λ a. a ≡ replicate cells None) }
     {
         let rows = vec![in alloc; None; cells as usize]?;

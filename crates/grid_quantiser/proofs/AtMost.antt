@@ -3,7 +3,7 @@ use Rattle.std.proofs.Common.{ℕ, zero, suc, ◌-◌, ◌<◌, ◌≤◌, arith
 use Rattle.std.specs.Int.Signed.{≤ℤ_refl}
 use Rattle.std.proofs.lemmas.Int.{ints, by_lt_z}
 use Rattle.grid_quantiser.specs.declared.axis.Axis.{Axis}
-use Rattle.grid_quantiser.specs.Boxes.{IsAtMost, IsInBox}
+use Rattle.grid_quantiser.specs.CellBoxes.{IsAtMost, IsInBox}
 use Rattle.grid_quantiser.proofs.Suffixes.{drop_step}
 use Rattle.grid_quantiser.proofs.Domain.{numbers_step}
 

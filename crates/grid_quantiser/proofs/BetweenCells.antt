@@ -9,7 +9,7 @@ use Rattle.std.proofs.lemmas.Nat.{div-add-mod', div-mul-add, mod-mul-add, mod_be
 use Rattle.std.proofs.Math.Nat.{mul_comm, mul-le-mul_right, add-mul, add_assoc}
 use Rattle.grid_quantiser.specs.declared.axis.Axis.{Axis}
 use Rattle.grid_quantiser.specs.Axes.{IsAxis, cells_of}
-use Rattle.grid_quantiser.specs.Boxes.{IsCellBox, cells_between}
+use Rattle.grid_quantiser.specs.CellBoxes.{IsCellBox, cells_between}
 use Rattle.grid_quantiser.proofs.General.{mod-mod, blocks, length-blocks, get_or-blocks}
 use Rattle.grid_quantiser.proofs.Suffixes.{next_axis, some_cells, drop_step, index_step, later_step}
 use Rattle.grid_quantiser.proofs.BoxCells.{between_some, between_below}

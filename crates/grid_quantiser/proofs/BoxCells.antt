@@ -6,7 +6,7 @@ use Rattle.std.proofs.lemmas.Nat.{mod_below, div_below, mul-add-lt}
 use Rattle.std.proofs.Math.Nat.{mul-pos, mul_comm, mul-le-mul, mod-eq_of_lt}
 use Rattle.grid_quantiser.specs.declared.axis.Axis.{Axis}
 use Rattle.grid_quantiser.specs.Axes.{IsAxis, cells_of}
-use Rattle.grid_quantiser.specs.Boxes.{IsCellBox, cells_between}
+use Rattle.grid_quantiser.specs.CellBoxes.{IsCellBox, cells_between}
 use Rattle.grid_quantiser.proofs.General.{div-mod, mod-mod, past_quotient, blocks, length-blocks, get_or-blocks}
 use Rattle.grid_quantiser.proofs.Suffixes.{next_axis, some_cells, drop_step, index_step, later_step}
 

@@ -8,7 +8,7 @@ use Rattle.std.proofs.lemmas.Nat.{div-add-mod', mod_below}
 use Rattle.std.proofs.Math.Nat.{add-mul, mul_comm, div-one, mod-eq_of_lt}
 use Rattle.grid_quantiser.specs.declared.axis.Axis.{Axis}
 use Rattle.grid_quantiser.specs.Axes.{IsAxis, no_axis, cells_of}
-use Rattle.grid_quantiser.specs.Boxes.{IsCellBox, cells_between}
+use Rattle.grid_quantiser.specs.CellBoxes.{IsCellBox, cells_between}
 use Rattle.grid_quantiser.specs.inside.SegmentFields.{segments_from}
 use Rattle.grid_quantiser.proofs.General.{mod-mod, all_right, difference_parts, quotients_ordered, blocks}
 use Rattle.grid_quantiser.proofs.BoxCells.{between_below}

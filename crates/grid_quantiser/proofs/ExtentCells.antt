@@ -10,7 +10,7 @@ use Rattle.grid_quantiser.specs.declared.boxes.CellBox.{CellBox}
 use Rattle.grid_quantiser.specs.declared.extents.Extent.{Extent}
 use Rattle.grid_quantiser.specs.Axes.{IsAxis, cells_of, no_axis}
 use Rattle.grid_quantiser.specs.Cells.{IsInDomain, index_of, cell_of}
-use Rattle.grid_quantiser.specs.Boxes.{IsAtMost, IsBoxInDomain, AreCornersMeeting}
+use Rattle.grid_quantiser.specs.CellBoxes.{IsAtMost, IsBoxInDomain, AreCornersMeeting}
 use Rattle.grid_quantiser.specs.Extents.{IsOnAxis, IsExtentOf, AreExtentsOf}
 use Rattle.grid_quantiser.specs.ExtentBoxes.{one_cell, with_extent, IsBoxMeeting}
 use Rattle.grid_quantiser.proofs.Suffixes.{some_cells}

@@ -12,7 +12,7 @@ use Rattle.grid_quantiser.specs.declared.axis.Overlap.TheVariants.{Partial, Whol
 use Rattle.grid_quantiser.specs.declared.boxes.CellBox.{CellBox}
 use Rattle.grid_quantiser.specs.Axes.{IsAxis, no_axis, cells_of}
 use Rattle.grid_quantiser.specs.Cells.{low_of, high_of}
-use Rattle.grid_quantiser.specs.Boxes.{IsAtMost, Touches, LiesInside, IsCellBox, cells_between, IsBoxWith}
+use Rattle.grid_quantiser.specs.CellBoxes.{IsAtMost, Touches, LiesInside, IsCellBox, cells_between, IsBoxWith}
 use Rattle.grid_quantiser.specs.inside.Overlaps.{HasOverlapIn, AreIndicesIn, HasOverlap}
 use Rattle.grid_quantiser.proofs.Suffixes.{next_axis, some_cells, drop_step}
 use Rattle.grid_quantiser.proofs.Domain.{numbers_step, cell_below}

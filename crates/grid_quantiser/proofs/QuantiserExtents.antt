@@ -8,7 +8,7 @@ use Rattle.grid_quantiser.specs.declared.axis.Axis.{Axis}
 use Rattle.grid_quantiser.specs.Axes.{end_of}
 use Rattle.grid_quantiser.specs.Cells.{index_of}
 use Rattle.grid_quantiser.specs.Extents.{IsOnAxis, IsExtentOf}
-use Rattle.fixed_divisor.specs.Narrow.{IsNarrow}
+use Rattle.base.specs.Narrow.{IsNarrow}
 use Rattle.grid_quantiser.specs.inside.AxisQuantisers.{axis_between, HasEnds}
 
 -- ---- numbers and tests, as they are kept

@@ -9,7 +9,7 @@ use Rattle.std.proofs.Math.Seq.{drop-length}
 use Rattle.grid_quantiser.specs.declared.axis.Axis.{Axis}
 use Rattle.grid_quantiser.specs.declared.segments.Wheel.{Wheel}
 use Rattle.grid_quantiser.specs.Axes.{IsAxis, AreAxes, no_axis, cells_of}
-use Rattle.grid_quantiser.specs.Boxes.{IsCellBox, cells_between}
+use Rattle.grid_quantiser.specs.CellBoxes.{IsCellBox, cells_between}
 use Rattle.grid_quantiser.specs.inside.SegmentFields.{stepped, whole_turn, starts_left, segments_from, AreWheels, AreSegments}
 use Rattle.grid_quantiser.proofs.General.{blocks, turns_of_turns, one_each, difference_parts, quotients_ordered, div-div}
 use Rattle.grid_quantiser.proofs.BoxCells.{part_between, corners_below, box_whole, IsCellBox-drop, box_next, indices_ordered, length_step, nth_step}

@@ -2,6 +2,7 @@
 use Rattle.std.specs.Prelude.{ℕ, ◌*◌, ◌^◌, ◌≤◌, ℤ, pos, neg_ℤ, ◌+ℤ◌, ◌*ℤ◌, ◌<ℤ◌, ◌≤ℤ◌, List, [], ◌∷◌, length}
 use Rattle.std.specs.List.{All}
 use Rattle.grid_quantiser.specs.declared.axis.Axis.{Axis}
+use Rattle.base.specs.declared.limits.TheConstants.{NUMBER_LIMIT, STATES_LIMIT}
 
 -- the least number past an axis
 abbrev pub end_of : Axis → ℤ
@@ -11,8 +12,8 @@ end_of a = a.lo +ℤ (a.width *ℤ pos a.count)
 pub record IsAxis (a : Axis) : Type 0 where
   pub some_width : pos 1 ≤ℤ a.width
   pub some_cell : 1 ≤ a.count
-  pub low_bound : neg_ℤ (pos (10 ^ 18)) <ℤ a.lo
-  pub high_bound : end_of a ≤ℤ pos (10 ^ 18)
+  pub low_bound : neg_ℤ (pos NUMBER_LIMIT) <ℤ a.lo
+  pub high_bound : end_of a ≤ℤ pos NUMBER_LIMIT
 
 -- what stands where there is no axis
 abbrev pub no_axis : Axis
@@ -26,5 +27,5 @@ cells_of (a ∷ axes) = a.count * cells_of axes
 -- A grid has one axis for each of 1 to 6 states.
 pub record AreAxes (axes : List Axis) : Type 0 where
   pub some_state : 1 ≤ length axes
-  pub states_bound : length axes ≤ 6
+  pub states_bound : length axes ≤ STATES_LIMIT
   pub each : All IsAxis axes

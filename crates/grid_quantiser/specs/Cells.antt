@@ -2,6 +2,7 @@
 use Rattle.std.specs.Prelude.{◌≡◌, ℕ, ◌+◌, ◌-◌, ◌*◌, ◌/◌, ◌%◌, ℤ, pos, nat_abs, ◌+ℤ◌, ◌-ℤ◌, ◌*ℤ◌, ◌<ℤ◌, ◌≤ℤ◌, List, [], ◌∷◌, ◌++◌, length, replicate}
 use Rattle.grid_quantiser.specs.declared.axis.Axis.{Axis}
 use Rattle.grid_quantiser.specs.Axes.{end_of, cells_of}
+use Rattle.base.specs.declared.limits.TheConstants.{STATES_LIMIT}
 
 -- a state lies in the domain: in each index from the least number of the axis to its greatest
 abbrev pub IsInDomain : List Axis → List ℤ → Type 0
@@ -46,4 +47,4 @@ high_of (a ∷ axes) c =
 
 -- six numbers, 0 past the given ones
 abbrev pub point_of : List ℤ → List ℤ
-point_of xs = xs ++ replicate (6 - length xs) (pos 0)
+point_of xs = xs ++ replicate (STATES_LIMIT - length xs) (pos 0)

@@ -3,7 +3,7 @@ use Rattle.std.specs.Prelude.{◌+◌, ◌*◌, ◌↔◌, ℤ, List, Option, No
 use Rattle.grid_quantiser.specs.declared.axis.Axis.{Axis}
 use Rattle.grid_quantiser.specs.declared.boxes.CellBox.{CellBox}
 use Rattle.grid_quantiser.specs.declared.extents.Extent.{Extent}
-use Rattle.grid_quantiser.specs.Boxes.{IsBoxInDomain, AreCornersMeeting}
+use Rattle.grid_quantiser.specs.CellBoxes.{IsBoxInDomain, AreCornersMeeting}
 
 -- the box on no axis: the one cell
 abbrev pub one_cell : Option CellBox

@@ -4,7 +4,7 @@ use Rattle.grid_quantiser.specs.declared.axis.Axis.{Axis}
 use Rattle.grid_quantiser.specs.declared.extents.Extent.{Extent}
 use Rattle.grid_quantiser.specs.Axes.{end_of, no_axis}
 use Rattle.grid_quantiser.specs.Cells.{index_of}
-use Rattle.grid_quantiser.specs.Boxes.{IsAtMost}
+use Rattle.grid_quantiser.specs.CellBoxes.{IsAtMost}
 
 -- a number is one of an axis
 abbrev pub IsOnAxis : Axis → ℤ → Type 0

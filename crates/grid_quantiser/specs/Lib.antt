@@ -1,7 +1,7 @@
 pub mod Axes
 pub mod Cells
 pub mod Indices
-pub mod Boxes
+pub mod CellBoxes
 pub mod Segments
 pub mod Extents
 pub mod ExtentBoxes

@@ -1,8 +1,8 @@
 ghost use Rattle.std.specs.Prelude.{◌≡◌, ◌<◌, ◌≤◌, ◌↔◌, length, slice_index, IsTrue, IsSome, IfSome};
 ghost use Rattle.std.specs.List.{Contains};
-ghost use Rattle.grid_quantiser.specs.declared.grid.TheConstants.{STATES_LIMIT};
+ghost use Rattle.base.specs.declared.limits.TheConstants.{STATES_LIMIT};
 ghost use Rattle.grid_quantiser.specs.Axes.{cells_of};
-ghost use Rattle.grid_quantiser.specs.Boxes.{IsAtMost, IsBoxInDomain, Touches, LiesInside, AreCornersMeeting, IsCellBox, cells_between};
+ghost use Rattle.grid_quantiser.specs.CellBoxes.{IsAtMost, IsBoxInDomain, Touches, LiesInside, AreCornersMeeting, IsCellBox, cells_between};
 
 use crate::axis::Axis;
 use crate::cells::cell_in;

@@ -2,9 +2,11 @@ ghost use Rattle.std.specs.Prelude.{◌≡◌, ◌^◌, ◌<◌, ◌≤◌, ◌�
 ghost use Rattle.grid_quantiser.specs.Axes.{cells_of, AreAxes};
 ghost use Rattle.grid_quantiser.specs.Cells.{IsInDomain, cell_of, low_of, centre_of, high_of, point_of};
 ghost use Rattle.grid_quantiser.specs.inside.Spots.{numbers_of};
+ghost use Rattle.base.specs.declared.limits.TheConstants.{CELLS_LIMIT};
 
 use crate::axis::{Axis, CellPoint};
-use crate::grid::{Grid, Point, STATES_LIMIT};
+use crate::grid::{Grid, Point};
+use base::limits::STATES_LIMIT;
 
 impl Grid {
     /// The cell of a state: the static quantiser of an abstraction by cells (Reissig, Weber and
@@ -65,7 +67,7 @@ impl Grid {
 /// The cell of a state in the grid of the axes.
 pub(crate) fn cell_in(axes: &[Axis], x: &Point) -> Option<u32>
     requires axes { AreAxes axes.now }
-    requires limit { cells_of axes.now ≤ 2 ^ 20 }
+    requires limit { cells_of axes.now ≤ CELLS_LIMIT }
     ensures inside { IsSome result ↔ IsInDomain axes.now x.now }
     ensures cell { IfSome result (λ c. c ≡ cell_of axes.now x.now) }
     ensures below { IfSome result (λ c. c < cells_of axes.now) }

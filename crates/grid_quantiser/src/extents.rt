@@ -1,12 +1,13 @@
 ghost use Rattle.std.specs.Prelude.{◌≡◌, ◌<◌, ◌≤◌, ◌↔◌, ℕ, ℤ, ◌≤ℤ◌, List, length, slice_index, slice_index_or, IsSome, IfSome};
 ghost use Rattle.grid_quantiser.specs.Axes.{no_axis};
-ghost use Rattle.grid_quantiser.specs.Boxes.{IsBoxInDomain, AreCornersMeeting};
+ghost use Rattle.grid_quantiser.specs.CellBoxes.{IsBoxInDomain, AreCornersMeeting};
 ghost use Rattle.grid_quantiser.specs.Indices.{index_along};
 ghost use Rattle.grid_quantiser.specs.Extents.{IsExtentOf, extended, IsExtentBefore, AreExtentsOf};
 
 use crate::boxes::CellBox;
-use crate::grid::{Grid, STATES_LIMIT};
+use crate::grid::Grid;
 use crate::quantiser::AxisQuantiser;
+use base::limits::STATES_LIMIT;
 
 /// Indices of an axis, from the first to the last.
 #[derive(Clone, Copy, PartialEq, Eq)]

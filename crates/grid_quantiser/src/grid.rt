@@ -1,12 +1,11 @@
 ghost use Rattle.std.specs.Prelude.{◌≡◌, ◌*◌, ◌^◌, ◌<◌, ◌≤◌, ◌↔◌, length, IfOk, IsErr, slice_index_or};
 ghost use Rattle.grid_quantiser.specs.Axes.{no_axis, cells_of, AreAxes};
 ghost use Rattle.grid_quantiser.specs.Cells.{radius_of};
+ghost use Rattle.base.specs.declared.limits.TheConstants.{CELLS_LIMIT};
 
 use crate::axis::{Axis, NO_AXIS};
+use base::limits::{CELLS_LIMIT, STATES_LIMIT};
 use std::marker::Model;
-
-/// The most states of a grid.
-pub const STATES_LIMIT: usize = 6;
 
 /// The numbers of a state, one for each axis of the grid. The indices past the last axis are 0 in
 /// an answer, and are not looked at in what a call is given.
@@ -43,15 +42,12 @@ impl Model for Grid {
     ghost inverse_ok = { λ g kept. restored g kept };
 }
 
-/// The most cells that a grid has.
-const CELLS_LIMIT: u64 = 1 << 20;
-
 impl Grid {
     /// The grid of the axes, one for each state.
     pub fn new(axes: &[Axis]) -> Result<Grid, TooManyCells>
         requires { AreAxes axes.now }
         ensures ok { IfOk result (λ grid. grid ≡ axes.now) }
-        ensures refused { IsErr result ↔ (2 ^ 20 < cells_of axes.now) }
+        ensures refused { IsErr result ↔ (CELLS_LIMIT < cells_of axes.now) }
     {
         let cells = cell_count(axes)?;
         let mut six = [NO_AXIS; STATES_LIMIT];
@@ -77,7 +73,7 @@ impl Grid {
     pub fn cells(&self) -> u32
         ensures count { result ≡ cells_of self.now }
         ensures some { 1 ≤ cells_of self.now }
-        ensures limit { cells_of self.now ≤ 2 ^ 20 }
+        ensures limit { cells_of self.now ≤ CELLS_LIMIT }
     {
         self.cells
     }
@@ -95,7 +91,7 @@ impl Grid {
     pub(crate) fn axes(&self) -> &[Axis]
         ensures same { result.now ≡ self.now }
         ensures axes { AreAxes result.now }
-        ensures limit { cells_of result.now ≤ 2 ^ 20 }
+        ensures limit { cells_of result.now ≤ CELLS_LIMIT }
     {
         &self.axes[..self.states as usize]
     }
@@ -105,7 +101,7 @@ impl Grid {
 fn cell_count(axes: &[Axis]) -> Result<u32, TooManyCells>
     requires { AreAxes axes.now }
     ensures ok { IfOk result (λ cells. cells ≡ cells_of axes.now) }
-    ensures refused { IsErr result ↔ (2 ^ 20 < cells_of axes.now) }
+    ensures refused { IsErr result ↔ (CELLS_LIMIT < cells_of axes.now) }
 {
     let mut cells: u64 = 1;
     for i in (0..axes.len()).rev() {

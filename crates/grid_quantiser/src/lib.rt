@@ -18,6 +18,6 @@ mod segments;
 pub use axis::{Axis, NO_AXIS};
 pub use boxes::CellBox;
 pub use extents::Extent;
-pub use grid::{Grid, Point, STATES_LIMIT, TooManyCells};
+pub use grid::{Grid, Point, TooManyCells};
 pub use quantiser::AxisQuantiser;
 pub use segments::Segments;

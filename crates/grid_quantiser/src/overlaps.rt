@@ -1,7 +1,8 @@
 ghost use Rattle.std.specs.Prelude.{◌<◌, ◌^◌, ◌≤◌};
 ghost use Rattle.grid_quantiser.specs.Axes.{cells_of, AreAxes};
-ghost use Rattle.grid_quantiser.specs.Boxes.{Touches, LiesInside, IsBoxWith};
+ghost use Rattle.grid_quantiser.specs.CellBoxes.{Touches, LiesInside, IsBoxWith};
 ghost use Rattle.grid_quantiser.specs.inside.Overlaps.{HasOverlap};
+ghost use Rattle.base.specs.declared.limits.TheConstants.{CELLS_LIMIT};
 
 use crate::axis::{Axis, Overlap};
 use crate::boxes::CellBox;
@@ -27,7 +28,7 @@ impl Grid {
 /// The cells whose index along each axis has such an overlap in the box from `lo` to `hi`.
 fn cells_with(axes: &[Axis], lo: &Point, hi: &Point, overlap: Overlap) -> Option<CellBox>
     requires axes { AreAxes axes.now }
-    requires limit { cells_of axes.now ≤ 2 ^ 20 }
+    requires limit { cells_of axes.now ≤ CELLS_LIMIT }
     ensures { IsBoxWith axes.now (λ c. (c < cells_of axes.now) × HasOverlap overlap axes.now lo.now hi.now c) result }
 {
     let mut first: u64 = 0;

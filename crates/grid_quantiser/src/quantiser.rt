@@ -2,10 +2,10 @@
 ghost use Rattle.std.specs.Prelude.{◌≡◌, ◌<◌, pos, ◌+ℤ◌, ◌-ℤ◌, ◌≤ℤ◌, SomeIff};
 ghost use Rattle.grid_quantiser.specs.Cells.{index_of};
 ghost use Rattle.grid_quantiser.specs.Extents.{IsOnAxis, IsExtentOf};
-ghost use Rattle.fixed_divisor.specs.Narrow.{IsNarrow};
+ghost use Rattle.base.specs.Narrow.{IsNarrow};
 
 use crate::extents::Extent;
-use fixed_divisor::Divisor;
+use base::Divisor;
 use std::marker::Model;
 
 /// An axis on which the indices of many numbers are found, each without a division. Seen as the axis.

@@ -1,10 +1,11 @@
 ghost use Rattle.std.specs.Prelude.{◌≡◌, ◌/◌, ◌%◌, ◌^◌, ◌<◌, [], IfSome, IfNone};
-ghost use Rattle.grid_quantiser.specs.Boxes.{IsCellBox, cells_between};
+ghost use Rattle.grid_quantiser.specs.CellBoxes.{IsCellBox, cells_between};
 ghost use Rattle.grid_quantiser.specs.Segments.{BeginsWithSegment};
 ghost use Rattle.grid_quantiser.specs.inside.SegmentFields.{AreWheels, next_start, turned};
 
 use crate::boxes::CellBox;
-use crate::grid::{Grid, STATES_LIMIT};
+use crate::grid::Grid;
+use base::limits::STATES_LIMIT;
 use std::marker::Model;
 
 /// A state of an odometer over a box: how far apart its indices are, how many steps there are from

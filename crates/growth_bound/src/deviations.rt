@@ -50,16 +50,16 @@ fn bounds(e: &Expr, area: &[Interval], radii: &[i128]) -> Option<Bounds>
         (bounds_of (expression_of e.now) area.now radii.now) }
 {
     match e {
-        Expr::Num(k) => Bounds::number(*k),
-        Expr::Var(i) => Bounds::variable(area[*i as usize], radii[*i as usize]),
-        Expr::Neg(a) => bounds(a, area, radii)?.negation(),
-        Expr::Add(a, b) => bounds(a, area, radii)?.sum(bounds(b, area, radii)?),
-        Expr::Sub(a, b) => bounds(a, area, radii)?.difference(bounds(b, area, radii)?),
-        Expr::Mul(a, b) => bounds(a, area, radii)?.product(bounds(b, area, radii)?),
-        Expr::Div(a, k) => bounds(a, area, radii)?.quotient(*k),
-        Expr::Min(a, b) => bounds(a, area, radii)?.minimum(bounds(b, area, radii)?),
-        Expr::Max(a, b) => bounds(a, area, radii)?.maximum(bounds(b, area, radii)?),
-        Expr::Abs(a) => bounds(a, area, radii)?.absolute(),
-        Expr::Lut(a, curve) => bounds(a, area, radii)?.lookup(curve),
+        Expr::Num(k) => Bounds::num_bounds(*k),
+        Expr::Var(i) => Bounds::var_bounds(area[*i as usize], radii[*i as usize]),
+        Expr::Neg(a) => bounds(a, area, radii)?.neg_bounds(),
+        Expr::Add(a, b) => bounds(a, area, radii)?.add_bounds(bounds(b, area, radii)?),
+        Expr::Sub(a, b) => bounds(a, area, radii)?.sub_bounds(bounds(b, area, radii)?),
+        Expr::Mul(a, b) => bounds(a, area, radii)?.mul_bounds(bounds(b, area, radii)?),
+        Expr::Div(a, k) => bounds(a, area, radii)?.div_bounds(*k),
+        Expr::Min(a, b) => bounds(a, area, radii)?.min_bounds(bounds(b, area, radii)?),
+        Expr::Max(a, b) => bounds(a, area, radii)?.max_bounds(bounds(b, area, radii)?),
+        Expr::Abs(a) => bounds(a, area, radii)?.abs_bounds(),
+        Expr::Lut(a, curve) => bounds(a, area, radii)?.lut_bounds(curve),
     }
 }

@@ -2,7 +2,7 @@
 use Rattle.std.specs.Prelude.{◌*ℤ◌}
 use Rattle.fixed_expr.specs.Range.{IsInRange}
 use Rattle.interval_eval.specs.declared.interval.Interval.{Interval}
-use Rattle.interval_eval.specs.Span.{EndsFit, product_of}
+use Rattle.interval_eval.specs.Span.{EndsFit, mul_span}
 use Rattle.interval_eval.proofs.Integers.{least, greatest, all_between}
 use Rattle.interval_eval.proofs.Ranging.{between}
 
@@ -13,7 +13,7 @@ pub record CornersFit (a b : Interval) : Type 0 where
   pub third : IsInRange (a.hi *ℤ b.lo)
   pub fourth : IsInRange (a.hi *ℤ b.hi)
 
-pub corners_fit : (a b : Interval) → EndsFit (product_of a b) → CornersFit a b
+pub corners_fit : (a b : Interval) → EndsFit (mul_span a b) → CornersFit a b
 corners_fit a b fits =
     let p = a.lo *ℤ b.lo in
     let q = a.lo *ℤ b.hi in

@@ -6,7 +6,7 @@ use Rattle.fixed_expr.specs.Expression.{Expression, NumExpr, VarExpr, NegExpr, A
 use Rattle.fixed_expr.specs.Mentions.{mentions}
 use Rattle.fixed_expr.specs.inside.Alike.{AreSameIn}
 use Rattle.interval_eval.specs.declared.interval.Interval.{Interval}
-use Rattle.interval_eval.specs.Span.{negation_of, sum_of, difference_of, product_of, quotient_of, minimum_of, maximum_of, absolute_of, lookup_of, span_of}
+use Rattle.interval_eval.specs.Span.{neg_span, add_span, sub_span, mul_span, div_span, min_span, max_span, abs_span, lut_span, span_of}
 
 abbrev no_range : Interval
 no_range = record { lo = pos 0; hi = pos 0 }
@@ -24,12 +24,12 @@ module _ (area other : List Interval) where
   pub agree : (e : Expression) → Agree e
   agree (NumExpr k) same = refl
   agree (VarExpr j) same = same j (eq-eqb j j refl)
-  agree (NegExpr a) same = ap negation_of (agree a same)
-  agree (AddExpr a b) same = both sum_of a b (agree a) (agree b) same
-  agree (SubExpr a b) same = both difference_of a b (agree a) (agree b) same
-  agree (MulExpr a b) same = both product_of a b (agree a) (agree b) same
-  agree (DivExpr a k) same = ap (λ (i : Interval). quotient_of i k) (agree a same)
-  agree (MinExpr a b) same = both minimum_of a b (agree a) (agree b) same
-  agree (MaxExpr a b) same = both maximum_of a b (agree a) (agree b) same
-  agree (AbsExpr a) same = ap absolute_of (agree a same)
-  agree (LutExpr a points) same = ap (lookup_of points) (agree a same)
+  agree (NegExpr a) same = ap neg_span (agree a same)
+  agree (AddExpr a b) same = both add_span a b (agree a) (agree b) same
+  agree (SubExpr a b) same = both sub_span a b (agree a) (agree b) same
+  agree (MulExpr a b) same = both mul_span a b (agree a) (agree b) same
+  agree (DivExpr a k) same = ap (λ (i : Interval). div_span i k) (agree a same)
+  agree (MinExpr a b) same = both min_span a b (agree a) (agree b) same
+  agree (MaxExpr a b) same = both max_span a b (agree a) (agree b) same
+  agree (AbsExpr a) same = ap abs_span (agree a same)
+  agree (LutExpr a points) same = ap (lut_span points) (agree a same)

@@ -8,7 +8,7 @@ use Rattle.fixed_expr.specs.DivExpr.{floor_div}
 use Rattle.fixed_expr.specs.Expression.{Expression, NumExpr, VarExpr, NegExpr, AddExpr, SubExpr, MulExpr, DivExpr, MinExpr, MaxExpr, AbsExpr, LutExpr}
 use Rattle.fixed_expr.specs.Value.{IsWellFormed, value_of}
 use Rattle.interval_eval.specs.declared.interval.Interval.{Interval}
-use Rattle.interval_eval.specs.Span.{IsInterval, IsIn, AreIn, SpanStaysInRange, negation_of, sum_of, difference_of, product_of, quotient_of, minimum_of, maximum_of, absolute_of, span_of}
+use Rattle.interval_eval.specs.Span.{IsInterval, IsIn, AreIn, SpanStaysInRange, neg_span, add_span, sub_span, mul_span, div_span, min_span, max_span, abs_span, span_of}
 use Rattle.interval_eval.proofs.Lookups.{in_lookup}
 use Rattle.fixed_expr.proofs.Laws.{floors_in_order}
 use Rattle.interval_eval.proofs.Integers.{multiple_between, product_between}
@@ -20,26 +20,26 @@ in_variable (a ∷ area) [] i d z below h = absurd h
 in_variable (a ∷ area) (x ∷ values) zero d z below h = h.0
 in_variable (a ∷ area) (x ∷ values) (suc i) d z below h = in_variable area values i d z (omega arith) h.1
 
-in_negation : (a : Interval) (x : ℤ) → IsIn a x → IsIn (negation_of a) (neg_ℤ x)
+in_negation : (a : Interval) (x : ℤ) → IsIn a x → IsIn (neg_span a) (neg_ℤ x)
 in_negation a x h = (omega (arith, ints), omega (arith, ints))
 
-in_sum : (a b : Interval) (x y : ℤ) → IsIn a x → IsIn b y → IsIn (sum_of a b) (x +ℤ y)
+in_sum : (a b : Interval) (x y : ℤ) → IsIn a x → IsIn b y → IsIn (add_span a b) (x +ℤ y)
 in_sum a b x y h k = (omega (arith, ints), omega (arith, ints))
 
-in_difference : (a b : Interval) (x y : ℤ) → IsIn a x → IsIn b y → IsIn (difference_of a b) (x -ℤ y)
+in_difference : (a b : Interval) (x y : ℤ) → IsIn a x → IsIn b y → IsIn (sub_span a b) (x -ℤ y)
 in_difference a b x y h k = (omega (arith, ints), omega (arith, ints))
 
-in_minimum : (a b : Interval) (x y : ℤ) → IsIn a x → IsIn b y → IsIn (minimum_of a b) (int_min x y)
+in_minimum : (a b : Interval) (x y : ℤ) → IsIn a x → IsIn b y → IsIn (min_span a b) (int_min x y)
 in_minimum a b x y h k = (omega (arith, ints, clamps), omega (arith, ints, clamps))
 
-in_maximum : (a b : Interval) (x y : ℤ) → IsIn a x → IsIn b y → IsIn (maximum_of a b) (int_max x y)
+in_maximum : (a b : Interval) (x y : ℤ) → IsIn a x → IsIn b y → IsIn (max_span a b) (int_max x y)
 in_maximum a b x y h k = (omega (arith, ints, clamps), omega (arith, ints, clamps))
 
-in_quotient : (a : Interval) (k x : ℤ) → pos 1 ≤ℤ k → IsIn a x → IsIn (quotient_of a k) (floor_div x k)
+in_quotient : (a : Interval) (k x : ℤ) → pos 1 ≤ℤ k → IsIn a x → IsIn (div_span a k) (floor_div x k)
 in_quotient a k x some h = (floors_in_order a.lo x k some h.0, floors_in_order x a.hi k some h.1)
 
 -- x times y lies between x times the ends of b, which lie between products of ends
-pub in_product : (a b : Interval) (x y : ℤ) → IsIn a x → IsIn b y → IsIn (product_of a b) (x *ℤ y)
+pub in_product : (a b : Interval) (x y : ℤ) → IsIn a x → IsIn b y → IsIn (mul_span a b) (x *ℤ y)
 in_product a b x y h k =
     let across = multiple_between x b.lo b.hi y k in
     let low = product_between b.lo a.lo a.hi x h in
@@ -49,7 +49,7 @@ in_product a b x y h k =
     corners : (p q r s low high x : ℤ) → (int_min p r ≤ℤ low) × (low ≤ℤ int_max p r) → (int_min q s ≤ℤ high) × (high ≤ℤ int_max q s) → (int_min low high ≤ℤ x) × (x ≤ℤ int_max low high) → (int_min (int_min p q) (int_min r s) ≤ℤ x) × (x ≤ℤ int_max (int_max p q) (int_max r s))
     corners p q r s low high x l h across = (omega (arith, ints, clamps), omega (arith, ints, clamps))
 
-pub in_absolute : (a : Interval) (x : ℤ) → IsIn a x → IsIn (absolute_of a) (pos (nat_abs x))
+pub in_absolute : (a : Interval) (x : ℤ) → IsIn a x → IsIn (abs_span a) (pos (nat_abs x))
 in_absolute a x h = (by (int_le (pos 0) a.lo) (int_le a.hi (pos 0)) refl refl, omega (arith, ints, clamps))
   where
     by : (s t : Bool) → int_le (pos 0) a.lo ≡ s → int_le a.hi (pos 0) ≡ t → (if s then a.lo else (if t then neg_ℤ a.hi else pos 0)) ≤ℤ pos (nat_abs x)

@@ -9,8 +9,8 @@ use Rattle.std.proofs.lemmas.List.Elements.{All-head, All-tail, All-cons, All-ni
 use Rattle.fixed_expr.specs.Curves.{RiseFrom, IsCurve, value_along, value_from, curve_value}
 use Rattle.fixed_expr.proofs.Laws.{between_ends, at_left, at_right, on_piece, after_piece, before_first}
 use Rattle.interval_eval.specs.declared.interval.Interval.{Interval}
-use Rattle.interval_eval.specs.Span.{IsInterval, IsIn, is_in, values_within, lookup_of}
-use Rattle.interval_eval.specs.Parts.{IsPartOf}
+use Rattle.interval_eval.specs.Span.{IsInterval, IsIn, is_in, values_within, lut_span}
+use Rattle.interval_eval.specs.NestedAreas.{IsPartOf}
 
 -- an interval holds the value of each point in a range
 abbrev pub Covers : Interval → Interval → List (ℤ × ℤ) → Type 0
@@ -121,13 +121,13 @@ fold_max_in s y (z ∷ ys) here each =
 
 -- What the span of a curve over a range holds.
 record Holds (points : List (ℤ × ℤ)) (a : Interval) : Type 0 where
-  pub low : IsIn (lookup_of points a) (curve_value points a.lo)
-  pub high : IsIn (lookup_of points a) (curve_value points a.hi)
-  pub each : Covers a (lookup_of points a) points
+  pub low : IsIn (lut_span points a) (curve_value points a.lo)
+  pub high : IsIn (lut_span points a) (curve_value points a.hi)
+  pub each : Covers a (lut_span points a) points
 
 holds : (points : List (ℤ × ℤ)) (a : Interval) → Holds points a
 holds points a =
-    let s = lookup_of points a in
+    let s = lut_span points a in
     let ys : List ℤ = curve_value points a.hi ∷ values_within points a in
     let least = fold-int_min_bounds (curve_value points a.lo) ys s.lo refl in
     let most = fold-int_max_bounds (curve_value points a.lo) ys s.hi refl in
@@ -138,18 +138,18 @@ holds points a =
       each = covers_from a s points (All-tail (IsIn s) (curve_value points a.hi) (values_within points a) all);
     }
 
-pub in_lookup : (points : List (ℤ × ℤ)) (a : Interval) (x : ℤ) → IsCurve points → IsIn a x → IsIn (lookup_of points a) (curve_value points x)
+pub in_lookup : (points : List (ℤ × ℤ)) (a : Interval) (x : ℤ) → IsCurve points → IsIn a x → IsIn (lut_span points a) (curve_value points x)
 in_lookup [] a x curve inside = absurd (none curve.some)
   where
     none : 2 ≤ length {A = ℤ × ℤ} [] → ⊥
     none some = omega (arith, some)
 in_lookup (p ∷ points) a x curve inside =
     let h = holds (p ∷ points) a in
-    value_in points p a (lookup_of (p ∷ points) a) x curve.rising inside h.low h.high h.each
+    value_in points p a (lut_span (p ∷ points) a) x curve.rising inside h.low h.high h.each
 
-pub part_lookup : (points : List (ℤ × ℤ)) (a c : Interval) → IsCurve points → IsInterval a → IsPartOf a c → IsPartOf (lookup_of points a) (lookup_of points c)
+pub part_lookup : (points : List (ℤ × ℤ)) (a c : Interval) → IsCurve points → IsInterval a → IsPartOf a c → IsPartOf (lut_span points a) (lut_span points c)
 part_lookup points a c curve order part =
-    let s = lookup_of points c in
+    let s = lut_span points c in
     let low = in_lookup points c a.lo curve (part.0, omega (arith, ints, order, part.1)) in
     let high = in_lookup points c a.hi curve (omega (arith, ints, order, part.0), part.1) in
     let each = All-cons (IsIn s) (curve_value points a.hi) (values_within points a) high (all_from a s points (narrower a c s points part (holds points c).each)) in

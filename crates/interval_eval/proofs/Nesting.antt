@@ -6,8 +6,8 @@ use Rattle.std.proofs.lemmas.Int.{ints, clamps}
 use Rattle.fixed_expr.specs.Expression.{Expression, NumExpr, VarExpr, NegExpr, AddExpr, SubExpr, MulExpr, DivExpr, MinExpr, MaxExpr, AbsExpr, LutExpr}
 use Rattle.fixed_expr.specs.Value.{IsWellFormed}
 use Rattle.interval_eval.specs.declared.interval.Interval.{Interval}
-use Rattle.interval_eval.specs.Span.{IsInterval, IsIn, EndsFit, SpanStaysInRange, negation_of, sum_of, difference_of, product_of, quotient_of, minimum_of, maximum_of, absolute_of, span_of}
-use Rattle.interval_eval.specs.Parts.{IsPartOf, ArePartsOf}
+use Rattle.interval_eval.specs.Span.{IsInterval, IsIn, EndsFit, SpanStaysInRange, neg_span, add_span, sub_span, mul_span, div_span, min_span, max_span, abs_span, span_of}
+use Rattle.interval_eval.specs.NestedAreas.{IsPartOf, ArePartsOf}
 use Rattle.fixed_expr.proofs.Laws.{floors_in_order}
 use Rattle.interval_eval.proofs.Holding.{in_product, in_absolute, spans_ordered}
 use Rattle.interval_eval.proofs.Lookups.{part_lookup}
@@ -26,22 +26,22 @@ part_variable (a ∷ area) [] i d below h = absurd h
 part_variable (a ∷ area) (b ∷ wider) zero d below h = h.0
 part_variable (a ∷ area) (b ∷ wider) (suc i) d below h = part_variable area wider i d (omega (arith, below)) h.1
 
-part_negation : (a b : Interval) → IsPartOf a b → IsPartOf (negation_of a) (negation_of b)
+part_negation : (a b : Interval) → IsPartOf a b → IsPartOf (neg_span a) (neg_span b)
 part_negation a b h = (omega (arith, ints), omega (arith, ints))
 
-part_sum : (a b c d : Interval) → IsPartOf a c → IsPartOf b d → IsPartOf (sum_of a b) (sum_of c d)
+part_sum : (a b c d : Interval) → IsPartOf a c → IsPartOf b d → IsPartOf (add_span a b) (add_span c d)
 part_sum a b c d h k = (omega (arith, ints), omega (arith, ints))
 
-part_difference : (a b c d : Interval) → IsPartOf a c → IsPartOf b d → IsPartOf (difference_of a b) (difference_of c d)
+part_difference : (a b c d : Interval) → IsPartOf a c → IsPartOf b d → IsPartOf (sub_span a b) (sub_span c d)
 part_difference a b c d h k = (omega (arith, ints), omega (arith, ints))
 
-part_minimum : (a b c d : Interval) → IsPartOf a c → IsPartOf b d → IsPartOf (minimum_of a b) (minimum_of c d)
+part_minimum : (a b c d : Interval) → IsPartOf a c → IsPartOf b d → IsPartOf (min_span a b) (min_span c d)
 part_minimum a b c d h k = (omega (arith, ints, clamps), omega (arith, ints, clamps))
 
-part_maximum : (a b c d : Interval) → IsPartOf a c → IsPartOf b d → IsPartOf (maximum_of a b) (maximum_of c d)
+part_maximum : (a b c d : Interval) → IsPartOf a c → IsPartOf b d → IsPartOf (max_span a b) (max_span c d)
 part_maximum a b c d h k = (omega (arith, ints, clamps), omega (arith, ints, clamps))
 
-part_quotient : (a c : Interval) (k : ℤ) → pos 1 ≤ℤ k → IsPartOf a c → IsPartOf (quotient_of a k) (quotient_of c k)
+part_quotient : (a c : Interval) (k : ℤ) → pos 1 ≤ℤ k → IsPartOf a c → IsPartOf (div_span a k) (div_span c k)
 part_quotient a c k some h = (floors_in_order c.lo a.lo k some h.0, floors_in_order a.hi c.hi k some h.1)
 
 -- the ends of a part lie in the whole
@@ -49,11 +49,11 @@ ends_in : (a c : Interval) → IsInterval a → IsPartOf a c → IsIn c a.lo × 
 ends_in a c order h = ((h.0, omega (arith, ints, order, h.1)), (omega (arith, ints, order, h.0), h.1))
 
 -- each product of ends of the parts is one of numbers of the wholes
-part_product : (a b c d : Interval) → IsInterval a → IsInterval b → IsPartOf a c → IsPartOf b d → IsPartOf (product_of a b) (product_of c d)
+part_product : (a b c d : Interval) → IsInterval a → IsInterval b → IsPartOf a c → IsPartOf b d → IsPartOf (mul_span a b) (mul_span c d)
 part_product a b c d first second h k =
     let in_c = ends_in a c first h in
     let in_d = ends_in b d second k in
-    corners (a.lo *ℤ b.lo) (a.lo *ℤ b.hi) (a.hi *ℤ b.lo) (a.hi *ℤ b.hi) (product_of c d)
+    corners (a.lo *ℤ b.lo) (a.lo *ℤ b.hi) (a.hi *ℤ b.lo) (a.hi *ℤ b.hi) (mul_span c d)
     (in_product c d a.lo b.lo in_c.0 in_d.0)
     (in_product c d a.lo b.hi in_c.0 in_d.1)
     (in_product c d a.hi b.lo in_c.1 in_d.0)
@@ -62,18 +62,18 @@ part_product a b c d first second h k =
     corners : (p q r s : ℤ) (whole : Interval) → IsIn whole p → IsIn whole q → IsIn whole r → IsIn whole s → (whole.lo ≤ℤ int_min (int_min p q) (int_min r s)) × (int_max (int_max p q) (int_max r s) ≤ℤ whole.hi)
     corners p q r s whole hp hq hr hs = (omega (arith, ints, clamps, hp.0, hq.0, hr.0, hs.0), omega (arith, ints, clamps, hp.1, hq.1, hr.1, hs.1))
 
-part_absolute : (a c : Interval) → IsInterval a → IsPartOf a c → IsPartOf (absolute_of a) (absolute_of c)
+part_absolute : (a c : Interval) → IsInterval a → IsPartOf a c → IsPartOf (abs_span a) (abs_span c)
 part_absolute a c order h = (by (int_le (pos 0) a.lo) (int_le a.hi (pos 0)) refl refl, omega (arith, ints, clamps))
   where
-    least : (x : ℤ) → a.lo ≤ℤ x → x ≤ℤ a.hi → (absolute_of c).lo ≤ℤ pos (nat_abs x)
+    least : (x : ℤ) → a.lo ≤ℤ x → x ≤ℤ a.hi → (abs_span c).lo ≤ℤ pos (nat_abs x)
     least x low high = (in_absolute c x (omega (arith, ints, h.0, low), omega (arith, ints, h.1, high))).0
 
-    by : (s t : Bool) → int_le (pos 0) a.lo ≡ s → int_le a.hi (pos 0) ≡ t → (absolute_of c).lo ≤ℤ (if s then a.lo else (if t then neg_ℤ a.hi else pos 0))
-    by true t e f = bound (absolute_of c).lo a.lo e (least a.lo (omega (arith, ints)) order)
+    by : (s t : Bool) → int_le (pos 0) a.lo ≡ s → int_le a.hi (pos 0) ≡ t → (abs_span c).lo ≤ℤ (if s then a.lo else (if t then neg_ℤ a.hi else pos 0))
+    by true t e f = bound (abs_span c).lo a.lo e (least a.lo (omega (arith, ints)) order)
       where
         bound : (l x : ℤ) → int_le (pos 0) x ≡ true → l ≤ℤ pos (nat_abs x) → l ≤ℤ x
         bound l x some below = omega (arith, ints)
-    by false true e f = bound (absolute_of c).lo a.hi f (least a.hi order (omega (arith, ints)))
+    by false true e f = bound (abs_span c).lo a.hi f (least a.hi order (omega (arith, ints)))
       where
         bound : (l x : ℤ) → int_le x (pos 0) ≡ true → l ≤ℤ pos (nat_abs x) → l ≤ℤ neg_ℤ x
         bound l x some below = omega (arith, ints)

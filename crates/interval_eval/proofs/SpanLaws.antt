@@ -8,7 +8,7 @@ use Rattle.fixed_expr.specs.Value.{IsWellFormed, value_of, StaysInRange}
 use Rattle.fixed_expr.specs.inside.Alike.{AreSameIn}
 use Rattle.interval_eval.specs.declared.interval.Interval.{Interval}
 use Rattle.interval_eval.specs.Span.{IsInterval, IsIn, AreIn, EndsFit, span_of, SpanStaysInRange}
-use Rattle.interval_eval.specs.Parts.{ArePartsOf}
+use Rattle.interval_eval.specs.NestedAreas.{ArePartsOf}
 use Rattle.interval_eval.specs.inside.Nested.{range_at, HaveSameRangesBut}
 use Rattle.interval_eval.proofs.Holding as holding
 use Rattle.interval_eval.proofs.MovingSpans as moving

@@ -2,7 +2,7 @@
 use Rattle.std.specs.Prelude.{◌≡◌, ℕ, ◌<◌, pos, List, map, slice_index_or, Option, MatchOption}
 use Rattle.fixed_expr.specs.declared.lanes.TheConstants.{LANES}
 use Rattle.fixed_expr.specs.Expression.{Expression, NumExpr, VarExpr, NegExpr, AddExpr, SubExpr, MulExpr, DivExpr, MinExpr, MaxExpr, AbsExpr, LutExpr}
-use Rattle.fixed_expr.specs.Narrow.{IsNarrow}
+use Rattle.fixed_expr.specs.NarrowValues.{IsNarrow}
 use Rattle.interval_eval.specs.declared.interval.Interval.{Interval}
 use Rattle.interval_eval.specs.declared.columns.IntervalColumn.{IntervalColumn}
 use Rattle.interval_eval.specs.Span.{span_of}

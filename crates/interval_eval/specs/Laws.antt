@@ -5,7 +5,7 @@ use Rattle.fixed_expr.specs.Expression.{Expression}
 use Rattle.fixed_expr.specs.Value.{IsWellFormed}
 use Rattle.interval_eval.specs.declared.interval.Interval.{Interval}
 use Rattle.interval_eval.specs.Span.{IsInterval, SpanStaysInRange, span_of}
-use Rattle.interval_eval.specs.Parts.{IsPartOf, ArePartsOf}
+use Rattle.interval_eval.specs.NestedAreas.{IsPartOf, ArePartsOf}
 
 -- a span over ranges that lie in wider ones lies in the span over these; so does that of each node, which is an expression too
 abbrev pub SpansNest : Type 0

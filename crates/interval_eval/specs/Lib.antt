@@ -1,5 +1,5 @@
 pub mod Span
-pub mod Parts
+pub mod NestedAreas
 pub mod LaneSpans
 pub mod Laws
 pub mod inside

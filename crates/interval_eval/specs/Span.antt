@@ -28,40 +28,40 @@ abbrev pub EndsFit : Interval → Type 0
 EndsFit i = IsInRange i.lo × IsInRange i.hi
 
 -- by interval arithmetic, the interval of negated numbers
-abbrev pub negation_of : Interval → Interval
-negation_of a = record { lo = neg_ℤ a.hi; hi = neg_ℤ a.lo }
+abbrev pub neg_span : Interval → Interval
+neg_span a = record { lo = neg_ℤ a.hi; hi = neg_ℤ a.lo }
 
 -- by interval arithmetic, the interval of sums
-abbrev pub sum_of : Interval → Interval → Interval
-sum_of a b = record { lo = a.lo +ℤ b.lo; hi = a.hi +ℤ b.hi }
+abbrev pub add_span : Interval → Interval → Interval
+add_span a b = record { lo = a.lo +ℤ b.lo; hi = a.hi +ℤ b.hi }
 
 -- by interval arithmetic, the interval of differences
-abbrev pub difference_of : Interval → Interval → Interval
-difference_of a b = record { lo = a.lo -ℤ b.hi; hi = a.hi -ℤ b.lo }
+abbrev pub sub_span : Interval → Interval → Interval
+sub_span a b = record { lo = a.lo -ℤ b.hi; hi = a.hi -ℤ b.lo }
 
 -- the least and the greatest of four numbers
 abbrev pub hull_of : ℤ → ℤ → ℤ → ℤ → Interval
 hull_of a b c d = record { lo = int_min (int_min a b) (int_min c d); hi = int_max (int_max a b) (int_max c d) }
 
 -- the least and the greatest of the four products of ends
-abbrev pub product_of : Interval → Interval → Interval
-product_of a b = hull_of (a.lo *ℤ b.lo) (a.lo *ℤ b.hi) (a.hi *ℤ b.lo) (a.hi *ℤ b.hi)
+abbrev pub mul_span : Interval → Interval → Interval
+mul_span a b = hull_of (a.lo *ℤ b.lo) (a.lo *ℤ b.hi) (a.hi *ℤ b.lo) (a.hi *ℤ b.hi)
 
 -- by interval arithmetic, the interval of quotients by one number
-abbrev pub quotient_of : Interval → ℤ → Interval
-quotient_of a k = record { lo = floor_div a.lo k; hi = floor_div a.hi k }
+abbrev pub div_span : Interval → ℤ → Interval
+div_span a k = record { lo = floor_div a.lo k; hi = floor_div a.hi k }
 
 -- by interval arithmetic, the interval of lesser numbers
-abbrev pub minimum_of : Interval → Interval → Interval
-minimum_of a b = record { lo = int_min a.lo b.lo; hi = int_min a.hi b.hi }
+abbrev pub min_span : Interval → Interval → Interval
+min_span a b = record { lo = int_min a.lo b.lo; hi = int_min a.hi b.hi }
 
 -- by interval arithmetic, the interval of greater numbers
-abbrev pub maximum_of : Interval → Interval → Interval
-maximum_of a b = record { lo = int_max a.lo b.lo; hi = int_max a.hi b.hi }
+abbrev pub max_span : Interval → Interval → Interval
+max_span a b = record { lo = int_max a.lo b.lo; hi = int_max a.hi b.hi }
 
 -- 0 is the least absolute value where the range holds numbers of both signs
-abbrev pub absolute_of : Interval → Interval
-absolute_of a = record {
+abbrev pub abs_span : Interval → Interval
+abs_span a = record {
   lo = if int_le (pos 0) a.lo then a.lo else (if int_le a.hi (pos 0) then neg_ℤ a.hi else pos 0);
   hi = int_max (neg_ℤ a.lo) a.hi;
 }
@@ -75,8 +75,8 @@ abbrev pub values_within : List (ℤ × ℤ) → Interval → List ℤ
 values_within points a = map (λ (p : ℤ × ℤ). p.1) (filter (λ (p : ℤ × ℤ). is_in a p.0) points)
 
 -- the least and the greatest of the values at the ends of a range and at the points in it
-abbrev pub lookup_of : List (ℤ × ℤ) → Interval → Interval
-lookup_of points a = record {
+abbrev pub lut_span : List (ℤ × ℤ) → Interval → Interval
+lut_span points a = record {
   lo = fold int_min (curve_value points a.lo) (curve_value points a.hi ∷ values_within points a);
   hi = fold int_max (curve_value points a.lo) (curve_value points a.hi ∷ values_within points a);
 }
@@ -85,15 +85,15 @@ lookup_of points a = record {
 abbrev pub span_of : Expression → List Interval → Interval
 span_of (NumExpr k) area = record { lo = k; hi = k }
 span_of (VarExpr i) area = slice_index_or area i (record { lo = pos 0; hi = pos 0 })
-span_of (NegExpr a) area = negation_of (span_of a area)
-span_of (AddExpr a b) area = sum_of (span_of a area) (span_of b area)
-span_of (SubExpr a b) area = difference_of (span_of a area) (span_of b area)
-span_of (MulExpr a b) area = product_of (span_of a area) (span_of b area)
-span_of (DivExpr a k) area = quotient_of (span_of a area) k
-span_of (MinExpr a b) area = minimum_of (span_of a area) (span_of b area)
-span_of (MaxExpr a b) area = maximum_of (span_of a area) (span_of b area)
-span_of (AbsExpr a) area = absolute_of (span_of a area)
-span_of (LutExpr a points) area = lookup_of points (span_of a area)
+span_of (NegExpr a) area = neg_span (span_of a area)
+span_of (AddExpr a b) area = add_span (span_of a area) (span_of b area)
+span_of (SubExpr a b) area = sub_span (span_of a area) (span_of b area)
+span_of (MulExpr a b) area = mul_span (span_of a area) (span_of b area)
+span_of (DivExpr a k) area = div_span (span_of a area) k
+span_of (MinExpr a b) area = min_span (span_of a area) (span_of b area)
+span_of (MaxExpr a b) area = max_span (span_of a area) (span_of b area)
+span_of (AbsExpr a) area = abs_span (span_of a area)
+span_of (LutExpr a points) area = lut_span points (span_of a area)
 
 -- the ends of every node's span lie in the range
 abbrev pub SpanStaysInRange : Expression → List Interval → Type 0

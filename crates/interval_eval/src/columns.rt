@@ -4,15 +4,15 @@
 ghost use Rattle.std.specs.Prelude.{◌≡◌, ◌<◌, pos, ◌≤ℤ◌, ◌*ℤ◌, MatchOption, SomeIff};
 ghost use Rattle.std.specs.Int.{int_min, int_max};
 ghost use Rattle.fixed_expr.specs.declared.lanes.TheConstants.{LANES};
-ghost use Rattle.fixed_expr.specs.Narrow.{IsNarrow};
+ghost use Rattle.fixed_expr.specs.NarrowValues.{IsNarrow};
 ghost use Rattle.fixed_expr.specs.Lanes.{at, AreNarrow, HoldsNarrow};
-ghost use Rattle.interval_eval.specs.Span.{negation_of, sum_of, difference_of, product_of, quotient_of, minimum_of, maximum_of, absolute_of, lookup_of};
+ghost use Rattle.interval_eval.specs.Span.{neg_span, add_span, sub_span, mul_span, div_span, min_span, max_span, abs_span, lut_span};
 ghost use Rattle.interval_eval.specs.LaneSpans.{interval_in, HaveNarrowEnds, HoldsIntervals, AnswersIntervals};
 ghost use Rattle.interval_eval.specs.inside.Combined.{combined_interval};
 
 use crate::interval::Interval;
 use fixed_expr::lanes::{
-    add_to, divide_by, lower_to, multiply_by, negate, raise_to, subtract_from,
+    add_lanes, div_lanes, max_lanes, min_lanes, mul_lanes, neg_lanes, sub_lanes,
 };
 use fixed_expr::narrow::narrow;
 use fixed_expr::{Binary, Curve, LANES};
@@ -31,33 +31,33 @@ pub const NO_INTERVALS: IntervalColumn = IntervalColumn {
 };
 
 impl IntervalColumn {
-    pub(crate) fn negation(&mut self) -> Option<()>
-        ensures { AnswersIntervals result self.new (λ k. negation_of (interval_in self.old k)) }
+    pub(crate) fn neg_spans(&mut self) -> Option<()>
+        ensures { AnswersIntervals result self.new (λ k. neg_span (interval_in self.old k)) }
     {
         let low = self.lo;
         self.lo = self.hi;
         self.hi = low;
-        negate(&mut self.lo)?;
-        negate(&mut self.hi)
+        neg_lanes(&mut self.lo)?;
+        neg_lanes(&mut self.hi)
     }
 
-    pub(crate) fn sum(&mut self, other: &IntervalColumn) -> Option<()>
-        ensures { AnswersIntervals result self.new (λ k. sum_of (interval_in self.old k) (interval_in other.now k)) }
+    pub(crate) fn add_spans(&mut self, other: &IntervalColumn) -> Option<()>
+        ensures { AnswersIntervals result self.new (λ k. add_span (interval_in self.old k) (interval_in other.now k)) }
     {
-        add_to(&mut self.lo, &other.lo)?;
-        add_to(&mut self.hi, &other.hi)
+        add_lanes(&mut self.lo, &other.lo)?;
+        add_lanes(&mut self.hi, &other.hi)
     }
 
-    pub(crate) fn difference(&mut self, other: &IntervalColumn) -> Option<()>
-        ensures { AnswersIntervals result self.new (λ k. difference_of (interval_in self.old k) (interval_in other.now k)) }
+    pub(crate) fn sub_spans(&mut self, other: &IntervalColumn) -> Option<()>
+        ensures { AnswersIntervals result self.new (λ k. sub_span (interval_in self.old k) (interval_in other.now k)) }
     {
-        subtract_from(&mut self.lo, &other.hi)?;
-        subtract_from(&mut self.hi, &other.lo)
+        sub_lanes(&mut self.lo, &other.hi)?;
+        sub_lanes(&mut self.hi, &other.lo)
     }
 
     /// The least and the greatest of the products of ends.
-    pub(crate) fn product(&mut self, other: &IntervalColumn) -> Option<()>
-        ensures { AnswersIntervals result self.new (λ k. product_of (interval_in self.old k) (interval_in other.now k)) }
+    pub(crate) fn mul_spans(&mut self, other: &IntervalColumn) -> Option<()>
+        ensures { AnswersIntervals result self.new (λ k. mul_span (interval_in self.old k) (interval_in other.now k)) }
     {
         let first = products(&self.lo, &other.lo)?;
         let second = products(&self.lo, &other.hi)?;
@@ -68,34 +68,34 @@ impl IntervalColumn {
         Some(())
     }
 
-    pub(crate) fn quotient(&mut self, divisor: i64)
+    pub(crate) fn div_spans(&mut self, divisor: i64)
         requires { pos 1 ≤ℤ divisor }
-        ensures holds { HoldsIntervals self.new (λ k. quotient_of (interval_in self.old k) divisor) }
-        ensures narrow { HaveNarrowEnds (λ k. quotient_of (interval_in self.old k) divisor) }
+        ensures holds { HoldsIntervals self.new (λ k. div_span (interval_in self.old k) divisor) }
+        ensures narrow { HaveNarrowEnds (λ k. div_span (interval_in self.old k) divisor) }
     {
-        divide_by(&mut self.lo, divisor);
-        divide_by(&mut self.hi, divisor);
+        div_lanes(&mut self.lo, divisor);
+        div_lanes(&mut self.hi, divisor);
     }
 
-    pub(crate) fn minimum(&mut self, other: &IntervalColumn)
-        ensures holds { HoldsIntervals self.new (λ k. minimum_of (interval_in self.old k) (interval_in other.now k)) }
-        ensures narrow { HaveNarrowEnds (λ k. minimum_of (interval_in self.old k) (interval_in other.now k)) }
+    pub(crate) fn min_spans(&mut self, other: &IntervalColumn)
+        ensures holds { HoldsIntervals self.new (λ k. min_span (interval_in self.old k) (interval_in other.now k)) }
+        ensures narrow { HaveNarrowEnds (λ k. min_span (interval_in self.old k) (interval_in other.now k)) }
     {
-        lower_to(&mut self.lo, &other.lo);
-        lower_to(&mut self.hi, &other.hi);
+        min_lanes(&mut self.lo, &other.lo);
+        min_lanes(&mut self.hi, &other.hi);
     }
 
-    pub(crate) fn maximum(&mut self, other: &IntervalColumn)
-        ensures holds { HoldsIntervals self.new (λ k. maximum_of (interval_in self.old k) (interval_in other.now k)) }
-        ensures narrow { HaveNarrowEnds (λ k. maximum_of (interval_in self.old k) (interval_in other.now k)) }
+    pub(crate) fn max_spans(&mut self, other: &IntervalColumn)
+        ensures holds { HoldsIntervals self.new (λ k. max_span (interval_in self.old k) (interval_in other.now k)) }
+        ensures narrow { HaveNarrowEnds (λ k. max_span (interval_in self.old k) (interval_in other.now k)) }
     {
-        raise_to(&mut self.lo, &other.lo);
-        raise_to(&mut self.hi, &other.hi);
+        max_lanes(&mut self.lo, &other.lo);
+        max_lanes(&mut self.hi, &other.hi);
     }
 
     /// The absolute values.
-    pub(crate) fn absolute(&mut self) -> Option<()>
-        ensures { AnswersIntervals result self.new (λ k. absolute_of (interval_in self.old k)) }
+    pub(crate) fn abs_spans(&mut self) -> Option<()>
+        ensures { AnswersIntervals result self.new (λ k. abs_span (interval_in self.old k)) }
     {
         'lanes: for k in 0..LANES {
             let lo = least_absolute(self.lo[k], self.hi[k])?;
@@ -106,8 +106,8 @@ impl IntervalColumn {
     }
 
     /// The values of a table.
-    pub(crate) fn lookup(&mut self, curve: &Curve) -> Option<()>
-        ensures { AnswersIntervals result self.new (λ k. lookup_of curve.now (interval_in self.old k)) }
+    pub(crate) fn lut_spans(&mut self, curve: &Curve) -> Option<()>
+        ensures { AnswersIntervals result self.new (λ k. lut_span curve.now (interval_in self.old k)) }
     {
         'lanes: for k in 0..LANES {
             let values = self.interval_at(k).looked_up(curve);
@@ -134,15 +134,15 @@ impl IntervalColumn {
         ensures { AnswersIntervals result self.new (λ k. combined_interval binary (interval_in self.old k) (interval_in other.now k)) }
     {
         match binary {
-            Binary::AddOp => self.sum(other),
-            Binary::SubOp => self.difference(other),
-            Binary::MulOp => self.product(other),
+            Binary::AddOp => self.add_spans(other),
+            Binary::SubOp => self.sub_spans(other),
+            Binary::MulOp => self.mul_spans(other),
             Binary::MinOp => {
-                self.minimum(other);
+                self.min_spans(other);
                 Some(())
             }
             Binary::MaxOp => {
-                self.maximum(other);
+                self.max_spans(other);
                 Some(())
             }
         }
@@ -150,7 +150,7 @@ impl IntervalColumn {
 }
 
 fn least_absolute(lo: i64, hi: i64) -> Option<i64>
-    ensures { SomeIff result (IsNarrow (absolute_of (record { lo = lo; hi = hi })).lo) (absolute_of (record { lo = lo; hi = hi })).lo }
+    ensures { SomeIff result (IsNarrow (abs_span (record { lo = lo; hi = hi })).lo) (abs_span (record { lo = lo; hi = hi })).lo }
 {
     if 0 <= lo {
         Some(lo)
@@ -163,7 +163,7 @@ fn least_absolute(lo: i64, hi: i64) -> Option<i64>
 
 /// Where the negated low end leaves 64 bits, so does the greatest.
 fn greatest_absolute(lo: i64, hi: i64) -> Option<i64>
-    ensures { SomeIff result (IsNarrow (absolute_of (record { lo = lo; hi = hi })).hi) (absolute_of (record { lo = lo; hi = hi })).hi }
+    ensures { SomeIff result (IsNarrow (abs_span (record { lo = lo; hi = hi })).hi) (abs_span (record { lo = lo; hi = hi })).hi }
 {
     Some(lo.checked_neg()?.max(hi))
 }
@@ -172,7 +172,7 @@ fn products(a: &[i64; LANES], b: &[i64; LANES]) -> Option<[i64; LANES]>
     ensures { MatchOption result (¬ (AreNarrow (λ k. at a.now k *ℤ at b.now k))) (λ r. HoldsNarrow r (λ k. at a.now k *ℤ at b.now k)) }
 {
     let mut found = *a;
-    multiply_by(&mut found, b)?;
+    mul_lanes(&mut found, b)?;
     Some(found)
 }
 
@@ -181,9 +181,9 @@ fn least(a: &[i64; LANES], b: &[i64; LANES], c: &[i64; LANES], d: &[i64; LANES])
 {
     let mut first = *a;
     let mut second = *c;
-    lower_to(&mut first, b);
-    lower_to(&mut second, d);
-    lower_to(&mut first, &second);
+    min_lanes(&mut first, b);
+    min_lanes(&mut second, d);
+    min_lanes(&mut first, &second);
     first
 }
 
@@ -192,8 +192,8 @@ fn greatest(a: &[i64; LANES], b: &[i64; LANES], c: &[i64; LANES], d: &[i64; LANE
 {
     let mut first = *a;
     let mut second = *c;
-    raise_to(&mut first, b);
-    raise_to(&mut second, d);
-    raise_to(&mut first, &second);
+    max_lanes(&mut first, b);
+    max_lanes(&mut second, d);
+    max_lanes(&mut first, &second);
     first
 }

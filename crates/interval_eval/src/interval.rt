@@ -1,12 +1,13 @@
 ghost use Rattle.std.specs.Prelude.{◌≡◌, pos, ◌≤ℤ◌, SomeIff};
 ghost use Rattle.std.specs.Int.{int_min, int_max};
 ghost use Rattle.fixed_expr.specs.Range.{IsInRange};
-ghost use Rattle.interval_eval.specs.Span.{EndsFit, negation_of, sum_of, difference_of, product_of, hull_of, quotient_of, minimum_of, maximum_of, absolute_of, lookup_of};
+ghost use Rattle.interval_eval.specs.Span.{EndsFit, neg_span, add_span, sub_span, mul_span, hull_of, div_span, min_span, max_span, abs_span, lut_span};
 ghost use Rattle.interval_eval.specs.inside.Joined.{joined_at};
 
 use fixed_expr::Curve;
 use fixed_expr::arithmetic::{
-    difference, greater, lesser, negation, product, quotient, sum, within,
+    add_in_range, div_in_range, max_in_range, min_in_range, mul_in_range, neg_in_range,
+    sub_in_range, within,
 };
 
 /// The numbers from `lo` to `hi`, both included. An operation answers None where an end of what it finds leaves the
@@ -27,91 +28,91 @@ impl Interval {
         Some(self)
     }
 
-    pub fn negation(self) -> Option<Interval>
-        ensures { SomeIff result (EndsFit (negation_of self)) (negation_of self) }
+    pub fn neg_span(self) -> Option<Interval>
+        ensures { SomeIff result (EndsFit (neg_span self)) (neg_span self) }
     {
         Some(Interval {
-            lo: negation(self.hi)?,
-            hi: negation(self.lo)?,
+            lo: neg_in_range(self.hi)?,
+            hi: neg_in_range(self.lo)?,
         })
     }
 
-    pub fn sum(self, other: Interval) -> Option<Interval>
-        ensures { SomeIff result (EndsFit (sum_of self other)) (sum_of self other) }
+    pub fn add_span(self, other: Interval) -> Option<Interval>
+        ensures { SomeIff result (EndsFit (add_span self other)) (add_span self other) }
     {
         Some(Interval {
-            lo: sum(self.lo, other.lo)?,
-            hi: sum(self.hi, other.hi)?,
+            lo: add_in_range(self.lo, other.lo)?,
+            hi: add_in_range(self.hi, other.hi)?,
         })
     }
 
-    pub fn difference(self, other: Interval) -> Option<Interval>
-        ensures { SomeIff result (EndsFit (difference_of self other)) (difference_of self other) }
+    pub fn sub_span(self, other: Interval) -> Option<Interval>
+        ensures { SomeIff result (EndsFit (sub_span self other)) (sub_span self other) }
     {
         Some(Interval {
-            lo: difference(self.lo, other.hi)?,
-            hi: difference(self.hi, other.lo)?,
+            lo: sub_in_range(self.lo, other.hi)?,
+            hi: sub_in_range(self.hi, other.lo)?,
         })
     }
 
     /// The least and the greatest of the products of ends.
-    pub fn product(self, other: Interval) -> Option<Interval>
-        ensures { SomeIff result (EndsFit (product_of self other)) (product_of self other) }
+    pub fn mul_span(self, other: Interval) -> Option<Interval>
+        ensures { SomeIff result (EndsFit (mul_span self other)) (mul_span self other) }
     {
-        let first = product(self.lo, other.lo)?;
-        let second = product(self.lo, other.hi)?;
-        let third = product(self.hi, other.lo)?;
-        let fourth = product(self.hi, other.hi)?;
+        let first = mul_in_range(self.lo, other.lo)?;
+        let second = mul_in_range(self.lo, other.hi)?;
+        let third = mul_in_range(self.hi, other.lo)?;
+        let fourth = mul_in_range(self.hi, other.hi)?;
         hull(first, second, third, fourth)
     }
 
-    pub fn quotient(self, k: i128) -> Option<Interval>
+    pub fn div_span(self, k: i128) -> Option<Interval>
         requires { pos 1 ≤ℤ k }
-        ensures { SomeIff result (EndsFit (quotient_of self k)) (quotient_of self k) }
+        ensures { SomeIff result (EndsFit (div_span self k)) (div_span self k) }
     {
         Some(Interval {
-            lo: quotient(self.lo, k)?,
-            hi: quotient(self.hi, k)?,
+            lo: div_in_range(self.lo, k)?,
+            hi: div_in_range(self.hi, k)?,
         })
     }
 
-    pub fn minimum(self, other: Interval) -> Option<Interval>
-        ensures { SomeIff result (EndsFit (minimum_of self other)) (minimum_of self other) }
+    pub fn min_span(self, other: Interval) -> Option<Interval>
+        ensures { SomeIff result (EndsFit (min_span self other)) (min_span self other) }
     {
         Some(Interval {
-            lo: lesser(self.lo, other.lo)?,
-            hi: lesser(self.hi, other.hi)?,
+            lo: min_in_range(self.lo, other.lo)?,
+            hi: min_in_range(self.hi, other.hi)?,
         })
     }
 
-    pub fn maximum(self, other: Interval) -> Option<Interval>
-        ensures { SomeIff result (EndsFit (maximum_of self other)) (maximum_of self other) }
+    pub fn max_span(self, other: Interval) -> Option<Interval>
+        ensures { SomeIff result (EndsFit (max_span self other)) (max_span self other) }
     {
         Some(Interval {
-            lo: greater(self.lo, other.lo)?,
-            hi: greater(self.hi, other.hi)?,
+            lo: max_in_range(self.lo, other.lo)?,
+            hi: max_in_range(self.hi, other.hi)?,
         })
     }
 
     /// The absolute values.
-    pub fn absolute(self) -> Option<Interval>
-        ensures { SomeIff result (EndsFit (absolute_of self)) (absolute_of self) }
+    pub fn abs_span(self) -> Option<Interval>
+        ensures { SomeIff result (EndsFit (abs_span self)) (abs_span self) }
     {
-        let hi = greater(negation(self.lo)?, self.hi)?;
+        let hi = max_in_range(neg_in_range(self.lo)?, self.hi)?;
         let lo = least_absolute(self)?;
         Some(Interval { lo, hi })
     }
 
     /// The values of a table.
-    pub fn lookup(self, curve: &Curve) -> Option<Interval>
-        ensures { SomeIff result (EndsFit (lookup_of curve.now self)) (lookup_of curve.now self) }
+    pub fn lut_span(self, curve: &Curve) -> Option<Interval>
+        ensures { SomeIff result (EndsFit (lut_span curve.now self)) (lut_span curve.now self) }
     {
         self.looked_up(curve).within()
     }
 
     /// The least and the greatest value of a table.
     pub(crate) fn looked_up(self, curve: &Curve) -> Interval
-        ensures { result ≡ lookup_of curve.now self }
+        ensures { result ≡ lut_span curve.now self }
     {
         let first = curve.value(self.lo);
         let last = curve.value(self.hi);
@@ -143,12 +144,12 @@ fn joined(found: Interval, point: (i128, i128), range: Interval) -> Interval
 }
 
 fn least_absolute(a: Interval) -> Option<i128>
-    ensures { SomeIff result (IsInRange (absolute_of a).lo) (absolute_of a).lo }
+    ensures { SomeIff result (IsInRange (abs_span a).lo) (abs_span a).lo }
 {
     if 0 <= a.lo {
         within(a.lo)
     } else if a.hi <= 0 {
-        negation(a.hi)
+        neg_in_range(a.hi)
     } else {
         Some(0)
     }

@@ -7,7 +7,7 @@ ghost use Rattle.fixed_expr.specs.inside.Listing.{combined};
 ghost use Rattle.interval_eval.specs.LaneSpans.{AnswersSpans};
 
 use crate::columns::{IntervalColumn, NO_INTERVALS};
-use fixed_expr::lanes::copy_to;
+use fixed_expr::lanes::copy_lanes;
 use fixed_expr::narrow::narrow;
 use fixed_expr::{Binary, Expr};
 
@@ -28,13 +28,13 @@ pub fn span_lanes(e: &Expr, columns: &[IntervalColumn], found: &mut IntervalColu
         }
         Expr::Var(i) => {
             let column = &columns[*i as usize];
-            copy_to(&mut found.lo, &column.lo);
-            copy_to(&mut found.hi, &column.hi);
+            copy_lanes(&mut found.lo, &column.lo);
+            copy_lanes(&mut found.hi, &column.hi);
             Some(())
         }
         Expr::Neg(a) => {
             span_lanes(a, columns, found)?;
-            found.negation()
+            found.neg_spans()
         }
         Expr::Add(a, b) => span_combined(Binary::AddOp, a, b, columns, found),
         Expr::Sub(a, b) => span_combined(Binary::SubOp, a, b, columns, found),
@@ -44,16 +44,16 @@ pub fn span_lanes(e: &Expr, columns: &[IntervalColumn], found: &mut IntervalColu
         Expr::Div(a, k) => {
             let divisor = narrow(*k)?;
             span_lanes(a, columns, found)?;
-            found.quotient(divisor);
+            found.div_spans(divisor);
             Some(())
         }
         Expr::Abs(a) => {
             span_lanes(a, columns, found)?;
-            found.absolute()
+            found.abs_spans()
         }
         Expr::Lut(a, curve) => {
             span_lanes(a, columns, found)?;
-            found.lookup(curve)
+            found.lut_spans(curve)
         }
     }
 }

@@ -4,7 +4,7 @@ use Rattle.std.specs.Prelude.{ℤ, IfSome}
 use Rattle.std.proofs.lemmas.List.Sums.{sum_by-append}
 use Rattle.std.specs.Prelude.{cond, ◌==◌}
 use Rattle.controller_table.specs.Tables.{TableModel}
-use Rattle.controller_table.specs.Refusals.{line_count}
+use Rattle.controller_table.specs.TableRefusals.{line_count}
 use Rattle.live_script.specs.declared.command.ScriptCommand.{ScriptCommand}
 use Rattle.live_script.specs.declared.command.ScriptCommand.TheVariants.{Publish, Ask}
 use Rattle.live_script.specs.declared.script_fault.ScriptFault.{ScriptFault}
@@ -12,11 +12,11 @@ use Rattle.live_script.specs.declared.script_fault.ScriptFault.TheVariants.{Malf
 use Rattle.live_script.specs.Questions.{IsAnswerOf}
 use Rattle.live_script.specs.Scripts.{Spell, FitsAfter, tables_after, published, SpellAfter, IsShortScript}
 use Rattle.live_script.specs.LiveText.{IsAnswerLine, AreAnswers, answer_line}
-use Rattle.live_script.specs.Reading.{Unread, IsTaken}
-use Rattle.live_script.specs.Refusals.{IsRefusedAfter, IsScriptRefusedFor}
+use Rattle.live_script.specs.ScriptReading.{Unread, IsTaken}
+use Rattle.live_script.specs.ScriptRefusals.{IsRefusedAfter, IsScriptRefusedFor}
 use Rattle.live_run.specs.inside.Sessions.{Standing}
 use Rattle.live_run.specs.inside.Answering.{IsLast, IsAnsweredSoFar, IsExecuted, IsRefusal}
-use Rattle.live_run.specs.Causes.{of_script}
+use Rattle.live_run.specs.LiveCauses.{of_script}
 
 -- ---- one command more
 

@@ -9,15 +9,15 @@ use Rattle.live_script.specs.declared.script_fault.ScriptFault.{ScriptFault}
 use Rattle.live_script.specs.declared.script_fault.ScriptFault.TheVariants as scripts
 use Rattle.live_script.specs.Scripts.{IsShortScript}
 use Rattle.live_script.specs.LiveText.{IsLiveText}
-use Rattle.live_script.specs.Refusals.{IsScriptRefusedFor}
+use Rattle.live_script.specs.ScriptRefusals.{IsScriptRefusedFor}
 use Rattle.live_script.proofs.ScriptLaws.{one_script_refusal, script_or_refused}
 use Rattle.live_run.specs.declared.live_outcome.LiveOutcome.{LiveOutcome}
 use Rattle.live_run.specs.declared.live_outcome.LiveOutcome.TheVariants.{Done, Usage, Malformed, Limit, ScriptTooLong, TooManyTables, ReadFault as ReadFailed, WriteFault, NoMemory}
-use Rattle.live_run.specs.Causes.{of_script}
-use Rattle.live_run.specs.Statuses.{status_of}
+use Rattle.live_run.specs.LiveCauses.{of_script}
+use Rattle.live_run.specs.LiveStatuses.{status_of}
 use Rattle.live_run.specs.LiveRuns.{most_read, IsAnswered, IsCutOff, IsLiveEnd, IsCompleteAnswer}
 use Rattle.live_run.specs.inside.Answering.{IsRefusal}
-use Rattle.live_run.specs.inside.Working.{IsWorkedOut, IsRefusalFor}
+use Rattle.live_run.specs.inside.LiveWorking.{IsWorkedOut, IsRefusalFor}
 
 -- ---- what was read stands for the whole script
 

@@ -1,4 +1,4 @@
-pub mod Statuses
-pub mod Causes
+pub mod LiveStatuses
+pub mod LiveCauses
 pub mod LiveRuns
 pub mod inside

@@ -7,11 +7,12 @@ use Rattle.live_script.specs.declared.command.ScriptCommand.{ScriptCommand}
 use Rattle.live_script.specs.declared.script_fault.ScriptFault.{ScriptFault}
 use Rattle.live_script.specs.Scripts.{IsScript}
 use Rattle.live_script.specs.LiveText.{IsLiveText}
-use Rattle.live_script.specs.Refusals.{IsScriptRefusedFor}
+use Rattle.live_script.specs.ScriptRefusals.{IsScriptRefusedFor}
 use Rattle.live_run.specs.declared.live_outcome.LiveOutcome.{LiveOutcome}
 use Rattle.live_run.specs.declared.live_outcome.LiveOutcome.TheVariants.{Done, Usage, ReadFault, WriteFault, NoMemory}
-use Rattle.live_run.specs.Causes.{of_script}
-use Rattle.live_run.specs.Statuses.{status_of, line_of}
+use Rattle.live_run.specs.LiveCauses.{of_script}
+use Rattle.live_run.specs.LiveStatuses.{status_of, line_of}
+use Rattle.base.specs.declared.limits.TheConstants.{SCRIPT_LIMIT}
 
 -- the words are `live` and how many readers answer
 abbrev pub IsLiveCommand : List (List ℕ) → ℕ → Type 0
@@ -19,7 +20,7 @@ IsLiveCommand arguments readers = (arguments ≡ codes "live" ∷ decimal reader
 
 -- one byte more than a script may have
 abbrev pub most_read : ℕ
-most_read = 67108864 + 1
+most_read = SCRIPT_LIMIT + 1
 
 -- the answers to a script were written whole
 abbrev pub IsAnswered : List ℕ → Writing → Type 0

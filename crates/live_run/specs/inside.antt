@@ -1,3 +1,3 @@
 pub mod Sessions
 pub mod Answering
-pub mod Working
+pub mod LiveWorking

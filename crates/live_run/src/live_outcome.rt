@@ -1,8 +1,8 @@
 ghost use Rattle.std.specs.Prelude.{◌≡◌};
 ghost use Rattle.run_devices.specs.Devices.{writing, Reports};
 ghost use Rattle.live_run.specs.declared.live_outcome.LiveOutcome.TheVariants as ends;
-ghost use Rattle.live_run.specs.Statuses.{status_of, line_of};
-ghost use Rattle.live_run.specs.Causes.{of_script, of_read};
+ghost use Rattle.live_run.specs.LiveStatuses.{status_of, line_of};
+ghost use Rattle.live_run.specs.LiveCauses.{of_script, of_read};
 
 use command_line::limit_line;
 use controller_table::NoMemory;

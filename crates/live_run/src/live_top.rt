@@ -2,12 +2,12 @@ ghost use Rattle.std.specs.Prelude.{◌≡◌, ℕ, map, IfSome, IfOk, IfErr};
 ghost use Rattle.run_devices.specs.Devices.{Rose, reading, writing};
 ghost use Rattle.command_line.specs.Command.{AreWorkers};
 ghost use Rattle.live_run.specs.LiveRuns.{IsLiveCommand, IsLiveEnd, Gives, IsLiveRun, IsAnswered, IsCompleteAnswer};
-ghost use Rattle.live_run.specs.inside.Working.{IsWorkedOut, IsRefusalFor};
+ghost use Rattle.live_run.specs.inside.LiveWorking.{IsWorkedOut, IsRefusalFor};
 
 use crate::answering::answers_to;
 use crate::live_arguments::readers_in;
 use crate::live_outcome::LiveOutcome;
-use live_script::SCRIPT_LIMIT;
+use base::limits::SCRIPT_LIMIT;
 use run_devices::{Sink, Source, read_up_to, write_whole};
 use std::alloc::Global;
 use std::sync::Wait;

@@ -1,6 +1,7 @@
 ghost use Rattle.std.specs.Prelude.{◌≡◌, ◌+◌, ◌^◌, ◌<◌, ◌≤◌, length, Some, None, OnOk, OnErr, IfSome, IfNone};
 ghost use Rattle.live_script.specs.Questions.{IsAnswerOf};
 ghost use Rattle.live_run.specs.inside.Sessions.{GoOnWith};
+ghost use Rattle.base.specs.declared.limits.TheConstants.{WORKERS_LIMIT};
 
 use crate::readers::Readers;
 use command_line::StateNumbers;
@@ -30,6 +31,7 @@ impl Model for Session {
     ghost use Rattle.fixed_expr.specs.inside.Postfix.{expression_code};
     ghost use Rattle.std.specs.Prelude.{◌≤◌};
     ghost use Rattle.live_run.specs.inside.Sessions.{Standing, Fits};
+    ghost use Rattle.base.specs.declared.limits.TheConstants.{WORKERS_LIMIT};
 
     ghost Value = { Standing };
 
@@ -37,13 +39,13 @@ impl Model for Session {
 
     ghost view = { λ s. record { count = s.count; table = s.table } };
 
-    ghost invariant = { λ s. (1 ≤ s.reader_count) × (s.reader_count ≤ 64) × Fits s.readers s.count s.table };
+    ghost invariant = { λ s. (1 ≤ s.reader_count) × (s.reader_count ≤ WORKERS_LIMIT) × Fits s.readers s.count s.table };
 }
 
 impl Session {
     /// No table yet, and so many readers with the first.
     pub(crate) fn new(reader_count: u32) -> Session
-        requires { (1 ≤ reader_count) × (reader_count ≤ 64) }
+        requires { (1 ≤ reader_count) × (reader_count ≤ WORKERS_LIMIT) }
         ensures { result ≡ record { count = 0; table = None } }
     {
         Session {
@@ -118,10 +120,10 @@ impl Session {
 
 /// How many readers are opened with a table after so many: all with the first.
 fn opened_with(count: u32, reader_count: u32) -> Option<u32>
-    requires { (1 ≤ reader_count) × (reader_count ≤ 64) }
+    requires { (1 ≤ reader_count) × (reader_count ≤ WORKERS_LIMIT) }
     ensures first { IfSome result (λ _. count ≡ 0) }
     ensures later { IfNone result (count ≡ 0 → ⊥) }
-    ensures readers { IfSome result (λ readers. (1 ≤ readers) × (readers ≤ 64)) }
+    ensures readers { IfSome result (λ readers. (1 ≤ readers) × (readers ≤ WORKERS_LIMIT)) }
 {
     if count == 0 { Some(reader_count) } else { None }
 }
@@ -133,7 +135,7 @@ fn bring_into_force<R: Wait>(
     next: (&R, Global, Table, Option<u32>),
 ) -> (Option<Readers>, Result<(), NoMemory>)
     requires capacity { IfSome readers (λ p. length p.list + 1 < 2 ^ 32) }
-    requires opened { IfSome next.3 (λ readers. (1 ≤ readers) × (readers ≤ 64)) }
+    requires opened { IfSome next.3 (λ readers. (1 ≤ readers) × (readers ≤ WORKERS_LIMIT)) }
     ensures with_table { GoOnWith readers next.entry.3 next.entry.2 result.0 }
     ensures refused { OnErr result.1 (result.0 ≡ None) }
 {
@@ -151,7 +153,7 @@ fn open_with<R: Wait>(
     table: Table,
     opened: Option<u32>,
 ) -> (Option<Readers>, Result<(), NoMemory>)
-    requires { IfSome opened (λ readers. (1 ≤ readers) × (readers ≤ 64)) }
+    requires { IfSome opened (λ readers. (1 ≤ readers) × (readers ≤ WORKERS_LIMIT)) }
     ensures with_table { GoOnWith None opened table result.0 }
     ensures refused { OnErr result.1 (result.0 ≡ None) }
 {

@@ -22,8 +22,8 @@ use Rattle.live_script.specs.declared.command.ScriptCommand.{ScriptCommand}
 use Rattle.live_script.specs.declared.command.ScriptCommand.TheVariants.{Publish, Ask}
 use Rattle.command_line.specs.Command.{AreStateNumbers}
 use Rattle.live_script.specs.Scripts.{publish_line, ask_line, IsPublishOf, Spell}
-use Rattle.live_script.specs.Refusals.{Announce}
-use Rattle.live_script.specs.inside.Words.{spaced}
+use Rattle.live_script.specs.ScriptRefusals.{Announce}
+use Rattle.live_script.specs.inside.QuestionWords.{spaced}
 use Rattle.live_script.proofs.WordsCut.{one_number_at}
 use Rattle.live_script.proofs.QuestionLines.{line_opened, begins}
 use Rattle.live_script.proofs.TableLines.{one_announced, not_asked}

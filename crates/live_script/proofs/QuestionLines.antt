@@ -12,7 +12,7 @@ use Rattle.plant_record.specs.Numbers.{IsLiteral}
 use Rattle.plant_reading.proofs.lemmas.NumberWords.{whole}
 use Rattle.command_line.specs.Command.{AreStateNumbers}
 use Rattle.live_script.specs.Scripts.{ask_line}
-use Rattle.live_script.specs.inside.Words.{BeginsWithSeparator, IsNumberAt, spaced, IsReadSoFar}
+use Rattle.live_script.specs.inside.QuestionWords.{BeginsWithSeparator, IsNumberAt, spaced, IsReadSoFar}
 use Rattle.live_script.proofs.WordsCut.{one_number_at}
 
 -- ---- a question's line

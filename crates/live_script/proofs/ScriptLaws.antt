@@ -4,7 +4,7 @@ use Rattle.plant_reading.proofs.lemmas.StatementLaws.{one_statement}
 use Rattle.plant_text.proofs.lemmas.CanonicalFronts as fronts
 use Rattle.controller_table.specs.declared.table_fault.TableFault.{TableFault}
 use Rattle.controller_table.specs.declared.table_fault.TableFault.TheVariants as tables
-use Rattle.controller_table.specs.Refusals.{IsTableRefusedFor, line_count}
+use Rattle.controller_table.specs.TableRefusals.{IsTableRefusedFor, line_count}
 use Rattle.controller_table.specs.Laws.{OneTableRefusal, TableOrRefused}
 use Rattle.controller_table.proofs.OneRefusal as refusals
 use Rattle.controller_table.proofs.ShortTables as short
@@ -13,10 +13,10 @@ use Rattle.live_script.specs.declared.command.ScriptCommand.TheVariants.{Publish
 use Rattle.live_script.specs.declared.script_fault.ScriptFault.{ScriptFault}
 use Rattle.live_script.specs.declared.script_fault.ScriptFault.TheVariants.{Malformed, Limit, ScriptTooLong, TooManyTables, Memory}
 use Rattle.live_script.specs.Scripts.{Spell, FitsAfter, tables_after, published, SpellAfter, IsShortScript, IsScript}
-use Rattle.live_script.specs.Refusals.{Announce, IsMalformedAfter, IsTableRefusedAfter, IsNinthTable, IsRefusedAfter, IsFirstRefusal, IsScriptRefusedFor}
+use Rattle.live_script.specs.ScriptRefusals.{Announce, IsMalformedAfter, IsTableRefusedAfter, IsNinthTable, IsRefusedAfter, IsFirstRefusal, IsScriptRefusedFor}
 use Rattle.live_script.specs.Laws.{OneScript, OneScriptRefusal, ScriptOrRefused}
 use Rattle.std.specs.Prelude.{codes}
-use Rattle.live_script.specs.inside.Words.{spaced}
+use Rattle.live_script.specs.inside.QuestionWords.{spaced}
 use Rattle.live_script.proofs.QuestionLines.{line_opened}
 use Rattle.live_script.proofs.OneCommand.{announces, one_text, one_command}
 use Rattle.live_script.proofs.TableLines.{one_announced, not_asked, announced_is_some}

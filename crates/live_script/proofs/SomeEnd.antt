@@ -3,13 +3,13 @@ use Rattle.std.proofs.Common.{◌≡◌, ℕ, zero, suc, ◌+◌, ◌<◌, ◌�
 use Rattle.std.proofs.lemmas.Bool.{cases_lt}
 use Rattle.controller_table.specs.declared.table_fault.TableFault.{TableFault}
 use Rattle.controller_table.specs.declared.table_fault.TableFault.TheVariants as tables
-use Rattle.controller_table.specs.Refusals.{line_count}
+use Rattle.controller_table.specs.TableRefusals.{line_count}
 use Rattle.live_script.specs.declared.command.ScriptCommand.{ScriptCommand}
 use Rattle.live_script.specs.declared.command.ScriptCommand.TheVariants.{Publish, Ask}
 use Rattle.live_script.specs.declared.script_fault.ScriptFault.{ScriptFault}
 use Rattle.live_script.specs.declared.script_fault.ScriptFault.TheVariants.{Malformed, Limit, ScriptTooLong, TooManyTables, Memory}
 use Rattle.live_script.specs.Scripts.{publish_line, ask_line, Spell, FitsAfter, tables_after, published, SpellAfter, IsShortScript}
-use Rattle.live_script.specs.Refusals.{Announce, IsMalformedAfter, IsTableRefusedAfter, IsRefusedAfter, IsFirstRefusal, IsScriptRefusedFor}
+use Rattle.live_script.specs.ScriptRefusals.{Announce, IsMalformedAfter, IsTableRefusedAfter, IsRefusedAfter, IsFirstRefusal, IsScriptRefusedFor}
 use Rattle.live_script.specs.Laws.{NoTextIsNeither, NoScriptIsNeither}
 use Rattle.live_script.proofs.Counting.{both_counted}
 use Rattle.live_script.proofs.TableLines.{ends_too_early}

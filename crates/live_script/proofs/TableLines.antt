@@ -7,13 +7,13 @@ use Rattle.std.specs.Fmt.{decimal, signed_decimal}
 use Rattle.plant_record.specs.Numbers.{IsLiteral}
 use Rattle.controller_table.specs.declared.table_fault.TableFault.{TableFault}
 use Rattle.controller_table.specs.declared.table_fault.TableFault.TheVariants as tables
-use Rattle.controller_table.specs.Refusals.{IsTableRefusedFor}
+use Rattle.controller_table.specs.TableRefusals.{IsTableRefusedFor}
 use Rattle.controller_table.proofs.Digits.{one_number}
 use Rattle.live_script.specs.declared.script_fault.ScriptFault.TheVariants.{Memory}
 use Rattle.live_script.specs.Scripts.{publish_line, ask_line}
-use Rattle.live_script.specs.Refusals.{Announce, IsMalformedAfter, IsRefusedAfter}
+use Rattle.live_script.specs.ScriptRefusals.{Announce, IsMalformedAfter, IsRefusedAfter}
 use Rattle.live_script.specs.inside.Faults.{of_table}
-use Rattle.live_script.specs.inside.Words.{BeginsWithSeparator, IsNumberAt, spaced}
+use Rattle.live_script.specs.inside.QuestionWords.{BeginsWithSeparator, IsNumberAt, spaced}
 use Rattle.live_script.proofs.WordsCut.{one_number_at}
 use Rattle.live_script.proofs.QuestionLines.{line_opened}
 

@@ -2,13 +2,13 @@
 use Rattle.std.proofs.Common.{◌≡◌, ℕ, ◌+◌, ◌<◌, List, ◌∷◌, ◌++◌, length, refl, ap, sym, ◌∙◌, arith, append_assoc, length-append}
 use Rattle.std.specs.Prelude.{ℤ}
 use Rattle.controller_table.specs.Tables.{TableModel, IsTableIn}
-use Rattle.controller_table.specs.Refusals.{line_count}
+use Rattle.controller_table.specs.TableRefusals.{line_count}
 use Rattle.live_script.specs.declared.command.ScriptCommand.TheVariants.{Publish, Ask}
 use Rattle.command_line.specs.Command.{AreStateNumbers}
 use Rattle.live_script.specs.Scripts.{publish_line, ask_line}
-use Rattle.live_script.specs.Refusals.{Announce}
-use Rattle.live_script.specs.Reading.{IsTaken}
-use Rattle.live_script.specs.inside.Words.{spaced}
+use Rattle.live_script.specs.ScriptRefusals.{Announce}
+use Rattle.live_script.specs.ScriptReading.{IsTaken}
+use Rattle.live_script.specs.inside.QuestionWords.{spaced}
 use Rattle.live_script.proofs.Counting.{one_in_question, one_before_table}
 use Rattle.live_script.proofs.QuestionLines.{line_opened}
 

@@ -9,7 +9,7 @@ use Rattle.plant_reading.proofs.lemmas.Positions.{position_some, position_none}
 use Rattle.plant_reading.proofs.lemmas.NumberBytes.{number_word}
 use Rattle.plant_reading.proofs.lemmas.NumberWords.{one_number}
 use Rattle.row_runs.proofs.Cuts.{one_cut}
-use Rattle.live_script.specs.inside.Words.{BeginsWithSeparator}
+use Rattle.live_script.specs.inside.QuestionWords.{BeginsWithSeparator}
 
 -- ---- the first separator
 

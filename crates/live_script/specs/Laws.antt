@@ -4,12 +4,12 @@ use Rattle.game_core.specs.declared.game.Row.{Row}
 use Rattle.plant_record.specs.Description.{Description}
 use Rattle.controller_table.specs.declared.table_fault.TableFault.{TableFault}
 use Rattle.controller_table.specs.Tables.{IsTable}
-use Rattle.controller_table.specs.Refusals.{IsTableRefusedFor}
+use Rattle.controller_table.specs.TableRefusals.{IsTableRefusedFor}
 use Rattle.live_script.specs.declared.command.ScriptCommand.{ScriptCommand}
 use Rattle.live_script.specs.declared.script_fault.ScriptFault.{ScriptFault}
 use Rattle.live_script.specs.Scripts.{IsScript}
 use Rattle.live_script.specs.LiveText.{IsLiveText}
-use Rattle.live_script.specs.Refusals.{IsScriptRefusedFor}
+use Rattle.live_script.specs.ScriptRefusals.{IsScriptRefusedFor}
 
 -- no bytes are a script of two lists of commands
 abbrev pub OneScript : Type 0

@@ -1,7 +1,7 @@
 pub mod Questions
 pub mod Scripts
 pub mod LiveText
-pub mod Refusals
-pub mod Reading
+pub mod ScriptRefusals
+pub mod ScriptReading
 pub mod Laws
 pub mod inside

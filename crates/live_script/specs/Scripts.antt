@@ -6,6 +6,7 @@ use Rattle.controller_table.specs.Tables.{TableModel, IsTableIn}
 use Rattle.live_script.specs.declared.command.ScriptCommand.{ScriptCommand}
 use Rattle.live_script.specs.declared.command.ScriptCommand.TheVariants.{Publish, Ask}
 use Rattle.command_line.specs.Command.{AreStateNumbers}
+use Rattle.base.specs.declared.limits.TheConstants.{SCRIPT_LIMIT}
 
 -- the line before a table's text of so many bytes
 abbrev pub publish_line : ℕ → List ℕ
@@ -49,7 +50,7 @@ SpellAfter tables bytes (c ∷ commands) =
 
 -- the script has at most 67,108,864 bytes
 abbrev pub IsShortScript : List ℕ → Type 0
-IsShortScript bytes = length bytes ≤ 67108864
+IsShortScript bytes = length bytes ≤ SCRIPT_LIMIT
 
 -- The bytes are a script of these commands, a table first.
 pub record IsScript (bytes : List ℕ) (commands : List ScriptCommand) : Type 0 where

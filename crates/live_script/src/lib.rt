@@ -15,5 +15,5 @@ mod script_fault;
 mod table_line;
 
 pub use command::ScriptCommand;
-pub use script::{SCRIPT_LIMIT, Script};
+pub use script::Script;
 pub use script_fault::ScriptFault;

@@ -2,14 +2,15 @@ ghost use Rattle.std.specs.Prelude.{◌≡◌, ℤ, ℕ, List, ◌∷◌, ◌++�
 ghost use Rattle.controller_table.specs.Found.{Finds};
 ghost use Rattle.command_line.specs.Command.{AreStateNumbers};
 ghost use Rattle.live_script.specs.Scripts.{ask_line};
-ghost use Rattle.live_script.specs.inside.Words.{IsNumberAt};
+ghost use Rattle.live_script.specs.inside.QuestionWords.{IsNumberAt};
 
 use crate::ask_numbers::number_at;
+use base::limits::STATES_LIMIT;
 use command_line::StateNumbers;
 use controller_table::after_prefix;
 
 /// The most numbers of a question: those of the states of a plant.
-const NUMBERS_LIMIT: u32 = 6;
+const NUMBERS_LIMIT: u32 = STATES_LIMIT as u32;
 
 /// The question whose line stands at the front, and what stands after it.
 pub(crate) fn question_at(bytes: &[u8]) -> Option<(StateNumbers, &[u8])>

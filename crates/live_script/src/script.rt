@@ -5,24 +5,20 @@ ghost use Rattle.controller_table.specs.Found.{Finds};
 ghost use Rattle.command_line.specs.Command.{AreStateNumbers};
 ghost use Rattle.live_script.specs.declared.script_fault.ScriptFault.TheVariants.{Memory};
 ghost use Rattle.live_script.specs.Scripts.{publish_line, ask_line, IsShortScript};
-ghost use Rattle.live_script.specs.Refusals.{IsRefusedAfter, IsScriptRefusedFor};
-ghost use Rattle.live_script.specs.Reading.{IsTaken};
+ghost use Rattle.live_script.specs.ScriptRefusals.{IsRefusedAfter, IsScriptRefusedFor};
+ghost use Rattle.live_script.specs.ScriptReading.{IsTaken};
 ghost use Rattle.live_script.specs.inside.Faults.{of_table};
+ghost use Rattle.base.specs.declared.limits.TheConstants.{SCRIPT_LIMIT};
 
 use crate::command::ScriptCommand;
 use crate::question_line::question_at;
 use crate::script_fault::ScriptFault;
 use crate::table_line::announced_at;
+use base::limits::{SCRIPT_LIMIT, TABLES_LIMIT};
 use command_line::StateNumbers;
 use controller_table::{Table, TableFault, line_count, read_table};
 use std::alloc::Global;
 use std::marker::Model;
-
-/// The most bytes of a script.
-pub const SCRIPT_LIMIT: usize = 67_108_864;
-
-/// The most tables of a script.
-const TABLES_LIMIT: u32 = 8;
 
 /// What of a script is still to be read. Seen as its bytes, the number of their first line, and how many tables are
 /// published before them.
@@ -35,7 +31,7 @@ pub struct Script<'a> {
 
 impl<'a> Model for Script<'a> {
     ghost use Rattle.std.specs.Prelude.{◌^◌, ◌+◌, ◌<◌, ◌≤◌, length};
-    ghost use Rattle.live_script.specs.Reading.{Unread};
+    ghost use Rattle.live_script.specs.ScriptReading.{Unread};
 
     ghost Value = { Unread };
 
@@ -108,7 +104,7 @@ fn table_at(
 ) -> Result<(Table, &[u8], &[u8]), ScriptFault>
     requires tables { tables ≤ 8 }
     requires line { line < 2 ^ 32 }
-    requires size { (1 ≤ size) × (size ≤ 67108864) }
+    requires size { (1 ≤ size) × (size ≤ SCRIPT_LIMIT) }
     ensures few { IfOk result (λ _. tables < 8) }
     ensures table { IfOk result (λ r. IsTableIn r.0.version r.1.now r.0.plant r.0.rows) }
     ensures cut { IfOk result (λ r. (length r.1.now ≡ size) × (bytes.now ≡ r.1.now ++ r.2.now)) }

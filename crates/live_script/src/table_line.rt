@@ -1,9 +1,11 @@
 ghost use Rattle.std.specs.Prelude.{◌≡◌, ◌≤◌, ℕ, List, pos, MatchOption};
 ghost use Rattle.controller_table.specs.Found.{Finds};
-ghost use Rattle.live_script.specs.Refusals.{Announce};
+ghost use Rattle.live_script.specs.ScriptRefusals.{Announce};
+ghost use Rattle.base.specs.declared.limits.TheConstants.{TABLE_LIMIT};
 
 use crate::ask_numbers::number_at;
-use controller_table::{TABLE_LIMIT, after_prefix};
+use base::limits::TABLE_LIMIT;
+use controller_table::after_prefix;
 
 /// The size of the table's text that is announced at the front, and what stands after that line.
 pub(crate) fn announced_at(bytes: &[u8]) -> Option<(usize, &[u8])>
@@ -18,7 +20,7 @@ pub(crate) fn announced_at(bytes: &[u8]) -> Option<(usize, &[u8])>
 
 /// The size of a table's text that may be announced.
 fn size_of(number: i64) -> Option<usize>
-    ensures { MatchOption result ((n : ℕ) → 1 ≤ n → n ≤ 67108864 → number ≡ pos n → ⊥) (λ n. (1 ≤ n) × (n ≤ 67108864) × (number ≡ pos n)) }
+    ensures { MatchOption result ((n : ℕ) → 1 ≤ n → n ≤ TABLE_LIMIT → number ≡ pos n → ⊥) (λ n. (1 ≤ n) × (n ≤ TABLE_LIMIT) × (number ≡ pos n)) }
 {
     if 1 <= number && number <= TABLE_LIMIT as i64 {
         Some(number as usize)

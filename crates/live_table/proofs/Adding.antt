@@ -6,7 +6,7 @@ use mathlib.Core.List.{IsPrefix}
 use prog.Atomic.{either}
 use Rattle.logbook.specs.Pages.{Cell, cell, keeps, no_nib, step, Moves, Goes}
 use Rattle.controller_table.specs.Tables.{TableModel}
-use Rattle.live_table.specs.inside.Rules.{IsKept, Adds}
+use Rattle.live_table.specs.inside.LiveProtocol.{IsKept, Adds}
 use Rattle.live_table.proofs.Prefixes.{prefix_whole}
 
 abbrev pub shown : List TableModel → List TableModel

@@ -2,7 +2,7 @@
 use Rattle.std.proofs.Common.{◌≡◌, ◌∙◌, Option, Some, subst, refl}
 use mathlib.Core.List.{IsPrefix}
 use Rattle.live_table.specs.Publishes.{Published}
-use Rattle.live_table.specs.inside.Rules.{Begins, Covers}
+use Rattle.live_table.specs.inside.LiveProtocol.{Begins, Covers}
 use Rattle.live_table.proofs.Prefixes.{prefix_self, prefix_trans}
 
 -- who knows a list covers it

@@ -6,7 +6,7 @@ use Rattle.left_right.specs.Register.{Admits, Turns, TurnsAt, Forks, Merges}
 use Rattle.atomic_table.proofs.Lists.{at_set, at_snoc}
 use Rattle.live_table.specs.declared.copy.LiveCopy.{LiveCopy}
 use Rattle.live_table.specs.Publishes.{Published}
-use Rattle.live_table.specs.inside.Rules.{Begins, AllBegin}
+use Rattle.live_table.specs.inside.LiveProtocol.{Begins, AllBegin}
 use Rattle.live_table.proofs.Prefixes.{prefix_self, prefix_trans}
 
 -- the rule

@@ -36,7 +36,7 @@ pub(crate) struct OneList;
 
 impl Protocol<LiveCopy, Option<Current>> for OneList {
     ghost use Rattle.std.specs.Prelude.{None};
-    ghost use Rattle.live_table.specs.inside.Rules.{AllBegin};
+    ghost use Rattle.live_table.specs.inside.LiveProtocol.{AllBegin};
 
     ghost holds = { λ copy views. AllBegin copy.current views };
 
@@ -48,7 +48,7 @@ pub(crate) struct Sees;
 
 impl Outcome<LiveCopy, Option<Current>> for Sees {
     ghost use Rattle.std.specs.Prelude.{◌≡◌};
-    ghost use Rattle.live_table.specs.inside.Rules.{Begins};
+    ghost use Rattle.live_table.specs.inside.LiveProtocol.{Begins};
 
     ghost then = { λ v x y w. Begins v y.current × (w ≡ y.current) };
 }

@@ -14,7 +14,7 @@ pub(crate) struct HistoryRule;
 impl Rule<Table, u64> for HistoryRule {
     ghost use Rattle.std.specs.Prelude.{[]};
     ghost use base.Fml.{ftrue};
-    ghost use Rattle.live_table.specs.inside.Rules.{IsKept};
+    ghost use Rattle.live_table.specs.inside.LiveProtocol.{IsKept};
 
     ghost holds = { λ cells log. IsKept cells log };
 
@@ -51,7 +51,7 @@ impl Opening<Table, Table> for BeginsWithOne {
 pub(crate) struct Add;
 
 impl Play<Table, u64> for Add {
-    ghost use Rattle.live_table.specs.inside.Rules.{Adds};
+    ghost use Rattle.live_table.specs.inside.LiveProtocol.{Adds};
 
     ghost then = { Adds };
 }
@@ -73,7 +73,7 @@ pub(crate) struct History {
 impl Model for History {
     ghost use Rattle.std.specs.Prelude.{◌≡◌};
     ghost use Rattle.logbook.specs.Pages.{Book, book_coded};
-    ghost use Rattle.live_table.specs.inside.Rules.{head_of};
+    ghost use Rattle.live_table.specs.inside.LiveProtocol.{head_of};
 
     ghost Value = { Book };
 

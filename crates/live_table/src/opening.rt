@@ -1,5 +1,6 @@
 ghost use Rattle.std.specs.Prelude.{◌≡◌, ◌≤◌, [], ◌∷◌, vec_len, All, IfOk};
 ghost use Rattle.live_table.specs.Publishes.{newcomer};
+ghost use Rattle.base.specs.declared.limits.TheConstants.{WORKERS_LIMIT};
 
 use crate::copy::LiveCopy;
 use crate::current::Current;
@@ -20,7 +21,7 @@ pub fn open<R: Wait>(
     first: Table,
     readers: u32,
 ) -> Result<(Publisher, Vec<Reader>), LiveFault>
-    requires { (1 ≤ readers) × (readers ≤ 64) }
+    requires { (1 ≤ readers) × (readers ≤ WORKERS_LIMIT) }
     ensures publisher { IfOk result (λ o. o.0.list ≡ first ∷ []) }
     ensures count { IfOk result (λ o. vec_len o.1 ≡ readers) }
     ensures readers { IfOk result (λ o. All (λ r. r ≡ newcomer o.0) o.1.items) }
@@ -42,7 +43,7 @@ fn publisher_of<R: Wait>(
     first: Table,
     readers: u32,
 ) -> Result<Publisher, LiveFault>
-    requires { (1 ≤ readers) × (readers ≤ 64) }
+    requires { (1 ≤ readers) × (readers ≤ WORKERS_LIMIT) }
     ensures { IfOk result (λ p. p.list ≡ first ∷ []) }
 {
     let Ok(copies) = Writer::new(

@@ -2,7 +2,7 @@ ghost use Rattle.std.specs.Prelude.{◌≡◌, ◌+◌, ◌<◌, ◌^◌, length
 ghost use mathlib.Core.List.{IsPrefix};
 ghost use Rattle.left_right.specs.Sides.{view as known};
 ghost use Rattle.live_table.specs.Publishes.{LastChooses, with_table};
-ghost use Rattle.live_table.specs.inside.Rules.{Begins, IsInForce};
+ghost use Rattle.live_table.specs.inside.LiveProtocol.{Begins, IsInForce};
 
 use crate::copy::{CopyReader, CopyWriter, Sees, Tells};
 use crate::current::Current;
@@ -32,7 +32,7 @@ impl Model for Publisher {
     ghost use Rattle.std.specs.Prelude.{◌≡◌};
     ghost use Rattle.left_right.specs.Sides.{view as known};
     ghost use Rattle.live_table.specs.Publishes.{Published};
-    ghost use Rattle.live_table.specs.inside.Rules.{IsInForce};
+    ghost use Rattle.live_table.specs.inside.LiveProtocol.{IsInForce};
 
     ghost Value = { Published };
 

@@ -1,7 +1,7 @@
 ghost use Rattle.std.specs.Prelude.{◌≡◌, MatchResult};
 ghost use Rattle.left_right.specs.Sides.{view as known};
 ghost use Rattle.live_table.specs.Publishes.{Answers, longer};
-ghost use Rattle.live_table.specs.inside.Rules.{Looked};
+ghost use Rattle.live_table.specs.inside.LiveProtocol.{Looked};
 
 use crate::copy::{CopyReader, Sees};
 use crate::live_fault::LiveFault;
@@ -34,7 +34,7 @@ impl Model for Reader {
     ghost use Rattle.std.specs.Prelude.{◌≡◌};
     ghost use Rattle.left_right.specs.Sides.{view as known};
     ghost use Rattle.live_table.specs.Publishes.{Listener};
-    ghost use Rattle.live_table.specs.inside.Rules.{Covers};
+    ghost use Rattle.live_table.specs.inside.LiveProtocol.{Covers};
 
     ghost Value = { Listener };
 

@@ -21,7 +21,7 @@ impl Model for Told {
     ghost use Rattle.fixed_expr.specs.inside.Postfix.{expression_code};
     ghost use Rattle.left_right.specs.Sides.{view as known};
     ghost use Rattle.live_table.specs.Publishes.{Published};
-    ghost use Rattle.live_table.specs.inside.Rules.{Covers};
+    ghost use Rattle.live_table.specs.inside.LiveProtocol.{Covers};
 
     ghost Value = { Published };
 

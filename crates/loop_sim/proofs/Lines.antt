@@ -12,7 +12,7 @@ use Rattle.row_runs.specs.RunText.{rank_field, input_field}
 use Rattle.controller_table.specs.TableText.{format_of}
 use Rattle.loop_sim.specs.declared.sim_line.SimLine.TheVariants.{At, Lost}
 use Rattle.loop_sim.specs.TraceText.{line_text, state_words}
-use Rattle.loop_sim.specs.inside.States.{state_text}
+use Rattle.loop_sim.specs.inside.StateText.{state_text}
 
 -- a word with a space before it
 abbrev pub spaced : List ℕ → List ℕ

@@ -4,6 +4,7 @@ ghost use Rattle.std.specs.Prelude.{◌≡◌, ◌+◌, ◌/◌, ◌%◌, ◌^�
 ghost use Rattle.grid_quantiser.specs.Cells.{point_of};
 ghost use Rattle.plant_record.specs.Limits.{IsWithinLimits};
 ghost use Rattle.loop_sim.specs.Noise.{generator, next_state, noises_from};
+ghost use Rattle.base.specs.declared.limits.TheConstants.{NUMBER_LIMIT};
 
 use grid_quantiser::Point;
 use plant_record::Plant;
@@ -39,8 +40,8 @@ fn next_state(state: u64) -> u64
 
 /// The number of a range that a state of the generator gives.
 fn noise_of(low: i128, high: i128, state: u64) -> i128
-    requires low { nat_abs low < 10 ^ 18 }
-    requires high { nat_abs high < 10 ^ 18 }
+    requires low { nat_abs low < NUMBER_LIMIT }
+    requires high { nat_abs high < NUMBER_LIMIT }
     ensures { result ≡ low +ℤ pos (state / 2 ^ 33 % (nat_abs (high -ℤ low) + 1)) }
 {
     low + i128::from((state >> 33) % count(low, high))
@@ -48,8 +49,8 @@ fn noise_of(low: i128, high: i128, state: u64) -> i128
 
 /// How many numbers a range has.
 fn count(low: i128, high: i128) -> u64
-    requires low { nat_abs low < 10 ^ 18 }
-    requires high { nat_abs high < 10 ^ 18 }
+    requires low { nat_abs low < NUMBER_LIMIT }
+    requires high { nat_abs high < NUMBER_LIMIT }
     ensures count { result ≡ nat_abs (high -ℤ low) + 1 }
     ensures bound { result < 2 ^ 62 }
 {

@@ -4,6 +4,7 @@ ghost use Rattle.grid_quantiser.specs.Cells.{point_of};
 ghost use Rattle.controller_table.specs.Choice.{HasRowAt};
 ghost use Rattle.successor_box.specs.Deviations.{HasNoOverflow, deviations_of};
 ghost use Rattle.loop_sim.specs.Trace.{trace_lines};
+ghost use Rattle.base.specs.declared.limits.TheConstants.{SAMPLES_LIMIT};
 
 use crate::closed_loop::{Sample, Stage, first_line, row_at};
 use crate::sim_line::SimLine;
@@ -43,7 +44,7 @@ impl<'a> Sim<'a> {
     pub fn new(t: &'a Table, s: &'a Slopes, x: &Point, seed: u64, steps: u32) -> Option<Sim<'a>>
         requires slopes { s.now ≡ deviations_of t.now.plant }
         requires fits { HasNoOverflow t.now.plant }
-        requires steps { steps ≤ 1000000 }
+        requires steps { steps ≤ SAMPLES_LIMIT }
         ensures { SomeIff result ((row : Row) × HasRowAt t.now.plant t.now.rows x.now row) (trace_lines t.now.plant t.now.rows seed steps 0 (point_of (take (length t.now.plant.states) x.now))) }
     {
         every_table_fits(t);

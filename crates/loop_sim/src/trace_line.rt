@@ -3,7 +3,8 @@
 ghost use Rattle.std.specs.Prelude.{◌≡◌, ◌+◌, ◌*◌, ◌<◌, ◌≤◌, ◌∷◌, ◌++◌, [], length};
 ghost use Rattle.std.specs.Fmt.{decimal};
 ghost use Rattle.loop_sim.specs.TraceText.{line_text, first_line};
-ghost use Rattle.loop_sim.specs.inside.States.{state_text};
+ghost use Rattle.loop_sim.specs.inside.StateText.{state_text};
+ghost use Rattle.row_runs.specs.declared.line_text.TheConstants.{LINE_CAPACITY};
 
 use crate::sim_line::SimLine;
 use controller_table::format_of;
@@ -66,7 +67,7 @@ fn write_event(text: &mut LineText, word: &[u8], time: u32)
 
 /// Puts the numbers before the rest, each with a space before it.
 fn put_state_before(text: &mut LineText, x: &[i128])
-    requires { 41 * length x.now + length text.old ≤ 320 }
+    requires { 41 * length x.now + length text.old ≤ LINE_CAPACITY }
     ensures text { text.new ≡ state_text x.now ++ text.old }
     ensures length { length text.new ≤ 41 * length x.now + length text.old }
     ensures grows { length text.old ≤ length text.new }

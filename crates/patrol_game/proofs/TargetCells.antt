@@ -3,13 +3,13 @@ use Rattle.std.proofs.Common.{inl, inr, ◌≡◌, ◌⊎◌, ℕ, ◌<◌, List
 use Rattle.std.proofs.lemmas.Int.{ints, by_lt_z}
 use Rattle.grid_quantiser.specs.declared.axis.Axis.{Axis}
 use Rattle.grid_quantiser.specs.Axes.{IsAxis, cells_of}
-use Rattle.grid_quantiser.specs.Boxes.{IsAtMost, LiesInside}
+use Rattle.grid_quantiser.specs.CellBoxes.{IsAtMost, LiesInside}
 use Rattle.grid_quantiser.specs.Cells.{low_of, high_of}
 use Rattle.game_core.specs.declared.game.Mark.{Mark}
 use Rattle.game_core.specs.declared.game.Mark.TheVariants.{Goal, Obstacle, Plain}
 use Rattle.game_core.specs.Game.{Game, mark_of}
 use Rattle.plant_record.specs.Description.{Description, axes_of}
-use Rattle.plant_record.specs.Marks.{IsObstacleCell}
+use Rattle.plant_record.specs.CellMarks.{IsObstacleCell}
 use Rattle.plant_record.specs.Plants.{IsPlant}
 use Rattle.plant_game.specs.Abstraction.{IsGameOf}
 use Rattle.grid_quantiser.proofs.CellPoints.{ends_from_inside, inside_from_ends}

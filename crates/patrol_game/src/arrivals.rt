@@ -52,15 +52,15 @@ impl Arrivals {
     }
 
     /// Arrivals without a row are arrivals no more. Answers whether there was one.
-    pub(crate) fn remove_lost(&mut self, rows: &Answer) -> bool
-        requires { length rows.now ≡ length self.old }
-        ensures marks { self.new ≡ withdrawn self.old rows.now }
+    pub(crate) fn remove_lost(&mut self, answer: &Answer) -> bool
+        requires { length answer.now ≡ length self.old }
+        ensures marks { self.new ≡ withdrawn self.old answer.now }
         ensures same { result ≡ false → self.new ≡ self.old }
         ensures fewer { result ≡ true → count_by is_goal self.new < count_by is_goal self.old }
     {
         let mut found = false;
-        for c in 0..rows.cells() {
-            if is_gone(self.marks[c as usize], rows.row(c)) {
+        for c in 0..answer.cells() {
+            if is_gone(self.marks[c as usize], answer.row(c)) {
                 self.marks[c as usize] = Mark::Plain;
                 found = true;
             }

@@ -9,17 +9,17 @@ ghost use Rattle.patrol_game.specs.inside.BestRows.{IsRankAfter, better};
 use game_core::{Answer, Graph, Row};
 
 /// One more than the least rank after an input, and the least such input.
-pub(crate) fn best_row<G: Graph>(g: &G, rows: &Answer, c: u32) -> Option<Row>
-    requires one_each { length rows.now ≡ (G.game g.now).cells }
-    requires ranks { (s : ℕ) (row : Row) → row_of rows.now s ≡ Some row → row.rank < (G.game g.now).cells }
+pub(crate) fn best_row<G: Graph>(g: &G, answer: &Answer, c: u32) -> Option<Row>
+    requires one_each { length answer.now ≡ (G.game g.now).cells }
+    requires ranks { (s : ℕ) (row : Row) → row_of answer.now s ≡ Some row → row.rank < (G.game g.now).cells }
     requires cell { c < (G.game g.now).cells }
-    ensures { IsRightPlain (G.game g.now) rows.now c result }
+    ensures { IsRightPlain (G.game g.now) answer.now c result }
 {
     let inputs = g.inputs();
     let first = c * inputs;
     let mut best = None;
     for input in 0..inputs {
-        if let Some(rank) = rank_after(g, rows, first + input) {
+        if let Some(rank) = rank_after(g, answer, first + input) {
             best = better(
                 best,
                 Row {
@@ -33,10 +33,10 @@ pub(crate) fn best_row<G: Graph>(g: &G, rows: &Answer, c: u32) -> Option<Row>
 }
 
 /// The greatest rank after a pair; None where its input isn't enabled, or a successor has no row.
-fn rank_after<G: Graph>(g: &G, rows: &Answer, pair: u32) -> Option<u32>
-    requires one_each { length rows.now ≡ (G.game g.now).cells }
+fn rank_after<G: Graph>(g: &G, answer: &Answer, pair: u32) -> Option<u32>
+    requires one_each { length answer.now ≡ (G.game g.now).cells }
     requires pair { pair < pairs_of (G.game g.now) }
-    ensures { IsRankAfter rows.now (successors_at (G.game g.now) pair) result }
+    ensures { IsRankAfter answer.now (successors_at (G.game g.now) pair) result }
 {
     let fan = g.fan(pair);
     if fan == 0 {
@@ -44,7 +44,7 @@ fn rank_after<G: Graph>(g: &G, rows: &Answer, pair: u32) -> Option<u32>
     }
     let mut greatest = 0;
     for at in 0..fan {
-        let row = rows.row(g.successor(pair, at))?;
+        let row = answer.row(g.successor(pair, at))?;
         greatest = greatest.max(row.rank);
     }
     Some(greatest)

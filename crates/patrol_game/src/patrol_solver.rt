@@ -4,6 +4,7 @@ ghost use Rattle.plant_game.specs.Abstraction.{IsGameOf};
 ghost use Rattle.patrol_game.specs.Targets.{IsInTarget};
 ghost use Rattle.patrol_game.specs.Patrol.{IsPatrol};
 ghost use Rattle.patrol_game.specs.inside.PatrolSearch.{IsAtStart};
+ghost use Rattle.base.specs.declared.limits.TheConstants.{TURNS_LIMIT, WORKERS_LIMIT};
 
 use crate::patrol_rows::PatrolRows;
 use crate::turns::PatrolSearch;
@@ -25,8 +26,8 @@ pub fn patrol<R: Threads + Sync, G: Graph + Sync, T: Gate>(
     gate: &T,
 ) -> Result<PatrolRows, NoMemory>
     requires game { IsGameOf p.now (G.game g.now) }
-    requires workers { (1 ≤ workers) × (workers ≤ 64) }
-    requires size { (G.game g.now).cells * length p.now.targets ≤ 4194304 }
+    requires workers { (1 ≤ workers) × (workers ≤ WORKERS_LIMIT) }
+    requires size { (G.game g.now).cells * length p.now.targets ≤ TURNS_LIMIT }
     ensures { IfOk result (IsPatrol (G.game g.now) (IsInTarget p.now) (length p.now.targets)) }
 {
     let mut turns = first_turns(rt, alloc, g, p, workers, gate)?;
@@ -47,7 +48,7 @@ fn first_turns<R: Threads + Sync, G: Graph + Sync, T: Gate>(
     gate: &T,
 ) -> Result<PatrolSearch, NoMemory>
     requires game { IsGameOf p.now (G.game g.now) }
-    requires workers { (1 ≤ workers) × (workers ≤ 64) }
+    requires workers { (1 ≤ workers) × (workers ≤ WORKERS_LIMIT) }
     ensures { IfOk result (IsAtStart p.now (G.game g.now)) }
 {
     let kept = keep(rt, alloc, g, workers, gate)?.answer;

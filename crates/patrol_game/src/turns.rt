@@ -4,6 +4,7 @@ ghost use Rattle.std.specs.Option.{IfNone};
 ghost use Rattle.plant_game.specs.Abstraction.{IsGameOf};
 ghost use Rattle.game_core.specs.Keep.{IsKeepSolution};
 ghost use Rattle.patrol_game.specs.inside.PatrolSearch.{PatrolProgress, marks_for, is_due, AreLaterReachRows, AreTurnMarks, IsAtStart, IsBefore, IsStableAt};
+ghost use Rattle.base.specs.declared.limits.TheConstants.{WORKERS_LIMIT};
 
 use crate::arrivals::Arrivals;
 use crate::best_row::best_row;
@@ -38,10 +39,10 @@ impl PatrolSearch {
         alloc: Global,
         g: &G,
         p: &Plant,
-        kept: &Answer,
+        kept_answer: &Answer,
     ) -> Result<PatrolSearch, NoMemory>
         requires game { IsGameOf p.now (G.game g.now) }
-        requires kept { IsKeepSolution (G.game g.now) kept.now }
+        requires kept { IsKeepSolution (G.game g.now) kept_answer.now }
         ensures { IfOk result (IsAtStart p.now (G.game g.now)) }
     {
         let turns = p.targets();
@@ -50,7 +51,7 @@ impl PatrolSearch {
         let mut rows = Vec::new(alloc);
         for turn in 0..turns {
             let mut first = Arrivals::in_target(alloc, g, p, turn)?;
-            first.remove_lost(kept);
+            first.remove_lost(kept_answer);
             arrivals.push(first).map_err(|_| NoMemory)?;
             let blank = Answer::blank(alloc, 0)?;
             rows.push(blank).map_err(|_| NoMemory)?;
@@ -89,7 +90,7 @@ impl PatrolSearch {
         requires turn { turn < length self.old.due }
         requires one_each { (length self.old.marks ≡ length self.old.due) × (length self.old.rows ≡ length self.old.due) × (length self.old.due < 2 ^ 32) }
         requires marks { (j : ℕ) → j < length self.old.due → AreTurnMarks (G.game g.now) (λ _. Unit {0}) (marks_for self.old.marks j) }
-        requires workers { (1 ≤ workers) × (workers ≤ 64) }
+        requires workers { (1 ≤ workers) × (workers ≤ WORKERS_LIMIT) }
         ensures { IfOk result (λ _. (before : ℕ) × IsBefore (length self.old.due) turn before × IsStableAt (G.game g.now) turn before self.old self.new) }
     {
         let rows = later_reach_rows(rt, alloc, g, &self.arrivals[turn as usize], workers, gate)?;
@@ -120,7 +121,7 @@ fn later_reach_rows<R: Threads + Sync, G: Graph + Sync, T: Gate>(
     gate: &T,
 ) -> Result<Answer, NoMemory>
     requires marks { AreTurnMarks (G.game g.now) (λ _. Unit {0}) arrivals.now }
-    requires workers { (1 ≤ workers) × (workers ≤ 64) }
+    requires workers { (1 ≤ workers) × (workers ≤ WORKERS_LIMIT) }
     ensures { IfOk result (AreLaterReachRows (G.game g.now) arrivals.now) }
 {
     let game = Remark::new(g, arrivals.marks());

@@ -3,12 +3,12 @@ use Rattle.std.proofs.Common.{◌≡◌, ℕ, zero, suc, ◌+◌, ◌*◌, ◌/�
 use Rattle.std.specs.Prelude.{sum_by, slice_index_or, AllPairs}
 use Rattle.std.proofs.lemmas.List.Kept.{AllPairs-from_increasing}
 use Rattle.std.proofs.lemmas.List.{ext_get_or}
-use Rattle.grid_quantiser.specs.Boxes.{AreCellsMeeting}
+use Rattle.grid_quantiser.specs.CellBoxes.{AreCellsMeeting}
 use Rattle.plant_record.specs.Description.{Description, axes_of, vectors_of}
 use Rattle.plant_record.specs.Soundness.{IsSound}
 use Rattle.grid_quantiser.specs.Axes.{cells_of}
 use Rattle.game_core.specs.Game.{Game}
-use Rattle.successor_box.specs.Boxes.{IsEnabledAt, AreSuccessors, low_corner, high_corner}
+use Rattle.successor_box.specs.SuccessorBoxes.{IsEnabledAt, AreSuccessors, low_corner, high_corner}
 use Rattle.successor_box.proofs.Enabled.{enabled_exactly}
 use Rattle.plant_record.proofs.lemmas.SoundPlants as plants
 use Rattle.plant_game.specs.Abstraction.{IsGameOf, pairs_of, pair_of}

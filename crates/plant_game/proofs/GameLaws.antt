@@ -12,11 +12,11 @@ use Rattle.game_core.specs.declared.game.Mark.TheVariants.{Goal, Obstacle}
 use Rattle.game_core.specs.Game.{Game, IsEnabled, mark_of, pair_of, successors_of}
 use Rattle.game_core.specs.Solution.{row_of}
 use Rattle.game_core.proofs.Rows.{successors_below}
-use Rattle.grid_quantiser.specs.Boxes.{IsInBox, Touches, LiesInside}
+use Rattle.grid_quantiser.specs.CellBoxes.{IsInBox, Touches, LiesInside}
 use Rattle.grid_quantiser.specs.Cells.{IsInDomain, cell_of}
 use Rattle.plant_record.specs.declared.aims.StateBox.{StateBox}
 use Rattle.plant_record.specs.Description.{Description, axes_of}
-use Rattle.plant_record.specs.Marks.{IsGoalCell, IsObstacleCell}
+use Rattle.plant_record.specs.CellMarks.{IsGoalCell, IsObstacleCell}
 use Rattle.plant_record.specs.Plants.{IsPlant}
 use Rattle.plant_record.specs.States.{LiesInSome, IsClear}
 use Rattle.plant_record.specs.Steps.{step_of, IsNoise}

@@ -12,11 +12,11 @@ use Rattle.grid_quantiser.specs.declared.axis.Axis.{Axis}
 use Rattle.grid_quantiser.specs.declared.boxes.CellBox.{CellBox}
 use Rattle.rayon.proofs.ListFacts.{All-parts}
 use Rattle.grid_quantiser.specs.Axes.{cells_of}
-use Rattle.grid_quantiser.specs.Boxes.{IsBoxWith, IsCellBox, cells_between}
+use Rattle.grid_quantiser.specs.CellBoxes.{IsBoxWith, IsCellBox, cells_between}
 use Rattle.grid_quantiser.specs.Segments.{BeginsWithSegment}
 use Rattle.game_core.specs.declared.game.Mark.{Mark}
 use Rattle.game_core.specs.declared.game.Mark.TheVariants.{Plain}
-use Rattle.successor_box.specs.Boxes.{cells_in}
+use Rattle.successor_box.specs.SuccessorBoxes.{cells_in}
 use Rattle.plant_game.specs.Marks.{AreMarked}
 
 -- the same cells by another property

@@ -7,7 +7,7 @@ use Rattle.game_core.proofs.Promises.{one_solution}
 use Rattle.plant_record.specs.declared.aims.GoalKind.{GoalKind}
 use Rattle.plant_record.specs.declared.aims.GoalKind.TheVariants.{Reach, Keep}
 use Rattle.plant_game.specs.Laws.{OneSolutionPerPlant}
-use Rattle.plant_game.specs.Solution.{Solves}
+use Rattle.plant_game.specs.PlantSolution.{Solves}
 use Rattle.plant_game.proofs.OneGame.{one_game}
 
 -- rows that solve a game are determined

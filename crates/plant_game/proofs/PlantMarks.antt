@@ -8,7 +8,7 @@ use Rattle.game_core.specs.declared.game.Mark.{Mark}
 use Rattle.game_core.specs.declared.game.Mark.TheVariants.{Goal, Obstacle, Plain}
 use Rattle.plant_record.specs.declared.aims.StateBox.{StateBox}
 use Rattle.plant_record.specs.Description.{Description, axes_of}
-use Rattle.plant_record.specs.Marks.{IsObstacleCell}
+use Rattle.plant_record.specs.CellMarks.{IsObstacleCell}
 use Rattle.plant_game.specs.Marks.{LiesInSomeTarget, AreMarked, AreMarksOf}
 use Rattle.plant_game.proofs.Marking.{marked_likewise, none_marked, more_marked}
 

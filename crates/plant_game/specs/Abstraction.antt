@@ -5,8 +5,8 @@ use Rattle.grid_quantiser.specs.Axes.{cells_of}
 use Rattle.game_core.specs.declared.game.Mark.TheVariants.{Goal, Obstacle}
 use Rattle.game_core.specs.Game.{Game, IsGame, mark_of, successors_of}
 use Rattle.plant_record.specs.Description.{Description, axes_of, vectors_of}
-use Rattle.plant_record.specs.Marks.{IsGoalCell, IsObstacleCell}
-use Rattle.successor_box.specs.Boxes.{AreSuccessors, IsBoxOf}
+use Rattle.plant_record.specs.CellMarks.{IsGoalCell, IsObstacleCell}
+use Rattle.successor_box.specs.SuccessorBoxes.{AreSuccessors, IsBoxOf}
 
 -- A game is the game of a plant.
 pub record IsGameOf (p : Description) (g : Game) : Type 0 where

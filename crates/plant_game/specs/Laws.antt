@@ -6,7 +6,7 @@ use Rattle.plant_record.specs.Description.{Description}
 use Rattle.plant_record.specs.Plants.{IsPlant}
 use Rattle.plant_game.specs.Abstraction.{IsGameOf, AreEdges}
 use Rattle.plant_game.specs.Refinement.{IsRefinement}
-use Rattle.plant_game.specs.Solution.{IsSolutionOf}
+use Rattle.plant_game.specs.PlantSolution.{IsSolutionOf}
 
 -- a plant has one game at most
 abbrev pub OneGamePerPlant : Type 0

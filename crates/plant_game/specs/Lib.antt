@@ -1,5 +1,5 @@
 pub mod Abstraction
 pub mod Marks
-pub mod Solution
+pub mod PlantSolution
 pub mod Refinement
 pub mod Laws

@@ -2,12 +2,12 @@
 use Rattle.std.specs.Prelude.{◌≡◌, ◌⊎◌, ℕ, ◌<◌, ◌↔◌, List, [], length, slice_index_or}
 use Rattle.std.specs.List.{Any}
 use Rattle.grid_quantiser.specs.Axes.{cells_of}
-use Rattle.grid_quantiser.specs.Boxes.{LiesInside}
+use Rattle.grid_quantiser.specs.CellBoxes.{LiesInside}
 use Rattle.game_core.specs.declared.game.Mark.{Mark}
 use Rattle.game_core.specs.declared.game.Mark.TheVariants.{Goal, Obstacle, Plain}
 use Rattle.plant_record.specs.declared.aims.StateBox.{StateBox}
 use Rattle.plant_record.specs.Description.{Description, axes_of}
-use Rattle.plant_record.specs.Marks.{IsGoalCell, IsObstacleCell}
+use Rattle.plant_record.specs.CellMarks.{IsGoalCell, IsObstacleCell}
 
 -- the mark of a cell
 abbrev pub IsMarkAt : Description → ℕ → Mark → Type 0

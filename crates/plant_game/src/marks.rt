@@ -2,11 +2,11 @@
 ghost use Rattle.std.specs.Prelude.{◌≡◌, ◌<◌, length, IfOk, IfSome};
 ghost use Rattle.std.specs.List.{All, Contains};
 ghost use Rattle.grid_quantiser.specs.Axes.{cells_of};
-ghost use Rattle.grid_quantiser.specs.Boxes.{IsCellBox};
+ghost use Rattle.grid_quantiser.specs.CellBoxes.{IsCellBox};
 ghost use Rattle.game_core.specs.declared.game.Mark.TheVariants.{Goal, Obstacle};
 ghost use Rattle.plant_record.specs.Description.{axes_of};
-ghost use Rattle.plant_record.specs.Marks.{IsObstacleCell};
-ghost use Rattle.successor_box.specs.Boxes.{cells_in};
+ghost use Rattle.plant_record.specs.CellMarks.{IsObstacleCell};
+ghost use Rattle.successor_box.specs.SuccessorBoxes.{cells_in};
 ghost use Rattle.plant_game.specs.Marks.{LiesInTarget, LiesInSomeTarget, AreMarked, AreMarksOf};
 
 use game_core::Mark;

@@ -10,7 +10,7 @@ use Rattle.plant_record.specs.declared.aims.StateBox.{StateBox}
 use Rattle.plant_record.specs.declared.aims.GoalKind.{GoalKind}
 use Rattle.plant_record.specs.declared.version.PlantVersion.{PlantVersion}
 use Rattle.plant_record.specs.Variables.{IsStateVariable, IsInputVariable, IsNoiseVariable}
-use Rattle.plant_record.specs.Boxes.{IsStateBox}
+use Rattle.plant_record.specs.StateBoxes.{IsStateBox}
 use Rattle.plant_record.specs.Spelling.{version_word, end_words, goal_word}
 use Rattle.plant_reading.specs.Tokens.{tokens_of}
 use Rattle.plant_reading.specs.SyntaxTrees.{AreTokensOf}

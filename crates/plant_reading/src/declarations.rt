@@ -10,14 +10,12 @@ ghost use Rattle.plant_reading.specs.inside.LineReaders.{HasWholeCells, StartsWi
 use crate::line_fault::LineFault;
 use crate::words::blanks::next_word;
 use crate::words::expected::{expect_end, expect_number, name_in, number_in, only_word};
+use base::limits::VALUES_LIMIT;
 use plant_record::{
     GoalKind, InputVariable, Name, NoiseVariable, PlantVersion, StateVariable, Values,
     numbers_along,
 };
 use std::alloc::Global;
-
-/// The most values of an input variable.
-const VALUES_LIMIT: usize = 64;
 
 /// `1` or `2`.
 pub fn version_in(bytes: &[u8]) -> Result<PlantVersion, LineFault>

@@ -13,22 +13,15 @@ ghost use Rattle.plant_reading.specs.inside.ExpressionItems.{nodes_made, open_br
 ghost use Rattle.plant_reading.specs.inside.TokenReaders.{Gives};
 ghost use Rattle.plant_record.specs.Parts.{variable_names};
 ghost use Rattle.plant_reading.specs.inside.ExpressionMachine.{pendings_of, machine_of, close_bracket, take_points, take_comma, take_operand, take_after_term, take_after_sum, stepped, IsEnd, counts_after, AreWithinLimits};
+ghost use Rattle.base.specs.declared.limits.TheConstants.{BRACKETS_LIMIT, VARIABLES_LIMIT};
 
 use crate::frames::{Frame, Stack};
 use crate::items::{Bracket, Item, next_item};
 use crate::line_fault::LineFault;
+use base::limits::{BRACKETS_LIMIT, DEPTH_LIMIT, NODES_LIMIT};
 use fixed_expr::{Curve, Expr};
 use plant_record::Variables;
 use std::alloc::Global;
-
-/// The most nodes of an expression.
-const NODE_LIMIT: u32 = 256;
-
-/// The most brackets that are open at once.
-const BRACKET_LIMIT: u32 = 64;
-
-/// The most nodes one below another.
-const DEPTH_LIMIT: u32 = 64;
 
 /// How many nodes there are, and how many open brackets.
 #[derive(Clone, Copy)]
@@ -47,7 +40,7 @@ fn nodes_made(item: &Item) -> u32
 }
 
 fn open_brackets_after(open_before: u32, item: &Item) -> u32
-    requires { open_before ≤ 64 }
+    requires { open_before ≤ BRACKETS_LIMIT }
     ensures { result ≡ open_brackets_after open_before item.now }
 {
     match item {
@@ -64,7 +57,7 @@ fn counts_after(counts: Counts, item: &Item) -> Option<Counts>
 {
     let nodes = counts.nodes + nodes_made(item);
     let brackets = open_brackets_after(counts.brackets, item);
-    if nodes > NODE_LIMIT || brackets > BRACKET_LIMIT {
+    if nodes > NODES_LIMIT || brackets > BRACKETS_LIMIT {
         return None;
     }
     Some(Counts { nodes, brackets })
@@ -250,7 +243,7 @@ impl ExpressionReader {
         variables: &Variables,
         bytes: &[u8],
     ) -> Result<(), LineFault>
-        requires few { length (variable_names variables.now) ≤ 15 }
+        requires few { length (variable_names variables.now) ≤ VARIABLES_LIMIT }
         requires differ { AllPairs (λ a b. a ≢ b) (variable_names variables.now) }
         requires names { All IsName (variable_names variables.now) }
         requires machine { machine_of self.old ≡ (None, []) }
@@ -303,7 +296,7 @@ fn is_within(e: &Expr, limit: u32) -> bool
 
 /// Reads an expression over the variables.
 pub fn expression_in(alloc: Global, variables: &Variables, rest: &[u8]) -> Result<Expr, LineFault>
-    requires few { length (variable_names variables.now) ≤ 15 }
+    requires few { length (variable_names variables.now) ≤ VARIABLES_LIMIT }
     requires differ { AllPairs (λ a b. a ≢ b) (variable_names variables.now) }
     requires names { All IsName (variable_names variables.now) }
     ensures found { IfOk result (λ e. AreTokensOf (variable_names variables.now) (flat_map tokens_of (words_of rest.now)) (expression_of e)) }

@@ -7,6 +7,7 @@ ghost use Rattle.plant_reading.specs.inside.LineTokens.{tokens_in};
 ghost use Rattle.plant_reading.specs.inside.ExpressionItems.{AreNames, function_of, symbol_of, leaf_of, item_of, divided, opened, plain_after, comma_after, item_after, next_item};
 ghost use Rattle.plant_reading.specs.inside.TokenReaders.{Gives};
 ghost use Rattle.plant_record.specs.Parts.{variable_names};
+ghost use Rattle.base.specs.declared.limits.TheConstants.{VARIABLES_LIMIT};
 
 use crate::line_fault::LineFault;
 use crate::literals::literal_of;
@@ -68,7 +69,7 @@ fn symbol_of(token: &[u8]) -> Option<Item>
 }
 
 fn leaf_of(variables: &Variables, token: &[u8]) -> Option<Item>
-    requires few { length (variable_names variables.now) ≤ 15 }
+    requires few { length (variable_names variables.now) ≤ VARIABLES_LIMIT }
     requires names { AreNames (variable_names variables.now) }
     ensures { result ≡ leaf_of (variable_names variables.now) token.now }
 {
@@ -80,7 +81,7 @@ fn leaf_of(variables: &Variables, token: &[u8]) -> Option<Item>
 
 #[tactic(auto, unfolding(crate::specs::inside::ExpressionItems::item_of))]
 fn item_of(variables: &Variables, token: &[u8]) -> Option<Item>
-    requires few { length (variable_names variables.now) ≤ 15 }
+    requires few { length (variable_names variables.now) ≤ VARIABLES_LIMIT }
     requires names { AreNames (variable_names variables.now) }
     ensures { result ≡ item_of (variable_names variables.now) token.now }
 {
@@ -120,7 +121,7 @@ fn opened(bracket: Bracket, bytes: &[u8]) -> Option<(Item, &[u8])>
 /// An item that begins with a token which is no comma, and the bytes after it.
 #[tactic(auto, unfolding(crate::specs::inside::ExpressionItems::plain_after))]
 fn plain_after<'a>(variables: &Variables, token: &[u8], rest: &'a [u8]) -> Option<(Item, &'a [u8])>
-    requires few { length (variable_names variables.now) ≤ 15 }
+    requires few { length (variable_names variables.now) ≤ VARIABLES_LIMIT }
     requires names { AreNames (variable_names variables.now) }
     ensures item { option_map (λ x. (x.0, tokens_in x.1.now)) result ≡ plain_after (variable_names variables.now) token.now (tokens_in rest.now) }
     ensures no_longer { IfSome result (λ x. length x.1.now ≤ length rest.now) }
@@ -154,7 +155,7 @@ fn item_after<'a>(
     token: &[u8],
     rest: &'a [u8],
 ) -> Result<(Item, &'a [u8]), LineFault>
-    requires few { length (variable_names variables.now) ≤ 15 }
+    requires few { length (variable_names variables.now) ≤ VARIABLES_LIMIT }
     requires names { AreNames (variable_names variables.now) }
     ensures item { Gives (λ x. (x.0, tokens_in x.1.now)) result (item_after (variable_names variables.now) token.now (tokens_in rest.now)) }
     ensures no_longer { IfOk result (λ x. length x.1.now ≤ length rest.now) }
@@ -175,7 +176,7 @@ pub fn next_item<'a>(
     variables: &Variables,
     bytes: &'a [u8],
 ) -> Result<Option<(Item, &'a [u8])>, LineFault>
-    requires few { length (variable_names variables.now) ≤ 15 }
+    requires few { length (variable_names variables.now) ≤ VARIABLES_LIMIT }
     requires names { AreNames (variable_names variables.now) }
     ensures item { Gives (λ r. option_map (λ x. (x.0, tokens_in x.1.now)) r) result (next_item (variable_names variables.now) (tokens_in bytes.now)) }
     ensures shorter { IfOk result (λ r. IfSome r (λ x. length x.1.now < length bytes.now)) }

@@ -4,6 +4,7 @@ ghost use Rattle.std.specs.Prelude.{◌≤◌};
 ghost use Rattle.plant_reading.specs.Words.{words_of};
 ghost use Rattle.plant_reading.specs.inside.WordReaders.{Finds};
 ghost use Rattle.plant_reading.specs.inside.LineReaders.{SpellsBox};
+ghost use Rattle.base.specs.declared.limits.TheConstants.{STATES_LIMIT};
 
 use crate::declarations::ends_in;
 use crate::line_fault::LineFault;
@@ -12,7 +13,7 @@ use plant_record::StateBox;
 
 /// `LOW HIGH` for each state in turn. The positions past the states are 0.
 pub fn box_in(bytes: &[u8], states: usize) -> Result<StateBox, LineFault>
-    requires { states ≤ 6 }
+    requires { states ≤ STATES_LIMIT }
     ensures { Finds (λ b. b) (SpellsBox states (words_of bytes.now)) result }
 {
     let mut low = [0; 6];

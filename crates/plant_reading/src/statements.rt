@@ -9,6 +9,7 @@ ghost use Rattle.plant_reading.specs.StatementsRead.{statement_of};
 ghost use Rattle.plant_reading.specs.inside.Keywords.{keyword_text};
 ghost use Rattle.plant_reading.specs.Statements.{Statement as Stated, States};
 ghost use Rattle.plant_reading.specs.Words.{words_of};
+ghost use Rattle.base.specs.declared.limits.TheConstants.{STATES_LIMIT, VARIABLES_LIMIT};
 
 use crate::declarations::{goal_in, input_in, noise_in, state_in, version_in};
 use crate::expression::expression_in;
@@ -97,10 +98,10 @@ pub fn statement_in<'a>(
     variables: &Variables,
     line: &'a [u8],
 ) -> Result<Statement<'a>, LineFault>
-    requires few { length (variable_names variables.now) ≤ 15 }
+    requires few { length (variable_names variables.now) ≤ VARIABLES_LIMIT }
     requires differ { AllPairs (λ a b. a ≢ b) (variable_names variables.now) }
     requires named { All IsName (variable_names variables.now) }
-    requires states { length variables.now.states.items ≤ 6 }
+    requires states { length variables.now.states.items ≤ STATES_LIMIT }
     ensures found { IfOk result (λ s. States (variable_names variables.now) (length variables.now.states.items) (words_of line.now) (statement_of s)) }
     ensures refused { result ≡ Err LineFault.Malformed → (s : Stated) → States (variable_names variables.now) (length variables.now.states.items) (words_of line.now) s → ⊥ }
 {
@@ -118,10 +119,10 @@ fn statement_after<'a>(
     keyword: Keyword,
     bytes: &'a [u8],
 ) -> Result<Statement<'a>, LineFault>
-    requires few { length (variable_names variables.now) ≤ 15 }
+    requires few { length (variable_names variables.now) ≤ VARIABLES_LIMIT }
     requires differ { AllPairs (λ a b. a ≢ b) (variable_names variables.now) }
     requires named { All IsName (variable_names variables.now) }
-    requires states { length variables.now.states.items ≤ 6 }
+    requires states { length variables.now.states.items ≤ STATES_LIMIT }
     ensures { Finds statement_of (States (variable_names variables.now) (length variables.now.states.items) (keyword_text keyword ∷ words_of bytes.now)) result }
 {
     match keyword {
@@ -146,7 +147,7 @@ fn equation_after<'a>(
     variables: &Variables,
     bytes: &'a [u8],
 ) -> Result<Statement<'a>, LineFault>
-    requires few { length (variable_names variables.now) ≤ 15 }
+    requires few { length (variable_names variables.now) ≤ VARIABLES_LIMIT }
     requires differ { AllPairs (λ a b. a ≢ b) (variable_names variables.now) }
     requires named { All IsName (variable_names variables.now) }
     ensures { Finds statement_of (States (variable_names variables.now) (length variables.now.states.items) (codes "next" ∷ words_of bytes.now)) result }

@@ -7,15 +7,14 @@ ghost use Rattle.std.specs.Option.{option_map};
 ghost use Rattle.fixed_expr.specs.Curves.{IsShort};
 ghost use Rattle.plant_reading.specs.inside.LineTokens.{tokens_in};
 ghost use Rattle.plant_reading.specs.inside.TokenReaders.{Gives, negative_of, signed_of, after_colon, point_of, points_of, rises, curve_of};
+ghost use Rattle.base.specs.declared.limits.TheConstants.{NUMBER_LIMIT, POINTS_LIMIT};
 
 use crate::line_fault::LineFault;
 use crate::literals::literal_of;
 use crate::words::tokens::next_token;
+use base::limits::POINTS_LIMIT;
 use fixed_expr::Curve;
 use std::alloc::Global;
-
-/// The most points of a table.
-const POINT_LIMIT: usize = 32;
 
 /// 2 to 32 points that rise with the bracket after them, and the bytes after that.
 #[tactic(auto, unfolding(crate::specs::inside::TokenReaders::curve_of))]
@@ -29,7 +28,7 @@ pub fn curve_in(alloc: Global, bytes: &[u8]) -> Result<(Curve, &[u8]), LineFault
 
 /// The table with these points.
 fn curve_through(alloc: Global, points: &[(i128, i128)]) -> Result<Curve, LineFault>
-    requires few { length points.now ≤ 32 }
+    requires few { length points.now ≤ POINTS_LIMIT }
     requires short { All IsShort points.now }
     ensures { Gives (λ curve. curve) result (if nat_le 2 (length points.now) && rises points.now then Some points.now else None) }
 {
@@ -44,13 +43,13 @@ fn curve_through(alloc: Global, points: &[(i128, i128)]) -> Result<Curve, LineFa
 
 /// Points with commas between and the bracket after them, and the bytes after that.
 fn points_in(alloc: Global, bytes: &[u8]) -> Result<(Vec<(i128, i128)>, &[u8]), LineFault>
-    ensures points { Gives (λ x. (x.0.items, tokens_in x.1.now)) result (points_of 32 (tokens_in bytes.now)) }
+    ensures points { Gives (λ x. (x.0.items, tokens_in x.1.now)) result (points_of POINTS_LIMIT (tokens_in bytes.now)) }
     ensures short { IfOk result (λ x. All IsShort x.0.items) }
     ensures no_longer { IfOk result (λ x. length x.1.now < length bytes.now) }
 {
     let mut points = Vec::new(alloc);
     let mut rest = bytes;
-    while points.len() < POINT_LIMIT {
+    while points.len() < POINTS_LIMIT {
         let Some((point, after)) = point_in(rest) else {
             return Err(LineFault::Malformed);
         };
@@ -120,7 +119,7 @@ fn after_colon(bytes: &[u8]) -> Option<&[u8]>
 #[tactic(auto, unfolding(crate::specs::inside::TokenReaders::signed_of))]
 fn signed_in(bytes: &[u8]) -> Option<(i128, &[u8])>
     ensures number { option_map (λ x. (x.0, tokens_in x.1.now)) result ≡ signed_of (tokens_in bytes.now) }
-    ensures short { IfSome result (λ x. nat_abs x.0 < 10 ^ 18) }
+    ensures short { IfSome result (λ x. nat_abs x.0 < NUMBER_LIMIT) }
     ensures shorter { IfSome result (λ x. length x.1.now < length bytes.now) }
 {
     let (token, rest) = next_token(bytes)?;
@@ -134,7 +133,7 @@ fn signed_in(bytes: &[u8]) -> Option<(i128, &[u8])>
 #[tactic(auto, unfolding(crate::specs::inside::TokenReaders::negative_of))]
 fn negative_in(bytes: &[u8]) -> Option<(i128, &[u8])>
     ensures number { option_map (λ x. (x.0, tokens_in x.1.now)) result ≡ negative_of (tokens_in bytes.now) }
-    ensures short { IfSome result (λ x. nat_abs x.0 < 10 ^ 18) }
+    ensures short { IfSome result (λ x. nat_abs x.0 < NUMBER_LIMIT) }
     ensures shorter { IfSome result (λ x. length x.1.now < length bytes.now) }
 {
     let (token, rest) = next_token(bytes)?;

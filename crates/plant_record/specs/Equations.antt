@@ -4,6 +4,7 @@ pub use Rattle.fixed_expr.specs.Expression.{nodes_of}
 use Rattle.fixed_expr.specs.Expression.{Expression, NumExpr, VarExpr, NegExpr, AddExpr, SubExpr, MulExpr, DivExpr, MinExpr, MaxExpr, AbsExpr, LutExpr}
 use Rattle.fixed_expr.specs.Curves.{IsCurve}
 use Rattle.plant_record.specs.Numbers.{IsLiteral}
+use Rattle.base.specs.declared.limits.TheConstants.{DEPTH_LIMIT, NODES_LIMIT}
 
 -- how many nodes lie on the longest way down; a leaf has depth 1
 abbrev pub depth_of : Expression → ℕ
@@ -50,5 +51,5 @@ HasNoLut (LutExpr a points) = ⊥
 -- An equation over m variables has at most 256 nodes, and at most 64 of them one below another.
 pub record IsEquation (m : ℕ) (e : Expression) : Type 0 where
   pub literals : HasLiterals m e
-  pub nodes : nodes_of e ≤ 256
-  pub depth : depth_of e ≤ 64
+  pub nodes : nodes_of e ≤ NODES_LIMIT
+  pub depth : depth_of e ≤ DEPTH_LIMIT

@@ -1,9 +1,9 @@
-pub mod Boxes
+pub mod StateBoxes
 pub mod Description
 pub mod Equations
 pub mod ValueIndices
 pub mod Limits
-pub mod Marks
+pub mod CellMarks
 pub mod Names
 pub mod Numbers
 pub mod Parts

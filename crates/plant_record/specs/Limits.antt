@@ -5,15 +5,16 @@ use Rattle.plant_record.specs.Description.{Description, axes_of, vectors_of}
 use Rattle.plant_record.specs.declared.limit_kind.LimitKind.TheVariants.{PlantText, TableText, Vectors, Cells, Pairs, Edges}
 use Rattle.plant_record.specs.declared.limit_kind.LimitKind.{LimitKind}
 use Rattle.plant_record.specs.Plants.{IsPlant}
+use Rattle.base.specs.declared.limits.TheConstants.{CELLS_LIMIT, PAIRS_LIMIT, VECTORS_LIMIT}
 
 abbrev pub HasFewVectors : Description → Type 0
-HasFewVectors p = vectors_of p.inputs ≤ 4096
+HasFewVectors p = vectors_of p.inputs ≤ VECTORS_LIMIT
 
 abbrev pub HasFewCells : Description → Type 0
-HasFewCells p = cells_of (axes_of p) ≤ 2 ^ 20
+HasFewCells p = cells_of (axes_of p) ≤ CELLS_LIMIT
 
 abbrev pub HasFewPairs : Description → Type 0
-HasFewPairs p = cells_of (axes_of p) * vectors_of p.inputs ≤ 2 ^ 22
+HasFewPairs p = cells_of (axes_of p) * vectors_of p.inputs ≤ PAIRS_LIMIT
 
 -- A plant within the limits on input vectors, cells and pairs.
 pub record IsWithinLimits (p : Description) : Type 0 where

@@ -2,7 +2,7 @@
 use Rattle.std.specs.Prelude.{ℤ, List}
 use Rattle.std.specs.List.{Any}
 use Rattle.grid_quantiser.specs.Cells.{IsInDomain}
-use Rattle.grid_quantiser.specs.Boxes.{IsInBox}
+use Rattle.grid_quantiser.specs.CellBoxes.{IsInBox}
 use Rattle.plant_record.specs.declared.aims.StateBox.{StateBox}
 use Rattle.plant_record.specs.Description.{Description, axes_of}
 

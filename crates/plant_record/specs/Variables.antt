@@ -6,6 +6,7 @@ use Rattle.plant_record.specs.declared.variables.InputVariable.{InputVariable}
 use Rattle.plant_record.specs.declared.variables.NoiseVariable.{NoiseVariable}
 use Rattle.plant_record.specs.Names.{IsName}
 use Rattle.plant_record.specs.Numbers.{IsLiteral}
+use Rattle.base.specs.declared.limits.TheConstants.{VALUES_LIMIT}
 
 -- A state's range is divided into whole cells.
 pub record IsStateVariable (s : StateVariable) : Type 0 where
@@ -21,7 +22,7 @@ pub record IsStateVariable (s : StateVariable) : Type 0 where
 pub record IsInputVariable (i : InputVariable) : Type 0 where
   pub name : IsName i.name
   pub some_value : 1 ≤ length i.values
-  pub values_bound : length i.values ≤ 64
+  pub values_bound : length i.values ≤ VALUES_LIMIT
   pub each : All IsLiteral i.values
 
 -- A noise's range isn't empty.

@@ -3,7 +3,7 @@
 ghost use Rattle.std.specs.Prelude.{◌<◌, ◌↔◌, IsTrue};
 ghost use Rattle.std.specs.List.{All, Any};
 ghost use Rattle.grid_quantiser.specs.Axes.{cells_of};
-ghost use Rattle.grid_quantiser.specs.Boxes.{IsAtMost, Touches, LiesInside};
+ghost use Rattle.grid_quantiser.specs.CellBoxes.{IsAtMost, Touches, LiesInside};
 ghost use Rattle.plant_record.specs.declared.aims.StateBox.{StateBox};
 
 use crate::aims::StateBox;

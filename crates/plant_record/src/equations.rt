@@ -4,11 +4,13 @@ ghost use Rattle.fixed_expr.specs.Value.{IsWellFormed, StaysInRange, value_of};
 ghost use Rattle.grid_quantiser.specs.Cells.{point_of};
 ghost use Rattle.plant_record.specs.Description.{vectors_of};
 ghost use Rattle.plant_record.specs.Steps.{step_of, StepStaysInRange};
+ghost use Rattle.base.specs.declared.limits.TheConstants.{STATES_LIMIT};
 
 use crate::plant::Plant;
 use crate::transition::values_at;
+use base::limits::STATES_LIMIT;
 use fixed_expr::{CASES, Operations};
-use grid_quantiser::{Point, STATES_LIMIT};
+use grid_quantiser::Point;
 use std::marker::Model;
 
 /// The most values that the input vectors of the first cases have, 3 input variables each.
@@ -86,7 +88,7 @@ fn next_point(
     values: &[i128],
 ) -> Option<Point>
     requires count { count ≡ length equations.now }
-    requires few { length equations.now ≤ 6 }
+    requires few { length equations.now ≤ STATES_LIMIT }
     requires formed { All (λ e. IsWellFormed e (length values.now)) equations.now }
     ensures { SomeIff result (All (λ e. StaysInRange e values.now) equations.now) (point_of (map (λ e. value_of e values.now) equations.now)) }
 {

@@ -19,7 +19,7 @@ mod version;
 pub use aims::{GoalKind, StateBox};
 pub use equations::Equations;
 pub use limit_kind::{LimitKind, NoMemory};
-pub use plant::{Plant, VARIABLES_LIMIT};
+pub use plant::Plant;
 pub use plant_parts::{PlantParts, numbers_along};
 pub use transition::{step, step_along};
 pub use variable_names::Names;

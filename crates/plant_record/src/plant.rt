@@ -9,9 +9,10 @@ ghost use Rattle.plant_record.specs.Description.{axes_of, names_of, vectors_of, 
 ghost use Rattle.plant_record.specs.ValueIndices.{value_count};
 ghost use Rattle.plant_record.specs.Plants.{IsPlant};
 ghost use Rattle.plant_record.specs.Limits.{IsWithinLimits, Exceeds};
-ghost use Rattle.plant_record.specs.Marks.{IsGoalCell, IsObstacleCell};
+ghost use Rattle.plant_record.specs.CellMarks.{IsGoalCell, IsObstacleCell};
 ghost use Rattle.plant_record.specs.Parts.{description_of};
 ghost use Rattle.plant_record.specs.Versions.{version_number};
+ghost use Rattle.base.specs.declared.limits.TheConstants.{VARIABLES_LIMIT};
 
 use crate::aims::{GoalKind, StateBox};
 use crate::cell_marks::{lies_in_one, touches_one};
@@ -20,18 +21,10 @@ use crate::plant_parts::{PlantParts, grid_of, vectors_of};
 use crate::variable_names::Names;
 use crate::variables::{InputVariable, Name, NoiseVariable, StateVariable, Variables};
 use crate::version::PlantVersion;
+use base::limits::{PAIRS_LIMIT, VECTORS_LIMIT};
 use fixed_expr::Expr;
 use grid_quantiser::{Grid, Point};
 use std::marker::Model;
-
-/// The most variables that a plant has: 6 states, 3 input variables and 6 noises.
-pub const VARIABLES_LIMIT: usize = 15;
-
-/// The most input vectors of a plant.
-const VECTORS_LIMIT: u32 = 4096;
-
-/// The most pairs of a cell and an input vector.
-const PAIRS_LIMIT: u64 = 1 << 22;
 
 /// A plant within the limits, seen as its description.
 #[derive(Drop)]
@@ -145,7 +138,7 @@ impl Plant {
     /// How many variables there are: the states, the input variables and the noises.
     pub fn variables(&self) -> u32
         ensures count { result ≡ length self.now.states + length self.now.inputs + length self.now.noises }
-        ensures bound { result ≤ 15 }
+        ensures bound { result ≤ VARIABLES_LIMIT }
         ensures limits { IsWithinLimits self.now }
     {
         (self.states.len() + self.inputs.len() + self.noises.len()) as u32

@@ -6,12 +6,14 @@ ghost use Rattle.grid_quantiser.specs.Axes.{cells_of};
 ghost use Rattle.plant_record.specs.Description.{axis_of, vectors_of};
 ghost use Rattle.plant_record.specs.Numbers.{IsLiteral};
 ghost use Rattle.plant_record.specs.Variables.{IsStateVariable, IsInputVariable};
+ghost use Rattle.base.specs.declared.limits.TheConstants.{CELLS_LIMIT, INPUTS_LIMIT, STATES_LIMIT};
 
 use crate::aims::{GoalKind, StateBox};
 use crate::variables::{InputVariable, StateVariable, Variables};
 use crate::version::PlantVersion;
+use base::limits::STATES_LIMIT;
 use fixed_expr::Expr;
-use grid_quantiser::{Axis, Grid, NO_AXIS, STATES_LIMIT, TooManyCells};
+use grid_quantiser::{Axis, Grid, NO_AXIS, TooManyCells};
 
 /// What a plant text says, with nothing counted yet.
 #[derive(Drop)]
@@ -26,7 +28,7 @@ pub struct PlantParts {
 
 /// How many combinations there are of the inputs' values.
 pub fn vectors_of(inputs: &[InputVariable]) -> u32
-    requires bound { length inputs.now ≤ 3 }
+    requires bound { length inputs.now ≤ INPUTS_LIMIT }
     requires each { All IsInputVariable inputs.now }
     ensures count { result ≡ vectors_of inputs.now }
     ensures some { 1 ≤ result }
@@ -41,10 +43,10 @@ pub fn vectors_of(inputs: &[InputVariable]) -> u32
 /// The grid of the states, unless it has too many cells.
 pub fn grid_of(states: &[StateVariable]) -> Result<Grid, TooManyCells>
     requires some { 1 ≤ length states.now }
-    requires bound { length states.now ≤ 6 }
+    requires bound { length states.now ≤ STATES_LIMIT }
     requires each { All IsStateVariable states.now }
     ensures ok { IfOk result (λ grid. grid ≡ map axis_of states.now) }
-    ensures refused { IsErr result ↔ (2 ^ 20 < cells_of (map axis_of states.now)) }
+    ensures refused { IsErr result ↔ (CELLS_LIMIT < cells_of (map axis_of states.now)) }
 {
     let mut axes = [NO_AXIS; STATES_LIMIT];
     for (i, state) in states.iter().enumerate() {

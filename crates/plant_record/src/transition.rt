@@ -6,10 +6,12 @@ ghost use Rattle.grid_quantiser.specs.Cells.{point_of};
 ghost use Rattle.plant_record.specs.Description.{names_of, vectors_of};
 ghost use Rattle.plant_record.specs.Limits.{IsWithinLimits};
 ghost use Rattle.plant_record.specs.Steps.{equation_at, values_at, step_of, StepStaysInRange};
+ghost use Rattle.base.specs.declared.limits.TheConstants.{STATES_LIMIT};
 
-use crate::plant::{Plant, VARIABLES_LIMIT};
+use crate::plant::Plant;
+use base::limits::{STATES_LIMIT, VARIABLES_LIMIT};
 use fixed_expr::{Expr, eval};
-use grid_quantiser::{Point, STATES_LIMIT};
+use grid_quantiser::Point;
 
 /// The state one sample later, all equations taken at the old state: None where the value of some
 /// node leaves the range. It takes no memory.
@@ -64,7 +66,7 @@ fn value_at(p: &Plant, x: &Point, input: u32, noise: &Point, i: usize) -> i128
 
 /// The equations' values, one for each state.
 fn next_point(equations: &[Expr], values: &[i128]) -> Option<Point>
-    requires few { length equations.now ≤ 6 }
+    requires few { length equations.now ≤ STATES_LIMIT }
     requires formed { All (λ e. IsWellFormed (expression_of e) (length values.now)) equations.now }
     ensures { SomeIff result (All (λ e. StaysInRange (expression_of e) values.now) equations.now) (point_of (map (λ e. value_of (expression_of e) values.now) equations.now)) }
 {

@@ -4,6 +4,7 @@ ghost use Rattle.std.specs.Prelude.{◌≡◌, ◌<◌, ◌≤◌, length, posit
 ghost use Rattle.std.specs.Str.{bytes_eq};
 ghost use Rattle.plant_record.specs.Names.{IsName};
 ghost use Rattle.plant_record.specs.Description.{names_over};
+ghost use Rattle.base.specs.declared.limits.TheConstants.{VARIABLES_LIMIT};
 
 use crate::variable_names::Names;
 use std::alloc::{AllocError, Global};
@@ -128,7 +129,7 @@ impl Variables {
 
     /// The place of the variable of this name.
     pub fn position_of(&self, name: &[u8]) -> Option<u32>
-        requires { length (names_over self.now.states.items self.now.inputs.items self.now.noises.items) ≤ 15 }
+        requires { length (names_over self.now.states.items self.now.inputs.items self.now.noises.items) ≤ VARIABLES_LIMIT }
         ensures found { IfSome result (λ i. slice_get (names_over self.now.states.items self.now.inputs.items self.now.noises.items) i ≡ Some name.now) }
         ensures none { IfNone result (Contains (names_over self.now.states.items self.now.inputs.items self.now.noises.items) name.now → ⊥) }
     {

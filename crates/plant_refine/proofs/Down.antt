@@ -12,7 +12,7 @@ use Rattle.plant_record.specs.Description.{Description, axes_of, vectors_of}
 use Rattle.plant_record.specs.Plants.{IsPlant}
 use Rattle.plant_record.specs.Steps.{step_of, IsNoise}
 use Rattle.plant_record.proofs.lemmas.SoundPlants.{sound}
-use Rattle.successor_box.specs.Boxes.{IsEnabledAt}
+use Rattle.successor_box.specs.SuccessorBoxes.{IsEnabledAt}
 use Rattle.successor_box.proofs.Enabled.{enabled_exactly}
 use Rattle.successor_box.proofs.Padding.{point_lies}
 use Rattle.plant_record.specs.declared.aims.GoalKind.TheVariants.{Reach}

@@ -2,7 +2,7 @@
 use Rattle.std.proofs.Common.{◌≡◌, ℕ, zero, suc, ◌<◌, ◌≤◌, List, [], ◌∷◌, length, get_or, Some, None, pos, ◌≤ℤ◌, refl, arith}
 use Rattle.std.specs.Prelude.{ℤ, slice_get}
 use Rattle.grid_quantiser.specs.declared.axis.Axis.{Axis}
-use Rattle.grid_quantiser.specs.Boxes.{IsAtMost}
+use Rattle.grid_quantiser.specs.CellBoxes.{IsAtMost}
 
 pub at_most_all : (axes : List Axis) (xs ys : List ℤ) → length axes ≤ length xs → length axes ≤ length ys → ((i : ℕ) → i < length axes → get_or xs i (pos 0) ≤ℤ get_or ys i (pos 0)) → IsAtMost axes xs ys
 at_most_all [] xs ys long_xs long_ys h = tt

@@ -11,12 +11,12 @@ use Rattle.game_core.specs.Solution.{row_of}
 use Rattle.game_core.specs.Strategy.{Tree, Leaf, Apply}
 use Rattle.game_core.proofs.Rows.{below_from_row}
 use Rattle.grid_quantiser.specs.Cells.{IsInDomain, cell_of}
-use Rattle.grid_quantiser.specs.Boxes.{IsInBox, Touches}
+use Rattle.grid_quantiser.specs.CellBoxes.{IsInBox, Touches}
 use Rattle.grid_quantiser.proofs.Domain.{cell_below}
 use Rattle.plant_record.specs.declared.aims.GoalKind.{GoalKind}
 use Rattle.plant_record.specs.declared.aims.GoalKind.TheVariants.{Keep}
 use Rattle.plant_record.specs.Description.{Description, axes_of}
-use Rattle.plant_record.specs.Marks.{IsObstacleCell}
+use Rattle.plant_record.specs.CellMarks.{IsObstacleCell}
 use Rattle.plant_record.specs.Steps.{step_of, IsNoise}
 use Rattle.plant_record.proofs.lemmas.SoundPlants.{sound}
 use Rattle.controller_table.specs.Choice.{Applies, HasRowAt}

@@ -8,7 +8,7 @@ use Rattle.grid_quantiser.proofs.Domain.{cell_below}
 use Rattle.plant_record.specs.Description.{Description, axes_of}
 use Rattle.plant_record.specs.Steps.{IsNoise, step_of}
 use Rattle.plant_record.specs.Soundness.{IsSound}
-use Rattle.successor_box.specs.Boxes.{IsEnabledAt, AreSuccessors}
+use Rattle.successor_box.specs.SuccessorBoxes.{IsEnabledAt, AreSuccessors}
 use Rattle.successor_box.proofs.Padding.{point_lies}
 use Rattle.successor_box.proofs.Steps.{step_among}
 

@@ -8,10 +8,10 @@ use Rattle.game_core.specs.Game.{Game, IsEnabled, mark_of, successors_of}
 use Rattle.game_core.specs.Solution.{row_of, HasRowBelow, LeadsToGoals}
 use Rattle.game_core.proofs.Rows.{below_from_row}
 use Rattle.grid_quantiser.specs.Cells.{IsInDomain, cell_of}
-use Rattle.grid_quantiser.specs.Boxes.{IsInBox, Touches, LiesInside}
+use Rattle.grid_quantiser.specs.CellBoxes.{IsInBox, Touches, LiesInside}
 use Rattle.plant_record.specs.Description.{Description, axes_of}
 use Rattle.plant_record.specs.Steps.{step_of, IsNoise}
-use Rattle.plant_record.specs.Marks.{IsGoalCell, IsObstacleCell}
+use Rattle.plant_record.specs.CellMarks.{IsGoalCell, IsObstacleCell}
 use Rattle.controller_table.specs.Choice.{HasRowAt}
 use Rattle.plant_game.specs.Abstraction.{IsGameOf}
 use Rattle.plant_record.specs.States.{LiesInSome, IsClear}

@@ -6,7 +6,7 @@ use Rattle.plant_record.specs.declared.aims.GoalKind.{GoalKind}
 use Rattle.plant_record.specs.declared.aims.GoalKind.TheVariants.{Reach, Keep}
 use Rattle.plant_record.specs.Description.{Description}
 use Rattle.controller_table.specs.Tables.{IsTable}
-use Rattle.plant_game.specs.Solution.{Solves, IsSolutionOf}
+use Rattle.plant_game.specs.PlantSolution.{Solves, IsSolutionOf}
 use Rattle.plant_refine.specs.Controls.{ControlsFor}
 use Rattle.plant_refine.specs.Laws.{SolutionTablesControlPlants}
 use Rattle.plant_refine.proofs.RightTables.{tables_drive}

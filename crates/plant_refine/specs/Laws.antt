@@ -8,7 +8,7 @@ use Rattle.plant_record.specs.declared.aims.GoalKind.TheVariants.{Keep}
 use Rattle.plant_record.specs.Description.{Description}
 use Rattle.controller_table.specs.Tables.{IsTable}
 use Rattle.plant_game.specs.Abstraction.{IsGameOf}
-use Rattle.plant_game.specs.Solution.{IsSolutionOf}
+use Rattle.plant_game.specs.PlantSolution.{IsSolutionOf}
 use Rattle.plant_refine.specs.Controls.{Controls}
 use Rattle.plant_refine.specs.Drives.{Drives}
 use Rattle.plant_refine.specs.Stays.{Stays}

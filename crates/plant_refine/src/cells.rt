@@ -3,7 +3,7 @@ ghost use Rattle.std.specs.List.{Contains};
 ghost use Rattle.grid_quantiser.specs.Cells.{IsInDomain, cell_of, point_of};
 ghost use Rattle.plant_record.specs.Description.{axes_of, vectors_of};
 ghost use Rattle.plant_record.specs.Steps.{IsNoise, step_of};
-ghost use Rattle.successor_box.specs.Boxes.{IsEnabledAt, AreSuccessors};
+ghost use Rattle.successor_box.specs.SuccessorBoxes.{IsEnabledAt, AreSuccessors};
 ghost use Rattle.successor_box.specs.Deviations.{HasNoOverflow, deviations_of};
 
 use grid_quantiser::Point;

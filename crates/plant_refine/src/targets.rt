@@ -1,7 +1,7 @@
 //! Whether a state lies in a target.
 
 ghost use Rattle.std.specs.Prelude.{◌↔◌, IsTrue};
-ghost use Rattle.grid_quantiser.specs.Boxes.{IsInBox};
+ghost use Rattle.grid_quantiser.specs.CellBoxes.{IsInBox};
 ghost use Rattle.plant_record.specs.States.{LiesInSome};
 
 use grid_quantiser::{Grid, Point};

@@ -15,6 +15,7 @@ use Rattle.plant_record.specs.Description.{Description, names_over}
 use Rattle.plant_reading.specs.Lines.{lines_of}
 use Rattle.plant_reading.specs.Words.{words_of, is_skipped}
 use Rattle.plant_reading.specs.Statements.{Statement, Version, State, Input, Noise, Next, Target, Obstacle, Goal, End, States}
+use Rattle.base.specs.declared.limits.TheConstants.{BOXES_LIMIT, INPUTS_LIMIT, NOISES_LIMIT, STATES_LIMIT}
 
 -- The part of a plant that some lines spell.
 pub record PartialPlant : Type 0 where
@@ -46,12 +47,12 @@ IsNewIn q name = Contains (names_in q) name → ⊥
 -- a statement has its position after a part: in what order the lines stand, how many there are of each kind, and that version 1 has no table
 abbrev pub FitsAfter : PartialPlant → Statement → Type 0
 FitsAfter q (Version v) = q.version ≡ None
-FitsAfter q (State s) = (q.version ≢ None) × (q.inputs ≡ []) × (q.noises ≡ []) × (q.equations ≡ []) × (length q.states < 6) × IsNewIn q s.name
-FitsAfter q (Input i) = (1 ≤ length q.states) × (q.noises ≡ []) × (q.equations ≡ []) × (length q.inputs < 3) × IsNewIn q i.name
-FitsAfter q (Noise w) = (1 ≤ length q.states) × (q.equations ≡ []) × (length q.noises < 6) × IsNewIn q w.name
+FitsAfter q (State s) = (q.version ≢ None) × (q.inputs ≡ []) × (q.noises ≡ []) × (q.equations ≡ []) × (length q.states < STATES_LIMIT) × IsNewIn q s.name
+FitsAfter q (Input i) = (1 ≤ length q.states) × (q.noises ≡ []) × (q.equations ≡ []) × (length q.inputs < INPUTS_LIMIT) × IsNewIn q i.name
+FitsAfter q (Noise w) = (1 ≤ length q.states) × (q.equations ≡ []) × (length q.noises < NOISES_LIMIT) × IsNewIn q w.name
 FitsAfter q (Next name e) = (length q.equations < length q.states) × (slice_index_or (names_in q) (length q.equations) [] ≡ name) × (q.version ≡ Some One → HasNoLut e)
-FitsAfter q (Target b) = HasEquations q × (q.goal ≡ None) × (length q.targets < 64)
-FitsAfter q (Obstacle b) = HasEquations q × (q.goal ≡ None) × (length q.obstacles < 64)
+FitsAfter q (Target b) = HasEquations q × (q.goal ≡ None) × (length q.targets < BOXES_LIMIT)
+FitsAfter q (Obstacle b) = HasEquations q × (q.goal ≡ None) × (length q.obstacles < BOXES_LIMIT)
 FitsAfter q (Goal kind) = HasEquations q × (q.goal ≡ None) × (kind ≡ Keep → q.targets ≡ [])
 FitsAfter q End = (q.goal ≢ None) × (q.ended ≡ false)
 

@@ -10,7 +10,7 @@ use Rattle.plant_record.specs.Plants.{IsPlant}
 use Rattle.plant_record.specs.Limits.{IsWithinLimits}
 use Rattle.plant_text.specs.Grammar.{Spells}
 use Rattle.plant_text.specs.CanonicalFronts.{IsFront, IsFrontRefusedFor}
-use Rattle.plant_text.specs.Refusals.{IsShort, IsRefusedFor}
+use Rattle.plant_text.specs.PlantRefusals.{IsShort, IsRefusedFor}
 
 -- no bytes spell two plants, and what they spell is a plant
 abbrev pub OnePlantPerText : Type 0

@@ -1,5 +1,5 @@
 pub mod CanonicalFronts
 pub mod Grammar
 pub mod Laws
-pub mod Refusals
+pub mod PlantRefusals
 pub mod inside

@@ -14,27 +14,17 @@ ghost use Rattle.plant_text.specs.inside.DraftsInMemory.{partial_of};
 ghost use Rattle.plant_text.specs.CanonicalFronts.{IsInOrder, ExtendsCanonically};
 ghost use Rattle.plant_text.specs.inside.FormedEquations.{HasFormedEquation};
 ghost use Rattle.plant_text.specs.inside.CanonicalNext.{IsCanonicalNext};
+ghost use Rattle.base.specs.declared.limits.TheConstants.{INPUTS_LIMIT, NOISES_LIMIT, STATES_LIMIT};
 
 use crate::statement_writer::is_canonical;
 use crate::version_rules::has_no_lut;
+use base::limits::{BOXES_LIMIT, INPUTS_LIMIT, NOISES_LIMIT, STATES_LIMIT};
 use fixed_expr::Expr;
 use plant_reading::{LineFault, Statement, is_skipped, statement_in};
 use plant_record::{
     GoalKind, LimitKind, Name, Plant, PlantParts, PlantVersion, StateBox, Variables,
 };
 use std::alloc::Global;
-
-/// The most states of a plant.
-const STATES_LIMIT: usize = 6;
-
-/// The most input variables of a plant.
-const INPUTS_LIMIT: usize = 3;
-
-/// The most noises of a plant.
-const NOISES_LIMIT: usize = 6;
-
-/// The most targets of a plant, and the most obstacles.
-const BOXES_LIMIT: usize = 64;
 
 /// The part of a plant that the lines so far spell.
 #[derive(Drop)]
@@ -201,7 +191,7 @@ impl Draft {
     }
 
     fn takes_state(&self) -> bool
-        ensures { IsTrue result ↔ ((self.now.version ≢ None) × (self.now.variables.inputs.items ≡ []) × (self.now.variables.noises.items ≡ []) × (self.now.equations.items ≡ []) × (length self.now.variables.states.items < 6)) }
+        ensures { IsTrue result ↔ ((self.now.version ≢ None) × (self.now.variables.inputs.items ≡ []) × (self.now.variables.noises.items ≡ []) × (self.now.equations.items ≡ []) × (length self.now.variables.states.items < STATES_LIMIT)) }
     {
         self.version.is_some()
             && self.variables.inputs.is_empty()
@@ -211,7 +201,7 @@ impl Draft {
     }
 
     fn takes_input(&self) -> bool
-        ensures { IsTrue result ↔ ((1 ≤ length self.now.variables.states.items) × (self.now.variables.noises.items ≡ []) × (self.now.equations.items ≡ []) × (length self.now.variables.inputs.items < 3)) }
+        ensures { IsTrue result ↔ ((1 ≤ length self.now.variables.states.items) × (self.now.variables.noises.items ≡ []) × (self.now.equations.items ≡ []) × (length self.now.variables.inputs.items < INPUTS_LIMIT)) }
     {
         !self.variables.states.is_empty()
             && self.variables.noises.is_empty()
@@ -220,7 +210,7 @@ impl Draft {
     }
 
     fn takes_noise(&self) -> bool
-        ensures { IsTrue result ↔ ((1 ≤ length self.now.variables.states.items) × (self.now.equations.items ≡ []) × (length self.now.variables.noises.items < 6)) }
+        ensures { IsTrue result ↔ ((1 ≤ length self.now.variables.states.items) × (self.now.equations.items ≡ []) × (length self.now.variables.noises.items < NOISES_LIMIT)) }
     {
         !self.variables.states.is_empty()
             && self.equations.is_empty()

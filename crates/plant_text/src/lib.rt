@@ -16,6 +16,6 @@ mod version_rules;
 
 pub use front_reader::{Front, read_front};
 pub use plant_fault::PlantFault;
-pub use plant_reader::{TEXT_LIMIT, read_plant};
+pub use plant_reader::read_plant;
 pub use plant_record::{GoalKind, LimitKind, NoMemory, Plant, step};
 pub use plant_writing::write_plant;

@@ -3,18 +3,16 @@ ghost use Rattle.plant_text.specs.declared.plant_fault.PlantFault.TheVariants.{M
 ghost use Rattle.plant_reading.specs.Lines.{lines_of};
 ghost use Rattle.plant_text.specs.Grammar.{Reads, Spells};
 ghost use Rattle.plant_record.specs.Limits.{IsWithinLimits};
-ghost use Rattle.plant_text.specs.Refusals.{IsShort, IsRefusedFor};
+ghost use Rattle.plant_text.specs.PlantRefusals.{IsShort, IsRefusedFor};
 ghost use Rattle.plant_text.specs.inside.PartialPlantRules.{KeepsRules};
 ghost use Rattle.plant_text.specs.inside.DraftsInMemory.{partial_of};
 
 use crate::draft::Draft;
 use crate::plant_fault::{PlantFault, at_line};
+use base::limits::TEXT_LIMIT;
 use plant_reading::next_line;
 use plant_record::{LimitKind, Plant};
 use std::alloc::Global;
-
-/// The most bytes of a plant text.
-pub const TEXT_LIMIT: usize = 65_536;
 
 /// Reads the plant that a text spells, or answers why the text is refused: the first reason that
 /// applies. It goes over the bytes once, and keeps no copy of the text.

@@ -5,6 +5,7 @@ ghost use Rattle.plant_text.specs.CanonicalFronts.{statement_line};
 ghost use Rattle.plant_record.specs.Parts.{variable_names};
 ghost use Rattle.plant_reading.specs.StatementsRead.{statement_of};
 ghost use Rattle.plant_text.specs.inside.FormedEquations.{HasFormedEquation};
+ghost use Rattle.base.specs.declared.limits.TheConstants.{STATES_LIMIT};
 
 use plant_reading::Statement;
 use plant_record::Variables;
@@ -21,7 +22,7 @@ pub fn is_canonical(
     line: &[u8],
     scratch: &mut Vec<u8>,
 ) -> Result<bool, AllocError>
-    requires states { length variables.now.states.items ≤ 6 }
+    requires states { length variables.now.states.items ≤ STATES_LIMIT }
     requires formed { HasFormedEquation (length (variable_names variables.now)) (statement_of statement.now) }
     ensures { IfOk result (λ b. IsTrue b ↔ (line.now ++ codes "\n" ≡ statement_line (variable_names variables.now) (length variables.now.states.items) (statement_of statement.now))) }
 {
@@ -46,7 +47,7 @@ fn push_statement(
     variables: &Variables,
     statement: &Statement<'_>,
 ) -> Result<(), AllocError>
-    requires states { length variables.now.states.items ≤ 6 }
+    requires states { length variables.now.states.items ≤ STATES_LIMIT }
     requires formed { HasFormedEquation (length (variable_names variables.now)) (statement_of statement.now) }
     ensures { OnOk result (text.new.items ≡ text.old.items ++ statement_line (variable_names variables.now) (length variables.now.states.items) (statement_of statement.now)) }
 {

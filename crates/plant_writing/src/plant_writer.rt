@@ -7,6 +7,7 @@ ghost use Rattle.fixed_expr.specs.Expression.{expression_of};
 ghost use Rattle.fixed_expr.specs.Value.{IsWellFormed};
 ghost use Rattle.plant_writing.specs.CanonicalText.{text_of, state_line, input_line, noise_line, equation_line, equation_lines, box_line};
 ghost use Rattle.plant_record.specs.Spelling.{line, version_word, goal_word};
+ghost use Rattle.base.specs.declared.limits.TheConstants.{STATES_LIMIT};
 
 use crate::expression_writer::{Level, push_expression, push_number};
 use fixed_expr::Expr;
@@ -170,7 +171,7 @@ fn push_boxes(
     states: usize,
     boxes: &[StateBox],
 ) -> Result<(), AllocError>
-    requires { states ≤ 6 }
+    requires { states ≤ STATES_LIMIT }
     ensures { OnOk result (text.new.items ≡ text.old.items ++ flat_map (box_line keyword.now states) boxes.now) }
 {
     for b in boxes {
@@ -186,7 +187,7 @@ pub fn push_box(
     states: usize,
     b: &StateBox,
 ) -> Result<(), AllocError>
-    requires { states ≤ 6 }
+    requires { states ≤ STATES_LIMIT }
     ensures { OnOk result (text.new.items ≡ text.old.items ++ box_line keyword.now states b.now) }
 {
     text.extend_from_slice(keyword)?;

@@ -9,8 +9,8 @@ use Rattle.cell_counters.specs.declared.account.Account.{Account}
 use Rattle.cell_counters.specs.Accounts.{all_logs}
 use Rattle.game_core.specs.Game.{Game, pairs_of}
 use Rattle.board_rounds.specs.Crew.{cuts_in, offers_in, logged_cells, claimed, counters_of}
-use Rattle.reach_avoid.specs.Reckoned.{word_and_value, due_offer}
-use Rattle.reach_avoid.specs.inside.Rounds.{last_cuts, KeepsRule}
+use Rattle.reach_avoid.specs.ReachReckoned.{word_and_value, due_offer}
+use Rattle.reach_avoid.specs.inside.ReachRounds.{last_cuts, KeepsRule}
 
 pub last_cuts-append : (xs ys : List Cut) → last_cuts (xs ++ ys) ≡ last_cuts xs ++ last_cuts ys
 last_cuts-append xs ys =

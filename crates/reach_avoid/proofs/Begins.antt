@@ -27,8 +27,8 @@ use Rattle.board_rounds.specs.Crew.{offers_in, logged_cells, claimed}
 use Rattle.board_rounds.proofs.Accounts.{firsts_are}
 use Rattle.board_rounds.proofs.Graphs.{few_successors}
 use Rattle.board_rounds.proofs.Sums.{All-range}
-use Rattle.reach_avoid.specs.Boards.{word_at}
-use Rattle.reach_avoid.specs.inside.Rounds.{row_in, word_after, decoded_rows, below_in, rank_is, taken_in, is_done, due_offers, IsLawfulFor, IsDueOffer, IsReached, is_goal, goals_of, IsFull, IsNext}
+use Rattle.reach_avoid.specs.ReachBoards.{word_at}
+use Rattle.reach_avoid.specs.inside.ReachRounds.{row_in, word_after, decoded_rows, below_in, rank_is, taken_in, is_done, due_offers, IsLawfulFor, IsDueOffer, IsReached, is_goal, goals_of, IsFull, IsNext}
 use Rattle.reach_avoid.proofs.Words.{row_from_word, no_row_from_word, decoded_row, word_of_row}
 use Rattle.reach_avoid.proofs.Ranks.{done_parts}
 

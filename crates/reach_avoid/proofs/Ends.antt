@@ -2,7 +2,7 @@
 use Rattle.std.proofs.Common.{◌≡◌, ℕ, ◌^◌, ◌<◌, List, None, Some, arith, sym, ◌∙◌, subst}
 use Rattle.std.proofs.lemmas.List.FromFn.{fill_by_all}
 use Rattle.cell_counters.specs.declared.account.Account.{Account}
-use Rattle.cell_counters.specs.Tokens.{BoardModel}
+use Rattle.cell_counters.specs.BoardModels.{BoardModel}
 use Rattle.game_core.specs.declared.game.Row.{Row}
 use Rattle.game_core.specs.Game.{Game, IsGraph}
 use Rattle.game_core.specs.Solution.{row_of, IsReachSolution}
@@ -11,11 +11,11 @@ use Rattle.game_core.proofs.Right.{right_rows_are_the_solution}
 use Rattle.board_rounds.specs.declared.resolving.Resolved.{Resolved}
 use Rattle.board_rounds.specs.Resolving.{IsResolved}
 use Rattle.board_rounds.specs.Rules.{IsAtEnd}
-use Rattle.reach_avoid.specs.Boards.{IsBoardOf}
-use Rattle.reach_avoid.specs.Reckoned.{IsReckoned}
+use Rattle.reach_avoid.specs.ReachBoards.{IsBoardOf}
+use Rattle.reach_avoid.specs.ReachReckoned.{IsReckoned}
 use Rattle.reach_avoid.specs.Solved.{IsSolved}
-use Rattle.reach_avoid.specs.inside.Rounds.{row_in, word_after, decoded_rows}
-use Rattle.reach_avoid.specs.inside.Standing.{HoldsBefore}
+use Rattle.reach_avoid.specs.inside.ReachRounds.{row_in, word_after, decoded_rows}
+use Rattle.reach_avoid.specs.inside.ReachInvariant.{HoldsBefore}
 use Rattle.reach_avoid.proofs.Settled.{right, reckoned, cuts_count, offers_count, few_cuts, few_offers, rounds_count}
 
 module _ (g : Game) (a : IsGraph g) where

@@ -10,8 +10,8 @@ use Rattle.game_core.specs.Game.{Game, IsGraph, pairs_of}
 use Rattle.board_rounds.specs.Crew.{offers_in}
 use Rattle.board_rounds.proofs.Accounts.{offers_are}
 use Rattle.board_rounds.proofs.Graphs.{cell_below}
-use Rattle.reach_avoid.specs.Reckoned.{word_and_value, due_offer}
-use Rattle.reach_avoid.specs.inside.Rounds.{IsDueOffer}
+use Rattle.reach_avoid.specs.ReachReckoned.{word_and_value, due_offer}
+use Rattle.reach_avoid.specs.inside.ReachRounds.{IsDueOffer}
 
 -- an offer is what some pair bids at a rank
 pub record IsDueOfferOf (g : Game) (rank : ℕ) (o : Offer) : Type 0 where

@@ -24,9 +24,9 @@ use Rattle.game_core.proofs.Times.{counts_agree}
 use Rattle.board_rounds.specs.Crew.{cuts_in, offers_in, logged_cells, claimed}
 use Rattle.board_rounds.specs.Rules.{IsRound}
 use Rattle.board_rounds.proofs.Accounts.{cuts_to_are, firsts_are, cuts_in-append, offers_in-append, all_logs-append, cut_count-append}
-use Rattle.reach_avoid.specs.Boards.{word_at}
-use Rattle.reach_avoid.specs.Reckoned.{word_and_value, due_offer}
-use Rattle.reach_avoid.specs.inside.Rounds.{row_in, least_from, word_after, decoded_rows, below_in, rank_is, taken_in, is_done, due_offers, IsLawfulFor, IsDueOffer, IsReached, last_cuts, KeepsRule, IsNext}
+use Rattle.reach_avoid.specs.ReachBoards.{word_at}
+use Rattle.reach_avoid.specs.ReachReckoned.{word_and_value, due_offer}
+use Rattle.reach_avoid.specs.inside.ReachRounds.{row_in, least_from, word_after, decoded_rows, below_in, rank_is, taken_in, is_done, due_offers, IsLawfulFor, IsDueOffer, IsReached, last_cuts, KeepsRule, IsNext}
 use Rattle.reach_avoid.proofs.Added.{claimed-append, offers_added, logs_added, cuts_stay_below}
 use Rattle.reach_avoid.proofs.Words.{least_from-le, least_from-keeps, least_from-range, row_from_word, no_row_from_word, decoded_row, cell_of_row, word_after-le, word_of_row, word_after-more}
 use Rattle.reach_avoid.proofs.Ranks.{done_parts, not_done, taken_after, done_stays, rank_by-stays, rank_by-new}

@@ -4,10 +4,10 @@ use Rattle.std.proofs.lemmas.List.{get_or-map, length-map}
 use Rattle.std.proofs.lemmas.List.FromFn.{length-map-range_with_len, get_or-map-range_with_len}
 use Rattle.cell_counters.specs.declared.account.Account.{Account}
 use Rattle.cell_counters.specs.Accounts.{IsLawfulCounter, IsLawfulLeast, all_offers, values}
-use Rattle.cell_counters.specs.Tokens.{BoardModel, IsLawful}
+use Rattle.cell_counters.specs.BoardModels.{BoardModel, IsLawful}
 use Rattle.game_core.specs.Game.{Game, IsGraph, mark_of, pairs_of, successors_at}
-use Rattle.reach_avoid.specs.Boards.{word_at, word_for, IsBoardOf}
-use Rattle.reach_avoid.specs.inside.Rounds.{least_from, word_after, IsLawfulFor}
+use Rattle.reach_avoid.specs.ReachBoards.{word_at, word_for, IsBoardOf}
+use Rattle.reach_avoid.specs.inside.ReachRounds.{least_from, word_after, IsLawfulFor}
 use Rattle.reach_avoid.proofs.Words.{least_told}
 
 module _ (g : Game) (a : IsGraph g) (board : BoardModel) (of_game : IsBoardOf g board) where

@@ -4,14 +4,14 @@ use Rattle.std.proofs.lemmas.List.Elements.{All-nil}
 use Rattle.cell_counters.specs.declared.account.Cut.{Cut}
 use Rattle.cell_counters.specs.declared.account.Account.{Account}
 use Rattle.cell_counters.specs.Accounts.{all_logs}
-use Rattle.cell_counters.specs.Tokens.{BoardModel, IsLawful}
+use Rattle.cell_counters.specs.BoardModels.{BoardModel, IsLawful}
 use Rattle.game_core.specs.Counts.{times}
 use Rattle.game_core.specs.Game.{Game, IsGraph, pairs_of, mark_of}
 use Rattle.board_rounds.specs.Crew.{logged_cells}
 use Rattle.board_rounds.specs.Rules.{IsRound, LeadsOn}
-use Rattle.reach_avoid.specs.Boards.{IsBoardOf}
-use Rattle.reach_avoid.specs.inside.Rounds.{decoded_rows, KeepsRule, IsLawfulFor, is_goal}
-use Rattle.reach_avoid.specs.inside.Standing.{HoldsBefore, IsRunnable}
+use Rattle.reach_avoid.specs.ReachBoards.{IsBoardOf}
+use Rattle.reach_avoid.specs.inside.ReachRounds.{decoded_rows, KeepsRule, IsLawfulFor, is_goal}
+use Rattle.reach_avoid.specs.inside.ReachInvariant.{HoldsBefore, IsRunnable}
 use Rattle.reach_avoid.proofs.OnBoards.{counters_of_board, lawful_for}
 use Rattle.reach_avoid.proofs.Added.{logs_added}
 use Rattle.reach_avoid.proofs.LeadsOn.{next_rows, round_leads_on}

@@ -9,7 +9,7 @@ use Rattle.game_core.specs.Solution.{row_of, rank_in, rank_at, greatest, greates
 use Rattle.game_core.specs.Tally.{rank_by}
 use Rattle.game_core.specs.Counts.{one_if}
 use Rattle.game_core.proofs.Times.{counts_agree}
-use Rattle.reach_avoid.specs.inside.Rounds.{below_in, rank_is, taken_in, is_done, IsNext}
+use Rattle.reach_avoid.specs.inside.ReachRounds.{below_in, rank_is, taken_in, is_done, IsNext}
 
 pub done_parts : (g : Game) (rows : List (Option Row)) (k pair : ℕ) → is_done g rows k pair ≡ true → (0 < length (successors_at g pair)) × (taken_in g rows k pair ≡ length (successors_at g pair))
 done_parts g rows k pair e =

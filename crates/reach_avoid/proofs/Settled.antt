@@ -24,9 +24,9 @@ use Rattle.game_core.specs.Tally.{all_pairs, ranked_in, is_resolved, rank_by, ro
 use Rattle.game_core.proofs.Times.{counts_agree}
 use Rattle.board_rounds.specs.Crew.{cuts_in, offers_in}
 use Rattle.board_rounds.proofs.Accounts.{cuts_are, offers_are}
-use Rattle.reach_avoid.specs.Boards.{word_at}
-use Rattle.reach_avoid.specs.Reckoned.{word_and_value, due_offer, IsReckonedBy}
-use Rattle.reach_avoid.specs.inside.Rounds.{row_in, least_from, word_after, decoded_rows, below_in, rank_is, taken_in, is_done, IsReached, IsFull}
+use Rattle.reach_avoid.specs.ReachBoards.{word_at}
+use Rattle.reach_avoid.specs.ReachReckoned.{word_and_value, due_offer, IsReckonedBy}
+use Rattle.reach_avoid.specs.inside.ReachRounds.{row_in, least_from, word_after, decoded_rows, below_in, rank_is, taken_in, is_done, IsReached, IsFull}
 use Rattle.reach_avoid.proofs.Words.{least_from-le, least_from-lower, least_from-among, least_from-keeps, row_from_word, no_row_from_word, decoded_row, cell_of_row, word_of_row}
 use Rattle.reach_avoid.proofs.Ranks.{greatest_of, greatest_rank-le}
 use Rattle.reach_avoid.proofs.Games.{input_of_pair, values_valued}

@@ -14,8 +14,8 @@ use Rattle.game_core.specs.declared.game.Mark.TheVariants.{Goal, Obstacle, Plain
 use Rattle.game_core.specs.declared.game.Row.{Row}
 use Rattle.game_core.specs.Game.{Game, mark_of}
 use Rattle.game_core.specs.Solution.{row_of}
-use Rattle.reach_avoid.specs.Boards.{word_at}
-use Rattle.reach_avoid.specs.inside.Rounds.{row_in, least_from, word_after, decoded_rows}
+use Rattle.reach_avoid.specs.ReachBoards.{word_at}
+use Rattle.reach_avoid.specs.inside.ReachRounds.{row_in, least_from, word_after, decoded_rows}
 
 pub least_from-append : (start : ℕ) (xs ys : List ℕ) → least_from start (xs ++ ys) ≡ least_from (least_from start xs) ys
 least_from-append start [] ys = refl

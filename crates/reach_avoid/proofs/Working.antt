@@ -4,13 +4,13 @@ use Rattle.std.proofs.lemmas.List.{map_push, append-nil}
 use Rattle.std.proofs.lemmas.List.Elements.{All-push}
 use Rattle.std.proofs.lemmas.List.Sums.{sum_by_push}
 use Rattle.cell_counters.specs.declared.account.Cut.{Cut}
-use Rattle.cell_counters.specs.Tokens.{HandModel}
+use Rattle.cell_counters.specs.BoardModels.{HandModel}
 use Rattle.game_core.specs.Counts.{times, one_if}
 use Rattle.game_core.specs.Game.{Game, pairs_of}
 use Rattle.board_rounds.specs.Rules.{CutsOnce}
-use Rattle.reach_avoid.specs.Reckoned.{word_and_value, due_offer}
-use Rattle.reach_avoid.specs.inside.Rounds.{last_cuts, KeepsRule}
-use Rattle.reach_avoid.specs.inside.Workers.{Cuts}
+use Rattle.reach_avoid.specs.ReachReckoned.{word_and_value, due_offer}
+use Rattle.reach_avoid.specs.inside.ReachRounds.{last_cuts, KeepsRule}
+use Rattle.reach_avoid.specs.inside.ReachSteps.{Cuts}
 use Rattle.reach_avoid.proofs.Added.{last_cuts-append}
 
 module _ (g : Game) (rank pair : ℕ) (was now : HandModel) (c : Cuts g rank pair was now) where

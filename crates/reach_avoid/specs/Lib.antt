@@ -1,4 +1,4 @@
-pub mod Boards
-pub mod Reckoned
+pub mod ReachBoards
+pub mod ReachReckoned
 pub mod Solved
 pub mod inside

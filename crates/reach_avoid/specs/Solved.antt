@@ -4,8 +4,8 @@ use Rattle.game_core.specs.Game.{Game}
 use Rattle.game_core.specs.Solution.{IsReachSolution}
 use Rattle.game_core.specs.Tally.{IsReachTally}
 use Rattle.board_rounds.specs.declared.resolving.Resolved.{Resolved}
-use Rattle.reach_avoid.specs.Boards.{IsBoardOf}
-use Rattle.reach_avoid.specs.Reckoned.{IsReckoned}
+use Rattle.reach_avoid.specs.ReachBoards.{IsBoardOf}
+use Rattle.reach_avoid.specs.ReachReckoned.{IsReckoned}
 
 -- the solution with its tally, the game's board, and the board's root, whose accounts are reckoned and which has no hand out
 pub record IsSolved (g : Game) (solved : Resolved) : Type 0 where

@@ -1,4 +1,4 @@
 -- what only private clauses and proofs name
-pub mod Rounds
-pub mod Workers
-pub mod Standing
+pub mod ReachRounds
+pub mod ReachSteps
+pub mod ReachInvariant

@@ -2,16 +2,18 @@
 ghost use Rattle.std.specs.Prelude.{◌≡◌, ◌^◌, ◌<◌, ◌≤◌, Some};
 ghost use Rattle.game_core.specs.declared.game.Row.{Row};
 ghost use Rattle.game_core.specs.Game.{IsGraph, pairs_of};
-ghost use Rattle.reach_avoid.specs.Boards.{IsBoardOf};
-ghost use Rattle.reach_avoid.specs.inside.Rounds.{is_goal, row_in};
-ghost use Rattle.reach_avoid.specs.inside.Workers.{DueOffers, Cuts};
+ghost use Rattle.reach_avoid.specs.ReachBoards.{IsBoardOf};
+ghost use Rattle.reach_avoid.specs.inside.ReachRounds.{is_goal, row_in};
+ghost use Rattle.reach_avoid.specs.inside.ReachSteps.{DueOffers, Cuts};
+ghost use Rattle.base.specs.declared.limits.TheConstants.{CELLS_LIMIT};
 
+use base::limits::VECTORS_LIMIT;
 use board_rounds::{Rule, Worker};
 use cell_counters::{Board, NONE, Root};
 use game_core::{Graph, Mark, Row};
 
-/// One more than the greatest number of an input: a word has a rank and an input.
-const INPUTS: u64 = 4096;
+/// What counts as one rank in an offer: it is more than each input.
+const INPUTS: u64 = VECTORS_LIMIT as u64;
 
 /// A round is of the cells of one rank.
 #[derive(Drop)]
@@ -24,8 +26,8 @@ pub(crate) struct Reach<'a, G: Graph> {
 
 impl<G: Graph + Sync> Rule for Reach<'_, G> {
     ghost use Rattle.game_core.specs.Game.{mark_of};
-    ghost use Rattle.reach_avoid.specs.inside.Rounds.{KeepsRule, row_in, word_after};
-    ghost use Rattle.reach_avoid.specs.inside.Standing.{HoldsBefore, IsRunnable};
+    ghost use Rattle.reach_avoid.specs.inside.ReachRounds.{KeepsRule, row_in, word_after};
+    ghost use Rattle.reach_avoid.specs.inside.ReachInvariant.{HoldsBefore, IsRunnable};
 
     ghost game = { λ rule. G.game rule.graph.now };
 
@@ -67,7 +69,7 @@ impl<G: Graph> Reach<'_, G> {
     fn cut_and_offer(&self, board: &Board, worker: &mut Worker, rank: u32, pair: u32)
         requires board { IsBoardOf (G.game self.now.graph.now) board.now }
         requires worker { worker.old.board ≡ board.now }
-        requires low { rank ≤ 2 ^ 20 }
+        requires low { rank ≤ CELLS_LIMIT }
         requires pair { pair < pairs_of (G.game self.now.graph.now) }
         ensures { Cuts (G.game self.now.graph.now) rank pair worker.old worker.new }
     {
@@ -80,7 +82,7 @@ impl<G: Graph> Reach<'_, G> {
     fn offer_row(&self, board: &Board, worker: &mut Worker, rank: u32, pair: u32)
         requires board { IsBoardOf (G.game self.now.graph.now) board.now }
         requires worker { worker.old.board ≡ board.now }
-        requires low { rank ≤ 2 ^ 20 }
+        requires low { rank ≤ CELLS_LIMIT }
         requires pair { pair < pairs_of (G.game self.now.graph.now) }
         ensures { DueOffers (G.game self.now.graph.now) rank pair worker.old worker.new }
     {

@@ -1,7 +1,8 @@
 //! The solver.
 ghost use Rattle.std.specs.Prelude.{◌≤◌, IfOk};
-ghost use Rattle.reach_avoid.specs.Boards.{IsBoardOf};
+ghost use Rattle.reach_avoid.specs.ReachBoards.{IsBoardOf};
 ghost use Rattle.reach_avoid.specs.Solved.{IsSolved};
+ghost use Rattle.base.specs.declared.limits.TheConstants.{WORKERS_LIMIT};
 
 use crate::outcome::Solved;
 use crate::reach_rule::Reach;
@@ -20,7 +21,7 @@ pub fn solve<R: Threads + Sync, G: Graph + Sync, T: Gate>(
     workers: u32,
     gate: &T,
 ) -> Result<Solved, NoMemory>
-    requires { (1 ≤ workers) × (workers ≤ 64) }
+    requires { (1 ≤ workers) × (workers ≤ WORKERS_LIMIT) }
     ensures { IfOk result (IsSolved (G.game g.now)) }
 {
     let scratch = Scratch::new(rt, alloc, g, workers)?;

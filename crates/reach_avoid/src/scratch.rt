@@ -1,6 +1,6 @@
 //! With what the board of a reach game begins.
 ghost use Rattle.std.specs.Prelude.{◌≡◌};
-ghost use Rattle.reach_avoid.specs.Boards.{word_at};
+ghost use Rattle.reach_avoid.specs.ReachBoards.{word_at};
 
 use board_rounds::Start;
 use cell_counters::NONE;
@@ -15,7 +15,7 @@ pub type Scratch = board_rounds::Scratch<ReachStart>;
 impl Start for ReachStart {
     ghost use Rattle.std.specs.Prelude.{refl};
     ghost use Rattle.board_rounds.specs.Boards.{fans_of};
-    ghost use Rattle.reach_avoid.specs.Boards.{word_for, words_of};
+    ghost use Rattle.reach_avoid.specs.ReachBoards.{word_for, words_of};
 
     ghost number = { word_for };
 

@@ -7,7 +7,7 @@ use Rattle.game_core.specs.Solution.{row_of}
 use Rattle.row_runs.specs.declared.run.TableVersion.{TableVersion}
 use Rattle.row_runs.specs.declared.run.TableVersion.TheVariants.{First, Second}
 use Rattle.row_runs.specs.Runs.{MayFollow, HasCells, AreRuns, Gives}
-use Rattle.row_runs.specs.inside.Steps.{MayEnd, OneRunMore}
+use Rattle.row_runs.specs.inside.AddedRuns.{MayEnd, OneRunMore}
 use Rattle.row_runs.proofs.Telling.{some_same, forward}
 
 pub are_more : (v : TableVersion) (runs : List Run) (r : Run) → AreRuns v runs → HasCells v r → MayEnd v runs r → AreRuns v (runs ++ r ∷ [])

@@ -10,7 +10,7 @@ use itoa::write_digits;
 use std::marker::Model;
 
 /// As many bytes as the longest line has: a word, three numbers of 32 bits and six of 128 bits, with a byte after each.
-const LINE_CAPACITY: usize = 320;
+pub const LINE_CAPACITY: usize = 320;
 
 /// A line that is written from its end, and then taken from its front. Seen as its bytes.
 #[derive(Drop)]

@@ -2,14 +2,18 @@
 
 use crate::live::tables::REACH;
 use crate::trial::{CLEAN, PLANT, run_on};
-use live_script::laws::{no_script_is_neither, one_live_text, one_script, one_script_refusal, script_or_refused};
-use live_script::{ScriptCommand, Script};
-use temporal_games::laws::{one_patrol_text, one_stay_text, patrol_solutions_patrol, stay_solutions_settle};
+use live_script::laws::{
+    no_script_is_neither, one_live_text, one_script, one_script_refusal, script_or_refused,
+};
+use live_script::{Script, ScriptCommand};
 use std::alloc::Global;
 use std::test::Fail;
 use std::thread::Threads;
 use synth_run::Open;
 use synth_run::laws::{no_table_text_is_neither, some_game_per_plant};
+use temporal_games::laws::{
+    one_patrol_text, one_stay_text, patrol_solutions_patrol, stay_solutions_settle,
+};
 
 /// Whether a word writes the same for a plant by one worker and by two.
 fn is_one_text<R: Threads + Sync>(rt: &R, alloc: Global, word: &str) -> Result<bool, Fail> {
@@ -54,7 +58,10 @@ fn has_two_commands(alloc: Global, bytes: &[u8]) -> bool {
     let Ok(mut script) = Script::new(bytes) else {
         return false;
     };
-    let published = matches!(script.next_command(alloc), Ok(Some(ScriptCommand::Publish(_))));
+    let published = matches!(
+        script.next_command(alloc),
+        Ok(Some(ScriptCommand::Publish(_)))
+    );
     let asked = matches!(script.next_command(alloc), Ok(Some(ScriptCommand::Ask(_))));
     let ended = matches!(script.next_command(alloc), Ok(None));
     let still_ended = matches!(script.next_command(alloc), Ok(None));

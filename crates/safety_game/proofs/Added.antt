@@ -5,7 +5,7 @@ use Rattle.board_rounds.specs.Crew.{cuts_in, offers_in, logged_cells}
 use Rattle.cell_counters.specs.declared.account.Account.{Account}
 use Rattle.cell_counters.specs.Accounts.{all_logs}
 use Rattle.game_core.specs.Game.{Game}
-use Rattle.safety_game.specs.inside.Rounds.{IsInStep, KeepsRule}
+use Rattle.safety_game.specs.inside.KeepRounds.{IsInStep, KeepsRule}
 use Rattle.safety_game.proofs.InStep.{all_in_step}
 
 module _ (g : Game) where

@@ -1,7 +1,7 @@
 -- What stands with no cell on the list, and what a resolved game is then.
 use Rattle.std.proofs.Common.{◌≡◌, List, length, arith, sym, ◌∙◌, ap, subst}
 use Rattle.cell_counters.specs.declared.account.Account.{Account}
-use Rattle.cell_counters.specs.Tokens.{BoardModel}
+use Rattle.cell_counters.specs.BoardModels.{BoardModel}
 use Rattle.game_core.specs.Game.{Game, IsGraph}
 use Rattle.game_core.specs.Tally.{IsKeepTally}
 use Rattle.game_core.proofs.Keep.{stable_rows_are_the_keep_solution}
@@ -9,10 +9,10 @@ use Rattle.board_rounds.specs.declared.resolving.Resolved.{Resolved}
 use Rattle.board_rounds.specs.Crew.{offers_in}
 use Rattle.board_rounds.specs.Resolving.{IsResolved}
 use Rattle.board_rounds.specs.Rules.{IsAtEnd}
-use Rattle.safety_game.specs.Boards.{IsBoardOf}
+use Rattle.safety_game.specs.KeepBoards.{IsBoardOf}
 use Rattle.safety_game.specs.Kept.{IsKeepSolved}
-use Rattle.safety_game.specs.inside.Rounds.{AreFewCuts, IsRowDecoded}
-use Rattle.safety_game.specs.inside.Standing.{HoldsBefore}
+use Rattle.safety_game.specs.inside.KeepRounds.{AreFewCuts, IsRowDecoded}
+use Rattle.safety_game.specs.inside.KeepInvariant.{HoldsBefore}
 use Rattle.safety_game.proofs.Falls.{gone_few}
 use Rattle.safety_game.proofs.Settled.{settled, reckoned, cuts_count, few_cuts, all_fell, no_sooner}
 

@@ -12,9 +12,9 @@ use Rattle.cell_counters.specs.Accounts.{all_logs}
 use Rattle.game_core.specs.Fallen.{is_obstacle}
 use Rattle.game_core.specs.Game.{Game, mark_of, pairs_of, successors_at}
 use Rattle.game_core.proofs.Times.{counts_agree}
-use Rattle.safety_game.specs.Boards.{pairs_at}
-use Rattle.safety_game.specs.inside.Rounds.{firsts_in, cell_cuts_in, IsInStep}
-use Rattle.safety_game.specs.inside.Workers.{is_first_cut}
+use Rattle.safety_game.specs.KeepBoards.{pairs_at}
+use Rattle.safety_game.specs.inside.KeepRounds.{firsts_in, cell_cuts_in, IsInStep}
+use Rattle.safety_game.specs.inside.KeepSteps.{is_first_cut}
 use Rattle.game_core.proofs.Counts.{sum_zeros}
 use Rattle.safety_game.proofs.Counting.{times-append, times_single, here, elsewhere}
 use Rattle.safety_game.proofs.Pairs.{at_home, away, pairs_below}

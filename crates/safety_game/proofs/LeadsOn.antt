@@ -15,8 +15,8 @@ use Rattle.cell_counters.proofs.Consequences.{new_answers}
 use Rattle.game_core.specs.Fallen.{is_obstacle, has_fallen}
 use Rattle.game_core.specs.Game.{Game, IsGraph, mark_of, pairs_of, successors_at}
 use Rattle.game_core.proofs.Times.{counts_agree}
-use Rattle.safety_game.specs.Boards.{pairs_at, enabled_at}
-use Rattle.safety_game.specs.inside.Rounds.{fell_before, gone_in, is_cell_cut, cell_cuts_at, IsLawfulFor, AreFalling, firsts_in, cell_cuts_in, IsInStep, KeepsRule}
+use Rattle.safety_game.specs.KeepBoards.{pairs_at, enabled_at}
+use Rattle.safety_game.specs.inside.KeepRounds.{fell_before, gone_in, is_cell_cut, cell_cuts_at, IsLawfulFor, AreFalling, firsts_in, cell_cuts_in, IsInStep, KeepsRule}
 use Rattle.safety_game.proofs.Counting.{times-append}
 use Rattle.safety_game.proofs.Pairs.{cell_of, pairs_below, All-pairs_at, few_enabled}
 use Rattle.safety_game.proofs.Falls.{fell_stays, gone_few, cell_cuts_few, falls_by_cell_cuts, cell_cuts_by_fall, obstacle_falls, obstacle_unhit}

@@ -6,14 +6,14 @@ use Rattle.std.proofs.lemmas.List.{get_or-append-add, get_or_append_left, get_or
 use Rattle.std.proofs.lemmas.List.FromFn.{get_or-map-range_with_len}
 use Rattle.cell_counters.specs.declared.account.Account.{Account}
 use Rattle.cell_counters.specs.Accounts.{IsLawfulCounter, cut_count}
-use Rattle.cell_counters.specs.Tokens.{BoardModel, RootModel, IsLawful, new_root}
+use Rattle.cell_counters.specs.BoardModels.{BoardModel, RootModel, IsLawful, new_root}
 use Rattle.cell_counters.proofs.Consequences.{counts_down}
 use Rattle.game_core.specs.Game.{Game, IsGraph, pairs_of, successors_at}
 use Rattle.board_rounds.specs.Boards.{fans_of, for_each_cell}
 use Rattle.board_rounds.proofs.Boards.{fans_many, numbers_many}
 use Rattle.board_rounds.proofs.Graphs.{few_successors}
-use Rattle.safety_game.specs.Boards.{enabled_at, counters_of, IsBoardOf}
-use Rattle.safety_game.specs.inside.Rounds.{IsLawfulFor, is_whole}
+use Rattle.safety_game.specs.KeepBoards.{enabled_at, counters_of, IsBoardOf}
+use Rattle.safety_game.specs.inside.KeepRounds.{IsLawfulFor, is_whole}
 use Rattle.safety_game.proofs.Pairs.{few_enabled}
 
 -- how many numbers a board begins with

@@ -8,7 +8,7 @@ use Rattle.std.proofs.lemmas.Nat.{div-mul-add, div-add-mod', mod_below, mul-add-
 use Rattle.game_core.specs.Counts.{times}
 use Rattle.game_core.specs.Game.{Game, pair_of, pairs_of, successors_at}
 use Rattle.game_core.proofs.Times.{counts_agree}
-use Rattle.safety_game.specs.Boards.{pairs_at, enabled_at}
+use Rattle.safety_game.specs.KeepBoards.{pairs_at, enabled_at}
 
 module _ (g : Game) where
   pub cell_of : (c u : ℕ) → u < g.inputs → pair_of g c u / g.inputs ≡ c

@@ -2,15 +2,15 @@
 use Rattle.std.proofs.Common.{inl, ◌≡◌, ℕ, suc, ◌<◌, ◌≤◌, List, ◌++◌, length, arith, refl}
 use Rattle.cell_counters.specs.declared.account.Account.{Account}
 use Rattle.cell_counters.specs.Accounts.{all_logs}
-use Rattle.cell_counters.specs.Tokens.{BoardModel, IsLawful}
+use Rattle.cell_counters.specs.BoardModels.{BoardModel, IsLawful}
 use Rattle.game_core.specs.Counts.{times}
 use Rattle.game_core.specs.Fallen.{has_fallen}
 use Rattle.game_core.specs.Game.{Game, IsGraph}
 use Rattle.board_rounds.specs.Crew.{logged_cells}
 use Rattle.board_rounds.specs.Rules.{IsRound, LeadsOn}
-use Rattle.safety_game.specs.Boards.{IsBoardOf}
-use Rattle.safety_game.specs.inside.Rounds.{KeepsRule}
-use Rattle.safety_game.specs.inside.Standing.{HoldsBefore, IsRunnable}
+use Rattle.safety_game.specs.KeepBoards.{IsBoardOf}
+use Rattle.safety_game.specs.inside.KeepRounds.{KeepsRule}
+use Rattle.safety_game.specs.inside.KeepInvariant.{HoldsBefore, IsRunnable}
 use Rattle.safety_game.proofs.OnBoards.{counters_of_board, lawful_for}
 use Rattle.safety_game.proofs.InStep.{nothing_in_step}
 use Rattle.safety_game.proofs.LeadsOn.{round_leads_on}

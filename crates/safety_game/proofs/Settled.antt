@@ -20,9 +20,9 @@ use Rattle.game_core.specs.Game.{Game, IsGraph, mark_of, pair_of, pairs_of, succ
 use Rattle.game_core.specs.Solution.{row_of, HasRow}
 use Rattle.game_core.specs.Tally.{all_pairs, unkept_in, is_lost, FellBefore}
 use Rattle.game_core.proofs.Times.{counts_agree}
-use Rattle.safety_game.specs.Boards.{pairs_at}
-use Rattle.safety_game.specs.Reckoned.{lost_at, IsReckonedBy}
-use Rattle.safety_game.specs.inside.Rounds.{fell_before, gone_in, is_cell_cut, cell_cuts_at, AreFalling, IsFull, is_whole, IsRowDecoded, AreRowsDecoded}
+use Rattle.safety_game.specs.KeepBoards.{pairs_at}
+use Rattle.safety_game.specs.KeepReckoned.{lost_at, IsReckonedBy}
+use Rattle.safety_game.specs.inside.KeepRounds.{fell_before, gone_in, is_cell_cut, cell_cuts_at, AreFalling, IsFull, is_whole, IsRowDecoded, AreRowsDecoded}
 use Rattle.game_core.proofs.Counts.{one_if_le, one_if_same, count_none}
 use Rattle.board_rounds.proofs.Graphs.{successors_within}
 use Rattle.board_rounds.proofs.Sums.{All-range}

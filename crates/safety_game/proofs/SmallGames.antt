@@ -6,9 +6,9 @@ use Rattle.game_core.specs.declared.game.Row.{Row}
 use Rattle.game_core.specs.Fallen.{has_fallen}
 use Rattle.game_core.specs.Solution.{row_of}
 use Rattle.game_core.specs.Tally.{IsKeepTally, all_pairs, unkept_in}
-use Rattle.safety_game.specs.Boards.{enabled_at}
-use Rattle.safety_game.specs.Reckoned.{lost_at}
-use Rattle.safety_game.specs.inside.SmallGames.{traps, traps_rows, traps_tally, traps_starts, traps_cuts}
+use Rattle.safety_game.specs.KeepBoards.{enabled_at}
+use Rattle.safety_game.specs.KeepReckoned.{lost_at}
+use Rattle.safety_game.specs.inside.SmallKeepGames.{traps, traps_rows, traps_tally, traps_starts, traps_cuts}
 
 -- cell 4 falls in round 2, and not before
 last_round : (d : ℕ) → has_fallen traps d 4 ≡ true → 2 ≤ d

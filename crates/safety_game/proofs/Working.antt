@@ -4,11 +4,11 @@ use Rattle.std.proofs.lemmas.List.{append-nil}
 use Rattle.board_rounds.specs.Crew.{logged_cells, counters_of}
 use Rattle.board_rounds.specs.Rules.{CutsOnce}
 use Rattle.cell_counters.specs.declared.account.Cut.{Cut}
-use Rattle.cell_counters.specs.Tokens.{HandModel}
+use Rattle.cell_counters.specs.BoardModels.{HandModel}
 use Rattle.game_core.specs.Counts.{times, one_if}
 use Rattle.game_core.specs.Game.{Game, pairs_of}
-use Rattle.safety_game.specs.inside.Rounds.{IsInStep, KeepsRule}
-use Rattle.safety_game.specs.inside.Workers.{CutsFirst, CellCutsAfter, Cuts}
+use Rattle.safety_game.specs.inside.KeepRounds.{IsInStep, KeepsRule}
+use Rattle.safety_game.specs.inside.KeepSteps.{CutsFirst, CellCutsAfter, Cuts}
 use Rattle.safety_game.proofs.Counting.{elsewhere}
 use Rattle.safety_game.proofs.InStep.{cut, times_counters, one_counter, in_step-append, quiet_in_step, first_cut_in_step}
 

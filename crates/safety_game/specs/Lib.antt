@@ -1,4 +1,4 @@
-pub mod Boards
-pub mod Reckoned
+pub mod KeepBoards
+pub mod KeepReckoned
 pub mod Kept
 pub mod inside

@@ -1,5 +1,5 @@
 -- what only private clauses and proofs name
-pub mod Rounds
-pub mod Workers
-pub mod Standing
-pub mod SmallGames
+pub mod KeepRounds
+pub mod KeepSteps
+pub mod KeepInvariant
+pub mod SmallKeepGames

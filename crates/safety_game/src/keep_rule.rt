@@ -1,9 +1,9 @@
 //! The rule of a keep game: the first cut of a pair cuts the pair's cell too, and a cell's row is its least pair that was never cut.
 ghost use Rattle.std.specs.Prelude.{◌≡◌, ◌<◌, length};
 ghost use Rattle.game_core.specs.Game.{IsGraph, pairs_of, successors_at};
-ghost use Rattle.safety_game.specs.Boards.{IsBoardOf};
-ghost use Rattle.safety_game.specs.inside.Rounds.{is_whole, IsRowDecoded, AreFewCuts};
-ghost use Rattle.safety_game.specs.inside.Workers.{CutsFirst, CellCuts, Cuts};
+ghost use Rattle.safety_game.specs.KeepBoards.{IsBoardOf};
+ghost use Rattle.safety_game.specs.inside.KeepRounds.{is_whole, IsRowDecoded, AreFewCuts};
+ghost use Rattle.safety_game.specs.inside.KeepSteps.{CutsFirst, CellCuts, Cuts};
 
 use board_rounds::{Rule, Worker};
 use cell_counters::{Board, Root};
@@ -22,8 +22,8 @@ pub(crate) struct Keep<'a, G: Graph> {
 
 impl<G: Graph + Sync> Rule for Keep<'_, G> {
     ghost use Rattle.game_core.specs.Fallen.{has_fallen};
-    ghost use Rattle.safety_game.specs.inside.Rounds.{KeepsRule, IsRowDecoded};
-    ghost use Rattle.safety_game.specs.inside.Standing.{HoldsBefore, IsRunnable};
+    ghost use Rattle.safety_game.specs.inside.KeepRounds.{KeepsRule, IsRowDecoded};
+    ghost use Rattle.safety_game.specs.inside.KeepInvariant.{HoldsBefore, IsRunnable};
 
     ghost game = { λ rule. G.game rule.graph.now };
 

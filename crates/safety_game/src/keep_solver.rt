@@ -1,7 +1,8 @@
 //! The solver.
 ghost use Rattle.std.specs.Prelude.{◌≤◌, IfOk};
-ghost use Rattle.safety_game.specs.Boards.{IsBoardOf};
+ghost use Rattle.safety_game.specs.KeepBoards.{IsBoardOf};
 ghost use Rattle.safety_game.specs.Kept.{IsKeepSolved};
+ghost use Rattle.base.specs.declared.limits.TheConstants.{WORKERS_LIMIT};
 
 use crate::keep_rule::Keep;
 use crate::outcome::Kept;
@@ -20,7 +21,7 @@ pub fn keep<R: Threads + Sync, G: Graph + Sync, T: Gate>(
     workers: u32,
     gate: &T,
 ) -> Result<Kept, NoMemory>
-    requires { (1 ≤ workers) × (workers ≤ 64) }
+    requires { (1 ≤ workers) × (workers ≤ WORKERS_LIMIT) }
     ensures { IfOk result (IsKeepSolved (G.game g.now)) }
 {
     let scratch = Scratch::new(rt, alloc, g, workers)?;

@@ -1,6 +1,6 @@
 //! With what the board of a keep game begins.
 ghost use Rattle.std.specs.Prelude.{◌≡◌, ◌<◌};
-ghost use Rattle.safety_game.specs.Boards.{enabled_at};
+ghost use Rattle.safety_game.specs.KeepBoards.{enabled_at};
 
 use board_rounds::Start;
 use game_core::Forward;
@@ -14,7 +14,7 @@ pub type Scratch = board_rounds::Scratch<KeepStart>;
 impl Start for KeepStart {
     ghost use Rattle.std.specs.Prelude.{[]};
     ghost use Rattle.std.proofs.lemmas.List.{append-nil};
-    ghost use Rattle.safety_game.specs.Boards.{enabled_at, counters_of};
+    ghost use Rattle.safety_game.specs.KeepBoards.{enabled_at, counters_of};
 
     ghost number = { enabled_at };
 

@@ -2,6 +2,7 @@
 ghost use Rattle.std.specs.Prelude.{◌≡◌, ◌≤◌, length, IfOk};
 ghost use Rattle.stay_game.specs.Stay.{IsStaySolution};
 ghost use Rattle.stay_game.specs.inside.StayMarks.{rows_over};
+ghost use Rattle.base.specs.declared.limits.TheConstants.{WORKERS_LIMIT};
 
 use crate::stay_marks::{marks_to_hold, marks_to_reach};
 use frontier_pool::Gate;
@@ -20,23 +21,23 @@ pub fn stay<R: Threads + Sync, G: Graph + Sync, T: Gate>(
     workers: u32,
     gate: &T,
 ) -> Result<Answer, NoMemory>
-    requires { (1 ≤ workers) × (workers ≤ 64) }
+    requires { (1 ≤ workers) × (workers ≤ WORKERS_LIMIT) }
     ensures { IfOk result (IsStaySolution (G.game g.now)) }
 {
     let marks = marks_to_hold(alloc, g)?;
-    let held = keep(rt, alloc, &Remark::new(g, &marks), workers, gate)?.answer;
-    let marks = marks_to_reach(alloc, g, &held)?;
-    let mut rows = solve(rt, alloc, &Remark::new(g, &marks), workers, gate)?.answer;
-    put_over(&held, &mut rows);
-    Ok(rows)
+    let held_answer = keep(rt, alloc, &Remark::new(g, &marks), workers, gate)?.answer;
+    let marks = marks_to_reach(alloc, g, &held_answer)?;
+    let mut answer = solve(rt, alloc, &Remark::new(g, &marks), workers, gate)?.answer;
+    put_over(&held_answer, &mut answer);
+    Ok(answer)
 }
 
 /// Puts the rows that there are over others.
-fn put_over(held: &Answer, rows: &mut Answer)
-    requires { length held.now ≡ length rows.old }
-    ensures { rows.new ≡ rows_over (length held.now) held.now rows.old }
+fn put_over(held_answer: &Answer, answer: &mut Answer)
+    requires { length held_answer.now ≡ length answer.old }
+    ensures { answer.new ≡ rows_over (length held_answer.now) held_answer.now answer.old }
 {
-    for c in 0..held.cells() {
-        rows.set(c, held.row(c).or(rows.row(c)));
+    for c in 0..held_answer.cells() {
+        answer.set(c, held_answer.row(c).or(answer.row(c)));
     }
 }

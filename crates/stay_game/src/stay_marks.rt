@@ -30,15 +30,15 @@ fn hold_mark(mark: Mark) -> Mark
 pub(crate) fn marks_to_reach<G: Graph>(
     alloc: Global,
     g: &G,
-    held: &Answer,
+    held_answer: &Answer,
 ) -> Result<Vec<Mark>, NoMemory>
-    requires { length held.now ≡ (G.game g.now).cells }
-    ensures { IfOk result (λ marks. marks.items ≡ marks_to_reach (G.game g.now) held.now) }
+    requires { length held_answer.now ≡ (G.game g.now).cells }
+    ensures { IfOk result (λ marks. marks.items ≡ marks_to_reach (G.game g.now) held_answer.now) }
 {
     let cells = g.cells();
     let mut marks = vec![in alloc; Mark::Plain; cells as usize]?;
     for c in 0..cells {
-        marks[c as usize] = end_mark(g.mark(c), held.row(c));
+        marks[c as usize] = end_mark(g.mark(c), held_answer.row(c));
     }
     Ok(marks)
 }

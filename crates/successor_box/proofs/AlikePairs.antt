@@ -30,8 +30,8 @@ use Rattle.plant_record.specs.ValueIndices.{value_index}
 use Rattle.plant_record.proofs.lemmas.ValueIndices.{inputs_rest}
 use Rattle.plant_record.specs.Soundness.{IsSound}
 use Rattle.plant_record.specs.Steps.{equation_at}
-use Rattle.successor_box.specs.Boxes.{noise_centre, area_of, radii_of, deviation_at, central_values, cell_area_of, growth_of, next_interval_of, low_corner, high_corner}
-use Rattle.successor_box.specs.Extents.{index_in, moves_along, shifted_by, IsExtentBeforeAt, depends_on, AreAlikeIn}
+use Rattle.successor_box.specs.SuccessorBoxes.{noise_centre, area_of, radii_of, deviation_at, central_values, cell_area_of, growth_of, next_interval_of, low_corner, high_corner}
+use Rattle.successor_box.specs.PairExtents.{index_in, moves_along, shifted_by, IsExtentBeforeAt, depends_on, AreAlikeIn}
 use Rattle.successor_box.specs.inside.Area.{no_range, offsets_of, moved_to}
 use Rattle.successor_box.proofs.Below.{centres_depend_on_their_indices}
 use Rattle.successor_box.proofs.CellOffsets.{cell_range, same_constants, same_offsets, same_cell_range}

@@ -5,7 +5,7 @@ use Rattle.std.proofs.lemmas.Int.{ints, by_lt_z}
 use Rattle.grid_quantiser.specs.declared.axis.Axis.{Axis}
 use Rattle.grid_quantiser.specs.Axes.{end_of}
 use Rattle.grid_quantiser.specs.Cells.{IsInDomain, cell_of}
-use Rattle.grid_quantiser.specs.Boxes.{IsInBox, IsBoxInDomain, Touches}
+use Rattle.grid_quantiser.specs.CellBoxes.{IsInBox, IsBoxInDomain, Touches}
 
 below_low : (lo x : ℤ) → x <ℤ lo → lo ≤ℤ x → ⊥
 below_low lo x below low = omega (arith, ints, below, low)

@@ -6,11 +6,11 @@ use Rattle.std.proofs.lemmas.List.{length-append, length-map}
 use Rattle.std.proofs.lemmas.List.Elements.{All-head, All-tail, All-nil, All-cons, All-append, All-map, All-weaker}
 use Rattle.interval_eval.specs.declared.interval.Interval.{Interval}
 use Rattle.interval_eval.specs.Span.{IsInterval, AreIn}
-use Rattle.interval_eval.specs.Parts.{ArePartsOf}
+use Rattle.interval_eval.specs.NestedAreas.{ArePartsOf}
 use Rattle.grid_quantiser.specs.declared.axis.Axis.{Axis}
 use Rattle.grid_quantiser.specs.Axes.{IsAxis, end_of, cells_of}
 use Rattle.grid_quantiser.specs.Cells.{IsInDomain, IsPointOf, low_of, high_of, centre_of}
-use Rattle.grid_quantiser.specs.Boxes.{IsAtMost, IsInBox}
+use Rattle.grid_quantiser.specs.CellBoxes.{IsAtMost, IsInBox}
 use Rattle.grid_quantiser.proofs.CellPoints.{box_from_point, point_from_box}
 use Rattle.grid_quantiser.proofs.CentrePoints.{centre_between}
 use Rattle.plant_record.specs.declared.variables.StateVariable.{StateVariable}
@@ -19,7 +19,7 @@ use Rattle.plant_record.specs.Description.{Description, axis_of, axes_of, names_
 use Rattle.plant_record.specs.Steps.{IsNoise, values_at}
 use Rattle.plant_record.specs.Soundness.{IsFilledByCells, IsSound}
 use Rattle.plant_record.specs.Variables.{IsNoiseVariable}
-use Rattle.successor_box.specs.Boxes.{noise_centre, area_of, ranges_between, cell_area_of, central_values}
+use Rattle.successor_box.specs.SuccessorBoxes.{noise_centre, area_of, ranges_between, cell_area_of, central_values}
 use Rattle.successor_box.proofs.CellValues.{in_append, inputs_in, noises_in, centres_in, centres_are_noise, vector_count}
 use Rattle.successor_box.proofs.Middles.{low_long, high_long}
 

@@ -5,13 +5,13 @@ use Rattle.std.proofs.lemmas.Int.{ints}
 use Rattle.std.proofs.lemmas.List.{length-map, length-take-le, get_or-map, get_or-take, ext_get_or}
 use Rattle.std.proofs.lemmas.List.Elements.{All-append, All-map, All-weaker, All-from_get_or}
 use Rattle.fixed_expr.specs.Expression.{NumExpr}
-use Rattle.fixed_expr.specs.Narrow.{IsNarrow}
+use Rattle.fixed_expr.specs.NarrowValues.{IsNarrow}
 use Rattle.fixed_expr.specs.Value.{IsWellFormed}
 use Rattle.interval_eval.specs.declared.interval.Interval.{Interval}
 use Rattle.interval_eval.specs.declared.columns.IntervalColumn.{IntervalColumn}
 use Rattle.interval_eval.specs.LaneSpans.{interval_in, area_in}
 use Rattle.interval_eval.specs.Span.{IsIn, AreIn, IsInterval, SpanStaysInRange}
-use Rattle.interval_eval.specs.Parts.{IsPartOf, ArePartsOf}
+use Rattle.interval_eval.specs.NestedAreas.{IsPartOf, ArePartsOf}
 use Rattle.interval_eval.proofs.SpanLaws.{nested_spans_stay_in_range}
 use Rattle.grid_quantiser.specs.Axes.{cells_of}
 use Rattle.plant_record.specs.declared.variables.StateVariable.{StateVariable}
@@ -21,7 +21,7 @@ use Rattle.plant_record.specs.Plants.{IsPlant}
 use Rattle.plant_record.specs.Soundness.{IsSound}
 use Rattle.plant_record.specs.Steps.{equation_at}
 use Rattle.plant_record.specs.Variables.{IsStateVariable, IsNoiseVariable}
-use Rattle.successor_box.specs.Boxes.{area_of, cell_area_of, central_values}
+use Rattle.successor_box.specs.SuccessorBoxes.{area_of, cell_area_of, central_values}
 use Rattle.successor_box.specs.Deviations.{HasNoOverflow}
 use Rattle.successor_box.specs.inside.Area.{no_range, variables_of, offsets_of, moved_to}
 use Rattle.successor_box.specs.inside.Blocks.{no_column}

@@ -13,7 +13,7 @@ use Rattle.grid_quantiser.specs.Cells.{low_of, high_of, radius_of, centre_of}
 use Rattle.plant_record.specs.declared.variables.StateVariable.{StateVariable}
 use Rattle.plant_record.specs.declared.variables.NoiseVariable.{NoiseVariable}
 use Rattle.plant_record.specs.Description.{Description, axis_of, axes_of, vector_of}
-use Rattle.successor_box.specs.Boxes.{noise_centre, ranges_between, cell_area_of, central_values}
+use Rattle.successor_box.specs.SuccessorBoxes.{noise_centre, ranges_between, cell_area_of, central_values}
 use Rattle.successor_box.specs.inside.Area.{no_range, variables_of, offsets_of, moved_to}
 use Rattle.successor_box.proofs.CellValues.{vector_count}
 use Rattle.successor_box.proofs.Centres.{centre_count}

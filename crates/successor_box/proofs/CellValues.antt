@@ -18,7 +18,7 @@ use Rattle.plant_record.specs.Description.{Description, axis_of, axes_of, names_
 use Rattle.plant_record.specs.Steps.{IsNoise, values_at}
 use Rattle.plant_record.specs.Soundness.{IsFilledByCells}
 use Rattle.plant_record.specs.Variables.{IsNoiseVariable}
-use Rattle.successor_box.specs.Boxes.{noise_centre, area_of, radii_of, central_values}
+use Rattle.successor_box.specs.SuccessorBoxes.{noise_centre, area_of, radii_of, central_values}
 
 near_append : (rs xs ys radii values others : List ℤ) → AreNear rs xs ys → AreNear radii values others → AreNear (rs ++ radii) (xs ++ values) (ys ++ others)
 near_append [] [] [] radii values others h k = k

@@ -16,7 +16,7 @@ use Rattle.interval_eval.specs.Span.{span_of}
 use Rattle.plant_record.specs.Description.{Description, axis_of, axes_of, vectors_of, vector_of}
 use Rattle.plant_record.specs.Steps.{values_at, equation_at}
 use Rattle.plant_record.specs.Soundness.{IsSound}
-use Rattle.successor_box.specs.Boxes.{noise_centre, area_of, radii_of, deviation_at, central_values}
+use Rattle.successor_box.specs.SuccessorBoxes.{noise_centre, area_of, radii_of, deviation_at, central_values}
 use Rattle.successor_box.specs.Deviations.{HasNoOverflow}
 use Rattle.successor_box.proofs.Below.{centres_are_near}
 use Rattle.successor_box.proofs.CellValues.{centres_are_noise, central_in}

@@ -14,9 +14,9 @@ use Rattle.plant_record.specs.Description.{Description, axis_of, axes_of, vector
 use Rattle.plant_record.specs.ValueIndices.{value_index}
 use Rattle.plant_record.specs.Soundness.{IsSound}
 use Rattle.plant_record.specs.Steps.{equation_at}
-use Rattle.successor_box.specs.Boxes.{noise_centre, central_values}
+use Rattle.successor_box.specs.SuccessorBoxes.{noise_centre, central_values}
 use Rattle.successor_box.specs.Deviations.{HasNoOverflow}
-use Rattle.successor_box.specs.Extents.{IsPairInLane}
+use Rattle.successor_box.specs.PairExtents.{IsPairInLane}
 use Rattle.successor_box.specs.inside.Area.{variables_of}
 use Rattle.fixed_expr.specs.LaneEval.{row_of}
 use Rattle.successor_box.proofs.AlikePairs.{central_state, central_noise}

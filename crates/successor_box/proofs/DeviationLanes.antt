@@ -6,7 +6,7 @@ use Rattle.std.proofs.lemmas.List.FromFn.{length-map-range_with_len, get_or-map-
 use Rattle.fixed_expr.specs.declared.expr.Expr.{Expr}
 use Rattle.fixed_expr.specs.Expression.{Expression, NumExpr, expression_of}
 use Rattle.plant_record.specs.Description.{Description, vectors_of}
-use Rattle.successor_box.specs.Boxes.{deviation_at}
+use Rattle.successor_box.specs.SuccessorBoxes.{deviation_at}
 use Rattle.plant_record.specs.Steps.{equation_at}
 use Rattle.successor_box.specs.Deviations.{deviations_along, deviations_of}
 

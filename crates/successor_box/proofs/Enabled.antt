@@ -12,10 +12,10 @@ use Rattle.interval_eval.specs.Span.{IsInterval, IsIn}
 use Rattle.grid_quantiser.specs.declared.axis.Axis.{Axis}
 use Rattle.grid_quantiser.specs.declared.boxes.CellBox.{CellBox}
 use Rattle.grid_quantiser.specs.Cells.{cell_of}
-use Rattle.grid_quantiser.specs.Boxes.{IsAtMost}
+use Rattle.grid_quantiser.specs.CellBoxes.{IsAtMost}
 use Rattle.plant_record.specs.Description.{Description, axis_of, axes_of, names_of}
 use Rattle.plant_record.specs.Soundness.{IsSound}
-use Rattle.successor_box.specs.Boxes.{IsEnabledAt, AreSuccessors, IsBoxOf, cells_in, central_values, next_interval_of, low_corner, high_corner}
+use Rattle.successor_box.specs.SuccessorBoxes.{IsEnabledAt, AreSuccessors, IsBoxOf, cells_in, central_values, next_interval_of, low_corner, high_corner}
 use Rattle.successor_box.proofs.NextIntervals.{centre_reached}
 use Rattle.successor_box.proofs.BoxDomains.{by_box_in_domain, cell_touches}
 

@@ -17,8 +17,8 @@ use Rattle.plant_record.specs.Description.{Description, axes_of, vectors_of}
 use Rattle.plant_record.specs.Soundness.{IsSound}
 use Rattle.plant_record.specs.declared.version.PlantVersion.{PlantVersion}
 use Rattle.plant_record.specs.declared.version.PlantVersion.TheVariants.{One}
-use Rattle.successor_box.specs.Extents.{IsExtentBeforeAt}
-use Rattle.successor_box.specs.Boxes.{deviation_at, central_values, growth_of, next_interval_of, low_corner, high_corner}
+use Rattle.successor_box.specs.PairExtents.{IsExtentBeforeAt}
+use Rattle.successor_box.specs.SuccessorBoxes.{deviation_at, central_values, growth_of, next_interval_of, low_corner, high_corner}
 use Rattle.plant_record.specs.Steps.{equation_at}
 use Rattle.successor_box.specs.Deviations.{HasNoOverflow, deviations_of}
 use Rattle.successor_box.proofs.DeviationLanes.{entry_is}

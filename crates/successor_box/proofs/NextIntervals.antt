@@ -14,7 +14,7 @@ use Rattle.plant_record.specs.declared.version.PlantVersion.TheVariants.{One, Tw
 use Rattle.plant_record.specs.Description.{Description, axes_of, names_of}
 use Rattle.plant_record.specs.Steps.{IsNoise, values_at}
 use Rattle.plant_record.specs.Soundness.{IsSound}
-use Rattle.successor_box.specs.Boxes.{area_of, radii_of, cell_area_of, deviation_at, central_values, growth_of, intersection_of, next_interval_of}
+use Rattle.successor_box.specs.SuccessorBoxes.{area_of, radii_of, cell_area_of, deviation_at, central_values, growth_of, intersection_of, next_interval_of}
 use Rattle.successor_box.proofs.CellAreas.{cell_area_count, cell_values_in, cell_central_in}
 
 about : (v : ℤ) (d : ℕ) → ((v -ℤ pos d) ≤ℤ v) × (v ≤ℤ (v +ℤ pos d))

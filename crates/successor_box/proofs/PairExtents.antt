@@ -9,8 +9,8 @@ use Rattle.grid_quantiser.specs.Extents.{AreExtentsOf}
 use Rattle.grid_quantiser.specs.ExtentBoxes.{with_extent, IsBoxMeeting}
 use Rattle.plant_record.specs.Description.{Description, axis_of, axes_of}
 use Rattle.plant_record.specs.Soundness.{IsSound}
-use Rattle.successor_box.specs.Boxes.{IsBoxOf, low_corner, high_corner}
-use Rattle.successor_box.specs.Extents.{IsExtentAt, IsBoxAlong}
+use Rattle.successor_box.specs.SuccessorBoxes.{IsBoxOf, low_corner, high_corner}
+use Rattle.successor_box.specs.PairExtents.{IsExtentAt, IsBoxAlong}
 use Rattle.successor_box.proofs.Below.{boxes_grow_by_extents}
 use Rattle.successor_box.proofs.Enabled.{corners_ordered}
 

@@ -7,7 +7,7 @@ use Rattle.grid_quantiser.specs.Cells.{radius_of}
 use Rattle.plant_record.specs.declared.variables.NoiseVariable.{NoiseVariable}
 use Rattle.plant_record.specs.Description.{Description, axes_of, vector_of}
 use Rattle.plant_record.specs.Variables.{IsNoiseVariable}
-use Rattle.successor_box.specs.Boxes.{noise_centre, radii_of}
+use Rattle.successor_box.specs.SuccessorBoxes.{noise_centre, radii_of}
 use Rattle.successor_box.proofs.CellValues.{middle}
 
 not_negative : (n : ℕ) → pos 0 ≤ℤ pos n

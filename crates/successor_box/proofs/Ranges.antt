@@ -16,7 +16,7 @@ use Rattle.plant_record.specs.declared.variables.NoiseVariable.{NoiseVariable}
 use Rattle.plant_record.specs.Variables.{IsNoiseVariable}
 use Rattle.plant_record.specs.Soundness.{IsSound, IsFilledByCells}
 use Rattle.plant_record.specs.Description.{Description, axis_of, axes_of, vector_of}
-use Rattle.successor_box.specs.Boxes.{noise_centre, area_of, ranges_between, area_between, radii_of}
+use Rattle.successor_box.specs.SuccessorBoxes.{noise_centre, area_of, ranges_between, area_between, radii_of}
 use Rattle.successor_box.specs.inside.Area.{variables_of}
 use Rattle.successor_box.proofs.Below.{domain_has_ends}
 use Rattle.successor_box.proofs.CellAreas.{ranges_long}

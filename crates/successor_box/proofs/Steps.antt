@@ -13,11 +13,11 @@ use Rattle.growth_bound.proofs.Laws.{values_move_by_deviations}
 use Rattle.grid_quantiser.specs.declared.axis.Axis.{Axis}
 use Rattle.grid_quantiser.specs.Axes.{cells_of}
 use Rattle.grid_quantiser.specs.Cells.{IsInDomain, IsPointOf, cell_of}
-use Rattle.grid_quantiser.specs.Boxes.{IsInBox}
+use Rattle.grid_quantiser.specs.CellBoxes.{IsInBox}
 use Rattle.plant_record.specs.Description.{Description, axis_of, axes_of, names_of, vectors_of}
 use Rattle.plant_record.specs.Steps.{IsNoise, step_of, values_at, StepStaysInRange}
 use Rattle.plant_record.specs.Soundness.{IsSound}
-use Rattle.successor_box.specs.Boxes.{IsEnabledAt, AreSuccessors, area_of, radii_of, central_values, next_interval_of, low_corner, high_corner}
+use Rattle.successor_box.specs.SuccessorBoxes.{IsEnabledAt, AreSuccessors, area_of, radii_of, central_values, next_interval_of, low_corner, high_corner}
 use Rattle.successor_box.specs.Deviations.{HasNoOverflow}
 use Rattle.successor_box.proofs.BoxDomains.{box_inside, cell_touches}
 use Rattle.successor_box.proofs.Below.{centres_are_near}

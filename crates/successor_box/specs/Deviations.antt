@@ -10,7 +10,7 @@ use Rattle.plant_record.specs.Description.{Description, vectors_of}
 use Rattle.plant_record.specs.Steps.{equation_at}
 use Rattle.successor_box.specs.declared.slope_fault.SlopeFault.{SlopeFault}
 use Rattle.successor_box.specs.declared.slope_fault.SlopeFault.TheVariants.{Overflow, Memory}
-use Rattle.successor_box.specs.Boxes.{area_of, radii_of, deviation_at}
+use Rattle.successor_box.specs.SuccessorBoxes.{area_of, radii_of, deviation_at}
 
 -- Over an area no node of an expression leaves the range, and neither do the low end of its span less its
 -- deviation and the high end plus it.

@@ -9,9 +9,9 @@ use Rattle.grid_quantiser.specs.Cells.{IsInDomain, IsPointOf, cell_of, point_of}
 use Rattle.plant_record.specs.Description.{Description, axes_of, vectors_of}
 use Rattle.plant_record.specs.Steps.{IsNoise, step_of, StepStaysInRange}
 use Rattle.plant_record.specs.Soundness.{IsSound}
-use Rattle.successor_box.specs.Boxes.{IsEnabledAt, AreSuccessors, IsBoxOf, cells_in}
+use Rattle.successor_box.specs.SuccessorBoxes.{IsEnabledAt, AreSuccessors, IsBoxOf, cells_in}
 use Rattle.successor_box.specs.Deviations.{HasNoOverflow}
-use Rattle.successor_box.specs.Extents.{IsExtentAt, IsBoxAlong, shifted_by, IsExtentBeforeAt, AreAlikeIn}
+use Rattle.successor_box.specs.PairExtents.{IsExtentAt, IsBoxAlong, shifted_by, IsExtentBeforeAt, AreAlikeIn}
 
 -- a step from a point of a cell, under an enabled input and a noise in range, lies in the domain, and its cell
 -- is a successor

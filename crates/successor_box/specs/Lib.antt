@@ -1,5 +1,5 @@
-pub mod Boxes
+pub mod SuccessorBoxes
 pub mod Deviations
-pub mod Extents
+pub mod PairExtents
 pub mod Laws
 pub mod inside

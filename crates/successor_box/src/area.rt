@@ -5,47 +5,48 @@ ghost use Rattle.grid_quantiser.specs.Axes.{no_axis, cells_of};
 ghost use Rattle.grid_quantiser.specs.Cells.{radius_of};
 ghost use Rattle.plant_record.specs.Limits.{IsWithinLimits};
 ghost use Rattle.plant_record.specs.Description.{axes_of, vectors_of};
-ghost use Rattle.successor_box.specs.Boxes.{area_between, cell_area_of, radii_of};
-ghost use Rattle.successor_box.specs.inside.Area.{AreRanges, AreRangesBetween, AreRadii, offsets_of, no_range, variables_of};
+ghost use Rattle.successor_box.specs.SuccessorBoxes.{area_between, cell_area_of, radii_of};
+ghost use Rattle.successor_box.specs.inside.Area.{IsArea, IsAreaBetween, AreRadii, offsets_of, no_range, variables_of};
 
 use crate::noise_centres::{noise_offset, noise_radius};
+use base::limits::VARIABLES_LIMIT;
 use grid_quantiser::Point;
 use interval_eval::Interval;
-use plant_record::{Plant, VARIABLES_LIMIT};
+use plant_record::Plant;
 
 pub(crate) const NO_RANGE: Interval = Interval { lo: 0, hi: 0 };
 
 /// Where each variable lies under an input vector. Nothing is said of the indices past the last.
-pub(crate) fn ranges(p: &Plant, input: u32) -> [Interval; VARIABLES_LIMIT]
+pub(crate) fn domain_area(p: &Plant, input: u32) -> [Interval; VARIABLES_LIMIT]
     requires plant { IsWithinLimits p.now }
     requires input { input < vectors_of p.now.inputs }
-    ensures { AreRanges p.now input result }
+    ensures { IsArea p.now input result }
 {
     let grid = p.grid();
     let last = grid.cells() - 1;
-    ranges_between(p, &grid.low(0), &grid.high(last), input)
+    area_between(p, &grid.low(0), &grid.high(last), input)
 }
 
 /// Where each variable lies while the state is in a cell, under an input vector. Nothing is said of the indices past the last.
-pub(crate) fn cell_ranges(p: &Plant, c: u32, input: u32) -> [Interval; VARIABLES_LIMIT]
+pub(crate) fn cell_area(p: &Plant, c: u32, input: u32) -> [Interval; VARIABLES_LIMIT]
     requires cell { c < cells_of (axes_of p.now) }
     requires input { input < vectors_of p.now.inputs }
     ensures { take (variables_of p.now) result ≡ cell_area_of p.now c input }
 {
     let grid = p.grid();
-    ranges_between(p, &grid.low(c), &grid.high(c), input)
+    area_between(p, &grid.low(c), &grid.high(c), input)
 }
 
 /// Where each variable lies, the states from one point to another.
-fn ranges_between(p: &Plant, low: &Point, high: &Point, input: u32) -> [Interval; VARIABLES_LIMIT]
+fn area_between(p: &Plant, low: &Point, high: &Point, input: u32) -> [Interval; VARIABLES_LIMIT]
     requires { input < vectors_of p.now.inputs }
-    ensures { AreRangesBetween p.now (take (length p.now.states) low.now) (take (length p.now.states) high.now) input result }
+    ensures { IsAreaBetween p.now (take (length p.now.states) low.now) (take (length p.now.states) high.now) input result }
 {
-    let mut ranges = [NO_RANGE; VARIABLES_LIMIT];
+    let mut area = [NO_RANGE; VARIABLES_LIMIT];
     for k in 0..p.variables() {
-        ranges[k as usize] = range(p, low, high, input, k);
+        area[k as usize] = range(p, low, high, input, k);
     }
-    ranges
+    area
 }
 
 /// Where one variable lies, the states from one point to another.

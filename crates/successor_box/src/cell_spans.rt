@@ -2,23 +2,25 @@
 ghost use Rattle.std.specs.Prelude.{◌≡◌, ℕ, ◌<◌, ◌≤◌, length, slice_index_or, pos, ◌+ℤ◌};
 ghost use Rattle.fixed_expr.specs.declared.lanes.TheConstants.{LANES};
 ghost use Rattle.fixed_expr.specs.Expression.{expression_of};
-ghost use Rattle.fixed_expr.specs.Narrow.{IsNarrow};
+ghost use Rattle.fixed_expr.specs.NarrowValues.{IsNarrow};
 ghost use Rattle.fixed_expr.specs.Value.{IsWellFormed};
 ghost use Rattle.interval_eval.specs.LaneSpans.{interval_in, area_in};
 ghost use Rattle.interval_eval.specs.Span.{SpanStaysInRange, span_of};
 ghost use Rattle.plant_record.specs.Limits.{IsWithinLimits};
 ghost use Rattle.plant_record.specs.Steps.{equation_at};
-ghost use Rattle.successor_box.specs.Boxes.{cell_area_of};
+ghost use Rattle.successor_box.specs.SuccessorBoxes.{cell_area_of};
 ghost use Rattle.successor_box.specs.Deviations.{HasNoOverflow};
-ghost use Rattle.successor_box.specs.Extents.{IsPairInLane, HasPairInEachLane};
+ghost use Rattle.successor_box.specs.PairExtents.{IsPairInLane, HasPairInEachLane};
 ghost use Rattle.successor_box.specs.inside.Area.{variables_of, no_range};
-ghost use Rattle.successor_box.specs.inside.Blocks.{HoldCentralValues, HoldCellRanges};
+ghost use Rattle.successor_box.specs.inside.Blocks.{HoldCentralValues, HoldCellAreas};
+ghost use Rattle.base.specs.declared.limits.TheConstants.{VARIABLES_LIMIT};
 
 use crate::area::{NO_RANGE, offset};
 use crate::index_columns::IndexColumns;
+use base::limits::VARIABLES_LIMIT;
 use fixed_expr::{Expr, LANES};
 use interval_eval::{Interval, IntervalColumn, NO_INTERVALS, span, span_lanes};
-use plant_record::{Plant, VARIABLES_LIMIT};
+use plant_record::Plant;
 
 /// The span of an equation over the cell of each pair, given by the values of the variables at its centre.
 pub(crate) fn spans(
@@ -33,8 +35,8 @@ pub(crate) fn spans(
     requires columns { HoldCentralValues p.now indices.now columns.now }
     ensures { (j c u : ℕ) → j < LANES → IsPairInLane p.now indices.now j c u → slice_index_or result j no_range ≡ span_of (equation_at p.now state) (cell_area_of p.now c u) }
 {
-    let ranges = cell_columns(p, indices, columns);
-    spans_in_lanes(p.equation(state), &ranges[..p.variables() as usize])
+    let area = cell_columns(p, indices, columns);
+    spans_in_lanes(p.equation(state), &area[..p.variables() as usize])
 }
 
 /// The ranges of the variables over the cells of the pairs, one column for each. Nothing is said of the columns past the last.
@@ -45,13 +47,13 @@ fn cell_columns(
 ) -> [IntervalColumn; VARIABLES_LIMIT]
     requires pairs { HasPairInEachLane p.now indices.now }
     requires columns { HoldCentralValues p.now indices.now columns.now }
-    ensures { HoldCellRanges p.now indices.now result }
+    ensures { HoldCellAreas p.now indices.now result }
 {
-    let mut ranges = [NO_INTERVALS; VARIABLES_LIMIT];
+    let mut area = [NO_INTERVALS; VARIABLES_LIMIT];
     for k in 0..p.variables() {
-        ranges[k as usize] = cell_column(p, indices, columns, k);
+        area[k as usize] = cell_column(p, indices, columns, k);
     }
-    ranges
+    area
 }
 
 /// The ranges of one variable: its values at the centres, moved by how far the ends of its range lie from there.
@@ -90,7 +92,7 @@ fn moved(numbers: &[i64; LANES], by: i64) -> [i64; LANES]
 /// The span of an expression in each lane: in 64 bits for all at once, or lane by lane where that leaves them.
 fn spans_in_lanes(e: &Expr, columns: &[IntervalColumn]) -> [Interval; LANES]
     requires formed { IsWellFormed (expression_of e.now) (length columns.now) }
-    requires few { length columns.now ≤ 15 }
+    requires few { length columns.now ≤ VARIABLES_LIMIT }
     requires fits { (j : ℕ) → j < LANES → SpanStaysInRange (expression_of e.now) (area_in columns.now j) }
     ensures { (j : ℕ) → j < LANES → slice_index_or result j no_range ≡ span_of (expression_of e.now) (area_in columns.now j) }
 {
@@ -117,7 +119,7 @@ fn widened(narrow: &IntervalColumn) -> [Interval; LANES]
 #[cold]
 fn wide_spans_in_lanes(e: &Expr, columns: &[IntervalColumn]) -> [Interval; LANES]
     requires formed { IsWellFormed (expression_of e.now) (length columns.now) }
-    requires few { length columns.now ≤ 15 }
+    requires few { length columns.now ≤ VARIABLES_LIMIT }
     requires fits { (j : ℕ) → j < LANES → SpanStaysInRange (expression_of e.now) (area_in columns.now j) }
     ensures { (j : ℕ) → j < LANES → slice_index_or result j no_range ≡ span_of (expression_of e.now) (area_in columns.now j) }
 {
@@ -131,7 +133,7 @@ fn wide_spans_in_lanes(e: &Expr, columns: &[IntervalColumn]) -> [Interval; LANES
 /// The span of an expression in one lane.
 fn span_in_lane(e: &Expr, columns: &[IntervalColumn], j: usize) -> Interval
     requires formed { IsWellFormed (expression_of e.now) (length columns.now) }
-    requires few { length columns.now ≤ 15 }
+    requires few { length columns.now ≤ VARIABLES_LIMIT }
     requires lane { j < LANES }
     requires fits { SpanStaysInRange (expression_of e.now) (area_in columns.now j) }
     ensures { result ≡ span_of (expression_of e.now) (area_in columns.now j) }

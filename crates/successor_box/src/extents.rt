@@ -5,11 +5,11 @@ ghost use Rattle.grid_quantiser.specs.Axes.{cells_of};
 ghost use Rattle.plant_record.specs.Description.{axes_of, vectors_of};
 ghost use Rattle.plant_record.specs.Limits.{IsWithinLimits};
 ghost use Rattle.plant_record.specs.Steps.{equation_at};
-ghost use Rattle.successor_box.specs.Boxes.{deviation_at, central_values, cell_area_of, intersection_of, next_interval_of};
-ghost use Rattle.successor_box.specs.Extents.{IsExtentAt};
+ghost use Rattle.successor_box.specs.SuccessorBoxes.{deviation_at, central_values, cell_area_of, intersection_of, next_interval_of};
+ghost use Rattle.successor_box.specs.PairExtents.{IsExtentAt};
 ghost use Rattle.successor_box.specs.Deviations.{HasNoOverflow, deviations_of};
 
-use crate::area::cell_ranges;
+use crate::area::cell_area;
 use crate::noise_centres::noise_centres;
 use crate::slopes::Slopes;
 use grid_quantiser::Extent;
@@ -88,7 +88,7 @@ fn cell_span(p: &Plant, c: u32, input: u32, state: u32) -> Interval
     ensures { result ≡ span_of (equation_at p.now state) (cell_area_of p.now c input) }
 {
     let count = p.variables() as usize;
-    match span(p.equation(state), &cell_ranges(p, c, input)[..count]) {
+    match span(p.equation(state), &cell_area(p, c, input)[..count]) {
         Some(ends) => ends,
         None => unreachable!(),
     }

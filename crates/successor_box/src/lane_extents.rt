@@ -7,11 +7,12 @@ ghost use Rattle.fixed_expr.specs.Value.{IsWellFormed, StaysInRange, value_of};
 ghost use Rattle.plant_record.specs.declared.version.PlantVersion.TheVariants.{One};
 ghost use Rattle.plant_record.specs.Limits.{IsWithinLimits};
 ghost use Rattle.plant_record.specs.Steps.{equation_at};
-ghost use Rattle.successor_box.specs.Boxes.{central_values, growth_of, intersection_of, next_interval_of};
+ghost use Rattle.successor_box.specs.SuccessorBoxes.{central_values, growth_of, intersection_of, next_interval_of};
 ghost use Rattle.successor_box.specs.Deviations.{HasNoOverflow, deviations_of};
-ghost use Rattle.successor_box.specs.Extents.{IsExtentBeforeAt, IsPairInLane, HasPairInEachLane};
+ghost use Rattle.successor_box.specs.PairExtents.{IsExtentBeforeAt, IsPairInLane, HasPairInEachLane};
 ghost use Rattle.successor_box.specs.inside.Area.{no_range};
 ghost use Rattle.successor_box.specs.inside.Blocks.{HoldInputNumbers, HoldCentralValues, HoldExtents};
+ghost use Rattle.base.specs.declared.limits.TheConstants.{VARIABLES_LIMIT};
 
 use crate::area::NO_RANGE;
 use crate::cell_spans::spans;
@@ -19,10 +20,11 @@ use crate::extents::{growth, intersection};
 use crate::index_columns::IndexColumns;
 use crate::slopes::Slopes;
 use crate::variable_columns::fill_columns;
+use base::limits::VARIABLES_LIMIT;
 use fixed_expr::{Expr, LANES, eval, eval_lanes};
 use grid_quantiser::Extent;
 use interval_eval::Interval;
-use plant_record::{Plant, PlantVersion, VARIABLES_LIMIT};
+use plant_record::{Plant, PlantVersion};
 
 /// The extents of successor boxes along the axis of a state prolonged by its own length below, from which `Grid::shifted_extent` goes on,
 /// each None where one of the box's ends leaves that too, of the first pairs of a block with these indices. It takes no memory.
@@ -228,7 +230,7 @@ fn with_digit(numbers: &[u32; LANES], count: u32, digits: &[u32; LANES]) -> [u32
 /// The value of an expression in each lane: in 64 bits for all at once, or lane by lane where that leaves them.
 fn values_in_lanes(e: &Expr, columns: &[[i64; LANES]]) -> [i128; LANES]
     requires formed { IsWellFormed (expression_of e.now) (length columns.now) }
-    requires few { length columns.now ≤ 15 }
+    requires few { length columns.now ≤ VARIABLES_LIMIT }
     requires fits { (j : ℕ) → j < LANES → StaysInRange (expression_of e.now) (row_of columns.now j) }
     ensures { (j : ℕ) → j < LANES → slice_index_or result j (pos 0) ≡ value_of (expression_of e.now) (row_of columns.now j) }
 {
@@ -255,7 +257,7 @@ fn widened(narrow: &[i64; LANES]) -> [i128; LANES]
 #[cold]
 fn wide_values_in_lanes(e: &Expr, columns: &[[i64; LANES]]) -> [i128; LANES]
     requires formed { IsWellFormed (expression_of e.now) (length columns.now) }
-    requires few { length columns.now ≤ 15 }
+    requires few { length columns.now ≤ VARIABLES_LIMIT }
     requires fits { (j : ℕ) → j < LANES → StaysInRange (expression_of e.now) (row_of columns.now j) }
     ensures { (j : ℕ) → j < LANES → slice_index_or result j (pos 0) ≡ value_of (expression_of e.now) (row_of columns.now j) }
 {
@@ -269,7 +271,7 @@ fn wide_values_in_lanes(e: &Expr, columns: &[[i64; LANES]]) -> [i128; LANES]
 /// The value of an expression in one lane.
 fn value_in_lane(e: &Expr, columns: &[[i64; LANES]], j: usize) -> i128
     requires formed { IsWellFormed (expression_of e.now) (length columns.now) }
-    requires few { length columns.now ≤ 15 }
+    requires few { length columns.now ≤ VARIABLES_LIMIT }
     requires lane { j < LANES }
     requires fits { StaysInRange (expression_of e.now) (row_of columns.now j) }
     ensures { result ≡ value_of (expression_of e.now) (row_of columns.now j) }

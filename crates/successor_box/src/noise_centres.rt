@@ -4,17 +4,19 @@ ghost use Rattle.std.specs.Prelude.{◌≡◌, ◌<◌, ◌^◌, nat_abs, pos, �
 ghost use Rattle.fixed_expr.specs.DivExpr.{floor_div};
 ghost use Rattle.grid_quantiser.specs.Cells.{point_of};
 ghost use Rattle.plant_record.specs.Limits.{IsWithinLimits};
-ghost use Rattle.successor_box.specs.Boxes.{noise_centre};
+ghost use Rattle.successor_box.specs.SuccessorBoxes.{noise_centre};
+ghost use Rattle.base.specs.declared.limits.TheConstants.{NUMBER_LIMIT};
 
-use grid_quantiser::{Point, STATES_LIMIT};
+use base::limits::STATES_LIMIT;
+use grid_quantiser::Point;
 use interval_eval::Interval;
 use plant_record::Plant;
 
 /// The middle of a noise's range, rounded down.
 #[inline]
 pub(crate) fn noise_centre(low: i128, high: i128) -> i128
-    requires low { nat_abs low < 10 ^ 18 }
-    requires high { nat_abs high < 10 ^ 18 }
+    requires low { nat_abs low < NUMBER_LIMIT }
+    requires high { nat_abs high < NUMBER_LIMIT }
     ensures { result ≡ floor_div (low +ℤ high) (pos 2) }
 {
     (low + high).div_euclid(2)
@@ -22,8 +24,8 @@ pub(crate) fn noise_centre(low: i128, high: i128) -> i128
 
 /// How far a noise is at most from the centre of its range.
 pub(crate) fn noise_radius(low: i128, high: i128) -> i128
-    requires low { nat_abs low < 10 ^ 18 }
-    requires high { nat_abs high < 10 ^ 18 }
+    requires low { nat_abs low < NUMBER_LIMIT }
+    requires high { nat_abs high < NUMBER_LIMIT }
     ensures { result ≡ high -ℤ floor_div (low +ℤ high) (pos 2) }
 {
     high - noise_centre(low, high)
@@ -31,8 +33,8 @@ pub(crate) fn noise_radius(low: i128, high: i128) -> i128
 
 /// How far the ends of a noise's range lie from its centre.
 pub(crate) fn noise_offset(low: i128, high: i128) -> Interval
-    requires low { nat_abs low < 10 ^ 18 }
-    requires high { nat_abs high < 10 ^ 18 }
+    requires low { nat_abs low < NUMBER_LIMIT }
+    requires high { nat_abs high < NUMBER_LIMIT }
     ensures low { result.lo ≡ low -ℤ floor_div (low +ℤ high) (pos 2) }
     ensures high { result.hi ≡ high -ℤ floor_div (low +ℤ high) (pos 2) }
 {

@@ -1,12 +1,13 @@
 ghost use Rattle.std.specs.Prelude.{◌≡◌, ◌<◌};
 ghost use Rattle.grid_quantiser.specs.Axes.{cells_of};
 ghost use Rattle.plant_record.specs.Description.{axes_of, vectors_of};
-ghost use Rattle.successor_box.specs.Boxes.{IsBoxOf};
+ghost use Rattle.successor_box.specs.SuccessorBoxes.{IsBoxOf};
 ghost use Rattle.successor_box.specs.Deviations.{HasNoOverflow, deviations_of};
 
 use crate::extents::extent;
 use crate::slopes::Slopes;
-use grid_quantiser::{CellBox, STATES_LIMIT};
+use base::limits::STATES_LIMIT;
+use grid_quantiser::CellBox;
 use plant_record::Plant;
 
 /// The cells that a cell's points can be in one sample later, under an input vector: None where the

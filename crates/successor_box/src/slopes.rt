@@ -5,17 +5,18 @@ ghost use Rattle.fixed_expr.specs.Value.{IsWellFormed};
 ghost use Rattle.growth_bound.specs.Deviation.{deviation_of};
 ghost use Rattle.plant_record.specs.Description.{vectors_of};
 ghost use Rattle.plant_record.specs.Steps.{equation_at};
-ghost use Rattle.successor_box.specs.Boxes.{deviation_at};
+ghost use Rattle.successor_box.specs.SuccessorBoxes.{deviation_at};
 ghost use Rattle.successor_box.specs.Deviations.{HasNoOverflowOver, HasNoOverflowAt, HasNoOverflow, deviations_of, deviations_along, IsOverflow};
 ghost use Rattle.successor_box.specs.inside.Area.{AreRadii, IsOverflowAlong};
 
-use crate::area::{radii, ranges};
+use crate::area::{domain_area, radii};
 use crate::slope_fault::SlopeFault;
+use base::limits::VARIABLES_LIMIT;
 use fixed_expr::Expr;
-use fixed_expr::arithmetic::{difference, sum};
+use fixed_expr::arithmetic::{add_in_range, sub_in_range};
 use growth_bound::span_and_deviation;
 use interval_eval::Interval;
-use plant_record::{Plant, VARIABLES_LIMIT};
+use plant_record::Plant;
 use std::alloc::Global;
 use std::marker::Model;
 
@@ -109,7 +110,7 @@ fn deviation_at(
     let count = p.variables() as usize;
     deviation_over(
         p.equation(equation),
-        &ranges(p, input)[..count],
+        &domain_area(p, input)[..count],
         &radii[..count],
     )
 }
@@ -122,7 +123,7 @@ fn deviation_over(e: &Expr, area: &[Interval], radii: &[i128]) -> Option<i128>
     ensures { SomeIff result (HasNoOverflowOver (expression_of e.now) area.now radii.now) (pos (deviation_of (expression_of e.now) area.now radii.now)) }
 {
     let (ends, deviation) = span_and_deviation(e, area, radii)?;
-    difference(ends.lo, deviation)?;
-    sum(ends.hi, deviation)?;
+    sub_in_range(ends.lo, deviation)?;
+    add_in_range(ends.hi, deviation)?;
     Some(deviation)
 }

@@ -6,8 +6,8 @@ ghost use Rattle.grid_quantiser.specs.Indices.{middle_of};
 ghost use Rattle.plant_record.specs.Description.{axes_of, vectors_of, vector_of};
 ghost use Rattle.plant_record.specs.ValueIndices.{value_index};
 ghost use Rattle.plant_record.specs.Limits.{IsWithinLimits};
-ghost use Rattle.successor_box.specs.Boxes.{noise_centre, central_values};
-ghost use Rattle.successor_box.specs.Extents.{IsPairInLane, HasPairInEachLane};
+ghost use Rattle.successor_box.specs.SuccessorBoxes.{noise_centre, central_values};
+ghost use Rattle.successor_box.specs.PairExtents.{IsPairInLane, HasPairInEachLane};
 ghost use Rattle.successor_box.specs.inside.Area.{variables_of};
 ghost use Rattle.successor_box.specs.inside.Blocks.{HoldInputNumbers, HoldCentralValues};
 

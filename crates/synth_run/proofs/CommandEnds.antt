@@ -5,7 +5,7 @@ use Rattle.command_line.specs.declared.command.Command.TheVariants.{Synth, Check
 use Rattle.synth_run.specs.declared.outcome.Outcome.{Outcome}
 use Rattle.synth_run.specs.declared.outcome.Outcome.TheVariants.{Done, Invalid, NoRow, Usage, Malformed, Overflow, Limit, TooManyTurns, ReadFault, WriteFault, NoMemory}
 use Rattle.synth_run.specs.IsOutcomeFor.{IsOutcomeFor}
-use Rattle.synth_run.specs.Runs.{CanEnd}
+use Rattle.synth_run.specs.RunClauses.{CanEnd}
 
 -- ---- whatever the text is
 

@@ -10,7 +10,7 @@ use Rattle.run_devices.proofs.Laws.{rose_by_one}
 use Rattle.synth_run.specs.Sources.{NoReadFailed}
 use Rattle.synth_run.specs.IsOutcomeFor.{IsOutcomeFor}
 use Rattle.synth_run.specs.Statuses.{status_of, IsTheTexts}
-use Rattle.synth_run.specs.Runs.{CanEnd, IsCompleteAnswer}
+use Rattle.synth_run.specs.RunClauses.{CanEnd, IsCompleteAnswer}
 use Rattle.synth_run.proofs.Outcomes.{one_outcome}
 
 pub answer_is_complete : (command : Command) (outcome : Outcome) (told : Option (List ℕ)) → (outcome ≡ Usage → ⊥) → (outcome ≡ ReadFault → ⊥) → (outcome ≡ WriteFault → ⊥)

@@ -1,6 +1,6 @@
 -- How a run of a command ends.
 use Rattle.std.proofs.Common.{◌≡◌, Option, None, refl, sym, subst}
-use Rattle.cell_counters.specs.Tokens.{BoardModel, RootModel}
+use Rattle.cell_counters.specs.BoardModels.{BoardModel, RootModel}
 use Rattle.run_devices.specs.Devices.{Reading, Writing, GainsWhole, GainsPart}
 use Rattle.run_devices.specs.Transfers.{IsUntouched}
 use Rattle.command_line.specs.declared.command.Command.{Command}
@@ -10,7 +10,7 @@ use Rattle.synth_run.specs.declared.outcome.Outcome.TheVariants.{Done, WriteFaul
 use Rattle.synth_run.specs.declared.text.Text.{Text}
 use Rattle.synth_run.specs.Headline.{IsAnswer}
 use Rattle.synth_run.specs.Played.{SolvesNothing}
-use Rattle.synth_run.specs.Runs.{IsAnswered, IsCutOff, IsRunOf}
+use Rattle.synth_run.specs.RunClauses.{IsAnswered, IsCutOff, IsRunOf}
 use Rattle.synth_run.specs.Sources.{given}
 use Rattle.synth_run.specs.inside.SolvedGames.{IsToBeLeft}
 use Rattle.synth_run.specs.inside.Texts.{bytes_of}

@@ -1,11 +1,11 @@
 -- What a run of a command gives for its words.
 use Rattle.std.proofs.Common.{ℕ, List, Option, subst}
-use Rattle.cell_counters.specs.Tokens.{BoardModel, RootModel}
+use Rattle.cell_counters.specs.BoardModels.{BoardModel, RootModel}
 use Rattle.command_line.specs.declared.command.Command.{Command}
 use Rattle.synth_run.specs.declared.outcome.Outcome.{Outcome}
 use Rattle.run_devices.specs.Devices.{Reading, Writing}
 use Rattle.command_line.specs.Command.{IsOfCommand}
-use Rattle.synth_run.specs.Runs.{IsRunOf, Gives}
+use Rattle.synth_run.specs.RunClauses.{IsRunOf, Gives}
 use Rattle.command_line.proofs.Laws.{arguments_are_of_one_command}
 
 -- words are of one command, and not of none

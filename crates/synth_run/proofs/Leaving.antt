@@ -1,7 +1,7 @@
 -- What a command leaves of the game that it solved.
 use Rattle.std.proofs.Common.{◌≡◌, ℕ, ◌<◌, List, length, take, refl, subst}
 use Rattle.std.specs.Prelude.{Option, Some}
-use Rattle.cell_counters.specs.Tokens.{BoardModel, RootModel}
+use Rattle.cell_counters.specs.BoardModels.{BoardModel, RootModel}
 use Rattle.plant_record.specs.declared.aims.GoalKind.{GoalKind}
 use Rattle.plant_record.specs.Description.{Description}
 use Rattle.plant_game.specs.Abstraction.{IsGameOf}

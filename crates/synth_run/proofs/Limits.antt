@@ -5,12 +5,12 @@ use Rattle.std.proofs.lemmas.Bool.{cases_lt}
 use Rattle.plant_record.specs.declared.limit_kind.LimitKind.{LimitKind}
 use Rattle.plant_record.specs.declared.limit_kind.LimitKind.TheVariants.{PlantText, TableText, Vectors, Cells, Pairs, Edges}
 use Rattle.plant_text.specs.declared.plant_fault.PlantFault.TheVariants as plants
-use Rattle.plant_text.specs.Refusals.{IsShort, IsRefusedFor}
+use Rattle.plant_text.specs.PlantRefusals.{IsShort, IsRefusedFor}
 use Rattle.game_core.specs.declared.game.Row.{Row}
 use Rattle.plant_record.specs.Description.{Description}
 use Rattle.controller_table.specs.declared.table_fault.TableFault.TheVariants as tables
 use Rattle.controller_table.specs.Tables.{IsTable}
-use Rattle.controller_table.specs.Refusals.{IsShortTable, IsTableRefusedFor}
+use Rattle.controller_table.specs.TableRefusals.{IsShortTable, IsTableRefusedFor}
 use Rattle.controller_table.specs.Laws.{TablesAreShort}
 use Rattle.command_line.specs.declared.command.Command.{Command}
 use Rattle.command_line.specs.declared.command.Command.TheVariants.{Synth, Check, Upgrade, Sim, Demo, Stay, Patrol}

@@ -9,16 +9,16 @@ use Rattle.plant_record.specs.declared.aims.GoalKind.{GoalKind}
 use Rattle.plant_record.specs.declared.aims.GoalKind.TheVariants.{Reach, Keep}
 use Rattle.plant_record.specs.Description.{Description}
 use Rattle.plant_record.specs.Plants.{IsPlant}
-use Rattle.plant_text.specs.Refusals.{IsRefusedFor}
+use Rattle.plant_text.specs.PlantRefusals.{IsRefusedFor}
 use Rattle.successor_box.specs.Deviations.{HasNoOverflow, IsFirstOverflow}
 use Rattle.game_core.specs.declared.game.Row.{Row}
 use Rattle.game_core.specs.Game.{Game, IsGame}
 use Rattle.game_core.proofs.Right.{solutions_are_right}
-use Rattle.plant_game.specs.Solution.{Solves, IsSolutionOf}
+use Rattle.plant_game.specs.PlantSolution.{Solves, IsSolutionOf}
 use Rattle.plant_game.proofs.EdgeCounts.{one_edge_count}
 use Rattle.plant_game.proofs.OneGame.{one_game}
 use Rattle.controller_table.specs.declared.table_fault.TableFault.TheVariants as tables
-use Rattle.controller_table.specs.Refusals.{IsTableRefusedFor}
+use Rattle.controller_table.specs.TableRefusals.{IsTableRefusedFor}
 use Rattle.table_check.specs.Verdicts.{IsFirstWithout}
 use Rattle.command_line.specs.declared.command.Command.TheVariants.{Synth, Check, Upgrade, Sim, Demo, Stay, Patrol}
 use Rattle.synth_run.specs.declared.outcome.Outcome.{Outcome}

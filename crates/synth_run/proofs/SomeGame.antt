@@ -10,10 +10,10 @@ use Rattle.game_core.specs.declared.game.Mark.TheVariants.{Goal, Obstacle, Plain
 use Rattle.game_core.specs.Game.{Game}
 use Rattle.plant_record.specs.Description.{Description, axes_of, vectors_of}
 use Rattle.plant_record.specs.Limits.{IsWithinLimits}
-use Rattle.plant_record.specs.Marks.{IsObstacleCell}
+use Rattle.plant_record.specs.CellMarks.{IsObstacleCell}
 use Rattle.plant_record.specs.Soundness.{IsSound}
 use Rattle.plant_record.proofs.lemmas.SoundPlants.{sound}
-use Rattle.successor_box.specs.Boxes.{IsBoxOf, low_corner, high_corner}
+use Rattle.successor_box.specs.SuccessorBoxes.{IsBoxOf, low_corner, high_corner}
 use Rattle.successor_box.proofs.BoxDomains.{by_box_in_domain}
 use Rattle.successor_box.proofs.Enabled.{corners_ordered}
 use Rattle.plant_game.specs.Abstraction.{IsGameOf, AreBoxesOf, pairs_of, pair_of}

@@ -13,7 +13,7 @@ use Rattle.plant_record.specs.declared.aims.GoalKind.{GoalKind}
 use Rattle.plant_record.specs.declared.aims.GoalKind.TheVariants.{Reach, Keep}
 use Rattle.plant_record.specs.Description.{Description}
 use Rattle.plant_game.specs.Abstraction.{IsGameOf}
-use Rattle.plant_game.specs.Solution.{Solves}
+use Rattle.plant_game.specs.PlantSolution.{Solves}
 use Rattle.table_check.specs.Verdicts.{HasItsKeepRow}
 use Rattle.loop_sim.specs.Trace.{row_at}
 use Rattle.controller_table.specs.Tables.{IsTable}

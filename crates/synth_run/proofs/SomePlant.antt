@@ -12,7 +12,7 @@ use Rattle.plant_record.specs.Limits.{IsWithinLimits, Exceeds}
 use Rattle.plant_record.specs.Plants.{IsPlant}
 use Rattle.plant_reading.specs.Lines.{lines_of}
 use Rattle.plant_text.specs.Grammar.{PartialPlant, nothing_yet, Reads, IsWhole, Spells, IsFirstRefused}
-use Rattle.plant_text.specs.Refusals.{IsShort}
+use Rattle.plant_text.specs.PlantRefusals.{IsShort}
 use Rattle.plant_text.specs.inside.PartialPlantRules.{KeepsRules}
 use Rattle.plant_text.proofs.lemmas.RulesKept.{rules_of_nothing, rules_led}
 use Rattle.plant_text.proofs.lemmas.LinesLead.{spelled_is_plant}

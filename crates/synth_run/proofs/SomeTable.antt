@@ -26,7 +26,7 @@ use Rattle.controller_table.specs.declared.table_fault.TableFault.TheVariants as
 use Rattle.controller_table.specs.TableText.{version_line, format_of, lines_after}
 use Rattle.controller_table.specs.Tables.{RowsFit, IsTable}
 use Rattle.controller_table.specs.RowLines.{IsRunOf, AreRunsOf, AreWhole, MayStand, IsFirstRefusedAfter}
-use Rattle.controller_table.specs.Refusals.{IsShortTable, line_count}
+use Rattle.controller_table.specs.TableRefusals.{IsShortTable, line_count}
 use Rattle.controller_table.specs.inside.ReadRows.{AreRead}
 use Rattle.controller_table.proofs.ReadTable.{table_read, rows_refused, few_lines}
 use Rattle.controller_table.proofs.RefusedRows.{all_read, rows_fit}

@@ -8,12 +8,12 @@ use Rattle.plant_record.specs.declared.aims.GoalKind.TheVariants.{Reach, Keep}
 use Rattle.plant_record.specs.Description.{Description}
 use Rattle.successor_box.specs.Deviations.{HasNoOverflow}
 use Rattle.plant_game.specs.Abstraction.{IsGameOf}
-use Rattle.plant_game.specs.Solution.{Solves, IsSolutionOf}
+use Rattle.plant_game.specs.PlantSolution.{Solves, IsSolutionOf}
 use Rattle.plant_game.proofs.EdgeCounts.{games_count_their_edges}
 use Rattle.controller_table.specs.declared.table_fault.TableFault.{TableFault}
 use Rattle.controller_table.specs.declared.table_fault.TableFault.TheVariants as tables
 use Rattle.controller_table.specs.Laws.{IsGraphOver}
-use Rattle.controller_table.specs.Refusals.{IsTableRefusedFor}
+use Rattle.controller_table.specs.TableRefusals.{IsTableRefusedFor}
 use Rattle.controller_table.specs.Tables.{RowsFit}
 use Rattle.controller_table.proofs.SolutionsFit.{keep_fits}
 use Rattle.synth_run.specs.declared.outcome.Outcome.TheVariants.{NoMemory}

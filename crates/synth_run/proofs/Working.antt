@@ -16,7 +16,7 @@ use Rattle.synth_run.specs.inside.Working.{IsWorkedOut, IsRefusalFor}
 use Rattle.synth_run.specs.Sources.{given, most_read, LeavesAlone}
 use Rattle.synth_run.specs.IsOutcomeFor.{IsOutcomeFor}
 use Rattle.synth_run.specs.Headline.{IsAnswer}
-use Rattle.synth_run.specs.Runs.{CanEnd}
+use Rattle.synth_run.specs.RunClauses.{CanEnd}
 use Rattle.synth_run.specs.Statuses.{IsTheTexts}
 use Rattle.synth_run.specs.inside.Causes.{of_read}
 use Rattle.synth_run.specs.inside.Making.{IsReadFor, IsRefusalOf}

@@ -4,7 +4,7 @@ use Rattle.game_core.specs.declared.game.Row.{Row}
 use Rattle.game_core.specs.Game.{Game}
 use Rattle.plant_record.specs.Description.{Description}
 use Rattle.plant_game.specs.Abstraction.{IsGameOf}
-use Rattle.plant_game.specs.Solution.{IsSolutionOf}
+use Rattle.plant_game.specs.PlantSolution.{IsSolutionOf}
 use Rattle.stay_game.specs.Stay.{IsStaySolution}
 use Rattle.temporal_games.specs.StayText.{IsStayText}
 use Rattle.temporal_games.specs.Settles.{Settles}

@@ -9,22 +9,23 @@ use Rattle.grid_quantiser.specs.Axes.{cells_of}
 use Rattle.plant_record.specs.Description.{Description, axes_of}
 use Rattle.plant_record.specs.Limits.{IsWithinLimits}
 use Rattle.plant_text.specs.Grammar.{Spells}
-use Rattle.plant_text.specs.Refusals.{IsShort, IsRefusedFor}
+use Rattle.plant_text.specs.PlantRefusals.{IsShort, IsRefusedFor}
 use Rattle.successor_box.specs.Deviations.{HasNoOverflow, IsFirstOverflow}
 use Rattle.game_core.specs.declared.game.Row.{Row}
 use Rattle.game_core.specs.Game.{Game}
 use Rattle.game_core.specs.Right.{IsRight}
 use Rattle.plant_game.specs.Abstraction.{IsGameOf, AreEdges}
-use Rattle.plant_game.specs.Solution.{IsSolutionOf}
+use Rattle.plant_game.specs.PlantSolution.{IsSolutionOf}
 use Rattle.controller_table.specs.declared.table_fault.TableFault.TheVariants as tables
 use Rattle.controller_table.specs.Tables.{IsTable}
-use Rattle.controller_table.specs.Refusals.{IsTableRefusedFor}
+use Rattle.controller_table.specs.TableRefusals.{IsTableRefusedFor}
 use Rattle.table_check.specs.Verdicts.{IsFirstWithout, HasItsKeepRow}
 use Rattle.synth_run.specs.Traces.{IsRangeOutcome, IsTraceOutcome}
 use Rattle.command_line.specs.declared.command.Command.{Command}
 use Rattle.command_line.specs.declared.command.Command.TheVariants.{Synth, Check, Upgrade, Sim, Demo, Stay, Patrol}
 use Rattle.synth_run.specs.declared.outcome.Outcome.{Outcome}
 use Rattle.synth_run.specs.declared.outcome.Outcome.TheVariants.{Done, Invalid, NoRow, Usage, Malformed, Overflow, Limit, TooManyTurns, ReadFault, WriteFault, NoMemory}
+use Rattle.base.specs.declared.limits.TheConstants.{EDGES_LIMIT, TURNS_LIMIT}
 
 -- ---- a plant within the limits on input vectors, cells and pairs
 
@@ -35,7 +36,7 @@ pub record HasEdges (p : Description) (edges : ℕ) : Type 0 where
 
 -- A plant that nothing refuses: its numbers stay in the range, and it has no more edges than the limit.
 abbrev pub IsSolvable : Description → Type 0
-IsSolvable p = (edges : ℕ) × HasEdges p edges × (edges ≤ 2 ^ 25)
+IsSolvable p = (edges : ℕ) × HasEdges p edges × (edges ≤ EDGES_LIMIT)
 
 -- the one limit that only the game shows
 abbrev pub ExceedsEdges : Description → LimitKind → Type 0
@@ -44,7 +45,7 @@ ExceedsEdges p TableText = ⊥
 ExceedsEdges p Vectors = ⊥
 ExceedsEdges p Cells = ⊥
 ExceedsEdges p Pairs = ⊥
-ExceedsEdges p Edges = (edges : ℕ) × HasEdges p edges × (2 ^ 25 < edges)
+ExceedsEdges p Edges = (edges : ℕ) × HasEdges p edges × (EDGES_LIMIT < edges)
 
 -- what a plant within the limits demands: to be solved, or to be refused
 abbrev pub IsPlantOutcome : Description → Outcome → Type 0
@@ -66,14 +67,14 @@ turns_of p = cells_of (axes_of p) * length p.targets
 
 -- what a plant within the limits demands of a patrol: the same, and where nothing else refuses it, that these pairs aren't too many
 abbrev pub IsPatrolOutcome : Description → Outcome → Type 0
-IsPatrolOutcome p Done = IsSolvable p × (turns_of p ≤ 2 ^ 22)
+IsPatrolOutcome p Done = IsSolvable p × (turns_of p ≤ TURNS_LIMIT)
 IsPatrolOutcome p (Invalid cell) = ⊥
 IsPatrolOutcome p NoRow = ⊥
 IsPatrolOutcome p Usage = ⊥
 IsPatrolOutcome p (Malformed line) = ⊥
 IsPatrolOutcome p (Overflow equation input) = IsPlantOutcome p (Overflow equation input)
 IsPatrolOutcome p (Limit what) = IsPlantOutcome p (Limit what)
-IsPatrolOutcome p TooManyTurns = IsSolvable p × (2 ^ 22 < turns_of p)
+IsPatrolOutcome p TooManyTurns = IsSolvable p × (TURNS_LIMIT < turns_of p)
 IsPatrolOutcome p ReadFault = ⊥
 IsPatrolOutcome p WriteFault = ⊥
 IsPatrolOutcome p NoMemory = ⊥

@@ -7,7 +7,7 @@ use Rattle.plant_record.specs.Limits.{IsWithinLimits}
 use Rattle.plant_game.specs.Abstraction.{IsGameOf}
 use Rattle.controller_table.specs.declared.table_fault.TableFault.{TableFault}
 use Rattle.controller_table.specs.Tables.{IsTable}
-use Rattle.controller_table.specs.Refusals.{IsTableRefusedFor}
+use Rattle.controller_table.specs.TableRefusals.{IsTableRefusedFor}
 use Rattle.command_line.specs.declared.command.Command.{Command}
 use Rattle.synth_run.specs.declared.outcome.Outcome.{Outcome}
 use Rattle.synth_run.specs.IsOutcomeFor.{IsOutcomeFor}

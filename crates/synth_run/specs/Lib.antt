@@ -4,6 +4,6 @@ pub mod IsOutcomeFor
 pub mod Headline
 pub mod Played
 pub mod Statuses
-pub mod Runs
+pub mod RunClauses
 pub mod Laws
 pub mod inside

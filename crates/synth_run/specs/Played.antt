@@ -1,17 +1,17 @@
 -- What a run leaves of the game that it solved: the board on which its workers resolved it, and the board's root.
 use Rattle.std.specs.Prelude.{◌≡◌, ℕ, List, Option, Some, None}
 use Rattle.cell_counters.specs.declared.account.Account.{Account}
-use Rattle.cell_counters.specs.Tokens.{BoardModel, RootModel}
+use Rattle.cell_counters.specs.BoardModels.{BoardModel, RootModel}
 use Rattle.game_core.specs.Game.{Game}
 use Rattle.plant_record.specs.declared.aims.GoalKind.{GoalKind}
 use Rattle.plant_record.specs.declared.aims.GoalKind.TheVariants.{Reach, Keep}
 use Rattle.plant_record.specs.Description.{Description}
 use Rattle.plant_record.specs.Limits.{IsWithinLimits}
 use Rattle.plant_game.specs.Abstraction.{IsGameOf}
-use Rattle.reach_avoid.specs.Boards.{IsBoardOf as IsReachBoardOf}
-use Rattle.reach_avoid.specs.Reckoned.{IsReckoned as IsReachReckoned}
-use Rattle.safety_game.specs.Boards.{IsBoardOf as IsKeepBoardOf}
-use Rattle.safety_game.specs.Reckoned.{IsReckoned as IsKeepReckoned}
+use Rattle.reach_avoid.specs.ReachBoards.{IsBoardOf as IsReachBoardOf}
+use Rattle.reach_avoid.specs.ReachReckoned.{IsReckoned as IsReachReckoned}
+use Rattle.safety_game.specs.KeepBoards.{IsBoardOf as IsKeepBoardOf}
+use Rattle.safety_game.specs.KeepReckoned.{IsReckoned as IsKeepReckoned}
 use Rattle.command_line.specs.declared.command.Command.{Command}
 use Rattle.command_line.specs.declared.command.Command.TheVariants.{Synth, Check, Upgrade, Sim, Demo, Stay, Patrol}
 use Rattle.synth_run.specs.IsOutcomeFor.{IsAccepted}

@@ -3,6 +3,7 @@ use Rattle.std.specs.Prelude.{◌≡◌, ℕ, ◌+◌, List, [], Option, Some}
 use Rattle.run_devices.specs.Devices.{Rose, Reading}
 use Rattle.command_line.specs.declared.command.Command.{Command}
 use Rattle.command_line.specs.declared.command.Command.TheVariants.{Synth, Check, Upgrade, Sim, Demo, Stay, Patrol}
+use Rattle.base.specs.declared.limits.TheConstants.{TABLE_LIMIT, TEXT_LIMIT}
 
 -- the bytes that a command works on, from what the source tells; `demo` works on none
 abbrev pub given : Command → Option (List ℕ) → Option (List ℕ)
@@ -16,13 +17,13 @@ given (Patrol workers) told = told
 
 -- how many bytes a command reads at most: one past the limit of its text, or none
 abbrev pub most_read : Command → ℕ
-most_read (Synth workers) = 65536 + 1
-most_read Check = 67108864 + 1
-most_read Upgrade = 67108864 + 1
-most_read (Sim samples seed start) = 67108864 + 1
+most_read (Synth workers) = TEXT_LIMIT + 1
+most_read Check = TABLE_LIMIT + 1
+most_read Upgrade = TABLE_LIMIT + 1
+most_read (Sim samples seed start) = TABLE_LIMIT + 1
 most_read (Demo number workers) = 0
-most_read (Stay workers) = 65536 + 1
-most_read (Patrol workers) = 65536 + 1
+most_read (Stay workers) = TEXT_LIMIT + 1
+most_read (Patrol workers) = TEXT_LIMIT + 1
 
 -- The source is as it was, and counted no fault.
 pub record IsLeftAlone (source : Reading) : Type 0 where

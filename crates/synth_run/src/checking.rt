@@ -4,7 +4,7 @@ ghost use Rattle.std.specs.Prelude.{◌≡◌, ◌≢◌, ℕ, IfOk, IfErr, OnOk
 ghost use Rattle.table_check.specs.declared.verdict.Verdict.TheVariants.{Valid, Invalid};
 ghost use Rattle.synth_run.specs.declared.outcome.Outcome.TheVariants as ends;
 ghost use Rattle.plant_record.specs.declared.aims.GoalKind.TheVariants.{Reach, Keep};
-ghost use Rattle.plant_game.specs.Solution.{IsSolutionOf};
+ghost use Rattle.plant_game.specs.PlantSolution.{IsSolutionOf};
 ghost use Rattle.synth_run.specs.IsOutcomeFor.{IsTableTextOutcome, IsTableOutcome, IsSolvable};
 ghost use Rattle.synth_run.specs.Headline.{IsValid};
 ghost use Rattle.synth_run.specs.inside.Judging.{IsJudged};

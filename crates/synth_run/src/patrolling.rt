@@ -6,17 +6,16 @@ ghost use Rattle.command_line.specs.Command.{AreWorkers};
 ghost use Rattle.synth_run.specs.declared.outcome.Outcome.TheVariants.{Done, TooManyTurns, NoMemory};
 ghost use Rattle.synth_run.specs.IsOutcomeFor.{turns_of, IsPatrolTextOutcome};
 ghost use Rattle.synth_run.specs.Headline.{IsPatrolTableFor};
+ghost use Rattle.base.specs.declared.limits.TheConstants.{PAIRS_LIMIT};
 
 use crate::abstraction::game_of_text;
 use crate::outcome::Outcome;
+use base::limits::TURNS_LIMIT;
 use frontier_pool::Gate;
 use plant_record::Plant;
 use std::alloc::Global;
 use std::thread::Threads;
 use temporal_games::{PatrolRows, patrol};
-
-/// The most pairs of a turn and a cell.
-const TURNS_LIMIT: u64 = 1 << 22;
 
 /// A plant with the solution of the patrol of its targets.
 #[derive(Drop)]
@@ -47,8 +46,8 @@ pub fn patrol_text<R: Threads + Sync, T: Gate>(
 
 /// Refuses more pairs of a turn and a cell than the limit.
 fn limit_turns(turns: u64) -> Result<(), Outcome>
-    ensures few { OnOk result (turns ≤ 2 ^ 22) }
-    ensures many { IfErr result (λ outcome. (outcome ≡ TooManyTurns) × (2 ^ 22 < turns)) }
+    ensures few { OnOk result (turns ≤ PAIRS_LIMIT) }
+    ensures many { IfErr result (λ outcome. (outcome ≡ TooManyTurns) × (PAIRS_LIMIT < turns)) }
 {
     if turns > TURNS_LIMIT {
         return Err(Outcome::TooManyTurns);

@@ -6,6 +6,7 @@ ghost use Rattle.synth_run.specs.declared.outcome.Outcome.TheVariants.{Done, NoR
 ghost use Rattle.synth_run.specs.IsOutcomeFor.{IsTraceTextOutcome};
 ghost use Rattle.synth_run.specs.Traces.{HasRowFor, HasNoRowFor, IsTraceOutcome, IsTraceFor};
 ghost use Rattle.synth_run.specs.inside.Texts.{trace_of, IsReady};
+ghost use Rattle.base.specs.declared.limits.TheConstants.{SAMPLES_LIMIT};
 
 use crate::outcome::Outcome;
 use command_line::StateNumbers;
@@ -55,7 +56,7 @@ pub fn simulate_text(
     seed: u64,
     start: &StateNumbers,
 ) -> Result<Simulation, Outcome>
-    requires { samples ≤ 1000000 }
+    requires { samples ≤ SAMPLES_LIMIT }
     ensures trace { IfOk result (λ simulation. IsTraceFor bytes.now samples seed start.now (trace_of simulation)) }
     ensures ready { IfOk result IsReady }
     ensures cause { IfErr result (λ outcome. outcome ≢ NoMemory → IsTraceTextOutcome start.now bytes.now outcome) }

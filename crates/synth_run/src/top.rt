@@ -2,12 +2,13 @@ ghost use Rattle.std.specs.Prelude.{◌≡◌, ℕ, ◌≤◌, List, map, None, 
 ghost use Rattle.run_devices.specs.Devices.{Rose, reading, writing};
 ghost use Rattle.command_line.specs.Command.{AreWorkers, IsOfCommand, IsDemoNumber};
 ghost use Rattle.synth_run.specs.Sources.{given, most_read, NoReadFailed};
-ghost use Rattle.synth_run.specs.Runs.{Gives, IsRun, IsRunOf, IsAnswered, IsCompleteAnswer};
+ghost use Rattle.synth_run.specs.RunClauses.{Gives, IsRun, IsRunOf, IsAnswered, IsCompleteAnswer};
 ghost use Rattle.command_line.specs.declared.command.Command.{Command};
 ghost use Rattle.synth_run.specs.inside.Making.{IsReadFor, IsMade, IsRefusalOf};
 ghost use Rattle.synth_run.specs.inside.SolvedGames.{IsToBeLeft};
 ghost use Rattle.synth_run.specs.inside.Texts.{CanBeWritten};
 ghost use Rattle.synth_run.specs.inside.Working.{IsWorkedOut, IsRefusalFor, IsWrittenOut, IsLeftAfter};
+ghost use Rattle.base.specs.declared.limits.TheConstants.{SAMPLES_LIMIT};
 
 use crate::checking::check_text;
 use crate::demo::solved_line;
@@ -18,11 +19,10 @@ use crate::simulating::simulate_text;
 use crate::solving::solve_text;
 use crate::text::Text;
 use crate::upgrading::upgrade_text;
+use base::limits::{TABLE_LIMIT, TEXT_LIMIT};
 use cell_counters::{Board, Root};
 use command_line::{Command, StateNumbers, parse_command};
-use controller_table::TABLE_LIMIT;
 use frontier_pool::Gate;
-use plant_text::TEXT_LIMIT;
 use run_devices::{Sink, Source, WriteFault, read_up_to};
 use std::alloc::Global;
 use std::thread::Threads;
@@ -88,7 +88,7 @@ fn sim(
     seed: u64,
     start: &StateNumbers,
 ) -> Result<Work, Outcome>
-    requires { samples ≤ 1000000 }
+    requires { samples ≤ SAMPLES_LIMIT }
     ensures made { IfOk result (λ work. IsMade (Command.Sim samples seed start.now) bytes.now work.text work.played) }
     ensures declined { IfErr result (IsRefusalOf (Command.Sim samples seed start.now) bytes.now) }
 {

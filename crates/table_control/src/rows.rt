@@ -6,10 +6,11 @@ ghost use Rattle.controller_table.specs.Choice.{HasRowAt};
 ghost use Rattle.controller_table.specs.Tables.{IsRowOf};
 ghost use Rattle.table_control.specs.Control.{HasNoRow, IsRank, IsUnranked};
 
+use base::limits::STATES_LIMIT;
 use controller_table::Table;
 use controller_table::laws::{every_table_fits, one_table_per_text};
 use game_core::Row;
-use grid_quantiser::{Point, STATES_LIMIT};
+use grid_quantiser::Point;
 
 /// The row of the state's cell.
 pub fn row_at(table: &Table, state: &[i64]) -> Option<Row>

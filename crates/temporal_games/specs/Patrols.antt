@@ -1,6 +1,6 @@
 -- The patrol text, read back from its bytes, brings the plant into its targets in turn for ever.
 -- No solver and no game occurs here.
-use Rattle.grid_quantiser.specs.Boxes.{IsInBox}
+use Rattle.grid_quantiser.specs.CellBoxes.{IsInBox}
 use Rattle.plant_record.specs.Description.{Description, axes_of}
 use Rattle.plant_record.specs.States.{IsClear}
 use Rattle.plant_record.specs.Steps.{step_of, IsNoise}

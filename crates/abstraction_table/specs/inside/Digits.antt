@@ -4,7 +4,7 @@ use Rattle.std.specs.List.{All}
 use Rattle.grid_quantiser.specs.declared.axis.Axis.{Axis}
 use Rattle.plant_record.specs.declared.variables.InputVariable.{InputVariable}
 use Rattle.plant_record.specs.Description.{Description, axes_of}
-use Rattle.successor_box.specs.Extents.{depends_on}
+use Rattle.successor_box.specs.PairExtents.{depends_on}
 use Rattle.abstraction_table.specs.declared.digits.Digit.{Digit}
 use Rattle.abstraction_table.specs.declared.digits.Digits.{Digits}
 

@@ -4,6 +4,7 @@ use Rattle.std.proofs.Common.{refl, sym, Bool, true, false}
 use Rattle.std.proofs.lemmas.Bool.{ltb-true}
 use Rattle.grid_quantiser.specs.declared.boxes.CellBox.{CellBox}
 use Rattle.abstraction_table.specs.declared.pair_box.PairBox.TheInside.{Inside}
+use Rattle.abstraction_table.specs.declared.pair_box.TheConstants.{NO_BOX}
 
 -- the box of two numbers, none where the second is the less
 abbrev pub box_in : ℕ → ℕ → Option CellBox
@@ -11,11 +12,11 @@ box_in first last = if ltb last first then None else Some (record { first = firs
 
 -- where there is no box the first number is past the last cell of every sum, and the other is 0
 abbrev pub IsPacked : ℕ → ℕ → Type 0
-IsPacked first last = last < first → (first ≡ 2 ^ 28) × (last ≡ 0)
+IsPacked first last = last < first → (first ≡ NO_BOX) × (last ≡ 0)
 
 -- the numbers of a box, or of none
 abbrev pub first_in : Option CellBox → ℕ
-first_in None = 2 ^ 28
+first_in None = NO_BOX
 first_in (Some b) = b.first
 
 abbrev pub last_in : Option CellBox → ℕ

@@ -5,8 +5,8 @@ use Rattle.grid_quantiser.specs.declared.axis.Axis.{Axis}
 use Rattle.grid_quantiser.specs.declared.boxes.CellBox.{CellBox}
 use Rattle.game_core.specs.Counts.{times}
 use Rattle.edge_rows.specs.Rows.{Filling, row_at}
-use Rattle.successor_box.specs.Boxes.{cells_in}
-use Rattle.abstraction_table.specs.inside.Sources.{sources_among}
+use Rattle.successor_box.specs.SuccessorBoxes.{cells_in}
+use Rattle.abstraction_table.specs.inside.SourceLists.{sources_among}
 
 -- Each cell's count has grown by how often it stands among cells.
 pub record AreCounted (before after cells : List ℕ) : Type 0 where

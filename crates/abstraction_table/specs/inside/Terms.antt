@@ -5,13 +5,14 @@ use Rattle.grid_quantiser.specs.declared.boxes.CellBox.{CellBox}
 use Rattle.grid_quantiser.specs.declared.extents.Extent.{Extent}
 use Rattle.grid_quantiser.specs.Axes.{no_axis, cells_of}
 use Rattle.plant_record.specs.Description.{Description, axes_of, vectors_of}
-use Rattle.successor_box.specs.Extents.{index_in, moves_along, shifted_by, IsExtentAt, IsExtentBeforeAt, IsBoxAlong}
+use Rattle.successor_box.specs.PairExtents.{index_in, moves_along, shifted_by, IsExtentAt, IsExtentBeforeAt, IsBoxAlong}
 use Rattle.abstraction_table.specs.declared.digits.Digit.{Digit}
 use Rattle.abstraction_table.specs.declared.terms.Terms.{Terms}
 use Rattle.abstraction_table.specs.declared.terms.Terms.TheVariants.{Listed, Moved}
 use Rattle.abstraction_table.specs.declared.terms.TermTable.{TermTable}
-use Rattle.abstraction_table.specs.inside.Extents.{first_of}
+use Rattle.abstraction_table.specs.inside.ExtentTables.{first_of}
 use Rattle.abstraction_table.specs.inside.Sums.{term, plus, enlarged}
+use Rattle.base.specs.declared.limits.TheConstants.{CELLS_LIMIT, PAIRS_LIMIT}
 
 -- how many cells one slot along the axis of a state makes
 abbrev pub stride_of : Description → ℕ → ℕ
@@ -34,8 +35,8 @@ pub record IsSumAlong (p : Description) (states c u : ℕ) (base rest : Option C
   pub found : Option CellBox
   pub along : IsBoxAlong p states c u found
   pub sum : plus base rest ≡ enlarged (cells_of (drop states (axes_of p))) found
-  pub base_few : IfSome base (λ (b : CellBox). b.last ≤ states * 2 ^ 20)
-  pub rest_few : IfSome rest (λ (b : CellBox). b.last ≤ states * 2 ^ 20)
+  pub base_few : IfSome base (λ (b : CellBox). b.last ≤ states * CELLS_LIMIT)
+  pub rest_few : IfSome rest (λ (b : CellBox). b.last ≤ states * CELLS_LIMIT)
 
 -- boxes, one for each input, have with one more the sums that are a cell's boxes on the axes of the first so many states
 abbrev pub AreSumsAlong : Description → ℕ → ℕ → Option CellBox → List (Option CellBox) → Type 0
@@ -62,7 +63,7 @@ HasTermAt p c u i (Moved extents) slot = IsExtentBeforeAt p c u i (shifted_by p 
 -- A table holds the terms of all pairs along the axis of a state.
 pub record HoldsTermsAlong (p : Description) (i : ℕ) (t : TermTable) : Type 0 where
   pub digits : All (λ (d : Digit). d.variable < length p.states + length p.inputs) t.digits.items
-  pub few : count_of t.terms ≤ 2 ^ 22
+  pub few : count_of t.terms ≤ PAIRS_LIMIT
   pub moves : t.moves ≡ moves_along p i
   pub free : IsTrue t.free → All (λ n. n ≡ 0) t.inputs.items
   pub stride : t.stride ≡ stride_of p i

@@ -2,10 +2,11 @@
 use Rattle.std.specs.Prelude.{◌≡◌, ℕ, ◌≤◌, ℤ, List, length, take, refl}
 use Rattle.grid_quantiser.specs.Cells.{point_of}
 use Rattle.command_line.specs.declared.state_numbers.StateNumbers.TheInside.{Inside}
+use Rattle.base.specs.declared.limits.TheConstants.{STATES_LIMIT}
 
 -- Six positions keep up to six numbers, beside how many they are.
 pub record IsStored (six : List ℤ) (count : ℕ) : Type 0 where
-  pub few : count ≤ 6
+  pub few : count ≤ STATES_LIMIT
   pub rest : six ≡ point_of (take count six)
   pub count_is : count ≡ length (take count six)
 

@@ -1,6 +1,7 @@
 -- How rows lie in one block: row after row, in each the values and then the slots that are not written.
 use Rattle.std.specs.Prelude.{◌≡◌, ℕ, ◌+◌, ◌-◌, ◌^◌, ◌≤◌, List, [], ◌∷◌, ◌++◌, map, length, take, drop, sum, replicate, Option, Some, None}
 use Rattle.std.specs.List.{AllZip}
+use Rattle.base.specs.declared.limits.TheConstants.{CELLS_LIMIT, EDGES_LIMIT}
 
 -- the len slots from the index from on are written
 abbrev pub IsRun : {X : Type 0} → List (Option X) → ℕ → ℕ → Type 0
@@ -44,4 +45,4 @@ rows_between slots (start ∷ starts) (end ∷ ends) = values (take (end - start
 -- no row has more values than slots, and their counts are few enough for `u32`
 pub record IsWithin (rows : List (List ℕ)) (lengths : List ℕ) : Type 0 where
   pub fits : AllZip (λ xs n. length xs ≤ n) rows lengths
-  pub small : (length lengths ≤ 2 ^ 20) × (sum lengths ≤ 2 ^ 25)
+  pub small : (length lengths ≤ CELLS_LIMIT) × (sum lengths ≤ EDGES_LIMIT)

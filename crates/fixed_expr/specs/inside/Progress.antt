@@ -1,6 +1,6 @@
 -- How far an operation on many lanes has come.
 use Rattle.std.specs.Prelude.{◌≡◌, ℕ, ◌<◌, ◌≤◌, ℤ, List}
-use Rattle.fixed_expr.specs.Narrow.{IsNarrow}
+use Rattle.fixed_expr.specs.NarrowValues.{IsNarrow}
 use Rattle.fixed_expr.specs.Lanes.{at}
 
 -- the first n lanes are done, and the others as they were

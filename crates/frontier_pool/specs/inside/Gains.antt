@@ -2,7 +2,7 @@
 use Rattle.std.specs.Prelude.{◌≡◌, ℕ, ◌<◌, List, ◌++◌, All}
 use Rattle.atomic_table.specs.declared.shared.Seat.{Seat}
 use Rattle.frontier_pool.specs.declared.rule.SeatView.{SeatView}
-use Rattle.frontier_pool.specs.inside.Rules.{grown}
+use Rattle.frontier_pool.specs.inside.ClaimProtocol.{grown}
 
 -- a seat of the table
 abbrev pub SeatOf : Type 0

@@ -5,7 +5,7 @@ use Rattle.atomic_table.specs.Seated.{TableId}
 use Rattle.frontier_pool.specs.declared.member.Member.{Member}
 use Rattle.frontier_pool.specs.declared.member.Local.{Local}
 use Rattle.frontier_pool.specs.declared.rule.ClaimList.{ClaimList}
-use Rattle.frontier_pool.specs.inside.Rules.{grown, fresh, one_more, IsAlone}
+use Rattle.frontier_pool.specs.inside.ClaimProtocol.{grown, fresh, one_more, IsAlone}
 use Rattle.frontier_pool.specs.inside.Gains.{SeatOf}
 
 -- the caller's seat, with these parts of so many that were made

@@ -2,6 +2,7 @@
 use Rattle.std.specs.Prelude.{◌≡◌, ℕ, ◌*◌, ◌/◌, ◌^◌, ◌<◌, ◌≤◌, ℤ, pos, neg_ℤ, nat_abs, ◌-ℤ◌, ◌≤ℤ◌}
 use Rattle.grid_quantiser.specs.declared.axis.Axis.{Axis}
 use Rattle.grid_quantiser.specs.Axes.{end_of}
+use Rattle.base.specs.declared.limits.TheConstants.{NUMBER_LIMIT}
 
 -- the axis from its least number to the least number past it
 abbrev pub axis_between : ℤ → ℤ → ℕ → Axis
@@ -13,5 +14,5 @@ pub record HasEnds (lo end : ℤ) (width : ℕ) : Type 0 where
   pub whole : end_of (axis_between lo end width) ≡ end
   pub few : (axis_between lo end width).count < 2 ^ 32
   pub ordered : lo ≤ℤ end
-  pub low_bound : neg_ℤ (pos (3 * 10 ^ 18)) ≤ℤ lo
-  pub high_bound : end ≤ℤ pos (10 ^ 18)
+  pub low_bound : neg_ℤ (pos (3 * NUMBER_LIMIT)) ≤ℤ lo
+  pub high_bound : end ≤ℤ pos NUMBER_LIMIT

@@ -1,18 +1,18 @@
 -- How far a script is answered. No public clause names this.
 use Rattle.std.specs.Prelude.{◌≡◌, ◌⊎◌, ℕ, suc, ◌+◌, List, [], ◌∷◌, ◌++◌, length, Option, Some, None, IfSome}
 use Rattle.controller_table.specs.Tables.{TableModel}
-use Rattle.controller_table.specs.Refusals.{line_count}
+use Rattle.controller_table.specs.TableRefusals.{line_count}
 use Rattle.live_script.specs.declared.command.ScriptCommand.{ScriptCommand}
 use Rattle.live_script.specs.declared.command.ScriptCommand.TheVariants.{Publish, Ask}
 use Rattle.live_script.specs.declared.script_fault.ScriptFault.{ScriptFault}
 use Rattle.live_script.specs.Questions.{IsAnswerOf}
 use Rattle.live_script.specs.Scripts.{published, SpellAfter}
 use Rattle.live_script.specs.LiveText.{AreAnswers, answer_line}
-use Rattle.live_script.specs.Reading.{Unread}
-use Rattle.live_script.specs.Refusals.{IsScriptRefusedFor}
+use Rattle.live_script.specs.ScriptReading.{Unread}
+use Rattle.live_script.specs.ScriptRefusals.{IsScriptRefusedFor}
 use Rattle.live_run.specs.declared.live_outcome.LiveOutcome.{LiveOutcome}
 use Rattle.live_run.specs.declared.live_outcome.LiveOutcome.TheVariants.{NoMemory}
-use Rattle.live_run.specs.Causes.{of_script}
+use Rattle.live_run.specs.LiveCauses.{of_script}
 use Rattle.live_run.specs.inside.Sessions.{Standing}
 
 -- the last of the tables, if there is one

@@ -12,6 +12,7 @@ use Rattle.loop_sim.specs.declared.closed_loop.Stage.TheVariants.{Due, Ending, O
 use Rattle.loop_sim.specs.declared.sim_line.SimLine.TheVariants.{Arrived, Stopped}
 use Rattle.loop_sim.specs.Noise.{generator, noises_at}
 use Rattle.loop_sim.specs.Trace.{has_arrived, trace_lines}
+use Rattle.base.specs.declared.limits.TheConstants.{SAMPLES_LIMIT}
 
 -- the lines that are still to come
 abbrev pub lines_left : TableModel → Stage → List SimLine
@@ -33,7 +34,7 @@ lines_after t s row =
 -- A sample before whose noises the generator is at this state.
 pub record IsSample (p : Description) (s : Sample) : Type 0 where
   pub state : s.state ≡ generator s.seed (s.time * length p.noises)
-  pub bound : s.time + s.left ≤ 1000000
+  pub bound : s.time + s.left ≤ SAMPLES_LIMIT
 
 -- what is known of the sample that is due
 abbrev pub IsStage : Description → Stage → Type 0

@@ -6,7 +6,7 @@ use Rattle.std.specs.Fmt.{signed_decimal}
 use Rattle.std.proofs.lemmas.List.{take_at, set_at}
 use Rattle.std.proofs.lemmas.List.Elements.{AllZip-push}
 use Rattle.plant_record.specs.declared.aims.StateBox.{StateBox}
-use Rattle.plant_record.specs.Boxes.{AreEnds}
+use Rattle.plant_record.specs.StateBoxes.{AreEnds}
 use Rattle.plant_record.specs.Spelling.{end_words}
 use Rattle.plant_reading.specs.inside.LineReaders.{StartsWithEnds, SpellsBox}
 

@@ -7,7 +7,7 @@ use Rattle.std.proofs.lemmas.Int.{ints}
 use Rattle.plant_reading.specs.declared.items.Bracket.TheVariants as bracket
 use Rattle.plant_reading.specs.declared.items.Item.{Item}
 use Rattle.plant_reading.specs.declared.items.Item.TheVariants as item
-use Rattle.plant_reading.specs.SyntaxTrees.{Syntax, Literal, Named, Minus, Plus, Less, Times, Over, Least, Greatest, Size, Tabled, Bracketed, point_tokens, IsGrammatical, meaning_of, yield_of, brackets_of}
+use Rattle.plant_reading.specs.SyntaxTrees.{Syntax, NumTree, VarTree, NegTree, AddTree, SubTree, MulTree, DivTree, MinTree, MaxTree, AbsTree, LutTree, ParenTree, point_tokens, IsGrammatical, meaning_of, yield_of, brackets_of}
 use Rattle.plant_record.specs.Equations.{nodes_of, HasLiterals}
 use Rattle.plant_reading.specs.inside.ExpressionItems.{items_before, items_onto, turned, spelling_of, AreItems, nodes_in, most_open, open_after}
 
@@ -28,116 +28,116 @@ with_points : (a b c d : List (List ℕ)) → a ++ ((b ++ c) ++ d) ≡ ((a ++ b)
 with_points a b c d = simp append_assoc
 
 pub yield_is : (names : List (List ℕ)) (t : Syntax) (xs : List Item) → spelled names (items_before t xs) ≡ yield_of names t ++ spelled names xs
-yield_is names (Literal k) xs = refl
-yield_is names (Named i) xs = refl
-yield_is names (Minus a) xs = ap (λ (ts : List (List ℕ)). codes "-" ∷ ts) (yield_is names a xs)
-yield_is names (Plus a b) xs =
+yield_is names (NumTree k) xs = refl
+yield_is names (VarTree i) xs = refl
+yield_is names (NegTree a) xs = ap (λ (ts : List (List ℕ)). codes "-" ∷ ts) (yield_is names a xs)
+yield_is names (AddTree a b) xs =
     yield_is names a (item.Plus ∷ items_before b xs)
     ∙ ap (λ (ts : List (List ℕ)). yield_of names a ++ codes "+" ∷ ts) (yield_is names b xs)
     ∙ joined_by (yield_of names a) (yield_of names b) (spelled names xs) (codes "+")
-yield_is names (Less a b) xs =
+yield_is names (SubTree a b) xs =
     yield_is names a (item.Minus ∷ items_before b xs)
     ∙ ap (λ (ts : List (List ℕ)). yield_of names a ++ codes "-" ∷ ts) (yield_is names b xs)
     ∙ joined_by (yield_of names a) (yield_of names b) (spelled names xs) (codes "-")
-yield_is names (Times a b) xs =
+yield_is names (MulTree a b) xs =
     yield_is names a (item.Times ∷ items_before b xs)
     ∙ ap (λ (ts : List (List ℕ)). yield_of names a ++ codes "*" ∷ ts) (yield_is names b xs)
     ∙ joined_by (yield_of names a) (yield_of names b) (spelled names xs) (codes "*")
-yield_is names (Over a k) xs =
+yield_is names (DivTree a k) xs =
     yield_is names a (item.Over k ∷ xs)
     ∙ joined_by (yield_of names a) (decimal k ∷ []) (spelled names xs) (codes "/")
-yield_is names (Least a b) xs = ap (λ (ts : List (List ℕ)). codes "min" ∷ codes "(" ∷ ts) (
+yield_is names (MinTree a b) xs = ap (λ (ts : List (List ℕ)). codes "min" ∷ codes "(" ∷ ts) (
     yield_is names a (item.Comma ∷ items_before b (item.Close ∷ xs))
     ∙ ap (λ (ts : List (List ℕ)). yield_of names a ++ codes "," ∷ ts) (yield_is names b (item.Close ∷ xs))
     ∙ two_in_bracket (yield_of names a) (yield_of names b) (spelled names xs) (codes ",") (codes ")"))
-yield_is names (Greatest a b) xs = ap (λ (ts : List (List ℕ)). codes "max" ∷ codes "(" ∷ ts) (
+yield_is names (MaxTree a b) xs = ap (λ (ts : List (List ℕ)). codes "max" ∷ codes "(" ∷ ts) (
     yield_is names a (item.Comma ∷ items_before b (item.Close ∷ xs))
     ∙ ap (λ (ts : List (List ℕ)). yield_of names a ++ codes "," ∷ ts) (yield_is names b (item.Close ∷ xs))
     ∙ two_in_bracket (yield_of names a) (yield_of names b) (spelled names xs) (codes ",") (codes ")"))
-yield_is names (Size a) xs = ap (λ (ts : List (List ℕ)). codes "abs" ∷ codes "(" ∷ ts) (
+yield_is names (AbsTree a) xs = ap (λ (ts : List (List ℕ)). codes "abs" ∷ codes "(" ∷ ts) (
     yield_is names a (item.Close ∷ xs) ∙ in_bracket (yield_of names a) (spelled names xs) (codes ")"))
-yield_is names (Tabled a points) xs = ap (λ (ts : List (List ℕ)). codes "lut" ∷ codes "(" ∷ ts) (
+yield_is names (LutTree a points) xs = ap (λ (ts : List (List ℕ)). codes "lut" ∷ codes "(" ∷ ts) (
     yield_is names a (item.Points points ∷ xs) ∙ with_points (yield_of names a) (flat_map point_tokens points) (codes ")" ∷ []) (spelled names xs))
-yield_is names (Bracketed a) xs = ap (λ (ts : List (List ℕ)). codes "(" ∷ ts) (
+yield_is names (ParenTree a) xs = ap (λ (ts : List (List ℕ)). codes "(" ∷ ts) (
     yield_is names a (item.Close ∷ xs) ∙ in_bracket (yield_of names a) (spelled names xs) (codes ")"))
 
 pub turned_is : (t : Syntax) (ys xs : List Item) → turned (items_onto t ys) xs ≡ turned ys (items_before t xs)
-turned_is (Literal k) ys xs = refl
-turned_is (Named i) ys xs = refl
-turned_is (Minus a) ys xs = turned_is a (item.Minus ∷ ys) xs
-turned_is (Plus a b) ys xs = turned_is b (item.Plus ∷ items_onto a ys) xs ∙ turned_is a ys (item.Plus ∷ items_before b xs)
-turned_is (Less a b) ys xs = turned_is b (item.Minus ∷ items_onto a ys) xs ∙ turned_is a ys (item.Minus ∷ items_before b xs)
-turned_is (Times a b) ys xs = turned_is b (item.Times ∷ items_onto a ys) xs ∙ turned_is a ys (item.Times ∷ items_before b xs)
-turned_is (Over a k) ys xs = turned_is a ys (item.Over k ∷ xs)
-turned_is (Least a b) ys xs =
+turned_is (NumTree k) ys xs = refl
+turned_is (VarTree i) ys xs = refl
+turned_is (NegTree a) ys xs = turned_is a (item.Minus ∷ ys) xs
+turned_is (AddTree a b) ys xs = turned_is b (item.Plus ∷ items_onto a ys) xs ∙ turned_is a ys (item.Plus ∷ items_before b xs)
+turned_is (SubTree a b) ys xs = turned_is b (item.Minus ∷ items_onto a ys) xs ∙ turned_is a ys (item.Minus ∷ items_before b xs)
+turned_is (MulTree a b) ys xs = turned_is b (item.Times ∷ items_onto a ys) xs ∙ turned_is a ys (item.Times ∷ items_before b xs)
+turned_is (DivTree a k) ys xs = turned_is a ys (item.Over k ∷ xs)
+turned_is (MinTree a b) ys xs =
     turned_is b (item.Comma ∷ items_onto a (item.Open bracket.Least ∷ ys)) (item.Close ∷ xs)
     ∙ turned_is a (item.Open bracket.Least ∷ ys) (item.Comma ∷ items_before b (item.Close ∷ xs))
-turned_is (Greatest a b) ys xs =
+turned_is (MaxTree a b) ys xs =
     turned_is b (item.Comma ∷ items_onto a (item.Open bracket.Greatest ∷ ys)) (item.Close ∷ xs)
     ∙ turned_is a (item.Open bracket.Greatest ∷ ys) (item.Comma ∷ items_before b (item.Close ∷ xs))
-turned_is (Size a) ys xs = turned_is a (item.Open bracket.Size ∷ ys) (item.Close ∷ xs)
-turned_is (Tabled a points) ys xs = turned_is a (item.Open bracket.Table ∷ ys) (item.Points points ∷ xs)
-turned_is (Bracketed a) ys xs = turned_is a (item.Open bracket.Plain ∷ ys) (item.Close ∷ xs)
+turned_is (AbsTree a) ys xs = turned_is a (item.Open bracket.Size ∷ ys) (item.Close ∷ xs)
+turned_is (LutTree a points) ys xs = turned_is a (item.Open bracket.Table ∷ ys) (item.Points points ∷ xs)
+turned_is (ParenTree a) ys xs = turned_is a (item.Open bracket.Plain ∷ ys) (item.Close ∷ xs)
 
 pub nodes_are : (t : Syntax) (xs : List Item) → nodes_in (items_before t xs) ≡ nodes_of (meaning_of t) + nodes_in xs
-nodes_are (Literal k) xs = omega arith
-nodes_are (Named i) xs = omega arith
-nodes_are (Minus a) xs = omega (arith, nodes_are a xs)
-nodes_are (Plus a b) xs = omega (arith, nodes_are a (item.Plus ∷ items_before b xs), nodes_are b xs)
-nodes_are (Less a b) xs = omega (arith, nodes_are a (item.Minus ∷ items_before b xs), nodes_are b xs)
-nodes_are (Times a b) xs = omega (arith, nodes_are a (item.Times ∷ items_before b xs), nodes_are b xs)
-nodes_are (Over a k) xs = omega (arith, nodes_are a (item.Over k ∷ xs))
-nodes_are (Least a b) xs = omega (arith, nodes_are a (item.Comma ∷ items_before b (item.Close ∷ xs)), nodes_are b (item.Close ∷ xs))
-nodes_are (Greatest a b) xs = omega (arith, nodes_are a (item.Comma ∷ items_before b (item.Close ∷ xs)), nodes_are b (item.Close ∷ xs))
-nodes_are (Size a) xs = omega (arith, nodes_are a (item.Close ∷ xs))
-nodes_are (Tabled a points) xs = omega (arith, nodes_are a (item.Points points ∷ xs))
-nodes_are (Bracketed a) xs = omega (arith, nodes_are a (item.Close ∷ xs))
+nodes_are (NumTree k) xs = omega arith
+nodes_are (VarTree i) xs = omega arith
+nodes_are (NegTree a) xs = omega (arith, nodes_are a xs)
+nodes_are (AddTree a b) xs = omega (arith, nodes_are a (item.Plus ∷ items_before b xs), nodes_are b xs)
+nodes_are (SubTree a b) xs = omega (arith, nodes_are a (item.Minus ∷ items_before b xs), nodes_are b xs)
+nodes_are (MulTree a b) xs = omega (arith, nodes_are a (item.Times ∷ items_before b xs), nodes_are b xs)
+nodes_are (DivTree a k) xs = omega (arith, nodes_are a (item.Over k ∷ xs))
+nodes_are (MinTree a b) xs = omega (arith, nodes_are a (item.Comma ∷ items_before b (item.Close ∷ xs)), nodes_are b (item.Close ∷ xs))
+nodes_are (MaxTree a b) xs = omega (arith, nodes_are a (item.Comma ∷ items_before b (item.Close ∷ xs)), nodes_are b (item.Close ∷ xs))
+nodes_are (AbsTree a) xs = omega (arith, nodes_are a (item.Close ∷ xs))
+nodes_are (LutTree a points) xs = omega (arith, nodes_are a (item.Points points ∷ xs))
+nodes_are (ParenTree a) xs = omega (arith, nodes_are a (item.Close ∷ xs))
 
 closes : (d : ℕ) (xs : List Item) → most_open (d + 1 - 1) xs ≡ most_open d xs
 closes d xs = let e : d + 1 - 1 ≡ d = omega arith in ap (λ (n : ℕ). most_open n xs) e
 
 pub open_are : (t : Syntax) (d : ℕ) (xs : List Item) → most_open d (items_before t xs) ≡ max (d + brackets_of t) (most_open d xs)
-open_are (Literal k) d xs = omega arith
-open_are (Named i) d xs = omega arith
-open_are (Minus a) d xs = omega (arith, open_are a d xs)
-open_are (Plus a b) d xs = omega (arith, open_are a d (item.Plus ∷ items_before b xs), open_are b d xs)
-open_are (Less a b) d xs = omega (arith, open_are a d (item.Minus ∷ items_before b xs), open_are b d xs)
-open_are (Times a b) d xs = omega (arith, open_are a d (item.Times ∷ items_before b xs), open_are b d xs)
-open_are (Over a k) d xs = omega (arith, open_are a d (item.Over k ∷ xs))
-open_are (Least a b) d xs = omega (arith, open_are a (d + 1) (item.Comma ∷ items_before b (item.Close ∷ xs)), open_are b (d + 1) (item.Close ∷ xs), closes d xs)
-open_are (Greatest a b) d xs = omega (arith, open_are a (d + 1) (item.Comma ∷ items_before b (item.Close ∷ xs)), open_are b (d + 1) (item.Close ∷ xs), closes d xs)
-open_are (Size a) d xs = omega (arith, open_are a (d + 1) (item.Close ∷ xs), closes d xs)
-open_are (Tabled a points) d xs = omega (arith, open_are a (d + 1) (item.Points points ∷ xs), closes d xs)
-open_are (Bracketed a) d xs = omega (arith, open_are a (d + 1) (item.Close ∷ xs), closes d xs)
+open_are (NumTree k) d xs = omega arith
+open_are (VarTree i) d xs = omega arith
+open_are (NegTree a) d xs = omega (arith, open_are a d xs)
+open_are (AddTree a b) d xs = omega (arith, open_are a d (item.Plus ∷ items_before b xs), open_are b d xs)
+open_are (SubTree a b) d xs = omega (arith, open_are a d (item.Minus ∷ items_before b xs), open_are b d xs)
+open_are (MulTree a b) d xs = omega (arith, open_are a d (item.Times ∷ items_before b xs), open_are b d xs)
+open_are (DivTree a k) d xs = omega (arith, open_are a d (item.Over k ∷ xs))
+open_are (MinTree a b) d xs = omega (arith, open_are a (d + 1) (item.Comma ∷ items_before b (item.Close ∷ xs)), open_are b (d + 1) (item.Close ∷ xs), closes d xs)
+open_are (MaxTree a b) d xs = omega (arith, open_are a (d + 1) (item.Comma ∷ items_before b (item.Close ∷ xs)), open_are b (d + 1) (item.Close ∷ xs), closes d xs)
+open_are (AbsTree a) d xs = omega (arith, open_are a (d + 1) (item.Close ∷ xs), closes d xs)
+open_are (LutTree a points) d xs = omega (arith, open_are a (d + 1) (item.Points points ∷ xs), closes d xs)
+open_are (ParenTree a) d xs = omega (arith, open_are a (d + 1) (item.Close ∷ xs), closes d xs)
 
 pub tree_items : (m : ℕ) (t : Syntax) (xs : List Item) → IsGrammatical m t → AreItems m xs → AreItems m (items_before t xs)
-tree_items m (Literal k) xs g h = (g, h)
-tree_items m (Named i) xs g h = (g, h)
-tree_items m (Minus a) xs g h = (tt, tree_items m a xs g.0 h)
-tree_items m (Plus a b) xs g h = tree_items m a (item.Plus ∷ items_before b xs) g.0 (tt, tree_items m b xs g.1 h)
-tree_items m (Less a b) xs g h = tree_items m a (item.Minus ∷ items_before b xs) g.0 (tt, tree_items m b xs g.1 h)
-tree_items m (Times a b) xs g h = tree_items m a (item.Times ∷ items_before b xs) g.0 (tt, tree_items m b xs g.2 h)
-tree_items m (Over a k) xs g h = tree_items m a (item.Over k ∷ xs) g.0 ((g.2, g.3), h)
-tree_items m (Least a b) xs g h = (tt, tree_items m a (item.Comma ∷ items_before b (item.Close ∷ xs)) g.0 (tt, tree_items m b (item.Close ∷ xs) g.1 (tt, h)))
-tree_items m (Greatest a b) xs g h = (tt, tree_items m a (item.Comma ∷ items_before b (item.Close ∷ xs)) g.0 (tt, tree_items m b (item.Close ∷ xs) g.1 (tt, h)))
-tree_items m (Size a) xs g h = (tt, tree_items m a (item.Close ∷ xs) g (tt, h))
-tree_items m (Tabled a points) xs g h = (tt, tree_items m a (item.Points points ∷ xs) g.0 (g.1, h))
-tree_items m (Bracketed a) xs g h = (tt, tree_items m a (item.Close ∷ xs) g (tt, h))
+tree_items m (NumTree k) xs g h = (g, h)
+tree_items m (VarTree i) xs g h = (g, h)
+tree_items m (NegTree a) xs g h = (tt, tree_items m a xs g.0 h)
+tree_items m (AddTree a b) xs g h = tree_items m a (item.Plus ∷ items_before b xs) g.0 (tt, tree_items m b xs g.1 h)
+tree_items m (SubTree a b) xs g h = tree_items m a (item.Minus ∷ items_before b xs) g.0 (tt, tree_items m b xs g.1 h)
+tree_items m (MulTree a b) xs g h = tree_items m a (item.Times ∷ items_before b xs) g.0 (tt, tree_items m b xs g.2 h)
+tree_items m (DivTree a k) xs g h = tree_items m a (item.Over k ∷ xs) g.0 ((g.2, g.3), h)
+tree_items m (MinTree a b) xs g h = (tt, tree_items m a (item.Comma ∷ items_before b (item.Close ∷ xs)) g.0 (tt, tree_items m b (item.Close ∷ xs) g.1 (tt, h)))
+tree_items m (MaxTree a b) xs g h = (tt, tree_items m a (item.Comma ∷ items_before b (item.Close ∷ xs)) g.0 (tt, tree_items m b (item.Close ∷ xs) g.1 (tt, h)))
+tree_items m (AbsTree a) xs g h = (tt, tree_items m a (item.Close ∷ xs) g (tt, h))
+tree_items m (LutTree a points) xs g h = (tt, tree_items m a (item.Points points ∷ xs) g.0 (g.1, h))
+tree_items m (ParenTree a) xs g h = (tt, tree_items m a (item.Close ∷ xs) g (tt, h))
 
 -- a tree by the rules means an expression of literals
 pub tree_literals : (m : ℕ) (t : Syntax) → IsGrammatical m t → HasLiterals m (meaning_of t)
-tree_literals m (Literal k) g = (omega (arith, ints), g)
-tree_literals m (Named i) g = g
-tree_literals m (Minus a) g = tree_literals m a g.0
-tree_literals m (Plus a b) g = (tree_literals m a g.0, tree_literals m b g.1)
-tree_literals m (Less a b) g = (tree_literals m a g.0, tree_literals m b g.1)
-tree_literals m (Times a b) g = (tree_literals m a g.0, tree_literals m b g.2)
-tree_literals m (Over a k) g = (tree_literals m a g.0, omega (arith, ints, g.2), g.3)
-tree_literals m (Least a b) g = (tree_literals m a g.0, tree_literals m b g.1)
-tree_literals m (Greatest a b) g = (tree_literals m a g.0, tree_literals m b g.1)
-tree_literals m (Size a) g = tree_literals m a g
-tree_literals m (Tabled a points) g = (tree_literals m a g.0, g.1)
-tree_literals m (Bracketed a) g = tree_literals m a g
+tree_literals m (NumTree k) g = (omega (arith, ints), g)
+tree_literals m (VarTree i) g = g
+tree_literals m (NegTree a) g = tree_literals m a g.0
+tree_literals m (AddTree a b) g = (tree_literals m a g.0, tree_literals m b g.1)
+tree_literals m (SubTree a b) g = (tree_literals m a g.0, tree_literals m b g.1)
+tree_literals m (MulTree a b) g = (tree_literals m a g.0, tree_literals m b g.2)
+tree_literals m (DivTree a k) g = (tree_literals m a g.0, omega (arith, ints, g.2), g.3)
+tree_literals m (MinTree a b) g = (tree_literals m a g.0, tree_literals m b g.1)
+tree_literals m (MaxTree a b) g = (tree_literals m a g.0, tree_literals m b g.1)
+tree_literals m (AbsTree a) g = tree_literals m a g
+tree_literals m (LutTree a points) g = (tree_literals m a g.0, g.1)
+tree_literals m (ParenTree a) g = tree_literals m a g
 
 -- ---- items turned round
 

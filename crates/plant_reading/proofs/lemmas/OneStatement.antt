@@ -16,7 +16,7 @@ use Rattle.plant_record.specs.declared.version.PlantVersion.{PlantVersion}
 use Rattle.plant_record.specs.declared.version.PlantVersion.TheVariants.{One, Two}
 use Rattle.plant_record.specs.Names.{IsName}
 use Rattle.plant_record.specs.Numbers.{IsLiteral}
-use Rattle.plant_record.specs.Boxes.{AreEnds}
+use Rattle.plant_record.specs.StateBoxes.{AreEnds}
 use Rattle.plant_record.specs.Spelling.{version_word, end_words, goal_word}
 use Rattle.plant_reading.specs.Words.{words_of, is_skipped}
 use Rattle.plant_reading.specs.Tokens.{tokens_of}

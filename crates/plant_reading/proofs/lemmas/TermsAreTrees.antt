@@ -6,7 +6,7 @@ use Rattle.fixed_expr.specs.Expression.{Expression, NumExpr, VarExpr, NegExpr, D
 use Rattle.plant_reading.specs.declared.items.Bracket.TheVariants as bracket
 use Rattle.plant_reading.specs.declared.items.Item.{Item}
 use Rattle.plant_reading.specs.declared.items.Item.TheVariants as item
-use Rattle.plant_reading.specs.SyntaxTrees.{Syntax, Literal, Named, Minus, Plus, Less, Times, Over, Least, Greatest, Size, Tabled, Bracketed, level_of, IsGrammatical, meaning_of}
+use Rattle.plant_reading.specs.SyntaxTrees.{Syntax, NumTree, VarTree, NegTree, AddTree, SubTree, MulTree, DivTree, MinTree, MaxTree, AbsTree, LutTree, ParenTree, level_of, IsGrammatical, meaning_of}
 use Rattle.plant_reading.specs.inside.ExpressionItems.{items_onto, IsItem, AreItems}
 use Rattle.plant_reading.specs.inside.TokenReaders.{◌>>=◌}
 use Rattle.fixed_expr.specs.Curves.{IsCurve}
@@ -47,7 +47,7 @@ factor_stands : (m : ℕ) (c : Expression) (S : List Pending) (ys items : List I
 factor_stands m c [] ys items w s = (ys, w, record { tree = s.tree; grammatical = s.grammatical; level = omega arith; means = s.means; spans = s.spans })
 factor_stands m c (Sign ∷ S) ys items w s =
     factor_stands m (NegExpr c) S w.0 items w.1 (record {
-      tree = Minus s.tree;
+      tree = NegTree s.tree;
       grammatical = (s.grammatical, s.level);
       level = omega arith;
       means = ap NegExpr s.means;
@@ -60,7 +60,7 @@ factor_stands m c (Multiply a ∷ S) ys items w s =
       w.0,
       w.2,
       record {
-        tree = Times l.tree s.tree;
+        tree = MulTree l.tree s.tree;
         grammatical = (l.grammatical, l.level, s.grammatical, s.level);
         level = omega arith;
         means = cc (l.means, s.means);
@@ -79,7 +79,7 @@ term_stands m c (AddTo a ∷ S) ys items w s =
       w.0,
       w.2,
       record {
-        tree = Plus l.tree s.tree;
+        tree = AddTree l.tree s.tree;
         grammatical = (l.grammatical, s.grammatical, s.level);
         level = omega arith;
         means = cc (l.means, s.means);
@@ -91,7 +91,7 @@ term_stands m c (TakeFrom a ∷ S) ys items w s =
       w.0,
       w.2,
       record {
-        tree = Less l.tree s.tree;
+        tree = SubTree l.tree s.tree;
         grammatical = (l.grammatical, s.grammatical, s.level);
         level = omega arith;
         means = cc (l.means, s.means);
@@ -117,7 +117,7 @@ bracket_stands m c (Opened bracket.Plain ∷ S) items h =
       w.0,
       w.1,
       record {
-        tree = Bracketed s.tree;
+        tree = ParenTree s.tree;
         grammatical = s.grammatical;
         level = omega arith;
         means = s.means;
@@ -130,7 +130,7 @@ bracket_stands m c (Opened bracket.Size ∷ S) items h =
       w.0,
       w.1,
       record {
-        tree = Size s.tree;
+        tree = AbsTree s.tree;
         grammatical = s.grammatical;
         level = omega arith;
         means = ap AbsExpr s.means;
@@ -144,7 +144,7 @@ bracket_stands m c (LeastOf a ∷ S) items h =
       w.0,
       w.2,
       record {
-        tree = Least l.tree s.tree;
+        tree = MinTree l.tree s.tree;
         grammatical = (l.grammatical, s.grammatical);
         level = omega arith;
         means = cc (l.means, s.means);
@@ -158,7 +158,7 @@ bracket_stands m c (GreatestOf a ∷ S) items h =
       w.0,
       w.2,
       record {
-        tree = Greatest l.tree s.tree;
+        tree = MaxTree l.tree s.tree;
         grammatical = (l.grammatical, s.grammatical);
         level = omega arith;
         means = cc (l.means, s.means);
@@ -177,7 +177,7 @@ points_stand m points c (Opened bracket.Table ∷ S) items curve h =
       w.0,
       w.1,
       record {
-        tree = Tabled s.tree points;
+        tree = LutTree s.tree points;
         grammatical = (s.grammatical, curve);
         level = omega arith;
         means = ap (λ (a : Expression). LutExpr a points) s.means;
@@ -200,8 +200,8 @@ comma_stands m c _ items h = tt
 
 operand_stands : (m : ℕ) (x : Item) (S : List Pending) (items : List Item) → IsItem m x → Awaits m S items → IfStands (λ (n : Machine). Stands m n (x ∷ items)) (take_operand x S)
 unfolding take_operand
-operand_stands m (item.Number k) S items valid w = factor_stands m (NumExpr (pos k)) S items (item.Number k ∷ items) w (record { tree = Literal k; grammatical = valid; level = omega arith; means = refl; spans = refl })
-operand_stands m (item.Variable i) S items valid w = factor_stands m (VarExpr i) S items (item.Variable i ∷ items) w (record { tree = Named i; grammatical = valid; level = omega arith; means = refl; spans = refl })
+operand_stands m (item.Number k) S items valid w = factor_stands m (NumExpr (pos k)) S items (item.Number k ∷ items) w (record { tree = NumTree k; grammatical = valid; level = omega arith; means = refl; spans = refl })
+operand_stands m (item.Variable i) S items valid w = factor_stands m (VarExpr i) S items (item.Variable i ∷ items) w (record { tree = VarTree i; grammatical = valid; level = omega arith; means = refl; spans = refl })
 operand_stands m item.Minus S items valid w = (items, w, refl)
 operand_stands m (item.Open b) S items valid w = (items, w, refl)
 operand_stands m item.Plus S items valid w = tt
@@ -231,7 +231,7 @@ term_goes_on m (item.Over k) c S items valid h =
       h.0,
       h.1,
       record {
-        tree = Over s.tree k;
+        tree = DivTree s.tree k;
         grammatical = (s.grammatical, s.level, valid.0, valid.1);
         level = omega arith;
         means = ap (λ (a : Expression). DivExpr a (pos k)) s.means;

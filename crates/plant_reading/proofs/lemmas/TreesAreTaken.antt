@@ -4,7 +4,7 @@ use Rattle.fixed_expr.specs.Expression.{Expression}
 use Rattle.plant_reading.specs.declared.items.Bracket.TheVariants as bracket
 use Rattle.plant_reading.specs.declared.items.Item.{Item}
 use Rattle.plant_reading.specs.declared.items.Item.TheVariants as item
-use Rattle.plant_reading.specs.SyntaxTrees.{Syntax, Literal, Named, Minus, Plus, Less, Times, Over, Least, Greatest, Size, Tabled, Bracketed, level_of, IsGrammatical, meaning_of}
+use Rattle.plant_reading.specs.SyntaxTrees.{Syntax, NumTree, VarTree, NegTree, AddTree, SubTree, MulTree, DivTree, MinTree, MaxTree, AbsTree, LutTree, ParenTree, level_of, IsGrammatical, meaning_of}
 use Rattle.plant_reading.specs.inside.ExpressionItems.{items_before}
 use Rattle.plant_reading.specs.inside.ExpressionMachine.{Pending, Sign, AddTo, TakeFrom, Multiply, Opened, LeastOf, GreatestOf, factor_ended, term_ended, take_points, complete, take_operand, take_after_term, take_after_sum, steps}
 
@@ -94,10 +94,10 @@ from_factor t h =
 
 leads : (m : ℕ) (t : Syntax) → IsGrammatical m t → Leads t
 unfolding take_operand take_after_term take_after_sum take_points
-leads m (Literal k) g = from_factor (Literal k) (λ S xs. refl)
-leads m (Named i) g = from_factor (Named i) (λ S xs. refl)
-leads m (Minus a) g = from_factor (Minus a) (λ S xs. (leads m a g.0).factor g.1 (Sign ∷ S) xs)
-leads m (Plus a b) g = from_sum (Plus a b) refl (λ S takes.
+leads m (NumTree k) g = from_factor (NumTree k) (λ S xs. refl)
+leads m (VarTree i) g = from_factor (VarTree i) (λ S xs. refl)
+leads m (NegTree a) g = from_factor (NegTree a) (λ S xs. (leads m a g.0).factor g.1 (Sign ∷ S) xs)
+leads m (AddTree a b) g = from_sum (AddTree a b) refl (λ S takes.
     let l = (leads m a g.0).sum S takes in
     record {
       term = meaning_of b;
@@ -107,7 +107,7 @@ leads m (Plus a b) g = from_sum (Plus a b) refl (λ S takes.
           ∙ ap (λ (x : Expression × List Pending). steps (None, AddTo x.0 ∷ x.1) (items_before b xs)) l.sum
           ∙ (leads m b g.1).term g.2 (AddTo (meaning_of a) ∷ S) xs tt;
     })
-leads m (Less a b) g = from_sum (Less a b) refl (λ S takes.
+leads m (SubTree a b) g = from_sum (SubTree a b) refl (λ S takes.
     let l = (leads m a g.0).sum S takes in
     record {
       term = meaning_of b;
@@ -117,31 +117,31 @@ leads m (Less a b) g = from_sum (Less a b) refl (λ S takes.
           ∙ ap (λ (x : Expression × List Pending). steps (None, TakeFrom x.0 ∷ x.1) (items_before b xs)) l.sum
           ∙ (leads m b g.1).term g.2 (TakeFrom (meaning_of a) ∷ S) xs tt;
     })
-leads m (Times a b) g = from_term (Times a b) refl (λ S xs takes.
+leads m (MulTree a b) g = from_term (MulTree a b) refl (λ S xs takes.
     (leads m a g.0).term g.1 S (item.Times ∷ items_before b xs) takes
     ∙ (leads m b g.2).factor g.3 (Multiply (meaning_of a) ∷ S) xs)
-leads m (Over a k) g = from_term (Over a k) refl (λ S xs takes. (leads m a g.0).term g.1 S (item.Over k ∷ xs) takes)
-leads m (Least a b) g = from_factor (Least a b) (λ S xs.
+leads m (DivTree a k) g = from_term (DivTree a k) refl (λ S xs takes. (leads m a g.0).term g.1 S (item.Over k ∷ xs) takes)
+leads m (MinTree a b) g = from_factor (MinTree a b) (λ S xs.
     let l = (leads m a g.0).sum (Opened bracket.Least ∷ S) tt in
     let r = (leads m b g.1).sum (LeastOf (meaning_of a) ∷ S) tt in
     l.led (item.Comma ∷ items_before b (item.Close ∷ xs))
     ∙ (rw l.sum refl)
     ∙ r.led (item.Close ∷ xs)
     ∙ (rw r.sum refl))
-leads m (Greatest a b) g = from_factor (Greatest a b) (λ S xs.
+leads m (MaxTree a b) g = from_factor (MaxTree a b) (λ S xs.
     let l = (leads m a g.0).sum (Opened bracket.Greatest ∷ S) tt in
     let r = (leads m b g.1).sum (GreatestOf (meaning_of a) ∷ S) tt in
     l.led (item.Comma ∷ items_before b (item.Close ∷ xs))
     ∙ (rw l.sum refl)
     ∙ r.led (item.Close ∷ xs)
     ∙ (rw r.sum refl))
-leads m (Size a) g = from_factor (Size a) (λ S xs.
+leads m (AbsTree a) g = from_factor (AbsTree a) (λ S xs.
     let l = (leads m a g).sum (Opened bracket.Size ∷ S) tt in
     l.led (item.Close ∷ xs) ∙ (rw l.sum refl))
-leads m (Tabled a points) g = from_factor (Tabled a points) (λ S xs.
+leads m (LutTree a points) g = from_factor (LutTree a points) (λ S xs.
     let l = (leads m a g.0).sum (Opened bracket.Table ∷ S) tt in
     l.led (item.Points points ∷ xs) ∙ (rw l.sum refl))
-leads m (Bracketed a) g = from_factor (Bracketed a) (λ S xs.
+leads m (ParenTree a) g = from_factor (ParenTree a) (λ S xs.
     let l = (leads m a g).sum (Opened bracket.Plain ∷ S) tt in
     l.led (item.Close ∷ xs) ∙ (rw l.sum refl))
 

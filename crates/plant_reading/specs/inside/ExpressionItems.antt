@@ -12,7 +12,8 @@ use Rattle.plant_reading.specs.declared.items.Item.{Item}
 use Rattle.plant_reading.specs.declared.items.Item.TheVariants as item
 use Rattle.plant_record.specs.Names.{IsName}
 use Rattle.plant_reading.specs.inside.TokenReaders.{◌>>=◌, or_else, literal_of, point_of, curve_of}
-use Rattle.plant_reading.specs.SyntaxTrees.{Syntax, Literal, Named, Minus, Plus, Less, Times, Over, Least, Greatest, Size, Tabled, Bracketed, point_tokens}
+use Rattle.plant_reading.specs.SyntaxTrees.{Syntax, NumTree, VarTree, NegTree, AddTree, SubTree, MulTree, DivTree, MinTree, MaxTree, AbsTree, LutTree, ParenTree, point_tokens}
+use Rattle.base.specs.declared.limits.TheConstants.{NUMBER_LIMIT}
 
 -- The names of variables differ from each other, and none is reserved.
 pub record AreNames (names : List (List ℕ)) : Type 0 where
@@ -42,12 +43,12 @@ spelling_of names (item.Points points) = flat_map point_tokens points ++ codes "
 
 -- the numbers, variables and points that an item may name
 abbrev pub IsItem : ℕ → Item → Type 0
-IsItem m (item.Number k) = k < 10 ^ 18
+IsItem m (item.Number k) = k < NUMBER_LIMIT
 IsItem m (item.Variable i) = i < m
 IsItem m item.Plus = Unit {0}
 IsItem m item.Minus = Unit {0}
 IsItem m item.Times = Unit {0}
-IsItem m (item.Over k) = (1 ≤ k) × (k < 10 ^ 18)
+IsItem m (item.Over k) = (1 ≤ k) × (k < NUMBER_LIMIT)
 IsItem m (item.Open b) = Unit {0}
 IsItem m item.Comma = Unit {0}
 IsItem m item.Close = Unit {0}
@@ -61,32 +62,32 @@ AreItems m (x ∷ xs) = IsItem m x × AreItems m xs
 -- ---- the items of a tree, before others and onto those before it, of which the last comes first
 
 abbrev pub items_before : Syntax → List Item → List Item
-items_before (Literal k) xs = item.Number k ∷ xs
-items_before (Named i) xs = item.Variable i ∷ xs
-items_before (Minus a) xs = item.Minus ∷ items_before a xs
-items_before (Plus a b) xs = items_before a (item.Plus ∷ items_before b xs)
-items_before (Less a b) xs = items_before a (item.Minus ∷ items_before b xs)
-items_before (Times a b) xs = items_before a (item.Times ∷ items_before b xs)
-items_before (Over a k) xs = items_before a (item.Over k ∷ xs)
-items_before (Least a b) xs = item.Open bracket.Least ∷ items_before a (item.Comma ∷ items_before b (item.Close ∷ xs))
-items_before (Greatest a b) xs = item.Open bracket.Greatest ∷ items_before a (item.Comma ∷ items_before b (item.Close ∷ xs))
-items_before (Size a) xs = item.Open bracket.Size ∷ items_before a (item.Close ∷ xs)
-items_before (Tabled a points) xs = item.Open bracket.Table ∷ items_before a (item.Points points ∷ xs)
-items_before (Bracketed a) xs = item.Open bracket.Plain ∷ items_before a (item.Close ∷ xs)
+items_before (NumTree k) xs = item.Number k ∷ xs
+items_before (VarTree i) xs = item.Variable i ∷ xs
+items_before (NegTree a) xs = item.Minus ∷ items_before a xs
+items_before (AddTree a b) xs = items_before a (item.Plus ∷ items_before b xs)
+items_before (SubTree a b) xs = items_before a (item.Minus ∷ items_before b xs)
+items_before (MulTree a b) xs = items_before a (item.Times ∷ items_before b xs)
+items_before (DivTree a k) xs = items_before a (item.Over k ∷ xs)
+items_before (MinTree a b) xs = item.Open bracket.Least ∷ items_before a (item.Comma ∷ items_before b (item.Close ∷ xs))
+items_before (MaxTree a b) xs = item.Open bracket.Greatest ∷ items_before a (item.Comma ∷ items_before b (item.Close ∷ xs))
+items_before (AbsTree a) xs = item.Open bracket.Size ∷ items_before a (item.Close ∷ xs)
+items_before (LutTree a points) xs = item.Open bracket.Table ∷ items_before a (item.Points points ∷ xs)
+items_before (ParenTree a) xs = item.Open bracket.Plain ∷ items_before a (item.Close ∷ xs)
 
 abbrev pub items_onto : Syntax → List Item → List Item
-items_onto (Literal k) xs = item.Number k ∷ xs
-items_onto (Named i) xs = item.Variable i ∷ xs
-items_onto (Minus a) xs = items_onto a (item.Minus ∷ xs)
-items_onto (Plus a b) xs = items_onto b (item.Plus ∷ items_onto a xs)
-items_onto (Less a b) xs = items_onto b (item.Minus ∷ items_onto a xs)
-items_onto (Times a b) xs = items_onto b (item.Times ∷ items_onto a xs)
-items_onto (Over a k) xs = item.Over k ∷ items_onto a xs
-items_onto (Least a b) xs = item.Close ∷ items_onto b (item.Comma ∷ items_onto a (item.Open bracket.Least ∷ xs))
-items_onto (Greatest a b) xs = item.Close ∷ items_onto b (item.Comma ∷ items_onto a (item.Open bracket.Greatest ∷ xs))
-items_onto (Size a) xs = item.Close ∷ items_onto a (item.Open bracket.Size ∷ xs)
-items_onto (Tabled a points) xs = item.Points points ∷ items_onto a (item.Open bracket.Table ∷ xs)
-items_onto (Bracketed a) xs = item.Close ∷ items_onto a (item.Open bracket.Plain ∷ xs)
+items_onto (NumTree k) xs = item.Number k ∷ xs
+items_onto (VarTree i) xs = item.Variable i ∷ xs
+items_onto (NegTree a) xs = items_onto a (item.Minus ∷ xs)
+items_onto (AddTree a b) xs = items_onto b (item.Plus ∷ items_onto a xs)
+items_onto (SubTree a b) xs = items_onto b (item.Minus ∷ items_onto a xs)
+items_onto (MulTree a b) xs = items_onto b (item.Times ∷ items_onto a xs)
+items_onto (DivTree a k) xs = item.Over k ∷ items_onto a xs
+items_onto (MinTree a b) xs = item.Close ∷ items_onto b (item.Comma ∷ items_onto a (item.Open bracket.Least ∷ xs))
+items_onto (MaxTree a b) xs = item.Close ∷ items_onto b (item.Comma ∷ items_onto a (item.Open bracket.Greatest ∷ xs))
+items_onto (AbsTree a) xs = item.Close ∷ items_onto a (item.Open bracket.Size ∷ xs)
+items_onto (LutTree a points) xs = item.Points points ∷ items_onto a (item.Open bracket.Table ∷ xs)
+items_onto (ParenTree a) xs = item.Close ∷ items_onto a (item.Open bracket.Plain ∷ xs)
 
 -- items turned round, before others
 abbrev pub turned : List Item → List Item → List Item

@@ -14,6 +14,7 @@ use Rattle.plant_reading.specs.declared.expression.ExpressionReader.{ExpressionR
 use Rattle.plant_record.specs.Equations.{depth_of}
 use Rattle.plant_reading.specs.inside.ExpressionItems.{nodes_made, open_brackets_after}
 use Rattle.plant_reading.specs.inside.TokenReaders.{◌>>=◌}
+use Rattle.base.specs.declared.limits.TheConstants.{BRACKETS_LIMIT, DEPTH_LIMIT, NODES_LIMIT}
 
 -- What waits for the operand after it: a sign, an operator with its first operand, an open bracket.
 pub data Pending : Type 0 where
@@ -143,7 +144,7 @@ state_after (x ∷ xs) = state_after xs >>= λ n. stepped x n.0 n.1
 -- the expression where the items end: nothing waits, and it is not too deep
 abbrev pub IsEnd : Machine → Expression → Type 0
 IsEnd (None, S) e = ⊥
-IsEnd (Some c, S) e = (term_ended c S ≡ (e, [])) × (depth_of e ≤ 64)
+IsEnd (Some c, S) e = (term_ended c S ≡ (e, [])) × (depth_of e ≤ DEPTH_LIMIT)
 
 -- the counts after an item
 abbrev pub counts_after : Counts → Item → Counts
@@ -151,4 +152,4 @@ counts_after c x = record { nodes = c.nodes + nodes_made x; brackets = open_brac
 
 -- at most 256 nodes and 64 open brackets
 abbrev pub AreWithinLimits : Counts → Type 0
-AreWithinLimits c = (c.nodes ≤ 256) × (c.brackets ≤ 64)
+AreWithinLimits c = (c.nodes ≤ NODES_LIMIT) × (c.brackets ≤ BRACKETS_LIMIT)

@@ -10,8 +10,9 @@ use Rattle.plant_record.specs.declared.aims.GoalKind.{GoalKind}
 use Rattle.plant_record.specs.declared.version.PlantVersion.{PlantVersion}
 use Rattle.plant_record.specs.Numbers.{IsLiteral}
 use Rattle.plant_record.specs.Variables.{IsStateVariable, IsInputVariable, IsNoiseVariable}
-use Rattle.plant_record.specs.Boxes.{IsStateBox, AreEnds}
+use Rattle.plant_record.specs.StateBoxes.{IsStateBox, AreEnds}
 use Rattle.plant_record.specs.Spelling.{version_word, end_words, goal_word}
+use Rattle.base.specs.declared.limits.TheConstants.{VALUES_LIMIT}
 
 -- what the words after `plant`, `state`, `input`, `noise`, a box's keyword and `goal` spell
 abbrev pub SpellsVersion : List (List ℕ) → PlantVersion → Type 0
@@ -47,4 +48,4 @@ StartsWithEnds words y = AreEnds y.0.0 y.0.1 × (words ≡ signed_decimal y.0.0 
 
 -- 1 to 64 numbers
 abbrev pub SpellsValues : List (List ℕ) → List ℤ → Type 0
-SpellsValues words zs = (words ≡ map signed_decimal zs) × (1 ≤ length zs) × (length zs ≤ 64) × All IsLiteral zs
+SpellsValues words zs = (words ≡ map signed_decimal zs) × (1 ≤ length zs) × (length zs ≤ VALUES_LIMIT) × All IsLiteral zs

@@ -6,6 +6,7 @@ use Rattle.std.specs.Str.Parse.{digits_value}
 use Rattle.std.specs.Fmt.{decimal}
 use Rattle.plant_reading.specs.declared.line_fault.LineFault.{LineFault}
 use Rattle.plant_reading.specs.declared.line_fault.LineFault.TheVariants as faults
+use Rattle.base.specs.declared.limits.TheConstants.{NUMBER_LIMIT, POINTS_LIMIT}
 
 -- what a function returned, seen by view, is what reading gives, unless memory ran out
 abbrev pub Fails : {Y : Type 0} → LineFault → Option Y → Type 0
@@ -27,7 +28,7 @@ or_else (Some x) d f = f x
 
 -- the number that a token spells in its one spelling
 unfoldable pub literal_of : List ℕ → Option ℕ
-literal_of token = if bytes_eq (decimal (digits_value 10 token)) token && nat_lt (digits_value 10 token) (10 ^ 18) then Some (digits_value 10 token) else None
+literal_of token = if bytes_eq (decimal (digits_value 10 token)) token && nat_lt (digits_value 10 token) NUMBER_LIMIT then Some (digits_value 10 token) else None
 
 -- a number below 0, after its sign, and the tokens after it
 unfoldable pub negative_of : List (List ℕ) → Option (ℤ × List (List ℕ))
@@ -68,4 +69,4 @@ rises (p ∷ q ∷ points) = int_lt p.0 q.0 && rises (q ∷ points)
 
 -- 2 to 32 points that rise, and the tokens after them
 unfoldable pub curve_of : List (List ℕ) → Option (List (ℤ × ℤ) × List (List ℕ))
-curve_of tokens = points_of 32 tokens >>= λ r. if nat_le 2 (length r.0) && rises r.0 then Some r else None
+curve_of tokens = points_of POINTS_LIMIT tokens >>= λ r. if nat_le 2 (length r.0) && rises r.0 then Some r else None

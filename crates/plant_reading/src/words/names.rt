@@ -4,8 +4,7 @@ ghost use Rattle.std.specs.Prelude.{◌≡◌, ◌<◌, [], slice_index};
 ghost use Rattle.std.specs.List.{list_all};
 ghost use Rattle.plant_record.specs.Names.{is_name, is_reserved, is_name_byte, is_letter};
 
-/// The most bytes of a name.
-const NAME_LIMIT: usize = 32;
+use base::limits::NAME_LIMIT;
 
 pub fn is_letter(b: u8) -> bool
     ensures { result ≡ is_letter b }

@@ -5,11 +5,9 @@ ghost use Rattle.std.specs.Fmt.{signed_decimal};
 ghost use Rattle.plant_record.specs.Numbers.{IsLiteral};
 ghost use Rattle.plant_reading.specs.Words.{IsSpellingOf};
 
+use base::limits::NUMBER_LIMIT;
 use itoa::Buffer;
 use std::str;
-
-/// One more than the greatest magnitude of a number in a text.
-const NUMBER_LIMIT: u64 = 1_000_000_000_000_000_000;
 
 /// The number that a word spells in its one spelling, with at most 18 digits: None where it spells none.
 pub fn number_of(word: &[u8]) -> Option<i64>

@@ -4,11 +4,11 @@ use Rattle.std.specs.Prelude.{ℤ, IsTrue, ◌↔◌}
 use Rattle.std.specs.List.{All, Any, AllZip}
 use Rattle.std.proofs.lemmas.List.Elements.{All-weaker}
 use Rattle.grid_quantiser.specs.declared.axis.Axis.{Axis}
-use Rattle.grid_quantiser.specs.Boxes.{IsAtMost, LiesInside}
+use Rattle.grid_quantiser.specs.CellBoxes.{IsAtMost, LiesInside}
 use Rattle.plant_record.specs.declared.aims.StateBox.{StateBox}
 use Rattle.plant_record.specs.Description.{Description, axes_of}
-use Rattle.plant_record.specs.Marks.{IsGoalCell, IsObstacleCell}
-use Rattle.plant_record.specs.Boxes.{AreEnds, IsStateBox}
+use Rattle.plant_record.specs.CellMarks.{IsGoalCell, IsObstacleCell}
+use Rattle.plant_record.specs.StateBoxes.{AreEnds, IsStateBox}
 
 at_most : (axes : List Axis) (low high zeros rest : List ℤ) → length low ≡ length axes → AllZip AreEnds low high → IsAtMost axes (low ++ zeros) (high ++ rest)
 at_most [] low high zeros rest e ends = tt

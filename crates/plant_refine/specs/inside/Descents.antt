@@ -4,7 +4,7 @@ use Rattle.game_core.specs.declared.game.Row.{Row}
 use Rattle.grid_quantiser.specs.Cells.{cell_of, point_of}
 use Rattle.plant_record.specs.Description.{Description, axes_of, vectors_of}
 use Rattle.plant_record.specs.Steps.{step_of, IsNoise}
-use Rattle.successor_box.specs.Boxes.{IsEnabledAt}
+use Rattle.successor_box.specs.SuccessorBoxes.{IsEnabledAt}
 use Rattle.controller_table.specs.Choice.{HasRowAt}
 use Rattle.plant_record.specs.States.{LiesInSome, IsClear}
 

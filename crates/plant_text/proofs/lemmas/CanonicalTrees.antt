@@ -11,7 +11,7 @@ use Rattle.plant_record.specs.Equations.{HasLiterals, IsEquation, depth_of}
 use Rattle.plant_writing.specs.ExpressionText.{expression_text}
 use Rattle.plant_reading.specs.Words.{words_of}
 use Rattle.plant_reading.specs.Tokens.{tokens_of}
-use Rattle.plant_reading.specs.SyntaxTrees.{Syntax, Plus, Less, Times, Over, Bracketed, yield_of, level_of, IsGrammatical, meaning_of, brackets_of, AreTokensOf}
+use Rattle.plant_reading.specs.SyntaxTrees.{Syntax, AddTree, SubTree, MulTree, DivTree, ParenTree, yield_of, level_of, IsGrammatical, meaning_of, brackets_of, AreTokensOf}
 use Rattle.plant_record.proofs.lemmas.Numbers.{positive}
 use Rattle.plant_reading.proofs.lemmas.OneScan.{scan, scan_is}
 use Rattle.plant_text.proofs.lemmas.ExpressionTokens.{tree, yields}
@@ -19,19 +19,19 @@ use Rattle.plant_record.proofs.lemmas.Numbers.{some_divisor}
 
 -- ---- brackets around a tree
 
-same_meaning : (u : Bool) (s : Syntax) → meaning_of (cond u (Bracketed s) s) ≡ meaning_of s
+same_meaning : (u : Bool) (s : Syntax) → meaning_of (cond u (ParenTree s) s) ≡ meaning_of s
 same_meaning true s = refl
 same_meaning false s = refl
 
-same_rules : (m : ℕ) (u : Bool) (s : Syntax) → IsGrammatical m s → IsGrammatical m (cond u (Bracketed s) s)
+same_rules : (m : ℕ) (u : Bool) (s : Syntax) → IsGrammatical m s → IsGrammatical m (cond u (ParenTree s) s)
 same_rules m true s h = h
 same_rules m false s h = h
 
-enough : (u : Bool) (own asked : ℕ) (s : Syntax) → nat_lt own asked ≡ u → asked ≤ 3 → level_of s ≡ own → asked ≤ level_of (cond u (Bracketed s) s)
+enough : (u : Bool) (own asked : ℕ) (s : Syntax) → nat_lt own asked ≡ u → asked ≤ 3 → level_of s ≡ own → asked ≤ level_of (cond u (ParenTree s) s)
 enough true own asked s e le same = le
 enough false own asked s e le same = omega (arith, same, ltb-false own asked e)
 
-one_bracket : (u : Bool) (s : Syntax) (n : ℕ) → brackets_of s < n → brackets_of (cond u (Bracketed s) s) < suc n
+one_bracket : (u : Bool) (s : Syntax) (n : ℕ) → brackets_of s < n → brackets_of (cond u (ParenTree s) s) < suc n
 one_bracket true s n lt = omega (arith, lt)
 one_bracket false s n lt = omega (arith, lt)
 
@@ -41,11 +41,11 @@ meaning : (m asked : ℕ) (e : Expression) → HasLiterals m e → meaning_of (t
 meaning m asked (NumExpr k) h = ap NumExpr (sym (positive k h.0))
 meaning m asked (VarExpr i) h = refl
 meaning m asked (NegExpr a) h = ap NegExpr (meaning m 3 a h)
-meaning m asked (AddExpr a b) h = same_meaning (nat_lt 1 asked) (Plus (tree 1 a) (tree 2 b)) ∙ ap (λ x. AddExpr x (meaning_of (tree 2 b))) (meaning m 1 a h.0) ∙ ap (AddExpr a) (meaning m 2 b h.1)
-meaning m asked (SubExpr a b) h = same_meaning (nat_lt 1 asked) (Less (tree 1 a) (tree 2 b)) ∙ ap (λ x. SubExpr x (meaning_of (tree 2 b))) (meaning m 1 a h.0) ∙ ap (SubExpr a) (meaning m 2 b h.1)
-meaning m asked (MulExpr a b) h = same_meaning (nat_lt 2 asked) (Times (tree 2 a) (tree 3 b)) ∙ ap (λ x. MulExpr x (meaning_of (tree 3 b))) (meaning m 2 a h.0) ∙ ap (MulExpr a) (meaning m 3 b h.1)
+meaning m asked (AddExpr a b) h = same_meaning (nat_lt 1 asked) (AddTree (tree 1 a) (tree 2 b)) ∙ ap (λ x. AddExpr x (meaning_of (tree 2 b))) (meaning m 1 a h.0) ∙ ap (AddExpr a) (meaning m 2 b h.1)
+meaning m asked (SubExpr a b) h = same_meaning (nat_lt 1 asked) (SubTree (tree 1 a) (tree 2 b)) ∙ ap (λ x. SubExpr x (meaning_of (tree 2 b))) (meaning m 1 a h.0) ∙ ap (SubExpr a) (meaning m 2 b h.1)
+meaning m asked (MulExpr a b) h = same_meaning (nat_lt 2 asked) (MulTree (tree 2 a) (tree 3 b)) ∙ ap (λ x. MulExpr x (meaning_of (tree 3 b))) (meaning m 2 a h.0) ∙ ap (MulExpr a) (meaning m 3 b h.1)
 meaning m asked (DivExpr a k) h =
-    same_meaning (nat_lt 2 asked) (Over (tree 2 a) (nat_abs k)) ∙ ap (λ x. DivExpr x (pos (nat_abs k))) (meaning m 2 a h.0) ∙ ap (DivExpr a) (sym (positive k (omega (arith, ints, h.1))))
+    same_meaning (nat_lt 2 asked) (DivTree (tree 2 a) (nat_abs k)) ∙ ap (λ x. DivExpr x (pos (nat_abs k))) (meaning m 2 a h.0) ∙ ap (DivExpr a) (sym (positive k (omega (arith, ints, h.1))))
 meaning m asked (MinExpr a b) h = ap (λ x. MinExpr x (meaning_of (tree 1 b))) (meaning m 1 a h.0) ∙ ap (MinExpr a) (meaning m 1 b h.1)
 meaning m asked (MaxExpr a b) h = ap (λ x. MaxExpr x (meaning_of (tree 1 b))) (meaning m 1 a h.0) ∙ ap (MaxExpr a) (meaning m 1 b h.1)
 meaning m asked (AbsExpr a) h = ap AbsExpr (meaning m 1 a h)
@@ -55,10 +55,10 @@ level : (asked : ℕ) (e : Expression) → asked ≤ 3 → asked ≤ level_of (t
 level asked (NumExpr k) le = le
 level asked (VarExpr i) le = le
 level asked (NegExpr a) le = le
-level asked (AddExpr a b) le = enough (nat_lt 1 asked) 1 asked (Plus (tree 1 a) (tree 2 b)) refl le refl
-level asked (SubExpr a b) le = enough (nat_lt 1 asked) 1 asked (Less (tree 1 a) (tree 2 b)) refl le refl
-level asked (MulExpr a b) le = enough (nat_lt 2 asked) 2 asked (Times (tree 2 a) (tree 3 b)) refl le refl
-level asked (DivExpr a k) le = enough (nat_lt 2 asked) 2 asked (Over (tree 2 a) (nat_abs k)) refl le refl
+level asked (AddExpr a b) le = enough (nat_lt 1 asked) 1 asked (AddTree (tree 1 a) (tree 2 b)) refl le refl
+level asked (SubExpr a b) le = enough (nat_lt 1 asked) 1 asked (SubTree (tree 1 a) (tree 2 b)) refl le refl
+level asked (MulExpr a b) le = enough (nat_lt 2 asked) 2 asked (MulTree (tree 2 a) (tree 3 b)) refl le refl
+level asked (DivExpr a k) le = enough (nat_lt 2 asked) 2 asked (DivTree (tree 2 a) (nat_abs k)) refl le refl
 level asked (MinExpr a b) le = le
 level asked (MaxExpr a b) le = le
 level asked (AbsExpr a) le = le
@@ -68,10 +68,10 @@ grammatical : (m asked : ℕ) (e : Expression) → HasLiterals m e → IsGrammat
 grammatical m asked (NumExpr k) h = h.1
 grammatical m asked (VarExpr i) h = h
 grammatical m asked (NegExpr a) h = (grammatical m 3 a h, level 3 a (omega arith))
-grammatical m asked (AddExpr a b) h = same_rules m (nat_lt 1 asked) (Plus (tree 1 a) (tree 2 b)) (grammatical m 1 a h.0, grammatical m 2 b h.1, level 2 b (omega arith))
-grammatical m asked (SubExpr a b) h = same_rules m (nat_lt 1 asked) (Less (tree 1 a) (tree 2 b)) (grammatical m 1 a h.0, grammatical m 2 b h.1, level 2 b (omega arith))
-grammatical m asked (MulExpr a b) h = same_rules m (nat_lt 2 asked) (Times (tree 2 a) (tree 3 b)) (grammatical m 2 a h.0, level 2 a (omega arith), grammatical m 3 b h.1, level 3 b (omega arith))
-grammatical m asked (DivExpr a k) h = same_rules m (nat_lt 2 asked) (Over (tree 2 a) (nat_abs k)) (grammatical m 2 a h.0, level 2 a (omega arith), some_divisor k h.1, h.2)
+grammatical m asked (AddExpr a b) h = same_rules m (nat_lt 1 asked) (AddTree (tree 1 a) (tree 2 b)) (grammatical m 1 a h.0, grammatical m 2 b h.1, level 2 b (omega arith))
+grammatical m asked (SubExpr a b) h = same_rules m (nat_lt 1 asked) (SubTree (tree 1 a) (tree 2 b)) (grammatical m 1 a h.0, grammatical m 2 b h.1, level 2 b (omega arith))
+grammatical m asked (MulExpr a b) h = same_rules m (nat_lt 2 asked) (MulTree (tree 2 a) (tree 3 b)) (grammatical m 2 a h.0, level 2 a (omega arith), grammatical m 3 b h.1, level 3 b (omega arith))
+grammatical m asked (DivExpr a k) h = same_rules m (nat_lt 2 asked) (DivTree (tree 2 a) (nat_abs k)) (grammatical m 2 a h.0, level 2 a (omega arith), some_divisor k h.1, h.2)
 grammatical m asked (MinExpr a b) h = (grammatical m 1 a h.0, grammatical m 1 b h.1)
 grammatical m asked (MaxExpr a b) h = (grammatical m 1 a h.0, grammatical m 1 b h.1)
 grammatical m asked (AbsExpr a) h = grammatical m 1 a h
@@ -82,10 +82,10 @@ brackets : (asked : ℕ) (e : Expression) → brackets_of (tree asked e) < depth
 brackets asked (NumExpr k) = omega arith
 brackets asked (VarExpr i) = omega arith
 brackets asked (NegExpr a) = omega (arith, brackets 3 a)
-brackets asked (AddExpr a b) = one_bracket (nat_lt 1 asked) (Plus (tree 1 a) (tree 2 b)) (max (depth_of a) (depth_of b)) (omega (arith, brackets 1 a, brackets 2 b))
-brackets asked (SubExpr a b) = one_bracket (nat_lt 1 asked) (Less (tree 1 a) (tree 2 b)) (max (depth_of a) (depth_of b)) (omega (arith, brackets 1 a, brackets 2 b))
-brackets asked (MulExpr a b) = one_bracket (nat_lt 2 asked) (Times (tree 2 a) (tree 3 b)) (max (depth_of a) (depth_of b)) (omega (arith, brackets 2 a, brackets 3 b))
-brackets asked (DivExpr a k) = one_bracket (nat_lt 2 asked) (Over (tree 2 a) (nat_abs k)) (depth_of a) (brackets 2 a)
+brackets asked (AddExpr a b) = one_bracket (nat_lt 1 asked) (AddTree (tree 1 a) (tree 2 b)) (max (depth_of a) (depth_of b)) (omega (arith, brackets 1 a, brackets 2 b))
+brackets asked (SubExpr a b) = one_bracket (nat_lt 1 asked) (SubTree (tree 1 a) (tree 2 b)) (max (depth_of a) (depth_of b)) (omega (arith, brackets 1 a, brackets 2 b))
+brackets asked (MulExpr a b) = one_bracket (nat_lt 2 asked) (MulTree (tree 2 a) (tree 3 b)) (max (depth_of a) (depth_of b)) (omega (arith, brackets 2 a, brackets 3 b))
+brackets asked (DivExpr a k) = one_bracket (nat_lt 2 asked) (DivTree (tree 2 a) (nat_abs k)) (depth_of a) (brackets 2 a)
 brackets asked (MinExpr a b) = omega (arith, brackets 1 a, brackets 1 b)
 brackets asked (MaxExpr a b) = omega (arith, brackets 1 a, brackets 1 b)
 brackets asked (AbsExpr a) = omega (arith, brackets 1 a)

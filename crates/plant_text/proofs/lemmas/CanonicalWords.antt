@@ -15,7 +15,7 @@ use Rattle.plant_record.specs.declared.version.PlantVersion.TheVariants.{One, Tw
 use Rattle.plant_record.specs.Names.{IsName, is_letter, is_digit, is_name_byte}
 use Rattle.plant_record.specs.Numbers.{IsLiteral}
 use Rattle.plant_record.specs.Equations.{HasLiterals}
-use Rattle.plant_record.specs.Boxes.{AreEnds, IsStateBox}
+use Rattle.plant_record.specs.StateBoxes.{AreEnds, IsStateBox}
 use Rattle.plant_record.specs.declared.aims.StateBox.{StateBox}
 use Rattle.plant_writing.specs.ExpressionText.{expression_text, point_text}
 use Rattle.plant_record.specs.Spelling.{version_word, end_words, goal_word}

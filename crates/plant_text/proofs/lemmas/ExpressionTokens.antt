@@ -13,7 +13,7 @@ use Rattle.plant_record.specs.Numbers.{IsLiteral}
 use Rattle.plant_reading.specs.Words.{is_blank}
 use Rattle.plant_record.specs.Equations.{HasLiterals}
 use Rattle.plant_writing.specs.ExpressionText.{expression_text, point_text}
-use Rattle.plant_reading.specs.SyntaxTrees.{Syntax, Literal, Named, Minus, Plus, Less, Times, Over, Least, Greatest, Size, Tabled, Bracketed, signed_tokens, point_tokens, yield_of}
+use Rattle.plant_reading.specs.SyntaxTrees.{Syntax, NumTree, VarTree, NegTree, AddTree, SubTree, MulTree, DivTree, MinTree, MaxTree, AbsTree, LutTree, ParenTree, signed_tokens, point_tokens, yield_of}
 use Rattle.plant_reading.proofs.lemmas.NumberBytes.{decimal_digits}
 use Rattle.plant_reading.proofs.lemmas.OneScan.{scan, is_break, is_run, symbol_front, run_front, name_front, digits_front}
 
@@ -56,9 +56,9 @@ in_brackets text tokens h =
     (λ rest. refl))
 
 abbrev pub wrapped : ℕ → ℕ → Syntax → Syntax
-wrapped own asked s = cond (nat_lt own asked) (Bracketed s) s
+wrapped own asked s = cond (nat_lt own asked) (ParenTree s) s
 
-at_its_level : (u : Bool) (names : List (List ℕ)) (text : List ℕ) (s : Syntax) → Yields text (yield_of names s) → Yields (cond u (codes "(" ++ text ++ codes ")") text) (yield_of names (cond u (Bracketed s) s))
+at_its_level : (u : Bool) (names : List (List ℕ)) (text : List ℕ) (s : Syntax) → Yields text (yield_of names s) → Yields (cond u (codes "(" ++ text ++ codes ")") text) (yield_of names (cond u (ParenTree s) s))
 at_its_level true names text s h = in_brackets text (yield_of names s) h
 at_its_level false names text s h = h
 
@@ -150,17 +150,17 @@ table text tokens points each h =
 
 -- a number that has no sign
 abbrev pub tree : ℕ → Expression → Syntax
-tree asked (NumExpr k) = Literal (nat_abs k)
-tree asked (VarExpr i) = Named i
-tree asked (NegExpr a) = Minus (tree 3 a)
-tree asked (AddExpr a b) = wrapped 1 asked (Plus (tree 1 a) (tree 2 b))
-tree asked (SubExpr a b) = wrapped 1 asked (Less (tree 1 a) (tree 2 b))
-tree asked (MulExpr a b) = wrapped 2 asked (Times (tree 2 a) (tree 3 b))
-tree asked (DivExpr a k) = wrapped 2 asked (Over (tree 2 a) (nat_abs k))
-tree asked (MinExpr a b) = Least (tree 1 a) (tree 1 b)
-tree asked (MaxExpr a b) = Greatest (tree 1 a) (tree 1 b)
-tree asked (AbsExpr a) = Size (tree 1 a)
-tree asked (LutExpr a points) = Tabled (tree 1 a) points
+tree asked (NumExpr k) = NumTree (nat_abs k)
+tree asked (VarExpr i) = VarTree i
+tree asked (NegExpr a) = NegTree (tree 3 a)
+tree asked (AddExpr a b) = wrapped 1 asked (AddTree (tree 1 a) (tree 2 b))
+tree asked (SubExpr a b) = wrapped 1 asked (SubTree (tree 1 a) (tree 2 b))
+tree asked (MulExpr a b) = wrapped 2 asked (MulTree (tree 2 a) (tree 3 b))
+tree asked (DivExpr a k) = wrapped 2 asked (DivTree (tree 2 a) (nat_abs k))
+tree asked (MinExpr a b) = MinTree (tree 1 a) (tree 1 b)
+tree asked (MaxExpr a b) = MaxTree (tree 1 a) (tree 1 b)
+tree asked (AbsExpr a) = AbsTree (tree 1 a)
+tree asked (LutExpr a points) = LutTree (tree 1 a) points
 
 number_yields : (k : ℤ) → pos 0 ≤ℤ k → IsLiteral k → Yields (signed_decimal k) (decimal (nat_abs k) ∷ [])
 number_yields (pos n) some lt = λ rest ends. digits_front (decimal n) rest (decimal_digits n (omega (arith, lt))) (decimal_nonempty n (omega (arith, lt))) ends
@@ -172,16 +172,16 @@ yields names asked (VarExpr i) named h = λ rest ends. name_front (get_or names 
 yields names asked (NegExpr a) named h =
     opened (codes "-") (expression_text names 3 a) (codes "-" ∷ []) (yield_of names (tree 3 a)) (λ rest. symbol_front 45 rest refl refl refl) (yields names 3 a named h)
 yields names asked (AddExpr a b) named h =
-    at_its_level (nat_lt 1 asked) names _ (Plus (tree 1 a) (tree 2 b))
+    at_its_level (nat_lt 1 asked) names _ (AddTree (tree 1 a) (tree 2 b))
     (two (expression_text names 1 a) (codes " + ") (expression_text names 2 b) (yield_of names (tree 1 a)) (codes "+") (yield_of names (tree 2 b)) (yields names 1 a named h.0) (operator 43 refl refl refl) (λ rest. refl) (yields names 2 b named h.1))
 yields names asked (SubExpr a b) named h =
-    at_its_level (nat_lt 1 asked) names _ (Less (tree 1 a) (tree 2 b))
+    at_its_level (nat_lt 1 asked) names _ (SubTree (tree 1 a) (tree 2 b))
     (two (expression_text names 1 a) (codes " - ") (expression_text names 2 b) (yield_of names (tree 1 a)) (codes "-") (yield_of names (tree 2 b)) (yields names 1 a named h.0) (operator 45 refl refl refl) (λ rest. refl) (yields names 2 b named h.1))
 yields names asked (MulExpr a b) named h =
-    at_its_level (nat_lt 2 asked) names _ (Times (tree 2 a) (tree 3 b))
+    at_its_level (nat_lt 2 asked) names _ (MulTree (tree 2 a) (tree 3 b))
     (two (expression_text names 2 a) (codes " * ") (expression_text names 3 b) (yield_of names (tree 2 a)) (codes "*") (yield_of names (tree 3 b)) (yields names 2 a named h.0) (operator 42 refl refl refl) (λ rest. refl) (yields names 3 b named h.1))
 yields names asked (DivExpr a k) named h =
-    at_its_level (nat_lt 2 asked) names _ (Over (tree 2 a) (nat_abs k))
+    at_its_level (nat_lt 2 asked) names _ (DivTree (tree 2 a) (nat_abs k))
     (two (expression_text names 2 a) (codes " / ") (signed_decimal k) (yield_of names (tree 2 a)) (codes "/") (decimal (nat_abs k) ∷ []) (yields names 2 a named h.0) (operator 47 refl refl refl) (λ rest. refl) (number_yields k (omega (arith, ints, h.1)) h.2))
 yields names asked (MinExpr a b) named h =
     call (codes "min(") (codes "min") (expression_text names 1 a) (expression_text names 1 b) (yield_of names (tree 1 a)) (yield_of names (tree 1 b)) (opening 109 (105 ∷ 110 ∷ []) refl refl) (yields names 1 a named h.0) (yields names 1 b named h.1)

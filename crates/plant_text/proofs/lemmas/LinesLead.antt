@@ -13,7 +13,7 @@ use Rattle.plant_reading.specs.Lines.{lines_of}
 use Rattle.plant_reading.specs.Words.{words_of}
 use Rattle.plant_reading.specs.Statements.{Statement, States}
 use Rattle.plant_text.specs.Grammar.{PartialPlant, nothing_yet, names_in, HasEquations, FitsAfter, extended, Extends, Leads, Reads, IsWhole, Spells, IsFirstRefused}
-use Rattle.plant_text.specs.Refusals.{IsShort, ExceedsLimit}
+use Rattle.plant_text.specs.PlantRefusals.{IsShort, ExceedsLimit}
 use Rattle.plant_text.specs.Laws.{OneRefusal, ReadOrRefused, SpelledPlantsArePlants}
 use Rattle.plant_text.specs.inside.PartialPlantRules.{KeepsRules, IsAimless}
 use Rattle.plant_reading.specs.inside.StatementLaws.{OneStatement, SkippedLinesStateNothing}

@@ -15,7 +15,7 @@ use Rattle.plant_record.specs.declared.version.PlantVersion.{PlantVersion}
 use Rattle.plant_record.specs.declared.version.PlantVersion.TheVariants.{One}
 use Rattle.plant_record.specs.Names.{IsName}
 use Rattle.plant_record.specs.Variables.{IsStateVariable, IsInputVariable, IsNoiseVariable}
-use Rattle.plant_record.specs.Boxes.{IsStateBox}
+use Rattle.plant_record.specs.StateBoxes.{IsStateBox}
 use Rattle.plant_record.specs.Equations.{IsEquation, HasLiterals, HasNoLut}
 use Rattle.plant_reading.specs.Words.{words_of}
 use Rattle.plant_reading.specs.Tokens.{tokens_of}

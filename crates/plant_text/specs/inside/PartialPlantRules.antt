@@ -5,9 +5,10 @@ use Rattle.plant_record.specs.declared.aims.GoalKind.TheVariants.{Keep}
 use Rattle.plant_record.specs.declared.version.PlantVersion.TheVariants.{One}
 use Rattle.plant_record.specs.Names.{IsName}
 use Rattle.plant_record.specs.Variables.{IsStateVariable, IsInputVariable, IsNoiseVariable}
-use Rattle.plant_record.specs.Boxes.{IsStateBox}
+use Rattle.plant_record.specs.StateBoxes.{IsStateBox}
 use Rattle.plant_record.specs.Equations.{IsEquation, HasNoLut}
 use Rattle.plant_text.specs.Grammar.{PartialPlant, HasEquations, names_in}
+use Rattle.base.specs.declared.limits.TheConstants.{BOXES_LIMIT, INPUTS_LIMIT, NOISES_LIMIT, STATES_LIMIT}
 
 -- no box and no goal yet
 abbrev pub IsAimless : PartialPlant → Type 0
@@ -16,20 +17,20 @@ IsAimless q = (q.targets ≡ []) × (q.obstacles ≡ []) × (q.goal ≡ None)
 -- The rules that hold at each line.
 pub record KeepsRules (q : PartialPlant) : Type 0 where
   pub unbegun : q.version ≡ None → q.states ≡ []
-  pub states_bound : length q.states ≤ 6
+  pub states_bound : length q.states ≤ STATES_LIMIT
   pub states : All IsStateVariable q.states
-  pub inputs_bound : length q.inputs ≤ 3
+  pub inputs_bound : length q.inputs ≤ INPUTS_LIMIT
   pub inputs : All IsInputVariable q.inputs
-  pub noises_bound : length q.noises ≤ 6
+  pub noises_bound : length q.noises ≤ NOISES_LIMIT
   pub noises : All IsNoiseVariable q.noises
   pub names : All IsName (names_in q)
   pub names_differ : AllPairs (λ a b. a ≢ b) (names_in q)
   pub equations_bound : length q.equations ≤ length q.states
   pub equations : All (IsEquation (length (names_in q))) q.equations
   pub tables : q.version ≡ Some One → All HasNoLut q.equations
-  pub targets_bound : length q.targets ≤ 64
+  pub targets_bound : length q.targets ≤ BOXES_LIMIT
   pub targets : All (IsStateBox (length q.states)) q.targets
-  pub obstacles_bound : length q.obstacles ≤ 64
+  pub obstacles_bound : length q.obstacles ≤ BOXES_LIMIT
   pub obstacles : All (IsStateBox (length q.states)) q.obstacles
   pub placed : HasEquations q ⊎ IsAimless q
   pub kept_aims_nowhere : q.goal ≡ Some Keep → q.targets ≡ []

@@ -7,7 +7,7 @@ use Rattle.plant_record.specs.declared.variables.NoiseVariable.{NoiseVariable}
 use Rattle.plant_record.specs.Description.{Description, axes_of, vectors_of, vector_of}
 use Rattle.successor_box.specs.declared.slope_fault.SlopeFault.{SlopeFault}
 use Rattle.successor_box.specs.declared.slope_fault.SlopeFault.TheVariants.{Overflow, Memory}
-use Rattle.successor_box.specs.Boxes.{noise_centre, area_of, area_between, radii_of}
+use Rattle.successor_box.specs.SuccessorBoxes.{noise_centre, area_of, area_between, radii_of}
 use Rattle.successor_box.specs.Deviations.{HasNoOverflowAt}
 
 -- how many variables a plant has
@@ -18,12 +18,12 @@ abbrev pub no_range : Interval
 no_range = record { lo = pos 0; hi = pos 0 }
 
 -- the front of the array is the area under an input vector
-abbrev pub AreRanges : Description → ℕ → List Interval → Type 0
-AreRanges p u ranges = take (variables_of p) ranges ≡ area_of p u
+abbrev pub IsArea : Description → ℕ → List Interval → Type 0
+IsArea p u area = take (variables_of p) area ≡ area_of p u
 
 -- the same of an area in which the states lie between two points
-abbrev pub AreRangesBetween : Description → List ℤ → List ℤ → ℕ → List Interval → Type 0
-AreRangesBetween p lows highs u ranges = take (variables_of p) ranges ≡ area_between p lows highs u
+abbrev pub IsAreaBetween : Description → List ℤ → List ℤ → ℕ → List Interval → Type 0
+IsAreaBetween p lows highs u area = take (variables_of p) area ≡ area_between p lows highs u
 
 -- the ends of the ranges over a cell, less the values at its centre
 abbrev pub offsets_of : Description → ℕ → List Interval

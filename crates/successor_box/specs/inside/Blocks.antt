@@ -5,8 +5,8 @@ use Rattle.interval_eval.specs.declared.columns.IntervalColumn.{IntervalColumn}
 use Rattle.interval_eval.specs.LaneSpans.{interval_in}
 use Rattle.grid_quantiser.specs.declared.extents.Extent.{Extent}
 use Rattle.plant_record.specs.Description.{Description}
-use Rattle.successor_box.specs.Boxes.{central_values, cell_area_of}
-use Rattle.successor_box.specs.Extents.{IsPairInLane, IsExtentBeforeAt}
+use Rattle.successor_box.specs.SuccessorBoxes.{central_values, cell_area_of}
+use Rattle.successor_box.specs.PairExtents.{IsPairInLane, IsExtentBeforeAt}
 use Rattle.successor_box.specs.inside.Area.{variables_of, no_range}
 
 -- the numbers of the pairs' input vectors
@@ -27,6 +27,6 @@ abbrev pub no_column : IntervalColumn
 no_column = record { lo = []; hi = [] }
 
 -- the ranges of the variables over the pairs' cells
-abbrev pub HoldCellRanges : Description → List (List ℕ) → List IntervalColumn → Type 0
-HoldCellRanges p indices columns =
+abbrev pub HoldCellAreas : Description → List (List ℕ) → List IntervalColumn → Type 0
+HoldCellAreas p indices columns =
     (j c u : ℕ) → j < LANES → IsPairInLane p indices j c u → (k : ℕ) → k < variables_of p → interval_in (slice_index_or columns k no_column) j ≡ slice_index_or (cell_area_of p c u) k no_range

@@ -1,9 +1,9 @@
 -- What the program does with its words and its streams.
 use Rattle.std.specs.Prelude.{◌≡◌, ℕ, ◌<◌, List, [], length, slice_index_or, Option, codes}
-use Rattle.cell_counters.specs.Tokens.{BoardModel, RootModel}
+use Rattle.cell_counters.specs.BoardModels.{BoardModel, RootModel}
 use Rattle.run_devices.specs.Devices.{Reading, Writing}
 use Rattle.live_run.specs.LiveRuns.{IsLiveRun}
-use Rattle.synth_run.specs.Runs.{IsRun}
+use Rattle.synth_run.specs.RunClauses.{IsRun}
 
 -- the first word is `live`
 abbrev pub BeginWithLive : List (List ℕ) → Type 0

@@ -5,7 +5,7 @@ use Rattle.game_core.specs.Game.{Game}
 use Rattle.plant_record.specs.declared.aims.GoalKind.{GoalKind}
 use Rattle.plant_record.specs.Description.{Description}
 use Rattle.plant_game.specs.Abstraction.{IsGameOf}
-use Rattle.plant_game.specs.Solution.{Solves}
+use Rattle.plant_game.specs.PlantSolution.{Solves}
 use Rattle.table_check.specs.declared.verdict.Verdict.{Verdict}
 use Rattle.table_check.specs.Verdicts.{IsVerdict}
 use Rattle.synth_run.specs.IsOutcomeFor.{IsRightFor}

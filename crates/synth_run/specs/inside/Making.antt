@@ -1,6 +1,6 @@
 -- What a command makes of the bytes that it works on.
 use Rattle.std.specs.Prelude.{◌≡◌, ◌≢◌, ℕ, List, take, Option, IfSome}
-use Rattle.cell_counters.specs.Tokens.{BoardModel, RootModel}
+use Rattle.cell_counters.specs.BoardModels.{BoardModel, RootModel}
 use Rattle.command_line.specs.declared.command.Command.{Command}
 use Rattle.run_devices.specs.Devices.{Reading, TakesAtMost}
 use Rattle.synth_run.specs.declared.outcome.Outcome.{Outcome}
@@ -10,7 +10,7 @@ use Rattle.synth_run.specs.Sources.{given, most_read, LeavesAlone}
 use Rattle.synth_run.specs.IsOutcomeFor.{IsOutcomeFor}
 use Rattle.synth_run.specs.Headline.{IsAnswer}
 use Rattle.synth_run.specs.Played.{IsPlayed}
-use Rattle.synth_run.specs.Runs.{IsRead, CanEnd}
+use Rattle.synth_run.specs.RunClauses.{IsRead, CanEnd}
 use Rattle.synth_run.specs.inside.Texts.{bytes_of, CanBeWritten}
 
 -- A command has the bytes that it works on: what it is given, up to one byte past the limit of its text.

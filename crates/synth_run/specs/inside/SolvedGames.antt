@@ -1,8 +1,8 @@
 -- What is worked out of a game by workers at a board.
 use Rattle.std.specs.Prelude.{◌≡◌, Option, IfSome}
-use Rattle.cell_counters.specs.Tokens.{BoardModel, RootModel}
+use Rattle.cell_counters.specs.BoardModels.{BoardModel, RootModel}
 use Rattle.plant_record.specs.declared.aims.GoalKind.{GoalKind}
-use Rattle.plant_game.specs.Solution.{Solves}
+use Rattle.plant_game.specs.PlantSolution.{Solves}
 use Rattle.abstraction_table.specs.Table.{game_of}
 use Rattle.command_line.specs.declared.command.Command.{Command}
 use Rattle.synth_run.specs.declared.solved_game.SolvedGame.{SolvedGame}

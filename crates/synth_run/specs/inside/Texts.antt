@@ -11,6 +11,7 @@ use Rattle.loop_sim.specs.TraceText.{trace_text}
 use Rattle.synth_run.specs.declared.simulating.Simulation.{Simulation}
 use Rattle.synth_run.specs.declared.text.Text.{Text}
 use Rattle.synth_run.specs.declared.text.Text.TheVariants.{Table, Upgraded, Line, Trace, Summary, Stay, Patrol}
+use Rattle.base.specs.declared.limits.TheConstants.{SAMPLES_LIMIT}
 
 -- the trace of a simulation
 abbrev pub trace_of : Simulation → List ℕ
@@ -21,7 +22,7 @@ trace_of s = trace_text s.table.plant s.table.rows s.start s.seed s.samples
 pub record IsReady (s : Simulation) : Type 0 where
   pub slopes : s.slopes ≡ deviations_of s.table.plant
   pub fits : HasNoOverflow s.table.plant
-  pub samples : s.samples ≤ 1000000
+  pub samples : s.samples ≤ SAMPLES_LIMIT
   pub row : Row
   pub begins : row_at s.table.plant s.table.rows s.start ≡ Some row
 

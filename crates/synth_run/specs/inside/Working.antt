@@ -1,6 +1,6 @@
 -- What a command has worked out from its source before anything is written.
 use Rattle.std.specs.Prelude.{◌≡◌, ◌≢◌, Option, None, IfSome, IsTrue}
-use Rattle.cell_counters.specs.Tokens.{BoardModel, RootModel}
+use Rattle.cell_counters.specs.BoardModels.{BoardModel, RootModel}
 use Rattle.command_line.specs.declared.command.Command.{Command}
 use Rattle.synth_run.specs.declared.outcome.Outcome.{Outcome}
 use Rattle.synth_run.specs.declared.outcome.Outcome.TheVariants.{Done, Usage, ReadFault, WriteFault, NoMemory}
@@ -10,7 +10,7 @@ use Rattle.synth_run.specs.Sources.{given, most_read, LeavesAlone}
 use Rattle.synth_run.specs.IsOutcomeFor.{IsOutcomeFor}
 use Rattle.synth_run.specs.Headline.{IsAnswer}
 use Rattle.synth_run.specs.Statuses.{IsTheTexts}
-use Rattle.synth_run.specs.Runs.{IsRead, CanEnd}
+use Rattle.synth_run.specs.RunClauses.{IsRead, CanEnd}
 use Rattle.synth_run.specs.declared.text.Text.{Text}
 use Rattle.synth_run.specs.inside.Texts.{bytes_of, CanBeWritten}
 

@@ -1,6 +1,6 @@
 use Rattle.std.proofs.Common.{length, ap, arith}
 use Rattle.std.proofs.lemmas.List.{length-map}
-use Rattle.successor_box.specs.Boxes.{cells_in}
+use Rattle.successor_box.specs.SuccessorBoxes.{cells_in}
 use Rattle.abstraction_table.proofs.PlantGame.{total}
 use Rattle.abstraction_table.proofs.builders.add_sources.Goals as goal
 

@@ -4,7 +4,7 @@ use Rattle.std.proofs.lemmas.List.Elements.{All-get_or}
 use Rattle.grid_quantiser.specs.ExtentBoxes.{one_cell}
 use Rattle.plant_record.proofs.lemmas.SoundPlants.{sound as sound_plant}
 use Rattle.abstraction_table.specs.declared.terms.TermTable.{TermTable}
-use Rattle.abstraction_table.specs.inside.Rows.{last_state, StaysAlongLines}
+use Rattle.abstraction_table.specs.inside.CellLines.{last_state, StaysAlongLines}
 use Rattle.abstraction_table.specs.inside.Terms.{IsSumAlong, HoldsTermsAlong}
 use Rattle.abstraction_table.proofs.BoxSums.{sum_start}
 use Rattle.abstraction_table.proofs.LineCells.{brings_in_row}

@@ -2,7 +2,7 @@ use Rattle.std.proofs.Common.{◌≡◌, ℕ, ◌<◌, ◌≤◌, ◌-◌, lengt
 use Rattle.grid_quantiser.specs.Axes.{cells_of}
 use Rattle.grid_quantiser.specs.ExtentBoxes.{one_cell}
 use Rattle.plant_record.specs.Description.{axes_of}
-use Rattle.abstraction_table.specs.inside.Rows.{IsInLineOf}
+use Rattle.abstraction_table.specs.inside.CellLines.{IsInLineOf}
 use Rattle.abstraction_table.specs.inside.Terms.{AreIndicesOf, AreSumsAlong}
 use Rattle.abstraction_table.proofs.cell_lines.add_early.Given as goal
 

@@ -1,7 +1,7 @@
 use Rattle.std.proofs.Common.{◌≡◌, ℕ, ◌<◌, ◌≤◌, ◌∙◌, None, length, get_or, refl, sym, subst, arith}
 use Rattle.std.proofs.lemmas.List.{get_or_default}
 use Rattle.plant_record.proofs.lemmas.SoundPlants.{sound as sound_plant}
-use Rattle.successor_box.specs.Boxes.{IsBoxOf}
+use Rattle.successor_box.specs.SuccessorBoxes.{IsBoxOf}
 use Rattle.abstraction_table.specs.declared.terms.TermTable.{TermTable}
 use Rattle.abstraction_table.specs.inside.Terms.{IsSumAlong, AreSumsAlong, HoldsTermsAlong}
 use Rattle.abstraction_table.proofs.BoxSums.{ends_fit, sum_all}

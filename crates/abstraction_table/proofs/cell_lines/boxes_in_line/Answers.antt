@@ -4,10 +4,10 @@ use Rattle.std.proofs.lemmas.Nat.{mul-le}
 use Rattle.grid_quantiser.specs.Axes.{cells_of}
 use Rattle.grid_quantiser.specs.ExtentBoxes.{one_cell}
 use Rattle.plant_record.specs.Description.{axes_of, vectors_of}
-use Rattle.successor_box.specs.Boxes.{IsBoxOf}
-use Rattle.successor_box.specs.Extents.{index_in}
+use Rattle.successor_box.specs.SuccessorBoxes.{IsBoxOf}
+use Rattle.successor_box.specs.PairExtents.{index_in}
 use Rattle.abstraction_table.specs.inside.Terms.{IsSumAlong}
-use Rattle.abstraction_table.specs.inside.Rows.{last_state}
+use Rattle.abstraction_table.specs.inside.CellLines.{last_state}
 use Rattle.abstraction_table.proofs.LineBoxes.{AreDone, later_cell, after_long, first_after, done_after, cell_count, cell_within, cell_indices, cell_starts}
 use Rattle.abstraction_table.proofs.LineCells.{last_among, last_slot_few}
 use Rattle.abstraction_table.proofs.Fitting.{least, inputs_fit, states_fit, states_some, last_below, last_fits, term_long, first_in, cell_in, copied_in, cell_fits, slot_fits, start_fits, end_fits, offset_fits, before_end}

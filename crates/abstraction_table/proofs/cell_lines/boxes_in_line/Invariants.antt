@@ -1,6 +1,6 @@
 use Rattle.std.proofs.Common.{◌≡◌, ◌≢◌, ℕ, ◌+◌, ◌/◌, ◌<◌, ◌≤◌, length, get_or}
-use Rattle.successor_box.specs.Extents.{index_in}
-use Rattle.abstraction_table.specs.inside.Rows.{last_state}
+use Rattle.successor_box.specs.PairExtents.{index_in}
+use Rattle.abstraction_table.specs.inside.CellLines.{last_state}
 use Rattle.abstraction_table.proofs.LineBoxes.{AreFirst, AreDone}
 use Rattle.abstraction_table.proofs.cell_lines.boxes_in_line.Given as goal
 

@@ -1,7 +1,7 @@
 use Rattle.std.proofs.Common.{ℕ, ◌+◌, ◌/◌, ◌%◌, ◌<◌, None, get_or, sym, subst, arith}
 use Rattle.plant_record.specs.Description.{vectors_of}
 use Rattle.plant_record.proofs.lemmas.SoundPlants.{sound as sound_plant}
-use Rattle.successor_box.specs.Extents.{IsExtentBeforeAt}
+use Rattle.successor_box.specs.PairExtents.{IsExtentBeforeAt}
 use Rattle.abstraction_table.specs.inside.Digits.{pair_at}
 use Rattle.abstraction_table.proofs.PairDigits.{some_vectors}
 use Rattle.abstraction_table.proofs.EquationDigits.{first_slot}

@@ -3,7 +3,7 @@ use borrow.Rule.Slice.PartMut.{put_mid, post_of}
 use Rattle.std.proofs.lemmas.Bool.{cases_lt}
 use Rattle.std.proofs.lemmas.List.{length-take-le, length-drop, get_or_append_left, get_or-append_right, get_or-take}
 use Rattle.grid_quantiser.specs.declared.extents.Extent.{Extent}
-use Rattle.abstraction_table.specs.inside.Extents.{IsExtentFor}
+use Rattle.abstraction_table.specs.inside.ExtentTables.{IsExtentFor}
 use Rattle.abstraction_table.proofs.extent_blocks.fill_chunk.Goals as goal
 
 -- a slot before the term that was written, and one in it

@@ -1,5 +1,5 @@
 use Rattle.std.proofs.Common.{◌≡◌, ℕ, ◌+◌, ◌*◌, ◌<◌, None, length, get_or}
-use Rattle.abstraction_table.specs.inside.Extents.{IsExtentFor}
+use Rattle.abstraction_table.specs.inside.ExtentTables.{IsExtentFor}
 use Rattle.abstraction_table.proofs.extent_blocks.fill_chunk.Given as goal
 
 -- the blocks so far

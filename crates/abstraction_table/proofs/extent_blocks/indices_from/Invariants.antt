@@ -1,7 +1,7 @@
 use Rattle.std.proofs.Common.{◌≡◌, ℕ, ◌+◌, ◌/◌, ◌%◌, ◌<◌, [], length, get_or}
 use Rattle.fixed_expr.specs.declared.lanes.TheConstants.{LANES}
 use Rattle.plant_record.specs.Description.{vectors_of}
-use Rattle.successor_box.specs.Extents.{index_in}
+use Rattle.successor_box.specs.PairExtents.{index_in}
 use Rattle.abstraction_table.specs.inside.Digits.{pair_at}
 use Rattle.abstraction_table.proofs.extent_blocks.indices_from.Given as goal
 

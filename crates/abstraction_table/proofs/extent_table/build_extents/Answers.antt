@@ -3,7 +3,7 @@ use Rattle.std.proofs.lemmas.List.{take_at}
 use Rattle.grid_quantiser.specs.declared.extents.Extent.{Extent}
 use Rattle.plant_record.proofs.lemmas.SoundPlants.{sound as sound_plant}
 use Rattle.abstraction_table.specs.declared.digits.Digit.{Digit}
-use Rattle.abstraction_table.specs.inside.Extents.{IsExtentFor}
+use Rattle.abstraction_table.specs.inside.ExtentTables.{IsExtentFor}
 use Rattle.abstraction_table.proofs.EquationDigits.{few_indices}
 use Rattle.abstraction_table.proofs.extent_table.build_extents.Goals as goal
 

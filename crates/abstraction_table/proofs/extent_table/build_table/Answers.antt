@@ -5,7 +5,7 @@ use Rattle.fixed_expr.specs.Expression.{Expression, NumExpr, expression_of}
 use Rattle.fixed_expr.specs.Moves.{shifts_with}
 use Rattle.plant_record.specs.Steps.{equation_at}
 use Rattle.plant_record.proofs.lemmas.SoundPlants.{sound as sound_plant}
-use Rattle.successor_box.specs.Extents.{moves_along}
+use Rattle.successor_box.specs.PairExtents.{moves_along}
 use Rattle.abstraction_table.specs.declared.extent_table.ExtentTable.{ExtentTable}
 use Rattle.abstraction_table.proofs.ExtentTables.{table_of}
 use Rattle.abstraction_table.proofs.extent_table.build_table.Goals as goal

@@ -2,7 +2,7 @@ use Rattle.std.proofs.Common.{◌-◌, Option, None, length, ap, subst, ◌∙�
 use Rattle.std.specs.Prelude.{IfSome}
 use Rattle.std.proofs.lemmas.List.Sums.{sum_by_more_le}
 use Rattle.grid_quantiser.specs.declared.boxes.CellBox.{CellBox}
-use Rattle.successor_box.specs.Boxes.{cells_in}
+use Rattle.successor_box.specs.SuccessorBoxes.{cells_in}
 use Rattle.abstraction_table.specs.inside.Fans.{IsCounted}
 use Rattle.abstraction_table.proofs.CountedFans.{fans_more, fans_all}
 use Rattle.abstraction_table.proofs.SourceSteps.{kept_box, edges_fit}

@@ -9,8 +9,8 @@ use Rattle.plant_record.specs.Description.{Description, axis_of, axes_of, vector
 use Rattle.plant_record.specs.Plants.{IsPlant}
 use Rattle.plant_record.specs.Soundness.{IsSound}
 use Rattle.plant_record.proofs.lemmas.SoundPlants.{sound as sound_plant}
-use Rattle.successor_box.specs.Boxes.{IsBoxOf}
-use Rattle.abstraction_table.specs.inside.Rows.{last_state, line_length, AreInLine}
+use Rattle.successor_box.specs.SuccessorBoxes.{IsBoxOf}
+use Rattle.abstraction_table.specs.inside.CellLines.{last_state, line_length, AreInLine}
 use Rattle.abstraction_table.proofs.LineBoxes.{later_cell, cell_count}
 use Rattle.abstraction_table.proofs.CellLineLists.{range, rows_within, cell_before, rows_long, left_after, found_after}
 use Rattle.abstraction_table.proofs.Fitting.{least, nothing_below, inputs_fit, states_some, last_in, done_fits, number_fits, number_fits_wide, from_fits, from_offset_fits, to_fits, from_before, fewer_left, rest_within}

@@ -1,5 +1,5 @@
 use Rattle.std.proofs.Common.{◌≡◌, ℕ, ◌+◌, ◌-◌, ◌*◌, ◌<◌, ◌≤◌, length, get_or, None}
-use Rattle.successor_box.specs.Boxes.{IsBoxOf}
+use Rattle.successor_box.specs.SuccessorBoxes.{IsBoxOf}
 use Rattle.abstraction_table.proofs.pair_boxes.boxes_of_cells.Given as goal
 
 -- the boxes of the rows so far, and the others as they were

@@ -6,7 +6,7 @@ use Rattle.grid_quantiser.specs.Axes.{cells_of}
 use Rattle.grid_quantiser.specs.ExtentBoxes.{one_cell}
 use Rattle.plant_record.specs.Description.{axes_of}
 use Rattle.plant_game.specs.Abstraction.{pairs_of}
-use Rattle.abstraction_table.specs.inside.Rows.{AreBoxesFrom}
+use Rattle.abstraction_table.specs.inside.CellLines.{AreBoxesFrom}
 use Rattle.abstraction_table.proofs.PairBoxes.{all_boxes, are_boxes, chunk_cells}
 use Rattle.abstraction_table.proofs.pair_boxes.build_boxes.Goals as goal
 

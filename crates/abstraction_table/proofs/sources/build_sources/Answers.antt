@@ -6,7 +6,7 @@ use Rattle.std.specs.Int.{div_ceil}
 use Rattle.edge_rows.specs.declared.fill.NoMemory.{NoMemory}
 use Rattle.grid_quantiser.specs.Axes.{cells_of}
 use Rattle.rayon.specs.Numbers.{nat_range}
-use Rattle.abstraction_table.specs.inside.Sources.{AreBandRows}
+use Rattle.abstraction_table.specs.inside.SourceLists.{AreBandRows}
 use Rattle.abstraction_table.proofs.Mapped.{below_end}
 use Rattle.abstraction_table.proofs.SourceBands.{all_ok, band_begins, are_bands}
 use Rattle.abstraction_table.proofs.sources.build_sources.Goals as goal

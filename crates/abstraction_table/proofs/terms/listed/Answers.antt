@@ -6,8 +6,8 @@ use Rattle.grid_quantiser.specs.Axes.{cells_of}
 use Rattle.grid_quantiser.proofs.Suffixes.{cells_of-drop}
 use Rattle.plant_record.specs.Description.{axes_of, vectors_of}
 use Rattle.plant_record.proofs.lemmas.SoundPlants.{sound as sound_plant}
-use Rattle.successor_box.specs.Extents.{shifted_by}
-use Rattle.abstraction_table.specs.inside.Extents.{IsRelativeExtent, first_of}
+use Rattle.successor_box.specs.PairExtents.{shifted_by}
+use Rattle.abstraction_table.specs.inside.ExtentTables.{IsRelativeExtent, first_of}
 use Rattle.abstraction_table.specs.inside.Terms.{IsTermFrom}
 use Rattle.abstraction_table.proofs.ListedTerms.{one_variable_more, listed_within, listed_term, own_digit_brings, no_digit_brings}
 use Rattle.abstraction_table.proofs.TermTables.{HasVariable}

@@ -5,7 +5,7 @@ use Rattle.grid_quantiser.specs.Axes.{no_axis}
 use Rattle.grid_quantiser.specs.Extents.{IsExtentBefore}
 use Rattle.plant_record.proofs.lemmas.SoundPlants.{sound as sound_plant}
 use Rattle.plant_record.specs.Description.{axes_of}
-use Rattle.successor_box.specs.Boxes.{low_corner, high_corner}
+use Rattle.successor_box.specs.SuccessorBoxes.{low_corner, high_corner}
 use Rattle.successor_box.proofs.ExtentEnds.{ends_ordered}
 use Rattle.abstraction_table.specs.inside.Sums.{term}
 use Rattle.abstraction_table.proofs.RelativeExtents.{moved_range}

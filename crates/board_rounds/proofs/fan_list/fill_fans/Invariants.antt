@@ -1,5 +1,5 @@
 use Rattle.std.proofs.Common.{◌≡◌, length}
-use Rattle.board_rounds.specs.inside.Fans.{AreFansFrom}
+use Rattle.board_rounds.specs.inside.FanLists.{AreFansFrom}
 use Rattle.board_rounds.proofs.fan_list.fill_fans.Given as goal
 
 -- the numbers so far

@@ -2,7 +2,7 @@ use Rattle.std.proofs.Common.{◌≡◌, ℕ, ◌+◌, ◌-◌, ◌^◌, ◌<◌
 use Rattle.std.specs.List.{range_with_len}
 use Rattle.std.proofs.lemmas.List.FromFn.{map-range_with_len_more}
 use Rattle.cell_counters.specs.Accounts.{all_logs, log_count, cell_at}
-use Rattle.cell_counters.specs.Tokens.{RootModel, filled}
+use Rattle.cell_counters.specs.BoardModels.{RootModel, filled}
 use Rattle.board_rounds.proofs.logged.read_log.Goals as goal
 
 pub loop-at-init : goal.loop-at-init

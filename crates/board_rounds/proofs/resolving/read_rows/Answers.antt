@@ -1,5 +1,5 @@
 use Rattle.std.proofs.Common.{◌≡◌, ℕ, ◌+◌, ◌<◌, List, length, set, Option, None, sym, ◌∙◌, ap, subst, arith, refl, length-set, below_more, get_or-set_same, get_or-set_other}
-use Rattle.cell_counters.specs.Tokens.{RootModel}
+use Rattle.cell_counters.specs.BoardModels.{RootModel}
 use Rattle.game_core.specs.declared.game.Row.{Row}
 use Rattle.game_core.specs.Solution.{row_of}
 use Rattle.board_rounds.specs.Rules.{IsAtEnd}

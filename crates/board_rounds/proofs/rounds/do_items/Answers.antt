@@ -2,7 +2,7 @@ use Rattle.std.proofs.Common.{◌≡◌, ℕ, ◌++◌, List, length, take, drop
 use Rattle.std.specs.List.{range_with_len}
 use Rattle.std.proofs.lemmas.List.{take-append-le}
 use Rattle.board_rounds.specs.Crew.{IsFresh, notes_of}
-use Rattle.board_rounds.specs.inside.Workers.{HaveWorked}
+use Rattle.board_rounds.specs.inside.WorkerSteps.{HaveWorked}
 use Rattle.board_rounds.proofs.Crews.{notes_swept}
 use Rattle.board_rounds.proofs.Here.{here}
 use Rattle.board_rounds.proofs.Working.{fresh_have_worked}

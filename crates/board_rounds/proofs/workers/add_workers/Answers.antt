@@ -1,6 +1,6 @@
 use Rattle.std.proofs.Common.{ℕ, ◌+◌, All, length, refl, sym, ◌∙◌, ap, subst, arith}
 use Rattle.std.proofs.lemmas.List.Elements.{All-nil, All-push}
-use Rattle.cell_counters.specs.Tokens.{RootModel, hand_out}
+use Rattle.cell_counters.specs.BoardModels.{RootModel, hand_out}
 use Rattle.board_rounds.specs.Crew.{IsFresh}
 use Rattle.board_rounds.proofs.workers.add_workers.Goals as goal
 

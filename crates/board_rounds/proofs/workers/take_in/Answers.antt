@@ -1,7 +1,7 @@
 use Rattle.std.proofs.Common.{◌≡◌, ◌+◌, ◌-◌, ◌%◌, ◌^◌, ◌++◌, ◌∷◌, [], List, Some, reverse, refl, sym, ◌∙◌, ap, subst, arith}
 use Rattle.std.proofs.lemmas.List.{append-nil, nil_from_length}
 use Rattle.std.proofs.lemmas.List.Elements.{All-pop}
-use Rattle.cell_counters.specs.Tokens.{HandModel, RootModel}
+use Rattle.cell_counters.specs.BoardModels.{HandModel, RootModel}
 use Rattle.cell_counters.specs.declared.account.Account.{Account}
 use Rattle.game_core.specs.declared.tally.Tally.{Tally}
 use Rattle.board_rounds.specs.Crew.{IsTalliedBy, accounts_of}

@@ -1,6 +1,6 @@
 use Rattle.std.proofs.Common.{◌≡◌, ◌++◌, reverse, All, vec_len}
 use Rattle.std.specs.Vec.{vec_capacity}
-use Rattle.cell_counters.specs.Tokens.{IsLawful}
+use Rattle.cell_counters.specs.BoardModels.{IsLawful}
 use Rattle.board_rounds.specs.Crew.{IsTalliedBy, accounts_of}
 use Rattle.board_rounds.proofs.Crews.{IsOfBoard}
 use Rattle.board_rounds.proofs.workers.take_in.Given as goal

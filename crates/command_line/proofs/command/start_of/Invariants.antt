@@ -1,5 +1,5 @@
 use Rattle.std.proofs.Common.{take, map}
-use Rattle.command_line.specs.inside.Spelling.{Spell}
+use Rattle.command_line.specs.inside.ArgumentSpelling.{Spell}
 use Rattle.command_line.proofs.command.start_of.Given as goal
 
 -- the numbers so far

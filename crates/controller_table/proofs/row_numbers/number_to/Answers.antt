@@ -1,7 +1,7 @@
 use Rattle.std.proofs.Common.{rules, inl, inr, List, ◌∷◌, ◌++◌, ◌+◌, ℕ, ap, subst, sym, ◌∙◌, ◌≡◌, [], length, arith, refl}
 use Rattle.std.specs.Fmt.{decimal}
 use Rattle.std.proofs.lemmas.Fmt.{decimal_digit}
-use Rattle.controller_table.specs.inside.Numbers.{IsNumberTo}
+use Rattle.controller_table.specs.inside.RowNumbers.{IsNumberTo}
 use Rattle.controller_table.proofs.Digits.{none_of_none, none_without_digit, none_at_end, none_before_other, none_after_zero, none_too_large, one_more}
 use Rattle.controller_table.proofs.row_numbers.number_to.Goals as goal
 

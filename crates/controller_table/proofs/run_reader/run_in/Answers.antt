@@ -1,7 +1,7 @@
 use Rattle.std.proofs.Common.{◌≡◌, subst, sym, ◌∙◌}
 use Rattle.plant_record.specs.declared.aims.GoalKind.{GoalKind}
 use Rattle.controller_table.specs.RowLines.{IsRunOf}
-use Rattle.controller_table.specs.inside.Reading.{IsRunAt}
+use Rattle.controller_table.specs.inside.TableReading.{IsRunAt}
 use Rattle.controller_table.specs.inside.ReadRows.{MayFollowOn}
 use Rattle.controller_table.proofs.RunWords.{one_run}
 use Rattle.controller_table.proofs.Fitting.{spelled_run}

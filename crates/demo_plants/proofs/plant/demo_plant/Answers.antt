@@ -3,7 +3,7 @@ use Rattle.plant_text.specs.declared.plant_fault.PlantFault.{PlantFault}
 use Rattle.plant_record.specs.Description.{Description}
 use Rattle.plant_reading.proofs.lemmas.StatementLaws.{one_statement, skipped}
 use Rattle.plant_text.specs.Grammar.{Spells}
-use Rattle.plant_text.specs.Refusals.{IsRefusedFor}
+use Rattle.plant_text.specs.PlantRefusals.{IsRefusedFor}
 use Rattle.plant_text.proofs.lemmas.LinesLead.{one_plant, read_or_refused}
 use Rattle.command_line.specs.Command.{IsDemoNumber}
 use Rattle.demo_plants.specs.Demo.{demo_plant_of, demo_text}

@@ -3,7 +3,7 @@ use Rattle.std.specs.Prelude.{sum_by, length}
 use Rattle.std.specs.Fmt.{decimal}
 use Rattle.game_core.specs.Game.{Game}
 use Rattle.game_core.specs.Solution.{IsReachSolution}
-use Rattle.plant_game.specs.Solution.{Solves}
+use Rattle.plant_game.specs.PlantSolution.{Solves}
 use Rattle.plant_game.proofs.EdgeCounts.{games_count_their_edges}
 use Rattle.demo_plants.specs.Demo.{demo_plant_of}
 use Rattle.demo_plants.proofs.summary.demo_line.Goals as goal

@@ -1,5 +1,5 @@
 use Rattle.std.proofs.Common.{◌≡◌, ◌+◌, ◌^◌, ◌<◌, ◌++◌, length, map, take, drop}
-use Rattle.edge_rows.specs.inside.Runs.{AreFree, written}
+use Rattle.edge_rows.specs.inside.Slices.{AreFree, written}
 use Rattle.edge_rows.proofs.fill.write_each.Given as goal
 
 -- the slots so far are written, and those after them come next

@@ -1,5 +1,5 @@
 use Rattle.std.proofs.Common.{◌≡◌, ◌+◌, [], ◌∷◌, length, refl, subst, arith, ◌∙◌}
-use Rattle.frontier_pool.specs.inside.Rules.{no_items}
+use Rattle.frontier_pool.specs.inside.ClaimProtocol.{no_items}
 use Rattle.frontier_pool.specs.inside.Members.{IsCaller, IsReady}
 use Rattle.frontier_pool.proofs.Lists.{hands-set, below-set}
 use Rattle.frontier_pool.proofs.Locals.{caller_deals}

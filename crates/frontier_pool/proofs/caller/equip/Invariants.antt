@@ -1,5 +1,5 @@
 use Rattle.std.proofs.Common.{◌≡◌, ℕ, ◌+◌, ◌<◌, [], ◌∷◌, slice_index_or}
-use Rattle.frontier_pool.specs.inside.Rules.{no_items}
+use Rattle.frontier_pool.specs.inside.ClaimProtocol.{no_items}
 use Rattle.frontier_pool.specs.inside.Members.{IsCaller, IsReady, hands}
 use Rattle.frontier_pool.specs.declared.member.Member.{Member}
 use Rattle.frontier_pool.proofs.caller.equip.Given as goal

@@ -2,7 +2,7 @@ use Rattle.std.proofs.Common.{◌≡◌, ◌+◌, ◌++◌, ◌∷◌, Some, Non
 use Rattle.std.proofs.lemmas.List.{take_all}
 use Rattle.frontier_pool.specs.declared.member.Member.{Member}
 use Rattle.frontier_pool.specs.Sweeps.{IsIdle}
-use Rattle.frontier_pool.specs.inside.Rules.{no_items, Seated}
+use Rattle.frontier_pool.specs.inside.ClaimProtocol.{no_items, Seated}
 use Rattle.frontier_pool.specs.inside.Members.{IsCaller, IsSeated, claim_lists_in, claim_lists_of}
 use Rattle.frontier_pool.proofs.Steps.{collect_joins}
 use Rattle.frontier_pool.proofs.Lists.{hands-set, below-set, after-set, claim_lists_of-more}

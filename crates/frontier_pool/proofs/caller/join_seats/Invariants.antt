@@ -1,6 +1,6 @@
 use Rattle.std.proofs.Common.{◌≡◌, ℕ, ◌<◌, ◌≤◌, ◌∷◌, length, take, slice_index_or}
 use Rattle.frontier_pool.specs.Sweeps.{IsIdle}
-use Rattle.frontier_pool.specs.inside.Rules.{no_items}
+use Rattle.frontier_pool.specs.inside.ClaimProtocol.{no_items}
 use Rattle.frontier_pool.specs.inside.Members.{IsCaller, claim_lists_of, hands}
 use Rattle.frontier_pool.specs.declared.member.Member.{Member}
 use Rattle.frontier_pool.proofs.caller.join_seats.Given as goal

@@ -1,6 +1,6 @@
 use Rattle.std.proofs.Common.{[], sym, subst, ◌∙◌}
 use Rattle.atomic_table.specs.Table.{opening}
-use Rattle.frontier_pool.specs.inside.Rules.{Keeps, first_view}
+use Rattle.frontier_pool.specs.inside.ClaimProtocol.{Keeps, first_view}
 use Rattle.frontier_pool.proofs.Steps.{begins}
 use Rattle.frontier_pool.proofs.caller.open.Goals as goal
 

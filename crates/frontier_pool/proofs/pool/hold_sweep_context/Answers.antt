@@ -1,7 +1,7 @@
 use Rattle.std.proofs.Common.{refl, ap, arith}
 use Rattle.std.proofs.lemmas.List.Elements.{All-set, All-get_or}
 use Rattle.frontier_pool.specs.declared.member.Member.{Member}
-use Rattle.frontier_pool.specs.inside.Rules.{Seated}
+use Rattle.frontier_pool.specs.inside.ClaimProtocol.{Seated}
 use Rattle.frontier_pool.proofs.Swept.{all_sweep, caller_has_all, All-hands}
 use Rattle.frontier_pool.proofs.pool.hold_sweep_context.Goals as goal
 

@@ -1,5 +1,5 @@
 use Rattle.std.proofs.Common.{drop}
-use Rattle.grid_quantiser.specs.Boxes.{IsAtMost}
+use Rattle.grid_quantiser.specs.CellBoxes.{IsAtMost}
 use Rattle.grid_quantiser.proofs.boxes.is_at_most.Given as goal
 
 abbrev pub invariant-loop-i : goal.invariant-loop-i

@@ -1,7 +1,7 @@
 use Rattle.std.proofs.Common.{subst, Option}
 use Rattle.std.specs.Prelude.{IfSome}
 use Rattle.live_script.specs.declared.command.ScriptCommand.{ScriptCommand}
-use Rattle.live_script.specs.Reading.{IsTaken}
+use Rattle.live_script.specs.ScriptReading.{IsTaken}
 use Rattle.live_run.proofs.Commands.{executed}
 use Rattle.live_run.proofs.answering.answers_in.Goals as goal
 

@@ -1,5 +1,5 @@
 use Rattle.std.proofs.Common.{◌-◌, length}
-use Rattle.live_script.specs.inside.Words.{IsReadSoFar}
+use Rattle.live_script.specs.inside.QuestionWords.{IsReadSoFar}
 use Rattle.live_script.proofs.question_line.question_at.Given as goal
 
 abbrev pub invariant-loop-rest : goal.invariant-loop-rest

@@ -2,7 +2,7 @@ use Rattle.std.proofs.Common.{◌≡◌, ◌++◌, inl, refl, sym, subst, take-a
 use Rattle.live_script.specs.declared.script_fault.ScriptFault.{ScriptFault}
 use Rattle.live_script.specs.declared.script_fault.ScriptFault.TheVariants.{Memory}
 use Rattle.live_script.specs.Scripts.{publish_line}
-use Rattle.live_script.specs.Refusals.{IsRefusedAfter}
+use Rattle.live_script.specs.ScriptRefusals.{IsRefusedAfter}
 use Rattle.live_script.proofs.TableLines.{ends_too_early, table_refused}
 use Rattle.live_script.proofs.script.table_at.Goals as goal
 

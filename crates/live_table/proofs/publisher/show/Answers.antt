@@ -1,6 +1,6 @@
 use Rattle.std.proofs.Common.{Option, Some, ap, sym, subst}
 use Rattle.live_table.specs.Publishes.{Published}
-use Rattle.live_table.specs.inside.Rules.{Begins}
+use Rattle.live_table.specs.inside.LiveProtocol.{Begins}
 use Rattle.live_table.proofs.Steps.{turns}
 use Rattle.live_table.proofs.publisher.show.Goals as goal
 

@@ -1,5 +1,5 @@
 use Rattle.std.proofs.Common.{◌≡◌, ◌+◌, ◌*◌, ◌≤◌, ◌++◌, length, drop}
-use Rattle.loop_sim.specs.inside.States.{state_text}
+use Rattle.loop_sim.specs.inside.StateText.{state_text}
 use Rattle.loop_sim.proofs.trace_line.put_state_before.Given as goal
 
 -- the numbers from a place on

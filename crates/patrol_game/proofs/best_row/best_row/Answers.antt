@@ -12,14 +12,14 @@ overflow_add-rank g c =
     let most = limits.cells_bound in
     let cell = c.requires.cell in
     let after = c.in-Some.ensures in
-    let low = greatest_bound c.args.rows.now game.cells (successors_at game (c.args.c * c.inputs-inputs.result + c.loop-input.input)) c.requires.ranks (omega arith) after.1 in
+    let low = greatest_bound c.args.answer.now game.cells (successors_at game (c.args.c * c.inputs-inputs.result + c.loop-input.input)) c.requires.ranks (omega arith) after.1 in
     let e = after.2 in
     omega arith
 
 pub loop-input-preserved : goal.loop-input-preserved
 loop-input-preserved g c =
     let game = g.G.Graph.game c.args.g.now in
-    let rows = c.args.rows.now in
+    let rows = c.args.answer.now in
     let input = c.loop-input.input in
     elim c.match-rank_after.branch [
       | in-Some w ↦
@@ -39,4 +39,4 @@ returns g c =
     let end = c.loop-input.auto.input-end in
     let e = c.inputs-inputs.ensures in
     let same : c.loop-input.input ≡ game.inputs = omega arith in
-    best_is_right game c.args.rows.now c.args.c c.loop-input.best (subst (λ n. IsBestBelow game c.args.rows.now c.args.c n c.loop-input.best) same c.loop-input.invariant)
+    best_is_right game c.args.answer.now c.args.c c.loop-input.best (subst (λ n. IsBestBelow game c.args.answer.now c.args.c n c.loop-input.best) same c.loop-input.invariant)

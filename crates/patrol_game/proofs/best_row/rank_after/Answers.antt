@@ -9,7 +9,7 @@ use Rattle.patrol_game.proofs.best_row.rank_after.Goals as goal
 pub loop-at-preserved : goal.loop-at-preserved
 loop-at-preserved g c =
     let cells = successors_at (g.G.Graph.game c.args.g.now) c.args.pair in
-    let rows = c.args.rows.now in
+    let rows = c.args.answer.now in
     let lt : c.loop-at.at < length cells = (let t = c.loop-at-test.true in let e = c.fan-fan.ensures in omega arith) in
     let is : row_of rows (get_or cells c.loop-at.at 0) ≡ Some c.in_ok-row.row = ap (row_of rows) (sym c.successor.ensures) ∙ sym c.in_ok-row.ensures in
     let rank : rank_at rows (get_or cells c.loop-at.at 0) ≡ c.in_ok-row.row.rank = ap rank_in is in
@@ -24,7 +24,7 @@ loop-at-preserved g c =
 pub returns : goal.returns
 returns g c =
     let cells = successors_at (g.G.Graph.game c.args.g.now) c.args.pair in
-    let rows = c.args.rows.now in
+    let rows = c.args.answer.now in
     let all : take c.loop-at.at cells ≡ cells = take_all c.loop-at.at cells (let t = c.loop-at-test.false in let e = c.fan-fan.ensures in omega arith) in (
       λ none. c.if-fan-eq0.false (c.fan-fan.ensures ∙ ap (λ (xs : List ℕ). length xs) none),
       subst (All (HasRow rows)) all c.loop-at.invariant.ranked,

@@ -8,6 +8,6 @@ abbrev pub invariant-loop-at : goal.invariant-loop-at
 invariant-loop-at g l =
     let cells = successors_at (g.G.Graph.game l.g) l.pair in
     record {
-      ranked : All (HasRow l.rows) (take l.at cells);
-      greatest : greatest_rank l.rows (take l.at cells) ≡ l.greatest;
+      ranked : All (HasRow l.answer) (take l.at cells);
+      greatest : greatest_rank l.answer (take l.at cells) ≡ l.greatest;
     }

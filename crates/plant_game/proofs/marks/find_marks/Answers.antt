@@ -4,7 +4,7 @@ use Rattle.grid_quantiser.specs.Axes.{cells_of}
 use Rattle.game_core.specs.declared.game.Mark.{Mark}
 use Rattle.game_core.specs.declared.game.Mark.TheVariants.{Goal, Obstacle, Plain}
 use Rattle.plant_record.specs.Description.{axes_of}
-use Rattle.plant_record.specs.Marks.{IsObstacleCell}
+use Rattle.plant_record.specs.CellMarks.{IsObstacleCell}
 use Rattle.plant_game.specs.Marks.{LiesInSomeTarget, AreMarked}
 use Rattle.plant_game.proofs.PlantMarks.{both_marked}
 use Rattle.plant_game.proofs.marks.find_marks.Goals as goal

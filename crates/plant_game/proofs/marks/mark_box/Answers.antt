@@ -1,7 +1,7 @@
 use Rattle.std.proofs.Common.{subst}
 use Rattle.std.specs.Prelude.{Option, IfSome}
 use Rattle.grid_quantiser.specs.declared.boxes.CellBox.{CellBox}
-use Rattle.grid_quantiser.specs.Boxes.{IsCellBox}
+use Rattle.grid_quantiser.specs.CellBoxes.{IsCellBox}
 use Rattle.plant_game.proofs.Marking.{box_below}
 use Rattle.plant_game.proofs.marks.mark_box.Goals as goal
 

@@ -2,11 +2,11 @@ use Rattle.std.proofs.Common.{◌≡◌, arith, subst, List, length}
 use Rattle.std.specs.List.{Contains}
 use Rattle.std.proofs.lemmas.Option.{get_or_from_slice_get}
 use Rattle.grid_quantiser.specs.declared.axis.Axis.{Axis}
-use Rattle.grid_quantiser.specs.Boxes.{Touches, IsBoxWith}
+use Rattle.grid_quantiser.specs.CellBoxes.{Touches, IsBoxWith}
 use Rattle.game_core.specs.declared.game.Mark.TheVariants.{Obstacle}
 use Rattle.plant_record.specs.declared.aims.StateBox.{StateBox}
 use Rattle.plant_record.specs.Description.{axes_of}
-use Rattle.successor_box.specs.Boxes.{cells_in}
+use Rattle.successor_box.specs.SuccessorBoxes.{cells_in}
 use Rattle.plant_game.specs.Marks.{AreMarked}
 use Rattle.plant_game.proofs.Marking.{box_marked}
 use Rattle.plant_game.proofs.PlantMarks.{no_box, one_more, any_marked}

@@ -1,4 +1,4 @@
-use Rattle.grid_quantiser.specs.Boxes.{Touches}
+use Rattle.grid_quantiser.specs.CellBoxes.{Touches}
 use Rattle.game_core.specs.declared.game.Mark.TheVariants.{Obstacle}
 use Rattle.plant_record.specs.Description.{axes_of}
 use Rattle.plant_game.specs.Marks.{AreMarked}

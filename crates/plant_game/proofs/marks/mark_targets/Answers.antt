@@ -1,5 +1,5 @@
 use Rattle.std.proofs.Common.{◌≡◌, arith, refl, length}
-use Rattle.grid_quantiser.specs.Boxes.{LiesInside}
+use Rattle.grid_quantiser.specs.CellBoxes.{LiesInside}
 use Rattle.game_core.specs.declared.game.Mark.TheVariants.{Goal}
 use Rattle.plant_record.specs.Description.{axes_of}
 use Rattle.plant_game.specs.Marks.{target_at}

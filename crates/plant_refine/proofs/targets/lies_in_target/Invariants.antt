@@ -1,6 +1,6 @@
 use Rattle.std.proofs.Common.{◌≡◌, ℕ, ◌<◌, Some}
 use Rattle.std.specs.Prelude.{slice_get}
-use Rattle.grid_quantiser.specs.Boxes.{IsInBox}
+use Rattle.grid_quantiser.specs.CellBoxes.{IsInBox}
 use Rattle.plant_record.specs.declared.aims.StateBox.{StateBox}
 use Rattle.plant_record.specs.Description.{axes_of}
 use Rattle.plant_refine.proofs.targets.lies_in_target.Given as goal

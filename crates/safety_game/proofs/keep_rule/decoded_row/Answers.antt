@@ -1,7 +1,7 @@
 use Rattle.std.proofs.Common.{◌≡◌, ◌+◌, ◌*◌, false, sym, ◌∙◌, subst, below_more}
-use Rattle.cell_counters.specs.Tokens.{RootModel}
+use Rattle.cell_counters.specs.BoardModels.{RootModel}
 use Rattle.game_core.specs.Game.{pair_of}
-use Rattle.safety_game.specs.inside.Rounds.{is_whole}
+use Rattle.safety_game.specs.inside.KeepRounds.{is_whole}
 use Rattle.safety_game.proofs.keep_rule.decoded_row.Goals as goal
 
 pub loop-input-preserved : goal.loop-input-preserved

@@ -1,6 +1,6 @@
 use Rattle.std.proofs.Common.{◌≡◌, ℕ, ◌<◌, false}
 use Rattle.game_core.specs.Game.{pair_of}
-use Rattle.safety_game.specs.inside.Rounds.{is_whole}
+use Rattle.safety_game.specs.inside.KeepRounds.{is_whole}
 use Rattle.safety_game.proofs.keep_rule.decoded_row.Given as goal
 
 -- no input so far has a whole pair

@@ -8,4 +8,4 @@ pub returns : goal.returns
 returns c =
     let cells = c.cells-c-end.ensures in
     let past = c.loop-c-test.false in
-    fill_by_all (λ k. either_row (row_of c.args.held.now k) (row_of c.args.rows.now k)) c.loop-c.rows (length c.args.held.now) None c.loop-c.invariant.one_each (λ k lt. c.loop-c.invariant.so_far k (omega arith))
+    fill_by_all (λ k. either_row (row_of c.args.held_answer.now k) (row_of c.args.answer.now k)) c.loop-c.answer (length c.args.held_answer.now) None c.loop-c.invariant.one_each (λ k lt. c.loop-c.invariant.so_far k (omega arith))

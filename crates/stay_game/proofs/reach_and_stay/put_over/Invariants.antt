@@ -7,7 +7,7 @@ use Rattle.stay_game.proofs.reach_and_stay.put_over.Given as goal
 abbrev pub invariant-loop-c : goal.invariant-loop-c
 invariant-loop-c l =
     record {
-      one_each : length l.rows ≡ length l.held;
-      so_far : (k : ℕ) → k < l.c → row_of l.rows k ≡ either_row (row_of l.held k) (row_of l.initial.rows k);
-      rest : (k : ℕ) → l.c ≤ k → row_of l.rows k ≡ row_of l.initial.rows k;
+      one_each : length l.answer ≡ length l.held_answer;
+      so_far : (k : ℕ) → k < l.c → row_of l.answer k ≡ either_row (row_of l.held_answer k) (row_of l.initial.answer k);
+      rest : (k : ℕ) → l.c ≤ k → row_of l.answer k ≡ row_of l.initial.answer k;
     }

@@ -9,7 +9,7 @@ use Rattle.stay_game.proofs.stay_marks.marks_to_reach.Goals as goal
 pub returns : goal.returns
 returns g c =
     let game = g.G.Graph.game c.args.g.now in
-    let held = c.args.held.now in
+    let held = c.args.held_answer.now in
     let cells = c.cells-cells.ensures in
     let past = c.loop-c-test.false in
     fill_by_all (λ c. end_mark (mark_of game c) (row_of held c)) c.loop-c.marks.items game.cells Plain c.loop-c.invariant.one_each (λ k lt. c.loop-c.invariant.so_far k (omega arith))

@@ -11,5 +11,5 @@ invariant-loop-c g l =
     let game = g.G.Graph.game l.g in
     record {
       one_each : length l.marks.items ≡ game.cells;
-      so_far : (k : ℕ) → k < l.c → get_or l.marks.items k Plain ≡ end_mark (mark_of game k) (row_of l.held k);
+      so_far : (k : ℕ) → k < l.c → get_or l.marks.items k Plain ≡ end_mark (mark_of game k) (row_of l.held_answer k);
     }

@@ -1,5 +1,5 @@
 use Rattle.std.proofs.Common.{◌≡◌, ℕ, length, take}
-use Rattle.successor_box.specs.Boxes.{radii_of}
+use Rattle.successor_box.specs.SuccessorBoxes.{radii_of}
 use Rattle.successor_box.proofs.area.radii.Given as goal
 
 -- the radii so far

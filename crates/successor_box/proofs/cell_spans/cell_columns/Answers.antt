@@ -3,8 +3,8 @@ use Rattle.std.proofs.lemmas.List.{length-set}
 use Rattle.fixed_expr.specs.declared.lanes.TheConstants.{LANES}
 use Rattle.interval_eval.specs.declared.columns.IntervalColumn.{IntervalColumn}
 use Rattle.interval_eval.specs.LaneSpans.{interval_in}
-use Rattle.successor_box.specs.Boxes.{cell_area_of}
-use Rattle.successor_box.specs.Extents.{IsPairInLane}
+use Rattle.successor_box.specs.SuccessorBoxes.{cell_area_of}
+use Rattle.successor_box.specs.PairExtents.{IsPairInLane}
 use Rattle.successor_box.specs.inside.Area.{no_range}
 use Rattle.successor_box.specs.inside.Blocks.{no_column}
 use Rattle.successor_box.proofs.Filling.{index_more}
@@ -13,7 +13,7 @@ use Rattle.successor_box.proofs.cell_spans.cell_columns.Goals as goal
 pub loop-k-preserved : goal.loop-k-preserved
 loop-k-preserved c =
     let p = c.args.p.now in
-    let ranges = c.loop-k.ranges in
+    let ranges = c.loop-k.area in
     let k : ℕ = c.loop-k.k in
     let found : IntervalColumn = c.cell_column.result in
     record {

@@ -1,8 +1,8 @@
 use Rattle.std.proofs.Common.{◌≡◌, ℕ, ◌<◌, length, get_or}
 use Rattle.fixed_expr.specs.declared.lanes.TheConstants.{LANES}
 use Rattle.interval_eval.specs.LaneSpans.{interval_in}
-use Rattle.successor_box.specs.Boxes.{cell_area_of}
-use Rattle.successor_box.specs.Extents.{IsPairInLane}
+use Rattle.successor_box.specs.SuccessorBoxes.{cell_area_of}
+use Rattle.successor_box.specs.PairExtents.{IsPairInLane}
 use Rattle.successor_box.specs.inside.Area.{no_range}
 use Rattle.successor_box.specs.inside.Blocks.{no_column}
 use Rattle.successor_box.proofs.cell_spans.cell_columns.Given as goal
@@ -10,6 +10,6 @@ use Rattle.successor_box.proofs.cell_spans.cell_columns.Given as goal
 -- the columns so far
 abbrev pub invariant-loop-k : goal.invariant-loop-k
 invariant-loop-k l = record {
-  long : length l.ranges ≡ 15;
-  each : (i : ℕ) → i < l.k → (lane c u : ℕ) → lane < LANES → IsPairInLane l.p l.indices lane c u → interval_in (get_or l.ranges i no_column) lane ≡ get_or (cell_area_of l.p c u) i no_range;
+  long : length l.area ≡ 15;
+  each : (i : ℕ) → i < l.k → (lane c u : ℕ) → lane < LANES → IsPairInLane l.p l.indices lane c u → interval_in (get_or l.area i no_column) lane ≡ get_or (cell_area_of l.p c u) i no_range;
 }

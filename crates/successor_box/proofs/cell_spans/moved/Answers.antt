@@ -2,7 +2,7 @@ use Rattle.std.proofs.Common.{◌≡◌, ℕ, ◌∙◌, ◌<◌, List, length, 
 use Rattle.std.specs.Prelude.{ℤ, pos, ◌+ℤ◌, FitsSigned}
 use Rattle.std.proofs.lemmas.Int.{ints, to_z-of_z}
 use Rattle.std.proofs.lemmas.List.{length-set}
-use Rattle.fixed_expr.specs.Narrow.{IsNarrow}
+use Rattle.fixed_expr.specs.NarrowValues.{IsNarrow}
 use Rattle.successor_box.proofs.Filling.{index_more, nothing_yet, lane_done, lane_in, words_fit}
 use Rattle.successor_box.proofs.cell_spans.moved.Goals as goal
 

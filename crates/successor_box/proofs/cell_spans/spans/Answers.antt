@@ -7,7 +7,7 @@ use Rattle.interval_eval.specs.LaneSpans.{area_in}
 use Rattle.interval_eval.specs.Span.{span_of}
 use Rattle.plant_record.specs.Steps.{equation_at}
 use Rattle.plant_record.proofs.lemmas.SoundPlants.{sound as sound_plant}
-use Rattle.successor_box.specs.Boxes.{cell_area_of}
+use Rattle.successor_box.specs.SuccessorBoxes.{cell_area_of}
 use Rattle.successor_box.proofs.CellColumns.{cell_stays, formed_over_columns, area_lane_is}
 use Rattle.successor_box.proofs.cell_spans.spans.Goals as goal
 
@@ -17,8 +17,8 @@ spans_in_lanes-requires-clause-formed c =
     let i : ℕ = c.args.state in
     let sound = sound_plant p c.variables.ensures.limits.plant in
     let equation : expression_of c.equation.result.now ≡ equation_at p i = sym (get_or_from_slice_get p.equations i (expression_of c.equation.result.now) (NumExpr (pos 0)) c.equation.ensures) in
-    let front : length (take c.variables.result c.cell_columns-ranges.result) ≡ c.variables.result = length-take-le c.variables.result c.cell_columns-ranges.result (omega arith) in
-    rw equation (formed_over_columns p (length (take c.variables.result c.cell_columns-ranges.result)) i sound c.requires.state (front ∙ c.variables.ensures.count))
+    let front : length (take c.variables.result c.cell_columns-area.result) ≡ c.variables.result = length-take-le c.variables.result c.cell_columns-area.result (omega arith) in
+    rw equation (formed_over_columns p (length (take c.variables.result c.cell_columns-area.result)) i sound c.requires.state (front ∙ c.variables.ensures.count))
 
 pub spans_in_lanes-requires-clause-fits : goal.spans_in_lanes-requires-clause-fits
 spans_in_lanes-requires-clause-fits c = λ lane lt.
@@ -27,7 +27,7 @@ spans_in_lanes-requires-clause-fits c = λ lane lt.
     let sound = sound_plant p c.variables.ensures.limits.plant in
     let equation : expression_of c.equation.result.now ≡ equation_at p i = sym (get_or_from_slice_get p.equations i (expression_of c.equation.result.now) (NumExpr (pos 0)) c.equation.ensures) in
     let pair = c.requires.pairs lane lt in
-    let area : area_in (take c.variables.result c.cell_columns-ranges.result) lane ≡ cell_area_of p pair.0 pair.1 = area_lane_is p pair.0 pair.1 c.cell_columns-ranges.result c.variables.result lane c.variables.ensures.count (omega arith) (c.cell_columns-ranges.ensures lane pair.0 pair.1 lt pair.2) in
+    let area : area_in (take c.variables.result c.cell_columns-area.result) lane ≡ cell_area_of p pair.0 pair.1 = area_lane_is p pair.0 pair.1 c.cell_columns-area.result c.variables.result lane c.variables.ensures.count (omega arith) (c.cell_columns-area.ensures lane pair.0 pair.1 lt pair.2) in
     rw (equation, area) (cell_stays p pair.0 pair.1 sound pair.2.cell c.requires.fits pair.2.input i c.requires.state)
 
 pub returns : goal.returns
@@ -36,5 +36,5 @@ returns c = λ lane cell u lt is.
     let i : ℕ = c.args.state in
     let sound = sound_plant p c.variables.ensures.limits.plant in
     let equation : expression_of c.equation.result.now ≡ equation_at p i = sym (get_or_from_slice_get p.equations i (expression_of c.equation.result.now) (NumExpr (pos 0)) c.equation.ensures) in
-    let area : area_in (take c.variables.result c.cell_columns-ranges.result) lane ≡ cell_area_of p cell u = area_lane_is p cell u c.cell_columns-ranges.result c.variables.result lane c.variables.ensures.count (omega arith) (c.cell_columns-ranges.ensures lane cell u lt is) in
+    let area : area_in (take c.variables.result c.cell_columns-area.result) lane ≡ cell_area_of p cell u = area_lane_is p cell u c.cell_columns-area.result c.variables.result lane c.variables.ensures.count (omega arith) (c.cell_columns-area.ensures lane cell u lt is) in
     c.spans_in_lanes.ensures lane lt ∙ ap₂ span_of equation area

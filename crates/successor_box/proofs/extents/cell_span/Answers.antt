@@ -16,17 +16,17 @@ span-requires c =
     let sound = sound_plant p c.variables-count.ensures.limits.plant in
     let is : equation_at p c.args.state ≡ expression_of c.equation.result.now = get_or_from_slice_get p.equations c.args.state (expression_of c.equation.result.now) (NumExpr (pos 0)) c.equation.ensures in
     let formed = subst (IsWellFormed (equation_at p c.args.state)) (sym (cell_area_count p c.args.c c.args.input)) (sound.formed c.args.state (NumExpr (pos 0)) c.requires.state) in
-    rw (c.variables-count.ensures.count, c.cell_ranges.ensures, ← is) formed
+    rw (c.variables-count.ensures.count, c.cell_area.ensures, ← is) formed
 
 pub unreachable-requires : goal.unreachable-requires
 unreachable-requires c =
     let p = c.args.p.now in
     let sound = sound_plant p c.variables-count.ensures.limits.plant in
     let is : equation_at p c.args.state ≡ expression_of c.equation.result.now = get_or_from_slice_get p.equations c.args.state (expression_of c.equation.result.now) (NumExpr (pos 0)) c.equation.ensures in
-    c.in-None.ensures.exact (rw (c.variables-count.ensures.count, c.cell_ranges.ensures, ← is) (cell_stays p c.args.c c.args.input sound c.requires.cell c.requires.fits c.requires.input c.args.state c.requires.state))
+    c.in-None.ensures.exact (rw (c.variables-count.ensures.count, c.cell_area.ensures, ← is) (cell_stays p c.args.c c.args.input sound c.requires.cell c.requires.fits c.requires.input c.args.state c.requires.state))
 
 pub returns : goal.returns
 returns c =
     let p = c.args.p.now in
     let is : equation_at p c.args.state ≡ expression_of c.equation.result.now = get_or_from_slice_get p.equations c.args.state (expression_of c.equation.result.now) (NumExpr (pos 0)) c.equation.ensures in
-    c.in-Some.ensures.exact.1 ∙ ap₂ span_of (sym is) (ap (λ (n : ℕ). take n c.cell_ranges.result) c.variables-count.ensures.count ∙ c.cell_ranges.ensures)
+    c.in-Some.ensures.exact.1 ∙ ap₂ span_of (sym is) (ap (λ (n : ℕ). take n c.cell_area.result) c.variables-count.ensures.count ∙ c.cell_area.ensures)

@@ -6,7 +6,7 @@ use Rattle.interval_eval.specs.declared.interval.Interval.{Interval}
 use Rattle.grid_quantiser.specs.Axes.{no_axis}
 use Rattle.grid_quantiser.specs.Extents.{IsExtentOf}
 use Rattle.plant_record.specs.Description.{axes_of}
-use Rattle.successor_box.specs.Boxes.{low_corner, high_corner}
+use Rattle.successor_box.specs.SuccessorBoxes.{low_corner, high_corner}
 use Rattle.successor_box.proofs.ExtentEnds.{low_is, high_is}
 use Rattle.successor_box.proofs.extents.extent.Goals as goal
 

@@ -5,7 +5,7 @@ use Rattle.std.proofs.lemmas.Int.{to_z-of_z}
 use Rattle.fixed_expr.specs.Value.{value_of}
 use Rattle.plant_record.specs.Steps.{equation_at}
 use Rattle.plant_record.proofs.lemmas.SoundPlants.{sound as sound_plant}
-use Rattle.successor_box.specs.Boxes.{central_values}
+use Rattle.successor_box.specs.SuccessorBoxes.{central_values}
 use Rattle.successor_box.proofs.DeviationLanes.{lane_count}
 use Rattle.successor_box.proofs.ExtentEnds.{end_step}
 use Rattle.successor_box.proofs.extents.growth.Goals as goal

@@ -11,7 +11,7 @@ use Rattle.plant_record.specs.Steps.{equation_at}
 use Rattle.plant_record.proofs.lemmas.SoundPlants.{sound as sound_plant}
 use Rattle.successor_box.proofs.Steps.{step_stays}
 use Rattle.successor_box.proofs.Below.{centres_are_near}
-use Rattle.successor_box.specs.Boxes.{noise_centre}
+use Rattle.successor_box.specs.SuccessorBoxes.{noise_centre}
 use Rattle.successor_box.proofs.Padding.{domain_more}
 use Rattle.successor_box.proofs.CellValues.{centres_are_noise}
 use Rattle.successor_box.proofs.Centres.{central_list}

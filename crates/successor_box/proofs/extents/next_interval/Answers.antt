@@ -5,7 +5,7 @@ use Rattle.std.proofs.lemmas.Int.{to_z-of_z}
 use Rattle.plant_record.specs.declared.version.PlantVersion.{PlantVersion}
 use Rattle.plant_record.specs.declared.version.PlantVersion.TheVariants.{One, Two}
 use Rattle.plant_record.specs.Steps.{equation_at}
-use Rattle.successor_box.specs.Boxes.{intersection_of, next_interval_of}
+use Rattle.successor_box.specs.SuccessorBoxes.{intersection_of, next_interval_of}
 use Rattle.successor_box.proofs.NextIntervals.{growth_is}
 use Rattle.successor_box.proofs.extents.next_interval.Goals as goal
 

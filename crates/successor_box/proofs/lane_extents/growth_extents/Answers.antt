@@ -6,7 +6,7 @@ use Rattle.fixed_expr.specs.LaneEval.{row_of}
 use Rattle.fixed_expr.specs.Value.{value_of}
 use Rattle.plant_record.specs.Steps.{equation_at}
 use Rattle.plant_record.proofs.lemmas.SoundPlants.{sound as sound_plant}
-use Rattle.successor_box.specs.Boxes.{central_values}
+use Rattle.successor_box.specs.SuccessorBoxes.{central_values}
 use Rattle.successor_box.proofs.CellColumns.{formed_over_columns}
 use Rattle.successor_box.proofs.Columns.{lane_is}
 use Rattle.successor_box.proofs.lane_extents.growth_extents.Goals as goal

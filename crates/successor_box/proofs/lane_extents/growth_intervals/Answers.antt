@@ -11,8 +11,8 @@ use Rattle.interval_eval.specs.declared.interval.Interval.{Interval}
 use Rattle.plant_record.specs.Description.{vectors_of}
 use Rattle.plant_record.specs.Steps.{equation_at}
 use Rattle.plant_record.proofs.lemmas.SoundPlants.{sound as sound_plant}
-use Rattle.successor_box.specs.Boxes.{central_values, deviation_at, growth_of}
-use Rattle.successor_box.specs.Extents.{IsPairInLane}
+use Rattle.successor_box.specs.SuccessorBoxes.{central_values, deviation_at, growth_of}
+use Rattle.successor_box.specs.PairExtents.{IsPairInLane}
 use Rattle.successor_box.specs.inside.Area.{no_range}
 use Rattle.successor_box.proofs.CellColumns.{formed_over_columns, few_variables}
 use Rattle.successor_box.proofs.Columns.{lane_is, stays_at}

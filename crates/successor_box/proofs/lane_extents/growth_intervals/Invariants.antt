@@ -1,7 +1,7 @@
 use Rattle.std.proofs.Common.{◌≡◌, ℕ, ◌<◌, length, get_or}
 use Rattle.plant_record.specs.Steps.{equation_at}
-use Rattle.successor_box.specs.Boxes.{growth_of}
-use Rattle.successor_box.specs.Extents.{IsPairInLane}
+use Rattle.successor_box.specs.SuccessorBoxes.{growth_of}
+use Rattle.successor_box.specs.PairExtents.{IsPairInLane}
 use Rattle.successor_box.specs.inside.Area.{no_range}
 use Rattle.successor_box.proofs.lane_extents.growth_intervals.Given as goal
 

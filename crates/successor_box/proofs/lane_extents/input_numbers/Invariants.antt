@@ -1,6 +1,6 @@
 use Rattle.std.proofs.Common.{◌≡◌, ℕ, ◌/◌, ◌<◌, drop, get_or}
 use Rattle.plant_record.specs.Description.{vectors_of}
-use Rattle.successor_box.specs.Extents.{IsPairInLane}
+use Rattle.successor_box.specs.PairExtents.{IsPairInLane}
 use Rattle.fixed_expr.specs.declared.lanes.TheConstants.{LANES}
 use Rattle.successor_box.proofs.lane_extents.input_numbers.Given as goal
 

@@ -1,7 +1,7 @@
 use Rattle.std.proofs.Common.{◌≡◌, ℕ, ◌∙◌, get_or, arith}
 use Rattle.std.proofs.lemmas.List.{length-set}
 use Rattle.interval_eval.specs.declared.interval.Interval.{Interval}
-use Rattle.successor_box.specs.Boxes.{intersection_of}
+use Rattle.successor_box.specs.SuccessorBoxes.{intersection_of}
 use Rattle.successor_box.specs.inside.Area.{no_range}
 use Rattle.successor_box.proofs.Filling.{index_more}
 use Rattle.successor_box.proofs.lane_extents.intersections.Goals as goal

@@ -1,5 +1,5 @@
 use Rattle.std.proofs.Common.{◌≡◌, ℕ, ◌<◌, length, get_or}
-use Rattle.successor_box.specs.Boxes.{intersection_of}
+use Rattle.successor_box.specs.SuccessorBoxes.{intersection_of}
 use Rattle.successor_box.specs.inside.Area.{no_range}
 use Rattle.successor_box.proofs.lane_extents.intersections.Given as goal
 

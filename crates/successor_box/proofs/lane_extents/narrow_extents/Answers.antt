@@ -6,9 +6,9 @@ use Rattle.std.proofs.lemmas.List.{length-map, length-set}
 use Rattle.grid_quantiser.specs.declared.extents.Extent.{Extent}
 use Rattle.plant_record.specs.Description.{axis_of, vectors_of}
 use Rattle.plant_record.specs.Steps.{equation_at}
-use Rattle.successor_box.specs.Boxes.{deviation_at}
+use Rattle.successor_box.specs.SuccessorBoxes.{deviation_at}
 use Rattle.successor_box.specs.Deviations.{deviations_of}
-use Rattle.successor_box.specs.Extents.{IsPairInLane, IsExtentBeforeAt}
+use Rattle.successor_box.specs.PairExtents.{IsPairInLane, IsExtentBeforeAt}
 use Rattle.successor_box.proofs.DeviationLanes.{lane_count, entry_at, entry_is}
 use Rattle.successor_box.proofs.Filling.{index_more}
 use Rattle.successor_box.proofs.ExtentEnds.{extent_of_growth, deviation_some}

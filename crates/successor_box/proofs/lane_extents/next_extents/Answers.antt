@@ -6,7 +6,7 @@ use Rattle.std.proofs.lemmas.List.{length-map, length-set}
 use Rattle.interval_eval.specs.declared.interval.Interval.{Interval}
 use Rattle.grid_quantiser.specs.declared.extents.Extent.{Extent}
 use Rattle.plant_record.specs.Description.{axis_of}
-use Rattle.successor_box.specs.Extents.{IsPairInLane, IsExtentBeforeAt}
+use Rattle.successor_box.specs.PairExtents.{IsPairInLane, IsExtentBeforeAt}
 use Rattle.successor_box.specs.inside.Area.{no_range}
 use Rattle.successor_box.proofs.Filling.{index_more}
 use Rattle.successor_box.proofs.ExtentEnds.{extent_of_next}

@@ -1,5 +1,5 @@
 use Rattle.std.proofs.Common.{◌≡◌, ℕ, ◌<◌, length, get_or, None}
-use Rattle.successor_box.specs.Extents.{IsPairInLane, IsExtentBeforeAt}
+use Rattle.successor_box.specs.PairExtents.{IsPairInLane, IsExtentBeforeAt}
 use Rattle.successor_box.proofs.lane_extents.next_extents.Given as goal
 
 -- the extents so far

@@ -1,5 +1,5 @@
 use Rattle.plant_record.specs.Description.{axes_of}
-use Rattle.successor_box.specs.Boxes.{low_corner, high_corner}
+use Rattle.successor_box.specs.SuccessorBoxes.{low_corner, high_corner}
 use Rattle.successor_box.proofs.Below.{boxes_grow_by_extents}
 use Rattle.successor_box.proofs.PairExtents.{box_more, box_on_all}
 use Rattle.successor_box.proofs.laws.extents_make_boxes.Goals as goal

@@ -1,6 +1,6 @@
 use Rattle.std.proofs.Common.{◌≡◌, map, take}
 use Rattle.grid_quantiser.specs.Cells.{point_of}
-use Rattle.successor_box.specs.Boxes.{noise_centre}
+use Rattle.successor_box.specs.SuccessorBoxes.{noise_centre}
 use Rattle.successor_box.proofs.noise_centres.noise_centres.Given as goal
 
 -- the centres so far

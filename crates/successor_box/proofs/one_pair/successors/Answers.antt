@@ -1,7 +1,7 @@
 use Rattle.std.proofs.Common.{◌<◌, ◌≢◌, length, get_or-set_other, get_or-set_same, below_more, arith}
 use Rattle.std.proofs.lemmas.List.{length-set}
 use Rattle.plant_record.proofs.lemmas.SoundPlants.{sound as sound_plant}
-use Rattle.successor_box.specs.Boxes.{low_corner, high_corner}
+use Rattle.successor_box.specs.SuccessorBoxes.{low_corner, high_corner}
 use Rattle.successor_box.proofs.DeviationLanes.{equations_count}
 use Rattle.successor_box.proofs.PairExtents.{extents_of_box}
 use Rattle.successor_box.proofs.one_pair.successors.Goals as goal

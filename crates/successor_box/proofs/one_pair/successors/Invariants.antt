@@ -1,5 +1,5 @@
 use Rattle.std.proofs.Common.{◌≡◌, ℕ, ◌<◌, length, get_or, None}
-use Rattle.successor_box.specs.Extents.{IsExtentAt}
+use Rattle.successor_box.specs.PairExtents.{IsExtentAt}
 use Rattle.successor_box.proofs.one_pair.successors.Given as goal
 
 -- the extents so far

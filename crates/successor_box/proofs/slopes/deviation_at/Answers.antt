@@ -13,7 +13,7 @@ deviation_over-requires-clause-well_formed c =
     let p = c.args.p.now in
     let sound = sound_plant p c.variables-count.ensures.limits.plant in
     let is : equation_at p c.args.equation ≡ expression_of c.equation.result.now = get_or_from_slice_get p.equations c.args.equation (expression_of c.equation.result.now) (NumExpr (pos 0)) c.equation.ensures in
-    rw (c.variables-count.ensures.count, c.ranges-2.ensures, ← is) (formed_over p c.args.input sound c.args.equation (NumExpr (pos 0)) c.requires.equation)
+    rw (c.variables-count.ensures.count, c.domain_area.ensures, ← is) (formed_over p c.args.input sound c.args.equation (NumExpr (pos 0)) c.requires.equation)
 
 pub deviation_over-requires-clause-not_negative : goal.deviation_over-requires-clause-not_negative
 deviation_over-requires-clause-not_negative c =
@@ -24,4 +24,4 @@ pub returns : goal.returns
 returns c =
     let p = c.args.p.now in
     let is : equation_at p c.args.equation ≡ expression_of c.equation.result.now = get_or_from_slice_get p.equations c.args.equation (expression_of c.equation.result.now) (NumExpr (pos 0)) c.equation.ensures in
-    rw is (rw (c.variables-count.ensures.count, c.ranges-2.ensures, c.requires.radii c.args.input) at c.deviation_over.ensures)
+    rw is (rw (c.variables-count.ensures.count, c.domain_area.ensures, c.requires.radii c.args.input) at c.deviation_over.ensures)

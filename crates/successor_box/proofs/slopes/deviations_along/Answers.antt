@@ -4,7 +4,7 @@ use Rattle.std.specs.Int.{w128}
 use borrow.Author.Count.{below_more}
 use Rattle.std.proofs.lemmas.Int.{to_z-of_z}
 use Rattle.std.proofs.lemmas.List.FromFn.{map-range_with_len_more}
-use Rattle.successor_box.specs.Boxes.{deviation_at}
+use Rattle.successor_box.specs.SuccessorBoxes.{deviation_at}
 use Rattle.plant_record.specs.Steps.{equation_at}
 use Rattle.successor_box.specs.Deviations.{HasNoOverflowAt}
 use Rattle.successor_box.proofs.slopes.deviations_along.Goals as goal

@@ -1,6 +1,6 @@
 use Rattle.std.proofs.Common.{◌≡◌, ℕ, ◌<◌, map}
 use Rattle.std.specs.List.{range_with_len}
-use Rattle.successor_box.specs.Boxes.{deviation_at}
+use Rattle.successor_box.specs.SuccessorBoxes.{deviation_at}
 use Rattle.plant_record.specs.Steps.{equation_at}
 use Rattle.successor_box.specs.Deviations.{HasNoOverflowAt}
 use Rattle.successor_box.proofs.slopes.deviations_along.Given as goal

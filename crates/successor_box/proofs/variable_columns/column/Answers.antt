@@ -5,7 +5,7 @@ use Rattle.std.proofs.lemmas.List.{get_or-replicate}
 use Rattle.plant_record.specs.Description.{vectors_of, vector_of}
 use Rattle.plant_record.specs.ValueIndices.{value_index}
 use Rattle.plant_record.proofs.lemmas.SoundPlants.{sound as sound_plant}
-use Rattle.successor_box.specs.Boxes.{noise_centre}
+use Rattle.successor_box.specs.SuccessorBoxes.{noise_centre}
 use Rattle.successor_box.proofs.AlikePairs.{central_input}
 use Rattle.successor_box.proofs.Columns.{index_within, digit_at, state_value, noise_value}
 use Rattle.successor_box.proofs.variable_columns.column.Goals as goal

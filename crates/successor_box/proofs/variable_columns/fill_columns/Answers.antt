@@ -1,8 +1,8 @@
 use Rattle.std.proofs.Common.{◌≡◌, ℕ, ◌<◌, ◌∙◌, List, [], get_or, arith}
 use Rattle.std.specs.Prelude.{ℤ, pos}
 use Rattle.std.proofs.lemmas.List.{length-set}
-use Rattle.successor_box.specs.Boxes.{central_values}
-use Rattle.successor_box.specs.Extents.{IsPairInLane}
+use Rattle.successor_box.specs.SuccessorBoxes.{central_values}
+use Rattle.successor_box.specs.PairExtents.{IsPairInLane}
 use Rattle.fixed_expr.specs.declared.lanes.TheConstants.{LANES}
 use Rattle.successor_box.proofs.Filling.{index_more}
 use Rattle.successor_box.proofs.variable_columns.fill_columns.Goals as goal

@@ -1,7 +1,7 @@
 use Rattle.std.proofs.Common.{◌≡◌, ℕ, ◌<◌, [], length, get_or}
 use Rattle.std.specs.Prelude.{pos}
-use Rattle.successor_box.specs.Boxes.{central_values}
-use Rattle.successor_box.specs.Extents.{IsPairInLane}
+use Rattle.successor_box.specs.SuccessorBoxes.{central_values}
+use Rattle.successor_box.specs.PairExtents.{IsPairInLane}
 use Rattle.fixed_expr.specs.declared.lanes.TheConstants.{LANES}
 use Rattle.successor_box.proofs.variable_columns.fill_columns.Given as goal
 

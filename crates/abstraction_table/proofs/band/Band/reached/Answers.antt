@@ -1,8 +1,8 @@
 use Rattle.std.proofs.Common.{◌≡◌, ◌+◌, ◌<◌, ◌≤◌, ◌⊎◌, [], Option, subst, sym, arith, inl, inr}
 use Rattle.grid_quantiser.specs.declared.boxes.CellBox.{CellBox}
-use Rattle.grid_quantiser.specs.Boxes.{IsCellBox, cells_between}
-use Rattle.successor_box.specs.Boxes.{cells_in}
-use Rattle.abstraction_table.specs.inside.Sources.{IsBox}
+use Rattle.grid_quantiser.specs.CellBoxes.{IsCellBox, cells_between}
+use Rattle.successor_box.specs.SuccessorBoxes.{cells_in}
+use Rattle.abstraction_table.specs.inside.SourceLists.{IsBox}
 use Rattle.abstraction_table.specs.inside.Tallies.{indices_in}
 use Rattle.abstraction_table.proofs.BelowBoxes.{cells_lie_between_corners}
 use Rattle.abstraction_table.proofs.BandIndices.{indices-none}

@@ -1,5 +1,5 @@
 use Rattle.std.proofs.Common.{◌≡◌, ◌+◌, length, get_or, sym, ap, ◌∙◌}
-use Rattle.grid_quantiser.specs.Boxes.{cells_between}
+use Rattle.grid_quantiser.specs.CellBoxes.{cells_between}
 use Rattle.abstraction_table.proofs.BoxCorners.{first_corner, last_corner}
 use Rattle.abstraction_table.proofs.boxed_game.BoxedGame.cell_of.Goals as goal
 

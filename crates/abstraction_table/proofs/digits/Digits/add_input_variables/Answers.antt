@@ -1,7 +1,7 @@
 use Rattle.std.proofs.Common.{◌≡◌, ◌<◌, ◌+◌, ◌*◌, ◌/◌, ℕ, List, length, drop, refl, sym, ap, ap₂, subst, subst₂, ◌∙◌, arith, inl, inr}
 use Rattle.std.proofs.lemmas.Bool.{cases_Bool}
 use Rattle.plant_record.proofs.lemmas.SoundPlants.{sound as sound_plant}
-use Rattle.successor_box.specs.Extents.{depends_on}
+use Rattle.successor_box.specs.PairExtents.{depends_on}
 use Rattle.abstraction_table.specs.declared.digits.Digit.{Digit}
 use Rattle.abstraction_table.specs.inside.Digits.{counts_of, combinations, AreDigitsBetween}
 use Rattle.abstraction_table.proofs.PairDigits.{input_combinations}

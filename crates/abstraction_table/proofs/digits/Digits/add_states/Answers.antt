@@ -3,7 +3,7 @@ use Rattle.std.proofs.Math.Nat.{mul_comm}
 use Rattle.std.proofs.lemmas.Bool.{cases_Bool}
 use Rattle.plant_record.specs.Description.{Description}
 use Rattle.plant_record.proofs.lemmas.SoundPlants.{sound as sound_plant}
-use Rattle.successor_box.specs.Extents.{depends_on}
+use Rattle.successor_box.specs.PairExtents.{depends_on}
 use Rattle.abstraction_table.specs.declared.digits.Digit.{Digit}
 use Rattle.abstraction_table.specs.inside.Digits.{counts_of, combinations, AreDigitsBetween}
 use Rattle.abstraction_table.proofs.PairDigits.{input_combinations, next_combinations}

@@ -1,7 +1,7 @@
 use Rattle.std.proofs.Common.{◌≡◌, List, length, set, subst, arith}
 use Rattle.std.specs.Vec.{with_item}
 use Rattle.grid_quantiser.specs.declared.axis.Axis.{Axis}
-use Rattle.grid_quantiser.specs.Boxes.{cells_between}
+use Rattle.grid_quantiser.specs.CellBoxes.{cells_between}
 use Rattle.abstraction_table.specs.declared.shapes.Shapes.{Shapes}
 use Rattle.abstraction_table.specs.inside.Shapes.{HasSegmentsAt, KeepsSegments, ListsSegments}
 use Rattle.abstraction_table.proofs.ListedShapes.{has_here, keeps}

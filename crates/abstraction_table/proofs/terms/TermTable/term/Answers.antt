@@ -2,9 +2,9 @@ use Rattle.std.proofs.Common.{◌≡◌, ℕ, ◌+◌, ◌<◌, ◌∙◌, Optio
 use Rattle.std.proofs.lemmas.List.{get_or_default}
 use Rattle.grid_quantiser.specs.declared.extents.Extent.{Extent}
 use Rattle.plant_record.proofs.lemmas.SoundPlants.{sound as sound_plant}
-use Rattle.successor_box.specs.Extents.{shifted_by, IsExtentBeforeAt}
+use Rattle.successor_box.specs.PairExtents.{shifted_by, IsExtentBeforeAt}
 use Rattle.abstraction_table.specs.declared.terms.Terms.{Terms}
-use Rattle.abstraction_table.specs.inside.Extents.{IsRelativeExtent}
+use Rattle.abstraction_table.specs.inside.ExtentTables.{IsRelativeExtent}
 use Rattle.abstraction_table.specs.inside.Terms.{count_of, HasTermAt, IsTermAt}
 use Rattle.abstraction_table.proofs.RelativeExtents.{extended_at}
 use Rattle.abstraction_table.proofs.TermTables.{has_term, slot_within, own_below}

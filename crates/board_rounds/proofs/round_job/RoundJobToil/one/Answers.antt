@@ -4,7 +4,7 @@ use Rattle.std.proofs.lemmas.List.Elements.{Contains-get_or}
 use Rattle.game_core.specs.Counts.{times}
 use Rattle.game_core.specs.Game.{Game, AreSources, pairs_of}
 use Rattle.game_core.proofs.Times.{edges_from_both_ends}
-use Rattle.board_rounds.specs.inside.Workers.{cuts_for}
+use Rattle.board_rounds.specs.inside.WorkerSteps.{cuts_for}
 use Rattle.board_rounds.proofs.Working.{IsUnderWay, sets_out, goes_on, comes_back}
 use Rattle.board_rounds.proofs.round_job.RoundJobToil.one.Goals as goal
 

@@ -1,6 +1,6 @@
 use Rattle.std.proofs.Common.{◌≡◌, [], refl, sym, ◌∙◌, ap, subst, arith}
 use Rattle.cell_counters.specs.Accounts.{IsLawfulLog, log_count}
-use Rattle.cell_counters.specs.Tokens.{RootModel}
+use Rattle.cell_counters.specs.BoardModels.{RootModel}
 use Rattle.cell_counters.proofs.Consequences.{nothing_done}
 use Rattle.game_core.specs.declared.tally.Tally.{Tally}
 use Rattle.board_rounds.specs.Crew.{IsTalliedBy}

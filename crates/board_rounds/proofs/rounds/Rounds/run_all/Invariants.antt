@@ -1,4 +1,4 @@
-use Rattle.board_rounds.specs.inside.Standing.{HoldsBefore, to_go}
+use Rattle.board_rounds.specs.inside.RoundInvariant.{HoldsBefore, to_go}
 use Rattle.board_rounds.proofs.rounds.Rounds.run_all.Given as goal
 
 abbrev pub invariant-rounds : goal.invariant-rounds

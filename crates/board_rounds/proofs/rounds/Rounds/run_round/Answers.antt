@@ -1,10 +1,10 @@
 use Rattle.std.proofs.Common.{◌≡◌, ◌+◌, ◌++◌, IsPermutation, reverse, sym, ◌∙◌, ap, subst, arith}
 use Rattle.std.specs.List.{range_with_len}
 use Rattle.cell_counters.specs.Accounts.{log_count}
-use Rattle.cell_counters.specs.Tokens.{RootModel, IsLawful}
+use Rattle.cell_counters.specs.BoardModels.{RootModel, IsLawful}
 use Rattle.board_rounds.specs.Crew.{IsTalliedBy, accounts_of, notes_of}
 use Rattle.board_rounds.specs.declared.rounds.Rounds.{Rounds}
-use Rattle.board_rounds.specs.inside.Workers.{HaveWorked}
+use Rattle.board_rounds.specs.inside.WorkerSteps.{HaveWorked}
 use Rattle.board_rounds.proofs.Here.{here}
 use Rattle.board_rounds.proofs.Plays.{Played, cells_since, few_after, stands_after}
 use Rattle.board_rounds.proofs.rounds.Rounds.run_round.Goals as goal

@@ -1,6 +1,6 @@
 use Rattle.std.proofs.Common.{◌<◌, length, sym, subst, rules, arith}
-use Rattle.cell_counters.specs.Tokens.{BoardModel}
-use Rattle.cell_counters.specs.inside.Rules.{setup_of}
+use Rattle.cell_counters.specs.BoardModels.{BoardModel}
+use Rattle.cell_counters.specs.inside.BoardProtocol.{setup_of}
 use Rattle.cell_counters.proofs.Roots.{tail_is}
 use Rattle.cell_counters.proofs.Steps.{cut_allowed}
 use Rattle.cell_counters.proofs.board.Board.cut.Goals as goal

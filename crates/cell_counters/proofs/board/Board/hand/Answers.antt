@@ -1,5 +1,5 @@
 use Rattle.std.proofs.Common.{ap, sym, ◌∙◌, rules, arith}
-use Rattle.cell_counters.specs.Tokens.{RootModel}
+use Rattle.cell_counters.specs.BoardModels.{RootModel}
 use Rattle.cell_counters.proofs.Roots.{hand_splits, setup_is}
 use Rattle.cell_counters.proofs.board.Board.hand.Goals as goal
 

@@ -1,7 +1,7 @@
 use Rattle.std.proofs.Common.{◌<◌, [], ◌∷◌, ap, sym, ◌∙◌, arith, rules}
 use Rattle.cell_counters.specs.declared.rule.Setup.{Setup}
-use Rattle.cell_counters.specs.Tokens.{HandModel, with_log}
-use Rattle.cell_counters.specs.inside.Rules.{Seated, account_of}
+use Rattle.cell_counters.specs.BoardModels.{HandModel, with_log}
+use Rattle.cell_counters.specs.inside.BoardProtocol.{Seated, account_of}
 use Rattle.cell_counters.proofs.Logs.{awaited_is}
 use Rattle.cell_counters.proofs.Roots.{tail_is, setup_is}
 use Rattle.cell_counters.proofs.Steps.{draw_allowed, store_allowed}

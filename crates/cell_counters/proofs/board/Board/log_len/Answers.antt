@@ -1,5 +1,5 @@
 use Rattle.std.proofs.Common.{ap, sym, ◌∙◌, arith, rules}
-use Rattle.cell_counters.specs.Tokens.{RootModel}
+use Rattle.cell_counters.specs.BoardModels.{RootModel}
 use Rattle.cell_counters.proofs.Roots.{look_allowed, setup_is}
 use Rattle.cell_counters.proofs.board.Board.log_len.Goals as goal
 

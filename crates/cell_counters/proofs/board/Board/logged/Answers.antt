@@ -1,7 +1,7 @@
 use Rattle.std.proofs.Common.{◌≡◌, ap, sym, ◌∙◌, arith, rules}
 use Rattle.cell_counters.specs.declared.rule.Setup.{Setup}
-use Rattle.cell_counters.specs.Tokens.{BoardModel, RootModel}
-use Rattle.cell_counters.specs.inside.Rules.{tail_of}
+use Rattle.cell_counters.specs.BoardModels.{BoardModel, RootModel}
+use Rattle.cell_counters.specs.inside.BoardProtocol.{tail_of}
 use Rattle.cell_counters.proofs.Roots.{look_allowed, setup_is, tail_is}
 use Rattle.cell_counters.proofs.board.Board.logged.Goals as goal
 

@@ -3,7 +3,7 @@ use Rattle.std.proofs.lemmas.List.{get_or_append_left}
 use Rattle.std.proofs.lemmas.List.Elements.{All-from_get_or}
 use Rattle.atomic_table.specs.Table.{opening}
 use Rattle.cell_counters.specs.declared.rule.Beginning.{Beginning}
-use Rattle.cell_counters.specs.inside.Rules.{Keeps, IsSized, setup_of, root_of}
+use Rattle.cell_counters.specs.inside.BoardProtocol.{Keeps, IsSized, setup_of, root_of}
 use Rattle.cell_counters.proofs.Roots.{begins}
 use Rattle.cell_counters.proofs.board.Board.of_words.Goals as goal
 

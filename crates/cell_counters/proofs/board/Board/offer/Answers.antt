@@ -3,8 +3,8 @@ use Rattle.cell_counters.specs.declared.account.TheConstants.{NONE}
 use Rattle.cell_counters.specs.declared.account.Offer.{Offer}
 use Rattle.cell_counters.specs.declared.rule.Setup.{Setup}
 use Rattle.cell_counters.specs.Accounts.{offers_on}
-use Rattle.cell_counters.specs.Tokens.{BoardModel, HandModel}
-use Rattle.cell_counters.specs.inside.Rules.{setup_of, account_of}
+use Rattle.cell_counters.specs.BoardModels.{BoardModel, HandModel}
+use Rattle.cell_counters.specs.inside.BoardProtocol.{setup_of, account_of}
 use Rattle.cell_counters.proofs.Entries.{has_offer}
 use Rattle.cell_counters.proofs.Steps.{offer_allowed}
 use Rattle.cell_counters.proofs.Roots.{starts_len, tail_is, setup_is}

@@ -1,6 +1,6 @@
 use Rattle.std.proofs.Common.{length, ◌<◌, ap, sym, ◌∙◌, subst, arith, rules}
-use Rattle.cell_counters.specs.Tokens.{BoardModel, RootModel}
-use Rattle.cell_counters.specs.inside.Rules.{setup_of}
+use Rattle.cell_counters.specs.BoardModels.{BoardModel, RootModel}
+use Rattle.cell_counters.specs.inside.BoardProtocol.{setup_of}
 use Rattle.cell_counters.proofs.Roots.{look_allowed, starts_len, tail_is, setup_is}
 use Rattle.cell_counters.proofs.board.Board.read.Goals as goal
 

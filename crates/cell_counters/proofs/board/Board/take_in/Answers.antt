@@ -1,6 +1,6 @@
 use Rattle.std.proofs.Common.{ap, sym, ◌∙◌, rules, arith}
-use Rattle.cell_counters.specs.Tokens.{RootModel}
-use Rattle.cell_counters.specs.inside.Rules.{Seated}
+use Rattle.cell_counters.specs.BoardModels.{RootModel}
+use Rattle.cell_counters.specs.inside.BoardProtocol.{Seated}
 use Rattle.cell_counters.proofs.Roots.{root_joins, look_allowed, setup_is}
 use Rattle.cell_counters.proofs.board.Board.take_in.Goals as goal
 

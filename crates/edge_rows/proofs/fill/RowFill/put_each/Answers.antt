@@ -2,7 +2,7 @@ use Rattle.std.proofs.Common.{◌≡◌, ◌+◌, ◌-◌, ◌++◌, length, tak
 use borrow.Rule.Slice.PartMut.{post_of}
 use Rattle.std.specs.Vec.{with_items}
 use Rattle.edge_rows.specs.Rows.{Filling, appended_run}
-use Rattle.edge_rows.specs.inside.Runs.{written}
+use Rattle.edge_rows.specs.inside.Slices.{written}
 use Rattle.edge_rows.specs.inside.FillFields.{IsFilledAs}
 use Rattle.edge_rows.proofs.Fillings.{shown, kept, run_listed, run_free, run_lies, block_small}
 use Rattle.edge_rows.proofs.RunsLaid.{items_after}

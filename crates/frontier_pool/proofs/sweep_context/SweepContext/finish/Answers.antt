@@ -1,5 +1,5 @@
 use Rattle.std.proofs.Common.{◌≡◌, arith, below_more, ◌∙◌}
-use Rattle.frontier_pool.specs.inside.Rules.{times_in}
+use Rattle.frontier_pool.specs.inside.ClaimProtocol.{times_in}
 use Rattle.frontier_pool.proofs.Gains.{gained_none, gained_then, gained_all}
 use Rattle.frontier_pool.proofs.sweep_context.SweepContext.finish.Goals as goal
 

@@ -1,5 +1,5 @@
 use Rattle.std.proofs.Common.{◌≡◌, ℕ, ◌<◌}
-use Rattle.frontier_pool.specs.inside.Rules.{times_in}
+use Rattle.frontier_pool.specs.inside.ClaimProtocol.{times_in}
 use Rattle.frontier_pool.specs.inside.Gains.{Gained}
 use Rattle.frontier_pool.proofs.sweep_context.SweepContext.finish.Given as goal
 

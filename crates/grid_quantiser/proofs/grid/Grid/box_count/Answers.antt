@@ -1,7 +1,7 @@
 use Rattle.std.proofs.Common.{◌≡◌, ◌-◌, ◌/◌, ◌%◌, arith, ap, ◌∙◌, length, drop}
 use Rattle.std.proofs.Math.Nat.{mod-eq_of_lt}
 use Rattle.grid_quantiser.specs.Axes.{cells_of}
-use Rattle.grid_quantiser.specs.Boxes.{cells_between}
+use Rattle.grid_quantiser.specs.CellBoxes.{cells_between}
 use Rattle.grid_quantiser.proofs.Suffixes.{next_axis, div_step, cells_of-drop}
 use Rattle.grid_quantiser.proofs.BoxCells.{part_between, between_some, between_limit, box_next}
 use Rattle.grid_quantiser.proofs.WheelsMade.{corners, count_limit, cells_here}

@@ -3,7 +3,7 @@ use Rattle.std.proofs.Math.Nat.{mod-eq_of_lt}
 use Rattle.std.specs.List.{Contains}
 use Rattle.grid_quantiser.specs.declared.axis.Axis.{Axis}
 use Rattle.grid_quantiser.specs.Axes.{cells_of}
-use Rattle.grid_quantiser.specs.Boxes.{IsCellBox, cells_between}
+use Rattle.grid_quantiser.specs.CellBoxes.{IsCellBox, cells_between}
 use Rattle.grid_quantiser.proofs.Suffixes.{next_axis, div_step}
 use Rattle.grid_quantiser.proofs.BoxCells.{corners_below}
 use Rattle.grid_quantiser.proofs.BetweenCells.{IsBetween, between_from_contains, contains_from_between, inside_step, inside_here}

@@ -1,6 +1,6 @@
 use Rattle.std.proofs.Common.{sym, subst, refl, List}
 use Rattle.grid_quantiser.specs.declared.axis.Axis.{Axis}
-use Rattle.grid_quantiser.specs.Boxes.{IsAtMost}
+use Rattle.grid_quantiser.specs.CellBoxes.{IsAtMost}
 use Rattle.grid_quantiser.proofs.MeetingCells.{meeting_corners}
 use Rattle.grid_quantiser.proofs.grid.Grid.meeting.Goals as goal
 

@@ -5,7 +5,7 @@ use Rattle.std.proofs.lemmas.Nat.{mod_below}
 use Rattle.std.proofs.lemmas.List.Elements.{All-drop}
 use Rattle.grid_quantiser.specs.declared.axis.Axis.{Axis}
 use Rattle.grid_quantiser.specs.Axes.{IsAxis, cells_of}
-use Rattle.grid_quantiser.specs.Boxes.{IsCellBox, cells_between}
+use Rattle.grid_quantiser.specs.CellBoxes.{IsCellBox, cells_between}
 use Rattle.grid_quantiser.proofs.Suffixes.{next_axis, some_step, div_step, cells_of-drop, cells_step, cells_limit}
 use Rattle.grid_quantiser.proofs.BoxCells.{between_some, between_below, between_limit, box_next}
 use Rattle.grid_quantiser.proofs.WheelsMade.{corners, count_limit, turns_here, nth_here, nth_whole}

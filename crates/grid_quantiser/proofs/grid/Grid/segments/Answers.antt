@@ -4,7 +4,7 @@ use Rattle.std.proofs.lemmas.Nat.{mod_below}
 use Rattle.std.proofs.lemmas.List.{length-set}
 use Rattle.grid_quantiser.specs.declared.segments.Wheel.{Wheel}
 use Rattle.grid_quantiser.specs.Axes.{cells_of}
-use Rattle.grid_quantiser.specs.Boxes.{cells_between}
+use Rattle.grid_quantiser.specs.CellBoxes.{cells_between}
 use Rattle.grid_quantiser.proofs.Suffixes.{next_axis, some_step, cells_limit, cells_step, div_step}
 use Rattle.grid_quantiser.proofs.BoxSegments.{extent_is}
 use Rattle.grid_quantiser.proofs.WheelsMade.{corners, count_limit, last_cells, no_wheel, starts_here, wheel_set, fresh_more, made_segments, made_cells}

@@ -3,7 +3,7 @@ use Rattle.std.specs.List.{All}
 use Rattle.grid_quantiser.specs.declared.axis.Axis.{Axis}
 use Rattle.grid_quantiser.specs.declared.axis.Overlap.TheVariants.{Partial}
 use Rattle.grid_quantiser.specs.Axes.{IsAxis, cells_of}
-use Rattle.grid_quantiser.specs.Boxes.{IsBoxWith}
+use Rattle.grid_quantiser.specs.CellBoxes.{IsBoxWith}
 use Rattle.grid_quantiser.specs.inside.Overlaps.{HasOverlap}
 use Rattle.grid_quantiser.proofs.OverlapCells.{box_of_touching}
 use Rattle.grid_quantiser.proofs.grid.Grid.touching.Goals as goal

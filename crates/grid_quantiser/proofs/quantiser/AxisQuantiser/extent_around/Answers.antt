@@ -3,7 +3,7 @@ use lib.Signed.{le_z, lt_z}
 use Rattle.std.specs.Int.{w128}
 use Rattle.std.proofs.lemmas.Int.{to_z-of_z}
 use Rattle.grid_quantiser.specs.Extents.{IsOnAxis}
-use Rattle.fixed_divisor.specs.Narrow.{IsNarrow}
+use Rattle.base.specs.Narrow.{IsNarrow}
 use Rattle.grid_quantiser.proofs.QuantiserExtents.{held, difference_held, total_held, end_held, is_below, not_below, is_at_most, not_at_most, found, start_held, finish_held, centre_wide, radius_wide, low_wide, high_wide, low_under, high_over, low_on, high_on}
 use Rattle.grid_quantiser.proofs.quantiser.AxisQuantiser.extent_around.Goals as goal
 use Rattle.grid_quantiser.proofs.quantiser.AxisQuantiser.extent_around.Goals.{In_ok-radius, In_ok-high, then-low-start-via-then-low-start, then-low-start-via-else-low-start+then-end-high}

@@ -4,7 +4,7 @@ use Rattle.std.specs.Int.{int_min, int_max}
 use Rattle.std.specs.List.{fold, filter}
 use Rattle.std.proofs.lemmas.List.{drop_all}
 use Rattle.interval_eval.specs.declared.interval.Interval.{Interval}
-use Rattle.interval_eval.specs.Span.{is_in, values_within, lookup_of}
+use Rattle.interval_eval.specs.Span.{is_in, values_within, lut_span}
 use Rattle.interval_eval.specs.inside.Joined.{joined_at}
 use Rattle.interval_eval.proofs.interval.Interval.looked_up.Goals as goal
 
@@ -41,7 +41,7 @@ returns c =
     let a : Interval = c.args.self in
     let s : Interval = c.loop-point.found in
     let none : drop c.loop-point.point-index points ≡ [] = drop_all c.loop-point.point-index points c.loop-point-test.false in
-    let low : s.lo ≡ (lookup_of points a).lo = ap (λ (l : List (ℤ × ℤ)). fold int_min s.lo (values_within l a)) (sym none) ∙ c.loop-point.invariant.0 in
-    let high : s.hi ≡ (lookup_of points a).hi = ap (λ (l : List (ℤ × ℤ)). fold int_max s.hi (values_within l a)) (sym none) ∙ c.loop-point.invariant.1 in
-    let found : s ≡ lookup_of points a = ap₂ (λ (lo hi : ℤ). record { lo = lo; hi = hi }) low high in
-    subst (λ (l : List (ℤ × ℤ)). s ≡ lookup_of l a) c.points-points.ensures.points found
+    let low : s.lo ≡ (lut_span points a).lo = ap (λ (l : List (ℤ × ℤ)). fold int_min s.lo (values_within l a)) (sym none) ∙ c.loop-point.invariant.0 in
+    let high : s.hi ≡ (lut_span points a).hi = ap (λ (l : List (ℤ × ℤ)). fold int_max s.hi (values_within l a)) (sym none) ∙ c.loop-point.invariant.1 in
+    let found : s ≡ lut_span points a = ap₂ (λ (lo hi : ℤ). record { lo = lo; hi = hi }) low high in
+    subst (λ (l : List (ℤ × ℤ)). s ≡ lut_span l a) c.points-points.ensures.points found

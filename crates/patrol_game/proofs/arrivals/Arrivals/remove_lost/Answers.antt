@@ -10,13 +10,13 @@ use Rattle.patrol_game.proofs.arrivals.Arrivals.remove_lost.Goals as goal
 use Rattle.patrol_game.proofs.arrivals.Arrivals.remove_lost.Goals.{then-is_gone, else-is_gone}
 
 pub loop-c-init : goal.loop-c-init
-loop-c-init c = begins c.self.inside.marks.items c.args.rows.now
+loop-c-init c = begins c.self.inside.marks.items c.args.answer.now
 
 pub loop-c-preserved : goal.loop-c-preserved
 loop-c-preserved c =
     let first = c.self.inside.marks.items in
     let marks = c.loop-c.self-inside.marks.items in
-    let rows = c.args.rows.now in
+    let rows = c.args.answer.now in
     let long : length rows ≡ length first = c.requires ∙ ap (λ (l : List Mark). length l) (sym c.self.view_is) in
     let lt : c.loop-c.c < length marks = (let t = c.loop-c-test.true in let e = c.cells-c-end.ensures in let n = c.loop-c.invariant.one_each in omega arith) in
     let mark : c.index.result.now ≡ mark_at marks c.loop-c.c = c.index.ensures ∙ get_or_default marks c.loop-c.c c.index.result.now Plain lt in
@@ -33,7 +33,7 @@ loop-c-preserved c =
 pub returns : goal.returns
 returns c =
     let first = c.self.inside.marks.items in
-    let rows = c.args.rows.now in
+    let rows = c.args.answer.now in
     let past = c.loop-c-test.false in
     let cells = c.cells-c-end.ensures in
     let same = c.requires in

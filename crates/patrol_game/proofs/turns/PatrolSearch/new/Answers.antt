@@ -11,7 +11,7 @@ loop-turn-preserved g c =
     record {
       mark_lists = search rules;
       row_lists = search rules;
-      marked = one_turn_more c.args.p.now (g.G.Graph.game c.args.g.now) c.args.kept.now n c.loop-turn.arrivals.items c.push.new.self.items c.remove_lost.new.self before.mark_lists before.marked
-          (subst (AreFirstMarks c.args.p.now (g.G.Graph.game c.args.g.now) c.args.kept.now n) (sym c.remove_lost.ensures.marks) (first_from_target c.args.p.now (g.G.Graph.game c.args.g.now) c.args.kept.now n c.in_ok-first.first c.in_ok-first.ensures))
+      marked = one_turn_more c.args.p.now (g.G.Graph.game c.args.g.now) c.args.kept_answer.now n c.loop-turn.arrivals.items c.push.new.self.items c.remove_lost.new.self before.mark_lists before.marked
+          (subst (AreFirstMarks c.args.p.now (g.G.Graph.game c.args.g.now) c.args.kept_answer.now n) (sym c.remove_lost.ensures.marks) (first_from_target c.args.p.now (g.G.Graph.game c.args.g.now) c.args.kept_answer.now n c.in_ok-first.first c.in_ok-first.ensures))
           (search rules);
     }

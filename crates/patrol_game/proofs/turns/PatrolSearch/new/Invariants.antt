@@ -9,5 +9,5 @@ invariant-loop-turn g l =
     record {
       mark_lists : length l.arrivals.items ≡ l.turn;
       row_lists : length l.rows.items ≡ l.turn;
-      marked : (j : ℕ) → j < l.turn → AreFirstMarks l.p game l.kept j (marks_for l.arrivals.items j);
+      marked : (j : ℕ) → j < l.turn → AreFirstMarks l.p game l.kept_answer j (marks_for l.arrivals.items j);
     }

@@ -1,5 +1,5 @@
 use Rattle.std.proofs.Common.{sym, ◌∙◌, ap, arith}
-use Rattle.reach_avoid.specs.inside.Rounds.{row_in}
+use Rattle.reach_avoid.specs.inside.ReachRounds.{row_in}
 use Rattle.reach_avoid.proofs.Ends.{low_ranks}
 use Rattle.reach_avoid.proofs.OnBoards.{words_of_board, word_read}
 use Rattle.reach_avoid.proofs.Words.{decoded_row}

@@ -1,7 +1,0 @@
-use Rattle.interval_eval.specs.Span.{lookup_of}
-use Rattle.interval_eval.specs.LaneSpans.{interval_in}
-use Rattle.interval_eval.specs.inside.LaneProgress.{AreLanesDone}
-use Rattle.interval_eval.proofs.columns.IntervalColumn.lookup.Given as goal
-
-abbrev pub invariant-lanes : goal.invariant-lanes
-invariant-lanes l = AreLanesDone l.k l.initial.self l.self (λ k. lookup_of l.curve (interval_in l.initial.self k))
