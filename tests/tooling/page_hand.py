@@ -147,7 +147,7 @@ def check_exact(report, browser):
     open_page(report, browser, [report.room / "vehicle.table", "--model", report.top / "examples/vehicle/vehicle.model"])
     browser.evaluate("probe.slide(3)")
     browser.wait("probe.desk().view.places[2] === 3 && document.querySelector('#sliders output').textContent === '3'")
-    browser.evaluate("probe.desk().go(probe.desk().view.plant.cellAt([2, 1, 3]))")
+    browser.evaluate("probe.desk().go(probe.desk().view.plant.cellAt([3, 2, 3]))")
     browser.wait(f"{PANEL}.includes('0.25 to 0.375 m')")
     panel = browser.evaluate(PANEL)
     report.holds("a whole number by itself has one number", "h\n3\n" in panel, panel)
