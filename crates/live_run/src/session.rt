@@ -1,7 +1,7 @@
 ghost use Rattle.std.specs.Prelude.{◌≡◌, ◌+◌, ◌^◌, ◌<◌, ◌≤◌, length, Some, None, OnOk, OnErr, IfSome, IfNone};
 ghost use Rattle.live_script.specs.Questions.{IsAnswerOf};
 ghost use Rattle.live_run.specs.inside.Sessions.{GoOnWith};
-ghost use Rattle.base.specs.declared.limits.TheConstants.{WORKERS_LIMIT};
+ghost use Rattle.base.specs.declared.limits.TheConstants.{TABLES_LIMIT, WORKERS_LIMIT};
 
 use crate::readers::Readers;
 use command_line::StateNumbers;
@@ -70,7 +70,7 @@ impl Session {
         alloc: Global,
         table: Table,
     ) -> Result<(), NoMemory>
-        requires { self.old.count < 8 }
+        requires { self.old.count < TABLES_LIMIT }
         ensures { OnOk result (self.new ≡ record { count = self.old.count + 1; table = Some table }) }
     {
         let copy = table.copy(alloc)?;

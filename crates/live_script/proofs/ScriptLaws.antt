@@ -118,7 +118,7 @@ no_refused_table n bytes f r c first rest at spells =
     (λ text size after accepted. accepted f (subst (λ (x : List ℕ). IsTableRefusedFor x f) (one_text r.text text r.rest rest size after).0 r.refused))
 
 no_ninth : (n : ℕ) (bytes : List ℕ) → IsNinthTable n bytes → (c : ScriptCommand) (first rest : List ℕ) → bytes ≡ first ++ rest → Spell first c → FitsAfter n c → ⊥
-no_ninth n bytes r (Publish t) first rest at spells fits = omega (arith, r.eight, fits)
+no_ninth n bytes r (Publish t) first rest at spells fits = omega (arith, r.full, fits)
 no_ninth n bytes r (Ask xs) first rest at spells fits = not_asked bytes r.size r.after r.announced xs rest (at ∙ ap (λ (x : List ℕ). x ++ rest) spells.1)
 
 stuck : (n number : ℕ) (bytes : List ℕ) (fault : ScriptFault) → IsRefusedAfter n number bytes fault → (c : ScriptCommand) (first rest : List ℕ) → bytes ≡ first ++ rest → Spell first c → FitsAfter n c → ⊥
@@ -142,10 +142,10 @@ not_malformed : (n : ℕ) (bytes : List ℕ) (f : TableFault) → IsMalformedAft
 not_malformed n bytes f m r = m.no_table (length r.text) (r.text ++ r.rest) r.announced (λ few. omega (arith, length-append r.text r.rest))
 
 not_malformed_ninth : (n : ℕ) (bytes : List ℕ) → IsMalformedAfter n bytes → IsNinthTable n bytes → ⊥
-not_malformed_ninth n bytes m r = m.no_table r.size r.after r.announced (λ few. omega (arith, r.eight, few))
+not_malformed_ninth n bytes m r = m.no_table r.size r.after r.announced (λ few. omega (arith, r.full, few))
 
 not_both : (n : ℕ) (bytes : List ℕ) (f : TableFault) → IsTableRefusedAfter n bytes f → IsNinthTable n bytes → ⊥
-not_both n bytes f r ninth = omega (arith, r.few, ninth.eight)
+not_both n bytes f r ninth = omega (arith, r.few, ninth.full)
 
 same_line : (k l : ℕ) → tables.Malformed k ≡ tables.Malformed l → k ≡ l
 same_line k l e = cc

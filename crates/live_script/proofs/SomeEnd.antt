@@ -53,7 +53,7 @@ module _ (no_text : NoTextIsNeither) (n number : ℕ) (most : n ≤ 8) where
       | inl short ↦ deny (stops (Malformed number) (inl (refl, subst (λ (x : List ℕ). IsMalformedAfter n x) (sym told.are) (ends_too_early n size after few told.some told.most short))))
       | inr enough ↦ cut_text bytes after size few (omega (arith, enough)) told deny
     ]
-    | inr full ↦ deny (stops TooManyTables (record { eight = omega (arith, full, most); size = size; after = after; announced = told }))
+    | inr full ↦ deny (stops TooManyTables (record { full = omega (arith, full, most); size = size; after = after; announced = told }))
   ]
 
   front : (bytes : List ℕ) → (Front n number bytes → ⊥) → ⊥

@@ -8,7 +8,7 @@ use Rattle.live_script.specs.declared.script_fault.ScriptFault.{ScriptFault}
 use Rattle.live_script.specs.declared.script_fault.ScriptFault.TheVariants.{Malformed, Limit, ScriptTooLong, TooManyTables, Memory}
 use Rattle.command_line.specs.Command.{AreStateNumbers}
 use Rattle.live_script.specs.Scripts.{publish_line, ask_line, published, SpellAfter, IsShortScript}
-use Rattle.base.specs.declared.limits.TheConstants.{TABLE_LIMIT}
+use Rattle.base.specs.declared.limits.TheConstants.{TABLES_LIMIT, TABLE_LIMIT}
 
 -- The bytes begin with the line before a table's text of 1 to 67,108,864 bytes.
 pub record Announce (bytes : List ℕ) (size : ℕ) (after : List ℕ) : Type 0 where
@@ -19,12 +19,12 @@ pub record Announce (bytes : List ℕ) (size : ℕ) (after : List ℕ) : Type 0 
 -- After so many tables a line is of no command, or a table's text ends too early, or no table stands at all.
 pub record IsMalformedAfter (tables : ℕ) (bytes : List ℕ) : Type 0 where
   pub unfinished : bytes ≡ [] → tables ≡ 0
-  pub no_table : (size : ℕ) (after : List ℕ) → Announce bytes size after → (tables < 8 → size ≤ length after) → ⊥
+  pub no_table : (size : ℕ) (after : List ℕ) → Announce bytes size after → (tables < TABLES_LIMIT → size ≤ length after) → ⊥
   pub no_question : (numbers : List ℤ) (after : List ℕ) → 0 < tables → AreStateNumbers numbers → bytes ≡ ask_line numbers ++ after → ⊥
 
 -- After so many tables the text of a table is refused.
 pub record IsTableRefusedAfter (tables : ℕ) (bytes : List ℕ) (fault : TableFault) : Type 0 where
-  pub few : tables < 8
+  pub few : tables < TABLES_LIMIT
   pub text : List ℕ
   pub rest : List ℕ
   pub announced : Announce bytes (length text) (text ++ rest)
@@ -32,7 +32,7 @@ pub record IsTableRefusedAfter (tables : ℕ) (bytes : List ℕ) (fault : TableF
 
 -- After eight tables another is announced.
 pub record IsNinthTable (tables : ℕ) (bytes : List ℕ) : Type 0 where
-  pub eight : tables ≡ 8
+  pub full : tables ≡ TABLES_LIMIT
   pub size : ℕ
   pub after : List ℕ
   pub announced : Announce bytes size after

@@ -6,7 +6,7 @@ use Rattle.controller_table.specs.Tables.{TableModel, IsTableIn}
 use Rattle.live_script.specs.declared.command.ScriptCommand.{ScriptCommand}
 use Rattle.live_script.specs.declared.command.ScriptCommand.TheVariants.{Publish, Ask}
 use Rattle.command_line.specs.Command.{AreStateNumbers}
-use Rattle.base.specs.declared.limits.TheConstants.{SCRIPT_LIMIT}
+use Rattle.base.specs.declared.limits.TheConstants.{SCRIPT_LIMIT, TABLES_LIMIT}
 
 -- the line before a table's text of so many bytes
 abbrev pub publish_line : ℕ → List ℕ
@@ -28,7 +28,7 @@ Spell bytes (Ask numbers) = AreStateNumbers numbers × (bytes ≡ ask_line numbe
 
 -- a command has its position after so many tables: eight are published at most, and a question has a table to answer it
 abbrev pub FitsAfter : ℕ → ScriptCommand → Type 0
-FitsAfter tables (Publish table) = tables < 8
+FitsAfter tables (Publish table) = tables < TABLES_LIMIT
 FitsAfter tables (Ask numbers) = 0 < tables
 
 -- how many tables are published after a command

@@ -8,7 +8,7 @@ ghost use Rattle.live_script.specs.Scripts.{publish_line, ask_line, IsShortScrip
 ghost use Rattle.live_script.specs.ScriptRefusals.{IsRefusedAfter, IsScriptRefusedFor};
 ghost use Rattle.live_script.specs.ScriptReading.{IsTaken};
 ghost use Rattle.live_script.specs.inside.Faults.{of_table};
-ghost use Rattle.base.specs.declared.limits.TheConstants.{SCRIPT_LIMIT};
+ghost use Rattle.base.specs.declared.limits.TheConstants.{SCRIPT_LIMIT, TABLES_LIMIT};
 
 use crate::command::ScriptCommand;
 use crate::question_line::question_at;
@@ -31,13 +31,14 @@ pub struct Script<'a> {
 
 impl<'a> Model for Script<'a> {
     ghost use Rattle.std.specs.Prelude.{◌^◌, ◌+◌, ◌<◌, ◌≤◌, length};
+    ghost use Rattle.base.specs.declared.limits.TheConstants.{TABLES_LIMIT};
     ghost use Rattle.live_script.specs.ScriptReading.{Unread};
 
     ghost Value = { Unread };
 
     ghost view = { λ s. record { tables = s.tables; line = s.line; rest = s.rest.now } };
 
-    ghost invariant = { λ s. (s.tables ≤ 8) × (s.line + length s.rest.now < 2 ^ 32) };
+    ghost invariant = { λ s. (s.tables ≤ TABLES_LIMIT) × (s.line + length s.rest.now < 2 ^ 32) };
 }
 
 impl<'a> Script<'a> {
@@ -102,10 +103,10 @@ fn table_at(
     size: usize,
     bytes: &[u8],
 ) -> Result<(Table, &[u8], &[u8]), ScriptFault>
-    requires tables { tables ≤ 8 }
+    requires tables { tables ≤ TABLES_LIMIT }
     requires line { line < 2 ^ 32 }
     requires size { (1 ≤ size) × (size ≤ SCRIPT_LIMIT) }
-    ensures few { IfOk result (λ _. tables < 8) }
+    ensures few { IfOk result (λ _. tables < TABLES_LIMIT) }
     ensures table { IfOk result (λ r. IsTableIn r.0.version r.1.now r.0.plant r.0.rows) }
     ensures cut { IfOk result (λ r. (length r.1.now ≡ size) × (bytes.now ≡ r.1.now ++ r.2.now)) }
     ensures refused { IfErr result (λ fault. fault ≢ Memory → IsRefusedAfter tables line (publish_line size ++ bytes.now) fault) }

@@ -42,11 +42,11 @@ fn reply_each(table: &Table, states: &[i64], inputs: &mut [i64], replies: &mut [
     ensures long { length replies.new ≡ length replies.old }
     ensures each { AreReplies table.now states.now inputs.old inputs.new replies.new }
 {
-    let size = table.plant().states() as usize;
-    let room = table.plant().input_variables() as usize;
+    let states_each = table.plant().states() as usize;
+    let inputs_each = table.plant().input_variables() as usize;
     for k in 0..replies.len() {
-        let state = &states[k * size..(k + 1) * size];
-        let input = &mut inputs[k * room..(k + 1) * room];
+        let state = &states[k * states_each..(k + 1) * states_each];
+        let input = &mut inputs[k * inputs_each..(k + 1) * inputs_each];
         replies[k] = control(table, state, input).number();
     }
 }

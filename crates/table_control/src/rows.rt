@@ -5,6 +5,7 @@ ghost use Rattle.grid_quantiser.specs.Cells.{point_of};
 ghost use Rattle.controller_table.specs.Choice.{HasRowAt};
 ghost use Rattle.controller_table.specs.Tables.{IsRowOf};
 ghost use Rattle.table_control.specs.Control.{HasNoRow, IsRank, IsUnranked};
+ghost use Rattle.base.specs.declared.limits.TheConstants.{STATES_LIMIT};
 
 use base::limits::STATES_LIMIT;
 use controller_table::Table;
@@ -36,7 +37,7 @@ pub fn rank_at(table: &Table, state: &[i64]) -> Option<u32>
 
 /// The state as a point, with 0 in the places past its numbers.
 fn point_at(state: &[i64]) -> Point
-    requires { length state.now ≤ 6 }
+    requires { length state.now ≤ STATES_LIMIT }
     ensures { result ≡ point_of state.now }
 {
     let mut point = [0; STATES_LIMIT];

@@ -11,10 +11,10 @@ loop-k-preserved c =
     let t = c.args.table.now in
     let k : ℕ = c.loop-k.k in
     let count : ℕ = length c.args.replies.now in
-    let room : ℕ = c.input_variables-room.result in
+    let room : ℕ = c.input_variables-inputs_each.result in
     let before = c.loop-k.invariant in
-    let is_size : c.states-size.result ≡ length t.plant.states = c.states-size.ensures ∙ ap (λ (p : Description). length p.states) c.plant.ensures in
-    let is_room : room ≡ length t.plant.inputs = c.input_variables-room.ensures ∙ ap (λ (p : Description). length p.inputs) c.plant-2.ensures in
+    let is_size : c.states-states_each.result ≡ length t.plant.states = c.states-states_each.ensures ∙ ap (λ (p : Description). length p.states) c.plant.ensures in
+    let is_room : room ≡ length t.plant.inputs = c.input_variables-inputs_each.ensures ∙ ap (λ (p : Description). length p.inputs) c.plant-2.ensures in
     let lt : k < count = omega (arith, c.loop-k-test.true) in
     let long : length c.loop-k.inputs ≡ count * room = before.wide ∙ c.requires.inputs ∙ ap (λ (m : ℕ). count * m) (sym is_room) in
     let fits : FitsSigned w32 c.number.result = search rules in
@@ -22,6 +22,6 @@ loop-k-preserved c =
     record {
       long = length-set c.loop-k.replies k number ∙ before.long;
       wide = as_long k count room c.loop-k.inputs c.control.new.input long lt c.control.auto.input ∙ before.wide;
-      done = tells_at k count room c.loop-k.inputs c.control.new.input long lt c.control.auto.input t c.states-size.result c.args.states.now c.args.inputs.now c.loop-k.replies number c.control.result (omega (arith, lt, before.long)) (to_z-of_z w32 c.number.result fits ∙ c.number.ensures) before.later c.control.ensures.reply c.control.ensures.text is_size is_room before.done;
+      done = tells_at k count room c.loop-k.inputs c.control.new.input long lt c.control.auto.input t c.states-states_each.result c.args.states.now c.args.inputs.now c.loop-k.replies number c.control.result (omega (arith, lt, before.long)) (to_z-of_z w32 c.number.result fits ∙ c.number.ensures) before.later c.control.ensures.reply c.control.ensures.text is_size is_room before.done;
       later = later_next k count room c.loop-k.inputs c.control.new.input long lt c.control.auto.input c.args.inputs.now before.later;
     }

@@ -8,5 +8,5 @@ invariant-loop-k l = record {
   long : length l.replies ≡ length l.fn.replies;
   wide : length l.inputs ≡ length l.fn.inputs;
   done : (j : ℕ) → j < l.k → TellsReplyAt l.table l.states l.fn.inputs l.inputs l.replies j;
-  later : drop (l.k * l.room) l.inputs ≡ drop (l.k * l.room) l.fn.inputs;
+  later : drop (l.k * l.inputs_each) l.inputs ≡ drop (l.k * l.inputs_each) l.fn.inputs;
 }
