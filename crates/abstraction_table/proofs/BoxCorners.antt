@@ -10,11 +10,7 @@ use Rattle.grid_quantiser.specs.Axes.{AreAxes, cells_of}
 use Rattle.grid_quantiser.specs.CellBoxes.{IsCellBox, cells_between}
 use Rattle.grid_quantiser.proofs.BoxCells.{corners_below}
 use Rattle.grid_quantiser.proofs.BetweenCells.{IsBetween, between_from_contains, between_by_coordinate, contains_from_between, rising_between}
-
--- each corner lies between the two
-first_between : (axes : List Axis) (f l : ℕ) → IsCellBox axes f l → IsBetween axes f l f
-first_between [] f l box = tt
-first_between (a ∷ axes) f l box = (omega arith, box.0, first_between axes (f % cells_of axes) (l % cells_of axes) box.2)
+use Rattle.grid_quantiser.proofs.OverlapCells.{first_between}
 
 last_between : (axes : List Axis) (f l : ℕ) → IsCellBox axes f l → IsBetween axes f l l
 last_between [] f l box = tt

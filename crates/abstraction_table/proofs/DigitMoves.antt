@@ -1,6 +1,5 @@
 -- Digits that are moved from one number to another are found there.
 use Rattle.std.proofs.Common.{◌≡◌, ℕ, ◌+◌, ◌*◌, ◌/◌, ◌%◌, ◌<◌, ◌≤◌, List, [], ◌∷◌, ◌++◌, All, get_or, sym, ap, ap₂, ◌∙◌, arith, inl, inr}
-use Rattle.std.proofs.Math.Arith.{mod-mul}
 use Rattle.std.proofs.Math.Nat.{mul_assoc, mul_comm, add_comm, add-mul, mod-eq_of_lt, mul-add-mod_self_right, div-div-eq-div-mul}
 use Rattle.std.proofs.lemmas.Bool.{cases_lt}
 use Rattle.std.proofs.lemmas.Nat.{mod_below, div-mul-add, mul-add-lt, mul-le}
@@ -8,18 +7,15 @@ use Rattle.std.proofs.lemmas.List.Elements.{All-head, All-nil, All-push, All-tai
 use Rattle.std.proofs.lemmas.List.Sums.{sum_by_push, sum_by-cons}
 use Rattle.abstraction_table.specs.declared.digits.Digit.{Digit}
 use Rattle.abstraction_table.specs.inside.Digits.{moved, Moves, IsMultiple}
-
--- a digit, by what is left of the number
-digit : (n c t : ℕ) → 0 < c → 0 < t → n / t % c ≡ n % (c * t) / t
-digit n c t some_c some_t = sym (ap (λ (k : ℕ). k / t) (mod-mul n some_c some_t) ∙ div-mul-add (n / t % c) t (n % t) (mod_below n t some_t))
+use Rattle.base.proofs.Products.{div-mod}
 
 -- what is added above a digit leaves it as it is
 pub lower_digit : (q g c t s : ℕ) → 0 < c → 0 < t → (q * (g * (c * t)) + s) / t % c ≡ s / t % c
 lower_digit q g c t s some_c some_t =
-    digit (q * (g * (c * t)) + s) c t some_c some_t
+    div-mod (q * (g * (c * t)) + s) c t some_c some_t
     ∙ ap (λ (k : ℕ). (k + s) % (c * t) / t) (sym (mul_assoc q g (c * t)))
     ∙ ap (λ (k : ℕ). k / t) (mul-add-mod_self_right (q * g) (c * t) s)
-    ∙ sym (digit s c t some_c some_t)
+    ∙ sym (div-mod s c t some_c some_t)
 
 -- what a multiple with a depend is, by a greater multiple
 by_multiple : (h w g r : ℕ) → r < w → (h * w + r) / (g * w) ≡ h / g

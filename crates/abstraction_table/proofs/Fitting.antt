@@ -3,13 +3,11 @@ use Rattle.std.proofs.Common.{◌≡◌, ◌≢◌, ℕ, ◌+◌, ◌-◌, ◌*�
 use Rattle.std.proofs.lemmas.List.{length-take-le, length-drop}
 use Rattle.std.proofs.lemmas.Nat.{mul-le, mod_below}
 use Rattle.grid_quantiser.specs.declared.boxes.CellBox.{CellBox}
-use Rattle.abstraction_table.proofs.LineBoxes.{later_cell, cell_count}
+use Rattle.abstraction_table.proofs.LineBoxes.{cell_count}
+use Rattle.base.proofs.Products.{part_fits}
 
 pub least : (n : ℕ) → 0 ≤ n
 least n = omega arith
-
-pub nothing_below : {A : Type 0} (k : ℕ) → k < 0 → A
-nothing_below k none = absurd (omega (arith, none))
 
 pub inputs_fit : (v w : ℕ) → v ≡ w → w ≤ 4096 → Fits w64 v
 inputs_fit v w same few = omega (arith, same, few)
@@ -48,7 +46,7 @@ module _ (boxes n v w c cells : ℕ) (long : boxes ≡ n * w) (same : v ≡ w) (
   long_by = long ∙ ap (λ (m : ℕ). n * m) (sym same)
 
   pub first_in : 1 ≤ n → v ≤ boxes
-  first_in any = omega (arith, long_by, later_cell 0 n v any)
+  first_in any = omega (arith, long_by, part_fits 0 n v any)
 
   -- the boxes of the last cell that is left, as cells are taken from the end
   module _ (cell : ℕ) (few : cell ≤ boxes / v) (left : 0 < cell) where
@@ -56,7 +54,7 @@ module _ (boxes n v w c cells : ℕ) (long : boxes ≡ n * w) (same : v ≡ w) (
     cell_below = omega (arith, few, left, cells_are)
 
     pub cell_in : (cell - 1) * v + v ≤ boxes
-    cell_in = omega (arith, long_by, later_cell (cell - 1) n v cell_below)
+    cell_in = omega (arith, long_by, part_fits (cell - 1) n v cell_below)
 
     pub copied_in : (cell - 1) * v + (v - 0) ≤ boxes
     copied_in = omega (arith, cell_in)
@@ -82,7 +80,7 @@ module _ (boxes n v w c cells : ℕ) (long : boxes ≡ n * w) (same : v ≡ w) (
     done_below = omega (arith, lt, cells_are)
 
     done_in : done * v + v ≤ boxes
-    done_in = omega (arith, long_by, later_cell done n v done_below)
+    done_in = omega (arith, long_by, part_fits done n v done_below)
 
     pub done_fits : cells ≤ 2 ^ 20 → Fits w32 done
     done_fits limit = omega (arith, limit, done_below, within)
@@ -103,7 +101,7 @@ module _ (boxes n v w c cells : ℕ) (long : boxes ≡ n * w) (same : v ≡ w) (
   to_fits end le = omega (arith, boxes_few, long_by, mul-le end v n v le (omega arith))
 
 pub from_before : (done end v : ℕ) → done < end → done * v ≤ end * v
-from_before done end v lt = omega (arith, later_cell done end v lt)
+from_before done end v lt = omega (arith, part_fits done end v lt)
 
 pub fewer_left : (cells done end n : ℕ) → cells ≡ n → done < end → end ≤ n → cells - end < cells - done
 fewer_left cells done end n count lt le = omega (arith, count, lt, le)

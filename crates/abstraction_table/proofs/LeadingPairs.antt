@@ -22,22 +22,17 @@ use Rattle.successor_box.specs.SuccessorBoxes.{cells_in}
 use Rattle.abstraction_table.specs.BoxGame.{box_game}
 use Rattle.abstraction_table.specs.inside.SourceLists.{leads_to, sources_among}
 use Rattle.abstraction_table.proofs.Tallying.{by_cell}
+use Rattle.base.proofs.Ranges.{filter-range_more}
 
 -- whether a list of cells has a cell
 pub has_any : (c : ℕ) (cells : List ℕ) → (list_any (◌==◌ c) cells ≡ true) ↔ Contains cells c
 has_any c cells = ((λ e. Contains-from_any (λ x y same. (Decides-eqb x y).0 same) c cells e), (λ has. list_any-from_Contains nat_eq_equiv c cells has))
 
--- one number more
-kept_more : (p : ℕ → Bool) (n : ℕ) → filter p (range_with_len 0 (n + 1)) ≡ filter p (range_with_len 0 n) ++ cond (p n) (n ∷ []) []
-kept_more p n =
-    ap (filter p) (sym (run-append 0 n 1) ∙ ap (λ (m : ℕ). range_with_len 0 n ++ m ∷ []) (let e : 0 + n ≡ n = omega arith in e))
-    ∙ filter-append p (range_with_len 0 n) (n ∷ [])
-
 -- a filter over a range keeps the numbers that pass
 kept_passes : (p : ℕ → Bool) (n x : ℕ) → Contains (filter p (range_with_len 0 n)) x → (x < n) × (p x ≡ true)
 kept_passes p zero x has = absurd (omega (arith, has.1))
 kept_passes p (suc n) x has =
-    elim (Contains-append_cases (filter p (range_with_len 0 n)) (cond (p n) (n ∷ []) []) x (subst (λ (xs : List ℕ). Contains xs x) (kept_more p n) (subst (λ (m : ℕ). Contains (filter p (range_with_len 0 m)) x) (let e : suc n ≡ n + 1 = omega arith in e) has))) [
+    elim (Contains-append_cases (filter p (range_with_len 0 n)) (cond (p n) (n ∷ []) []) x (subst (λ (xs : List ℕ). Contains xs x) (filter-range_more p n) (subst (λ (m : ℕ). Contains (filter p (range_with_len 0 m)) x) (let e : suc n ≡ n + 1 = omega arith in e) has))) [
       | inl before ↦ let h = kept_passes p n x before in (omega (arith, h.0), h.1)
       | inr here ↦ last (p n) refl here
     ]
@@ -53,7 +48,7 @@ kept_passes p (suc n) x has =
 passes_kept : (p : ℕ → Bool) (n x : ℕ) → x < n → p x ≡ true → Contains (filter p (range_with_len 0 n)) x
 passes_kept p zero x lt e = absurd (omega (arith, lt))
 passes_kept p (suc n) x lt e =
-    subst (λ (m : ℕ). Contains (filter p (range_with_len 0 m)) x) (let r : n + 1 ≡ suc n = omega arith in r) (subst (λ (xs : List ℕ). Contains xs x) (sym (kept_more p n)) (elim (cases_lt x n) [
+    subst (λ (m : ℕ). Contains (filter p (range_with_len 0 m)) x) (let r : n + 1 ≡ suc n = omega arith in r) (subst (λ (xs : List ℕ). Contains xs x) (sym (filter-range_more p n)) (elim (cases_lt x n) [
       | inl before ↦ Contains-append_left (filter p (range_with_len 0 n)) (cond (p n) (n ∷ []) []) x (passes_kept p n x before e)
       | inr past ↦
           let same : x ≡ n = omega (arith, lt, past) in
@@ -119,7 +114,7 @@ module _ (axes : List Axis) (boxes : List (Option CellBox)) (c k : ℕ) (rising 
 
   -- one pair more
   pub sources_more : sources_among axes boxes (k + 1) c ≡ sources_among axes boxes k c ++ replicate (times c cells) k
-  sources_more = kept_more (leads_to axes boxes c) k ∙ ap (λ (xs : List ℕ). sources_among axes boxes k c ++ xs) (sym here)
+  sources_more = filter-range_more (leads_to axes boxes c) k ∙ ap (λ (xs : List ℕ). sources_among axes boxes k c ++ xs) (sym here)
 
   pub count_more : length (sources_among axes boxes (k + 1) c) ≡ length (sources_among axes boxes k c) + times c cells
   count_more = ap length sources_more ∙ length-append (sources_among axes boxes k c) (replicate (times c cells) k) ∙ ap (λ (n : ℕ). length (sources_among axes boxes k c) + n) (length-replicate (times c cells) k)

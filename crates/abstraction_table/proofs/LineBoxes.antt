@@ -1,9 +1,8 @@
 -- The boxes of cells in a row, one cell after another from the last on.
 use Rattle.std.proofs.Common.{◌≡◌, ◌≢◌, ℕ, ◌+◌, ◌-◌, ◌*◌, ◌/◌, ◌<◌, ◌≤◌, List, Option, None, length, take, drop, set, ◌++◌, get_or, sym, ap, subst, ◌∙◌, arith, inl, inr}
-use Rattle.std.proofs.Math.Nat.{add-mul}
 use Rattle.std.proofs.lemmas.Bool.{cases_lt}
 use Rattle.std.proofs.lemmas.List.{get_or-take, get_or-drop}
-use Rattle.std.proofs.lemmas.Nat.{div-mul-add, mul-le}
+use Rattle.std.proofs.lemmas.Nat.{div-mul-add}
 use Rattle.grid_quantiser.specs.declared.boxes.CellBox.{CellBox}
 use Rattle.grid_quantiser.specs.Axes.{cells_of}
 use Rattle.grid_quantiser.specs.ExtentBoxes.{one_cell}
@@ -15,6 +14,7 @@ use Rattle.abstraction_table.specs.inside.CellLines.{last_state, AreInLine, IsIn
 use Rattle.abstraction_table.specs.inside.Terms.{AreIndicesOf, IsSumAlong, AreSumsAlong}
 use Rattle.abstraction_table.proofs.LineCells.{indices_in_line, further_in_line}
 use Rattle.abstraction_table.proofs.WrittenTerms.{written_long, written_before, written_in, written_after}
+use Rattle.base.proofs.Products.{part_fits}
 
 -- the first cell's boxes hold what is the same along the row
 abbrev pub AreFirst : Description → ℕ → ℕ → ℕ → List (Option CellBox) → Type 0
@@ -23,9 +23,6 @@ AreFirst p c states inputs boxes = (d u : ℕ) → IsInLineOf p c d → u < inpu
 -- the boxes of the cells from one of the row on are found
 abbrev pub AreDone : Description → ℕ → ℕ → ℕ → List (Option CellBox) → Type 0
 AreDone p c inputs from boxes = (k u : ℕ) → from ≤ k → u < inputs → k * inputs + u < length boxes → IsBoxOf p (c + k) u (get_or boxes (k * inputs + u) None)
-
-pub later_cell : (cell k v : ℕ) → cell < k → cell * v + v ≤ k * v
-later_cell cell k v lt = omega (arith, mul-le (cell + 1) v k v (omega (arith, lt)) (omega arith), add-mul cell 1 v)
 
 -- how many cells there are
 pub cell_count : (boxes n v w : ℕ) → boxes ≡ n * w → v ≡ w → 0 < v → boxes / v ≡ n
@@ -40,21 +37,21 @@ module _ (p : Description) (c n states v w cell : ℕ) (whole : w ≡ v) (boxes 
   after = take (cell * v) copied ++ (late ++ drop w (drop (cell * v) copied))
 
   within : cell * v + w ≤ length copied
-  within = omega (arith, whole, later_cell cell n v lt, copied_long, long)
+  within = omega (arith, whole, part_fits cell n v lt, copied_long, long)
 
   pub after_long : length after ≡ length boxes
   after_long = written_long (cell * v) w copied late None within late_long ∙ copied_long
 
   pub first_after : 0 < cell → AreFirst p c states v after
   first_after some d u row input =
-      let before : u < cell * v = omega (arith, later_cell 0 cell v some, input) in
+      let before : u < cell * v = omega (arith, part_fits 0 cell v some, input) in
       subst (IsSumAlong p states d u one_cell) (sym (written_before (cell * v) w copied late None within late_long u before ∙ below u before)) (first d u row input)
 
   pub done_after : AreDone p c v cell after
   done_after k u from input short =
       elim (cases_lt cell k) [
         | inl later ↦
-            let past : cell * v + v ≤ k * v + u = omega (arith, later_cell cell k v later) in
+            let past : cell * v + v ≤ k * v + u = omega (arith, part_fits cell k v later) in
             subst (IsBoxOf p (c + k) u) (sym (written_after (cell * v) w copied late None within late_long (k * v + u) (omega (arith, past, whole)) ∙ above (k * v + u) past))
             (done k u (omega (arith, later)) input (omega (arith, short, after_long)))
         | inr same ↦

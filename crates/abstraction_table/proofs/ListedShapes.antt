@@ -1,5 +1,5 @@
 -- One more shape whose segments are listed, and the boxes that have it.
-use Rattle.std.proofs.Common.{◌≡◌, ◌≢◌, ℕ, zero, suc, ◌+◌, ◌-◌, ◌^◌, ◌<◌, ◌≤◌, List, [], ◌∷◌, ◌++◌, All, map, length, take, drop, get_or, set, sum, Option, Some, None, refl, sym, ap, subst, ◌∙◌, arith}
+use Rattle.std.proofs.Common.{◌≡◌, ◌≢◌, ℕ, suc, ◌+◌, ◌-◌, ◌^◌, ◌<◌, ◌≤◌, List, [], ◌∷◌, ◌++◌, All, map, length, take, drop, get_or, set, sum, Option, Some, None, refl, sym, ap, subst, ◌∙◌, arith}
 use Rattle.std.specs.Prelude.{IfSome}
 use Rattle.std.specs.List.{range_with_len}
 use Rattle.std.proofs.lemmas.List.Sums.{sum_by_more}
@@ -22,18 +22,15 @@ use Rattle.abstraction_table.proofs.BelowBoxes.{boxes_have_cells, cells_lie_betw
 use Rattle.abstraction_table.proofs.Tallying.{by_cell}
 use Rattle.abstraction_table.proofs.BandIndices.{indices-append, segment_inside}
 use Rattle.abstraction_table.proofs.Segments.{cells-append, one_segment_more, segments_end}
+use Rattle.base.proofs.Ranges.{map-add-range}
 
 -- ---- segments that are moved
-
-moved_range : (k s n : ℕ) → map (λ c. k + c) (range_with_len s n) ≡ range_with_len (k + s) n
-moved_range k s zero = refl
-moved_range k s (suc n) = ap (λ xs. (k + s) ∷ xs) (moved_range k (s + 1) n ∙ ap (λ m. range_with_len m n) (let e : k + (s + 1) ≡ k + s + 1 = omega arith in e))
 
 moved_cells : (first : ℕ) (segments : List Segment) → map (λ c. first + c) (cells_from 0 segments) ≡ cells_from first segments
 moved_cells first [] = refl
 moved_cells first (r ∷ segments) =
     map-append (λ c. first + c) (range_with_len (0 + r.start) r.len) (cells_from 0 segments)
-    ∙ ap (λ xs. xs ++ map (λ c. first + c) (cells_from 0 segments)) (moved_range first (0 + r.start) r.len ∙ ap (λ s. range_with_len s r.len) (let e : first + (0 + r.start) ≡ first + r.start = omega arith in e))
+    ∙ ap (λ xs. xs ++ map (λ c. first + c) (cells_from 0 segments)) (map-add-range first (0 + r.start) r.len ∙ ap (λ s. range_with_len s r.len) (let e : first + (0 + r.start) ≡ first + r.start = omega arith in e))
     ∙ ap (λ xs. range_with_len (first + r.start) r.len ++ xs) (moved_cells first segments)
 
 -- the segments of the shape of a box are its own

@@ -11,8 +11,8 @@ use Rattle.plant_record.specs.Description.{Description, axes_of, vectors_of}
 use Rattle.successor_box.specs.SuccessorBoxes.{IsBoxOf}
 use Rattle.plant_game.specs.Abstraction.{pairs_of, pair_of, AreBoxesOf}
 use Rattle.abstraction_table.specs.inside.CellLines.{AreBoxesFrom}
-use Rattle.abstraction_table.proofs.LineBoxes.{later_cell}
 use Rattle.abstraction_table.proofs.CellLineLists.{range, cell_before}
+use Rattle.base.proofs.Products.{part_fits}
 
 -- the number of a pair is below the number of pairs
 pub pair_below : (p : Description) (c u : ℕ) → c < cells_of (axes_of p) → u < vectors_of p.inputs → pair_of p c u < pairs_of p
@@ -40,7 +40,7 @@ are_boxes p boxes m some long by_chunk = record {
       let quotient : n * (m * v) / v ≡ n * m = ap (λ (i : ℕ). i / v) (begins ∙ (let e : n * m * v ≡ n * m * v + 0 = omega arith in e)) ∙ div-mul-add (n * m) v 0 some_input in
       let slot : n * (m * v) + (k * v + u) ≡ c * v + u = omega (arith, begins, add-mul (n * m) k v, ap (λ (i : ℕ). i * v) terms) in
       let within : c * v + u < length boxes = omega (arith, pair_below p c u cell input, long) in
-      let short : k * v + u < m * v = omega (arith, later_cell k m v below, input) in
+      let short : k * v + u < m * v = omega (arith, part_fits k m v below, input) in
       let inside : k * v + u < length (slice_chunk boxes (m * v) n) = omega (arith, length-take (m * v) (drop (n * (m * v)) boxes), length-drop (n * (m * v)) boxes, slot, within, short) in
       let there : get_or (slice_chunk boxes (m * v) n) (k * v + u) None ≡ get_or boxes (c * v + u) None =
       get_or-take (m * v) (drop (n * (m * v)) boxes) (k * v + u) None short ∙ get_or-drop (n * (m * v)) boxes (k * v + u) None ∙ ap (λ (i : ℕ). get_or boxes i None) slot

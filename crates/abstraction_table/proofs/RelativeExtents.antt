@@ -7,13 +7,13 @@ use Rattle.grid_quantiser.specs.declared.extents.Extent.{Extent}
 use Rattle.grid_quantiser.specs.Axes.{IsAxis, no_axis}
 use Rattle.grid_quantiser.specs.Extents.{IsExtentOf, extended, IsExtentBefore}
 use Rattle.grid_quantiser.proofs.AxisNumbers.{some_width, offset_is}
-use Rattle.grid_quantiser.proofs.General.{quotients_ordered}
 use Rattle.plant_record.specs.Description.{Description, axes_of}
 use Rattle.plant_record.specs.Soundness.{IsSound}
 use Rattle.successor_box.specs.SuccessorBoxes.{low_corner, high_corner}
 use Rattle.successor_box.specs.PairExtents.{IsExtentBeforeAt}
 use Rattle.successor_box.proofs.ExtentEnds.{ends_ordered}
 use Rattle.abstraction_table.specs.inside.ExtentTables.{IsRelativeExtent}
+use Rattle.base.proofs.Products.{quotients_in_order}
 
 -- a pair's extent, so many indices before, is on the prolonged axis
 pub extended_at : (p : Description) → IsSound p → (i : ℕ) → i < length p.equations → (c u indices : ℕ) (extent : Option Extent) → IsExtentBeforeAt p c u i indices extent → IsRelativeExtent p i extent
@@ -40,4 +40,4 @@ extent_ordered a low high None axis order is = tt
 extent_ordered a low high (Some s) axis order is =
     let on = is.inside.0 refl in
     let offsets : nat_abs (low -ℤ a.lo) ≤ nat_abs (high -ℤ a.lo) = omega (arith, ints, offset_is a low on.0.0, offset_is a high on.1.0, order) in
-    omega (arith, is.indices.0, is.indices.1, quotients_ordered (nat_abs (low -ℤ a.lo)) (nat_abs (high -ℤ a.lo)) (nat_abs a.width) (some_width a axis) offsets)
+    omega (arith, is.indices.0, is.indices.1, quotients_in_order (nat_abs (low -ℤ a.lo)) (nat_abs (high -ℤ a.lo)) (nat_abs a.width) (some_width a axis) offsets)

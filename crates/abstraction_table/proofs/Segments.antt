@@ -60,10 +60,6 @@ listed_more before now cells left later r h segment =
       few = omega (arith, h.few, segment.some, ap length segment.parts, length-append (range_with_len r.start r.len) later, length-range_with_len r.start r.len, length-append h.more (r ∷ []));
     }
 
--- a segment takes cells away from those that are left
-pub left_shorter : (left later : List ℕ) (start len : ℕ) → BeginsWithSegment left later start len → length later < length left
-left_shorter left later start len segment = omega (arith, segment.some, ap length segment.parts, length-append (range_with_len start len) later, length-range_with_len start len)
-
 pub listed_all : (before now : List Segment) (cells left : List ℕ) → ListsSoFar before now cells left → left ≡ [] → ListsSegments before now cells
 listed_all before now cells left h none = record {
   more = h.more;

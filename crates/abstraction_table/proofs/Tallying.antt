@@ -5,18 +5,16 @@ use Rattle.std.proofs.lemmas.Bool.{cases_eq, eq-eqb, ne_eqb}
 use Rattle.std.proofs.lemmas.List.{drop_more, drop-set-lt, take-append-drop, take_more_set, length-append, length-replicate, length-set, length-take, length-take-le, length-drop, get_or_default, get_or-append_right, get_or-take, get_or-drop, get_or-set_same, get_or-set_other, replicate-append-replicate, set-append_right}
 use Rattle.std.proofs.lemmas.List.Edits.{map_over_more}
 use Rattle.std.proofs.lemmas.List.Elements.{All-tail}
-use Rattle.std.proofs.lemmas.List.Sums.{sum_by-append, sum_by_push, sum_by-set}
+use Rattle.std.proofs.lemmas.List.Sums.{sum_by_push, sum_by-set}
 use Rattle.rayon.specs.Shown.{run-append}
 use Rattle.game_core.specs.Counts.{times}
-use Rattle.edge_rows.specs.Rows.{Filling, row_at, appended, changed_run, appended_run, HaveFreeSlots}
+use Rattle.edge_rows.specs.Rows.{Filling, row_at, with_value, with_each_changed, with_value_each, EachHasFreeSlot}
 use Rattle.abstraction_table.specs.inside.Tallies.{AreCounted, CountsFit, ArePut, HasCapacityFor}
+use Rattle.base.proofs.Times.{times-append}
 
 -- a number is a cell or another
 pub by_cell : {P : Type 0} (c x : ℕ) → (c ≡ x → P) → (c ≢ x → P) → P
 by_cell c x same other = elim (cases_eq c x) [ inl is ↦ same is | inr apart ↦ other apart ]
-
-pub times-append : (c : ℕ) (xs ys : List ℕ) → times c (xs ++ ys) ≡ times c xs + times c ys
-times-append c xs ys = sum_by-append (λ x. cond (x == c) 1 0) xs ys
 
 times_same : (c x : ℕ) (xs : List ℕ) → c ≡ x → times c (xs ++ x ∷ []) ≡ times c xs + 1
 times_same c x xs same = sum_by_push (λ y. cond (y == c) 1 0) xs x ∙ ap (λ (b : Bool). times c xs + cond b 1 0) (eq-eqb x c (sym same))
@@ -73,12 +71,12 @@ segment_fits before counts done segment later h capacity = λ c. omega (arith, h
 -- ---- rows
 
 pub put_one : (pair : ℕ) (before now after : Filling) (cells : List ℕ) (x : ℕ) → ArePut pair before now cells → x < length before.rows →
-    after.rows ≡ appended now.rows x pair → after.lengths ≡ now.lengths → ArePut pair before after (cells ++ x ∷ [])
+    after.rows ≡ with_value now.rows x pair → after.lengths ≡ now.lengths → ArePut pair before after (cells ++ x ∷ [])
 put_one pair before now after cells x h within rows lengths = record {
   long = ap length rows ∙ length-set now.rows x (row_at now.rows x ++ pair ∷ []) ∙ h.long;
   lengths = lengths ∙ h.lengths;
   each = λ c below. ap (λ (r : List (List ℕ)). row_at r c) rows ∙ by_cell c x
-      (λ same. ap (λ (i : ℕ). row_at (appended now.rows x pair) i) same
+      (λ same. ap (λ (i : ℕ). row_at (with_value now.rows x pair) i) same
       ∙ get_or-set_same now.rows x (row_at now.rows x ++ pair ∷ []) [] (rw h.long within)
       ∙ ap (λ (r : List ℕ). r ++ pair ∷ []) (h.each x within)
       ∙ append_assoc (row_at before.rows x) (replicate (times x cells) pair) (pair ∷ [])
@@ -112,7 +110,7 @@ capacity_left pair before now done segment later h capacity = λ c below.
 -- ---- segments
 
 -- one item more is changed, the next after the segment
-changed_longer : {X : Type 0} (change : X → X) (xs : List X) (r n : ℕ) (x : X) → r + n < length xs → x ≡ get_or (changed_run change xs r n) (r + n) x → set (changed_run change xs r n) (r + n) (change x) ≡ changed_run change xs r (suc n)
+changed_longer : {X : Type 0} (change : X → X) (xs : List X) (r n : ℕ) (x : X) → r + n < length xs → x ≡ get_or (with_each_changed change xs r n) (r + n) x → set (with_each_changed change xs r n) (r + n) (change x) ≡ with_each_changed change xs r (suc n)
 changed_longer {X} change xs r n x below is =
     let front : List X = take r xs in
     let back : List X = drop r xs in
@@ -124,13 +122,13 @@ changed_longer {X} change xs r n x below is =
     set-append_right front now r (r + n) (change x) long (omega arith)
     ∙ ap (λ (i : ℕ). front ++ set now i (change x)) at
     ∙ ap (λ (ys : List X). front ++ ys) (map_over_more change back now n x (omega (arith, below, length-drop r xs)) refl here)
-    ∙ ap (changed_run change xs r) next
+    ∙ ap (with_each_changed change xs r) next
 
 -- one is added to each count of a segment
-pub counted_segment : (counts : List ℕ) (r n : ℕ) → r + n ≤ length counts → AreCounted counts (changed_run (λ count. count + 1) counts r n) (range_with_len r n)
+pub counted_segment : (counts : List ℕ) (r n : ℕ) → r + n ≤ length counts → AreCounted counts (with_each_changed (λ count. count + 1) counts r n) (range_with_len r n)
 counted_segment counts r zero within = subst (λ after. AreCounted counts after []) (sym (take-append-drop r counts)) (counted_none counts)
 counted_segment counts r (suc n) within =
-    let now : List ℕ = changed_run (λ count. count + 1) counts r n in
+    let now : List ℕ = with_each_changed (λ count. count + 1) counts r n in
     let so_far = counted_segment counts r n (omega (arith, within)) in
     let here : r + n < length now = omega (arith, within, so_far.long) in
     let longer = changed_longer (λ count. count + 1) counts r n (get_or now (r + n) 0) (omega (arith, within)) (get_or_default now (r + n) 0 (get_or now (r + n) 0) here) in
@@ -167,18 +165,18 @@ segment_counts_fit bound counts r n k same within capacity = λ i d lt.
     omega (arith, is, capacity (r + i), in_segment (r + i) r n (omega arith) (omega (arith, below)))
 
 -- a pair is put in each row of a segment
-pub put_each : (pair : ℕ) (before after : Filling) (r n : ℕ) → r + n ≤ length before.rows → after.rows ≡ appended_run before.rows r n pair → after.lengths ≡ before.lengths → ArePut pair before after (range_with_len r n)
+pub put_each : (pair : ℕ) (before after : Filling) (r n : ℕ) → r + n ≤ length before.rows → after.rows ≡ with_value_each before.rows r n pair → after.lengths ≡ before.lengths → ArePut pair before after (range_with_len r n)
 put_each pair before after r zero within rows lengths =
     let same = rows ∙ take-append-drop r before.rows in
     record { long = ap length same; lengths = lengths; each = λ c below. ap (λ (rs : List (List ℕ)). row_at rs c) same ∙ sym (append-nil (row_at before.rows c)) }
 put_each pair before after r (suc n) within rows lengths =
-    let now : Filling = record { rows = appended_run before.rows r n pair; lengths = before.lengths } in
+    let now : Filling = record { rows = with_value_each before.rows r n pair; lengths = before.lengths } in
     let so_far = put_each pair before now r n (omega (arith, within)) refl refl in
     let row : List ℕ = row_at now.rows (r + n) in
     let longer = changed_longer (λ row. row ++ pair ∷ []) before.rows r n row (omega (arith, within)) (get_or_default now.rows (r + n) [] row (omega (arith, within, so_far.long))) in
     subst (ArePut pair before after) (range_longer r n) (put_one pair before now after (range_with_len r n) (r + n) so_far (omega (arith, within)) (rows ∙ sym longer) lengths)
 
 -- the rows of a segment have room
-pub segment_has_capacity : (f : Filling) (r n : ℕ) → r + n ≤ length f.rows → HasCapacityFor f (range_with_len r n) → HaveFreeSlots f r n
+pub segment_has_capacity : (f : Filling) (r n : ℕ) → r + n ≤ length f.rows → HasCapacityFor f (range_with_len r n) → EachHasFreeSlot f r n
 segment_has_capacity f r n within capacity = λ c low high.
     let below : c < length f.rows = omega (arith, within, high) in (below, omega (arith, capacity c below, in_segment c r n low high))

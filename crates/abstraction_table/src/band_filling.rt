@@ -2,7 +2,7 @@
 ghost use Rattle.std.specs.Prelude.{◌≡◌, ◌+◌, ◌^◌, ◌<◌, ◌≤◌, map, length, sum, IfOk, IfSome};
 ghost use Rattle.std.specs.List.{All, range_with_len};
 ghost use Rattle.grid_quantiser.specs.Axes.{cells_of, AreAxes};
-ghost use Rattle.edge_rows.specs.Rows.{unfilled, HaveFreeSlots, appended_run};
+ghost use Rattle.edge_rows.specs.Rows.{empty_rows, EachHasFreeSlot, with_value_each};
 ghost use Rattle.successor_box.specs.SuccessorBoxes.{cells_in};
 ghost use Rattle.abstraction_table.specs.inside.Shapes.{cells_from, EndsBy, HasSegmentsOf, HaveSegments};
 ghost use Rattle.abstraction_table.specs.inside.SourceLists.{IsBox, AreBandRows};
@@ -72,7 +72,7 @@ fn put_sources(grid: &Grid, shapes: &Shapes, boxes: &[PairBox], band: Band, fill
     requires segments { HaveSegments grid.now shapes.now boxes.now }
     requires pairs { length boxes.now ≤ PAIRS_LIMIT }
     requires within { band.from + band.len ≤ cells_of grid.now }
-    requires empty { fill.old.rows ≡ unfilled fill.old.lengths }
+    requires empty { fill.old.rows ≡ empty_rows fill.old.lengths }
     requires counts { AreCountsAmong grid.now boxes.now band.from band.len (length boxes.now) fill.old.lengths }
     ensures rows { AreBandRows grid.now boxes.now band.from band.len fill.new.rows }
     ensures lengths { fill.new.lengths ≡ fill.old.lengths }
@@ -237,8 +237,8 @@ fn first_len(segments: &[Segment]) -> u32 {
 #[inline]
 fn put_each_of<const LEN: u32>(first: u32, len: u32, pair: u32, fill: &mut RowFill)
     requires within { first + len ≤ length fill.old.rows }
-    requires capacity { HaveFreeSlots fill.old first len }
-    ensures rows { fill.new.rows ≡ appended_run fill.old.rows first len pair }
+    requires capacity { EachHasFreeSlot fill.old first len }
+    ensures rows { fill.new.rows ≡ with_value_each fill.old.rows first len pair }
     ensures lengths { fill.new.lengths ≡ fill.old.lengths }
 {
     if len == LEN {

@@ -60,7 +60,7 @@ pub fn add_sources<R: Threads + Sync>(
         boxed.fans.edges,
         &forward.shapes,
     );
-    let sources = found.map_err(|_| NoMemory)?;
+    let sources = found?;
     Ok(Abstraction { boxed, sources })
 }
 

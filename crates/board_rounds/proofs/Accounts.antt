@@ -11,14 +11,14 @@ use Rattle.cell_counters.specs.declared.account.Log.{Log}
 use Rattle.cell_counters.specs.declared.account.Offer.{Offer}
 use Rattle.cell_counters.specs.declared.account.Account.{Account}
 use Rattle.cell_counters.specs.Accounts.{answers, all_answers, cut_count, offers_on, all_offers, first_count, all_logs}
-use Rattle.cell_counters.specs.Laws.{answered}
+use Rattle.cell_counters.specs.Laws.{times_answered}
 use Rattle.cell_counters.specs.BoardModels.{HandModel}
 use Rattle.frontier_pool.specs.declared.member.Member.{Member}
 use Rattle.game_core.specs.Counts.{one_if, times}
-use Rattle.game_core.proofs.Times.{same}
-use Rattle.board_rounds.specs.Crew.{accounts_of, notes_of, cuts_in, offers_in, logged_cells, counters_of, cut_to, claimed}
-use Rattle.game_core.proofs.Counts.{sum_map, sum_alike}
+use Rattle.board_rounds.specs.Crew.{accounts_of, notes_of, cuts_in, offers_in, logged_cells, counters_of, cut_to, claimed_words}
+use Rattle.base.proofs.Counts.{sum_map, sum_alike}
 use Rattle.board_rounds.proofs.Sums.{count_map, count_both, sum_flat}
+use Rattle.base.proofs.Times.{same}
 
 -- what these cuts left
 abbrev lefts_of : List Cut → List ℕ
@@ -43,7 +43,7 @@ cuts_are counter accounts =
     ∙ (length-filter (λ (c : Cut). c.counter == counter) (cuts_in accounts) ∙ sym (count_map (λ n. n == counter) (λ (c : Cut). c.counter) (cuts_in accounts))))
 
 -- the cuts that left a number, and the offers on a word that were first
-pub cuts_to_are : (counter v : ℕ) (accounts : List Account) → answered counter v accounts ≡ times counter (cut_to v (cuts_in accounts))
+pub cuts_to_are : (counter v : ℕ) (accounts : List Account) → times_answered counter v accounts ≡ times counter (cut_to v (cuts_in accounts))
 cuts_to_are counter v accounts =
     let of_counter = λ (c : Cut). c.counter == counter in
     let left_it = λ (c : Cut). c.left == v in
@@ -51,7 +51,7 @@ cuts_to_are counter v accounts =
     ∙ (count_map (λ answer. answer == v) (λ (c : Cut). c.left) (filter of_counter (cuts_in accounts))
     ∙ (count_both left_it of_counter (cuts_in accounts) ∙ sym (count_map (λ n. n == counter) (λ (c : Cut). c.counter) (filter left_it (cuts_in accounts)))))
 
-pub firsts_are : (word : ℕ) (accounts : List Account) → times word (claimed (offers_in accounts)) ≡ first_count (all_offers word accounts)
+pub firsts_are : (word : ℕ) (accounts : List Account) → times word (claimed_words (offers_in accounts)) ≡ first_count (all_offers word accounts)
 firsts_are word accounts =
     let of_word = λ (o : Offer). o.word == word in
     let first = λ (o : Offer). o.first in

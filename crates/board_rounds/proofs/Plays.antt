@@ -13,14 +13,14 @@ use Rattle.cell_counters.proofs.Consequences.{new_slots}
 use Rattle.frontier_pool.specs.declared.member.Member.{Member}
 use Rattle.game_core.specs.Counts.{one_if, times}
 use Rattle.game_core.specs.Game.{Game, successors_at}
-use Rattle.game_core.proofs.Counts.{sum_positions}
-use Rattle.game_core.proofs.Times.{from_both_sides}
+use Rattle.base.proofs.Counts.{sum_positions}
 use Rattle.board_rounds.specs.Crew.{accounts_of, notes_of, logged_cells, IsTalliedBy, counters_of}
 use Rattle.board_rounds.specs.declared.rounds.Rounds.{Rounds}
 use Rattle.board_rounds.specs.Rules.{IsRound, LeadsOn}
-use Rattle.board_rounds.specs.inside.WorkerSteps.{cuts_for, IsAtWork, HaveWorked}
-use Rattle.board_rounds.specs.inside.RoundInvariant.{HoldsBefore, to_go}
+use Rattle.board_rounds.specs.inside.WorkerSteps.{cuts_for, IsAtWork, AllAtWork}
+use Rattle.board_rounds.specs.inside.RoundInvariant.{IsRoundInvariant, to_go}
 use Rattle.board_rounds.proofs.Accounts.{notes_in, cuts_by_notes, notes_reversed, all_logs-append}
+use Rattle.base.proofs.Times.{from_both_sides}
 
 -- the slots that were filled since
 abbrev pub cells_since : ℕ → List Account → List ℕ
@@ -29,7 +29,7 @@ cells_since listed accounts = map (λ slot. cell_at slot (all_logs accounts)) (r
 -- what a round did between two stands
 pub record Played (g : Game) (fits : BoardModel → Type 0) (keeps : Account → Type 0) (board : BoardModel) (workers : ℕ) (old new : Rounds) : Type 0 where
   pub members : List (Member HandModel)
-  pub worked : HaveWorked g fits keeps board old.list.items members
+  pub worked : AllAtWork g fits keeps board old.list.items members
   pub swept : IsPermutation (range_with_len 0 (length old.list.items)) (notes_of members)
   pub accounts : new.root.accounts ≡ old.root.accounts ++ reverse (accounts_of members)
   pub lawful : IsLawful new.root.accounts board.starts board.least
@@ -44,7 +44,7 @@ pub record Played (g : Game) (fits : BoardModel → Type 0) (keeps : Account →
   pub capacity : g.cells ≤ vec_capacity new.list
 
 module _ (g : Game) (fits : BoardModel → Type 0) (first : ℕ → Bool) (keeps : ℕ → Account → Type 0) (holds_before : ℕ → List ℕ → List Account → Type 0) (board : BoardModel) (leads : LeadsOn g board first keeps holds_before) where
-  module _ (d : ℕ) (list : List ℕ) (accounts : List Account) (members : List (Member HandModel)) (early : d ≤ g.cells) (some' : 0 < length list) (was : holds_before d list accounts) (worked : HaveWorked g fits (keeps d) board list members) (swept : IsPermutation (range_with_len 0 (length list)) (notes_of members)) (lawful : IsLawful (accounts ++ reverse (accounts_of members)) board.starts board.least) where
+  module _ (d : ℕ) (list : List ℕ) (accounts : List Account) (members : List (Member HandModel)) (early : d ≤ g.cells) (some' : 0 < length list) (was : holds_before d list accounts) (worked : AllAtWork g fits (keeps d) board list members) (swept : IsPermutation (range_with_len 0 (length list)) (notes_of members)) (lawful : IsLawful (accounts ++ reverse (accounts_of members)) board.starts board.least) where
     abbrev more : List Account
     more = reverse (accounts_of members)
 
@@ -85,18 +85,18 @@ module _ (g : Game) (fits : BoardModel → Type 0) (first : ℕ → Bool) (keeps
         ap (λ n. times c (cells n)) many
         ∙ sym (sum_by-IsPermutation (λ x. one_if (x == c)) (cells (log_count more)) (logged_cells (all_logs more)) (new_slots accounts more before new_log)))
 
-  module _ (workers : ℕ) (old : Rounds) (was : HoldsBefore holds_before board g.cells workers old) (some' : 0 < length old.list.items) where
+  module _ (workers : ℕ) (old : Rounds) (was : IsRoundInvariant holds_before board g.cells workers old) (some' : 0 < length old.list.items) where
     pub early : old.tally.rounds ≤ g.cells
     early = let a = was.early some' in let b = was.all_listed in let c = leads.few old.tally.rounds old.list.items old.root.accounts was.by_rule in omega arith
 
-    pub few_after : (members : List (Member HandModel)) (now : List Account) → HaveWorked g fits (keeps old.tally.rounds) board old.list.items members → IsPermutation (range_with_len 0 (length old.list.items)) (notes_of members)
+    pub few_after : (members : List (Member HandModel)) (now : List Account) → AllAtWork g fits (keeps old.tally.rounds) board old.list.items members → IsPermutation (range_with_len 0 (length old.list.items)) (notes_of members)
         → now ≡ old.root.accounts ++ reverse (accounts_of members) → IsLawful now board.starts board.least → log_count now ≤ g.cells
     few_after members now worked swept e lawful =
         subst (λ l. log_count l ≤ g.cells) (sym e)
         (few old.tally.rounds old.list.items old.root.accounts members early some' was.by_rule worked swept (subst (λ l. IsLawful l board.starts board.least) e lawful))
 
     -- a round leads from one stand to the next, and on
-    pub stands_after : (new : Rounds) → Played g fits (keeps old.tally.rounds) board workers old new → HoldsBefore holds_before board g.cells workers new × (to_go g.cells new < to_go g.cells old)
+    pub stands_after : (new : Rounds) → Played g fits (keeps old.tally.rounds) board workers old new → IsRoundInvariant holds_before board g.cells workers new × (to_go g.cells new < to_go g.cells old)
     stands_after new p =
         let d = old.tally.rounds in
         let accounts = old.root.accounts in

@@ -1,10 +1,10 @@
 -- Sums and counts over maps, filters and lists in parts.
-use Rattle.std.proofs.Common.{◌≡◌, ℕ, ◌+◌, ◌<◌, ◌&&◌, Bool, true, false, cond, List, [], ◌∷◌, map, filter, get_or, All, count_by, sum_by, arith, refl, sym, ◌∙◌, ap}
+use Rattle.std.proofs.Common.{◌≡◌, ℕ, ◌+◌, ◌<◌, ◌&&◌, Bool, true, false, cond, List, [], ◌∷◌, map, filter, get_or, All, count_by, sum_by, arith, refl, sym, ◌∙◌}
 use Rattle.std.specs.List.{flat_map, range_with_len}
 use Rattle.std.proofs.lemmas.List.FromFn.{length-range_with_len, get_or-range_with_len}
 use Rattle.std.proofs.lemmas.List.Sums.{sum_by-cons, sum_by-append}
 use Rattle.game_core.specs.Counts.{one_if}
-use Rattle.game_core.proofs.Counts.{count-cons, sum_map, count_same}
+use Rattle.base.proofs.Counts.{count-cons, sum_map, count_same}
 
 pub count_map : {X Y : Type 0} (p : Y → Bool) (h : X → Y) (xs : List X) → count_by p (map h xs) ≡ count_by (λ x. p (h x)) xs
 count_map p h xs = sum_map (λ y. one_if (p y)) h xs

@@ -8,7 +8,7 @@ use Rattle.game_core.specs.Counts.{one_if, times}
 use Rattle.game_core.specs.Game.{Game, pairs_of}
 use Rattle.board_rounds.specs.Crew.{IsFresh, counters_of}
 use Rattle.board_rounds.specs.Rules.{CutsOnce}
-use Rattle.board_rounds.specs.inside.WorkerSteps.{cuts_for, IsAtWork, HaveWorked}
+use Rattle.board_rounds.specs.inside.WorkerSteps.{cuts_for, IsAtWork, AllAtWork}
 
 -- a worker that has cut these pairs since it was at work
 pub record IsUnderWay (g : Game) (keeps : Account → Type 0) (board : BoardModel) (list : List ℕ) (pairs : List ℕ) (was now : HandModel) : Type 0 where
@@ -19,7 +19,7 @@ pub record IsUnderWay (g : Game) (keeps : Account → Type 0) (board : BoardMode
 
 module _ (g : Game) (fits : BoardModel → Type 0) (keeps : Account → Type 0) (board : BoardModel) (list : List ℕ) where
   -- new workers are at work in any round
-  pub fresh_have_worked : fits board → keeps blank → (members : List (Member HandModel)) → All (IsFresh board) members → HaveWorked g fits keeps board list members
+  pub fresh_have_worked : fits board → keeps blank → (members : List (Member HandModel)) → All (IsFresh board) members → AllAtWork g fits keeps board list members
   fresh_have_worked of_game kept members h i d lt = subst (IsAtWork g fits keeps board list) (sym (h i d lt)) (record { of_game = of_game; at = refl; cuts = λ pair lp. refl; kept = kept })
 
   module _ (was : HandModel) where

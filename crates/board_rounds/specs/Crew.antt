@@ -26,8 +26,8 @@ abbrev pub cut_to : ℕ → List Cut → List ℕ
 cut_to v cuts = counters_of (filter (λ (c : Cut). c.left == v) cuts)
 
 -- the words on which an offer was first
-abbrev pub claimed : List Offer → List ℕ
-claimed offers = map (λ (o : Offer). o.word) (filter (λ (o : Offer). o.first) offers)
+abbrev pub claimed_words : List Offer → List ℕ
+claimed_words offers = map (λ (o : Offer). o.word) (filter (λ (o : Offer). o.first) offers)
 
 -- the cells that were logged
 abbrev pub logged_cells : List Log → List ℕ

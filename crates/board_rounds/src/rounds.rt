@@ -5,8 +5,8 @@ ghost use Rattle.std.specs.List.{range_with_len};
 ghost use Rattle.cell_counters.specs.BoardModels.{new_root};
 ghost use Rattle.board_rounds.specs.Crew.{IsFresh, notes_of};
 ghost use Rattle.board_rounds.specs.Rounds.{IsUnused, IsOver};
-ghost use Rattle.board_rounds.specs.inside.RoundInvariant.{HoldsBefore, to_go};
-ghost use Rattle.board_rounds.specs.inside.WorkerSteps.{HaveWorked};
+ghost use Rattle.board_rounds.specs.inside.RoundInvariant.{IsRoundInvariant, to_go};
+ghost use Rattle.board_rounds.specs.inside.WorkerSteps.{AllAtWork};
 ghost use Rattle.base.specs.declared.limits.TheConstants.{WORKERS_LIMIT};
 
 use crate::capacity::capacity_for;
@@ -95,9 +95,9 @@ impl Rounds {
         requires board { L.fits rule.now board.now }
         requires slots { board.now.slots ≡ (L.game rule.now).cells }
         requires workers { (1 ≤ workers) × (workers ≤ WORKERS_LIMIT) }
-        requires holds_before { HoldsBefore (L.holds_before rule.now) board.now (L.game rule.now).cells workers self.old }
+        requires holds_before { IsRoundInvariant (L.holds_before rule.now) board.now (L.game rule.now).cells workers self.old }
         requires some { 0 < vec_len self.old.list }
-        ensures holds_before { HoldsBefore (L.holds_before rule.now) board.now (L.game rule.now).cells workers self.new }
+        ensures holds_before { IsRoundInvariant (L.holds_before rule.now) board.now (L.game rule.now).cells workers self.new }
         ensures nearer { to_go (L.game rule.now).cells self.new < to_go (L.game rule.now).cells self.old }
     {
         let items = self.list.len() as u32;
@@ -143,7 +143,7 @@ fn do_items<R: Threads + Sync, L: Rule, T: Gate>(
     requires members { (0 < vec_len members.old) × (vec_len members.old ≤ WORKERS_LIMIT) }
     requires board { L.fits round_job.now.rule.now round_job.now.board.now }
     requires fresh { All (IsFresh round_job.now.board.now) members.old.items }
-    ensures worked { HaveWorked (L.game round_job.now.rule.now) (L.fits round_job.now.rule.now) (L.keeps round_job.now.rule.now round_job.now.round) round_job.now.board.now round_job.now.list.now members.new.items }
+    ensures worked { AllAtWork (L.game round_job.now.rule.now) (L.fits round_job.now.rule.now) (L.keeps round_job.now.rule.now round_job.now.round) round_job.now.board.now round_job.now.list.now members.new.items }
     ensures swept { IsPermutation (range_with_len 0 round_job.now.items) (notes_of members.new.items) }
     ensures members { vec_len members.new ≡ vec_len members.old }
     ensures capacity { vec_capacity members.new ≡ vec_capacity members.old }

@@ -16,11 +16,13 @@ use Rattle.cell_counters.specs.declared.account.Account.{Account}
 use Rattle.cell_counters.specs.Accounts.{minus, lefts, answers, all_answers, cut_count, offers_on, all_offers, values, first_count, IsLeastOf, all_logs, log_count, numbers, cell_at}
 use Rattle.cell_counters.specs.Laws.{countdown, CountsDown, AnswersOnce, OneIsFirst, NothingDone, NewAnswers, NewFirsts, NewSlots}
 use Rattle.cell_counters.proofs.Countdown.{lefts-more}
-use Rattle.cell_counters.proofs.Counts.{one_if, one_at, one_at-yes, one_at-no, times, times-append, times-permutation, range_once, range-append, IsPermutation-rest}
+use Rattle.cell_counters.proofs.Counts.{one_at, times-permutation, range_once, range-append, IsPermutation-rest}
 use Rattle.cell_counters.proofs.Lists.{All-back}
 use Rattle.cell_counters.proofs.Cuts.{counter_begins}
 use Rattle.cell_counters.proofs.Offers.{least_begins}
 use Rattle.cell_counters.proofs.Logs.{cells_told}
+use Rattle.base.proofs.Times.{times-append, one_if_here, one_if_elsewhere}
+use Rattle.base.specs.Counts.{one_if, times}
 
 minus_within : (s j : ℕ) → s < 2 ^ 64 → j ≤ s → minus s j ≡ s - j
 minus_within s j small le = omega arith
@@ -47,7 +49,7 @@ answered_later : (s n v : ℕ) → s < 2 ^ 64 → n + v < s → times v (lefts s
 answered_later s zero v small lt = refl
 answered_later s (suc n) v small lt =
     let before : times v (lefts s n) ≡ 0 = answered_later s n v small (omega arith) in
-    let here : one_at v (s - suc n) ≡ 0 = one_at-no v (s - suc n) (λ e. absurd (omega arith)) in
+    let here : one_at v (s - suc n) ≡ 0 = one_if_elsewhere (s - suc n) v (λ e. absurd (omega arith)) in
     times-more s n v small (omega arith) ∙ omega arith
 
 answered_once : (s n v : ℕ) → s < 2 ^ 64 → n ≤ s → v < s → s ≤ n + v → times v (lefts s n) ≡ 1
@@ -57,10 +59,10 @@ answered_once s (suc n) v small le lt there =
     ∙ dite (ℕ_discrete (s - suc n) v)
     (λ (last : s - suc n ≡ v).
     let before : times v (lefts s n) ≡ 0 = answered_later s n v small (omega arith) in
-    let here : one_at v (s - suc n) ≡ 1 = one_at-yes v (s - suc n) last in omega arith)
+    let here : one_at v (s - suc n) ≡ 1 = one_if_here (s - suc n) v last in omega arith)
     (λ (earlier : s - suc n ≢ v).
     let before : times v (lefts s n) ≡ 1 = answered_once s n v small (omega arith) lt (omega arith) in
-    let here : one_at v (s - suc n) ≡ 0 = one_at-no v (s - suc n) earlier in omega arith)
+    let here : one_at v (s - suc n) ≡ 0 = one_if_elsewhere (s - suc n) v earlier in omega arith)
 
 pub answers_once : AnswersOnce
 answers_once accounts counter start now h small few v lt =

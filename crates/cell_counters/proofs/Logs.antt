@@ -18,10 +18,12 @@ use Rattle.cell_counters.specs.declared.rule.Setup.{Setup}
 use Rattle.cell_counters.specs.declared.rule.View.{View}
 use Rattle.cell_counters.specs.Accounts.{all_logs, log_count, numbers, cell_at}
 use Rattle.cell_counters.specs.BoardModels.{blank, with_log}
-use Rattle.cell_counters.specs.inside.BoardProtocol.{accounts_of, account_of, tail_of, slot_of, IsCounted, IsStored, HasStored, KeepsLog, awaited, drawn, settled, one_more, new_hand, collected, nobody}
+use Rattle.cell_counters.specs.inside.BoardProtocol.{accounts_of, account_of, tail_of, slot_of, IsCounted, IsStored, HasStored, KeepsLog, awaited, view_after_draw, view_after_store, one_more, new_hand, joined_view, empty_view}
 use Rattle.cell_counters.proofs.Lists.{All-at, All-parts, All-joined, pushed_inside}
 use Rattle.cell_counters.proofs.Parts.{replaced, entries_were, entries_stay, entries_grow}
-use Rattle.cell_counters.proofs.Counts.{one_at-yes, times, times-cons, times-permutation, range_once, range-append, never}
+use Rattle.cell_counters.proofs.Counts.{times-permutation, range_once, range-append, never}
+use Rattle.base.specs.Counts.{times}
+use Rattle.base.proofs.Times.{times-cons, one_if_here}
 
 abbrev number_of : Log → ℕ
 number_of l = l.number
@@ -68,7 +70,7 @@ has_cell xs rest l now same few h =
     let all = times-permutation l.number (range_with_len 0 (length xs)) (numbers xs) (h.drawn few) in
     let both = times-permutation l.number (numbers (l ∷ rest)) (numbers xs) (IsPermutation-map number_of (l ∷ rest) xs same) in
     let parts = times-cons l.number l.number (numbers rest) in
-    let one = one_at-yes l.number l.number refl in
+    let one = one_if_here l.number l.number refl in
     All-permutation (λ (m : Log). m.number ≡ l.number → m.cell ≡ l.cell) (l ∷ rest) xs same
     (All-cons (λ (m : Log). m.number ≡ l.number → m.cell ≡ l.cell) l rest (λ e. refl)
     (All-weaker (λ (m : Log). m.number ≢ l.number) (λ (m : Log). m.number ≡ l.number → m.cell ≡ l.cell) (λ m apart e. absurd (apart e)) rest (never number_of l.number rest (omega arith))))
@@ -97,7 +99,7 @@ cells_told [] once = λ k d lt. absurd (omega arith)
 cells_told (x ∷ xs) once =
     let rest = cells_told xs (λ v. let both = times-cons v x.number (numbers xs) in let all = once v in omega arith) in
     let apart : All (λ (l : Log). l.number ≢ x.number) xs =
-    never number_of x.number xs (let both = times-cons x.number x.number (numbers xs) in let one = one_at-yes x.number x.number refl in let all = once x.number in omega arith) in
+    never number_of x.number xs (let both = times-cons x.number x.number (numbers xs) in let one = one_if_here x.number x.number refl in let all = once x.number in omega arith) in
     All-cons (λ (l : Log). cell_at l.number (x ∷ xs) ≡ l.cell) x xs (ap (λ (b : Bool). cond b x.cell (cell_at x.number xs)) (eq-eqb x.number x.number refl))
     (λ k d lt. let l : Log = get_or xs k d in ap (λ (b : Bool). cond b x.cell (cell_at l.number xs)) (ne_eqb x.number l.number (λ e. apart k d lt (sym e))) ∙ rest k d lt)
 
@@ -129,11 +131,11 @@ awaited_is slots number lt = ap (λ (b : Bool). cond b (Some number) None) (lt-l
 
 -- a draw
 pub log_draws : (n : Setup) (words : List ℕ) (views : List View) (id cell : ℕ) (v : View) → get_elem? views id ≡ some v → v.accounts ≡ account_of v ∷ [] → v.awaits ≡ None → v.began ≡ n → tail_of n < length words
-    → KeepsLog n words views → KeepsLog n (set words (tail_of n) ((slice_index words (tail_of n) + 1) % 2 ^ 64)) (set views id (drawn v cell (slice_index words (tail_of n))))
+    → KeepsLog n words views → KeepsLog n (set words (tail_of n) ((slice_index words (tail_of n) + 1) % 2 ^ 64)) (set views id (view_after_draw v cell (slice_index words (tail_of n))))
 log_draws n words views id cell v at one idle began there h =
     let now = slice_index words (tail_of n) in
     let l : Log = record { cell = cell; number = now } in
-    let w = drawn v cell now in
+    let w = view_after_draw v cell now in
     let others = set words (tail_of n) ((now + 1) % 2 ^ 64) in
     let a = account_of v in
     let b = with_log a cell now in
@@ -161,11 +163,11 @@ log_draws n words views id cell v at one idle began there h =
 
 -- a store at the slot that was drawn
 pub log_stores : (n : Setup) (words : List ℕ) (views : List View) (id cell slot : ℕ) (v : View) (a : Account) → get_elem? views id ≡ some v → v.accounts ≡ with_log a cell slot ∷ [] → v.awaits ≡ Some slot → slot < n.slots → cell < 2 ^ 32 → slot_of n slot < length words
-    → KeepsLog n words views → KeepsLog n (set words (slot_of n slot) cell) (set views id (settled v))
+    → KeepsLog n words views → KeepsLog n (set words (slot_of n slot) cell) (set views id (view_after_store v))
 log_stores n words views id cell slot v a at one awaits lt small there h =
     let l : Log = record { cell = cell; number = slot } in
     let others = set words (slot_of n slot) cell in
-    let w = settled v in
+    let w = view_after_store v in
     let b = with_log a cell slot in
     let xs = accounts_of views in
     let ys = accounts_of (set views id w) in
@@ -214,11 +216,11 @@ log_welcomes n words views id v at after h =
     }
 
 -- a hand is taken in
-pub log_joins : (n : Setup) (words : List ℕ) (views : List View) (id other : ℕ) (v w : View) → get_elem? views id ≡ some v → get_elem? (set views id (collected v w)) other ≡ some w → get_elem? views other ≡ some w → v.awaits ≡ None → w.awaits ≡ None
-    → IsPermutation (all_logs (accounts_of views)) (all_logs (accounts_of (set (set views id (collected v w)) other nobody))) → KeepsLog n words views → KeepsLog n words (set (set views id (collected v w)) other nobody)
+pub log_joins : (n : Setup) (words : List ℕ) (views : List View) (id other : ℕ) (v w : View) → get_elem? views id ≡ some v → get_elem? (set views id (joined_view v w)) other ≡ some w → get_elem? views other ≡ some w → v.awaits ≡ None → w.awaits ≡ None
+    → IsPermutation (all_logs (accounts_of views)) (all_logs (accounts_of (set (set views id (joined_view v w)) other empty_view))) → KeepsLog n words views → KeepsLog n words (set (set views id (joined_view v w)) other empty_view)
 log_joins n words views id other v w at there there_before idle idle_hand moved h =
     let xs = all_logs (accounts_of views) in
-    let ys = all_logs (accounts_of (set (set views id (collected v w)) other nobody)) in
+    let ys = all_logs (accounts_of (set (set views id (joined_view v w)) other empty_view)) in
     let len : length ys ≡ length xs = length_permutation xs ys moved in
     record {
       counted = counted_moved xs ys (slice_index words (tail_of n)) moved h.counted;
@@ -227,7 +229,7 @@ log_joins n words views id other v w at there there_before idle idle_hand moved 
           let was : All (HasStored n words) views = h.stored (omega arith) in
           let root : HasStored n words v = All-at (HasStored n words) views id v at was in
           let hand : All (IsStored n words v.awaits) (all_logs w.accounts) = subst (λ x. All (IsStored n words x) (all_logs w.accounts)) (idle_hand ∙ sym idle) (All-at (HasStored n words) views other w there_before was) in
-          let both : HasStored n words (collected v w) =
+          let both : HasStored n words (joined_view v w) =
           subst (All (IsStored n words v.awaits)) (sym (flat_map-append (λ (a : Account). a.logs) v.accounts w.accounts)) (All-append (IsStored n words v.awaits) (all_logs v.accounts) (all_logs w.accounts) root hand) in
-          All-set (HasStored n words) (set views id (collected v w)) other nobody (All-nil (IsStored n words None)) (All-set (HasStored n words) views id (collected v w) both was);
+          All-set (HasStored n words) (set views id (joined_view v w)) other empty_view (All-nil (IsStored n words None)) (All-set (HasStored n words) views id (joined_view v w) both was);
     }

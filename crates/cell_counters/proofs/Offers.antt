@@ -13,8 +13,8 @@ use Rattle.cell_counters.specs.declared.account.Account.{Account}
 use Rattle.cell_counters.specs.Accounts.{offers_on, all_offers, values, first_count, NoneIsFirst, IsLeastOf, IsLawfulLeast}
 use Rattle.cell_counters.specs.BoardModels.{blank}
 use Rattle.cell_counters.specs.inside.BoardProtocol.{Stands}
-use Rattle.cell_counters.proofs.Counts.{one_if}
 use Rattle.cell_counters.proofs.Parts.{Replaced, entries_were, entries_stay, entries_grow, All-after}
+use Rattle.base.specs.Counts.{one_if}
 
 -- of an account only the earliest offer may be first
 abbrev pub OnlyEarliest : ℕ → Account → Type 0

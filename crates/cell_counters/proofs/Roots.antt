@@ -18,7 +18,7 @@ use Rattle.cell_counters.specs.declared.rule.View.{View}
 use Rattle.cell_counters.specs.declared.rule.Beginning.{Beginning}
 use Rattle.cell_counters.specs.Accounts.{answers, offers_on, all_answers, all_offers, all_logs, log_count, IsLawfulCounter, IsLawfulLeast}
 use Rattle.cell_counters.specs.BoardModels.{BoardModel, blank}
-use Rattle.cell_counters.specs.inside.BoardProtocol.{Keeps, Knows, Stands, IsCounted, IsStored, HasStored, setup_of, tail_of, slot_of, board_of, accounts_of, made_of, root_of, one_more, new_hand, collected, nobody, Seated, Explains, Looks, IsSized}
+use Rattle.cell_counters.specs.inside.BoardProtocol.{Keeps, Knows, Stands, IsCounted, IsStored, HasStored, setup_of, tail_of, slot_of, board_of, accounts_of, made_of, root_of, one_more, new_hand, joined_view, empty_view, Seated, Explains, Looks, IsSized}
 use Rattle.cell_counters.proofs.Lists.{All-at, around, part_moved, flat_map_moved}
 use Rattle.cell_counters.proofs.Logs.{counted_begins, log_welcomes, log_joins, has_number, cell_at-is}
 use Rattle.cell_counters.proofs.Cuts.{counter_begins, counter_moved, counter_welcomes}
@@ -56,33 +56,33 @@ hand_splits n id v first began s h at =
         }
 
 -- the accounts after a hand was taken in
-took_in : (root : View) (front back : List View) (w : View) → accounts_of (collected root w ∷ (front ++ nobody ∷ back)) ≡ (root.accounts ++ w.accounts) ++ (accounts_of front ++ accounts_of back)
-took_in root front back w = ap (λ l. (root.accounts ++ w.accounts) ++ l) (flat_map-append (λ (u : View). u.accounts) front (nobody ∷ back))
+took_in : (root : View) (front back : List View) (w : View) → accounts_of (joined_view root w ∷ (front ++ empty_view ∷ back)) ≡ (root.accounts ++ w.accounts) ++ (accounts_of front ++ accounts_of back)
+took_in root front back w = ap (λ l. (root.accounts ++ w.accounts) ++ l) (flat_map-append (λ (u : View). u.accounts) front (empty_view ∷ back))
 
 -- a hand is taken in
-pub root_joins : (n : Setup) (id other : ℕ) (v w : View) → id ≡ 0 → v.began ≡ n → v.awaits ≡ None → w.awaits ≡ None → Joins {S = Unit {0}} (Keeps n) id v other w (collected v w) nobody
+pub root_joins : (n : Setup) (id other : ℕ) (v w : View) → id ≡ 0 → v.began ≡ n → v.awaits ≡ None → w.awaits ≡ None → Joins {S = Unit {0}} (Keeps n) id v other w (joined_view v w) empty_view
 root_joins n id other v w first began idle idle_hand s h at apart there =
     let at_front : get_elem? s.views 0 ≡ some v = subst (λ k. get_elem? s.views k ≡ some v) first at in
-    let rest_after : get_elem? (set s.views 0 (collected v w)) other ≡ some w = subst (λ k. get_elem? (set s.views k (collected v w)) other ≡ some w) first there in
-    subst (λ k. Keeps n (record { words = s.words; homes = s.homes; views = set (set s.views k (collected v w)) other nobody })) (sym first) (join s.views other refl at_front rest_after (λ e. apart (e ∙ sym first)))
+    let rest_after : get_elem? (set s.views 0 (joined_view v w)) other ≡ some w = subst (λ k. get_elem? (set s.views k (joined_view v w)) other ≡ some w) first there in
+    subst (λ k. Keeps n (record { words = s.words; homes = s.homes; views = set (set s.views k (joined_view v w)) other empty_view })) (sym first) (join s.views other refl at_front rest_after (λ e. apart (e ∙ sym first)))
   where
-    join : (views : List View) (k : ℕ) → s.views ≡ views → get_elem? s.views 0 ≡ some v → get_elem? (set s.views 0 (collected v w)) k ≡ some w → k ≢ 0
-        → Keeps n (record { words = s.words; homes = s.homes; views = set (set s.views 0 (collected v w)) k nobody })
+    join : (views : List View) (k : ℕ) → s.views ≡ views → get_elem? s.views 0 ≡ some v → get_elem? (set s.views 0 (joined_view v w)) k ≡ some w → k ≢ 0
+        → Keeps n (record { words = s.words; homes = s.homes; views = set (set s.views 0 (joined_view v w)) k empty_view })
     join [] k is here gone apart = absurd (some-ne-none v (sym here ∙ ap (λ vs. get_elem? vs 0) is))
     join (r ∷ hands) zero is here gone apart = absurd (apart refl)
     join (r ∷ hands) (suc k) is here gone apart =
         let root : r ≡ v = some-injective r v (sym (ap (λ vs. get_elem? vs 0) is) ∙ here) in
-        let hand : get_elem? hands k ≡ some w = sym (ap (λ vs. get_elem? (set vs 0 (collected v w)) (suc k)) is) ∙ gone in
+        let hand : get_elem? hands k ≡ some w = sym (ap (λ vs. get_elem? (set vs 0 (joined_view v w)) (suc k)) is) ∙ gone in
         let parts = around hands k w hand in
         let F = accounts_of parts.front in
         let B = accounts_of parts.back in
         let before : accounts_of s.views ≡ v.accounts ++ (F ++ (w.accounts ++ B)) =
         ap accounts_of is ∙ ap (λ (u : View). u.accounts ++ accounts_of hands) root ∙ ap (λ vs. v.accounts ++ accounts_of vs) parts.is ∙ ap (λ l. v.accounts ++ l) (flat_map-append (λ (u : View). u.accounts) parts.front (w ∷ parts.back)) in
-        let views_are : set (set s.views 0 (collected v w)) (suc k) nobody ≡ collected v w ∷ (parts.front ++ nobody ∷ parts.back) =
-        ap (λ vs. set (set vs 0 (collected v w)) (suc k) nobody) is ∙ ap (λ vs. collected v w ∷ vs) (parts.becomes nobody) in
-        let after : accounts_of (set (set s.views 0 (collected v w)) (suc k) nobody) ≡ (v.accounts ++ w.accounts) ++ (F ++ B) = ap accounts_of views_are ∙ took_in v parts.front parts.back w in
+        let views_are : set (set s.views 0 (joined_view v w)) (suc k) empty_view ≡ joined_view v w ∷ (parts.front ++ empty_view ∷ parts.back) =
+        ap (λ vs. set (set vs 0 (joined_view v w)) (suc k) empty_view) is ∙ ap (λ vs. joined_view v w ∷ vs) (parts.becomes empty_view) in
+        let after : accounts_of (set (set s.views 0 (joined_view v w)) (suc k) empty_view) ≡ (v.accounts ++ w.accounts) ++ (F ++ B) = ap accounts_of views_are ∙ took_in v parts.front parts.back w in
         let xs = accounts_of s.views in
-        let ys = accounts_of (set (set s.views 0 (collected v w)) (suc k) nobody) in
+        let ys = accounts_of (set (set s.views 0 (joined_view v w)) (suc k) empty_view) in
         let moved : IsPermutation xs ys = subst (λ l. IsPermutation l ys) (sym before) (subst (IsPermutation (v.accounts ++ (F ++ (w.accounts ++ B)))) (sym after) (part_moved v.accounts F w.accounts B)) in
         let cuts_moved : (c : ℕ) → IsPermutation (all_answers c xs) (all_answers c ys) =
         (λ c. subst (λ l. IsPermutation (all_answers c l) (all_answers c ys)) (sym before) (subst (λ l. IsPermutation (all_answers c (v.accounts ++ (F ++ (w.accounts ++ B)))) (all_answers c l)) (sym after) (flat_map_moved (answers c) v.accounts F w.accounts B))) in
@@ -94,7 +94,7 @@ root_joins n id other v w first began idle idle_hand s h at apart there =
         record {
           width = h.width;
           made = ap made_of views_are ∙ made ∙ sym (length_permutation xs ys moved);
-          known = All-set (Knows n) (set s.views 0 (collected v w)) (suc k) nobody (inl refl) (All-set (Knows n) s.views 0 (collected v w) (inr began) h.known);
+          known = All-set (Knows n) (set s.views 0 (joined_view v w)) (suc k) empty_view (inl refl) (All-set (Knows n) s.views 0 (joined_view v w) (inr began) h.known);
           cuts = λ c lt. counter_moved xs ys c (slice_index n.starts c) (slice_index s.words c) moved (cuts_moved c) (h.cuts c lt);
           offers = λ o lt. let was = h.offers o lt in word_moved xs ys o (slice_index n.least o) (slice_index s.words (length n.starts + o)) (All-permutation (OnlyEarliest o) xs ys moved was.lawful.earliest) (offers_moved o) was;
           log = log_joins n s.words s.views 0 (suc k) v w (ap (λ vs. get_elem? vs 0) is ∙ ap some root) gone (ap (λ vs. get_elem? vs (suc k)) is ∙ hand) idle idle_hand logs_moved h.log;

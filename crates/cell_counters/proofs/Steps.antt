@@ -14,7 +14,7 @@ use Rattle.cell_counters.specs.declared.rule.Setup.{Setup}
 use Rattle.cell_counters.specs.declared.rule.View.{View}
 use Rattle.cell_counters.specs.Accounts.{IsLawfulCounter, answers, offers_on}
 use Rattle.cell_counters.specs.BoardModels.{with_cut, with_offer, with_note, with_log}
-use Rattle.cell_counters.specs.inside.BoardProtocol.{Keeps, ExplainsCounters, ExplainsLeast, KeepsLog, Knows, Stands, accounts_of, account_of, tail_of, slot_of, nobody, with_account, drawn, settled, Seated, Cuts, Offers, Notes, Draws, Stores}
+use Rattle.cell_counters.specs.inside.BoardProtocol.{Keeps, ExplainsCounters, ExplainsLeast, KeepsLog, Knows, Stands, accounts_of, account_of, tail_of, slot_of, empty_view, with_account, view_after_draw, view_after_store, Seated, Cuts, Offers, Notes, Draws, Stores}
 use Rattle.cell_counters.proofs.Lists.{All-at}
 use Rattle.cell_counters.proofs.Logs.{log_stays, log_draws, log_stores}
 use Rattle.cell_counters.proofs.Parts.{Replaced, replaced, made_of-set, length-replaced}
@@ -24,7 +24,7 @@ use Rattle.cell_counters.proofs.Entries.{answers-cut, answers-other_cut, offers_
 
 -- a view with an account knows how the board began
 pub hand_knows : (n : Setup) (s : State (Unit {0}) View) (id : ℕ) (v : View) (a : Account) → Keeps n s → get_elem? s.views id ≡ some v → v.accounts ≡ a ∷ [] → v.began ≡ n
-hand_knows n s id v a h at one = ⊎_elim (λ (e : v ≡ nobody). absurd (cc (ap (λ (u : View). u.accounts) e, one))) (λ (e : v.began ≡ n). e) (All-at (Knows n) s.views id v at h.known)
+hand_knows n s id v a h at one = ⊎_elim (λ (e : v ≡ empty_view). absurd (cc (ap (λ (u : View). u.accounts) e, one))) (λ (e : v.began ≡ n). e) (All-at (Knows n) s.views id v at h.known)
 
 -- the rule after a step of a hand, whose view v became w and its account a became b
 keeps_after : (n : Setup) (s : State (Unit {0}) View) (i x id : ℕ) (v w : View) (a b : Account) → Keeps n s → get_elem? s.views id ≡ some v → v.accounts ≡ a ∷ [] → w.accounts ≡ b ∷ [] → w.made ≡ v.made → w.began ≡ v.began
@@ -163,7 +163,7 @@ draw_allowed n slot_count id at cell me one idle is s h home seat full =
     let x = (now + 1) % 2 ^ 64 in
     let a = account_of me.0 in
     let b = with_log a cell now in
-    let w = drawn me.0 cell now in
+    let w = view_after_draw me.0 cell now in
     let ys = accounts_of (set s.views id w) in (
       w,
       keeps,
@@ -171,7 +171,7 @@ draw_allowed n slot_count id at cell me one idle is s h home seat full =
       keeps_after n s at x id me.0 w a b h seat one refl refl refl
           (λ r. counters_words n.starts s.words (set s.words at x) ys (λ k lt. get_or-set_other s.words at k x 0 (λ e. absurd (omega arith))) (counters_stay n.starts s.words (accounts_of s.views) ys a b r (λ c. refl) h.cuts))
           (λ r. least_words n.starts n.least s.words (set s.words at x) ys (λ k lt. get_or-set_other s.words at (length n.starts + k) x 0 (λ e. absurd (omega arith))) (least_stay n.starts n.least s.words (accounts_of s.views) ys a b r (λ c. refl) h.offers))
-          (subst (λ i. KeepsLog n (set s.words i ((slice_index s.words i + 1) % 2 ^ 64)) (set s.views id (drawn me.0 cell (slice_index s.words i)))) (sym is)
+          (subst (λ i. KeepsLog n (set s.words i ((slice_index s.words i + 1) % 2 ^ 64)) (set s.views id (view_after_draw me.0 cell (slice_index s.words i)))) (sym is)
           (log_draws n s.words s.views id cell me.0 seat one idle began (let width = h.width in omega arith) h.log)),
       refl,
     )
@@ -179,7 +179,7 @@ draw_allowed n slot_count id at cell me one idle is s h home seat full =
 pub store_allowed : (n : Setup) (slot_count id at slot cell : ℕ) (me : Seated) (a : Account) → me.0.accounts ≡ with_log a cell slot ∷ [] → me.0.awaits ≡ Some slot → slot < n.slots → cell < 2 ^ 32 → at ≡ slot_of n slot
     → Allows (Keeps n) slot_count id me at (λ m. cell) (λ m. Stores (step slot_count at cell 0 none) me cell)
 store_allowed n slot_count id at slot cell me a one awaits below small is s h home seat full =
-    let w = settled me.0 in
+    let w = view_after_store me.0 in
     let b = with_log a cell slot in
     let ys = accounts_of (set s.views id w) in (
       w,

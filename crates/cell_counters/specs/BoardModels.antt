@@ -50,8 +50,8 @@ pub record Logs (before after : HandModel) (cell : ℕ) (answer : Bool) : Type 0
   pub answered : answer ≡ nat_lt number before.board.slots
 
 -- how many of so many slots the logs in these accounts fill
-abbrev pub filled : List Account → ℕ → ℕ
-filled accounts slots = min (log_count accounts) slots
+abbrev pub filled_slots : List Account → ℕ → ℕ
+filled_slots accounts slots = min (log_count accounts) slots
 
 -- the hand of who has done nothing
 abbrev pub fresh_hand : BoardModel → HandModel
@@ -62,12 +62,12 @@ abbrev pub new_root : BoardModel → RootModel
 new_root board = record { board = board; out = 0; accounts = [] }
 
 -- the root with one more hand out
-abbrev pub hand_out : RootModel → RootModel
-hand_out r = record r { out = r.out + 1 }
+abbrev pub with_hand_out : RootModel → RootModel
+with_hand_out r = record r { out = r.out + 1 }
 
 -- the root after a hand with this account was taken in
-abbrev pub taken_in : RootModel → Account → RootModel
-taken_in r a = record r { out = r.out - 1; accounts = r.accounts ++ a ∷ [] }
+abbrev pub with_hand_in : RootModel → Account → RootModel
+with_hand_in r a = record r { out = r.out - 1; accounts = r.accounts ++ a ∷ [] }
 
 -- for each counter and each least word there is a number for which these accounts are lawful, and so they are for the log
 pub record IsLawful (accounts : List Account) (starts least : List ℕ) : Type 0 where

@@ -16,14 +16,14 @@ CountsDown = (accounts : List Account) (counter start now : ℕ) → IsLawfulCou
     → (now ≡ start - cut_count counter accounts) × IsPermutation (countdown start (cut_count counter accounts)) (all_answers counter accounts)
 
 -- how many cuts of a counter in these accounts answered v
-abbrev pub answered : ℕ → ℕ → List Account → ℕ
-answered counter v accounts = count_by (λ answer. answer == v) (all_answers counter accounts)
+abbrev pub times_answered : ℕ → ℕ → List Account → ℕ
+times_answered counter v accounts = count_by (λ answer. answer == v) (all_answers counter accounts)
 
 -- of at most start cuts exactly one answers each number that they reach: 0, where there are start of them
 abbrev pub AnswersOnce : Type 0
 AnswersOnce = (accounts : List Account) (counter start now : ℕ) → IsLawfulCounter accounts counter start now → start < 2 ^ 64 → cut_count counter accounts ≤ start → (v : ℕ) → v < start
-    → (start ≤ cut_count counter accounts + v → answered counter v accounts ≡ 1)
-    × (cut_count counter accounts + v < start → answered counter v accounts ≡ 0)
+    → (start ≤ cut_count counter accounts + v → times_answered counter v accounts ≡ 1)
+    × (cut_count counter accounts + v < start → times_answered counter v accounts ≡ 0)
 
 -- of the offers on a word that began free exactly one was first, and the word is their least
 abbrev pub OneIsFirst : Type 0
@@ -37,9 +37,9 @@ NothingDone = ((counter start : ℕ) → start < 2 ^ 64 → IsLawfulCounter [] c
 -- where more accounts come, at most start cuts in all, exactly one of their cuts answers each number that is newly reached, and none another number
 abbrev pub NewAnswers : Type 0
 NewAnswers = (before more : List Account) (counter start was now : ℕ) → IsLawfulCounter before counter start was → IsLawfulCounter (before ++ more) counter start now → start < 2 ^ 64 → cut_count counter (before ++ more) ≤ start → (v : ℕ) → v < start
-    → (cut_count counter before + v < start → start ≤ cut_count counter (before ++ more) + v → answered counter v more ≡ 1)
-    × (start ≤ cut_count counter before + v → answered counter v more ≡ 0)
-    × (cut_count counter (before ++ more) + v < start → answered counter v more ≡ 0)
+    → (cut_count counter before + v < start → start ≤ cut_count counter (before ++ more) + v → times_answered counter v more ≡ 1)
+    × (start ≤ cut_count counter before + v → times_answered counter v more ≡ 0)
+    × (cut_count counter (before ++ more) + v < start → times_answered counter v more ≡ 0)
 
 -- where more accounts come, exactly one of their offers on a word is first if it began free and had none before, and else none is
 abbrev pub NewFirsts : Type 0

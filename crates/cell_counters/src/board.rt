@@ -1,7 +1,7 @@
 //! A board, the root of its owner, and the hands of its callers.
 ghost use Rattle.std.specs.Prelude.{◌≡◌, ◌≢◌, ◌+◌, ◌^◌, ◌<◌, ◌≤◌, ◌==◌, false, ◌++◌, length, take, drop, replicate, slice_index, IfOk, Any, vec_len};
 ghost use Rattle.cell_counters.specs.Accounts.{IsLawfulCounter, IsLawfulLeast, IsLawfulLog, log_count, all_logs, cell_at};
-ghost use Rattle.cell_counters.specs.BoardModels.{fresh_hand, with_cut, with_offer, with_note, new_root, hand_out, taken_in, IsLawful, Logs, filled};
+ghost use Rattle.cell_counters.specs.BoardModels.{fresh_hand, with_cut, with_offer, with_note, new_root, with_hand_out, with_hand_in, IsLawful, Logs, filled_slots};
 ghost use Rattle.base.specs.declared.limits.TheConstants.{WORKERS_LIMIT};
 
 use crate::account::NONE;
@@ -10,19 +10,10 @@ use crate::rule::{
     Storing, View,
 };
 use atomic_table::{Seat, Table};
+use base::NoMemory;
 use std::alloc::{AllocError, Global};
 use std::marker::{Brand, Model};
 use std::snapshot::Snapshot;
-
-/// There was no memory for the board.
-#[derive(Debug, Drop)]
-pub struct NoMemory;
-
-impl From<AllocError> for NoMemory {
-    fn from(_error: AllocError) -> NoMemory {
-        NoMemory
-    }
-}
 
 /// Counters, least words and a log that threads share by reference.
 ///
@@ -167,7 +158,7 @@ impl Board {
         requires root { root.old.board ≡ self.now }
         requires capacity { root.old.out < WORKERS_LIMIT }
         ensures hand { result ≡ fresh_hand self.now }
-        ensures root { root.new ≡ hand_out root.old }
+        ensures root { root.new ≡ with_hand_out root.old }
     {
         let shared = &self.table.shared;
         let seat = shared.split_seat::<HandSplit>(&mut root.seat);
@@ -180,7 +171,7 @@ impl Board {
         requires root { root.old.board ≡ self.now }
         requires hand { hand.board ≡ self.now }
         ensures was_out { 0 < root.old.out }
-        ensures root { root.new ≡ taken_in root.old hand.account }
+        ensures root { root.new ≡ with_hand_in root.old hand.account }
         ensures lawful { root.new.out ≡ 0 → IsLawful root.new.accounts self.now.starts self.now.least }
     {
         let Hand { seat } = hand;
@@ -263,8 +254,8 @@ impl Board {
         requires root { root.old.board ≡ self.now }
         requires settled { root.old.out ≡ 0 }
         ensures lawful { log_count root.old.accounts < 2 ^ 64 → IsLawfulLog root.old.accounts }
-        ensures filled { log_count root.old.accounts < 2 ^ 64 → result ≡ filled root.old.accounts self.now.slots }
-        ensures within { result ≤ filled root.old.accounts self.now.slots }
+        ensures filled { log_count root.old.accounts < 2 ^ 64 → result ≡ filled_slots root.old.accounts self.now.slots }
+        ensures within { result ≤ filled_slots root.old.accounts self.now.slots }
         ensures same { root.new ≡ root.old }
     {
         let shared = &self.table.shared;
@@ -280,7 +271,7 @@ impl Board {
     pub fn logged(&self, root: &mut Root, at: u32) -> u32
         requires root { root.old.board ≡ self.now }
         requires settled { root.old.out ≡ 0 }
-        requires at { at < filled root.old.accounts self.now.slots }
+        requires at { at < filled_slots root.old.accounts self.now.slots }
         ensures cell { log_count root.old.accounts < 2 ^ 64 → result ≡ cell_at at (all_logs root.old.accounts) }
         ensures same { root.new ≡ root.old }
     {

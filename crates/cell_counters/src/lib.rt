@@ -13,4 +13,5 @@ pub mod laws;
 mod rule;
 
 pub use account::{Account, Cut, Log, NONE, Offer};
-pub use board::{Board, Hand, NoMemory, Root};
+pub use base::NoMemory;
+pub use board::{Board, Hand, Root};

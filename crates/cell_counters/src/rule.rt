@@ -55,11 +55,11 @@ impl Split<View> for HandSplit {
 pub struct HandJoin;
 
 impl Join<View> for HandJoin {
-    ghost use Rattle.cell_counters.specs.inside.BoardProtocol.{collected, nobody};
+    ghost use Rattle.cell_counters.specs.inside.BoardProtocol.{joined_view, empty_view};
 
-    ghost both = { collected };
+    ghost both = { joined_view };
 
-    ghost spent = { nobody };
+    ghost spent = { empty_view };
 }
 
 pub struct Cutting;

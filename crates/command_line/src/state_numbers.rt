@@ -15,7 +15,7 @@ pub struct StateNumbers {
 impl Model for StateNumbers {
     ghost use Rattle.std.specs.Prelude.{ℤ, List, length, take};
     ghost use Rattle.grid_quantiser.specs.Cells.{point_of};
-    ghost use Rattle.command_line.specs.inside.StoredNumbers.{IsStored, restored};
+    ghost use Rattle.command_line.specs.inside.StoredNumbers.{IsStored, view_of_inverse};
 
     ghost Value = { List ℤ };
 
@@ -25,7 +25,7 @@ impl Model for StateNumbers {
 
     ghost inverse = { λ numbers. record { six = point_of numbers; count = length numbers } };
 
-    ghost inverse_ok = { λ s stored. restored s stored };
+    ghost inverse_ok = { λ s stored. view_of_inverse s stored };
 }
 
 impl StateNumbers {

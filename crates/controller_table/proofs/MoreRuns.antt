@@ -1,5 +1,5 @@
 -- The runs that are read, with one more.
-use Rattle.std.proofs.Common.{◌≡◌, ℕ, zero, suc, ◌+◌, ◌<◌, List, [], ◌∷◌, ◌++◌, length, length-append, map, replicate, Option, Some, None, refl, sym, ap, subst, ◌∙◌, append_assoc, append-nil, arith}
+use Rattle.std.proofs.Common.{◌≡◌, ℕ, suc, ◌+◌, ◌<◌, List, [], ◌∷◌, ◌++◌, length, length-append, map, replicate, Option, Some, None, refl, sym, ap, subst, ◌∙◌, append_assoc, append-nil, arith}
 use Rattle.std.specs.List.{concat}
 use Rattle.std.proofs.lemmas.List.{map-append}
 use Rattle.std.proofs.Math.ListN.{length-replicate}
@@ -19,6 +19,7 @@ use Rattle.plant_record.specs.Description.{Description, axes_of}
 use Rattle.controller_table.specs.TableText.{format_of}
 use Rattle.controller_table.specs.RowLines.{IsRunOf, AreRunsOf}
 use Rattle.controller_table.specs.inside.ReadRows.{MayFollowOn, last_run, IsNextRun, IsNextRunAt, AreRead, IsRunRefused}
+use Rattle.game_core.proofs.Gathering.{no_row}
 
 -- ---- the last run
 
@@ -47,18 +48,13 @@ last_pushed (x ∷ y ∷ runs) r = last_pushed (y ∷ runs) r
 none_some : (row : Row) → None ≡ Some row → ⊥
 none_some row e = cc
 
-row_in_none : (n k : ℕ) → row_of (replicate n None) k ≡ None
-row_in_none zero k = refl
-row_in_none (suc n) zero = refl
-row_in_none (suc n) (suc k) = row_in_none n k
-
 pub nothing_read : (v : TableVersion) (p : Description) (bytes : List ℕ) (rows : List (Option Row)) → rows ≡ replicate (cells_of (axes_of p)) None → (read : AreRead v p bytes bytes rows 0) × (None ≡ last_run read.runs)
 nothing_read v p bytes rows are = (
   record {
     one_each = ap length are ∙ length-replicate (cells_of (axes_of p)) None;
     runs = [];
     are = record { order = tt; each = All-nil (IsRunOf p) };
-    tell = λ c row. ((λ e. absurd (none_some row (sym (ap (λ (r : List (Option Row)). row_of r c) are ∙ row_in_none (cells_of (axes_of p)) c) ∙ e))), (λ given. absurd given));
+    tell = λ c row. ((λ e. absurd (none_some row (sym (ap (λ (r : List (Option Row)). row_of r c) are ∙ no_row (cells_of (axes_of p)) c) ∙ e))), (λ given. absurd given));
     counted = refl;
     text = refl;
   },

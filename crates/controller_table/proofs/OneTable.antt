@@ -31,6 +31,8 @@ use Rattle.row_runs.proofs.RunWords.{count_is_line, end_is_line}
 use Rattle.controller_table.specs.inside.TableReading.{IsSpelled}
 use Rattle.controller_table.proofs.RunWords.{run_is_line, run_same}
 use Rattle.controller_table.proofs.Fitting.{spelled_runs}
+use Rattle.std.proofs.lemmas.Option.{same_Some}
+use Rattle.base.proofs.Lists.{same_tail, same_head}
 
 -- ---- the first line
 
@@ -96,16 +98,10 @@ same_runs v p [] (s ∷ ss) h k e = absurd cc
 same_runs v p (r ∷ rs) [] h k e = absurd cc
 same_runs v p (r ∷ rs) (s ∷ ss) h k e =
     let text : Run → List ℕ = run_line v (format_of p.goal) in
-    let head : text r ≡ text s = first_same (text r) (text s) (map text rs) (map text ss) e in
-    let tail : map text rs ≡ map text ss = rest_same (text r) (text s) (map text rs) (map text ss) e in
+    let head : text r ≡ text s = same_head (text r) (text s) (map text rs) (map text ss) e in
+    let tail : map text rs ≡ map text ss = same_tail (text r) (text s) (map text rs) (map text ss) e in
     let one : r ≡ s = run_same v p.goal r s h.0 k.0 head in
     ap (λ (x : Run). x ∷ rs) one ∙ ap (λ (x : List Run). s ∷ x) (same_runs v p rs ss h.1 k.1 tail)
-  where
-    first_same : (x y : List ℕ) (xs ys : List (List ℕ)) → x ∷ xs ≡ y ∷ ys → x ≡ y
-    first_same x y xs ys e = cc
-
-    rest_same : (x y : List ℕ) (xs ys : List (List ℕ)) → x ∷ xs ≡ y ∷ ys → xs ≡ ys
-    rest_same x y xs ys e = cc
 
 -- the row lines of fitting rows tell them
 decoded_rows : (v : TableVersion) (p : Description) (rows others : List (Option Row)) → IsWithinLimits p → RowsFit p rows → RowsFit p others → row_lines v p.goal rows ≡ row_lines v p.goal others → rows ≡ others
@@ -118,10 +114,7 @@ after_told v p rows others within h k e =
     let lines = same_lines (lines_after v p.goal rows) (lines_after v p.goal others)
     (whole_are_lines v p (lines_after v p.goal rows) within (whole_lines v p rows h))
     (whole_are_lines v p (lines_after v p.goal others) within (whole_lines v p others k)) e in
-    decoded_rows v p rows others within h k (same_front (row_lines v p.goal rows) (row_lines v p.goal others) end_line (tails (count_line (length (row_lines v p.goal rows))) (count_line (length (row_lines v p.goal others))) _ _ lines))
-  where
-    tails : (x y : List ℕ) (xs ys : List (List ℕ)) → x ∷ xs ≡ y ∷ ys → xs ≡ ys
-    tails x y xs ys e = cc
+    decoded_rows v p rows others within h k (same_front (row_lines v p.goal rows) (row_lines v p.goal others) end_line (same_tail (count_line (length (row_lines v p.goal rows))) (count_line (length (row_lines v p.goal others))) _ _ lines))
 
 pub one_table : OnePlantAtTheFront → OneTablePerText
 one_table front bytes p q rows others h k =
@@ -137,15 +130,12 @@ one_table front bytes p q rows others h k =
 
 -- ---- one row at a state
 
-same_some : (a b : Row) → Some a ≡ Some b → a ≡ b
-same_some a b e = cc
-
 one_row : OneTablePerText → (bytes : List ℕ) (p q : Description) (rows others : List (Option Row)) (x : List ℤ) (a b : Row) → IsTable bytes p rows → IsTable bytes q others → HasRowAt p rows x a → HasRowAt q others x b → (p ≡ q) × (a ≡ b)
 one_row one bytes p q rows others x a b h k r s =
     let same = one bytes p q rows others h k in
     let at : row_of rows (cell_of (axes_of p) x) ≡ row_of others (cell_of (axes_of q) x) =
     ap (λ (r : List (Option Row)). row_of r (cell_of (axes_of p) x)) same.1 ∙ ap (λ (d : Description). row_of others (cell_of (axes_of d) x)) same.0 in
-    (same.0, same_some a b (sym r.is ∙ at ∙ s.is))
+    (same.0, same_Some a b (sym r.is ∙ at ∙ s.is))
 
 applied : (goal : GoalKind) (row : Row) (u : ℕ) → Applies goal row u → row.input ≡ u
 applied Reach row u h = h.1

@@ -13,14 +13,9 @@ use Rattle.controller_table.specs.RowLines.{AreRunsOf, AreRowLines, AreBegun, Ar
 use Rattle.controller_table.specs.inside.TableReading.{IsSpelled}
 use Rattle.controller_table.proofs.RunWords.{count_same, run_same}
 use Rattle.controller_table.proofs.Fitting.{spelled_runs}
+use Rattle.base.proofs.Lists.{same_tail, same_head}
 
 -- ---- the parts of lines
-
-same_head : (x y : List ℕ) (xs ys : List (List ℕ)) → x ∷ xs ≡ y ∷ ys → x ≡ y
-same_head x y xs ys e = cc
-
-same_tail : (x y : List ℕ) (xs ys : List (List ℕ)) → x ∷ xs ≡ y ∷ ys → xs ≡ ys
-same_tail x y xs ys e = cc
 
 -- The row lines after that on their number.
 pub record RowsBegun (v : TableVersion) (p : Description) (n : ℕ) (lines : List (List ℕ)) : Type 0 where

@@ -17,9 +17,10 @@ mod table_fault;
 mod table_reader;
 mod table_writer;
 
+pub use base::NoMemory;
 pub use front::{after_prefix, line_count};
 pub use goal_format::format_of;
 pub use table::Table;
-pub use table_fault::{NoMemory, TableFault};
+pub use table_fault::TableFault;
 pub use table_reader::read_table;
 pub use table_writer::TableWriter;

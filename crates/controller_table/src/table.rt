@@ -9,7 +9,7 @@ ghost use Rattle.controller_table.specs.Tables.{RowsFit};
 ghost use Rattle.controller_table.specs.Choice.{Chooses};
 
 use crate::table_copy::{copy_answer, copy_plant};
-use crate::table_fault::NoMemory;
+use base::NoMemory;
 use game_core::{Answer, Row};
 use grid_quantiser::Point;
 use plant_record::{GoalKind, Plant};

@@ -4,7 +4,7 @@ ghost use Rattle.std.specs.Prelude.{◌≡◌, ◌^◌, ◌≤◌, length, IfOk}
 ghost use Rattle.plant_record.specs.Limits.{IsWithinLimits};
 ghost use Rattle.base.specs.declared.limits.TheConstants.{CELLS_LIMIT};
 
-use crate::table_fault::NoMemory;
+use base::NoMemory;
 use game_core::Answer;
 use plant_record::Plant;
 use plant_text::{PlantFault, read_front};

@@ -4,7 +4,7 @@ ghost use Rattle.controller_table.specs.Tables.{RowsFit};
 
 use crate::goal_format::format_of;
 use crate::table::Table;
-use crate::table_fault::NoMemory;
+use base::NoMemory;
 use game_core::Answer;
 use plant_record::Plant;
 use plant_writing::write_plant;

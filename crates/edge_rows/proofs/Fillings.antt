@@ -4,9 +4,9 @@ use Rattle.std.proofs.lemmas.List.{length-map, get_or_default, take_all}
 use Rattle.std.proofs.lemmas.List.Sums.{sum_by_more}
 use Rattle.std.proofs.lemmas.Slice.Zip.{AllZip-long}
 use Rattle.std.proofs.Math.ListN.{get_or-map}
-use Rattle.edge_rows.specs.Rows.{Filling, appended, changed_run, appended_run, HasFreeSlot, HaveFreeSlots, slots_left}
+use Rattle.edge_rows.specs.Rows.{Filling, with_value, with_each_changed, with_value_each, HasFreeSlot, EachHasFreeSlot, slots_left}
 use Rattle.edge_rows.specs.inside.Layout.{gaps, rows_between}
-use Rattle.edge_rows.specs.inside.Slices.{AreFree, written}
+use Rattle.edge_rows.specs.inside.Slices.{AreFree, contents_with}
 use Rattle.edge_rows.specs.inside.FillFields.{filling_of, IsFilledAs, IsFilling}
 use Rattle.edge_rows.specs.declared.fill.RowFill.TheInside.{Inside}
 use Rattle.edge_rows.proofs.Laid.{end_of, length-starts, length-ends, length-laid, start_at, end_at, gaps-starts, read_back, fits-at, end_within, end_free, laid-put, ends-put, fits-put}
@@ -48,7 +48,7 @@ module _ (g : Inside) (ok : IsFilling g) (f : Filling) (is : filling_of g ≡ f)
     )
 
     pub put_lies : (h : Inside) (v : ℕ) → h.block ≡ set g.block end (Some v) → h.starts.items ≡ g.starts.items → h.ends.items ≡ set g.ends.items r (end + 1)
-        → IsFilledAs h (record { rows = appended f.rows r v; lengths = f.lengths })
+        → IsFilledAs h (record { rows = with_value f.rows r v; lengths = f.lengths })
     put_lies h v block starts ends =
         let next : end + 1 ≡ 0 + end_of f.rows f.lengths r + 1 = omega (arith, end_is) in
         record {
@@ -59,7 +59,7 @@ module _ (g : Inside) (ok : IsFilling g) (f : Filling) (is : filling_of g ≡ f)
         }
 
 -- a filling f, and rows of it that have room
-module _ (g : Inside) (ok : IsFilling g) (f : Filling) (is : filling_of g ≡ f) (r n v : ℕ) (within : r + n ≤ length f.rows) (room : HaveFreeSlots f r n) where
+module _ (g : Inside) (ok : IsFilling g) (f : Filling) (is : filling_of g ≡ f) (r n v : ℕ) (within : r + n ≤ length f.rows) (room : EachHasFreeSlot f r n) where
   stored : IsFilledAs g f
   stored = subst (IsFilledAs g) is ok
 
@@ -76,14 +76,14 @@ module _ (g : Inside) (ok : IsFilling g) (f : Filling) (is : filling_of g ≡ f)
   pub block_small : length g.block < 2 ^ 32
   block_small = omega (arith, ap length stored.slots, length-laid f.rows f.lengths stored.within.fits, stored.within.small.1)
 
-  pub run_lies : (h : Inside) → h.block ≡ written g.block (take n (drop r g.ends.items)) v → h.starts.items ≡ g.starts.items → h.ends.items ≡ changed_run (λ end. end + 1) g.ends.items r n
-      → IsFilledAs h (record { rows = appended_run f.rows r n v; lengths = f.lengths })
+  pub run_lies : (h : Inside) → h.block ≡ contents_with g.block (take n (drop r g.ends.items)) v → h.starts.items ≡ g.starts.items → h.ends.items ≡ with_each_changed (λ end. end + 1) g.ends.items r n
+      → IsFilledAs h (record { rows = with_value_each f.rows r n v; lengths = f.lengths })
   run_lies h block starts ends =
       record {
         within = record { fits = run.fits; small = stored.within.small };
-        slots = block ∙ (λ i. written (stored.slots i) (take n (drop r (stored.ends i))) v) ∙ run.slots;
+        slots = block ∙ (λ i. contents_with (stored.slots i) (take n (drop r (stored.ends i))) v) ∙ run.slots;
         starts = starts ∙ stored.starts;
-        ends = ends ∙ (λ i. changed_run (λ end. end + 1) (stored.ends i) r n) ∙ run.ends;
+        ends = ends ∙ (λ i. with_each_changed (λ end. end + 1) (stored.ends i) r n) ∙ run.ends;
       }
 
 -- a filling f, and what one of its rows has left

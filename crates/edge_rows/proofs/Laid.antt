@@ -5,7 +5,7 @@ use Rattle.std.proofs.lemmas.List.Sums.{sum_by-cons}
 use Rattle.std.proofs.Math.ListN.{replicate-append-replicate}
 use Rattle.std.proofs.Math.Seq.{set_at, get_or_at}
 use Rattle.std.specs.List.{AllZip}
-use Rattle.edge_rows.specs.Rows.{row_at, appended, unfilled}
+use Rattle.edge_rows.specs.Rows.{row_at, with_value, empty_rows}
 use Rattle.edge_rows.specs.inside.Layout.{laid, starts_from, ends_from, gaps, values, rows_between}
 
 abbrev pub Fits : List (List ℕ) → List ℕ → Type 0
@@ -159,7 +159,7 @@ row_put xs n v rest lt =
     ∙ sym (append_assoc (map Some xs) (Some v ∷ []) (empty ++ rest)) ∙ ap (λ l. l ++ (empty ++ rest)) (sym (map-snoc xs v)) ∙ ap (λ k. map Some (xs ++ v ∷ []) ++ (replicate (n - k) None ++ rest)) more
 
 pub laid-put : (rows : List (List ℕ)) (ns : List ℕ) (r v : ℕ) → Fits rows ns → r < length rows → length (row_at rows r) < get_or ns r 0
-    → set (laid rows ns) (end_of rows ns r) (Some v) ≡ laid (appended rows r v) ns
+    → set (laid rows ns) (end_of rows ns r) (Some v) ≡ laid (with_value rows r v) ns
 laid-put [] ns r v f at lt = absurd (omega arith)
 laid-put (xs ∷ rows) [] r v f at lt = absurd f
 laid-put (xs ∷ rows) (n ∷ ns) zero v f at lt =
@@ -169,7 +169,7 @@ laid-put (xs ∷ rows) (n ∷ ns) (suc r) v f at lt =
     ∙ ap (λ l. row_laid xs n l) (laid-put rows ns r v f.1 (omega arith) lt)
 
 pub ends-put : (at : ℕ) (rows : List (List ℕ)) (ns : List ℕ) (r v : ℕ) → Fits rows ns → r < length rows
-    → set (ends_from at rows ns) r (at + end_of rows ns r + 1) ≡ ends_from at (appended rows r v) ns
+    → set (ends_from at rows ns) r (at + end_of rows ns r + 1) ≡ ends_from at (with_value rows r v) ns
 ends-put at [] ns r v f lt = absurd (omega arith)
 ends-put at (xs ∷ rows) [] r v f lt = absurd f
 ends-put at (xs ∷ rows) (n ∷ ns) zero v f lt =
@@ -178,7 +178,7 @@ ends-put at (xs ∷ rows) (n ∷ ns) (suc r) v f lt =
     let e : at + end_of (xs ∷ rows) (n ∷ ns) (suc r) + 1 ≡ at + n + end_of rows ns r + 1 = omega (arith, sum-cons n (take r ns)) in
     ap (λ k. (at + length xs) ∷ set (ends_from (at + n) rows ns) r k) e ∙ ap (λ l. (at + length xs) ∷ l) (ends-put (at + n) rows ns r v f.1 (omega arith))
 
-pub fits-put : (rows : List (List ℕ)) (ns : List ℕ) (r v : ℕ) → Fits rows ns → length (row_at rows r) < get_or ns r 0 → Fits (appended rows r v) ns
+pub fits-put : (rows : List (List ℕ)) (ns : List ℕ) (r v : ℕ) → Fits rows ns → length (row_at rows r) < get_or ns r 0 → Fits (with_value rows r v) ns
 fits-put [] [] r v f lt = tt
 fits-put [] (n ∷ ns) r v f lt = absurd f
 fits-put (xs ∷ rows) [] r v f lt = absurd f
@@ -220,17 +220,17 @@ ends-full at (xs ∷ rows) = ap (λ l. (at + length xs) ∷ l) (ends-full (at + 
 
 -- a filling with nothing written
 
-pub fits-unfilled : (ns : List ℕ) → Fits (unfilled ns) ns
+pub fits-unfilled : (ns : List ℕ) → Fits (empty_rows ns) ns
 fits-unfilled [] = tt
 fits-unfilled (n ∷ ns) = (omega arith, fits-unfilled ns)
 
-pub laid-unfilled : (ns : List ℕ) → replicate (sum ns) None ≡ laid (unfilled ns) ns
+pub laid-unfilled : (ns : List ℕ) → replicate (sum ns) None ≡ laid (empty_rows ns) ns
 laid-unfilled [] = refl
 laid-unfilled (n ∷ ns) =
     let none : Option ℕ = None in let whole : n - 0 ≡ n = omega arith in
     ap (λ k. replicate k none) (sum-cons n ns) ∙ sym (replicate-append-replicate n (sum ns) none) ∙ (λ i. replicate (sym whole i) none ++ laid-unfilled ns i)
 
-pub ends-unfilled : (at : ℕ) (ns : List ℕ) → take (length ns) (starts_from at ns) ≡ ends_from at (unfilled ns) ns
+pub ends-unfilled : (at : ℕ) (ns : List ℕ) → take (length ns) (starts_from at ns) ≡ ends_from at (empty_rows ns) ns
 ends-unfilled at [] = refl
 ends-unfilled at (n ∷ ns) = let same : at ≡ at + 0 = omega arith in λ i. same i ∷ ends-unfilled (at + n) ns i
 

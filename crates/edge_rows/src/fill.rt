@@ -1,24 +1,15 @@
 //! `RowFill`: rows of fixed lengths, each filled from its front on, in any order of rows.
 ghost use Rattle.std.specs.Prelude.{◌≡◌, ◌+◌, ◌^◌, ◌<◌, ◌≤◌, length, map, sum, IfOk};
-ghost use Rattle.edge_rows.specs.Rows.{appended, appended_run, unfilled, HasFreeSlot, HaveFreeSlots, slots_left};
+ghost use Rattle.edge_rows.specs.Rows.{with_value, with_value_each, empty_rows, HasFreeSlot, EachHasFreeSlot, slots_left};
 ghost use Rattle.edge_rows.specs.inside.Layout.{starts_from};
-ghost use Rattle.edge_rows.specs.inside.Slices.{AreFree, written};
+ghost use Rattle.edge_rows.specs.inside.Slices.{AreFree, contents_with};
 ghost use Rattle.base.specs.declared.limits.TheConstants.{CELLS_LIMIT, EDGES_LIMIT};
 
 use crate::block::Block;
 use crate::rows::Rows;
+use base::NoMemory;
 use std::alloc::{AllocError, Global};
 use std::marker::Model;
-
-/// There was no memory for the rows.
-#[derive(Clone, Copy, Debug, PartialEq, Eq)]
-pub struct NoMemory;
-
-impl From<AllocError> for NoMemory {
-    fn from(_refused: AllocError) -> NoMemory {
-        NoMemory
-    }
-}
 
 /// Rows of fixed lengths in one block, as far as they are filled.
 #[derive(Drop)]
@@ -63,7 +54,7 @@ fn starts_of(alloc: Global, lengths: &[u32]) -> Result<Vec<u32>, AllocError>
 fn write_each(block: &mut Block, ends: &mut [u32], value: u32)
     requires free { AreFree block.old ends.old value }
     requires small { length block.old < 2 ^ 32 }
-    ensures block { block.new ≡ written block.old ends.old value }
+    ensures block { block.new ≡ contents_with block.old ends.old value }
     ensures ends { ends.new ≡ map (λ end. end + 1) ends.old }
 {
     for end in ends {
@@ -78,7 +69,7 @@ impl RowFill {
     pub fn new(alloc: Global, lengths: &[u32]) -> Result<RowFill, NoMemory>
         requires rows { length lengths.now ≤ CELLS_LIMIT }
         requires slots { sum lengths.now ≤ EDGES_LIMIT }
-        ensures rows { IfOk result (λ fill. fill.rows ≡ unfilled lengths.now) }
+        ensures rows { IfOk result (λ fill. fill.rows ≡ empty_rows lengths.now) }
         ensures lengths { IfOk result (λ fill. fill.lengths ≡ lengths.now) }
     {
         let rows = lengths.len();
@@ -96,7 +87,7 @@ impl RowFill {
     /// Writes the row's next slot, in constant time.
     pub fn put(&mut self, row: u32, value: u32)
         requires { HasFreeSlot self.old row }
-        ensures rows { self.new.rows ≡ appended self.old.rows row value }
+        ensures rows { self.new.rows ≡ with_value self.old.rows row value }
         ensures lengths { self.new.lengths ≡ self.old.lengths }
     {
         let row = row as usize;
@@ -110,8 +101,8 @@ impl RowFill {
     #[inline(always)]
     pub fn put_each(&mut self, first: u32, count: u32, value: u32)
         requires within { first + count ≤ length self.old.rows }
-        requires room { HaveFreeSlots self.old first count }
-        ensures rows { self.new.rows ≡ appended_run self.old.rows first count value }
+        requires room { EachHasFreeSlot self.old first count }
+        ensures rows { self.new.rows ≡ with_value_each self.old.rows first count value }
         ensures lengths { self.new.lengths ≡ self.old.lengths }
     {
         let from = first as usize;

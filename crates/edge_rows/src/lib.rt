@@ -13,5 +13,6 @@ pub mod laws;
 mod rows;
 mod slots;
 
-pub use fill::{NoMemory, RowFill};
+pub use base::NoMemory;
+pub use fill::RowFill;
 pub use rows::Rows;

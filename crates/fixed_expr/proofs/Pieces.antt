@@ -3,27 +3,14 @@ use Rattle.std.proofs.Common.{◌≡◌, ℕ, suc, ◌+◌, ◌-◌, ◌*◌, �
 use Rattle.std.specs.Prelude.{ℤ, pos, negsuc, nat_abs, ◌+ℤ◌, ◌-ℤ◌, ◌*ℤ◌, ◌≤ℤ◌, ◌<ℤ◌, int_le, int_lt, if◌then◌else◌}
 use Rattle.std.specs.Int.{int_min, int_max}
 use Rattle.std.proofs.lemmas.Int.{ints, clamps}
-use Rattle.std.proofs.lemmas.Nat.{le-div, div-mul-add}
-use Rattle.std.proofs.Math.Nat.{mul-le-mul_left, div-mul-le_self, zero-div}
+use Rattle.std.proofs.lemmas.Nat.{div-mul-add}
+use Rattle.std.proofs.Math.Nat.{zero-div}
 use Rattle.std.proofs.Math.IntN.{*ℤ-zero}
-use borrow.Author.Differences.{up, down}
 use Rattle.fixed_expr.specs.DivExpr.{floor_div}
 use Rattle.fixed_expr.specs.Curves.{IsShort, value_along, value_from}
+use Rattle.base.proofs.Products.{times_positive, times_negative, quotients_in_order}
 
 -- ---- floors of quotients
-
-times_positive : (n : ℕ) (x y : ℤ) → x ≤ℤ y → (pos n *ℤ x) ≤ℤ (pos n *ℤ y)
-times_positive n x y below =
-    let apart : up x + down y ≤ up y + down x = omega (arith, ints) in
-    omega (arith, ints, mul-le-mul_left n apart)
-
-times_negative : (n : ℕ) (x y : ℤ) → x ≤ℤ y → (negsuc n *ℤ y) ≤ℤ (negsuc n *ℤ x)
-times_negative n x y below =
-    let apart : up x + down y ≤ up y + down x = omega (arith, ints) in
-    omega (arith, ints, mul-le-mul_left (suc n) apart)
-
-quotients_in_order : (m n k : ℕ) → 0 < k → m ≤ n → m / k ≤ n / k
-quotients_in_order m n k some order = le-div (m / k) n k some (omega (arith, div-mul-le_self m k))
 
 pub floors_in_order : (x y k : ℤ) → pos 1 ≤ℤ k → x ≤ℤ y → floor_div x k ≤ℤ floor_div y k
 floors_in_order (pos m) (pos n) k some below =

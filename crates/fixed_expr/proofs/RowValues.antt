@@ -6,7 +6,7 @@ use Rattle.fixed_expr.specs.declared.lanes.TheConstants.{LANES}
 use Rattle.fixed_expr.specs.declared.operation.Binary.{Binary}
 use Rattle.fixed_expr.specs.declared.operation.Binary.TheVariants.{AddOp, SubOp, MulOp, MinOp, MaxOp}
 use Rattle.fixed_expr.specs.Expression.{Expression}
-use Rattle.fixed_expr.specs.Lanes.{at, AreNarrow, Holds, HoldsNarrow}
+use Rattle.fixed_expr.specs.Lanes.{at, AreNarrow, IsColumnOf, IsNarrowColumnOf}
 use Rattle.fixed_expr.specs.NarrowValues.{IsNarrow, StaysNarrow}
 use Rattle.fixed_expr.specs.LaneEval.{row_of, StaysNarrowInLanes}
 use Rattle.fixed_expr.specs.Value.{value_of}
@@ -81,14 +81,14 @@ module _ (binary : Binary) (a b : Expression) (columns : List (List ℤ)) where
 
 -- ---- in all lanes
 
-module _ (binary : Binary) (x y : ℕ → ℤ) (left right : List ℤ) (is_left : Holds left x) (is_right : Holds right y) where
+module _ (binary : Binary) (x y : ℕ → ℤ) (left right : List ℤ) (is_left : IsColumnOf left x) (is_right : IsColumnOf right y) where
   abbrev in_lane : ℕ → ℤ
   in_lane k = combined_number binary (at left k) (at right k)
 
   same : (k : ℕ) → k < LANES → in_lane k ≡ combined_number binary (x k) (y k)
   same k lt = ap₂ (combined_number binary) (is_left k lt) (is_right k lt)
 
-  pub lanes_hold : (found : List ℤ) → HoldsNarrow found in_lane → HoldsNarrow found (λ k. combined_number binary (x k) (y k))
+  pub lanes_hold : (found : List ℤ) → IsNarrowColumnOf found in_lane → IsNarrowColumnOf found (λ k. combined_number binary (x k) (y k))
   lanes_hold found are = (λ k lt. subst IsNarrow (same k lt) (are.0 k lt), λ k lt. are.1 k lt ∙ same k lt)
 
   pub lanes_leave : ¬ (AreNarrow in_lane) → ¬ (AreNarrow (λ k. combined_number binary (x k) (y k)))

@@ -14,9 +14,9 @@ abbrev pub StaysNarrowInLanes : Expression → List (List ℤ) → Type 0
 StaysNarrowInLanes e columns = (k : ℕ) → k < LANES → StaysNarrow e (row_of columns k)
 
 -- the list holds the value in each row at its position
-abbrev pub HoldsValuesInLanes : Expression → List (List ℤ) → List ℤ → Type 0
-HoldsValuesInLanes e columns found = (k : ℕ) → k < LANES → slice_index_or found k (pos 0) ≡ value_of e (row_of columns k)
+abbrev pub AreValuesInLanes : Expression → List (List ℤ) → List ℤ → Type 0
+AreValuesInLanes e columns found = (k : ℕ) → k < LANES → slice_index_or found k (pos 0) ≡ value_of e (row_of columns k)
 
 -- an answer is given exactly where each row stays in 64 bits, and then the list holds the values
 abbrev pub EvaluatesLanes : {T : Type 0} → Option T → Expression → List (List ℤ) → List ℤ → Type 0
-EvaluatesLanes answer e columns found = MatchOption answer (¬ (StaysNarrowInLanes e columns)) (λ _. StaysNarrowInLanes e columns × HoldsValuesInLanes e columns found)
+EvaluatesLanes answer e columns found = MatchOption answer (¬ (StaysNarrowInLanes e columns)) (λ _. StaysNarrowInLanes e columns × AreValuesInLanes e columns found)

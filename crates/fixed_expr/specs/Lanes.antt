@@ -12,13 +12,13 @@ abbrev pub AreNarrow : (ℕ → ℤ) → Type 0
 AreNarrow wanted = (k : ℕ) → k < LANES → IsNarrow (wanted k)
 
 -- the list holds each number in its lane
-abbrev pub Holds : List ℤ → (ℕ → ℤ) → Type 0
-Holds found wanted = (k : ℕ) → k < LANES → at found k ≡ wanted k
+abbrev pub IsColumnOf : List ℤ → (ℕ → ℤ) → Type 0
+IsColumnOf found wanted = (k : ℕ) → k < LANES → at found k ≡ wanted k
 
 -- the list holds each number in its lane, and all lie in 64 bits
-abbrev pub HoldsNarrow : List ℤ → (ℕ → ℤ) → Type 0
-HoldsNarrow found wanted = AreNarrow wanted × Holds found wanted
+abbrev pub IsNarrowColumnOf : List ℤ → (ℕ → ℤ) → Type 0
+IsNarrowColumnOf found wanted = AreNarrow wanted × IsColumnOf found wanted
 
 -- an answer is given exactly where each number lies in 64 bits, and then the list holds them
 abbrev pub AnswersLanes : {T : Type 0} → Option T → List ℤ → (ℕ → ℤ) → Type 0
-AnswersLanes answer found wanted = MatchOption answer (¬ (AreNarrow wanted)) (λ _. HoldsNarrow found wanted)
+AnswersLanes answer found wanted = MatchOption answer (¬ (AreNarrow wanted)) (λ _. IsNarrowColumnOf found wanted)

@@ -6,18 +6,9 @@ ghost use Rattle.fixed_expr.specs.Curves.{IsCurve, IsShort, curve_value, value_a
 ghost use Rattle.fixed_expr.specs.inside.Passed.{ArePassed};
 ghost use Rattle.base.specs.declared.limits.TheConstants.{NUMBER_LIMIT};
 
-use std::alloc::{AllocError, Global};
+use base::NoMemory;
+use std::alloc::Global;
 use std::marker::Model;
-
-/// There was no memory left.
-#[derive(Clone, Copy, Debug, PartialEq, Eq)]
-pub struct NoMemory;
-
-impl From<AllocError> for NoMemory {
-    fn from(_refused: AllocError) -> NoMemory {
-        NoMemory
-    }
-}
 
 /// A function that goes straight from point to point, and stays as it is before the first and after
 /// the last. Seen as its points.

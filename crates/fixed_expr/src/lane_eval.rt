@@ -4,7 +4,7 @@ ghost use Rattle.std.specs.Prelude.{◌≡◌, ℕ, ◌<◌, pos, neg_ℤ, nat_a
 ghost use Rattle.fixed_expr.specs.declared.lanes.TheConstants.{LANES};
 ghost use Rattle.fixed_expr.specs.Curves.{curve_value};
 ghost use Rattle.fixed_expr.specs.Expression.{expression_of};
-ghost use Rattle.fixed_expr.specs.Lanes.{at, Holds, AnswersLanes};
+ghost use Rattle.fixed_expr.specs.Lanes.{at, IsColumnOf, AnswersLanes};
 ghost use Rattle.fixed_expr.specs.DivExpr.{floor_div};
 ghost use Rattle.fixed_expr.specs.Value.{IsWellFormed};
 ghost use Rattle.fixed_expr.specs.LaneEval.{EvaluatesLanes};
@@ -187,7 +187,7 @@ fn look_values_up(values: RowValues, curve: &Curve, found: &mut [i64; LANES]) ->
 
 /// Lists a value that is the same in all rows.
 fn list(values: RowValues, rows: &mut [i64; LANES])
-    ensures { Holds rows.new (λ k. value_in values rows.old k) }
+    ensures { IsColumnOf rows.new (λ k. value_in values rows.old k) }
 {
     if let RowValues::Alike(z) = values {
         rows.fill(z);

@@ -5,7 +5,7 @@ ghost use Rattle.std.specs.Prelude.{neg_ℤ, ◌+ℤ◌, ◌-ℤ◌, ◌*ℤ◌,
 ghost use Rattle.std.specs.Int.{int_min, int_max};
 ghost use Rattle.fixed_expr.specs.DivExpr.{floor_div};
 ghost use Rattle.fixed_expr.specs.Curves.{curve_value};
-ghost use Rattle.fixed_expr.specs.Lanes.{at, AnswersLanes, HoldsNarrow};
+ghost use Rattle.fixed_expr.specs.Lanes.{at, AnswersLanes, IsNarrowColumnOf};
 
 use crate::curve::Curve;
 use crate::narrow::floor_quotient;
@@ -15,7 +15,7 @@ use base::Divisor;
 pub const LANES: usize = 32;
 
 pub fn copy_lanes(found: &mut [i64; LANES], column: &[i64; LANES])
-    ensures { HoldsNarrow found.new (λ k. at column.now k) }
+    ensures { IsNarrowColumnOf found.new (λ k. at column.now k) }
 {
     'lanes: for k in 0..LANES {
         found[k] = column[k];
@@ -51,7 +51,7 @@ pub fn mul_lanes(found: &mut [i64; LANES], other: &[i64; LANES]) -> Option<()>
 
 /// The lesser of the two, in each lane.
 pub fn min_lanes(found: &mut [i64; LANES], other: &[i64; LANES])
-    ensures { HoldsNarrow found.new (λ k. int_min (at found.old k) (at other.now k)) }
+    ensures { IsNarrowColumnOf found.new (λ k. int_min (at found.old k) (at other.now k)) }
 {
     'lanes: for k in 0..LANES {
         found[k] = found[k].min(other[k]);
@@ -60,7 +60,7 @@ pub fn min_lanes(found: &mut [i64; LANES], other: &[i64; LANES])
 
 /// The greater of the two, in each lane.
 pub fn max_lanes(found: &mut [i64; LANES], other: &[i64; LANES])
-    ensures { HoldsNarrow found.new (λ k. int_max (at found.old k) (at other.now k)) }
+    ensures { IsNarrowColumnOf found.new (λ k. int_max (at found.old k) (at other.now k)) }
 {
     'lanes: for k in 0..LANES {
         found[k] = found[k].max(other[k]);
@@ -88,7 +88,7 @@ pub(crate) fn abs_lanes(found: &mut [i64; LANES]) -> Option<()>
 /// Rounds down, where `/` rounds towards 0.
 pub fn div_lanes(found: &mut [i64; LANES], divisor: i64)
     requires { pos 1 ≤ℤ divisor }
-    ensures { HoldsNarrow found.new (λ k. floor_div (at found.old k) divisor) }
+    ensures { IsNarrowColumnOf found.new (λ k. floor_div (at found.old k) divisor) }
 {
     let divisor = Divisor::new(divisor as u64);
     'lanes: for k in 0..LANES {
@@ -98,7 +98,7 @@ pub fn div_lanes(found: &mut [i64; LANES], divisor: i64)
 
 /// The values of a table.
 pub(crate) fn lut_lanes(found: &mut [i64; LANES], curve: &Curve)
-    ensures { HoldsNarrow found.new (λ k. curve_value curve.now (at found.old k)) }
+    ensures { IsNarrowColumnOf found.new (λ k. curve_value curve.now (at found.old k)) }
 {
     'lanes: for k in 0..LANES {
         found[k] = curve.narrow_value(found[k]);

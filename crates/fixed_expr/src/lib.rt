@@ -20,7 +20,8 @@ mod operation_pool;
 mod operations;
 mod wide;
 
-pub use curve::{Curve, NoMemory};
+pub use base::NoMemory;
+pub use curve::Curve;
 pub use evaluate::eval;
 pub use expr::Expr;
 pub use lane_eval::eval_lanes;

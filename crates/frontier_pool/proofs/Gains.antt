@@ -4,24 +4,24 @@ use Rattle.std.proofs.lemmas.List.{append-nil}
 use Rattle.std.proofs.lemmas.List.Elements.{All-nil, All-append}
 use Rattle.frontier_pool.specs.declared.rule.ClaimList.{ClaimList}
 use Rattle.frontier_pool.specs.declared.rule.SeatView.{SeatView}
-use Rattle.frontier_pool.specs.inside.ClaimProtocol.{longer, grown, Seated}
+use Rattle.frontier_pool.specs.inside.ClaimProtocol.{with_first_items, with_items, Seated}
 use Rattle.frontier_pool.specs.inside.Gains.{SeatOf, Gained}
 use Rattle.atomic_table.specs.Seated.{TableId}
 use Rattle.frontier_pool.specs.inside.Members.{HasAll, MayClaim}
 use Rattle.frontier_pool.proofs.Sums.{length-longer}
 
-longer-nil : (claim_lists : List ClaimList) → longer claim_lists [] ≡ claim_lists
+longer-nil : (claim_lists : List ClaimList) → with_first_items claim_lists [] ≡ claim_lists
 longer-nil [] = refl
 longer-nil (p ∷ claim_lists) = ap (λ (xs : List ℕ). let q : ClaimList = record { items = xs } in q ∷ claim_lists) (append-nil p.items)
 
-longer-longer : (claim_lists : List ClaimList) (xs ys : List ℕ) → longer (longer claim_lists xs) ys ≡ longer claim_lists (xs ++ ys)
+longer-longer : (claim_lists : List ClaimList) (xs ys : List ℕ) → with_first_items (with_first_items claim_lists xs) ys ≡ with_first_items claim_lists (xs ++ ys)
 longer-longer [] xs ys = refl
 longer-longer (p ∷ claim_lists) xs ys = ap (λ (zs : List ℕ). let q : ClaimList = record { items = zs } in q ∷ claim_lists) (append_assoc p.items xs ys)
 
-grown-nil : (v : SeatView) → grown v [] ≡ v
+grown-nil : (v : SeatView) → with_items v [] ≡ v
 grown-nil v = ap (λ (claim_lists : List ClaimList). let w : SeatView = record v { claim_lists = claim_lists } in w) (longer-nil v.claim_lists)
 
-grown-grown : (v : SeatView) (xs ys : List ℕ) → grown (grown v xs) ys ≡ grown v (xs ++ ys)
+grown-grown : (v : SeatView) (xs ys : List ℕ) → with_items (with_items v xs) ys ≡ with_items v (xs ++ ys)
 grown-grown v xs ys = ap (λ (claim_lists : List ClaimList). let w : SeatView = record v { claim_lists = claim_lists } in w) (longer-longer v.claim_lists xs ys)
 
 -- nothing
@@ -42,7 +42,7 @@ gained_then items a b c x y z g h = record {
   within = All-append (λ n. n < items) g.claim_list h.claim_list g.within h.within;
   table = h.table ∙ g.table;
   id = h.id ∙ g.id;
-  claims = h.claims ∙ ap (λ (me : Seated). let it : Seated = (grown me.0 h.claim_list, me.1) in it) g.claims ∙ ap (λ (v : SeatView). let it : Seated = (v, a.me.1) in it) (grown-grown a.me.0 g.claim_list h.claim_list);
+  claims = h.claims ∙ ap (λ (me : Seated). let it : Seated = (with_items me.0 h.claim_list, me.1) in it) g.claims ∙ ap (λ (v : SeatView). let it : Seated = (v, a.me.1) in it) (grown-grown a.me.0 g.claim_list h.claim_list);
   done = h.done ∙ ap (λ l. l ++ h.claim_list) g.done ∙ append_assoc x g.claim_list h.claim_list;
 }
 

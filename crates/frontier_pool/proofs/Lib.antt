@@ -3,5 +3,4 @@ pub mod Steps
 pub mod Gains
 pub mod Lists
 pub mod Locals
-pub mod Counts
 pub mod Swept

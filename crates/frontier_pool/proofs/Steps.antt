@@ -10,8 +10,9 @@ use Rattle.std.proofs.lemmas.List.Sums.{sum_by-cons, sum_by-append, sum_by_push}
 use Rattle.atomic_table.specs.Table.{State, Allows, Splits, Joins, step, keeps, opening}
 use Rattle.frontier_pool.specs.declared.rule.ClaimList.{ClaimList}
 use Rattle.frontier_pool.specs.declared.rule.SeatView.{SeatView}
-use Rattle.frontier_pool.specs.inside.ClaimProtocol.{Keeps, times, times_in, claims, claim_count, made_of, first_view, fresh, nobody, one_more, collected, grown, claimed, Seated, Claims, IsAlone, MakesFinalClaim}
+use Rattle.frontier_pool.specs.inside.ClaimProtocol.{Keeps, times_in, claims, claim_count, made_of, first_view, member_view, empty_view, with_member, joined_view, with_items, with_claim, Seated, Claims, IsAlone, MakesFinalClaim}
 use Rattle.frontier_pool.proofs.Sums.{sum_by-replaced, within-set, zeros_read, times_in-longer, times-itself, times-other, length-longer}
+use Rattle.base.specs.Counts.{times}
 
 -- the rule of a new table
 pub begins : (items : ℕ) → Keeps items (opening {S = Unit {0}} (replicate items 0) [] first_view)
@@ -58,15 +59,15 @@ keeps_after items s i x id v w h worker made claim_lists small moved = record {
 }
 
 -- a claim counts for its item alone
-pub claimed_itself : (n : ℕ) (v : SeatView) (found : ℕ) → 0 < length v.claim_lists → claims n v ≡ found → found ≤ 1 → claims n (claimed v n found) ≡ 1
+pub claimed_itself : (n : ℕ) (v : SeatView) (found : ℕ) → 0 < length v.claim_lists → claims n v ≡ found → found ≤ 1 → claims n (with_claim v n found) ≡ 1
 claimed_itself n v zero some_claim_list is small = omega (arith, times_in-longer n v.claim_lists (n ∷ []) some_claim_list, times-itself n)
 claimed_itself n v (suc found) some_claim_list is small = omega arith
 
 claim_keeps : (items : ℕ) (s : State (Unit {0}) SeatView) (i id : ℕ) (v : SeatView) (found : ℕ) → Keeps items s → get_elem? s.views id ≡ some v → 0 < length v.claim_lists → i < items → slice_index s.words i ≡ found
-    → Keeps items (record { words = set s.words i (max found 1); homes = s.homes; views = set s.views id (claimed v i found) })
+    → Keeps items (record { words = set s.words i (max found 1); homes = s.homes; views = set s.views id (with_claim v i found) })
 claim_keeps items s i id v zero h worker some_claim_list there is =
     let inside : i < length s.words = let width = h.width in omega arith in
-    keeps_after items s i 1 id v (grown v (i ∷ [])) h worker refl (length-longer v.claim_lists (i ∷ [])) (omega arith)
+    keeps_after items s i 1 id v (with_items v (i ∷ [])) h worker refl (length-longer v.claim_lists (i ∷ [])) (omega arith)
     (λ n. let more = times_in-longer n v.claim_lists (i ∷ []) some_claim_list in
     dite (ℕ_discrete n i)
     (λ (here : n ≡ i).
@@ -87,7 +88,7 @@ claim_keeps items s i id v (suc found) h worker some_claim_list there is =
 pub claim_allowed : (items slots id i : ℕ) (me : Seated) → 0 < length me.0.claim_lists → i < items → Allows (Keeps items) slots id me i (λ m. max m 1) (Claims (step slots i 1 0 none) me)
 claim_allowed items slots id i me some_claim_list there s h home worker small =
     let found = slice_index s.words i in
-    (claimed me.0 i found, keeps, tt, claim_keeps items s i id me.0 found h worker some_claim_list there refl, refl)
+    (with_claim me.0 i found, keeps, tt, claim_keeps items s i id me.0 found h worker some_claim_list there refl, refl)
 
 -- a view without a part has no item
 nothing_else : (n : ℕ) (views : List SeatView) → sum_by claim_count views ≡ 0 → sum_by (claims n) views ≡ 0
@@ -115,7 +116,7 @@ all_here items s id n v h first worker alone = cases s.views refl
 pub final_claim_allowed : (items slots id i : ℕ) (me : Seated) → id ≡ 0 → 0 < length me.0.claim_lists → i < items → Allows (Keeps items) slots id me i (λ m. max m 1) (MakesFinalClaim (step slots i 1 0 none) me)
 final_claim_allowed items slots id i me first some_claim_list there s h home worker small =
     let found = slice_index s.words i in (
-      claimed me.0 i found,
+      with_claim me.0 i found,
       keeps,
       tt,
       claim_keeps items s i id me.0 found h worker some_claim_list there refl,
@@ -123,20 +124,20 @@ final_claim_allowed items slots id i me first some_claim_list there s h home wor
     )
 
 -- one more member
-pub deal_splits : (items id : ℕ) (v : SeatView) → id ≡ 0 → Splits {S = Unit {0}} (Keeps items) id v (one_more v) fresh
+pub deal_splits : (items id : ℕ) (v : SeatView) → id ≡ 0 → Splits {S = Unit {0}} (Keeps items) id v (with_member v) member_view
 deal_splits items id v first s h worker =
-    let views = set s.views id (one_more v) in
-    let one : claim_count fresh ≡ 1 = refl in
-    let claim_lists = sum_by-replaced claim_count s.views id v (one_more v) worker in
-    let pushed = sum_by_push claim_count views fresh in
+    let views = set s.views id (with_member v) in
+    let one : claim_count member_view ≡ 1 = refl in
+    let claim_lists = sum_by-replaced claim_count s.views id v (with_member v) worker in
+    let pushed = sum_by_push claim_count views member_view in
     let made_was : v.made ≡ sum_by claim_count s.views = sym (made-first s.views id v first worker) ∙ h.made in
-    let made_is : made_of (views ++ fresh ∷ []) ≡ v.made + 1 = made-pushed s.views id (one_more v) fresh first worker in
+    let made_is : made_of (views ++ member_view ∷ []) ≡ v.made + 1 = made-pushed s.views id (with_member v) member_view first worker in
     record {
       width = h.width;
       made = omega arith;
       counted = λ n.
-          let none_more : claims n fresh ≡ 0 = refl in
-          omega (arith, h.counted n, sum_by-replaced (claims n) s.views id v (one_more v) worker, sum_by_push (claims n) views fresh);
+          let none_more : claims n member_view ≡ 0 = refl in
+          omega (arith, h.counted n, sum_by-replaced (claims n) s.views id v (with_member v) worker, sum_by_push (claims n) views member_view);
       once = h.once;
     }
   where
@@ -146,21 +147,21 @@ deal_splits items id v first s h worker =
     made-pushed (x ∷ xs) (suc k) w u front worker = absurd (omega arith)
 
 -- a member is collected
-pub collect_joins : (items id other : ℕ) (v w : SeatView) → id ≡ 0 → Joins {S = Unit {0}} (Keeps items) id v other w (collected v w) nobody
+pub collect_joins : (items id other : ℕ) (v w : SeatView) → id ≡ 0 → Joins {S = Unit {0}} (Keeps items) id v other w (joined_view v w) empty_view
 collect_joins items id other v w first s h worker apart there =
-    let views = set s.views id (collected v w) in
-    let bare : claim_count nobody ≡ 0 = refl in
-    let both : claim_count (collected v w) ≡ claim_count v + claim_count w = length-append v.claim_lists w.claim_lists in
-    let one = sum_by-replaced claim_count s.views id v (collected v w) worker in
-    let two = sum_by-replaced claim_count views other w nobody there in
+    let views = set s.views id (joined_view v w) in
+    let bare : claim_count empty_view ≡ 0 = refl in
+    let both : claim_count (joined_view v w) ≡ claim_count v + claim_count w = length-append v.claim_lists w.claim_lists in
+    let one = sum_by-replaced claim_count s.views id v (joined_view v w) worker in
+    let two = sum_by-replaced claim_count views other w empty_view there in
     let made_was : v.made ≡ sum_by claim_count s.views = sym (made-first s.views id v first worker) ∙ h.made in
-    let made_is : made_of (set views other nobody) ≡ v.made = made-set_other views other nobody (λ e. apart (e ∙ sym first)) ∙ made-set_first s.views id v (collected v w) first worker in
+    let made_is : made_of (set views other empty_view) ≡ v.made = made-set_other views other empty_view (λ e. apart (e ∙ sym first)) ∙ made-set_first s.views id v (joined_view v w) first worker in
     record {
       width = h.width;
       made = omega arith;
       counted = λ n.
-          let idle : claims n nobody ≡ 0 = refl in
-          let joined : claims n (collected v w) ≡ claims n v + claims n w = sum_by-append (λ (p : ClaimList). times n p.items) v.claim_lists w.claim_lists in
-          omega (arith, h.counted n, sum_by-replaced (claims n) s.views id v (collected v w) worker, sum_by-replaced (claims n) views other w nobody there);
+          let idle : claims n empty_view ≡ 0 = refl in
+          let joined : claims n (joined_view v w) ≡ claims n v + claims n w = sum_by-append (λ (p : ClaimList). times n p.items) v.claim_lists w.claim_lists in
+          omega (arith, h.counted n, sum_by-replaced (claims n) s.views id v (joined_view v w) worker, sum_by-replaced (claims n) views other w empty_view there);
       once = h.once;
     }

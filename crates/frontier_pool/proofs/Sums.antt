@@ -4,7 +4,8 @@ use mathlib.Core.Option.{some, some-ne-none, some-injective}
 use lib.ListN.{get_elem?}
 use Rattle.std.proofs.lemmas.List.Sums.{sum_by-cons, sum_by-append}
 use Rattle.frontier_pool.specs.declared.rule.ClaimList.{ClaimList}
-use Rattle.frontier_pool.specs.inside.ClaimProtocol.{times, times_in, longer}
+use Rattle.frontier_pool.specs.inside.ClaimProtocol.{times_in, with_first_items}
+use Rattle.base.specs.Counts.{times}
 
 -- one summand is replaced
 pub sum_by-replaced : {X : Type 0} (f : X → ℕ) (xs : List X) (i : ℕ) (a b : X) → get_elem? xs i ≡ some a → sum_by f (set xs i b) + f a ≡ sum_by f xs + f b
@@ -28,7 +29,7 @@ zeros_read (suc n) zero = refl
 zeros_read (suc n) (suc k) = zeros_read n k
 
 -- the first part has some items besides
-pub times_in-longer : (n : ℕ) (claim_lists : List ClaimList) (more : List ℕ) → 0 < length claim_lists → times_in n (longer claim_lists more) ≡ times_in n claim_lists + times n more
+pub times_in-longer : (n : ℕ) (claim_lists : List ClaimList) (more : List ℕ) → 0 < length claim_lists → times_in n (with_first_items claim_lists more) ≡ times_in n claim_lists + times n more
 times_in-longer n [] more some_claim_list = absurd (omega arith)
 times_in-longer n (p ∷ claim_lists) more some_claim_list =
     let q : ClaimList = record { items = p.items ++ more } in
@@ -40,6 +41,6 @@ times-itself n = sum_by-cons (λ x. cond (x == n) 1 0) n [] ∙ ap (λ b. cond b
 pub times-other : (n k : ℕ) → k ≢ n → times n (k ∷ []) ≡ 0
 times-other n k apart = sum_by-cons (λ x. cond (x == n) 1 0) k [] ∙ ap (λ b. cond b 1 0 + 0) (ne_eqb k n apart)
 
-pub length-longer : (claim_lists : List ClaimList) (more : List ℕ) → length (longer claim_lists more) ≡ length claim_lists
+pub length-longer : (claim_lists : List ClaimList) (more : List ℕ) → length (with_first_items claim_lists more) ≡ length claim_lists
 length-longer [] more = refl
 length-longer (p ∷ claim_lists) more = refl

@@ -10,10 +10,12 @@ use Rattle.frontier_pool.specs.declared.member.Member.{Member}
 use Rattle.frontier_pool.specs.declared.member.Local.{Local}
 use Rattle.frontier_pool.specs.declared.rule.ClaimList.{ClaimList}
 use Rattle.frontier_pool.specs.Sweeps.{followed, Sweeps}
-use Rattle.frontier_pool.specs.inside.ClaimProtocol.{Seated, times, times_in, no_items, longer}
+use Rattle.frontier_pool.specs.inside.ClaimProtocol.{Seated, times_in, no_items, with_first_items}
 use Rattle.frontier_pool.specs.inside.Gains.{SeatOf, Gained}
 use Rattle.frontier_pool.specs.inside.Members.{IsCaller, HasAll, HasSeat, claim_lists_in, claim_lists_of, hands, Worked, HaveWorked}
-use Rattle.frontier_pool.proofs.Counts.{times-append, permutation_of_range}
+use Rattle.base.proofs.Lists.{All-append_back}
+use Rattle.base.proofs.Times.{times-append, each_once}
+use Rattle.base.specs.Counts.{times}
 
 abbrev claim_list_of : List ℕ → ClaimList
 claim_list_of xs = record { items = xs }
@@ -70,15 +72,11 @@ within-first_longer : (limit : ℕ) (claim_lists : List (List ℕ)) (more : List
 within-first_longer limit [] more h k = h
 within-first_longer limit (p ∷ claim_lists) more h k =
     let P : ℕ → Type 0 = λ n. n < limit in
-    All-append P (p ++ more) (concat claim_lists) (All-append P p more (All-front P p (concat claim_lists) h) k) (All-back P p (concat claim_lists) h)
+    All-append P (p ++ more) (concat claim_lists) (All-append P p more (All-front P p (concat claim_lists) h) k) (All-append_back P p (concat claim_lists) h)
   where
     All-front : (P : ℕ → Type 0) (xs ys : List ℕ) → All P (xs ++ ys) → All P xs
     All-front P [] ys h = All-nil P
     All-front P (x ∷ xs) ys h = All-cons P x xs (All-head P x (xs ++ ys) h) (All-front P xs ys (All-tail P x (xs ++ ys) h))
-
-    All-back : (P : ℕ → Type 0) (xs ys : List ℕ) → All P (xs ++ ys) → All P ys
-    All-back P [] ys h = h
-    All-back P (x ∷ xs) ys h = All-back P xs ys (All-tail P x (xs ++ ys) h)
 
 times_in-claim_lists : (n : ℕ) (claim_lists : List (List ℕ)) → times_in n (map claim_list_of claim_lists) ≡ times n (concat claim_lists)
 times_in-claim_lists n [] = refl
@@ -150,12 +148,12 @@ module _ {H : Type 0} (done : H → List ℕ) where
       let grown : map f left ≡ followed (map f before) s.claim_lists = same_did left worked same_left ∙ s.grown ∙ ap (λ l. followed l s.claim_lists) (same_did seated before same_seated) in
       let own : done first.hand ≡ get_or (map f left) 0 (done first.hand) ++ q = gained.done ∙ ap (λ l. l ++ q) (sym (get_or-did left d (done first.hand) (omega arith))) in
       let claims : now.me.0.claim_lists ≡ claim_list_of q ∷ map claim_list_of s.claim_lists =
-      ap (λ (me : Seated). me.0.claim_lists) gained.claims ∙ ap (λ (me : Seated). longer me.0.claim_lists q) caller.me ∙ ap (λ (ps : List ClaimList). claim_list_of q ∷ ps) s.claims in
+      ap (λ (me : Seated). me.0.claim_lists) gained.claims ∙ ap (λ (me : Seated). with_first_items me.0.claim_lists q) caller.me ∙ ap (λ (ps : List ClaimList). claim_list_of q ∷ ps) s.claims in
       record {
         claim_lists = first_longer s.claim_lists q;
         each = length-first_longer s.claim_lists q ∙ counted;
         grown = map-set f left 0 first ∙ first_followed (map f before) s.claim_lists (map f left) (done first.hand) q counted (omega (arith, length-map before f)) grown own;
-        once = permutation_of_range items (concat (first_longer s.claim_lists q)) (within-first_longer items s.claim_lists q s.within gained.within)
+        once = each_once items (concat (first_longer s.claim_lists q)) (within-first_longer items s.claim_lists q s.within gained.within)
             (λ n below.
             let mine : times_in n now.me.0.claim_lists ≡ times_in n (claim_list_of q ∷ map claim_list_of s.claim_lists) = ap (times_in n) claims in
             omega (arith, once n below, sum_by-cons (λ (p : ClaimList). times n p.items) (claim_list_of q) (map claim_list_of s.claim_lists), times_in-claim_lists n s.claim_lists, times-first_longer n s.claim_lists q some_claim_list));

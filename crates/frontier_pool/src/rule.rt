@@ -29,21 +29,21 @@ impl TableRule<(), SeatView, u32> for Once {
 pub struct SeatSplit;
 
 impl Split<SeatView> for SeatSplit {
-    ghost use Rattle.frontier_pool.specs.inside.ClaimProtocol.{one_more, fresh};
+    ghost use Rattle.frontier_pool.specs.inside.ClaimProtocol.{with_member, member_view};
 
-    ghost left = { one_more };
+    ghost left = { with_member };
 
-    ghost right = { λ caller. fresh };
+    ghost right = { λ caller. member_view };
 }
 
 pub struct SeatJoin;
 
 impl Join<SeatView> for SeatJoin {
-    ghost use Rattle.frontier_pool.specs.inside.ClaimProtocol.{collected, nobody};
+    ghost use Rattle.frontier_pool.specs.inside.ClaimProtocol.{joined_view, empty_view};
 
-    ghost both = { collected };
+    ghost both = { joined_view };
 
-    ghost spent = { nobody };
+    ghost spent = { empty_view };
 }
 
 pub struct Claiming;

@@ -1,6 +1,5 @@
 -- One successor more is cut from one pair.
-use Rattle.std.proofs.Common.{inl, inr, zero, ◌*◌, ◌≡◌, ◌≢◌, ℕ, suc, ◌-◌, ◌/◌, ◌%◌, ◌<◌, ◌⊎◌, Bool, true, false, not, ◌||◌, ◌&&◌, ◌==◌, List, [], length, get_or, set, count_by, Contains, AllPairs, arith, refl, sym, ◌∙◌, ap, subst, length-set, get_or-set_same, get_or-set_other, mul_comm}
-use Rattle.std.proofs.Math.Nat.{mul-zero}
+use Rattle.std.proofs.Common.{inl, inr, ◌≡◌, ◌≢◌, ℕ, suc, ◌-◌, ◌/◌, ◌%◌, ◌<◌, ◌⊎◌, Bool, true, false, not, ◌||◌, ◌&&◌, ◌==◌, List, [], length, get_or, set, count_by, Contains, AllPairs, arith, refl, sym, ◌∙◌, ap, subst, length-set, get_or-set_same, get_or-set_other, mul_comm}
 use Rattle.std.proofs.Math.Bool.{or-true, or-false, and-false}
 use Rattle.std.proofs.lemmas.Bool.{cases_lt, cases_eq, eq-eqb, ne_eqb}
 use Rattle.std.proofs.lemmas.List.Elements.{Contains-get_or, All-get_or}
@@ -8,9 +7,10 @@ use Rattle.std.proofs.lemmas.List.Kept.{AllPairs-from_increasing}
 use Rattle.std.proofs.lemmas.List.{get_or_past}
 use Rattle.std.proofs.lemmas.Nat.{mul-add-lt, div-add-mod', div_below, mod_below}
 use Rattle.std.specs.List.Sorted.{IsStrictlyIncreasing}
-use Rattle.game_core.proofs.Counts.{count_same, count_less}
+use Rattle.base.proofs.Counts.{count_same, count_less}
 use Rattle.game_core.specs.Game.{Game, IsGame, pair_of, pairs_of, successors_at}
 use Rattle.game_core.specs.inside.Search.{IsCounted}
+use Rattle.base.proofs.Products.{some_factor}
 
 -- the same cuts, and one of c from the pair
 abbrev pub with_edge : (ℕ → ℕ → Bool) → ℕ → ℕ → ℕ → ℕ → Bool
@@ -43,11 +43,6 @@ successors_apart g h pair =
       | inr ge ↦ (λ i j d l m e. let n : length (successors_at g pair) ≡ 0 = ap length (get_or_past g.successors pair [] ge) in omega arith)
     ]
 
--- where there is a product above a number, there is a factor above 0
-factor_above_zero : (m n k : ℕ) → k < m * n → 0 < n
-factor_above_zero m zero k lt = let z = mul-zero m in absurd (omega arith)
-factor_above_zero m (suc n) k lt = omega arith
-
 -- the cell and the input that a pair is of
 pub record HasParts (g : Game) (pair : ℕ) : Type 0 where
   pub cell : pair / g.inputs < g.cells
@@ -56,7 +51,7 @@ pub record HasParts (g : Game) (pair : ℕ) : Type 0 where
 
 pub parts_of : (g : Game) (pair : ℕ) → pair < pairs_of g → HasParts g pair
 parts_of g pair lt =
-    let some' = factor_above_zero g.cells g.inputs pair lt in
+    let some' = some_factor g.cells g.inputs pair lt in
     record { cell = div_below pair g.inputs g.cells some' lt; input = mod_below pair g.inputs some'; is = div-add-mod' pair g.inputs }
 
 pub pair_below : (g : Game) (c v : ℕ) → c < g.cells → v < g.inputs → pair_of g c v < pairs_of g

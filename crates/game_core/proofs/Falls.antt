@@ -13,10 +13,10 @@ use Rattle.std.proofs.lemmas.List.Sums.{list_all-from_AllPass}
 use Rattle.std.proofs.lemmas.Nat.{div-add-mod', mod_below, same_from_place}
 use Rattle.game_core.specs.Game.{Game, mark_of, pair_of, pairs_of, successors_at, successors_of}
 use Rattle.game_core.specs.Fallen.{is_obstacle, is_useless, is_helpless, has_fallen, Falls}
-use Rattle.game_core.specs.inside.Falling.{Progress, begun, fallen, is_live, is_safe, safe_pairs, safe_at_first, AreSafe, HaveFallen, IsFalling}
-use Rattle.game_core.proofs.Counts.{none_from_count, below_end}
+use Rattle.game_core.specs.inside.Falling.{Progress, first_progress, with_fall, is_live, is_safe, safe_pairs, safe_at_first, AreSafe, AreFallenBelow, IsFalling}
+use Rattle.base.proofs.Counts.{none_from_count, below_end}
 use Rattle.game_core.proofs.Edges.{pair_below}
-use Rattle.game_core.proofs.Times.{length_of_distinct_below}
+use Rattle.base.proofs.Times.{length_of_distinct_below}
 
 -- the cell and the input of a pair
 pub cell_of_pair : (g : Game) (c u : ℕ) → u < g.inputs → pair_of g c u / g.inputs ≡ c
@@ -117,7 +117,7 @@ module _ (g : Game) (p : Progress) (h : AreSafe g p) (queue : (s : ℕ) → Cont
   falls_now = by_mark (is_obstacle (mark_of g c)) refl
 
 -- at first each live pair is safe
-pub begun_falling : (g : Game) → IsFalling g 0 0 (begun g)
+pub begun_falling : (g : Game) → IsFalling g 0 0 (first_progress g)
 begun_falling g = record {
   safe = record {
     one_test_each = length-map-range_with_len (is_live g) 0 (pairs_of g);
@@ -144,7 +144,7 @@ module _ (g : Game) (bound c : ℕ) (q : Progress) (safe : AreSafe g q) (cell : 
     (queued : (d : ℕ) → d < bound → d ≢ c → get_or q.left d 0 ≡ 0 → Contains q.queue d)
     (others : (d : ℕ) → Contains q.queue d → (d < bound) × (get_or q.left d 0 ≡ 0) × (d ≢ c)) (lt : c < bound)
     (once : AllPairs (λ a b. a ≢ b) q.queue) (falls : (d : ℕ) → Contains q.queue d → Falls g d) where
-  safe_still : AreSafe g (fallen c q)
+  safe_still : AreSafe g (with_fall c q)
   safe_still = record {
     one_test_each = safe.one_test_each;
     one_number_each = safe.one_number_each;
@@ -153,7 +153,7 @@ module _ (g : Game) (bound c : ℕ) (q : Progress) (safe : AreSafe g q) (cell : 
     counted = safe.counted;
   }
 
-  fallen_too : HaveFallen g bound (fallen c q)
+  fallen_too : AreFallenBelow g bound (with_fall c q)
   fallen_too = record {
     queued = λ d ld z.
         elim (cases_eq d c) [
@@ -173,7 +173,7 @@ module _ (g : Game) (bound c : ℕ) (q : Progress) (safe : AreSafe g q) (cell : 
         ];
   }
 
-  pub fall_step : (head : ℕ) → head ≤ length q.queue → ((i pair : ℕ) → i < head → pair < pairs_of g → is_safe q.safe pair ≡ true → Contains (successors_at g pair) (get_or q.queue i 0) → ⊥) → IsFalling g bound head (fallen c q)
+  pub fall_step : (head : ℕ) → head ≤ length q.queue → ((i pair : ℕ) → i < head → pair < pairs_of g → is_safe q.safe pair ≡ true → Contains (successors_at g pair) (get_or q.queue i 0) → ⊥) → IsFalling g bound head (with_fall c q)
   fall_step head reached taken = record {
     safe = safe_still;
     fallen = fallen_too;
@@ -182,12 +182,12 @@ module _ (g : Game) (bound c : ℕ) (q : Progress) (safe : AreSafe g q) (cell : 
   }
 
 -- the queue has room while a cell isn't in it
-pub queue_below : (g : Game) (bound : ℕ) (p : Progress) → HaveFallen g bound p → length p.queue ≤ bound
+pub queue_below : (g : Game) (bound : ℕ) (p : Progress) → AreFallenBelow g bound p → length p.queue ≤ bound
 queue_below g bound p h = length_of_distinct_below bound p.queue h.once (λ i d lt. (h.empty (get_or p.queue i d) (Contains-get_or p.queue i d lt)).0)
 
 -- the next cell is looked at
 module _ (g : Game) (c : ℕ) (lt : c < g.cells) (p : Progress) (h : IsFalling g c 0 p) where
-  pub gather_fall : get_or p.left c 0 ≡ 0 → IsFalling g (c + 1) 0 (fallen c p)
+  pub gather_fall : get_or p.left c 0 ≡ 0 → IsFalling g (c + 1) 0 (with_fall c p)
   gather_fall none = fall_step g (c + 1) c p h.safe lt none
       (λ d ld ne z. h.fallen.queued d (omega arith) z)
       (λ d has. let o = h.fallen.empty d has in let less = o.0 in (omega arith, o.1, omega arith))

@@ -1,28 +1,29 @@
 -- The goals get their rows first, and at the end all rows agree.
-use Rattle.std.proofs.Common.{inl, inr, ◌≡◌, ◌≢◌, ℕ, ◌+◌, ◌<◌, ◌≤◌, true, false, ◌==◌, List, [], ◌∷◌, length, get_or, replicate, Option, Some, None, is_some, arith, refl, sym, ◌∙◌, ap, subst, take_all, length-set}
+use Rattle.std.proofs.Common.{inl, inr, ◌≡◌, ◌≢◌, ℕ, ◌+◌, ◌<◌, ◌≤◌, true, false, ◌==◌, List, [], length, get_or, replicate, Option, Some, None, is_some, arith, refl, sym, ◌∙◌, ap, subst, take_all, length-set}
 use Rattle.std.proofs.lemmas.Bool.{cases_lt, cases_eq}
 use Rattle.std.proofs.lemmas.List.{get_or-map, get_or-replicate, get_or_past, length-replicate, length-map}
 use Rattle.std.proofs.lemmas.List.Elements.{All-replicate}
 use Rattle.std.proofs.lemmas.Map.Views.{list_any-from_Contains}
 use Rattle.std.specs.Cmp.{nat_eq_equiv}
 use Rattle.std.specs.List.{list_any}
-use Rattle.game_core.proofs.Counts.{count_none, count_every}
+use Rattle.base.proofs.Counts.{count_none, count_every}
 use Rattle.game_core.proofs.Queues.{settle_queue}
 use Rattle.game_core.proofs.Rows.{row_after_set, enabled_below}
 use Rattle.game_core.specs.declared.game.Mark.TheVariants.{Goal}
 use Rattle.game_core.specs.declared.game.Row.{Row}
 use Rattle.game_core.specs.Game.{Game, IsGame, mark_of, pair_of, successors_at, successors_of}
 use Rattle.game_core.specs.Solution.{row_of, HasRowBelow}
-use Rattle.game_core.specs.inside.Search.{Progress, begun, settled, IsSoundRow, IsConsistent, IsSearched, IsGathered, taken}
+use Rattle.game_core.specs.inside.Search.{Progress, first_progress, with_row, IsSoundRow, IsConsistent, IsSearched, IsGathered, is_taken}
+use Rattle.base.proofs.Lists.{some_element}
 
-no_row : (n c : ℕ) → row_of (replicate n None) c ≡ None
+pub no_row : (n c : ℕ) → row_of (replicate n None) c ≡ None
 no_row n c =
     elim (cases_lt c n) [
       | inl lt ↦ get_or-replicate n c None None lt
       | inr ge ↦ let l = length-replicate n (let x : Option Row = None in x) in get_or_past (replicate n None) c None (omega arith)
     ]
 
-pub gathered_none : (g : Game) → IsGathered g 0 (begun g)
+pub gathered_none : (g : Game) → IsGathered g 0 (first_progress g)
 gathered_none g = record {
   left = refl;
   one_each = length-replicate g.cells None;
@@ -51,7 +52,7 @@ module _ (g : Game) (c : ℕ) (lt : c < g.cells) (p : Progress) (h : IsGathered 
       by_row None e = refl
       by_row (Some row) e = absurd (let l = (h.only c row e).0 in omega arith)
 
-  pub gathered_goal : mark_of g c ≡ Goal → IsGathered g (c + 1) (settled c goal_row p)
+  pub gathered_goal : mark_of g c ≡ Goal → IsGathered g (c + 1) (with_row c goal_row p)
   gathered_goal m =
       let n = h.one_each in
       let position : c < length p.rows = omega arith in
@@ -84,10 +85,6 @@ module _ (g : Game) (c : ℕ) (lt : c < g.cells) (p : Progress) (h : IsGathered 
     only = λ s row e. let o = h.only s row e in (let l = o.0 in omega arith, o.1, o.2);
   }
 
-some_element : (xs : List ℕ) → xs ≢ [] → 0 < length xs
-some_element [] ne = absurd (ne refl)
-some_element (x ∷ xs) ne = omega arith
-
 -- with every goal gathered the search begins
 pub searched_none : (g : Game) → IsGame g → (p : Progress) → IsGathered g g.cells p → IsSearched g 0 p
 searched_none g a p h = record {
@@ -119,6 +116,6 @@ consistent_all g a p head long h = record {
   best = λ c v m plain enabled each. h.search.told.best c v m (enabled_below g a c v enabled) plain enabled (λ i d li. cut_all (pair_of g c v) (each i d li)) each;
 }
   where
-    cut_all : (pair : ℕ) {m s : ℕ} → HasRowBelow p.rows m s → taken head p.queue pair s ≡ true
+    cut_all : (pair : ℕ) {m s : ℕ} → HasRowBelow p.rows m s → is_taken head p.queue pair s ≡ true
     cut_all pair {m} {s} r =
         ap (list_any (◌==◌ s)) (take_all head p.queue long) ∙ list_any-from_Contains nat_eq_equiv s p.queue (h.search.queue.has_position s r.row r.is)

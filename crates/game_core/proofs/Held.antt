@@ -1,7 +1,7 @@
 -- With every fallen cell taken, the rows of the least safe inputs are settled.
 use Rattle.std.proofs.Common.{inl, inr, ◌≡◌, ◌≢◌, ℕ, ◌/◌, ◌<◌, ◌≤◌, Bool, true, false, not, ◌&&◌, nat_lt, List, [], ◌∷◌, length, get_or, Option, Some, None, All, Contains, arith, refl, sym, ◌∙◌, ap, subst}
 use Rattle.std.specs.List.{range_with_len}
-use Rattle.std.proofs.lemmas.Bool.{cases_lt}
+use Rattle.std.proofs.lemmas.Bool.{cases_lt, not-true}
 use Rattle.std.proofs.lemmas.Bool.Decides.{Decides-ltb}
 use Rattle.std.proofs.lemmas.List.{get_or_default}
 use Rattle.std.proofs.lemmas.List.Elements.{All-contains, All-contains_itself}
@@ -11,7 +11,7 @@ use Rattle.game_core.specs.Game.{Game, IsGame, mark_of, pair_of, successors_of}
 use Rattle.game_core.specs.Solution.{row_of, HasRow}
 use Rattle.game_core.specs.Fallen.{is_obstacle, LeadsToRows, IsStable, AreStable}
 use Rattle.game_core.specs.inside.Falling.{Progress, is_live, is_safe, IsFirstSafe, AreFirstSafe, IsFalling}
-use Rattle.game_core.proofs.Counts.{count_none, none_from_count, below_end}
+use Rattle.base.proofs.Counts.{count_none, none_from_count, below_end}
 use Rattle.game_core.proofs.Edges.{pair_below}
 use Rattle.game_core.proofs.Falls.{cell_of_pair}
 use Rattle.game_core.proofs.Rows.{successors_below}
@@ -64,11 +64,7 @@ module _ (g : Game) (a : IsGame g) (head : ℕ) (p : Progress) (h : IsFalling g 
   live c u lu e =
       let parts = both_true (nat_lt 0 (length (successors_of g c u))) (not (is_obstacle (mark_of g (pair_of g c u / g.inputs)))) e in
       let here : not (is_obstacle (mark_of g c)) ≡ true = ap (λ c. not (is_obstacle (mark_of g c))) (sym (cell_of_pair g c u lu)) ∙ parts.1 in
-      (enabled_if (successors_of g c u) parts.0, turn (is_obstacle (mark_of g c)) here)
-    where
-      turn : (b : Bool) → not b ≡ true → b ≡ false
-      turn true e = absurd (cc)
-      turn false e = refl
+      (enabled_if (successors_of g c u) parts.0, not-true (is_obstacle (mark_of g c)) here)
 
   held : (c : ℕ) → c < g.cells → (o : Option Row) → IsFirstSafe g p.safe c o → IsStable g rows c o
   held c lt None none = h.fallen.falls c (no_safe_pair c lt none)

@@ -2,14 +2,14 @@
 -- falls is the last one.
 use Rattle.std.proofs.Common.{inl, inr, ◌≡◌, ◌≢◌, ◌⊎◌, ℕ, zero, suc, ◌<◌, ◌≤◌, Bool, true, false, ◌||◌, ◌==◌, length, get_or, All, count_by, arith, refl, sym, ◌∙◌, ap, eq-eqb}
 use Rattle.std.specs.List.{list_any, range_with_len}
-use Rattle.std.proofs.lemmas.Bool.{cases_lt}
+use Rattle.std.proofs.lemmas.Bool.{cases_lt, or_parts}
 use Rattle.std.proofs.lemmas.List.FromFn.{length-range_with_len, get_or-range_with_len}
 use Rattle.game_core.specs.declared.game.Mark.{Mark}
 use Rattle.game_core.specs.declared.game.Mark.TheVariants.{Goal, Obstacle, Plain}
 use Rattle.game_core.specs.Game.{Game, IsGame, IsEnabled, mark_of, pair_of, successors_of}
 use Rattle.game_core.specs.Keep.{HasKeepTree, IsKept}
 use Rattle.game_core.specs.Fallen.{is_obstacle, is_useless, is_helpless, has_fallen, KeptOrFallsInTime, DeepKeepTreesKeep}
-use Rattle.game_core.proofs.Counts.{either_false, none_of, not_every, alike_from_counts, below_end, count_every, none_from_count}
+use Rattle.base.proofs.Counts.{none_of, not_every, alike_from_counts, below_end, count_every, none_from_count}
 use Rattle.game_core.proofs.Keep.{IsClosed, closed_is_kept, less_deep, no_keep_tree}
 use Rattle.game_core.proofs.Rows.{successors_below}
 
@@ -22,7 +22,7 @@ helpful g test c e =
     let at = get_or-range_with_len 0 g.inputs found.0 u (let lt = found.2 in omega arith) in
     let lt = found.2 in
     let is = found.3 in
-    let useful = either_false (length (successors_of g c u) == 0) (list_any test (successors_of g c u)) found.4 in
+    let useful = or_parts (length (successors_of g c u) == 0) (list_any test (successors_of g c u)) found.4 in
     (u, (omega arith, λ none. let z : (length (successors_of g c u) == 0) ≡ true = eq-eqb (length (successors_of g c u)) 0 (ap length none) in let f = useful.0 in cc), none_of test (successors_of g c u) useful.1)
 
 no_obstacle_if : (m : Mark) → is_obstacle m ≡ false → m ≢ Obstacle
@@ -31,8 +31,8 @@ no_obstacle_if Obstacle f e = cc
 no_obstacle_if Plain f e = cc
 
 no_obstacle_stands : (g : Game) (d c : ℕ) → has_fallen g d c ≡ false → mark_of g c ≢ Obstacle
-no_obstacle_stands g zero c f = no_obstacle_if (mark_of g c) (either_false (is_obstacle (mark_of g c)) (is_helpless g (λ s. false) c) f).0
-no_obstacle_stands g (suc d) c f = no_obstacle_stands g d c (either_false (has_fallen g d c) (is_helpless g (has_fallen g d) c) f).0
+no_obstacle_stands g zero c f = no_obstacle_if (mark_of g c) (or_parts (is_obstacle (mark_of g c)) (is_helpless g (λ s. false) c) f).0
+no_obstacle_stands g (suc d) c f = no_obstacle_stands g d c (or_parts (has_fallen g d c) (is_helpless g (has_fallen g d) c) f).0
 
 -- a cell still stands after round d
 abbrev Stands : Game → ℕ → ℕ → Type 0
@@ -54,7 +54,7 @@ next_round g d =
           let alike = alike_from_counts (has_fallen g d) (has_fallen g (suc d)) (λ c. fallen_once (has_fallen g d c) (is_helpless g (has_fallen g d) c)) (range_with_len 0 g.cells) ge in
           inl (λ c lt stands.
           let same = below_end (λ c. has_fallen g d c ≡ has_fallen g (suc d) c) g.cells c lt alike in
-          let still = either_false (has_fallen g d c) (is_helpless g (has_fallen g d) c) (sym same ∙ stands) in
+          let still = or_parts (has_fallen g d c) (is_helpless g (has_fallen g d) c) (sym same ∙ stands) in
           (no_obstacle_stands g d c stands, helpful g (has_fallen g d) c still.1))
     ]
 
@@ -65,7 +65,7 @@ first_round g a =
       | inr ge ↦
           let none = none_from_count (has_fallen g 0) (range_with_len 0 g.cells) (omega arith) in
           inl (λ c lt stands.
-          let input = helpful g (λ s. false) c (either_false (is_obstacle (mark_of g c)) (is_helpless g (λ s. false) c) stands).1 in
+          let input = helpful g (λ s. false) c (or_parts (is_obstacle (mark_of g c)) (is_helpless g (λ s. false) c) stands).1 in
           (no_obstacle_stands g 0 c stands, (input.0, input.1, λ i d li. below_end (Stands g 0) g.cells (get_or (successors_of g c input.0) i d) (successors_below g a (pair_of g c input.0) i d li) none)))
     ]
 

@@ -16,6 +16,7 @@ use Rattle.game_core.specs.Solution.{row_of, HasRow}
 use Rattle.game_core.specs.Keep.{StandsOn, StandEach, HasKeepTree, IsKept, IsKeepRow, IsKeepSolution}
 use Rattle.game_core.specs.Fallen.{is_obstacle, is_useless, is_helpless, has_fallen, IsHeldBy, IsStable, AreStable}
 use Rattle.game_core.proofs.Rows.{successors_below}
+use Rattle.std.proofs.lemmas.List.{nil_from_length}
 
 -- subtrees for cells, one by one
 pub keep_trees_for : (g : Game) (d : ℕ) (cells : List ℕ) → All (HasKeepTree g d) cells → (next : Trees) × StandEach g next d cells
@@ -60,13 +61,9 @@ passes_after g test c u e enabled =
     let same : get_or (range_with_len 0 g.inputs) u u ≡ u = omega arith in
     let useless : is_useless g test c u ≡ true = subst (λ u. is_useless g test c u ≡ true) same here in
     elim (or_cases (length (successors_of g c u) == 0) (list_any test (successors_of g c u)) useless) [
-      | inl none ↦ absurd (enabled.1 (nothing (successors_of g c u) ((Decides-eqb (length (successors_of g c u)) 0).0 none)))
+      | inl none ↦ absurd (enabled.1 (nil_from_length (successors_of g c u) ((Decides-eqb (length (successors_of g c u)) 0).0 none)))
       | inr some' ↦ Any-from_list_any test (successors_of g c u) some'
     ]
-  where
-    nothing : (xs : List ℕ) → length xs ≡ 0 → xs ≡ []
-    nothing [] e = refl
-    nothing (x ∷ xs) e = absurd (omega arith)
 
 -- where a keep tree stands, one whose depth is less by 1 stands as well
 shorter : (g : Game) (d c : ℕ) (t : Tree) → StandsOn g t (suc d) c → HasKeepTree g d c

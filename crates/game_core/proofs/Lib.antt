@@ -3,7 +3,6 @@ pub mod Rows
 pub mod Reach
 pub mod Promises
 pub mod Carried
-pub mod Counts
 pub mod Queues
 pub mod Edges
 pub mod Told

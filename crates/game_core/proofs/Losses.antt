@@ -9,11 +9,11 @@ use Rattle.std.proofs.lemmas.List.FromFn.{length-range_with_len, get_or-range_wi
 use Rattle.std.proofs.lemmas.List.Kept.{AllPairs-cons}
 use Rattle.std.proofs.lemmas.Nat.{same_from_place}
 use Rattle.game_core.specs.Game.{Game, AreSources, pair_of, pairs_of, successors_at}
-use Rattle.game_core.specs.inside.Falling.{Progress, fallen, lessened, after_check, after_loss, is_safe, safe_pairs, AreSafe, IsFalling}
-use Rattle.game_core.proofs.Counts.{count_same, count_less, range_apart}
+use Rattle.game_core.specs.inside.Falling.{Progress, with_fall, without_pair, after_check, after_loss, is_safe, safe_pairs, AreSafe, IsFalling}
+use Rattle.base.proofs.Counts.{count_same, count_less, range_apart}
 use Rattle.game_core.proofs.Edges.{HasParts, parts_of}
-use Rattle.game_core.proofs.Times.{length_of_distinct_below}
 use Rattle.game_core.proofs.Falls.{fall_step}
+use Rattle.base.proofs.Times.{length_of_distinct_below}
 
 -- one safe pair closes, since it may lead to a fallen cell
 module _ (g : Game) (head : ℕ) (p : Progress) (h : IsFalling g g.cells head p) (pair : ℕ) (lt : pair < pairs_of g) (safe : is_safe p.safe pair ≡ true) where
@@ -67,7 +67,7 @@ module _ (g : Game) (head : ℕ) (p : Progress) (h : IsFalling g g.cells head p)
   some_left = let n = h.safe.counted cell parts.cell in let l = one_less in omega arith
 
   abbrev q : Progress
-  q = lessened pair (pair / g.inputs) p
+  q = without_pair pair (pair / g.inputs) p
 
   left_here : suc (get_or q.left cell 0) ≡ get_or p.left cell 0
   left_here =
@@ -122,7 +122,7 @@ module _ (g : Game) (head : ℕ) (p : Progress) (h : IsFalling g g.cells head p)
     taken_after : (i r : ℕ) → i < head → r < pairs_of g → is_safe q.safe r ≡ true → Contains (successors_at g r) (get_or q.queue i 0) → ⊥
     taken_after i r li lr s' to = h.taken i r li lr (was_safe r s') to
 
-    checked : (b : Bool) → (get_or q.left cell 0 == 0) ≡ b → IsFalling g g.cells head (cond b (fallen cell q) q)
+    checked : (b : Bool) → (get_or q.left cell 0 == 0) ≡ b → IsFalling g g.cells head (cond b (with_fall cell q) q)
     checked true e =
         fall_step g g.cells cell q safe_after parts.cell ((Decides-eqb (get_or q.left cell 0) 0).0 e)
         (λ d ld ne z. h.fallen.queued d ld (sym (left_there d ne) ∙ z)) elsewhere parts.cell h.fallen.once h.fallen.falls
@@ -148,7 +148,7 @@ module _ (g : Game) (head : ℕ) (p : Progress) (h : IsFalling g g.cells head p)
 
 -- the same, whether the pair was safe or not
 module _ (g : Game) (head : ℕ) (p : Progress) (h : IsFalling g g.cells head p) (pair : ℕ) (lt : pair < pairs_of g) (s : ℕ) (leads : Contains (successors_at g pair) s) (gone : Contains p.queue s) where
-  loss_by : (b : Bool) → is_safe p.safe pair ≡ b → IsFalling g g.cells head (cond b (after_check (pair / g.inputs) (lessened pair (pair / g.inputs) p)) p)
+  loss_by : (b : Bool) → is_safe p.safe pair ≡ b → IsFalling g g.cells head (cond b (after_check (pair / g.inputs) (without_pair pair (pair / g.inputs) p)) p)
   loss_by true e = lessened_then g head p h pair lt e s leads gone
   loss_by false e = h
 
@@ -156,40 +156,40 @@ module _ (g : Game) (head : ℕ) (p : Progress) (h : IsFalling g g.cells head p)
   after_one = loss_by (is_safe p.safe pair) refl
 
 -- what a loss leaves as it was
-checked_safe : (b : Bool) (c : ℕ) (p : Progress) → (cond b (fallen c p) p).safe ≡ p.safe
+checked_safe : (b : Bool) (c : ℕ) (p : Progress) → (cond b (with_fall c p) p).safe ≡ p.safe
 checked_safe true c p = refl
 checked_safe false c p = refl
 
 pub closed_by_loss : (g : Game) (pair : ℕ) (p : Progress) → pair < length p.safe → is_safe (after_loss g pair p).safe pair ≡ false
 closed_by_loss g pair p lt = by_test (is_safe p.safe pair) refl
   where
-    by_test : (b : Bool) → is_safe p.safe pair ≡ b → is_safe (cond b (after_check (pair / g.inputs) (lessened pair (pair / g.inputs) p)) p).safe pair ≡ false
+    by_test : (b : Bool) → is_safe p.safe pair ≡ b → is_safe (cond b (after_check (pair / g.inputs) (without_pair pair (pair / g.inputs) p)) p).safe pair ≡ false
     by_test true e =
-        ap (λ (xs : List Bool). is_safe xs pair) (checked_safe (get_or (lessened pair (pair / g.inputs) p).left (pair / g.inputs) 0 == 0) (pair / g.inputs) (lessened pair (pair / g.inputs) p))
+        ap (λ (xs : List Bool). is_safe xs pair) (checked_safe (get_or (without_pair pair (pair / g.inputs) p).left (pair / g.inputs) 0 == 0) (pair / g.inputs) (without_pair pair (pair / g.inputs) p))
         ∙ get_or-set_same p.safe pair false false lt
     by_test false e = e
 
 pub closed_stays : (g : Game) (pair q : ℕ) (p : Progress) → is_safe p.safe q ≡ false → is_safe (after_loss g pair p).safe q ≡ false
 closed_stays g pair q p f = by_test (is_safe p.safe pair) refl
   where
-    by_test : (b : Bool) → is_safe p.safe pair ≡ b → is_safe (cond b (after_check (pair / g.inputs) (lessened pair (pair / g.inputs) p)) p).safe q ≡ false
+    by_test : (b : Bool) → is_safe p.safe pair ≡ b → is_safe (cond b (after_check (pair / g.inputs) (without_pair pair (pair / g.inputs) p)) p).safe q ≡ false
     by_test true e =
-        ap (λ (xs : List Bool). is_safe xs q) (checked_safe (get_or (lessened pair (pair / g.inputs) p).left (pair / g.inputs) 0 == 0) (pair / g.inputs) (lessened pair (pair / g.inputs) p))
+        ap (λ (xs : List Bool). is_safe xs q) (checked_safe (get_or (without_pair pair (pair / g.inputs) p).left (pair / g.inputs) 0 == 0) (pair / g.inputs) (without_pair pair (pair / g.inputs) p))
         ∙ elim (cases_eq q pair) [
           | inl same ↦ absurd (let t = ap (is_safe p.safe) same ∙ e in cc)
           | inr ne ↦ get_or-set_other p.safe pair q false false ne ∙ f
         ]
     by_test false e = f
 
-checked_queue : (b : Bool) (c : ℕ) (p : Progress) (i : ℕ) → i < length p.queue → (get_or (cond b (fallen c p) p).queue i 0 ≡ get_or p.queue i 0) × (i < length (cond b (fallen c p) p).queue)
+checked_queue : (b : Bool) (c : ℕ) (p : Progress) (i : ℕ) → i < length p.queue → (get_or (cond b (with_fall c p) p).queue i 0 ≡ get_or p.queue i 0) × (i < length (cond b (with_fall c p) p).queue)
 checked_queue true c p i lt = (get_or_append_left p.queue (c ∷ []) 0 i lt, let n = length_push p.queue c in omega arith)
 checked_queue false c p i lt = (refl, lt)
 
 pub queue_stays : (g : Game) (pair : ℕ) (p : Progress) (i : ℕ) → i < length p.queue → (get_or (after_loss g pair p).queue i 0 ≡ get_or p.queue i 0) × (i < length (after_loss g pair p).queue)
 queue_stays g pair p i lt = by_test (is_safe p.safe pair)
   where
-    by_test : (b : Bool) → (get_or (cond b (after_check (pair / g.inputs) (lessened pair (pair / g.inputs) p)) p).queue i 0 ≡ get_or p.queue i 0) × (i < length (cond b (after_check (pair / g.inputs) (lessened pair (pair / g.inputs) p)) p).queue)
-    by_test true = checked_queue (get_or (lessened pair (pair / g.inputs) p).left (pair / g.inputs) 0 == 0) (pair / g.inputs) (lessened pair (pair / g.inputs) p) i lt
+    by_test : (b : Bool) → (get_or (cond b (after_check (pair / g.inputs) (without_pair pair (pair / g.inputs) p)) p).queue i 0 ≡ get_or p.queue i 0) × (i < length (cond b (after_check (pair / g.inputs) (without_pair pair (pair / g.inputs) p)) p).queue)
+    by_test true = checked_queue (get_or (without_pair pair (pair / g.inputs) p).left (pair / g.inputs) 0 == 0) (pair / g.inputs) (without_pair pair (pair / g.inputs) p) i lt
     by_test false = (refl, lt)
 
 -- What stands as the cell c is taken, with j of its sources done.

@@ -9,9 +9,9 @@ use Rattle.game_core.specs.Game.{Game, IsGame, IsEnabled, successors_of}
 use Rattle.game_core.specs.Strategy.{Apply, IsRank}
 use Rattle.game_core.specs.Solution.{row_of, HasRowBelow, IsReachSolution}
 use Rattle.game_core.proofs.Rows.{below_from_row}
-use Rattle.game_core.proofs.Times.{length_of_distinct_below}
 use Rattle.game_core.proofs.Trees.{WinsWithin, trees_for}
 use Rattle.game_core.proofs.Promises.{row_at, no_obstacle, leads_to_goals}
+use Rattle.base.proofs.Times.{length_of_distinct_below}
 
 -- a cell whose row has rank k
 pub record HasRowOf (rows : List (Option Row)) (k c : ℕ) : Type 0 where

@@ -20,7 +20,7 @@ use Rattle.game_core.proofs.RankBound.{not_all_less}
 rank_of_row : (rows : List (Option Row)) (c : ℕ) (row : Row) → row_of rows c ≡ Some row → rank_at rows c ≡ row.rank
 rank_of_row rows c row e = ap rank_in e
 
-have_rows : (rows : List (Option Row)) (k : ℕ) (cells : List ℕ) → All (HasRowBelow rows k) cells → All (HasRow rows) cells
+pub have_rows : (rows : List (Option Row)) (k : ℕ) (cells : List ℕ) → All (HasRowBelow rows k) cells → All (HasRow rows) cells
 have_rows rows k cells = All-weaker (HasRowBelow rows k) (HasRow rows) (λ s r. (r.row, r.is)) cells
 
 pub greatest_below : (rows : List (Option Row)) (k : ℕ) (cells : List ℕ) → All (HasRowBelow rows (suc k)) cells → greatest_rank rows cells ≤ k

@@ -4,7 +4,7 @@ use Rattle.std.proofs.lemmas.Bool.{cases_lt, not-false}
 use Rattle.std.proofs.lemmas.Bool.Decides.{Decides-eqb, Decides-ltb}
 use Rattle.std.proofs.lemmas.List.Elements.{All-weaker, Contains-get_or}
 use Rattle.std.proofs.lemmas.Nat.{same_from_place}
-use Rattle.game_core.proofs.Counts.{count_none, none_from_count}
+use Rattle.base.proofs.Counts.{count_none, none_from_count}
 use Rattle.game_core.proofs.Edges.{HasParts, parts_of, with_edge, edge_cases, counted_less}
 use Rattle.game_core.proofs.Queues.{settle_queue, improve_queue}
 use Rattle.game_core.proofs.Rows.{row_after_set}
@@ -14,7 +14,7 @@ use Rattle.game_core.specs.declared.game.Mark.TheVariants.{Goal, Obstacle, Plain
 use Rattle.game_core.specs.declared.game.Row.{Row}
 use Rattle.game_core.specs.Game.{Game, IsGame, IsEnabled, mark_of, pair_of, pairs_of, successors_at, successors_of}
 use Rattle.game_core.specs.Solution.{row_of, HasRowBelow}
-use Rattle.game_core.specs.inside.Search.{Progress, settled, offered_to, offered_at, resolved, lessened, after_cut, HasRowAtMost, IsSoundRow, IsGoalRow, IsCounted, IsTold, IsSearch}
+use Rattle.game_core.specs.inside.Search.{Progress, with_row, with_offer_to, with_offer_at, with_pair_done, with_one_less, after_cut, HasRowAtMost, IsSoundRow, IsGoalRow, IsCounted, IsTold, IsSearch}
 
 -- the queue gets cells at its end alone
 pub record Grows (p q : Progress) : Type 0 where
@@ -50,7 +50,7 @@ module _ (g : Game) (a : IsGame g) (cut : ℕ → ℕ → Bool) (head top : ℕ)
   left_then = counted_then.counts pair lt
 
   -- the rows as they are are right where the pair resolves to nothing
-  same_rows : ((d v : ℕ) → pair_of g d v ≡ pair → v < g.inputs → mark_of g d ≡ Plain → All (λ s. after pair s ≡ true) (successors_at g pair) → ⊥) → IsStep g after head top p (lessened pair p)
+  same_rows : ((d v : ℕ) → pair_of g d v ≡ pair → v < g.inputs → mark_of g d ≡ Plain → All (λ s. after pair s ≡ true) (successors_at g pair) → ⊥) → IsStep g after head top p (with_one_less pair p)
   same_rows never = record {
     search = record {
       queue = h.queue;
@@ -141,7 +141,7 @@ module _ (g : Game) (a : IsGame g) (cut : ℕ → ℕ → Bool) (head top : ℕ)
             ];
       }
 
-      offer_first : row_of p.rows cell ≡ None → IsStep g after head top p (settled cell resolved_row (lessened pair p))
+      offer_first : row_of p.rows cell ≡ None → IsStep g after head top p (with_row cell resolved_row (with_one_less pair p))
       offer_first none =
           let f = first_refines none resolved_row in
           record {
@@ -168,7 +168,7 @@ module _ (g : Game) (a : IsGame g) (cut : ℕ → ℕ → Bool) (head top : ℕ)
             grows = record { more = []; is = sym (append-nil p.queue) };
           }
 
-      offer_next : (old : Row) → row_of p.rows cell ≡ Some old → IsStep g after head top p (offered_to (Some old) cell resolved_row (lessened pair p))
+      offer_next : (old : Row) → row_of p.rows cell ≡ Some old → IsStep g after head top p (with_offer_to (Some old) cell resolved_row (with_one_less pair p))
       offer_next old some = by_tests (old.rank == top) (nat_lt input old.input) refl refl
         where
           by_tests : (s t : Bool) → (old.rank == top) ≡ s → nat_lt input old.input ≡ t → IsStep g after head top p (record { left = less; rows = set p.rows cell (Some (cond (s && t) resolved_row old)); queue = p.queue })
@@ -187,14 +187,14 @@ module _ (g : Game) (a : IsGame g) (cut : ℕ → ℕ → Bool) (head top : ℕ)
           by_tests false t es et =
               improved old old some refl (omega arith) (λ f. sound_after g p.rows (set p.rows cell (Some old)) f cell old.rank old.input (h.told.sound cell old some)) (λ e. absurd (let b = (Decides-eqb old.rank top).1 e in cc))
 
-      offer_step : IsStep g after head top p (offered_to (row_of p.rows cell) cell resolved_row (lessened pair p))
+      offer_step : IsStep g after head top p (with_offer_to (row_of p.rows cell) cell resolved_row (with_one_less pair p))
       offer_step = by_row (row_of p.rows cell) refl
         where
-          by_row : (o : Option Row) → row_of p.rows cell ≡ o → IsStep g after head top p (offered_to o cell resolved_row (lessened pair p))
+          by_row : (o : Option Row) → row_of p.rows cell ≡ o → IsStep g after head top p (with_offer_to o cell resolved_row (with_one_less pair p))
           by_row None e = offer_first e
           by_row (Some old) e = offer_next old e
 
-    resolve_step : IsStep g after head top p (resolved g pair top (lessened pair p))
+    resolve_step : IsStep g after head top p (with_pair_done g pair top (with_one_less pair p))
     resolve_step = by_mark (mark_of g cell) refl
       where
         never : mark_of g cell ≢ Plain → (d v : ℕ) → pair_of g d v ≡ pair → v < g.inputs → mark_of g d ≡ Plain → All (λ s. after pair s ≡ true) (successors_at g pair) → ⊥
@@ -202,7 +202,7 @@ module _ (g : Game) (a : IsGame g) (cut : ℕ → ℕ → Bool) (head top : ℕ)
             let position = same_from_place d v cell input g.inputs lv parts.input (e ∙ sym parts.is) in
             other (sym (ap (mark_of g) position.0) ∙ plain)
 
-        by_mark : (m : Mark) → mark_of g cell ≡ m → IsStep g after head top p (offered_at m cell resolved_row (lessened pair p))
+        by_mark : (m : Mark) → mark_of g cell ≡ m → IsStep g after head top p (with_offer_at m cell resolved_row (with_one_less pair p))
         by_mark Goal e = same_rows (never (λ n. cc))
         by_mark Obstacle e = same_rows (never (λ n. cc))
         by_mark Plain e = offer_step e
@@ -213,7 +213,7 @@ module _ (g : Game) (a : IsGame g) (cut : ℕ → ℕ → Bool) (head top : ℕ)
       written : get_or less pair 0 ≡ get_or p.left pair 0 - 1
       written = let n = h.counted.one_each in get_or-set_same p.left pair (get_or p.left pair 0 - 1) 0 (omega arith)
 
-      by_test : (t : Bool) → (get_or p.left pair 0 - 1 == 0) ≡ t → IsStep g after head top p (cond t (resolved g pair top (lessened pair p)) (lessened pair p))
+      by_test : (t : Bool) → (get_or p.left pair 0 - 1 == 0) ≡ t → IsStep g after head top p (cond t (with_pair_done g pair top (with_one_less pair p)) (with_one_less pair p))
       by_test true e = let z = (Decides-eqb (get_or p.left pair 0 - 1) 0).0 e in let w = written in let l = left_then in resolve_step (omega arith)
       by_test false e = same_rows (λ d v e' lv plain all. absurd (
           let none = count_none (λ s. not (after pair s)) (successors_at g pair) (λ i d' li. ap not (all i d' li)) in

@@ -15,7 +15,7 @@ use Rattle.game_core.proofs.Step.{Grows, IsStep, cut_step}
 use Rattle.game_core.specs.declared.game.Row.{Row}
 use Rattle.game_core.specs.Game.{Game, IsGame, AreSources, pair_of, pairs_of, successors_at}
 use Rattle.game_core.specs.Solution.{row_of, rank_at, rank_in}
-use Rattle.game_core.specs.inside.Search.{Progress, after_cut, IsTold, IsSearch, IsSearched, taken}
+use Rattle.game_core.specs.inside.Search.{Progress, after_cut, IsTold, IsSearch, IsSearched, is_taken}
 
 -- cuts that agree on the successors tell alike
 pub told_alike : (g : Game) (cut other : ℕ → ℕ → Bool) (top : ℕ) (rows : List (Option Row)) → IsTold g cut top rows → ((pair s : ℕ) → pair < pairs_of g → Contains (successors_at g pair) s → cut pair s ≡ other pair s) → IsTold g other top rows
@@ -64,20 +64,20 @@ pub record IsTaking (g : Game) (head top c : ℕ) (sources : List ℕ) (j : ℕ)
   pub grows : Grows first p
 
 module _ (g : Game) (head c : ℕ) (sources : List ℕ) (first : Progress) (lt : head < length first.queue) (at : get_or first.queue head 0 ≡ c) where
-  taking_none : (pair s : ℕ) → taken head first.queue pair s ≡ taking head first.queue c sources 0 pair s
+  taking_none : (pair s : ℕ) → is_taken head first.queue pair s ≡ taking head first.queue c sources 0 pair s
   taking_none pair s = sym (or-false (list_any (◌==◌ s) (take head first.queue)))
 
   pub taking_start : (top : ℕ) → top ≡ suc (rank_at first.rows c) → IsSearched g head first → IsTaking g head top c sources 0 first first
   taking_start top e h =
-      let raised = raise_search g (taken head first.queue) head h.top first h.search lt in
+      let raised = raise_search g (is_taken head first.queue) head h.top first h.search lt in
       let short = raised.queue.short head 0 lt in
       let same : rank_at first.rows (get_or first.queue head 0) ≡ rank_at first.rows c = ap (rank_at first.rows) at in
       let has = raised.queue.has_row c (subst (Contains first.queue) at (Contains-get_or first.queue head 0 lt)) in
       let its : rank_at first.rows c ≡ has.0.rank = ap rank_in has.1 in
       let tops : suc (rank_at first.rows (get_or first.queue head 0)) ≡ top = omega arith in
       record {
-        search = search_alike g (taken head first.queue) (taking head first.queue c sources 0) head top first
-            (subst (λ t. IsSearch g (taken head first.queue) head t first) tops raised) (λ pair s lp ls. taking_none pair s);
+        search = search_alike g (is_taken head first.queue) (taking head first.queue c sources 0) head top first
+            (subst (λ t. IsSearch g (is_taken head first.queue) head t first) tops raised) (λ pair s lp ls. taking_none pair s);
         row = has.0;
         has = has.1;
         rank = omega arith;
@@ -163,7 +163,7 @@ module _ (g : Game) (a : IsGame g) (head top c : ℕ) (sources : List ℕ) (are 
     taken_then : take (head + 1) p.queue ≡ take head first.queue ++ c ∷ []
     taken_then = ap (take (head + 1)) h.grows.is ∙ (take-append-le (head + 1) first.queue h.grows.more (omega arith) ∙ (take_more first.queue head 0 lt ∙ ap (λ d. take head first.queue ++ d ∷ []) at))
 
-    all_done : (q s : ℕ) → q < pairs_of g → Contains (successors_at g q) s → taking head first.queue c sources j q s ≡ taken (head + 1) p.queue q s
+    all_done : (q s : ℕ) → q < pairs_of g → Contains (successors_at g q) s → taking head first.queue c sources j q s ≡ is_taken (head + 1) p.queue q s
     all_done q s lq ls =
         ap (λ t. list_any (◌==◌ s) (take head first.queue) || t) (by_cell (cases_eq s c))
         ∙ (sym (list_any-append (◌==◌ s) (take head first.queue) (c ∷ [])) ∙ ap (list_any (◌==◌ s)) (sym taken_then))
@@ -179,7 +179,7 @@ module _ (g : Game) (a : IsGame g) (head top c : ℕ) (sources : List ℕ) (are 
     pub taking_end : IsSearched g (head + 1) p
     taking_end = record {
       top = top;
-      search = search_alike g (taking head first.queue c sources j) (taken (head + 1) p.queue) (head + 1) top p
+      search = search_alike g (taking head first.queue c sources j) (is_taken (head + 1) p.queue) (head + 1) top p
           (record { queue = next_queue head top p.rows p.queue h.search.queue; counted = h.search.counted; told = h.search.told })
           all_done;
     }

@@ -1,16 +1,9 @@
 -- How often numbers stand in lists, and what that tells of the lists.
-use Rattle.std.specs.Prelude.{◌≡◌, ◌≢◌, ℕ, ◌+◌, ◌<◌, ◌≤◌, ◌⊎◌, ◌==◌, Bool, true, false, cond, List, [], filter, length, slice_index, slice_index_or, sum_by, count_by}
+use Rattle.std.specs.Prelude.{◌≡◌, ◌≢◌, ℕ, ◌+◌, ◌<◌, ◌≤◌, ◌⊎◌, Bool, true, false, cond, List, [], filter, length, slice_index, slice_index_or, sum_by, count_by}
 use Rattle.std.specs.List.{All, Contains, range_with_len}
 use Rattle.std.specs.List.Sorted.{IsPermutation}
+pub use Rattle.base.specs.Counts.{times, one_if}
 use Rattle.game_core.specs.Game.{Game, IsGame, AreSources, pairs_of, successors_at}
-
--- how often a number stands in a list
-abbrev pub times : ℕ → List ℕ → ℕ
-times n xs = count_by (λ x. x == n) xs
-
--- 1 where a test holds, else 0
-abbrev pub one_if : Bool → ℕ
-one_if b = cond b 1 0
 
 -- What sums and counts over lists of numbers tell.
 pub record CountsAgree : Type 0 where

@@ -3,18 +3,9 @@ ghost use Rattle.game_core.specs.Solution.{row_of};
 ghost use Rattle.base.specs.declared.limits.TheConstants.{CELLS_LIMIT};
 
 use crate::game::Row;
-use std::alloc::{AllocError, Global};
+use base::NoMemory;
+use std::alloc::Global;
 use std::marker::Model;
-
-/// There was no memory left.
-#[derive(Clone, Copy, Debug, PartialEq, Eq)]
-pub struct NoMemory;
-
-impl From<AllocError> for NoMemory {
-    fn from(_refused: AllocError) -> NoMemory {
-        NoMemory
-    }
-}
 
 /// One optional row for each cell of a game.
 #[derive(Drop)]

@@ -1,10 +1,11 @@
 ghost use Rattle.std.specs.Prelude.{◌≡◌, ℕ, ◌+◌, ◌<◌, map, length, slice_index, IfOk};
 ghost use Rattle.std.specs.List.{range_with_len};
 ghost use Rattle.game_core.specs.Game.{pairs_of};
-ghost use Rattle.game_core.specs.inside.Falling.{begun, fallen, lessened, after_loss, is_live, is_safe, safe_at_first, safe_pairs, IsFalling, IsFirstSafe, AreFirstSafe};
+ghost use Rattle.game_core.specs.inside.Falling.{first_progress, with_fall, without_pair, after_loss, is_live, is_safe, safe_at_first, safe_pairs, IsFalling, IsFirstSafe, AreFirstSafe};
 
-use crate::answer::{Answer, NoMemory};
+use crate::answer::Answer;
 use crate::game::{Graph, Mark, Row};
+use base::NoMemory;
 use std::alloc::Global;
 use std::marker::Model;
 
@@ -82,7 +83,7 @@ fn counts<G: Graph>(alloc: Global, g: &G, safe: &[bool]) -> Result<Vec<u32>, NoM
 impl Falling {
     /// Each live pair is safe, and no cell has fallen yet.
     pub(crate) fn new<G: Graph>(alloc: Global, g: &G) -> Result<Falling, NoMemory>
-        ensures { IfOk result (λ f. f ≡ begun (G.game g.now)) }
+        ensures { IfOk result (λ f. f ≡ first_progress (G.game g.now)) }
     {
         let safe = live_pairs(alloc, g)?;
         let left = counts(alloc, g, &safe)?;
@@ -104,7 +105,7 @@ impl Falling {
 
     /// The cells without a safe pair fall: the obstacles, and those without an enabled input.
     pub(crate) fn gather<G: Graph>(&mut self, g: &G)
-        requires { self.old ≡ begun (G.game g.now) }
+        requires { self.old ≡ first_progress (G.game g.now) }
         ensures { IsFalling (G.game g.now) (G.game g.now).cells 0 self.new }
     {
         for c in 0..g.cells() {
@@ -146,7 +147,7 @@ impl Falling {
         requires pair { pair < length self.old.safe }
         requires cell { c < length self.old.left }
         requires left { 0 < slice_index self.old.left c }
-        ensures { self.new ≡ lessened pair c self.old }
+        ensures { self.new ≡ without_pair pair c self.old }
     {
         self.safe[pair as usize] = false;
         self.left[c as usize] -= 1;
@@ -176,7 +177,7 @@ impl Falling {
 
     fn fall(&mut self, c: u32)
         requires { length self.old.queue < length self.old.left }
-        ensures { self.new ≡ fallen c self.old }
+        ensures { self.new ≡ with_fall c self.old }
     {
         self.order[self.found] = c;
         self.found += 1;

@@ -1,8 +1,8 @@
 //! With what the counters of pairs begin.
 ghost use Rattle.std.specs.Prelude.{◌≡◌, map, length, IfOk};
 
-use crate::answer::NoMemory;
 use crate::game::Forward;
+use base::NoMemory;
 use std::alloc::Global;
 
 /// How many successors each pair of a game in memory has: the numbers with which its counters begin.

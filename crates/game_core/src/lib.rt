@@ -17,7 +17,8 @@ mod remark;
 mod search;
 mod tally;
 
-pub use answer::{Answer, NoMemory};
+pub use answer::Answer;
+pub use base::NoMemory;
 pub use fan_counts::fans;
 pub use game::{CellTest, Forward, Graph, Mark, Row};
 pub use plain::{keep_plain, solve_plain};

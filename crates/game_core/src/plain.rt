@@ -2,10 +2,11 @@ ghost use Rattle.std.specs.Prelude.{IfOk};
 ghost use Rattle.game_core.specs.Keep.{IsKeepSolution};
 ghost use Rattle.game_core.specs.Solution.{IsReachSolution};
 
-use crate::answer::{Answer, NoMemory};
+use crate::answer::Answer;
 use crate::falling::Falling;
 use crate::game::Graph;
 use crate::search::Search;
+use base::NoMemory;
 use std::alloc::Global;
 
 /// The reach solution of a graph, by one thread.

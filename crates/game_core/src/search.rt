@@ -1,11 +1,12 @@
 ghost use Rattle.std.specs.Prelude.{◌≡◌, ◌+◌, ◌*◌, ◌<◌, None, length, slice_index, IfOk};
 ghost use Rattle.game_core.specs.Game.{pairs_of};
 ghost use Rattle.game_core.specs.Solution.{row_of, rank_at};
-ghost use Rattle.game_core.specs.inside.Search.{begun, settled, offered, resolved, after_cut, IsGathered, IsSearched};
+ghost use Rattle.game_core.specs.inside.Search.{first_progress, with_row, with_offer, with_pair_done, after_cut, IsGathered, IsSearched};
 
-use crate::answer::{Answer, NoMemory};
+use crate::answer::Answer;
 use crate::fan_counts::fans;
 use crate::game::{Graph, Mark, Row};
+use base::NoMemory;
 use std::alloc::Global;
 use std::marker::Model;
 
@@ -34,7 +35,7 @@ impl Model for Search {
 impl Search {
     /// Nothing is taken yet, and no cell has a row.
     pub(crate) fn new<G: Graph>(alloc: Global, g: &G) -> Result<Search, NoMemory>
-        ensures { IfOk result (λ s. s ≡ begun (G.game g.now)) }
+        ensures { IfOk result (λ s. s ≡ first_progress (G.game g.now)) }
     {
         let cells = g.cells();
         let left = fans(alloc, g)?;
@@ -63,7 +64,7 @@ impl Search {
 
     /// Gives each goal its row.
     pub(crate) fn gather<G: Graph>(&mut self, g: &G)
-        requires { self.old ≡ begun (G.game g.now) }
+        requires { self.old ≡ first_progress (G.game g.now) }
         ensures { IsGathered (G.game g.now) (G.game g.now).cells self.new }
     {
         for c in 0..g.cells() {
@@ -124,7 +125,7 @@ impl Search {
     fn resolve<G: Graph>(&mut self, g: &G, pair: u32, rank: u32)
         requires pair { pair < pairs_of (G.game g.now) }
         requires rows { length self.old.rows ≡ (G.game g.now).cells }
-        ensures { self.new ≡ resolved (G.game g.now) pair rank self.old }
+        ensures { self.new ≡ with_pair_done (G.game g.now) pair rank self.old }
     {
         let inputs = g.inputs();
         let c = pair / inputs;
@@ -138,7 +139,7 @@ impl Search {
     /// A cell takes its first row, and a lesser input at the same rank.
     fn offer(&mut self, c: u32, row: Row)
         requires { c < length self.old.rows }
-        ensures { self.new ≡ offered c row self.old }
+        ensures { self.new ≡ with_offer c row self.old }
     {
         match self.answer.row(c) {
             None => self.settle(c, row),
@@ -154,7 +155,7 @@ impl Search {
     fn settle(&mut self, c: u32, row: Row)
         requires within { c < length self.old.rows }
         requires first { row_of self.old.rows c ≡ None }
-        ensures { self.new ≡ settled c row self.old }
+        ensures { self.new ≡ with_row c row self.old }
     {
         self.answer.set(c, Some(row));
         self.order[self.found] = c;

@@ -7,8 +7,9 @@ use Rattle.std.proofs.Math.Nat.{mul-pos, mul_comm, mul-le-mul, mod-eq_of_lt}
 use Rattle.grid_quantiser.specs.declared.axis.Axis.{Axis}
 use Rattle.grid_quantiser.specs.Axes.{IsAxis, cells_of}
 use Rattle.grid_quantiser.specs.CellBoxes.{IsCellBox, cells_between}
-use Rattle.grid_quantiser.proofs.General.{div-mod, mod-mod, past_quotient, blocks, length-blocks, get_or-blocks}
+use Rattle.grid_quantiser.proofs.General.{mod-mod, past_quotient, blocks, length-blocks, get_or-blocks}
 use Rattle.grid_quantiser.proofs.Suffixes.{next_axis, some_cells, drop_step, index_step, later_step}
+use Rattle.base.proofs.Products.{div-mod}
 
 -- the cells between what is left of two corners in the states from i on
 abbrev pub part_between : List Axis → ℕ → ℕ → ℕ → List ℕ

@@ -10,9 +10,12 @@ use Rattle.grid_quantiser.specs.declared.axis.Axis.{Axis}
 use Rattle.grid_quantiser.specs.Axes.{IsAxis, no_axis, cells_of}
 use Rattle.grid_quantiser.specs.CellBoxes.{IsCellBox, cells_between}
 use Rattle.grid_quantiser.specs.inside.SegmentFields.{segments_from}
-use Rattle.grid_quantiser.proofs.General.{mod-mod, all_right, difference_parts, quotients_ordered, blocks}
+use Rattle.grid_quantiser.proofs.General.{mod-mod, difference_parts, blocks}
 use Rattle.grid_quantiser.proofs.BoxCells.{between_below}
 use Rattle.grid_quantiser.proofs.Suffixes.{some_cells}
+use Rattle.base.proofs.Lists.{All-append_back}
+use Rattle.base.proofs.Ranges.{map-add-range}
+use Rattle.base.proofs.Products.{quotients_in_order}
 
 -- how many cells along the last state a box has
 abbrev pub extent_of : List Axis → ℕ → ℕ → ℕ
@@ -26,15 +29,11 @@ starts_of [] f l = 0 ∷ []
 starts_of (a ∷ []) f l = f ∷ []
 starts_of (a ∷ b ∷ axes) f l = blocks (cells_of (b ∷ axes)) (starts_of (b ∷ axes) (f % cells_of (b ∷ axes)) (l % cells_of (b ∷ axes))) (f / cells_of (b ∷ axes)) (suc (l / cells_of (b ∷ axes)) - f / cells_of (b ∷ axes))
 
-range_shift : (k s m : ℕ) → map (λ c. k + c) (range_with_len s m) ≡ range_with_len (k + s) m
-range_shift k s zero = refl
-range_shift k s (suc m) = ap (λ (xs : List ℕ). (k + s) ∷ xs) (range_shift k (s + 1) m ∙ ap (λ (n : ℕ). range_with_len n m) (let e : k + (s + 1) ≡ k + s + 1 = omega arith in e))
-
 segments_shift : (k m : ℕ) (starts : List ℕ) → map (λ c. k + c) (segments_from m starts) ≡ segments_from m (map (λ c. k + c) starts)
 segments_shift k m [] = refl
 segments_shift k m (s ∷ starts) =
     map-append (λ c. k + c) (range_with_len s m) (segments_from m starts)
-    ∙ ap (λ (xs : List ℕ). xs ++ map (λ c. k + c) (segments_from m starts)) (range_shift k s m)
+    ∙ ap (λ (xs : List ℕ). xs ++ map (λ c. k + c) (segments_from m starts)) (map-add-range k s m)
     ∙ ap (λ (xs : List ℕ). range_with_len (k + s) m ++ xs) (segments_shift k m starts)
 
 segments_blocks : (n m : ℕ) (starts : List ℕ) (start count : ℕ) → blocks n (segments_from m starts) start count ≡ segments_from m (blocks n starts start count)
@@ -66,7 +65,7 @@ in_segments (a ∷ b ∷ axes) f l some =
 
 starts_within : (P : ℕ → Type 0) (m : ℕ) (starts : List ℕ) → All P (segments_from (suc m) starts) → All P starts
 starts_within P m [] all = λ k d lt. absurd (omega (arith, lt))
-starts_within P m (s ∷ starts) all = both (starts_within P m starts (all_right P (range_with_len s (suc m)) (segments_from (suc m) starts) all))
+starts_within P m (s ∷ starts) all = both (starts_within P m starts (All-append_back P (range_with_len s (suc m)) (segments_from (suc m) starts) all))
   where
     both : All P starts → All P (s ∷ starts)
     both later zero d lt = all 0 d (omega arith)
@@ -126,7 +125,7 @@ pub extent_is : (axes : List Axis) (f l : ℕ) → All IsAxis axes → 1 ≤ len
 extent_is axes f l each some order box positive =
     let n : ℕ = (get_or axes (length axes - 1) no_axis).count in
     let along = rw (← last_is axes some) at (extent_along axes f l each some box) in
-    let indices : f / n ≤ l / n = quotients_ordered f l n positive order in
+    let indices : f / n ≤ l / n = quotients_in_order f l n positive order in
     omega (arith, (difference_parts f l n positive indices along.0).1, along.1)
 
 -- all starts are cells

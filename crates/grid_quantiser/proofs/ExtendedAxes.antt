@@ -13,10 +13,10 @@ use Rattle.grid_quantiser.specs.Axes.{IsAxis, end_of, no_axis, AreAxes}
 use Rattle.grid_quantiser.specs.Cells.{index_of}
 use Rattle.grid_quantiser.specs.Extents.{IsOnAxis, IsExtentOf, extended, IsExtentBefore}
 use Rattle.grid_quantiser.specs.inside.AxisQuantisers.{axis_between, HasEnds}
-use Rattle.grid_quantiser.proofs.General.{quotients_ordered}
 use Rattle.grid_quantiser.proofs.AxisOffsets.{kept, low_fits, on_fits, end_low, end_high, apart_kept}
 use Rattle.grid_quantiser.proofs.QuantiserExtents.{held}
 use Rattle.grid_quantiser.proofs.AxisNumbers.{width_is, some_width, widths_is, offset_is, index_below}
+use Rattle.base.proofs.Products.{quotients_in_order}
 
 -- one axis of a grid
 pub axis_at : (axes given : List Axis) (i : ℕ) → axes ≡ given → AreAxes axes → i < length given → IsAxis (get_or given i no_axis)
@@ -142,7 +142,7 @@ module _ (a : Axis) (axis : IsAxis a) where
 
     ordered_indices : (low high : ℤ) → low ≤ℤ high → IsOnAxis (extended a) (back low) → IsOnAxis (extended a) (back high) → index_of (extended a) (back low) ≤ index_of (extended a) (back high)
     ordered_indices low high order on_low on_high =
-        quotients_ordered (distance (back low)) (distance (back high)) width (some_width a axis)
+        quotients_in_order (distance (back low)) (distance (back high)) width (some_width a axis)
         (omega (arith, ints, order, distance_is (back low) on_low.0, distance_is (back high) on_high.0))
 
     module _ (low high : ℤ) (order : low ≤ℤ high) where

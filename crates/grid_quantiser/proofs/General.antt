@@ -1,9 +1,9 @@
 -- What holds of any quotients and any lists.
 use Rattle.std.proofs.Common.{◌≡◌, ℕ, zero, suc, ◌+◌, ◌-◌, ◌*◌, ◌/◌, ◌%◌, ◌<◌, ◌≤◌, arith, ap, sym, refl, ◌∙◌, List, [], ◌∷◌, ◌++◌, length, map, take, drop, set, get_or, inl, inr}
-use Rattle.std.specs.List.{All, flat_map, range_with_len}
-use Rattle.std.proofs.Math.Nat.{div-div-eq-div-mul, mul_comm, mul_assoc, add-mul, mul-pos, mul-le-mul_right, lt-div-mul-add, div-mul-le_self, mod-eq_of_lt, div-eq_of_lt, add-div_left, add-mod_left}
+use Rattle.std.specs.List.{flat_map, range_with_len}
+use Rattle.std.proofs.Math.Nat.{div-div-eq-div-mul, mul_comm, mul_assoc, add-mul, mul-le-mul_right, lt-div-mul-add, mod-eq_of_lt, div-eq_of_lt, add-div_left, add-mod_left}
 use Rattle.std.proofs.lemmas.Bool.{cases_lt}
-use Rattle.std.proofs.lemmas.Nat.{div-add-mod', div-mul-add, mod-mul-add, div_below, mod_below, le-div}
+use Rattle.std.proofs.lemmas.Nat.{div-add-mod', div-mul-add, mod-mul-add, mod_below}
 use Rattle.std.proofs.lemmas.List.{length-append, length-map, get_or_append_left, get_or-append_right, get_or-map, take-append-drop, take-set, drop-set}
 use Rattle.std.proofs.lemmas.List.Concat.{flat_map-append}
 
@@ -22,22 +22,11 @@ pub mod-mod : (c m n : ℕ) → 0 < n → c % (m * n) % n ≡ c % n
 mod-mod c m n some =
     sym (ap (λ k. k % n) (split c m n) ∙ mod-mul-add (c / (m * n) * m + c % (m * n) / n) n (c % (m * n) % n) (mod_below (c % (m * n)) n some))
 
-pub div-mod : (c m n : ℕ) → 0 < m → 0 < n → c / n % m ≡ c % (m * n) / n
-div-mod c m n some_m some =
-    let quotient : c / n ≡ c / (m * n) * m + c % (m * n) / n =
-    ap (λ k. k / n) (split c m n) ∙ div-mul-add (c / (m * n) * m + c % (m * n) / n) n (c % (m * n) % n) (mod_below (c % (m * n)) n some)
-    in
-    let below : c % (m * n) / n < m = div_below (c % (m * n)) n m some (mod_below c (m * n) (mul-pos some_m some)) in
-    ap (λ k. k % m) quotient ∙ mod-mul-add (c / (m * n)) m (c % (m * n) / n) below
-
 -- a factor past a quotient makes a product past the whole
 pub past_quotient : (a b m : ℕ) → 0 < b → a / b < m → a < m * b
 past_quotient a b m some past =
     let row : (a / b + 1) * b ≤ m * b = mul-le-mul_right b (omega arith) in
     omega (arith, row, lt-div-mul-add {a = a} some, add-mul (a / b) 1 b)
-
-pub quotients_ordered : (m n k : ℕ) → 0 < k → m ≤ n → m / k ≤ n / k
-quotients_ordered m n k some order = le-div (m / k) n k some (omega (arith, div-mul-le_self m k))
 
 -- the index and the rest of a difference are the differences of the indices and of the rests
 pub difference_parts : (f l n : ℕ) → 0 < n → f / n ≤ l / n → f % n ≤ l % n → ((l - f) / n ≡ l / n - f / n) × ((l - f) % n ≡ l % n - f % n)
@@ -61,13 +50,6 @@ pub half : (w : ℕ) → 0 < w → (w / 2 + 1 ≤ w) × (w ≤ w / 2 + w / 2 + 1
 half w some = (omega arith, omega arith)
 
 -- ---- lists
-
--- what holds of two lists after one another holds of the second
-pub all_right : (P : ℕ → Type 0) (xs ys : List ℕ) → All P (xs ++ ys) → All P ys
-all_right P xs ys all = λ k d lt.
-    let past : length xs ≤ length xs + k = omega arith in
-    let here : get_or (xs ++ ys) (length xs + k) d ≡ get_or ys k d = get_or-append_right xs ys (length xs) (length xs + k) d refl past ∙ ap (λ (i : ℕ). get_or ys i d) (let e : length xs + k - length xs ≡ k = omega arith in e) in
-    rw here at (all (length xs + k) d (omega (arith, lt, length-append xs ys)))
 
 -- a list with another element, in its parts
 pub set_parts : {A : Type 0} (xs : List A) (i : ℕ) (x : A) → i < length xs → set xs i x ≡ take i xs ++ x ∷ drop (i + 1) xs

@@ -87,7 +87,7 @@ no_box overlap axes lo hi i each within none = record {
 -- ---- the box of the corners
 
 -- the first corner is between the corners
-first_between : (axes : List Axis) (f l : ℕ) → IsCellBox axes f l → IsBetween axes f l f
+pub first_between : (axes : List Axis) (f l : ℕ) → IsCellBox axes f l → IsBetween axes f l f
 first_between [] f l box = tt
 first_between (a ∷ axes) f l box = (omega arith, box.0, first_between axes (f % cells_of axes) (l % cells_of axes) box.2)
 

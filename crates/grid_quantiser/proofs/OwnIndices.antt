@@ -10,8 +10,9 @@ use Rattle.grid_quantiser.specs.declared.axis.Axis.{Axis}
 use Rattle.grid_quantiser.specs.Axes.{IsAxis, no_axis, cells_of}
 use Rattle.grid_quantiser.specs.Cells.{centre_of}
 use Rattle.grid_quantiser.specs.Indices.{index_along, middle_of}
-use Rattle.grid_quantiser.proofs.General.{div-mod, mod-mod}
+use Rattle.grid_quantiser.proofs.General.{mod-mod}
 use Rattle.grid_quantiser.proofs.Suffixes.{some_cells}
+use Rattle.base.proofs.Products.{div-mod}
 
 -- what is left of a cell in the later states is so after one state more
 mod_later : (k : ℕ) (axes : List Axis) (c : ℕ) → All IsAxis axes → k ≤ length axes → c % cells_of axes % cells_of (drop k axes) ≡ c % cells_of (drop k axes)

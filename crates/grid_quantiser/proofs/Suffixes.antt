@@ -7,7 +7,8 @@ use Rattle.std.proofs.lemmas.List.Elements.{All-head, All-tail, All-drop, All-ge
 use Rattle.std.proofs.lemmas.List.{drop_more}
 use Rattle.grid_quantiser.specs.declared.axis.Axis.{Axis}
 use Rattle.grid_quantiser.specs.Axes.{IsAxis, cells_of, no_axis}
-use Rattle.grid_quantiser.proofs.General.{div-div, div-mod, mod-mod}
+use Rattle.grid_quantiser.proofs.General.{div-div, mod-mod}
+use Rattle.base.proofs.Products.{div-mod}
 
 -- the axis that a step from i to i - 1 brings
 abbrev pub next_axis : List Axis → ℕ → Axis

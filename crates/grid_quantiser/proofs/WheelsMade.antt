@@ -11,11 +11,12 @@ use Rattle.grid_quantiser.specs.declared.segments.Wheel.{Wheel}
 use Rattle.grid_quantiser.specs.Axes.{IsAxis, AreAxes, no_axis, cells_of}
 use Rattle.grid_quantiser.specs.CellBoxes.{IsCellBox, cells_between}
 use Rattle.grid_quantiser.specs.inside.SegmentFields.{stepped, whole_turn, starts_left, segments_from, AreWheels, AreSegments}
-use Rattle.grid_quantiser.proofs.General.{blocks, turns_of_turns, one_each, difference_parts, quotients_ordered, div-div}
+use Rattle.grid_quantiser.proofs.General.{blocks, turns_of_turns, one_each, difference_parts, div-div}
 use Rattle.grid_quantiser.proofs.BoxCells.{part_between, corners_below, box_whole, IsCellBox-drop, box_next, indices_ordered, length_step, nth_step}
 use Rattle.grid_quantiser.proofs.BoxSegments.{extent_of, starts_of, in_segments, starts_below, box_ordered}
 use Rattle.grid_quantiser.proofs.Suffixes.{next_axis, some_cells, some_later, cells_limit, drop_step, index_step, later_step}
 use Rattle.grid_quantiser.proofs.Turning.{starts_head}
+use Rattle.base.proofs.Products.{quotients_in_order}
 
 -- the starts of all segments
 abbrev pub full_starts : List Wheel → ℕ → List ℕ
@@ -122,7 +123,7 @@ module _ (axes : List Axis) (i f l : ℕ) (each : All IsAxis axes) (some : 0 < i
   steps_here =
       let inner_rests : f % whole % inner ≤ l % whole % inner = rw (later_step axes i each some within f, later_step axes i each some within l) rests in
       index_step axes i each some within (l - f)
-      ∙ ap (λ (d : ℕ). d / inner) (difference_parts f l whole some_whole (quotients_ordered f l whole some_whole order) wholes).1
+      ∙ ap (λ (d : ℕ). d / inner) (difference_parts f l whole some_whole (quotients_in_order f l whole some_whole order) wholes).1
       ∙ (difference_parts (f % whole) (l % whole) inner some_inner indices inner_rests).0
 
   module _ (steps rest : ℕ) (left : rest ≡ (l - f) / inner) (is : steps ≡ rest % (next_axis axes i).count) where

@@ -12,6 +12,7 @@ use Rattle.growth_bound.specs.Deviation.{IsNear, rise_of, rise_from, greatest_ri
 use Rattle.growth_bound.proofs.Division.{floor_bounds, ceiling_bound}
 use Rattle.growth_bound.proofs.Distances.{near_multiple, near_quotient}
 use Rattle.growth_bound.proofs.Slopes.{at_most, rises_from, falls_from, rises_to, falls_to}
+use Rattle.base.proofs.Products.{times_positive}
 
 -- from (v, a) to (w, b) the way rises by at most t over d
 abbrev Climbs : ℕ → ℕ → ℤ → ℤ → ℤ → ℤ → Type 0
@@ -125,14 +126,9 @@ record FromFirst (d t : ℕ) (p : ℤ × ℤ) (x y : ℤ) : Type 0 where
   pub rising : Climbs d t p.0 p.1 x y
   pub falling : NearlyClimbs d t p.0 y x p.1
 
-further : (t : ℕ) (v w : ℤ) → v ≤ℤ w → (pos t *ℤ v) ≤ℤ (pos t *ℤ w)
-further t v w below =
-    let apart : up v + down w ≤ up w + down v = omega (arith, ints, below) in
-    omega (arith, ints, mul-le-mul_left t apart)
-
 from_first : (d t : ℕ) (points : List (ℤ × ℤ)) (p : ℤ × ℤ) (x : ℤ) → 0 < d → RiseFrom p points → rise_from p points d ≤ t → p.0 ≤ℤ x → FromFirst d t p x (value_from p points x)
 from_first d t [] p x moves rises most above =
-    let far = further t p.0 x above in
+    let far = times_positive t p.0 x above in
     record { rising = omega (arith, ints, far); falling = omega (arith, ints, far, moves) }
 from_first d t (q ∷ points) p x moves rises most above =
     by_lt_z x q.0

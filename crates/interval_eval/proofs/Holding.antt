@@ -58,24 +58,24 @@ in_absolute a x h = (by (int_le (pos 0) a.lo) (int_le a.hi (pos 0)) refl refl, o
     by false false e f = omega (arith, ints)
 
 -- a value over the area lies in the span
-pub values_lie : (e : Expression) (area : List Interval) (values : List ℤ) → IsWellFormed e (length area) → AreIn area values → IsIn (span_of e area) (value_of e values)
-values_lie (NumExpr k) area values formed h = (omega (arith, ints), omega (arith, ints))
-values_lie (VarExpr i) area values formed h = in_variable area values i (record { lo = pos 0; hi = pos 0 }) (pos 0) formed h
-values_lie (NegExpr a) area values formed h = in_negation (span_of a area) (value_of a values) (values_lie a area values formed h)
-values_lie (AddExpr a b) area values formed h =
-    in_sum (span_of a area) (span_of b area) (value_of a values) (value_of b values) (values_lie a area values formed.0 h) (values_lie b area values formed.1 h)
-values_lie (SubExpr a b) area values formed h =
-    in_difference (span_of a area) (span_of b area) (value_of a values) (value_of b values) (values_lie a area values formed.0 h) (values_lie b area values formed.1 h)
-values_lie (MulExpr a b) area values formed h =
-    in_product (span_of a area) (span_of b area) (value_of a values) (value_of b values) (values_lie a area values formed.0 h) (values_lie b area values formed.1 h)
-values_lie (DivExpr a k) area values formed h =
-    in_quotient (span_of a area) k (value_of a values) formed.1 (values_lie a area values formed.0 h)
-values_lie (MinExpr a b) area values formed h =
-    in_minimum (span_of a area) (span_of b area) (value_of a values) (value_of b values) (values_lie a area values formed.0 h) (values_lie b area values formed.1 h)
-values_lie (MaxExpr a b) area values formed h =
-    in_maximum (span_of a area) (span_of b area) (value_of a values) (value_of b values) (values_lie a area values formed.0 h) (values_lie b area values formed.1 h)
-values_lie (AbsExpr a) area values formed h = in_absolute (span_of a area) (value_of a values) (values_lie a area values formed h)
-values_lie (LutExpr a points) area values formed h = in_lookup points (span_of a area) (value_of a values) formed.1 (values_lie a area values formed.0 h)
+pub values_lie_in_spans : (e : Expression) (area : List Interval) (values : List ℤ) → IsWellFormed e (length area) → AreIn area values → IsIn (span_of e area) (value_of e values)
+values_lie_in_spans (NumExpr k) area values formed h = (omega (arith, ints), omega (arith, ints))
+values_lie_in_spans (VarExpr i) area values formed h = in_variable area values i (record { lo = pos 0; hi = pos 0 }) (pos 0) formed h
+values_lie_in_spans (NegExpr a) area values formed h = in_negation (span_of a area) (value_of a values) (values_lie_in_spans a area values formed h)
+values_lie_in_spans (AddExpr a b) area values formed h =
+    in_sum (span_of a area) (span_of b area) (value_of a values) (value_of b values) (values_lie_in_spans a area values formed.0 h) (values_lie_in_spans b area values formed.1 h)
+values_lie_in_spans (SubExpr a b) area values formed h =
+    in_difference (span_of a area) (span_of b area) (value_of a values) (value_of b values) (values_lie_in_spans a area values formed.0 h) (values_lie_in_spans b area values formed.1 h)
+values_lie_in_spans (MulExpr a b) area values formed h =
+    in_product (span_of a area) (span_of b area) (value_of a values) (value_of b values) (values_lie_in_spans a area values formed.0 h) (values_lie_in_spans b area values formed.1 h)
+values_lie_in_spans (DivExpr a k) area values formed h =
+    in_quotient (span_of a area) k (value_of a values) formed.1 (values_lie_in_spans a area values formed.0 h)
+values_lie_in_spans (MinExpr a b) area values formed h =
+    in_minimum (span_of a area) (span_of b area) (value_of a values) (value_of b values) (values_lie_in_spans a area values formed.0 h) (values_lie_in_spans b area values formed.1 h)
+values_lie_in_spans (MaxExpr a b) area values formed h =
+    in_maximum (span_of a area) (span_of b area) (value_of a values) (value_of b values) (values_lie_in_spans a area values formed.0 h) (values_lie_in_spans b area values formed.1 h)
+values_lie_in_spans (AbsExpr a) area values formed h = in_absolute (span_of a area) (value_of a values) (values_lie_in_spans a area values formed h)
+values_lie_in_spans (LutExpr a points) area values formed h = in_lookup points (span_of a area) (value_of a values) formed.1 (values_lie_in_spans a area values formed.0 h)
 
 lows : List Interval → List ℤ
 lows [] = []
@@ -89,13 +89,13 @@ lows_lie (i ∷ area) each = ((omega (arith, ints), All-head IsInterval i area e
 -- a span over intervals is one, since it holds the value at the low ends
 pub spans_ordered : (e : Expression) (area : List Interval) → IsWellFormed e (length area) → All IsInterval area → IsInterval (span_of e area)
 spans_ordered e area formed each =
-    let h = values_lie e area (lows area) formed (lows_lie area each) in
+    let h = values_lie_in_spans e area (lows area) formed (lows_lie area each) in
     omega (arith, ints, h.0, h.1)
 
 pub span_holds : (e : Expression) (area : List Interval) (r : Option Interval) → IsWellFormed e (length area) → SomeIff r (SpanStaysInRange e area) (span_of e area) → IfSome r (λ s. (values : List ℤ) → AreIn area values → IsIn s (value_of e values))
 span_holds e area None formed exact = tt
 span_holds e area (Some s) formed exact =
-    λ values h. let Holds : Interval → Type 0 = λ i. IsIn i (value_of e values) in subst Holds (sym exact.1) (values_lie e area values formed h)
+    λ values h. let Holds : Interval → Type 0 = λ i. IsIn i (value_of e values) in subst Holds (sym exact.1) (values_lie_in_spans e area values formed h)
 
 -- what is answered over intervals is one
 pub span_ordered : (e : Expression) (area : List Interval) (r : Option Interval) → IsWellFormed e (length area) → SomeIff r (SpanStaysInRange e area) (span_of e area) → All IsInterval area → IfSome r IsInterval

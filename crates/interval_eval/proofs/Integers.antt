@@ -1,25 +1,14 @@
 -- Products, floors of quotients and extremes of whole numbers, in order.
-use Rattle.std.proofs.Common.{ℕ, suc, ◌+◌, ◌≤◌, arith}
+use Rattle.std.proofs.Common.{ℕ, suc, ◌≤◌, arith}
 use Rattle.std.specs.Prelude.{ℤ, pos, negsuc, ◌*ℤ◌, ◌≤ℤ◌}
 use Rattle.std.specs.Int.{int_min, int_max}
 use Rattle.std.proofs.lemmas.Int.{ints, clamps}
-use Rattle.std.proofs.Math.Nat.{mul-le-mul_left}
 use Rattle.std.proofs.Math.IntN.{*ℤ_comm}
-use borrow.Author.Differences.{up, down}
+use Rattle.base.proofs.Products.{times_positive, times_negative}
 
 -- a number between two others
 abbrev pub IsBetween : ℤ → ℤ → ℤ → Type 0
 IsBetween low high x = (low ≤ℤ x) × (x ≤ℤ high)
-
-times_positive : (n : ℕ) (x y : ℤ) → x ≤ℤ y → (pos n *ℤ x) ≤ℤ (pos n *ℤ y)
-times_positive n x y below =
-    let apart : up x + down y ≤ up y + down x = omega (arith, ints) in
-    omega (arith, ints, mul-le-mul_left n apart)
-
-times_negative : (n : ℕ) (x y : ℤ) → x ≤ℤ y → (negsuc n *ℤ y) ≤ℤ (negsuc n *ℤ x)
-times_negative n x y below =
-    let apart : up x + down y ≤ up y + down x = omega (arith, ints) in
-    omega (arith, ints, mul-le-mul_left (suc n) apart)
 
 -- a multiple lies between those of the ends
 pub multiple_between : (k low high x : ℤ) → IsBetween low high x → IsBetween (int_min (k *ℤ low) (k *ℤ high)) (int_max (k *ℤ low) (k *ℤ high)) (k *ℤ x)

@@ -4,12 +4,12 @@ use Rattle.std.specs.Prelude.{ℤ, ◌≤ℤ◌, slice_set}
 use Rattle.std.specs.Int.{int_min, int_max}
 use Rattle.std.proofs.lemmas.Int.{ints}
 use Rattle.fixed_expr.specs.NarrowValues.{IsNarrow}
-use Rattle.fixed_expr.specs.Lanes.{at, AreNarrow, Holds, HoldsNarrow}
+use Rattle.fixed_expr.specs.Lanes.{at, AreNarrow, IsColumnOf, IsNarrowColumnOf}
 use Rattle.fixed_expr.proofs.Laws.{one_lane_more}
 use Rattle.interval_eval.specs.declared.interval.Interval.{Interval}
 use Rattle.interval_eval.specs.declared.columns.IntervalColumn.{IntervalColumn}
 use Rattle.interval_eval.specs.Span.{hull_of}
-use Rattle.interval_eval.specs.LaneSpans.{interval_in, HaveNarrowEnds, HoldsIntervals}
+use Rattle.interval_eval.specs.LaneSpans.{interval_in, AreNarrowIntervals, IsIntervalColumnOf}
 use Rattle.interval_eval.specs.inside.LaneProgress.{AreLanesDone}
 
 -- one lane more
@@ -21,7 +21,7 @@ one_span_lane_more start found wanted n lo hi here done narrow_low is_low narrow
     record { lows = low.0; highs = high.0; low = low.1; high = high.1 }
 
 -- all lanes done
-pub all_lanes : (start found : IntervalColumn) (wanted : ℕ → Interval) (n : ℕ) → 32 ≤ n → AreLanesDone n start found wanted → HaveNarrowEnds wanted × HoldsIntervals found wanted
+pub all_lanes : (start found : IntervalColumn) (wanted : ℕ → Interval) (n : ℕ) → 32 ≤ n → AreLanesDone n start found wanted → AreNarrowIntervals wanted × IsIntervalColumnOf found wanted
 all_lanes start found wanted n past done =
     ((λ k lt. ((done.low.0 k (omega (arith, lt, past))).0, (done.high.0 k (omega (arith, lt, past))).0)), (λ k lt. ((done.low.0 k (omega (arith, lt, past))).1, (done.high.0 k (omega (arith, lt, past))).1)))
 
@@ -30,16 +30,16 @@ pub as_it_was : (start found : IntervalColumn) (wanted : ℕ → Interval) (n : 
 as_it_was start found wanted n done = ap₂ (λ (lo hi : ℤ). record { lo = lo; hi = hi }) (done.low.1 n (omega arith)) (done.high.1 n (omega arith))
 
 -- a corner between ends of 64 bits lies there too
-pub corner_fails : (corner : ℕ → ℤ) (wanted : ℕ → Interval) → ((k : ℕ) → ((wanted k).lo ≤ℤ corner k) × (corner k ≤ℤ (wanted k).hi)) → ¬ (AreNarrow corner) → ¬ (HaveNarrowEnds wanted)
+pub corner_fails : (corner : ℕ → ℤ) (wanted : ℕ → Interval) → ((k : ℕ) → ((wanted k).lo ≤ℤ corner k) × (corner k ≤ℤ (wanted k).hi)) → ¬ (AreNarrow corner) → ¬ (AreNarrowIntervals wanted)
 corner_fails corner wanted inside out h = out (λ k lt. between (wanted k).lo (wanted k).hi (corner k) (h k lt).0 (h k lt).1 (inside k).0 (inside k).1)
   where
     between : (low high x : ℤ) → IsNarrow low → IsNarrow high → low ≤ℤ x → x ≤ℤ high → IsNarrow x
     between low high x p q above below = (omega (arith, ints, p.0, above), omega (arith, ints, q.1, below))
 
 -- the least and the greatest of four columns that hold the corners
-pub hull_holds : (found : IntervalColumn) (p q r s : ℕ → ℤ) (a b c d : List ℤ) → Holds a p → Holds b q → Holds c r → Holds d s
-    → HoldsNarrow found.lo (λ k. int_min (int_min (at a k) (at b k)) (int_min (at c k) (at d k))) → HoldsNarrow found.hi (λ k. int_max (int_max (at a k) (at b k)) (int_max (at c k) (at d k)))
-    → HaveNarrowEnds (λ k. hull_of (p k) (q k) (r k) (s k)) × HoldsIntervals found (λ k. hull_of (p k) (q k) (r k) (s k))
+pub hull_holds : (found : IntervalColumn) (p q r s : ℕ → ℤ) (a b c d : List ℤ) → IsColumnOf a p → IsColumnOf b q → IsColumnOf c r → IsColumnOf d s
+    → IsNarrowColumnOf found.lo (λ k. int_min (int_min (at a k) (at b k)) (int_min (at c k) (at d k))) → IsNarrowColumnOf found.hi (λ k. int_max (int_max (at a k) (at b k)) (int_max (at c k) (at d k)))
+    → AreNarrowIntervals (λ k. hull_of (p k) (q k) (r k) (s k)) × IsIntervalColumnOf found (λ k. hull_of (p k) (q k) (r k) (s k))
 hull_holds found p q r s a b c d ha hb hc hd low high =
     let lows : (k : ℕ) → k < 32 → int_min (int_min (at a k) (at b k)) (int_min (at c k) (at d k)) ≡ (hull_of (p k) (q k) (r k) (s k)).lo = λ k lt. ap₂ int_min (ap₂ int_min (ha k lt) (hb k lt)) (ap₂ int_min (hc k lt) (hd k lt)) in
     let highs : (k : ℕ) → k < 32 → int_max (int_max (at a k) (at b k)) (int_max (at c k) (at d k)) ≡ (hull_of (p k) (q k) (r k) (s k)).hi = λ k lt. ap₂ int_max (ap₂ int_max (ha k lt) (hb k lt)) (ap₂ int_max (hc k lt) (hd k lt)) in (

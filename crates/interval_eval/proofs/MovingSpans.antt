@@ -8,7 +8,7 @@ use Rattle.fixed_expr.specs.Mentions.{mentions}
 use Rattle.fixed_expr.specs.Moves.{shifts_with}
 use Rattle.interval_eval.specs.declared.interval.Interval.{Interval}
 use Rattle.interval_eval.specs.Span.{span_of}
-use Rattle.interval_eval.specs.inside.Nested.{range_at, HaveSameRangesBut}
+use Rattle.interval_eval.specs.inside.Nested.{range_at, AreSameRangesBut}
 use Rattle.interval_eval.proofs.Depending.{agree}
 
 -- two intervals moved from two others by one distance at each end
@@ -17,10 +17,10 @@ AreMoved s i t j = (s.lo -ℤ i.lo ≡ t.lo -ℤ j.lo) × (s.hi -ℤ i.hi ≡ t.
 
 module _ (k : ℕ) (area other : List Interval) where
   abbrev Moves : Expression → Type 0
-  Moves e = shifts_with e k ≡ true → HaveSameRangesBut k e area other → AreMoved (span_of e area) (range_at area k) (span_of e other) (range_at other k)
+  Moves e = shifts_with e k ≡ true → AreSameRangesBut k e area other → AreMoved (span_of e area) (range_at area k) (span_of e other) (range_at other k)
 
   -- a part that doesn't mention the variable has one span
-  stays : (e : Expression) → mentions e k ≡ false → HaveSameRangesBut k e area other → span_of e area ≡ span_of e other
+  stays : (e : Expression) → mentions e k ≡ false → AreSameRangesBut k e area other → span_of e area ≡ span_of e other
   stays e absent same = agree area other e (λ i here. same i (λ is. false≢true (sym absent ∙ ap (mentions e) (sym is) ∙ here)) here)
 
   lows : (e : Expression) → span_of e area ≡ span_of e other → (span_of e area).lo ≡ (span_of e other).lo
@@ -30,10 +30,10 @@ module _ (k : ℕ) (area other : List Interval) where
   highs e is = ap (λ (i : Interval). i.hi) is
 
   module _ (a b : Expression) (same : (i : ℕ) → (i ≡ k → ⊥) → (mentions a i || mentions b i) ≡ true → range_at area i ≡ range_at other i) where
-    left : HaveSameRangesBut k a area other
+    left : AreSameRangesBut k a area other
     left i apart here = same i apart (or_left (mentions a i) (mentions b i) here)
 
-    right : HaveSameRangesBut k b area other
+    right : AreSameRangesBut k b area other
     right i apart here = same i apart (or_right (mentions a i) (mentions b i) here)
 
   pub moves : (e : Expression) → Moves e

@@ -7,7 +7,7 @@ use Rattle.fixed_expr.specs.Expression.{Expression, NumExpr, VarExpr, NegExpr, A
 use Rattle.fixed_expr.specs.Value.{IsWellFormed, value_of, StaysInRange}
 use Rattle.interval_eval.specs.declared.interval.Interval.{Interval}
 use Rattle.interval_eval.specs.Span.{IsIn, AreIn, EndsFit, span_of, SpanStaysInRange}
-use Rattle.interval_eval.proofs.Holding.{values_lie}
+use Rattle.interval_eval.proofs.Holding.{values_lie_in_spans}
 
 pub between : (low high x : ℤ) → IsInRange low → IsInRange high → low ≤ℤ x → x ≤ℤ high → IsInRange x
 between low high x p q above below =
@@ -15,12 +15,13 @@ between low high x p q above below =
     let high_fits : nat_abs high < 2 ^ 127 = q in
     omega (arith, ints, above, below)
 
-pub numbers_fit : (i : Interval) (x : ℤ) → EndsFit i → IsIn i x → IsInRange x
-numbers_fit i x ends inside = between i.lo i.hi x ends.0 ends.1 inside.0 inside.1
+-- a number of an interval lies in the range where the ends do
+pub numbers_lie_in_range : (i : Interval) (x : ℤ) → EndsFit i → IsIn i x → IsInRange x
+numbers_lie_in_range i x ends inside = between i.lo i.hi x ends.0 ends.1 inside.0 inside.1
 
 module _ (area : List Interval) (values : List ℤ) (within : AreIn area values) where
   value_fits : (e : Expression) → IsWellFormed e (length area) → EndsFit (span_of e area) → IsInRange (value_of e values)
-  value_fits e formed ends = numbers_fit (span_of e area) (value_of e values) ends (values_lie e area values formed within)
+  value_fits e formed ends = numbers_lie_in_range (span_of e area) (value_of e values) ends (values_lie_in_spans e area values formed within)
 
   pub values_stay : (e : Expression) → IsWellFormed e (length area) → SpanStaysInRange e area → StaysInRange e values
   values_stay (NumExpr k) formed span = value_fits (NumExpr k) formed span

@@ -3,26 +3,18 @@ use Rattle.std.proofs.Common.{◌≡◌, ℕ, List, length, All}
 use Rattle.std.specs.Prelude.{ℤ, pos, ◌-ℤ◌, IsTrue}
 use Rattle.fixed_expr.specs.Expression.{Expression}
 use Rattle.fixed_expr.specs.Moves.{shifts_with}
-use Rattle.fixed_expr.specs.Range.{IsInRange}
-use Rattle.fixed_expr.specs.Value.{IsWellFormed, value_of, StaysInRange}
+use Rattle.fixed_expr.specs.Value.{IsWellFormed, StaysInRange}
 use Rattle.fixed_expr.specs.inside.Alike.{AreSameIn}
 use Rattle.interval_eval.specs.declared.interval.Interval.{Interval}
-use Rattle.interval_eval.specs.Span.{IsInterval, IsIn, AreIn, EndsFit, span_of, SpanStaysInRange}
+use Rattle.interval_eval.specs.Span.{IsInterval, AreIn, span_of, SpanStaysInRange}
 use Rattle.interval_eval.specs.NestedAreas.{ArePartsOf}
-use Rattle.interval_eval.specs.inside.Nested.{range_at, HaveSameRangesBut}
-use Rattle.interval_eval.proofs.Holding as holding
+use Rattle.interval_eval.specs.inside.Nested.{range_at, AreSameRangesBut}
 use Rattle.interval_eval.proofs.MovingSpans as moving
 use Rattle.interval_eval.proofs.Nesting as nesting
 use Rattle.interval_eval.proofs.Ranging as ranging
 use Rattle.interval_eval.proofs.Depending as depending
-
--- a value over the area lies in the span
-pub values_lie_in_spans : (e : Expression) (area : List Interval) (values : List ℤ) → IsWellFormed e (length area) → AreIn area values → IsIn (span_of e area) (value_of e values)
-values_lie_in_spans e area values formed within = holding.values_lie e area values formed within
-
--- a number of an interval lies in the range where the ends do
-pub numbers_lie_in_range : (i : Interval) (x : ℤ) → EndsFit i → IsIn i x → IsInRange x
-numbers_lie_in_range i x ends inside = ranging.numbers_fit i x ends inside
+pub use Rattle.interval_eval.proofs.Holding.{values_lie_in_spans}
+pub use Rattle.interval_eval.proofs.Ranging.{numbers_lie_in_range}
 
 -- where the spans of all nodes stay in the range, so do their values
 pub values_stay_in_range : (e : Expression) (area : List Interval) (values : List ℤ) → IsWellFormed e (length area) → AreIn area values → SpanStaysInRange e area → StaysInRange e values
@@ -37,7 +29,7 @@ pub nested_spans_stay_in_range : (e : Expression) (area wider : List Interval) �
 nested_spans_stay_in_range e area wider formed each parts stays = nesting.stays area wider each parts e formed stays
 
 -- the span of an expression that moves with a variable moves, at each end, by just what the variable's range moves by
-pub spans_move_with_variables : (e : Expression) (k : ℕ) (area other : List Interval) → IsTrue (shifts_with e k) → HaveSameRangesBut k e area other →
+pub spans_move_with_variables : (e : Expression) (k : ℕ) (area other : List Interval) → IsTrue (shifts_with e k) → AreSameRangesBut k e area other →
     ((span_of e area).lo -ℤ (range_at area k).lo ≡ (span_of e other).lo -ℤ (range_at other k).lo)
     × ((span_of e area).hi -ℤ (range_at area k).hi ≡ (span_of e other).hi -ℤ (range_at other k).hi)
 spans_move_with_variables e k area other is same = moving.moves k area other e is same

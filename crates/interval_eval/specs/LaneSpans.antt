@@ -34,20 +34,20 @@ SpanStaysNarrow (AbsExpr a) area = SpanStaysNarrow a area × HasNarrowEnds (span
 SpanStaysNarrow (LutExpr a points) area = SpanStaysNarrow a area × HasNarrowEnds (span_of (LutExpr a points) area)
 
 -- each of these intervals has both ends in 64 bits
-abbrev pub HaveNarrowEnds : (ℕ → Interval) → Type 0
-HaveNarrowEnds wanted = (k : ℕ) → k < LANES → HasNarrowEnds (wanted k)
+abbrev pub AreNarrowIntervals : (ℕ → Interval) → Type 0
+AreNarrowIntervals wanted = (k : ℕ) → k < LANES → HasNarrowEnds (wanted k)
 
 -- the column holds each interval in its lane
-abbrev pub HoldsIntervals : IntervalColumn → (ℕ → Interval) → Type 0
-HoldsIntervals found wanted = (k : ℕ) → k < LANES → ((interval_in found k).lo ≡ (wanted k).lo) × ((interval_in found k).hi ≡ (wanted k).hi)
+abbrev pub IsIntervalColumnOf : IntervalColumn → (ℕ → Interval) → Type 0
+IsIntervalColumnOf found wanted = (k : ℕ) → k < LANES → ((interval_in found k).lo ≡ (wanted k).lo) × ((interval_in found k).hi ≡ (wanted k).hi)
 
 -- an answer is given exactly where all ends lie in 64 bits, and then the column holds the intervals
 abbrev pub AnswersIntervals : {T : Type 0} → Option T → IntervalColumn → (ℕ → Interval) → Type 0
-AnswersIntervals answer found wanted = MatchOption answer (¬ (HaveNarrowEnds wanted)) (λ _. HaveNarrowEnds wanted × HoldsIntervals found wanted)
+AnswersIntervals answer found wanted = MatchOption answer (¬ (AreNarrowIntervals wanted)) (λ _. AreNarrowIntervals wanted × IsIntervalColumnOf found wanted)
 
 abbrev pub SpanStaysNarrowInLanes : Expression → List IntervalColumn → Type 0
 SpanStaysNarrowInLanes e columns = (k : ℕ) → k < LANES → SpanStaysNarrow e (area_in columns k)
 
 -- an answer is given exactly where the spans of each lane stay in 64 bits, and then the column holds them
 abbrev pub AnswersSpans : {T : Type 0} → Option T → Expression → List IntervalColumn → IntervalColumn → Type 0
-AnswersSpans answer e columns found = MatchOption answer (¬ (SpanStaysNarrowInLanes e columns)) (λ _. SpanStaysNarrowInLanes e columns × HoldsIntervals found (λ k. span_of e (area_in columns k)))
+AnswersSpans answer e columns found = MatchOption answer (¬ (SpanStaysNarrowInLanes e columns)) (λ _. SpanStaysNarrowInLanes e columns × IsIntervalColumnOf found (λ k. span_of e (area_in columns k)))

@@ -5,9 +5,9 @@ ghost use Rattle.std.specs.Prelude.{◌≡◌, ◌<◌, pos, ◌≤ℤ◌, ◌*�
 ghost use Rattle.std.specs.Int.{int_min, int_max};
 ghost use Rattle.fixed_expr.specs.declared.lanes.TheConstants.{LANES};
 ghost use Rattle.fixed_expr.specs.NarrowValues.{IsNarrow};
-ghost use Rattle.fixed_expr.specs.Lanes.{at, AreNarrow, HoldsNarrow};
+ghost use Rattle.fixed_expr.specs.Lanes.{at, AreNarrow, IsNarrowColumnOf};
 ghost use Rattle.interval_eval.specs.Span.{neg_span, add_span, sub_span, mul_span, div_span, min_span, max_span, abs_span, lut_span};
-ghost use Rattle.interval_eval.specs.LaneSpans.{interval_in, HaveNarrowEnds, HoldsIntervals, AnswersIntervals};
+ghost use Rattle.interval_eval.specs.LaneSpans.{interval_in, AreNarrowIntervals, IsIntervalColumnOf, AnswersIntervals};
 ghost use Rattle.interval_eval.specs.inside.Combined.{combined_interval};
 
 use crate::interval::Interval;
@@ -70,24 +70,24 @@ impl IntervalColumn {
 
     pub(crate) fn div_spans(&mut self, divisor: i64)
         requires { pos 1 ≤ℤ divisor }
-        ensures holds { HoldsIntervals self.new (λ k. div_span (interval_in self.old k) divisor) }
-        ensures narrow { HaveNarrowEnds (λ k. div_span (interval_in self.old k) divisor) }
+        ensures holds { IsIntervalColumnOf self.new (λ k. div_span (interval_in self.old k) divisor) }
+        ensures narrow { AreNarrowIntervals (λ k. div_span (interval_in self.old k) divisor) }
     {
         div_lanes(&mut self.lo, divisor);
         div_lanes(&mut self.hi, divisor);
     }
 
     pub(crate) fn min_spans(&mut self, other: &IntervalColumn)
-        ensures holds { HoldsIntervals self.new (λ k. min_span (interval_in self.old k) (interval_in other.now k)) }
-        ensures narrow { HaveNarrowEnds (λ k. min_span (interval_in self.old k) (interval_in other.now k)) }
+        ensures holds { IsIntervalColumnOf self.new (λ k. min_span (interval_in self.old k) (interval_in other.now k)) }
+        ensures narrow { AreNarrowIntervals (λ k. min_span (interval_in self.old k) (interval_in other.now k)) }
     {
         min_lanes(&mut self.lo, &other.lo);
         min_lanes(&mut self.hi, &other.hi);
     }
 
     pub(crate) fn max_spans(&mut self, other: &IntervalColumn)
-        ensures holds { HoldsIntervals self.new (λ k. max_span (interval_in self.old k) (interval_in other.now k)) }
-        ensures narrow { HaveNarrowEnds (λ k. max_span (interval_in self.old k) (interval_in other.now k)) }
+        ensures holds { IsIntervalColumnOf self.new (λ k. max_span (interval_in self.old k) (interval_in other.now k)) }
+        ensures narrow { AreNarrowIntervals (λ k. max_span (interval_in self.old k) (interval_in other.now k)) }
     {
         max_lanes(&mut self.lo, &other.lo);
         max_lanes(&mut self.hi, &other.hi);
@@ -169,7 +169,7 @@ fn greatest_absolute(lo: i64, hi: i64) -> Option<i64>
 }
 
 fn products(a: &[i64; LANES], b: &[i64; LANES]) -> Option<[i64; LANES]>
-    ensures { MatchOption result (¬ (AreNarrow (λ k. at a.now k *ℤ at b.now k))) (λ r. HoldsNarrow r (λ k. at a.now k *ℤ at b.now k)) }
+    ensures { MatchOption result (¬ (AreNarrow (λ k. at a.now k *ℤ at b.now k))) (λ r. IsNarrowColumnOf r (λ k. at a.now k *ℤ at b.now k)) }
 {
     let mut found = *a;
     mul_lanes(&mut found, b)?;
@@ -177,7 +177,7 @@ fn products(a: &[i64; LANES], b: &[i64; LANES]) -> Option<[i64; LANES]>
 }
 
 fn least(a: &[i64; LANES], b: &[i64; LANES], c: &[i64; LANES], d: &[i64; LANES]) -> [i64; LANES]
-    ensures { HoldsNarrow result (λ k. int_min (int_min (at a.now k) (at b.now k)) (int_min (at c.now k) (at d.now k))) }
+    ensures { IsNarrowColumnOf result (λ k. int_min (int_min (at a.now k) (at b.now k)) (int_min (at c.now k) (at d.now k))) }
 {
     let mut first = *a;
     let mut second = *c;
@@ -188,7 +188,7 @@ fn least(a: &[i64; LANES], b: &[i64; LANES], c: &[i64; LANES], d: &[i64; LANES])
 }
 
 fn greatest(a: &[i64; LANES], b: &[i64; LANES], c: &[i64; LANES], d: &[i64; LANES]) -> [i64; LANES]
-    ensures { HoldsNarrow result (λ k. int_max (int_max (at a.now k) (at b.now k)) (int_max (at c.now k) (at d.now k))) }
+    ensures { IsNarrowColumnOf result (λ k. int_max (int_max (at a.now k) (at b.now k)) (int_max (at c.now k) (at d.now k))) }
 {
     let mut first = *a;
     let mut second = *c;

@@ -1,8 +1,6 @@
 -- A script is answered command by command.
 use Rattle.std.proofs.Common.{inl, inr, ◌≡◌, ◌≢◌, ℕ, suc, ◌+◌, ◌<◌, List, [], ◌∷◌, ◌++◌, length, refl, ap, sym, ◌∙◌, subst, arith, append_assoc, append-nil, length-append, Option, Some, None}
 use Rattle.std.specs.Prelude.{ℤ, IfSome}
-use Rattle.std.proofs.lemmas.List.Sums.{sum_by-append}
-use Rattle.std.specs.Prelude.{cond, ◌==◌}
 use Rattle.controller_table.specs.Tables.{TableModel}
 use Rattle.controller_table.specs.TableRefusals.{line_count}
 use Rattle.live_script.specs.declared.command.ScriptCommand.{ScriptCommand}
@@ -10,31 +8,32 @@ use Rattle.live_script.specs.declared.command.ScriptCommand.TheVariants.{Publish
 use Rattle.live_script.specs.declared.script_fault.ScriptFault.{ScriptFault}
 use Rattle.live_script.specs.declared.script_fault.ScriptFault.TheVariants.{Malformed, Limit, ScriptTooLong, TooManyTables, Memory}
 use Rattle.live_script.specs.Questions.{IsAnswerOf}
-use Rattle.live_script.specs.Scripts.{Spell, FitsAfter, tables_after, published, SpellAfter, IsShortScript}
+use Rattle.live_script.specs.Scripts.{Spell, FitsAfter, tables_after, published_tables, SpellAfter, IsShortScript}
 use Rattle.live_script.specs.LiveText.{IsAnswerLine, AreAnswers, answer_line}
 use Rattle.live_script.specs.ScriptReading.{Unread, IsTaken}
 use Rattle.live_script.specs.ScriptRefusals.{IsRefusedAfter, IsScriptRefusedFor}
 use Rattle.live_run.specs.inside.Sessions.{Standing}
 use Rattle.live_run.specs.inside.Answering.{IsLast, IsAnsweredSoFar, IsExecuted, IsRefusal}
 use Rattle.live_run.specs.LiveCauses.{of_script}
+use Rattle.live_script.proofs.Counting.{both_counted}
 
 -- ---- one command more
 
-published_table : (commands : List ScriptCommand) (t : TableModel) → published (commands ++ Publish t ∷ []) ≡ published commands ++ t ∷ []
+published_table : (commands : List ScriptCommand) (t : TableModel) → published_tables (commands ++ Publish t ∷ []) ≡ published_tables commands ++ t ∷ []
 published_table [] t = refl
 published_table (Publish u ∷ commands) t = ap (λ (tables : List TableModel). u ∷ tables) (published_table commands t)
 published_table (Ask numbers ∷ commands) t = published_table commands t
 
-published_question : (commands : List ScriptCommand) (numbers : List ℤ) → published (commands ++ Ask numbers ∷ []) ≡ published commands
+published_question : (commands : List ScriptCommand) (numbers : List ℤ) → published_tables (commands ++ Ask numbers ∷ []) ≡ published_tables commands
 published_question [] numbers = refl
 published_question (Publish u ∷ commands) numbers = ap (λ (tables : List TableModel). u ∷ tables) (published_question commands numbers)
 published_question (Ask others ∷ commands) numbers = published_question commands numbers
 
-after_first : (n : ℕ) (c : ScriptCommand) (commands : List ScriptCommand) → n + length (published (c ∷ commands)) ≡ tables_after n c + length (published commands)
+after_first : (n : ℕ) (c : ScriptCommand) (commands : List ScriptCommand) → n + length (published_tables (c ∷ commands)) ≡ tables_after n c + length (published_tables commands)
 after_first n (Publish t) commands = omega arith
 after_first n (Ask numbers) commands = refl
 
-spell_more : (n : ℕ) (front first : List ℕ) (commands : List ScriptCommand) (c : ScriptCommand) → SpellAfter n front commands → Spell first c → FitsAfter (n + length (published commands)) c → SpellAfter n (front ++ first) (commands ++ c ∷ [])
+spell_more : (n : ℕ) (front first : List ℕ) (commands : List ScriptCommand) (c : ScriptCommand) → SpellAfter n front commands → Spell first c → FitsAfter (n + length (published_tables commands)) c → SpellAfter n (front ++ first) (commands ++ c ∷ [])
 spell_more n front first [] c h spells fits = (
   first,
   [],
@@ -57,11 +56,11 @@ table_more tables [] text t h = h
 table_more tables (Publish u ∷ commands) text t h = table_more (tables ++ u ∷ []) commands text t h
 table_more tables (Ask numbers ∷ commands) text t h = (h.0, h.1, h.2, h.3, table_more tables commands h.1 t h.4)
 
-question_more : (tables : List TableModel) (commands : List ScriptCommand) (text line : List ℕ) (numbers : List ℤ) → AreAnswers tables commands text → IsAnswerLine (tables ++ published commands) numbers line → AreAnswers tables (commands ++ Ask numbers ∷ []) (text ++ line)
+question_more : (tables : List TableModel) (commands : List ScriptCommand) (text line : List ℕ) (numbers : List ℤ) → AreAnswers tables commands text → IsAnswerLine (tables ++ published_tables commands) numbers line → AreAnswers tables (commands ++ Ask numbers ∷ []) (text ++ line)
 question_more tables [] text line numbers h is =
     (line, [], ap (λ (x : List ℕ). x ++ line) h ∙ sym (append-nil line), subst (λ (ts : List TableModel). IsAnswerLine ts numbers line) (append-nil tables) is, refl)
 question_more tables (Publish u ∷ commands) text line numbers h is =
-    question_more (tables ++ u ∷ []) commands text line numbers h (subst (λ (ts : List TableModel). IsAnswerLine ts numbers line) (sym (append_assoc tables (u ∷ []) (published commands))) is)
+    question_more (tables ++ u ∷ []) commands text line numbers h (subst (λ (ts : List TableModel). IsAnswerLine ts numbers line) (sym (append_assoc tables (u ∷ []) (published_tables commands))) is)
 question_more tables (Ask others ∷ commands) text line numbers h is =
     (h.0, h.1 ++ line, ap (λ (x : List ℕ). x ++ line) h.2 ∙ append_assoc h.0 h.1 line, h.3, question_more tables commands h.1 line numbers h.4 is)
 
@@ -70,20 +69,17 @@ question_more tables (Ask others ∷ commands) text line numbers h is =
 pub nothing_yet : (script : List ℕ) (unread : Unread) (standing : Standing) → unread ≡ record { tables = 0; line = 1; rest = script } → standing ≡ record { count = 0; table = None } → IsAnsweredSoFar script unread standing []
 nothing_yet script unread standing u s = rw (u, s) (record { commands = []; front = []; are = refl; spell = refl; tables = refl; line = refl; answers = refl; count = refl; last = refl })
 
-counted : (front first : List ℕ) → line_count (front ++ first) ≡ line_count front + line_count first
-counted front first = sum_by-append (λ (b : ℕ). cond (b == 10) 1 0) front first
-
 table_published : (script : List ℕ) (before after : Unread) (old new : Standing) (text : List ℕ) (t : TableModel) → IsAnsweredSoFar script before old text → IsTaken before (Publish t) after → new ≡ record { count = old.count + 1; table = Some t } → IsAnsweredSoFar script after new text
 table_published script before after old new text t so_far taken now = rw now (record {
   commands = so_far.commands ++ Publish t ∷ [];
   front = so_far.front ++ taken.first;
   are = so_far.are ∙ ap (λ (x : List ℕ). so_far.front ++ x) taken.are ∙ sym (append_assoc so_far.front taken.first after.rest);
   spell = spell_more 0 so_far.front taken.first so_far.commands (Publish t) so_far.spell taken.spells (omega (arith, taken.fits, so_far.tables));
-  tables = taken.tables ∙ omega (arith, so_far.tables, ap length (published_table so_far.commands t), length-append (published so_far.commands) (t ∷ []));
-  line = taken.line ∙ omega (arith, so_far.line, counted so_far.front taken.first);
+  tables = taken.tables ∙ omega (arith, so_far.tables, ap length (published_table so_far.commands t), length-append (published_tables so_far.commands) (t ∷ []));
+  line = taken.line ∙ omega (arith, so_far.line, both_counted so_far.front taken.first);
   answers = table_more [] so_far.commands text t so_far.answers;
-  count = omega (arith, so_far.count, ap length (published_table so_far.commands t), length-append (published so_far.commands) (t ∷ []));
-  last = (published so_far.commands, published_table so_far.commands t);
+  count = omega (arith, so_far.count, ap length (published_table so_far.commands t), length-append (published_tables so_far.commands) (t ∷ []));
+  last = (published_tables so_far.commands, published_table so_far.commands t);
 })
 
 -- after a question's line there is a table, which answers it
@@ -99,7 +95,7 @@ question_answered script before after standing new text numbers answer so_far ta
   are = so_far.are ∙ ap (λ (x : List ℕ). so_far.front ++ x) taken.are ∙ sym (append_assoc so_far.front taken.first after.rest);
   spell = spell_more 0 so_far.front taken.first so_far.commands (Ask numbers) so_far.spell taken.spells (omega (arith, taken.fits, so_far.tables));
   tables = taken.tables ∙ so_far.tables ∙ ap length (sym (published_question so_far.commands numbers));
-  line = taken.line ∙ omega (arith, so_far.line, counted so_far.front taken.first);
+  line = taken.line ∙ omega (arith, so_far.line, both_counted so_far.front taken.first);
   answers = question_more [] so_far.commands text (answer_line standing.count answer) numbers so_far.answers (record {
     before = last.2.0;
     table = last.0;
@@ -112,8 +108,8 @@ question_answered script before after standing new text numbers answer so_far ta
   last = subst (λ (tables : List TableModel). IsLast tables standing.table) (sym (published_question so_far.commands numbers)) so_far.last;
 })
   where
-    last : (t : TableModel) × (standing.table ≡ Some t) × ((before : List TableModel) × (published so_far.commands ≡ before ++ t ∷ []))
-    last = some_last (published so_far.commands) standing.table so_far.last (omega (arith, taken.fits, so_far.tables))
+    last : (t : TableModel) × (standing.table ≡ Some t) × ((before : List TableModel) × (published_tables so_far.commands ≡ before ++ t ∷ []))
+    last = some_last (published_tables so_far.commands) standing.table so_far.last (omega (arith, taken.fits, so_far.tables))
 
 pub executed : (script : List ℕ) (before after : Unread) (old new : Standing) (text longer : List ℕ) (c : ScriptCommand) → IsAnsweredSoFar script before old text → IsTaken before c after → IsExecuted c old new text longer → IsAnsweredSoFar script after new longer
 executed script before after old new text longer (Publish t) so_far taken done = rw done.1 (table_published script before after old new text t so_far taken done.0)
@@ -123,7 +119,7 @@ executed script before after old new text longer (Ask numbers) so_far taken done
 refused_after : (script : List ℕ) (unread : Unread) (standing : Standing) (text : List ℕ) (fault : ScriptFault) → IsAnsweredSoFar script unread standing text → IsShortScript script → IsRefusedAfter unread.tables unread.line unread.rest fault → IsScriptRefusedFor script fault
 refused_after script unread standing text fault so_far short refused = by_fault fault (rw (← so_far.tables, ← so_far.line) refused)
   where
-    by_fault : (f : ScriptFault) → IsRefusedAfter (length (published so_far.commands)) (suc (line_count so_far.front)) unread.rest f → IsScriptRefusedFor script f
+    by_fault : (f : ScriptFault) → IsRefusedAfter (length (published_tables so_far.commands)) (suc (line_count so_far.front)) unread.rest f → IsScriptRefusedFor script f
     by_fault (Malformed line) h = (short, record { front = so_far.front; rest = unread.rest; are = so_far.are; commands = so_far.commands; spell = so_far.spell; refused = h })
     by_fault (Limit what) h = (short, record { front = so_far.front; rest = unread.rest; are = so_far.are; commands = so_far.commands; spell = so_far.spell; refused = h })
     by_fault ScriptTooLong h = absurd h

@@ -1,6 +1,6 @@
 -- How a run of a live script ends.
 use Rattle.std.proofs.Common.{inl, inr, ◌≡◌, ◌⊎◌, ℕ, ◌<◌, List, length, take, drop, Option, Some, None, refl, ap, sym, subst, arith, length-take}
-use Rattle.std.specs.Prelude.{IfSome, IfOk, IfErr, Result, Ok, Err}
+use Rattle.std.specs.Prelude.{IfSome}
 use Rattle.std.proofs.lemmas.Bool.{cases_lt}
 use Rattle.std.proofs.lemmas.List.{take_all}
 use Rattle.run_devices.specs.Devices.{Reading, Writing, GainsWhole, GainsPart, TakesAtMost}
@@ -18,6 +18,7 @@ use Rattle.live_run.specs.LiveStatuses.{status_of}
 use Rattle.live_run.specs.LiveRuns.{most_read, IsAnswered, IsCutOff, IsLiveEnd, IsCompleteAnswer}
 use Rattle.live_run.specs.inside.Answering.{IsRefusal}
 use Rattle.live_run.specs.inside.LiveWorking.{IsWorkedOut, IsRefusalFor}
+use Rattle.base.proofs.Options.{IfSome-weaker}
 
 -- ---- what was read stands for the whole script
 
@@ -140,14 +141,10 @@ ends_turned_down outcome source out h nothing no_fault = record {
   no_write_fault = λ _. no_fault;
 }
 
-pub more : (told : Option (List ℕ)) (P Q : List ℕ → Type 0) → ((bytes : List ℕ) → P bytes → Q bytes) → IfSome told P → IfSome told Q
-more None P Q all h = tt
-more (Some bytes) P Q all h = all bytes h
-
 pub ends_done : (text : List ℕ) (source : Reading) (out : Writing) → IsWorkedOut text source → GainsWhole out text → IsLiveEnd Done source out
 ends_done text source out h whole = record {
   not_usage = λ e. cc;
-  answered = λ _. more source.before (λ script. IsLiveText script text) (λ script. IsAnswered script out) (λ script answers. (text, answers, whole)) h.answers;
+  answered = λ _. IfSome-weaker source.before (λ script. IsLiveText script text) (λ script. IsAnswered script out) (λ script answers. (text, answers, whole)) h.answers;
   cut_off = λ e. absurd (let clash : Done ≡ WriteFault = e in cc);
   nothing_written = λ not_done _. absurd (not_done refl);
   read = λ _ _. h.read;
@@ -164,7 +161,7 @@ pub ends_cut_off : (text : List ℕ) (source : Reading) (out : Writing) → IsWo
 ends_cut_off text source out h part = record {
   not_usage = λ e. cc;
   answered = λ e. absurd (let clash : WriteFault ≡ Done = e in cc);
-  cut_off = λ _. more source.before (λ script. IsLiveText script text) (λ script. IsCutOff script out) (λ script answers. (text, answers, part)) h.answers;
+  cut_off = λ _. IfSome-weaker source.before (λ script. IsLiveText script text) (λ script. IsCutOff script out) (λ script answers. (text, answers, part)) h.answers;
   nothing_written = λ _ not_cut. absurd (not_cut refl);
   read = λ _ _. h.read;
   never_past = h.never_past;
@@ -202,11 +199,3 @@ complete NoMemory (Some script) usage read write done refused = record { answere
 
 pub some_text : (script : List ℕ) (out : Writing) → IsAnswered script out → (text : List ℕ) × IsLiveText script text
 some_text script out h = (h.0, h.1)
-
-pub if_ok_more : {A E : Type 0} (r : Result A E) (P Q : A → Type 0) → ((x : A) → P x → Q x) → IfOk r P → IfOk r Q
-if_ok_more (Ok x) P Q each h = each x h
-if_ok_more (Err e) P Q each h = tt
-
-pub if_err_more : {A E : Type 0} (r : Result A E) (P Q : E → Type 0) → ((e : E) → P e → Q e) → IfErr r P → IfErr r Q
-if_err_more (Ok x) P Q each h = tt
-if_err_more (Err e) P Q each h = each e h

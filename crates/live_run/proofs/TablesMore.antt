@@ -1,14 +1,15 @@
 -- Readers go on with a table more, and answer by the last one.
-use Rattle.std.proofs.Common.{◌≡◌, ℕ, ◌+◌, ◌^◌, ◌<◌, ◌≤◌, List, [], ◌∷◌, ◌++◌, length, refl, ap, sym, ◌∙◌, subst, arith, length-append, get_or, get_or-set_other, set, Option, Some, None, ◌≢◌, inl, inr}
+use Rattle.std.proofs.Common.{◌≡◌, ℕ, ◌+◌, ◌^◌, ◌<◌, ◌≤◌, List, [], ◌∷◌, length, refl, ap, sym, ◌∙◌, subst, arith, length-append, get_or, get_or-set_other, set, Option, Some, None, ◌≢◌, inl, inr}
 use Rattle.std.specs.Prelude.{ℤ, IfSome}
 use Rattle.std.proofs.lemmas.Bool.{lt-ltb, cases_lt}
 use Rattle.std.proofs.lemmas.Grind.{get_or-set_at}
 use Rattle.std.proofs.Math.ListN.{length-set}
 use Rattle.grid_quantiser.specs.Cells.{point_of}
 use Rattle.controller_table.specs.Tables.{TableModel}
-use Rattle.live_table.specs.Publishes.{Published, Listener, longer, EndsWith, IsChoiceOf, LastChooses}
+use Rattle.live_table.specs.Publishes.{Published, Listener, longer_list, EndsWith, IsChoiceOf, LastChooses}
 use Rattle.live_script.specs.Questions.{IsAnswerOf}
 use Rattle.live_run.specs.inside.Sessions.{InStep, Fits, GoOnWith}
+use Rattle.base.proofs.Lists.{same_last}
 
 -- ---- a table more
 
@@ -27,14 +28,8 @@ fits_more (Some p) (Some q) opened count (Some u) t fits first on =
 
 -- ---- the last table answers
 
-last_of : (xs ys : List TableModel) (t u : TableModel) → xs ++ t ∷ [] ≡ ys ++ u ∷ [] → t ≡ u
-last_of [] [] t u e = cc
-last_of [] (y ∷ ys) t u e = absurd (omega (arith, ap length e, length-append ys (u ∷ [])))
-last_of (x ∷ xs) [] t u e = absurd (omega (arith, ap length e, length-append xs (t ∷ [])))
-last_of (x ∷ xs) (y ∷ ys) t u e = last_of xs ys t u cc
-
 pub one_last : (list : List TableModel) (t u : TableModel) → EndsWith list t → EndsWith list u → t ≡ u
-one_last list t u h k = last_of h.0 k.0 t u (sym h.1 ∙ k.1)
+one_last list t u h k = same_last h.0 k.0 t u (sym h.1 ∙ k.1)
 
 -- a choice at the state of as many numbers as there are states
 pub chosen_is_answer : (t : TableModel) (numbers : List ℤ) (choice : Option ℕ) → length numbers ≡ length t.plant.states → IsChoiceOf t (point_of numbers) choice → IsAnswerOf t numbers choice
@@ -49,7 +44,7 @@ readers_answer p count t numbers choice fits size h =
 -- ---- readers in step
 
 -- who was told of less is told of all
-pub in_step_again : (p : Published) (before after : Listener) → before.opening ≡ p.opening → length before.told < length p.list → after ≡ record before { told = longer before.told p.list } → InStep p after
+pub in_step_again : (p : Published) (before after : Listener) → before.opening ≡ p.opening → length before.told < length p.list → after ≡ record before { told = longer_list before.told p.list } → InStep p after
 in_step_again p before after opening less is =
     (ap (λ (r : Listener). r.opening) is ∙ opening, ap (λ (r : Listener). r.told) is ∙ rw (lt-ltb (length before.told) (length p.list) less) refl)
 

@@ -12,58 +12,6 @@ use run_devices::{Sink, Source, read_up_to, write_whole};
 use std::alloc::Global;
 use std::sync::Wait;
 
-/// The answers to the script on the source.
-fn answers_on_source<R: Wait, S: Source>(
-    rt: &R,
-    alloc: Global,
-    readers: u32,
-    source: &mut S,
-) -> Result<Vec<u8>, LiveOutcome>
-    requires { AreWorkers readers }
-    ensures answer { IfOk result (λ text. IsWorkedOut text.items (reading S.left S.faults S.is_sound source.old source.new)) }
-    ensures refusal { IfErr result (λ outcome. IsRefusalFor outcome (reading S.left S.faults S.is_sound source.old source.new)) }
-{
-    let script = read_up_to(alloc, source, SCRIPT_LIMIT + 1)?;
-    answers_to(rt, alloc, readers, &script)
-}
-
-/// Works the answers out, and writes them.
-fn carry_out<R: Wait, S: Source, O: Sink>(
-    rt: &R,
-    alloc: Global,
-    readers: u32,
-    source: &mut S,
-    out: &mut O,
-) -> LiveOutcome
-    requires { AreWorkers readers }
-    ensures { IsLiveEnd result (reading S.left S.faults S.is_sound source.old source.new) (writing O.got O.faults O.capacity out.old out.new) }
-{
-    let text = match answers_on_source(rt, alloc, readers, source) {
-        Ok(text) => text,
-        Err(outcome) => return outcome,
-    };
-    match write_whole(out, &text) {
-        Ok(()) => LiveOutcome::Done,
-        Err(_) => LiveOutcome::WriteFault,
-    }
-}
-
-/// Does what the words ask for.
-fn outcome_of<R: Wait, S: Source, O: Sink>(
-    rt: &R,
-    alloc: Global,
-    arguments: &[&str],
-    source: &mut S,
-    out: &mut O,
-) -> LiveOutcome
-    ensures { Gives (map (λ w. w.now) arguments.now) result (reading S.left S.faults S.is_sound source.old source.new) (writing O.got O.faults O.capacity out.old out.new) }
-{
-    match readers_in(arguments) {
-        Some(readers) => carry_out(rt, alloc, readers, source, out),
-        None => LiveOutcome::Usage,
-    }
-}
-
 /// Answers the live script on the source, by so many readers as the words ask for, and answers the exit status.
 ///
 /// 0: the answers were written. 2: the words aren't `live` and a number from 1 to 64. 3: a line of the script is malformed. 5: a limit
@@ -88,4 +36,56 @@ pub fn run_live<R: Wait, S: Source, O: Sink, E: Sink>(
     let outcome = outcome_of(rt, alloc, arguments, source, out);
     outcome.report(err);
     outcome.status()
+}
+
+/// Does what the words ask for.
+fn outcome_of<R: Wait, S: Source, O: Sink>(
+    rt: &R,
+    alloc: Global,
+    arguments: &[&str],
+    source: &mut S,
+    out: &mut O,
+) -> LiveOutcome
+    ensures { Gives (map (λ w. w.now) arguments.now) result (reading S.left S.faults S.is_sound source.old source.new) (writing O.got O.faults O.capacity out.old out.new) }
+{
+    match readers_in(arguments) {
+        Some(readers) => carry_out(rt, alloc, readers, source, out),
+        None => LiveOutcome::Usage,
+    }
+}
+
+/// Works the answers out, and writes them.
+fn carry_out<R: Wait, S: Source, O: Sink>(
+    rt: &R,
+    alloc: Global,
+    readers: u32,
+    source: &mut S,
+    out: &mut O,
+) -> LiveOutcome
+    requires { AreWorkers readers }
+    ensures { IsLiveEnd result (reading S.left S.faults S.is_sound source.old source.new) (writing O.got O.faults O.capacity out.old out.new) }
+{
+    let text = match answers_on_source(rt, alloc, readers, source) {
+        Ok(text) => text,
+        Err(outcome) => return outcome,
+    };
+    match write_whole(out, &text) {
+        Ok(()) => LiveOutcome::Done,
+        Err(_) => LiveOutcome::WriteFault,
+    }
+}
+
+/// The answers to the script on the source.
+fn answers_on_source<R: Wait, S: Source>(
+    rt: &R,
+    alloc: Global,
+    readers: u32,
+    source: &mut S,
+) -> Result<Vec<u8>, LiveOutcome>
+    requires { AreWorkers readers }
+    ensures answer { IfOk result (λ text. IsWorkedOut text.items (reading S.left S.faults S.is_sound source.old source.new)) }
+    ensures refusal { IfErr result (λ outcome. IsRefusalFor outcome (reading S.left S.faults S.is_sound source.old source.new)) }
+{
+    let script = read_up_to(alloc, source, SCRIPT_LIMIT + 1)?;
+    answers_to(rt, alloc, readers, &script)
 }

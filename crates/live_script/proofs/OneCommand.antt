@@ -1,6 +1,6 @@
 -- Bytes begin with one command at most.
 use Rattle.std.proofs.Common.{◌≡◌, ℕ, ◌≤◌, List, [], ◌∷◌, ◌++◌, length, take, drop, Option, refl, ap, sym, ◌∙◌, subst, arith, append_assoc}
-use Rattle.std.specs.Prelude.{ℤ, codes}
+use Rattle.std.specs.Prelude.{ℤ}
 use Rattle.std.specs.List.{All, concat}
 use Rattle.std.specs.Fmt.{signed_decimal}
 use Rattle.std.proofs.Math.Seq.{take-append_seam, drop-append_seam}
@@ -25,7 +25,7 @@ use Rattle.live_script.specs.Scripts.{publish_line, ask_line, IsPublishOf, Spell
 use Rattle.live_script.specs.ScriptRefusals.{Announce}
 use Rattle.live_script.specs.inside.QuestionWords.{spaced}
 use Rattle.live_script.proofs.WordsCut.{one_number_at}
-use Rattle.live_script.proofs.QuestionLines.{line_opened, begins}
+use Rattle.live_script.proofs.QuestionLines.{line_opened, begins, after_word}
 use Rattle.live_script.proofs.TableLines.{one_announced, not_asked}
 
 -- ---- tables
@@ -80,12 +80,9 @@ one_left (x ∷ xs) (y ∷ ys) s t h k e =
     let rest = one_left xs ys s t (All-tail IsLiteral x xs h) (All-tail IsLiteral y ys k) one.1 in
     (ap (λ (z : ℤ). z ∷ xs) one.0 ∙ ap (λ (zs : List ℤ). y ∷ zs) rest.0, rest.1)
 
-after_ask : (v w : List ℕ) → codes "ask" ++ v ≡ codes "ask" ++ w → v ≡ w
-after_ask v w e = ap (drop 3) e
-
 one_question : (xs ys : List ℤ) (s t : List ℕ) → AreStateNumbers xs → AreStateNumbers ys → ask_line xs ++ s ≡ ask_line ys ++ t → (xs ≡ ys) × (s ≡ t)
 one_question xs ys s t h k e =
-    one_left xs ys s t h.each k.each (after_ask (spaced xs ++ 10 ∷ s) (spaced ys ++ 10 ∷ t) (sym (line_opened xs s) ∙ e ∙ line_opened ys t))
+    one_left xs ys s t h.each k.each (after_word (spaced xs ++ 10 ∷ s) (spaced ys ++ 10 ∷ t) (sym (line_opened xs s) ∙ e ∙ line_opened ys t))
 
 -- ---- commands
 

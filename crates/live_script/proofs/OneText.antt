@@ -1,5 +1,5 @@
 -- The answers of a script are one text.
-use Rattle.std.proofs.Common.{◌≡◌, ℕ, List, [], ◌∷◌, ◌++◌, length, Option, Some, None, refl, sym, ap, ap₂, subst, ◌∙◌, arith, length-append}
+use Rattle.std.proofs.Common.{◌≡◌, ℕ, List, [], ◌∷◌, ◌++◌, length, Option, Some, None, refl, sym, ap, ap₂, subst, ◌∙◌}
 use Rattle.std.specs.Prelude.{ℤ}
 use Rattle.game_core.specs.declared.game.Row.{Row}
 use Rattle.plant_record.specs.declared.aims.GoalKind.{GoalKind}
@@ -13,9 +13,8 @@ use Rattle.live_script.specs.Questions.{IsAnswerOf}
 use Rattle.live_script.specs.LiveText.{answer_line, IsAnswerLine, AreAnswers}
 use Rattle.live_script.specs.Laws.{OneLiveText}
 use Rattle.live_script.proofs.ScriptLaws.{one_script}
-
-same_row : (a b : Row) → Some a ≡ Some b → a ≡ b
-same_row a b e = cc
+use Rattle.std.proofs.lemmas.Option.{same_Some}
+use Rattle.base.proofs.Lists.{same_last}
 
 applied : (goal : GoalKind) (row : Row) (u : ℕ) → Applies goal row u → row.input ≡ u
 applied Reach row u h = h.1
@@ -23,7 +22,7 @@ applied Keep row u h = h
 
 one_input : (p : Description) (rows : List (Option Row)) (x : List ℤ) (u v : ℕ) → Chooses p rows x u → Chooses p rows x v → u ≡ v
 one_input p rows x u v h k =
-    let same = same_row h.0 k.0 (sym h.1.is ∙ k.1.is) in
+    let same = same_Some h.0 k.0 (sym h.1.is ∙ k.1.is) in
     sym (applied p.goal h.0 u h.2) ∙ ap (λ (r : Row). r.input) same ∙ applied p.goal k.0 v k.2
 
 one_answer : (table : TableModel) (numbers : List ℤ) (a b : Option ℕ) → IsAnswerOf table numbers a → IsAnswerOf table numbers b → a ≡ b
@@ -32,15 +31,9 @@ one_answer table numbers None (Some v) h k = absurd (h.none v k.chosen.0 k.chose
 one_answer table numbers (Some u) None h k = absurd (k.none u h.chosen.0 h.chosen.1)
 one_answer table numbers (Some u) (Some v) h k = ap Some (one_input table.plant table.rows _ u v h.chosen.1 k.chosen.1)
 
-one_last : (a b : List TableModel) (t s : TableModel) → a ++ t ∷ [] ≡ b ++ s ∷ [] → t ≡ s
-one_last [] [] t s e = cc
-one_last [] (y ∷ b) t s e = absurd (omega (arith, ap length e, length-append b (s ∷ [])))
-one_last (x ∷ a) [] t s e = absurd (omega (arith, ap length e, length-append a (t ∷ [])))
-one_last (x ∷ a) (y ∷ b) t s e = let tails : a ++ t ∷ [] ≡ b ++ s ∷ [] = cc in one_last a b t s tails
-
 one_line : (tables : List TableModel) (numbers : List ℤ) (a b : List ℕ) → IsAnswerLine tables numbers a → IsAnswerLine tables numbers b → a ≡ b
 one_line tables numbers a b h k =
-    let last = one_last h.before k.before h.table k.table (sym h.last ∙ k.last) in
+    let last = same_last h.before k.before h.table k.table (sym h.last ∙ k.last) in
     let same = one_answer k.table numbers h.answer k.answer (subst (λ (t : TableModel). IsAnswerOf t numbers h.answer) last h.answers) k.answers in
     h.is ∙ ap (answer_line (length tables)) same ∙ sym k.is
 

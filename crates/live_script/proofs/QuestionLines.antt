@@ -1,8 +1,7 @@
 -- The lines of questions, read number by number.
 use Rattle.std.proofs.Common.{◌≡◌, ℕ, ◌<◌, List, [], ◌∷◌, ◌++◌, length, drop, map, refl, ap, sym, ◌∙◌, arith, append_assoc, append-nil, to_z, of_z}
-use Rattle.std.specs.Prelude.{ℤ, pos, negsuc, codes, FitsSigned}
+use Rattle.std.specs.Prelude.{ℤ, codes}
 use Rattle.std.specs.Int.{w64, w128}
-use Rattle.std.proofs.lemmas.Int.{ints, to_z-of_z}
 use Rattle.std.specs.List.{All, join_with_byte}
 use Rattle.std.specs.Fmt.{signed_decimal}
 use Rattle.std.proofs.lemmas.Grind.{flat_map-append}
@@ -14,6 +13,7 @@ use Rattle.command_line.specs.Command.{AreStateNumbers}
 use Rattle.live_script.specs.Scripts.{ask_line}
 use Rattle.live_script.specs.inside.QuestionWords.{BeginsWithSeparator, IsNumberAt, spaced, IsReadSoFar}
 use Rattle.live_script.proofs.WordsCut.{one_number_at}
+use Rattle.live_script.proofs.TableLines.{whole}
 
 -- ---- a question's line
 
@@ -31,20 +31,13 @@ line_opened numbers rest_after =
 spaced_more : (numbers : List ℤ) (z : ℤ) → spaced (numbers ++ z ∷ []) ≡ spaced numbers ++ 32 ∷ signed_decimal z
 spaced_more numbers z = flat_map-append (λ (y : ℤ). 32 ∷ signed_decimal y) numbers (z ∷ []) ∙ ap (λ (x : List ℕ). spaced numbers ++ x) (append-nil (32 ∷ signed_decimal z))
 
-after_word : (rest other : List ℕ) → codes "ask" ++ rest ≡ codes "ask" ++ other → rest ≡ other
+pub after_word : (rest other : List ℕ) → codes "ask" ++ rest ≡ codes "ask" ++ other → rest ≡ other
 after_word rest other e = ap (drop 3) e
 
 -- ---- a number in 64 bits and in 128
 
 pub widened : (z wide : ℤ) → IsLiteral z → wide ≡ to_z w64 (of_z w64 z) → to_z w128 (of_z w128 wide) ≡ z
-widened z wide lt is = ap (λ (y : ℤ). to_z w128 (of_z w128 y)) (is ∙ narrow z lt) ∙ whole z lt
-  where
-    fits : (z : ℤ) → IsLiteral z → FitsSigned w64 z
-    fits (pos n) lt = omega (arith, ints)
-    fits (negsuc n) lt = omega (arith, ints)
-
-    narrow : (z : ℤ) → IsLiteral z → to_z w64 (of_z w64 z) ≡ z
-    narrow z lt = to_z-of_z w64 z (fits z lt)
+widened z wide lt is = ap (λ (y : ℤ). to_z w128 (of_z w128 y)) (is ∙ whole z lt) ∙ whole z lt
 
 -- ---- the numbers read so far
 

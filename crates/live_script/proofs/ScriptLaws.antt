@@ -12,7 +12,7 @@ use Rattle.live_script.specs.declared.command.ScriptCommand.{ScriptCommand}
 use Rattle.live_script.specs.declared.command.ScriptCommand.TheVariants.{Publish, Ask}
 use Rattle.live_script.specs.declared.script_fault.ScriptFault.{ScriptFault}
 use Rattle.live_script.specs.declared.script_fault.ScriptFault.TheVariants.{Malformed, Limit, ScriptTooLong, TooManyTables, Memory}
-use Rattle.live_script.specs.Scripts.{Spell, FitsAfter, tables_after, published, SpellAfter, IsShortScript, IsScript}
+use Rattle.live_script.specs.Scripts.{Spell, FitsAfter, tables_after, published_tables, SpellAfter, IsShortScript, IsScript}
 use Rattle.live_script.specs.ScriptRefusals.{Announce, IsMalformedAfter, IsTableRefusedAfter, IsNinthTable, IsRefusedAfter, IsFirstRefusal, IsScriptRefusedFor}
 use Rattle.live_script.specs.Laws.{OneScript, OneScriptRefusal, ScriptOrRefused}
 use Rattle.std.specs.Prelude.{codes}
@@ -36,7 +36,7 @@ pub record GoesOn (n : ℕ) (cs ds : List ScriptCommand) (s t : List ℕ) : Type
   pub rest : List ℕ
   pub at : s ≡ first ++ rest
   pub spells : Spell first command
-  pub fits : FitsAfter (n + length (published cs)) command
+  pub fits : FitsAfter (n + length (published_tables cs)) command
 
 -- Both are one list.
 pub record AreEven (cs ds : List ScriptCommand) (a b s t : List ℕ) : Type 0 where
@@ -53,8 +53,8 @@ one_front (x ∷ a) (y ∷ b) s t e r =
     let tail : a ++ s ≡ b ++ t = cc in
     ap (λ (z : ℕ). z ∷ a) head ∙ ap (λ (z : List ℕ). y ∷ z) (one_front a b s t tail r)
 
-fits_after : (n : ℕ) (c d : ScriptCommand) (cs : List ScriptCommand) → FitsAfter (tables_after n c + length (published cs)) d → FitsAfter (n + length (published (c ∷ cs))) d
-fits_after n (Publish t) d cs h = let same : n + length (published (Publish t ∷ cs)) ≡ suc n + length (published cs) = omega arith in subst (λ (k : ℕ). FitsAfter k d) (sym same) h
+fits_after : (n : ℕ) (c d : ScriptCommand) (cs : List ScriptCommand) → FitsAfter (tables_after n c + length (published_tables cs)) d → FitsAfter (n + length (published_tables (c ∷ cs))) d
+fits_after n (Publish t) d cs h = let same : n + length (published_tables (Publish t ∷ cs)) ≡ suc n + length (published_tables cs) = omega arith in subst (λ (k : ℕ). FitsAfter k d) (sym same) h
 fits_after n (Ask xs) d cs h = h
 
 pub compared : (n : ℕ) (a b s t : List ℕ) (cs ds : List ScriptCommand) → SpellAfter n a cs → SpellAfter n b ds → a ++ s ≡ b ++ t → AreEven cs ds a b s t ⊎ GoesOn n cs ds s t ⊎ GoesOn n ds cs t s
@@ -92,7 +92,7 @@ compared n a b s t (c ∷ cs) (d ∷ ds) h k e =
       })
       | inr apart ↦ elim apart [
         | inl on ↦ inr (inl (record { command = on.command; first = on.first; rest = on.rest; at = on.at; spells = on.spells; fits = fits_after n c on.command cs on.fits }))
-        | inr on ↦ inr (inr (record { command = on.command; first = on.first; rest = on.rest; at = on.at; spells = on.spells; fits = fits_after n d on.command ds (subst (λ (x : ScriptCommand). FitsAfter (tables_after n x + length (published ds)) on.command) one.command on.fits) }))
+        | inr on ↦ inr (inr (record { command = on.command; first = on.first; rest = on.rest; at = on.at; spells = on.spells; fits = fits_after n d on.command ds (subst (λ (x : ScriptCommand). FitsAfter (tables_after n x + length (published_tables ds)) on.command) one.command on.fits) }))
       ]
     ]
 
@@ -200,11 +200,11 @@ of_length script Memory h = absurd h
 
 one_first : (script : List ℕ) (f g : ScriptFault) → IsFirstRefusal script f → IsFirstRefusal script g → f ≡ g
 one_first script f g h k = elim (compared 0 h.front k.front h.rest k.rest h.commands k.commands h.spell k.spell (sym h.are ∙ k.are)) [
-  | inl even ↦ one_after (length (published k.commands)) (suc (line_count k.front)) k.rest f g
-      (subst (λ (x : List ScriptCommand × List ℕ × List ℕ). IsRefusedAfter (length (published x.0)) (suc (line_count x.1)) x.2 f) (λ i. (even.commands i, even.front i, even.rest i)) h.refused) k.refused
+  | inl even ↦ one_after (length (published_tables k.commands)) (suc (line_count k.front)) k.rest f g
+      (subst (λ (x : List ScriptCommand × List ℕ × List ℕ). IsRefusedAfter (length (published_tables x.0)) (suc (line_count x.1)) x.2 f) (λ i. (even.commands i, even.front i, even.rest i)) h.refused) k.refused
   | inr apart ↦ elim apart [
-    | inl on ↦ absurd (stuck (length (published h.commands)) (suc (line_count h.front)) h.rest f h.refused on.command on.first on.rest on.at on.spells (fits_alone (length (published h.commands)) on.command on.fits))
-    | inr on ↦ absurd (stuck (length (published k.commands)) (suc (line_count k.front)) k.rest g k.refused on.command on.first on.rest on.at on.spells (fits_alone (length (published k.commands)) on.command on.fits))
+    | inl on ↦ absurd (stuck (length (published_tables h.commands)) (suc (line_count h.front)) h.rest f h.refused on.command on.first on.rest on.at on.spells (fits_alone (length (published_tables h.commands)) on.command on.fits))
+    | inr on ↦ absurd (stuck (length (published_tables k.commands)) (suc (line_count k.front)) k.rest g k.refused on.command on.first on.rest on.at on.spells (fits_alone (length (published_tables k.commands)) on.command on.fits))
   ]
 ]
   where
@@ -242,11 +242,11 @@ ends_well n number Memory some refused = refused
 
 accepted : (script : List ℕ) (commands : List ScriptCommand) (f : ScriptFault) → IsScript script commands → IsFirstRefusal script f → ⊥
 accepted script commands f h k = elim (compared 0 script k.front [] k.rest commands k.commands h.spell k.spell (append-nil script ∙ k.are)) [
-  | inl even ↦ ends_well (length (published commands)) (suc (line_count k.front)) f h.some_table
-      (subst (λ (x : List ScriptCommand × List ℕ). IsRefusedAfter (length (published x.0)) (suc (line_count k.front)) x.1 f) (λ i. (sym even.commands i, sym even.rest i)) k.refused)
+  | inl even ↦ ends_well (length (published_tables commands)) (suc (line_count k.front)) f h.some_table
+      (subst (λ (x : List ScriptCommand × List ℕ). IsRefusedAfter (length (published_tables x.0)) (suc (line_count k.front)) x.1 f) (λ i. (sym even.commands i, sym even.rest i)) k.refused)
   | inr apart ↦ elim apart [
     | inl on ↦ some_bytes on.first on.command on.spells on.rest on.at
-    | inr on ↦ stuck (length (published k.commands)) (suc (line_count k.front)) k.rest f k.refused on.command on.first on.rest on.at on.spells (let same : 0 + length (published k.commands) ≡ length (published k.commands) = omega arith in subst (λ (m : ℕ). FitsAfter m on.command) same on.fits)
+    | inr on ↦ stuck (length (published_tables k.commands)) (suc (line_count k.front)) k.rest f k.refused on.command on.first on.rest on.at on.spells (let same : 0 + length (published_tables k.commands) ≡ length (published_tables k.commands) = omega arith in subst (λ (m : ℕ). FitsAfter m on.command) same on.fits)
   ]
 ]
 

@@ -8,7 +8,7 @@ use Rattle.live_script.specs.declared.command.ScriptCommand.{ScriptCommand}
 use Rattle.live_script.specs.declared.command.ScriptCommand.TheVariants.{Publish, Ask}
 use Rattle.live_script.specs.declared.script_fault.ScriptFault.{ScriptFault}
 use Rattle.live_script.specs.declared.script_fault.ScriptFault.TheVariants.{Malformed, Limit, ScriptTooLong, TooManyTables, Memory}
-use Rattle.live_script.specs.Scripts.{publish_line, ask_line, Spell, FitsAfter, tables_after, published, SpellAfter, IsShortScript}
+use Rattle.live_script.specs.Scripts.{publish_line, ask_line, Spell, FitsAfter, tables_after, published_tables, SpellAfter, IsShortScript}
 use Rattle.live_script.specs.ScriptRefusals.{Announce, IsMalformedAfter, IsTableRefusedAfter, IsRefusedAfter, IsFirstRefusal, IsScriptRefusedFor}
 use Rattle.live_script.specs.Laws.{NoTextIsNeither, NoScriptIsNeither}
 use Rattle.live_script.proofs.Counting.{both_counted}
@@ -73,10 +73,10 @@ module _ (no_text : NoTextIsNeither) (n number : ℕ) (most : n ≤ 8) where
 
 -- commands up to the end, the last of them after a table, or what is refused after commands
 data End (n number : ℕ) (bytes : List ℕ) : Type 0 where
-  spelt : (commands : List ScriptCommand) → SpellAfter n bytes commands → 0 < n + length (published commands) → End n number bytes
-  refused_at : (front rest : List ℕ) (commands : List ScriptCommand) (f : ScriptFault) → bytes ≡ front ++ rest → SpellAfter n front commands → IsRefusedAfter (n + length (published commands)) (number + line_count front) rest f → End n number bytes
+  spelt : (commands : List ScriptCommand) → SpellAfter n bytes commands → 0 < n + length (published_tables commands) → End n number bytes
+  refused_at : (front rest : List ℕ) (commands : List ScriptCommand) (f : ScriptFault) → bytes ≡ front ++ rest → SpellAfter n front commands → IsRefusedAfter (n + length (published_tables commands)) (number + line_count front) rest f → End n number bytes
 
-one_more : (n : ℕ) (c : ScriptCommand) (commands : List ScriptCommand) → tables_after n c + length (published commands) ≡ n + length (published (c ∷ commands))
+one_more : (n : ℕ) (c : ScriptCommand) (commands : List ScriptCommand) → tables_after n c + length (published_tables commands) ≡ n + length (published_tables (c ∷ commands))
 one_more n (Publish t) commands = omega arith
 one_more n (Ask xs) commands = refl
 
@@ -93,7 +93,7 @@ after_one n number bytes first rest c at spells fits (refused_at front after com
     (at ∙ ap (λ (x : List ℕ). first ++ x) cut ∙ sym (append_assoc first front after))
     (first, front, refl, spells, fits, spell)
     (subst (λ (k : ℕ). IsRefusedAfter k (number + line_count (first ++ front)) after f) (one_more n c commands)
-    (subst (λ (k : ℕ). IsRefusedAfter (tables_after n c + length (published commands)) k after f) lines refused))
+    (subst (λ (k : ℕ). IsRefusedAfter (tables_after n c + length (published_tables commands)) k after f) lines refused))
   where
     lines : number + line_count first + line_count front ≡ number + line_count (first ++ front)
     lines = omega (arith, both_counted first front)
@@ -147,5 +147,5 @@ no_script_is_neither no_text bytes no_script no_refusal =
           are = are;
           commands = commands;
           spell = spell;
-          refused = subst (λ (k : ℕ). IsRefusedAfter (length (published commands)) k rest f) (omega arith) (subst (λ (k : ℕ). IsRefusedAfter k (1 + line_count front) rest f) (omega arith) refused);
+          refused = subst (λ (k : ℕ). IsRefusedAfter (length (published_tables commands)) k rest f) (omega arith) (subst (λ (k : ℕ). IsRefusedAfter k (1 + line_count front) rest f) (omega arith) refused);
         }))

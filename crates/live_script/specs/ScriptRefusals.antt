@@ -7,7 +7,7 @@ use Rattle.live_script.specs.declared.command.ScriptCommand.{ScriptCommand}
 use Rattle.live_script.specs.declared.script_fault.ScriptFault.{ScriptFault}
 use Rattle.live_script.specs.declared.script_fault.ScriptFault.TheVariants.{Malformed, Limit, ScriptTooLong, TooManyTables, Memory}
 use Rattle.command_line.specs.Command.{AreStateNumbers}
-use Rattle.live_script.specs.Scripts.{publish_line, ask_line, published, SpellAfter, IsShortScript}
+use Rattle.live_script.specs.Scripts.{publish_line, ask_line, published_tables, SpellAfter, IsShortScript}
 use Rattle.base.specs.declared.limits.TheConstants.{TABLES_LIMIT, TABLE_LIMIT}
 
 -- The bytes begin with the line before a table's text of 1 to 67,108,864 bytes.
@@ -53,7 +53,7 @@ pub record IsFirstRefusal (script : List ℕ) (fault : ScriptFault) : Type 0 whe
   pub are : script ≡ front ++ rest
   pub commands : List ScriptCommand
   pub spell : SpellAfter 0 front commands
-  pub refused : IsRefusedAfter (length (published commands)) (suc (line_count front)) rest fault
+  pub refused : IsRefusedAfter (length (published_tables commands)) (suc (line_count front)) rest fault
 
 -- why a script is refused; want of memory is the script's fault never
 abbrev pub IsScriptRefusedFor : List ℕ → ScriptFault → Type 0

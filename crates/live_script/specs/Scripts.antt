@@ -37,10 +37,10 @@ tables_after tables (Publish table) = suc tables
 tables_after tables (Ask numbers) = tables
 
 -- the tables that commands publish
-abbrev pub published : List ScriptCommand → List TableModel
-published [] = []
-published (Publish table ∷ commands) = table ∷ published commands
-published (Ask numbers ∷ commands) = published commands
+abbrev pub published_tables : List ScriptCommand → List TableModel
+published_tables [] = []
+published_tables (Publish table ∷ commands) = table ∷ published_tables commands
+published_tables (Ask numbers ∷ commands) = published_tables commands
 
 -- the bytes spell commands that have their positions after so many tables
 abbrev pub SpellAfter : ℕ → List ℕ → List ScriptCommand → Type 0
@@ -56,4 +56,4 @@ IsShortScript bytes = length bytes ≤ SCRIPT_LIMIT
 pub record IsScript (bytes : List ℕ) (commands : List ScriptCommand) : Type 0 where
   pub short : IsShortScript bytes
   pub spell : SpellAfter 0 bytes commands
-  pub some_table : 0 < length (published commands)
+  pub some_table : 0 < length (published_tables commands)

@@ -26,8 +26,8 @@ abbrev pub newcomer : Published → Listener
 newcomer p = record { opening = p.opening; seen = p.list; told = p.list }
 
 -- the longer of two lists, the first where they are as long
-abbrev pub longer : List TableModel → List TableModel → List TableModel
-longer xs ys = if nat_lt (length xs) (length ys) then ys else xs
+abbrev pub longer_list : List TableModel → List TableModel → List TableModel
+longer_list xs ys = if nat_lt (length xs) (length ys) then ys else xs
 
 -- the table is the last of the list
 abbrev pub EndsWith : List TableModel → TableModel → Type 0

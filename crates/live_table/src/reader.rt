@@ -1,6 +1,6 @@
 ghost use Rattle.std.specs.Prelude.{◌≡◌, MatchResult};
 ghost use Rattle.left_right.specs.Sides.{view as known};
-ghost use Rattle.live_table.specs.Publishes.{Answers, longer};
+ghost use Rattle.live_table.specs.Publishes.{Answers, longer_list};
 ghost use Rattle.live_table.specs.inside.LiveProtocol.{Looked};
 
 use crate::copy::{CopyReader, Sees};
@@ -59,7 +59,7 @@ impl Reader {
     /// From now on each answer's list begins with what was told.
     pub fn learn(&mut self, told: Told)
         requires { told.opening ≡ self.old.opening }
-        ensures { self.new ≡ record self.old { told = longer self.old.told told.list } }
+        ensures { self.new ≡ record self.old { told = longer_list self.old.told told.list } }
     {
         let Told { copies, prefix } = told;
         if self.seen.begins(&prefix) && self.told.begins(&prefix) {

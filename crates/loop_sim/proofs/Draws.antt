@@ -1,5 +1,5 @@
 -- The noises that are drawn one after the other.
-use Rattle.std.proofs.Common.{◌≡◌, ℕ, zero, suc, ◌+◌, ◌/◌, ◌%◌, ◌^◌, ◌<◌, List, [], ◌∷◌, ◌++◌, Some, All, length, get_or, refl, sym, ap, ap₂, subst, ◌∙◌, arith}
+use Rattle.std.proofs.Common.{◌≡◌, ℕ, zero, suc, ◌+◌, ◌/◌, ◌%◌, ◌^◌, ◌<◌, List, [], ◌∷◌, ◌++◌, Some, All, length, get_or, refl, sym, ap, ap₂, ◌∙◌, arith}
 use Rattle.std.specs.Prelude.{ℤ, pos, nat_abs, ◌+ℤ◌, ◌-ℤ◌, ◌≤ℤ◌, slice_get}
 use Rattle.std.specs.Option.{option_map}
 use Rattle.std.proofs.lemmas.Int.{ints}
@@ -42,14 +42,6 @@ noise_at (v ∷ noises) s k (suc i) r d is =
 pub record IsNoiseRange (r : ℤ × ℤ) : Type 0 where
   pub low : nat_abs r.0 < 10 ^ 18
   pub high : nat_abs r.1 < 10 ^ 18
-
-pub noise_bounds : (noises : List NoiseVariable) (k : ℕ) (r : ℤ × ℤ) → All IsNoiseVariable noises → option_map (λ (w : NoiseVariable). (w.low, w.high)) (slice_get noises k) ≡ Some r → IsNoiseRange r
-noise_bounds [] k r each is = absurd (none-some r is)
-noise_bounds (w ∷ noises) zero r each is =
-    let e : (w.low, w.high) ≡ r = same_Some (w.low, w.high) r is in
-    let here = All-head IsNoiseVariable w noises each in
-    subst IsNoiseRange e (record { low = here.low; high = here.high })
-noise_bounds (w ∷ noises) (suc k) r each is = noise_bounds noises k r (All-tail IsNoiseVariable w noises each) is
 
 -- ---- the ranges
 

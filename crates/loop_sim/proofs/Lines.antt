@@ -1,7 +1,6 @@
 -- The lines of a trace, word by word.
 use Rattle.std.proofs.Common.{◌≡◌, ℕ, List, [], ◌∷◌, ◌++◌, length, take, sym, ap, ◌∙◌, append_assoc}
 use Rattle.std.specs.Prelude.{ℤ, codes}
-use Rattle.std.specs.List.{flat_map, join_with_byte}
 use Rattle.std.specs.Fmt.{decimal, signed_decimal}
 use Rattle.std.proofs.lemmas.List.{append-nil}
 use Rattle.std.proofs.lemmas.List.Folds.{flat_map-map}
@@ -13,15 +12,7 @@ use Rattle.controller_table.specs.TableText.{format_of}
 use Rattle.loop_sim.specs.declared.sim_line.SimLine.TheVariants.{At, Lost}
 use Rattle.loop_sim.specs.TraceText.{line_text, state_words}
 use Rattle.loop_sim.specs.inside.StateText.{state_text}
-
--- a word with a space before it
-abbrev pub spaced : List ℕ → List ℕ
-spaced word = 32 ∷ word
-
--- a line's words but the first, each with a space before it
-pub joined_words : (word : List ℕ) (words : List (List ℕ)) → join_with_byte 32 (word ∷ words) ≡ word ++ flat_map spaced words
-joined_words word [] = sym (append-nil word)
-joined_words word (next ∷ words) = ap (λ (x : List ℕ). word ++ 32 ∷ x) (joined_words next words)
+use Rattle.base.proofs.Words.{joined_words}
 
 in_order : (a b r i space feed : List ℕ) → a ++ (b ++ (space ++ (r ++ (space ++ (i ++ feed))))) ≡ (a ++ (b ++ (space ++ (r ++ (space ++ (i ++ [])))))) ++ feed
 in_order a b r i space feed = simp (append_assoc, append-nil)

@@ -1,6 +1,6 @@
 -- Which row stands at a state.
 use Rattle.std.proofs.Common.{◌≡◌, Bool, true, false, List, [], ◌∷◌, Option, Some, None, refl, sym, ap, ◌∙◌, arith}
-use Rattle.std.specs.Prelude.{ℤ, int_le, int_lt, ◌&&◌, ◌≤ℤ◌, ◌<ℤ◌, if◌then◌else◌}
+use Rattle.std.specs.Prelude.{ℤ, int_le, int_lt, ◌&&◌, ◌≤ℤ◌, if◌then◌else◌}
 use Rattle.std.proofs.lemmas.Bool.{and_parts}
 use Rattle.std.proofs.lemmas.Int.{ints}
 use Rattle.game_core.specs.declared.game.Row.{Row}
@@ -11,18 +11,13 @@ use Rattle.grid_quantiser.specs.Cells.{IsInDomain, cell_of}
 use Rattle.plant_record.specs.Description.{Description, axes_of}
 use Rattle.controller_table.specs.Choice.{HasRowAt}
 use Rattle.loop_sim.specs.Trace.{is_in_domain, row_at}
+use Rattle.base.proofs.Integers.{less_from_int_lt, int_lt_from_less}
 
 not_below : (lo x : ℤ) → int_le lo x ≡ true → lo ≤ℤ x
 not_below lo x e = grind (arith, ints)
 
-before_end : (x end : ℤ) → int_lt x end ≡ true → x <ℤ end
-before_end x end e = grind (arith, ints)
-
 below_test : (lo x : ℤ) → lo ≤ℤ x → int_le lo x ≡ true
 below_test lo x h = grind (arith, ints)
-
-end_test : (x end : ℤ) → x <ℤ end → int_lt x end ≡ true
-end_test x end h = grind (arith, ints)
 
 pub inside : (axes : List Axis) (xs : List ℤ) → is_in_domain axes xs ≡ true → IsInDomain axes xs
 inside [] xs e = tt
@@ -30,7 +25,7 @@ inside (a ∷ axes) [] e = cc
 inside (a ∷ axes) (x ∷ xs) e =
     let parts = and_parts (int_le a.lo x && int_lt x (end_of a)) (is_in_domain axes xs) e in
     let ends = and_parts (int_le a.lo x) (int_lt x (end_of a)) parts.0 in
-    (not_below a.lo x ends.0, before_end x (end_of a) ends.1, inside axes xs parts.1)
+    (not_below a.lo x ends.0, less_from_int_lt x (end_of a) ends.1, inside axes xs parts.1)
 
 both : (a b c : Bool) → a ≡ true → b ≡ true → c ≡ true → (a && b && c) ≡ true
 both a b c e f g = rw (e, f, g) refl
@@ -39,7 +34,7 @@ pub inside_test : (axes : List Axis) (xs : List ℤ) → IsInDomain axes xs → 
 inside_test [] xs h = refl
 inside_test (a ∷ axes) [] h = absurd h
 inside_test (a ∷ axes) (x ∷ xs) h =
-    both (int_le a.lo x) (int_lt x (end_of a)) (is_in_domain axes xs) (below_test a.lo x h.0) (end_test x (end_of a) h.1) (inside_test axes xs h.2)
+    both (int_le a.lo x) (int_lt x (end_of a)) (is_in_domain axes xs) (below_test a.lo x h.0) (int_lt_from_less x (end_of a) h.1) (inside_test axes xs h.2)
 
 some_if : (b : Bool) (r : Option Row) (row : Row) → (if b then r else None) ≡ Some row → (b ≡ true) × (r ≡ Some row)
 some_if true r row e = (refl, e)

@@ -8,7 +8,7 @@ use Rattle.game_core.specs.Game.{Game, IsEnabled, successors_of}
 use Rattle.game_core.specs.Solution.{row_of, rank_in, rank_at, greatest_rank, HasRow, HasRowBelow}
 use Rattle.game_core.specs.Right.{LeadsDownTo, IsRightPlain, IsRightRanked}
 use Rattle.patrol_game.specs.inside.BestRows.{IsRankAfter, pick, better, IsBest, IsBestBelow}
-use Rattle.patrol_game.proofs.LaterReachRows.{greatest_below}
+use Rattle.game_core.proofs.Right.{greatest_below}
 
 pub greatest_push : (rows : List (Option Row)) (xs : List ℕ) (s : ℕ) → greatest_rank rows (xs ++ s ∷ []) ≡ max (greatest_rank rows xs) (rank_at rows s)
 greatest_push rows [] s = omega arith

@@ -1,16 +1,18 @@
 -- A row that is right beside the rows of a reach solution, also at a goal, is that of the strategies which begin with an input.
-use Rattle.std.proofs.Common.{inl, inr, ◌≡◌, ◌≢◌, ℕ, zero, suc, ◌<◌, ◌≤◌, max, List, [], ◌∷◌, get_or, Option, Some, None, All, arith, refl, sym, ap, subst}
+use Rattle.std.proofs.Common.{inl, inr, ◌≡◌, ◌≢◌, ℕ, zero, suc, ◌<◌, ◌≤◌, max, List, [], ◌∷◌, get_or, Option, Some, None, All, arith, refl, sym, subst}
 use Rattle.std.proofs.lemmas.Bool.{cases_lt}
 use Rattle.std.proofs.lemmas.List.Elements.{All-head, All-tail, All-nil, All-cons, All-weaker, All-contains}
 use Rattle.game_core.specs.declared.game.Mark.TheVariants.{Goal, Obstacle}
 use Rattle.game_core.specs.declared.game.Row.{Row}
 use Rattle.game_core.specs.Game.{Game, IsGame, mark_of, pair_of, successors_of}
 use Rattle.game_core.specs.Strategy.{Tree, Apply, Trees, NoTrees, AndTree, Wins, WinEach, depth_of, greatest_depth}
-use Rattle.game_core.specs.Solution.{row_of, rank_in, rank_at, greatest_rank, HasRow, HasRowBelow, IsReachRow, IsReachSolution}
+use Rattle.game_core.specs.Solution.{row_of, greatest_rank, HasRowBelow, IsReachRow, IsReachSolution}
 use Rattle.game_core.specs.Right.{IsBestInput, IsUnwinnable, IsRightPlain, IsRightRanked}
 use Rattle.patrol_game.specs.Visits.{ReachesLater}
 use Rattle.patrol_game.specs.Patrol.{IsReachedLaterBy, IsLaterReachRow}
 use Rattle.game_core.proofs.Rows.{successors_below}
+use Rattle.game_core.proofs.Trees.{trees_for}
+use Rattle.game_core.proofs.Right.{below_greatest, greatest_below, have_rows}
 
 -- some tree of depth at most k wins from a cell, and one for each of some cells
 record WinsWithin (g : Game) (k c : ℕ) : Type 0 where
@@ -22,36 +24,6 @@ record WinEachWithin (g : Game) (k : ℕ) (cells : List ℕ) : Type 0 where
   trees : Trees
   wins : WinEach g trees cells
   depth : greatest_depth trees ≤ k
-
-trees_for : (g : Game) (k : ℕ) (cells : List ℕ) → All (WinsWithin g k) cells → WinEachWithin g k cells
-trees_for g k [] h = record { trees = NoTrees; wins = refl; depth = omega arith }
-trees_for g k (c ∷ cells) h =
-    let first = All-head (WinsWithin g k) c cells h in
-    let rest = trees_for g k cells (All-tail (WinsWithin g k) c cells h) in
-    let a = first.depth in
-    let b = rest.depth in
-    record { trees = AndTree first.tree rest.trees; wins = (first.wins, rest.wins); depth = omega arith }
-
--- the greatest rank among cells with rows
-below_greatest : (rows : List (Option Row)) (k : ℕ) (cells : List ℕ) → All (HasRow rows) cells → greatest_rank rows cells < k → All (HasRowBelow rows k) cells
-below_greatest rows k [] h lt = All-nil (HasRowBelow rows k)
-below_greatest rows k (s ∷ cells) h lt =
-    let first = All-head (HasRow rows) s cells h in
-    let rank : rank_at rows s ≡ first.0.rank = ap rank_in first.1 in
-    All-cons (HasRowBelow rows k) s cells (record { row = first.0; is = first.1; below = omega arith })
-    (below_greatest rows k cells (All-tail (HasRow rows) s cells h) (omega arith))
-
-pub greatest_below : (rows : List (Option Row)) (k : ℕ) (cells : List ℕ) → All (HasRowBelow rows (suc k)) cells → greatest_rank rows cells ≤ k
-greatest_below rows k [] h = omega arith
-greatest_below rows k (s ∷ cells) h =
-    let first = All-head (HasRowBelow rows (suc k)) s cells h in
-    let rank : rank_at rows s ≡ first.row.rank = ap rank_in first.is in
-    let below = first.below in
-    let rest = greatest_below rows k cells (All-tail (HasRowBelow rows (suc k)) s cells h) in
-    omega arith
-
-have_rows : (rows : List (Option Row)) (k : ℕ) (cells : List ℕ) → All (HasRowBelow rows k) cells → All (HasRow rows) cells
-have_rows rows k cells = All-weaker (HasRowBelow rows k) (HasRow rows) (λ s r. (r.row, r.is)) cells
 
 module _ (g : Game) (a : IsGame g) (rows : List (Option Row)) (h : IsReachSolution g rows) where
   -- a cell from which a tree wins has a row that is no greater than its depth

@@ -1,21 +1,13 @@
 -- What proofs of the crates above cite.
-use Rattle.std.proofs.Common.{◌≡◌, ◌⊎◌, ℕ, ◌+◌, ◌<◌, ◌≤◌, List, length, Option, Some}
+use Rattle.std.proofs.Common.{◌≡◌, ℕ, ◌+◌, ◌<◌, ◌≤◌, List, Option, Some}
 use Rattle.game_core.specs.declared.game.Row.{Row}
 use Rattle.game_core.specs.Game.{Game, IsGame}
 use Rattle.game_core.specs.Solution.{row_of, HasRowBelow}
 use Rattle.game_core.specs.Strategy.{Trees, Apply, LeadsTo, depth_of}
-use Rattle.plant_record.specs.Description.{Description}
-use Rattle.plant_record.specs.Plants.{IsPlant}
-use Rattle.plant_game.specs.Abstraction.{IsGameOf}
-use Rattle.patrol_game.specs.Targets.{IsInTarget}
 use Rattle.patrol_game.specs.Visits.{IsArrival}
 use Rattle.patrol_game.specs.Patrol.{IsPatrol, rows_for}
 use Rattle.patrol_game.proofs.RowBounds as bounds
-use Rattle.patrol_game.proofs.TargetCells as targets
-
--- whether a cell lies in a target is decided
-pub targets_are_told : (p : Description) (g : Game) → IsPlant p → IsGameOf p g → (j c : ℕ) → j < length p.targets → c < g.cells → IsInTarget p j c ⊎ (IsInTarget p j c → ⊥)
-targets_are_told p g plant game j c lj lc = targets.told p g plant game j c lj lc
+pub use Rattle.patrol_game.proofs.TargetCells.{targets_are_told}
 
 -- a row has a rank from 1 to the number of cells, and one of the inputs
 pub rows_are_within : (g : Game) (In : ℕ → ℕ → Type 0) (turns : ℕ) (rows : List (List (Option Row))) → IsGame g → IsPatrol g In turns rows → (j c : ℕ) (row : Row) → j < turns → c < g.cells →

@@ -9,10 +9,11 @@ use Rattle.game_core.specs.Game.{Game, IsGame, pair_of, successors_of}
 use Rattle.game_core.specs.Strategy.{Tree, Leaf, Apply, Trees, NoTrees, AndTree, LeadsTo, LeadEachTo, depth_of, greatest_depth}
 use Rattle.game_core.specs.Solution.{row_of, HasRowBelow}
 use Rattle.game_core.proofs.Rows.{successors_below, below_from_row}
-use Rattle.game_core.proofs.Times.{length_of_distinct_below}
 use Rattle.patrol_game.specs.Visits.{next_turn, ReachesLater, Visits, VisitsOn, IsArrival}
 use Rattle.patrol_game.specs.Patrol.{IsReachedLaterBy, IsPatrolRow, IsPatrol, rows_for}
 use Rattle.patrol_game.proofs.ForEver.{reaches_later_weaker}
+use Rattle.game_core.proofs.RankBound.{below_of, differs}
+use Rattle.base.proofs.Times.{length_of_distinct_below}
 
 -- a cell whose row has rank k
 record HasRowOf (rows : List (Option Row)) (k c : ℕ) : Type 0 where
@@ -24,19 +25,6 @@ record IsChain (rows : List (Option Row)) (k : ℕ) (cells : List ℕ) : Type 0 
   count : length cells ≡ k
   ranks : All (HasRowBelow rows (suc k)) cells
   apart : AllPairs (λ a b. a ≢ b) cells
-
-below_of : (rows : List (Option Row)) (k c : ℕ) → HasRowOf rows k c → HasRowBelow rows (suc k) c
-below_of rows k c row = record { row = record { rank = k; input = row.input }; is = row.is; below = omega arith }
-
-differs : (rows : List (Option Row)) (k c d : ℕ) → HasRowOf rows k c → HasRowBelow rows k d → c ≢ d
-differs rows k c d row other e =
-    let same : Some (record { rank = k; input = row.input }) ≡ Some other.row = sym row.is ∙ ap (row_of rows) e ∙ other.is in
-    let rank : k ≡ other.row.rank = rank_of (record { rank = k; input = row.input }) other.row same in
-    let below = other.below in
-    omega (arith, rank, below)
-  where
-    rank_of : (a b : Row) → Some a ≡ Some b → a.rank ≡ b.rank
-    rank_of a b same = let e : a ≡ b = cc in ap (λ (r : Row). r.rank) e
 
 module _ (g : Game) (a : IsGame g) (In : ℕ → ℕ → Type 0) (turns : ℕ) (rows : List (List (Option Row))) (h : IsPatrol g In turns rows) (j : ℕ) (lj : j < turns) where
   abbrev Ends : ℕ → Type 0

@@ -47,8 +47,9 @@ obstacle_told p g game c lc = by_mark (mark_of g c) refl
     by_mark Goal e = inr (λ o. let f = (game.obstacles c lc).1 o in cc)
     by_mark Plain e = inr (λ o. let f = (game.obstacles c lc).1 o in cc)
 
-pub told : (p : Description) (g : Game) → IsPlant p → IsGameOf p g → (j c : ℕ) → j < length p.targets → c < g.cells → IsInTarget p j c ⊎ (IsInTarget p j c → ⊥)
-told p g plant game j c lj lc =
+-- whether a cell lies in a target is decided
+pub targets_are_told : (p : Description) (g : Game) → IsPlant p → IsGameOf p g → (j c : ℕ) → j < length p.targets → c < g.cells → IsInTarget p j c ⊎ (IsInTarget p j c → ⊥)
+targets_are_told p g plant game j c lj lc =
     elim (obstacle_told p g game c lc) [
       | inl obstacle ↦ inr (λ t. t.1 obstacle)
       | inr clear ↦ elim (inside_told (axes_of p) c (target_at p j).low (target_at p j).high (sound p plant).axes.each (omega (arith, lc, game.cells))) [

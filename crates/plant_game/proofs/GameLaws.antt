@@ -1,20 +1,15 @@
 -- What proofs of the crates above cite: pairs by their numbers, where a state of a plant lies among the cells of its game, and where a step lands.
-use Rattle.std.proofs.Common.{inl, inr, ◌≡◌, ◌≢◌, ℕ, zero, suc, ◌+◌, ◌*◌, ◌/◌, ◌%◌, ◌<◌, List, length, Option, Some, None, arith, refl}
+use Rattle.std.proofs.Common.{◌≡◌, ◌≢◌, ℕ, zero, suc, ◌+◌, ◌*◌, ◌/◌, ◌%◌, ◌<◌, List, arith, refl}
 use Rattle.std.specs.Prelude.{ℤ}
-use Rattle.std.specs.List.{Any, Contains}
-use Rattle.std.proofs.lemmas.Bool.{cases_lt}
-use Rattle.std.proofs.lemmas.List.{get_or_past}
+use Rattle.std.specs.List.{Contains}
 use Rattle.std.proofs.lemmas.List.Elements.{All-contains}
 use Rattle.std.proofs.lemmas.Nat.{div_below, mod_below, div-add-mod'}
 use Rattle.std.proofs.Math.Nat.{mul-zero}
-use Rattle.game_core.specs.declared.game.Row.{Row}
 use Rattle.game_core.specs.declared.game.Mark.TheVariants.{Goal, Obstacle}
 use Rattle.game_core.specs.Game.{Game, IsEnabled, mark_of, pair_of, successors_of}
-use Rattle.game_core.specs.Solution.{row_of}
 use Rattle.game_core.proofs.Rows.{successors_below}
 use Rattle.grid_quantiser.specs.CellBoxes.{IsInBox, Touches, LiesInside}
 use Rattle.grid_quantiser.specs.Cells.{IsInDomain, cell_of}
-use Rattle.plant_record.specs.declared.aims.StateBox.{StateBox}
 use Rattle.plant_record.specs.Description.{Description, axes_of}
 use Rattle.plant_record.specs.CellMarks.{IsGoalCell, IsObstacleCell}
 use Rattle.plant_record.specs.Plants.{IsPlant}
@@ -23,22 +18,12 @@ use Rattle.plant_record.specs.Steps.{step_of, IsNoise}
 use Rattle.plant_game.specs.Abstraction.{IsGameOf}
 use Rattle.plant_game.specs.Refinement.{IsRefinement}
 use Rattle.plant_game.proofs.Refining.{games_refine}
+use Rattle.base.proofs.Lists.{Any-weaker}
 
 -- a pair has a cell and an input
 pub pair_split : (pair cells vectors : ℕ) → pair < cells * vectors → (pair / vectors < cells) × (pair % vectors < vectors) × ((pair / vectors) * vectors + pair % vectors ≡ pair)
 pair_split pair cells zero lt = absurd (omega (arith, lt, mul-zero cells))
 pair_split pair cells (suc v) lt = (div_below pair (suc v) cells (omega arith) lt, mod_below pair (suc v) (omega arith), div-add-mod' pair (suc v))
-
-any_other : (P Q : StateBox → Type 0) (boxes : List StateBox) → ((b : StateBox) → P b → Q b) → Any P boxes → Any Q boxes
-any_other P Q boxes f a = (a.0, a.1, a.2, a.3, f a.1 a.4)
-
--- a row stands at a cell
-pub below_from_row : (rows : List (Option Row)) (c : ℕ) (row : Row) → row_of rows c ≡ Some row → c < length rows
-below_from_row rows c row e =
-    elim (cases_lt c (length rows)) [
-      | inl lt ↦ lt
-      | inr ge ↦ let n : row_of rows c ≡ None = get_or_past rows c None ge in cc
-    ]
 
 -- a game refines the plant whose game it is
 pub refines : (p : Description) (g : Game) → IsPlant p → IsGameOf p g → IsRefinement p g
@@ -51,7 +36,7 @@ module _ (p : Description) (g : Game) (a : IsGameOf p g) (r : IsRefinement p g) 
     inside,
     λ met.
         let c : ℕ = cell_of (axes_of p) x in
-        let touched : IsObstacleCell p c = any_other (λ b. IsInBox (axes_of p) b.low b.high x) (λ b. Touches (axes_of p) c b.low b.high) p.obstacles (λ b is. (x, (inside, refl), is)) met in
+        let touched : IsObstacleCell p c = Any-weaker (λ b. IsInBox (axes_of p) b.low b.high x) (λ b. Touches (axes_of p) c b.low b.high) p.obstacles (λ b is. (x, (inside, refl), is)) met in
         clear ((a.obstacles c lt).1 touched),
   )
 
@@ -60,7 +45,7 @@ module _ (p : Description) (g : Game) (a : IsGameOf p g) (r : IsRefinement p g) 
   in_target x inside lt m =
       let c : ℕ = cell_of (axes_of p) x in
       let goal : IsGoalCell p c = (a.goals c lt).0 m in
-      any_other (λ b. LiesInside (axes_of p) c b.low b.high) (λ b. IsInBox (axes_of p) b.low b.high x) p.targets (λ b all. all x (inside, refl)) goal.1
+      Any-weaker (λ b. LiesInside (axes_of p) c b.low b.high) (λ b. IsInBox (axes_of p) b.low b.high x) p.targets (λ b all. all x (inside, refl)) goal.1
 
   -- a step under an enabled input lands in a successor
   pub lands : (x w : List ℤ) (u : ℕ) → IsInDomain (axes_of p) x → cell_of (axes_of p) x < g.cells → IsEnabled g (cell_of (axes_of p) x) u → IsNoise p.noises w

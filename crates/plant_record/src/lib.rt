@@ -17,8 +17,9 @@ mod variables;
 mod version;
 
 pub use aims::{GoalKind, StateBox};
+pub use base::NoMemory;
 pub use equations::Equations;
-pub use limit_kind::{LimitKind, NoMemory};
+pub use limit_kind::LimitKind;
 pub use plant::Plant;
 pub use plant_parts::{PlantParts, numbers_along};
 pub use transition::{step, step_along};

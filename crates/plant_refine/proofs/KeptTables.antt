@@ -27,8 +27,8 @@ use Rattle.plant_game.specs.Refinement.{IsRefinement}
 use Rattle.plant_game.proofs.GameLaws.{refines}
 use Rattle.plant_refine.specs.Laws.{KeptTablesKeepPlants}
 use Rattle.plant_refine.specs.Stays.{HasSomeRow, Remains, Stays}
-use Rattle.plant_refine.proofs.Boxes.{any_other}
 use Rattle.plant_refine.proofs.RightTables.{row_of_table}
+use Rattle.base.proofs.Lists.{Any-weaker}
 
 -- where a tree of depth 0 stands is no obstacle
 no_obstacle : (g : Game) (c : ℕ) (t : Tree) → StandsOn g t 0 c → mark_of g c ≢ Obstacle
@@ -63,7 +63,7 @@ module _ {bytes : List ℕ} {p : Description} {g : Game} {rows : List (Option Ro
     has.inside,
     λ met.
         let c : ℕ = cell_of (axes_of p) x in
-        let touched : IsObstacleCell p c = any_other (λ b. IsInBox (axes_of p) b.low b.high x) (λ b. Touches (axes_of p) c b.low b.high) p.obstacles (λ b inside. (x, (has.inside, refl), inside)) met in
+        let touched : IsObstacleCell p c = Any-weaker (λ b. IsInBox (axes_of p) b.low b.high x) (λ b. Touches (axes_of p) c b.low b.high) p.obstacles (λ b inside. (x, (has.inside, refl), inside)) met in
         let tree = (kept_by c row has.is).kept 0 in
         no_obstacle g c tree.0 tree.1 ((k.abstraction.obstacles c (row_below c row has.is)).1 touched),
   )

@@ -16,7 +16,7 @@ use Rattle.controller_table.specs.Choice.{HasRowAt}
 use Rattle.plant_game.specs.Abstraction.{IsGameOf}
 use Rattle.plant_record.specs.States.{LiesInSome, IsClear}
 use Rattle.plant_game.specs.Refinement.{IsRefinement}
-use Rattle.plant_refine.proofs.Boxes.{any_other}
+use Rattle.base.proofs.Lists.{Any-weaker}
 
 -- What the rows and their game keep.
 pub record Guides (p : Description) (g : Game) (rows : List (Option Row)) : Type 0 where
@@ -34,7 +34,7 @@ module _ {p : Description} {g : Game} {rows : List (Option Row)} (h : Guides p g
     has.inside,
     λ met.
         let c : ℕ = cell_of (axes_of p) x in
-        let touched : IsObstacleCell p c = any_other (λ b. IsInBox (axes_of p) b.low b.high x) (λ b. Touches (axes_of p) c b.low b.high) p.obstacles (λ b inside. (x, (has.inside, refl), inside)) met in
+        let touched : IsObstacleCell p c = Any-weaker (λ b. IsInBox (axes_of p) b.low b.high x) (λ b. Touches (axes_of p) c b.low b.high) p.obstacles (λ b inside. (x, (has.inside, refl), inside)) met in
         let marked : mark_of g c ≡ Obstacle = (h.abstraction.obstacles c (cell_below c row has.is)).1 touched in
         let none : row_of rows c ≡ None = h.leads.clear c marked in
         let is : row_of rows c ≡ Some row = has.is in cc,
@@ -45,7 +45,7 @@ module _ {p : Description} {g : Game} {rows : List (Option Row)} (h : Guides p g
       let c : ℕ = cell_of (axes_of p) x in
       let marked : mark_of g c ≡ Goal = h.leads.arrived c u has.is in
       let goal : IsGoalCell p c = (h.abstraction.goals c (cell_below c (record { rank = 0; input = u }) has.is)).0 marked in
-      any_other (λ b. LiesInside (axes_of p) c b.low b.high) (λ b. IsInBox (axes_of p) b.low b.high x) p.targets (λ b all. all x (has.inside, refl)) goal.1
+      Any-weaker (λ b. LiesInside (axes_of p) c b.low b.high) (λ b. IsInBox (axes_of p) b.low b.high x) p.targets (λ b all. all x (has.inside, refl)) goal.1
 
   pub enabled_at : (x : List ℤ) (k u : ℕ) → HasRowAt p rows x (record { rank = suc k; input = u }) → IsEnabled g (cell_of (axes_of p) x) u
   enabled_at x k u has = (h.leads.descends (cell_of (axes_of p) x) k u has.is).0

@@ -8,7 +8,7 @@ use Rattle.cell_counters.specs.declared.account.Log.{Log}
 use Rattle.cell_counters.specs.declared.account.Account.{Account}
 use Rattle.cell_counters.specs.Accounts.{all_logs}
 use Rattle.game_core.specs.Game.{Game, pairs_of}
-use Rattle.board_rounds.specs.Crew.{cuts_in, offers_in, logged_cells, claimed, counters_of}
+use Rattle.board_rounds.specs.Crew.{cuts_in, offers_in, logged_cells, claimed_words, counters_of}
 use Rattle.reach_avoid.specs.ReachReckoned.{word_and_value, due_offer}
 use Rattle.reach_avoid.specs.inside.ReachRounds.{last_cuts, KeepsRule}
 
@@ -17,7 +17,7 @@ last_cuts-append xs ys =
     let last = λ (c : Cut). c.left == 0 in
     ap counters_of (filter-append last xs ys) ∙ map-append (λ (c : Cut). c.counter) (filter last xs) (filter last ys)
 
-pub claimed-append : (xs ys : List Offer) → claimed (xs ++ ys) ≡ claimed xs ++ claimed ys
+pub claimed-append : (xs ys : List Offer) → claimed_words (xs ++ ys) ≡ claimed_words xs ++ claimed_words ys
 claimed-append xs ys =
     let first = λ (o : Offer). o.first in
     ap (map (λ (o : Offer). o.word)) (filter-append first xs ys) ∙ map-append (λ (o : Offer). o.word) (filter first xs) (filter first ys)
@@ -32,7 +32,7 @@ module _ (g : Game) (rank : ℕ) where
       ∙ sym (ap (map (due_offer g (suc rank))) (last_cuts-append a.cuts (cuts_in more)) ∙ map-append (due_offer g (suc rank)) (last_cuts a.cuts) (last_cuts (cuts_in more))))
 
   -- the cells that are logged are those whose offers are first
-  pub logs_added : (more : List Account) → All (KeepsRule g rank) more → logged_cells (all_logs more) ≡ claimed (offers_in more)
+  pub logs_added : (more : List Account) → All (KeepsRule g rank) more → logged_cells (all_logs more) ≡ claimed_words (offers_in more)
   logs_added [] h = refl
   logs_added (a ∷ more) h =
       map-append (λ (l : Log). l.cell) a.logs (all_logs more)

@@ -1,5 +1,5 @@
 -- Before the first round, and how the rounds come to an end.
-use Rattle.std.proofs.Common.{inl, inr, ◌≡◌, ℕ, suc, ◌-◌, ◌/◌, ◌<◌, ◌≤◌, ◌==◌, Bool, true, false, cond, List, [], ◌∷◌, map, filter, length, get_or, All, IsPermutation, Option, Some, None, sum_by, arith, refl, sym, ◌∙◌, ap, subst, le-ltb}
+use Rattle.std.proofs.Common.{inl, inr, ◌≡◌, ℕ, suc, ◌-◌, ◌/◌, ◌<◌, ◌≤◌, ◌==◌, Bool, true, false, cond, List, [], ◌∷◌, map, filter, length, get_or, All, IsPermutation, Option, Some, None, arith, refl, sym, ◌∙◌, ap, subst, le-ltb}
 use Rattle.std.specs.List.{range_with_len}
 use Rattle.std.proofs.lemmas.Bool.{cases_lt, cases_eq, eqb-true}
 use Rattle.std.proofs.lemmas.List.{length-map}
@@ -21,14 +21,14 @@ use Rattle.game_core.specs.declared.game.Row.{Row}
 use Rattle.game_core.specs.Game.{Game, IsGraph, mark_of, pairs_of, successors_at}
 use Rattle.game_core.specs.Solution.{row_of}
 use Rattle.game_core.specs.Tally.{all_pairs}
-use Rattle.game_core.proofs.Counts.{sum_zeros}
+use Rattle.base.proofs.Counts.{sum_zeros}
 use Rattle.game_core.proofs.Times.{counts_agree}
-use Rattle.board_rounds.specs.Crew.{offers_in, logged_cells, claimed}
+use Rattle.board_rounds.specs.Crew.{offers_in, logged_cells, claimed_words}
 use Rattle.board_rounds.proofs.Accounts.{firsts_are}
 use Rattle.board_rounds.proofs.Graphs.{few_successors}
 use Rattle.board_rounds.proofs.Sums.{All-range}
 use Rattle.reach_avoid.specs.ReachBoards.{word_at}
-use Rattle.reach_avoid.specs.inside.ReachRounds.{row_in, word_after, decoded_rows, below_in, rank_is, taken_in, is_done, due_offers, IsLawfulFor, IsDueOffer, IsReached, is_goal, goals_of, IsFull, IsNext}
+use Rattle.reach_avoid.specs.inside.ReachRounds.{row_in, word_after, decoded_rows, below_in, rank_is, count_ranked_below, is_done, due_offers, IsLawfulFor, IsDueOffer, IsReached, is_goal, goals_of, IsFull, IsNext}
 use Rattle.reach_avoid.proofs.Words.{row_from_word, no_row_from_word, decoded_row, word_of_row}
 use Rattle.reach_avoid.proofs.Ranks.{done_parts}
 
@@ -41,7 +41,7 @@ below_zero None = refl
 below_zero (Some row) = le-ltb row.rank 0 (omega arith)
 
 module _ (g : Game) (a : IsGraph g) where
-  none_taken : (pair : ℕ) → taken_in g (decoded_rows g []) 0 pair ≡ 0
+  none_taken : (pair : ℕ) → count_ranked_below g (decoded_rows g []) 0 pair ≡ 0
   none_taken pair = sum_zeros (λ s. one_if (below_in 0 (row_of (decoded_rows g []) s))) (successors_at g pair) (λ i d lt. ap one_if (below_zero (row_of (decoded_rows g []) (get_or (successors_at g pair) i d))))
 
   none_done : (pair : ℕ) → is_done g (decoded_rows g []) 0 pair ≡ false
@@ -114,16 +114,16 @@ module _ (g : Game) (a : IsGraph g) where
           is_one false lt = absurd (omega arith)
 
   -- each cell is logged at most once
-  pub few_logs : (accounts : List Account) → IsLawfulFor g accounts → All (IsDueOffer g) (offers_in accounts) → logged_cells (all_logs accounts) ≡ claimed (offers_in accounts) → log_count accounts ≤ g.cells
+  pub few_logs : (accounts : List Account) → IsLawfulFor g accounts → All (IsDueOffer g) (offers_in accounts) → logged_cells (all_logs accounts) ≡ claimed_words (offers_in accounts) → log_count accounts ≤ g.cells
   few_logs accounts lawful valued logs =
       let within =
       All-map (λ c. c < g.cells) (λ (o : Offer). o.word) (filter (λ (o : Offer). o.first) (offers_in accounts))
       (All-filter (λ (o : Offer). o.first) (λ (o : Offer). o.word < g.cells) (offers_in accounts)
       (All-weaker (IsDueOffer g) (λ (o : Offer). o.word < g.cells) (λ o b. b.word) (offers_in accounts) valued)) in
-      let all = counts_agree.of_all_below g.cells (claimed (offers_in accounts)) within in
-      let many : log_count accounts ≡ length (claimed (offers_in accounts)) = sym (length-map (all_logs accounts) (λ (l : Log). l.cell)) ∙ ap length logs in
+      let all = counts_agree.of_all_below g.cells (claimed_words (offers_in accounts)) within in
+      let many : log_count accounts ≡ length (claimed_words (offers_in accounts)) = sym (length-map (all_logs accounts) (λ (l : Log). l.cell)) ∙ ap length logs in
       let in' = All-range g.cells in
-      let le = sum_by-le (λ c. times c (claimed (offers_in accounts))) 1 (range_with_len 0 g.cells) (λ i d lt.
+      let le = sum_by-le (λ c. times c (claimed_words (offers_in accounts))) 1 (range_with_len 0 g.cells) (λ i d lt.
       let c = get_or (range_with_len 0 g.cells) i d in
       let one = at_most_one (word_at (mark_of g c)) c (lawful.cells c (in' i d lt)) in
       let e = firsts_are c accounts in

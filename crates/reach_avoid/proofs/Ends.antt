@@ -15,12 +15,12 @@ use Rattle.reach_avoid.specs.ReachBoards.{IsBoardOf}
 use Rattle.reach_avoid.specs.ReachReckoned.{IsReckoned}
 use Rattle.reach_avoid.specs.Solved.{IsSolved}
 use Rattle.reach_avoid.specs.inside.ReachRounds.{row_in, word_after, decoded_rows}
-use Rattle.reach_avoid.specs.inside.ReachInvariant.{HoldsBefore}
+use Rattle.reach_avoid.specs.inside.ReachInvariant.{IsReachInvariant}
 use Rattle.reach_avoid.proofs.Settled.{right, reckoned, cuts_count, offers_count, few_cuts, few_offers, rounds_count}
 
 module _ (g : Game) (a : IsGraph g) where
   -- ranks are small
-  pub low_ranks : (accounts : List Account) → IsAtEnd g.cells (HoldsBefore g) accounts → (c : ℕ) (row : Row) → row_of (decoded_rows g accounts) c ≡ Some row → row.rank < 2 ^ 32
+  pub low_ranks : (accounts : List Account) → IsAtEnd g.cells (IsReachInvariant g) accounts → (c : ℕ) (row : Row) → row_of (decoded_rows g accounts) c ≡ Some row → row.rank < 2 ^ 32
   low_ranks accounts end c row e =
       let le = end.stood.reached.highest c row e in
       let few = end.in_time in
@@ -28,7 +28,7 @@ module _ (g : Game) (a : IsGraph g) where
       omega arith
 
   -- the game is solved
-  pub solved : (board : BoardModel) → IsBoardOf g board → (s : Resolved) → IsResolved g.cells (HoldsBefore g) (λ accounts c row. row ≡ row_in (word_after g accounts c)) board s → IsSolved g s
+  pub solved : (board : BoardModel) → IsBoardOf g board → (s : Resolved) → IsResolved g.cells (IsReachInvariant g) (λ accounts c row. row ≡ row_in (word_after g accounts c)) board s → IsSolved g s
   solved board of_game s r =
       let accounts = s.root.accounts in
       let rank = s.tally.rounds in

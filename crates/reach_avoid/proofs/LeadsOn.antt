@@ -11,7 +11,7 @@ use Rattle.cell_counters.specs.declared.account.Offer.{Offer}
 use Rattle.cell_counters.specs.declared.account.Log.{Log}
 use Rattle.cell_counters.specs.declared.account.Account.{Account}
 use Rattle.cell_counters.specs.Accounts.{all_answers, cut_count, all_offers, first_count, values, all_logs}
-use Rattle.cell_counters.specs.Laws.{answered}
+use Rattle.cell_counters.specs.Laws.{times_answered}
 use Rattle.cell_counters.proofs.Consequences.{new_answers, new_firsts}
 use Rattle.game_core.specs.Counts.{times, one_if}
 use Rattle.game_core.specs.declared.game.Mark.{Mark}
@@ -21,12 +21,12 @@ use Rattle.game_core.specs.Game.{Game, IsGraph, mark_of, pairs_of, successors_at
 use Rattle.game_core.specs.Solution.{row_of, rank_in}
 use Rattle.game_core.specs.Tally.{all_pairs, rank_by}
 use Rattle.game_core.proofs.Times.{counts_agree}
-use Rattle.board_rounds.specs.Crew.{cuts_in, offers_in, logged_cells, claimed}
+use Rattle.board_rounds.specs.Crew.{cuts_in, offers_in, logged_cells, claimed_words}
 use Rattle.board_rounds.specs.Rules.{IsRound}
 use Rattle.board_rounds.proofs.Accounts.{cuts_to_are, firsts_are, cuts_in-append, offers_in-append, all_logs-append, cut_count-append}
 use Rattle.reach_avoid.specs.ReachBoards.{word_at}
 use Rattle.reach_avoid.specs.ReachReckoned.{word_and_value, due_offer}
-use Rattle.reach_avoid.specs.inside.ReachRounds.{row_in, least_from, word_after, decoded_rows, below_in, rank_is, taken_in, is_done, due_offers, IsLawfulFor, IsDueOffer, IsReached, last_cuts, KeepsRule, IsNext}
+use Rattle.reach_avoid.specs.inside.ReachRounds.{row_in, least_from, word_after, decoded_rows, below_in, rank_is, count_ranked_below, is_done, due_offers, IsLawfulFor, IsDueOffer, IsReached, last_cuts, KeepsRule, IsNext}
 use Rattle.reach_avoid.proofs.Added.{claimed-append, offers_added, logs_added, cuts_stay_below}
 use Rattle.reach_avoid.proofs.Words.{least_from-le, least_from-keeps, least_from-range, row_from_word, no_row_from_word, decoded_row, cell_of_row, word_after-le, word_of_row, word_after-more}
 use Rattle.reach_avoid.proofs.Ranks.{done_parts, not_done, taken_after, done_stays, rank_by-stays, rank_by-new}
@@ -151,7 +151,7 @@ module _ (g : Game) (a : IsGraph g) (rank : ℕ) (small : rank < 2 ^ 31) (list :
       r.cuts pair lt
       ∙ counts_agree.alike (λ s. times s list) (λ s. one_if (rank_is rank (row_of rows s))) (successors_at g pair) (λ i d li. was.cells (get_or (successors_at g pair) i d) (in' i d li))
 
-  cuts : (pair : ℕ) → pair < pairs_of g → cut_count pair (accounts ++ more) ≡ taken_in g new (suc rank) pair
+  cuts : (pair : ℕ) → pair < pairs_of g → cut_count pair (accounts ++ more) ≡ count_ranked_below g new (suc rank) pair
   cuts pair lt =
       let e = cut_count-append pair accounts more in
       let before = was.cuts pair lt in
@@ -166,8 +166,8 @@ module _ (g : Game) (a : IsGraph g) (rank : ℕ) (small : rank < 2 ^ 31) (list :
         | inl some' ↦ by_tests some' (is_done g rows rank pair) (is_done g new (suc rank) pair) refl refl
         | inr none' ↦
             let e : length (successors_at g pair) ≡ 0 = omega arith in
-            let b : one_if (is_done g rows rank pair) ≡ 0 = ap one_if (empty_not_done (length (successors_at g pair)) (taken_in g rows rank pair) e) in
-            let n : one_if (is_done g new (suc rank) pair) ≡ 0 = ap one_if (empty_not_done (length (successors_at g pair)) (taken_in g new (suc rank) pair) e) in
+            let b : one_if (is_done g rows rank pair) ≡ 0 = ap one_if (empty_not_done (length (successors_at g pair)) (count_ranked_below g rows rank pair) e) in
+            let n : one_if (is_done g new (suc rank) pair) ≡ 0 = ap one_if (empty_not_done (length (successors_at g pair)) (count_ranked_below g new (suc rank) pair) e) in
             let few = count_by-le-length (λ answer. answer == 0) (all_answers pair more) in
             let is = cuts_to_are pair 0 more in
             let cut = new_cuts pair lt in
@@ -189,13 +189,13 @@ module _ (g : Game) (a : IsGraph g) (rank : ℕ) (small : rank < 2 ^ 31) (list :
           cases b n eb en law before after is most
         where
           cases : (b n : Bool) → is_done g rows rank pair ≡ b → is_done g new (suc rank) pair ≡ n
-              → (cut_count pair accounts + 0 < length (successors_at g pair) → length (successors_at g pair) ≤ cut_count pair (accounts ++ more) + 0 → answered pair 0 more ≡ 1)
-              × (length (successors_at g pair) ≤ cut_count pair accounts + 0 → answered pair 0 more ≡ 0)
-              × (cut_count pair (accounts ++ more) + 0 < length (successors_at g pair) → answered pair 0 more ≡ 0)
-              → cut_count pair accounts ≡ taken_in g rows rank pair
-              → cut_count pair (accounts ++ more) ≡ taken_in g new (suc rank) pair
-              → answered pair 0 more ≡ times pair last
-              → taken_in g new (suc rank) pair ≤ length (successors_at g pair)
+              → (cut_count pair accounts + 0 < length (successors_at g pair) → length (successors_at g pair) ≤ cut_count pair (accounts ++ more) + 0 → times_answered pair 0 more ≡ 1)
+              × (length (successors_at g pair) ≤ cut_count pair accounts + 0 → times_answered pair 0 more ≡ 0)
+              × (cut_count pair (accounts ++ more) + 0 < length (successors_at g pair) → times_answered pair 0 more ≡ 0)
+              → cut_count pair accounts ≡ count_ranked_below g rows rank pair
+              → cut_count pair (accounts ++ more) ≡ count_ranked_below g new (suc rank) pair
+              → times_answered pair 0 more ≡ times pair last
+              → count_ranked_below g new (suc rank) pair ≤ length (successors_at g pair)
               → times pair last + one_if b ≡ one_if n
           cases true true eb en law before after is most = let all = (done_parts g rows rank pair eb).1 in let e = law.1 (omega arith) in omega arith
           cases true false eb en law before after is most = absurd (let stay = done_stays g rank rows new next_rows pair eb in cc)
@@ -327,14 +327,14 @@ module _ (g : Game) (a : IsGraph g) (rank : ℕ) (small : rank < 2 ^ 31) (list :
           let le = least_from-le (word_at (mark_of g c)) (values (all_offers c accounts)) in
           firsts.2 (λ e. absurd (omega arith)) ∙ sym (no_rank c (shut c lt (omega arith)))
 
-  claimed_within : All (λ c. c < g.cells) (claimed (offers_in more))
+  claimed_within : All (λ c. c < g.cells) (claimed_words (offers_in more))
   claimed_within =
       All-map (λ c. c < g.cells) (λ (o : Offer). o.word) (filter (λ (o : Offer). o.first) (offers_in more))
       (All-filter (λ (o : Offer). o.first) (λ (o : Offer). o.word < g.cells) (offers_in more)
       (All-weaker (IsDueOffer g) (λ (o : Offer). o.word < g.cells) (λ o b. b.word) (offers_in more) valued_more))
 
   -- the next list has the cells that were claimed
-  pub round_leads_on : (next : List ℕ) → ((c : ℕ) → times c next ≡ times c (claimed (offers_in more))) → IsReached g (suc rank) next (accounts ++ more)
+  pub round_leads_on : (next : List ℕ) → ((c : ℕ) → times c next ≡ times c (claimed_words (offers_in more))) → IsReached g (suc rank) next (accounts ++ more)
   round_leads_on next same = record {
     lawful = lawful;
     cuts = cuts;
@@ -345,12 +345,12 @@ module _ (g : Game) (a : IsGraph g) (rank : ℕ) (small : rank < 2 ^ 31) (list :
         ap logged_cells (all_logs-append accounts more)
         ∙ (map-append (λ (l : Log). l.cell) (all_logs accounts) (all_logs more)
         ∙ (ap₂ ◌++◌ was.logs (logs_added g rank more r.each)
-        ∙ sym (ap claimed (offers_in-append accounts more) ∙ claimed-append (offers_in accounts) (offers_in more))));
+        ∙ sym (ap claimed_words (offers_in-append accounts more) ∙ claimed-append (offers_in accounts) (offers_in more))));
     highest = highest;
     cells = λ c lt. same c ∙ (firsts_are c more ∙ claims c lt);
     within = λ i d lt.
         let c = get_or next i d in
         let some' = counts_agree.counted c next (Contains-get_or next i d lt) in
         let e = same c in
-        All-contains (λ c. c < g.cells) (claimed (offers_in more)) c claimed_within (counts_agree.found c (claimed (offers_in more)) (omega arith));
+        All-contains (λ c. c < g.cells) (claimed_words (offers_in more)) c claimed_within (counts_agree.found c (claimed_words (offers_in more)) (omega arith));
   }

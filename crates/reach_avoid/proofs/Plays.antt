@@ -11,15 +11,15 @@ use Rattle.board_rounds.specs.Crew.{logged_cells}
 use Rattle.board_rounds.specs.Rules.{IsRound, LeadsOn}
 use Rattle.reach_avoid.specs.ReachBoards.{IsBoardOf}
 use Rattle.reach_avoid.specs.inside.ReachRounds.{decoded_rows, KeepsRule, IsLawfulFor, is_goal}
-use Rattle.reach_avoid.specs.inside.ReachInvariant.{HoldsBefore, IsRunnable}
+use Rattle.reach_avoid.specs.inside.ReachInvariant.{IsReachInvariant, IsRunnable}
 use Rattle.reach_avoid.proofs.OnBoards.{counters_of_board, lawful_for}
 use Rattle.reach_avoid.proofs.Added.{logs_added}
 use Rattle.reach_avoid.proofs.LeadsOn.{next_rows, round_leads_on}
 use Rattle.reach_avoid.proofs.Begins.{begins, full_after, few_logs}
 
 module _ (g : Game) (a : IsGraph g) (board : BoardModel) (of_game : IsBoardOf g board) where
-  next_stand : (rank : ℕ) (list next : List ℕ) (accounts more : List Account) → rank ≤ g.cells → 0 < length list → HoldsBefore g rank list accounts → IsRound g (KeepsRule g rank) list more
-      → IsLawful (accounts ++ more) board.starts board.least → ((c : ℕ) → times c next ≡ times c (logged_cells (all_logs more))) → HoldsBefore g (suc rank) next (accounts ++ more)
+  next_stand : (rank : ℕ) (list next : List ℕ) (accounts more : List Account) → rank ≤ g.cells → 0 < length list → IsReachInvariant g rank list accounts → IsRound g (KeepsRule g rank) list more
+      → IsLawful (accounts ++ more) board.starts board.least → ((c : ℕ) → times c next ≡ times c (logged_cells (all_logs more))) → IsReachInvariant g (suc rank) next (accounts ++ more)
   next_stand rank list next accounts more early some' was round lawful same =
       let low : rank < 2 ^ 31 = (let b = a.cells_bound in omega arith) in
       let after : IsLawfulFor g (accounts ++ more) = lawful_for g a board of_game (accounts ++ more) lawful in
@@ -28,7 +28,7 @@ module _ (g : Game) (a : IsGraph g) (board : BoardModel) (of_game : IsBoardOf g 
         full = full_after g a rank list accounts (decoded_rows g (accounts ++ more)) was.reached (next_rows g a rank low list accounts more was.reached round after) some';
       }
 
-  leads_on : LeadsOn g board (λ c. is_goal (mark_of g c)) (KeepsRule g) (HoldsBefore g)
+  leads_on : LeadsOn g board (λ c. is_goal (mark_of g c)) (KeepsRule g) (IsReachInvariant g)
   leads_on = record {
     graph = a;
     counters = let many = counters_of_board g a board of_game in omega arith;

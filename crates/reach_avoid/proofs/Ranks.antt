@@ -9,22 +9,22 @@ use Rattle.game_core.specs.Solution.{row_of, rank_in, rank_at, greatest, greates
 use Rattle.game_core.specs.Tally.{rank_by}
 use Rattle.game_core.specs.Counts.{one_if}
 use Rattle.game_core.proofs.Times.{counts_agree}
-use Rattle.reach_avoid.specs.inside.ReachRounds.{below_in, rank_is, taken_in, is_done, IsNext}
+use Rattle.reach_avoid.specs.inside.ReachRounds.{below_in, rank_is, count_ranked_below, is_done, IsNext}
 
-pub done_parts : (g : Game) (rows : List (Option Row)) (k pair : ℕ) → is_done g rows k pair ≡ true → (0 < length (successors_at g pair)) × (taken_in g rows k pair ≡ length (successors_at g pair))
+pub done_parts : (g : Game) (rows : List (Option Row)) (k pair : ℕ) → is_done g rows k pair ≡ true → (0 < length (successors_at g pair)) × (count_ranked_below g rows k pair ≡ length (successors_at g pair))
 done_parts g rows k pair e =
-    let both = and_parts (nat_lt 0 (length (successors_at g pair))) (taken_in g rows k pair == length (successors_at g pair)) e in
-    (ltb-true 0 (length (successors_at g pair)) both.0, eqb-true (taken_in g rows k pair) (length (successors_at g pair)) both.1)
+    let both = and_parts (nat_lt 0 (length (successors_at g pair))) (count_ranked_below g rows k pair == length (successors_at g pair)) e in
+    (ltb-true 0 (length (successors_at g pair)) both.0, eqb-true (count_ranked_below g rows k pair) (length (successors_at g pair)) both.1)
 
-pub done_from : (g : Game) (rows : List (Option Row)) (k pair : ℕ) → 0 < length (successors_at g pair) → taken_in g rows k pair ≡ length (successors_at g pair) → is_done g rows k pair ≡ true
+pub done_from : (g : Game) (rows : List (Option Row)) (k pair : ℕ) → 0 < length (successors_at g pair) → count_ranked_below g rows k pair ≡ length (successors_at g pair) → is_done g rows k pair ≡ true
 done_from g rows k pair lt e =
-    and_from (nat_lt 0 (length (successors_at g pair))) (taken_in g rows k pair == length (successors_at g pair)) (lt-ltb 0 (length (successors_at g pair)) lt) (eq-eqb (taken_in g rows k pair) (length (successors_at g pair)) e)
+    and_from (nat_lt 0 (length (successors_at g pair))) (count_ranked_below g rows k pair == length (successors_at g pair)) (lt-ltb 0 (length (successors_at g pair)) lt) (eq-eqb (count_ranked_below g rows k pair) (length (successors_at g pair)) e)
 
 -- a pair that isn't done has no successor or one that isn't taken
-pub not_done : (g : Game) (rows : List (Option Row)) (k pair : ℕ) → is_done g rows k pair ≡ false → 0 < length (successors_at g pair) → taken_in g rows k pair < length (successors_at g pair)
+pub not_done : (g : Game) (rows : List (Option Row)) (k pair : ℕ) → is_done g rows k pair ≡ false → 0 < length (successors_at g pair) → count_ranked_below g rows k pair < length (successors_at g pair)
 not_done g rows k pair e lt =
     let most = count_by-le-length (λ s. below_in k (row_of rows s)) (successors_at g pair) in
-    elim (cases_eq (taken_in g rows k pair) (length (successors_at g pair))) [
+    elim (cases_eq (count_ranked_below g rows k pair) (length (successors_at g pair))) [
       | inl same ↦ absurd (let yes = done_from g rows k pair lt same in cc)
       | inr ne ↦ omega arith
     ]
@@ -97,12 +97,12 @@ module _ (g : Game) (rank : ℕ) (rows new : List (Option Row)) (next : IsNext r
       by_row (Some row) e = ap (λ o. one_if (below_in (suc rank) o)) (next.stays s row e) ∙ one_below rank row.rank
 
   -- the successors of this rank are taken besides
-  pub taken_after : (pair : ℕ) → taken_in g new (suc rank) pair ≡ taken_in g rows rank pair + count_by (λ s. rank_is rank (row_of rows s)) (successors_at g pair)
+  pub taken_after : (pair : ℕ) → count_ranked_below g new (suc rank) pair ≡ count_ranked_below g rows rank pair + count_by (λ s. rank_is rank (row_of rows s)) (successors_at g pair)
   taken_after pair =
       counts_agree.alike (λ s. one_if (below_in (suc rank) (row_of new s))) (λ s. one_if (below_in rank (row_of rows s)) + one_if (rank_is rank (row_of rows s))) (successors_at g pair) (λ i d lt. below_after (get_or (successors_at g pair) i d))
       ∙ counts_agree.added (λ s. one_if (below_in rank (row_of rows s))) (λ s. one_if (rank_is rank (row_of rows s))) (successors_at g pair)
 
-  pub taken_more : (pair : ℕ) → taken_in g rows rank pair ≤ taken_in g new (suc rank) pair
+  pub taken_more : (pair : ℕ) → count_ranked_below g rows rank pair ≤ count_ranked_below g new (suc rank) pair
   taken_more pair = let e = taken_after pair in omega arith
 
   -- a pair that was done stays so, and keeps the rank that it gives

@@ -26,11 +26,12 @@ use Rattle.board_rounds.specs.Crew.{cuts_in, offers_in}
 use Rattle.board_rounds.proofs.Accounts.{cuts_are, offers_are}
 use Rattle.reach_avoid.specs.ReachBoards.{word_at}
 use Rattle.reach_avoid.specs.ReachReckoned.{word_and_value, due_offer, IsReckonedBy}
-use Rattle.reach_avoid.specs.inside.ReachRounds.{row_in, least_from, word_after, decoded_rows, below_in, rank_is, taken_in, is_done, IsReached, IsFull}
+use Rattle.reach_avoid.specs.inside.ReachRounds.{row_in, least_from, word_after, decoded_rows, below_in, rank_is, count_ranked_below, is_done, IsReached, IsFull}
 use Rattle.reach_avoid.proofs.Words.{least_from-le, least_from-lower, least_from-among, least_from-keeps, row_from_word, no_row_from_word, decoded_row, cell_of_row, word_of_row}
 use Rattle.reach_avoid.proofs.Ranks.{greatest_of, greatest_rank-le}
 use Rattle.reach_avoid.proofs.Games.{input_of_pair, values_valued}
 use Rattle.board_rounds.proofs.Sums.{All-range}
+use Rattle.base.proofs.Lists.{some_element}
 
 -- elements of maps and filters
 contains_map : {X Y : Type 0} (f : X → Y) (xs : List X) (x : X) → Contains xs x → Contains (map f xs) (f x)
@@ -52,10 +53,6 @@ contains_filter {X} p (y ∷ ys) x has e = by_slot has (λ more. contains_filter
 
 filled : {X : Type 0} (xs : List X) → 0 < length xs → xs ≢ []
 filled xs lt e = let n = ap length e in absurd (omega arith)
-
-unfilled : {X : Type 0} (xs : List X) → xs ≢ [] → 0 < length xs
-unfilled [] ne = absurd (ne refl)
-unfilled (x ∷ xs) ne = omega arith
 
 some_row : (o : Option Row) → is_some o ≡ true → (row : Row) × (o ≡ Some row)
 some_row None e = absurd (cc)
@@ -110,7 +107,7 @@ module _ (g : Game) (a : IsGraph g) (rank : ℕ) (accounts : List Account) (was 
       by_row None e = refl
       by_row (Some row) e = lt-ltb row.rank rank (all_below s row e)
 
-  taken_is_ranked : (pair : ℕ) → taken_in g rows rank pair ≡ ranked_in g rows pair
+  taken_is_ranked : (pair : ℕ) → count_ranked_below g rows rank pair ≡ ranked_in g rows pair
   taken_is_ranked pair = counts_agree.alike (λ s. one_if (below_in rank (row_of rows s))) (λ s. one_if (is_some (row_of rows s))) (successors_at g pair) (λ i d lt. ap one_if (below_is_some (get_or (successors_at g pair) i d)))
 
   done_is_resolved : (pair : ℕ) → is_done g rows rank pair ≡ is_resolved g rows pair
@@ -244,7 +241,7 @@ module _ (g : Game) (a : IsGraph g) (rank : ℕ) (accounts : List Account) (was 
             (f.0, f.1, no_row (row_of rows f.0) f.2)
         | inr ge ↦
             let most = count_by-le-length (λ s. is_some (row_of rows s)) (successors_at g pair) in
-            let e = resolved_from g rows pair (unfilled (successors_at g pair) enabled.1) (omega arith) in
+            let e = resolved_from g rows pair (some_element (successors_at g pair) enabled.1) (omega arith) in
             let low = word_below_input c v lt enabled.0 e in
             absurd (let is = row_from_word (word_after g accounts c) (word_above c m) low.1 in let told' = decoded_row g accounts c lt in cc)
       ]
@@ -256,14 +253,14 @@ module _ (g : Game) (a : IsGraph g) (rank : ℕ) (accounts : List Account) (was 
       record {
         leads = record { enabled = (in', filled (successors_of g c u) parts.0); ranked = parts.1; greatest = full };
         none_further = λ v enabled below.
-            let some' = unfilled (successors_of g c v) enabled.1 in
+            let some' = some_element (successors_of g c v) enabled.1 in
             let all = resolved_all g rows (pair_of g c v) some' (λ i d li. let r = below i d li in (r.row, r.is)) in
             let low = greatest_rank-lt rows k (successors_of g c v) some' (λ i d li. let r = below i d li in let b = r.below in let e' : rank_at rows (get_or (successors_of g c v) i d) ≡ r.row.rank = ap rank_in r.is in omega arith) in
             let le = (word_below_input c v lt enabled.0 all).0 in
             let small = enabled.0 in
             absurd (omega arith);
         none_lesser = λ v less leads.
-            let some' = unfilled (successors_of g c v) leads.enabled.1 in
+            let some' = some_element (successors_of g c v) leads.enabled.1 in
             let all = resolved_all g rows (pair_of g c v) some' leads.ranked in
             let same = leads.greatest in
             let le = (word_below_input c v lt leads.enabled.0 all).0 in

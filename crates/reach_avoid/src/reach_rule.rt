@@ -27,7 +27,7 @@ pub(crate) struct Reach<'a, G: Graph> {
 impl<G: Graph + Sync> Rule for Reach<'_, G> {
     ghost use Rattle.game_core.specs.Game.{mark_of};
     ghost use Rattle.reach_avoid.specs.inside.ReachRounds.{KeepsRule, row_in, word_after};
-    ghost use Rattle.reach_avoid.specs.inside.ReachInvariant.{HoldsBefore, IsRunnable};
+    ghost use Rattle.reach_avoid.specs.inside.ReachInvariant.{IsReachInvariant, IsRunnable};
 
     ghost game = { λ rule. G.game rule.graph.now };
 
@@ -37,7 +37,7 @@ impl<G: Graph + Sync> Rule for Reach<'_, G> {
 
     ghost keeps = { λ rule. KeepsRule (G.game rule.graph.now) };
 
-    ghost holds_before = { λ rule. HoldsBefore (G.game rule.graph.now) };
+    ghost holds_before = { λ rule. IsReachInvariant (G.game rule.graph.now) };
 
     ghost tells = { λ rule accounts c row. row ≡ row_in (word_after (G.game rule.graph.now) accounts c) };
 

@@ -5,31 +5,27 @@ use Rattle.game_core.specs.declared.game.Row.{Row}
 use Rattle.row_runs.specs.declared.run.Run.{Run}
 use Rattle.game_core.specs.Solution.{row_of}
 use Rattle.row_runs.specs.declared.run.TableVersion.{TableVersion}
-use Rattle.row_runs.specs.declared.run.TableVersion.TheVariants.{First, Second}
-use Rattle.row_runs.specs.Runs.{MayFollow, HasCells, AreRuns, Gives}
+use Rattle.row_runs.specs.Runs.{HasCells, AreRuns, Gives}
 use Rattle.row_runs.specs.inside.AddedRuns.{MayEnd, OneRunMore}
-use Rattle.row_runs.proofs.Telling.{some_same, forward}
+use Rattle.row_runs.proofs.Telling.{forward, later}
+use Rattle.std.proofs.lemmas.Option.{same_Some}
 
 pub are_more : (v : TableVersion) (runs : List Run) (r : Run) → AreRuns v runs → HasCells v r → MayEnd v runs r → AreRuns v (runs ++ r ∷ [])
 are_more v [] r are cells end = (cells, tt, tt)
 are_more v (x ∷ []) r are cells end = (are.0, end, (cells, tt, tt))
 are_more v (x ∷ y ∷ runs) r are cells end = (are.0, are.1, are_more v (y ∷ runs) r are.2 cells end)
 
-comes_later : (v : TableVersion) (r s : Run) → MayFollow v r s → r.last < s.first
-comes_later First r s h = h
-comes_later Second r s h = h.0
-
 -- all cells of the runs lie before the next one
 pub gives_below : (v : TableVersion) (runs : List Run) (r : Run) (c : ℕ) (row : Row) → AreRuns v runs → MayEnd v runs r → Gives runs c row → c < r.first
 gives_below v [] r c row are end given = absurd given
 gives_below v (x ∷ []) r c row are end given = elim given [
-  | inl here ↦ let high = here.1 in let past = comes_later v x r end in omega (arith, high, past)
+  | inl here ↦ let high = here.1 in let past = later v x r end in omega (arith, high, past)
   | inr rest ↦ absurd rest
 ]
 gives_below v (x ∷ y ∷ runs) r c row are end given = elim given [
   | inl here ↦
       let high = here.1 in
-      let past = comes_later v x y are.1 in
+      let past = later v x y are.1 in
       let next = gives_below v (y ∷ runs) r y.first y.row are.2 end (inl (omega arith, forward v y are.2.0, refl)) in
       omega (arith, high, past, next)
   | inr rest ↦ gives_below v (y ∷ runs) r c row are.2 end rest
@@ -67,7 +63,7 @@ one_more v runs r rows after are cells end tell filled = (are_more v runs r are 
       | inl early ↦ gives_more runs r c row ((tell c row).0 (sym (filled.elsewhere c (inl early)) ∙ is))
       | inr late ↦ elim (cases_lt r.last c) [
         | inl past ↦ gives_more runs r c row ((tell c row).0 (sym (filled.elsewhere c (inr past)) ∙ is))
-        | inr here ↦ gives_last runs r c row late here (some_same r.row row (sym (filled.within c late here) ∙ is))
+        | inr here ↦ gives_last runs r c row late here (same_Some r.row row (sym (filled.within c late here) ∙ is))
       ]
     ]
 

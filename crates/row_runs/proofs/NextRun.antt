@@ -7,8 +7,9 @@ use Rattle.row_runs.specs.declared.run.Run.{Run}
 use Rattle.game_core.specs.Solution.{row_of}
 use Rattle.row_runs.specs.declared.run.TableVersion.TheVariants.{Second}
 use Rattle.row_runs.specs.Runs.{runs_from, MayLead, AreRuns, Gives}
-use Rattle.row_runs.proofs.Telling.{some_same, gives_above, AreOf, runs_are}
+use Rattle.row_runs.proofs.Telling.{gives_above, AreOf, runs_are}
 use Rattle.row_runs.proofs.Uniqueness.{same_runs}
+use Rattle.std.proofs.lemmas.Option.{same_Some}
 
 module _ (c first last : ℕ) (row : Row) (rows : List (Option Row)) (from : c ≤ first) (some : first ≤ last)
     (before : (i : ℕ) → c ≤ i → i < first → row_of rows i ≡ None) (within : (i : ℕ) → first ≤ i → i ≤ last → row_of rows i ≡ Some row) (ends : row_of rows (suc last) ≡ Some row → ⊥) where
@@ -60,7 +61,7 @@ module _ (c first last : ℕ) (row : Row) (rows : List (Option Row)) (from : c �
         | inl early ↦ absurd (no_row x (sym (before d above early) ∙ is))
         | inr late ↦ elim (cases_lt last d) [
           | inl past ↦ inr (given_row (suc last) d x after (omega (arith, past)) is)
-          | inr here ↦ inl (late, here, some_same row x (sym (within d late here) ∙ is))
+          | inr here ↦ inl (late, here, same_Some row x (sym (within d late here) ∙ is))
         ]
       ]
 

@@ -19,6 +19,7 @@ use Rattle.row_runs.proofs.Cuts.{one_cut}
 use Rattle.row_runs.proofs.Lines.{IsLine, no_feed}
 use Rattle.row_runs.proofs.SameRows.{differ}
 use Rattle.row_runs.proofs.Telling.{runs_encode}
+use Rattle.base.proofs.Lists.{same_tail, same_head}
 
 -- ---- words
 
@@ -121,14 +122,8 @@ same_runs [] (s ∷ ss) h k e = absurd cc
 same_runs (r ∷ rs) [] h k e = absurd cc
 same_runs (r ∷ rs) (s ∷ ss) h k e =
     let text : Run → List ℕ = run_line Second Both in
-    let one : r ≡ s = run_same r s h.0 k.0 (first_same (text r) (text s) (map text rs) (map text ss) e) in
-    ap (λ (x : Run). x ∷ rs) one ∙ ap (λ (x : List Run). s ∷ x) (same_runs rs ss h.1 k.1 (rest_same (text r) (text s) (map text rs) (map text ss) e))
-  where
-    first_same : (x y : List ℕ) (xs ys : List (List ℕ)) → x ∷ xs ≡ y ∷ ys → x ≡ y
-    first_same x y xs ys e = cc
-
-    rest_same : (x y : List ℕ) (xs ys : List (List ℕ)) → x ∷ xs ≡ y ∷ ys → xs ≡ ys
-    rest_same x y xs ys e = cc
+    let one : r ≡ s = run_same r s h.0 k.0 (same_head (text r) (text s) (map text rs) (map text ss) e) in
+    ap (λ (x : Run). x ∷ rs) one ∙ ap (λ (x : List Run). s ∷ x) (same_runs rs ss h.1 k.1 (same_tail (text r) (text s) (map text rs) (map text ss) e))
 
 -- ---- the runs of rows
 

@@ -9,6 +9,7 @@ use Rattle.row_runs.specs.declared.run.TableVersion.{TableVersion}
 use Rattle.row_runs.specs.declared.run.TableVersion.TheVariants.{First, Second}
 use Rattle.row_runs.specs.Runs.{is_same_row, prepend_row, runs_from, MayFollow, HasCells, MayLead, AreRuns, Gives}
 use Rattle.row_runs.specs.Laws.{RunsEncodeTheRows}
+use Rattle.std.proofs.lemmas.Option.{same_Some}
 
 same_row : (a b : Row) → is_same_row a b ≡ true → a ≡ b
 same_row a b e =
@@ -26,9 +27,6 @@ other_row a b e is =
     both true false p q = absurd (false≢true q)
     both false t p q = absurd (false≢true p)
 
-pub some_same : (a b : Row) → Some a ≡ Some b → a ≡ b
-some_same a b e = cc
-
 -- no run begins below a cell
 abbrev pub BeginAt : ℕ → List Run → Type 0
 BeginAt c [] = Unit {0}
@@ -38,7 +36,7 @@ pub forward : (v : TableVersion) (r : Run) → HasCells v r → r.first ≤ r.la
 forward First r h = omega (arith, h)
 forward Second r h = h
 
-later : (v : TableVersion) (r s : Run) → MayFollow v r s → r.last < s.first
+pub later : (v : TableVersion) (r s : Run) → MayFollow v r s → r.last < s.first
 later First r s h = h
 later Second r s h = h.0
 
@@ -91,7 +89,7 @@ single v c row rows runs one lead h = record { are = (one, lead, h.are); begin =
 
     tells : (i : ℕ) (other : Row) → (row_of (Some row ∷ rows) i ≡ Some other) ↔ (((c ≤ c + i) × (c + i ≤ c) × (row ≡ other)) ⊎ Gives runs (c + i) other)
     tells zero other = (
-      (λ e. inl (omega arith, omega arith, some_same row other e)),
+      (λ e. inl (omega arith, omega arith, same_Some row other e)),
       (λ given. elim given [
         | inl here ↦ ap (λ (r : Row). Some r) here.2
         | inr rest ↦ absurd (let above = gives_above v (suc c) runs (c + 0) other h.are h.begin rest in omega (arith, above))
@@ -131,7 +129,7 @@ joined c row rows r runs next same h = record { are = (cells, lead (begin_later 
 
     tells : (i : ℕ) (other : Row) → (row_of (Some row ∷ rows) i ≡ Some other) ↔ Gives (record { first = c; last = r.last; row = row } ∷ runs) (c + i) other
     tells zero other = (
-      (λ e. inl (omega arith, (let low = cells in omega (arith, low)), some_same row other e)),
+      (λ e. inl (omega arith, (let low = cells in omega (arith, low)), same_Some row other e)),
       (λ given. elim given [
         | inl here ↦ ap (λ (x : Row). Some x) here.2
         | inr rest ↦ absurd (let above = gives_above Second (suc r.last) runs (c + 0) other h.are.2 (begin_later Second r runs h.are.1) rest in let low = cells in omega (arith, above, low))

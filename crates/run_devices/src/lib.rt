@@ -10,7 +10,8 @@ mod memory;
 mod streams;
 mod transfer;
 
+pub use base::NoMemory;
 pub use devices::{Failed, Sink, Source};
-pub use memory::{CleanSource, CountSink, MemorySink, MemorySource, NoMemory};
+pub use memory::{CleanSource, CountSink, MemorySink, MemorySource};
 pub use streams::{ReaderSource, StdErrSink, StdSink, StdSource, WriterSink};
 pub use transfer::{ReadFault, WriteFault, read_up_to, write_buffered, write_pieces, write_whole};

@@ -7,18 +7,9 @@ ghost use Rattle.run_devices.specs.Devices.{next_count, Takes, Gains};
 ghost use Rattle.run_devices.specs.Memory.{MemoryLeft, MemoryTaken, is_none_listed, capacity_of};
 
 use crate::devices::{Failed, Sink, Source};
-use std::alloc::{AllocError, Global};
+use base::NoMemory;
+use std::alloc::Global;
 use std::marker::Model;
-
-/// There was no memory left.
-#[derive(Clone, Copy, Debug, PartialEq, Eq)]
-pub struct NoMemory;
-
-impl From<AllocError> for NoMemory {
-    fn from(_refused: AllocError) -> NoMemory {
-        NoMemory
-    }
-}
 
 /// A source over bytes in memory, of which no call fails. Seen as the bytes that are left.
 #[derive(Drop)]

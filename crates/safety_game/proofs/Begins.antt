@@ -19,7 +19,7 @@ use Rattle.game_core.specs.Game.{Game, IsGraph, mark_of, pairs_of, successors_at
 use Rattle.game_core.proofs.Times.{counts_agree}
 use Rattle.safety_game.specs.KeepBoards.{pairs_at, enabled_at}
 use Rattle.safety_game.specs.inside.KeepRounds.{fell_before, gone_in, is_cell_cut, cell_cuts_at, AreFalling, first_fallen, IsFull}
-use Rattle.game_core.proofs.Counts.{count_none}
+use Rattle.base.proofs.Counts.{count_none}
 use Rattle.board_rounds.proofs.Graphs.{few_successors}
 use Rattle.board_rounds.proofs.Sums.{fresh, All-range}
 use Rattle.safety_game.proofs.Falls.{falls_by_cell_cuts, cell_cuts_by_fall}

@@ -1,11 +1,11 @@
 -- How many numbers pass a test, and sums over ranges in parts.
-use Rattle.std.proofs.Common.{◌≡◌, ◌≢◌, ℕ, zero, suc, ◌+◌, ◌*◌, ◌<◌, ◌≤◌, ◌==◌, ◌||◌, nat_lt, Bool, true, false, List, [], ◌∷◌, ◌++◌, All, count_by, sum_by, arith, refl, sym, ◌∙◌, ap, eq-eqb, ne_eqb}
+use Rattle.std.proofs.Common.{◌≡◌, ℕ, zero, suc, ◌+◌, ◌*◌, ◌==◌, ◌||◌, nat_lt, Bool, true, false, List, [], ◌∷◌, count_by, sum_by, arith, refl, sym, ◌∙◌, ap}
 use Rattle.std.specs.List.{list_any, range_with_len}
 use Rattle.std.proofs.Math.Nat.{suc-mul}
 use Rattle.std.proofs.lemmas.Bool.{lt-ltb}
-use Rattle.std.proofs.lemmas.List.Sums.{sum_by-cons, sum_by-append}
+use Rattle.std.proofs.lemmas.List.Sums.{sum_by-cons}
 use Rattle.game_core.specs.Counts.{times, one_if}
-use Rattle.game_core.proofs.Counts.{count-cons}
+use Rattle.base.proofs.Counts.{count-cons}
 
 -- some element passes exactly where the count isn't 0
 pub any_counts : (p : ℕ → Bool) (xs : List ℕ) → list_any p xs ≡ nat_lt 0 (count_by p xs)
@@ -22,21 +22,11 @@ any_counts p (x ∷ xs) = by_test (p x) refl (any_counts p xs)
         let b : one_if (p x) ≡ 0 = ap one_if f in
         later ∙ ap (nat_lt 0) {x = count_by p xs} {y = count_by p (x ∷ xs)} (omega arith)
 
--- how often a number stands in a list
-pub times-append : (n : ℕ) (xs ys : List ℕ) → times n (xs ++ ys) ≡ times n xs + times n ys
-times-append n xs ys = sum_by-append (λ x. one_if (x == n)) xs ys
-
 pub times_single : (n x : ℕ) → times n (x ∷ []) ≡ one_if (x == n)
 times_single n x =
     let a = count-cons (λ x. x == n) x [] in
     let z : times n [] ≡ 0 = refl in
     omega arith
-
-pub here : (x n : ℕ) → x ≡ n → one_if (x == n) ≡ 1
-here x n e = ap one_if (eq-eqb x n e)
-
-pub elsewhere : (x n : ℕ) → x ≢ n → one_if (x == n) ≡ 0
-elsewhere x n ne = ap one_if (ne_eqb x n ne)
 
 -- a sum over a range in two parts
 pub range_split : (f : ℕ → ℕ) (a n m : ℕ) → sum_by f (range_with_len a (n + m)) ≡ sum_by f (range_with_len a n) + sum_by f (range_with_len (a + n) m)

@@ -12,20 +12,20 @@ use Rattle.board_rounds.specs.Rules.{IsAtEnd}
 use Rattle.safety_game.specs.KeepBoards.{IsBoardOf}
 use Rattle.safety_game.specs.Kept.{IsKeepSolved}
 use Rattle.safety_game.specs.inside.KeepRounds.{AreFewCuts, IsRowDecoded}
-use Rattle.safety_game.specs.inside.KeepInvariant.{HoldsBefore}
+use Rattle.safety_game.specs.inside.KeepInvariant.{IsKeepInvariant}
 use Rattle.safety_game.proofs.Falls.{gone_few}
 use Rattle.safety_game.proofs.Settled.{settled, reckoned, cuts_count, few_cuts, all_fell, no_sooner}
 
 module _ (g : Game) (a : IsGraph g) where
   -- no pair is cut too often
-  pub few_each : (accounts : List Account) → IsAtEnd g.cells (HoldsBefore g) accounts → AreFewCuts g accounts
+  pub few_each : (accounts : List Account) → IsAtEnd g.cells (IsKeepInvariant g) accounts → AreFewCuts g accounts
   few_each accounts end pair lt =
       let e = end.stood.falling.cuts pair lt in
       let le = gone_few g end.rounds pair in
       omega arith
 
   -- the game is solved
-  pub solved : (board : BoardModel) → IsBoardOf g board → (k : Resolved) → IsResolved g.cells (HoldsBefore g) (IsRowDecoded g) board k → IsKeepSolved g k
+  pub solved : (board : BoardModel) → IsBoardOf g board → (k : Resolved) → IsResolved g.cells (IsKeepInvariant g) (IsRowDecoded g) board k → IsKeepSolved g k
   solved board of_game k r =
       let accounts = k.root.accounts in
       let d = k.tally.rounds in

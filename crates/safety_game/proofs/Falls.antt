@@ -11,7 +11,7 @@ use Rattle.game_core.specs.Game.{Game, mark_of, pair_of, successors_at, successo
 use Rattle.game_core.proofs.Times.{counts_agree}
 use Rattle.safety_game.specs.KeepBoards.{pairs_at, enabled_at}
 use Rattle.safety_game.specs.inside.KeepRounds.{fell_before, gone_in, is_cell_cut, cell_cuts_at}
-use Rattle.game_core.proofs.Counts.{one_if_le, count_none}
+use Rattle.base.proofs.Counts.{one_if_le, count_none}
 use Rattle.safety_game.proofs.Counting.{any_counts}
 use Rattle.safety_game.proofs.Pairs.{cell_of, All-pairs_at, All-at_input}
 

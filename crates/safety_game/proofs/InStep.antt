@@ -15,9 +15,10 @@ use Rattle.game_core.proofs.Times.{counts_agree}
 use Rattle.safety_game.specs.KeepBoards.{pairs_at}
 use Rattle.safety_game.specs.inside.KeepRounds.{firsts_in, cell_cuts_in, IsInStep}
 use Rattle.safety_game.specs.inside.KeepSteps.{is_first_cut}
-use Rattle.game_core.proofs.Counts.{sum_zeros}
-use Rattle.safety_game.proofs.Counting.{times-append, times_single, here, elsewhere}
+use Rattle.base.proofs.Counts.{sum_zeros}
+use Rattle.safety_game.proofs.Counting.{times_single}
 use Rattle.safety_game.proofs.Pairs.{at_home, away, pairs_below}
+use Rattle.base.proofs.Times.{times-append, one_if_here, one_if_elsewhere}
 
 abbrev pub cut : ℕ → ℕ → Cut
 cut counter left = record { counter = counter; left = left }
@@ -45,7 +46,7 @@ one_cut_to n v counter left = by_test (left == v)
     by_test false = refl
 
 pub other_cut_to : (n v counter left : ℕ) → counter ≢ n → times n (cut_to v (cut counter left ∷ [])) ≡ 0
-other_cut_to n v counter left ne = one_cut_to n v counter left ∙ (ap (λ m. cond (left == v) m 0) (elsewhere counter n ne) ∙ none (left == v))
+other_cut_to n v counter left ne = one_cut_to n v counter left ∙ (ap (λ m. cond (left == v) m 0) (one_if_elsewhere counter n ne) ∙ none (left == v))
   where
     none : (b : Bool) → ◌≡◌ {A = ℕ} (cond b 0 0) 0
     none true = refl
@@ -118,7 +119,7 @@ module _ (g : Game) (some' : 0 < g.inputs) (pair left : ℕ) (lt : pair < pairs_
             subst (λ q. firsts_in g (cut pair left ∷ []) q ≡ cond is_first (one_if (q == pair)) 0) (sym e) (one_cut_to pair (length (successors_at g pair) - 1) pair left)
         | inr ne ↦
             let none = other_cut_to q (length (successors_at g q) - 1) pair left (λ e. ne (sym e)) in
-            none ∙ sym (ap (λ m. cond is_first m 0) (elsewhere q pair ne) ∙ zero_either is_first)
+            none ∙ sym (ap (λ m. cond is_first m 0) (one_if_elsewhere q pair ne) ∙ zero_either is_first)
       ]
     where
       zero_either : (b : Bool) → ◌≡◌ {A = ℕ} (cond b 0 0) 0
@@ -156,7 +157,7 @@ module _ (g : Game) (some' : 0 < g.inputs) (pair left : ℕ) (lt : pair < pairs_
 
   pub quiet_in_step : is_first_cut g pair left ≡ false → IsInStep g (cut pair left ∷ []) []
   quiet_in_step quiet = record {
-    cells = λ c li. one_counter (pairs_of g + c) pair left ∙ (elsewhere pair (pairs_of g + c) (no_cell c) ∙ sym (quiet_hits quiet c));
+    cells = λ c li. one_counter (pairs_of g + c) pair left ∙ (one_if_elsewhere pair (pairs_of g + c) (no_cell c) ∙ sym (quiet_hits quiet c));
     logs = λ c. sym (other_cut_to (pairs_of g + c) 0 pair left (no_cell c));
     no_other_cut = All-cons (λ (c : Cut). c.counter < pairs_of g + g.cells) (cut pair left) [] (omega arith) (All-nil (λ (c : Cut). c.counter < pairs_of g + g.cells));
   }
@@ -178,8 +179,8 @@ module _ (g : Game) (some' : 0 < g.inputs) (pair left : ℕ) (lt : pair < pairs_
         | inl e ↦
             let clear : is_obstacle (mark_of g c) ≡ false = ap (λ c. is_obstacle (mark_of g c)) (sym e) ∙ parts.1 in
             ap (λ b. cond b 0 (sum_by (firsts_in g (cut pair left ∷ [])) (pairs_at g c))) clear
-            ∙ (first ∙ (ap (λ c. times pair (pairs_at g c)) (sym e) ∙ (at_home g some' pair ∙ sym (here (pair / g.inputs) c e))))
-        | inr ne ↦ other (is_obstacle (mark_of g c)) (first ∙ away g some' pair c ne) ∙ sym (elsewhere (pair / g.inputs) c ne)
+            ∙ (first ∙ (ap (λ c. times pair (pairs_at g c)) (sym e) ∙ (at_home g some' pair ∙ sym (one_if_here (pair / g.inputs) c e))))
+        | inr ne ↦ other (is_obstacle (mark_of g c)) (first ∙ away g some' pair c ne) ∙ sym (one_if_elsewhere (pair / g.inputs) c ne)
       ]
     where
       other : (b : Bool) → sum_by (firsts_in g (cut pair left ∷ [])) (pairs_at g c) ≡ 0 → cond b 0 (sum_by (firsts_in g (cut pair left ∷ [])) (pairs_at g c)) ≡ 0
@@ -204,8 +205,8 @@ module _ (g : Game) (some' : 0 < g.inputs) (pair left : ℕ) (lt : pair < pairs_
     same_counter : (c : ℕ) → one_if (pairs_of g + cell == pairs_of g + c) ≡ one_if (cell == c)
     same_counter c =
         elim (cases_eq cell c) [
-          | inl e ↦ here (pairs_of g + cell) (pairs_of g + c) (ap (λ c. pairs_of g + c) e) ∙ sym (here cell c e)
-          | inr ne ↦ elsewhere (pairs_of g + cell) (pairs_of g + c) (λ e. ne (omega arith)) ∙ sym (elsewhere cell c ne)
+          | inl e ↦ one_if_here (pairs_of g + cell) (pairs_of g + c) (ap (λ c. pairs_of g + c) e) ∙ sym (one_if_here cell c e)
+          | inr ne ↦ one_if_elsewhere (pairs_of g + cell) (pairs_of g + c) (λ e. ne (omega arith)) ∙ sym (one_if_elsewhere cell c ne)
         ]
 
     logged_once : (c : ℕ) (b : Bool) → times c (cond b (cell ∷ []) []) ≡ cond b (one_if (cell == c)) 0
@@ -217,7 +218,7 @@ module _ (g : Game) (some' : 0 < g.inputs) (pair left : ℕ) (lt : pair < pairs_
       cells = λ c lc.
           let both = times_counters (pairs_of g + c) (cut pair left ∷ []) second in
           let pair_is = one_counter (pairs_of g + c) pair left in
-          let no_pair = elsewhere pair (pairs_of g + c) (no_cell c) in
+          let no_pair = one_if_elsewhere pair (pairs_of g + c) (no_cell c) in
           let cell_is = one_counter (pairs_of g + c) (pairs_of g + cell) cell_left in
           let same = same_counter c in
           let cell_cuts = cell_cuts-append g (cut pair left ∷ []) second c in

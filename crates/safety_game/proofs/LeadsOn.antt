@@ -10,21 +10,21 @@ use Rattle.board_rounds.proofs.Accounts.{cuts_are, cuts_to_are}
 use Rattle.cell_counters.specs.declared.account.Cut.{Cut}
 use Rattle.cell_counters.specs.declared.account.Account.{Account}
 use Rattle.cell_counters.specs.Accounts.{all_answers, cut_count, all_logs}
-use Rattle.cell_counters.specs.Laws.{answered}
+use Rattle.cell_counters.specs.Laws.{times_answered}
 use Rattle.cell_counters.proofs.Consequences.{new_answers}
 use Rattle.game_core.specs.Fallen.{is_obstacle, has_fallen}
 use Rattle.game_core.specs.Game.{Game, IsGraph, mark_of, pairs_of, successors_at}
 use Rattle.game_core.proofs.Times.{counts_agree}
 use Rattle.safety_game.specs.KeepBoards.{pairs_at, enabled_at}
 use Rattle.safety_game.specs.inside.KeepRounds.{fell_before, gone_in, is_cell_cut, cell_cuts_at, IsLawfulFor, AreFalling, firsts_in, cell_cuts_in, IsInStep, KeepsRule}
-use Rattle.safety_game.proofs.Counting.{times-append}
 use Rattle.safety_game.proofs.Pairs.{cell_of, pairs_below, All-pairs_at, few_enabled}
 use Rattle.safety_game.proofs.Falls.{fell_stays, gone_few, cell_cuts_few, falls_by_cell_cuts, cell_cuts_by_fall, obstacle_falls, obstacle_unhit}
 use Rattle.board_rounds.proofs.Accounts.{cuts_in-append, offers_in-append, logged_cells-append, cut_count-append}
 use Rattle.board_rounds.proofs.Graphs.{successors_within, few_successors}
 use Rattle.safety_game.proofs.Added.{none_offered, round_in_step}
+use Rattle.base.proofs.Times.{times-append}
 
-answered_few : (counter v : ℕ) (accounts : List Account) → answered counter v accounts ≤ cut_count counter accounts
+answered_few : (counter v : ℕ) (accounts : List Account) → times_answered counter v accounts ≤ cut_count counter accounts
 answered_few counter v accounts = count_by-le-length (λ answer. answer == v) (all_answers counter accounts)
 
 module _ (g : Game) (a : IsGraph g) (d : ℕ) (list : List ℕ) (accounts more : List Account) (was : AreFalling g d list accounts) (r : IsRound g (KeepsRule g) list more) (lawful : IsLawfulFor g (accounts ++ more)) where
@@ -78,9 +78,9 @@ module _ (g : Game) (a : IsGraph g) (d : ℕ) (list : List ℕ) (accounts more :
       ]
     where
       law : 0 < length (successors_at g pair)
-          → (cut_count pair accounts + (length (successors_at g pair) - 1) < length (successors_at g pair) → length (successors_at g pair) ≤ cut_count pair (accounts ++ more) + (length (successors_at g pair) - 1) → answered pair (length (successors_at g pair) - 1) more ≡ 1)
-          × (length (successors_at g pair) ≤ cut_count pair accounts + (length (successors_at g pair) - 1) → answered pair (length (successors_at g pair) - 1) more ≡ 0)
-          × (cut_count pair (accounts ++ more) + (length (successors_at g pair) - 1) < length (successors_at g pair) → answered pair (length (successors_at g pair) - 1) more ≡ 0)
+          → (cut_count pair accounts + (length (successors_at g pair) - 1) < length (successors_at g pair) → length (successors_at g pair) ≤ cut_count pair (accounts ++ more) + (length (successors_at g pair) - 1) → times_answered pair (length (successors_at g pair) - 1) more ≡ 1)
+          × (length (successors_at g pair) ≤ cut_count pair accounts + (length (successors_at g pair) - 1) → times_answered pair (length (successors_at g pair) - 1) more ≡ 0)
+          × (cut_count pair (accounts ++ more) + (length (successors_at g pair) - 1) < length (successors_at g pair) → times_answered pair (length (successors_at g pair) - 1) more ≡ 0)
       law some' =
           let fan = length (successors_at g pair) in
           let was' = was.lawful.pairs pair lt in
@@ -152,7 +152,7 @@ module _ (g : Game) (a : IsGraph g) (d : ℕ) (list : List ℕ) (accounts more :
             ]
       ]
     where
-      by_tests : is_obstacle (mark_of g c) ≡ false → 0 < enabled_at g c → (b n : Bool) → has_fallen g d c ≡ b → has_fallen g (suc d) c ≡ n → answered (pairs_of g + c) 0 more + one_if b ≡ one_if n
+      by_tests : is_obstacle (mark_of g c) ≡ false → 0 < enabled_at g c → (b n : Bool) → has_fallen g d c ≡ b → has_fallen g (suc d) c ≡ n → times_answered (pairs_of g + c) 0 more + one_if b ≡ one_if n
       by_tests clear some' b n eb en =
           let start = enabled_at g c in
           let was' = was.lawful.cells c lt in
@@ -165,12 +165,12 @@ module _ (g : Game) (a : IsGraph g) (d : ℕ) (list : List ℕ) (accounts more :
           cases b n eb en (new_answers accounts more (pairs_of g + c) start was'.0 now'.0 was'.1 now'.1 (omega arith) (omega arith) 0 some') before after
         where
           cases : (b n : Bool) → has_fallen g d c ≡ b → has_fallen g (suc d) c ≡ n
-              → (cut_count (pairs_of g + c) accounts + 0 < enabled_at g c → enabled_at g c ≤ cut_count (pairs_of g + c) (accounts ++ more) + 0 → answered (pairs_of g + c) 0 more ≡ 1)
-              × (enabled_at g c ≤ cut_count (pairs_of g + c) accounts + 0 → answered (pairs_of g + c) 0 more ≡ 0)
-              × (cut_count (pairs_of g + c) (accounts ++ more) + 0 < enabled_at g c → answered (pairs_of g + c) 0 more ≡ 0)
+              → (cut_count (pairs_of g + c) accounts + 0 < enabled_at g c → enabled_at g c ≤ cut_count (pairs_of g + c) (accounts ++ more) + 0 → times_answered (pairs_of g + c) 0 more ≡ 1)
+              × (enabled_at g c ≤ cut_count (pairs_of g + c) accounts + 0 → times_answered (pairs_of g + c) 0 more ≡ 0)
+              × (cut_count (pairs_of g + c) (accounts ++ more) + 0 < enabled_at g c → times_answered (pairs_of g + c) 0 more ≡ 0)
               → cut_count (pairs_of g + c) accounts ≡ cell_cuts_at g d c
               → cut_count (pairs_of g + c) (accounts ++ more) ≡ cell_cuts_at g (suc d) c
-              → answered (pairs_of g + c) 0 more + one_if b ≡ one_if n
+              → times_answered (pairs_of g + c) 0 more + one_if b ≡ one_if n
           cases true true eb en law before after = let all = cell_cuts_by_fall g d c clear eb in let e = law.1 (omega arith) in omega arith
           cases true false eb en law before after = absurd (let stay = fell_stays g (suc d) c eb in cc)
           cases false true eb en law before after =

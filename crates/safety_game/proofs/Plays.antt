@@ -10,21 +10,21 @@ use Rattle.board_rounds.specs.Crew.{logged_cells}
 use Rattle.board_rounds.specs.Rules.{IsRound, LeadsOn}
 use Rattle.safety_game.specs.KeepBoards.{IsBoardOf}
 use Rattle.safety_game.specs.inside.KeepRounds.{KeepsRule}
-use Rattle.safety_game.specs.inside.KeepInvariant.{HoldsBefore, IsRunnable}
+use Rattle.safety_game.specs.inside.KeepInvariant.{IsKeepInvariant, IsRunnable}
 use Rattle.safety_game.proofs.OnBoards.{counters_of_board, lawful_for}
 use Rattle.safety_game.proofs.InStep.{nothing_in_step}
 use Rattle.safety_game.proofs.LeadsOn.{round_leads_on}
 use Rattle.safety_game.proofs.Begins.{begins, full_after, few_logs}
 
 module _ (g : Game) (a : IsGraph g) (board : BoardModel) (of_game : IsBoardOf g board) where
-  next_stand : (d : ℕ) (list next : List ℕ) (accounts more : List Account) → d ≤ g.cells → 0 < length list → HoldsBefore g d list accounts → IsRound g (KeepsRule g) list more
-      → IsLawful (accounts ++ more) board.starts board.least → ((c : ℕ) → times c next ≡ times c (logged_cells (all_logs more))) → HoldsBefore g (suc d) next (accounts ++ more)
+  next_stand : (d : ℕ) (list next : List ℕ) (accounts more : List Account) → d ≤ g.cells → 0 < length list → IsKeepInvariant g d list accounts → IsRound g (KeepsRule g) list more
+      → IsLawful (accounts ++ more) board.starts board.least → ((c : ℕ) → times c next ≡ times c (logged_cells (all_logs more))) → IsKeepInvariant g (suc d) next (accounts ++ more)
   next_stand d list next accounts more early some' was round lawful same = record {
     falling = round_leads_on g a d list accounts more was.falling round (lawful_for g a board of_game (accounts ++ more) lawful) next same;
     full = full_after g a d list accounts was.falling some';
   }
 
-  leads_on : LeadsOn g board (has_fallen g 0) (λ d. KeepsRule g) (HoldsBefore g)
+  leads_on : LeadsOn g board (has_fallen g 0) (λ d. KeepsRule g) (IsKeepInvariant g)
   leads_on = record {
     graph = a;
     counters = let many = counters_of_board g a board of_game in omega arith;

@@ -1,5 +1,5 @@
 -- After the last round: the rows are settled, the accounts are reckoned, and the tally counts them.
-use Rattle.std.proofs.Common.{inl, inr, ◌≡◌, ◌≢◌, ℕ, zero, suc, ◌+◌, ◌*◌, ◌/◌, ◌^◌, ◌<◌, ◌≤◌, ◌==◌, ◌&&◌, not, nat_lt, true, false, List, [], ◌∷◌, length, get_or, Option, Some, None, is_some, count_by, sum_by, arith, refl, sym, ◌∙◌, ap, subst, eq-eqb}
+use Rattle.std.proofs.Common.{inl, inr, ◌≡◌, ◌≢◌, ℕ, zero, suc, ◌+◌, ◌*◌, ◌/◌, ◌^◌, ◌<◌, ◌≤◌, ◌==◌, ◌&&◌, not, nat_lt, true, false, List, [], length, get_or, Option, Some, None, is_some, count_by, sum_by, arith, refl, sym, ◌∙◌, ap, subst, eq-eqb}
 use Rattle.std.specs.List.{range_with_len}
 use Rattle.std.proofs.lemmas.Bool.{cases_lt, cases_Bool, lt-ltb, ltb-true, eqb-true, and_parts, and_from}
 use Rattle.std.proofs.lemmas.List.{length-map}
@@ -23,12 +23,13 @@ use Rattle.game_core.proofs.Times.{counts_agree}
 use Rattle.safety_game.specs.KeepBoards.{pairs_at}
 use Rattle.safety_game.specs.KeepReckoned.{lost_at, IsReckonedBy}
 use Rattle.safety_game.specs.inside.KeepRounds.{fell_before, gone_in, is_cell_cut, cell_cuts_at, AreFalling, IsFull, is_whole, IsRowDecoded, AreRowsDecoded}
-use Rattle.game_core.proofs.Counts.{one_if_le, one_if_same, count_none}
+use Rattle.base.proofs.Counts.{one_if_le, one_if_same, count_none}
 use Rattle.board_rounds.proofs.Graphs.{successors_within}
 use Rattle.board_rounds.proofs.Sums.{All-range}
 use Rattle.safety_game.proofs.Counting.{range_split, range_shift, range_rows}
 use Rattle.safety_game.proofs.Pairs.{cell_of, pair_below, pairs_below, All-pairs_at, All-at_input}
 use Rattle.safety_game.proofs.Falls.{is_enabled, touched_enabled, fell_later, falls_by_cell_cuts, cell_cuts_by_fall, obstacle_falls}
+use Rattle.base.proofs.Lists.{some_element}
 
 clear_if : (m : Mark) → m ≢ Obstacle → is_obstacle m ≡ false
 clear_if Goal ne = refl
@@ -37,10 +38,6 @@ clear_if Plain ne = refl
 
 filled : (xs : List ℕ) → 0 < length xs → xs ≢ []
 filled xs lt e = let n = ap length e in absurd (omega arith)
-
-unfilled : (xs : List ℕ) → xs ≢ [] → 0 < length xs
-unfilled [] ne = absurd (ne refl)
-unfilled (x ∷ xs) ne = omega arith
 
 no_row : (o : Option Row) → not (is_some o) ≡ true → o ≡ None
 no_row None e = refl
@@ -137,7 +134,7 @@ module _ (g : Game) (a : IsGraph g) (d : ℕ) (accounts : List Account) (was : A
       let pair = pair_of g c u in
       let lp = pair_below g c u lt leads.0.0 in
       let below = successors_within g a pair lp in
-      whole_from pair lp (unfilled (successors_of g c u) leads.0.1) (count_none (fell_before g d) (successors_at g pair) (λ i e li. row_kept (get_or (successors_at g pair) i e) (below i e li) (leads.1 i e li)))
+      whole_from pair lp (some_element (successors_of g c u) leads.0.1) (count_none (fell_before g d) (successors_at g pair) (λ i e li. row_kept (get_or (successors_at g pair) i e) (below i e li) (leads.1 i e li)))
 
   held : (c : ℕ) → c < g.cells → (o : Option Row) → IsRowDecoded g accounts c o → IsStable g rows c o
   held c lt None is = (d, rowless_fell c lt is)

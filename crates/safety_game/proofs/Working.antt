@@ -9,8 +9,8 @@ use Rattle.game_core.specs.Counts.{times, one_if}
 use Rattle.game_core.specs.Game.{Game, pairs_of}
 use Rattle.safety_game.specs.inside.KeepRounds.{IsInStep, KeepsRule}
 use Rattle.safety_game.specs.inside.KeepSteps.{CutsFirst, CellCutsAfter, Cuts}
-use Rattle.safety_game.proofs.Counting.{elsewhere}
 use Rattle.safety_game.proofs.InStep.{cut, times_counters, one_counter, in_step-append, quiet_in_step, first_cut_in_step}
+use Rattle.base.proofs.Times.{one_if_elsewhere}
 
 -- what a worker did for one pair
 pub record HasCut (g : Game) (pair : ℕ) (was now : HandModel) : Type 0 where
@@ -64,7 +64,7 @@ module _ (g : Game) (some' : 0 < g.inputs) (pair : ℕ) (lt : pair < pairs_of g)
             let both : times p (counters_of (first ∷ second ∷ [])) ≡ times p (counters_of (first ∷ [])) + times p (counters_of (second ∷ [])) = times_counters p (first ∷ []) (second ∷ []) in
             let a = one_counter p pair t.left in
             let b = one_counter p (pairs_of g + cell) h.left in
-            let c = elsewhere (pairs_of g + cell) p (λ e. absurd (omega arith)) in
+            let c = one_if_elsewhere (pairs_of g + cell) p (λ e. absurd (omega arith)) in
             omega arith;
       }
 

@@ -23,7 +23,7 @@ pub(crate) struct Keep<'a, G: Graph> {
 impl<G: Graph + Sync> Rule for Keep<'_, G> {
     ghost use Rattle.game_core.specs.Fallen.{has_fallen};
     ghost use Rattle.safety_game.specs.inside.KeepRounds.{KeepsRule, IsRowDecoded};
-    ghost use Rattle.safety_game.specs.inside.KeepInvariant.{HoldsBefore, IsRunnable};
+    ghost use Rattle.safety_game.specs.inside.KeepInvariant.{IsKeepInvariant, IsRunnable};
 
     ghost game = { λ rule. G.game rule.graph.now };
 
@@ -33,7 +33,7 @@ impl<G: Graph + Sync> Rule for Keep<'_, G> {
 
     ghost keeps = { λ rule _. KeepsRule (G.game rule.graph.now) };
 
-    ghost holds_before = { λ rule. HoldsBefore (G.game rule.graph.now) };
+    ghost holds_before = { λ rule. IsKeepInvariant (G.game rule.graph.now) };
 
     ghost tells = { λ rule. IsRowDecoded (G.game rule.graph.now) };
 

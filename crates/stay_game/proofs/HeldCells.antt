@@ -8,7 +8,7 @@ use Rattle.game_core.specs.Strategy.{Leaf, Apply}
 use Rattle.game_core.specs.Keep.{HasKeepTree, IsKept}
 use Rattle.game_core.proofs.Keep.{keep_trees_for, each_has_tree}
 use Rattle.game_core.proofs.Rows.{successors_below}
-use Rattle.stay_game.specs.Held.{HoldsFor, IsHeld}
+use Rattle.stay_game.specs.Held.{KeepsToGoalsFor, IsHeld}
 use Rattle.stay_game.specs.inside.StayMarks.{hold_mark, goals_alone}
 
 goal_if_clear : (m : Mark) → hold_mark m ≢ Obstacle → m ≡ Goal
@@ -26,7 +26,7 @@ module _ (g : Game) (a : IsGame g) where
   goal_is_clear : (c : ℕ) → c < g.cells → mark_of g c ≡ Goal → mark_of (goals_alone g) c ≢ Obstacle
   goal_is_clear c lt m o = let e : Plain ≡ Obstacle = sym (ap hold_mark m) ∙ sym (mark_alone c lt) ∙ o in cc
 
-  holds_if_keeps : (d c : ℕ) → c < g.cells → HasKeepTree (goals_alone g) d c → HoldsFor g d c
+  holds_if_keeps : (d c : ℕ) → c < g.cells → HasKeepTree (goals_alone g) d c → KeepsToGoalsFor g d c
   holds_if_keeps zero c lt (Leaf, s) = clear_is_goal c lt s
   holds_if_keeps zero c lt (Apply u next, s) = absurd s
   holds_if_keeps (suc d) c lt (Leaf, s) = absurd s
@@ -36,7 +36,7 @@ module _ (g : Game) (a : IsGame g) where
         (u, s.1, λ i e li. holds_if_keeps d (get_or (successors_of g c u) i e) (successors_below g a (pair_of g c u) i e li) (each i e li)),
       )
 
-  keeps_if_holds : (d c : ℕ) → c < g.cells → HoldsFor g d c → HasKeepTree (goals_alone g) d c
+  keeps_if_holds : (d c : ℕ) → c < g.cells → KeepsToGoalsFor g d c → HasKeepTree (goals_alone g) d c
   keeps_if_holds zero c lt h = (Leaf, goal_is_clear c lt h)
   keeps_if_holds (suc d) c lt h =
       let u = h.1.0 in

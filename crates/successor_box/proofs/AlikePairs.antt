@@ -12,7 +12,7 @@ use Rattle.fixed_expr.proofs.Laws.{values_depend_on_variables, values_move_with_
 use Rattle.fixed_expr.specs.Value.{value_of}
 use Rattle.interval_eval.specs.declared.interval.Interval.{Interval}
 use Rattle.interval_eval.specs.Span.{span_of}
-use Rattle.interval_eval.specs.inside.Nested.{HaveSameRangesBut}
+use Rattle.interval_eval.specs.inside.Nested.{AreSameRangesBut}
 use Rattle.interval_eval.proofs.SpanLaws.{spans_depend_on_variables, spans_move_with_variables}
 use Rattle.growth_bound.proofs.Laws.{deviations_depend_on_variables}
 use Rattle.grid_quantiser.specs.declared.axis.Axis.{Axis}
@@ -211,7 +211,7 @@ module _ (p : Description) (i c u d v : ℕ) (sound : IsSound p) (lt : i < lengt
 
   same_span : (moves_along p i ≡ true) ⊎ (moves_along p i ≡ false) → IsSameBefore (span d v).lo (span c u).lo × IsSameBefore (span d v).hi (span c u).hi
   same_span (inl moves) =
-      let but : HaveSameRangesBut i e (cell_area_of p d v) (cell_area_of p c u) = λ k other stands. same_cell_range p c u d v k (same k stands (λ m is. other is)) in
+      let but : AreSameRangesBut i e (cell_area_of p d v) (cell_area_of p c u) = λ k other stands. same_cell_range p c u d v k (same k stands (λ m is. other is)) in
       let apart = spans_move_with_variables e i (cell_area_of p d v) (cell_area_of p c u) moves but in
       let here = own_range c u cell in
       let there = own_range d v other_cell in

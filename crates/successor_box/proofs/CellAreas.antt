@@ -1,6 +1,6 @@
 -- The ranges of the variables over a cell: they lie within those over the domain, and hold the values at the cell's points.
 use Rattle.std.proofs.Common.{◌≡◌, ℕ, ◌/◌, ◌%◌, ◌<◌, List, [], ◌∷◌, ◌++◌, All, length, map, take, refl, arith}
-use Rattle.std.specs.Prelude.{ℤ, pos, ◌+ℤ◌, ◌-ℤ◌, ◌*ℤ◌, ◌≤ℤ◌, ◌<ℤ◌}
+use Rattle.std.specs.Prelude.{ℤ, pos, ◌+ℤ◌, ◌-ℤ◌, ◌*ℤ◌, ◌≤ℤ◌}
 use Rattle.std.proofs.lemmas.Int.{ints}
 use Rattle.std.proofs.lemmas.List.{length-append, length-map}
 use Rattle.std.proofs.lemmas.List.Elements.{All-head, All-tail, All-nil, All-cons, All-append, All-map, All-weaker}
@@ -11,7 +11,7 @@ use Rattle.grid_quantiser.specs.declared.axis.Axis.{Axis}
 use Rattle.grid_quantiser.specs.Axes.{IsAxis, end_of, cells_of}
 use Rattle.grid_quantiser.specs.Cells.{IsInDomain, IsPointOf, low_of, high_of, centre_of}
 use Rattle.grid_quantiser.specs.CellBoxes.{IsAtMost, IsInBox}
-use Rattle.grid_quantiser.proofs.CellPoints.{box_from_point, point_from_box}
+use Rattle.grid_quantiser.proofs.CellPoints.{box_from_point, point_from_box, length-low_of, length-high_of}
 use Rattle.grid_quantiser.proofs.CentrePoints.{centre_between}
 use Rattle.plant_record.specs.declared.variables.StateVariable.{StateVariable}
 use Rattle.plant_record.specs.declared.variables.NoiseVariable.{NoiseVariable}
@@ -21,7 +21,7 @@ use Rattle.plant_record.specs.Soundness.{IsFilledByCells, IsSound}
 use Rattle.plant_record.specs.Variables.{IsNoiseVariable}
 use Rattle.successor_box.specs.SuccessorBoxes.{noise_centre, area_of, ranges_between, cell_area_of, central_values}
 use Rattle.successor_box.proofs.CellValues.{in_append, inputs_in, noises_in, centres_in, centres_are_noise, vector_count}
-use Rattle.successor_box.proofs.Middles.{low_long, high_long}
+use Rattle.base.proofs.Integers.{up_to}
 
 same : (z : ℤ) → z ≤ℤ z
 same z = omega (arith, ints)
@@ -70,9 +70,6 @@ parts_states (s ∷ states) [] ys m n whole low high = absurd low
 parts_states (s ∷ states) (x ∷ xs) [] m n whole low high = absurd high
 parts_states (s ∷ states) (x ∷ xs) (y ∷ ys) m n whole low high =
     ((low.0, up_to y (end_of (axis_of s)) s.high high.1 (All-head IsFilledByCells s states whole)), parts_states states xs ys (omega (arith, m)) (omega (arith, n)) (All-tail IsFilledByCells s states whole) low.2 high.2)
-  where
-    up_to : (y end high : ℤ) → y <ℤ end → end ≡ high +ℤ pos 1 → y ≤ℤ high
-    up_to y end high below is = omega (arith, ints, below, is)
 
 between_in : (states : List StateVariable) (lows highs xs : List ℤ) → length lows ≡ length states → length highs ≡ length states → IsInBox (map axis_of states) lows highs xs → AreIn (ranges_between lows highs) (take (length states) xs)
 between_in [] [] [] xs m n box = tt
@@ -99,10 +96,10 @@ parts_append (i ∷ is) (j ∷ js) area wider h k = (h.0, parts_append is js are
 
 module _ (p : Description) (c u : ℕ) where
   pub low_count : length (low_of (axes_of p) c) ≡ length p.states
-  low_count = omega (arith, low_long (axes_of p) c, length-map p.states axis_of)
+  low_count = omega (arith, length-low_of (axes_of p) c, length-map p.states axis_of)
 
   pub high_count : length (high_of (axes_of p) c) ≡ length p.states
-  high_count = omega (arith, high_long (axes_of p) c, length-map p.states axis_of)
+  high_count = omega (arith, length-high_of (axes_of p) c, length-map p.states axis_of)
 
   pub cell_area_count : length (cell_area_of p c u) ≡ length (names_of p)
   cell_area_count =

@@ -1,6 +1,6 @@
 -- The values of the variables at a cell's centre, and at every point of the cell.
 use Rattle.std.proofs.Common.{◌≡◌, ℕ, suc, ◌%◌, List, [], ◌∷◌, ◌++◌, All, length, take, map, refl, ap, arith}
-use Rattle.std.specs.Prelude.{ℤ, pos, negsuc, ◌+ℤ◌, ◌-ℤ◌, ◌≤ℤ◌, ◌<ℤ◌}
+use Rattle.std.specs.Prelude.{ℤ, pos, negsuc, ◌+ℤ◌, ◌-ℤ◌, ◌≤ℤ◌}
 use Rattle.std.proofs.lemmas.Int.{ints}
 use Rattle.std.proofs.lemmas.List.{length-append, length-map}
 use Rattle.std.proofs.lemmas.List.Elements.{All-head, All-tail}
@@ -19,6 +19,7 @@ use Rattle.plant_record.specs.Steps.{IsNoise, values_at}
 use Rattle.plant_record.specs.Soundness.{IsFilledByCells}
 use Rattle.plant_record.specs.Variables.{IsNoiseVariable}
 use Rattle.successor_box.specs.SuccessorBoxes.{noise_centre, area_of, radii_of, central_values}
+use Rattle.base.proofs.Integers.{up_to}
 
 near_append : (rs xs ys radii values others : List ℤ) → AreNear rs xs ys → AreNear radii values others → AreNear (rs ++ radii) (xs ++ values) (ys ++ others)
 near_append [] [] [] radii values others h k = k
@@ -39,9 +40,6 @@ states_in [] xs whole inside = tt
 states_in (s ∷ states) [] whole inside = absurd inside
 states_in (s ∷ states) (x ∷ xs) whole inside =
     ((inside.0, up_to x (end_of (axis_of s)) s.high inside.1 (All-head IsFilledByCells s states whole)), states_in states xs (All-tail IsFilledByCells s states whole) inside.2)
-  where
-    up_to : (x end high : ℤ) → x <ℤ end → end ≡ high +ℤ pos 1 → x ≤ℤ high
-    up_to x end high below is = omega (arith, ints, below, is)
 
 states_near : (states : List StateVariable) (xs ys : List ℤ) → AreStatesNear (map axis_of states) xs ys → AreNear (map radius_of (map axis_of states)) (take (length states) xs) (take (length states) ys)
 states_near [] xs ys near = tt

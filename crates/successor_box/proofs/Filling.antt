@@ -17,9 +17,6 @@ index_more P d xs k x capacity so_far here =
 
 -- ---- the lanes of a lane
 
-pub nothing_yet : {A : Type 0} (i : ℕ) → i < 0 → A
-nothing_yet i none = absurd (omega (arith, none))
-
 pub lane_done : (i j : ℕ) → i < 32 → 32 ≤ j → i < j
 lane_done i j lt done = omega (arith, lt, done)
 

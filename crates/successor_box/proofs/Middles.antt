@@ -1,5 +1,5 @@
 -- The middles of the indices along an axis, in 64 bits.
-use Rattle.std.proofs.Common.{◌≡◌, ℕ, zero, suc, ◌+◌, ◌*◌, ◌/◌, ◌%◌, ◌^◌, ◌<◌, ◌≤◌, List, [], ◌∷◌, length, get_or, refl, ap, ◌∙◌, w64, arith}
+use Rattle.std.proofs.Common.{◌≡◌, ℕ, zero, suc, ◌+◌, ◌*◌, ◌/◌, ◌^◌, ◌<◌, ◌≤◌, List, [], ◌∷◌, length, get_or, ap, ◌∙◌, w64, arith}
 use Rattle.std.specs.Prelude.{ℤ, pos, negsuc, nat_abs, neg_ℤ, ◌+ℤ◌, ◌-ℤ◌, ◌*ℤ◌, ◌≤ℤ◌, FitsSigned}
 use Rattle.std.specs.Int.{w128}
 use Rattle.std.proofs.Math.Nat.{zero-div, zero-mod}
@@ -10,24 +10,13 @@ use Rattle.grid_quantiser.specs.declared.axis.Axis.{Axis}
 use Rattle.grid_quantiser.specs.Axes.{IsAxis, no_axis, cells_of}
 use Rattle.grid_quantiser.specs.Cells.{low_of, high_of, radius_of, point_of}
 use Rattle.grid_quantiser.specs.Indices.{middle_of}
-
--- a number within 10^18 has room in 64 bits
-pub literal_fits : (z : ℤ) → nat_abs z < 10 ^ 18 → FitsSigned w64 z
-literal_fits z h = omega (arith, ints, h)
+use Rattle.grid_quantiser.proofs.CellPoints.{length-low_of, length-high_of}
 
 -- a number between two literals is one
 pub between_literals : (low high z : ℤ) → nat_abs low < 10 ^ 18 → nat_abs high < 10 ^ 18 → low ≤ℤ z → z ≤ℤ high → nat_abs z < 10 ^ 18
 between_literals low high z h k below above = omega (arith, ints, h, k, below, above)
 
 -- ---- the ends of the first cell
-
-pub low_long : (axes : List Axis) (c : ℕ) → length (low_of axes c) ≡ length axes
-low_long [] c = refl
-low_long (a ∷ axes) c = ap suc (low_long axes (c % cells_of axes))
-
-pub high_long : (axes : List Axis) (c : ℕ) → length (high_of axes c) ≡ length axes
-high_long [] c = refl
-high_long (a ∷ axes) c = ap suc (high_long axes (c % cells_of axes))
 
 first_low : (axes : List Axis) (k : ℕ) → k < length axes → get_or (low_of axes 0) k (pos 0) ≡ (get_or axes k no_axis).lo
 first_low [] k lt = absurd (omega (arith, lt))
@@ -41,10 +30,10 @@ first_high (a ∷ axes) zero lt =
 first_high (a ∷ axes) (suc k) lt = ap (λ (c : ℕ). get_or (high_of axes c) k (pos 0)) (zero-mod (cells_of axes)) ∙ first_high axes k (omega (arith, lt))
 
 pub low_at : (axes : List Axis) (k : ℕ) (x : ℤ) → k < length axes → x ≡ get_or (point_of (low_of axes 0)) k (pos 0) → x ≡ (get_or axes k no_axis).lo
-low_at axes k x lt is = is ∙ get_or_append_left (low_of axes 0) _ (pos 0) k (omega (arith, lt, low_long axes 0)) ∙ first_low axes k lt
+low_at axes k x lt is = is ∙ get_or_append_left (low_of axes 0) _ (pos 0) k (omega (arith, lt, length-low_of axes 0)) ∙ first_low axes k lt
 
 pub high_at : (axes : List Axis) (k : ℕ) (x : ℤ) → k < length axes → x ≡ get_or (point_of (high_of axes 0)) k (pos 0) → x ≡ (get_or axes k no_axis).lo +ℤ ((get_or axes k no_axis).width -ℤ pos 1)
-high_at axes k x lt is = is ∙ get_or_append_left (high_of axes 0) _ (pos 0) k (omega (arith, lt, high_long axes 0)) ∙ first_high axes k lt
+high_at axes k x lt is = is ∙ get_or_append_left (high_of axes 0) _ (pos 0) k (omega (arith, lt, length-high_of axes 0)) ∙ first_high axes k lt
 
 -- ---- bounds
 

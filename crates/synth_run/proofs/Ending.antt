@@ -11,12 +11,12 @@ use Rattle.synth_run.specs.declared.text.Text.{Text}
 use Rattle.synth_run.specs.Headline.{IsAnswer}
 use Rattle.synth_run.specs.Played.{SolvesNothing}
 use Rattle.synth_run.specs.RunClauses.{IsAnswered, IsCutOff, IsRunOf}
-use Rattle.synth_run.specs.Sources.{given}
+use Rattle.synth_run.specs.Sources.{bytes_for}
 use Rattle.synth_run.specs.inside.SolvedGames.{IsToBeLeft}
 use Rattle.synth_run.specs.inside.Texts.{bytes_of}
 use Rattle.synth_run.specs.inside.Working.{IsWorkedOut, IsRefusalFor, IsWrittenOut, IsLeftAfter}
 use Rattle.synth_run.proofs.CommandEnds.{can_end_done, can_end_cut_off, can_end_without_memory}
-use Rattle.synth_run.proofs.Working.{if_some_more}
+use Rattle.base.proofs.Options.{IfSome-weaker}
 
 solves_none : (command : Command) → SolvesNothing command None
 solves_none (Synth workers) = tt
@@ -55,7 +55,7 @@ ends_done : (command : Command) (text : Text) (source : Reading) (out : Writing)
 ends_done command text source out played h left whole = record {
   not_usage = λ e. cc;
   can_end = can_end_done command;
-  answered = λ _. if_some_more (given command source.before) (λ bytes. IsAnswer command bytes (bytes_of text)) (λ bytes. IsAnswered command bytes out) (λ bytes answer. (bytes_of text, answer, whole)) h.answer;
+  answered = λ _. IfSome-weaker (bytes_for command source.before) (λ bytes. IsAnswer command bytes (bytes_of text)) (λ bytes. IsAnswered command bytes out) (λ bytes answer. (bytes_of text, answer, whole)) h.answer;
   cut_off = λ e. absurd (let clash : Done ≡ WriteFault = e in cc);
   nothing_written = λ not_done _. absurd (not_done refl);
   leaves = λ _. left.leaves;
@@ -79,7 +79,7 @@ ends_cut_off command text source out h part = record {
   not_usage = λ e. cc;
   can_end = can_end_cut_off command;
   answered = λ e. absurd (let clash : WriteFault ≡ Done = e in cc);
-  cut_off = λ _. if_some_more (given command source.before) (λ bytes. IsAnswer command bytes (bytes_of text)) (λ bytes. IsCutOff command bytes out) (λ bytes answer. (bytes_of text, answer, part)) h.answer;
+  cut_off = λ _. IfSome-weaker (bytes_for command source.before) (λ bytes. IsAnswer command bytes (bytes_of text)) (λ bytes. IsCutOff command bytes out) (λ bytes answer. (bytes_of text, answer, part)) h.answer;
   nothing_written = λ _ other. absurd (other refl);
   leaves = λ e. absurd (let clash : WriteFault ≡ Done = e in cc);
   leaves_a_game = λ e. absurd (let clash : WriteFault ≡ Done = e in cc);

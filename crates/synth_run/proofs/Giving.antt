@@ -6,7 +6,7 @@ use Rattle.synth_run.specs.declared.outcome.Outcome.{Outcome}
 use Rattle.run_devices.specs.Devices.{Reading, Writing}
 use Rattle.command_line.specs.Command.{IsOfCommand}
 use Rattle.synth_run.specs.RunClauses.{IsRunOf, Gives}
-use Rattle.command_line.proofs.Laws.{arguments_are_of_one_command}
+use Rattle.command_line.proofs.Laws.{one_command}
 
 -- words are of one command, and not of none
 pub gives_by_command : (arguments : List (List ℕ)) (command : Command) (outcome : Outcome) (source : Reading) (out : Writing) (played : Option (BoardModel × RootModel)) → IsOfCommand arguments command → IsRunOf command outcome source out played → Gives arguments outcome source out played
@@ -14,5 +14,5 @@ gives_by_command arguments command outcome source out played of_command run = re
   usage = (λ e. absurd (run.not_usage e), λ none. absurd (none command of_command));
   unused = λ e. absurd (run.not_usage e);
   unplayed = λ e. absurd (run.not_usage e);
-  of_command = λ other of_other. subst (λ (f : Command). IsRunOf f outcome source out played) (arguments_are_of_one_command arguments command other of_command of_other) run;
+  of_command = λ other of_other. subst (λ (f : Command). IsRunOf f outcome source out played) (one_command arguments command other of_command of_other) run;
 }

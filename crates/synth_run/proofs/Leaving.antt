@@ -12,7 +12,7 @@ use Rattle.synth_run.specs.declared.solved_game.SolvedGame.{SolvedGame}
 use Rattle.run_devices.specs.Devices.{Reading}
 use Rattle.synth_run.specs.Played.{IsBoardFor, IsReckonedFor, IsSolvedOn, LeavesTheGameOf, IsPlayed, LeavesAGame, SolvesNothing}
 use Rattle.synth_run.specs.inside.SolvedGames.{IsSolvedGame, IsToBeLeft}
-use Rattle.synth_run.specs.Sources.{given, most_read}
+use Rattle.synth_run.specs.Sources.{bytes_for, most_read}
 use Rattle.synth_run.specs.inside.Making.{IsReadFor}
 use Rattle.synth_run.proofs.Limits.{of_front, long_front}
 
@@ -55,7 +55,7 @@ pub to_be_left : (command : Command) (played : Option (BoardModel × RootModel))
 to_be_left command played source read whole h =
     let game : LeavesAGame command played × SolvesNothing command played = a_game command read played h in
     record {
-      leaves = of_front (λ bytes. IsPlayed command bytes played) (most_read command) (given command source.before) read whole.front (longer command played) h;
+      leaves = of_front (λ bytes. IsPlayed command bytes played) (most_read command) (bytes_for command source.before) read whole.front (longer command played) h;
       leaves_a_game = game.0;
       solves_nothing = game.1;
     }

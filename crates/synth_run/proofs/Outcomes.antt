@@ -30,6 +30,7 @@ use Rattle.demo_plants.specs.Demo.{demo_plant_of}
 use Rattle.demo_plants.specs.Laws.{IsSolvableDemo}
 use Rattle.synth_run.specs.Laws.{OneOutcomePerText}
 use Rattle.synth_run.proofs.Below.{one_plant_per_text, one_refusal, read_or_refused, one_table_per_text, one_table_refusal, table_or_refused}
+use Rattle.table_check.proofs.Verdicts.{one_first}
 
 -- no earlier equation or input overflows than the first
 no_earlier : (p : Description) (i u j v : ℕ) → IsFirstOverflow p i u → IsFirstOverflow p j v → j < i → ⊥
@@ -237,17 +238,6 @@ table_end p rows NoMemory h = absurd h
 
 faulty_table : (bytes : List ℕ) (outcome : Outcome) → IsRefusedTable bytes outcome → IsFaulty (IsTableRefusedFor bytes) of_table outcome
 faulty_table bytes outcome h = faulty (IsTableRefusedFor bytes) of_table (λ line. tables.Malformed line) (λ what. tables.Limit what) (λ line. refl) (λ what. refl) outcome h
-
--- the first of which a fact doesn't hold is one
-one_first : (Fact : ℕ → Type 0) (n b c : ℕ) → IsFirstWithout Fact n b → IsFirstWithout Fact n c → b ≡ c
-one_first Fact n b c f g =
-    elim (cases_order b c) [
-      | inl e ↦ e
-      | inr other ↦ elim other [
-        | inl lt ↦ absurd (f.without (g.before b lt))
-        | inr lt ↦ absurd (g.without (f.before c lt))
-      ]
-    ]
 
 one_wrong : (p : Description) (rows : List (Option Row)) (b c : ℕ) → IsPlant p → IsFirstWrong p rows b → IsFirstWrong p rows c → b ≡ c
 one_wrong p rows b c plant f g =

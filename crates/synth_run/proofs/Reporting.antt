@@ -1,19 +1,11 @@
 -- Clauses on one side of an answer.
 use Rattle.std.proofs.Common.{◌≡◌, Result, Ok, Err, sym, subst}
-use Rattle.std.specs.Prelude.{IfOk, IfErr, OnOk}
+use Rattle.std.specs.Prelude.{IfErr, OnOk}
 use Rattle.std.specs.Result.{IsErrAnd}
 
 pub on_ok_both : {A E : Type 0} (r : Result A E) (P Q R : Type 0) → (P → Q → R) → OnOk r P → OnOk r Q → OnOk r R
 on_ok_both (Ok x) P Q R both p q = both p q
 on_ok_both (Err e) P Q R both p q = tt
-
-pub if_ok_more : {A E : Type 0} (r : Result A E) (P Q : A → Type 0) → ((x : A) → P x → Q x) → IfOk r P → IfOk r Q
-if_ok_more (Ok x) P Q more h = more x h
-if_ok_more (Err e) P Q more h = tt
-
-pub if_err_more : {A E : Type 0} (r : Result A E) (P Q : E → Type 0) → ((e : E) → P e → Q e) → IfErr r P → IfErr r Q
-if_err_more (Ok x) P Q more h = tt
-if_err_more (Err e) P Q more h = more e h
 
 -- a refusal that is passed on
 pub exits : {A E : Type 0} (r : Result A E) (e : E) (P : E → Type 0) → IsErrAnd r (λ x. x ≡ e) → P e → IfErr r P

@@ -36,6 +36,7 @@ use Rattle.synth_run.specs.IsOutcomeFor.{IsRefusedTable}
 use Rattle.synth_run.specs.Laws.{NoTableTextIsNeither}
 use Rattle.synth_run.proofs.Undeniable.{either, chosen}
 use Rattle.synth_run.proofs.SomePlant.{whole, LimitsEnd, is_within, has_many_vectors, has_many_cells, has_many_pairs, limits_end}
+use Rattle.std.proofs.lemmas.Option.{same_Some}
 
 -- ---- the plant at the front
 
@@ -171,12 +172,9 @@ IsGiven runs c (Some row) = Gives runs c row
 is_told : (v : TableVersion) (runs : List Run) (c : ℕ) (o : Option Row) (row : Row) → AreRuns v runs → IsGiven runs c o → (o ≡ Some row) ↔ Gives runs c row
 is_told v runs c None row are given = ((λ e. absurd (cc)), (λ g. absurd (given row g)))
 is_told v runs c (Some other) row are given = (
-  (λ e. subst (Gives runs c) (some_row other row e) given),
+  (λ e. subst (Gives runs c) (same_Some other row e) given),
   (λ g. ap (λ (r : Row). Some r) (one_row v runs c other row are given g)),
 )
-  where
-    some_row : (a b : Row) → Some a ≡ Some b → a ≡ b
-    some_row a b e = cc
 
 none_some : (row : Row) → None ≡ Some row → ⊥
 none_some row e = cc

@@ -13,7 +13,7 @@ use Rattle.run_devices.specs.Devices.{next_count, Reading, TakesAtMost}
 use Rattle.synth_run.specs.inside.Texts.{bytes_of, CanBeWritten}
 use Rattle.run_devices.specs.Transfers.{ReadUpTo}
 use Rattle.synth_run.specs.inside.Working.{IsWorkedOut, IsRefusalFor}
-use Rattle.synth_run.specs.Sources.{given, most_read, LeavesAlone}
+use Rattle.synth_run.specs.Sources.{bytes_for, most_read, LeavesAlone}
 use Rattle.synth_run.specs.IsOutcomeFor.{IsOutcomeFor}
 use Rattle.synth_run.specs.Headline.{IsAnswer}
 use Rattle.synth_run.specs.RunClauses.{CanEnd}
@@ -22,6 +22,7 @@ use Rattle.synth_run.specs.inside.Causes.{of_read}
 use Rattle.synth_run.specs.inside.Making.{IsReadFor, IsRefusalOf}
 use Rattle.synth_run.proofs.CommandEnds.{can_end_without_memory}
 use Rattle.synth_run.proofs.Limits.{of_front, passes_on, read_to_the_limit}
+use Rattle.base.proofs.Options.{IfSome-weaker}
 
 -- a text that has an answer demands it
 answered_is_demanded : (command : Command) (bytes text : List ℕ) → IsAnswer command bytes text → IsOutcomeFor command bytes Done
@@ -33,24 +34,20 @@ answered_is_demanded (Demo n workers) bytes text h = refl
 answered_is_demanded (Stay workers) bytes text h = inr (h.0, h.1, h.2)
 answered_is_demanded (Patrol workers) bytes text h = inr (h.0, h.1, h.2)
 
-pub if_some_more : (told : Option (List ℕ)) (P Q : List ℕ → Type 0) → ((bytes : List ℕ) → P bytes → Q bytes) → IfSome told P → IfSome told Q
-if_some_more None P Q more h = tt
-if_some_more (Some bytes) P Q more h = more bytes h
-
 -- an answer for what was read is the command's
 pub worked_out : (command : Command) (source : Reading) (read : List ℕ) (text : Text) → IsReadFor command read source → CanBeWritten text → IsAnswer command read (bytes_of text) → IsWorkedOut command text source
 worked_out command source read text whole fits answer = record {
   can_be_written = fits;
   answer = answers;
-  cause = if_some_more (given command source.before) (λ bytes. IsAnswer command bytes (bytes_of text)) (λ bytes. IsOutcomeFor command bytes Done) (λ bytes. answered_is_demanded command bytes (bytes_of text)) answers;
+  cause = IfSome-weaker (bytes_for command source.before) (λ bytes. IsAnswer command bytes (bytes_of text)) (λ bytes. IsOutcomeFor command bytes Done) (λ bytes. answered_is_demanded command bytes (bytes_of text)) answers;
   read = whole.read;
   never_past = whole.never_past;
   leaves_alone = whole.leaves_alone;
   no_fault = whole.no_fault;
 }
   where
-    answers : IfSome (given command source.before) (λ bytes. IsAnswer command bytes (bytes_of text))
-    answers = of_front (λ bytes. IsAnswer command bytes (bytes_of text)) (most_read command) (given command source.before) read whole.front ((passes_on tables_are_short command).answers (bytes_of text)) answer
+    answers : IfSome (bytes_for command source.before) (λ bytes. IsAnswer command bytes (bytes_of text))
+    answers = of_front (λ bytes. IsAnswer command bytes (bytes_of text)) (most_read command) (bytes_for command source.before) read whole.front ((passes_on tables_are_short command).answers (bytes_of text)) answer
 
 -- no text demands these
 demands_no_usage : (command : Command) (bytes : List ℕ) → IsOutcomeFor command bytes Usage → ⊥
@@ -91,7 +88,7 @@ turned_down command source read outcome whole h = record {
   not_usage = λ e. demands_no_usage command read (subst (IsOutcomeFor command read) e (h.cause (λ m. let clash : NoMemory ≡ Usage = sym m ∙ e in cc)));
   not_write_fault = λ e. demands_no_write_fault command read (subst (IsOutcomeFor command read) e (h.cause (λ m. let clash : NoMemory ≡ WriteFault = sym m ∙ e in cc)));
   can_end = h.can_end;
-  cause = λ texts. of_front (λ bytes. IsOutcomeFor command bytes outcome) (most_read command) (given command source.before) read whole.front ((passes_on tables_are_short command).outcomes_for outcome) (h.cause (not_for_memory outcome texts));
+  cause = λ texts. of_front (λ bytes. IsOutcomeFor command bytes outcome) (most_read command) (bytes_for command source.before) read whole.front ((passes_on tables_are_short command).outcomes_for outcome) (h.cause (not_for_memory outcome texts));
   read = λ _ _. whole.read;
   never_past = whole.never_past;
   leaves_alone = whole.leaves_alone;
@@ -107,7 +104,7 @@ turned_down command source read outcome whole h = record {
 
 -- A command works on all that its source tells.
 record WorksOnAll (command : Command) : Type 0 where
-  given_is : (told : Option (List ℕ)) → given command told ≡ told
+  given_is : (told : Option (List ℕ)) → bytes_for command told ≡ told
   uses : (source : Reading) → LeavesAlone command source
   unread : CanEnd command ReadFault
 

@@ -7,7 +7,7 @@ use Rattle.synth_run.specs.declared.outcome.Outcome.{Outcome}
 use Rattle.synth_run.specs.declared.outcome.Outcome.TheVariants.{Done, Invalid, NoRow, Usage, Malformed, Overflow, Limit, TooManyTurns, ReadFault, WriteFault, NoMemory}
 use Rattle.run_devices.specs.Devices.{next_count, Reading, Writing, GainsWhole, GainsPart, TakesAtMost, Reports, AreUnused}
 use Rattle.command_line.specs.Command.{IsOfCommand, AreOfNoCommand}
-use Rattle.synth_run.specs.Sources.{given, most_read, LeavesAlone}
+use Rattle.synth_run.specs.Sources.{bytes_for, most_read, LeavesAlone}
 use Rattle.synth_run.specs.IsOutcomeFor.{IsOutcomeFor}
 use Rattle.synth_run.specs.Headline.{IsAnswer}
 use Rattle.synth_run.specs.Played.{IsPlayed, LeavesAGame, SolvesNothing}
@@ -55,11 +55,11 @@ pub record IsRunOf (command : Command) (outcome : Outcome) (source : Reading) (o
   pub not_usage : outcome ≢ Usage
   pub can_end : CanEnd command outcome
   -- what was written
-  pub answered : outcome ≡ Done → IfSome (given command source.before) (λ bytes. IsAnswered command bytes out)
-  pub cut_off : outcome ≡ WriteFault → IfSome (given command source.before) (λ bytes. IsCutOff command bytes out)
+  pub answered : outcome ≡ Done → IfSome (bytes_for command source.before) (λ bytes. IsAnswered command bytes out)
+  pub cut_off : outcome ≡ WriteFault → IfSome (bytes_for command source.before) (λ bytes. IsCutOff command bytes out)
   pub nothing_written : outcome ≢ Done → outcome ≢ WriteFault → out.after ≡ out.before
   -- what is left of the game that was solved
-  pub leaves : outcome ≡ Done → IfSome (given command source.before) (λ bytes. IsPlayed command bytes played)
+  pub leaves : outcome ≡ Done → IfSome (bytes_for command source.before) (λ bytes. IsPlayed command bytes played)
   pub leaves_a_game : outcome ≡ Done → LeavesAGame command played
   pub leaves_nothing : outcome ≢ Done → played ≡ None
   pub solves_nothing : SolvesNothing command played
@@ -67,7 +67,7 @@ pub record IsRunOf (command : Command) (outcome : Outcome) (source : Reading) (o
   pub read : outcome ≢ ReadFault → outcome ≢ NoMemory → IsRead command source
   pub never_past : TakesAtMost source.before source.after (most_read command)
   pub leaves_alone : LeavesAlone command source
-  pub cause : IsTheTexts outcome → IfSome (given command source.before) (λ bytes. IsOutcomeFor command bytes outcome)
+  pub cause : IsTheTexts outcome → IfSome (bytes_for command source.before) (λ bytes. IsOutcomeFor command bytes outcome)
   -- a device is told to have failed where its count rose by one, and its count stands everywhere else
   pub read_fault : outcome ≡ ReadFault → source.faults_after ≡ next_count source.faults_before
   pub no_read_fault : outcome ≢ ReadFault → source.faults_after ≡ source.faults_before

@@ -6,14 +6,14 @@ use Rattle.command_line.specs.declared.command.Command.TheVariants.{Synth, Check
 use Rattle.base.specs.declared.limits.TheConstants.{TABLE_LIMIT, TEXT_LIMIT}
 
 -- the bytes that a command works on, from what the source tells; `demo` works on none
-abbrev pub given : Command → Option (List ℕ) → Option (List ℕ)
-given (Synth workers) told = told
-given Check told = told
-given Upgrade told = told
-given (Sim samples seed start) told = told
-given (Demo number workers) told = Some []
-given (Stay workers) told = told
-given (Patrol workers) told = told
+abbrev pub bytes_for : Command → Option (List ℕ) → Option (List ℕ)
+bytes_for (Synth workers) told = told
+bytes_for Check told = told
+bytes_for Upgrade told = told
+bytes_for (Sim samples seed start) told = told
+bytes_for (Demo number workers) told = Some []
+bytes_for (Stay workers) told = told
+bytes_for (Patrol workers) told = told
 
 -- how many bytes a command reads at most: one past the limit of its text, or none
 abbrev pub most_read : Command → ℕ

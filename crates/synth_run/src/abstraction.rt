@@ -1,51 +1,18 @@
-//! The game of a plant, or what the plant demands in its place.
+//! The game of a plant as it is seen ahead, or what the plant demands in its place.
 
 ghost use Rattle.std.specs.Prelude.{◌≢◌, IfOk, IfErr};
 ghost use Rattle.plant_game.specs.Abstraction.{IsGameOf};
-ghost use Rattle.abstraction_table.specs.Table.{game_of, forward_game};
+ghost use Rattle.abstraction_table.specs.Table.{forward_game};
 ghost use Rattle.synth_run.specs.declared.outcome.Outcome.TheVariants.{Done, NoMemory};
 ghost use Rattle.synth_run.specs.IsOutcomeFor.{IsAccepted, IsPlantTextOutcome, IsPlantOutcome, IsSolvable};
 
 use crate::outcome::Outcome;
-use abstraction_table::{Abstraction, ForwardAbstraction, build, build_forward};
+use abstraction_table::{ForwardAbstraction, build_forward};
 use plant_record::Plant;
 use plant_text::read_plant;
 use std::alloc::Global;
 use std::thread::Threads;
 use successor_box::find_slopes;
-
-/// The game of a plant.
-pub fn game_of<R: Threads + Sync>(
-    rt: &R,
-    alloc: Global,
-    plant: &Plant,
-) -> Result<Abstraction, Outcome>
-    ensures game { IfOk result (λ game. IsGameOf plant.now (game_of game)) }
-    ensures solvable { IfOk result (λ _. IsSolvable plant.now) }
-    ensures cause { IfErr result (λ outcome. outcome ≢ NoMemory → IsPlantOutcome plant.now outcome) }
-    ensures failed { IfErr result (λ outcome. outcome ≢ Done) }
-{
-    let slopes = find_slopes(alloc, plant)?;
-    let game = build(rt, alloc, plant, &slopes)?;
-    Ok(game)
-}
-
-/// The plant that the bytes spell, with its game.
-pub fn game_of_text<R: Threads + Sync>(
-    rt: &R,
-    alloc: Global,
-    bytes: &[u8],
-) -> Result<(Plant, Abstraction), Outcome>
-    ensures accepted { IfOk result (λ made. IsAccepted bytes.now made.0) }
-    ensures game { IfOk result (λ made. IsGameOf made.0 (game_of made.1)) }
-    ensures solvable { IfOk result (λ made. IsSolvable made.0) }
-    ensures cause { IfErr result (λ outcome. outcome ≢ NoMemory → IsPlantTextOutcome bytes.now outcome) }
-    ensures failed { IfErr result (λ outcome. outcome ≢ Done) }
-{
-    let plant = read_plant(alloc, bytes)?;
-    let game = game_of(rt, alloc, &plant)?;
-    Ok((plant, game))
-}
 
 /// The game of a plant as it is seen ahead, without its reversed edges.
 pub fn forward_of<R: Threads + Sync>(

@@ -9,8 +9,9 @@ ghost use Rattle.synth_run.specs.IsOutcomeFor.{IsTableTextOutcome, IsTableOutcom
 ghost use Rattle.synth_run.specs.Headline.{IsValid};
 ghost use Rattle.synth_run.specs.inside.Judging.{IsJudged};
 
-use crate::abstraction::{forward_of, game_of};
+use crate::abstraction::forward_of;
 use crate::outcome::Outcome;
+use abstraction_table::add_sources;
 use controller_table::{Table, read_table};
 use plant_record::GoalKind;
 use std::alloc::Global;
@@ -86,7 +87,8 @@ fn keep_verdict<R: Threads + Sync>(rt: &R, alloc: Global, table: &Table) -> Resu
     ensures cause { IfErr result (λ outcome. outcome ≢ ends.NoMemory → IsTableOutcome table.now.plant table.now.rows outcome) }
     ensures failed { IfErr result (λ outcome. outcome ≢ ends.Done) }
 {
-    let game = game_of(rt, alloc, table.plant())?;
+    let forward = forward_of(rt, alloc, table.plant())?;
+    let game = add_sources(rt, alloc, forward)?;
     let verdict = check_keep(alloc, &game, table)?;
     Ok(verdict)
 }

@@ -91,14 +91,6 @@ impl From<BuildFault> for Outcome {
     }
 }
 
-impl From<game_core::NoMemory> for Outcome {
-    ghost from_gives = { λ _ outcome. outcome ≡ ends.NoMemory };
-
-    fn from(_refused: game_core::NoMemory) -> Outcome {
-        Outcome::NoMemory
-    }
-}
-
 impl From<NoMemory> for Outcome {
     ghost from_gives = { λ _ outcome. outcome ≡ ends.NoMemory };
 

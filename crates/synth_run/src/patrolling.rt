@@ -8,8 +8,10 @@ ghost use Rattle.synth_run.specs.IsOutcomeFor.{turns_of, IsPatrolTextOutcome};
 ghost use Rattle.synth_run.specs.Headline.{IsPatrolTableFor};
 ghost use Rattle.base.specs.declared.limits.TheConstants.{PAIRS_LIMIT};
 
-use crate::abstraction::game_of_text;
+use crate::abstraction::forward_of_text;
 use crate::outcome::Outcome;
+use crate::solving::SolvedPlant;
+use abstraction_table::add_sources;
 use base::limits::TURNS_LIMIT;
 use frontier_pool::Gate;
 use plant_record::Plant;
@@ -17,31 +19,25 @@ use std::alloc::Global;
 use std::thread::Threads;
 use temporal_games::{PatrolRows, patrol};
 
-/// A plant with the solution of the patrol of its targets.
-#[derive(Drop)]
-pub struct Patrolled {
-    pub plant: Plant,
-    pub rows: PatrolRows,
-}
-
 /// The plant that the bytes spell, with the solution by which it visits its targets in turn.
-pub fn patrol_text<R: Threads + Sync, T: Gate>(
+pub fn solve_patrol<R: Threads + Sync, T: Gate>(
     rt: &R,
     alloc: Global,
     bytes: &[u8],
     workers: u32,
     gate: &T,
-) -> Result<Patrolled, Outcome>
+) -> Result<SolvedPlant<PatrolRows>, Outcome>
     requires { AreWorkers workers }
-    ensures table { IfOk result (λ patrolled. IsPatrolTableFor bytes.now (patrol_text patrolled.plant patrolled.rows)) }
+    ensures table { IfOk result (λ solved. IsPatrolTableFor bytes.now (patrol_text solved.plant solved.rows)) }
     ensures cause { IfErr result (λ outcome. outcome ≢ NoMemory → IsPatrolTextOutcome bytes.now outcome) }
     ensures failed { IfErr result (λ outcome. outcome ≢ Done) }
 {
-    let (plant, game) = game_of_text(rt, alloc, bytes)?;
+    let (plant, forward) = forward_of_text(rt, alloc, bytes)?;
     let turns = turns_of(&plant);
     limit_turns(turns)?;
+    let game = add_sources(rt, alloc, forward)?;
     let rows = patrol(rt, alloc, &game, &plant, workers, gate)?;
-    Ok(Patrolled { plant, rows })
+    Ok(SolvedPlant { plant, rows })
 }
 
 /// Refuses more pairs of a turn and a cell than the limit.

@@ -20,11 +20,11 @@ use plant_record::Plant;
 use std::alloc::Global;
 use std::thread::Threads;
 
-/// A plant with the solution of its game.
+/// A plant with the rows of its solution: those of its table, of reach and stay, or of a patrol.
 #[derive(Drop)]
-pub struct SolvedPlant {
+pub struct SolvedPlant<A> {
     pub plant: Plant,
-    pub answer: Answer,
+    pub rows: A,
 }
 
 /// The plant that the bytes spell, with its solution; and the board on which its game was resolved, with its root.
@@ -34,16 +34,16 @@ pub fn solve_text<R: Threads + Sync, T: Gate>(
     bytes: &[u8],
     workers: u32,
     gate: &T,
-) -> Result<(SolvedPlant, (Board, Root)), Outcome>
+) -> Result<(SolvedPlant<Answer>, (Board, Root)), Outcome>
     requires { AreWorkers workers }
-    ensures table { IfOk result (λ made. IsTableFor bytes.now (table_text written made.0.plant made.0.answer)) }
-    ensures fits { IfOk result (λ made. RowsFit made.0.plant made.0.answer) }
+    ensures table { IfOk result (λ made. IsTableFor bytes.now (table_text written made.0.plant made.0.rows)) }
+    ensures fits { IfOk result (λ made. RowsFit made.0.plant made.0.rows) }
     ensures played { IfOk result (λ made. IsPlayed (Command.Synth workers) bytes.now (Some made.1)) }
     ensures cause { IfErr result (λ outcome. outcome ≢ ends.NoMemory → IsPlantTextOutcome bytes.now outcome) }
     ensures failed { IfErr result (λ outcome. outcome ≢ ends.Done) }
 {
     let (plant, forward) = forward_of_text(rt, alloc, bytes)?;
     let solved = solve_game(rt, alloc, plant.goal(), forward, workers, gate)?;
-    let answer = solved.answer;
-    Ok((SolvedPlant { plant, answer }, (solved.board, solved.root)))
+    let rows = solved.answer;
+    Ok((SolvedPlant { plant, rows }, (solved.board, solved.root)))
 }

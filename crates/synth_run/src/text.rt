@@ -9,14 +9,13 @@ ghost use Rattle.run_devices.specs.Devices.{GainsWhole, writing};
 ghost use Rattle.synth_run.specs.inside.Texts.{bytes_of, trace_of, IsReady, CanBeWritten};
 ghost use Rattle.run_devices.specs.Transfers.{StopsBy};
 
-use crate::patrolling::Patrolled;
-use crate::settling::Settled;
 use crate::simulating::Simulation;
 use crate::solving::SolvedPlant;
 use controller_table::{Table, TableWriter};
+use game_core::Answer;
 use run_devices::{Sink, WriteFault, write_buffered, write_whole};
 use std::alloc::{AllocError, Global};
-use temporal_games::{PatrolWriter, StayWriter};
+use temporal_games::{PatrolRows, PatrolWriter, StayWriter};
 
 /// How many bytes are asked for before a trace is written: more than its writer takes of the stack.
 const TRACE_STACK: usize = 1 << 18;
@@ -24,13 +23,13 @@ const TRACE_STACK: usize = 1 << 18;
 /// What a command writes.
 #[derive(Drop)]
 pub enum Text {
-    Table(SolvedPlant),
+    Table(SolvedPlant<Answer>),
     Upgraded(Table),
     Line(&'static [u8]),
     Trace(Simulation),
     Summary(Vec<u8>),
-    Stay(Settled),
-    Patrol(Patrolled),
+    Stay(SolvedPlant<Answer>),
+    Patrol(SolvedPlant<PatrolRows>),
 }
 
 impl Text {
@@ -49,8 +48,8 @@ impl Text {
                 write_trace(alloc, simulation, out)
             }
             Text::Summary(text) => write_bytes(text, out),
-            Text::Stay(settled) => write_stay(alloc, settled, out),
-            Text::Patrol(patrolled) => write_patrol(alloc, patrolled, out),
+            Text::Stay(solved) => write_stay(alloc, solved, out),
+            Text::Patrol(solved) => write_patrol(alloc, solved, out),
         }
     }
 }
@@ -63,12 +62,16 @@ fn write_bytes<O: Sink>(bytes: &[u8], out: &mut O) -> Result<(), WriteFault>
     Ok(())
 }
 
-fn write_table<O: Sink>(alloc: Global, solved: &SolvedPlant, out: &mut O) -> Result<(), WriteFault>
-    requires { RowsFit solved.now.plant solved.now.answer }
-    ensures whole { OnOk result (GainsWhole (writing O.got O.faults O.capacity out.old out.new) (table_text written solved.now.plant solved.now.answer)) }
-    ensures stopped { IfErr result (λ fault. StopsBy fault (writing O.got O.faults O.capacity out.old out.new) (table_text written solved.now.plant solved.now.answer)) }
+fn write_table<O: Sink>(
+    alloc: Global,
+    solved: &SolvedPlant<Answer>,
+    out: &mut O,
+) -> Result<(), WriteFault>
+    requires { RowsFit solved.now.plant solved.now.rows }
+    ensures whole { OnOk result (GainsWhole (writing O.got O.faults O.capacity out.old out.new) (table_text written solved.now.plant solved.now.rows)) }
+    ensures stopped { IfErr result (λ fault. StopsBy fault (writing O.got O.faults O.capacity out.old out.new) (table_text written solved.now.plant solved.now.rows)) }
 {
-    let Ok(mut writer) = TableWriter::new(alloc, &solved.plant, &solved.answer) else {
+    let Ok(mut writer) = TableWriter::new(alloc, &solved.plant, &solved.rows) else {
         return Err(WriteFault::Memory);
     };
     write_buffered(alloc, out, &mut writer)
@@ -107,11 +110,15 @@ fn write_trace<O: Sink>(
     write_buffered(alloc, out, &mut simulation.writer())
 }
 
-fn write_stay<O: Sink>(alloc: Global, settled: &Settled, out: &mut O) -> Result<(), WriteFault>
-    ensures whole { OnOk result (GainsWhole (writing O.got O.faults O.capacity out.old out.new) (stay_text settled.now.plant settled.now.rows)) }
-    ensures stopped { IfErr result (λ fault. StopsBy fault (writing O.got O.faults O.capacity out.old out.new) (stay_text settled.now.plant settled.now.rows)) }
+fn write_stay<O: Sink>(
+    alloc: Global,
+    solved: &SolvedPlant<Answer>,
+    out: &mut O,
+) -> Result<(), WriteFault>
+    ensures whole { OnOk result (GainsWhole (writing O.got O.faults O.capacity out.old out.new) (stay_text solved.now.plant solved.now.rows)) }
+    ensures stopped { IfErr result (λ fault. StopsBy fault (writing O.got O.faults O.capacity out.old out.new) (stay_text solved.now.plant solved.now.rows)) }
 {
-    let Ok(mut writer) = StayWriter::new(alloc, &settled.plant, &settled.rows) else {
+    let Ok(mut writer) = StayWriter::new(alloc, &solved.plant, &solved.rows) else {
         return Err(WriteFault::Memory);
     };
     write_buffered(alloc, out, &mut writer)
@@ -119,13 +126,13 @@ fn write_stay<O: Sink>(alloc: Global, settled: &Settled, out: &mut O) -> Result<
 
 fn write_patrol<O: Sink>(
     alloc: Global,
-    patrolled: &Patrolled,
+    solved: &SolvedPlant<PatrolRows>,
     out: &mut O,
 ) -> Result<(), WriteFault>
-    ensures whole { OnOk result (GainsWhole (writing O.got O.faults O.capacity out.old out.new) (patrol_text patrolled.now.plant patrolled.now.rows)) }
-    ensures stopped { IfErr result (λ fault. StopsBy fault (writing O.got O.faults O.capacity out.old out.new) (patrol_text patrolled.now.plant patrolled.now.rows)) }
+    ensures whole { OnOk result (GainsWhole (writing O.got O.faults O.capacity out.old out.new) (patrol_text solved.now.plant solved.now.rows)) }
+    ensures stopped { IfErr result (λ fault. StopsBy fault (writing O.got O.faults O.capacity out.old out.new) (patrol_text solved.now.plant solved.now.rows)) }
 {
-    let Ok(mut writer) = PatrolWriter::new(alloc, &patrolled.plant, &patrolled.rows) else {
+    let Ok(mut writer) = PatrolWriter::new(alloc, &solved.plant, &solved.rows) else {
         return Err(WriteFault::Memory);
     };
     write_buffered(alloc, out, &mut writer)

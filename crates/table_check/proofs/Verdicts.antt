@@ -5,7 +5,7 @@ use Rattle.table_check.specs.declared.verdict.Verdict.{Verdict}
 use Rattle.table_check.specs.declared.verdict.Verdict.TheVariants.{Valid, Invalid}
 use Rattle.table_check.specs.Verdicts.{IsFirstWithout, IsVerdict}
 
-one_first : (Fact : ℕ → Type 0) (n c d : ℕ) → IsFirstWithout Fact n c → IsFirstWithout Fact n d → c ≡ d
+pub one_first : (Fact : ℕ → Type 0) (n c d : ℕ) → IsFirstWithout Fact n c → IsFirstWithout Fact n d → c ≡ d
 one_first Fact n c d f g =
     elim (cases_lt c d) [
       | inl lt ↦ absurd (f.without (g.before c lt))

@@ -1,5 +1,5 @@
 -- What is answered, by each text that a table is.
-use Rattle.std.proofs.Common.{◌≡◌, ℕ, List, Option, Some, sym, ap, subst, ◌∙◌, arith}
+use Rattle.std.proofs.Common.{◌≡◌, ℕ, List, Option, sym, ap, subst, ◌∙◌, arith}
 use Rattle.std.specs.Prelude.{ℤ}
 use Rattle.game_core.specs.declared.game.Row.{Row}
 use Rattle.plant_record.specs.declared.aims.GoalKind.{GoalKind}
@@ -10,13 +10,11 @@ use Rattle.controller_table.specs.Laws.{OneTablePerText}
 use Rattle.table_control.specs.declared.reply.Reply.{Reply}
 use Rattle.table_control.specs.declared.reply.Reply.TheVariants.{Apply, Arrived, NoRow, WrongSizes}
 use Rattle.table_control.specs.Control.{HasArrived, HasNoRow, IsReply, IsReplyBy, IsReplyByText}
-
-some_one : (a b : Row) → Some a ≡ Some b → a ≡ b
-some_one a b e = cc
+use Rattle.std.proofs.lemmas.Option.{same_Some}
 
 not_at_zero : (t : TableModel) (x : List ℤ) (u : ℕ) → HasArrived t x → Chooses t.plant t.rows x u → ⊥
 not_at_zero t x u arrived (row, has, applies) =
-    let rows : arrived.row ≡ row = some_one arrived.row row (sym arrived.has.is ∙ has.is) in
+    let rows : arrived.row ≡ row = same_Some arrived.row row (sym arrived.has.is ∙ has.is) in
     let ranked = subst (λ (goal : GoalKind). Applies goal row u) arrived.aim applies in
     let zero : row.rank ≡ 0 = ap (λ (r : Row). r.rank) (sym rows) ∙ arrived.rank in
     omega (arith, ranked.0, zero)

@@ -3,10 +3,10 @@ use Rattle.std.proofs.Common.{◌≡◌, ℕ, ◌+◌, ◌-◌, ◌*◌, ◌<◌
 use Rattle.std.specs.Prelude.{ℤ}
 use Rattle.std.specs.List.{between}
 use Rattle.std.proofs.lemmas.List.{drop-take, drop-drop, length-append, length-drop, length-take-le}
-use Rattle.std.proofs.lemmas.Nat.{row_fits}
 use Rattle.std.proofs.lemmas.Slice.{take-put_mid_below, between-put_mid, drop-put_mid}
 use borrow.Rule.Slice.PartMut.{put_mid}
 use Rattle.table_control.specs.Each.{piece}
+use Rattle.base.proofs.Products.{part_fits}
 
 -- a piece ends where the next one begins
 pub next : (k size : ℕ) → (k + 1) * size ≡ k * size + size
@@ -14,9 +14,6 @@ next k size = omega (arith)
 
 pub width : (k size : ℕ) → (k + 1) * size - k * size ≡ size
 width k size = omega (arith, next k size)
-
-pub within : (k count size : ℕ) → k < count → k * size + size ≤ count * size
-within k count size lt = row_fits k size count size lt (omega arith)
 
 pub piece_is : (k size : ℕ) (xs : List ℤ) → between (k * size) ((k + 1) * size) xs ≡ piece size k xs
 piece_is k size xs = ap (λ (n : ℕ). take n (drop (k * size) xs)) (width k size)
@@ -28,7 +25,7 @@ module _ (k size wide : ℕ) (xs ys : List ℤ) (short : k * size ≤ length xs)
   pub piece_other : (j : ℕ) → j < k → piece size j written ≡ piece size j xs
   piece_other j lt =
       sym (drop-take (j * size) size written)
-      ∙ ap (drop (j * size)) (take-put_mid_below (k * size) wide xs ys (j * size + size) (within j k size lt) short)
+      ∙ ap (drop (j * size)) (take-put_mid_below (k * size) wide xs ys (j * size + size) (part_fits j k size lt) short)
       ∙ drop-take (j * size) size xs
 
   pub piece_here : length ys ≡ size → piece size k written ≡ ys

@@ -9,7 +9,8 @@ use Rattle.controller_table.specs.Tables.{TableModel}
 use Rattle.table_control.specs.declared.reply.Reply.{Reply}
 use Rattle.table_control.specs.Control.{IsReply, IsReplyByText, TellsReply, reply_number}
 use Rattle.table_control.specs.Each.{piece, TellsReplyAt}
-use Rattle.table_control.proofs.Pieces.{width, within, piece_is, piece_other, piece_here, later_same, length_written, drop_next}
+use Rattle.table_control.proofs.Pieces.{width, piece_is, piece_other, piece_here, later_same, length_written, drop_next}
+use Rattle.base.proofs.Products.{part_fits}
 
 -- the k-th number tells the reply at the k-th piece
 abbrev pub TellsPiece : TableModel → ℕ → ℕ → List ℤ → List ℤ → List ℤ → List ℤ → ℕ → Type 0
@@ -17,20 +18,20 @@ TellsPiece t size room states before after numbers k = TellsReply t (piece size 
 
 module _ (k count room : ℕ) (inputs values : List ℤ) (long : length inputs ≡ count * room) (lt : k < count) (same : length values ≡ length (between (k * room) ((k + 1) * room) inputs)) where
   starts : k * room ≤ length inputs
-  starts = omega (arith, long, within k count room lt)
+  starts = omega (arith, long, part_fits k count room lt)
 
   pub one_piece : length values ≡ room
   one_piece =
       same
       ∙ ap (λ (xs : List ℤ). length xs) (piece_is k room inputs)
-      ∙ length-take-le room (drop (k * room) inputs) (omega (arith, length-drop (k * room) inputs, long, within k count room lt))
+      ∙ length-take-le room (drop (k * room) inputs) (omega (arith, length-drop (k * room) inputs, long, part_fits k count room lt))
 
   abbrev pub written : List ℤ
   written = put_mid (k * room) ((k + 1) * room - k * room) inputs values
 
   pub as_long : length written ≡ length inputs
   as_long =
-      length_written (k * room) ((k + 1) * room - k * room) inputs values (omega (arith, width k room, long, within k count room lt)) (one_piece ∙ sym (width k room))
+      length_written (k * room) ((k + 1) * room - k * room) inputs values (omega (arith, width k room, long, part_fits k count room lt)) (one_piece ∙ sym (width k room))
 
   pub later_next : (before : List ℤ) → drop (k * room) inputs ≡ drop (k * room) before → drop ((k + 1) * room) written ≡ drop ((k + 1) * room) before
   later_next before later =

@@ -20,7 +20,7 @@ use Rattle.game_core.proofs.Carried.{remarked_game}
 use Rattle.stay_game.proofs.Trees.{AreMarksFor, from_wins, to_rank, to_within, from_within}
 use Rattle.plant_game.specs.Abstraction.{IsGameOf}
 use Rattle.temporal_games.specs.StayText.{IsStayRowOf, StayRowsFit}
-use Rattle.plant_game.proofs.GameLaws.{below_from_row}
+use Rattle.game_core.proofs.Rows.{below_from_row}
 
 -- the mark of a cell that is no end
 abbrev way_mark : Mark → Mark

@@ -21,6 +21,7 @@ use Rattle.row_runs.proofs.FewRuns.{few_runs}
 use Rattle.row_runs.proofs.Lines.{no_feed, IsLine, same_lines, lines_then, same_front}
 use Rattle.row_runs.proofs.RunWords.{decimal_no_feed, one_number, AreSpelledOut, spelled_runs, runs_are_lines, end_is_line, lines_differ}
 use Rattle.temporal_games.specs.PatrolText.{patrol_line, turn_line, turn_lines, IsPatrolRowOf, PatrolRowsFit, IsPatrolText}
+use Rattle.base.proofs.Lists.{same_tail, same_head}
 
 -- ---- the line of a turn
 
@@ -59,28 +60,22 @@ are_lines cells j (r ∷ rows) h few_turns = (
   lines_then (run_lines Both r) (turn_lines (suc j) rows) (runs_are_lines (runs_from Second 0 r) (spelled_runs r h.0.spelled)) (are_lines cells (suc j) rows h.1 (omega (arith, few_turns))),
 )
 
-head_same : (x y : List ℕ) (xs ys : List (List ℕ)) → x ∷ xs ≡ y ∷ ys → x ≡ y
-head_same x y xs ys e = cc
-
-tail_same : (x y : List ℕ) (xs ys : List (List ℕ)) → x ∷ xs ≡ y ∷ ys → xs ≡ ys
-tail_same x y xs ys e = cc
-
 -- as many lines at the front of the same
 split : (xs ys s t : List (List ℕ)) → length xs ≡ length ys → xs ++ s ≡ ys ++ t → (xs ≡ ys) × (s ≡ t)
 split [] [] s t n e = (refl, e)
 split [] (y ∷ ys) s t n e = absurd (omega (arith, n))
 split (x ∷ xs) [] s t n e = absurd (omega (arith, n))
 split (x ∷ xs) (y ∷ ys) s t n e =
-    let rest = split xs ys s t (omega (arith, n)) (tail_same x y (xs ++ s) (ys ++ t) e) in
-    (ap (λ (z : List ℕ). z ∷ xs) (head_same x y (xs ++ s) (ys ++ t) e) ∙ ap (λ (z : List (List ℕ)). y ∷ z) rest.0, rest.1)
+    let rest = split xs ys s t (omega (arith, n)) (same_tail x y (xs ++ s) (ys ++ t) e) in
+    (ap (λ (z : List ℕ). z ∷ xs) (same_head x y (xs ++ s) (ys ++ t) e) ∙ ap (λ (z : List (List ℕ)). y ∷ z) rest.0, rest.1)
 
 encoded_turns : (cells j : ℕ) (rows others : List (List (Option Row))) → AllByRecursion (AreTold cells) rows → AllByRecursion (AreTold cells) others → length rows ≡ length others → turn_lines j rows ≡ turn_lines j others → rows ≡ others
 encoded_turns cells j [] [] h k n e = refl
 encoded_turns cells j [] (s ∷ others) h k n e = absurd (omega (arith, n))
 encoded_turns cells j (r ∷ rows) [] h k n e = absurd (omega (arith, n))
 encoded_turns cells j (r ∷ rows) (s ∷ others) h k n e =
-    let first = head_same (turn_line j (length (run_lines Both r))) (turn_line j (length (run_lines Both s))) (run_lines Both r ++ turn_lines (suc j) rows) (run_lines Both s ++ turn_lines (suc j) others) e in
-    let after = tail_same (turn_line j (length (run_lines Both r))) (turn_line j (length (run_lines Both s))) (run_lines Both r ++ turn_lines (suc j) rows) (run_lines Both s ++ turn_lines (suc j) others) e in
+    let first = same_head (turn_line j (length (run_lines Both r))) (turn_line j (length (run_lines Both s))) (run_lines Both r ++ turn_lines (suc j) rows) (run_lines Both s ++ turn_lines (suc j) others) e in
+    let after = same_tail (turn_line j (length (run_lines Both r))) (turn_line j (length (run_lines Both s))) (run_lines Both r ++ turn_lines (suc j) rows) (run_lines Both s ++ turn_lines (suc j) others) e in
     let count = turn_tells j (length (run_lines Both r)) (length (run_lines Both s)) (few r h.0.spelled) (few s k.0.spelled) first in
     let both = split (run_lines Both r) (run_lines Both s) (turn_lines (suc j) rows) (turn_lines (suc j) others) count after in
     let one = lines_differ r s h.0.spelled k.0.spelled (h.0.one_each ∙ sym k.0.one_each) both.0 in

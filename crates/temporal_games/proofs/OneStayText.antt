@@ -18,6 +18,7 @@ use Rattle.row_runs.proofs.FewRuns.{few_runs}
 use Rattle.row_runs.proofs.Lines.{IsLine, same_lines, lines_then, same_front}
 use Rattle.row_runs.proofs.RunWords.{AreSpelledOut, spelled_runs, runs_are_lines, count_is_line, end_is_line, lines_differ}
 use Rattle.temporal_games.specs.StayText.{stay_line, IsStayRowOf, StayRowsFit, IsStayText}
+use Rattle.base.proofs.Lists.{same_tail}
 
 -- the lines after the plant's text
 abbrev lines_after : List (Option Row) → List (List ℕ)
@@ -44,10 +45,7 @@ are_lines rows h =
 decoded_rows : (rows others : List (Option Row)) → AreSpelledOut rows → AreSpelledOut others → length rows ≡ length others → concat (lines_after rows) ≡ concat (lines_after others) → rows ≡ others
 decoded_rows rows others h k len e =
     let lines = same_lines (lines_after rows) (lines_after others) (are_lines rows h) (are_lines others k) e in
-    lines_differ rows others h k len (same_front (run_lines Both rows) (run_lines Both others) end_line (tails (count_line (length (run_lines Both rows))) (count_line (length (run_lines Both others))) (run_lines Both rows ++ end_line ∷ []) (run_lines Both others ++ end_line ∷ []) lines))
-  where
-    tails : (x y : List ℕ) (xs ys : List (List ℕ)) → x ∷ xs ≡ y ∷ ys → xs ≡ ys
-    tails x y xs ys e = cc
+    lines_differ rows others h k len (same_front (run_lines Both rows) (run_lines Both others) end_line (same_tail (count_line (length (run_lines Both rows))) (count_line (length (run_lines Both others))) (run_lines Both rows ++ end_line ∷ []) (run_lines Both others ++ end_line ∷ []) lines))
 
 pub one_stay_text : (bytes : List ℕ) (p q : Description) (rows others : List (Option Row)) → IsStayText bytes p rows → IsStayText bytes q others → (p ≡ q) × (rows ≡ others)
 one_stay_text bytes p q rows others h k =

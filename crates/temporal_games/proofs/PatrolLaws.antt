@@ -8,15 +8,10 @@ use Rattle.plant_game.specs.Abstraction.{IsGameOf}
 use Rattle.patrol_game.specs.Targets.{IsInTarget}
 use Rattle.patrol_game.specs.Patrol.{IsPatrol}
 use Rattle.temporal_games.specs.PatrolText.{patrol_text, IsPatrolText}
-use Rattle.temporal_games.specs.Patrols.{Patrols}
 use Rattle.temporal_games.proofs.FittingPatrolRows.{patrol_rows_fit}
-use Rattle.temporal_games.proofs.Patrolling.{patrols}
 pub use Rattle.temporal_games.proofs.OnePatrolText.{one_patrol_text}
+pub use Rattle.temporal_games.proofs.Patrolling.{patrol_text_patrols}
 
 -- the text of the solution is one
 pub solution_has_patrol_text : (p : Description) (g : Game) (rows : List (List (Option Row))) → IsWithinLimits p → IsGameOf p g → IsPatrol g (IsInTarget p) (length p.targets) rows → IsPatrolText (patrol_text p rows) p rows
 solution_has_patrol_text p g rows within game solution = record { limits = within; fitting = patrol_rows_fit p g rows game solution; text = refl }
-
--- and patrols the targets
-pub patrol_text_patrols : (bytes : List ℕ) (p : Description) (g : Game) (rows : List (List (Option Row))) → IsPatrolText bytes p rows → IsGameOf p g → IsPatrol g (IsInTarget p) (length p.targets) rows → Patrols p bytes
-patrol_text_patrols = patrols

@@ -17,10 +17,11 @@ use Rattle.patrol_game.specs.Targets.{IsInTarget}
 use Rattle.patrol_game.specs.Visits.{next_turn, VisitsOn, IsArrival}
 use Rattle.patrol_game.specs.Patrol.{IsReachedLaterBy, IsPatrolRow, IsPatrol, rows_for}
 use Rattle.patrol_game.proofs.Laws.{targets_are_told, later_reachers_have_rows}
-use Rattle.plant_game.proofs.GameLaws.{below_from_row, refines, clear_at, lands}
+use Rattle.plant_game.proofs.GameLaws.{refines, clear_at, lands}
 use Rattle.temporal_games.specs.PatrolText.{IsPatrolText, HasPatrolRow, IsArrivalIn}
 use Rattle.temporal_games.specs.Patrols.{LandsWell, Goes, Patrols}
 use Rattle.temporal_games.proofs.OnePatrolText.{one_patrol_text}
+use Rattle.game_core.proofs.Rows.{below_from_row}
 
 -- the subtree for one of the cells
 tree_at : (g : Game) (End : ℕ → Type 0) (next : Trees) (cells : List ℕ) (s : ℕ) → LeadEachTo End g next cells → Contains cells s → (t : Tree) × LeadsTo End g t s × (depth_of t ≤ greatest_depth next)
@@ -130,8 +131,9 @@ module _ {bytes : List ℕ} {p : Description} {g : Game} {rows : List (List (Opt
                 inr (out, omega (arith, less, some', le), goes_on j way.0 (n - 1) lj landed.0 way.1 (omega (arith, less, le)))
           ]
 
-pub patrols : (bytes : List ℕ) (p : Description) (g : Game) (rows : List (List (Option Row))) → IsPatrolText bytes p rows → IsGameOf p g → IsPatrol g (IsInTarget p) (length p.targets) rows → Patrols p bytes
-patrols bytes p g rows table abstraction solution j x row ws has noises =
+-- and patrols the targets
+pub patrol_text_patrols : (bytes : List ℕ) (p : Description) (g : Game) (rows : List (List (Option Row))) → IsPatrolText bytes p rows → IsGameOf p g → IsPatrol g (IsInTarget p) (length p.targets) rows → Patrols p bytes
+patrol_text_patrols bytes p g rows table abstraction solution j x row ws has noises =
     let k : Keeps bytes p g rows = record {
       table = table;
       abstraction = abstraction;

@@ -17,8 +17,9 @@ use Rattle.plant_game.specs.Abstraction.{IsGameOf}
 use Rattle.plant_game.specs.Refinement.{IsRefinement}
 use Rattle.temporal_games.specs.StayText.{IsStayText}
 use Rattle.temporal_games.specs.Settles.{IsUnderWay, Holds, Settles}
-use Rattle.plant_game.proofs.GameLaws.{below_from_row, refines, clear_at, in_target, lands}
+use Rattle.plant_game.proofs.GameLaws.{refines, clear_at, in_target, lands}
 use Rattle.temporal_games.proofs.OneStayText.{one_stay_text}
+use Rattle.game_core.proofs.Rows.{below_from_row}
 
 clear_of : (g : Game) (c : ℕ) (t : Tree) → LeadsTo (IsHeld g) g t c → mark_of g c ≢ Obstacle
 clear_of g c Leaf l e = let goal : mark_of g c ≡ Goal = l 0 in cc
@@ -81,8 +82,9 @@ module _ {bytes : List ℕ} {p : Description} {g : Game} {rows : List (Option Ro
         (row, record { plant = p; rows = rows; table = k.table; inside = inside; is = is }, holds ws (step_of p x row.input w) there.0 (n - 1) next.0 there.1 (omega (arith, low, same, le)) noises.1),
       )
 
-pub settles : (bytes : List ℕ) (p : Description) (g : Game) (rows : List (Option Row)) → IsStayText bytes p rows → IsGameOf p g → IsStaySolution g rows → Settles p bytes
-settles bytes p g rows table abstraction solution x row ws has noises =
+-- and settles the plant
+pub stay_text_settles : (bytes : List ℕ) (p : Description) (g : Game) (rows : List (Option Row)) → IsStayText bytes p rows → IsGameOf p g → IsStaySolution g rows → Settles p bytes
+stay_text_settles bytes p g rows table abstraction solution x row ws has noises =
     let same = one_stay_text bytes has.plant p has.rows rows has.table table in
     let inside : IsInDomain (axes_of p) x = subst (λ (q : Description). IsInDomain (axes_of q) x) same.0 has.inside in
     let is : row_of rows (cell_of (axes_of p) x) ≡ Some row = subst (λ (r : List (Option Row)). row_of r (cell_of (axes_of p) x) ≡ Some row) same.1 (subst (λ (q : Description). row_of has.rows (cell_of (axes_of q) x) ≡ Some row) same.0 has.is) in

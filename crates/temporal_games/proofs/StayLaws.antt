@@ -7,15 +7,10 @@ use Rattle.plant_record.specs.Limits.{IsWithinLimits}
 use Rattle.stay_game.specs.Stay.{IsStaySolution}
 use Rattle.plant_game.specs.Abstraction.{IsGameOf}
 use Rattle.temporal_games.specs.StayText.{stay_text, IsStayText}
-use Rattle.temporal_games.specs.Settles.{Settles}
 use Rattle.temporal_games.proofs.FittingStayRows.{stay_rows_fit}
-use Rattle.temporal_games.proofs.Settling.{settles}
 pub use Rattle.temporal_games.proofs.OneStayText.{one_stay_text}
+pub use Rattle.temporal_games.proofs.Settling.{stay_text_settles}
 
 -- the text of the solution is one
 pub solution_has_stay_text : (p : Description) (g : Game) (rows : List (Option Row)) → IsWithinLimits p → IsGameOf p g → IsStaySolution g rows → IsStayText (stay_text p rows) p rows
 solution_has_stay_text p g rows within game solution = record { limits = within; fitting = stay_rows_fit p g rows game solution; text = refl }
-
--- and settles the plant
-pub stay_text_settles : (bytes : List ℕ) (p : Description) (g : Game) (rows : List (Option Row)) → IsStayText bytes p rows → IsGameOf p g → IsStaySolution g rows → Settles p bytes
-stay_text_settles = settles

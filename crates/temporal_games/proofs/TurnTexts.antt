@@ -1,7 +1,7 @@
 -- The lines of the turns that are left, one turn on and at the end.
-use Rattle.std.proofs.Common.{◌≡◌, ℕ, suc, ◌+◌, ◌<◌, ◌≤◌, List, [], ◌∷◌, ◌++◌, length, length-append, take, drop, get_or, Option, refl, sym, ap, ◌∙◌, add-one, arith}
+use Rattle.std.proofs.Common.{◌≡◌, ℕ, suc, ◌+◌, ◌<◌, ◌≤◌, List, [], ◌∷◌, ◌++◌, length, length-append, take, drop, get_or, Option, sym, ap, ◌∙◌, add-one, arith}
 use Rattle.std.specs.List.{concat}
-use Rattle.std.proofs.lemmas.List.{length-map, drop_more, take-append-le, drop-append-le}
+use Rattle.std.proofs.lemmas.List.{length-map, drop_more, take-append-le, drop-append-le, nil_from_length}
 use Rattle.std.proofs.lemmas.List.Folds.{concat-append}
 use Rattle.game_core.specs.declared.game.Row.{Row}
 use Rattle.row_runs.specs.declared.row_format.RowFormat.TheVariants.{Both}
@@ -24,16 +24,12 @@ one_turn_on rows j lt =
     ∙ first_turn j (get_or rows j []) (drop (j + 1) rows)
     ∙ ap (λ (k : ℕ). turn_line j (length (runs_from Second 0 (rows_for rows j))) ++ (concat (run_lines Both (rows_for rows j)) ++ concat (turn_lines k (drop (j + 1) rows)))) (sym (add-one j))
 
-nothing : (xs : List ℕ) → length xs ≡ 0 → xs ≡ []
-nothing [] e = refl
-nothing (x ∷ xs) e = absurd (omega (arith, e))
-
 -- a turn whose line is due: nothing is left of the one before it
 pub begun : (rows : List (List (Option Row))) (j n : ℕ) (now line runs first lines : List ℕ) → line ++ (runs ++ concat (turn_lines j (drop j rows))) ≡ now → length line ≡ 0 → runs ≡ [] → j < length rows
     → first ≡ turn_line j n → n ≡ length (runs_from Second 0 (rows_for rows j)) → lines ≡ concat (run_lines Both (rows_for rows j)) → now ≡ first ++ (lines ++ concat (turn_lines (j + 1) (drop (j + 1) rows)))
 begun rows j n now line runs first lines view none over lt first_is count lines_are =
     sym view
-    ∙ ap (λ (x : List ℕ). x ++ (runs ++ concat (turn_lines j (drop j rows)))) (nothing line none)
+    ∙ ap (λ (x : List ℕ). x ++ (runs ++ concat (turn_lines j (drop j rows)))) (nil_from_length line none)
     ∙ ap (λ (x : List ℕ). x ++ concat (turn_lines j (drop j rows))) over
     ∙ one_turn_on rows j lt
     ∙ ap (λ (k : ℕ). turn_line j k ++ (concat (run_lines Both (rows_for rows j)) ++ concat (turn_lines (j + 1) (drop (j + 1) rows)))) (sym count)

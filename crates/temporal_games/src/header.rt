@@ -12,6 +12,6 @@ pub(crate) fn header_of(alloc: Global, first_line: &[u8], p: &Plant) -> Result<V
     ensures { IfOk result (λ header. header.items ≡ first_line.now ++ text_of p.now) }
 {
     let mut header = Vec::from_slice(alloc, first_line)?;
-    write_plant(alloc, p, &mut header).map_err(|_| NoMemory)?;
+    write_plant(alloc, p, &mut header)?;
     Ok(header)
 }

@@ -11,7 +11,7 @@ use Rattle.board_rounds.specs.Rounds.{IsUnused}
 use Rattle.base.specs.declared.limits.TheConstants.{WORKERS_LIMIT}
 
 -- all hands are taken in, the log is on lists, the tally has all cuts and offers, and each round but the last found a cell
-pub record HoldsBefore (holds_before : ℕ → List ℕ → List Account → Type 0) (board : BoardModel) (cells workers : ℕ) (r : Rounds) : Type 0 where
+pub record IsRoundInvariant (holds_before : ℕ → List ℕ → List Account → Type 0) (board : BoardModel) (cells workers : ℕ) (r : Rounds) : Type 0 where
   pub by_rule : holds_before r.tally.rounds r.list.items r.root.accounts
   pub log : IsLawfulLog r.root.accounts
   pub all_listed : r.listed ≡ log_count r.root.accounts

@@ -31,5 +31,5 @@ pub record IsAtWork (g : Game) (fits : BoardModel → Type 0) (keeps : Account �
   pub kept : keeps w.account
 
 -- members that were at work
-abbrev pub HaveWorked : Game → (BoardModel → Type 0) → (Account → Type 0) → BoardModel → List ℕ → List (Member HandModel) → Type 0
-HaveWorked g fits keeps board list members = All (λ (m : Member HandModel). IsAtWork g fits keeps board list m.hand) members
+abbrev pub AllAtWork : Game → (BoardModel → Type 0) → (Account → Type 0) → BoardModel → List ℕ → List (Member HandModel) → Type 0
+AllAtWork g fits keeps board list members = All (λ (m : Member HandModel). IsAtWork g fits keeps board list m.hand) members

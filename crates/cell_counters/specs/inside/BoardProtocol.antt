@@ -10,7 +10,7 @@ use Rattle.cell_counters.specs.declared.rule.Setup.{Setup}
 use Rattle.cell_counters.specs.declared.rule.View.{View}
 use Rattle.cell_counters.specs.declared.rule.Beginning.{Beginning}
 use Rattle.cell_counters.specs.Accounts.{IsLawfulCounter, IsLawfulLeast, offers_on, all_offers, all_logs, log_count, numbers, cell_at}
-use Rattle.cell_counters.specs.BoardModels.{BoardModel, RootModel, HandModel, blank, with_cut, with_offer, with_note, with_log, IsLawful, filled}
+use Rattle.cell_counters.specs.BoardModels.{BoardModel, RootModel, HandModel, blank, with_cut, with_offer, with_note, with_log, IsLawful, filled_slots}
 
 -- the numbers with which a board with this key began
 abbrev pub setup_of : Beginning → Setup
@@ -67,12 +67,12 @@ pub record KeepsLog (n : Setup) (words : List ℕ) (views : List View) : Type 0 
   pub stored : log_count (accounts_of views) < 2 ^ 64 → All (HasStored n words) views
 
 -- the view of a hand that was taken in
-abbrev pub nobody : View
-nobody = record { began = record { starts = []; least = []; slots = 0 }; made = 0; accounts = []; awaits = None }
+abbrev pub empty_view : View
+empty_view = record { began = record { starts = []; least = []; slots = 0 }; made = 0; accounts = []; awaits = None }
 
 -- a view knows how the board began, unless it was taken in
 abbrev pub Knows : Setup → View → Type 0
-Knows n v = (v ≡ nobody) ⊎ (v.began ≡ n)
+Knows n v = (v ≡ empty_view) ⊎ (v.began ≡ n)
 
 -- the rule: the accounts of all views are together lawful, there are as many as hands were made, and each view knows how the board began
 pub record Keeps (n : Setup) (state : State (Unit {0}) View) : Type 0 where
@@ -96,8 +96,8 @@ abbrev pub new_hand : View → View
 new_hand v = record { began = v.began; made = 0; accounts = blank ∷ []; awaits = None }
 
 -- the root's view with a hand's accounts
-abbrev pub collected : View → View → View
-collected v w = record v { accounts = v.accounts ++ w.accounts }
+abbrev pub joined_view : View → View → View
+joined_view v w = record v { accounts = v.accounts ++ w.accounts }
 
 -- the first of some accounts
 abbrev pub first_of : List Account → Account
@@ -117,12 +117,12 @@ abbrev pub awaited : ℕ → ℕ → Option ℕ
 awaited slots number = cond (nat_lt number slots) (Some number) None
 
 -- the hand's view after a number was drawn for a cell
-abbrev pub drawn : View → ℕ → ℕ → View
-drawn v cell number = record v { accounts = with_log (account_of v) cell number ∷ []; awaits = awaited v.began.slots number }
+abbrev pub view_after_draw : View → ℕ → ℕ → View
+view_after_draw v cell number = record v { accounts = with_log (account_of v) cell number ∷ []; awaits = awaited v.began.slots number }
 
 -- the hand's view after the cell was stored
-abbrev pub settled : View → View
-settled v = record v { awaits = None }
+abbrev pub view_after_store : View → View
+view_after_store v = record v { awaits = None }
 
 -- the board that began so
 abbrev pub board_of : TableId → Setup → BoardModel
@@ -182,11 +182,11 @@ Notes item s me found after = after ≡ (with_account me.0 (with_note (account_o
 
 -- what a draw tells
 abbrev pub Draws : ℕ → Step (Unit {0}) → Seated → ℕ → Seated → Type 0
-Draws cell s me found after = after ≡ (drawn me.0 cell found, me.1)
+Draws cell s me found after = after ≡ (view_after_draw me.0 cell found, me.1)
 
 -- what a store tells
 abbrev pub Stores : Step (Unit {0}) → Seated → ℕ → Seated → Type 0
-Stores s me found after = after ≡ (settled me.0, me.1)
+Stores s me found after = after ≡ (view_after_store me.0, me.1)
 
 -- no hand is out
 abbrev pub IsAlone : View → Type 0
@@ -199,7 +199,7 @@ pub record Explains (n : Setup) (accounts : List Account) (word found : ℕ) : T
   pub least : (w : ℕ) → w < length n.least → word ≡ length n.starts + w → IsLawfulLeast accounts w (slice_index n.least w) found
   pub tail : word ≡ tail_of n → found ≡ log_count accounts % 2 ^ 64
   pub cell : tail_of n < word → word < slot_of n n.slots → found < 2 ^ 32
-  pub slot : (k : ℕ) → k < filled accounts n.slots → word ≡ slot_of n k → log_count accounts < 2 ^ 64 → found ≡ cell_at k (all_logs accounts)
+  pub slot : (k : ℕ) → k < filled_slots accounts n.slots → word ≡ slot_of n k → log_count accounts < 2 ^ 64 → found ≡ cell_at k (all_logs accounts)
 
 -- what a look by the root tells: no more were taken in than were made, and where none is out, its accounts explain the word
 pub record Looks (s : Step (Unit {0})) (me : Seated) (found : ℕ) (after : Seated) : Type 0 where

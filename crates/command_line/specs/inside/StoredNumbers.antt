@@ -11,5 +11,5 @@ pub record IsStored (six : List ℤ) (count : ℕ) : Type 0 where
   pub count_is : count ≡ length (take count six)
 
 -- the numbers give back what is kept
-pub restored : (s : Inside) → IsStored s.six s.count → ◌≡◌ {A = Inside} (record { six = point_of (take s.count s.six); count = length (take s.count s.six) }) s
-restored s stored = rw (← stored.rest, ← stored.count_is) refl
+pub view_of_inverse : (s : Inside) → IsStored s.six s.count → ◌≡◌ {A = Inside} (record { six = point_of (take s.count s.six); count = length (take s.count s.six) }) s
+view_of_inverse s stored = rw (← stored.rest, ← stored.count_is) refl

@@ -2,9 +2,9 @@
 use Rattle.std.specs.Prelude.{◌≡◌, ℕ, ◌<◌, List, [], ◌∷◌, length, get_or, slice_set, Option, Some, None}
 
 -- the slots once a value is written at each of these slots
-abbrev pub written : List (Option ℕ) → List ℕ → ℕ → List (Option ℕ)
-written contents [] value = contents
-written contents (end ∷ ends) value = written (slice_set contents end (Some value)) ends value
+abbrev pub contents_with : List (Option ℕ) → List ℕ → ℕ → List (Option ℕ)
+contents_with contents [] value = contents
+contents_with contents (end ∷ ends) value = contents_with (slice_set contents end (Some value)) ends value
 
 -- each of these slots is empty, also when those before it are written
 abbrev pub AreFree : List (Option ℕ) → List ℕ → ℕ → Type 0

@@ -1,12 +1,9 @@
 -- The rule of the table below a sweep, and what a step tells.
-use Rattle.std.specs.Prelude.{◌≡◌, ℕ, zero, suc, ◌+◌, ◌≤◌, ◌==◌, List, [], ◌∷◌, ◌++◌, length, slice_index, sum_by, count_by}
+use Rattle.std.specs.Prelude.{◌≡◌, ℕ, zero, suc, ◌+◌, ◌≤◌, List, [], ◌∷◌, ◌++◌, length, slice_index, sum_by}
 use Rattle.atomic_table.specs.Table.{State, Step, Me}
 use Rattle.frontier_pool.specs.declared.rule.ClaimList.{ClaimList}
 use Rattle.frontier_pool.specs.declared.rule.SeatView.{SeatView}
-
--- how often a number stands in a list
-abbrev pub times : ℕ → List ℕ → ℕ
-times n xs = count_by (λ x. x == n) xs
+use Rattle.base.specs.Counts.{times}
 
 -- how often an item stands in some parts
 abbrev pub times_in : ℕ → List ClaimList → ℕ
@@ -41,34 +38,34 @@ abbrev pub first_view : SeatView
 first_view = record { made = 1; claim_lists = no_items ∷ [] }
 
 -- a new member's view
-abbrev pub fresh : SeatView
-fresh = record { made = 0; claim_lists = no_items ∷ [] }
+abbrev pub member_view : SeatView
+member_view = record { made = 0; claim_lists = no_items ∷ [] }
 
 -- the view of a member that was collected
-abbrev pub nobody : SeatView
-nobody = record { made = 0; claim_lists = [] }
+abbrev pub empty_view : SeatView
+empty_view = record { made = 0; claim_lists = [] }
 
 -- the caller's view with one more member
-abbrev pub one_more : SeatView → SeatView
-one_more v = record v { made = v.made + 1 }
+abbrev pub with_member : SeatView → SeatView
+with_member v = record v { made = v.made + 1 }
 
 -- the caller's view with a member's parts
-abbrev pub collected : SeatView → SeatView → SeatView
-collected v w = record v { claim_lists = v.claim_lists ++ w.claim_lists }
+abbrev pub joined_view : SeatView → SeatView → SeatView
+joined_view v w = record v { claim_lists = v.claim_lists ++ w.claim_lists }
 
 -- the parts, of which the first has these items besides
-abbrev pub longer : List ClaimList → List ℕ → List ClaimList
-longer [] more = []
-longer (p ∷ claim_lists) more = record { items = p.items ++ more } ∷ claim_lists
+abbrev pub with_first_items : List ClaimList → List ℕ → List ClaimList
+with_first_items [] more = []
+with_first_items (p ∷ claim_lists) more = record { items = p.items ++ more } ∷ claim_lists
 
 -- the view, whose own part has these items besides
-abbrev pub grown : SeatView → List ℕ → SeatView
-grown v more = record v { claim_lists = longer v.claim_lists more }
+abbrev pub with_items : SeatView → List ℕ → SeatView
+with_items v more = record v { claim_lists = with_first_items v.claim_lists more }
 
 -- the view after a claim that found this number: the item is claimed where it found 0
-abbrev pub claimed : SeatView → ℕ → ℕ → SeatView
-claimed v item zero = grown v (item ∷ [])
-claimed v item (suc before) = v
+abbrev pub with_claim : SeatView → ℕ → ℕ → SeatView
+with_claim v item zero = with_items v (item ∷ [])
+with_claim v item (suc before) = v
 
 -- what a seat knows
 abbrev pub Seated : Type 0
@@ -76,7 +73,7 @@ Seated = Me (Unit {0}) SeatView
 
 -- what a claim tells
 abbrev pub Claims : Step (Unit {0}) → Seated → ℕ → Seated → Type 0
-Claims s me found after = after ≡ (claimed me.0 s.word found, me.1)
+Claims s me found after = after ≡ (with_claim me.0 s.word found, me.1)
 
 -- the caller has all parts that were made
 abbrev pub IsAlone : SeatView → Type 0

@@ -5,7 +5,7 @@ use Rattle.atomic_table.specs.Seated.{TableId}
 use Rattle.frontier_pool.specs.declared.member.Member.{Member}
 use Rattle.frontier_pool.specs.declared.member.Local.{Local}
 use Rattle.frontier_pool.specs.declared.rule.ClaimList.{ClaimList}
-use Rattle.frontier_pool.specs.inside.ClaimProtocol.{grown, fresh, one_more, IsAlone}
+use Rattle.frontier_pool.specs.inside.ClaimProtocol.{with_items, member_view, with_member, IsAlone}
 use Rattle.frontier_pool.specs.inside.Gains.{SeatOf}
 
 -- the caller's seat, with these parts of so many that were made
@@ -18,7 +18,7 @@ pub record IsCaller (table : TableId) (made : ℕ) (claim_lists : List ClaimList
 pub record HasAddedWorkers (was now : SeatOf) : Type 0 where
   pub table : now.table_id ≡ was.table_id
   pub id : now.id ≡ was.id
-  pub me : now.me ≡ (one_more was.me.0, was.me.1)
+  pub me : now.me ≡ (with_member was.me.0, was.me.1)
 
 -- a seat of the table that may claim items
 pub record MayClaim (table : TableId) (seat : SeatOf) : Type 0 where
@@ -35,7 +35,7 @@ pub record HasAll (table : TableId) (seat : SeatOf) : Type 0 where
 -- a member's seat of the table, with this part
 pub record IsSeat (table : TableId) (claim_list : List ℕ) (seat : SeatOf) : Type 0 where
   pub worker : seat.table_id ≡ table
-  pub me : seat.me ≡ (grown fresh claim_list, [])
+  pub me : seat.me ≡ (with_items member_view claim_list, [])
 
 -- the room has such a seat
 abbrev pub HasSeat : TableId → List ℕ → Option Local → Type 0

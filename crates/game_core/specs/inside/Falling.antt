@@ -33,24 +33,24 @@ safe_pairs g safe c = count_by (λ u. is_safe safe (pair_of g c u)) (range_with_
 abbrev pub safe_at_first : Game → List Bool
 safe_at_first g = map (is_live g) (all_pairs g)
 
-abbrev pub begun : Game → Progress
-begun g = record { safe = safe_at_first g; left = map (safe_pairs g (safe_at_first g)) (range_with_len 0 g.cells); queue = [] }
+abbrev pub first_progress : Game → Progress
+first_progress g = record { safe = safe_at_first g; left = map (safe_pairs g (safe_at_first g)) (range_with_len 0 g.cells); queue = [] }
 
 -- a cell falls
-abbrev pub fallen : ℕ → Progress → Progress
-fallen c p = record { safe = p.safe; left = p.left; queue = p.queue ++ c ∷ [] }
+abbrev pub with_fall : ℕ → Progress → Progress
+with_fall c p = record { safe = p.safe; left = p.left; queue = p.queue ++ c ∷ [] }
 
 -- a safe pair of a cell closes
-abbrev pub lessened : ℕ → ℕ → Progress → Progress
-lessened pair c p = record { safe = slice_set p.safe pair false; left = slice_set p.left c (slice_index p.left c - 1); queue = p.queue }
+abbrev pub without_pair : ℕ → ℕ → Progress → Progress
+without_pair pair c p = record { safe = slice_set p.safe pair false; left = slice_set p.left c (slice_index p.left c - 1); queue = p.queue }
 
 -- a cell without a safe pair falls
 abbrev pub after_check : ℕ → Progress → Progress
-after_check c p = if slice_index p.left c == 0 then fallen c p else p
+after_check c p = if slice_index p.left c == 0 then with_fall c p else p
 
 -- a pair may lead to a fallen cell
 abbrev pub after_loss : Game → ℕ → Progress → Progress
-after_loss g pair p = if is_safe p.safe pair then after_check (pair / g.inputs) (lessened pair (pair / g.inputs) p) else p
+after_loss g pair p = if is_safe p.safe pair then after_check (pair / g.inputs) (without_pair pair (pair / g.inputs) p) else p
 
 -- The safe pairs, and how many each cell has. A live pair that is safe no more may lead to a fallen cell.
 pub record AreSafe (g : Game) (p : Progress) : Type 0 where
@@ -61,7 +61,7 @@ pub record AreSafe (g : Game) (p : Progress) : Type 0 where
   pub counted : (c : ℕ) → c < g.cells → slice_index p.left c ≡ safe_pairs g p.safe c
 
 -- The queue has each cell below the bound without a safe pair once, and each of them falls.
-pub record HaveFallen (g : Game) (bound : ℕ) (p : Progress) : Type 0 where
+pub record AreFallenBelow (g : Game) (bound : ℕ) (p : Progress) : Type 0 where
   pub queued : (c : ℕ) → c < bound → slice_index p.left c ≡ 0 → Contains p.queue c
   pub empty : (c : ℕ) → Contains p.queue c → (c < bound) × (slice_index p.left c ≡ 0)
   pub once : AllPairs (λ a b. a ≢ b) p.queue
@@ -70,7 +70,7 @@ pub record HaveFallen (g : Game) (bound : ℕ) (p : Progress) : Type 0 where
 -- The cells below the bound are looked at, and the first cells of the queue are taken: no safe pair leads to one of these.
 pub record IsFalling (g : Game) (bound head : ℕ) (p : Progress) : Type 0 where
   pub safe : AreSafe g p
-  pub fallen : HaveFallen g bound p
+  pub fallen : AreFallenBelow g bound p
   pub reached : head ≤ length p.queue
   pub taken : (i pair : ℕ) → i < head → pair < pairs_of g → is_safe p.safe pair ≡ true → Contains (successors_at g pair) (slice_index p.queue i) → ⊥
 

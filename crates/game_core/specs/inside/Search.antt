@@ -21,42 +21,42 @@ pub record HasCapacity (rows : List (Option Row)) (order : List ℕ) (found : �
   pub counted : found ≡ count_by is_some rows
 
 -- nothing is taken, and no cell has a row
-abbrev pub begun : Game → Progress
-begun g = record { left = map length g.successors; rows = replicate g.cells None; queue = [] }
+abbrev pub first_progress : Game → Progress
+first_progress g = record { left = map length g.successors; rows = replicate g.cells None; queue = [] }
 
 -- a cell without a row gets one
-abbrev pub settled : ℕ → Row → Progress → Progress
-settled c row p = record { left = p.left; rows = slice_set p.rows c (Some row); queue = p.queue ++ c ∷ [] }
+abbrev pub with_row : ℕ → Row → Progress → Progress
+with_row c row p = record { left = p.left; rows = slice_set p.rows c (Some row); queue = p.queue ++ c ∷ [] }
 
 -- of two inputs at one rank the lesser stands
 abbrev pub better : Row → Row → Row
 better old new = if (old.rank == new.rank) && nat_lt new.input old.input then new else old
 
 -- a row is offered to a cell, by the row that it has
-abbrev pub offered_to : Option Row → ℕ → Row → Progress → Progress
-offered_to None c row p = settled c row p
-offered_to (Some old) c row p = record { left = p.left; rows = slice_set p.rows c (Some (better old row)); queue = p.queue }
+abbrev pub with_offer_to : Option Row → ℕ → Row → Progress → Progress
+with_offer_to None c row p = with_row c row p
+with_offer_to (Some old) c row p = record { left = p.left; rows = slice_set p.rows c (Some (better old row)); queue = p.queue }
 
-abbrev pub offered : ℕ → Row → Progress → Progress
-offered c row p = offered_to (row_of p.rows c) c row p
+abbrev pub with_offer : ℕ → Row → Progress → Progress
+with_offer c row p = with_offer_to (row_of p.rows c) c row p
 
 -- the same, by the cell's mark: a plain cell alone takes it
-abbrev pub offered_at : Mark → ℕ → Row → Progress → Progress
-offered_at Goal c row p = p
-offered_at Obstacle c row p = p
-offered_at Plain c row p = offered c row p
+abbrev pub with_offer_at : Mark → ℕ → Row → Progress → Progress
+with_offer_at Goal c row p = p
+with_offer_at Obstacle c row p = p
+with_offer_at Plain c row p = with_offer c row p
 
 -- the last successor of a pair is taken
-abbrev pub resolved : Game → ℕ → ℕ → Progress → Progress
-resolved g pair rank p = offered_at (mark_of g (pair / g.inputs)) (pair / g.inputs) (record { rank = rank; input = pair % g.inputs }) p
+abbrev pub with_pair_done : Game → ℕ → ℕ → Progress → Progress
+with_pair_done g pair rank p = with_offer_at (mark_of g (pair / g.inputs)) (pair / g.inputs) (record { rank = rank; input = pair % g.inputs }) p
 
 -- one less is left of a pair
-abbrev pub lessened : ℕ → Progress → Progress
-lessened pair p = record { left = slice_set p.left pair (slice_index p.left pair - 1); rows = p.rows; queue = p.queue }
+abbrev pub with_one_less : ℕ → Progress → Progress
+with_one_less pair p = record { left = slice_set p.left pair (slice_index p.left pair - 1); rows = p.rows; queue = p.queue }
 
 -- a successor of a pair is taken
 abbrev pub after_cut : Game → ℕ → ℕ → Progress → Progress
-after_cut g pair rank p = if slice_index p.left pair - 1 == 0 then resolved g pair rank (lessened pair p) else lessened pair p
+after_cut g pair rank p = if slice_index p.left pair - 1 == 0 then with_pair_done g pair rank (with_one_less pair p) else with_one_less pair p
 
 -- a row tells the truth: rank 0 stands at a goal, and a higher one leads to lower ones
 abbrev pub IsSoundRow : Game → List (Option Row) → ℕ → ℕ → ℕ → Type 0
@@ -112,13 +112,13 @@ pub record IsSearch (g : Game) (cut : ℕ → ℕ → Bool) (head top : ℕ) (p 
   pub told : IsTold g cut top p.rows
 
 -- the cells taken so far are cut from each pair
-abbrev pub taken : ℕ → List ℕ → ℕ → ℕ → Bool
-taken head queue pair s = list_any (◌==◌ s) (take head queue)
+abbrev pub is_taken : ℕ → List ℕ → ℕ → ℕ → Bool
+is_taken head queue pair s = list_any (◌==◌ s) (take head queue)
 
 -- the first cells of the queue are taken
 pub record IsSearched (g : Game) (head : ℕ) (p : Progress) : Type 0 where
   pub top : ℕ
-  pub search : IsSearch g (taken head p.queue) head top p
+  pub search : IsSearch g (is_taken head p.queue) head top p
 
 -- The goals below a bound have their rows, and no other cell has one.
 pub record IsGathered (g : Game) (bound : ℕ) (p : Progress) : Type 0 where

@@ -6,7 +6,7 @@ use Rattle.live_script.specs.declared.command.ScriptCommand.{ScriptCommand}
 use Rattle.live_script.specs.declared.command.ScriptCommand.TheVariants.{Publish, Ask}
 use Rattle.live_script.specs.declared.script_fault.ScriptFault.{ScriptFault}
 use Rattle.live_script.specs.Questions.{IsAnswerOf}
-use Rattle.live_script.specs.Scripts.{published, SpellAfter}
+use Rattle.live_script.specs.Scripts.{published_tables, SpellAfter}
 use Rattle.live_script.specs.LiveText.{AreAnswers, answer_line}
 use Rattle.live_script.specs.ScriptReading.{Unread}
 use Rattle.live_script.specs.ScriptRefusals.{IsScriptRefusedFor}
@@ -26,11 +26,11 @@ pub record IsAnsweredSoFar (script : List ℕ) (unread : Unread) (standing : Sta
   pub front : List ℕ
   pub are : script ≡ front ++ unread.rest
   pub spell : SpellAfter 0 front commands
-  pub tables : unread.tables ≡ length (published commands)
+  pub tables : unread.tables ≡ length (published_tables commands)
   pub line : unread.line ≡ suc (line_count front)
   pub answers : AreAnswers [] commands text
-  pub count : standing.count ≡ length (published commands)
-  pub last : IsLast (published commands) standing.table
+  pub count : standing.count ≡ length (published_tables commands)
+  pub last : IsLast (published_tables commands) standing.table
 
 -- a command was carried out: its table is the last one, or its line stands after the text
 abbrev pub IsExecuted : ScriptCommand → Standing → Standing → List ℕ → List ℕ → Type 0

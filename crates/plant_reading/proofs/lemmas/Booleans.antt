@@ -9,8 +9,3 @@ and_false false = refl
 pub or_true : (x : Bool) → (x || true) ≡ true
 or_true true = refl
 or_true false = refl
-
--- where neither of two holds
-pub neither_of : (a b : Bool) → (a || b) ≡ false → (a ≡ false) × (b ≡ false)
-neither_of true b e = absurd cc
-neither_of false b e = (refl, e)

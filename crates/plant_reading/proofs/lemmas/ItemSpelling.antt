@@ -1,12 +1,12 @@
 -- An item that is read is spelled so, and what is spelled so is read.
-use Rattle.std.proofs.Common.{◌≡◌, ◌≢◌, ℕ, zero, suc, ◌^◌, ◌<◌, ◌≤◌, Bool, true, false, cond, eqb, leb, List, [], ◌∷◌, ◌++◌, length, get_or, Option, Some, None, refl, sym, ap, subst, ◌∙◌, arith, not, inl, inr, append_assoc}
+use Rattle.std.proofs.Common.{◌≡◌, ◌≢◌, ℕ, zero, suc, ◌^◌, ◌<◌, ◌≤◌, Bool, true, false, cond, eqb, leb, List, [], ◌∷◌, ◌++◌, length, get_or, Option, Some, None, refl, sym, ap, subst, ◌∙◌, arith, inl, inr, append_assoc}
 use Rattle.std.specs.Prelude.{codes, ℤ, pos, neg_ℤ, slice_get}
 use Rattle.fixed_expr.specs.Curves.{IsCurve}
 use Rattle.std.specs.List.{All, AllPairs, Contains, list_all, flat_map}
 use Rattle.std.specs.Option.{option_map}
 use Rattle.std.specs.Str.{bytes_eq}
 use Rattle.std.specs.Fmt.{decimal}
-use Rattle.std.proofs.lemmas.Bool.{and_parts, eq-eqb}
+use Rattle.std.proofs.lemmas.Bool.{and_parts, eq-eqb, not-true, or_parts}
 use Rattle.std.proofs.lemmas.List.{get_or_default}
 use Rattle.std.proofs.lemmas.Option.{slice_get_within, get_or_from_slice_get}
 use Rattle.plant_reading.specs.declared.items.Bracket.{Bracket}
@@ -21,7 +21,6 @@ use Rattle.plant_reading.proofs.lemmas.Literals.{same, is_same, differs, first_d
 use Rattle.plant_reading.proofs.lemmas.TablePoints.{pair_tokens, curve_again, curve_takes}
 use Rattle.plant_reading.specs.SyntaxTrees.{point_tokens}
 use Rattle.plant_reading.proofs.lemmas.ItemsOfTrees.{spelled}
-use Rattle.plant_reading.proofs.lemmas.Booleans.{neither_of}
 
 -- ---- names
 
@@ -89,20 +88,16 @@ number_token w d = (
   rw (first_differs is_digit w (codes "+") d refl, first_differs is_digit w (codes "-") d refl, first_differs is_digit w (codes "*") d refl, first_differs is_digit w (codes "(") d refl, first_differs is_digit w (codes ")") d refl) refl,
 )
 
-not_true : (b : Bool) → not b ≡ true → b ≡ false
-not_true true e = absurd cc
-not_true false e = refl
-
 -- nor is a name
 name_token : (w : List ℕ) → IsName w → (bytes_eq w (codes "/") ≡ false) × (bytes_eq w (codes ",") ≡ false) × (function_of w ≡ None) × (symbol_of w ≡ None)
 name_token w name =
     let a = and_parts (is_letter (get_or w 0 0)) _ name in
     let b = and_parts (list_all is_name_byte w) _ a.1 in
     let c = and_parts (leb (length w) 32) _ b.1 in
-    let free = not_true (is_reserved w) c.1 in
-    let no_min = neither_of (bytes_eq w (codes "min")) _ free in
-    let no_max = neither_of (bytes_eq w (codes "max")) _ no_min.1 in
-    let no_abs = neither_of (bytes_eq w (codes "abs")) _ no_max.1 in
+    let free = not-true (is_reserved w) c.1 in
+    let no_min = or_parts (bytes_eq w (codes "min")) _ free in
+    let no_max = or_parts (bytes_eq w (codes "max")) _ no_min.1 in
+    let no_abs = or_parts (bytes_eq w (codes "abs")) _ no_max.1 in
     let l = a.0 in (
       first_differs is_letter w (codes "/") l refl,
       first_differs is_letter w (codes ",") l refl,

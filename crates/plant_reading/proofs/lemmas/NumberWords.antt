@@ -11,6 +11,7 @@ use Rattle.std.proofs.lemmas.Int.{ints, to_z-of_z}
 use Rattle.std.proofs.lemmas.Fmt.{IsAscii-signed, parse-signed_decimal, signed_decimal_injective}
 use Rattle.std.proofs.lemmas.Str.{IsUtf8-from_ascii}
 use Rattle.plant_record.specs.Numbers.{IsLiteral}
+use Rattle.base.proofs.Integers.{literal_fits}
 
 -- |z| as std's lemmas write it is at most the absolute value
 pub mag_is_less : (z : ℤ) → nat_abs z < 10 ^ 18 → mag z < 2 ^ 63
@@ -21,11 +22,7 @@ pub text_of_number : (w : List ℕ) (z : ℤ) → IsLiteral z → w ≡ signed_d
 text_of_number w z lt e = rw e (IsUtf8-from_ascii (signed_decimal z) (IsAscii-signed z (mag_is_less z lt)))
 
 pub parsed_number : {E : Type 0} (w : List ℕ) (z : ℤ) (r : Result ℤ E) → ParsesSigned w64 10 w r → IsLiteral z → w ≡ signed_decimal z → result_ok r ≡ Some z
-parsed_number w z r parses lt e = ap result_ok (parse-signed_decimal w64 z w r (fits z lt) (mag_is_less z lt) e parses)
-  where
-    fits : (z : ℤ) → nat_abs z < 10 ^ 18 → FitsSigned w64 z
-    fits (pos n) lt = omega (arith, ints)
-    fits (negsuc n) lt = omega (arith, ints)
+parsed_number w z r parses lt e = ap result_ok (parse-signed_decimal w64 z w r (literal_fits z lt) (mag_is_less z lt) e parses)
 
 -- two literals with one spelling are one
 pub one_number : (y z : ℤ) → IsLiteral y → IsLiteral z → signed_decimal y ≡ signed_decimal z → y ≡ z

@@ -1,14 +1,14 @@
 -- The tokens of a text by one scan over its bytes.
 use Rattle.std.proofs.Common.{◌≡◌, ℕ, ◌<◌, ◌≤◌, Bool, true, false, cond, eqb, leb, List, [], ◌∷◌, ◌++◌, length, refl, sym, ap, ◌∙◌, append_assoc, arith, not, ◌||◌, ◌&&◌, inl, inr}
 use Rattle.std.specs.List.{list_all, flat_map}
-use Rattle.std.proofs.lemmas.Bool.{and_parts, not-true, or_cases, eqb-true, leb-true}
+use Rattle.std.proofs.lemmas.Bool.{and_parts, not-true, or_cases, eqb-true, leb-true, or_parts}
 use Rattle.std.proofs.lemmas.List.{append-nil}
 use Rattle.plant_reading.specs.inside.LineTokens.{tokens_in}
 use Rattle.plant_record.specs.Names.{is_letter, is_digit, is_name_byte, IsName}
 use Rattle.plant_reading.specs.Words.{words_of, is_blank, ends_word}
 use Rattle.plant_reading.specs.Lines.{joined}
 use Rattle.plant_reading.specs.Tokens.{goes_on, tokens_after, tokens_of}
-use Rattle.plant_reading.proofs.lemmas.Booleans.{and_false, neither_of, or_true}
+use Rattle.plant_reading.proofs.lemmas.Booleans.{and_false, or_true}
 use Rattle.plant_reading.proofs.lemmas.WhereCut.{above_space}
 
 -- a token that is begun, if one is
@@ -98,7 +98,7 @@ is_run c w = list_all (λ b. not (is_blank b) && goes_on (c ∷ []) b) w
 stops : (c b : ℕ) (token : List ℕ) → not (is_name_byte b) ≡ true → goes_on (c ∷ token) b ≡ false
 stops c b token h =
     let name : is_name_byte b ≡ false = not-true (is_name_byte b) h in
-    let digit : is_digit b ≡ false = (neither_of (is_digit b) (eqb b 95) (neither_of (is_letter b) (is_digit b || eqb b 95) name).1).0 in
+    let digit : is_digit b ≡ false = (or_parts (is_digit b) (eqb b 95) (or_parts (is_letter b) (is_digit b || eqb b 95) name).1).0 in
     rw (name, digit, and_false (is_letter c), and_false (is_digit c)) refl
 
 run : (c : ℕ) (token w text : List ℕ) → is_run c w ≡ true → is_break text ≡ true → scan (c ∷ token) (w ++ text) ≡ (c ∷ token ++ w) ∷ scan [] text

@@ -1,6 +1,6 @@
 -- Points that are read are spelled so, and what is spelled so is read.
-use Rattle.std.proofs.Common.{◌≡◌, ◌≢◌, ℕ, zero, suc, ◌-◌, ◌^◌, ◌<◌, ◌≤◌, Bool, true, false, cond, eqb, leb, List, [], ◌∷◌, ◌++◌, length, Option, Some, None, refl, sym, ap, subst, ◌∙◌, append_assoc, length-append, arith, ◌&&◌, inl, inr, to_z, of_z}
-use Rattle.std.specs.Prelude.{codes, ℤ, pos, negsuc, neg_ℤ, nat_abs, ◌-ℤ◌, ◌<ℤ◌, int_lt, All, FitsSigned}
+use Rattle.std.proofs.Common.{◌≡◌, ◌≢◌, ℕ, zero, suc, ◌-◌, ◌^◌, ◌<◌, ◌≤◌, true, false, cond, eqb, leb, List, [], ◌∷◌, ◌++◌, length, Option, Some, None, refl, sym, ap, subst, ◌∙◌, append_assoc, length-append, arith, ◌&&◌, inl, inr, to_z, of_z}
+use Rattle.std.specs.Prelude.{codes, ℤ, pos, negsuc, neg_ℤ, nat_abs, ◌-ℤ◌, int_lt, All, FitsSigned}
 use Rattle.std.specs.List.{flat_map}
 use Rattle.std.specs.Option.{option_map}
 use Rattle.std.specs.Str.{bytes_eq}
@@ -14,6 +14,7 @@ use Rattle.plant_record.specs.Names.{is_digit}
 use Rattle.plant_reading.specs.SyntaxTrees.{signed_tokens, point_tokens}
 use Rattle.plant_reading.specs.inside.TokenReaders.{◌>>=◌, literal_of, negative_of, signed_of, after_colon, point_of, points_after, points_of, rises, curve_of}
 use Rattle.plant_reading.proofs.lemmas.Literals.{same, first_differs, if_some, map_some, then_some, literal_again, literal_takes, digit_first, nonzero_if, cond_cases}
+use Rattle.base.proofs.Integers.{less_from_int_lt, int_lt_from_less}
 
 -- the tokens of a point without the comma before it
 abbrev pub pair_tokens : ℤ × ℤ → List (List ℕ)
@@ -71,19 +72,9 @@ all_again (suc n) p (q ∷ points) rest lt short each =
     let later : points_of n (pair_tokens q ++ more) ≡ Some (q ∷ points, rest) = all_again n q points rest (omega (arith, lt)) (All-head IsShort q points each) (All-tail IsShort q points each) in
     rw (after, point_again p (codes "," ∷ (pair_tokens q ++ more)) short, later) refl
 
-lt_int_lt : (a b : ℤ) → a <ℤ b → int_lt a b ≡ true
-lt_int_lt a b lt = by (int_lt a b) refl
-  where
-    by : (t : Bool) → int_lt a b ≡ t → t ≡ true
-    by true e = refl
-    by false e = absurd (omega (arith, ints, lt))
-
-int_lt_less : (a b : ℤ) → int_lt a b ≡ true → a <ℤ b
-int_lt_less a b e = omega (arith, ints, e)
-
 rising : (p : ℤ × ℤ) (points : List (ℤ × ℤ)) → RiseFrom p points → rises (p ∷ points) ≡ true
 rising p [] h = refl
-rising p (q ∷ points) h = and_from (int_lt p.0 q.0) (rises (q ∷ points)) (lt_int_lt p.0 q.0 h.0) (rising q points h.1)
+rising p (q ∷ points) h = and_from (int_lt p.0 q.0) (rises (q ∷ points)) (int_lt_from_less p.0 q.0 h.0) (rising q points h.1)
 
 -- the tokens after the first comma of a table are read as its points
 pub curve_again : (p : ℤ × ℤ) (points : List (ℤ × ℤ)) (rest : List (List ℕ)) → IsCurve (p ∷ points)
@@ -211,7 +202,7 @@ rise_from : (p : ℤ × ℤ) (points : List (ℤ × ℤ)) → rises (p ∷ point
 rise_from p [] e = tt
 rise_from p (q ∷ points) e =
     let h = and_parts (int_lt p.0 q.0) (rises (q ∷ points)) e in
-    (int_lt_less p.0 q.0 h.0, rise_from q points h.1)
+    (less_from_int_lt p.0 q.0 h.0, rise_from q points h.1)
 
 rise : (points : List (ℤ × ℤ)) → rises points ≡ true → Rise points
 rise [] e = tt

@@ -9,7 +9,8 @@ use Rattle.std.proofs.lemmas.List.Elements.{All-head, All-tail, All-drop}
 use Rattle.plant_record.specs.declared.variables.InputVariable.{InputVariable}
 use Rattle.plant_record.specs.Description.{vectors_of, vector_of}
 use Rattle.plant_record.specs.Variables.{IsInputVariable}
-use Rattle.plant_record.proofs.lemmas.Numbers.{digit, some_factors, some_tail}
+use Rattle.plant_record.proofs.lemmas.Numbers.{digit, some_factors}
+use Rattle.base.proofs.Products.{some_factor}
 
 one_more : (n m : ℕ) (i : InputVariable) (inputs : List InputVariable) → All IsInputVariable (i ∷ inputs) → vectors_of inputs ≤ n → 64 * n ≤ m → length i.values * vectors_of inputs ≤ m
 one_more n m i inputs each few bound = omega (arith, bound, mul-le (length i.values) (vectors_of inputs) 64 n (All-head IsInputVariable i inputs each).values_bound few)
@@ -66,11 +67,11 @@ pub value_in : (inputs : List InputVariable) (v u : ℕ) (d : InputVariable) →
     → get_or (vector_of inputs u) v (pos 0) ≡ get_or (get_or inputs v d).values (u / later inputs v % here inputs v d) (pos 0)
 value_in [] v u d lt below = absurd (omega (arith, lt))
 value_in (i ∷ inputs) zero u d lt below =
-    ap (λ n. get_or i.values n (pos 0)) (sym (mod-eq_of_lt (div_below u (vectors_of inputs) (length i.values) (some_tail (length i.values) (vectors_of inputs) u below) below)))
+    ap (λ n. get_or i.values n (pos 0)) (sym (mod-eq_of_lt (div_below u (vectors_of inputs) (length i.values) (some_factor (length i.values) (vectors_of inputs) u below) below)))
 value_in (i ∷ inputs) (suc v) u d lt below =
     let within : v < length inputs = omega (arith, lt) in
     let f = factor inputs v d within in
-    let rest : 0 < vectors_of inputs = some_tail (length i.values) (vectors_of inputs) u below in
+    let rest : 0 < vectors_of inputs = some_factor (length i.values) (vectors_of inputs) u below in
     let some = some_factors (vectors_of inputs) f.0 (here inputs v d) (later inputs v) f.1 rest in
     value_in inputs v (u % vectors_of inputs) d within (mod_below u (vectors_of inputs) rest)
     ∙ ap (λ n. get_or (get_or inputs v d).values n (pos 0)) (ap (λ n. u % n / later inputs v % here inputs v d) f.1 ∙ digit u f.0 (here inputs v d) (later inputs v) some.0 some.1 some.2)

@@ -36,10 +36,6 @@ some_factors n (suc k) zero c e some = absurd (omega (arith, e, some))
 some_factors n (suc k) (suc m) zero e some = absurd (omega (arith, e, some))
 some_factors n (suc k) (suc m) (suc c) e some = (omega arith, omega arith, omega arith)
 
-pub some_tail : (m n u : ℕ) → u < m * n → 0 < n
-some_tail m zero u below = absurd (omega (arith, below))
-some_tail m (suc n) u below = omega arith
-
 pub some_divisor : (k : ℤ) → pos 1 ≤ℤ k → 1 ≤ nat_abs k
 some_divisor (pos n) h = omega (arith, ints, h)
 some_divisor (negsuc n) h = absurd (omega (arith, ints, h))

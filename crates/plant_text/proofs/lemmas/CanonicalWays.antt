@@ -10,12 +10,12 @@ use Rattle.plant_text.specs.CanonicalFronts.{ExtendsCanonically, LeadsCanonicall
 use Rattle.plant_text.specs.inside.PartialPlantRules.{KeepsRules}
 use Rattle.plant_text.specs.inside.PartialPlantText.{IsOrderly}
 use Rattle.plant_reading.specs.inside.StatementLaws.{OneStatement}
-use Rattle.plant_text.proofs.lemmas.Lists.{same_first}
 use Rattle.plant_reading.proofs.lemmas.PutTogether.{lines_front}
 use Rattle.plant_text.proofs.lemmas.RulesKept.{rules_of_nothing, rules_stated}
 use Rattle.plant_text.proofs.lemmas.LinesLead.{has_equations}
 use Rattle.plant_text.proofs.lemmas.CanonicalParts.{orderly_nothing, orderly_extended}
 use Rattle.plant_text.proofs.lemmas.CanonicalLines.{printable_line}
+use Rattle.base.proofs.Lists.{same_head}
 
 -- ---- what a part keeps on the way
 
@@ -81,7 +81,7 @@ module _ (one : OneStatement) where
   -- two canonical lines at one front are the same
   same_line : (q : PartialPlant) (x y : List ℕ) (m n : PartialPlant) (rest_after after : List ℕ) → KeepsRules q → ExtendsCanonically q x m → ExtendsCanonically q y n → (x ++ codes "\n") ++ rest_after ≡ (y ++ codes "\n") ++ after → x ≡ y
   same_line q x y m n rest_after after k a b e =
-      same_first x y (lines_of rest_after) (lines_of after) (sym (line_at q x rest_after m k a) ∙ ap lines_of e ∙ line_at q y after n k b)
+      same_head x y (lines_of rest_after) (lines_of after) (sym (line_at q x rest_after m k a) ∙ ap lines_of e ∙ line_at q y after n k b)
 
   further : (x y : List ℕ) (first second : List (List ℕ)) (m n : PartialPlant) (rest others : List ℕ) → x ≡ y → GoesOnFrom first second m n rest others → GoesOnFrom (x ∷ first) (y ∷ second) m n rest others
   further x y first second m n rest others e g = record {

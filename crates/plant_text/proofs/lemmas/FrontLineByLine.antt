@@ -14,8 +14,9 @@ use Rattle.plant_reading.proofs.lemmas.WhereCut.{feed_has_position}
 use Rattle.plant_text.proofs.lemmas.RulesKept.{rules_of_nothing}
 use Rattle.plant_text.proofs.lemmas.LinesLead.{whole_is_plant}
 use Rattle.plant_text.proofs.lemmas.CanonicalParts.{text_extended}
-use Rattle.plant_text.proofs.lemmas.Lists.{flat_map_one_more, same_first}
+use Rattle.plant_text.proofs.lemmas.Lists.{flat_map_one_more}
 use Rattle.plant_text.proofs.lemmas.CanonicalWays.{IsOnTheWay, at_the_beginning, onwards, all_the_way, line_at}
+use Rattle.base.proofs.Lists.{same_head}
 
 -- ---- onwards
 
@@ -59,7 +60,7 @@ pub refused_here : (bytes rest line after : List ℕ) (n : ℕ) (q : PartialPlan
 refused_here bytes rest line after n q up goes_on cut refused =
     refused_at bytes rest n q up goes_on
     (λ words rest_after r at e.
-    refused r (subst (λ (x : List ℕ). ExtendsCanonically q x r) (same_first words line (lines_of rest_after) (lines_of after) (sym (ap lines_of at ∙ line_at q words rest_after r up.rules e) ∙ cut)) e))
+    refused r (subst (λ (x : List ℕ). ExtendsCanonically q x r) (same_head words line (lines_of rest_after) (lines_of after) (sym (ap lines_of at ∙ line_at q words rest_after r up.rules e) ∙ cut)) e))
 
 pub no_line_left : (bytes rest : List ℕ) (n : ℕ) (q : PartialPlant) → IsReadInFront bytes rest n q → q.ended ≡ false → None ≡ position (λ b. b == 10) rest → IsFirstRefusedAtFront bytes n
 no_line_left bytes rest n q up goes_on none =

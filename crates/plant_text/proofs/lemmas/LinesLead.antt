@@ -5,7 +5,6 @@ use Rattle.plant_record.specs.declared.limit_kind.LimitKind.{LimitKind}
 use Rattle.plant_record.specs.declared.limit_kind.LimitKind.TheVariants.{PlantText, TableText, Vectors, Cells, Pairs, Edges}
 use Rattle.plant_text.specs.declared.plant_fault.PlantFault.TheVariants as faults
 use Rattle.plant_record.specs.declared.aims.GoalKind.{GoalKind}
-use Rattle.plant_record.specs.declared.version.PlantVersion.{PlantVersion}
 use Rattle.plant_record.specs.Description.{Description}
 use Rattle.plant_record.specs.Plants.{IsPlant}
 use Rattle.plant_record.specs.Limits.{Exceeds}
@@ -19,6 +18,7 @@ use Rattle.plant_text.specs.inside.PartialPlantRules.{KeepsRules, IsAimless}
 use Rattle.plant_reading.specs.inside.StatementLaws.{OneStatement, SkippedLinesStateNothing}
 use Rattle.plant_record.proofs.lemmas.Limits.{one_limit, exceeds_none}
 use Rattle.plant_text.proofs.lemmas.RulesKept.{rules_of_nothing, rules_after, rules_led}
+use Rattle.std.proofs.lemmas.Option.{same_Some}
 
 -- lines in two pieces lead first through the one and then through the other
 pub led_apart : (q : PartialPlant) (first rest : List (List ℕ)) (r : PartialPlant) → Leads q (first ++ rest) r → (m : PartialPlant) × Leads q first m × Leads m rest r
@@ -42,9 +42,6 @@ read_less lines n m r le reads =
     let front = read_front (take m lines) n r reads in
     (front.0, subst (λ (x : List (List ℕ)). Reads x front.0) (take-take n m lines le) front.1)
 
-same_version : (a b : PlantVersion) → Some a ≡ Some b → a ≡ b
-same_version a b e = cc
-
 same_goal : (a b : GoalKind) → Some a ≡ Some b → a ≡ b
 same_goal a b e = cc
 
@@ -52,7 +49,7 @@ same_goal a b e = cc
 pub one_whole : (q : PartialPlant) (p r : Description) → IsWhole q p → IsWhole q r → p ≡ r
 one_whole q p r first second = λ i.
     record {
-      version = same_version p.version r.version (sym first.version ∙ second.version) i;
+      version = same_Some p.version r.version (sym first.version ∙ second.version) i;
       states = (sym first.states ∙ second.states) i;
       inputs = (sym first.inputs ∙ second.inputs) i;
       noises = (sym first.noises ∙ second.noises) i;

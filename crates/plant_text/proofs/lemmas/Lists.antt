@@ -53,6 +53,3 @@ capacity done x more all n whole bound = omega (arith, bound, length-append done
 
 pub all_of : {X : Type 0} (done : List X) (all : List X) → done ++ [] ≡ all → done ≡ all
 all_of done all whole = sym (append-nil done) ∙ whole
-
-pub same_first : (x y : List ℕ) (xs ys : List (List ℕ)) → x ∷ xs ≡ y ∷ ys → x ≡ y
-same_first x y xs ys e = cc

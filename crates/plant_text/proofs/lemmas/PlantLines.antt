@@ -34,6 +34,7 @@ use Rattle.plant_text.proofs.lemmas.CanonicalTrees.{tokens_spell}
 use Rattle.plant_writing.proofs.lemmas.WrittenLines.{name_of_state}
 use Rattle.plant_record.proofs.lemmas.VariableValues.{names_count}
 use Rattle.plant_text.proofs.lemmas.Lists.{is_new, next, capacity, all_of}
+use Rattle.std.proofs.lemmas.Option.{same_Some}
 
 -- A text is that of lines that lead canonically from one part to another.
 pub record LeadsBy (q : PartialPlant) (text : List ℕ) (r : PartialPlant) : Type 0 where
@@ -147,9 +148,6 @@ equation_words name text named =
     ∙ ap (λ (ws : List (List ℕ)). codes "next" ∷ ws)
     (words_front name (codes "=" ++ 32 ∷ text) (name_dark name named) ∙ ap (λ (ws : List (List ℕ)). name ∷ ws) (words_front (codes "=") text (record { dark = refl; some = omega arith })))
 
-same_version : (v u : PlantVersion) → Some v ≡ Some u → v ≡ u
-same_version v u e = cc
-
 equations_lead : (p : Description) (done more : List Expression) (passed states : List StateVariable) (rest : List ℕ) (r : PartialPlant) → IsPlant p → done ++ more ≡ p.equations → passed ++ states ≡ p.states → length done ≡ length passed
     → AllByRecursion (IsEquation (length (names_of p))) more → (p.version ≡ One → AllByRecursion HasNoLut more)
     → LeadsBy (part p.version p.states p.inputs p.noises p.equations [] [] None) rest r → LeadsBy (part p.version p.states p.inputs p.noises done [] [] None) (equation_lines (names_of p) states more ++ rest) r
@@ -168,7 +166,7 @@ equations_lead p done (e ∷ more) passed (s ∷ states) rest r h whole along sa
     subst (λ (t : List ℕ). LeadsBy (part p.version p.states p.inputs p.noises done [] [] None) t r) (sym (append_assoc (equation_line names s.name e) (equation_lines names states more) rest))
     (stated (part p.version p.states p.inputs p.noises done [] [] None) (join_with_byte 32 (codes "next" ∷ s.name ∷ codes "=" ∷ text ∷ [])) (equation_lines names states more ++ rest) (Next s.name e) r
     (words_of text, equation_words s.name text named, tokens_spell names e (names_named p h) each.0)
-    (lt, name_is, λ one. (plain (same_version p.version One one)).0)
+    (lt, name_is, λ one. (plain (same_Some p.version One one)).0)
     refl tt
     (equations_lead p (done ++ e ∷ []) more (passed ++ s ∷ []) states rest r h (next done e more p.equations whole) (next passed s states p.states along)
     (omega (arith, same, length-append done (e ∷ []), length-append passed (s ∷ [])))

@@ -17,15 +17,7 @@ use Rattle.plant_record.specs.Description.{Description, names_of}
 use Rattle.plant_writing.specs.CanonicalText.{text_of, state_line, input_line, noise_line, equation_line, equation_lines, box_line}
 use Rattle.plant_record.specs.Spelling.{end_words, goal_word, line, version_word}
 use Rattle.plant_writing.specs.ExpressionText.{expression_text, point_text}
-
--- a word with a space before it
-abbrev pub spaced : List ℕ → List ℕ
-spaced word = 32 ∷ word
-
--- a line's words but the first, each with a space before it
-pub joined_words : (word : List ℕ) (words : List (List ℕ)) → join_with_byte 32 (word ∷ words) ≡ word ++ flat_map spaced words
-joined_words word [] = sym (append-nil word)
-joined_words word (next ∷ words) = ap (λ (x : List ℕ). word ++ 32 ∷ x) (joined_words next words)
+use Rattle.base.proofs.Words.{joined_words}
 
 -- one piece more
 pub pieces_more : {X : Type 0} (f : X → List ℕ) (text : List ℕ) (xs : List X) (i : ℕ) (x : X) → i < length xs → x ≡ get_or xs i x → (text ++ flat_map f (take i xs)) ++ f x ≡ text ++ flat_map f (take (i + 1) xs)

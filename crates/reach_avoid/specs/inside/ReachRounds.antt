@@ -13,7 +13,7 @@ use Rattle.game_core.specs.Counts.{times, one_if}
 use Rattle.game_core.specs.Game.{Game, mark_of, pairs_of, successors_at}
 use Rattle.game_core.specs.Solution.{row_of}
 use Rattle.game_core.specs.Tally.{all_pairs, rank_by}
-use Rattle.board_rounds.specs.Crew.{cuts_in, offers_in, logged_cells, claimed, cut_to}
+use Rattle.board_rounds.specs.Crew.{cuts_in, offers_in, logged_cells, claimed_words, cut_to}
 use Rattle.reach_avoid.specs.ReachBoards.{word_at}
 use Rattle.reach_avoid.specs.ReachReckoned.{word_and_value, due_offer}
 use Rattle.base.specs.declared.limits.TheConstants.{VECTORS_LIMIT}
@@ -46,12 +46,12 @@ rank_is k None = false
 rank_is k (Some row) = row.rank == k
 
 -- how many successors of a pair have a rank below k
-abbrev pub taken_in : Game → List (Option Row) → ℕ → ℕ → ℕ
-taken_in g rows k pair = count_by (λ s. below_in k (row_of rows s)) (successors_at g pair)
+abbrev pub count_ranked_below : Game → List (Option Row) → ℕ → ℕ → ℕ
+count_ranked_below g rows k pair = count_by (λ s. below_in k (row_of rows s)) (successors_at g pair)
 
 -- a pair is enabled, and all its successors have ranks below k
 abbrev pub is_done : Game → List (Option Row) → ℕ → ℕ → Bool
-is_done g rows k pair = nat_lt 0 (length (successors_at g pair)) && (taken_in g rows k pair == length (successors_at g pair))
+is_done g rows k pair = nat_lt 0 (length (successors_at g pair)) && (count_ranked_below g rows k pair == length (successors_at g pair))
 
 -- the bids of the pairs that are done, by the ranks of their successors
 abbrev pub due_offers : Game → List (Option Row) → ℕ → List (ℕ × ℕ)
@@ -71,11 +71,11 @@ pub record IsDueOffer (g : Game) (o : Offer) : Type 0 where
 -- before the round of a rank: all cells of lesser ranks are taken, and those of this rank are on the list
 pub record IsReached (g : Game) (rank : ℕ) (list : List ℕ) (accounts : List Account) : Type 0 where
   pub lawful : IsLawfulFor g accounts
-  pub cuts : (pair : ℕ) → pair < pairs_of g → cut_count pair accounts ≡ taken_in g (decoded_rows g accounts) rank pair
+  pub cuts : (pair : ℕ) → pair < pairs_of g → cut_count pair accounts ≡ count_ranked_below g (decoded_rows g accounts) rank pair
   pub no_other_cut : All (λ (c : Cut). c.counter < pairs_of g) (cuts_in accounts)
   pub offers : IsPermutation (due_offers g (decoded_rows g accounts) rank) (map word_and_value (offers_in accounts))
   pub valued : All (IsDueOffer g) (offers_in accounts)
-  pub logs : logged_cells (all_logs accounts) ≡ claimed (offers_in accounts)
+  pub logs : logged_cells (all_logs accounts) ≡ claimed_words (offers_in accounts)
   pub highest : (c : ℕ) (row : Row) → row_of (decoded_rows g accounts) c ≡ Some row → row.rank ≤ rank
   pub cells : (c : ℕ) → c < g.cells → times c list ≡ one_if (rank_is rank (row_of (decoded_rows g accounts) c))
   pub within : All (λ c. c < g.cells) list
@@ -101,7 +101,7 @@ last_cuts cuts = cut_to 0 cuts
 pub record KeepsRule (g : Game) (rank : ℕ) (a : Account) : Type 0 where
   pub no_other_cut : All (λ (c : Cut). c.counter < pairs_of g) a.cuts
   pub offers : map word_and_value a.offers ≡ map (due_offer g (suc rank)) (last_cuts a.cuts)
-  pub logs : logged_cells a.logs ≡ claimed a.offers
+  pub logs : logged_cells a.logs ≡ claimed_words a.offers
 
 -- a row stays as it is, and one that comes has the next rank
 pub record IsNext (rank : ℕ) (rows new : List (Option Row)) : Type 0 where

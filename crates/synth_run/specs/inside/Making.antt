@@ -6,7 +6,7 @@ use Rattle.run_devices.specs.Devices.{Reading, TakesAtMost}
 use Rattle.synth_run.specs.declared.outcome.Outcome.{Outcome}
 use Rattle.synth_run.specs.declared.outcome.Outcome.TheVariants.{Done, NoMemory}
 use Rattle.synth_run.specs.declared.text.Text.{Text}
-use Rattle.synth_run.specs.Sources.{given, most_read, LeavesAlone}
+use Rattle.synth_run.specs.Sources.{bytes_for, most_read, LeavesAlone}
 use Rattle.synth_run.specs.IsOutcomeFor.{IsOutcomeFor}
 use Rattle.synth_run.specs.Headline.{IsAnswer}
 use Rattle.synth_run.specs.Played.{IsPlayed}
@@ -15,7 +15,7 @@ use Rattle.synth_run.specs.inside.Texts.{bytes_of, CanBeWritten}
 
 -- A command has the bytes that it works on: what it is given, up to one byte past the limit of its text.
 pub record IsReadFor (command : Command) (bytes : List ℕ) (source : Reading) : Type 0 where
-  pub front : IfSome (given command source.before) (λ told. bytes ≡ take (most_read command) told)
+  pub front : IfSome (bytes_for command source.before) (λ told. bytes ≡ take (most_read command) told)
   pub read : IsRead command source
   pub never_past : TakesAtMost source.before source.after (most_read command)
   pub leaves_alone : LeavesAlone command source

@@ -7,7 +7,7 @@ use Rattle.abstraction_table.specs.Table.{game_of}
 use Rattle.command_line.specs.declared.command.Command.{Command}
 use Rattle.synth_run.specs.declared.solved_game.SolvedGame.{SolvedGame}
 use Rattle.run_devices.specs.Devices.{Reading}
-use Rattle.synth_run.specs.Sources.{given}
+use Rattle.synth_run.specs.Sources.{bytes_for}
 use Rattle.synth_run.specs.Played.{IsBoardFor, IsReckonedFor, IsPlayed, LeavesAGame, SolvesNothing}
 
 -- A game with its solution for a goal, its board and the board's root, whose accounts are reckoned and which has no
@@ -21,6 +21,6 @@ pub record IsSolvedGame (goal : GoalKind) (solved : SolvedGame) : Type 0 where
 
 -- What a command is to leave, once its answer is written.
 pub record IsToBeLeft (command : Command) (played : Option (BoardModel × RootModel)) (source : Reading) : Type 0 where
-  pub leaves : IfSome (given command source.before) (λ bytes. IsPlayed command bytes played)
+  pub leaves : IfSome (bytes_for command source.before) (λ bytes. IsPlayed command bytes played)
   pub leaves_a_game : LeavesAGame command played
   pub solves_nothing : SolvesNothing command played

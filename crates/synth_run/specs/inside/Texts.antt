@@ -27,20 +27,20 @@ pub record IsReady (s : Simulation) : Type 0 where
   pub begins : row_at s.table.plant s.table.rows s.start ≡ Some row
 
 abbrev pub bytes_of : Text → List ℕ
-bytes_of (Table solved) = table_text written solved.plant solved.answer
+bytes_of (Table solved) = table_text written solved.plant solved.rows
 bytes_of (Upgraded table) = table_text written table.plant table.rows
 bytes_of (Line bytes) = bytes.now
 bytes_of (Trace simulation) = trace_of simulation
 bytes_of (Summary text) = text.items
-bytes_of (Stay settled) = stay_text settled.plant settled.rows
-bytes_of (Patrol patrolled) = patrol_text patrolled.plant patrolled.rows
+bytes_of (Stay solved) = stay_text solved.plant solved.rows
+bytes_of (Patrol solved) = patrol_text solved.plant solved.rows
 
 -- a table's rows fit its plant
 abbrev pub CanBeWritten : Text → Type 0
-CanBeWritten (Table solved) = RowsFit solved.plant solved.answer
+CanBeWritten (Table solved) = RowsFit solved.plant solved.rows
 CanBeWritten (Upgraded table) = Unit {0}
 CanBeWritten (Line bytes) = Unit {0}
 CanBeWritten (Trace simulation) = IsReady simulation
 CanBeWritten (Summary text) = Unit {0}
-CanBeWritten (Stay settled) = Unit {0}
-CanBeWritten (Patrol patrolled) = Unit {0}
+CanBeWritten (Stay solved) = Unit {0}
+CanBeWritten (Patrol solved) = Unit {0}

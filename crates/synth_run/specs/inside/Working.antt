@@ -6,7 +6,7 @@ use Rattle.synth_run.specs.declared.outcome.Outcome.{Outcome}
 use Rattle.synth_run.specs.declared.outcome.Outcome.TheVariants.{Done, Usage, ReadFault, WriteFault, NoMemory}
 use Rattle.run_devices.specs.Devices.{next_count, Reading, Writing, GainsWhole, GainsPart, TakesAtMost}
 use Rattle.run_devices.specs.Transfers.{IsUntouched}
-use Rattle.synth_run.specs.Sources.{given, most_read, LeavesAlone}
+use Rattle.synth_run.specs.Sources.{bytes_for, most_read, LeavesAlone}
 use Rattle.synth_run.specs.IsOutcomeFor.{IsOutcomeFor}
 use Rattle.synth_run.specs.Headline.{IsAnswer}
 use Rattle.synth_run.specs.Statuses.{IsTheTexts}
@@ -17,8 +17,8 @@ use Rattle.synth_run.specs.inside.Texts.{bytes_of, CanBeWritten}
 -- The text of the answer was worked out.
 pub record IsWorkedOut (command : Command) (text : Text) (source : Reading) : Type 0 where
   pub can_be_written : CanBeWritten text
-  pub answer : IfSome (given command source.before) (λ bytes. IsAnswer command bytes (bytes_of text))
-  pub cause : IfSome (given command source.before) (λ bytes. IsOutcomeFor command bytes Done)
+  pub answer : IfSome (bytes_for command source.before) (λ bytes. IsAnswer command bytes (bytes_of text))
+  pub cause : IfSome (bytes_for command source.before) (λ bytes. IsOutcomeFor command bytes Done)
   pub read : IsRead command source
   pub never_past : TakesAtMost source.before source.after (most_read command)
   pub leaves_alone : LeavesAlone command source
@@ -30,7 +30,7 @@ pub record IsRefusalFor (command : Command) (outcome : Outcome) (source : Readin
   pub not_usage : outcome ≢ Usage
   pub not_write_fault : outcome ≢ WriteFault
   pub can_end : CanEnd command outcome
-  pub cause : IsTheTexts outcome → IfSome (given command source.before) (λ bytes. IsOutcomeFor command bytes outcome)
+  pub cause : IsTheTexts outcome → IfSome (bytes_for command source.before) (λ bytes. IsOutcomeFor command bytes outcome)
   pub read : outcome ≢ ReadFault → outcome ≢ NoMemory → IsRead command source
   pub never_past : TakesAtMost source.before source.after (most_read command)
   pub leaves_alone : LeavesAlone command source

@@ -1,6 +1,6 @@
 use Rattle.std.proofs.Common.{◌≡◌, ℕ, ◌+◌, ◌-◌, ◌^◌, ◌++◌, List, take, drop, sym, ap, subst, ◌∙◌, arith}
 use Rattle.std.specs.List.{range_with_len}
-use Rattle.edge_rows.specs.Rows.{changed_run}
+use Rattle.edge_rows.specs.Rows.{with_each_changed}
 use Rattle.abstraction_table.specs.inside.Tallies.{AreCounted}
 use Rattle.abstraction_table.proofs.Tallying.{counted_segment, segment_counts_fit}
 use Rattle.abstraction_table.proofs.band_filling.count_segment.Goals as goal
@@ -14,5 +14,5 @@ returns c =
     let counts = c.args.counts.now in
     let first = c.args.first in
     let count : first + c.args.len - first ≡ c.args.len = omega arith in
-    let after = ap (λ (xs : List ℕ). take first counts ++ (xs ++ drop (first + c.args.len - first) (drop first counts))) c.add_one.ensures ∙ ap (changed_run (λ n. n + 1) counts first) count in
+    let after = ap (λ (xs : List ℕ). take first counts ++ (xs ++ drop (first + c.args.len - first) (drop first counts))) c.add_one.ensures ∙ ap (with_each_changed (λ n. n + 1) counts first) count in
     subst (λ (xs : List ℕ). AreCounted counts xs (range_with_len first c.args.len)) (sym after) (counted_segment counts first c.args.len c.requires.within)

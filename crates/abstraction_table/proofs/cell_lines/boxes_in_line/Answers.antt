@@ -8,10 +8,11 @@ use Rattle.successor_box.specs.SuccessorBoxes.{IsBoxOf}
 use Rattle.successor_box.specs.PairExtents.{index_in}
 use Rattle.abstraction_table.specs.inside.Terms.{IsSumAlong}
 use Rattle.abstraction_table.specs.inside.CellLines.{last_state}
-use Rattle.abstraction_table.proofs.LineBoxes.{AreDone, later_cell, after_long, first_after, done_after, cell_count, cell_within, cell_indices, cell_starts}
+use Rattle.abstraction_table.proofs.LineBoxes.{AreDone, after_long, first_after, done_after, cell_count, cell_within, cell_indices, cell_starts}
 use Rattle.abstraction_table.proofs.LineCells.{last_among, last_slot_few}
 use Rattle.abstraction_table.proofs.Fitting.{least, inputs_fit, states_fit, states_some, last_below, last_fits, term_long, first_in, cell_in, copied_in, cell_fits, slot_fits, start_fits, end_fits, offset_fits, before_end}
 use Rattle.abstraction_table.proofs.cell_lines.boxes_in_line.Goals as goal
+use Rattle.base.proofs.Products.{part_fits}
 
 -- ---- before the loop
 
@@ -83,7 +84,7 @@ loop-cell-init c =
     let some = c.vectors-inputs.ensures.some in
     let cells : length boxes / v ≡ n = cell_count (length boxes) n v (vectors_of p.inputs) c.requires.row.1 same some in
     let long : length boxes ≡ n * v = c.requires.row.1 ∙ ap (λ (m : ℕ). n * m) (sym same) in
-    let wide : v ≤ length boxes = omega (arith, long, later_cell 0 n v c.requires.row.2.some) in
+    let wide : v ≤ length boxes = omega (arith, long, part_fits 0 n v c.requires.row.2.some) in
     let early_long : length early ≡ v = c.add_early-early.ensures.long ∙ length-take-le v boxes wide in
     let all : length (early ++ drop v boxes) ≡ length boxes = omega (arith, length-append early (drop v boxes), early_long, length-drop v boxes, wide) in
     record {
@@ -239,7 +240,7 @@ loop-cell-preserved c =
     let done : AreDone p c.args.c v (cell + 1) boxes = subst (λ (k : ℕ). AreDone p c.args.c v k boxes) this so_far.done in
     let below : (i : ℕ) → i < cell * v → get_or c.copy_within.new.self i None ≡ get_or boxes i None = λ i before. c.copy_within.ensures.by_index.1 i None before in
     let above : (i : ℕ) → cell * v + v ≤ i → get_or c.copy_within.new.self i None ≡ get_or boxes i None = λ i from. c.copy_within.ensures.by_index.2 i None (omega (arith, from)) in
-    let capacity : cell * v + v ≤ length c.copy_within.new.self = omega (arith, later_cell cell n v lt, long, c.copy_within.ensures.len) in
+    let capacity : cell * v + v ≤ length c.copy_within.new.self = omega (arith, part_fits cell n v lt, long, c.copy_within.ensures.len) in
     let late_long : length late ≡ w =
     c.add_late.ensures.long ∙ length-take-le w (drop (cell * v) c.copy_within.new.self) (omega (arith, length-drop (cell * v) c.copy_within.new.self, capacity))
     in

@@ -8,8 +8,9 @@ use Rattle.successor_box.specs.PairExtents.{index_in}
 use Rattle.abstraction_table.specs.inside.Digits.{pair_at}
 use Rattle.abstraction_table.proofs.PairDigits.{some_vectors}
 use Rattle.abstraction_table.proofs.EquationDigits.{cell_below}
-use Rattle.abstraction_table.proofs.Fitting.{nothing_below, below_apart, variables_fit, variable_in, variable_below, variable_fits, line_offset_fits, variable_done}
+use Rattle.abstraction_table.proofs.Fitting.{below_apart, variables_fit, variable_in, variable_below, variable_fits, line_offset_fits, variable_done}
 use Rattle.abstraction_table.proofs.extent_blocks.indices_from.Goals as goal
+use Rattle.base.proofs.Products.{nothing_below}
 
 pub overflow_add-variable-end : goal.overflow_add-variable-end
 overflow_add-variable-end c =

@@ -11,10 +11,11 @@ use Rattle.plant_record.specs.Soundness.{IsSound}
 use Rattle.plant_record.proofs.lemmas.SoundPlants.{sound as sound_plant}
 use Rattle.successor_box.specs.SuccessorBoxes.{IsBoxOf}
 use Rattle.abstraction_table.specs.inside.CellLines.{last_state, line_length, AreInLine}
-use Rattle.abstraction_table.proofs.LineBoxes.{later_cell, cell_count}
+use Rattle.abstraction_table.proofs.LineBoxes.{cell_count}
 use Rattle.abstraction_table.proofs.CellLineLists.{range, rows_within, cell_before, rows_long, left_after, found_after}
-use Rattle.abstraction_table.proofs.Fitting.{least, nothing_below, inputs_fit, states_some, last_in, done_fits, number_fits, number_fits_wide, from_fits, from_offset_fits, to_fits, from_before, fewer_left, rest_within}
+use Rattle.abstraction_table.proofs.Fitting.{least, inputs_fit, states_some, last_in, done_fits, number_fits, number_fits_wide, from_fits, from_offset_fits, to_fits, from_before, fewer_left, rest_within}
 use Rattle.abstraction_table.proofs.pair_boxes.boxes_of_cells.Goals as goal
+use Rattle.base.proofs.Products.{part_fits, nothing_below}
 
 -- a row has a cell
 some_row : (p : Description) → IsPlant p → IsSound p → (row : ℕ) → row ≡ line_length p → 0 < row
@@ -205,7 +206,7 @@ loop-done-preserved c =
       long = rows_long p c.args.c n v done end boxes row long piece.0 piece.1 line_long ∙ so_far.long;
       within = omega (arith, piece.1, cells);
       found = found_after p c.args.c n v done end boxes row long piece.0 piece.1 line_long so_far.found found;
-      left = λ i from. left_after p c.args.c n v done end boxes row long piece.0 piece.1 line_long i from ∙ so_far.left i (omega (arith, from, later_cell done end v piece.0));
+      left = λ i from. left_after p c.args.c n v done end boxes row long piece.0 piece.1 line_long i from ∙ so_far.left i (omega (arith, from, part_fits done end v piece.0));
     }
 
 pub loop-done-smaller : goal.loop-done-smaller

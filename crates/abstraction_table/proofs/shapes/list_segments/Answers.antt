@@ -1,7 +1,8 @@
 use Rattle.std.proofs.Common.{List, sym, subst}
 use Rattle.abstraction_table.specs.declared.shapes.Segment.{Segment}
-use Rattle.abstraction_table.proofs.Segments.{ListsSoFar, listed_none, listed_more, listed_all, left_shorter}
+use Rattle.abstraction_table.proofs.Segments.{ListsSoFar, listed_none, listed_more, listed_all}
 use Rattle.abstraction_table.proofs.shapes.list_segments.Goals as goal
+use Rattle.plant_game.proofs.Marking.{segment_shorter}
 
 pub loop-start-init : goal.loop-start-init
 loop-start-init c = listed_none c.args.segments.now.items c.args.cells
@@ -15,7 +16,7 @@ loop-start-preserved c =
     (listed_more c.args.segments.now.items c.loop-start.segments.items c.args.cells left later segment c.loop-start.invariant c.in-Some.ensures.segment)
 
 pub loop-start-smaller : goal.loop-start-smaller
-loop-start-smaller c = left_shorter c.loop-start.cells c.next_segment.new.self c.in-Some.start c.in-Some.len c.in-Some.ensures.segment
+loop-start-smaller c = segment_shorter c.loop-start.cells c.next_segment.new.self c.in-Some.start c.in-Some.len c.in-Some.ensures.segment
 
 pub returns : goal.returns
 returns c = listed_all c.args.segments.now.items c.loop-start.segments.items c.args.cells c.loop-start.cells c.loop-start.invariant c.in_default.ensures.none

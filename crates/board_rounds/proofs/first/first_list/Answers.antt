@@ -1,15 +1,7 @@
 use Rattle.std.proofs.Common.{◌≡◌, ℕ, ◌+◌, ◌++◌, ◌∷◌, [], Bool, List, cond, filter, length, sym, ◌∙◌, ap, arith, refl}
 use Rattle.std.specs.List.{range_with_len}
-use Rattle.std.proofs.lemmas.List.{map-id}
-use Rattle.std.proofs.lemmas.List.Elements.{filter-append}
-use Rattle.std.proofs.lemmas.List.FromFn.{map-range_with_len_more}
 use Rattle.board_rounds.proofs.first.first_list.Goals as goal
-
-range_more : (n : ℕ) → range_with_len 0 (n + 1) ≡ range_with_len 0 n ++ n ∷ []
-range_more n = sym (map-id (range_with_len 0 (n + 1))) ∙ (map-range_with_len_more (λ x. x) 0 n n (omega arith) ∙ ap (λ l. l ++ n ∷ []) (map-id (range_with_len 0 n)))
-
-one_more : (p : ℕ → Bool) (n : ℕ) → filter p (range_with_len 0 (n + 1)) ≡ filter p (range_with_len 0 n) ++ cond (p n) (n ∷ []) []
-one_more p n = ap (filter p) (range_more n) ∙ filter-append p (range_with_len 0 n) (n ∷ [])
+use Rattle.base.proofs.Ranges.{filter-range_more}
 
 pub loop-c-init : goal.loop-c-init
 loop-c-init g c = record { same = refl; cells = c.requires.none; few = omega (arith, c.args.list.now.ok.0, ap length c.requires.none); capacity = refl }
@@ -27,7 +19,7 @@ loop-c-preserved g c =
       cells =
           c.add_if.ensures.items
           ∙ (ap (λ (b : Bool). c.loop-c.list.items ++ cond b (n ∷ []) []) c.is_first-first.ensures.first
-          ∙ (ap (λ (l : List ℕ). l ++ cond (first n) (n ∷ []) []) before.cells ∙ sym (one_more first n)));
+          ∙ (ap (λ (l : List ℕ). l ++ cond (first n) (n ∷ []) []) before.cells ∙ sym (filter-range_more first n)));
       few = (let e = c.add_if.ensures.len in let f = before.few in omega arith);
       capacity = c.add_if.ensures.capacity ∙ before.capacity;
     }

@@ -2,7 +2,7 @@ use Rattle.std.proofs.Common.{◌≡◌, ℕ, ◌+◌, ◌-◌, ◌^◌, ◌<◌
 use Rattle.std.specs.List.{range_with_len}
 use Rattle.std.proofs.lemmas.List.FromFn.{map-range_with_len_more}
 use Rattle.cell_counters.specs.Accounts.{all_logs, log_count, cell_at}
-use Rattle.cell_counters.specs.BoardModels.{RootModel, filled}
+use Rattle.cell_counters.specs.BoardModels.{RootModel, filled_slots}
 use Rattle.board_rounds.proofs.logged.read_log.Goals as goal
 
 pub loop-at-init : goal.loop-at-init
@@ -24,8 +24,8 @@ logged-requires-clause-settled c = ap (λ (r : RootModel). r.out) c.loop-at.inva
 pub logged-requires-clause-at : goal.logged-requires-clause-at
 logged-requires-clause-at c =
     let end = c.log_len-filled.ensures.filled c.requires.few in
-    let lt : c.loop-at.at < filled c.args.root.now.accounts c.args.board.now.slots = (let t = c.loop-at-test.true in omega arith) in
-    subst (λ (r : RootModel). c.loop-at.at < filled r.accounts c.args.board.now.slots) (sym c.loop-at.invariant.same) lt
+    let lt : c.loop-at.at < filled_slots c.args.root.now.accounts c.args.board.now.slots = (let t = c.loop-at-test.true in omega arith) in
+    subst (λ (r : RootModel). c.loop-at.at < filled_slots r.accounts c.args.board.now.slots) (sym c.loop-at.invariant.same) lt
 
 pub loop-at-preserved : goal.loop-at-preserved
 loop-at-preserved c =

@@ -2,7 +2,7 @@ use Rattle.std.proofs.Common.{◌≡◌, ℕ, ◌++◌, List, length, take, drop
 use Rattle.std.specs.List.{range_with_len}
 use Rattle.std.proofs.lemmas.List.{take-append-le}
 use Rattle.board_rounds.specs.Crew.{IsFresh, notes_of}
-use Rattle.board_rounds.specs.inside.WorkerSteps.{HaveWorked}
+use Rattle.board_rounds.specs.inside.WorkerSteps.{AllAtWork}
 use Rattle.board_rounds.proofs.Crews.{notes_swept}
 use Rattle.board_rounds.proofs.Here.{here}
 use Rattle.board_rounds.proofs.Working.{fresh_have_worked}
@@ -22,7 +22,7 @@ pub returns-clause-worked : goal.returns-clause-worked
 returns-clause-worked g c =
     let round_job = c.args.round_job.now in
     let now = c.work.new.members in
-    subst (HaveWorked (g.L.Rule.game round_job.rule.now) (g.L.Rule.fits round_job.rule.now) (g.L.Rule.keeps round_job.rule.now round_job.round) round_job.board.now round_job.list.now)
+    subst (AllAtWork (g.L.Rule.game round_job.rule.now) (g.L.Rule.fits round_job.rule.now) (g.L.Rule.keeps round_job.rule.now round_job.round) round_job.board.now round_job.list.now)
     (written c.args.members.now.len now (drop (length now) c.args.members.now.items) (omega (arith, c.work.auto.members, c.as_mut_slice.ensures.len)))
     c.work.ensures.sound
 

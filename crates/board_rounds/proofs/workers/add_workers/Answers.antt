@@ -1,6 +1,6 @@
 use Rattle.std.proofs.Common.{ℕ, ◌+◌, All, length, refl, sym, ◌∙◌, ap, subst, arith}
 use Rattle.std.proofs.lemmas.List.Elements.{All-nil, All-push}
-use Rattle.cell_counters.specs.BoardModels.{RootModel, hand_out}
+use Rattle.cell_counters.specs.BoardModels.{RootModel, with_hand_out}
 use Rattle.board_rounds.specs.Crew.{IsFresh}
 use Rattle.board_rounds.proofs.workers.add_workers.Goals as goal
 
@@ -24,7 +24,7 @@ loop-worker-preserved c =
     let out = c.args.root.now.out in
     let i = c.loop-worker._worker in
     record {
-      same = c.hand.ensures.root ∙ (ap hand_out before.same ∙ ap (λ (n : ℕ). record c.args.root.now { out = n }) {x = out + i + 1} {y = out + (i + 1)} (omega arith));
+      same = c.hand.ensures.root ∙ (ap with_hand_out before.same ∙ ap (λ (n : ℕ). record c.args.root.now { out = n }) {x = out + i + 1} {y = out + (i + 1)} (omega arith));
       many = (let e = c.push_reserved.ensures.len in omega arith);
       fresh =
           subst (All (IsFresh c.args.board.now)) (sym c.push_reserved.ensures.items)

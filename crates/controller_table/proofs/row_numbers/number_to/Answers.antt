@@ -1,20 +1,17 @@
-use Rattle.std.proofs.Common.{rules, inl, inr, List, ◌∷◌, ◌++◌, ◌+◌, ℕ, ap, subst, sym, ◌∙◌, ◌≡◌, [], length, arith, refl}
+use Rattle.std.proofs.Common.{rules, inl, inr, List, ◌∷◌, ◌++◌, ◌+◌, ℕ, ap, subst, sym, ◌∙◌, ◌≡◌, arith}
 use Rattle.std.specs.Fmt.{decimal}
 use Rattle.std.proofs.lemmas.Fmt.{decimal_digit}
 use Rattle.controller_table.specs.inside.RowNumbers.{IsNumberTo}
 use Rattle.controller_table.proofs.Digits.{none_of_none, none_without_digit, none_at_end, none_before_other, none_after_zero, none_too_large, one_more}
 use Rattle.controller_table.proofs.row_numbers.number_to.Goals as goal
-
-no_bytes : (bytes : List ℕ) → length bytes ≡ 0 → bytes ≡ []
-no_bytes [] e = refl
-no_bytes (b ∷ bytes) e = absurd (omega (arith, e))
+use Rattle.std.proofs.lemmas.List.{nil_from_length}
 
 -- a number's digits, and the byte after them
 further : (bytes rest after : List ℕ) (v x : ℕ) → bytes ≡ decimal v ++ rest → rest ≡ x ∷ after → bytes ≡ decimal v ++ x ∷ after
 further bytes rest after v x at more = at ∙ ap (λ (r : List ℕ). decimal v ++ r) more
 
 pub returns-in_err-first : goal.returns-in_err-first
-returns-in_err-first c = rw c.from_residual.ensures (λ y h. none_of_none c.args.stop y (subst (λ (b : List ℕ). IsNumberTo c.args.stop b y) (no_bytes c.args.bytes.now c.in_err-first.ensures.cases) h))
+returns-in_err-first c = rw c.from_residual.ensures (λ y h. none_of_none c.args.stop y (subst (λ (b : List ℕ). IsNumberTo c.args.stop b y) (nil_from_length c.args.bytes.now c.in_err-first.ensures.cases) h))
 
 pub returns-in_err-value : goal.returns-in_err-value
 returns-in_err-value c = rw c.from_residual-in_err-value.ensures (λ y h.
@@ -30,7 +27,7 @@ loop-next-init c =
 
 pub returns-in_err-next : goal.returns-in_err-next
 returns-in_err-next c = rw c.from_residual-in_err-next.ensures (λ y h.
-    none_at_end c.loop-next.value c.args.stop y c.args.bytes.now c.loop-next.invariant.small c.requires (c.loop-next.invariant.so_far ∙ ap (λ (r : List ℕ). decimal c.loop-next.value ++ r) (no_bytes c.loop-next.rest.now c.in_err-next.ensures.cases)) h)
+    none_at_end c.loop-next.value c.args.stop y c.args.bytes.now c.loop-next.invariant.small c.requires (c.loop-next.invariant.so_far ∙ ap (λ (r : List ℕ). decimal c.loop-next.value ++ r) (nil_from_length c.loop-next.rest.now c.in_err-next.ensures.cases)) h)
 
 pub returns-then-next-stop : goal.returns-then-next-stop
 returns-then-next-stop c = (

@@ -6,9 +6,7 @@ use Rattle.fixed_expr.specs.DivExpr.{floor_div}
 use Rattle.fixed_expr.specs.Curves.{IsShort, value_along}
 use Rattle.fixed_expr.proofs.Pieces.{short_between, between_points}
 use Rattle.fixed_expr.proofs.curve.value_along.Goals as goal
-
-short_fits : (z : ℤ) → nat_abs z < 10 ^ 18 → FitsSigned w128 z
-short_fits z h = omega (arith, ints, h)
+use Rattle.base.proofs.Integers.{literal_fits_wide}
 
 apart_fits : (y z : ℤ) → nat_abs y < 10 ^ 18 → nat_abs z < 10 ^ 18 → FitsSigned w128 (y -ℤ z)
 apart_fits y z h k = omega (arith, ints, h, k)
@@ -28,11 +26,11 @@ module _ (p q : ℤ × ℤ) (x : ℤ) (from : IsShort p) (to : IsShort q) (after
       let short : nat_abs x < 10 ^ 18 = along p.0 q.0 from.0 to.0 after before in
       ap (λ (k : ℤ). p.1 +ℤ k)
       (rw (
-        to_z-of_z w128 q.1 (short_fits q.1 to.1),
-        to_z-of_z w128 p.1 (short_fits p.1 from.1),
-        to_z-of_z w128 x (short_fits x short),
-        to_z-of_z w128 p.0 (short_fits p.0 from.0),
-        to_z-of_z w128 q.0 (short_fits q.0 to.0),
+        to_z-of_z w128 q.1 (literal_fits_wide q.1 to.1),
+        to_z-of_z w128 p.1 (literal_fits_wide p.1 from.1),
+        to_z-of_z w128 x (literal_fits_wide x short),
+        to_z-of_z w128 p.0 (literal_fits_wide p.0 from.0),
+        to_z-of_z w128 q.0 (literal_fits_wide q.0 to.0),
         to_z-of_z w128 (q.1 -ℤ p.1) (apart_fits q.1 p.1 to.1 from.1),
         to_z-of_z w128 (x -ℤ p.0) (apart_fits x p.0 short from.0),
         to_z-of_z w128 (q.0 -ℤ p.0) (apart_fits q.0 p.0 to.0 from.0),
@@ -48,8 +46,8 @@ overflow_add-result c =
     let x : ℤ = c.args.x in
     let r : ℤ = c.part_of.result in
     let short = short_value p q x c.requires.from c.requires.to c.requires.after c.requires.before in
-    rw (to_z-of_z w128 p.1 (short_fits p.1 c.requires.from.1), to_z-of_z w128 r (record { sfits = c.part_of.type_inv }), sum_is p q x c.requires.from c.requires.to c.requires.after c.requires.before r c.part_of.ensures)
-    (short_fits (value_along p q x) short)
+    rw (to_z-of_z w128 p.1 (literal_fits_wide p.1 c.requires.from.1), to_z-of_z w128 r (record { sfits = c.part_of.type_inv }), sum_is p q x c.requires.from c.requires.to c.requires.after c.requires.before r c.part_of.ensures)
+    (literal_fits_wide (value_along p q x) short)
 
 pub returns-clause-value : goal.returns-clause-value
 returns-clause-value c =
@@ -58,8 +56,8 @@ returns-clause-value c =
     let x : ℤ = c.args.x in
     let r : ℤ = c.part_of.result in
     let short = short_value p q x c.requires.from c.requires.to c.requires.after c.requires.before in
-    rw (to_z-of_z w128 p.1 (short_fits p.1 c.requires.from.1), to_z-of_z w128 r (record { sfits = c.part_of.type_inv }), sum_is p q x c.requires.from c.requires.to c.requires.after c.requires.before r c.part_of.ensures)
-    (to_z-of_z w128 (value_along p q x) (short_fits (value_along p q x) short))
+    rw (to_z-of_z w128 p.1 (literal_fits_wide p.1 c.requires.from.1), to_z-of_z w128 r (record { sfits = c.part_of.type_inv }), sum_is p q x c.requires.from c.requires.to c.requires.after c.requires.before r c.part_of.ensures)
+    (to_z-of_z w128 (value_along p q x) (literal_fits_wide (value_along p q x) short))
 
 pub returns-clause-short : goal.returns-clause-short
 returns-clause-short c =

@@ -1,8 +1,8 @@
 use Rattle.std.proofs.Common.{ap, sym, ◌∙◌, [], ◌∷◌, ◌++◌, append_assoc}
 use Rattle.std.proofs.lemmas.List.{append-nil}
 use Rattle.std.specs.List.{range_with_len}
-use Rattle.frontier_pool.proofs.Lists.{range_more}
 use Rattle.frontier_pool.proofs.serial.one_by_one.Goals as goal
+use Rattle.base.proofs.Ranges.{range_more}
 
 pub loop-item-init : goal.loop-item-init
 loop-item-init g c = record { done = sym (append-nil _); sound = c.requires.sound }

@@ -3,7 +3,7 @@ use Rattle.std.specs.List.{range_with_len}
 use Rattle.std.proofs.lemmas.List.FromFn.{length-range_with_len}
 use Rattle.std.proofs.lemmas.List.Sums.{count_by-le-length}
 use Rattle.game_core.specs.Counts.{one_if}
-use Rattle.game_core.proofs.Counts.{count_range_more}
+use Rattle.base.proofs.Counts.{count_range_more}
 use Rattle.game_core.specs.Game.{pair_of}
 use Rattle.game_core.specs.inside.Falling.{is_safe}
 use Rattle.game_core.proofs.falling.count_safe.Goals as goal

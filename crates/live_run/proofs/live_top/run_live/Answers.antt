@@ -3,8 +3,9 @@ use Rattle.run_devices.specs.Devices.{writing}
 use Rattle.run_devices.proofs.Laws.{rose_by_one}
 use Rattle.live_script.specs.LiveText.{IsLiveText}
 use Rattle.live_run.specs.LiveRuns.{IsAnswered}
-use Rattle.live_run.proofs.Ending.{more, some_text, complete}
+use Rattle.live_run.proofs.Ending.{some_text, complete}
 use Rattle.live_run.proofs.live_top.run_live.Goals as goal
+use Rattle.base.proofs.Options.{IfSome-weaker}
 
 pub returns-clause-complete : goal.returns-clause-complete
 returns-clause-complete g c =
@@ -15,5 +16,5 @@ returns-clause-complete g c =
     (complete c.outcome_of-outcome.result _ gives.not_usage
     (λ e. no_read_fault (rose_by_one _ _ (gives.read_fault e)))
     (λ e. no_write_fault (rose_by_one _ _ (gives.write_fault e)))
-    (λ e. more _ (λ script. IsAnswered script out) (λ script. (text : List ℕ) × IsLiveText script text) (λ script. some_text script out) (gives.answered e))
+    (λ e. IfSome-weaker _ (λ script. IsAnswered script out) (λ script. (text : List ℕ) × IsLiveText script text) (λ script. some_text script out) (gives.answered e))
     gives.refused)

@@ -1,5 +1,5 @@
 use Rattle.std.proofs.Common.{◌≡◌, ◌<◌, length, get_or, ap, ◌∙◌, arith}
-use Rattle.live_table.specs.Publishes.{Published, Listener, longer}
+use Rattle.live_table.specs.Publishes.{Published, Listener, longer_list}
 use Rattle.live_run.proofs.TablesMore.{in_step_again, told_more, others_stay}
 use Rattle.live_run.proofs.readers.tell_all.Goals as goal
 
@@ -12,7 +12,7 @@ loop-reader-preserved c =
     let lt : i < length readers = omega arith in
     let x = get_or readers i c.reader-item.result in
     let told = c.in_ok-tell.ensures.told ∙ inv.same in
-    let step = in_step_again p x c.learn.new.self (inv.opening i c.reader-item.result (omega arith) lt) (inv.after i c.reader-item.result (omega arith) lt) (c.learn.ensures ∙ ap (λ (q : Published). record x { told = longer x.told q.list }) told) in
+    let step = in_step_again p x c.learn.new.self (inv.opening i c.reader-item.result (omega arith) lt) (inv.after i c.reader-item.result (omega arith) lt) (c.learn.ensures ∙ ap (λ (q : Published). record x { told = longer_list x.told q.list }) told) in
     record {
       same = c.in_ok-tell.ensures.same ∙ inv.same;
       told = told_more p readers i c.learn.new.self lt inv.told step;

@@ -3,14 +3,15 @@ use Rattle.std.specs.Prelude.{ℤ, pos, ◌+ℤ◌, FitsSigned}
 use Rattle.std.proofs.lemmas.Int.{ints, to_z-of_z}
 use Rattle.std.proofs.lemmas.List.{length-set}
 use Rattle.fixed_expr.specs.NarrowValues.{IsNarrow}
-use Rattle.successor_box.proofs.Filling.{index_more, nothing_yet, lane_done, lane_in, words_fit}
+use Rattle.successor_box.proofs.Filling.{index_more, lane_done, lane_in, words_fit}
 use Rattle.successor_box.proofs.cell_spans.moved.Goals as goal
+use Rattle.base.proofs.Products.{nothing_below}
 
 narrow_fits : (z : ℤ) → IsNarrow z → FitsSigned w64 z
 narrow_fits z narrow = omega (arith, ints, narrow.0, narrow.1)
 
 pub loop-j-init : goal.loop-j-init
-loop-j-init c = record { long = refl; each = λ i none. nothing_yet i none }
+loop-j-init c = record { long = refl; each = λ i none. nothing_below i none }
 
 pub offset_bounds-numbers-j : goal.offset_bounds-numbers-j
 offset_bounds-numbers-j c = words_fit c.loop-j.j c.loop-j-test.true

@@ -4,8 +4,8 @@ use Rattle.std.specs.Int.{w128}
 use Rattle.std.proofs.lemmas.Int.{to_z-of_z}
 use Rattle.plant_record.proofs.lemmas.ValueIndices.{inputs_rest}
 use Rattle.successor_box.proofs.InputNumbers.{value_literal}
-use Rattle.successor_box.proofs.Middles.{literal_fits}
 use Rattle.successor_box.proofs.variable_columns.input_value.Goals as goal
+use Rattle.base.proofs.Integers.{literal_fits}
 
 pub overflow_cast-result : goal.overflow_cast-result
 overflow_cast-result c =

@@ -5,8 +5,9 @@ use Rattle.std.proofs.lemmas.Int.{ints, to_z-of_z}
 use Rattle.fixed_expr.specs.DivExpr.{floor_div}
 use Rattle.successor_box.proofs.CellValues.{middle}
 use Rattle.successor_box.proofs.Ranges.{noise_bounds, noise_centre_at}
-use Rattle.successor_box.proofs.Middles.{literal_fits, between_literals}
+use Rattle.successor_box.proofs.Middles.{between_literals}
 use Rattle.successor_box.proofs.variable_columns.noise_middle.Goals as goal
+use Rattle.base.proofs.Integers.{literal_fits}
 
 -- the centre that was found lies in the noise's range
 found : (c : goal.After-noise_centre) → nat_abs c.noise_centre.result < 10 ^ 18

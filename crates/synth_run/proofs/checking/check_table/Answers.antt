@@ -3,8 +3,9 @@ use Rattle.table_check.specs.declared.verdict.Verdict.TheVariants.{Valid, Invali
 use Rattle.synth_run.specs.declared.outcome.Outcome.{Outcome}
 use Rattle.synth_run.specs.declared.outcome.Outcome.TheVariants as ends
 use Rattle.synth_run.specs.IsOutcomeFor.{IsTableOutcome}
-use Rattle.synth_run.proofs.Reporting.{on_ok_both, if_err_more}
+use Rattle.synth_run.proofs.Reporting.{on_ok_both}
 use Rattle.synth_run.proofs.checking.check_table.Goals as goal
+use Rattle.std.proofs.lemmas.Result.{IfErr-weaker}
 
 pub returns-clause-solvable : goal.returns-clause-solvable
 returns-clause-solvable g c =
@@ -22,7 +23,7 @@ pub returns-clause-cause : goal.returns-clause-cause
 returns-clause-cause g c =
     let judged = c.in_ok-verdict.ensures.verdict in
     let verdict = c.in_ok-verdict.verdict in
-    if_err_more c.refuse_invalid.result (λ outcome. (cell : ℕ) × (verdict ≡ Invalid cell) × (outcome ≡ ends.Invalid cell)) _
+    IfErr-weaker c.refuse_invalid.result (λ outcome. (cell : ℕ) × (verdict ≡ Invalid cell) × (outcome ≡ ends.Invalid cell)) _
     (λ outcome found _. subst (λ (o : Outcome). IsTableOutcome c.args.table.now.plant c.args.table.now.rows o) (sym found.2) (
       c.in_ok-verdict.ensures.solvable,
       record { game = judged.game; abstraction = judged.abstraction; wrong = (judged.judged.invalid found.0).0 found.1 },
@@ -31,5 +32,5 @@ returns-clause-cause g c =
 pub returns-clause-failed : goal.returns-clause-failed
 returns-clause-failed g c =
     let verdict = c.in_ok-verdict.verdict in
-    if_err_more c.refuse_invalid.result (λ outcome. (cell : ℕ) × (verdict ≡ Invalid cell) × (outcome ≡ ends.Invalid cell)) _
+    IfErr-weaker c.refuse_invalid.result (λ outcome. (cell : ℕ) × (verdict ≡ Invalid cell) × (outcome ≡ ends.Invalid cell)) _
     (λ outcome found done. (let clash : ends.Invalid found.0 ≡ ends.Done = sym found.2 ∙ done in cc)) c.refuse_invalid.ensures.invalid

@@ -6,9 +6,9 @@ use Rattle.synth_run.proofs.Reporting.{exits}
 use Rattle.synth_run.proofs.top.stay.Goals as goal
 
 pub returns-clause-made : goal.returns-clause-made
-returns-clause-made g c = rw c.of_text.ensures (record { can_be_written = tt; answer = c.in_ok-settled.ensures.table; leaves = refl })
+returns-clause-made g c = rw c.of_text.ensures (record { can_be_written = tt; answer = c.in_ok-solved.ensures.table; leaves = refl })
 
-pub returns-in_err-settled-clause-declined : goal.returns-in_err-settled-clause-declined
-returns-in_err-settled-clause-declined g c =
-    exits c.from_residual.result c.in_err-settled.field-0.0 (IsRefusalOf (Stay c.args.workers) c.args.bytes.now) c.from_residual.ensures.1
-    (record { not_done = c.in_err-settled.ensures.failed; can_end = can_end_declined (Stay c.args.workers) c.args.bytes.now c.in_err-settled.field-0.0 c.in_err-settled.ensures.cause; cause = c.in_err-settled.ensures.cause })
+pub returns-in_err-solved-clause-declined : goal.returns-in_err-solved-clause-declined
+returns-in_err-solved-clause-declined g c =
+    exits c.from_residual.result c.in_err-solved.field-0.0 (IsRefusalOf (Stay c.args.workers) c.args.bytes.now) c.from_residual.ensures.1
+    (record { not_done = c.in_err-solved.ensures.failed; can_end = can_end_declined (Stay c.args.workers) c.args.bytes.now c.in_err-solved.field-0.0 c.in_err-solved.ensures.cause; cause = c.in_err-solved.ensures.cause })

@@ -3,8 +3,8 @@ use Rattle.command_line.specs.declared.command.Command.TheVariants.{Demo}
 use Rattle.synth_run.specs.declared.outcome.Outcome.{Outcome}
 use Rattle.synth_run.specs.declared.top.Work.{Work}
 use Rattle.synth_run.specs.inside.Making.{IsMade, IsRefusalOf}
-use Rattle.synth_run.proofs.Reporting.{if_ok_more, if_err_more}
 use Rattle.synth_run.proofs.top.work_on.Goals as goal
+use Rattle.std.proofs.lemmas.Result.{IfOk-weaker, IfErr-weaker}
 
 pub returns-in-Synth : goal.returns-in-Synth
 returns-in-Synth g c = rw c.in-Synth.is c.synth.ensures
@@ -28,12 +28,12 @@ pub returns-in-Demo-clause-made : goal.returns-in-Demo-clause-made
 returns-in-Demo-clause-made g c =
     let command = Demo c.in-Demo.number c.in-Demo.workers in
     rw c.in-Demo.is
-    (if_ok_more c.demo.result (λ (work : Work). (bytes : List ℕ) → IsMade command bytes work.text work.played) (λ (work : Work). IsMade command c.args.bytes.now work.text work.played)
+    (IfOk-weaker c.demo.result (λ (work : Work). (bytes : List ℕ) → IsMade command bytes work.text work.played) (λ (work : Work). IsMade command c.args.bytes.now work.text work.played)
     (λ work made. made c.args.bytes.now) c.demo.ensures.made)
 
 pub returns-in-Demo-clause-declined : goal.returns-in-Demo-clause-declined
 returns-in-Demo-clause-declined g c =
     let command = Demo c.in-Demo.number c.in-Demo.workers in
     rw c.in-Demo.is
-    (if_err_more c.demo.result (λ (outcome : Outcome). (bytes : List ℕ) → IsRefusalOf command bytes outcome) (IsRefusalOf command c.args.bytes.now)
+    (IfErr-weaker c.demo.result (λ (outcome : Outcome). (bytes : List ℕ) → IsRefusalOf command bytes outcome) (IsRefusalOf command c.args.bytes.now)
     (λ outcome declined. declined c.args.bytes.now) c.demo.ensures.declined)

@@ -5,8 +5,9 @@ use Rattle.std.proofs.lemmas.Int.{to_z-of_z}
 use Rattle.std.proofs.lemmas.List.{take_all}
 use Rattle.plant_record.specs.Description.{vector_of}
 use Rattle.plant_record.proofs.lemmas.VariableValues.{vector_length, values_more}
-use Rattle.table_control.proofs.Literals.{value_literal, literal_fits}
+use Rattle.table_control.proofs.Literals.{value_literal}
 use Rattle.table_control.proofs.at_state.apply.Goals as goal
+use Rattle.base.proofs.Integers.{literal_fits}
 
 wide : (c : goal.After-input_value) → FitsSigned w128 c.input_value.result
 wide c = search rules

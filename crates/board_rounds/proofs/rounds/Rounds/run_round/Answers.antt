@@ -4,7 +4,7 @@ use Rattle.cell_counters.specs.Accounts.{log_count}
 use Rattle.cell_counters.specs.BoardModels.{RootModel, IsLawful}
 use Rattle.board_rounds.specs.Crew.{IsTalliedBy, accounts_of, notes_of}
 use Rattle.board_rounds.specs.declared.rounds.Rounds.{Rounds}
-use Rattle.board_rounds.specs.inside.WorkerSteps.{HaveWorked}
+use Rattle.board_rounds.specs.inside.WorkerSteps.{AllAtWork}
 use Rattle.board_rounds.proofs.Here.{here}
 use Rattle.board_rounds.proofs.Plays.{Played, cells_since, few_after, stands_after}
 use Rattle.board_rounds.proofs.rounds.Rounds.run_round.Goals as goal
@@ -19,7 +19,7 @@ read_log-self-requires-clause-slots g c =
     let members = c.do_items.new.members.items in
     let few = few_after game fits (g.L.Rule.first rule) (g.L.Rule.keeps rule) (g.L.Rule.holds_before rule) c.args.board.now ((g.met.L.Rule g.world.𝓛 g.world.𝓜 g.world.𝓡 (here g.world)).leads_on rule c.args.board.now c.requires.board)
     c.args.workers old c.requires.holds_before (omega (arith, c.requires.some, old.list.ok.0)) members c.take_in.new.root.accounts
-    (subst (λ l. HaveWorked game fits keeps c.args.board.now l members) c.as_slice.ensures.value c.do_items.ensures.worked)
+    (subst (λ l. AllAtWork game fits keeps c.args.board.now l members) c.as_slice.ensures.value c.do_items.ensures.worked)
     (subst (λ n. IsPermutation (range_with_len 0 n) (notes_of members)) (omega (arith, c.len-items.ensures, old.list.ok.0)) c.do_items.ensures.swept)
     (c.take_in.ensures.accounts ∙ ap (λ l. l ++ reverse (accounts_of members)) {y = old.root.accounts} (ap (λ (r : RootModel). r.accounts) c.add_workers.ensures.root))
     c.take_in.ensures.lawful in
@@ -58,7 +58,7 @@ returns g c =
     subst (λ l. IsTalliedBy l tally) after (c.take_in.ensures.tally (subst (λ l. IsTalliedBy l old.tally) (sym before) c.requires.holds_before.tallied)) in
     let played : Played game fits keeps board c.args.workers old new = record {
       members = members;
-      worked = subst (λ l. HaveWorked game fits keeps board l members) c.as_slice.ensures.value c.do_items.ensures.worked;
+      worked = subst (λ l. AllAtWork game fits keeps board l members) c.as_slice.ensures.value c.do_items.ensures.worked;
       swept = subst (λ n. IsPermutation (range_with_len 0 n) (notes_of members)) (omega (arith, c.len-items.ensures, old.list.ok.0)) c.do_items.ensures.swept;
       accounts = sym after ∙ (c.take_in.ensures.accounts ∙ ap (λ l. l ++ reverse (accounts_of members)) before);
       lawful = subst (λ l. IsLawful l board.starts board.least) after c.take_in.ensures.lawful;

@@ -1,6 +1,6 @@
 use Rattle.std.proofs.Common.{◌≡◌, suc, length, take, get_or, replicate, sum, None, ap, ◌∙◌, arith, length-take}
 use Rattle.std.proofs.lemmas.List.{get_or_default, take_all}
-use Rattle.edge_rows.specs.Rows.{Filling, unfilled}
+use Rattle.edge_rows.specs.Rows.{Filling, empty_rows}
 use Rattle.edge_rows.specs.inside.FillFields.{IsFilledAs}
 use Rattle.edge_rows.proofs.Laid.{length-starts, start_at, fits-unfilled, laid-unfilled, ends-unfilled}
 use Rattle.edge_rows.proofs.Fillings.{shown, kept}
@@ -16,7 +16,7 @@ pub index-slots-requires : goal.index-slots-requires
 index-slots-requires c = omega (arith, c.in_ok-starts.starts.ok.0, ap length c.in_ok-starts.ensures, length-starts 0 c.args.lengths.now)
 
 fresh : (c : In_ok-block) → IsFilledAs (record { block = c.in_ok-block.block; starts = c.in_ok-starts.starts; ends = c.in_ok-ends.ends })
-    (record { rows = unfilled c.args.lengths.now; lengths = c.args.lengths.now })
+    (record { rows = empty_rows c.args.lengths.now; lengths = c.args.lengths.now })
 fresh c =
     let ns = c.args.lengths.now in let all = c.in_ok-starts.starts.items in
     let count : length all ≡ suc (length ns) = omega (arith, ap length c.in_ok-starts.ensures, length-starts 0 ns) in

@@ -1,6 +1,6 @@
 use Rattle.std.proofs.Common.{◌+◌, refl, ap, arith}
 use Rattle.std.specs.Vec.{with_item}
-use Rattle.edge_rows.specs.Rows.{Filling, appended}
+use Rattle.edge_rows.specs.Rows.{Filling, with_value}
 use Rattle.edge_rows.specs.inside.FillFields.{IsFilledAs}
 use Rattle.edge_rows.proofs.Fillings.{shown, kept, end_listed, end_small, end_free_there, put_lies}
 use Rattle.edge_rows.proofs.fill.RowFill.put.Goals as goal
@@ -20,7 +20,7 @@ index_mut-requires c = omega (arith, c.self.inside.ends.ok.0, end_listed c.self.
 
 after : (c : goal.After-self-1)
     → IsFilledAs (record { block = c.write.new.self; starts = c.self.inside.starts; ends = with_item c.self.inside.ends c.args.row (c.index-end.result.now + 1) })
-    (record { rows = appended c.args.self.now.rows c.args.row c.args.value; lengths = c.args.self.now.lengths })
+    (record { rows = with_value c.args.self.now.rows c.args.row c.args.value; lengths = c.args.self.now.lengths })
 after c = put_lies c.self.inside c.self.invariant c.args.self.now c.self.view_is c.args.row c.requires _ c.index-end.ensures _ c.args.value c.write.ensures refl refl
 
 pub invariant_of-self : goal.invariant_of-self

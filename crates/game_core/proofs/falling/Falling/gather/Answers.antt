@@ -1,6 +1,6 @@
 use Rattle.std.proofs.Common.{◌≡◌, ◌+◌, ◌<◌, arith, subst, sym, ◌∙◌}
 use Rattle.game_core.proofs.Falls.{begun_falling, gather_fall, gather_stay, queue_below}
-use Rattle.game_core.specs.inside.Falling.{IsFalling, fallen}
+use Rattle.game_core.specs.inside.Falling.{IsFalling, with_fall}
 use Rattle.game_core.proofs.falling.Falling.gather.Goals as goal
 use Rattle.game_core.proofs.falling.Falling.gather.Goals.{then-left_of-eq0, else-left_of-eq0}
 
@@ -25,7 +25,7 @@ loop-c-preserved g c =
     let lt : c.loop-c.c < game.cells = (let e = c.cells-c-end.ensures in let t = c.loop-c-test.true in omega arith) in
     elim c.if-left_of-eq0.branch [
       | then-left_of-eq0 w ↦
-          subst (IsFalling game (c.loop-c.c + 1) 0) {x = fallen c.loop-c.c c.loop-c.self} (sym (w.self-is ∙ w.fall.ensures))
+          subst (IsFalling game (c.loop-c.c + 1) 0) {x = with_fall c.loop-c.c c.loop-c.self} (sym (w.self-is ∙ w.fall.ensures))
           (gather_fall game c.loop-c.c lt c.loop-c.self c.loop-c.invariant (sym c.left_of.ensures ∙ w.if-left_of-eq0.true))
       | else-left_of-eq0 w ↦
           subst (IsFalling game (c.loop-c.c + 1) 0) {x = c.loop-c.self} (sym w.self-is)

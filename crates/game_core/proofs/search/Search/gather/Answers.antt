@@ -1,7 +1,7 @@
 use Rattle.std.proofs.Common.{◌≡◌, ◌+◌, ◌<◌, arith, subst, sym, ◌∙◌}
 use Rattle.game_core.proofs.Gathering.{gathered_none, gathered_goal, gathered_other, not_yet, goal_row}
 use Rattle.game_core.proofs.Rows.{not_goal}
-use Rattle.game_core.specs.inside.Search.{settled, IsGathered}
+use Rattle.game_core.specs.inside.Search.{with_row, IsGathered}
 use Rattle.game_core.proofs.search.Search.gather.Goals as goal
 use Rattle.game_core.proofs.search.Search.gather.Goals.{in-Goal, in-Obstacle}
 
@@ -20,7 +20,7 @@ loop-c-preserved g c =
     let lt : c.loop-c.c < game.cells = (let e = c.cells-c-end.ensures in let t = c.loop-c-test.true in omega arith) in
     elim c.match-mark.branch [
       | in-Goal w ↦
-          subst (IsGathered game (c.loop-c.c + 1)) {x = settled c.loop-c.c goal_row c.loop-c.self} (sym (w.self-is ∙ w.settle.ensures))
+          subst (IsGathered game (c.loop-c.c + 1)) {x = with_row c.loop-c.c goal_row c.loop-c.self} (sym (w.self-is ∙ w.settle.ensures))
           (gathered_goal game c.loop-c.c lt c.loop-c.self c.loop-c.invariant (sym c.mark.ensures ∙ w.in-Goal.is))
       | in-Obstacle w ↦
           subst (IsGathered game (c.loop-c.c + 1)) {x = c.loop-c.self} (sym w.self-is)

@@ -4,7 +4,7 @@ use Rattle.std.proofs.lemmas.List.Sums.{count_by-le-length}
 use Rattle.game_core.proofs.Rows.{count_first}
 use Rattle.game_core.specs.declared.game.Row.{Row}
 use Rattle.game_core.specs.Solution.{row_of}
-use Rattle.game_core.specs.inside.Search.{Progress, settled}
+use Rattle.game_core.specs.inside.Search.{Progress, with_row}
 use Rattle.game_core.proofs.search.Search.settle.Goals as goal
 
 -- a cell without a row leaves a position in the queue
@@ -38,4 +38,4 @@ returns c =
     let none : row_of s.answer c.args.c ≡ None = ap (λ (p : Progress). row_of p.rows c.args.c) c.self.view_is ∙ c.requires.first in
     let position = has_position s.answer s.order.items s.found c.args.c c.args.row c.self.invariant.one_position_each c.self.invariant.counted lt none in
     ap₂ (with_rows s.left.items) c.set.ensures (take_more_set s.order.items s.found c.args.c position)
-    ∙ ap (settled c.args.c c.args.row) c.self.view_is
+    ∙ ap (with_row c.args.c c.args.row) c.self.view_is

@@ -1,10 +1,11 @@
 -- Sums over lists, and how many elements pass a test.
-use Rattle.std.proofs.Common.{◌≤◌, ◌&&◌, ◌||◌, subst, ◌≡◌, ◌≢◌, ℕ, zero, suc, ◌+◌, ◌<◌, Bool, true, false, List, [], ◌∷◌, map, length, get_or, All, AllPairs, Contains, count_by, sum_by, arith, refl, sym, ◌∙◌, ap}
+use Rattle.std.proofs.Common.{◌≤◌, ◌&&◌, subst, ◌≡◌, ◌≢◌, ℕ, zero, suc, ◌+◌, ◌<◌, Bool, true, false, List, [], ◌∷◌, map, length, get_or, All, AllPairs, Contains, count_by, sum_by, arith, refl, sym, ◌∙◌, ap}
 use Rattle.std.proofs.lemmas.List.Elements.{All-head, All-tail, All-nil, All-cons}
 use Rattle.std.specs.List.{Any, list_any, list_all, range_with_len}
 use Rattle.std.proofs.lemmas.List.FromFn.{length-range_with_len, get_or-range_with_len, fill_by_all}
 use Rattle.std.proofs.lemmas.List.Sums.{sum_by-cons, sum_by-le-sum_by, count_by-le-length}
-use Rattle.game_core.specs.Counts.{one_if}
+use Rattle.base.specs.Counts.{one_if}
+use Rattle.std.proofs.lemmas.Bool.{or_parts}
 
 -- one element more
 pub count-cons : {X : Type 0} (p : X → Bool) (x : X) (xs : List X) → count_by p (x ∷ xs) ≡ one_if (p x) + count_by p xs
@@ -170,14 +171,9 @@ range_apart a n i j d l m e =
     let second = get_or-range_with_len a n j d (omega arith) in
     omega arith
 
--- what fails for either of two tests, and lists by their elements
-pub either_false : (a b : Bool) → (a || b) ≡ false → (a ≡ false) × (b ≡ false)
-either_false true b e = absurd (cc)
-either_false false b e = (refl, e)
-
 pub none_of : (p : ℕ → Bool) (xs : List ℕ) → list_any p xs ≡ false → All (λ x. p x ≡ false) xs
 none_of p [] e = All-nil (λ x. p x ≡ false)
-none_of p (x ∷ xs) e = let b = either_false (p x) (list_any p xs) e in All-cons (λ x. p x ≡ false) x xs b.0 (none_of p xs b.1)
+none_of p (x ∷ xs) e = let b = or_parts (p x) (list_any p xs) e in All-cons (λ x. p x ≡ false) x xs b.0 (none_of p xs b.1)
 
 pub not_every : (p : ℕ → Bool) (xs : List ℕ) → list_all p xs ≡ false → Any (λ x. p x ≡ false) xs
 not_every p [] e = absurd (let f : true ≡ false = e in cc)
