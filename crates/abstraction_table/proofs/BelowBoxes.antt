@@ -5,9 +5,9 @@ use Rattle.grid_quantiser.specs.Axes.{cells_of}
 use Rattle.grid_quantiser.specs.CellBoxes.{cells_between}
 use Rattle.grid_quantiser.specs.Laws.{BoxesHaveCells, CellsLieBetweenCorners, BoxesAreMovedShapes}
 use Rattle.grid_quantiser.proofs.BetweenCells.{between_from_contains, between_by_coordinate, rising_between}
-use Rattle.grid_quantiser.proofs.BoxCells.{between_limit, between_below, corners_below}
-use Rattle.grid_quantiser.proofs.BoxSegments.{box_ordered}
-use Rattle.grid_quantiser.proofs.BoxShapes.{shape_box, moved_shape}
+use Rattle.grid_quantiser.proofs.BoxCells.{between_limit, between_below, corners_below, box_ordered}
+use Rattle.grid_quantiser.proofs.BoxShapes.{shape_box}
+use Rattle.grid_quantiser.proofs.BoxNth.{moved_shape}
 
 pub boxes_have_cells : BoxesHaveCells
 boxes_have_cells axes first last grid box = record {

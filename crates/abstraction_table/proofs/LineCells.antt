@@ -10,6 +10,7 @@ use Rattle.std.proofs.lemmas.Nat.{div-mul-add, mod-mul-add}
 use Rattle.grid_quantiser.specs.declared.axis.Axis.{Axis}
 use Rattle.grid_quantiser.specs.Axes.{no_axis, cells_of}
 use Rattle.grid_quantiser.specs.Indices.{index_along}
+use Rattle.grid_quantiser.proofs.OwnIndices.{index_along_is}
 use Rattle.plant_record.specs.Description.{Description, axis_of, axes_of}
 use Rattle.plant_record.specs.Plants.{IsPlant}
 use Rattle.successor_box.specs.PairExtents.{index_in, moves_along}
@@ -37,14 +38,14 @@ row_slot axes last i c d long lt same =
     let n : ℕ = (get_or axes i no_axis).count in
     let rows = whole_rows axes (i + 1) last long (omega (arith, lt)) in
     let in_lines : (e : ℕ) → index_along axes i e ≡ e / r / rows.0 % n =
-    λ e. ap (λ (m : ℕ). e / m % n) (rows.1 ∙ mul_comm rows.0 r) ∙ ap (λ (m : ℕ). m % n) (sym (div-div-eq-div-mul e r rows.0))
+    λ e. index_along_is axes i e ∙ ap (λ (m : ℕ). e / m % n) (rows.1 ∙ mul_comm rows.0 r) ∙ ap (λ (m : ℕ). m % n) (sym (div-div-eq-div-mul e r rows.0))
     in
     in_lines c ∙ ap (λ (q : ℕ). q / rows.0 % n) (sym same) ∙ sym (in_lines d)
 
 last_slot : (axes : List Axis) (last c : ℕ) → length axes ≡ suc last → index_along axes last c ≡ c % (get_or axes last no_axis).count
 last_slot axes last c long =
     let none : drop (last + 1) axes ≡ [] = drop_all (last + 1) axes (omega (arith, long)) in
-    ap (λ (later : List Axis). c / cells_of later % (get_or axes last no_axis).count) none ∙ ap (λ (n : ℕ). n % (get_or axes last no_axis).count) (div-one c)
+    index_along_is axes last c ∙ ap (λ (later : List Axis). c / cells_of later % (get_or axes last no_axis).count) none ∙ ap (λ (n : ℕ). n % (get_or axes last no_axis).count) (div-one c)
 
 -- a cell some indices further in the row
 line_step : (c k r : ℕ) → c % r + k < r → ((c + k) / r ≡ c / r) × ((c + k) % r ≡ c % r + k)

@@ -10,6 +10,7 @@ use Rattle.std.proofs.lemmas.Nat.{mod_below, mul-le, mul-add-lt}
 use Rattle.grid_quantiser.specs.declared.boxes.CellBox.{CellBox}
 use Rattle.grid_quantiser.specs.Axes.{IsAxis, no_axis, cells_of}
 use Rattle.grid_quantiser.specs.Indices.{index_along}
+use Rattle.grid_quantiser.proofs.OwnIndices.{index_along_below}
 use Rattle.plant_record.specs.Description.{Description, axis_of, axes_of, vectors_of}
 use Rattle.plant_record.specs.Soundness.{IsSound}
 use Rattle.successor_box.specs.PairExtents.{index_in, moves_along, shifted_by}
@@ -39,7 +40,7 @@ module _ (p : Description) (sound : IsSound p) (i : ℕ) (lt : i < length p.equa
   moved_among c = by (moves_along p i)
     where
       by : (b : Bool) → (if b then index_along (axes_of p) i c else 0) < (if b then count else 1)
-      by true = mod_below (c / cells_of (drop (i + 1) (axes_of p))) count (omega (arith, some_count))
+      by true = index_along_below (axes_of p) i c sound.axes.each (omega (arith, lt, sound.one_each, length-map p.states axis_of))
       by false = omega arith
 
   -- ---- the terms of a table's extents

@@ -9,6 +9,7 @@ use Rattle.std.proofs.lemmas.List.Elements.{All-head, All-tail, All-append, All-
 use Rattle.grid_quantiser.specs.declared.axis.Axis.{Axis}
 use Rattle.grid_quantiser.specs.Axes.{IsAxis, no_axis, cells_of}
 use Rattle.grid_quantiser.specs.Indices.{index_along}
+use Rattle.grid_quantiser.proofs.OwnIndices.{index_along_is}
 use Rattle.plant_record.specs.declared.variables.InputVariable.{InputVariable}
 use Rattle.plant_record.specs.Description.{Description, axis_of, axes_of, vectors_of}
 use Rattle.plant_record.specs.ValueIndices.{value_count, value_index}
@@ -139,6 +140,7 @@ module _ (p : Description) where
         in
         ap₂ (λ (t m : ℕ). pair / t % m) later (count_along k state)
         ∙ ap (λ (n : ℕ). n % (get_or axes k no_axis).count) (sym (div-div-eq-div-mul pair v d) ∙ ap (λ (n : ℕ). n / d) (div-mul-add c v u input))
+        ∙ sym (index_along_is axes k c)
         ∙ state_slot c u k state
 
     -- of an input variable
@@ -165,7 +167,7 @@ module _ (p : Description) where
     pair_digit = elim (cases_lt k (length p.states)) [ inl state ↦ state_digit state | inr past ↦ input_digit past ]
 
   no_slot_along : (k : ℕ) → index_along (axes_of p) k 0 ≡ 0
-  no_slot_along k = ap (λ (i : ℕ). i % (get_or (axes_of p) k no_axis).count) (zero-div (cells_of (drop (k + 1) (axes_of p)))) ∙ zero-mod (get_or (axes_of p) k no_axis).count
+  no_slot_along k = index_along_is (axes_of p) k 0 ∙ ap (λ (i : ℕ). i % (get_or (axes_of p) k no_axis).count) (zero-div (cells_of (drop (k + 1) (axes_of p)))) ∙ zero-mod (get_or (axes_of p) k no_axis).count
 
   no_slot_among : (j : ℕ) → value_index p.inputs j 0 ≡ 0
   no_slot_among j = ap (λ (i : ℕ). i % value_count p.inputs j) (zero-div (vectors_of (drop (j + 1) p.inputs))) ∙ zero-mod (value_count p.inputs j)

@@ -8,6 +8,7 @@ use Rattle.std.proofs.lemmas.List.Sums.{sum_by-cons}
 use Rattle.std.proofs.lemmas.Nat.{mod_below}
 use Rattle.grid_quantiser.specs.Axes.{IsAxis, no_axis, cells_of}
 use Rattle.grid_quantiser.specs.Indices.{index_along}
+use Rattle.grid_quantiser.proofs.OwnIndices.{index_along_below}
 use Rattle.plant_record.specs.Description.{Description, axis_of, axes_of, vectors_of}
 use Rattle.plant_record.specs.Plants.{IsPlant}
 use Rattle.plant_record.specs.Soundness.{IsSound}
@@ -40,7 +41,7 @@ moved_below p sound i c lt =
     let count : ℕ = (get_or (axes_of p) i no_axis).count in
     let within : i < length (axes_of p) = omega (arith, lt, sound.one_each, length-map p.states axis_of) in
     let some : 0 < count = (All-get_or IsAxis (axes_of p) i no_axis within sound.axes.each).some_cell in
-    cond_both (moves_along p i) (index_along (axes_of p) i c) 0 (λ (n : ℕ). n < count) (λ moves. mod_below (c / cells_of (drop (i + 1) (axes_of p))) count some) (λ fixed. some)
+    cond_both (moves_along p i) (index_along (axes_of p) i c) 0 (λ (n : ℕ). n < count) (λ moves. index_along_below (axes_of p) i c sound.axes.each within) (λ fixed. some)
 
 -- what the indices of a cell bring is what the cell brings
 pub first_is : (p : Description) (t : TermTable) (c : ℕ) (indices : List ℕ) → All (HasVariable p) t.digits.items → AreIndicesOf p c indices → first_in t indices ≡ first_of p t.digits.items c

@@ -206,6 +206,7 @@ fn add_base(base: PairBox, boxes: &mut [PairBox])
 #[inline]
 fn indices_of(p: &Plant, c: u32) -> [u32; INDEX_COLUMNS]
     requires plant { IsWithinLimits p.now }
+    requires cell { c < cells_of (axes_of p.now) }
     ensures { AreIndicesOf p.now c result }
 {
     let along = p.grid().indices(c);

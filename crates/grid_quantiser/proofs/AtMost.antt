@@ -1,33 +1,24 @@
 -- Lists of numbers, one at most the other in each state.
-use Rattle.std.proofs.Common.{ℕ, zero, suc, ◌-◌, ◌<◌, ◌≤◌, arith, List, [], ◌∷◌, ◌++◌, length, drop, get_or, ℤ, pos, ◌≤ℤ◌}
+use Rattle.std.proofs.Common.{ℕ, zero, suc, ◌<◌, ◌≤◌, arith, List, [], ◌∷◌, ◌++◌, length, get_or, ℤ, pos, ◌≤ℤ◌}
 use Rattle.std.specs.Int.Signed.{≤ℤ_refl}
 use Rattle.std.proofs.lemmas.Int.{ints, by_lt_z}
 use Rattle.grid_quantiser.specs.declared.axis.Axis.{Axis}
 use Rattle.grid_quantiser.specs.CellBoxes.{IsAtMost, IsInBox}
-use Rattle.grid_quantiser.proofs.Suffixes.{drop_step}
-use Rattle.grid_quantiser.proofs.Domain.{numbers_step}
 
-pub IsAtMost-drop : (i : ℕ) (axes : List Axis) (xs ys : List ℤ) → IsAtMost axes xs ys → IsAtMost (drop i axes) (drop i xs) (drop i ys)
-IsAtMost-drop zero axes xs ys h = h
-IsAtMost-drop (suc i) [] xs ys h = tt
-IsAtMost-drop (suc i) (a ∷ axes) [] ys h = absurd h
-IsAtMost-drop (suc i) (a ∷ axes) (x ∷ xs) [] h = absurd h
-IsAtMost-drop (suc i) (a ∷ axes) (x ∷ xs) (y ∷ ys) h = IsAtMost-drop i axes xs ys h.1
+-- at most, state by state
+pub at_most_each : (axes : List Axis) (xs ys : List ℤ) (k : ℕ) → IsAtMost axes xs ys → k < length axes → get_or xs k (pos 0) ≤ℤ get_or ys k (pos 0)
+at_most_each [] xs ys k h within = absurd (omega (arith, within))
+at_most_each (a ∷ axes) [] ys k h within = absurd h
+at_most_each (a ∷ axes) (x ∷ xs) [] k h within = absurd h
+at_most_each (a ∷ axes) (x ∷ xs) (y ∷ ys) zero h within = h.0
+at_most_each (a ∷ axes) (x ∷ xs) (y ∷ ys) (suc k) h within = at_most_each axes xs ys k h.1 (omega (arith, within))
 
--- One step of a loop over the axes and two lists.
-module _ (axes : List Axis) (xs ys : List ℤ) (i : ℕ) (some : 0 < i) (within : i ≤ length axes) (long_xs : length axes ≤ length xs) (long_ys : length axes ≤ length ys) where
-  pub at_most_step : get_or xs (i - 1) (pos 0) ≤ℤ get_or ys (i - 1) (pos 0) → IsAtMost (drop i axes) (drop i xs) (drop i ys) → IsAtMost (drop (i - 1) axes) (drop (i - 1) xs) (drop (i - 1) ys)
-  at_most_step here later =
-      let short_xs : i ≤ length xs = omega arith in
-      let short_ys : i ≤ length ys = omega arith in
-      rw (drop_step axes i some within, numbers_step xs i some short_xs, numbers_step ys i some short_ys) (here, later)
-
-  pub at_most_here : IsAtMost axes xs ys → get_or xs (i - 1) (pos 0) ≤ℤ get_or ys (i - 1) (pos 0)
-  at_most_here h =
-      let short_xs : i ≤ length xs = omega arith in
-      let short_ys : i ≤ length ys = omega arith in
-      let here = rw (drop_step axes i some within, numbers_step xs i some short_xs, numbers_step ys i some short_ys) at (IsAtMost-drop (i - 1) axes xs ys h) in
-      here.0
+pub at_most_from_each : (axes : List Axis) (xs ys : List ℤ) → length axes ≤ length xs → length axes ≤ length ys → ((k : ℕ) → k < length axes → get_or xs k (pos 0) ≤ℤ get_or ys k (pos 0)) → IsAtMost axes xs ys
+at_most_from_each [] xs ys long_xs long_ys each = tt
+at_most_from_each (a ∷ axes) [] ys long_xs long_ys each = absurd (omega (arith, long_xs))
+at_most_from_each (a ∷ axes) (x ∷ xs) [] long_xs long_ys each = absurd (omega (arith, long_ys))
+at_most_from_each (a ∷ axes) (x ∷ xs) (y ∷ ys) long_xs long_ys each =
+    (each 0 (omega arith), at_most_from_each axes xs ys (omega (arith, long_xs)) (omega (arith, long_ys)) (λ k within. each (suc k) (omega (arith, within))))
 
 pub IsAtMost-refl : (axes : List Axis) (xs : List ℤ) → length axes ≤ length xs → IsAtMost axes xs xs
 IsAtMost-refl [] xs long = tt

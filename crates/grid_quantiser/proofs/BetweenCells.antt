@@ -1,5 +1,5 @@
 -- Whether a cell is between two corners.
-use Rattle.std.proofs.Common.{◌≡◌, ℕ, zero, suc, ◌+◌, ◌-◌, ◌*◌, ◌/◌, ◌%◌, ◌<◌, ◌≤◌, arith, ap, sym, subst, ◌∙◌, List, [], ◌∷◌, length, drop, get_or, inl, inr}
+use Rattle.std.proofs.Common.{◌≡◌, ℕ, zero, suc, ◌+◌, ◌-◌, ◌*◌, ◌/◌, ◌%◌, ◌<◌, ◌≤◌, arith, ap, sym, ◌∙◌, List, [], ◌∷◌, length, get_or, inl, inr}
 use Rattle.std.specs.List.{All, Contains}
 use Rattle.std.specs.List.Sorted.{IsStrictlyIncreasing}
 use Rattle.std.proofs.lemmas.Bool.{cases_lt}
@@ -8,10 +8,11 @@ use Rattle.std.proofs.lemmas.List.Elements.{All-tail}
 use Rattle.std.proofs.lemmas.Nat.{div-add-mod', div-mul-add, mod-mul-add, mod_below, div_below, mul-add-lt}
 use Rattle.std.proofs.Math.Nat.{mul_comm, mul-le-mul_right, add-mul, add_assoc}
 use Rattle.grid_quantiser.specs.declared.axis.Axis.{Axis}
-use Rattle.grid_quantiser.specs.Axes.{IsAxis, cells_of}
+use Rattle.mixed_radix.specs.Radix.{digits}
+use Rattle.grid_quantiser.specs.Axes.{IsAxis, counts_of, cells_of}
 use Rattle.grid_quantiser.specs.CellBoxes.{IsCellBox, cells_between}
-use Rattle.grid_quantiser.proofs.General.{mod-mod, blocks, length-blocks, get_or-blocks}
-use Rattle.grid_quantiser.proofs.Suffixes.{next_axis, some_cells, drop_step, index_step, later_step}
+use Rattle.grid_quantiser.proofs.General.{blocks, length-blocks, get_or-blocks}
+use Rattle.grid_quantiser.proofs.Suffixes.{some_cells}
 use Rattle.grid_quantiser.proofs.BoxCells.{between_some, between_below}
 
 -- in each state the index of the cell is from that of the first corner to that of the last
@@ -115,35 +116,16 @@ rising_between (a ∷ axes) f l each box = λ k within.
           rw (get_or-blocks n part (f / n) extent k short_k, get_or-blocks n part (f / n) extent (k + 1) short, quotient) (omega (arith, row, inner))
     ]
 
-pub IsBetween-drop : (i : ℕ) (axes : List Axis) (f l c : ℕ) → All IsAxis axes → IsBetween axes (f % cells_of axes) (l % cells_of axes) (c % cells_of axes) →
-    IsBetween (drop i axes) (f % cells_of (drop i axes)) (l % cells_of (drop i axes)) (c % cells_of (drop i axes))
-IsBetween-drop zero axes f l c each between = between
-IsBetween-drop (suc i) [] f l c each between = tt
-IsBetween-drop (suc i) (a ∷ axes) f l c each between =
-    let later : All IsAxis axes = All-tail IsAxis a axes each in
-    let some : 0 < cells_of axes = some_cells axes later in
-    IsBetween-drop i axes f l c later (rw (mod-mod f a.count (cells_of axes) some, mod-mod l a.count (cells_of axes) some, mod-mod c a.count (cells_of axes) some) at between.2)
+-- between, index by index
+pub between_each : (axes : List Axis) (f l c k : ℕ) → IsBetween axes f l c → k < length axes →
+    (get_or (digits (counts_of axes) f) k 0 ≤ get_or (digits (counts_of axes) c) k 0) × (get_or (digits (counts_of axes) c) k 0 ≤ get_or (digits (counts_of axes) l) k 0)
+between_each [] f l c k between within = absurd (omega (arith, within))
+between_each (a ∷ axes) f l c zero between within = (between.0, between.1)
+between_each (a ∷ axes) f l c (suc k) between within = between_each axes (f % cells_of axes) (l % cells_of axes) (c % cells_of axes) k between.2 (omega (arith, within))
 
--- One step of a loop over a box of cells and a cell.
-module _ (axes : List Axis) (i f l c : ℕ) (each : All IsAxis axes) (some : 0 < i) (within : i ≤ length axes) where
-  pub inside_step : f / cells_of (drop i axes) % (next_axis axes i).count ≤ c / cells_of (drop i axes) % (next_axis axes i).count →
-      c / cells_of (drop i axes) % (next_axis axes i).count ≤ l / cells_of (drop i axes) % (next_axis axes i).count →
-      IsBetween (drop i axes) (f % cells_of (drop i axes)) (l % cells_of (drop i axes)) (c % cells_of (drop i axes)) →
-      IsBetween (drop (i - 1) axes) (f % cells_of (drop (i - 1) axes)) (l % cells_of (drop (i - 1) axes)) (c % cells_of (drop (i - 1) axes))
-  inside_step first last between =
-      let whole : ℕ = cells_of (drop (i - 1) axes) in
-      let opened : IsBetween (next_axis axes i ∷ drop i axes) (f % whole) (l % whole) (c % whole) =
-      rw (← index_step axes i each some within f, ← index_step axes i each some within l, ← index_step axes i each some within c, later_step axes i each some within f, later_step axes i each some within l, later_step axes i each some within c)
-      (first, last, between)
-      in
-      subst (λ (later : List Axis). IsBetween later (f % whole) (l % whole) (c % whole)) (sym (drop_step axes i some within)) opened
-
-  pub inside_here : IsBetween axes (f % cells_of axes) (l % cells_of axes) (c % cells_of axes) →
-      (f / cells_of (drop i axes) % (next_axis axes i).count ≤ c / cells_of (drop i axes) % (next_axis axes i).count)
-      × (c / cells_of (drop i axes) % (next_axis axes i).count ≤ l / cells_of (drop i axes) % (next_axis axes i).count)
-  inside_here between =
-      let whole : ℕ = cells_of (drop (i - 1) axes) in
-      let opened : IsBetween (next_axis axes i ∷ drop i axes) (f % whole) (l % whole) (c % whole) =
-      subst (λ (later : List Axis). IsBetween later (f % whole) (l % whole) (c % whole)) (drop_step axes i some within) (IsBetween-drop (i - 1) axes f l c each between)
-      in
-      (omega (arith, opened.0, index_step axes i each some within f, index_step axes i each some within c), omega (arith, opened.1, index_step axes i each some within l, index_step axes i each some within c))
+pub between_from_each : (axes : List Axis) (f l c : ℕ) →
+    ((k : ℕ) → k < length axes → (get_or (digits (counts_of axes) f) k 0 ≤ get_or (digits (counts_of axes) c) k 0) × (get_or (digits (counts_of axes) c) k 0 ≤ get_or (digits (counts_of axes) l) k 0)) → IsBetween axes f l c
+between_from_each [] f l c each = tt
+between_from_each (a ∷ axes) f l c each =
+    let here = each 0 (omega arith) in
+    (here.0, here.1, between_from_each axes (f % cells_of axes) (l % cells_of axes) (c % cells_of axes) (λ k within. each (suc k) (omega (arith, within))))

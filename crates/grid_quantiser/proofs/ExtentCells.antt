@@ -14,7 +14,7 @@ use Rattle.grid_quantiser.specs.CellBoxes.{IsAtMost, IsBoxInDomain, AreCornersMe
 use Rattle.grid_quantiser.specs.Extents.{IsOnAxis, IsExtentOf, AreExtentsOf}
 use Rattle.grid_quantiser.specs.ExtentBoxes.{one_cell, with_extent, IsBoxMeeting}
 use Rattle.grid_quantiser.proofs.Suffixes.{some_cells}
-use Rattle.grid_quantiser.proofs.BoxSegments.{box_ordered}
+use Rattle.grid_quantiser.proofs.BoxCells.{box_ordered}
 use Rattle.grid_quantiser.proofs.MeetingCells.{meeting_corners}
 
 -- ---- the first axes, and one more

@@ -1,32 +1,21 @@
 -- What holds of any quotients and any lists.
-use Rattle.std.proofs.Common.{◌≡◌, ℕ, zero, suc, ◌+◌, ◌-◌, ◌*◌, ◌/◌, ◌%◌, ◌<◌, ◌≤◌, arith, ap, sym, refl, ◌∙◌, List, [], ◌∷◌, ◌++◌, length, map, take, drop, set, get_or, inl, inr}
+use Rattle.std.proofs.Common.{◌≡◌, ℕ, zero, suc, ◌+◌, ◌-◌, ◌*◌, ◌/◌, ◌%◌, ◌<◌, ◌≤◌, arith, ap, sym, ◌∙◌, List, length, map, get_or, inl, inr}
 use Rattle.std.specs.List.{flat_map, range_with_len}
-use Rattle.std.proofs.Math.Nat.{div-div-eq-div-mul, mul_comm, mul_assoc, add-mul, mul-le-mul_right, lt-div-mul-add, mod-eq_of_lt, div-eq_of_lt, add-div_left, add-mod_left}
+use Rattle.std.proofs.Math.Nat.{add-mul, mul-le-mul_right, lt-div-mul-add, div-mul-le_self, mod-eq_of_lt, div-eq_of_lt, add-div_left, add-mod_left}
 use Rattle.std.proofs.lemmas.Bool.{cases_lt}
-use Rattle.std.proofs.lemmas.Nat.{div-add-mod', div-mul-add, mod-mul-add, mod_below}
-use Rattle.std.proofs.lemmas.List.{length-append, length-map, get_or_append_left, get_or-append_right, get_or-map, take-append-drop, take-set, drop-set}
-use Rattle.std.proofs.lemmas.List.Concat.{flat_map-append}
+use Rattle.std.proofs.lemmas.Nat.{div-add-mod', div-mul-add, mod-mul-add, mod_below, le-div}
+use Rattle.std.proofs.lemmas.List.{length-append, length-map, get_or_append_left, get_or-append_right, get_or-map}
 
 -- ---- quotients
-
--- a quotient by one factor and then by the other is the quotient by the product
-pub div-div : (c m n : ℕ) → c / n / m ≡ c / (m * n)
-div-div c m n = div-div-eq-div-mul c n m ∙ ap (λ k. c / k) (mul_comm n m)
-
--- a number by a product and its two factors
-split : (c m n : ℕ) → c ≡ (c / (m * n) * m + c % (m * n) / n) * n + c % (m * n) % n
-split c m n =
-    omega (arith, div-add-mod' c (m * n), div-add-mod' (c % (m * n)) n, add-mul (c / (m * n) * m) (c % (m * n) / n) n, mul_assoc (c / (m * n)) m n)
-
-pub mod-mod : (c m n : ℕ) → 0 < n → c % (m * n) % n ≡ c % n
-mod-mod c m n some =
-    sym (ap (λ k. k % n) (split c m n) ∙ mod-mul-add (c / (m * n) * m + c % (m * n) / n) n (c % (m * n) % n) (mod_below (c % (m * n)) n some))
 
 -- a factor past a quotient makes a product past the whole
 pub past_quotient : (a b m : ℕ) → 0 < b → a / b < m → a < m * b
 past_quotient a b m some past =
     let row : (a / b + 1) * b ≤ m * b = mul-le-mul_right b (omega arith) in
     omega (arith, row, lt-div-mul-add {a = a} some, add-mul (a / b) 1 b)
+
+pub quotients_ordered : (m n k : ℕ) → 0 < k → m ≤ n → m / k ≤ n / k
+quotients_ordered m n k some order = le-div (m / k) n k some (omega (arith, div-mul-le_self m k))
 
 -- the index and the rest of a difference are the differences of the indices and of the rests
 pub difference_parts : (f l n : ℕ) → 0 < n → f / n ≤ l / n → f % n ≤ l % n → ((l - f) / n ≡ l / n - f / n) × ((l - f) % n ≡ l % n - f % n)
@@ -50,19 +39,6 @@ pub half : (w : ℕ) → 0 < w → (w / 2 + 1 ≤ w) × (w ≤ w / 2 + w / 2 + 1
 half w some = (omega arith, omega arith)
 
 -- ---- lists
-
--- a list with another element, in its parts
-pub set_parts : {A : Type 0} (xs : List A) (i : ℕ) (x : A) → i < length xs → set xs i x ≡ take i xs ++ x ∷ drop (i + 1) xs
-set_parts {A = A} xs i x lt =
-    sym (take-append-drop i (set xs i x)) ∙ ap (λ (ws : List A). ws ++ drop i (set xs i x)) (take-set xs i x) ∙ ap (λ (ws : List A). take i xs ++ ws) (drop-set xs i x lt)
-
-pub turns_of_turns : (f g : ℕ → List ℕ) (xs : List ℕ) → flat_map f (flat_map g xs) ≡ flat_map (λ x. flat_map f (g x)) xs
-turns_of_turns f g [] = refl
-turns_of_turns f g (x ∷ xs) = flat_map-append f (g x) (flat_map g xs) ∙ ap (λ (ys : List ℕ). flat_map f (g x) ++ ys) (turns_of_turns f g xs)
-
-pub one_each : (xs : List ℕ) → flat_map (λ x. x ∷ []) xs ≡ xs
-one_each [] = refl
-one_each (x ∷ xs) = ap (λ (ys : List ℕ). x ∷ ys) (one_each xs)
 
 -- a list repeated at each of some indices in a row, n numbers apart
 abbrev pub blocks : ℕ → List ℕ → ℕ → ℕ → List ℕ

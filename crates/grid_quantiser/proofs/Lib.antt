@@ -1,9 +1,9 @@
 pub mod General
+pub mod Counts
 pub mod Suffixes
 pub mod AxisNumbers
 pub mod AxisOffsets
 pub mod SixAxes
-pub mod PointSteps
 pub mod Domain
 pub mod AtMost
 pub mod DomainBox
@@ -13,14 +13,12 @@ pub mod BetweenCells
 pub mod MeetingCells
 pub mod ExtentCells
 pub mod CentrePoints
-pub mod Turning
-pub mod SegmentSteps
-pub mod BoxSegments
-pub mod WheelsMade
 pub mod OwnIndices
 pub mod ExtendedAxes
 pub mod AxisCounts
 pub mod BoxShapes
+pub mod BoxNth
+pub mod SegmentsLeft
 pub mod OverlapNumbers
 pub mod OverlapCells
 pub mod QuantiserExtents

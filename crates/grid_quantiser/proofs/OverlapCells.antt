@@ -1,21 +1,22 @@
 -- The cells with an overlap in a box of states: along each axis a row of indices.
-use Rattle.std.proofs.Common.{◌≡◌, ℕ, zero, suc, ◌+◌, ◌-◌, ◌*◌, ◌/◌, ◌%◌, ◌<◌, ◌≤◌, ◌↔◌, arith, refl, ◌∙◌, List, [], ◌∷◌, length, drop, get_or, ℤ, pos, Option, None, Some}
+use Rattle.std.proofs.Common.{◌≡◌, ℕ, zero, suc, ◌+◌, ◌*◌, ◌/◌, ◌%◌, ◌<◌, ◌≤◌, ◌↔◌, arith, refl, ◌∙◌, List, [], ◌∷◌, length, get_or, ℤ, pos, Option, None, Some}
 use Rattle.std.specs.List.{All, Contains}
 use Rattle.std.proofs.Math.Nat.{mul_comm}
 use Rattle.std.proofs.lemmas.Bool.{false≢true}
 use Rattle.std.proofs.lemmas.List.{get_or_default}
-use Rattle.std.proofs.lemmas.List.Elements.{All-tail, All-drop}
+use Rattle.std.proofs.lemmas.List.Elements.{All-tail}
 use Rattle.std.proofs.lemmas.Nat.{div-mul-add, mod-mul-add, div_below, mod_below, mul-add-lt}
+use Rattle.mixed_radix.specs.Radix.{number}
 use Rattle.grid_quantiser.specs.declared.axis.Axis.{Axis}
 use Rattle.grid_quantiser.specs.declared.axis.Overlap.{Overlap}
 use Rattle.grid_quantiser.specs.declared.axis.Overlap.TheVariants.{Partial, Whole}
 use Rattle.grid_quantiser.specs.declared.boxes.CellBox.{CellBox}
-use Rattle.grid_quantiser.specs.Axes.{IsAxis, no_axis, cells_of}
+use Rattle.grid_quantiser.specs.Axes.{IsAxis, no_axis, counts_of, cells_of}
 use Rattle.grid_quantiser.specs.Cells.{low_of, high_of}
 use Rattle.grid_quantiser.specs.CellBoxes.{IsAtMost, Touches, LiesInside, IsCellBox, cells_between, IsBoxWith}
 use Rattle.grid_quantiser.specs.inside.Overlaps.{HasOverlapIn, AreIndicesIn, HasOverlap}
-use Rattle.grid_quantiser.proofs.Suffixes.{next_axis, some_cells, drop_step}
-use Rattle.grid_quantiser.proofs.Domain.{numbers_step, cell_below}
+use Rattle.grid_quantiser.proofs.Suffixes.{some_cells}
+use Rattle.grid_quantiser.proofs.Domain.{cell_below}
 use Rattle.grid_quantiser.proofs.AtMost.{IsAtMost-trans}
 use Rattle.grid_quantiser.proofs.CellPoints.{ends_from_touches, touches_from_ends, ends_from_inside, inside_from_ends}
 use Rattle.grid_quantiser.proofs.BoxCells.{between_below}
@@ -52,15 +53,18 @@ more_corners overlap a axes x y lo hi p q f l each indices corners =
           );
     }
 
--- one step of the loop
-pub corners_step : (overlap : Overlap) (axes : List Axis) (lo hi : List ℤ) (i p q f l : ℕ) → All IsAxis axes → 0 < i → i ≤ length axes → length axes ≤ length lo → length axes ≤ length hi →
-    AreIndicesIn overlap (next_axis axes i) (get_or lo (i - 1) (pos 0)) (get_or hi (i - 1) (pos 0)) p q → AreCornersOf overlap (drop i axes) (drop i lo) (drop i hi) f l →
-    AreCornersOf overlap (drop (i - 1) axes) (drop (i - 1) lo) (drop (i - 1) hi) (p * cells_of (drop i axes) + f) (q * cells_of (drop i axes) + l)
-corners_step overlap axes lo hi i p q f l each some within long_lo long_hi indices corners =
-    let short_lo : i ≤ length lo = omega arith in
-    let short_hi : i ≤ length hi = omega arith in
-    rw (drop_step axes i some within, numbers_step lo i some short_lo, numbers_step hi i some short_hi)
-    (more_corners overlap (next_axis axes i) (drop i axes) (get_or lo (i - 1) (pos 0)) (get_or hi (i - 1) (pos 0)) (drop i lo) (drop i hi) p q f l (All-drop IsAxis i axes each) indices corners)
+-- the corners whose indices have it on each axis
+pub corners_of_indices : (overlap : Overlap) (axes : List Axis) (lo hi : List ℤ) (first last : List ℕ) → All IsAxis axes → length axes ≤ length lo → length axes ≤ length hi → length axes ≤ length first → length axes ≤ length last →
+    ((k : ℕ) → k < length axes → AreIndicesIn overlap (get_or axes k no_axis) (get_or lo k (pos 0)) (get_or hi k (pos 0)) (get_or first k 0) (get_or last k 0)) →
+    AreCornersOf overlap axes lo hi (number (counts_of axes) first) (number (counts_of axes) last)
+corners_of_indices overlap [] lo hi first last each long_lo long_hi long_first long_last indices = record { first_below = omega arith; last_below = omega arith; ordered = tt; exactly = λ c below. (λ _. tt, λ _. tt) }
+corners_of_indices overlap (a ∷ axes) [] hi first last each long_lo long_hi long_first long_last indices = absurd (omega (arith, long_lo))
+corners_of_indices overlap (a ∷ axes) (x ∷ lo) [] first last each long_lo long_hi long_first long_last indices = absurd (omega (arith, long_hi))
+corners_of_indices overlap (a ∷ axes) (x ∷ lo) (y ∷ hi) [] last each long_lo long_hi long_first long_last indices = absurd (omega (arith, long_first))
+corners_of_indices overlap (a ∷ axes) (x ∷ lo) (y ∷ hi) (p ∷ first) [] each long_lo long_hi long_first long_last indices = absurd (omega (arith, long_last))
+corners_of_indices overlap (a ∷ axes) (x ∷ lo) (y ∷ hi) (p ∷ first) (q ∷ last) each long_lo long_hi long_first long_last indices =
+    more_corners overlap a axes x y lo hi p q (number (counts_of axes) first) (number (counts_of axes) last) (All-tail IsAxis a axes each) (indices 0 (omega arith))
+    (corners_of_indices overlap axes lo hi first last (All-tail IsAxis a axes each) (omega (arith, long_lo)) (omega (arith, long_hi)) (omega (arith, long_first)) (omega (arith, long_last)) (λ k within. indices (suc k) (omega (arith, within))))
 
 -- a cell with an overlap in each state has an index with one along an axis
 pub overlap_along : (overlap : Overlap) (axes : List Axis) (lo hi : List ℤ) (c i : ℕ) → All IsAxis axes → c < cells_of axes → HasOverlap overlap axes lo hi c → i < length axes →

@@ -1,6 +1,7 @@
 -- The axes of a uniform grid, one for each state.
-use Rattle.std.specs.Prelude.{ℕ, ◌*◌, ◌^◌, ◌≤◌, ℤ, pos, neg_ℤ, ◌+ℤ◌, ◌*ℤ◌, ◌<ℤ◌, ◌≤ℤ◌, List, [], ◌∷◌, length}
+use Rattle.std.specs.Prelude.{ℕ, ◌≤◌, ℤ, pos, neg_ℤ, ◌+ℤ◌, ◌*ℤ◌, ◌<ℤ◌, ◌≤ℤ◌, List, [], ◌∷◌, length}
 use Rattle.std.specs.List.{All}
+use Rattle.mixed_radix.specs.Radix.{size}
 use Rattle.grid_quantiser.specs.declared.axis.Axis.{Axis}
 use Rattle.base.specs.declared.limits.TheConstants.{NUMBER_LIMIT, STATES_LIMIT}
 
@@ -19,10 +20,14 @@ pub record IsAxis (a : Axis) : Type 0 where
 abbrev pub no_axis : Axis
 no_axis = record { lo = pos 0; width = pos 0; count = 0 }
 
+-- how many indices each axis has
+abbrev pub counts_of : List Axis → List ℕ
+counts_of [] = []
+counts_of (a ∷ axes) = a.count ∷ counts_of axes
+
 -- how many cells there are
 abbrev pub cells_of : List Axis → ℕ
-cells_of [] = 1
-cells_of (a ∷ axes) = a.count * cells_of axes
+cells_of axes = size (counts_of axes)
 
 -- A grid has one axis for each of 1 to 6 states.
 pub record AreAxes (axes : List Axis) : Type 0 where

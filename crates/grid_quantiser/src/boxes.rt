@@ -1,13 +1,14 @@
-ghost use Rattle.std.specs.Prelude.{◌≡◌, ◌<◌, ◌≤◌, ◌↔◌, length, slice_index, IsTrue, IsSome, IfSome};
+ghost use Rattle.std.specs.Prelude.{◌≡◌, ◌-◌, ◌^◌, ◌<◌, ◌≤◌, ◌↔◌, length, take, slice_index, IsTrue, IsSome, IfSome};
 ghost use Rattle.std.specs.List.{Contains};
-ghost use Rattle.base.specs.declared.limits.TheConstants.{STATES_LIMIT};
-ghost use Rattle.grid_quantiser.specs.Axes.{cells_of};
+ghost use Rattle.base.specs.declared.limits.TheConstants.{CELLS_LIMIT, STATES_LIMIT};
+ghost use Rattle.grid_quantiser.specs.Axes.{counts_of, cells_of, AreAxes};
+ghost use Rattle.mixed_radix.specs.Boxes.{box_counts, last_of};
 ghost use Rattle.grid_quantiser.specs.CellBoxes.{IsAtMost, IsBoxInDomain, Touches, LiesInside, AreCornersMeeting, IsCellBox, cells_between};
 
 use crate::axis::Axis;
-use crate::cells::cell_in;
 use crate::grid::{Grid, Point};
-use crate::segments::split;
+use base::limits::STATES_LIMIT;
+use mixed_radix::{decode, encode, size};
 
 /// A box of cells of a grid, by the numbers of its lowest and its highest corner.
 #[derive(Clone, Copy, PartialEq, Eq)]
@@ -25,9 +26,8 @@ impl Grid {
         ensures inside { IsSome result ↔ IsBoxInDomain self.now lo.now hi.now }
         ensures corners { IfSome result (λ b. AreCornersMeeting self.now lo.now hi.now b.first b.last) }
     {
-        let axes = self.axes();
-        let first = cell_in(axes, lo)?;
-        let last = cell_in(axes, hi)?;
+        let first = self.cell_of(lo)?;
+        let last = self.cell_of(hi)?;
         Some(CellBox { first, last })
     }
 
@@ -39,16 +39,28 @@ impl Grid {
         ensures some { 1 ≤ result }
         ensures limit { result ≤ cells_of self.now }
     {
-        let axes = self.axes();
-        let mut rest = b.last - b.first;
-        let mut cells: u64 = 1;
-        for i in (0..axes.len()).rev() {
-            let count = axes[i].count as u32;
-            let (quotient, steps) = split(rest, count);
-            cells *= u64::from(steps) + 1;
-            rest = quotient;
-        }
-        cells
+        let box_counts = self.box_counts(b);
+        u64::from(size(&box_counts[..self.counts().len()]))
+    }
+
+    /// How many indices a box has along each axis.
+    #[inline]
+    pub(crate) fn box_counts(&self, b: CellBox) -> [u32; STATES_LIMIT]
+        requires { IsCellBox self.now b.first b.last }
+        ensures { take (length self.now) result ≡ box_counts (counts_of self.now) (b.last - b.first) }
+    {
+        mixed_radix::box_counts(self.counts(), b.last - b.first)
+    }
+
+    /// How many cells of a box differ in the last state alone.
+    #[inline]
+    pub(crate) fn segment_length(&self, b: CellBox) -> u32
+        requires { IsCellBox self.now b.first b.last }
+        ensures length { result ≡ last_of (box_counts (counts_of self.now) (b.last - b.first)) }
+        ensures grid { AreAxes self.now }
+        ensures limit { cells_of self.now ≤ CELLS_LIMIT }
+    {
+        self.box_counts(b)[self.counts().len() - 1]
     }
 
     /// Whether a cell is in a box.
@@ -57,18 +69,14 @@ impl Grid {
         requires cell { c < cells_of self.now }
         ensures { IsTrue result ↔ Contains (cells_between self.now b.first b.last) c }
     {
-        let axes = self.axes();
-        let mut first = u64::from(b.first);
-        let mut last = u64::from(b.last);
-        let mut rest = u64::from(c);
-        for i in (0..axes.len()).rev() {
-            let n = axes[i].count;
-            if rest % n < first % n || last % n < rest % n {
+        let counts = self.counts();
+        let first = decode(counts, b.first);
+        let last = decode(counts, b.last);
+        let indices = decode(counts, c);
+        for i in 0..counts.len() {
+            if indices[i] < first[i] || last[i] < indices[i] {
                 return false;
             }
-            first /= n;
-            last /= n;
-            rest /= n;
         }
         true
     }
@@ -81,21 +89,10 @@ impl Grid {
         ensures nth { result ≡ slice_index (cells_between self.now b.first b.last) i }
         ensures below { result < cells_of self.now }
     {
-        let axes = self.axes();
-        let mut rest = b.last - b.first;
-        let mut left = i as u32;
-        let mut cell = b.first;
-        let mut stride: u32 = 1;
-        for k in (0..axes.len()).rev() {
-            let count = axes[k].count as u32;
-            let (quotient, steps) = split(rest, count);
-            let (turns, digit) = split(left, steps + 1);
-            cell += digit * stride;
-            stride *= count;
-            left = turns;
-            rest = quotient;
-        }
-        cell
+        let counts = self.counts();
+        let box_counts = self.box_counts(b);
+        let indices = decode(&box_counts[..counts.len()], i as u32);
+        b.first + encode(counts, &indices)
     }
 
     /// Whether all points of a cell lie in the box from `lo` to `hi`.
@@ -126,7 +123,7 @@ fn is_at_most(axes: &[Axis], xs: &Point, ys: &Point) -> bool
     requires { length axes.now ≤ STATES_LIMIT }
     ensures { IsTrue result ↔ IsAtMost axes.now xs.now ys.now }
 {
-    for i in (0..axes.len()).rev() {
+    for i in 0..axes.len() {
         if ys[i] < xs[i] {
             return false;
         }

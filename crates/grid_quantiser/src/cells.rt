@@ -1,12 +1,13 @@
-ghost use Rattle.std.specs.Prelude.{◌≡◌, ◌^◌, ◌<◌, ◌≤◌, ◌↔◌, IsSome, IfSome};
-ghost use Rattle.grid_quantiser.specs.Axes.{cells_of, AreAxes};
-ghost use Rattle.grid_quantiser.specs.Cells.{IsInDomain, cell_of, low_of, centre_of, high_of, point_of};
+ghost use Rattle.std.specs.Prelude.{◌≡◌, ℕ, ◌^◌, ◌<◌, ◌≤◌, ◌↔◌, pos, length, slice_index, slice_index_or, IsSome, IfSome};
+ghost use Rattle.grid_quantiser.specs.Axes.{no_axis, cells_of, AreAxes};
+ghost use Rattle.grid_quantiser.specs.Cells.{IsInDomain, index_of, cell_of, low_of, centre_of, high_of, point_of};
 ghost use Rattle.grid_quantiser.specs.inside.Spots.{numbers_of};
 ghost use Rattle.base.specs.declared.limits.TheConstants.{CELLS_LIMIT};
 
 use crate::axis::{Axis, CellPoint};
 use crate::grid::{Grid, Point};
 use base::limits::STATES_LIMIT;
+use mixed_radix::{decode, encode};
 
 impl Grid {
     /// The cell of a state: the static quantiser of an abstraction by cells (Reissig, Weber and
@@ -16,8 +17,10 @@ impl Grid {
         ensures inside { IsSome result ↔ IsInDomain self.now x.now }
         ensures cell { IfSome result (λ c. c ≡ cell_of self.now x.now) }
         ensures below { IfSome result (λ c. c < cells_of self.now) }
+        ensures axes { AreAxes self.now }
     {
-        cell_in(self.axes(), x)
+        let indices = indices_on(self.axes(), x)?;
+        Some(encode(self.counts(), &indices))
     }
 
     /// The centre of a cell. Along an even width it is the greater of the two middle numbers.
@@ -54,30 +57,25 @@ impl Grid {
         ensures { result ≡ point_of (numbers_of cell_point self.now c) }
     {
         let axes = self.axes();
+        let indices = decode(self.counts(), c);
         let mut point = [0; STATES_LIMIT];
-        let mut rest = u64::from(c);
-        for i in (0..axes.len()).rev() {
-            point[i] = axes[i].number(rest % axes[i].count, cell_point);
-            rest /= axes[i].count;
+        for i in 0..axes.len() {
+            point[i] = axes[i].number(u64::from(indices[i]), cell_point);
         }
         point
     }
 }
 
-/// The cell of a state in the grid of the axes.
-pub(crate) fn cell_in(axes: &[Axis], x: &Point) -> Option<u32>
+/// The index of a state on each axis, where it is in the domain. Past the last axis it is 0.
+fn indices_on(axes: &[Axis], x: &Point) -> Option<[u32; STATES_LIMIT]>
     requires axes { AreAxes axes.now }
     requires limit { cells_of axes.now ≤ CELLS_LIMIT }
     ensures inside { IsSome result ↔ IsInDomain axes.now x.now }
-    ensures cell { IfSome result (λ c. c ≡ cell_of axes.now x.now) }
-    ensures below { IfSome result (λ c. c < cells_of axes.now) }
+    ensures each { IfSome result (λ indices. (k : ℕ) → k < length axes.now → slice_index indices k ≡ index_of (slice_index_or axes.now k no_axis) (slice_index_or x.now k (pos 0))) }
 {
-    let mut cell: u64 = 0;
-    let mut stride: u64 = 1;
-    for i in (0..axes.len()).rev() {
-        let along = axes[i].index_holding(x[i])?;
-        cell += along * stride;
-        stride *= axes[i].count;
+    let mut indices = [0; STATES_LIMIT];
+    for i in 0..axes.len() {
+        indices[i] = axes[i].index_holding(x[i])? as u32;
     }
-    Some(cell as u32)
+    Some(indices)
 }

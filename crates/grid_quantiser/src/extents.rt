@@ -1,5 +1,5 @@
 ghost use Rattle.std.specs.Prelude.{◌≡◌, ◌<◌, ◌≤◌, ◌↔◌, ℕ, ℤ, ◌≤ℤ◌, List, length, slice_index, slice_index_or, IsSome, IfSome};
-ghost use Rattle.grid_quantiser.specs.Axes.{no_axis};
+ghost use Rattle.grid_quantiser.specs.Axes.{no_axis, cells_of};
 ghost use Rattle.grid_quantiser.specs.CellBoxes.{IsBoxInDomain, AreCornersMeeting};
 ghost use Rattle.grid_quantiser.specs.Indices.{index_along};
 ghost use Rattle.grid_quantiser.specs.Extents.{IsExtentOf, extended, IsExtentBefore, AreExtentsOf};
@@ -8,6 +8,7 @@ use crate::boxes::CellBox;
 use crate::grid::Grid;
 use crate::quantiser::AxisQuantiser;
 use base::limits::STATES_LIMIT;
+use mixed_radix::decode;
 
 /// Indices of an axis, from the first to the last.
 #[derive(Clone, Copy, PartialEq, Eq)]
@@ -93,16 +94,10 @@ impl Grid {
     /// The index of a cell along each axis. Past the last axis it is 0.
     #[inline]
     pub fn indices(&self, c: u32) -> [u32; STATES_LIMIT]
+        requires { c < cells_of self.now }
         ensures along { (i : ℕ) → i < length self.now → slice_index result i ≡ index_along self.now i c }
         ensures past { (i : ℕ) → length self.now ≤ i → slice_index result i ≡ 0 }
     {
-        let axes = self.axes();
-        let mut indices = [0; STATES_LIMIT];
-        let mut rest = u64::from(c);
-        for i in (0..axes.len()).rev() {
-            indices[i] = (rest % axes[i].count) as u32;
-            rest /= axes[i].count;
-        }
-        indices
+        decode(self.counts(), c)
     }
 }

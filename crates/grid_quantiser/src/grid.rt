@@ -1,7 +1,9 @@
 ghost use Rattle.std.specs.Prelude.{◌≡◌, ◌*◌, ◌^◌, ◌<◌, ◌≤◌, ◌↔◌, length, IfOk, IsErr, slice_index_or};
-ghost use Rattle.grid_quantiser.specs.Axes.{no_axis, cells_of, AreAxes};
+ghost use Rattle.grid_quantiser.specs.Axes.{no_axis, counts_of, cells_of, AreAxes};
+ghost use Rattle.grid_quantiser.specs.inside.Storage.{six_counts};
+ghost use Rattle.mixed_radix.specs.Radix.{size};
 ghost use Rattle.grid_quantiser.specs.Cells.{radius_of};
-ghost use Rattle.base.specs.declared.limits.TheConstants.{CELLS_LIMIT};
+ghost use Rattle.base.specs.declared.limits.TheConstants.{CELLS_LIMIT, STATES_LIMIT};
 
 use crate::axis::{Axis, NO_AXIS};
 use base::limits::{CELLS_LIMIT, STATES_LIMIT};
@@ -20,6 +22,7 @@ pub struct TooManyCells;
 #[derive(Clone, Copy, PartialEq, Eq)]
 pub struct Grid {
     axes: [Axis; STATES_LIMIT],
+    counts: [u32; STATES_LIMIT],
     states: u32,
     cells: u32,
 }
@@ -28,16 +31,16 @@ impl Model for Grid {
     ghost use Rattle.std.specs.Prelude.{List, length, take};
     ghost use Rattle.grid_quantiser.specs.declared.axis.Axis.{Axis};
     ghost use Rattle.grid_quantiser.specs.Axes.{cells_of};
-    ghost use Rattle.grid_quantiser.specs.inside.Storage.{six_of, IsStored};
+    ghost use Rattle.grid_quantiser.specs.inside.Storage.{six_of, six_counts, IsStored};
     ghost use Rattle.grid_quantiser.specs.inside.Restored.{restored};
 
     ghost Value = { List Axis };
 
     ghost view = { λ g. take g.states g.axes };
 
-    ghost invariant = { λ g. IsStored g.axes g.states g.cells };
+    ghost invariant = { λ g. IsStored g.axes g.counts g.states g.cells };
 
-    ghost inverse = { λ axes. record { axes = six_of axes; states = length axes; cells = cells_of axes } };
+    ghost inverse = { λ axes. record { axes = six_of axes; counts = six_counts axes; states = length axes; cells = cells_of axes } };
 
     ghost inverse_ok = { λ g kept. restored g kept };
 }
@@ -54,6 +57,7 @@ impl Grid {
         six[..axes.len()].copy_from_slice(axes);
         Ok(Grid {
             axes: six,
+            counts: counts_in(axes),
             states: axes.len() as u32,
             cells,
         })
@@ -95,6 +99,32 @@ impl Grid {
     {
         &self.axes[..self.states as usize]
     }
+
+    /// How many indices each axis has.
+    #[inline]
+    pub(crate) fn counts(&self) -> &[u32]
+        ensures same { result.now ≡ counts_of self.now }
+        ensures axes { AreAxes self.now }
+        ensures cells { cells_of self.now ≤ CELLS_LIMIT }
+        ensures few { length result.now ≤ STATES_LIMIT }
+        ensures limit { size result.now ≤ CELLS_LIMIT }
+        ensures some { 0 < size result.now }
+    {
+        &self.counts[..self.states as usize]
+    }
+}
+
+/// How many indices each of the axes has.
+fn counts_in(axes: &[Axis]) -> [u32; STATES_LIMIT]
+    requires axes { AreAxes axes.now }
+    requires limit { cells_of axes.now ≤ CELLS_LIMIT }
+    ensures { result ≡ six_counts axes.now }
+{
+    let mut counts = [0; STATES_LIMIT];
+    for i in 0..axes.len() {
+        counts[i] = axes[i].count as u32;
+    }
+    counts
 }
 
 /// How many cells the axes make.
@@ -104,11 +134,11 @@ fn cell_count(axes: &[Axis]) -> Result<u32, TooManyCells>
     ensures refused { IsErr result ↔ (CELLS_LIMIT < cells_of axes.now) }
 {
     let mut cells: u64 = 1;
-    for i in (0..axes.len()).rev() {
-        if axes[i].count > CELLS_LIMIT / cells {
+    for axis in axes {
+        if axis.count > CELLS_LIMIT / cells {
             return Err(TooManyCells);
         }
-        cells *= axes[i].count;
+        cells *= axis.count;
     }
     Ok(cells as u32)
 }

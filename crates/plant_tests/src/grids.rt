@@ -240,7 +240,7 @@ fn cell_of_the_plane_has_two_indices() -> bool {
     let Ok(grid) = Grid::new(&PLANE) else {
         return false;
     };
-    grid.indices(13) == [3, 1, 0, 0, 0, 0]
+    grid.cells() == 24 && grid.indices(13) == [3, 1, 0, 0, 0, 0]
 }
 
 #[test]

@@ -17,7 +17,7 @@ centres_are_near axes cell grid below = (
 )
 
 pub centres_depend_on_their_indices : CentresDependOnTheirIndices
-centres_depend_on_their_indices axes cell i grid below within = centre_index axes cell i grid.each below within
+centres_depend_on_their_indices axes cell i grid below within = centre_index axes cell i below within
 
 pub boxes_grow_by_extents : BoxesGrowByExtents
 boxes_grow_by_extents = record {

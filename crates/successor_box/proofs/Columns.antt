@@ -10,6 +10,7 @@ use Rattle.fixed_expr.specs.Value.{StaysInRange}
 use Rattle.grid_quantiser.specs.Axes.{IsAxis, no_axis, cells_of}
 use Rattle.grid_quantiser.specs.Cells.{centre_of, point_of}
 use Rattle.grid_quantiser.specs.Indices.{index_along, middle_of}
+use Rattle.grid_quantiser.proofs.OwnIndices.{index_along_below}
 use Rattle.plant_record.specs.Description.{Description, axis_of, axes_of, vectors_of}
 use Rattle.plant_record.specs.ValueIndices.{value_index}
 use Rattle.plant_record.specs.Soundness.{IsSound}
@@ -46,7 +47,7 @@ module _ (p : Description) (indices : List (List ℕ)) (lane c u : ℕ) (is : Is
   pub index_within : IsSound p → (k : ℕ) → k < length p.states → get_or (get_or indices k []) lane 0 < (get_or (axes_of p) k no_axis).count
   index_within sound k lt =
       let count : ℕ = (get_or (axes_of p) k no_axis).count in
-      subst (λ (n : ℕ). n < count) (sym (index_at k lt)) (mod_below (c / cells_of (drop (k + 1) (axes_of p))) count (axis_at p sound k lt).some_cell)
+      subst (λ (n : ℕ). n < count) (sym (index_at k lt)) (index_along_below (axes_of p) k c sound.axes.each (omega (arith, lt, length-map p.states axis_of)))
 
   pub state_value : IsSound p → (k : ℕ) → k < length p.states → middle_of (get_or (axes_of p) k no_axis) (get_or (get_or indices k []) lane 0) ≡ get_or (central_values p c u) k (pos 0)
   state_value sound k lt =

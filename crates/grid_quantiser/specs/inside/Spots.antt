@@ -1,10 +1,11 @@
 -- One of the numbers of an index, on one axis and on each.
-use Rattle.std.specs.Prelude.{ℕ, ◌/◌, ◌%◌, ℤ, pos, ◌+ℤ◌, ◌-ℤ◌, ◌*ℤ◌, List, [], ◌∷◌}
+use Rattle.std.specs.Prelude.{ℕ, ℤ, pos, ◌+ℤ◌, ◌-ℤ◌, ◌*ℤ◌, List}
 use Rattle.grid_quantiser.specs.declared.axis.Axis.{Axis}
 use Rattle.grid_quantiser.specs.declared.axis.CellPoint.{CellPoint}
 use Rattle.grid_quantiser.specs.declared.axis.CellPoint.TheVariants.{Low, Centre, High}
-use Rattle.grid_quantiser.specs.Axes.{cells_of}
-use Rattle.grid_quantiser.specs.Cells.{radius_of}
+use Rattle.mixed_radix.specs.Radix.{digits}
+use Rattle.grid_quantiser.specs.Axes.{counts_of}
+use Rattle.grid_quantiser.specs.Cells.{radius_of, numbers_at}
 
 -- the least number of an index, its centre, or its greatest number
 abbrev pub coordinate_of : CellPoint → Axis → ℕ → ℤ
@@ -14,5 +15,4 @@ coordinate_of High a index = (a.lo +ℤ (a.width *ℤ pos index)) +ℤ (a.width 
 
 -- that number in each state of a cell
 abbrev pub numbers_of : CellPoint → List Axis → ℕ → List ℤ
-numbers_of cell_point [] c = []
-numbers_of cell_point (a ∷ axes) c = coordinate_of cell_point a (c / cells_of axes) ∷ numbers_of cell_point axes (c % cells_of axes)
+numbers_of cell_point axes c = numbers_at (coordinate_of cell_point) axes (digits (counts_of axes) c)

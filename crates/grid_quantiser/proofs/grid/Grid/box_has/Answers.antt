@@ -1,65 +1,57 @@
-use Rattle.std.proofs.Common.{◌≡◌, ◌/◌, ◌%◌, ◌<◌, ◌≤◌, arith, ap, sym, subst, refl, ◌∙◌, List}
-use Rattle.std.proofs.Math.Nat.{mod-eq_of_lt}
-use Rattle.std.specs.List.{Contains}
-use Rattle.grid_quantiser.specs.declared.axis.Axis.{Axis}
-use Rattle.grid_quantiser.specs.Axes.{cells_of}
-use Rattle.grid_quantiser.specs.CellBoxes.{IsCellBox, cells_between}
-use Rattle.grid_quantiser.proofs.Suffixes.{next_axis, div_step}
-use Rattle.grid_quantiser.proofs.BoxCells.{corners_below}
-use Rattle.grid_quantiser.proofs.BetweenCells.{IsBetween, between_from_contains, contains_from_between, inside_step, inside_here}
+use Rattle.std.proofs.Common.{ℕ, ◌<◌, ◌≤◌, arith, ap, refl, below_more, length, get_or}
+use Rattle.mixed_radix.proofs.Numbers.{the_digits}
+use Rattle.grid_quantiser.specs.Axes.{counts_of}
+use Rattle.grid_quantiser.proofs.Counts.{length-counts_of}
+use Rattle.grid_quantiser.proofs.BetweenCells.{between_from_contains, contains_from_between, between_each, between_from_each}
+use Rattle.grid_quantiser.proofs.BoxNth.{corners}
 use Rattle.grid_quantiser.proofs.grid.Grid.box_has.Goals as goal
-use Rattle.grid_quantiser.proofs.grid.Grid.box_has.Goals.{then-rest-n-via-then-rest-n, then-rest-n-via-else-rest-n+then-last-n}
+use Rattle.grid_quantiser.proofs.grid.Grid.box_has.Goals.{then-indices-i-via-then-indices-i, then-indices-i-via-else-indices-i+then-last-i}
 
-pub returns-then-rest-n : goal.returns-then-rest-n
-returns-then-rest-n c =
-    let axes = c.axes-axes.result.now in
-    let f = c.args.b.first in
-    let l = c.args.b.last in (
-      λ h. cc,
-      λ has.
-          let given = subst (λ (axes : List Axis). IsCellBox axes f l) (sym c.axes-axes.ensures.same) c.requires.ordered in
-          let below = corners_below axes f l c.axes-axes.ensures.axes.each c.axes-axes.ensures.axes.some_state given in
-          let cell = subst (λ (axes : List Axis). c.args.c < cells_of axes) (sym c.axes-axes.ensures.same) c.requires.cell in
-          let contains = subst (λ (axes : List Axis). Contains (cells_between axes f l) c.args.c) (sym c.axes-axes.ensures.same) has in
-          let between : IsBetween axes (f % cells_of axes) (l % cells_of axes) (c.args.c % cells_of axes) =
-          rw (mod-eq_of_lt below.0, mod-eq_of_lt below.1, mod-eq_of_lt cell) (between_from_contains axes f l c.args.c c.axes-axes.ensures.axes.each given contains)
-          in
-          let here = rw (← c.loop-i.invariant.first, ← c.loop-i.invariant.last, ← c.loop-i.invariant.rest) at (inside_here axes c.loop-i.i f l c.args.c c.axes-axes.ensures.axes.each c.loop-i-test.true c.loop-i.auto.i between) in
-          elim c.then-rest-n.branch [
-            | then-rest-n-via-then-rest-n w ↦ absurd (omega (arith, here.0))
-            | then-rest-n-via-else-rest-n+then-last-n w ↦ absurd (omega (arith, here.1))
-          ],
-    )
+pub decode-first-requires-clause-below : goal.decode-first-requires-clause-below
+decode-first-requires-clause-below c =
+    rw c.counts-counts.ensures.same (corners c.args.self.now c.args.b.first c.args.b.last c.counts-counts.ensures.axes c.counts-counts.ensures.cells c.requires.ordered).low
+
+pub decode-last-requires-clause-below : goal.decode-last-requires-clause-below
+decode-last-requires-clause-below c =
+    rw c.counts-counts.ensures.same (corners c.args.self.now c.args.b.first c.args.b.last c.counts-counts.ensures.axes c.counts-counts.ensures.cells c.requires.ordered).high
+
+pub loop-i-init : goal.loop-i-init
+loop-i-init c = λ k lt. absurd (omega (arith, lt))
 
 pub loop-i-preserved : goal.loop-i-preserved
 loop-i-preserved c =
-    let axes = c.axes-axes.result.now in
-    let i = c.loop-i.i in
-    let count = (next_axis axes i).count in
-    let first : c.loop-i.first % count ≤ c.loop-i.rest % count = omega arith in
-    let last : c.loop-i.rest % count ≤ c.loop-i.last % count = omega arith in
-    record {
-      first = ap (λ v. v / count) c.loop-i.invariant.first
-          ∙ div_step axes i c.axes-axes.ensures.axes.each c.loop-i-test.true c.loop-i.auto.i c.args.b.first;
-      last = ap (λ v. v / count) c.loop-i.invariant.last
-          ∙ div_step axes i c.axes-axes.ensures.axes.each c.loop-i-test.true c.loop-i.auto.i c.args.b.last;
-      rest = ap (λ v. v / count) c.loop-i.invariant.rest
-          ∙ div_step axes i c.axes-axes.ensures.axes.each c.loop-i-test.true c.loop-i.auto.i c.args.c;
-      between = inside_step axes i c.args.b.first c.args.b.last c.args.c c.axes-axes.ensures.axes.each c.loop-i-test.true c.loop-i.auto.i
-          (rw (c.loop-i.invariant.first, c.loop-i.invariant.rest) at first)
-          (rw (c.loop-i.invariant.last, c.loop-i.invariant.rest) at last)
-          c.loop-i.invariant.between;
-    }
+    below_more (λ (k : ℕ). (get_or c.decode-first.result k 0 ≤ get_or c.decode-indices.result k 0) × (get_or c.decode-indices.result k 0 ≤ get_or c.decode-last.result k 0)) c.loop-i.i
+    c.loop-i.invariant (c.if-indices-i.false, c.if-last-i.false)
+
+pub returns-then-indices-i : goal.returns-then-indices-i
+returns-then-indices-i c = (
+  λ h. cc,
+  λ has.
+      let axes = c.args.self.now in
+      let k = c.loop-i.i in
+      let same = c.counts-counts.ensures.same in
+      let within : k < length axes = omega (arith, c.loop-i-test.true, ap length same, length-counts_of axes) in
+      let between = between_each axes c.args.b.first c.args.b.last c.args.c k (between_from_contains axes c.args.b.first c.args.b.last c.args.c c.counts-counts.ensures.axes.each c.requires.ordered has) within in
+      let first = the_digits (counts_of axes) c.decode-first.result c.args.b.first k (rw same at c.decode-first.ensures.digits) (omega (arith, within, length-counts_of axes)) in
+      let last = the_digits (counts_of axes) c.decode-last.result c.args.b.last k (rw same at c.decode-last.ensures.digits) (omega (arith, within, length-counts_of axes)) in
+      let here = the_digits (counts_of axes) c.decode-indices.result c.args.c k (rw same at c.decode-indices.ensures.digits) (omega (arith, within, length-counts_of axes)) in
+      elim c.then-indices-i.branch [
+        | then-indices-i-via-then-indices-i w ↦ absurd (omega (arith, w.if-indices-i.true, between.0, first, here))
+        | then-indices-i-via-else-indices-i+then-last-i w ↦ absurd (omega (arith, w.if-last-i.true, between.1, last, here))
+      ],
+)
 
 pub returns : goal.returns
 returns c =
-    let axes = c.axes-axes.result.now in
-    let f = c.args.b.first in
-    let l = c.args.b.last in
-    let done : c.loop-i.i ≡ 0 = omega arith in
-    let given = subst (λ (axes : List Axis). IsCellBox axes f l) (sym c.axes-axes.ensures.same) c.requires.ordered in
-    let below = corners_below axes f l c.axes-axes.ensures.axes.each c.axes-axes.ensures.axes.some_state given in
-    let cell = subst (λ (axes : List Axis). c.args.c < cells_of axes) (sym c.axes-axes.ensures.same) c.requires.cell in
-    let at_end : IsBetween axes (f % cells_of axes) (l % cells_of axes) (c.args.c % cells_of axes) = rw done at c.loop-i.invariant.between in
-    let between = rw (mod-eq_of_lt below.0, mod-eq_of_lt below.1, mod-eq_of_lt cell) at at_end in
-    (λ h. subst (λ (axes : List Axis). Contains (cells_between axes f l) c.args.c) c.axes-axes.ensures.same (contains_from_between axes f l c.args.c c.axes-axes.ensures.axes.each cell between), λ h. refl)
+    let axes = c.args.self.now in
+    let same = c.counts-counts.ensures.same in (
+      λ h. contains_from_between axes c.args.b.first c.args.b.last c.args.c c.counts-counts.ensures.axes.each c.requires.cell
+          (between_from_each axes c.args.b.first c.args.b.last c.args.c (λ k within.
+          let lt : k < length (counts_of axes) = omega (arith, within, length-counts_of axes) in
+          let both = c.loop-i.invariant k (omega (arith, lt, ap length same, c.loop-i-test.false)) in
+          let first = the_digits (counts_of axes) c.decode-first.result c.args.b.first k (rw same at c.decode-first.ensures.digits) lt in
+          let last = the_digits (counts_of axes) c.decode-last.result c.args.b.last k (rw same at c.decode-last.ensures.digits) lt in
+          let here = the_digits (counts_of axes) c.decode-indices.result c.args.c k (rw same at c.decode-indices.ensures.digits) lt in
+          (omega (arith, both.0, first, here), omega (arith, both.1, last, here)))),
+      λ h. refl,
+    )

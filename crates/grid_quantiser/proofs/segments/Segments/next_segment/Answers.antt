@@ -1,27 +1,41 @@
-use Rattle.std.proofs.Common.{◌≡◌, length, drop, arith}
-use Rattle.std.proofs.lemmas.List.{length-append, length-take, length-drop}
-use Rattle.grid_quantiser.proofs.SegmentSteps.{few_next, next_fields, next_cells}
+use Rattle.std.proofs.Common.{◌<◌, arith, refl, length}
+use Rattle.grid_quantiser.specs.CellBoxes.{cells_between}
+use Rattle.grid_quantiser.proofs.BoxCells.{between_limit}
+use Rattle.grid_quantiser.proofs.BoxNth.{corners}
+use Rattle.grid_quantiser.proofs.SegmentsLeft.{segment_fits, next_whole, next_cells}
 use Rattle.grid_quantiser.proofs.segments.Segments.next_segment.Goals as goal
 
-pub turn-self-inside-requires-clause-few : goal.turn-self-inside-requires-clause-few
-turn-self-inside-requires-clause-few c =
+pub overflow_add-self : goal.overflow_add-self
+overflow_add-self c =
     let r = c.self.inside in
-    few_next r.wheels r.turning c.in_ok-first.first r.extent r.next c.in_ok-first.was c.self.invariant
+    let kept = c.self.invariant in
+    let corner = corners r.grid r.cells.first r.cells.last kept.grid kept.limit kept.ordered in
+    let more : r.given < length (cells_between r.grid r.cells.first r.cells.last) = omega (arith, kept.within, kept.count_is, c.if-self.false) in
+    let whole = rw kept.per_segment_is at kept.whole in
+    omega (arith, c.from.ensures, kept.per_segment_is, segment_fits r.grid r.cells.first r.cells.last corner r.given whole more, between_limit r.grid r.cells.first r.cells.last kept.ordered, kept.limit)
 
 pub invariant_of-self : goal.invariant_of-self
 invariant_of-self c =
     let r = c.self.inside in
-    let after = c.turn-self-inside.new.wheels in
-    let rest = drop r.turning r.wheels in
-    let long : length after ≡ r.turning = omega (arith, c.turn-self-inside.auto.wheels, length-take r.turning r.wheels, c.self.invariant.five, c.self.invariant.within) in
-    rw c.turn-self-inside.ensures.next
-    (next_fields r.wheels r.turning c.in_ok-first.first r.extent r.next c.in_ok-first.was c.self.invariant after rest c.turn-self-inside.ensures.turned long
-    (omega (arith, long, length-append after rest, length-drop r.turning r.wheels, c.self.invariant.five, c.self.invariant.within)))
+    let kept = c.self.invariant in
+    let corner = corners r.grid r.cells.first r.cells.last kept.grid kept.limit kept.ordered in
+    let more : r.given < length (cells_between r.grid r.cells.first r.cells.last) = omega (arith, kept.within, kept.count_is, c.if-self.false) in
+    let whole = rw kept.per_segment_is at kept.whole in
+    rw (c.from.ensures, kept.per_segment_is) (record {
+      grid = kept.grid;
+      limit = kept.limit;
+      ordered = kept.ordered;
+      count_is = kept.count_is;
+      per_segment_is = refl;
+      within = omega (arith, kept.count_is, segment_fits r.grid r.cells.first r.cells.last corner r.given whole more);
+      whole = next_whole r.grid r.cells.first r.cells.last corner r.given whole more;
+    })
 
 pub returns-clause-segment : goal.returns-clause-segment
 returns-clause-segment c =
     let r = c.self.inside in
-    let after = c.turn-self-inside.new.wheels in
-    let long : length after ≡ r.turning = omega (arith, c.turn-self-inside.auto.wheels, length-take r.turning r.wheels, c.self.invariant.five, c.self.invariant.within) in
-    rw (← c.self.view_is, c.turn-self-inside.ensures.next)
-    (next_cells r.wheels r.turning c.in_ok-first.first r.extent r.next c.in_ok-first.was c.self.invariant after (drop r.turning r.wheels) c.turn-self-inside.ensures.turned long)
+    let kept = c.self.invariant in
+    let corner = corners r.grid r.cells.first r.cells.last kept.grid kept.limit kept.ordered in
+    let more : r.given < length (cells_between r.grid r.cells.first r.cells.last) = omega (arith, kept.within, kept.count_is, c.if-self.false) in
+    let whole = rw kept.per_segment_is at kept.whole in
+    rw (← c.self.view_is, c.from.ensures, c.nth_of-first.ensures.nth, kept.per_segment_is) (next_cells r.grid r.cells.first r.cells.last corner r.given whole more)

@@ -1,7 +1,0 @@
-use Rattle.std.proofs.Common.{ap, ◌∙◌}
-use Rattle.grid_quantiser.specs.Cells.{point_of}
-use Rattle.grid_quantiser.proofs.PointSteps.{numbers_of-Centre}
-use Rattle.grid_quantiser.proofs.grid.Grid.centre.Goals as goal
-
-pub returns : goal.returns
-returns c = c.point.ensures ∙ ap point_of (numbers_of-Centre c.args.self.now c.args.c)
