@@ -6,7 +6,7 @@ use Rattle.std.proofs.lemmas.Nat.{mod_below, div-mul-add, mul-add-lt, mul-le}
 use Rattle.std.proofs.lemmas.List.Elements.{All-head, All-nil, All-push, All-tail, All-weaker}
 use Rattle.std.proofs.lemmas.List.Sums.{sum_by_push, sum_by-cons}
 use Rattle.abstraction_table.specs.declared.digits.Digit.{Digit}
-use Rattle.abstraction_table.specs.inside.Digits.{moved, Moves, IsMultiple}
+use Rattle.abstraction_table.specs.inside.Digits.{with_weights, Moves, IsMultiple}
 use Rattle.base.proofs.Products.{div-mod}
 
 -- what is added above a digit leaves it as it is
@@ -35,7 +35,7 @@ module _ (from to : Digit → ℕ) where
   IsGraded bound d = (g : ℕ) × (bound ≡ g * (d.count * to d))
 
   abbrev IsFound : List Digit → ℕ → Digit → Type 0
-  IsFound digits n d = moved from to digits n / to d % d.count ≡ n / from d % d.count
+  IsFound digits n d = with_weights from to digits n / to d % d.count ≡ n / from d % d.count
 
   pub moves_none : Moves from to [] 1
   moves_none = record { below = λ n. omega arith; graded = All-nil (IsGraded 1); each = λ n. All-nil (IsFound [] n) }
@@ -52,21 +52,21 @@ module _ (from to : Digit → ℕ) where
 
   -- one digit more, above the others
   module _ (digits : List Digit) (bound : ℕ) (d : Digit) (some : 0 < d.count) (top : to d ≡ bound) (positive : All (λ (e : Digit). (0 < e.count) × (0 < to e)) digits) (moves : Moves from to digits bound) where
-    pub sum_is : (n : ℕ) → moved from to (digits ++ d ∷ []) n ≡ n / from d % d.count * bound + moved from to digits n
+    pub sum_is : (n : ℕ) → with_weights from to (digits ++ d ∷ []) n ≡ n / from d % d.count * bound + with_weights from to digits n
     sum_is n =
         sum_by_push (λ (e : Digit). n / from e % e.count * to e) digits d
-        ∙ ap (λ (k : ℕ). moved from to digits n + n / from d % d.count * k) top
-        ∙ add_comm (moved from to digits n) (n / from d % d.count * bound)
+        ∙ ap (λ (k : ℕ). with_weights from to digits n + n / from d % d.count * k) top
+        ∙ add_comm (with_weights from to digits n) (n / from d % d.count * bound)
 
-    sum_below : (n : ℕ) → moved from to (digits ++ d ∷ []) n < d.count * bound
+    sum_below : (n : ℕ) → with_weights from to (digits ++ d ∷ []) n < d.count * bound
     sum_below n =
-        omega (arith, sum_is n, mul-add-lt (n / from d % d.count) bound (moved from to digits n) d.count (mod_below (n / from d) d.count some) (moves.below n), mul_comm bound d.count)
+        omega (arith, sum_is n, mul-add-lt (n / from d % d.count) bound (with_weights from to digits n) d.count (mod_below (n / from d) d.count some) (moves.below n), mul_comm bound d.count)
 
     old : (n : ℕ) → All (IsFound (digits ++ d ∷ []) n) digits
     old n = λ k z lt.
         let e : Digit = get_or digits k z in
         let q : ℕ = n / from d % d.count in
-        let s : ℕ = moved from to digits n in
+        let s : ℕ = with_weights from to digits n in
         let g = moves.graded k z lt in
         let some_e = positive k z lt in
         ap (λ (m : ℕ). m / to e % e.count) (sum_is n ∙ ap (λ (b : ℕ). q * b + s) g.1)
@@ -76,7 +76,7 @@ module _ (from to : Digit → ℕ) where
     new : (n : ℕ) → IsFound (digits ++ d ∷ []) n d
     new n =
         let q : ℕ = n / from d % d.count in
-        let s : ℕ = moved from to digits n in
+        let s : ℕ = with_weights from to digits n in
         ap (λ (m : ℕ). m / to d % d.count) (sum_is n)
         ∙ ap (λ (t : ℕ). (q * bound + s) / t % d.count) top
         ∙ ap (λ (m : ℕ). m % d.count) (div-mul-add q bound s (moves.below n))
@@ -93,7 +93,7 @@ module _ (from to : Digit → ℕ) where
     }
 
   -- digits of multiples make a multiple
-  pub multiple_sum : (w : ℕ) (digits : List Digit) → All (λ (e : Digit). IsMultiple w (to e)) digits → (n : ℕ) → IsMultiple w (moved from to digits n)
+  pub multiple_sum : (w : ℕ) (digits : List Digit) → All (λ (e : Digit). IsMultiple w (to e)) digits → (n : ℕ) → IsMultiple w (with_weights from to digits n)
   multiple_sum w [] above n = (0, omega arith)
   multiple_sum w (e ∷ digits) above n =
       let here = All-head (λ (e : Digit). IsMultiple w (to e)) e digits above in
@@ -117,10 +117,10 @@ module _ (from to : Digit → ℕ) where
     pub own_below : (n : ℕ) → own n * to d < weight
     own_below n = omega (arith, mul-add-lt (own n) (to d) 0 d.count (mod_below (n / from d) d.count some) some_slot, mul_comm (to d) d.count)
 
-    pub multiple : (n : ℕ) → IsMultiple weight (moved from to digits n)
+    pub multiple : (n : ℕ) → IsMultiple weight (with_weights from to digits n)
     multiple n = multiple_sum weight digits above n
 
-    pub with_own : (n : ℕ) → moved from to (digits ++ d ∷ []) n ≡ (multiple n).0 * weight + own n * to d
+    pub with_own : (n : ℕ) → with_weights from to (digits ++ d ∷ []) n ≡ (multiple n).0 * weight + own n * to d
     with_own n = sum_by_push (λ (e : Digit). n / from e % e.count * to e) digits d ∙ ap (λ (m : ℕ). m + own n * to d) (multiple n).1
 
     fewer : (n : ℕ) → (multiple n).0 < whole.0
@@ -130,7 +130,7 @@ module _ (from to : Digit → ℕ) where
           | inr past ↦ absurd (omega (arith, moves.below n, (multiple n).1, whole.1, mul-le whole.0 weight (multiple n).0 weight past (omega arith)))
         ]
 
-    still_below : (n : ℕ) → moved from to (digits ++ d ∷ []) n < bound
+    still_below : (n : ℕ) → with_weights from to (digits ++ d ∷ []) n < bound
     still_below n = omega (arith, with_own n, whole.1, mul-add-lt (multiple n).0 weight (own n * to d) whole.0 (fewer n) (own_below n), mul_comm weight whole.0)
 
     still_found : (n : ℕ) → All (IsFound (digits ++ d ∷ []) n) digits

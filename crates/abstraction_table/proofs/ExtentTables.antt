@@ -13,7 +13,7 @@ use Rattle.abstraction_table.specs.declared.digits.Digit.{Digit}
 use Rattle.abstraction_table.specs.declared.extent_table.ExtentTable.{ExtentTable}
 use Rattle.plant_game.specs.Abstraction.{pairs_of, pair_of}
 use Rattle.abstraction_table.specs.inside.Digits.{slot_at, pair_at, IsDigitOf, AreDigitsOf}
-use Rattle.abstraction_table.specs.inside.ExtentTables.{first_of, extent_in, IsRelativeExtent, HoldsExtentsAlong, IsExtentFor}
+use Rattle.abstraction_table.specs.inside.ExtentTables.{first_of, extent_in, IsRelativeExtent, IsExtentTableOf, IsExtentFor}
 use Rattle.abstraction_table.proofs.EquationDigits.{slot_below, few_indices, cell_below, alike, slot_is}
 use Rattle.abstraction_table.proofs.RelativeExtents.{extended_at}
 
@@ -46,7 +46,7 @@ module _ (p : Description) (plant : IsPlant p) (sound : IsSound p) (limit : pair
       subst (IsRelativeExtent p i) (get_or_default t.extents.items k None d short)
       (extended_at p sound i lt (pair / v) (pair % v) (shifted_by p i (pair / v)) (get_or t.extents.items k None) (extents_are k (omega (arith, short, extents_long))))
 
-  pub table_of : HoldsExtentsAlong p i t
+  pub table_of : IsExtentTableOf p i t
   table_of = record {
     digits = All-weaker (IsDigitOf p) (λ (d : Digit). d.variable < length p.states + length p.inputs) (λ d h. h.variable) t.digits.items are.each;
     few = omega (arith, limit, extents_long, few_indices p plant sound i t.digits.items indices are);

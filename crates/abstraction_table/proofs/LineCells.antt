@@ -17,7 +17,7 @@ use Rattle.successor_box.specs.PairExtents.{index_in, moves_along}
 use Rattle.abstraction_table.specs.declared.digits.Digit.{Digit}
 use Rattle.abstraction_table.specs.declared.terms.TermTable.{TermTable}
 use Rattle.abstraction_table.specs.inside.CellLines.{last_state, line_length, AreInLine, IsInLineOf, StaysAlongLines}
-use Rattle.abstraction_table.specs.inside.Terms.{AreIndicesOf, BringAs, HoldsTermsAlong}
+use Rattle.abstraction_table.specs.inside.Terms.{AreIndicesOf, BringAs, IsTermTableOf}
 use Rattle.abstraction_table.proofs.PairDigits.{state_slot, no_value_index}
 
 -- the cells along the later axes are whole rows
@@ -81,7 +81,7 @@ module _ (p : Description) (plant : IsPlant p) where
   same_moves i c d false lt same stays = refl
 
   -- what brings to a table what a cell does, does so for its whole row
-  pub brings_in_row : (i : ℕ) (t : TermTable) (indices : List ℕ) (c d : ℕ) → i < length p.states → HoldsTermsAlong p i t → StaysAlongLines (last_state p) i t → IsInLineOf p c d → BringAs p i t indices c → BringAs p i t indices d
+  pub brings_in_row : (i : ℕ) (t : TermTable) (indices : List ℕ) (c d : ℕ) → i < length p.states → IsTermTableOf p i t → StaysAlongLines (last_state p) i t → IsInLineOf p c d → BringAs p i t indices c → BringAs p i t indices d
   brings_in_row i t indices c d lt held stays row brought = record {
     cell = row.0;
     first = brought.first ∙ same_first c d t.digits.items row.1 stays.digits;

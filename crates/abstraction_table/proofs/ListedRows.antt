@@ -11,7 +11,7 @@ use Rattle.abstraction_table.specs.declared.terms.Terms.{Terms}
 use Rattle.abstraction_table.specs.declared.terms.Terms.TheVariants.{Listed}
 use Rattle.abstraction_table.specs.declared.terms.TermTable.{TermTable}
 use Rattle.abstraction_table.specs.inside.Sums.{plus}
-use Rattle.abstraction_table.specs.inside.Terms.{first_in, count_of, HasTermAt, IsTermAt, Brings, BringAs, IsSumAlong, AreSumsAlong, HoldsTermsAlong}
+use Rattle.abstraction_table.specs.inside.Terms.{first_in, count_of, HasTermAt, IsTermAt, Brings, BringAs, IsSumAlong, AreSumsAlong, IsTermTableOf}
 use Rattle.abstraction_table.proofs.BoxSums.{ends_fit, term_few, rest_more}
 use Rattle.abstraction_table.proofs.PairDigits.{some_vectors}
 use Rattle.abstraction_table.proofs.TermTables.{brought_by, has_term, slot_within}
@@ -24,7 +24,7 @@ Fits28 b = IfSome b (λ (b : CellBox). b.last < 2 ^ 28)
 pub record FindsTerms (p : Description) (i : ℕ) (t : TermTable) (indices : List ℕ) (first : ℕ) (terms : List (Option CellBox)) : Type 0 where
   pub limits : IsWithinLimits p
   pub state : i < length p.equations
-  pub held : HoldsTermsAlong p i t
+  pub held : IsTermTableOf p i t
   pub first_is : first ≡ first_in t indices
   pub listed : Vec (Option CellBox)
   pub is : t.terms ≡ Listed listed

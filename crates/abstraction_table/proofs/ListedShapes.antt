@@ -15,7 +15,7 @@ use Rattle.abstraction_table.specs.declared.shapes.Segment.{Segment}
 use Rattle.abstraction_table.specs.declared.shapes.SegmentRange.{SegmentRange}
 use Rattle.abstraction_table.specs.declared.shapes.Shapes.{Shapes}
 use Rattle.abstraction_table.specs.inside.Fans.{FanIsKnown, AreFansOf}
-use Rattle.abstraction_table.specs.inside.Shapes.{cells_from, EndsBy, range_at, segments_at, HasSegmentsAt, HasSegmentsOf, HaveSegments, HaveSegmentsAt, KeepsSegments, ListsSegments}
+use Rattle.abstraction_table.specs.inside.Shapes.{cells_from, EndsBy, range_at, segments_at, HasSegmentsAt, HasSegmentsOf, EachBoxHasSegments, EachShapeHasSegments, KeepsSegments, ListsSegments}
 use Rattle.abstraction_table.specs.inside.SourceLists.{IsBox}
 use Rattle.abstraction_table.specs.inside.Tallies.{indices_in}
 use Rattle.abstraction_table.proofs.BelowBoxes.{boxes_have_cells, cells_lie_between_corners, boxes_are_moved_shapes}
@@ -134,12 +134,12 @@ shapes_past axes fans n s below none h = record {
   few = omega (arith, h.few, sum_by_more (λ m. m) fans n 0 below);
 }
 
-segments_found : (axes : List Axis) (s : Shapes) (fans : List ℕ) (o : Option CellBox) → AreAxes axes → IsBox axes o → HaveSegmentsAt axes s fans → FanIsKnown axes fans o → IfSome o (HasSegmentsOf axes s)
+segments_found : (axes : List Axis) (s : Shapes) (fans : List ℕ) (o : Option CellBox) → AreAxes axes → IsBox axes o → EachShapeHasSegments axes s fans → FanIsKnown axes fans o → IfSome o (HasSegmentsOf axes s)
 segments_found axes s fans None grid ordered has known = tt
 segments_found axes s fans (Some b) grid ordered has known = box_segments axes s b (boxes_are_moved_shapes axes b.first b.last grid ordered) (has (b.last - b.first) known.some)
 
 -- where the segments of all shapes that are counted are listed, each box has its own
-pub have_segments : (axes : List Axis) (s : Shapes) (boxes : List (Option CellBox)) (fans : List ℕ) → AreAxes axes → All (IsBox axes) boxes → HaveSegmentsAt axes s fans → AreFansOf axes boxes fans → HaveSegments axes s boxes
+pub have_segments : (axes : List Axis) (s : Shapes) (boxes : List (Option CellBox)) (fans : List ℕ) → AreAxes axes → All (IsBox axes) boxes → EachShapeHasSegments axes s fans → AreFansOf axes boxes fans → EachBoxHasSegments axes s boxes
 have_segments axes s boxes fans grid ordered has counted = λ k d lt. segments_found axes s fans (get_or boxes k d) grid (ordered k d lt) has (counted.each k d lt)
 
 -- the segments of a box end by the limit on cells

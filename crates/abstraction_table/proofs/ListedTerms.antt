@@ -16,7 +16,7 @@ use Rattle.plant_record.specs.Soundness.{IsSound}
 use Rattle.successor_box.specs.PairExtents.{index_in, moves_along, shifted_by}
 use Rattle.abstraction_table.specs.declared.digits.Digit.{Digit}
 use Rattle.abstraction_table.specs.declared.extent_table.ExtentTable.{ExtentTable}
-use Rattle.abstraction_table.specs.inside.ExtentTables.{first_of, HoldsExtentsAlong}
+use Rattle.abstraction_table.specs.inside.ExtentTables.{first_of, IsExtentTableOf}
 use Rattle.abstraction_table.specs.inside.Terms.{own_count, IsTermAt, IsTermFrom}
 use Rattle.abstraction_table.proofs.PairDigits.{state_slot}
 use Rattle.abstraction_table.proofs.TermTables.{HasVariable}
@@ -45,7 +45,7 @@ module _ (p : Description) (sound : IsSound p) (i : ℕ) (lt : i < length p.equa
 
   -- ---- the terms of a table's extents
 
-  module _ (t : ExtentTable) (held : HoldsExtentsAlong p i t) (own : ℕ) (own_is : own ≡ own_count p i) (terms : List (Option CellBox)) (long : length terms ≡ own * length t.extents.items)
+  module _ (t : ExtentTable) (held : IsExtentTableOf p i t) (own : ℕ) (own_is : own ≡ own_count p i) (terms : List (Option CellBox)) (long : length terms ≡ own * length t.extents.items)
       (each : (o k : ℕ) → o < own → k < length t.extents.items → IsTermFrom p i o (get_or t.extents.items k None) (get_or terms (o * length t.extents.items + k) None)) where
     -- where the cell's own slot is a digit, it brings a pair to its term
     module _ (digits : List Digit) (brings : (c : ℕ) → first_of p digits c ≡ first_of p t.digits.items c + shifted_by p i c * length t.extents.items) (c u : ℕ) (cell : c < cells_of (axes_of p)) (input : u < vectors_of p.inputs) where

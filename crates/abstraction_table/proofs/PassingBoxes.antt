@@ -16,7 +16,7 @@ use Rattle.abstraction_table.specs.declared.shapes.Segment.{Segment}
 use Rattle.abstraction_table.specs.declared.shapes.Shapes.{Shapes}
 use Rattle.abstraction_table.specs.BoxGame.{box_game}
 use Rattle.abstraction_table.specs.inside.Fans.{HasFan, FanIsKnown}
-use Rattle.abstraction_table.specs.inside.StoredGame.{HoldsBoxes}
+use Rattle.abstraction_table.specs.inside.StoredGame.{IsBoxGame}
 use Rattle.abstraction_table.specs.inside.Shapes.{cells_from, EndsBy, segments_at, HasSegmentsOf}
 use Rattle.abstraction_table.specs.inside.SourceLists.{IsBox}
 use Rattle.abstraction_table.proofs.BoxCorners.{first_corner, last_corner}
@@ -48,7 +48,7 @@ segment_passes_too P first segments k d below all =
 
 -- ---- the box of a pair
 
-module _ (axes : List Axis) (inputs : ℕ) (marks : List Mark) (boxes : List (Option CellBox)) (fans : List ℕ) (held : HoldsBoxes axes inputs marks boxes fans) (pair : ℕ) (below : pair < pairs_of (box_game axes inputs marks boxes)) where
+module _ (axes : List Axis) (inputs : ℕ) (marks : List Mark) (boxes : List (Option CellBox)) (fans : List ℕ) (held : IsBoxGame axes inputs marks boxes fans) (pair : ℕ) (below : pair < pairs_of (box_game axes inputs marks boxes)) where
   abbrev game : Game
   game = box_game axes inputs marks boxes
 

@@ -18,7 +18,7 @@ use Rattle.plant_game.specs.Abstraction.{IsGameOf, pairs_of, pair_of, box_at, Ar
 use Rattle.abstraction_table.specs.BoxGame.{box_game}
 use Rattle.abstraction_table.specs.inside.Fans.{AreFansOf}
 use Rattle.plant_game.specs.Marks.{AreMarksOf}
-use Rattle.abstraction_table.specs.inside.StoredGame.{HoldsBoxes}
+use Rattle.abstraction_table.specs.inside.StoredGame.{IsBoxGame}
 use Rattle.abstraction_table.specs.inside.SourceLists.{IsBox}
 use Rattle.abstraction_table.specs.inside.Tallies.{edges_of}
 use Rattle.grid_quantiser.proofs.Suffixes.{some_cells}
@@ -96,5 +96,5 @@ module _ (p : Description) (limits : IsWithinLimits p) (boxes : List (Option Cel
         edges_bound = omega (arith, total (axes_of p) boxes, few);
       }
 
-      pub in_memory : (fans : List ℕ) → AreFansOf (axes_of p) boxes fans → HoldsBoxes (axes_of p) (vectors_of p.inputs) marks boxes fans
+      pub in_memory : (fans : List ℕ) → AreFansOf (axes_of p) boxes fans → IsBoxGame (axes_of p) (vectors_of p.inputs) marks boxes fans
       in_memory fans counted = record { grid = axes; graph = is_graph; ordered = ordered; counted = counted }

@@ -5,7 +5,7 @@ use Rattle.std.specs.Prelude.{ℤ, pos, nat_abs, ◌+ℤ◌, ◌-ℤ◌, ◌*ℤ
 use Rattle.grid_quantiser.specs.declared.axis.Axis.{Axis}
 use Rattle.grid_quantiser.specs.declared.extents.Extent.{Extent}
 use Rattle.grid_quantiser.specs.Axes.{IsAxis, no_axis}
-use Rattle.grid_quantiser.specs.Extents.{IsExtentOf, extended, IsExtentBefore}
+use Rattle.grid_quantiser.specs.Extents.{IsExtentOf, extended_axis, IsExtentBefore}
 use Rattle.grid_quantiser.proofs.AxisNumbers.{some_width, offset_is}
 use Rattle.plant_record.specs.Description.{Description, axes_of}
 use Rattle.plant_record.specs.Soundness.{IsSound}
@@ -24,14 +24,14 @@ extended_at p sound i lt c u indices extent is =
     (low -ℤ by, high -ℤ by, (let e : (low -ℤ by) ≤ℤ (high -ℤ by) = omega (arith, ints, ends_ordered p c u i sound lt) in e), is)
 
 -- an extent on the prolonged axis is that of a range so many indices further
-pub moved_range : (a : Axis) (indices : ℕ) (extent : Option Extent) → ((low : ℤ) × (high : ℤ) × (low ≤ℤ high) × IsExtentOf (extended a) low high extent) → (low : ℤ) × (high : ℤ) × (low ≤ℤ high) × IsExtentBefore a indices low high extent
+pub moved_range : (a : Axis) (indices : ℕ) (extent : Option Extent) → ((low : ℤ) × (high : ℤ) × (low ≤ℤ high) × IsExtentOf (extended_axis a) low high extent) → (low : ℤ) × (high : ℤ) × (low ≤ℤ high) × IsExtentBefore a indices low high extent
 moved_range a indices extent is =
     let by : ℤ = a.width *ℤ pos indices in
     let back : (x : ℤ) → x ≡ (x +ℤ by) -ℤ by = λ x. omega (arith, ints) in (
       is.0 +ℤ by,
       is.1 +ℤ by,
       (let e : (is.0 +ℤ by) ≤ℤ (is.1 +ℤ by) = omega (arith, ints, is.2) in e),
-      subst₂ (λ (x y : ℤ). IsExtentOf (extended a) x y extent) (back is.0) (back is.1) is.3,
+      subst₂ (λ (x y : ℤ). IsExtentOf (extended_axis a) x y extent) (back is.0) (back is.1) is.3,
     )
 
 -- the indices of an extent are in order

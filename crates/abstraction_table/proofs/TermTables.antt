@@ -16,7 +16,7 @@ use Rattle.successor_box.specs.PairExtents.{index_in, moves_along, shifted_by}
 use Rattle.abstraction_table.specs.declared.digits.Digit.{Digit}
 use Rattle.abstraction_table.specs.declared.terms.TermTable.{TermTable}
 use Rattle.abstraction_table.specs.inside.ExtentTables.{first_of}
-use Rattle.abstraction_table.specs.inside.Terms.{AreIndicesOf, first_in, count_of, HasTermAt, Brings, BringAs, HoldsTermsAlong}
+use Rattle.abstraction_table.specs.inside.Terms.{AreIndicesOf, first_in, count_of, HasTermAt, Brings, BringAs, IsTermTableOf}
 use Rattle.abstraction_table.proofs.PairDigits.{state_slot, some_vectors}
 
 -- a digit is that of a state or an input variable
@@ -24,15 +24,15 @@ abbrev pub HasVariable : Description → Digit → Type 0
 HasVariable p d = d.variable < length p.states + length p.inputs
 
 -- one table more
-pub tables_more : (p : Description) (tables : List TermTable) (n : ℕ) (t : TermTable) → length tables ≡ n → ((i : ℕ) (d : TermTable) → i < n → HoldsTermsAlong p i (get_or tables i d)) → HoldsTermsAlong p n t → (i : ℕ) (d : TermTable) → i < n + 1 → HoldsTermsAlong p i (get_or (tables ++ t ∷ []) i d)
+pub tables_more : (p : Description) (tables : List TermTable) (n : ℕ) (t : TermTable) → length tables ≡ n → ((i : ℕ) (d : TermTable) → i < n → IsTermTableOf p i (get_or tables i d)) → IsTermTableOf p n t → (i : ℕ) (d : TermTable) → i < n + 1 → IsTermTableOf p i (get_or (tables ++ t ∷ []) i d)
 tables_more p tables n t long each here i d lt =
     elim (cases_lt i n) [
-      | inl before ↦ subst (HoldsTermsAlong p i) (sym (get_or_append_left tables (t ∷ []) d i (omega (arith, before, long)))) (each i d before)
+      | inl before ↦ subst (IsTermTableOf p i) (sym (get_or_append_left tables (t ∷ []) d i (omega (arith, before, long)))) (each i d before)
       | inr past ↦
           let last : i ≡ n = omega (arith, lt, past) in
           let slot : i - n ≡ 0 = omega (arith, last) in
           let found : get_or (tables ++ t ∷ []) i d ≡ t = get_or-append_right tables (t ∷ []) n i d long (omega (arith, last)) ∙ ap (λ (k : ℕ). get_or (t ∷ []) k d) slot in
-          subst (HoldsTermsAlong p i) (sym found) (subst (λ (k : ℕ). HoldsTermsAlong p k t) (sym last) here)
+          subst (IsTermTableOf p i) (sym found) (subst (λ (k : ℕ). IsTermTableOf p k t) (sym last) here)
     ]
 
 -- a cell moves an extent along by less than the axis is long
@@ -54,7 +54,7 @@ first_is p t c indices each are = same_sums t.digits.items each
         omega (arith, sum_by-cons (λ (d : Digit). get_or indices d.variable 0 * d.in_table) d ds, sum_by-cons (λ (d : Digit). index_in p c 0 d.variable * d.in_table) d ds, here, same_sums ds (All-tail (HasVariable p) d ds each))
 
 -- a cell's indices bring to each table what the cell does
-pub brings : (p : Description) → IsSound p → (i : ℕ) (t : TermTable) (c : ℕ) (indices : List ℕ) → i < length p.equations → HoldsTermsAlong p i t → c < cells_of (axes_of p) → AreIndicesOf p c indices → BringAs p i t indices c
+pub brings : (p : Description) → IsSound p → (i : ℕ) (t : TermTable) (c : ℕ) (indices : List ℕ) → i < length p.equations → IsTermTableOf p i t → c < cells_of (axes_of p) → AreIndicesOf p c indices → BringAs p i t indices c
 brings p sound i t c indices lt held cell are =
     let state : i < length p.states = omega (arith, lt, sound.one_each) in
     let here : get_or indices i 0 ≡ index_along (axes_of p) i c = are i (omega (arith, state)) ∙ sym (state_slot p c 0 i state) in
@@ -69,18 +69,18 @@ pub variables_few : (p : Description) → IsPlant p → (ds : List Digit) → Al
 variables_few p plant ds each = All-weaker (HasVariable p) (λ (d : Digit). d.variable < 9) (λ d h. omega (arith, h, plant.states_bound, plant.inputs_bound)) ds each
 
 -- what indices bring is among the terms
-pub first_fits : (p : Description) → IsPlant p → (i : ℕ) (t : TermTable) (indices : List ℕ) (c : ℕ) → HoldsTermsAlong p i t → BringAs p i t indices c → first_in t indices < 2 ^ 32
+pub first_fits : (p : Description) → IsPlant p → (i : ℕ) (t : TermTable) (indices : List ℕ) (c : ℕ) → IsTermTableOf p i t → BringAs p i t indices c → first_in t indices < 2 ^ 32
 first_fits p plant i t indices c held brought = omega (arith, brought.first, held.slot c 0 brought.cell (some_vectors p plant), held.few)
 
 pub brought_by : (p : Description) (i : ℕ) (t : TermTable) (indices : List ℕ) (first own c : ℕ) → first ≡ first_in t indices → own ≡ (if t.moves then get_or indices i 0 else 0) → BringAs p i t indices c → Brings p i t first own c
 brought_by p i t indices first own c first_is own_is brought = record { cell = brought.cell; first = first_is ∙ brought.first; moves = own_is ∙ brought.moves }
 
 -- in a free table each input brings nothing
-pub none_brought : (p : Description) (i : ℕ) (t : TermTable) (u : ℕ) → HoldsTermsAlong p i t → IsTrue t.free → u < vectors_of p.inputs → get_or t.inputs.items u 0 ≡ 0
+pub none_brought : (p : Description) (i : ℕ) (t : TermTable) (u : ℕ) → IsTermTableOf p i t → IsTrue t.free → u < vectors_of p.inputs → get_or t.inputs.items u 0 ≡ 0
 none_brought p i t u held free input = All-get_or (λ (n : ℕ). n ≡ 0) t.inputs.items u 0 (omega (arith, input, held.inputs)) (held.free free)
 
 -- a cell's term stands at the slot that it and the input bring
-module _ (p : Description) (sound : IsSound p) (i : ℕ) (lt : i < length p.equations) (t : TermTable) (held : HoldsTermsAlong p i t) (first own input slot : ℕ) (slot_is : slot ≡ first + get_or t.inputs.items input 0) where
+module _ (p : Description) (sound : IsSound p) (i : ℕ) (lt : i < length p.equations) (t : TermTable) (held : IsTermTableOf p i t) (first own input slot : ℕ) (slot_is : slot ≡ first + get_or t.inputs.items input 0) where
   same_slot : (c u : ℕ) → Brings p i t first own c → get_or t.inputs.items u 0 ≡ get_or t.inputs.items input 0 → first_of p t.digits.items c + get_or t.inputs.items u 0 ≡ slot
   same_slot c u brought same = omega (arith, slot_is, brought.first, same)
 

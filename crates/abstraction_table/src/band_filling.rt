@@ -4,7 +4,7 @@ ghost use Rattle.std.specs.List.{All, range_with_len};
 ghost use Rattle.grid_quantiser.specs.Axes.{cells_of, AreAxes};
 ghost use Rattle.edge_rows.specs.Rows.{empty_rows, EachHasFreeSlot, with_value_each};
 ghost use Rattle.successor_box.specs.SuccessorBoxes.{cells_in};
-ghost use Rattle.abstraction_table.specs.inside.Shapes.{cells_from, EndsBy, HasSegmentsOf, HaveSegments};
+ghost use Rattle.abstraction_table.specs.inside.Shapes.{cells_from, EndsBy, HasSegmentsOf, EachBoxHasSegments};
 ghost use Rattle.abstraction_table.specs.inside.SourceLists.{IsBox, AreBandRows};
 ghost use Rattle.abstraction_table.specs.inside.Tallies.{indices_in, AreCounted, CountsFit, ArePut, HasCapacityFor, edges_of, AreCountsAmong};
 ghost use Rattle.base.specs.declared.limits.TheConstants.{CELLS_LIMIT, EDGES_LIMIT, PAIRS_LIMIT};
@@ -27,7 +27,7 @@ pub(crate) fn fill_band(
     requires grid { AreAxes grid.now }
     requires limit { cells_of grid.now ≤ CELLS_LIMIT }
     requires ordered { All (IsBox grid.now) boxes.now }
-    requires segments { HaveSegments grid.now shapes.now boxes.now }
+    requires segments { EachBoxHasSegments grid.now shapes.now boxes.now }
     requires pairs { length boxes.now ≤ PAIRS_LIMIT }
     requires edges { edges_of grid.now boxes.now ≤ EDGES_LIMIT }
     requires within { band.from + band.len ≤ cells_of grid.now }
@@ -50,7 +50,7 @@ fn count_sources(
     requires grid { AreAxes grid.now }
     requires limit { cells_of grid.now ≤ CELLS_LIMIT }
     requires ordered { All (IsBox grid.now) boxes.now }
-    requires segments { HaveSegments grid.now shapes.now boxes.now }
+    requires segments { EachBoxHasSegments grid.now shapes.now boxes.now }
     requires pairs { length boxes.now ≤ PAIRS_LIMIT }
     requires edges { edges_of grid.now boxes.now ≤ EDGES_LIMIT }
     requires within { band.from + band.len ≤ cells_of grid.now }
@@ -69,7 +69,7 @@ fn put_sources(grid: &Grid, shapes: &Shapes, boxes: &[PairBox], band: Band, fill
     requires grid { AreAxes grid.now }
     requires limit { cells_of grid.now ≤ CELLS_LIMIT }
     requires ordered { All (IsBox grid.now) boxes.now }
-    requires segments { HaveSegments grid.now shapes.now boxes.now }
+    requires segments { EachBoxHasSegments grid.now shapes.now boxes.now }
     requires pairs { length boxes.now ≤ PAIRS_LIMIT }
     requires within { band.from + band.len ≤ cells_of grid.now }
     requires empty { fill.old.rows ≡ empty_rows fill.old.lengths }

@@ -1,7 +1,7 @@
 ghost use Rattle.std.specs.Prelude.{◌≡◌, ◌<◌, length, slice_index};
 ghost use Rattle.grid_quantiser.specs.CellBoxes.{IsCellBox, cells_between};
 ghost use Rattle.abstraction_table.specs.inside.Fans.{HasFan};
-ghost use Rattle.abstraction_table.specs.inside.StoredGame.{HoldsBoxes};
+ghost use Rattle.abstraction_table.specs.inside.StoredGame.{IsBoxGame};
 ghost use Rattle.abstraction_table.specs.inside.Props.{box_props};
 
 use crate::fans::Fans;
@@ -18,7 +18,7 @@ pub(crate) struct BoxedGame {
     pub(crate) marks: Vec<Mark>,
     pub(crate) boxes: Vec<PairBox>,
     pub(crate) fans: Fans,
-    ghost in_memory: { HoldsBoxes grid inputs marks.items boxes.items fans.counts.items } by { Prim.hlevel box_props },
+    ghost in_memory: { IsBoxGame grid inputs marks.items boxes.items fans.counts.items } by { Prim.hlevel box_props },
 }
 
 impl BoxedGame {

@@ -4,7 +4,7 @@ ghost use Rattle.plant_record.specs.Description.{vectors_of};
 ghost use Rattle.plant_record.specs.Limits.{IsWithinLimits};
 ghost use Rattle.successor_box.specs.Deviations.{HasNoOverflow, deviations_of};
 ghost use Rattle.abstraction_table.specs.inside.Digits.{AreDigitsOf, slot_at};
-ghost use Rattle.abstraction_table.specs.inside.ExtentTables.{HoldsExtentsAlong, IsExtentFor};
+ghost use Rattle.abstraction_table.specs.inside.ExtentTables.{IsExtentTableOf, IsExtentFor};
 
 use crate::digits::{Digit, Digits, build_digits, slot_of};
 use crate::extent_blocks::{EXTENTS_PER_TASK, fill_chunk};
@@ -38,7 +38,7 @@ pub(crate) fn build_table<R: Threads + Sync>(
     requires slopes { s.now ≡ deviations_of p.now }
     requires fits { HasNoOverflow p.now }
     requires state { state < length p.now.equations }
-    ensures { IfOk result (λ table. HoldsExtentsAlong p.now state table) }
+    ensures { IfOk result (λ table. IsExtentTableOf p.now state table) }
 {
     let digits = build_digits(alloc, p, state)?;
     let inputs = build_inputs(alloc, p, state, &digits)?;

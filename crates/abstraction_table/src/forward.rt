@@ -1,5 +1,5 @@
 ghost use Rattle.abstraction_table.specs.inside.Props.{box_props};
-ghost use Rattle.abstraction_table.specs.inside.Shapes.{HaveSegments};
+ghost use Rattle.abstraction_table.specs.inside.Shapes.{EachBoxHasSegments};
 
 use crate::boxed_game::BoxedGame;
 use crate::shapes::{Shapes, all_pass};
@@ -11,7 +11,7 @@ use grid_quantiser::CellBox;
 pub struct ForwardAbstraction {
     pub(crate) boxed: BoxedGame,
     pub(crate) shapes: Shapes,
-    ghost listed: { HaveSegments boxed.grid shapes boxed.boxes.items } by { Prim.hlevel box_props },
+    ghost listed: { EachBoxHasSegments boxed.grid shapes boxed.boxes.items } by { Prim.hlevel box_props },
 }
 
 impl ForwardAbstraction {

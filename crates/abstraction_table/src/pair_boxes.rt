@@ -9,7 +9,7 @@ ghost use Rattle.successor_box.specs.Deviations.{HasNoOverflow, deviations_of};
 ghost use Rattle.plant_game.specs.Abstraction.{AreBoxesOf};
 ghost use Rattle.abstraction_table.specs.declared.pair_boxes.TheConstants.{BOXES_PER_TASK};
 ghost use Rattle.abstraction_table.specs.inside.CellLines.{AreBoxesFrom};
-ghost use Rattle.abstraction_table.specs.inside.Terms.{HoldTerms};
+ghost use Rattle.abstraction_table.specs.inside.Terms.{AreTermTablesOf};
 
 use crate::cell_lines::boxes_in_line;
 use crate::pair_box::PairBox;
@@ -52,7 +52,7 @@ pub(crate) fn build_boxes<R: Threads + Sync>(
         cells_in_chunk(inputs) * inputs,
         |at: usize, boxes: &mut [PairBox]|
             requires plant { IsWithinLimits p.now }
-            requires tables { HoldTerms p.now tables.now }
+            requires tables { AreTermTablesOf p.now tables.now }
             requires inputs { inputs ≡ vectors_of p.now.inputs }
             requires some_input { 0 < inputs }
             requires cells { (n : ℕ) × (length boxes.now ≡ n * inputs) × (at / inputs + n ≤ cells_of (axes_of p.now)) }
@@ -77,7 +77,7 @@ fn cells_in_chunk(inputs: usize) -> usize
 /// The boxes of cells from one on, row by row.
 fn boxes_of_cells(p: &Plant, tables: &[TermTable], c: u32, boxes: &mut [PairBox])
     requires plant { IsWithinLimits p.now }
-    requires tables { HoldTerms p.now tables.now }
+    requires tables { AreTermTablesOf p.now tables.now }
     requires cells { (n : ℕ) × (length boxes.old ≡ n * vectors_of p.now.inputs) × (c + n ≤ cells_of (axes_of p.now)) }
     requires start { All (λ b. b ≡ one_cell) boxes.old }
     ensures long { length boxes.new ≡ length boxes.old }

@@ -4,7 +4,7 @@ ghost use Rattle.std.specs.List.{All, range_with_len};
 ghost use Rattle.grid_quantiser.specs.Axes.{cells_of};
 ghost use Rattle.grid_quantiser.specs.CellBoxes.{IsCellBox, cells_between};
 ghost use Rattle.abstraction_table.specs.inside.Fans.{AreShapes};
-ghost use Rattle.abstraction_table.specs.inside.Shapes.{cells_from, EndsBy, IsListed, segments_at, HasSegmentsAt, HaveSegmentsAt, ListsSegments, KeepsSegments};
+ghost use Rattle.abstraction_table.specs.inside.Shapes.{cells_from, EndsBy, IsListed, segments_at, HasSegmentsAt, EachShapeHasSegments, ListsSegments, KeepsSegments};
 ghost use Rattle.base.specs.declared.limits.TheConstants.{CELLS_LIMIT, EDGES_LIMIT};
 
 use crate::fans::Fans;
@@ -78,7 +78,7 @@ pub(crate) fn build_shapes(alloc: Global, grid: &Grid, fans: &Fans) -> Result<Sh
     requires distances { length fans.now.counts.items ≡ cells_of grid.now }
     requires shapes { AreShapes grid.now fans.now.counts.items }
     requires few { sum fans.now.counts.items ≤ EDGES_LIMIT }
-    ensures { IfOk result (λ shapes. HaveSegmentsAt grid.now shapes fans.now.counts.items) }
+    ensures { IfOk result (λ shapes. EachShapeHasSegments grid.now shapes fans.now.counts.items) }
 {
     let mut shapes = Shapes {
         spans: vec![in alloc; NO_SEGMENTS; grid.cells() as usize]?,

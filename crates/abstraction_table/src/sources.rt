@@ -4,7 +4,7 @@ ghost use Rattle.std.specs.List.{All};
 ghost use Rattle.grid_quantiser.specs.Axes.{cells_of, AreAxes};
 ghost use Rattle.edge_rows.specs.Rows.{row_at};
 ghost use Rattle.abstraction_table.specs.declared.sources.TheConstants.{BANDS_LIMIT};
-ghost use Rattle.abstraction_table.specs.inside.Shapes.{HaveSegments};
+ghost use Rattle.abstraction_table.specs.inside.Shapes.{EachBoxHasSegments};
 ghost use Rattle.abstraction_table.specs.inside.SourceLists.{IsBox, AreBandRows, AreSourceBands, band_of};
 ghost use Rattle.abstraction_table.specs.inside.Tallies.{edges_of};
 ghost use Rattle.base.specs.declared.limits.TheConstants.{CELLS_LIMIT, EDGES_LIMIT, PAIRS_LIMIT};
@@ -63,7 +63,7 @@ pub(crate) fn build_sources<R: Threads + Sync>(
 ) -> Result<Sources, NoMemory>
     requires grid { AreAxes grid.now }
     requires ordered { All (IsBox grid.now) boxes.now }
-    requires segments { HaveSegments grid.now shapes.now boxes.now }
+    requires segments { EachBoxHasSegments grid.now shapes.now boxes.now }
     requires pairs { length boxes.now ≤ PAIRS_LIMIT }
     requires edges { edges_of grid.now boxes.now ≤ EDGES_LIMIT }
     ensures { IfOk result (λ s. AreSourceBands grid.now boxes.now s.size s.bands.items) }
@@ -77,7 +77,7 @@ pub(crate) fn build_sources<R: Threads + Sync>(
             |k: u32| -> Result<Rows, NoMemory>
                 requires grid { AreAxes grid.now }
                 requires ordered { All (IsBox grid.now) boxes.now }
-                requires segments { HaveSegments grid.now shapes.now boxes.now }
+                requires segments { EachBoxHasSegments grid.now shapes.now boxes.now }
                 requires pairs { length boxes.now ≤ PAIRS_LIMIT }
                 requires edges { edges_of grid.now boxes.now ≤ EDGES_LIMIT }
                 requires cells { cells ≡ cells_of grid.now }

@@ -19,8 +19,8 @@ version_number First = 1
 version_number Second = 2
 
 -- the version in which tables are written
-abbrev pub written : TableVersion
-written = Second
+abbrev pub written_version : TableVersion
+written_version = Second
 
 -- a plant to be kept off its obstacles has no ranks, and at rank 0 of one to be brought to its targets nothing is applied
 abbrev pub format_of : GoalKind → RowFormat

@@ -1,5 +1,5 @@
 ghost use Rattle.std.specs.Prelude.{◌≡◌, IfOk};
-ghost use Rattle.controller_table.specs.TableText.{written, table_text};
+ghost use Rattle.controller_table.specs.TableText.{written_version, table_text};
 ghost use Rattle.controller_table.specs.Tables.{RowsFit};
 
 use crate::goal_format::format_of;
@@ -31,7 +31,7 @@ impl<'a> TableWriter<'a> {
     /// The writer of a plant's table. It takes all its memory here.
     pub fn new(alloc: Global, p: &Plant, a: &'a Answer) -> Result<TableWriter<'a>, NoMemory>
         requires { RowsFit p.now a.now }
-        ensures { IfOk result (λ w. w ≡ table_text written p.now a.now) }
+        ensures { IfOk result (λ w. w ≡ table_text written_version p.now a.now) }
     {
         let mut front = Vec::from_slice(alloc, b"table 2\n")?;
         write_plant(alloc, p, &mut front)?;
@@ -43,7 +43,7 @@ impl<'a> TableWriter<'a> {
 
     /// The writer of a table that was read.
     pub fn of(alloc: Global, t: &'a Table) -> Result<TableWriter<'a>, NoMemory>
-        ensures { IfOk result (λ w. w ≡ table_text written t.now.plant t.now.rows) }
+        ensures { IfOk result (λ w. w ≡ table_text written_version t.now.plant t.now.rows) }
     {
         TableWriter::new(alloc, t.plant(), t.answer())
     }

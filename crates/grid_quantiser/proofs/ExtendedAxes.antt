@@ -11,7 +11,7 @@ use Rattle.grid_quantiser.specs.declared.axis.Axis.{Axis}
 use Rattle.grid_quantiser.specs.declared.extents.Extent.{Extent}
 use Rattle.grid_quantiser.specs.Axes.{IsAxis, end_of, no_axis, AreAxes}
 use Rattle.grid_quantiser.specs.Cells.{index_of}
-use Rattle.grid_quantiser.specs.Extents.{IsOnAxis, IsExtentOf, extended, IsExtentBefore}
+use Rattle.grid_quantiser.specs.Extents.{IsOnAxis, IsExtentOf, extended_axis, IsExtentBefore}
 use Rattle.grid_quantiser.specs.inside.AxisQuantisers.{axis_between, HasEnds}
 use Rattle.grid_quantiser.proofs.AxisOffsets.{kept, low_fits, on_fits, end_low, end_high, apart_kept}
 use Rattle.grid_quantiser.proofs.QuantiserExtents.{held}
@@ -28,27 +28,27 @@ module _ (a : Axis) (axis : IsAxis a) where
 
   -- the distance from the low end of the prolonged axis
   abbrev distance : ℤ → ℕ
-  distance x = nat_abs (x -ℤ (extended a).lo)
+  distance x = nat_abs (x -ℤ (extended_axis a).lo)
 
-  distance_is : (x : ℤ) → (extended a).lo ≤ℤ x → pos (distance x) ≡ (x -ℤ a.lo) +ℤ pos (width * a.count)
+  distance_is : (x : ℤ) → (extended_axis a).lo ≤ℤ x → pos (distance x) ≡ (x -ℤ a.lo) +ℤ pos (width * a.count)
   distance_is x low =
-      let some : pos 0 ≤ℤ (x -ℤ (extended a).lo) = omega (arith, ints, low) in
-      omega (arith, ints, pos-nat_abs (x -ℤ (extended a).lo) (yes_non_neg some), widths_is a axis a.count)
+      let some : pos 0 ≤ℤ (x -ℤ (extended_axis a).lo) = omega (arith, ints, low) in
+      omega (arith, ints, pos-nat_abs (x -ℤ (extended_axis a).lo) (yes_non_neg some), widths_is a axis a.count)
 
-  pub same_end : end_of (extended a) ≡ end_of a
+  pub same_end : end_of (extended_axis a) ≡ end_of a
   same_end = omega (arith, ints, widths_is a axis a.count, widths_is a axis (a.count + a.count), mul-add width a.count a.count)
 
   -- ---- its quantiser
 
   module _ (width_now : ℕ) (same_width : width_now ≡ nat_abs a.width) where
-    pub between_ends : axis_between (extended a).lo (end_of a) width_now ≡ extended a
+    pub between_ends : axis_between (extended_axis a).lo (end_of a) width_now ≡ extended_axis a
     between_ends =
-        let apart : nat_abs (end_of a -ℤ (extended a).lo) ≡ 0 + width * (a.count + a.count) = omega (arith, ints, widths_is a axis a.count, mul-add width a.count a.count) in
-        let indices : nat_abs (end_of a -ℤ (extended a).lo) / width_now ≡ a.count + a.count =
+        let apart : nat_abs (end_of a -ℤ (extended_axis a).lo) ≡ 0 + width * (a.count + a.count) = omega (arith, ints, widths_is a axis a.count, mul-add width a.count a.count) in
+        let indices : nat_abs (end_of a -ℤ (extended_axis a).lo) / width_now ≡ a.count + a.count =
         ap₂ (λ (d n : ℕ). d / n) apart same_width ∙ omega (arith, add-mul-div_left 0 (a.count + a.count) (some_width a axis), div-eq_of_lt (some_width a axis)) in
-        ap₂ (λ (w : ℤ) (n : ℕ). record { lo = (extended a).lo; width = w; count = n }) (ap (λ (n : ℕ). pos n) same_width ∙ sym (width_is a axis)) indices
+        ap₂ (λ (w : ℤ) (n : ℕ). record { lo = (extended_axis a).lo; width = w; count = n }) (ap (λ (n : ℕ). pos n) same_width ∙ sym (width_is a axis)) indices
 
-    pub has_ends : a.count ≤ 2 ^ 20 → HasEnds (extended a).lo (end_of a) width_now
+    pub has_ends : a.count ≤ 2 ^ 20 → HasEnds (extended_axis a).lo (end_of a) width_now
     has_ends few = record {
       some_width = omega (arith, same_width, some_width a axis);
       whole = ap end_of between_ends ∙ same_end;
@@ -60,23 +60,23 @@ module _ (a : Axis) (axis : IsAxis a) where
 
   -- its ends, as they are computed
   module _ (end : ℤ) (is : end ≡ end_of a) where
-    low_computed : kept a.lo -ℤ kept (kept end -ℤ kept a.lo) ≡ (extended a).lo
+    low_computed : kept a.lo -ℤ kept (kept end -ℤ kept a.lo) ≡ (extended_axis a).lo
     low_computed =
         ap (λ (z : ℤ). kept a.lo -ℤ z) (apart_kept a axis end (end_low a axis end is) (end_high a axis end is))
         ∙ ap (λ (z : ℤ). z -ℤ (end -ℤ a.lo)) (to_z-of_z w128 a.lo (low_fits a axis))
         ∙ omega (arith, ints, is)
 
-    low_narrow : FitsSigned w64 (extended a).lo
+    low_narrow : FitsSigned w64 (extended_axis a).lo
     low_narrow = omega (arith, ints, axis.low_bound, axis.high_bound, widths_is a axis a.count)
 
-    low_wide : FitsSigned w128 (extended a).lo
+    low_wide : FitsSigned w128 (extended_axis a).lo
     low_wide = omega (arith, ints, axis.low_bound, axis.high_bound, widths_is a axis a.count)
 
     pub low_fits_wide : FitsSigned w128 (kept a.lo -ℤ kept (kept end -ℤ kept a.lo))
     low_fits_wide = subst (FitsSigned w128) (sym low_computed) low_wide
 
-    pub low_held : held (kept (kept a.lo -ℤ kept (kept end -ℤ kept a.lo))) ≡ (extended a).lo
-    low_held = ap held (ap kept low_computed ∙ to_z-of_z w128 (extended a).lo low_wide) ∙ to_z-of_z w64 (extended a).lo low_narrow
+    pub low_held : held (kept (kept a.lo -ℤ kept (kept end -ℤ kept a.lo))) ≡ (extended_axis a).lo
+    low_held = ap held (ap kept low_computed ∙ to_z-of_z w128 (extended_axis a).lo low_wide) ∙ to_z-of_z w64 (extended_axis a).lo low_narrow
 
     end_narrow : FitsSigned w64 (end_of a)
     end_narrow = omega (arith, ints, axis.low_bound, axis.high_bound, widths_is a axis a.count)
@@ -90,14 +90,14 @@ module _ (a : Axis) (axis : IsAxis a) where
     abbrev back : ℤ → ℤ
     back x = x -ℤ (a.width *ℤ pos d)
 
-    back_on : (x : ℤ) → IsOnAxis a x → IsOnAxis (extended a) (back x)
+    back_on : (x : ℤ) → IsOnAxis a x → IsOnAxis (extended_axis a) (back x)
     back_on x is =
         let less : width * d ≤ width * a.count = mul-le-mul_left width (omega (arith, few)) in
         (omega (arith, ints, is.0, less, widths_is a axis d, widths_is a axis a.count), omega (arith, ints, is.1, same_end, widths_is a axis d))
 
-    module _ (x : ℤ) (on : IsOnAxis (extended a) (back x)) where
+    module _ (x : ℤ) (on : IsOnAxis (extended_axis a) (back x)) where
       abbrev index : ℕ
-      index = index_of (extended a) (back x)
+      index = index_of (extended_axis a) (back x)
 
       far : pos (distance (back x)) +ℤ pos (width * d) ≡ (x -ℤ a.lo) +ℤ pos (width * a.count)
       far = omega (arith, ints, distance_is (back x) on.0, widths_is a axis d)
@@ -140,7 +140,7 @@ module _ (a : Axis) (axis : IsAxis a) where
 
     -- ---- an extent so many indices before another
 
-    ordered_indices : (low high : ℤ) → low ≤ℤ high → IsOnAxis (extended a) (back low) → IsOnAxis (extended a) (back high) → index_of (extended a) (back low) ≤ index_of (extended a) (back high)
+    ordered_indices : (low high : ℤ) → low ≤ℤ high → IsOnAxis (extended_axis a) (back low) → IsOnAxis (extended_axis a) (back high) → index_of (extended_axis a) (back low) ≤ index_of (extended_axis a) (back high)
     ordered_indices low high order on_low on_high =
         quotients_in_order (distance (back low)) (distance (back high)) width (some_width a axis)
         (omega (arith, ints, order, distance_is (back low) on_low.0, distance_is (back high) on_high.0))
@@ -155,7 +155,7 @@ module _ (a : Axis) (axis : IsAxis a) where
       }
 
       module _ (s : Extent) (is : IsExtentBefore a d low high (Some s)) where
-        both_on : IsOnAxis (extended a) (back low) × IsOnAxis (extended a) (back high)
+        both_on : IsOnAxis (extended_axis a) (back low) × IsOnAxis (extended_axis a) (back high)
         both_on = is.inside.0 refl
 
         pub in_order : s.first ≤ s.last
@@ -175,10 +175,10 @@ module _ (a : Axis) (axis : IsAxis a) where
 
         pub arrives : (r : Extent) → a.count ≤ s.first + d → s.last + d < 2 * a.count → r.first ≡ s.first + d - a.count → r.last ≡ s.last + d - a.count → IsExtentOf a low high (Some r)
         arrives r from to first last =
-            let low_from : a.count ≤ index_of (extended a) (back low) + d = omega (arith, from, is.indices.0) in
-            let high_from : a.count ≤ index_of (extended a) (back high) + d = omega (arith, from, in_order, is.indices.1) in
-            let low_to : index_of (extended a) (back low) + d < 2 * a.count = omega (arith, to, in_order, is.indices.0) in
-            let high_to : index_of (extended a) (back high) + d < 2 * a.count = omega (arith, to, is.indices.1) in
+            let low_from : a.count ≤ index_of (extended_axis a) (back low) + d = omega (arith, from, is.indices.0) in
+            let high_from : a.count ≤ index_of (extended_axis a) (back high) + d = omega (arith, from, in_order, is.indices.1) in
+            let low_to : index_of (extended_axis a) (back low) + d < 2 * a.count = omega (arith, to, in_order, is.indices.0) in
+            let high_to : index_of (extended_axis a) (back high) + d < 2 * a.count = omega (arith, to, is.indices.1) in
             let on_low : IsOnAxis a low = (from_low low both_on.0 low_from, before_end low both_on.0 low_to) in
             let on_high : IsOnAxis a high = (from_low high both_on.1 high_from, before_end high both_on.1 high_to) in
             let first_is : r.first ≡ index_of a low = omega (arith, first, is.indices.0, index_is low both_on.0 low_from) in

@@ -1,9 +1,9 @@
 -- What holds of any quotients and any lists.
 use Rattle.std.proofs.Common.{◌≡◌, ℕ, zero, suc, ◌+◌, ◌-◌, ◌*◌, ◌/◌, ◌%◌, ◌<◌, ◌≤◌, arith, ap, sym, ◌∙◌, List, length, map, get_or, inl, inr}
 use Rattle.std.specs.List.{flat_map, range_with_len}
-use Rattle.std.proofs.Math.Nat.{add-mul, mul-le-mul_right, lt-div-mul-add, div-mul-le_self, mod-eq_of_lt, div-eq_of_lt, add-div_left, add-mod_left}
+use Rattle.std.proofs.Math.Nat.{add-mul, mul-le-mul_right, lt-div-mul-add, mod-eq_of_lt, div-eq_of_lt, add-div_left, add-mod_left}
 use Rattle.std.proofs.lemmas.Bool.{cases_lt}
-use Rattle.std.proofs.lemmas.Nat.{div-add-mod', div-mul-add, mod-mul-add, mod_below, le-div}
+use Rattle.std.proofs.lemmas.Nat.{div-add-mod', div-mul-add, mod-mul-add, mod_below}
 use Rattle.std.proofs.lemmas.List.{length-append, length-map, get_or_append_left, get_or-append_right, get_or-map}
 
 -- ---- quotients
@@ -13,9 +13,6 @@ pub past_quotient : (a b m : ℕ) → 0 < b → a / b < m → a < m * b
 past_quotient a b m some past =
     let row : (a / b + 1) * b ≤ m * b = mul-le-mul_right b (omega arith) in
     omega (arith, row, lt-div-mul-add {a = a} some, add-mul (a / b) 1 b)
-
-pub quotients_ordered : (m n k : ℕ) → 0 < k → m ≤ n → m / k ≤ n / k
-quotients_ordered m n k some order = le-div (m / k) n k some (omega (arith, div-mul-le_self m k))
 
 -- the index and the rest of a difference are the differences of the indices and of the rests
 pub difference_parts : (f l n : ℕ) → 0 < n → f / n ≤ l / n → f % n ≤ l % n → ((l - f) / n ≡ l / n - f / n) × ((l - f) % n ≡ l % n - f % n)

@@ -17,12 +17,12 @@ pub record IsExtentOf (a : Axis) (low high : ℤ) (extent : Option Extent) : Typ
   pub on_axis : IfSome extent (λ s. (s.first < a.count) × (s.last < a.count))
 
 -- an axis with as many indices again before its own
-abbrev pub extended : Axis → Axis
-extended a = record { lo = a.lo -ℤ (a.width *ℤ pos a.count); width = a.width; count = a.count + a.count }
+abbrev pub extended_axis : Axis → Axis
+extended_axis a = record { lo = a.lo -ℤ (a.width *ℤ pos a.count); width = a.width; count = a.count + a.count }
 
 -- the extent on the prolonged axis of a range that lies so many indices before the one from low to high
 abbrev pub IsExtentBefore : Axis → ℕ → ℤ → ℤ → Option Extent → Type 0
-IsExtentBefore a indices low high extent = IsExtentOf (extended a) (low -ℤ (a.width *ℤ pos indices)) (high -ℤ (a.width *ℤ pos indices)) extent
+IsExtentBefore a indices low high extent = IsExtentOf (extended_axis a) (low -ℤ (a.width *ℤ pos indices)) (high -ℤ (a.width *ℤ pos indices)) extent
 
 -- The extents of the box from lo to hi, one on each axis.
 pub record AreExtentsOf (axes : List Axis) (lo hi : List ℤ) (extents : List (Option Extent)) : Type 0 where

@@ -2,7 +2,7 @@ ghost use Rattle.std.specs.Prelude.{◌≡◌, ◌<◌, ◌≤◌, ◌↔◌, �
 ghost use Rattle.grid_quantiser.specs.Axes.{no_axis, cells_of};
 ghost use Rattle.grid_quantiser.specs.CellBoxes.{IsBoxInDomain, AreCornersMeeting};
 ghost use Rattle.grid_quantiser.specs.Indices.{index_along};
-ghost use Rattle.grid_quantiser.specs.Extents.{IsExtentOf, extended, IsExtentBefore, AreExtentsOf};
+ghost use Rattle.grid_quantiser.specs.Extents.{IsExtentOf, extended_axis, IsExtentBefore, AreExtentsOf};
 
 use crate::boxes::CellBox;
 use crate::grid::Grid;
@@ -33,7 +33,7 @@ impl Grid {
     /// The quantiser of an axis prolonged by its own length below, from whose extents `shifted_extent` goes on.
     pub fn extended_quantiser(&self, axis: u32) -> AxisQuantiser
         requires { axis < length self.now }
-        ensures { result ≡ extended (slice_index_or self.now axis no_axis) }
+        ensures { result ≡ extended_axis (slice_index_or self.now axis no_axis) }
     {
         self.axes()[axis as usize].extended_quantiser()
     }

@@ -32,7 +32,7 @@ impl Model for Grid {
     ghost use Rattle.grid_quantiser.specs.declared.axis.Axis.{Axis};
     ghost use Rattle.grid_quantiser.specs.Axes.{cells_of};
     ghost use Rattle.grid_quantiser.specs.inside.Storage.{six_of, six_counts, IsStored};
-    ghost use Rattle.grid_quantiser.specs.inside.Restored.{restored};
+    ghost use Rattle.grid_quantiser.specs.inside.Restored.{view_of_inverse};
 
     ghost Value = { List Axis };
 
@@ -42,7 +42,7 @@ impl Model for Grid {
 
     ghost inverse = { λ axes. record { axes = six_of axes; counts = six_counts axes; states = length axes; cells = cells_of axes } };
 
-    ghost inverse_ok = { λ g kept. restored g kept };
+    ghost inverse_ok = { λ g kept. view_of_inverse g kept };
 }
 
 impl Grid {

@@ -1,13 +1,12 @@
 -- The numbers of a box.
-use Rattle.std.proofs.Common.{◌≡◌, ℕ, zero, suc, ◌+◌, ◌*◌, ◌/◌, ◌%◌, ◌<◌, ◌≤◌, arith, refl, ap, sym, subst, ◌∙◌, List, [], ◌∷◌, length, take, get_or, inl, inr}
-use Rattle.std.proofs.Math.Nat.{mul_comm, mul_assoc, mul-le-mul, mul-le-mul_right, div-one}
-use Rattle.std.proofs.lemmas.Nat.{div-add-mod', div-mul-add, mod-mul-add, mod_below, div_below, le-div, mul-add-lt}
-use Rattle.std.proofs.lemmas.Bool.{cases_lt}
+use Rattle.std.proofs.Common.{◌≡◌, ℕ, zero, suc, ◌+◌, ◌*◌, ◌/◌, ◌%◌, ◌<◌, ◌≤◌, arith, refl, ap, sym, subst, ◌∙◌, List, [], ◌∷◌, length, take, get_or}
+use Rattle.std.proofs.Math.Nat.{mul_comm, mul_assoc, div-one}
+use Rattle.std.proofs.lemmas.Nat.{div-add-mod', div-mul-add, mod-mul-add, mod_below, mul-add-lt}
 use Rattle.std.proofs.lemmas.Grind.{same_number_lists}
 use Rattle.std.proofs.lemmas.List.{length-take-le, get_or-take}
 use Rattle.mixed_radix.specs.Radix.{size, number, digits, AreDigits, AreDigitsOf}
 use Rattle.mixed_radix.specs.Boxes.{box_counts, nth, last_of}
-use Rattle.mixed_radix.proofs.Steps.{factors, number_below}
+use Rattle.mixed_radix.proofs.Steps.{factors}
 use Rattle.mixed_radix.proofs.Numbers.{number-digits, length-digits, number_same, the_digits}
 
 pub length-box_counts : (counts : List ℕ) (n : ℕ) → length (box_counts counts n) ≡ length counts
@@ -19,13 +18,6 @@ each_box_count [] n k within = absurd (omega (arith, within))
 each_box_count (m ∷ counts) n zero within = omega arith
 each_box_count (m ∷ counts) n (suc k) within = each_box_count counts (n % size counts) k (omega (arith, within))
 
-pub box_counts_fit : (counts : List ℕ) (n : ℕ) → n < size counts → size (box_counts counts n) ≤ size counts
-box_counts_fit [] n below = omega arith
-box_counts_fit (m ∷ counts) n below =
-    let some : 0 < size counts = (factors m (size counts) (omega (arith, below))).1 in
-    let here : suc (n / size counts) ≤ m = omega (arith, div_below n (size counts) m some below) in
-    mul-le-mul here (box_counts_fit counts (n % size counts) (mod_below n (size counts) some))
-
 -- the digits of a box are digits
 pub box_digits : (counts ds : List ℕ) (n : ℕ) → n < size counts → AreDigits (box_counts counts n) ds → AreDigits counts ds
 box_digits counts ds n below are = record {
@@ -34,49 +26,6 @@ box_digits counts ds n below are = record {
       let here = are.below k (omega (arith, within, length-box_counts counts n)) in
       omega (arith, here, each_box_count counts n k within, (number-digits counts n below).are.below k within);
 }
-
--- a number with no greater digit is not greater
-number_le : (counts ds es : List ℕ) → length counts ≤ length ds → length counts ≤ length es → ((k : ℕ) → k < length counts → get_or ds k 0 ≤ get_or es k 0) → number counts ds ≤ number counts es
-number_le [] ds es long_ds long_es each = omega arith
-number_le (n ∷ counts) [] es long_ds long_es each = absurd (omega (arith, long_ds))
-number_le (n ∷ counts) (d ∷ ds) [] long_ds long_es each = absurd (omega (arith, long_es))
-number_le (n ∷ counts) (d ∷ ds) (e ∷ es) long_ds long_es each =
-    let later = number_le counts ds es (omega (arith, long_ds)) (omega (arith, long_es)) (λ k within. each (suc k) (omega (arith, within))) in
-    omega (arith, later, mul-le-mul_right (size counts) (each 0 (omega arith)))
-
--- none is past the last
-pub box_number_le : (counts ds : List ℕ) (n : ℕ) → n < size counts → AreDigits (box_counts counts n) ds → number counts ds ≤ n
-box_number_le counts ds n below are =
-    let last = number-digits counts n below in
-    let le = number_le counts ds (digits counts n) (omega (arith, are.long, length-box_counts counts n)) last.are.long
-    (λ k within. omega (arith, are.below k (omega (arith, within, length-box_counts counts n)), each_box_count counts n k within)) in
-    omega (arith, le, last.number_is)
-
--- later numbers are greater
-pub nth_rising : (counts : List ℕ) (n i j : ℕ) → n < size counts → i < j → j < size (box_counts counts n) → nth counts (box_counts counts n) i < nth counts (box_counts counts n) j
-nth_rising [] n i j below order within = absurd (omega (arith, order, within))
-nth_rising (m ∷ counts) n i j below order within =
-    let s : ℕ = size counts in
-    let b : List ℕ = box_counts counts (n % s) in
-    let t : ℕ = size b in
-    let some : 0 < s = (factors m s (omega (arith, below))).1 in
-    let some_t : 0 < t = (factors (suc (n / s)) t (omega (arith, within))).1 in
-    let rest : n % s < s = mod_below n s some in
-    let first = number_below counts (digits b (i % t)) (box_digits counts (digits b (i % t)) (n % s) rest (number-digits b (i % t) (mod_below i t some_t)).are) in
-    elim (cases_lt (i / t) (j / t)) [
-      | inl less ↦
-          let line : (i / t + 1) * s ≤ j / t * s = mul-le-mul_right s (omega (arith, less)) in
-          omega (arith, line, first)
-      | inr past ↦
-          let quotients : j / t ≤ i / t = past in
-          let le : i / t ≤ j / t = le_quotients i j t some_t (omega (arith, order)) in
-          let same : i / t ≡ j / t = omega (arith, le, quotients) in
-          let rests : i % t < j % t = omega (arith, order, div-add-mod' i t, div-add-mod' j t, ap (λ (q : ℕ). q * t) same) in
-          omega (arith, nth_rising counts (n % s) (i % t) (j % t) rest rests (mod_below j t some_t), ap (λ (q : ℕ). q * s) same)
-    ]
-  where
-    le_quotients : (x y k : ℕ) → 0 < k → x ≤ y → x / k ≤ y / k
-    le_quotients x y k some le = le-div (x / k) y k some (omega (arith, div-add-mod' x k, le))
 
 -- ---- segments: numbers that differ in the last digit alone follow one another
 

@@ -1,6 +1,6 @@
 -- The laws of numbers and their digits.
 use Rattle.std.proofs.Common.{◌≡◌, ℕ, zero, suc, ◌+◌, ◌*◌, ◌/◌, ◌%◌, ◌<◌, ◌≤◌, arith, refl, ap, sym, ◌∙◌, List, [], ◌∷◌, ◌++◌, length, take, drop, set, get_or}
-use Rattle.std.proofs.Math.Nat.{mul_assoc, mul-le-mul_right}
+use Rattle.std.proofs.Math.Nat.{mul_assoc}
 use Rattle.std.proofs.lemmas.List.{drop_more}
 use Rattle.std.proofs.lemmas.Nat.{div-add-mod', div-mul-add, mod-mul-add, mod_below, div_below}
 use Rattle.mixed_radix.specs.Radix.{size, stride, number, digits, digit, AreDigits, AreDigitsOf}
@@ -89,21 +89,6 @@ digit_is counts ds c k of within =
     ap (λ (m : ℕ). m / s % n) (sym of.number_is ∙ parts)
     ∙ ap (λ (m : ℕ). m % n) (div-mul-add (first * n + d) s r rest)
     ∙ mod-mul-add first n d (of.are.below k within)
-
--- ---- order
-
-pub digits_decide : (counts ds es : List ℕ) (k : ℕ) → AreDigits counts ds → AreDigits counts es → k < length counts →
-    ((j : ℕ) → j < k → get_or ds j 0 ≡ get_or es j 0) → get_or ds k 0 < get_or es k 0 → number counts ds < number counts es
-digits_decide [] ds es k are_ds are_es within same less = absurd (omega (arith, within))
-digits_decide (n ∷ counts) [] es k are_ds are_es within same less = absurd (omega (arith, are_ds.long))
-digits_decide (n ∷ counts) (d ∷ ds) [] k are_ds are_es within same less = absurd (omega (arith, are_es.long))
-digits_decide (n ∷ counts) (d ∷ ds) (e ∷ es) zero are_ds are_es within same less =
-    let line : (d + 1) * size counts ≤ e * size counts = mul-le-mul_right (size counts) (omega (arith, less)) in
-    omega (arith, line, number_below counts ds (tail_digits n d counts ds are_ds))
-digits_decide (n ∷ counts) (d ∷ ds) (e ∷ es) (suc k) are_ds are_es within same less =
-    let here : d ≡ e = same 0 (omega arith) in
-    let later = digits_decide counts ds es k (tail_digits n d counts ds are_ds) (tail_digits n e counts es are_es) (omega (arith, within)) (λ j lt. same (suc j) (omega (arith, lt))) less in
-    omega (arith, later, ap (λ (m : ℕ). m * size counts) here)
 
 -- ---- what a number depends on
 

@@ -2,7 +2,7 @@
 use Rattle.std.specs.Prelude.{◌≡◌, ℕ, ℤ, Bool, true, ◌||◌, ◌==◌, List, [], ◌∷◌, slice_index, if◌then◌else◌}
 use Rattle.std.specs.Fmt.{signed_decimal}
 use Rattle.plant_record.specs.Numbers.{IsLiteral}
-use Rattle.plant_reading.specs.Lines.{joined}
+use Rattle.plant_reading.specs.Lines.{with_front_byte}
 
 -- a space, a tab or a carriage return
 abbrev pub is_blank : ℕ → Bool
@@ -17,7 +17,7 @@ ends_word (b ∷ bytes) = is_blank b
 abbrev pub words_of : List ℕ → List (List ℕ)
 words_of [] = []
 words_of (b ∷ bytes) =
-    if is_blank b then words_of bytes else (if ends_word bytes then (b ∷ []) ∷ words_of bytes else joined b (words_of bytes))
+    if is_blank b then words_of bytes else (if ends_word bytes then (b ∷ []) ∷ words_of bytes else with_front_byte b (words_of bytes))
 
 -- a line of blanks, or one whose first word begins with `#`
 abbrev pub is_skipped : List ℕ → Bool

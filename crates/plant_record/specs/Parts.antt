@@ -17,8 +17,8 @@ abbrev pub variable_names : Variables → List (List ℕ)
 variable_names v = names_over v.states.items v.inputs.items v.noises.items
 
 -- a description by its parts, the equations where they lie in memory
-abbrev pub described : PlantVersion → List StateVariable → List InputVariable → List NoiseVariable → List Expr → List StateBox → List StateBox → GoalKind → Description
-described version states inputs noises equations targets obstacles goal = record {
+abbrev pub description_from : PlantVersion → List StateVariable → List InputVariable → List NoiseVariable → List Expr → List StateBox → List StateBox → GoalKind → Description
+description_from version states inputs noises equations targets obstacles goal = record {
   version = version;
   states = states;
   inputs = inputs;
@@ -32,4 +32,4 @@ described version states inputs noises equations targets obstacles goal = record
 -- the description that the parts hold
 abbrev pub description_of : PlantParts → Description
 description_of q =
-    described q.version q.variables.states.items q.variables.inputs.items q.variables.noises.items q.equations.items q.targets.items q.obstacles.items q.goal
+    description_from q.version q.variables.states.items q.variables.inputs.items q.variables.noises.items q.equations.items q.targets.items q.obstacles.items q.goal

@@ -44,16 +44,16 @@ impl Model for Plant {
     ghost use Rattle.std.specs.Coded.{codes};
     ghost use Rattle.fixed_expr.specs.inside.Postfix.{expression_code};
     ghost use Rattle.plant_record.specs.Description.{Description};
-    ghost use Rattle.plant_record.specs.Parts.{described};
+    ghost use Rattle.plant_record.specs.Parts.{description_from};
     ghost use Rattle.plant_record.specs.inside.PlantsInMemory.{IsPlantWithGrid};
 
     ghost Value = { Description };
 
     ghost coded = { Prim.hlevel (codes, expression_code) };
 
-    ghost view = { λ p. described p.version p.states.items p.inputs.items p.noises.items p.equations.items p.targets.items p.obstacles.items p.goal };
+    ghost view = { λ p. description_from p.version p.states.items p.inputs.items p.noises.items p.equations.items p.targets.items p.obstacles.items p.goal };
 
-    ghost invariant = { λ p. IsPlantWithGrid (described p.version p.states.items p.inputs.items p.noises.items p.equations.items p.targets.items p.obstacles.items p.goal) p.grid };
+    ghost invariant = { λ p. IsPlantWithGrid (description_from p.version p.states.items p.inputs.items p.noises.items p.equations.items p.targets.items p.obstacles.items p.goal) p.grid };
 }
 
 impl Plant {

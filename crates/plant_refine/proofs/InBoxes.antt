@@ -4,13 +4,6 @@ use Rattle.std.specs.Prelude.{ℤ, slice_get}
 use Rattle.grid_quantiser.specs.declared.axis.Axis.{Axis}
 use Rattle.grid_quantiser.specs.CellBoxes.{IsAtMost}
 
-pub at_most_all : (axes : List Axis) (xs ys : List ℤ) → length axes ≤ length xs → length axes ≤ length ys → ((i : ℕ) → i < length axes → get_or xs i (pos 0) ≤ℤ get_or ys i (pos 0)) → IsAtMost axes xs ys
-at_most_all [] xs ys long_xs long_ys h = tt
-at_most_all (a ∷ axes) [] ys long_xs long_ys h = absurd (omega (arith, long_xs))
-at_most_all (a ∷ axes) (x ∷ xs) [] long_xs long_ys h = absurd (omega (arith, long_ys))
-at_most_all (a ∷ axes) (x ∷ xs) (y ∷ ys) long_xs long_ys h =
-    (h zero (omega arith), at_most_all axes xs ys (omega (arith, long_xs)) (omega (arith, long_ys)) (λ i lt. h (suc i) (omega (arith, lt))))
-
 pub at_most_each : (axes : List Axis) (xs ys : List ℤ) → IsAtMost axes xs ys → (i : ℕ) → i < length axes → get_or xs i (pos 0) ≤ℤ get_or ys i (pos 0)
 at_most_each [] xs ys h i lt = absurd (omega (arith, lt))
 at_most_each (a ∷ axes) [] ys h i lt = absurd h

@@ -57,23 +57,23 @@ FitsAfter q (Goal kind) = HasEquations q × (q.goal ≡ None) × (kind ≡ Keep 
 FitsAfter q End = (q.goal ≢ None) × (q.ended ≡ false)
 
 -- the part with the statement
-abbrev pub extended : PartialPlant → Statement → PartialPlant
-extended q (Version v) = record q { version = Some v }
-extended q (State s) = record q { states = q.states ++ s ∷ [] }
-extended q (Input i) = record q { inputs = q.inputs ++ i ∷ [] }
-extended q (Noise w) = record q { noises = q.noises ++ w ∷ [] }
-extended q (Next name e) = record q { equations = q.equations ++ e ∷ [] }
-extended q (Target b) = record q { targets = q.targets ++ b ∷ [] }
-extended q (Obstacle b) = record q { obstacles = q.obstacles ++ b ∷ [] }
-extended q (Goal kind) = record q { goal = Some kind }
-extended q End = record q { ended = true }
+abbrev pub with_statement : PartialPlant → Statement → PartialPlant
+with_statement q (Version v) = record q { version = Some v }
+with_statement q (State s) = record q { states = q.states ++ s ∷ [] }
+with_statement q (Input i) = record q { inputs = q.inputs ++ i ∷ [] }
+with_statement q (Noise w) = record q { noises = q.noises ++ w ∷ [] }
+with_statement q (Next name e) = record q { equations = q.equations ++ e ∷ [] }
+with_statement q (Target b) = record q { targets = q.targets ++ b ∷ [] }
+with_statement q (Obstacle b) = record q { obstacles = q.obstacles ++ b ∷ [] }
+with_statement q (Goal kind) = record q { goal = Some kind }
+with_statement q End = record q { ended = true }
 
 -- A line states something that has its position after a part, and leads to another part.
 pub record IsStated (q : PartialPlant) (line : List ℕ) (r : PartialPlant) : Type 0 where
   pub statement : Statement
   pub states : States (names_in q) (length q.states) (words_of line) statement
   pub fits : FitsAfter q statement
-  pub leads_to : r ≡ extended q statement
+  pub leads_to : r ≡ with_statement q statement
 
 -- a line is passed over or states something
 abbrev pub Extends : PartialPlant → List ℕ → PartialPlant → Type 0

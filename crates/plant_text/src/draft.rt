@@ -5,7 +5,7 @@ ghost use Rattle.plant_record.specs.declared.aims.GoalKind.TheVariants.{Keep};
 ghost use Rattle.plant_record.specs.declared.version.PlantVersion.TheVariants.{One};
 ghost use Rattle.plant_record.specs.Equations.{HasNoLut};
 ghost use Rattle.plant_reading.specs.Statements.{State, Input, Noise, Next, Target, Obstacle, Goal};
-ghost use Rattle.plant_text.specs.Grammar.{PartialPlant, nothing_yet, names_in, HasEquations, IsNewIn, FitsAfter, extended, Extends, IsWhole};
+ghost use Rattle.plant_text.specs.Grammar.{PartialPlant, nothing_yet, names_in, HasEquations, IsNewIn, FitsAfter, with_statement, Extends, IsWhole};
 ghost use Rattle.plant_record.specs.Description.{Description};
 ghost use Rattle.plant_record.specs.Limits.{IsWithinLimits, Exceeds};
 ghost use Rattle.plant_text.specs.inside.PartialPlantRules.{KeepsRules};
@@ -257,7 +257,7 @@ impl Draft {
     }
 
     fn add(&mut self, statement: Statement) -> Result<(), LineFault>
-        ensures added { OnOk result (partial_of self.new ≡ extended (partial_of self.old) (statement_of statement.entry)) }
+        ensures added { OnOk result (partial_of self.new ≡ with_statement (partial_of self.old) (statement_of statement.entry)) }
         ensures memory { result ≢ Err Malformed }
     {
         match statement {

@@ -20,7 +20,7 @@ use Rattle.grid_quantiser.specs.declared.extents.Extent.{Extent}
 use Rattle.grid_quantiser.specs.Axes.{no_axis, cells_of}
 use Rattle.grid_quantiser.specs.Cells.{centre_of, radius_of}
 use Rattle.grid_quantiser.specs.Indices.{index_along, middle_of}
-use Rattle.grid_quantiser.specs.Extents.{IsExtentOf, extended}
+use Rattle.grid_quantiser.specs.Extents.{IsExtentOf, extended_axis}
 use Rattle.plant_record.specs.declared.variables.StateVariable.{StateVariable}
 use Rattle.plant_record.specs.declared.variables.NoiseVariable.{NoiseVariable}
 use Rattle.plant_record.specs.Description.{Description, axis_of, axes_of, vectors_of, vector_of}
@@ -244,4 +244,4 @@ module _ (p : Description) (i c u d v : ℕ) (sound : IsSound p) (lt : i < lengt
       let next_interval = same_next_interval p.version in
       let low : get_or (low_corner p d v) i (pos 0) -ℤ shift d ≡ get_or (low_corner p c u) i (pos 0) -ℤ shift c = omega (arith, ints, next_interval.0, low_is p c u i lt, low_is p d v i lt) in
       let high : get_or (high_corner p d v) i (pos 0) -ℤ shift d ≡ get_or (high_corner p c u) i (pos 0) -ℤ shift c = omega (arith, ints, next_interval.1, high_is p c u i lt, high_is p d v i lt) in
-      subst₂ (λ (x y : ℤ). IsExtentOf (extended axis) x y extent) low high is
+      subst₂ (λ (x y : ℤ). IsExtentOf (extended_axis axis) x y extent) low high is

@@ -12,7 +12,7 @@ use Rattle.interval_eval.specs.Span.{IsInterval}
 use Rattle.grid_quantiser.specs.declared.axis.Axis.{Axis}
 use Rattle.grid_quantiser.specs.declared.extents.Extent.{Extent}
 use Rattle.grid_quantiser.specs.Axes.{no_axis, cells_of}
-use Rattle.grid_quantiser.specs.Extents.{IsExtentOf, extended, IsExtentBefore}
+use Rattle.grid_quantiser.specs.Extents.{IsExtentOf, extended_axis, IsExtentBefore}
 use Rattle.plant_record.specs.Description.{Description, axes_of, vectors_of}
 use Rattle.plant_record.specs.Soundness.{IsSound}
 use Rattle.plant_record.specs.declared.version.PlantVersion.{PlantVersion}
@@ -39,14 +39,14 @@ ends_ordered p c u i sound lt = by _ _ (next_interval_of p.version p c u (equati
     by x y i low high order = omega (arith, ints, low, high, order)
 
 -- an extent that isn't moved
-pub unmoved : (a : Axis) (low high : ℤ) (extent : Option Extent) → IsExtentOf (extended a) low high extent → IsExtentBefore a 0 low high extent
+pub unmoved : (a : Axis) (low high : ℤ) (extent : Option Extent) → IsExtentOf (extended_axis a) low high extent → IsExtentBefore a 0 low high extent
 unmoved a low high extent is =
     let same : (x : ℤ) → x ≡ x -ℤ (a.width *ℤ pos 0) = λ x. omega (arith, ints) in
-    subst₂ (λ (x y : ℤ). IsExtentOf (extended a) x y extent) (same low) (same high) is
+    subst₂ (λ (x y : ℤ). IsExtentOf (extended_axis a) x y extent) (same low) (same high) is
 
 -- the extent between the ends of where an equation leads
 pub extent_of_next : (p : Description) (c u i : ℕ) (next_interval : Interval) (extent : Option Extent) → i < length p.equations → next_interval ≡ next_interval_of p.version p c u (equation_at p i)
-    → IsExtentOf (extended (get_or (axes_of p) i no_axis)) next_interval.lo next_interval.hi extent → IsExtentBeforeAt p c u i 0 extent
+    → IsExtentOf (extended_axis (get_or (axes_of p) i no_axis)) next_interval.lo next_interval.hi extent → IsExtentBeforeAt p c u i 0 extent
 extent_of_next p c u i next_interval extent lt is found =
     let low : next_interval.lo ≡ get_or (low_corner p c u) i (pos 0) = ap (λ (r : Interval). r.lo) is ∙ sym (low_is p c u i lt) in
     let high : next_interval.hi ≡ get_or (high_corner p c u) i (pos 0) = ap (λ (r : Interval). r.hi) is ∙ sym (high_is p c u i lt) in
@@ -55,7 +55,7 @@ extent_of_next p c u i next_interval extent lt is found =
 -- the same in version 1, around the value at the centre
 pub extent_of_growth : (p : Description) (c u i : ℕ) (value deviation : ℤ) (extent : Option Extent) → i < length p.equations → p.version ≡ One
     → value ≡ value_of (equation_at p i) (central_values p c u) → deviation ≡ deviation_at p u (equation_at p i)
-    → IsExtentOf (extended (get_or (axes_of p) i no_axis)) (value -ℤ deviation) (value +ℤ deviation) extent → IsExtentBeforeAt p c u i 0 extent
+    → IsExtentOf (extended_axis (get_or (axes_of p) i no_axis)) (value -ℤ deviation) (value +ℤ deviation) extent → IsExtentBeforeAt p c u i 0 extent
 extent_of_growth p c u i value deviation extent lt version at by found =
     let e = equation_at p i in
     let next_interval : Interval = record { lo = value -ℤ deviation; hi = value +ℤ deviation } in

@@ -12,7 +12,7 @@ ghost use Rattle.successor_box.specs.SuccessorBoxes.{cell_area_of};
 ghost use Rattle.successor_box.specs.Deviations.{HasNoOverflow};
 ghost use Rattle.successor_box.specs.PairExtents.{IsPairInLane, HasPairInEachLane};
 ghost use Rattle.successor_box.specs.inside.Area.{variables_of, no_range};
-ghost use Rattle.successor_box.specs.inside.Blocks.{HoldCentralValues, HoldCellAreas};
+ghost use Rattle.successor_box.specs.inside.Blocks.{AreCentralValues, AreCellAreas};
 ghost use Rattle.base.specs.declared.limits.TheConstants.{VARIABLES_LIMIT};
 
 use crate::area::{NO_RANGE, offset};
@@ -32,7 +32,7 @@ pub(crate) fn spans(
     requires fits { HasNoOverflow p.now }
     requires pairs { HasPairInEachLane p.now indices.now }
     requires state { state < length p.now.equations }
-    requires columns { HoldCentralValues p.now indices.now columns.now }
+    requires columns { AreCentralValues p.now indices.now columns.now }
     ensures { (j c u : ℕ) → j < LANES → IsPairInLane p.now indices.now j c u → slice_index_or result j no_range ≡ span_of (equation_at p.now state) (cell_area_of p.now c u) }
 {
     let area = cell_columns(p, indices, columns);
@@ -46,8 +46,8 @@ fn cell_columns(
     columns: &[[i64; LANES]],
 ) -> [IntervalColumn; VARIABLES_LIMIT]
     requires pairs { HasPairInEachLane p.now indices.now }
-    requires columns { HoldCentralValues p.now indices.now columns.now }
-    ensures { HoldCellAreas p.now indices.now result }
+    requires columns { AreCentralValues p.now indices.now columns.now }
+    ensures { AreCellAreas p.now indices.now result }
 {
     let mut area = [NO_INTERVALS; VARIABLES_LIMIT];
     for k in 0..p.variables() {
@@ -65,7 +65,7 @@ fn cell_column(
 ) -> IntervalColumn
     requires plant { IsWithinLimits p.now }
     requires pairs { HasPairInEachLane p.now indices.now }
-    requires columns { HoldCentralValues p.now indices.now columns.now }
+    requires columns { AreCentralValues p.now indices.now columns.now }
     requires variable { k < variables_of p.now }
     ensures { (j c u : ℕ) → j < LANES → IsPairInLane p.now indices.now j c u → interval_in result j ≡ slice_index_or (cell_area_of p.now c u) k no_range }
 {

@@ -11,7 +11,7 @@ ghost use Rattle.successor_box.specs.SuccessorBoxes.{central_values, growth_of, 
 ghost use Rattle.successor_box.specs.Deviations.{HasNoOverflow, deviations_of};
 ghost use Rattle.successor_box.specs.PairExtents.{IsExtentBeforeAt, IsPairInLane, HasPairInEachLane};
 ghost use Rattle.successor_box.specs.inside.Area.{no_range};
-ghost use Rattle.successor_box.specs.inside.Blocks.{HoldInputNumbers, HoldCentralValues, HoldExtents};
+ghost use Rattle.successor_box.specs.inside.Blocks.{AreInputNumbers, AreCentralValues, AreExtentsOf};
 ghost use Rattle.base.specs.declared.limits.TheConstants.{VARIABLES_LIMIT};
 
 use crate::area::NO_RANGE;
@@ -70,11 +70,11 @@ fn growth_extents(
     requires version { p.now.version ≡ One }
     requires pairs { HasPairInEachLane p.now indices.now }
     requires state { state < length p.now.equations }
-    requires inputs { HoldInputNumbers p.now indices.now inputs.now }
-    requires columns { HoldCentralValues p.now indices.now columns.now }
+    requires inputs { AreInputNumbers p.now indices.now inputs.now }
+    requires columns { AreCentralValues p.now indices.now columns.now }
     requires few { length extents.old ≤ LANES }
     ensures long { length extents.new ≡ length extents.old }
-    ensures each { HoldExtents p.now indices.now state extents.new }
+    ensures each { AreExtentsOf p.now indices.now state extents.new }
 {
     let mut values = [0; LANES];
     match eval_lanes(p.equation(state), columns, &mut values) {
@@ -98,11 +98,11 @@ fn narrow_extents(
     requires version { p.now.version ≡ One }
     requires pairs { HasPairInEachLane p.now indices.now }
     requires state { state < length p.now.equations }
-    requires inputs { HoldInputNumbers p.now indices.now inputs.now }
+    requires inputs { AreInputNumbers p.now indices.now inputs.now }
     requires values { (j c u : ℕ) → j < LANES → IsPairInLane p.now indices.now j c u → slice_index_or values.now j (pos 0) ≡ value_of (equation_at p.now state) (central_values p.now c u) }
     requires few { length extents.old ≤ LANES }
     ensures long { length extents.new ≡ length extents.old }
-    ensures each { HoldExtents p.now indices.now state extents.new }
+    ensures each { AreExtentsOf p.now indices.now state extents.new }
 {
     let quantiser = p.grid().extended_quantiser(state);
     let deviations = s.along(state);
@@ -126,11 +126,11 @@ fn next_extents(
     requires fits { HasNoOverflow p.now }
     requires pairs { HasPairInEachLane p.now indices.now }
     requires state { state < length p.now.equations }
-    requires inputs { HoldInputNumbers p.now indices.now inputs.now }
-    requires columns { HoldCentralValues p.now indices.now columns.now }
+    requires inputs { AreInputNumbers p.now indices.now inputs.now }
+    requires columns { AreCentralValues p.now indices.now columns.now }
     requires few { length extents.old ≤ LANES }
     ensures long { length extents.new ≡ length extents.old }
-    ensures each { HoldExtents p.now indices.now state extents.new }
+    ensures each { AreExtentsOf p.now indices.now state extents.new }
 {
     let next_intervals = next_intervals(p, s, indices, inputs, columns, state);
     let quantiser = p.grid().extended_quantiser(state);
@@ -153,8 +153,8 @@ fn next_intervals(
     requires fits { HasNoOverflow p.now }
     requires pairs { HasPairInEachLane p.now indices.now }
     requires state { state < length p.now.equations }
-    requires inputs { HoldInputNumbers p.now indices.now inputs.now }
-    requires columns { HoldCentralValues p.now indices.now columns.now }
+    requires inputs { AreInputNumbers p.now indices.now inputs.now }
+    requires columns { AreCentralValues p.now indices.now columns.now }
     ensures { (j c u : ℕ) → j < LANES → IsPairInLane p.now indices.now j c u → slice_index_or result j no_range ≡ next_interval_of p.now.version p.now c u (equation_at p.now state) }
 {
     let growth_intervals = growth_intervals(p, s, indices, inputs, columns, state);
@@ -178,8 +178,8 @@ fn growth_intervals(
     requires fits { HasNoOverflow p.now }
     requires pairs { HasPairInEachLane p.now indices.now }
     requires state { state < length p.now.equations }
-    requires inputs { HoldInputNumbers p.now indices.now inputs.now }
-    requires columns { HoldCentralValues p.now indices.now columns.now }
+    requires inputs { AreInputNumbers p.now indices.now inputs.now }
+    requires columns { AreCentralValues p.now indices.now columns.now }
     ensures { (j c u : ℕ) → j < LANES → IsPairInLane p.now indices.now j c u → slice_index_or result j no_range ≡ growth_of p.now c u (equation_at p.now state) }
 {
     let next = values_in_lanes(p.equation(state), columns);
@@ -205,7 +205,7 @@ fn intersections(first: &[Interval; LANES], second: &[Interval; LANES]) -> [Inte
 fn input_numbers(p: &Plant, indices: &IndexColumns) -> [u32; LANES]
     requires plant { IsWithinLimits p.now }
     requires pairs { HasPairInEachLane p.now indices.now }
-    ensures { HoldInputNumbers p.now indices.now result }
+    ensures { AreInputNumbers p.now indices.now result }
 {
     let mut numbers = [0; LANES];
     for k in 0..p.input_variables() {

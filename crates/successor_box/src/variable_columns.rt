@@ -9,7 +9,7 @@ ghost use Rattle.plant_record.specs.Limits.{IsWithinLimits};
 ghost use Rattle.successor_box.specs.SuccessorBoxes.{noise_centre, central_values};
 ghost use Rattle.successor_box.specs.PairExtents.{IsPairInLane, HasPairInEachLane};
 ghost use Rattle.successor_box.specs.inside.Area.{variables_of};
-ghost use Rattle.successor_box.specs.inside.Blocks.{HoldInputNumbers, HoldCentralValues};
+ghost use Rattle.successor_box.specs.inside.Blocks.{AreInputNumbers, AreCentralValues};
 
 use crate::index_columns::IndexColumns;
 use crate::noise_centres::noise_centre;
@@ -25,8 +25,8 @@ pub(crate) fn fill_columns(
 )
     requires long { length columns.old ≡ variables_of p.now }
     requires pairs { HasPairInEachLane p.now indices.now }
-    requires inputs { HoldInputNumbers p.now indices.now inputs.now }
-    ensures { HoldCentralValues p.now indices.now columns.new }
+    requires inputs { AreInputNumbers p.now indices.now inputs.now }
+    ensures { AreCentralValues p.now indices.now columns.new }
 {
     for k in 0..p.variables() {
         columns[k as usize] = column(p, indices, inputs, k);
@@ -37,7 +37,7 @@ pub(crate) fn fill_columns(
 fn column(p: &Plant, indices: &IndexColumns, inputs: &[u32; LANES], k: u32) -> [i64; LANES]
     requires plant { IsWithinLimits p.now }
     requires pairs { HasPairInEachLane p.now indices.now }
-    requires inputs { HoldInputNumbers p.now indices.now inputs.now }
+    requires inputs { AreInputNumbers p.now indices.now inputs.now }
     requires variable { k < variables_of p.now }
     ensures { (j c u : ℕ) → j < LANES → IsPairInLane p.now indices.now j c u → slice_index_or result j (pos 0) ≡ slice_index_or (central_values p.now c u) k (pos 0) }
 {

@@ -12,7 +12,7 @@ use Rattle.patrol_game.specs.Targets.{IsInTarget}
 use Rattle.patrol_game.specs.Patrol.{IsPatrol}
 use Rattle.temporal_games.specs.PatrolText.{IsPatrolText}
 use Rattle.temporal_games.specs.Patrols.{Patrols}
-use Rattle.controller_table.specs.TableText.{written, table_text}
+use Rattle.controller_table.specs.TableText.{written_version, table_text}
 use Rattle.controller_table.specs.Tables.{RowsFit, IsTable}
 use Rattle.successor_box.specs.Deviations.{HasNoOverflow}
 use Rattle.plant_refine.specs.Controls.{Controls}
@@ -34,7 +34,7 @@ pub record IsTableOf (p : Description) (text : List ℕ) : Type 0 where
   pub rows : List (Option Row)
   pub solution : IsSolutionOf p rows
   pub fitting : RowsFit p rows
-  pub text_is : text ≡ table_text written p rows
+  pub text_is : text ≡ table_text written_version p rows
   pub controls : Controls p text
 
 -- the bytes spell a plant that nothing refuses, and the text is its table
@@ -58,7 +58,7 @@ pub record IsUpgradeOf (bytes text : List ℕ) : Type 0 where
   pub rows : List (Option Row)
   pub table : IsTable bytes plant rows
   pub fits : HasNoOverflow plant
-  pub text_is : text ≡ table_text written plant rows
+  pub text_is : text ≡ table_text written_version plant rows
 
 -- The text is that of the solution of reach and stay of a plant's game: ranks are least depths of strategies in the
 -- abstraction that lead to cells where the controller can keep to the targets for any number of samples, and cells without

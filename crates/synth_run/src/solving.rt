@@ -3,7 +3,7 @@
 ghost use Rattle.std.specs.Prelude.{◌≢◌, Some, IfOk, IfErr};
 ghost use Rattle.command_line.specs.declared.command.Command.{Command};
 ghost use Rattle.synth_run.specs.declared.outcome.Outcome.TheVariants as ends;
-ghost use Rattle.controller_table.specs.TableText.{written, table_text};
+ghost use Rattle.controller_table.specs.TableText.{written_version, table_text};
 ghost use Rattle.controller_table.specs.Tables.{RowsFit};
 ghost use Rattle.synth_run.specs.IsOutcomeFor.{IsPlantTextOutcome};
 ghost use Rattle.command_line.specs.Command.{AreWorkers};
@@ -36,7 +36,7 @@ pub fn solve_text<R: Threads + Sync, T: Gate>(
     gate: &T,
 ) -> Result<(SolvedPlant<Answer>, (Board, Root)), Outcome>
     requires { AreWorkers workers }
-    ensures table { IfOk result (λ made. IsTableFor bytes.now (table_text written made.0.plant made.0.rows)) }
+    ensures table { IfOk result (λ made. IsTableFor bytes.now (table_text written_version made.0.plant made.0.rows)) }
     ensures fits { IfOk result (λ made. RowsFit made.0.plant made.0.rows) }
     ensures played { IfOk result (λ made. IsPlayed (Command.Synth workers) bytes.now (Some made.1)) }
     ensures cause { IfErr result (λ outcome. outcome ≢ ends.NoMemory → IsPlantTextOutcome bytes.now outcome) }

@@ -1,7 +1,7 @@
 //! What a command writes, and how it is written.
 
 ghost use Rattle.std.specs.Prelude.{OnOk, IfErr};
-ghost use Rattle.controller_table.specs.TableText.{written, table_text};
+ghost use Rattle.controller_table.specs.TableText.{written_version, table_text};
 ghost use Rattle.controller_table.specs.Tables.{RowsFit};
 ghost use Rattle.temporal_games.specs.StayText.{stay_text};
 ghost use Rattle.temporal_games.specs.PatrolText.{patrol_text};
@@ -68,8 +68,8 @@ fn write_table<O: Sink>(
     out: &mut O,
 ) -> Result<(), WriteFault>
     requires { RowsFit solved.now.plant solved.now.rows }
-    ensures whole { OnOk result (GainsWhole (writing O.got O.faults O.capacity out.old out.new) (table_text written solved.now.plant solved.now.rows)) }
-    ensures stopped { IfErr result (λ fault. StopsBy fault (writing O.got O.faults O.capacity out.old out.new) (table_text written solved.now.plant solved.now.rows)) }
+    ensures whole { OnOk result (GainsWhole (writing O.got O.faults O.capacity out.old out.new) (table_text written_version solved.now.plant solved.now.rows)) }
+    ensures stopped { IfErr result (λ fault. StopsBy fault (writing O.got O.faults O.capacity out.old out.new) (table_text written_version solved.now.plant solved.now.rows)) }
 {
     let Ok(mut writer) = TableWriter::new(alloc, &solved.plant, &solved.rows) else {
         return Err(WriteFault::Memory);
@@ -79,8 +79,8 @@ fn write_table<O: Sink>(
 
 /// Writes a table that was read.
 fn write_upgraded<O: Sink>(alloc: Global, table: &Table, out: &mut O) -> Result<(), WriteFault>
-    ensures whole { OnOk result (GainsWhole (writing O.got O.faults O.capacity out.old out.new) (table_text written table.now.plant table.now.rows)) }
-    ensures stopped { IfErr result (λ fault. StopsBy fault (writing O.got O.faults O.capacity out.old out.new) (table_text written table.now.plant table.now.rows)) }
+    ensures whole { OnOk result (GainsWhole (writing O.got O.faults O.capacity out.old out.new) (table_text written_version table.now.plant table.now.rows)) }
+    ensures stopped { IfErr result (λ fault. StopsBy fault (writing O.got O.faults O.capacity out.old out.new) (table_text written_version table.now.plant table.now.rows)) }
 {
     let Ok(mut writer) = TableWriter::of(alloc, table) else {
         return Err(WriteFault::Memory);

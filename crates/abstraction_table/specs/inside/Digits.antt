@@ -18,16 +18,16 @@ combinations [] = 1
 combinations (n ∷ counts) = n * combinations counts
 
 -- the digits of a number at other weights: `from` and `to` say what one slot of a digit counts
-abbrev pub moved : (Digit → ℕ) → (Digit → ℕ) → List Digit → ℕ → ℕ
-moved from to digits n = sum_by (λ (d : Digit). n / from d % d.count * to d) digits
+abbrev pub with_weights : (Digit → ℕ) → (Digit → ℕ) → List Digit → ℕ → ℕ
+with_weights from to digits n = sum_by (λ (d : Digit). n / from d % d.count * to d) digits
 
 -- the slot in a table of the extent of a pair
 abbrev pub slot_at : List Digit → ℕ → ℕ
-slot_at digits pair = moved (λ (d : Digit). d.in_pair) (λ (d : Digit). d.in_table) digits pair
+slot_at digits pair = with_weights (λ (d : Digit). d.in_pair) (λ (d : Digit). d.in_table) digits pair
 
 -- the pair that has the digits of a slot, and 0 in the other variables
 abbrev pub pair_at : List Digit → ℕ → ℕ
-pair_at digits slot = moved (λ (d : Digit). d.in_table) (λ (d : Digit). d.in_pair) digits slot
+pair_at digits slot = with_weights (λ (d : Digit). d.in_table) (λ (d : Digit). d.in_pair) digits slot
 
 -- A digit of a number, with the weight t and below m, and for how many numbers from this one on it stays the same.
 pub record IsDigitAt (t m n digit left : ℕ) : Type 0 where
@@ -36,9 +36,9 @@ pub record IsDigitAt (t m n digit left : ℕ) : Type 0 where
 
 -- Each digit of a number is found again where it was moved to, and the number there is below a bound.
 pub record Moves (from to : Digit → ℕ) (digits : List Digit) (bound : ℕ) : Type 0 where
-  pub below : (n : ℕ) → moved from to digits n < bound
+  pub below : (n : ℕ) → with_weights from to digits n < bound
   pub graded : All (λ (d : Digit). (g : ℕ) × (bound ≡ g * (d.count * to d))) digits
-  pub each : (n : ℕ) → All (λ (d : Digit). moved from to digits n / to d % d.count ≡ n / from d % d.count) digits
+  pub each : (n : ℕ) → All (λ (d : Digit). with_weights from to digits n / to d % d.count ≡ n / from d % d.count) digits
 
 -- A digit is that of a state or an input variable, and its slot in a pair's number is counted by the later ones.
 pub record IsDigitOf (p : Description) (d : Digit) : Type 0 where

@@ -3,7 +3,7 @@ use Rattle.std.specs.Prelude.{◌≡◌, ℕ, ◌+◌, ◌*◌, ◌/◌, ◌%◌
 use Rattle.std.specs.List.{All}
 use Rattle.grid_quantiser.specs.declared.extents.Extent.{Extent}
 use Rattle.grid_quantiser.specs.Axes.{no_axis, cells_of}
-use Rattle.grid_quantiser.specs.Extents.{IsExtentOf, extended}
+use Rattle.grid_quantiser.specs.Extents.{IsExtentOf, extended_axis}
 use Rattle.plant_record.specs.Description.{Description, axes_of, vectors_of}
 use Rattle.successor_box.specs.PairExtents.{index_in, moves_along, shifted_by, IsExtentBeforeAt}
 use Rattle.abstraction_table.specs.declared.digits.Digit.{Digit}
@@ -21,10 +21,10 @@ extent_in t first u = slice_index_or t.extents.items (first + slice_index t.inpu
 
 -- an extent is that of some range on the prolonged axis of a state
 abbrev pub IsRelativeExtent : Description → ℕ → Option Extent → Type 0
-IsRelativeExtent p i extent = (low : ℤ) × (high : ℤ) × (low ≤ℤ high) × IsExtentOf (extended (slice_index_or (axes_of p) i no_axis)) low high extent
+IsRelativeExtent p i extent = (low : ℤ) × (high : ℤ) × (low ≤ℤ high) × IsExtentOf (extended_axis (slice_index_or (axes_of p) i no_axis)) low high extent
 
 -- A table holds the extents of all pairs along the axis of a state, as many indices before as their cells move them.
-pub record HoldsExtentsAlong (p : Description) (i : ℕ) (t : ExtentTable) : Type 0 where
+pub record IsExtentTableOf (p : Description) (i : ℕ) (t : ExtentTable) : Type 0 where
   pub digits : All (λ (d : Digit). d.variable < length p.states + length p.inputs) t.digits.items
   pub few : length t.extents.items ≤ PAIRS_LIMIT
   pub each : All (IsRelativeExtent p i) t.extents.items

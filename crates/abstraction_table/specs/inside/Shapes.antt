@@ -44,12 +44,12 @@ pub record HasSegmentsOf (axes : List Axis) (s : Shapes) (b : CellBox) : Type 0 
   pub cells : cells_between axes b.first b.last ≡ cells_from b.first (segments_at s (b.last - b.first))
 
 -- each box has its segments
-abbrev pub HaveSegments : List Axis → Shapes → List (Option CellBox) → Type 0
-HaveSegments axes s boxes = All (λ b. IfSome b (HasSegmentsOf axes s)) boxes
+abbrev pub EachBoxHasSegments : List Axis → Shapes → List (Option CellBox) → Type 0
+EachBoxHasSegments axes s boxes = All (λ b. IfSome b (HasSegmentsOf axes s)) boxes
 
 -- each shape whose cells are counted has its segments
-abbrev pub HaveSegmentsAt : List Axis → Shapes → List ℕ → Type 0
-HaveSegmentsAt axes s fans = (distance : ℕ) → 1 ≤ slice_index fans distance → HasSegmentsAt axes s distance
+abbrev pub EachShapeHasSegments : List Axis → Shapes → List ℕ → Type 0
+EachShapeHasSegments axes s fans = (distance : ℕ) → 1 ≤ slice_index fans distance → HasSegmentsAt axes s distance
 
 -- each shape that had its segments still has them
 abbrev pub KeepsSegments : List Axis → Shapes → Shapes → Type 0

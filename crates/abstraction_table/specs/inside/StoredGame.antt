@@ -11,7 +11,7 @@ use Rattle.abstraction_table.specs.inside.Fans.{AreFansOf}
 use Rattle.abstraction_table.specs.inside.SourceLists.{IsBox}
 
 -- Marks and boxes are a game within the limits on the axes of a grid, the corners of each box are in order, and its cells are counted.
-pub record HoldsBoxes (axes : List Axis) (inputs : ℕ) (marks : List Mark) (boxes : List (Option CellBox)) (fans : List ℕ) : Type 0 where
+pub record IsBoxGame (axes : List Axis) (inputs : ℕ) (marks : List Mark) (boxes : List (Option CellBox)) (fans : List ℕ) : Type 0 where
   pub grid : AreAxes axes
   pub graph : IsGraph (box_game axes inputs marks boxes)
   pub ordered : All (IsBox axes) boxes

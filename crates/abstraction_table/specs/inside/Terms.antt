@@ -61,7 +61,7 @@ HasTermAt p c u i (Listed terms) slot = IsTermAt p c u i (slice_index_or terms.i
 HasTermAt p c u i (Moved extents) slot = IsExtentBeforeAt p c u i (shifted_by p i c) (slice_index_or extents.items slot None)
 
 -- A table holds the terms of all pairs along the axis of a state.
-pub record HoldsTermsAlong (p : Description) (i : ℕ) (t : TermTable) : Type 0 where
+pub record IsTermTableOf (p : Description) (i : ℕ) (t : TermTable) : Type 0 where
   pub digits : All (λ (d : Digit). d.variable < length p.states + length p.inputs) t.digits.items
   pub few : count_of t.terms ≤ PAIRS_LIMIT
   pub moves : t.moves ≡ moves_along p i
@@ -72,9 +72,9 @@ pub record HoldsTermsAlong (p : Description) (i : ℕ) (t : TermTable) : Type 0 
   pub term : (c u : ℕ) → c < cells_of (axes_of p) → u < vectors_of p.inputs → HasTermAt p c u i t.terms (first_of p t.digits.items c + slice_index t.inputs.items u)
 
 -- Tables hold the terms of all pairs along all axes.
-pub record HoldTerms (p : Description) (tables : List TermTable) : Type 0 where
+pub record AreTermTablesOf (p : Description) (tables : List TermTable) : Type 0 where
   pub one_each : length tables ≡ length p.equations
-  pub each : (i : ℕ) (d : TermTable) → i < length p.equations → HoldsTermsAlong p i (slice_index_or tables i d)
+  pub each : (i : ℕ) (d : TermTable) → i < length p.equations → IsTermTableOf p i (slice_index_or tables i d)
 
 -- A cell brings so much to a state's table, and moves its extents so many indices.
 pub record Brings (p : Description) (i : ℕ) (t : TermTable) (brought own c : ℕ) : Type 0 where

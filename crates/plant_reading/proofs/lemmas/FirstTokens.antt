@@ -5,7 +5,7 @@ use Rattle.std.proofs.lemmas.Bool.{cases_Bool, eqb-true, and_parts, or_cases, fa
 use Rattle.std.proofs.lemmas.List.{append-nil, nil_from_length}
 use Rattle.plant_record.specs.Names.{is_letter, is_digit, is_name_byte}
 use Rattle.plant_reading.specs.Words.{is_blank, ends_word, words_of}
-use Rattle.plant_reading.specs.Lines.{joined}
+use Rattle.plant_reading.specs.Lines.{with_front_byte}
 use Rattle.plant_reading.specs.Tokens.{goes_on, tokens_after, tokens_of}
 use Rattle.plant_reading.specs.inside.LineTokens.{tokens_in}
 
@@ -66,15 +66,15 @@ begun b bytes e =
       | inr goes ↦ rw (e, goes) (with_first (words_of bytes))
     ]
   where
-    with_first : (words : List (List ℕ)) → flat_map tokens_of (joined b words) ≡ begun_words (b ∷ []) words
+    with_first : (words : List (List ℕ)) → flat_map tokens_of (with_front_byte b words) ≡ begun_words (b ∷ []) words
     with_first [] = refl
     with_first (w ∷ words) = refl
 
-joined_goes_on : (token : List ℕ) (c : ℕ) (words : List (List ℕ)) → goes_on token c ≡ true → begun_words token (joined c words) ≡ begun_words (token ++ c ∷ []) words
+joined_goes_on : (token : List ℕ) (c : ℕ) (words : List (List ℕ)) → goes_on token c ≡ true → begun_words token (with_front_byte c words) ≡ begun_words (token ++ c ∷ []) words
 joined_goes_on token c [] on = rw on refl
 joined_goes_on token c (w ∷ words) on = rw on refl
 
-joined_ends : (token : List ℕ) (c : ℕ) (words : List (List ℕ)) → goes_on token c ≡ false → begun_words token (joined c words) ≡ token ∷ flat_map tokens_of (joined c words)
+joined_ends : (token : List ℕ) (c : ℕ) (words : List (List ℕ)) → goes_on token c ≡ false → begun_words token (with_front_byte c words) ≡ token ∷ flat_map tokens_of (with_front_byte c words)
 joined_ends token c [] stops = rw stops refl
 joined_ends token c (w ∷ words) stops = rw stops refl
 

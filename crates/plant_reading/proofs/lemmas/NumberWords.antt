@@ -1,17 +1,17 @@
 -- A number is read as it is spelled.
 use Rattle.std.proofs.Common.{◌≡◌, ℕ, ◌^◌, ◌<◌, List, Some, ap, arith, to_z, of_z}
-use Rattle.std.specs.Prelude.{ℤ, pos, negsuc, nat_abs, FitsSigned, Result}
+use Rattle.std.specs.Prelude.{ℤ, pos, negsuc, nat_abs, Result}
 use Rattle.std.specs.Int.{w64, w128}
 use Rattle.std.specs.Int.Signed.{mag}
 use Rattle.std.specs.Fmt.{signed_decimal}
 use Rattle.std.specs.Str.{IsUtf8}
 use Rattle.std.specs.Str.Parse.{ParsesSigned}
 use Rattle.std.specs.Result.{result_ok}
-use Rattle.std.proofs.lemmas.Int.{ints, to_z-of_z}
+use Rattle.std.proofs.lemmas.Int.{to_z-of_z}
 use Rattle.std.proofs.lemmas.Fmt.{IsAscii-signed, parse-signed_decimal, signed_decimal_injective}
 use Rattle.std.proofs.lemmas.Str.{IsUtf8-from_ascii}
 use Rattle.plant_record.specs.Numbers.{IsLiteral}
-use Rattle.base.proofs.Integers.{literal_fits}
+use Rattle.base.proofs.Integers.{literal_fits, literal_fits_wide}
 
 -- |z| as std's lemmas write it is at most the absolute value
 pub mag_is_less : (z : ℤ) → nat_abs z < 10 ^ 18 → mag z < 2 ^ 63
@@ -30,8 +30,4 @@ one_number y z y-lt z-lt e = signed_decimal_injective y z (mag_is_less y y-lt) (
 
 -- a literal is read back from its bits
 pub whole : (z : ℤ) → IsLiteral z → to_z w128 (of_z w128 z) ≡ z
-whole z lt = to_z-of_z w128 z (fits z lt)
-  where
-    fits : (z : ℤ) → nat_abs z < 10 ^ 18 → FitsSigned w128 z
-    fits (pos n) lt = omega (arith, ints)
-    fits (negsuc n) lt = omega (arith, ints)
+whole z lt = to_z-of_z w128 z (literal_fits_wide z lt)

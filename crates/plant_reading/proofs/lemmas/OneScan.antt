@@ -6,7 +6,7 @@ use Rattle.std.proofs.lemmas.List.{append-nil}
 use Rattle.plant_reading.specs.inside.LineTokens.{tokens_in}
 use Rattle.plant_record.specs.Names.{is_letter, is_digit, is_name_byte, IsName}
 use Rattle.plant_reading.specs.Words.{words_of, is_blank, ends_word}
-use Rattle.plant_reading.specs.Lines.{joined}
+use Rattle.plant_reading.specs.Lines.{with_front_byte}
 use Rattle.plant_reading.specs.Tokens.{goes_on, tokens_after, tokens_of}
 use Rattle.plant_reading.proofs.lemmas.Booleans.{and_false, or_true}
 use Rattle.plant_reading.proofs.lemmas.WhereCut.{above_space}
@@ -39,12 +39,12 @@ cond_cons : (t : Bool) (w : List ℕ) (x y : List (List ℕ)) → cond t (w ∷ 
 cond_cons true w x y = refl
 cond_cons false w x y = refl
 
-joined_after : (token : List ℕ) (b : ℕ) (words : List (List ℕ)) → after token (joined b words) ≡ cond (goes_on token b) (after (token ++ b ∷ []) words) (token ∷ after (b ∷ []) words)
+joined_after : (token : List ℕ) (b : ℕ) (words : List (List ℕ)) → after token (with_front_byte b words) ≡ cond (goes_on token b) (after (token ++ b ∷ []) words) (token ∷ after (b ∷ []) words)
 joined_after token b [] = append-nil (cond (goes_on token b) ((token ++ b ∷ []) ∷ []) (token ∷ (b ∷ []) ∷ []))
 joined_after token b (word ∷ words) = cond_append (goes_on token b) (tokens_after (token ++ b ∷ []) word) (token ∷ tokens_after (b ∷ []) word) (flat_map tokens_of words)
 
 -- the first of the words, where no token is begun before it
-joined_fresh : (b : ℕ) (words : List (List ℕ)) → flat_map tokens_of (joined b words) ≡ after (b ∷ []) words
+joined_fresh : (b : ℕ) (words : List (List ℕ)) → flat_map tokens_of (with_front_byte b words) ≡ after (b ∷ []) words
 joined_fresh b [] = refl
 joined_fresh b (word ∷ words) = refl
 

@@ -4,7 +4,7 @@ use Rattle.std.specs.Prelude.{codes}
 use Rattle.std.specs.List.{list_all, join_with_byte, AllByRecursion}
 use Rattle.std.proofs.lemmas.Bool.{ltb-true, leb-true, le-leb, ne_eqb, and_parts, and_from}
 use Rattle.std.proofs.lemmas.List.Folds.{list_all-append}
-use Rattle.plant_reading.specs.Lines.{lines_of, joined}
+use Rattle.plant_reading.specs.Lines.{lines_of, with_front_byte}
 use Rattle.plant_reading.specs.Words.{words_of, is_blank}
 use Rattle.plant_reading.proofs.lemmas.WhereCut.{above_space, longer_word}
 
@@ -55,14 +55,14 @@ words_front [] rest h = absurd (omega (arith, h.some))
 words_front (b ∷ []) rest h = rw (dark_byte b (and_parts (ltb 32 b) true h.dark).0) refl
 words_front (b ∷ c ∷ w) rest h =
     let t = tail_word b c w h.dark in
-    longer_word b ((c ∷ w) ++ 32 ∷ rest) t.0 t.1 ∙ ap (joined b) (words_front (c ∷ w) rest t.2)
+    longer_word b ((c ∷ w) ++ 32 ∷ rest) t.0 t.1 ∙ ap (with_front_byte b) (words_front (c ∷ w) rest t.2)
 
 pub words_last : (w : List ℕ) → IsDarkWord w → words_of w ≡ w ∷ []
 words_last [] h = absurd (omega (arith, h.some))
 words_last (b ∷ []) h = rw (dark_byte b (and_parts (ltb 32 b) true h.dark).0) refl
 words_last (b ∷ c ∷ w) h =
     let t = tail_word b c w h.dark in
-    longer_word b (c ∷ w) t.0 t.1 ∙ ap (joined b) (words_last (c ∷ w) t.2)
+    longer_word b (c ∷ w) t.0 t.1 ∙ ap (with_front_byte b) (words_last (c ∷ w) t.2)
 
 pub words_joined : (w : List ℕ) (ws : List (List ℕ)) → IsDarkWord w → AllByRecursion IsDarkWord ws → words_of (join_with_byte 32 (w ∷ ws)) ≡ w ∷ ws
 words_joined w [] h each = words_last w h

@@ -4,7 +4,7 @@ use Rattle.std.specs.List.{position, position_or_len}
 use Rattle.std.proofs.lemmas.Bool.{not-true, eqb-true}
 use Rattle.std.proofs.lemmas.List.{take_all, drop_all, take_rest, take-append-drop, length-drop, get_or-drop, get_or_at}
 use Rattle.std.proofs.lemmas.List.Sums.{passes_at_first, prefix_len_passes}
-use Rattle.plant_reading.specs.Lines.{lines_of, joined}
+use Rattle.plant_reading.specs.Lines.{lines_of, with_front_byte}
 use Rattle.plant_reading.specs.Words.{words_of, is_blank, ends_word}
 use Rattle.plant_reading.proofs.lemmas.Positions.{position_some, position_none}
 use Rattle.std.proofs.lemmas.Bool.{ne_eqb}
@@ -44,7 +44,7 @@ one_byte_at_end b c bytes true e others some le = let far = rw e at le in absurd
 one_byte_at_end b c bytes false e others some le =
     let far = rw e at le in
     let rest : lines_of (c ∷ bytes) ≡ (c ∷ bytes) ∷ [] = others (omega arith) (omega (arith, far)) in
-    rw e (ap (joined b) rest)
+    rw e (ap (with_front_byte b) rest)
 
 line_at_end : (bytes : List ℕ) → IsLineAtEnd bytes
 line_at_end [] = λ some le. absurd (omega arith)
@@ -92,7 +92,7 @@ one_byte_word : (b : ℕ) (bytes : List ℕ) → is_blank b ≡ false → ends_w
 one_byte_word b bytes e f = rw (e, f) refl
 
 -- a byte in front of a word
-pub longer_word : (b : ℕ) (bytes : List ℕ) → is_blank b ≡ false → ends_word bytes ≡ false → words_of (b ∷ bytes) ≡ joined b (words_of bytes)
+pub longer_word : (b : ℕ) (bytes : List ℕ) → is_blank b ≡ false → ends_word bytes ≡ false → words_of (b ∷ bytes) ≡ with_front_byte b (words_of bytes)
 longer_word b bytes e f = rw (e, f) refl
 
 abbrev IsAfterBlanks : List ℕ → Type 0
@@ -120,7 +120,7 @@ one_byte_more b c bytes true e f others =
     rw n (one_byte_word b (c ∷ bytes) e f)
 one_byte_more b c bytes false e f others =
     let n : position_or_len is_blank (b ∷ c ∷ bytes) ≡ 1 + position_or_len is_blank (c ∷ bytes) = rw e refl in
-    rw (n, one-add) (longer_word b (c ∷ bytes) e f ∙ ap (joined b) (others f))
+    rw (n, one-add) (longer_word b (c ∷ bytes) e f ∙ ap (with_front_byte b) (others f))
 
 word_at_front : (b : ℕ) (bytes : List ℕ) → is_blank b ≡ false → StartsWithWord (b ∷ bytes)
 word_at_front b [] e =

@@ -15,7 +15,7 @@ use Rattle.plant_writing.specs.ExpressionText.{expression_text}
 use Rattle.plant_reading.specs.Words.{words_of}
 use Rattle.plant_reading.specs.Tokens.{tokens_of}
 use Rattle.plant_reading.specs.Statements.{Statement, Version, State, Input, Noise, Next, Target, Obstacle, Goal, End, States}
-use Rattle.plant_text.specs.Grammar.{PartialPlant, names_in, FitsAfter, extended}
+use Rattle.plant_text.specs.Grammar.{PartialPlant, names_in, FitsAfter, with_statement}
 use Rattle.plant_text.specs.CanonicalFronts.{statement_line, ExtendsCanonically}
 use Rattle.plant_text.specs.inside.PartialPlantRules.{KeepsRules}
 use Rattle.plant_reading.specs.inside.StatementLaws.{OneStatement}
@@ -76,7 +76,7 @@ printable_line q line (Obstacle b) k says fits e =
 printable_line q line (Goal kind) k says fits e = printable_words line (codes "goal") (goal_word kind ∷ []) (record { dark = refl; some = omega arith }) (goal_dark kind, tt) e
 printable_line q line End k says fits e = printable_words line (codes "end") [] (record { dark = refl; some = omega arith }) tt e
 
-pub extends_canonically : (q : PartialPlant) (line : List ℕ) (s : Statement) (r : PartialPlant) → States (names_in q) (length q.states) (words_of line) s → IsCanonicalNext q line s → r ≡ extended q s → ExtendsCanonically q line r
+pub extends_canonically : (q : PartialPlant) (line : List ℕ) (s : Statement) (r : PartialPlant) → States (names_in q) (length q.states) (words_of line) s → IsCanonicalNext q line s → r ≡ with_statement q s → ExtendsCanonically q line r
 extends_canonically q line s r says next is = record { stated = record { statement = s; states = says; fits = next.fits; leads_to = is }; spelling = next.spelling; order = next.order }
 
 -- a line that states something in another position, spelling or order leads nowhere

@@ -5,7 +5,7 @@ use Rattle.std.proofs.lemmas.List.{append_cancel_left}
 use Rattle.plant_reading.specs.Lines.{lines_of, with_line_feeds}
 use Rattle.plant_reading.specs.Words.{words_of}
 use Rattle.plant_reading.specs.Statements.{Statement, Version, State, Input, Noise, Next, Target, Obstacle, Goal, End}
-use Rattle.plant_text.specs.Grammar.{PartialPlant, nothing_yet, names_in, HasEquations, FitsAfter, extended}
+use Rattle.plant_text.specs.Grammar.{PartialPlant, nothing_yet, names_in, HasEquations, FitsAfter, with_statement}
 use Rattle.plant_text.specs.CanonicalFronts.{ExtendsCanonically, LeadsCanonically}
 use Rattle.plant_text.specs.inside.PartialPlantRules.{KeepsRules}
 use Rattle.plant_text.specs.inside.PartialPlantText.{IsOrderly}
@@ -75,7 +75,7 @@ module _ (one : OneStatement) where
   led_once : (q : PartialPlant) (line : List ℕ) (m n : PartialPlant) → KeepsRules q → ExtendsCanonically q line m → ExtendsCanonically q line n → m ≡ n
   led_once q line m n k a b =
       a.stated.leads_to
-      ∙ ap (extended q) (one (names_in q) (length q.states) (words_of line) a.stated.statement b.stated.statement k.names_differ k.names a.stated.states b.stated.states)
+      ∙ ap (with_statement q) (one (names_in q) (length q.states) (words_of line) a.stated.statement b.stated.statement k.names_differ k.names a.stated.states b.stated.states)
       ∙ sym b.stated.leads_to
 
   -- two canonical lines at one front are the same

@@ -11,7 +11,7 @@ use Rattle.plant_record.specs.Limits.{Exceeds}
 use Rattle.plant_reading.specs.Lines.{lines_of}
 use Rattle.plant_reading.specs.Words.{words_of}
 use Rattle.plant_reading.specs.Statements.{Statement, States}
-use Rattle.plant_text.specs.Grammar.{PartialPlant, nothing_yet, names_in, HasEquations, FitsAfter, extended, Extends, Leads, Reads, IsWhole, Spells, IsFirstRefused}
+use Rattle.plant_text.specs.Grammar.{PartialPlant, nothing_yet, names_in, HasEquations, FitsAfter, with_statement, Extends, Leads, Reads, IsWhole, Spells, IsFirstRefused}
 use Rattle.plant_text.specs.PlantRefusals.{IsShort, ExceedsLimit}
 use Rattle.plant_text.specs.Laws.{OneRefusal, ReadOrRefused, SpelledPlantsArePlants}
 use Rattle.plant_text.specs.inside.PartialPlantRules.{KeepsRules, IsAimless}
@@ -76,7 +76,7 @@ module _ (one : OneStatement) (nothing : SkippedLinesStateNothing) where
         ]
         | inr stated ↦ elim second [
           | inl over ↦ absurd (nothing (names_in q) (length q.states) line stated.statement over.0 stated.states)
-          | inr other ↦ stated.leads_to ∙ ap (extended q) (one (names_in q) (length q.states) (words_of line) stated.statement other.statement k.names_differ k.names stated.states other.states) ∙ sym other.leads_to
+          | inr other ↦ stated.leads_to ∙ ap (with_statement q) (one (names_in q) (length q.states) (words_of line) stated.statement other.statement k.names_differ k.names stated.states other.states) ∙ sym other.leads_to
         ]
       ]
 

@@ -26,7 +26,7 @@ use Rattle.plant_writing.specs.ExpressionText.{expression_text}
 use Rattle.plant_reading.specs.Lines.{with_line_feeds}
 use Rattle.plant_reading.specs.Words.{words_of}
 use Rattle.plant_reading.specs.Statements.{Statement, Version, State, Input, Noise, Next, Target, Obstacle, Goal, End, States}
-use Rattle.plant_text.specs.Grammar.{PartialPlant, nothing_yet, names_in, FitsAfter, extended, IsWhole}
+use Rattle.plant_text.specs.Grammar.{PartialPlant, nothing_yet, names_in, FitsAfter, with_statement, IsWhole}
 use Rattle.plant_text.specs.CanonicalFronts.{statement_line, IsInOrder, LeadsCanonically}
 use Rattle.plant_reading.proofs.lemmas.PutTogether.{IsDarkWord, words_front, words_joined}
 use Rattle.plant_text.proofs.lemmas.CanonicalWords.{name_dark, number_dark, numbers_dark, box_dark, goal_dark}
@@ -44,11 +44,11 @@ pub record LeadsBy (q : PartialPlant) (text : List ℕ) (r : PartialPlant) : Typ
 
 -- a line that states something, in front of others
 stated : (q : PartialPlant) (body rest : List ℕ) (statement : Statement) (r : PartialPlant) → States (names_in q) (length q.states) (words_of body) statement → FitsAfter q statement → body ++ codes "\n" ≡ statement_line (names_in q) (length q.states) statement
-    → IsInOrder q statement → LeadsBy (extended q statement) rest r → LeadsBy q ((body ++ codes "\n") ++ rest) r
+    → IsInOrder q statement → LeadsBy (with_statement q statement) rest r → LeadsBy q ((body ++ codes "\n") ++ rest) r
 stated q body rest statement r says fits spelled order more = record {
   lines = body ∷ more.lines;
   are = ap (λ (x : List ℕ). (body ++ codes "\n") ++ x) more.are;
-  leads = (extended q statement, record { stated = record { statement = statement; states = says; fits = fits; leads_to = refl }; spelling = spelled; order = order }, more.leads);
+  leads = (with_statement q statement, record { stated = record { statement = statement; states = says; fits = fits; leads_to = refl }; spelling = spelled; order = order }, more.leads);
 }
 
 -- the parts on the way

@@ -21,19 +21,19 @@ use Rattle.plant_reading.specs.Words.{words_of}
 use Rattle.plant_reading.specs.Tokens.{tokens_of}
 use Rattle.plant_reading.specs.SyntaxTrees.{AreTokensOf}
 use Rattle.plant_reading.specs.Statements.{Statement, Version, State, Input, Noise, Next, Target, Obstacle, Goal, End, States}
-use Rattle.plant_text.specs.Grammar.{PartialPlant, nothing_yet, names_in, HasEquations, FitsAfter, extended, Extends, Leads}
+use Rattle.plant_text.specs.Grammar.{PartialPlant, nothing_yet, names_in, HasEquations, FitsAfter, with_statement, Extends, Leads}
 use Rattle.plant_text.specs.inside.PartialPlantRules.{KeepsRules, IsAimless}
 use Rattle.plant_reading.proofs.lemmas.ItemsOfTrees.{tree_literals}
 use Rattle.plant_text.proofs.lemmas.Lists.{differ}
 
 -- a new name at the end of the names
-pub with_state : (q : PartialPlant) (s : StateVariable) → q.inputs ≡ [] → q.noises ≡ [] → names_in (extended q (State s)) ≡ names_in q ++ s.name ∷ []
+pub with_state : (q : PartialPlant) (s : StateVariable) → q.inputs ≡ [] → q.noises ≡ [] → names_in (with_statement q (State s)) ≡ names_in q ++ s.name ∷ []
 with_state q s i w = rw (i, w, map-append (λ (t : StateVariable). t.name) q.states (s ∷ [])) (simp (append_assoc, append-nil))
 
-pub with_input : (q : PartialPlant) (i : InputVariable) → q.noises ≡ [] → names_in (extended q (Input i)) ≡ names_in q ++ i.name ∷ []
+pub with_input : (q : PartialPlant) (i : InputVariable) → q.noises ≡ [] → names_in (with_statement q (Input i)) ≡ names_in q ++ i.name ∷ []
 with_input q i w = rw (w, map-append (λ (t : InputVariable). t.name) q.inputs (i ∷ [])) (simp (append_assoc, append-nil))
 
-pub with_noise : (q : PartialPlant) (w : NoiseVariable) → names_in (extended q (Noise w)) ≡ names_in q ++ w.name ∷ []
+pub with_noise : (q : PartialPlant) (w : NoiseVariable) → names_in (with_statement q (Noise w)) ≡ names_in q ++ w.name ∷ []
 with_noise q w = rw (map-append (λ (t : NoiseVariable). t.name) q.noises (w ∷ [])) (simp append_assoc)
 
 pub rules_of_nothing : KeepsRules nothing_yet
@@ -69,9 +69,9 @@ aimless q k none = elim k.placed [
 pub no_equations : (q : PartialPlant) → q.equations ≡ [] → HasEquations q → ⊥
 no_equations q none has = let count : length q.equations ≡ 0 = ap length none in omega (arith, count, has.0, has.1)
 
-rules_state : (q : PartialPlant) (s : StateVariable) → KeepsRules q → IsStateVariable s → FitsAfter q (State s) → KeepsRules (extended q (State s))
+rules_state : (q : PartialPlant) (s : StateVariable) → KeepsRules q → IsStateVariable s → FitsAfter q (State s) → KeepsRules (with_statement q (State s))
 rules_state q s k is fits =
-    let names : names_in (extended q (State s)) ≡ names_in q ++ s.name ∷ [] = with_state q s fits.1 fits.2 in
+    let names : names_in (with_statement q (State s)) ≡ names_in q ++ s.name ∷ [] = with_state q s fits.1 fits.2 in
     let capacity : length q.states < 6 = fits.4 in
     let aims = aimless q k (no_equations q fits.3) in
     record {
@@ -85,7 +85,7 @@ rules_state q s k is fits =
       names = subst (All IsName) (sym names) (All-push IsName (names_in q) s.name k.names is.name);
       names_differ = subst (AllPairs (λ a b. a ≢ b)) (sym names) (differ (names_in q) s.name k.names_differ fits.5);
       equations_bound = omega (arith, k.equations_bound, length-append q.states (s ∷ []));
-      equations = All-same (IsEquation (length (names_in (extended q (State s))))) q.equations [] fits.3 (All-nil (IsEquation (length (names_in (extended q (State s))))));
+      equations = All-same (IsEquation (length (names_in (with_statement q (State s))))) q.equations [] fits.3 (All-nil (IsEquation (length (names_in (with_statement q (State s))))));
       tables = k.tables;
       targets_bound = k.targets_bound;
       targets = All-same (IsStateBox (length (q.states ++ s ∷ []))) q.targets [] aims.0 (All-nil (IsStateBox (length (q.states ++ s ∷ []))));
@@ -96,9 +96,9 @@ rules_state q s k is fits =
       closed = k.closed;
     }
 
-rules_input : (q : PartialPlant) (i : InputVariable) → KeepsRules q → IsInputVariable i → FitsAfter q (Input i) → KeepsRules (extended q (Input i))
+rules_input : (q : PartialPlant) (i : InputVariable) → KeepsRules q → IsInputVariable i → FitsAfter q (Input i) → KeepsRules (with_statement q (Input i))
 rules_input q i k is fits =
-    let names : names_in (extended q (Input i)) ≡ names_in q ++ i.name ∷ [] = with_input q i fits.1 in
+    let names : names_in (with_statement q (Input i)) ≡ names_in q ++ i.name ∷ [] = with_input q i fits.1 in
     let capacity : length q.inputs < 3 = fits.3 in
     record {
       unbegun = k.unbegun;
@@ -111,7 +111,7 @@ rules_input q i k is fits =
       names = subst (All IsName) (sym names) (All-push IsName (names_in q) i.name k.names is.name);
       names_differ = subst (AllPairs (λ a b. a ≢ b)) (sym names) (differ (names_in q) i.name k.names_differ fits.4);
       equations_bound = k.equations_bound;
-      equations = All-same (IsEquation (length (names_in (extended q (Input i))))) q.equations [] fits.2 (All-nil (IsEquation (length (names_in (extended q (Input i))))));
+      equations = All-same (IsEquation (length (names_in (with_statement q (Input i))))) q.equations [] fits.2 (All-nil (IsEquation (length (names_in (with_statement q (Input i))))));
       tables = k.tables;
       targets_bound = k.targets_bound;
       targets = k.targets;
@@ -122,9 +122,9 @@ rules_input q i k is fits =
       closed = k.closed;
     }
 
-rules_noise : (q : PartialPlant) (w : NoiseVariable) → KeepsRules q → IsNoiseVariable w → FitsAfter q (Noise w) → KeepsRules (extended q (Noise w))
+rules_noise : (q : PartialPlant) (w : NoiseVariable) → KeepsRules q → IsNoiseVariable w → FitsAfter q (Noise w) → KeepsRules (with_statement q (Noise w))
 rules_noise q w k is fits =
-    let names : names_in (extended q (Noise w)) ≡ names_in q ++ w.name ∷ [] = with_noise q w in
+    let names : names_in (with_statement q (Noise w)) ≡ names_in q ++ w.name ∷ [] = with_noise q w in
     let capacity : length q.noises < 6 = fits.2 in
     record {
       unbegun = k.unbegun;
@@ -137,7 +137,7 @@ rules_noise q w k is fits =
       names = subst (All IsName) (sym names) (All-push IsName (names_in q) w.name k.names is.name);
       names_differ = subst (AllPairs (λ a b. a ≢ b)) (sym names) (differ (names_in q) w.name k.names_differ fits.3);
       equations_bound = k.equations_bound;
-      equations = All-same (IsEquation (length (names_in (extended q (Noise w))))) q.equations [] fits.1 (All-nil (IsEquation (length (names_in (extended q (Noise w))))));
+      equations = All-same (IsEquation (length (names_in (with_statement q (Noise w))))) q.equations [] fits.1 (All-nil (IsEquation (length (names_in (with_statement q (Noise w))))));
       tables = k.tables;
       targets_bound = k.targets_bound;
       targets = k.targets;
@@ -176,41 +176,41 @@ module _ (q : PartialPlant) (k : KeepsRules q) where
     closed = closed;
   }
 
-  rules_version : (v : PlantVersion) → FitsAfter q (Version v) → KeepsRules (extended q (Version v))
+  rules_version : (v : PlantVersion) → FitsAfter q (Version v) → KeepsRules (with_statement q (Version v))
   rules_version v fits =
       let states : q.states ≡ [] = k.unbegun fits in
       let none : q.equations ≡ [] = nil_from_length q.equations (let b = k.equations_bound in let n : length q.states ≡ 0 = ap length states in omega (arith, b, n)) in
       same_variables (Some v) q.equations q.targets q.obstacles q.goal q.ended (λ e. absurd cc) (λ _. All-same HasNoLut q.equations [] none (All-nil HasNoLut))
       k.equations_bound k.equations k.targets_bound k.targets k.obstacles_bound k.obstacles k.placed k.kept_aims_nowhere (λ ended. ((k.closed ended).0, λ e. cc))
 
-  rules_next : (name : List ℕ) (e : Expression) → IsEquation (length (names_in q)) e → FitsAfter q (Next name e) → KeepsRules (extended q (Next name e))
+  rules_next : (name : List ℕ) (e : Expression) → IsEquation (length (names_in q)) e → FitsAfter q (Next name e) → KeepsRules (with_statement q (Next name e))
   rules_next name e is fits =
       let capacity : length q.equations < length q.states = fits.0 in
       same_variables q.version (q.equations ++ e ∷ []) q.targets q.obstacles q.goal q.ended k.unbegun (λ v. All-push HasNoLut q.equations e (k.tables v) (fits.2 v))
       (omega (arith, capacity, length-append q.equations (e ∷ []))) (All-push (IsEquation (length (names_in q))) q.equations e k.equations is) k.targets_bound k.targets k.obstacles_bound k.obstacles
       (inr (aimless q k (λ has. omega (arith, capacity, has.1)))) k.kept_aims_nowhere k.closed
 
-  rules_target : (b : StateBox) → IsStateBox (length q.states) b → FitsAfter q (Target b) → KeepsRules (extended q (Target b))
+  rules_target : (b : StateBox) → IsStateBox (length q.states) b → FitsAfter q (Target b) → KeepsRules (with_statement q (Target b))
   rules_target b is fits =
       let capacity : length q.targets < 64 = fits.2 in
       same_variables q.version q.equations (q.targets ++ b ∷ []) q.obstacles q.goal q.ended k.unbegun k.tables
       k.equations_bound k.equations (omega (arith, capacity, length-append q.targets (b ∷ []))) (All-push (IsStateBox (length q.states)) q.targets b k.targets is) k.obstacles_bound k.obstacles
       (inl fits.0) (λ e. (let g : q.goal ≡ None = fits.1 in cc)) k.closed
 
-  rules_obstacle : (b : StateBox) → IsStateBox (length q.states) b → FitsAfter q (Obstacle b) → KeepsRules (extended q (Obstacle b))
+  rules_obstacle : (b : StateBox) → IsStateBox (length q.states) b → FitsAfter q (Obstacle b) → KeepsRules (with_statement q (Obstacle b))
   rules_obstacle b is fits =
       let capacity : length q.obstacles < 64 = fits.2 in
       same_variables q.version q.equations q.targets (q.obstacles ++ b ∷ []) q.goal q.ended k.unbegun k.tables
       k.equations_bound k.equations k.targets_bound k.targets (omega (arith, capacity, length-append q.obstacles (b ∷ []))) (All-push (IsStateBox (length q.states)) q.obstacles b k.obstacles is)
       (inl fits.0) k.kept_aims_nowhere k.closed
 
-  rules_goal : (kind : GoalKind) → FitsAfter q (Goal kind) → KeepsRules (extended q (Goal kind))
+  rules_goal : (kind : GoalKind) → FitsAfter q (Goal kind) → KeepsRules (with_statement q (Goal kind))
   rules_goal kind fits =
       same_variables q.version q.equations q.targets q.obstacles (Some kind) q.ended k.unbegun k.tables
       k.equations_bound k.equations k.targets_bound k.targets k.obstacles_bound k.obstacles
       (inl fits.0) (λ e. (let is : kind ≡ Keep = (let same : kind ≡ Keep = cc in same) in fits.2 is)) (λ ended. (λ e. cc, (k.closed ended).1))
 
-  rules_end : FitsAfter q End → KeepsRules (extended q End)
+  rules_end : FitsAfter q End → KeepsRules (with_statement q End)
   rules_end fits =
       same_variables q.version q.equations q.targets q.obstacles q.goal true k.unbegun k.tables
       k.equations_bound k.equations k.targets_bound k.targets k.obstacles_bound k.obstacles
@@ -229,7 +229,7 @@ pub equation_spelled : (names : List (List ℕ)) (tokens : List (List ℕ)) (e :
 equation_spelled names tokens e t =
     record { literals = subst (HasLiterals (length names)) t.means (tree_literals (length names) t.syntax_tree t.grammatical); nodes = t.nodes; depth = t.depth }
 
-pub rules_extended : (q : PartialPlant) (words : List (List ℕ)) (s : Statement) → KeepsRules q → States (names_in q) (length q.states) words s → FitsAfter q s → KeepsRules (extended q s)
+pub rules_extended : (q : PartialPlant) (words : List (List ℕ)) (s : Statement) → KeepsRules q → States (names_in q) (length q.states) words s → FitsAfter q s → KeepsRules (with_statement q s)
 rules_extended q words (Version v) k says fits = rules_version q k v fits
 rules_extended q words (State s) k says fits = rules_state q s k says.1 fits
 rules_extended q words (Input i) k says fits = rules_input q i k says.1 fits
@@ -251,5 +251,5 @@ pub rules_led : (q : PartialPlant) (lines : List (List ℕ)) (r : PartialPlant) 
 rules_led q [] r k leads = subst KeepsRules (sym leads) k
 rules_led q (line ∷ lines) r k leads = rules_led leads.0 lines r (rules_after q line leads.0 k leads.1) leads.2
 
-pub rules_stated : (q : PartialPlant) (words : List (List ℕ)) (s : Statement) (r : PartialPlant) → KeepsRules q → States (names_in q) (length q.states) words s → FitsAfter q s → r ≡ extended q s → KeepsRules r
+pub rules_stated : (q : PartialPlant) (words : List (List ℕ)) (s : Statement) (r : PartialPlant) → KeepsRules q → States (names_in q) (length q.states) words s → FitsAfter q s → r ≡ with_statement q s → KeepsRules r
 rules_stated q words s r k says fits is = subst KeepsRules (sym is) (rules_extended q words s k says fits)

@@ -10,23 +10,23 @@ use Rattle.successor_box.specs.PairExtents.{IsPairInLane, IsExtentBeforeAt}
 use Rattle.successor_box.specs.inside.Area.{variables_of, no_range}
 
 -- the numbers of the pairs' input vectors
-abbrev pub HoldInputNumbers : Description → List (List ℕ) → List ℕ → Type 0
-HoldInputNumbers p indices inputs = (j c u : ℕ) → j < LANES → IsPairInLane p indices j c u → slice_index_or inputs j 0 ≡ u
+abbrev pub AreInputNumbers : Description → List (List ℕ) → List ℕ → Type 0
+AreInputNumbers p indices inputs = (j c u : ℕ) → j < LANES → IsPairInLane p indices j c u → slice_index_or inputs j 0 ≡ u
 
 -- One column for each variable, with its values at the centres of the pairs' cells.
-pub record HoldCentralValues (p : Description) (indices : List (List ℕ)) (columns : List (List ℤ)) : Type 0 where
+pub record AreCentralValues (p : Description) (indices : List (List ℕ)) (columns : List (List ℤ)) : Type 0 where
   pub long : length columns ≡ variables_of p
   pub each : (j c u : ℕ) → j < LANES → IsPairInLane p indices j c u → (k : ℕ) → k < variables_of p → slice_index_or (slice_index_or columns k []) j (pos 0) ≡ slice_index_or (central_values p c u) k (pos 0)
 
 -- the extents of the pairs' successor boxes along the axis of a state, on the prolonged axis
-abbrev pub HoldExtents : Description → List (List ℕ) → ℕ → List (Option Extent) → Type 0
-HoldExtents p indices state extents = (j c u : ℕ) → j < length extents → IsPairInLane p indices j c u → IsExtentBeforeAt p c u state 0 (slice_index_or extents j None)
+abbrev pub AreExtentsOf : Description → List (List ℕ) → ℕ → List (Option Extent) → Type 0
+AreExtentsOf p indices state extents = (j c u : ℕ) → j < length extents → IsPairInLane p indices j c u → IsExtentBeforeAt p c u state 0 (slice_index_or extents j None)
 
 -- nothing in each lane
 abbrev pub no_column : IntervalColumn
 no_column = record { lo = []; hi = [] }
 
 -- the ranges of the variables over the pairs' cells
-abbrev pub HoldCellAreas : Description → List (List ℕ) → List IntervalColumn → Type 0
-HoldCellAreas p indices columns =
+abbrev pub AreCellAreas : Description → List (List ℕ) → List IntervalColumn → Type 0
+AreCellAreas p indices columns =
     (j c u : ℕ) → j < LANES → IsPairInLane p indices j c u → (k : ℕ) → k < variables_of p → interval_in (slice_index_or columns k no_column) j ≡ slice_index_or (cell_area_of p c u) k no_range

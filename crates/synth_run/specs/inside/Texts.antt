@@ -2,7 +2,7 @@
 use Rattle.std.specs.Prelude.{◌≡◌, ℕ, ◌≤◌, List, Some}
 use Rattle.game_core.specs.declared.game.Row.{Row}
 use Rattle.successor_box.specs.Deviations.{HasNoOverflow, deviations_of}
-use Rattle.controller_table.specs.TableText.{written, table_text}
+use Rattle.controller_table.specs.TableText.{written_version, table_text}
 use Rattle.controller_table.specs.Tables.{RowsFit}
 use Rattle.temporal_games.specs.StayText.{stay_text}
 use Rattle.temporal_games.specs.PatrolText.{patrol_text}
@@ -27,8 +27,8 @@ pub record IsReady (s : Simulation) : Type 0 where
   pub begins : row_at s.table.plant s.table.rows s.start ≡ Some row
 
 abbrev pub bytes_of : Text → List ℕ
-bytes_of (Table solved) = table_text written solved.plant solved.rows
-bytes_of (Upgraded table) = table_text written table.plant table.rows
+bytes_of (Table solved) = table_text written_version solved.plant solved.rows
+bytes_of (Upgraded table) = table_text written_version table.plant table.rows
 bytes_of (Line bytes) = bytes.now
 bytes_of (Trace simulation) = trace_of simulation
 bytes_of (Summary text) = text.items

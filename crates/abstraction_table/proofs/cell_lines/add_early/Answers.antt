@@ -5,7 +5,7 @@ use Rattle.grid_quantiser.specs.ExtentBoxes.{one_cell}
 use Rattle.plant_record.proofs.lemmas.SoundPlants.{sound as sound_plant}
 use Rattle.abstraction_table.specs.declared.terms.TermTable.{TermTable}
 use Rattle.abstraction_table.specs.inside.CellLines.{last_state, StaysAlongLines}
-use Rattle.abstraction_table.specs.inside.Terms.{IsSumAlong, HoldsTermsAlong}
+use Rattle.abstraction_table.specs.inside.Terms.{IsSumAlong, IsTermTableOf}
 use Rattle.abstraction_table.proofs.BoxSums.{sum_start}
 use Rattle.abstraction_table.proofs.LineCells.{brings_in_row}
 use Rattle.abstraction_table.proofs.TermTables.{brings}
@@ -28,7 +28,7 @@ add_terms-requires-clause-cell c =
     let state : ℕ = c.loop-state.state in
     let equation : state < length p.equations = omega (arith, c.loop-state-test.true, c.requires.tables.one_each) in
     let t : TermTable = c.index-tables-state-in-loop-state.result in
-    let held = subst (HoldsTermsAlong p state) (sym c.index-tables-state-in-loop-state.is) (c.requires.tables.each state t equation) in
+    let held = subst (IsTermTableOf p state) (sym c.index-tables-state-in-loop-state.is) (c.requires.tables.each state t equation) in
     (cell.0, one_cell, brings p sound state t cell.0 c.args.indices.now equation held cell.1 cell.2, c.loop-state.invariant.along cell.0 cell.0 cell.1 cell.2 (cell.1, refl))
 
 pub loop-state-preserved : goal.loop-state-preserved
@@ -40,7 +40,7 @@ loop-state-preserved c =
     let lt : state < length c.args.tables.now = c.loop-state-test.true in
     let equation : state < length p.equations = omega (arith, lt, c.requires.tables.one_each) in
     let t : TermTable = c.index-tables-state-in-loop-state.result in
-    let held = subst (HoldsTermsAlong p state) (sym c.index-tables-state-in-loop-state.is) (c.requires.tables.each state t equation) in
+    let held = subst (IsTermTableOf p state) (sym c.index-tables-state-in-loop-state.is) (c.requires.tables.each state t equation) in
     let one : c.index-tables-state.result ≡ t = c.index-tables-state.is ∙ get_or_default c.args.tables.now state c.index-tables-state.result t lt ∙ sym c.index-tables-state-in-loop-state.is in
     let stays : StaysAlongLines (last_state p) state t =
     subst₂ (λ (last : ℕ) (table : TermTable). StaysAlongLines last state table) (ap (λ (n : ℕ). n - 1) c.states-last.ensures) one (c.stays_along_lines.ensures c.if-stays_along_lines.true)

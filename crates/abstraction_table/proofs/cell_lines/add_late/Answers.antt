@@ -3,7 +3,7 @@ use Rattle.std.proofs.lemmas.List.{get_or_default}
 use Rattle.plant_record.proofs.lemmas.SoundPlants.{sound as sound_plant}
 use Rattle.successor_box.specs.SuccessorBoxes.{IsBoxOf}
 use Rattle.abstraction_table.specs.declared.terms.TermTable.{TermTable}
-use Rattle.abstraction_table.specs.inside.Terms.{IsSumAlong, AreSumsAlong, HoldsTermsAlong}
+use Rattle.abstraction_table.specs.inside.Terms.{IsSumAlong, AreSumsAlong, IsTermTableOf}
 use Rattle.abstraction_table.proofs.BoxSums.{ends_fit, sum_all}
 use Rattle.abstraction_table.proofs.PairDigits.{some_vectors}
 use Rattle.abstraction_table.proofs.TermTables.{brings}
@@ -21,7 +21,7 @@ add_state-base-requires-clause-cell c =
     let state : ℕ = c.loop-state.state in
     let equation : state < length p.equations = omega (arith, c.loop-state-test.true, c.requires.tables.one_each) in
     let t : TermTable = c.index-tables-state.result in
-    let held = subst (HoldsTermsAlong p state) (sym c.index-tables-state.is) (c.requires.tables.each state t equation) in
+    let held = subst (IsTermTableOf p state) (sym c.index-tables-state.is) (c.requires.tables.each state t equation) in
     (cell.0, brings p sound state t cell.0 c.args.indices.now equation held cell.1 cell.2, c.loop-state.invariant.along cell.0 cell.1 cell.2 cell.3)
 
 pub loop-state-preserved : goal.loop-state-preserved
@@ -31,7 +31,7 @@ loop-state-preserved c =
     let state : ℕ = c.loop-state.state in
     let equation : state < length p.equations = omega (arith, c.loop-state-test.true, c.requires.tables.one_each) in
     let t : TermTable = c.index-tables-state.result in
-    let held = subst (HoldsTermsAlong p state) (sym c.index-tables-state.is) (c.requires.tables.each state t equation) in
+    let held = subst (IsTermTableOf p state) (sym c.index-tables-state.is) (c.requires.tables.each state t equation) in
     record {
       long = c.add_state-base.ensures.long ∙ c.loop-state.invariant.long;
       within = omega (arith, equation);

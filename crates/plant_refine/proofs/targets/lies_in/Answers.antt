@@ -1,8 +1,9 @@
 use Rattle.std.proofs.Common.{◌<◌, ◌≤◌, length, get_or, pos, ◌<ℤ◌, arith, rules}
 use Rattle.std.proofs.lemmas.Int.{ints}
-use Rattle.plant_refine.proofs.InBoxes.{at_most_all, at_most_each}
+use Rattle.plant_refine.proofs.InBoxes.{at_most_each}
 use Rattle.plant_refine.proofs.targets.lies_in.Goals as goal
 use Rattle.plant_refine.proofs.targets.lies_in.Goals.{then-x-i-via-then-x-i, then-x-i-via-else-x-i+then-high-i}
+use Rattle.grid_quantiser.proofs.AtMost.{at_most_from_each}
 
 pub returns-then-x-i : goal.returns-then-x-i
 returns-then-x-i c =
@@ -28,8 +29,8 @@ returns c =
     let long_x : length axes ≤ length c.args.x.now = omega arith in
     let long_high : length axes ≤ length c.args.high.now = omega arith in (
       λ h. (
-        at_most_all axes c.args.low.now c.args.x.now long_low long_x (λ k lt. (c.loop-i.invariant k (omega (arith, lt, all))).0),
-        at_most_all axes c.args.x.now c.args.high.now long_x long_high (λ k lt. (c.loop-i.invariant k (omega (arith, lt, all))).1),
+        at_most_from_each axes c.args.low.now c.args.x.now long_low long_x (λ k lt. (c.loop-i.invariant k (omega (arith, lt, all))).0),
+        at_most_from_each axes c.args.x.now c.args.high.now long_x long_high (λ k lt. (c.loop-i.invariant k (omega (arith, lt, all))).1),
       ),
       λ h. cc,
     )

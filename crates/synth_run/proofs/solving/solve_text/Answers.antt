@@ -2,7 +2,7 @@ use Rattle.std.proofs.Common.{refl, sym, subst}
 use Rattle.game_core.specs.Game.{Game}
 use Rattle.plant_game.specs.Abstraction.{IsGameOf}
 use Rattle.abstraction_table.specs.Table.{game_of}
-use Rattle.controller_table.specs.TableText.{written, table_text}
+use Rattle.controller_table.specs.TableText.{written_version, table_text}
 use Rattle.plant_refine.proofs.SolutionTables.{tables_control}
 use Rattle.synth_run.proofs.Leaving.{left, solved_on}
 use Rattle.synth_run.proofs.Tables.{is_solution, solution_fits}
@@ -28,7 +28,7 @@ returns-clause-table g c =
         solution = solution;
         fitting = fits;
         text_is = refl;
-        controls = tables_control (table_text written p rows) p rows (record { limits = accepted.limits; fitting = fits; version = written; text = refl }) solution;
+        controls = tables_control (table_text written_version p rows) p rows (record { limits = accepted.limits; fitting = fits; version = written_version; text = refl }) solution;
       },
     )
 

@@ -5,7 +5,7 @@ use Rattle.plant_writing.specs.CanonicalText.{text_of}
 use Rattle.row_runs.specs.declared.row_format.RowFormat.{RowFormat}
 use Rattle.row_runs.specs.RunText.{run_lines, count_line}
 use Rattle.row_runs.proofs.FramedRows.{framed_lines}
-use Rattle.controller_table.specs.TableText.{written, format_of, version_line}
+use Rattle.controller_table.specs.TableText.{written_version, format_of, version_line}
 use Rattle.controller_table.proofs.table_writer.TableWriter.new.Goals as goal
 
 pub returns : goal.returns
@@ -15,4 +15,4 @@ returns c =
     let words = c.format_of.ensures ∙ ap (λ (goal : GoalKind). format_of goal) c.goal.ensures in
     let lines = c.counted-lines.ensures ∙ ap (λ (w : RowFormat). concat (count_line (length (run_lines w rows)) ∷ run_lines w rows)) words in
     let front = c.in_ok-write_plant.ensures.written ∙ ap (λ (x : List ℕ). x ++ text_of p) c.in_ok-front.ensures.items in
-    c.new.ensures ∙ framed_lines (version_line written ++ text_of p) _ _ (count_line (length (run_lines (format_of p.goal) rows)) ∷ run_lines (format_of p.goal) rows) front lines
+    c.new.ensures ∙ framed_lines (version_line written_version ++ text_of p) _ _ (count_line (length (run_lines (format_of p.goal) rows)) ∷ run_lines (format_of p.goal) rows) front lines
