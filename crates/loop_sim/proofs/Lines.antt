@@ -12,7 +12,7 @@ use Rattle.controller_table.specs.TableText.{format_of}
 use Rattle.loop_sim.specs.declared.sim_line.SimLine.TheVariants.{At, Lost}
 use Rattle.loop_sim.specs.TraceText.{line_text, state_words}
 use Rattle.loop_sim.specs.inside.StateText.{state_text}
-use Rattle.base.proofs.Words.{joined_words}
+use Rattle.base.proofs.Words.{spaced, joined_words}
 
 in_order : (a b r i space feed : List ℕ) → a ++ (b ++ (space ++ (r ++ (space ++ (i ++ feed))))) ≡ (a ++ (b ++ (space ++ (r ++ (space ++ (i ++ [])))))) ++ feed
 in_order a b r i space feed = simp (append_assoc, append-nil)

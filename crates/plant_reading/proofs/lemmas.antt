@@ -1,12 +1,13 @@
 -- Lemmas that several proofs use.
 pub mod Booleans
 pub mod BoxEnds
+pub mod CurvePoints
+pub mod ExpressionLaws
 pub mod ExpressionsRead
 pub mod FirstTokens
 pub mod InputValues
-pub mod ItemSpelling
-pub mod ItemsOfTrees
 pub mod KeywordsDiffer
+pub mod KindSpelling
 pub mod Literals
 pub mod NumberBytes
 pub mod NumberWords
@@ -14,11 +15,14 @@ pub mod OneScan
 pub mod OneStatement
 pub mod Positions
 pub mod PutTogether
+pub mod ReadIsSpelled
+pub mod ReadParts
+pub mod ReadingSteps
 pub mod RefusalsPassOn
-pub mod Stacks
+pub mod RisingPoints
+pub mod SpelledIsRead
 pub mod StatementLaws
-pub mod TablePoints
-pub mod TermsAreTrees
-pub mod TreesAreTaken
+pub mod TreeKinds
+pub mod TreeLiterals
 pub mod WhereCut
 pub mod WordsSpellOne

@@ -1,9 +1,9 @@
 -- What only private clauses and proofs name.
-pub mod ExpressionItems
-pub mod ExpressionMachine
+pub mod ExpressionReading
 pub mod Keywords
+pub mod KindTrees
 pub mod LineReaders
 pub mod LineTokens
 pub mod StatementLaws
-pub mod TokenReaders
+pub mod TokenKinds
 pub mod WordReaders

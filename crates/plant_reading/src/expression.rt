@@ -1,297 +1,333 @@
-//! Expressions, read from left to right.
+//! Expressions by recursive descent: a sum is terms, a term is factors, and a factor is a leaf or has brackets.
+//! Numbers and variables are tested here too, so that nothing is asked of the tokens.
 
-ghost use Rattle.std.specs.Prelude.{◌≡◌, ◌≢◌, ◌⊎◌, ◌↔◌, ◌≤◌, [], length, flat_map, IsTrue, IfOk, OnOk, SomeIff, Some, None};
+ghost use Rattle.std.specs.Prelude.{◌≡◌, ◌≢◌, ◌≤◌, ◌-◌, length, flat_map, IfOk, Err};
 ghost use Rattle.std.specs.List.{All, AllPairs};
-ghost use Rattle.std.specs.Option.{option_map};
 ghost use Rattle.fixed_expr.specs.Expression.{Expression, expression_of};
 ghost use Rattle.plant_record.specs.Names.{IsName};
+ghost use Rattle.plant_record.specs.Parts.{variable_names};
 ghost use Rattle.plant_reading.specs.Words.{words_of};
 ghost use Rattle.plant_reading.specs.Tokens.{tokens_of};
-ghost use Rattle.plant_record.specs.Equations.{depth_of};
 ghost use Rattle.plant_reading.specs.SyntaxTrees.{AreTokensOf};
-ghost use Rattle.plant_reading.specs.inside.ExpressionItems.{nodes_made, open_brackets_after};
-ghost use Rattle.plant_reading.specs.inside.TokenReaders.{Gives};
-ghost use Rattle.plant_record.specs.Parts.{variable_names};
-ghost use Rattle.plant_reading.specs.inside.ExpressionMachine.{pendings_of, machine_of, close_bracket, take_points, take_comma, take_operand, take_after_term, take_after_sum, stepped, IsEnd, counts_after, AreWithinLimits};
-ghost use Rattle.base.specs.declared.limits.TheConstants.{BRACKETS_LIMIT, VARIABLES_LIMIT};
+ghost use Rattle.plant_reading.specs.inside.ExpressionReading.{Gives, Inside, Signed, RestOfSum, RestOfTerm, after_open, after_close, after_comma, bracketed, pair_of, factor_of, after_term, term_of, after_sum, sum_of, read_at, whole};
+ghost use Rattle.base.specs.declared.limits.TheConstants.{VARIABLES_LIMIT};
 
-use crate::frames::{Frame, Stack};
-use crate::items::{Bracket, Item, next_item};
 use crate::line_fault::LineFault;
-use base::limits::{BRACKETS_LIMIT, DEPTH_LIMIT, NODES_LIMIT};
-use fixed_expr::{Curve, Expr};
+use crate::operand::Operand;
+use crate::points::{curve_in, divisor_in, literal_in};
+use crate::token_kind::{TokenKind, kinds_in};
+use base::limits::{BRACKETS_LIMIT, NODES_LIMIT};
+use fixed_expr::Expr;
 use plant_record::Variables;
 use std::alloc::Global;
 
-/// How many nodes there are, and how many open brackets.
+/// How deep calls may be nested: one for each node and each open bracket.
+const CALLS_LIMIT: u32 = NODES_LIMIT + BRACKETS_LIMIT;
+
+/// What an expression may have.
 #[derive(Clone, Copy)]
-struct Counts {
-    nodes: u32,
+struct Room {
+    /// How many variables there are.
+    variables: u32,
+    /// How deep calls may be nested.
+    calls: u32,
+    /// How many brackets may be opened.
     brackets: u32,
 }
 
-fn nodes_made(item: &Item) -> u32
-    ensures { result ≡ nodes_made item.now }
-{
-    match item {
-        Item::Open(Bracket::Plain) | Item::Comma | Item::Close | Item::Points(_) => 0,
-        _ => 1,
+impl Room {
+    /// One nested call less.
+    fn below(self) -> Room
+        requires { 1 ≤ self.calls }
+        ensures { result ≡ record { variables = self.variables; calls = self.calls - 1; brackets = self.brackets } }
+    {
+        Room {
+            calls: self.calls - 1,
+            ..self
+        }
+    }
+
+    /// One bracket less.
+    fn inside(self) -> Room
+        requires { 1 ≤ self.brackets }
+        ensures { result ≡ record { variables = self.variables; calls = self.calls; brackets = self.brackets - 1 } }
+    {
+        Room {
+            brackets: self.brackets - 1,
+            ..self
+        }
     }
 }
 
-fn open_brackets_after(open_before: u32, item: &Item) -> u32
-    requires { open_before ≤ BRACKETS_LIMIT }
-    ensures { result ≡ open_brackets_after open_before item.now }
+fn after_open(tokens: &[TokenKind]) -> Result<&[TokenKind], LineFault>
+    ensures { Gives (λ x. x.now) result (after_open tokens.now) }
 {
-    match item {
-        Item::Open(_) => open_before + 1,
-        Item::Close | Item::Points(_) => open_before.saturating_sub(1),
-        _ => open_before,
+    match tokens {
+        [TokenKind::Open, rest @ ..] => Ok(rest),
+        _ => Err(LineFault::Malformed),
     }
 }
 
-/// None where the item exceeds a limit.
-fn counts_after(counts: Counts, item: &Item) -> Option<Counts>
-    requires { AreWithinLimits counts }
-    ensures { SomeIff result (AreWithinLimits (counts_after counts item.now)) (counts_after counts item.now) }
+fn after_close(tokens: &[TokenKind]) -> Result<&[TokenKind], LineFault>
+    ensures { Gives (λ x. x.now) result (after_close tokens.now) }
 {
-    let nodes = counts.nodes + nodes_made(item);
-    let brackets = open_brackets_after(counts.brackets, item);
-    if nodes > NODES_LIMIT || brackets > BRACKETS_LIMIT {
-        return None;
+    match tokens {
+        [TokenKind::Close, rest @ ..] => Ok(rest),
+        _ => Err(LineFault::Malformed),
     }
-    Some(Counts { nodes, brackets })
 }
 
-/// Takes the bracket that closes after a sum. Returns what it makes of the sum.
-fn close_bracket(alloc: Global, stack: &mut Stack, sum: Box<Expr>) -> Result<Box<Expr>, LineFault>
-    ensures { Gives (λ e. (expression_of e.value, pendings_of stack.new)) result (close_bracket (expression_of sum.value) (pendings_of stack.old)) }
+fn after_comma(tokens: &[TokenKind]) -> Result<&[TokenKind], LineFault>
+    ensures { Gives (λ x. x.now) result (after_comma tokens.now) }
 {
-    let Some(frame) = stack.pop() else {
+    match tokens {
+        [TokenKind::Comma, rest @ ..] => Ok(rest),
+        _ => Err(LineFault::Malformed),
+    }
+}
+
+/// A sum at the front, and the tokens after it.
+#[cycle(descent)]
+#[tactic(auto, unfolding(crate::specs::inside::ExpressionReading::sum_of))]
+fn sum_in(
+    alloc: Global,
+    room: Room,
+    tokens: &[TokenKind],
+) -> Result<(Operand, &[TokenKind]), LineFault>
+    ensures { Gives (λ x. (expression_of x.0, x.1.now)) result (sum_of room.variables (read_at room.variables room.calls) room.brackets tokens.now) }
+{
+    let (term, rest) = term_in(alloc, room, tokens)?;
+    after_sum(alloc, room, term, rest)
+}
+
+/// What stands after a sum goes on with it.
+#[cycle(descent)]
+#[tactic(auto, unfolding(crate::specs::inside::ExpressionReading::after_sum))]
+fn after_sum(
+    alloc: Global,
+    room: Room,
+    sum: Operand,
+    tokens: &[TokenKind],
+) -> Result<(Operand, &[TokenKind]), LineFault>
+    ensures { Gives (λ x. (expression_of x.0, x.1.now)) result (after_sum room.variables (read_at room.variables room.calls) room.brackets (expression_of sum) tokens.now) }
+{
+    match tokens {
+        [TokenKind::Plus, rest @ ..] => {
+            let (term, rest) = term_in(alloc, room, rest)?;
+            rest_of_sum(alloc, room, sum.plus(alloc, term)?, rest)
+        }
+        [TokenKind::Minus, rest @ ..] => {
+            let (term, rest) = term_in(alloc, room, rest)?;
+            rest_of_sum(alloc, room, sum.less(alloc, term)?, rest)
+        }
+        _ => Ok((sum, tokens)),
+    }
+}
+
+/// The same by a nested call.
+#[cycle(descent)]
+#[tactic(auto, unfolding(crate::specs::inside::ExpressionReading::step))]
+fn rest_of_sum(
+    alloc: Global,
+    room: Room,
+    sum: Operand,
+    tokens: &[TokenKind],
+) -> Result<(Operand, &[TokenKind]), LineFault>
+    ensures { Gives (λ x. (expression_of x.0, x.1.now)) result (read_at room.variables room.calls (RestOfSum room.brackets (expression_of sum) tokens.now)) }
+{
+    if room.calls == 0 {
         return Err(LineFault::Malformed);
+    }
+    after_sum(alloc, room.below(), sum, tokens)
+}
+
+/// A term at the front.
+#[cycle(descent)]
+#[tactic(auto, unfolding(crate::specs::inside::ExpressionReading::term_of))]
+fn term_in(
+    alloc: Global,
+    room: Room,
+    tokens: &[TokenKind],
+) -> Result<(Operand, &[TokenKind]), LineFault>
+    ensures { Gives (λ x. (expression_of x.0, x.1.now)) result (term_of room.variables (read_at room.variables room.calls) room.brackets tokens.now) }
+{
+    let (factor, rest) = factor_in(alloc, room, tokens)?;
+    after_term(alloc, room, factor, rest)
+}
+
+/// What stands after a term goes on with it.
+#[cycle(descent)]
+#[tactic(auto, unfolding(crate::specs::inside::ExpressionReading::after_term))]
+fn after_term(
+    alloc: Global,
+    room: Room,
+    term: Operand,
+    tokens: &[TokenKind],
+) -> Result<(Operand, &[TokenKind]), LineFault>
+    ensures { Gives (λ x. (expression_of x.0, x.1.now)) result (after_term room.variables (read_at room.variables room.calls) room.brackets (expression_of term) tokens.now) }
+{
+    match tokens {
+        [TokenKind::Times, rest @ ..] => {
+            let (factor, rest) = factor_in(alloc, room, rest)?;
+            rest_of_term(alloc, room, term.times(alloc, factor)?, rest)
+        }
+        [TokenKind::Over, rest @ ..] => {
+            let (k, rest) = divisor_in(rest)?;
+            rest_of_term(alloc, room, term.over(alloc, k)?, rest)
+        }
+        _ => Ok((term, tokens)),
+    }
+}
+
+/// The same by a nested call.
+#[cycle(descent)]
+#[tactic(auto, unfolding(crate::specs::inside::ExpressionReading::step))]
+fn rest_of_term(
+    alloc: Global,
+    room: Room,
+    term: Operand,
+    tokens: &[TokenKind],
+) -> Result<(Operand, &[TokenKind]), LineFault>
+    ensures { Gives (λ x. (expression_of x.0, x.1.now)) result (read_at room.variables room.calls (RestOfTerm room.brackets (expression_of term) tokens.now)) }
+{
+    if room.calls == 0 {
+        return Err(LineFault::Malformed);
+    }
+    after_term(alloc, room.below(), term, tokens)
+}
+
+/// A factor at the front.
+#[cycle(descent)]
+#[tactic(auto, unfolding(crate::specs::inside::ExpressionReading::factor_of, crate::specs::inside::ExpressionReading::literal_at))]
+fn factor_in(
+    alloc: Global,
+    room: Room,
+    tokens: &[TokenKind],
+) -> Result<(Operand, &[TokenKind]), LineFault>
+    ensures { Gives (λ x. (expression_of x.0, x.1.now)) result (factor_of room.variables (read_at room.variables room.calls) room.brackets tokens.now) }
+{
+    match tokens {
+        [TokenKind::Number(_), ..] => {
+            let (k, rest) = literal_in(tokens)?;
+            Ok((Operand::number(alloc, k)?, rest))
+        }
+        [TokenKind::Variable(i), rest @ ..] if *i < room.variables => Ok((
+            Operand::variable(alloc, *i)?,
+            rest,
+        )),
+        [TokenKind::Minus, rest @ ..] => {
+            let (factor, rest) = signed(alloc, room, rest)?;
+            Ok((factor.negated(alloc)?, rest))
+        }
+        [TokenKind::Open, rest @ ..] => bracketed(alloc, room, rest),
+        [TokenKind::Min, rest @ ..] => {
+            let (a, b, rest) = pair_in(alloc, room, rest)?;
+            Ok((a.least(alloc, b)?, rest))
+        }
+        [TokenKind::Max, rest @ ..] => {
+            let (a, b, rest) = pair_in(alloc, room, rest)?;
+            Ok((a.greatest(alloc, b)?, rest))
+        }
+        [TokenKind::Abs, rest @ ..] => {
+            let (sum, rest) = bracketed(alloc, room, after_open(rest)?)?;
+            Ok((sum.size(alloc)?, rest))
+        }
+        [TokenKind::Lut, rest @ ..] => {
+            let (sum, rest) = inside(alloc, room, after_open(rest)?)?;
+            let (curve, rest) = curve_in(alloc, rest)?;
+            Ok((sum.looked_up(alloc, curve)?, rest))
+        }
+        _ => Err(LineFault::Malformed),
+    }
+}
+
+/// A factor after a sign, by a nested call.
+#[cycle(descent)]
+#[tactic(auto, unfolding(crate::specs::inside::ExpressionReading::step))]
+fn signed(
+    alloc: Global,
+    room: Room,
+    tokens: &[TokenKind],
+) -> Result<(Operand, &[TokenKind]), LineFault>
+    ensures { Gives (λ x. (expression_of x.0, x.1.now)) result (read_at room.variables room.calls (Signed room.brackets tokens.now)) }
+{
+    if room.calls == 0 {
+        return Err(LineFault::Malformed);
+    }
+    factor_in(alloc, room.below(), tokens)
+}
+
+/// A sum after a bracket that was opened, by a nested call.
+#[cycle(descent)]
+#[tactic(auto, unfolding(crate::specs::inside::ExpressionReading::step))]
+fn inside(
+    alloc: Global,
+    room: Room,
+    tokens: &[TokenKind],
+) -> Result<(Operand, &[TokenKind]), LineFault>
+    ensures { Gives (λ x. (expression_of x.0, x.1.now)) result (read_at room.variables room.calls (Inside room.brackets tokens.now)) }
+{
+    if room.calls == 0 {
+        return Err(LineFault::Malformed);
+    }
+    if room.brackets == 0 {
+        return Err(LineFault::Malformed);
+    }
+    sum_in(alloc, room.below().inside(), tokens)
+}
+
+/// The same with the bracket that closes.
+#[cycle(descent)]
+#[tactic(auto, unfolding(crate::specs::inside::ExpressionReading::bracketed))]
+fn bracketed(
+    alloc: Global,
+    room: Room,
+    tokens: &[TokenKind],
+) -> Result<(Operand, &[TokenKind]), LineFault>
+    ensures { Gives (λ x. (expression_of x.0, x.1.now)) result (bracketed (read_at room.variables room.calls) room.brackets tokens.now) }
+{
+    let (sum, rest) = inside(alloc, room, tokens)?;
+    Ok((sum, after_close(rest)?))
+}
+
+/// Two sums in brackets.
+#[cycle(descent)]
+#[tactic(auto, unfolding(crate::specs::inside::ExpressionReading::pair_of))]
+fn pair_in(
+    alloc: Global,
+    room: Room,
+    tokens: &[TokenKind],
+) -> Result<(Operand, Operand, &[TokenKind]), LineFault>
+    ensures { Gives (λ x. (expression_of x.0, expression_of x.1, x.2.now)) result (pair_of (read_at room.variables room.calls) room.brackets tokens.now) }
+{
+    let (a, rest) = inside(alloc, room, after_open(tokens)?)?;
+    let (b, rest) = bracketed(alloc, room, after_comma(rest)?)?;
+    Ok((a, b, rest))
+}
+
+/// All tokens as one sum.
+#[tactic(auto, unfolding(crate::specs::inside::ExpressionReading::whole))]
+fn whole_sum(alloc: Global, variables: u32, tokens: &[TokenKind]) -> Result<Expr, LineFault>
+    ensures { Gives expression_of result (whole variables tokens.now) }
+{
+    let room = Room {
+        variables,
+        calls: CALLS_LIMIT,
+        brackets: BRACKETS_LIMIT,
     };
-    match frame {
-        Frame::Opened(Bracket::Plain) => Ok(sum),
-        Frame::Opened(Bracket::Size) => Ok(Box::new(alloc, Expr::Abs(sum))?),
-        Frame::LeastOf(a) => Ok(Box::new(alloc, Expr::Min(a, sum))?),
-        Frame::GreatestOf(a) => Ok(Box::new(alloc, Expr::Max(a, sum))?),
-        _ => Err(LineFault::Malformed),
+    let (sum, rest) = sum_in(alloc, room, tokens)?;
+    if !rest.is_empty() {
+        return Err(LineFault::Malformed);
     }
+    Ok(sum.into_expr())
 }
 
-/// Takes the points of a table after a sum. Returns what they make of the sum.
-#[tactic(auto, unfolding(crate::specs::inside::ExpressionMachine::take_points))]
-fn take_points(
-    alloc: Global,
-    stack: &mut Stack,
-    sum: Box<Expr>,
-    curve: Curve,
-) -> Result<Box<Expr>, LineFault>
-    ensures { Gives (λ e. (expression_of e.value, pendings_of stack.new)) result (take_points curve (expression_of sum.value) (pendings_of stack.old)) }
+/// How many variables there are.
+fn count_of(variables: &Variables) -> u32
+    requires few { length (variable_names variables.now) ≤ VARIABLES_LIMIT }
+    ensures { result ≡ length (variable_names variables.now) }
 {
-    match stack.pop_bracket() {
-        Some(Bracket::Table) => Ok(Box::new(alloc, Expr::Lut(sum, curve))?),
-        _ => Err(LineFault::Malformed),
-    }
-}
-
-/// Takes the comma of `min` or `max` after the first of its two sums.
-fn take_comma(stack: &mut Stack, sum: Box<Expr>) -> Result<(), LineFault>
-    ensures { Gives (λ _. pendings_of stack.new) result (take_comma (expression_of sum.value) (pendings_of stack.old)) }
-{
-    let frame = match stack.pop_bracket() {
-        Some(Bracket::Least) => Frame::LeastOf(sum),
-        Some(Bracket::Greatest) => Frame::GreatestOf(sum),
-        _ => return Err(LineFault::Malformed),
-    };
-    Ok(stack.push(frame)?)
-}
-
-/// Takes an item where an operand may begin. Returns the term that it ends, if any.
-#[tactic(auto, unfolding(crate::specs::inside::ExpressionMachine::take_operand))]
-fn take_operand(
-    alloc: Global,
-    stack: &mut Stack,
-    item: Item,
-) -> Result<Option<Box<Expr>>, LineFault>
-    ensures { Gives (λ t. (option_map (λ e. expression_of e.value) t, pendings_of stack.new)) result (take_operand item (pendings_of stack.old)) }
-{
-    match item {
-        Item::Number(k) => {
-            let number = Box::new(alloc, Expr::Num(i128::from(k)))?;
-            Ok(Some(stack.end_factor(alloc, number)?))
-        }
-        Item::Variable(i) => {
-            let variable = Box::new(alloc, Expr::Var(i))?;
-            Ok(Some(stack.end_factor(alloc, variable)?))
-        }
-        Item::Minus => {
-            stack.push(Frame::Sign)?;
-            Ok(None)
-        }
-        Item::Open(bracket) => {
-            stack.push(Frame::Opened(bracket))?;
-            Ok(None)
-        }
-        _ => Err(LineFault::Malformed),
-    }
-}
-
-/// Takes an item after a term.
-#[tactic(auto, unfolding(crate::specs::inside::ExpressionMachine::take_after_term))]
-fn take_after_term(
-    alloc: Global,
-    stack: &mut Stack,
-    term: Box<Expr>,
-    item: Item,
-) -> Result<Option<Box<Expr>>, LineFault>
-    ensures { Gives (λ t. (option_map (λ e. expression_of e.value) t, pendings_of stack.new)) result (take_after_term item (expression_of term.value) (pendings_of stack.old)) }
-{
-    match item {
-        Item::Times => {
-            stack.push(Frame::Multiply(term))?;
-            Ok(None)
-        }
-        Item::Over(k) => Ok(Some(Box::new(alloc, Expr::Div(term, i128::from(k)))?)),
-        other => {
-            let sum = stack.end_term(alloc, term)?;
-            take_after_sum(alloc, stack, sum, other)
-        }
-    }
-}
-
-/// Takes an item after a sum.
-#[tactic(auto, unfolding(crate::specs::inside::ExpressionMachine::take_after_sum))]
-fn take_after_sum(
-    alloc: Global,
-    stack: &mut Stack,
-    sum: Box<Expr>,
-    item: Item,
-) -> Result<Option<Box<Expr>>, LineFault>
-    ensures { Gives (λ t. (option_map (λ e. expression_of e.value) t, pendings_of stack.new)) result (take_after_sum item (expression_of sum.value) (pendings_of stack.old)) }
-{
-    match item {
-        Item::Plus => {
-            stack.push(Frame::AddTo(sum))?;
-            Ok(None)
-        }
-        Item::Minus => {
-            stack.push(Frame::TakeFrom(sum))?;
-            Ok(None)
-        }
-        Item::Comma => {
-            take_comma(stack, sum)?;
-            Ok(None)
-        }
-        Item::Close => {
-            let factor = close_bracket(alloc, stack, sum)?;
-            Ok(Some(stack.end_factor(alloc, factor)?))
-        }
-        Item::Points(curve) => {
-            let factor = take_points(alloc, stack, sum, curve)?;
-            Ok(Some(stack.end_factor(alloc, factor)?))
-        }
-        _ => Err(LineFault::Malformed),
-    }
-}
-
-/// An expression of which some items are read.
-#[derive(Drop)]
-struct ExpressionReader {
-    stack: Stack,
-    term: Option<Box<Expr>>,
-    counts: Counts,
-}
-
-impl ExpressionReader {
-    fn new(alloc: Global) -> ExpressionReader
-        ensures machine { machine_of result ≡ (None, []) }
-        ensures counts { result.counts ≡ record { nodes = 0; brackets = 0 } }
-    {
-        ExpressionReader {
-            stack: Stack::new(alloc),
-            term: None,
-            counts: Counts {
-                nodes: 0,
-                brackets: 0,
-            },
-        }
-    }
-
-    fn take(&mut self, alloc: Global, item: Item) -> Result<(), LineFault>
-        requires { AreWithinLimits self.old.counts }
-        ensures machine { OnOk result (stepped item (machine_of self.old).0 (machine_of self.old).1 ≡ Some (machine_of self.new)) }
-        ensures counts { OnOk result (self.new.counts ≡ counts_after self.old.counts item) }
-        ensures within { OnOk result (AreWithinLimits self.new.counts) }
-        ensures refused { result ≡ Err LineFault.Malformed → (stepped item (machine_of self.old).0 (machine_of self.old).1 ≡ None) ⊎ (AreWithinLimits (counts_after self.old.counts item) → ⊥) }
-    {
-        let Some(counts) = counts_after(self.counts, &item) else {
-            return Err(LineFault::Malformed);
-        };
-        self.counts = counts;
-        self.term = match self.term.take() {
-            Some(term) => take_after_term(alloc, &mut self.stack, term, item)?,
-            None => take_operand(alloc, &mut self.stack, item)?,
-        };
-        Ok(())
-    }
-
-    /// Takes all items of an expression.
-    fn take_all(
-        &mut self,
-        alloc: Global,
-        variables: &Variables,
-        bytes: &[u8],
-    ) -> Result<(), LineFault>
-        requires few { length (variable_names variables.now) ≤ VARIABLES_LIMIT }
-        requires differ { AllPairs (λ a b. a ≢ b) (variable_names variables.now) }
-        requires names { All IsName (variable_names variables.now) }
-        requires machine { machine_of self.old ≡ (None, []) }
-        requires counts { self.old.counts ≡ record { nodes = 0; brackets = 0 } }
-        ensures taken { OnOk result ((e : Expression) → IsEnd (machine_of self.new) e ↔ AreTokensOf (variable_names variables.now) (flat_map tokens_of (words_of bytes.now)) e) }
-        ensures refused { result ≡ Err LineFault.Malformed → (e : Expression) → AreTokensOf (variable_names variables.now) (flat_map tokens_of (words_of bytes.now)) e → ⊥ }
-    {
-        let mut rest = bytes;
-        while let Some((item, after)) = next_item(alloc, variables, rest)? {
-            self.take(alloc, item)?;
-            rest = after;
-        }
-        Ok(())
-    }
-
-    fn end(self, alloc: Global) -> Result<Expr, LineFault>
-        ensures whole { IfOk result (λ e. IsEnd (machine_of self) (expression_of e)) }
-        ensures refused { result ≡ Err LineFault.Malformed → (e : Expression) → IsEnd (machine_of self) e → ⊥ }
-    {
-        let ExpressionReader {
-            mut stack,
-            term,
-            ..
-        } = self;
-        let Some(term) = term else {
-            return Err(LineFault::Malformed);
-        };
-        let e = stack.end_term(alloc, term)?;
-        if !stack.is_empty() || !is_within(&e, DEPTH_LIMIT) {
-            return Err(LineFault::Malformed);
-        }
-        Ok(Box::into_inner(e))
-    }
-}
-
-/// Whether an expression has at most this depth.
-fn is_within(e: &Expr, limit: u32) -> bool
-    ensures { IsTrue result ↔ (depth_of (expression_of e.now) ≤ limit) }
-{
-    if limit == 0 {
-        return false;
-    }
-    match e {
-        Expr::Num(_) | Expr::Var(_) => true,
-        Expr::Neg(a) | Expr::Div(a, _) | Expr::Abs(a) | Expr::Lut(a, _) => is_within(a, limit - 1),
-        Expr::Add(a, b) | Expr::Sub(a, b) | Expr::Mul(a, b) | Expr::Min(a, b) | Expr::Max(a, b) =>
-            is_within(a, limit - 1) && is_within(b, limit - 1),
-    }
+    (variables.states.len() + variables.inputs.len() + variables.noises.len()) as u32
 }
 
 /// Reads an expression over the variables.
@@ -302,7 +338,6 @@ pub fn expression_in(alloc: Global, variables: &Variables, rest: &[u8]) -> Resul
     ensures found { IfOk result (λ e. AreTokensOf (variable_names variables.now) (flat_map tokens_of (words_of rest.now)) (expression_of e)) }
     ensures refused { result ≡ Err LineFault.Malformed → (e : Expression) → AreTokensOf (variable_names variables.now) (flat_map tokens_of (words_of rest.now)) e → ⊥ }
 {
-    let mut reader = ExpressionReader::new(alloc);
-    reader.take_all(alloc, variables, rest)?;
-    reader.end(alloc)
+    let kinds = kinds_in(alloc, variables, rest)?;
+    whole_sum(alloc, count_of(variables), &kinds)
 }

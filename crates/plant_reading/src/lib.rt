@@ -6,13 +6,13 @@
 
 mod declarations;
 mod expression;
-mod frames;
-mod items;
+pub mod laws;
 mod line_fault;
-mod literals;
+mod operand;
+mod points;
 mod state_boxes;
 mod statements;
-mod tables;
+mod token_kind;
 mod words;
 
 pub use line_fault::LineFault;

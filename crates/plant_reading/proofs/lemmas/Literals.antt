@@ -1,18 +1,18 @@
 -- A number that is read is spelled so, and what is spelled so is read.
-use Rattle.std.proofs.Common.{◌≡◌, ◌≢◌, ℕ, ◌^◌, ◌<◌, ◌≤◌, Bool, true, false, cond, eqb, ltb, List, get_or, Option, Some, None, refl, sym, ap, subst, ◌∙◌, arith, ◌⊎◌, ◌&&◌, inl, inr}
+use Rattle.std.proofs.Common.{◌≡◌, ◌≢◌, ℕ, ◌^◌, ◌<◌, Bool, true, false, cond, ltb, List, get_or, Option, Some, None, refl, sym, ap, subst, ◌∙◌, arith, ◌⊎◌, ◌&&◌, inl, inr}
 use Rattle.std.specs.Prelude.{ℤ, pos, negsuc, nat_abs, ◌≤ℤ◌}
 use Rattle.std.specs.Option.{option_map}
 use Rattle.std.specs.Str.{bytes_eq}
 use Rattle.std.specs.Str.Parse.{digits_value}
 use Rattle.std.specs.Fmt.{decimal, signed_decimal}
 use Rattle.std.proofs.lemmas.Int.{ints}
-use Rattle.std.proofs.lemmas.Bool.{ltb-true, lt-ltb, and_parts, false_from_ne_true, ne_eqb}
+use Rattle.std.proofs.lemmas.Bool.{ltb-true, lt-ltb, and_parts, false_from_ne_true}
 use Rattle.std.proofs.lemmas.Fmt.{decimal_is_IsNumeral, decimal_nonempty}
 use Rattle.std.proofs.lemmas.Slice.Eq.{bytes_eq-Decides}
 use Rattle.plant_record.specs.Names.{is_digit}
 use Rattle.plant_record.specs.Numbers.{IsLiteral}
 use Rattle.plant_reading.specs.Words.{IsSpellingOf}
-use Rattle.plant_reading.specs.inside.TokenReaders.{or_else, ◌>>=◌, literal_of}
+use Rattle.plant_reading.specs.inside.TokenKinds.{literal_of}
 use Rattle.plant_reading.proofs.lemmas.NumberBytes.{decimal_digits, first_digit}
 use Rattle.plant_reading.proofs.lemmas.NumberWords.{one_number}
 
@@ -35,17 +35,9 @@ pub if_some : {A : Type 0} → (b : Bool) (x : A) (r : Option A) (y : A) → con
 if_some true x r y e = inl (refl, cc)
 if_some false x r y e = inr e
 
-pub or_else_some : {A B : Type 0} → (o : Option A) (d : Option B) (f : A → Option B) (y : B) → or_else o d f ≡ Some y → (d ≡ Some y) ⊎ ((a : A) × (o ≡ Some a) × (f a ≡ Some y))
-or_else_some None d f y e = inl e
-or_else_some (Some a) d f y e = inr (a, refl, e)
-
 pub map_some : {A B : Type 0} → (f : A → B) (o : Option A) (y : B) → option_map f o ≡ Some y → (a : A) × (o ≡ Some a) × (f a ≡ y)
 map_some f None y e = absurd cc
 map_some f (Some a) y e = (a, refl, cc)
-
-pub then_some : {A B : Type 0} → (o : Option A) (f : A → Option B) (y : B) → (o >>= f) ≡ Some y → (a : A) × (o ≡ Some a) × (f a ≡ Some y)
-then_some None f y e = absurd cc
-then_some (Some a) f y e = (a, refl, e)
 
 -- ---- literals
 
@@ -68,7 +60,7 @@ literal_takes w k e =
       | inr none ↦ absurd cc
     ]
 
-pub no_literal : (w : List ℕ) → ((k : ℕ) → k < 10 ^ 18 → w ≡ decimal k → ⊥) → literal_of w ≡ None
+no_literal : (w : List ℕ) → ((k : ℕ) → k < 10 ^ 18 → w ≡ decimal k → ⊥) → literal_of w ≡ None
 no_literal w h = none_if (literal_of w) (λ k e. let t = literal_takes w k e in h k t.0 t.1)
   where
     none_if : (o : Option ℕ) → ((k : ℕ) → o ≡ Some k → ⊥) → o ≡ None
@@ -89,14 +81,3 @@ below_zero w z spelled below = no_literal w (λ k lt e. let same : z ≡ pos k =
 
 pub digit_first : (k : ℕ) → k < 10 ^ 18 → is_digit (get_or (decimal k) 0 0) ≡ true
 digit_first k lt = first_digit (decimal k) (decimal_digits k (omega arith)) (decimal_nonempty k (omega arith))
-
-pub nonzero_if : {A : Type 0} → (k : ℕ) (x y : A) → 1 ≤ k → cond (eqb k 0) x y ≡ y
-nonzero_if k x y le = let no : eqb k 0 ≡ false = ne_eqb k 0 (λ e. omega arith) in rw no refl
-
-pub cond_cases : {A : Type 0} → (b : Bool) (u v y : A) → cond b u v ≡ y → ((b ≡ true) × (u ≡ y)) ⊎ ((b ≡ false) × (v ≡ y))
-cond_cases true u v y e = inl (refl, e)
-cond_cases false u v y e = inr (refl, e)
-
--- a token that begins with no digit is no number
-pub not_literal : (w : List ℕ) → is_digit (get_or w 0 0) ≡ false → literal_of w ≡ None
-not_literal w bare = no_literal w (λ k lt e. let again : is_digit (get_or w 0 0) ≡ true = subst (λ (u : List ℕ). is_digit (get_or u 0 0) ≡ true) (sym e) (digit_first k lt) in absurd cc)

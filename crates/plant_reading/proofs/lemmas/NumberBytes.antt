@@ -51,9 +51,6 @@ no_letter b d l =
       | inr h ↦ omega (arith, leb-true _ _ ds.1, leb-true _ _ (and_parts (leb 97 b) (leb b 122) h).0)
     ]
 
-pub letter_no_digit : (b : ℕ) → is_letter b ≡ true → is_digit b ≡ false
-letter_no_digit b l = false_from_ne_true (is_digit b) (λ d. no_letter b d l)
-
 pub no_name : (n : ℕ) (w : List ℕ) → n < 2 ^ 64 → IsName w → decimal n ≡ w → ⊥
 no_name n w lt name e =
     let l : is_letter (get_or w 0 0) ≡ true = (and_parts (is_letter (get_or w 0 0)) _ name).0 in

@@ -20,16 +20,12 @@ use Rattle.plant_record.specs.StateBoxes.{AreEnds}
 use Rattle.plant_record.specs.Spelling.{version_word, end_words, goal_word}
 use Rattle.plant_reading.specs.Words.{words_of, is_skipped}
 use Rattle.plant_reading.specs.Tokens.{tokens_of}
+use Rattle.plant_reading.specs.Laws.{OneExpression}
 use Rattle.plant_reading.specs.SyntaxTrees.{AreTokensOf}
 use Rattle.plant_reading.specs.inside.LineReaders.{SpellsState, SpellsInput, SpellsNoise, SpellsBox}
 use Rattle.plant_reading.specs.Statements.{Statement, Version, State, Input, Noise, Next, Target, Obstacle, Goal, End, States}
 use Rattle.plant_reading.proofs.lemmas.NumberWords.{one_number}
 use Rattle.plant_reading.proofs.lemmas.KeywordsDiffer.{front_of, kind_of, front_is}
-
--- tokens spell one expression
-abbrev pub OneExpression : Type 0
-OneExpression =
-    (names tokens : List (List ℕ)) (e f : Expression) → AllPairs (λ a b. a ≢ b) names → All IsName names → AreTokensOf names tokens e → AreTokensOf names tokens f → e ≡ f
 
 abbrev state_of : List ℕ → ℤ → ℤ → ℤ → StateVariable
 state_of name low high width = record { name = name; low = low; high = high; width = width }

@@ -23,7 +23,7 @@ use Rattle.plant_reading.specs.SyntaxTrees.{AreTokensOf}
 use Rattle.plant_reading.specs.Statements.{Statement, Version, State, Input, Noise, Next, Target, Obstacle, Goal, End, States}
 use Rattle.plant_text.specs.Grammar.{PartialPlant, nothing_yet, names_in, HasEquations, FitsAfter, with_statement, Extends, Leads}
 use Rattle.plant_text.specs.inside.PartialPlantRules.{KeepsRules, IsAimless}
-use Rattle.plant_reading.proofs.lemmas.ItemsOfTrees.{tree_literals}
+use Rattle.plant_reading.proofs.lemmas.TreeLiterals.{tree_literals}
 use Rattle.plant_text.proofs.lemmas.Lists.{differ}
 
 -- a new name at the end of the names

@@ -17,7 +17,7 @@ use Rattle.plant_record.specs.Description.{Description, names_of}
 use Rattle.plant_writing.specs.CanonicalText.{text_of, state_line, input_line, noise_line, equation_line, equation_lines, box_line}
 use Rattle.plant_record.specs.Spelling.{end_words, goal_word, line, version_word}
 use Rattle.plant_writing.specs.ExpressionText.{expression_text, point_text}
-use Rattle.base.proofs.Words.{joined_words}
+use Rattle.base.proofs.Words.{spaced, joined_words}
 
 -- one piece more
 pub pieces_more : {X : Type 0} (f : X → List ℕ) (text : List ℕ) (xs : List X) (i : ℕ) (x : X) → i < length xs → x ≡ get_or xs i x → (text ++ flat_map f (take i xs)) ++ f x ≡ text ++ flat_map f (take (i + 1) xs)

@@ -1,22 +1,31 @@
-use Rattle.std.proofs.Common.{◌≡◌, ap}
-use Rattle.std.specs.Prelude.{Err}
-use Rattle.std.proofs.lemmas.Result.{err_from_is_err_and}
-use Rattle.plant_reading.specs.declared.line_fault.LineFault.TheVariants as faults
-use Rattle.plant_reading.specs.inside.LineTokens.{tokens_in}
-use Rattle.plant_reading.specs.inside.ExpressionMachine.{machine_of}
+use Rattle.std.proofs.Common.{◌≡◌, ℕ, List, length}
+use Rattle.std.specs.Prelude.{Result}
+use Rattle.fixed_expr.specs.declared.expr.Expr.{Expr}
+use Rattle.fixed_expr.specs.Expression.{expression_of}
 use Rattle.plant_record.specs.Parts.{variable_names}
-use Rattle.plant_reading.proofs.lemmas.ExpressionsRead.{result_spelled}
+use Rattle.plant_reading.specs.declared.line_fault.LineFault.{LineFault}
+use Rattle.plant_reading.specs.declared.token_kind.TokenKind.{TokenKind}
+use Rattle.plant_reading.specs.inside.ExpressionReading.{Gives, whole}
+use Rattle.plant_reading.specs.inside.LineTokens.{tokens_in}
+use Rattle.plant_reading.specs.inside.TokenKinds.{kinds_among}
+use Rattle.plant_reading.proofs.lemmas.ExpressionsRead.{found, refused}
 use Rattle.plant_reading.proofs.expression.expression_in.Goals as goal
 
-pub returns-in_err-take_all-clause-refused : goal.returns-in_err-take_all-clause-refused
-returns-in_err-take_all-clause-refused c =
-    let p = err_from_is_err_and c.from_residual.result c.from_residual.ensures.1 in
-    λ malformed e h.
-    let fault : c.in_err-take_all.field-0.0 ≡ faults.Malformed = cc (p.1, p.2, malformed) in
-    c.in_err-take_all.ensures.refused (ap Err fault) e h
+-- the whole was read from the kinds of the tokens
+of_tokens : (names tokens : List (List ℕ)) (kinds : List TokenKind) (m : ℕ) (r : Result Expr LineFault) → m ≡ length names → kinds ≡ kinds_among names tokens → Gives expression_of r (whole m kinds)
+    → Gives expression_of r (whole (length names) (kinds_among names tokens))
+of_tokens names tokens kinds m r count are gives = rw (count, are) at gives
 
 pub returns-clause-found : goal.returns-clause-found
-returns-clause-found c = result_spelled (variable_names c.args.variables.now) (tokens_in c.args.rest.now) (machine_of c.take_all.new.self) c.end.result (λ e end. (c.in_ok-take_all.ensures.taken e).0 end) c.end.ensures.whole
+returns-clause-found c =
+    let names = variable_names c.args.variables.now in
+    let tokens = tokens_in c.args.rest.now in
+    let are : c.deref.result.now ≡ kinds_among names tokens = rw c.deref.ensures.value c.in_ok-kinds.ensures in
+    found names tokens (record { each = c.requires.names; differ = c.requires.differ }) c.whole_sum.result (of_tokens names tokens c.deref.result.now c.count_of.result c.whole_sum.result c.count_of.ensures are c.whole_sum.ensures)
 
 pub returns-clause-refused : goal.returns-clause-refused
-returns-clause-refused c = λ malformed e h. c.end.ensures.refused malformed e ((c.in_ok-take_all.ensures.taken e).1 h)
+returns-clause-refused c =
+    let names = variable_names c.args.variables.now in
+    let tokens = tokens_in c.args.rest.now in
+    let are : c.deref.result.now ≡ kinds_among names tokens = rw c.deref.ensures.value c.in_ok-kinds.ensures in
+    refused names tokens (record { each = c.requires.names; differ = c.requires.differ }) c.whole_sum.result (of_tokens names tokens c.deref.result.now c.count_of.result c.whole_sum.result c.count_of.ensures are c.whole_sum.ensures)

@@ -1,0 +1,219 @@
+-- How an expression is read, from left to right: what a sum, a term or a factor at the front of the tokens is, and the tokens
+-- after it. No public clause names this.
+use Rattle.std.specs.Prelude.{◌≡◌, ℕ, zero, suc, ◌-◌, ◌+◌, ◌≤◌, ◌==◌, ◌&&◌, nat_lt, nat_le, int_lt, ℤ, pos, neg_ℤ, Bool, true, List, [], ◌∷◌, ◌++◌, length, Option, Some, None, Result, Ok, Err, if◌then◌else◌}
+use Rattle.plant_reading.specs.declared.line_fault.LineFault.{LineFault}
+use Rattle.plant_reading.specs.declared.line_fault.LineFault.TheVariants as faults
+use Rattle.plant_reading.specs.declared.token_kind.TokenKind.{TokenKind}
+use Rattle.plant_reading.specs.declared.token_kind.TokenKind.TheVariants as kind
+use Rattle.fixed_expr.specs.Expression.{Expression, NumExpr, VarExpr, NegExpr, AddExpr, SubExpr, MulExpr, DivExpr, MinExpr, MaxExpr, AbsExpr, LutExpr}
+use Rattle.plant_record.specs.Equations.{nodes_of, depth_of}
+use Rattle.base.specs.declared.limits.TheConstants.{BRACKETS_LIMIT, DEPTH_LIMIT, NODES_LIMIT, NUMBER_LIMIT, POINTS_LIMIT}
+
+-- reading gives nothing, unless memory ran out
+abbrev pub Fails : {Y : Type 0} → LineFault → Option Y → Type 0
+Fails faults.Memory read = Unit {0}
+Fails faults.Malformed read = read ≡ None
+
+-- what a function returned, seen by view, is what reading gives, unless memory ran out
+abbrev pub Gives : {X Y : Type 0} → (X → Y) → Result X LineFault → Option Y → Type 0
+Gives view (Ok x) read = read ≡ Some (view x)
+Gives view (Err e) read = Fails e read
+
+-- one reading after another
+infixl 10 ◌>>=◌
+abbrev pub ◌>>=◌ : {A B : Type 0} → Option A → (A → Option B) → Option B
+None >>= f = None
+(Some x) >>= f = f x
+
+-- an expression and the tokens after it
+abbrev pub Read : Type 0
+Read = Option (Expression × List TokenKind)
+
+-- At most 256 nodes, and at most 64 of them one below another.
+pub record IsSmall (e : Expression) : Type 0 where
+  pub nodes : nodes_of e ≤ NODES_LIMIT
+  pub depth : depth_of e ≤ DEPTH_LIMIT
+
+-- an expression, where it is small
+abbrev pub kept : Expression → Option Expression
+kept e = if nat_le (nodes_of e) NODES_LIMIT && nat_le (depth_of e) DEPTH_LIMIT then Some e else None
+
+-- ---- the tokens after one that has to be there: a bracket, a comma, a colon
+
+abbrev pub after_open : List TokenKind → Option (List TokenKind)
+after_open (kind.Open ∷ ts) = Some ts
+after_open ts = None
+
+abbrev pub after_close : List TokenKind → Option (List TokenKind)
+after_close (kind.Close ∷ ts) = Some ts
+after_close ts = None
+
+abbrev pub after_comma : List TokenKind → Option (List TokenKind)
+after_comma (kind.Comma ∷ ts) = Some ts
+after_comma ts = None
+
+abbrev pub after_colon : List TokenKind → Option (List TokenKind)
+after_colon (kind.Colon ∷ ts) = Some ts
+after_colon ts = None
+
+-- ---- numbers and points
+
+-- a number of at most 18 digits
+unfoldable pub literal_at : List TokenKind → Option (ℕ × List TokenKind)
+literal_at (kind.Number k ∷ ts) = if nat_lt k NUMBER_LIMIT then Some (k, ts) else None
+literal_at ts = None
+
+-- a number of at least 1
+unfoldable pub divisor_at : List TokenKind → Option (ℕ × List TokenKind)
+divisor_at ts = do
+  k ← literal_at ts
+  if k.0 == 0 then None else Some k
+
+-- a number with its sign
+unfoldable pub signed_at : List TokenKind → Option (ℤ × List TokenKind)
+signed_at (kind.Minus ∷ ts) = do
+  k ← divisor_at ts
+  Some (neg_ℤ (pos k.0), k.1)
+signed_at ts = do
+  k ← literal_at ts
+  Some (pos k.0, k.1)
+
+-- a point
+unfoldable pub point_at : List TokenKind → Option ((ℤ × ℤ) × List TokenKind)
+point_at ts = do
+  x ← signed_at ts
+  rest ← after_colon x.1
+  y ← signed_at rest
+  Some ((x.0, y.0), y.1)
+
+-- n points at most after others, each after a comma, and the bracket that closes
+unfoldable pub points_at : ℕ → List (ℤ × ℤ) → List TokenKind → Option (List (ℤ × ℤ) × List TokenKind)
+points_at n points (kind.Close ∷ ts) = Some (points, ts)
+points_at zero points ts = None
+points_at (suc n) points (kind.Comma ∷ ts) = do
+  p ← point_at ts
+  points_at n (points ++ p.0 ∷ []) p.1
+points_at (suc n) points ts = None
+
+-- the arguments of points rise
+abbrev pub rises : List (ℤ × ℤ) → Bool
+rises [] = true
+rises (p ∷ []) = true
+rises (p ∷ q ∷ points) = int_lt p.0 q.0 && rises (q ∷ points)
+
+-- 2 to 32 points that rise
+unfoldable pub curve_at : List TokenKind → Option (List (ℤ × ℤ) × List TokenKind)
+curve_at ts = do
+  r ← points_at POINTS_LIMIT [] ts
+  if nat_le 2 (length r.0) && rises r.0 then Some r else None
+
+-- ---- expressions, by a reader of their parts
+
+-- What is asked of a reader: a sum in a bracket of b that may be opened, a factor after a sign, what stands after a sum and after a term.
+pub data Ask : Type 0 where
+  Inside : (b : ℕ) (ts : List TokenKind) → Ask
+  Signed : (b : ℕ) (ts : List TokenKind) → Ask
+  RestOfSum : (b : ℕ) (a : Expression) (ts : List TokenKind) → Ask
+  RestOfTerm : (b : ℕ) (a : Expression) (ts : List TokenKind) → Ask
+
+-- a sum after a bracket that was opened, with the bracket that closes
+unfoldable pub bracketed : (Ask → Read) → ℕ → List TokenKind → Read
+bracketed r b ts = do
+  a ← r (Inside b ts)
+  rest ← after_close a.1
+  Some (a.0, rest)
+
+-- two sums in brackets
+unfoldable pub pair_of : (Ask → Read) → ℕ → List TokenKind → Option (Expression × Expression × List TokenKind)
+pair_of r b ts = do
+  opened ← after_open ts
+  a ← r (Inside b opened)
+  rest ← after_comma a.1
+  c ← bracketed r b rest
+  Some (a.0, c.0, c.1)
+
+-- a factor
+unfoldable pub factor_of : ℕ → (Ask → Read) → ℕ → List TokenKind → Read
+factor_of m r b (kind.Number k ∷ ts) = do
+  x ← literal_at (kind.Number k ∷ ts)
+  Some (NumExpr (pos x.0), x.1)
+factor_of m r b (kind.Variable i ∷ ts) = if nat_lt i m then Some (VarExpr i, ts) else None
+factor_of m r b (kind.Minus ∷ ts) = do
+  a ← r (Signed b ts)
+  e ← kept (NegExpr a.0)
+  Some (e, a.1)
+factor_of m r b (kind.Open ∷ ts) = bracketed r b ts
+factor_of m r b (kind.Min ∷ ts) = do
+  x ← pair_of r b ts
+  e ← kept (MinExpr x.0 x.1)
+  Some (e, x.2)
+factor_of m r b (kind.Max ∷ ts) = do
+  x ← pair_of r b ts
+  e ← kept (MaxExpr x.0 x.1)
+  Some (e, x.2)
+factor_of m r b (kind.Abs ∷ ts) = do
+  opened ← after_open ts
+  a ← bracketed r b opened
+  e ← kept (AbsExpr a.0)
+  Some (e, a.1)
+factor_of m r b (kind.Lut ∷ ts) = do
+  opened ← after_open ts
+  a ← r (Inside b opened)
+  points ← curve_at a.1
+  e ← kept (LutExpr a.0 points.0)
+  Some (e, points.1)
+factor_of m r b ts = None
+
+-- what stands after a term goes on with it, or it ends there
+unfoldable pub after_term : ℕ → (Ask → Read) → ℕ → Expression → List TokenKind → Read
+after_term m r b a (kind.Times ∷ ts) = do
+  x ← factor_of m r b ts
+  e ← kept (MulExpr a x.0)
+  r (RestOfTerm b e x.1)
+after_term m r b a (kind.Over ∷ ts) = do
+  k ← divisor_at ts
+  e ← kept (DivExpr a (pos k.0))
+  r (RestOfTerm b e k.1)
+after_term m r b a ts = Some (a, ts)
+
+-- a term
+unfoldable pub term_of : ℕ → (Ask → Read) → ℕ → List TokenKind → Read
+term_of m r b ts = do
+  a ← factor_of m r b ts
+  after_term m r b a.0 a.1
+
+-- what stands after a sum goes on with it, or it ends there
+unfoldable pub after_sum : ℕ → (Ask → Read) → ℕ → Expression → List TokenKind → Read
+after_sum m r b a (kind.Plus ∷ ts) = do
+  x ← term_of m r b ts
+  e ← kept (AddExpr a x.0)
+  r (RestOfSum b e x.1)
+after_sum m r b a (kind.Minus ∷ ts) = do
+  x ← term_of m r b ts
+  e ← kept (SubExpr a x.0)
+  r (RestOfSum b e x.1)
+after_sum m r b a ts = Some (a, ts)
+
+-- a sum
+unfoldable pub sum_of : ℕ → (Ask → Read) → ℕ → List TokenKind → Read
+sum_of m r b ts = do
+  a ← term_of m r b ts
+  after_sum m r b a.0 a.1
+
+-- an answer to what is asked, by a reader of the parts
+unfoldable pub step : ℕ → (Ask → Read) → Ask → Read
+step m r (Inside b ts) = if b == 0 then None else sum_of m r (b - 1) ts
+step m r (Signed b ts) = factor_of m r b ts
+step m r (RestOfSum b a ts) = after_sum m r b a ts
+step m r (RestOfTerm b a ts) = after_term m r b a ts
+
+-- a reader whose calls may be nested n deep
+unfoldable pub read_at : ℕ → ℕ → Ask → Read
+read_at m zero q = None
+read_at m (suc n) q = step m (read_at m n) q
+
+-- all tokens as one sum
+unfoldable pub whole : ℕ → List TokenKind → Option Expression
+whole m ts = do
+  x ← sum_of m (read_at m (NODES_LIMIT + BRACKETS_LIMIT)) BRACKETS_LIMIT ts
+  if length x.1 == 0 then Some x.0 else None
