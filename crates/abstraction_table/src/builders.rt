@@ -17,10 +17,9 @@ use base::limits::EDGES_LIMIT;
 use game_core::NoMemory;
 use plant_game::find_marks;
 use plant_record::Plant;
-use plant_record::laws::every_plant_is_within_limits;
 use std::alloc::Global;
 use std::thread::Threads;
-use successor_box::Slopes;
+use successor_box::{Sampled, Slopes};
 
 /// The game of a plant as it is seen ahead. The number of edges is known before any edge is kept.
 /// What can be done side by side is handed to `rayon`.
@@ -36,7 +35,7 @@ pub fn build_forward<R: Threads + Sync>(
     ensures boxes { IfOk result (λ o. AreBoxesOf p.now (boxes_forward o)) }
     ensures fault { IfErr result (IsFaultOf p.now) }
 {
-    let boxed = build_game(rt, alloc, p, s)?;
+    let boxed = build_game(rt, alloc, &Sampled::of(p, s))?;
     let shapes = build_shapes(alloc, &boxed.grid, &boxed.fans)?;
     Ok(ForwardAbstraction { boxed, shapes })
 }
@@ -85,18 +84,15 @@ pub fn build<R: Threads + Sync>(
 fn build_game<R: Threads + Sync>(
     rt: &R,
     alloc: Global,
-    p: &Plant,
-    s: &Slopes,
+    sampled: &Sampled<'_>,
 ) -> Result<BoxedGame, BuildFault>
-    requires slopes { s.now ≡ deviations_of p.now }
-    requires fits { HasNoOverflow p.now }
-    ensures game { IfOk result (λ g. IsGameOf p.now (game_in g)) }
-    ensures boxes { IfOk result (λ g. AreBoxesOf p.now g.boxes.items) }
-    ensures fault { IfErr result (IsFaultOf p.now) }
+    ensures game { IfOk result (λ g. IsGameOf sampled.now.plant.now (game_in g)) }
+    ensures boxes { IfOk result (λ g. AreBoxesOf sampled.now.plant.now g.boxes.items) }
+    ensures fault { IfErr result (IsFaultOf sampled.now.plant.now) }
 {
-    every_plant_is_within_limits(p);
+    let p = sampled.plant;
     let grid = *p.grid();
-    let boxes = build_boxes(rt, alloc, p, s)?;
+    let boxes = build_boxes(rt, alloc, sampled)?;
     let fans = count_fans(alloc, &grid, &boxes)?;
     let edges = fans.edges;
     if edges > EDGES_LIMIT {

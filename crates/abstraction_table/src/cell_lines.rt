@@ -1,15 +1,14 @@
 //! The boxes of the cells in a row.
-ghost use Rattle.std.specs.Prelude.{◌≡◌, ℕ, ◌+◌, ◌*◌, ◌^◌, ◌<◌, ◌≤◌, length, slice_index, slice_index_or, Option, None, IsTrue, IfSome};
+ghost use Rattle.std.specs.Prelude.{◌≡◌, ℕ, ◌+◌, ◌*◌, ◌<◌, ◌≤◌, length, slice_index_or, None, IsTrue, IfSome};
 ghost use Rattle.std.specs.List.{All};
 ghost use Rattle.grid_quantiser.specs.declared.boxes.CellBox.{CellBox};
 ghost use Rattle.grid_quantiser.specs.Axes.{cells_of};
 ghost use Rattle.grid_quantiser.specs.ExtentBoxes.{one_cell};
 ghost use Rattle.plant_record.specs.Description.{axes_of, vectors_of};
 ghost use Rattle.plant_record.specs.Limits.{IsWithinLimits};
-ghost use Rattle.successor_box.specs.SuccessorBoxes.{IsBoxOf};
-ghost use Rattle.abstraction_table.specs.inside.Sums.{plus};
-ghost use Rattle.abstraction_table.specs.inside.CellLines.{AreInLine, IsInLineOf, AreBoxesFrom};
-ghost use Rattle.abstraction_table.specs.inside.Terms.{AreIndicesOf, Brings, BringAs, IsTermAt, AreSumsAlong, IsTermTableOf, AreTermTablesOf};
+ghost use Rattle.abstraction_table.specs.inside.Sums.{plus, term_under, AreChangedBy};
+ghost use Rattle.abstraction_table.specs.inside.CellLines.{AreInLine, AreSumsOfLine, BecomeBoxes, AreBoxesFrom};
+ghost use Rattle.abstraction_table.specs.inside.Terms.{AreIndicesOf, Brings, BringAs, IsFreeTerm, AreSumsAlong, HasCell, HasSums, AddsTerms, AddsState, HoldsTermsAlong, HoldTerms};
 ghost use Rattle.abstraction_table.specs.declared.pair_box.TheConstants.{NO_BOX};
 
 use crate::pair_box::PairBox;
@@ -22,7 +21,7 @@ use successor_box::INDEX_COLUMNS;
 /// first states bring is the same along the row, and is found once: the first cell's boxes keep it for the others.
 pub(crate) fn boxes_in_line(p: &Plant, tables: &[TermTable], c: u32, boxes: &mut [PairBox])
     requires plant { IsWithinLimits p.now }
-    requires tables { AreTermTablesOf p.now tables.now }
+    requires tables { HoldTerms p.now tables.now }
     requires row { (n : ℕ) × (length boxes.old ≡ n * vectors_of p.now.inputs) × AreInLine p.now c n }
     requires start { All (λ b. b ≡ one_cell) boxes.old }
     ensures long { length boxes.new ≡ length boxes.old }
@@ -49,13 +48,13 @@ fn add_early(
     boxes: &mut [PairBox],
 ) -> usize
     requires plant { IsWithinLimits p.now }
-    requires tables { AreTermTablesOf p.now tables.now }
+    requires tables { HoldTerms p.now tables.now }
     requires cell { (c : ℕ) × (c < cells_of (axes_of p.now)) × AreIndicesOf p.now c indices.now }
     requires one_each { length boxes.old ≡ vectors_of p.now.inputs }
     requires start { All (λ b. b ≡ one_cell) boxes.old }
     ensures long { length boxes.new ≡ length boxes.old }
     ensures states { result ≤ length p.now.equations }
-    ensures along { (c d : ℕ) → c < cells_of (axes_of p.now) → AreIndicesOf p.now c indices.now → IsInLineOf p.now c d → AreSumsAlong p.now result d one_cell boxes.new }
+    ensures along { AreSumsOfLine p.now result indices.now boxes.new }
 {
     let last = p.states() - 1;
     let mut state: usize = 0;
@@ -76,12 +75,12 @@ fn add_late(
     boxes: &mut [PairBox],
 )
     requires plant { IsWithinLimits p.now }
-    requires tables { AreTermTablesOf p.now tables.now }
+    requires tables { HoldTerms p.now tables.now }
     requires from { from ≤ length p.now.equations }
-    requires cell { (c : ℕ) × (c < cells_of (axes_of p.now)) × AreIndicesOf p.now c indices.now × AreSumsAlong p.now from c one_cell boxes.old }
+    requires cell { HasCell p.now from indices.now boxes.old }
     requires one_each { length boxes.old ≡ vectors_of p.now.inputs }
     ensures long { length boxes.new ≡ length boxes.old }
-    ensures each { (c : ℕ) → c < cells_of (axes_of p.now) → AreIndicesOf p.now c indices.now → AreSumsAlong p.now from c one_cell boxes.old → (u : ℕ) → u < vectors_of p.now.inputs → IsBoxOf p.now c u (slice_index_or boxes.new u None) }
+    ensures each { BecomeBoxes p.now from indices.now boxes.old boxes.new }
 {
     let mut base = PairBox::new(Some(CellBox { first: 0, last: 0 }));
     for state in from..tables.len() {
@@ -101,12 +100,12 @@ fn add_state(
     boxes: &mut [PairBox],
 ) -> PairBox
     requires plant { IsWithinLimits p.now }
-    requires table { IsTermTableOf p.now state table.now }
+    requires table { HoldsTermsAlong p.now state table.now }
     requires state { state < length p.now.equations }
     requires cell { (c : ℕ) × BringAs p.now state table.now indices.now c × AreSumsAlong p.now state c base boxes.old }
     requires one_each { length boxes.old ≡ vectors_of p.now.inputs }
     ensures long { length boxes.new ≡ length boxes.old }
-    ensures added { (c : ℕ) → BringAs p.now state table.now indices.now c → AreSumsAlong p.now state c base boxes.old → AreSumsAlong p.now (state + 1) c result boxes.new }
+    ensures added { AddsState p.now state (BringAs p.now state table.now indices.now) base result boxes.old boxes.new }
 {
     if !table.free {
         add_terms(p, table, state, indices, boxes);
@@ -119,11 +118,11 @@ fn add_state(
 #[inline]
 fn free_term(p: &Plant, table: &TermTable, state: u32, indices: &[u32; INDEX_COLUMNS]) -> PairBox
     requires plant { IsWithinLimits p.now }
-    requires table { IsTermTableOf p.now state table.now }
+    requires table { HoldsTermsAlong p.now state table.now }
     requires state { state < length p.now.equations }
     requires cell { (c : ℕ) × BringAs p.now state table.now indices.now c }
     requires free { IsTrue table.now.free }
-    ensures { (c u : ℕ) → BringAs p.now state table.now indices.now c → u < vectors_of p.now.inputs → IsTermAt p.now c u state result }
+    ensures { IsFreeTerm p.now state (BringAs p.now state table.now indices.now) result }
 {
     let first = table.first(indices);
     let own = table.shifted_by(indices[state as usize]);
@@ -139,12 +138,12 @@ fn add_terms(
     boxes: &mut [PairBox],
 )
     requires plant { IsWithinLimits p.now }
-    requires table { IsTermTableOf p.now state table.now }
+    requires table { HoldsTermsAlong p.now state table.now }
     requires state { state < length p.now.equations }
-    requires cell { (c : ℕ) × (base : Option CellBox) × BringAs p.now state table.now indices.now c × AreSumsAlong p.now state c base boxes.old }
+    requires cell { HasSums p.now state (BringAs p.now state table.now indices.now) boxes.old }
     requires one_each { length boxes.old ≡ vectors_of p.now.inputs }
     ensures long { length boxes.new ≡ length boxes.old }
-    ensures added { (c : ℕ) (base : Option CellBox) → BringAs p.now state table.now indices.now c → AreSumsAlong p.now state c base boxes.old → AreSumsAlong p.now (state + 1) c base boxes.new }
+    ensures added { AddsTerms p.now state (BringAs p.now state table.now indices.now) boxes.old boxes.new }
 {
     let first = table.first(indices);
     match &table.terms {
@@ -163,7 +162,7 @@ fn add_listed(inputs: &[u32], terms: &[PairBox], boxes: &mut [PairBox])
     requires terms { All (λ n. IfSome (slice_index_or terms.now n None) (λ b. b.last < NO_BOX)) inputs.now }
     requires boxes { All (λ b. IfSome b (λ b. b.last < NO_BOX)) boxes.old }
     ensures long { length boxes.new ≡ length boxes.old }
-    ensures each { (u : ℕ) → u < length boxes.old → slice_index_or boxes.new u None ≡ plus (slice_index_or boxes.old u None) (slice_index_or terms.now (slice_index inputs.now u) None) }
+    ensures each { AreChangedBy (λ u b. plus b (term_under terms.now inputs.now u)) boxes.old boxes.new }
 {
     for i in 0..boxes.len() {
         boxes[i] = boxes[i].plus(terms[inputs[i] as usize]);
@@ -173,12 +172,12 @@ fn add_listed(inputs: &[u32], terms: &[PairBox], boxes: &mut [PairBox])
 /// Adds the terms of a state, found one by one, to the boxes of a cell that brings `first` and moves the extents so many indices.
 fn add_moved(p: &Plant, table: &TermTable, state: u32, first: u32, own: u32, boxes: &mut [PairBox])
     requires plant { IsWithinLimits p.now }
-    requires table { IsTermTableOf p.now state table.now }
+    requires table { HoldsTermsAlong p.now state table.now }
     requires state { state < length p.now.equations }
-    requires cell { (c : ℕ) × (base : Option CellBox) × Brings p.now state table.now first own c × AreSumsAlong p.now state c base boxes.old }
+    requires cell { HasSums p.now state (Brings p.now state table.now first own) boxes.old }
     requires one_each { length boxes.old ≡ vectors_of p.now.inputs }
     ensures long { length boxes.new ≡ length boxes.old }
-    ensures added { (c : ℕ) (base : Option CellBox) → Brings p.now state table.now first own c → AreSumsAlong p.now state c base boxes.old → AreSumsAlong p.now (state + 1) c base boxes.new }
+    ensures added { AddsTerms p.now state (Brings p.now state table.now first own) boxes.old boxes.new }
 {
     for input in 0..p.vectors() {
         let term = table.term(p, state, first, own, input);
@@ -192,7 +191,7 @@ fn add_base(base: PairBox, boxes: &mut [PairBox])
     requires base { IfSome base (λ b. b.last < NO_BOX) }
     requires boxes { All (λ b. IfSome b (λ b. b.last < NO_BOX)) boxes.old }
     ensures long { length boxes.new ≡ length boxes.old }
-    ensures each { (u : ℕ) → u < length boxes.old → slice_index_or boxes.new u None ≡ plus base (slice_index_or boxes.old u None) }
+    ensures each { AreChangedBy (λ _ b. plus base b) boxes.old boxes.new }
 {
     if base.is_one_cell() {
         return;
@@ -206,7 +205,6 @@ fn add_base(base: PairBox, boxes: &mut [PairBox])
 #[inline]
 fn indices_of(p: &Plant, c: u32) -> [u32; INDEX_COLUMNS]
     requires plant { IsWithinLimits p.now }
-    requires cell { c < cells_of (axes_of p.now) }
     ensures { AreIndicesOf p.now c result }
 {
     let along = p.grid().indices(c);

@@ -1,18 +1,16 @@
 //! The extents of blocks of indices, one slot after the other.
-ghost use Rattle.std.specs.Prelude.{◌≡◌, ℕ, ◌+◌, ◌*◌, ◌/◌, ◌%◌, ◌^◌, ◌≤◌, ◌<◌, length, slice_index_or, None};
+ghost use Rattle.std.specs.Prelude.{◌≡◌, ℕ, ◌+◌, ◌*◌, ◌/◌, ◌%◌, ◌^◌, ◌≤◌, ◌<◌, length};
 ghost use Rattle.fixed_expr.specs.declared.lanes.TheConstants.{LANES};
-ghost use Rattle.plant_record.specs.Description.{vectors_of};
 ghost use Rattle.plant_record.specs.Limits.{IsWithinLimits};
-ghost use Rattle.successor_box.specs.Deviations.{HasNoOverflow, deviations_of};
-ghost use Rattle.successor_box.specs.PairExtents.{index_in, IsPairInLane};
-ghost use Rattle.abstraction_table.specs.inside.Digits.{AreDigitsOf, IsDigitAt, pair_at};
-ghost use Rattle.abstraction_table.specs.inside.ExtentTables.{IsExtentFor};
+ghost use Rattle.successor_box.specs.inside.Blocks.{HoldsInLanes};
+ghost use Rattle.abstraction_table.specs.inside.Digits.{AreDigitsOf, IsDigitAt, index_at, HoldPairsFrom};
+ghost use Rattle.abstraction_table.specs.inside.ExtentTables.{HoldExtentsFrom};
 
 use crate::digits::{Digit, Digits};
 use fixed_expr::LANES;
 use grid_quantiser::Extent;
 use plant_record::Plant;
-use successor_box::{INDEX_COLUMNS, IndexColumns, Slopes, relative_extents};
+use successor_box::{INDEX_COLUMNS, IndexColumns, Sampled};
 
 /// To start a thread takes as long as to find so many extents.
 pub(crate) const EXTENTS_PER_TASK: usize = 1024;
@@ -20,56 +18,42 @@ pub(crate) const EXTENTS_PER_TASK: usize = 1024;
 /// The extents of the pairs that have the digits of a slot and of the next ones, from which the others'
 /// are moved.
 pub(crate) fn fill_chunk(
-    p: &Plant,
-    s: &Slopes,
+    sampled: &Sampled<'_>,
     state: u32,
     digits: &Digits,
     slot: u32,
     chunk: &mut [Option<Extent>],
 )
-    requires plant { IsWithinLimits p.now }
-    requires slopes { s.now ≡ deviations_of p.now }
-    requires fits { HasNoOverflow p.now }
-    requires state { state < length p.now.equations }
-    requires digits { AreDigitsOf p.now state digits.now.each.items digits.now.indices }
+    requires state { state < length sampled.now.plant.now.equations }
+    requires digits { AreDigitsOf sampled.now.plant.now state digits.now.each.items digits.now.indices }
     requires capacity { slot + length chunk.old < 2 ^ 32 }
     ensures long { length chunk.new ≡ length chunk.old }
-    ensures each { (j : ℕ) → j < length chunk.old → IsExtentFor p.now state digits.now.each.items (slot + j) (slice_index_or chunk.new j None) }
+    ensures each { HoldExtentsFrom sampled.now.plant.now state digits.now.each.items slot chunk.new }
 {
     for block in 0..chunk.len().div_ceil(LANES) {
         let start = block * LANES;
         let end = chunk.len().min(start + LANES);
-        fill_block(
-            p,
-            s,
-            state,
-            digits,
-            slot + start as u32,
-            &mut chunk[start..end],
-        );
+        let slot = slot + start as u32;
+        fill_block(sampled, state, digits, slot, &mut chunk[start..end]);
     }
 }
 
 /// The extents of up to as many pairs as a block has.
 fn fill_block(
-    p: &Plant,
-    s: &Slopes,
+    sampled: &Sampled<'_>,
     state: u32,
     digits: &Digits,
     slot: u32,
     block: &mut [Option<Extent>],
 )
-    requires plant { IsWithinLimits p.now }
-    requires slopes { s.now ≡ deviations_of p.now }
-    requires fits { HasNoOverflow p.now }
-    requires state { state < length p.now.equations }
-    requires digits { AreDigitsOf p.now state digits.now.each.items digits.now.indices }
+    requires state { state < length sampled.now.plant.now.equations }
+    requires digits { AreDigitsOf sampled.now.plant.now state digits.now.each.items digits.now.indices }
     requires few { length block.old ≤ LANES }
     ensures long { length block.new ≡ length block.old }
-    ensures each { (j : ℕ) → j < length block.old → IsExtentFor p.now state digits.now.each.items (slot + j) (slice_index_or block.new j None) }
+    ensures each { HoldExtentsFrom sampled.now.plant.now state digits.now.each.items slot block.new }
 {
-    let indices = indices_from(p, state, digits, slot);
-    relative_extents(p, s, &indices, state, block);
+    let indices = indices_from(sampled.plant, state, digits, slot);
+    sampled.relative_extents(&indices, state, block);
 }
 
 /// The indices of these pairs in each state and each input variable.
@@ -77,7 +61,7 @@ fn indices_from(p: &Plant, state: u32, digits: &Digits, slot: u32) -> IndexColum
     requires plant { IsWithinLimits p.now }
     requires state { state < length p.now.equations }
     requires digits { AreDigitsOf p.now state digits.now.each.items digits.now.indices }
-    ensures { (j : ℕ) → j < LANES → IsPairInLane p.now result j (pair_at digits.now.each.items (slot + j) / vectors_of p.now.inputs) (pair_at digits.now.each.items (slot + j) % vectors_of p.now.inputs) }
+    ensures { HoldPairsFrom p.now digits.now.each.items slot result }
 {
     let mut indices = [[0; LANES]; INDEX_COLUMNS];
     for variable in 0..p.states() + p.input_variables() {
@@ -92,7 +76,7 @@ fn indices_in(p: &Plant, state: u32, digits: &Digits, variable: u32, slot: u32) 
     requires state { state < length p.now.equations }
     requires digits { AreDigitsOf p.now state digits.now.each.items digits.now.indices }
     requires variable { variable < length p.now.states + length p.now.inputs }
-    ensures { (j : ℕ) → j < LANES → slice_index_or result j 0 ≡ index_in p.now (pair_at digits.now.each.items (slot + j) / vectors_of p.now.inputs) (pair_at digits.now.each.items (slot + j) % vectors_of p.now.inputs) variable }
+    ensures { HoldsInLanes 0 (λ j. index_at p.now digits.now.each.items variable (slot + j)) result }
 {
     for d in &digits.each {
         if d.variable == variable {
@@ -105,7 +89,7 @@ fn indices_in(p: &Plant, state: u32, digits: &Digits, variable: u32, slot: u32) 
 /// What a digit is at a slot and at the next ones.
 fn digit_at(d: &Digit, slot: u32) -> [u32; LANES]
     requires counted { (0 < d.now.count) × (0 < d.now.in_table) }
-    ensures { (j : ℕ) → j < LANES → slice_index_or result j 0 ≡ (slot + j) / d.now.in_table % d.now.count }
+    ensures { HoldsInLanes 0 (λ j. (slot + j) / d.now.in_table % d.now.count) result }
 {
     let mut digit = slot / d.in_table % d.count;
     let mut left = d.in_table - slot % d.in_table;

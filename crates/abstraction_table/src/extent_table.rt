@@ -2,9 +2,8 @@
 ghost use Rattle.std.specs.Prelude.{◌≡◌, ℕ, ◌+◌, ◌^◌, ◌<◌, length, slice_index_or, None, IfOk};
 ghost use Rattle.plant_record.specs.Description.{vectors_of};
 ghost use Rattle.plant_record.specs.Limits.{IsWithinLimits};
-ghost use Rattle.successor_box.specs.Deviations.{HasNoOverflow, deviations_of};
-ghost use Rattle.abstraction_table.specs.inside.Digits.{AreDigitsOf, slot_at};
-ghost use Rattle.abstraction_table.specs.inside.ExtentTables.{IsExtentTableOf, IsExtentFor};
+ghost use Rattle.abstraction_table.specs.inside.Digits.{AreDigitsOf, HoldSlots};
+ghost use Rattle.abstraction_table.specs.inside.ExtentTables.{HoldsExtentsAlong, HoldExtentsAt, IsExtentFor};
 
 use crate::digits::{Digit, Digits, build_digits, slot_of};
 use crate::extent_blocks::{EXTENTS_PER_TASK, fill_chunk};
@@ -13,7 +12,7 @@ use plant_record::Plant;
 use rayon::prelude::*;
 use std::alloc::{AllocError, Global};
 use std::thread::Threads;
-use successor_box::Slopes;
+use successor_box::Sampled;
 
 /// The extents along the axis of a state: one for each combination of the indices in the variables of the
 /// state's equation, since those of all pairs depend on these. Where the equation moves with the state itself,
@@ -30,19 +29,16 @@ pub(crate) struct ExtentTable {
 pub(crate) fn build_table<R: Threads + Sync>(
     rt: &R,
     alloc: Global,
-    p: &Plant,
-    s: &Slopes,
+    sampled: &Sampled<'_>,
     state: u32,
 ) -> Result<ExtentTable, AllocError>
-    requires plant { IsWithinLimits p.now }
-    requires slopes { s.now ≡ deviations_of p.now }
-    requires fits { HasNoOverflow p.now }
-    requires state { state < length p.now.equations }
-    ensures { IfOk result (λ table. IsExtentTableOf p.now state table) }
+    requires { state < length sampled.now.plant.now.equations }
+    ensures { IfOk result (λ table. HoldsExtentsAlong sampled.now.plant.now state table) }
 {
+    let p = sampled.plant;
     let digits = build_digits(alloc, p, state)?;
     let inputs = build_inputs(alloc, p, state, &digits)?;
-    let extents = build_extents(rt, alloc, p, s, state, &digits)?;
+    let extents = build_extents(rt, alloc, sampled, state, &digits)?;
     Ok(ExtentTable {
         digits: digits.each,
         inputs,
@@ -61,7 +57,7 @@ fn build_inputs(
     requires plant { IsWithinLimits p.now }
     requires digits { AreDigitsOf p.now state digits.now.each.items digits.now.indices }
     ensures long { IfOk result (λ inputs. length inputs.items ≡ vectors_of p.now.inputs) }
-    ensures each { IfOk result (λ inputs. (u : ℕ) → u < vectors_of p.now.inputs → slice_index_or inputs.items u 0 ≡ slot_at digits.now.each.items u) }
+    ensures each { IfOk result (λ inputs. HoldSlots p.now digits.now.each.items inputs.items) }
 {
     let vectors = p.vectors();
     let mut inputs = Vec::with_capacity(alloc, vectors as usize)?;
@@ -75,18 +71,14 @@ fn build_inputs(
 fn build_extents<R: Threads + Sync>(
     rt: &R,
     alloc: Global,
-    p: &Plant,
-    s: &Slopes,
+    sampled: &Sampled<'_>,
     state: u32,
     digits: &Digits,
 ) -> Result<Vec<Option<Extent>>, AllocError>
-    requires plant { IsWithinLimits p.now }
-    requires slopes { s.now ≡ deviations_of p.now }
-    requires fits { HasNoOverflow p.now }
-    requires state { state < length p.now.equations }
-    requires digits { AreDigitsOf p.now state digits.now.each.items digits.now.indices }
+    requires state { state < length sampled.now.plant.now.equations }
+    requires digits { AreDigitsOf sampled.now.plant.now state digits.now.each.items digits.now.indices }
     ensures long { IfOk result (λ extents. length extents.items ≡ digits.now.indices) }
-    ensures each { IfOk result (λ extents. (slot : ℕ) → slot < digits.now.indices → IsExtentFor p.now state digits.now.each.items slot (slice_index_or extents.items slot None)) }
+    ensures each { IfOk result (λ found. HoldExtentsAt sampled.now.plant.now state digits.now.each.items found.items) }
 {
     let mut extents = vec![in alloc; None; digits.indices as usize]?;
     par_chunks_mut_for_each(
@@ -94,15 +86,12 @@ fn build_extents<R: Threads + Sync>(
         &mut extents,
         EXTENTS_PER_TASK,
         |slot: usize, chunk: &mut [Option<Extent>]|
-            requires plant { IsWithinLimits p.now }
-            requires slopes { s.now ≡ deviations_of p.now }
-            requires fits { HasNoOverflow p.now }
-            requires state { state < length p.now.equations }
-            requires digits { AreDigitsOf p.now state digits.now.each.items digits.now.indices }
+            requires state { state < length sampled.now.plant.now.equations }
+            requires digits { AreDigitsOf sampled.now.plant.now state digits.now.each.items digits.now.indices }
             requires capacity { slot + length chunk.now < 2 ^ 32 }
-            ensures { (j : ℕ) → j < length chunk.entry.now → IsExtentFor p.entry.now state digits.entry.now.each.items (slot + j) (slice_index_or chunk.exit.now j None) }
+            ensures { (j : ℕ) → j < length chunk.entry.now → IsExtentFor sampled.entry.now.plant.now state digits.entry.now.each.items (slot + j) (slice_index_or chunk.exit.now j None) }
         {
-            fill_chunk(p, s, state, digits, slot as u32, chunk);
+            fill_chunk(sampled, state, digits, slot as u32, chunk);
         },
     );
     Ok(extents)

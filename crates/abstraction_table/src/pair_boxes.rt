@@ -5,7 +5,6 @@ ghost use Rattle.grid_quantiser.specs.Axes.{cells_of};
 ghost use Rattle.grid_quantiser.specs.ExtentBoxes.{one_cell};
 ghost use Rattle.plant_record.specs.Description.{axes_of, vectors_of};
 ghost use Rattle.plant_record.specs.Limits.{IsWithinLimits};
-ghost use Rattle.successor_box.specs.Deviations.{HasNoOverflow, deviations_of};
 ghost use Rattle.plant_game.specs.Abstraction.{AreBoxesOf};
 ghost use Rattle.abstraction_table.specs.declared.pair_boxes.TheConstants.{BOXES_PER_TASK};
 ghost use Rattle.abstraction_table.specs.inside.CellLines.{AreBoxesFrom};
@@ -19,7 +18,7 @@ use plant_record::Plant;
 use rayon::prelude::*;
 use std::alloc::{AllocError, Global};
 use std::thread::Threads;
-use successor_box::Slopes;
+use successor_box::Sampled;
 
 /// About how many pairs one call finds the boxes of: to start a thread takes as long as some thousands of them.
 const BOXES_PER_TASK: usize = 4096;
@@ -29,15 +28,12 @@ const BOXES_PER_TASK: usize = 4096;
 pub(crate) fn build_boxes<R: Threads + Sync>(
     rt: &R,
     alloc: Global,
-    p: &Plant,
-    s: &Slopes,
+    sampled: &Sampled<'_>,
 ) -> Result<Vec<PairBox>, AllocError>
-    requires plant { IsWithinLimits p.now }
-    requires slopes { s.now ≡ deviations_of p.now }
-    requires fits { HasNoOverflow p.now }
-    ensures { IfOk result (λ boxes. AreBoxesOf p.now boxes.items) }
+    ensures { IfOk result (λ boxes. AreBoxesOf sampled.now.plant.now boxes.items) }
 {
-    let tables = build_tables(rt, alloc, p, s)?;
+    let p = sampled.plant;
+    let tables = build_tables(rt, alloc, sampled)?;
     let tables = tables.as_slice();
     let inputs = p.vectors() as usize;
     let pairs = p.grid().cells() as usize * inputs;

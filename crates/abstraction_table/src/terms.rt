@@ -1,15 +1,14 @@
 //! What the extents of all boxes add to them, state by state: a box is a sum of terms, one for each state.
-ghost use Rattle.std.specs.Prelude.{◌≡◌, ℕ, ◌+◌, ◌*◌, ◌^◌, ◌<◌, ◌≤◌, length, slice_index, slice_index_or, None, if◌then◌else◌, IsTrue, IfOk};
+ghost use Rattle.std.specs.Prelude.{◌≡◌, ℕ, ◌+◌, ◌*◌, ◌^◌, ◌<◌, ◌≤◌, length, slice_index_or, if◌then◌else◌, IsTrue, IfOk};
 ghost use Rattle.std.specs.List.{All};
 ghost use Rattle.grid_quantiser.specs.Axes.{no_axis};
 ghost use Rattle.plant_record.specs.Description.{axes_of, vectors_of};
 ghost use Rattle.plant_record.specs.Limits.{IsWithinLimits};
-ghost use Rattle.successor_box.specs.Deviations.{HasNoOverflow, deviations_of};
 ghost use Rattle.successor_box.specs.PairExtents.{moves_along};
 ghost use Rattle.successor_box.specs.declared.index_columns.TheConstants.{INDEX_COLUMNS};
 ghost use Rattle.abstraction_table.specs.inside.CellLines.{StaysAlongLines};
-ghost use Rattle.abstraction_table.specs.inside.ExtentTables.{IsRelativeExtent, IsExtentTableOf};
-ghost use Rattle.abstraction_table.specs.inside.Terms.{first_in, stride_of, own_count, IsTermAt, IsTermFrom, Brings, IsTermTableOf, AreTermTablesOf};
+ghost use Rattle.abstraction_table.specs.inside.ExtentTables.{IsRelativeExtent, HoldsExtentsAlong};
+ghost use Rattle.abstraction_table.specs.inside.Terms.{first_in, stride_of, own_count, IsTermFrom, Brings, IsTermBrought, HoldTermsFrom, HoldsTermsAlong, HoldTerms};
 ghost use Rattle.base.specs.declared.limits.TheConstants.{PAIRS_LIMIT};
 
 use crate::digits::Digit;
@@ -19,7 +18,7 @@ use grid_quantiser::Extent;
 use plant_record::Plant;
 use std::alloc::{AllocError, Global};
 use std::thread::Threads;
-use successor_box::{INDEX_COLUMNS, Slopes};
+use successor_box::{INDEX_COLUMNS, Sampled};
 
 /// Terms are listed where there are at least so many pairs for each.
 const PAIRS_FOR_EACH_TERM: usize = 8;
@@ -86,11 +85,11 @@ impl TermTable {
     #[inline]
     pub(crate) fn term(&self, p: &Plant, state: u32, first: u32, own: u32, input: u32) -> PairBox
         requires plant { IsWithinLimits p.now }
-        requires table { IsTermTableOf p.now state self.now }
+        requires table { HoldsTermsAlong p.now state self.now }
         requires state { state < length p.now.equations }
         requires cell { (c : ℕ) × Brings p.now state self.now first own c }
         requires input { input < vectors_of p.now.inputs }
-        ensures { (c u : ℕ) → Brings p.now state self.now first own c → u < vectors_of p.now.inputs → slice_index self.now.inputs.items u ≡ slice_index self.now.inputs.items input → IsTermAt p.now c u state result }
+        ensures { IsTermBrought p.now state self.now first own input result }
     {
         let slot = first as usize + self.inputs[input as usize] as usize;
         match &self.terms {
@@ -117,19 +116,16 @@ fn term_of(p: &Plant, state: u32, stride: u32, extent: Option<Extent>, indices: 
 pub(crate) fn build_tables<R: Threads + Sync>(
     rt: &R,
     alloc: Global,
-    p: &Plant,
-    s: &Slopes,
+    sampled: &Sampled<'_>,
 ) -> Result<Vec<TermTable>, AllocError>
-    requires plant { IsWithinLimits p.now }
-    requires slopes { s.now ≡ deviations_of p.now }
-    requires fits { HasNoOverflow p.now }
-    ensures { IfOk result (λ tables. AreTermTablesOf p.now tables.items) }
+    ensures { IfOk result (λ tables. HoldTerms sampled.now.plant.now tables.items) }
 {
+    let p = sampled.plant;
     let mut tables = Vec::new(alloc);
     let mut stride = p.grid().cells();
     for state in 0..p.states() {
         stride /= p.grid().count(state);
-        let extents = build_table(rt, alloc, p, s, state)?;
+        let extents = build_table(rt, alloc, sampled, state)?;
         tables.push(build_terms(alloc, p, state, stride, extents)?)?;
     }
     Ok(tables)
@@ -146,8 +142,8 @@ fn build_terms(
     requires plant { IsWithinLimits p.now }
     requires state { state < length p.now.equations }
     requires stride { stride ≡ stride_of p.now state }
-    requires table { IsExtentTableOf p.now state table }
-    ensures { IfOk result (λ terms. IsTermTableOf p.now state terms) }
+    requires table { HoldsExtentsAlong p.now state table }
+    ensures { IfOk result (λ terms. HoldsTermsAlong p.now state terms) }
 {
     let own = own_indices_along(p, state, table.moves);
     let pairs = p.grid().cells() as usize * p.vectors() as usize;
@@ -179,8 +175,8 @@ fn listed(
     requires stride { stride ≡ stride_of p.now state }
     requires own { own ≡ own_count p.now state }
     requires few { own * length table.extents.items ≤ PAIRS_LIMIT }
-    requires table { IsExtentTableOf p.now state table }
-    ensures { IfOk result (λ terms. IsTermTableOf p.now state terms) }
+    requires table { HoldsExtentsAlong p.now state table }
+    ensures { IfOk result (λ terms. HoldsTermsAlong p.now state terms) }
 {
     let ExtentTable {
         mut digits,
@@ -246,7 +242,7 @@ fn list_terms(
     requires few { own * length extents.now ≤ PAIRS_LIMIT }
     requires extents { All (IsRelativeExtent p.now state) extents.now }
     ensures long { IfOk result (λ terms. length terms.items ≡ own * length extents.now) }
-    ensures each { IfOk result (λ terms. (o k : ℕ) → o < own → k < length extents.now → IsTermFrom p.now state o (slice_index_or extents.now k None) (slice_index_or terms.items (o * length extents.now + k) None)) }
+    ensures each { IfOk result (λ terms. HoldTermsFrom p.now state own extents.now terms.items) }
 {
     let indices = extents.len();
     let all = own as usize * indices;

@@ -1,5 +1,5 @@
 -- The successor box of a pair, state by state.
-use Rattle.std.specs.Prelude.{◌≡◌, ℕ, ◌+◌, ◌-◌, ◌<◌, pos, Bool, not, ◌&&◌, ◌==◌, List, [], take, length, slice_index_or, Option, IsTrue, if◌then◌else◌, nat_lt}
+use Rattle.std.specs.Prelude.{◌≡◌, ℕ, ◌+◌, ◌-◌, ◌<◌, pos, Bool, not, ◌&&◌, ◌==◌, List, [], take, length, slice_index_or, Option, None, IsTrue, if◌then◌else◌, nat_lt}
 use Rattle.fixed_expr.specs.declared.lanes.TheConstants.{LANES}
 use Rattle.fixed_expr.specs.Mentions.{mentions}
 use Rattle.fixed_expr.specs.Moves.{shifts_with}
@@ -48,6 +48,10 @@ pub record IsPairInLane (p : Description) (indices : List (List ℕ)) (lane c u 
 -- each lane holds the indices of a cell and an input
 abbrev pub HasPairInEachLane : Description → List (List ℕ) → Type 0
 HasPairInEachLane p indices = (lane : ℕ) → lane < LANES → (c : ℕ) × (u : ℕ) × IsPairInLane p indices lane c u
+
+-- the extents of the first pairs in the lanes, along the axis of a state, on the prolonged axis
+abbrev pub HoldExtents : Description → List (List ℕ) → ℕ → List (Option Extent) → Type 0
+HoldExtents p indices i extents = (lane c u : ℕ) → lane < length extents → IsPairInLane p indices lane c u → IsExtentBeforeAt p c u i 0 (slice_index_or extents lane None)
 
 -- an extent depends on a variable that stands in the state's equation, but for the state itself where the extent moves with it
 abbrev pub depends_on : Description → ℕ → ℕ → Bool

@@ -1,12 +1,12 @@
 //! The ranges and the radii of a plant's variables.
 
 ghost use Rattle.std.specs.Prelude.{◌≡◌, ℕ, ◌<◌, length, take, slice_index_or, pos, neg_ℤ, ◌-ℤ◌};
-ghost use Rattle.grid_quantiser.specs.Axes.{no_axis, cells_of};
+ghost use Rattle.grid_quantiser.specs.Axes.{cells_of};
 ghost use Rattle.grid_quantiser.specs.Cells.{radius_of};
 ghost use Rattle.plant_record.specs.Limits.{IsWithinLimits};
 ghost use Rattle.plant_record.specs.Description.{axes_of, vectors_of};
-ghost use Rattle.successor_box.specs.SuccessorBoxes.{area_between, cell_area_of, radii_of};
-ghost use Rattle.successor_box.specs.inside.Area.{IsArea, IsAreaBetween, AreRadii, offsets_of, no_range, variables_of};
+ghost use Rattle.successor_box.specs.SuccessorBoxes.{cell_area_of, radii_of};
+ghost use Rattle.successor_box.specs.inside.Area.{IsArea, area_from, AreRadii, offsets_of, no_range, variables_of, axis_along};
 
 use crate::noise_centres::{noise_offset, noise_radius};
 use base::limits::VARIABLES_LIMIT;
@@ -40,7 +40,7 @@ pub(crate) fn cell_area(p: &Plant, c: u32, input: u32) -> [Interval; VARIABLES_L
 /// Where each variable lies, the states from one point to another.
 fn area_between(p: &Plant, low: &Point, high: &Point, input: u32) -> [Interval; VARIABLES_LIMIT]
     requires { input < vectors_of p.now.inputs }
-    ensures { IsAreaBetween p.now (take (length p.now.states) low.now) (take (length p.now.states) high.now) input result }
+    ensures { take (variables_of p.now) result ≡ area_from p.now low.now high.now input }
 {
     let mut area = [NO_RANGE; VARIABLES_LIMIT];
     for k in 0..p.variables() {
@@ -54,7 +54,7 @@ fn range(p: &Plant, low: &Point, high: &Point, input: u32, k: u32) -> Interval
     requires plant { IsWithinLimits p.now }
     requires input { input < vectors_of p.now.inputs }
     requires variable { k < variables_of p.now }
-    ensures { result ≡ slice_index_or (area_between p.now (take (length p.now.states) low.now) (take (length p.now.states) high.now) input) k no_range }
+    ensures { result ≡ slice_index_or (area_from p.now low.now high.now input) k no_range }
 {
     let states = p.states();
     let inputs = p.input_variables();
@@ -98,8 +98,8 @@ pub(crate) fn offset(p: &Plant, k: u32) -> Interval
 fn cell_offset(p: &Plant, state: u32) -> Interval
     requires plant { IsWithinLimits p.now }
     requires state { state < length p.now.states }
-    ensures low { result.lo ≡ neg_ℤ (radius_of (slice_index_or (axes_of p.now) state no_axis)) }
-    ensures high { result.hi ≡ ((slice_index_or (axes_of p.now) state no_axis).width -ℤ pos 1) -ℤ radius_of (slice_index_or (axes_of p.now) state no_axis) }
+    ensures low { result.lo ≡ neg_ℤ (radius_of (axis_along p.now state)) }
+    ensures high { result.hi ≡ ((axis_along p.now state).width -ℤ pos 1) -ℤ radius_of (axis_along p.now state) }
 {
     let grid = p.grid();
     let low = grid.low(0)[state as usize];

@@ -6,81 +6,60 @@ ghost use Rattle.fixed_expr.specs.NarrowValues.{IsNarrow};
 ghost use Rattle.fixed_expr.specs.Value.{IsWellFormed};
 ghost use Rattle.interval_eval.specs.LaneSpans.{interval_in, area_in};
 ghost use Rattle.interval_eval.specs.Span.{SpanStaysInRange, span_of};
-ghost use Rattle.plant_record.specs.Limits.{IsWithinLimits};
-ghost use Rattle.plant_record.specs.Steps.{equation_at};
-ghost use Rattle.successor_box.specs.SuccessorBoxes.{cell_area_of};
-ghost use Rattle.successor_box.specs.Deviations.{HasNoOverflow};
-ghost use Rattle.successor_box.specs.PairExtents.{IsPairInLane, HasPairInEachLane};
+ghost use Rattle.successor_box.specs.PairExtents.{HasPairInEachLane};
 ghost use Rattle.successor_box.specs.inside.Area.{variables_of, no_range};
-ghost use Rattle.successor_box.specs.inside.Blocks.{AreCentralValues, AreCellAreas};
+ghost use Rattle.successor_box.specs.inside.Blocks.{HoldsInLanes, HoldSpans, HoldCellAreas, HoldCellRanges};
 ghost use Rattle.base.specs.declared.limits.TheConstants.{VARIABLES_LIMIT};
 
 use crate::area::{NO_RANGE, offset};
-use crate::index_columns::IndexColumns;
+use crate::block::Block;
 use base::limits::VARIABLES_LIMIT;
 use fixed_expr::{Expr, LANES};
 use interval_eval::{Interval, IntervalColumn, NO_INTERVALS, span, span_lanes};
-use plant_record::Plant;
 
-/// The span of an equation over the cell of each pair, given by the values of the variables at its centre.
-pub(crate) fn spans(
-    p: &Plant,
-    indices: &IndexColumns,
-    columns: &[[i64; LANES]],
-    state: u32,
-) -> [Interval; LANES]
-    requires fits { HasNoOverflow p.now }
-    requires pairs { HasPairInEachLane p.now indices.now }
-    requires state { state < length p.now.equations }
-    requires columns { AreCentralValues p.now indices.now columns.now }
-    ensures { (j c u : ℕ) → j < LANES → IsPairInLane p.now indices.now j c u → slice_index_or result j no_range ≡ span_of (equation_at p.now state) (cell_area_of p.now c u) }
-{
-    let area = cell_columns(p, indices, columns);
-    spans_in_lanes(p.equation(state), &area[..p.variables() as usize])
-}
-
-/// The ranges of the variables over the cells of the pairs, one column for each. Nothing is said of the columns past the last.
-fn cell_columns(
-    p: &Plant,
-    indices: &IndexColumns,
-    columns: &[[i64; LANES]],
-) -> [IntervalColumn; VARIABLES_LIMIT]
-    requires pairs { HasPairInEachLane p.now indices.now }
-    requires columns { AreCentralValues p.now indices.now columns.now }
-    ensures { AreCellAreas p.now indices.now result }
-{
-    let mut area = [NO_INTERVALS; VARIABLES_LIMIT];
-    for k in 0..p.variables() {
-        area[k as usize] = cell_column(p, indices, columns, k);
+impl Block<'_> {
+    /// The span of an equation over the cell of each pair.
+    pub(crate) fn spans(&self, state: u32) -> [Interval; LANES]
+        requires pairs { HasPairInEachLane self.now.sampled.plant.now self.now.indices.now }
+        requires state { state < length self.now.sampled.plant.now.equations }
+        ensures { HoldSpans self.now.sampled.plant.now self.now.indices.now state result }
+    {
+        let p = self.sampled.plant;
+        let area = self.cell_columns();
+        spans_in_lanes(p.equation(state), &area[..p.variables() as usize])
     }
-    area
-}
 
-/// The ranges of one variable: its values at the centres, moved by how far the ends of its range lie from there.
-fn cell_column(
-    p: &Plant,
-    indices: &IndexColumns,
-    columns: &[[i64; LANES]],
-    k: u32,
-) -> IntervalColumn
-    requires plant { IsWithinLimits p.now }
-    requires pairs { HasPairInEachLane p.now indices.now }
-    requires columns { AreCentralValues p.now indices.now columns.now }
-    requires variable { k < variables_of p.now }
-    ensures { (j c u : ℕ) → j < LANES → IsPairInLane p.now indices.now j c u → interval_in result j ≡ slice_index_or (cell_area_of p.now c u) k no_range }
-{
-    let offset = offset(p, k);
-    let centres = &columns[k as usize];
-    IntervalColumn {
-        lo: moved(centres, offset.lo as i64),
-        hi: moved(centres, offset.hi as i64),
+    /// The ranges of the variables over the cells of the pairs, one column for each. Nothing is said of the columns past the last.
+    fn cell_columns(&self) -> [IntervalColumn; VARIABLES_LIMIT]
+        requires pairs { HasPairInEachLane self.now.sampled.plant.now self.now.indices.now }
+        ensures { HoldCellAreas self.now.sampled.plant.now self.now.indices.now result }
+    {
+        let mut area = [NO_INTERVALS; VARIABLES_LIMIT];
+        for k in 0..self.sampled.plant.variables() {
+            area[k as usize] = self.cell_column(k);
+        }
+        area
+    }
+
+    /// The ranges of one variable: its values at the centres, moved by how far the ends of its range lie from there.
+    fn cell_column(&self, k: u32) -> IntervalColumn
+        requires pairs { HasPairInEachLane self.now.sampled.plant.now self.now.indices.now }
+        requires variable { k < variables_of self.now.sampled.plant.now }
+        ensures { HoldCellRanges self.now.sampled.plant.now self.now.indices.now k result }
+    {
+        let offset = offset(self.sampled.plant, k);
+        let centres = &self.columns[k as usize];
+        IntervalColumn {
+            lo: moved(centres, offset.lo as i64),
+            hi: moved(centres, offset.hi as i64),
+        }
     }
 }
 
 /// Each number moved by another.
 fn moved(numbers: &[i64; LANES], by: i64) -> [i64; LANES]
     requires { (j : ℕ) → j < LANES → IsNarrow (slice_index_or numbers.now j (pos 0) +ℤ by) }
-    ensures { (j : ℕ) → j < LANES → slice_index_or result j (pos 0) ≡ slice_index_or numbers.now j (pos 0) +ℤ by }
+    ensures { HoldsInLanes (pos 0) (λ j. slice_index_or numbers.now j (pos 0) +ℤ by) result }
 {
     let mut moved = [0; LANES];
     for j in 0..LANES {
@@ -94,7 +73,7 @@ fn spans_in_lanes(e: &Expr, columns: &[IntervalColumn]) -> [Interval; LANES]
     requires formed { IsWellFormed (expression_of e.now) (length columns.now) }
     requires few { length columns.now ≤ VARIABLES_LIMIT }
     requires fits { (j : ℕ) → j < LANES → SpanStaysInRange (expression_of e.now) (area_in columns.now j) }
-    ensures { (j : ℕ) → j < LANES → slice_index_or result j no_range ≡ span_of (expression_of e.now) (area_in columns.now j) }
+    ensures { HoldsInLanes no_range (λ j. span_of (expression_of e.now) (area_in columns.now j)) result }
 {
     let mut narrow = NO_INTERVALS;
     match span_lanes(e, columns, &mut narrow) {
@@ -106,7 +85,7 @@ fn spans_in_lanes(e: &Expr, columns: &[IntervalColumn]) -> [Interval; LANES]
 /// The same intervals in 128 bits.
 #[inline]
 fn widened(narrow: &IntervalColumn) -> [Interval; LANES]
-    ensures { (j : ℕ) → j < LANES → slice_index_or result j no_range ≡ interval_in narrow.now j }
+    ensures { HoldsInLanes no_range (λ j. interval_in narrow.now j) result }
 {
     let mut wide = [NO_RANGE; LANES];
     for j in 0..LANES {
@@ -121,7 +100,7 @@ fn wide_spans_in_lanes(e: &Expr, columns: &[IntervalColumn]) -> [Interval; LANES
     requires formed { IsWellFormed (expression_of e.now) (length columns.now) }
     requires few { length columns.now ≤ VARIABLES_LIMIT }
     requires fits { (j : ℕ) → j < LANES → SpanStaysInRange (expression_of e.now) (area_in columns.now j) }
-    ensures { (j : ℕ) → j < LANES → slice_index_or result j no_range ≡ span_of (expression_of e.now) (area_in columns.now j) }
+    ensures { HoldsInLanes no_range (λ j. span_of (expression_of e.now) (area_in columns.now j)) result }
 {
     let mut spans = [NO_RANGE; LANES];
     for j in 0..LANES {

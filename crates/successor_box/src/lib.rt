@@ -6,6 +6,7 @@
 #![tactic(auto)]
 
 mod area;
+mod block;
 mod cell_spans;
 mod extents;
 mod index_columns;
@@ -13,12 +14,13 @@ mod lane_extents;
 pub mod laws;
 mod noise_centres;
 mod one_pair;
+mod sampled;
 mod slope_fault;
 mod slopes;
 mod variable_columns;
 
 pub use index_columns::{INDEX_COLUMNS, IndexColumns};
-pub use lane_extents::relative_extents;
 pub use one_pair::successors;
+pub use sampled::Sampled;
 pub use slope_fault::SlopeFault;
 pub use slopes::{Slopes, find_slopes};

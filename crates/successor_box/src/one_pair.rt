@@ -4,7 +4,7 @@ ghost use Rattle.plant_record.specs.Description.{axes_of, vectors_of};
 ghost use Rattle.successor_box.specs.SuccessorBoxes.{IsBoxOf};
 ghost use Rattle.successor_box.specs.Deviations.{HasNoOverflow, deviations_of};
 
-use crate::extents::extent;
+use crate::sampled::Sampled;
 use crate::slopes::Slopes;
 use base::limits::STATES_LIMIT;
 use grid_quantiser::CellBox;
@@ -19,9 +19,10 @@ pub fn successors(p: &Plant, s: &Slopes, c: u32, input: u32) -> Option<CellBox>
     requires input { input < vectors_of p.now.inputs }
     ensures { IsBoxOf p.now c input result }
 {
+    let sampled = Sampled::of(p, s);
     let mut extents = [None; STATES_LIMIT];
     for state in 0..p.equations().len() {
-        extents[state] = extent(p, s, c, input, state as u32);
+        extents[state] = sampled.extent(c, input, state as u32);
     }
     p.grid().box_with(&extents)
 }

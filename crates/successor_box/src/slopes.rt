@@ -5,9 +5,9 @@ ghost use Rattle.fixed_expr.specs.Value.{IsWellFormed};
 ghost use Rattle.growth_bound.specs.Deviation.{deviation_of};
 ghost use Rattle.plant_record.specs.Description.{vectors_of};
 ghost use Rattle.plant_record.specs.Steps.{equation_at};
-ghost use Rattle.successor_box.specs.SuccessorBoxes.{deviation_at};
 ghost use Rattle.successor_box.specs.Deviations.{HasNoOverflowOver, HasNoOverflowAt, HasNoOverflow, deviations_of, deviations_along, IsOverflow};
 ghost use Rattle.successor_box.specs.inside.Area.{AreRadii, IsOverflowAlong};
+ghost use Rattle.successor_box.specs.inside.Blocks.{deviation_along};
 
 use crate::area::{domain_area, radii};
 use crate::slope_fault::SlopeFault;
@@ -105,7 +105,7 @@ fn deviation_at(
     requires equation { equation < length p.now.equations }
     requires input { input < vectors_of p.now.inputs }
     requires radii { AreRadii p.now radii.now }
-    ensures { SomeIff result (HasNoOverflowAt p.now equation input) (deviation_at p.now input (equation_at p.now equation)) }
+    ensures { SomeIff result (HasNoOverflowAt p.now equation input) (deviation_along p.now equation input) }
 {
     let count = p.variables() as usize;
     deviation_over(

@@ -1,15 +1,13 @@
 //! The values of the variables at the centres of many pairs' cells, in columns.
 ghost use Rattle.std.specs.Prelude.{◌≡◌, ℕ, ◌<◌, pos, length, map, slice_index_or, IfSome};
 ghost use Rattle.fixed_expr.specs.declared.lanes.TheConstants.{LANES};
-ghost use Rattle.grid_quantiser.specs.Axes.{no_axis};
 ghost use Rattle.grid_quantiser.specs.Indices.{middle_of};
-ghost use Rattle.plant_record.specs.Description.{axes_of, vectors_of, vector_of};
-ghost use Rattle.plant_record.specs.ValueIndices.{value_index};
+ghost use Rattle.plant_record.specs.Description.{vectors_of};
 ghost use Rattle.plant_record.specs.Limits.{IsWithinLimits};
-ghost use Rattle.successor_box.specs.SuccessorBoxes.{noise_centre, central_values};
-ghost use Rattle.successor_box.specs.PairExtents.{IsPairInLane, HasPairInEachLane};
-ghost use Rattle.successor_box.specs.inside.Area.{variables_of};
-ghost use Rattle.successor_box.specs.inside.Blocks.{AreInputNumbers, AreCentralValues};
+ghost use Rattle.successor_box.specs.SuccessorBoxes.{noise_centre};
+ghost use Rattle.successor_box.specs.PairExtents.{HasPairInEachLane};
+ghost use Rattle.successor_box.specs.inside.Area.{variables_of, axis_along};
+ghost use Rattle.successor_box.specs.inside.Blocks.{HoldsBelow, HoldsInLanes, HoldInputNumbers, HoldVariable, HoldCentralValues, index_in_lane, value_in_lane};
 
 use crate::index_columns::IndexColumns;
 use crate::noise_centres::noise_centre;
@@ -25,8 +23,8 @@ pub(crate) fn fill_columns(
 )
     requires long { length columns.old ≡ variables_of p.now }
     requires pairs { HasPairInEachLane p.now indices.now }
-    requires inputs { AreInputNumbers p.now indices.now inputs.now }
-    ensures { AreCentralValues p.now indices.now columns.new }
+    requires inputs { HoldInputNumbers p.now indices.now inputs.now }
+    ensures { HoldCentralValues p.now indices.now columns.new }
 {
     for k in 0..p.variables() {
         columns[k as usize] = column(p, indices, inputs, k);
@@ -37,9 +35,9 @@ pub(crate) fn fill_columns(
 fn column(p: &Plant, indices: &IndexColumns, inputs: &[u32; LANES], k: u32) -> [i64; LANES]
     requires plant { IsWithinLimits p.now }
     requires pairs { HasPairInEachLane p.now indices.now }
-    requires inputs { AreInputNumbers p.now indices.now inputs.now }
+    requires inputs { HoldInputNumbers p.now indices.now inputs.now }
     requires variable { k < variables_of p.now }
-    ensures { (j c u : ℕ) → j < LANES → IsPairInLane p.now indices.now j c u → slice_index_or result j (pos 0) ≡ slice_index_or (central_values p.now c u) k (pos 0) }
+    ensures { HoldVariable p.now indices.now k result }
 {
     let states = p.states();
     let inputs_count = p.input_variables();
@@ -56,8 +54,8 @@ fn column(p: &Plant, indices: &IndexColumns, inputs: &[u32; LANES], k: u32) -> [
 fn middles(p: &Plant, state: u32, indices: &[u32; LANES]) -> [i64; LANES]
     requires plant { IsWithinLimits p.now }
     requires state { state < length p.now.states }
-    requires within { (j : ℕ) → j < LANES → slice_index_or indices.now j 0 < (slice_index_or (axes_of p.now) state no_axis).count }
-    ensures { (j : ℕ) → j < LANES → slice_index_or result j (pos 0) ≡ middle_of (slice_index_or (axes_of p.now) state no_axis) (slice_index_or indices.now j 0) }
+    requires within { (j : ℕ) → j < LANES → slice_index_or indices.now j 0 < (axis_along p.now state).count }
+    ensures { HoldsInLanes (pos 0) (λ j. middle_of (axis_along p.now state) (slice_index_or indices.now j 0)) result }
 {
     let (first, width) = first_middle(p, state);
     let mut middles = [0; LANES];
@@ -71,8 +69,8 @@ fn middles(p: &Plant, state: u32, indices: &[u32; LANES]) -> [i64; LANES]
 fn first_middle(p: &Plant, state: u32) -> (i64, i64)
     requires plant { IsWithinLimits p.now }
     requires state { state < length p.now.states }
-    ensures middle { result.0 ≡ middle_of (slice_index_or (axes_of p.now) state no_axis) 0 }
-    ensures width { result.1 ≡ (slice_index_or (axes_of p.now) state no_axis).width }
+    ensures middle { result.0 ≡ middle_of (axis_along p.now state) 0 }
+    ensures width { result.1 ≡ (axis_along p.now state).width }
 {
     let grid = p.grid();
     let low = grid.low(0)[state as usize];
@@ -91,8 +89,8 @@ fn input_values(
     requires plant { IsWithinLimits p.now }
     requires variable { variable < length p.now.inputs }
     requires inputs { (j : ℕ) → j < LANES → slice_index_or inputs.now j 0 < vectors_of p.now.inputs }
-    requires indices { (j : ℕ) → j < LANES → slice_index_or indices.now j 0 ≡ value_index p.now.inputs variable (slice_index_or inputs.now j 0) }
-    ensures { (j : ℕ) → j < LANES → slice_index_or result j (pos 0) ≡ slice_index_or (vector_of p.now.inputs (slice_index_or inputs.now j 0)) variable (pos 0) }
+    requires indices { HoldsInLanes 0 (index_in_lane p.now variable inputs.now) indices.now }
+    ensures { HoldsInLanes (pos 0) (value_in_lane p.now variable inputs.now) result }
 {
     let mut values = [0; LANES];
     for j in 0..LANES {
@@ -115,10 +113,10 @@ fn input_value(
     requires plant { IsWithinLimits p.now }
     requires variable { variable < length p.now.inputs }
     requires inputs { (j : ℕ) → j < LANES → slice_index_or inputs.now j 0 < vectors_of p.now.inputs }
-    requires indices { (j : ℕ) → j < LANES → slice_index_or indices.now j 0 ≡ value_index p.now.inputs variable (slice_index_or inputs.now j 0) }
+    requires indices { HoldsInLanes 0 (index_in_lane p.now variable inputs.now) indices.now }
     requires lane { j < LANES }
-    requires earlier { (i : ℕ) → i < j → slice_index_or values.now i (pos 0) ≡ slice_index_or (vector_of p.now.inputs (slice_index_or inputs.now i 0)) variable (pos 0) }
-    ensures { result ≡ slice_index_or (vector_of p.now.inputs (slice_index_or inputs.now j 0)) variable (pos 0) }
+    requires earlier { HoldsBelow j (pos 0) (value_in_lane p.now variable inputs.now) values.now }
+    ensures { result ≡ value_in_lane p.now variable inputs.now j }
 {
     match lane_before(indices, p.input_values(variable) as usize, j) {
         Some(i) => values[i],

@@ -5,8 +5,10 @@ use Rattle.grid_quantiser.specs.declared.boxes.CellBox.{CellBox}
 use Rattle.grid_quantiser.specs.Axes.{no_axis, cells_of}
 use Rattle.plant_record.specs.Description.{Description, axes_of, vectors_of}
 use Rattle.successor_box.specs.SuccessorBoxes.{IsBoxOf}
+use Rattle.grid_quantiser.specs.ExtentBoxes.{one_cell}
 use Rattle.abstraction_table.specs.declared.digits.Digit.{Digit}
 use Rattle.abstraction_table.specs.declared.terms.TermTable.{TermTable}
+use Rattle.abstraction_table.specs.inside.Terms.{AreIndicesOf, AreSumsAlong}
 
 -- the last state
 abbrev pub last_state : Description → ℕ
@@ -25,6 +27,15 @@ pub record AreInLine (p : Description) (c n : ℕ) : Type 0 where
 -- a cell is in another's row
 abbrev pub IsInLineOf : Description → ℕ → ℕ → Type 0
 IsInLineOf p c d = (d < cells_of (axes_of p)) × (d / line_length p ≡ c / line_length p)
+
+-- boxes, one for each input, are the sums of each cell in the row of one with these indices
+abbrev pub AreSumsOfLine : Description → ℕ → List ℕ → List (Option CellBox) → Type 0
+AreSumsOfLine p states indices boxes = (c d : ℕ) → c < cells_of (axes_of p) → AreIndicesOf p c indices → IsInLineOf p c d → AreSumsAlong p states d one_cell boxes
+
+-- sums of a cell with these indices become its boxes
+abbrev pub BecomeBoxes : Description → ℕ → List ℕ → List (Option CellBox) → List (Option CellBox) → Type 0
+BecomeBoxes p states indices old new =
+    (c : ℕ) → c < cells_of (axes_of p) → AreIndicesOf p c indices → AreSumsAlong p states c one_cell old → (u : ℕ) → u < vectors_of p.inputs → IsBoxOf p c u (slice_index_or new u None)
 
 -- The terms of a state's table depend on no slot along the last state, nor move with it.
 pub record StaysAlongLines (last i : ℕ) (t : TermTable) : Type 0 where

@@ -1,10 +1,11 @@
 -- Pairs of a cell and an input as numbers of digits, one for each state and each input variable.
 use Rattle.std.specs.Prelude.{◌≡◌, ℕ, ◌+◌, ◌*◌, ◌/◌, ◌%◌, ◌<◌, ◌≤◌, List, [], ◌∷◌, ◌++◌, map, drop, length, slice_index_or, sum_by, IsTrue, IsFalse}
 use Rattle.std.specs.List.{All}
+use Rattle.fixed_expr.specs.declared.lanes.TheConstants.{LANES}
 use Rattle.grid_quantiser.specs.declared.axis.Axis.{Axis}
 use Rattle.plant_record.specs.declared.variables.InputVariable.{InputVariable}
-use Rattle.plant_record.specs.Description.{Description, axes_of}
-use Rattle.successor_box.specs.PairExtents.{depends_on}
+use Rattle.plant_record.specs.Description.{Description, axes_of, vectors_of}
+use Rattle.successor_box.specs.PairExtents.{depends_on, index_in, IsPairInLane}
 use Rattle.abstraction_table.specs.declared.digits.Digit.{Digit}
 use Rattle.abstraction_table.specs.declared.digits.Digits.{Digits}
 
@@ -28,6 +29,18 @@ slot_at digits pair = with_weights (λ (d : Digit). d.in_pair) (λ (d : Digit). 
 -- the pair that has the digits of a slot, and 0 in the other variables
 abbrev pub pair_at : List Digit → ℕ → ℕ
 pair_at digits slot = with_weights (λ (d : Digit). d.in_table) (λ (d : Digit). d.in_pair) digits slot
+
+-- the index in a variable of the pair that has the digits of a slot
+abbrev pub index_at : Description → List Digit → ℕ → ℕ → ℕ
+index_at p digits variable slot = index_in p (pair_at digits slot / vectors_of p.inputs) (pair_at digits slot % vectors_of p.inputs) variable
+
+-- the lanes hold the indices of the pairs that have the digits of a slot and of the next ones
+abbrev pub HoldPairsFrom : Description → List Digit → ℕ → List (List ℕ) → Type 0
+HoldPairsFrom p digits slot indices = (j : ℕ) → j < LANES → IsPairInLane p indices j (pair_at digits (slot + j) / vectors_of p.inputs) (pair_at digits (slot + j) % vectors_of p.inputs)
+
+-- what each input brings to the slot of an extent
+abbrev pub HoldSlots : Description → List Digit → List ℕ → Type 0
+HoldSlots p digits inputs = (u : ℕ) → u < vectors_of p.inputs → slice_index_or inputs u 0 ≡ slot_at digits u
 
 -- A digit of a number, with the weight t and below m, and for how many numbers from this one on it stays the same.
 pub record IsDigitAt (t m n digit left : ℕ) : Type 0 where

@@ -37,3 +37,11 @@ pub record IsExtentTableOf (p : Description) (i : ℕ) (t : ExtentTable) : Type 
 abbrev pub IsExtentFor : Description → ℕ → List Digit → ℕ → Option Extent → Type 0
 IsExtentFor p i digits slot extent =
     IsExtentBeforeAt p (pair_at digits slot / vectors_of p.inputs) (pair_at digits slot % vectors_of p.inputs) i (shifted_by p i (pair_at digits slot / vectors_of p.inputs)) extent
+
+-- the extents of the pairs that have the digits of a slot and of the next ones
+abbrev pub HoldExtentsFrom : Description → ℕ → List Digit → ℕ → List (Option Extent) → Type 0
+HoldExtentsFrom p i digits slot extents = (j : ℕ) → j < length extents → IsExtentFor p i digits (slot + j) (slice_index_or extents j None)
+
+-- the extents of all slots
+abbrev pub HoldExtentsAt : Description → ℕ → List Digit → List (Option Extent) → Type 0
+HoldExtentsAt p i digits extents = (slot : ℕ) → slot < length extents → IsExtentFor p i digits slot (slice_index_or extents slot None)

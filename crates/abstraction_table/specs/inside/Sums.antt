@@ -1,5 +1,5 @@
 -- Boxes as sums.
-use Rattle.std.specs.Prelude.{ℕ, ◌+◌, ◌*◌, Option, None, Some}
+use Rattle.std.specs.Prelude.{◌≡◌, ℕ, ◌+◌, ◌*◌, ◌<◌, List, length, slice_index, slice_index_or, Option, None, Some}
 use Rattle.grid_quantiser.specs.declared.boxes.CellBox.{CellBox}
 use Rattle.grid_quantiser.specs.declared.extents.Extent.{Extent}
 
@@ -13,6 +13,14 @@ abbrev pub plus : Option CellBox → Option CellBox → Option CellBox
 plus None b = None
 plus (Some a) None = None
 plus (Some a) (Some b) = Some (record { first = a.first + b.first; last = a.last + b.last })
+
+-- the term at an input's slot
+abbrev pub term_under : List (Option CellBox) → List ℕ → ℕ → Option CellBox
+term_under terms inputs u = slice_index_or terms (slice_index inputs u) None
+
+-- each box is changed
+abbrev pub AreChangedBy : (ℕ → Option CellBox → Option CellBox) → List (Option CellBox) → List (Option CellBox) → Type 0
+AreChangedBy change old new = (u : ℕ) → u < length old → slice_index_or new u None ≡ change u (slice_index_or old u None)
 
 -- a box on the earlier axes, in a grid of which one of its cells makes so many
 abbrev pub enlarged : ℕ → Option CellBox → Option CellBox

@@ -4,6 +4,7 @@ use Rattle.std.specs.List.{All}
 use Rattle.grid_quantiser.specs.declared.boxes.CellBox.{CellBox}
 use Rattle.grid_quantiser.specs.declared.extents.Extent.{Extent}
 use Rattle.grid_quantiser.specs.Axes.{no_axis, cells_of}
+use Rattle.grid_quantiser.specs.ExtentBoxes.{one_cell}
 use Rattle.plant_record.specs.Description.{Description, axes_of, vectors_of}
 use Rattle.successor_box.specs.PairExtents.{index_in, moves_along, shifted_by, IsExtentAt, IsExtentBeforeAt, IsBoxAlong}
 use Rattle.abstraction_table.specs.declared.digits.Digit.{Digit}
@@ -29,6 +30,11 @@ IsTermAt p c u i b = (extent : Option Extent) × IsExtentAt p c u i extent × (b
 -- what an extent adds to the boxes of the pairs that have it so many indices before
 abbrev pub IsTermFrom : Description → ℕ → ℕ → Option Extent → Option CellBox → Type 0
 IsTermFrom p i indices extent b = (c u : ℕ) → IsExtentBeforeAt p c u i indices extent → IsTermAt p c u i b
+
+-- the terms of extents, moved by each of so many indices, one after another
+abbrev pub HoldTermsFrom : Description → ℕ → ℕ → List (Option Extent) → List (Option CellBox) → Type 0
+HoldTermsFrom p i own extents terms =
+    (o k : ℕ) → o < own → k < length extents → IsTermFrom p i o (slice_index_or extents k None) (slice_index_or terms (o * length extents + k) None)
 
 -- Two boxes have as their sum the box of a cell under an input on the axes of the first so many states, in cells of the whole grid.
 pub record IsSumAlong (p : Description) (states c u : ℕ) (base rest : Option CellBox) : Type 0 where
@@ -82,6 +88,31 @@ pub record Brings (p : Description) (i : ℕ) (t : TermTable) (brought own c : �
   pub first : brought ≡ first_of p t.digits.items c
   pub moves : own ≡ shifted_by p i c
 
+-- a box is what the extents of all pairs add whose cells bring so much, under each input that has the slot of this one
+abbrev pub IsTermBrought : Description → ℕ → TermTable → ℕ → ℕ → ℕ → Option CellBox → Type 0
+IsTermBrought p i t brought own input b =
+    (c u : ℕ) → Brings p i t brought own c → u < vectors_of p.inputs → slice_index t.inputs.items u ≡ slice_index t.inputs.items input → IsTermAt p c u i b
+
 -- indices along the axes bring to a state's table what a cell brings
 abbrev pub BringAs : Description → ℕ → TermTable → List ℕ → ℕ → Type 0
 BringAs p i t indices c = Brings p i t (first_in t indices) (if t.moves then slice_index indices i else 0) c
+
+-- a box is a state's term of each cell that brings this, under each input
+abbrev pub IsFreeTerm : Description → ℕ → (ℕ → Type 0) → Option CellBox → Type 0
+IsFreeTerm p i brings b = (c u : ℕ) → brings c → u < vectors_of p.inputs → IsTermAt p c u i b
+
+-- boxes are the sums of a cell with these indices
+abbrev pub HasCell : Description → ℕ → List ℕ → List (Option CellBox) → Type 0
+HasCell p states indices boxes = (c : ℕ) × (c < cells_of (axes_of p)) × AreIndicesOf p c indices × AreSumsAlong p states c one_cell boxes
+
+-- boxes are with one more the sums of a cell that brings this
+abbrev pub HasSums : Description → ℕ → (ℕ → Type 0) → List (Option CellBox) → Type 0
+HasSums p i brings boxes = (c : ℕ) × (base : Option CellBox) × brings c × AreSumsAlong p i c base boxes
+
+-- the sums of each cell that brings this become its sums on the axes of one more state
+abbrev pub AddsState : Description → ℕ → (ℕ → Type 0) → Option CellBox → Option CellBox → List (Option CellBox) → List (Option CellBox) → Type 0
+AddsState p i brings base after old new = (c : ℕ) → brings c → AreSumsAlong p i c base old → AreSumsAlong p (i + 1) c after new
+
+-- the same whatever the one more is
+abbrev pub AddsTerms : Description → ℕ → (ℕ → Type 0) → List (Option CellBox) → List (Option CellBox) → Type 0
+AddsTerms p i brings old new = (c : ℕ) (base : Option CellBox) → brings c → AreSumsAlong p i c base old → AreSumsAlong p (i + 1) c base new

@@ -1,7 +1,8 @@
 -- The ranges and the radii of a plant's variables, in arrays that are longer.
-use Rattle.std.specs.Prelude.{◌≡◌, ℕ, ◌+◌, ◌<◌, ℤ, pos, neg_ℤ, ◌+ℤ◌, ◌-ℤ◌, List, ◌++◌, length, map, take}
+use Rattle.std.specs.Prelude.{◌≡◌, ℕ, ◌+◌, ◌<◌, ℤ, pos, neg_ℤ, ◌+ℤ◌, ◌-ℤ◌, List, ◌++◌, length, map, slice_index_or, take}
 use Rattle.interval_eval.specs.declared.interval.Interval.{Interval}
 use Rattle.grid_quantiser.specs.declared.axis.Axis.{Axis}
+use Rattle.grid_quantiser.specs.Axes.{no_axis}
 use Rattle.grid_quantiser.specs.Cells.{radius_of}
 use Rattle.plant_record.specs.declared.variables.NoiseVariable.{NoiseVariable}
 use Rattle.plant_record.specs.Description.{Description, axes_of, vectors_of, vector_of}
@@ -14,6 +15,10 @@ use Rattle.successor_box.specs.Deviations.{HasNoOverflowAt}
 abbrev pub variables_of : Description → ℕ
 variables_of p = length p.states + length p.inputs + length p.noises
 
+-- the axis of a state
+abbrev pub axis_along : Description → ℕ → Axis
+axis_along p i = slice_index_or (axes_of p) i no_axis
+
 abbrev pub no_range : Interval
 no_range = record { lo = pos 0; hi = pos 0 }
 
@@ -21,9 +26,9 @@ no_range = record { lo = pos 0; hi = pos 0 }
 abbrev pub IsArea : Description → ℕ → List Interval → Type 0
 IsArea p u area = take (variables_of p) area ≡ area_of p u
 
--- the same of an area in which the states lie between two points
-abbrev pub IsAreaBetween : Description → List ℤ → List ℤ → ℕ → List Interval → Type 0
-IsAreaBetween p lows highs u area = take (variables_of p) area ≡ area_between p lows highs u
+-- the ranges of the variables, the states lying between two points, which may have more numbers
+abbrev pub area_from : Description → List ℤ → List ℤ → ℕ → List Interval
+area_from p low high u = area_between p (take (length p.states) low) (take (length p.states) high) u
 
 -- the ends of the ranges over a cell, less the values at its centre
 abbrev pub offsets_of : Description → ℕ → List Interval

@@ -12,13 +12,13 @@ relative_extents-requires-clause-pairs c = λ row lt. (_, _, c.indices_from-indi
 
 pub returns-clause-each : goal.returns-clause-each
 returns-clause-each c = λ j below.
-    let p = c.args.p.now in
-    let plant = c.requires.plant.plant in
+    let p = c.args.sampled.now.plant.now in
+    let plant = c.args.sampled.now.within.plant in
     let sound = sound_plant p plant in
     let digits = c.args.digits.now.each.items in
     let pair : ℕ = pair_at digits (c.args.slot + j) in
     let v : ℕ = vectors_of p.inputs in
-    let lt : j < 32 = omega (arith, below, c.requires.few) in
+    let lt : j < 32 = omega (arith, below, c.relative_extents.ensures.long, c.requires.few) in
     let found = c.relative_extents.ensures.each j (pair / v) (pair % v) below (c.indices_from-indices.ensures j lt) in
     let first = first_slot p plant sound c.args.state digits c.args.digits.now.indices c.requires.digits (omega (arith, c.requires.state, sound.one_each)) (some_vectors p plant) (c.args.slot + j) in
     subst (λ (n : ℕ). IsExtentBeforeAt p (pair / v) (pair % v) c.args.state n (get_or c.relative_extents.new.extents j None)) (sym first) found

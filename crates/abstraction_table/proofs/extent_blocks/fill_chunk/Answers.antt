@@ -15,7 +15,7 @@ in_term a k xs ys j d short past lt = get_or-append_right (take a xs) (ys ++ pos
 
 pub loop-block-preserved : goal.loop-block-preserved
 loop-block-preserved c =
-    let p = c.args.p.now in
+    let p = c.args.sampled.now.plant.now in
     let digits = c.args.digits.now.each.items in
     let chunk = c.loop-block.chunk in
     let start : ℕ = c.loop-block.block * 32 in
@@ -35,6 +35,6 @@ loop-block-preserved c =
             let here : c.args.slot + start + i ≡ c.args.slot + j = omega (arith, past) in
             let inside : i < length (take size (drop start chunk)) = omega (arith, term, lt, past, within, c.min-end.ensures, so_far.long) in
             let below : i < length found = omega (arith, inside, c.fill_block.ensures.long) in
-            subst₂ (λ (n : ℕ) (extent : Option Extent). IsExtentFor p c.args.state digits n extent) here (sym (in_term start (end - start) chunk found j None short past below)) (c.fill_block.ensures.each i inside)
+            subst₂ (λ (n : ℕ) (extent : Option Extent). IsExtentFor p c.args.state digits n extent) here (sym (in_term start (end - start) chunk found j None short past below)) (c.fill_block.ensures.each i below)
       ];
     }

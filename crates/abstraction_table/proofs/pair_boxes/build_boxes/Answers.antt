@@ -13,7 +13,7 @@ use Rattle.abstraction_table.proofs.pair_boxes.build_boxes.Goals as goal
 -- few pairs, in one call
 pub returns-then-pairs-le-BOXES_PER_TASK : goal.returns-then-pairs-le-BOXES_PER_TASK
 returns-then-pairs-le-BOXES_PER_TASK g c =
-    let p = c.args.p.now in
+    let p = c.args.sampled.now.plant.now in
     let found = c.boxes_of_cells.new.boxes in
     let pairs : c.cells.result * c.vectors.result ≡ pairs_of p =
     ap (λ (n : ℕ). n * c.vectors.result) (c.cells.ensures.count ∙ ap cells_of c.grid.ensures) ∙ ap (λ (n : ℕ). cells_of (axes_of p) * n) c.vectors.ensures.count
@@ -24,7 +24,7 @@ returns-then-pairs-le-BOXES_PER_TASK g c =
 -- each chunk is the boxes of some cells
 pub par_chunks_mut_for_each-requires-clause-accepts : goal.par_chunks_mut_for_each-requires-clause-accepts
 par_chunks_mut_for_each-requires-clause-accepts g c κs within = λ start chunk here.
-    let p = c.args.p.now in
+    let p = c.args.sampled.now.plant.now in
     let inputs : ℕ = c.vectors.result in
     let cells : c.cells.result ≡ cells_of (axes_of p) = c.cells.ensures.count ∙ ap cells_of c.grid.ensures in
     let pairs : length c.deref_mut-2.result.now ≡ cells_of (axes_of p) * inputs = omega (arith, c.deref_mut-2.ensures.len, c.in_ok-boxes.ensures.len, ap (λ (n : ℕ). n * inputs) cells) in
@@ -38,11 +38,11 @@ par_chunks_mut_for_each-requires-clause-accepts g c κs within = λ start chunk 
     ∙ ap (λ (boxes : List (Option CellBox)). get_or boxes (start + k) d) (c.deref_mut-2.ensures.value ∙ c.in_ok-boxes.ensures.items_if_clones_equal (λ y same. same))
     ∙ get_or-replicate _ (start + k) c.new.result d (omega (arith, lt, here.in_bounds, c.deref_mut-2.ensures.len, c.in_ok-boxes.ensures.len))
     ∙ c.new.ensures
-    in (c.requires.plant, (rw c.as_slice-tables.ensures.value c.in_ok-tables.ensures, (c.vectors.ensures.count, (c.vectors.ensures.some, (whole, each)))))
+    in (c.args.sampled.now.within, (rw c.as_slice-tables.ensures.value c.in_ok-tables.ensures, (c.vectors.ensures.count, (c.vectors.ensures.some, (whole, each)))))
 
 pub returns : goal.returns
 returns g c =
-    let p = c.args.p.now in
+    let p = c.args.sampled.now.plant.now in
     let found = c.par_chunks_mut_for_each.new.s in
     let inputs : ℕ = c.vectors.result in
     let m : ℕ = c.cells_in_chunk.result in
