@@ -8,7 +8,7 @@ ghost use Rattle.plant_record.specs.Description.{axes_of, vectors_of};
 ghost use Rattle.plant_record.specs.Limits.{IsWithinLimits};
 ghost use Rattle.abstraction_table.specs.inside.Sums.{plus, term_under, AreChangedBy};
 ghost use Rattle.abstraction_table.specs.inside.CellLines.{AreInLine, AreSumsOfLine, BecomeBoxes, AreBoxesFrom};
-ghost use Rattle.abstraction_table.specs.inside.Terms.{AreIndicesOf, Brings, BringAs, IsFreeTerm, AreSumsAlong, HasCell, HasSums, AddsTerms, AddsState, HoldsTermsAlong, HoldTerms};
+ghost use Rattle.abstraction_table.specs.inside.Terms.{AreIndicesOf, Brings, BringAs, IsFreeTerm, AreSumsAlong, HasCell, HasSums, AddsTerms, AddsState, IsTermTableOf, AreTermTablesOf};
 ghost use Rattle.abstraction_table.specs.declared.pair_box.TheConstants.{NO_BOX};
 
 use crate::pair_box::PairBox;
@@ -21,7 +21,7 @@ use successor_box::INDEX_COLUMNS;
 /// first states bring is the same along the row, and is found once: the first cell's boxes keep it for the others.
 pub(crate) fn boxes_in_line(p: &Plant, tables: &[TermTable], c: u32, boxes: &mut [PairBox])
     requires plant { IsWithinLimits p.now }
-    requires tables { HoldTerms p.now tables.now }
+    requires tables { AreTermTablesOf p.now tables.now }
     requires row { (n : ℕ) × (length boxes.old ≡ n * vectors_of p.now.inputs) × AreInLine p.now c n }
     requires start { All (λ b. b ≡ one_cell) boxes.old }
     ensures long { length boxes.new ≡ length boxes.old }
@@ -48,7 +48,7 @@ fn add_early(
     boxes: &mut [PairBox],
 ) -> usize
     requires plant { IsWithinLimits p.now }
-    requires tables { HoldTerms p.now tables.now }
+    requires tables { AreTermTablesOf p.now tables.now }
     requires cell { (c : ℕ) × (c < cells_of (axes_of p.now)) × AreIndicesOf p.now c indices.now }
     requires one_each { length boxes.old ≡ vectors_of p.now.inputs }
     requires start { All (λ b. b ≡ one_cell) boxes.old }
@@ -75,7 +75,7 @@ fn add_late(
     boxes: &mut [PairBox],
 )
     requires plant { IsWithinLimits p.now }
-    requires tables { HoldTerms p.now tables.now }
+    requires tables { AreTermTablesOf p.now tables.now }
     requires from { from ≤ length p.now.equations }
     requires cell { HasCell p.now from indices.now boxes.old }
     requires one_each { length boxes.old ≡ vectors_of p.now.inputs }
@@ -100,7 +100,7 @@ fn add_state(
     boxes: &mut [PairBox],
 ) -> PairBox
     requires plant { IsWithinLimits p.now }
-    requires table { HoldsTermsAlong p.now state table.now }
+    requires table { IsTermTableOf p.now state table.now }
     requires state { state < length p.now.equations }
     requires cell { (c : ℕ) × BringAs p.now state table.now indices.now c × AreSumsAlong p.now state c base boxes.old }
     requires one_each { length boxes.old ≡ vectors_of p.now.inputs }
@@ -118,7 +118,7 @@ fn add_state(
 #[inline]
 fn free_term(p: &Plant, table: &TermTable, state: u32, indices: &[u32; INDEX_COLUMNS]) -> PairBox
     requires plant { IsWithinLimits p.now }
-    requires table { HoldsTermsAlong p.now state table.now }
+    requires table { IsTermTableOf p.now state table.now }
     requires state { state < length p.now.equations }
     requires cell { (c : ℕ) × BringAs p.now state table.now indices.now c }
     requires free { IsTrue table.now.free }
@@ -138,7 +138,7 @@ fn add_terms(
     boxes: &mut [PairBox],
 )
     requires plant { IsWithinLimits p.now }
-    requires table { HoldsTermsAlong p.now state table.now }
+    requires table { IsTermTableOf p.now state table.now }
     requires state { state < length p.now.equations }
     requires cell { HasSums p.now state (BringAs p.now state table.now indices.now) boxes.old }
     requires one_each { length boxes.old ≡ vectors_of p.now.inputs }
@@ -172,7 +172,7 @@ fn add_listed(inputs: &[u32], terms: &[PairBox], boxes: &mut [PairBox])
 /// Adds the terms of a state, found one by one, to the boxes of a cell that brings `first` and moves the extents so many indices.
 fn add_moved(p: &Plant, table: &TermTable, state: u32, first: u32, own: u32, boxes: &mut [PairBox])
     requires plant { IsWithinLimits p.now }
-    requires table { HoldsTermsAlong p.now state table.now }
+    requires table { IsTermTableOf p.now state table.now }
     requires state { state < length p.now.equations }
     requires cell { HasSums p.now state (Brings p.now state table.now first own) boxes.old }
     requires one_each { length boxes.old ≡ vectors_of p.now.inputs }
@@ -205,6 +205,7 @@ fn add_base(base: PairBox, boxes: &mut [PairBox])
 #[inline]
 fn indices_of(p: &Plant, c: u32) -> [u32; INDEX_COLUMNS]
     requires plant { IsWithinLimits p.now }
+    requires cell { c < cells_of (axes_of p.now) }
     ensures { AreIndicesOf p.now c result }
 {
     let along = p.grid().indices(c);

@@ -3,7 +3,7 @@ ghost use Rattle.std.specs.Prelude.{◌≡◌, ℕ, ◌+◌, ◌^◌, ◌<◌, l
 ghost use Rattle.plant_record.specs.Description.{vectors_of};
 ghost use Rattle.plant_record.specs.Limits.{IsWithinLimits};
 ghost use Rattle.abstraction_table.specs.inside.Digits.{AreDigitsOf, HoldSlots};
-ghost use Rattle.abstraction_table.specs.inside.ExtentTables.{HoldsExtentsAlong, HoldExtentsAt, IsExtentFor};
+ghost use Rattle.abstraction_table.specs.inside.ExtentTables.{IsExtentTableOf, HoldExtentsAt, IsExtentFor};
 
 use crate::digits::{Digit, Digits, build_digits, slot_of};
 use crate::extent_blocks::{EXTENTS_PER_TASK, fill_chunk};
@@ -33,7 +33,7 @@ pub(crate) fn build_table<R: Threads + Sync>(
     state: u32,
 ) -> Result<ExtentTable, AllocError>
     requires { state < length sampled.now.plant.now.equations }
-    ensures { IfOk result (λ table. HoldsExtentsAlong sampled.now.plant.now state table) }
+    ensures { IfOk result (λ table. IsExtentTableOf sampled.now.plant.now state table) }
 {
     let p = sampled.plant;
     let digits = build_digits(alloc, p, state)?;

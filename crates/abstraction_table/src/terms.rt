@@ -7,8 +7,8 @@ ghost use Rattle.plant_record.specs.Limits.{IsWithinLimits};
 ghost use Rattle.successor_box.specs.PairExtents.{moves_along};
 ghost use Rattle.successor_box.specs.declared.index_columns.TheConstants.{INDEX_COLUMNS};
 ghost use Rattle.abstraction_table.specs.inside.CellLines.{StaysAlongLines};
-ghost use Rattle.abstraction_table.specs.inside.ExtentTables.{IsRelativeExtent, HoldsExtentsAlong};
-ghost use Rattle.abstraction_table.specs.inside.Terms.{first_in, stride_of, own_count, IsTermFrom, Brings, IsTermBrought, HoldTermsFrom, HoldsTermsAlong, HoldTerms};
+ghost use Rattle.abstraction_table.specs.inside.ExtentTables.{IsRelativeExtent, IsExtentTableOf};
+ghost use Rattle.abstraction_table.specs.inside.Terms.{first_in, stride_of, own_count, IsTermFrom, Brings, IsTermBrought, HoldTermsFrom, IsTermTableOf, AreTermTablesOf};
 ghost use Rattle.base.specs.declared.limits.TheConstants.{PAIRS_LIMIT};
 
 use crate::digits::Digit;
@@ -85,7 +85,7 @@ impl TermTable {
     #[inline]
     pub(crate) fn term(&self, p: &Plant, state: u32, first: u32, own: u32, input: u32) -> PairBox
         requires plant { IsWithinLimits p.now }
-        requires table { HoldsTermsAlong p.now state self.now }
+        requires table { IsTermTableOf p.now state self.now }
         requires state { state < length p.now.equations }
         requires cell { (c : ℕ) × Brings p.now state self.now first own c }
         requires input { input < vectors_of p.now.inputs }
@@ -118,7 +118,7 @@ pub(crate) fn build_tables<R: Threads + Sync>(
     alloc: Global,
     sampled: &Sampled<'_>,
 ) -> Result<Vec<TermTable>, AllocError>
-    ensures { IfOk result (λ tables. HoldTerms sampled.now.plant.now tables.items) }
+    ensures { IfOk result (λ tables. AreTermTablesOf sampled.now.plant.now tables.items) }
 {
     let p = sampled.plant;
     let mut tables = Vec::new(alloc);
@@ -142,8 +142,8 @@ fn build_terms(
     requires plant { IsWithinLimits p.now }
     requires state { state < length p.now.equations }
     requires stride { stride ≡ stride_of p.now state }
-    requires table { HoldsExtentsAlong p.now state table }
-    ensures { IfOk result (λ terms. HoldsTermsAlong p.now state terms) }
+    requires table { IsExtentTableOf p.now state table }
+    ensures { IfOk result (λ terms. IsTermTableOf p.now state terms) }
 {
     let own = own_indices_along(p, state, table.moves);
     let pairs = p.grid().cells() as usize * p.vectors() as usize;
@@ -175,8 +175,8 @@ fn listed(
     requires stride { stride ≡ stride_of p.now state }
     requires own { own ≡ own_count p.now state }
     requires few { own * length table.extents.items ≤ PAIRS_LIMIT }
-    requires table { HoldsExtentsAlong p.now state table }
-    ensures { IfOk result (λ terms. HoldsTermsAlong p.now state terms) }
+    requires table { IsExtentTableOf p.now state table }
+    ensures { IfOk result (λ terms. IsTermTableOf p.now state terms) }
 {
     let ExtentTable {
         mut digits,

@@ -1,6 +1,6 @@
 //! A block of pairs, one in each lane.
 
-ghost use Rattle.successor_box.specs.inside.Blocks.{HoldInputNumbers, HoldCentralValues};
+ghost use Rattle.successor_box.specs.inside.Blocks.{AreInputNumbers, AreCentralValues};
 
 use crate::index_columns::IndexColumns;
 use crate::sampled::Sampled;
@@ -14,6 +14,6 @@ pub(crate) struct Block<'a> {
     pub(crate) indices: &'a IndexColumns,
     pub(crate) inputs: &'a [u32; LANES],
     pub(crate) columns: &'a [[i64; LANES]],
-    ghost numbers: { HoldInputNumbers sampled.plant.now indices.now inputs.now },
-    ghost centres: { HoldCentralValues sampled.plant.now indices.now columns.now },
+    ghost numbers: { AreInputNumbers sampled.plant.now indices.now inputs.now },
+    ghost centres: { AreCentralValues sampled.plant.now indices.now columns.now },
 }

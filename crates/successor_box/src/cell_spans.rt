@@ -8,7 +8,7 @@ ghost use Rattle.interval_eval.specs.LaneSpans.{interval_in, area_in};
 ghost use Rattle.interval_eval.specs.Span.{SpanStaysInRange, span_of};
 ghost use Rattle.successor_box.specs.PairExtents.{HasPairInEachLane};
 ghost use Rattle.successor_box.specs.inside.Area.{variables_of, no_range};
-ghost use Rattle.successor_box.specs.inside.Blocks.{HoldsInLanes, HoldSpans, HoldCellAreas, HoldCellRanges};
+ghost use Rattle.successor_box.specs.inside.Blocks.{HoldsInLanes, HoldSpans, AreCellAreas, HoldCellRanges};
 ghost use Rattle.base.specs.declared.limits.TheConstants.{VARIABLES_LIMIT};
 
 use crate::area::{NO_RANGE, offset};
@@ -32,7 +32,7 @@ impl Block<'_> {
     /// The ranges of the variables over the cells of the pairs, one column for each. Nothing is said of the columns past the last.
     fn cell_columns(&self) -> [IntervalColumn; VARIABLES_LIMIT]
         requires pairs { HasPairInEachLane self.now.sampled.plant.now self.now.indices.now }
-        ensures { HoldCellAreas self.now.sampled.plant.now self.now.indices.now result }
+        ensures { AreCellAreas self.now.sampled.plant.now self.now.indices.now result }
     {
         let mut area = [NO_INTERVALS; VARIABLES_LIMIT];
         for k in 0..self.sampled.plant.variables() {

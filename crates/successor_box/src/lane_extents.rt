@@ -8,7 +8,7 @@ ghost use Rattle.plant_record.specs.declared.version.PlantVersion.TheVariants.{O
 ghost use Rattle.plant_record.specs.Limits.{IsWithinLimits};
 ghost use Rattle.successor_box.specs.PairExtents.{HasPairInEachLane, HoldExtents};
 ghost use Rattle.successor_box.specs.inside.Area.{no_range};
-ghost use Rattle.successor_box.specs.inside.Blocks.{HoldsInLanes, HoldInputNumbers, HoldValues, HoldGrowths, HoldNextIntervals, intersection_in, longer_in};
+ghost use Rattle.successor_box.specs.inside.Blocks.{HoldsInLanes, AreInputNumbers, HoldValues, HoldGrowths, HoldNextIntervals, intersection_in, longer_in};
 ghost use Rattle.base.specs.declared.limits.TheConstants.{VARIABLES_LIMIT};
 
 use crate::area::NO_RANGE;
@@ -158,7 +158,7 @@ fn intersections(first: &[Interval; LANES], second: &[Interval; LANES]) -> [Inte
 fn input_numbers(p: &Plant, indices: &IndexColumns) -> [u32; LANES]
     requires plant { IsWithinLimits p.now }
     requires pairs { HasPairInEachLane p.now indices.now }
-    ensures { HoldInputNumbers p.now indices.now result }
+    ensures { AreInputNumbers p.now indices.now result }
 {
     let mut numbers = [0; LANES];
     for k in 0..p.input_variables() {

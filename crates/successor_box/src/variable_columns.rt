@@ -7,7 +7,7 @@ ghost use Rattle.plant_record.specs.Limits.{IsWithinLimits};
 ghost use Rattle.successor_box.specs.SuccessorBoxes.{noise_centre};
 ghost use Rattle.successor_box.specs.PairExtents.{HasPairInEachLane};
 ghost use Rattle.successor_box.specs.inside.Area.{variables_of, axis_along};
-ghost use Rattle.successor_box.specs.inside.Blocks.{HoldsBelow, HoldsInLanes, HoldInputNumbers, HoldVariable, HoldCentralValues, index_in_lane, value_in_lane};
+ghost use Rattle.successor_box.specs.inside.Blocks.{HoldsBelow, HoldsInLanes, AreInputNumbers, HoldVariable, AreCentralValues, index_in_lane, value_in_lane};
 
 use crate::index_columns::IndexColumns;
 use crate::noise_centres::noise_centre;
@@ -23,8 +23,8 @@ pub(crate) fn fill_columns(
 )
     requires long { length columns.old ≡ variables_of p.now }
     requires pairs { HasPairInEachLane p.now indices.now }
-    requires inputs { HoldInputNumbers p.now indices.now inputs.now }
-    ensures { HoldCentralValues p.now indices.now columns.new }
+    requires inputs { AreInputNumbers p.now indices.now inputs.now }
+    ensures { AreCentralValues p.now indices.now columns.new }
 {
     for k in 0..p.variables() {
         columns[k as usize] = column(p, indices, inputs, k);
@@ -35,7 +35,7 @@ pub(crate) fn fill_columns(
 fn column(p: &Plant, indices: &IndexColumns, inputs: &[u32; LANES], k: u32) -> [i64; LANES]
     requires plant { IsWithinLimits p.now }
     requires pairs { HasPairInEachLane p.now indices.now }
-    requires inputs { HoldInputNumbers p.now indices.now inputs.now }
+    requires inputs { AreInputNumbers p.now indices.now inputs.now }
     requires variable { k < variables_of p.now }
     ensures { HoldVariable p.now indices.now k result }
 {

@@ -1,24 +1,14 @@
 -- Points that rise, by a test and by the arguments.
-use Rattle.std.proofs.Common.{◌≡◌, ◌<◌, ◌≤◌, Bool, true, false, List, [], ◌∷◌, length, refl, arith}
-use Rattle.std.specs.Prelude.{All, ℤ, ◌<ℤ◌, int_lt}
-use Rattle.std.proofs.lemmas.Int.{ints}
+use Rattle.std.proofs.Common.{◌≡◌, ◌<◌, ◌≤◌, true, List, [], ◌∷◌, length, refl, arith}
+use Rattle.std.specs.Prelude.{All, ℤ, int_lt}
 use Rattle.std.proofs.lemmas.Bool.{and_parts, and_from}
 use Rattle.fixed_expr.specs.Curves.{IsCurve, IsShort, Rise, RiseFrom}
 use Rattle.plant_reading.specs.inside.ExpressionReading.{rises}
-
-lt_int_lt : (a b : ℤ) → a <ℤ b → int_lt a b ≡ true
-lt_int_lt a b lt = by (int_lt a b) refl
-  where
-    by : (t : Bool) → int_lt a b ≡ t → t ≡ true
-    by true e = refl
-    by false e = absurd (omega (arith, ints, lt))
-
-int_lt_less : (a b : ℤ) → int_lt a b ≡ true → a <ℤ b
-int_lt_less a b e = omega (arith, ints, e)
+use Rattle.base.proofs.Integers.{less_from_int_lt, int_lt_from_less}
 
 pub rising : (p : ℤ × ℤ) (points : List (ℤ × ℤ)) → RiseFrom p points → rises (p ∷ points) ≡ true
 rising p [] h = refl
-rising p (q ∷ points) h = and_from (int_lt p.0 q.0) (rises (q ∷ points)) (lt_int_lt p.0 q.0 h.0) (rising q points h.1)
+rising p (q ∷ points) h = and_from (int_lt p.0 q.0) (rises (q ∷ points)) (int_lt_from_less p.0 q.0 h.0) (rising q points h.1)
 
 pub curve_rises : (points : List (ℤ × ℤ)) → Rise points → rises points ≡ true
 curve_rises [] h = refl
@@ -28,7 +18,7 @@ rise_from : (p : ℤ × ℤ) (points : List (ℤ × ℤ)) → rises (p ∷ point
 rise_from p [] e = tt
 rise_from p (q ∷ points) e =
     let h = and_parts (int_lt p.0 q.0) (rises (q ∷ points)) e in
-    (int_lt_less p.0 q.0 h.0, rise_from q points h.1)
+    (less_from_int_lt p.0 q.0 h.0, rise_from q points h.1)
 
 pub rise : (points : List (ℤ × ℤ)) → rises points ≡ true → Rise points
 rise [] e = tt

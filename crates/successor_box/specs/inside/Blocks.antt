@@ -62,15 +62,15 @@ abbrev pub HoldsOfPairs : {A : Type 0} → A → Description → List (List ℕ)
 HoldsOfPairs none p indices of found = (lane c u : ℕ) → lane < LANES → IsPairInLane p indices lane c u → slice_index_or found lane none ≡ of c u
 
 -- the numbers of the pairs' input vectors
-abbrev pub HoldInputNumbers : Description → List (List ℕ) → List ℕ → Type 0
-HoldInputNumbers p indices inputs = HoldsOfPairs 0 p indices (λ c u. u) inputs
+abbrev pub AreInputNumbers : Description → List (List ℕ) → List ℕ → Type 0
+AreInputNumbers p indices inputs = HoldsOfPairs 0 p indices (λ c u. u) inputs
 
 -- the values of a variable at the centres of the pairs' cells
 abbrev pub HoldVariable : Description → List (List ℕ) → ℕ → List ℤ → Type 0
 HoldVariable p indices k column = HoldsOfPairs (pos 0) p indices (λ c u. slice_index_or (central_values p c u) k (pos 0)) column
 
 -- One column for each variable, with its values at the centres of the pairs' cells.
-pub record HoldCentralValues (p : Description) (indices : List (List ℕ)) (columns : List (List ℤ)) : Type 0 where
+pub record AreCentralValues (p : Description) (indices : List (List ℕ)) (columns : List (List ℤ)) : Type 0 where
   pub long : length columns ≡ variables_of p
   pub each : (lane c u : ℕ) → lane < LANES → IsPairInLane p indices lane c u → (k : ℕ) → k < variables_of p → slice_index_or (slice_index_or columns k []) lane (pos 0) ≡ slice_index_or (central_values p c u) k (pos 0)
 
@@ -99,5 +99,5 @@ abbrev pub HoldCellRanges : Description → List (List ℕ) → ℕ → Interval
 HoldCellRanges p indices k column = (lane c u : ℕ) → lane < LANES → IsPairInLane p indices lane c u → interval_in column lane ≡ slice_index_or (cell_area_of p c u) k no_range
 
 -- the ranges of all variables
-abbrev pub HoldCellAreas : Description → List (List ℕ) → List IntervalColumn → Type 0
-HoldCellAreas p indices columns = (lane c u : ℕ) → lane < LANES → IsPairInLane p indices lane c u → (k : ℕ) → k < variables_of p → interval_in (slice_index_or columns k no_column) lane ≡ slice_index_or (cell_area_of p c u) k no_range
+abbrev pub AreCellAreas : Description → List (List ℕ) → List IntervalColumn → Type 0
+AreCellAreas p indices columns = (lane c u : ℕ) → lane < LANES → IsPairInLane p indices lane c u → (k : ℕ) → k < variables_of p → interval_in (slice_index_or columns k no_column) lane ≡ slice_index_or (cell_area_of p c u) k no_range
