@@ -1,0 +1,185 @@
+-- One reading, one first refusal, never both and never neither.
+use Rattle.std.proofs.Common.{inl, inr, ◌≡◌, ◌⊎◌, ℕ, zero, suc, ◌<◌, ◌≤◌, List, [], ◌∷◌, ◌++◌, length, refl, sym, ap, ◌∙◌, append_assoc, append-nil, length-append, subst, arith}
+use Rattle.std.specs.List.{concat}
+use Rattle.std.proofs.lemmas.List.{append_cancel_left}
+use Rattle.read_texts.specs.Steps.{joined, Leads, IsRead, IsStuck, IsReading, IsFirstRefused, IsGrammar}
+
+-- ---- ways
+
+joined-append : {A : Type 0} (xs ys : List (List A)) → joined (xs ++ ys) ≡ joined xs ++ joined ys
+joined-append [] ys = refl
+joined-append (x ∷ xs) ys = ap (λ (z : _). x ++ z) (joined-append xs ys) ∙ sym (append_assoc x (joined xs) (joined ys))
+
+pub joined_bytes : (xs : List (List ℕ)) → concat xs ≡ joined xs
+joined_bytes [] = refl
+joined_bytes (x ∷ xs) = ap (λ (z : List ℕ). x ++ z) (joined_bytes xs)
+
+-- one way after another
+pub both_ways : {S A : Type 0} (Step : S → List A → S → Type 0) (q m r : S) (pieces more : List (List A)) → Leads Step q pieces m → Leads Step m more r → Leads Step q (pieces ++ more) r
+both_ways Step q m r [] more first second = subst (λ (x : _). Leads Step x more r) first second
+both_ways Step q m r (x ∷ pieces) more first second = (first.0, first.1, both_ways Step first.0 m r pieces more first.2 second)
+
+-- a way with a further piece
+pub one_more : {S A : Type 0} (Step : S → List A → S → Type 0) (q m r : S) (pieces : List (List A)) (piece : List A) → Leads Step q pieces m → Step m piece r → Leads Step q (pieces ++ piece ∷ []) r
+one_more Step q m r pieces piece leads step = both_ways Step q m r pieces (piece ∷ []) leads (r, step, refl)
+
+-- a way of steps that are others
+pub other_steps : {S A : Type 0} (Step Other : S → List A → S → Type 0) → ((q r : S) (piece : List A) → Step q piece r → Other q piece r) → (q r : S) (pieces : List (List A)) → Leads Step q pieces r → Leads Other q pieces r
+other_steps Step Other turn q r [] leads = leads
+other_steps Step Other turn q r (x ∷ pieces) leads = (leads.0, turn q leads.0 x leads.1, other_steps Step Other turn leads.0 r pieces leads.2)
+
+-- a way up to its last piece
+pub split_last : {S A : Type 0} (Step : S → List A → S → Type 0) (q r : S) (pieces : List (List A)) (piece : List A) → Leads Step q (pieces ++ piece ∷ []) r → (m : S) × Leads Step q pieces m × Step m piece r
+split_last Step q r [] piece leads = (q, refl, subst (λ (x : _). Step q piece x) (sym leads.2) leads.1)
+split_last Step q r (x ∷ pieces) piece leads =
+    let l = split_last Step leads.0 r pieces piece leads.2 in
+    (l.0, (leads.0, leads.1, l.1), l.2)
+
+pub read_on : {S A : Type 0} (Step : S → List A → S → Type 0) (from to r : S) (text rest piece behind : List A) (pieces : List (List A)) → IsRead Step from text pieces to rest → rest ≡ piece ++ behind → Step to piece r → IsRead Step from text (pieces ++ piece ∷ []) r behind
+read_on {A = A} Step from to r text rest piece behind pieces read cut step = record {
+  leads = one_more Step from to r pieces piece read.leads step;
+  are = read.are
+      ∙ ap (λ (x : List A). joined pieces ++ x) cut
+      ∙ sym (append_assoc (joined pieces) piece behind)
+      ∙ ap (λ (x : List A). (joined pieces ++ x) ++ behind) (sym (append-nil piece))
+      ∙ ap (λ (x : List A). x ++ behind) (sym (joined-append pieces (piece ∷ [])));
+}
+
+-- The second way goes on where the first ends.
+pub record GoesOn {S A : Type 0} (Step : S → List A → S → Type 0) (first second : List (List A)) (m n : S) (rest others : List A) : Type 0 where
+  pub more : List (List A)
+  pub pieces : second ≡ first ++ more
+  pub leads : Leads Step m more n
+  pub are : rest ≡ joined more ++ others
+
+further : {S A : Type 0} (Step : S → List A → S → Type 0) (x y : List A) (first second : List (List A)) (m n : S) (rest others : List A) → x ≡ y → GoesOn Step first second m n rest others → GoesOn Step (x ∷ first) (y ∷ second) m n rest others
+further {A = A} Step x y first second m n rest others e g = record {
+  more = g.more;
+  pieces = ap (λ (z : List A). z ∷ second) (sym e) ∙ ap (λ (zs : List (List A)). x ∷ zs) g.pieces;
+  leads = g.leads;
+  are = g.are;
+}
+
+module _ {S A : Type 0} (Step : S → List A → S → Type 0) (Closed : S → List A → Type 0) (IsMet : S → Type 0) (grammar : IsGrammar Step Closed IsMet) where
+  -- the state that a way leads to is met
+  pub met : (q : S) (pieces : List (List A)) (r : S) → IsMet q → Leads Step q pieces r → IsMet r
+  met q [] r is leads = subst IsMet (sym leads) is
+  met q (x ∷ pieces) r is leads = met leads.0 pieces r (grammar.met q leads.0 x is leads.1) leads.2
+
+  -- pieces lead to one state
+  pub led_once : (q : S) (pieces : List (List A)) (m n : S) → IsMet q → Leads Step q pieces m → Leads Step q pieces n → m ≡ n
+  led_once q [] m n is a b = a ∙ sym b
+  led_once q (x ∷ pieces) m n is a b =
+      let state : b.0 ≡ a.0 = grammar.one_state q b.0 a.0 x is b.1 a.1 in
+      led_once a.0 pieces m n (grammar.met q a.0 x is a.1) a.2 (subst (λ (z : S). Leads Step z pieces n) state b.2)
+
+  -- of two ways through the same text one goes on where the other ends
+  pub one_way : (q : S) (first second : List (List A)) (m n : S) (rest others : List A) → IsMet q → Leads Step q first m → Leads Step q second n → joined first ++ rest ≡ joined second ++ others
+      → GoesOn Step first second m n rest others ⊎ GoesOn Step second first n m others rest
+  one_way q [] second m n rest others is a b e = inl (record { more = second; pieces = refl; leads = subst (λ (x : S). Leads Step x second n) (sym a) b; are = e })
+  one_way q (x ∷ first) [] m n rest others is a b e = inr (record { more = x ∷ first; pieces = refl; leads = subst (λ (z : S). Leads Step z (x ∷ first) m) (sym b) a; are = sym e })
+  one_way q (x ∷ first) (y ∷ second) m n rest others is a b e =
+      let both : x ++ (joined first ++ rest) ≡ y ++ (joined second ++ others) = sym (append_assoc x (joined first) rest) ∙ e ∙ append_assoc y (joined second) others in
+      let same : x ≡ y = grammar.one_piece q a.0 b.0 x y (joined first ++ rest) (joined second ++ others) is a.1 b.1 both in
+      let behind : joined first ++ rest ≡ joined second ++ others = append_cancel_left x (joined first ++ rest) (joined second ++ others) (both ∙ ap (λ (z : List A). z ++ (joined second ++ others)) (sym same)) in
+      let state : b.0 ≡ a.0 = grammar.one_state q b.0 a.0 x is (subst (λ (z : List A). Step q z b.0) (sym same) b.1) a.1 in
+      elim (one_way a.0 first second m n rest others (grammar.met q a.0 x is a.1) a.2 (subst (λ (z : S). Leads Step z second n) state b.2) behind) [
+        | inl g ↦ inl (further Step x y first second m n rest others same g)
+        | inr g ↦ inr (further Step y x second first n m others rest (sym same) g)
+      ]
+
+  -- Two ways are one.
+  pub record AreEven (first second : List (List A)) (m n : S) (s t : List A) : Type 0 where
+    pub pieces : first ≡ second
+    pub state : m ≡ n
+    pub rest : s ≡ t
+
+  -- what goes on where nothing can go on has ended
+  stays : (first second : List (List A)) (m n : S) (rest others : List A) → IsStuck Step m rest → GoesOn Step first second m n rest others → AreEven first second m n rest others
+  stays first second m n rest others stuck g = by g.more g.pieces g.leads g.are
+    where
+      by : (more : List (List A)) → second ≡ first ++ more → Leads Step m more n → rest ≡ joined more ++ others → AreEven first second m n rest others
+      by [] pieces leads are = record { pieces = sym (pieces ∙ append-nil first); state = sym leads; rest = are }
+      by (x ∷ more) pieces leads are = absurd (stuck x (joined more ++ others) leads.0 (are ∙ append_assoc x (joined more) others) leads.1)
+
+  turned : (first second : List (List A)) (m n : S) (rest others : List A) → AreEven first second m n rest others → AreEven second first n m others rest
+  turned first second m n rest others e = record { pieces = sym e.pieces; state = sym e.state; rest = sym e.rest }
+
+  -- two ways that can't go on are one
+  pub one_end : (q : S) (text : List A) (first second : List (List A)) (m n : S) (rest others : List A) → IsMet q → IsRead Step q text first m rest → IsRead Step q text second n others → IsStuck Step m rest → IsStuck Step n others → AreEven first second m n rest others
+  one_end q text first second m n rest others is a b ends stops = elim (one_way q first second m n rest others is a.leads b.leads (sym a.are ∙ b.are)) [
+    | inl g ↦ stays first second m n rest others ends g
+    | inr g ↦ turned second first n m others rest (stays second first n m others rest stops g)
+  ]
+
+  reading_ends : (q : S) (text : List A) (to : S) (rest : List A) → IsMet q → (r : IsReading Step Closed q text to rest) → IsStuck Step to rest
+  reading_ends q text to rest is r = grammar.ends to rest (met q r.pieces to is (r.read).leads) r.closed
+
+  -- ONE READING
+  pub one_reading : (q : S) (text : List A) (m n : S) (rest others : List A) → IsMet q → IsReading Step Closed q text m rest → IsReading Step Closed q text n others → (m ≡ n) × (rest ≡ others)
+  one_reading q text m n rest others is a b =
+      let e = one_end q text a.pieces b.pieces m n rest others is a.read b.read (reading_ends q text m rest is a) (reading_ends q text n others is b) in
+      (e.state, e.rest)
+
+  -- ONE FIRST REFUSAL, at one place and in one state
+  pub one_place : (q : S) (text : List A) (i j : ℕ) → IsMet q → (r : IsFirstRefused Step Closed q text i) → (s : IsFirstRefused Step Closed q text j) → AreEven r.pieces s.pieces r.to s.to r.rest s.rest
+  one_place q text i j is r s = one_end q text r.pieces s.pieces r.to s.to r.rest s.rest is r.read s.read r.stuck s.stuck
+
+  pub one_refusal : (q : S) (text : List A) (i j : ℕ) → IsMet q → IsFirstRefused Step Closed q text i → IsFirstRefused Step Closed q text j → i ≡ j
+  one_refusal q text i j is r s =
+      let e = one_place q text i j is r s in
+      r.next ∙ ap (λ (x : List (List A)). suc (length x)) e.pieces ∙ sym s.next
+
+  -- NEVER BOTH
+  pub read_or_refused : (q : S) (text : List A) (to : S) (rest : List A) (i : ℕ) → IsMet q → IsReading Step Closed q text to rest → IsFirstRefused Step Closed q text i → ⊥
+  read_or_refused q text to rest i is a r =
+      let e = one_end q text a.pieces r.pieces to r.to rest r.rest is a.read r.read (reading_ends q text to rest is a) r.stuck in
+      r.unclosed (subst (λ (x : S × List A). Closed x.0 x.1) (λ k. (e.state k, e.rest k)) a.closed)
+
+  -- ---- NEVER NEITHER
+
+  -- a piece leads on, or the text is closed, or neither
+  pub data Look (q : S) (rest : List A) : Type 0 where
+    leads_on : (piece behind : List A) (r : S) → rest ≡ piece ++ behind → Step q piece r → Look q rest
+    is_closed : Closed q rest → Look q rest
+    is_stuck : IsStuck Step q rest → (Closed q rest → ⊥) → Look q rest
+
+  -- a text is read, or a piece is refused
+  pub data Outcome (q : S) (text : List A) : Type 0 where
+    is_read : (to : S) (rest : List A) → IsReading Step Closed q text to rest → Outcome q text
+    is_refused : (n : ℕ) → IsFirstRefused Step Closed q text n → Outcome q text
+
+  shorter : (q m : S) (piece behind rest : List A) → IsMet q → rest ≡ piece ++ behind → Step q piece m → length behind < length rest
+  shorter q m [] behind rest is cut step = absurd (grammar.some q m behind is step)
+  shorter q m (b ∷ piece) behind rest is cut step = omega (arith, ap length cut, length-append (b ∷ piece) behind)
+
+  -- One proof for both: where looking is a decision, Goal is the outcome; where it can't be denied alone, Goal is ⊥.
+  module _ (Goal : Type 0) (look : (q : S) (rest : List A) → IsMet q → (Look q rest → Goal) → Goal) where
+    -- at a look: reading ends, or goes on
+    at_look : (from : S) (text : List A) (pieces : List (List A)) (to : S) (rest : List A) → IsRead Step from text pieces to rest → (Outcome from text → Goal) → ((piece behind : List A) (r : S) → rest ≡ piece ++ behind → Step to piece r → Goal) → Look to rest → Goal
+    at_look from text pieces to rest read then on (is_closed closed) = then (is_read to rest (record { pieces = pieces; read = read; closed = closed }))
+    at_look from text pieces to rest read then on (is_stuck stuck unclosed) = then (is_refused (suc (length pieces)) (record { pieces = pieces; next = refl; to = to; rest = rest; read = read; stuck = stuck; unclosed = unclosed }))
+    at_look from text pieces to rest read then on (leads_on piece behind r cut step) = on piece behind r cut step
+
+    read_from : (from : S) (text : List A) (fuel : ℕ) (pieces : List (List A)) (to : S) (rest : List A) → IsMet from → length rest ≤ fuel → IsRead Step from text pieces to rest → (Outcome from text → Goal) → Goal
+    read_from from text zero pieces to rest is few read then =
+        let here : IsMet to = met from pieces to is read.leads in
+        look to rest here (at_look from text pieces to rest read then (λ piece behind r cut step. absurd (omega (arith, few, shorter to r piece behind rest here cut step))))
+    read_from from text (suc n) pieces to rest is few read then =
+        let here : IsMet to = met from pieces to is read.leads in
+        look to rest here (at_look from text pieces to rest read then (λ piece behind r cut step.
+        read_from from text n (pieces ++ piece ∷ []) r behind is (omega (arith, few, shorter to r piece behind rest here cut step)) (read_on {A = A} Step from to r text rest piece behind pieces read cut step) then))
+
+    pub some_outcome : (from : S) (text : List A) → IsMet from → (Outcome from text → Goal) → Goal
+    some_outcome from text is then = read_from from text (length text) [] from text is (omega arith) (record { leads = refl; are = refl }) then
+
+  -- the outcome itself, where each look can be decided
+  pub decided : ((q : S) (rest : List A) → IsMet q → Look q rest) → (from : S) (text : List A) → IsMet from → Outcome from text
+  decided look from text is = some_outcome (Outcome from text) (λ q rest here then. then (look q rest here)) from text is (λ o. o)
+
+  -- and that there is one can't be denied in any case
+  pub undeniable : (from : S) (text : List A) → IsMet from → (Outcome from text → ⊥) → ⊥
+  undeniable from text is deny = some_outcome ⊥ look from text is deny
+    where
+      look : (q : S) (rest : List A) → IsMet q → (Look q rest → ⊥) → ⊥
+      look q rest here deny = deny (is_stuck (λ piece behind r cut step. deny (leads_on piece behind r cut step)) (λ closed. deny (is_closed closed)))
