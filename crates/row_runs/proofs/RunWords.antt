@@ -46,7 +46,7 @@ no_feed_of b h = neither (eqb b 32) (eqb b 10) h
     neither true y h = absurd cc
     neither false y h = h
 
-no_feed_in : (w : List ℕ) → list_all is_inner w ≡ true → list_all no_feed w ≡ true
+pub no_feed_in : (w : List ℕ) → list_all is_inner w ≡ true → list_all no_feed w ≡ true
 no_feed_in [] h = refl
 no_feed_in (b ∷ w) h =
     let parts = and_parts (is_inner b) (list_all is_inner w) h in
@@ -70,7 +70,7 @@ pub record IsSpelledOut (r : Run) : Type 0 where
   pub rank : r.row.rank < 2 ^ 64
   pub input : r.row.input < 2 ^ 64
 
-both_no_feed : (a b : List ℕ) → list_all no_feed a ≡ true → list_all no_feed b ≡ true → list_all no_feed (a ++ 32 ∷ b) ≡ true
+pub both_no_feed : (a b : List ℕ) → list_all no_feed a ≡ true → list_all no_feed b ≡ true → list_all no_feed (a ++ 32 ∷ b) ≡ true
 both_no_feed a b h k = list_all-append no_feed a (32 ∷ b) ∙ rw (h, k) refl
 
 run_is_line : (r : Run) → IsSpelledOut r → IsLine (run_line Second Both r)

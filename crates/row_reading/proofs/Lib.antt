@@ -1,0 +1,9 @@
+pub mod Digits
+pub mod RunWords
+pub mod LinesRead
+pub mod MoreRuns
+pub mod RowGrammar
+pub mod RowsRead
+pub mod RefusedRows
+pub mod Laws
+pub mod SomeRows

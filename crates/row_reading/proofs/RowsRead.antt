@@ -1,0 +1,132 @@
+-- Rows that lines tell, and the way along these lines.
+use Rattle.std.proofs.Common.{inl, inr, ◌≡◌, ◌⊎◌, ℕ, zero, suc, ◌+◌, ◌<◌, ◌≤◌, List, [], ◌∷◌, ◌++◌, length, map, Option, Some, None, refl, sym, ap, subst, ◌∙◌, append_assoc, append-nil, arith}
+use Rattle.std.specs.Prelude.{IfSome}
+use Rattle.std.specs.List.{AllByRecursion, concat}
+use Rattle.std.proofs.lemmas.Bool.{cases_lt}
+use Rattle.std.proofs.lemmas.List.{length-map, get_or_past}
+use Rattle.std.proofs.lemmas.List.Elements.{recursion_from_All, All-from_recursion, All-from_get_or}
+use Rattle.game_core.specs.declared.game.Row.{Row}
+use Rattle.game_core.specs.Solution.{row_of}
+use Rattle.row_runs.specs.declared.run.Run.{Run}
+use Rattle.row_runs.specs.declared.run.TableVersion.{TableVersion}
+use Rattle.row_runs.specs.Runs.{MayLead, AreRuns, Gives, runs_from}
+use Rattle.row_runs.specs.RunText.{run_line, count_line, end_line}
+use Rattle.row_runs.proofs.RunLaws.{runs_encode, one_list, forward}
+use Rattle.row_runs.proofs.FewRuns.{few_runs}
+use Rattle.read_texts.specs.Steps.{joined, Leads, IsRead}
+use Rattle.read_texts.proofs.Laws.{joined_bytes, both_ways}
+use Rattle.row_reading.specs.declared.row_rules.RowRules.{RowRules}
+use Rattle.row_reading.specs.RowsTexts.{IsRowWithin, IsRunWithin, AreRowsWithin, row_lines, counted_lines, IsRowsText, AreRowsAt}
+use Rattle.row_reading.specs.RowSteps.{Place, Begin, Due, Done, MayStandAfter, RunStep, RowStep}
+use Rattle.row_reading.specs.inside.ReadRows.{AreRunsWithin, AreRead}
+
+-- ---- the runs of rows that rules allow
+
+module _ (rules : RowRules) (rows : List (Option Row)) (within : AreRowsWithin rules rows) where
+  row_stands : (c : ℕ) (row : Row) → row_of rows c ≡ Some row → c < length rows
+  row_stands c row is = elim (cases_lt c (length rows)) [
+    | inl lt ↦ lt
+    | inr past ↦ absurd (let none = sym (get_or_past rows c None past) ∙ is in cc)
+  ]
+
+  run_of_row : (r : Run) → row_of rows r.last ≡ Some r.row → IsRunWithin rules r
+  run_of_row r is =
+      let lt = row_stands r.last r.row is in
+      record { cells = omega (arith, lt, within.one_each); row = subst (λ (o : Option Row). IfSome o (IsRowWithin rules)) is (within.each r.last None lt) }
+
+  -- runs that give the rows' own
+  each_run : (v : TableVersion) (runs : List Run) → AreRuns v runs → ((c : ℕ) (row : Row) → Gives runs c row → row_of rows c ≡ Some row) → AllByRecursion (IsRunWithin rules) runs
+  each_run v [] order told = tt
+  each_run v (r ∷ runs) order told =
+      (run_of_row r (told r.last r.row (inl (forward v r order.0, omega arith, refl))), each_run v runs order.2 (λ c row given. told c row (inr given)))
+
+  pub runs_within : AreRunsWithin rules (runs_from rules.version 0 rows)
+  runs_within =
+      let own = runs_encode rules.version rows in
+      record { order = own.0; each = All-from_recursion (IsRunWithin rules) (runs_from rules.version 0 rows) (each_run rules.version (runs_from rules.version 0 rows) own.0 (λ c row given. (own.1 c row).1 given)) }
+
+  pub few_lines : length (row_lines rules.version rules.format rows) ≤ rules.cells
+  few_lines = omega (arith, length-map (runs_from rules.version 0 rows) (run_line rules.version rules.format), few_runs rules.version 0 rows, within.one_each)
+
+-- ---- their lines lead on
+
+module _ (rules : RowRules) where
+  abbrev line_of : Run → List ℕ
+  line_of r = run_line rules.version rules.format r
+
+  -- the first of some runs may stand after the last one
+  abbrev pub FollowsOn : Option Run → List Run → Type 0
+  FollowsOn None runs = Unit {0}
+  FollowsOn (Some last) runs = MayLead rules.version last runs
+
+  first_follows : (last : Option Run) (r : Run) (runs : List Run) → FollowsOn last (r ∷ runs) → MayStandAfter rules.version last r
+  first_follows None r runs h = tt
+  first_follows (Some s) r runs h = h
+
+  runs_lead : (n : ℕ) (last : Option Run) (runs : List Run) → FollowsOn last runs → AreRuns rules.version runs → AllByRecursion (IsRunWithin rules) runs
+      → (before : Option Run) × Leads (RowStep rules) (Due (length runs + n) last) (map line_of runs) (Due n before)
+  runs_lead n last [] on are each = (last, ap (λ (k : ℕ). Due k last) (omega arith))
+  runs_lead n last (r ∷ runs) on are each =
+      let k : suc (length runs + n) ≡ suc (length runs) + n = omega arith in
+      let step : RowStep rules (Due (suc (length runs + n)) last) (line_of r) (Due (length runs + n) (Some r)) =
+      (r, record { cells = are.0; within = each.0; follows = first_follows last r runs on; line_is = refl }, refl) in
+      let more = runs_lead n (Some r) runs are.1 are.2 each.1 in
+      (more.0, subst (λ (j : ℕ). Leads (RowStep rules) (Due j last) (map line_of (r ∷ runs)) (Due n more.0)) k (Due (length runs + n) (Some r), step, more.1))
+
+  module _ (rows : List (Option Row)) (within : AreRowsWithin rules rows) where
+    abbrev lines : List (List ℕ)
+    lines = row_lines rules.version rules.format rows
+
+    pub rows_lead : (before : Option Run) × Leads (RowStep rules) (Due (length lines) None) lines (Due 0 before)
+    rows_lead =
+        let runs : List Run = runs_from rules.version 0 rows in
+        let are = runs_within rules rows within in
+        let led = runs_lead 0 None runs tt are.order (recursion_from_All (IsRunWithin rules) runs are.each) in
+        let size : length runs + 0 ≡ length lines = omega (arith, length-map runs line_of) in
+        (led.0, subst (λ (n : ℕ). Leads (RowStep rules) (Due n None) lines (Due 0 led.0)) size led.1)
+
+    -- the line that tells how many they are, and those lines
+    pub counted_lead : (before : Option Run) × Leads (RowStep rules) Begin (count_line (length lines) ∷ lines) (Due 0 before)
+    counted_lead = (rows_lead.0, (Due (length lines) None, (length lines, few_lines rules rows within, refl, refl), rows_lead.1))
+
+    pub all_lead : Leads (RowStep rules) Begin (counted_lines rules.version rules.format rows) Done
+    all_lead = both_ways (RowStep rules) Begin (Due 0 counted_lead.0) Done (count_line (length lines) ∷ lines) (end_line ∷ []) counted_lead.1 (Done, (refl, refl), refl)
+
+    pub text_read : (bytes : List ℕ) → bytes ≡ concat (counted_lines rules.version rules.format rows) → IsRead (RowStep rules) Begin bytes (counted_lines rules.version rules.format rows) Done []
+    text_read bytes text = record {
+      leads = all_lead;
+      are = text ∙ joined_bytes (counted_lines rules.version rules.format rows) ∙ sym (append-nil (joined (counted_lines rules.version rules.format rows)));
+    }
+
+-- ---- rows of runs
+
+-- a row that runs give is allowed
+given_within : (rules : RowRules) (runs : List Run) (c : ℕ) (row : Row) → AllByRecursion (IsRunWithin rules) runs → Gives runs c row → IsRowWithin rules row
+given_within rules [] c row each given = absurd given
+given_within rules (r ∷ runs) c row each given = elim given [
+  | inl here ↦ subst (IsRowWithin rules) here.2 each.0.row
+  | inr rest ↦ given_within rules runs c row each.1 rest
+]
+
+pub rows_within : (rules : RowRules) (runs : List Run) (rows : List (Option Row)) → length rows ≡ rules.cells → AreRunsWithin rules runs → ((c : ℕ) (row : Row) → row_of rows c ≡ Some row → Gives runs c row) → AreRowsWithin rules rows
+rows_within rules runs rows size are given = record {
+  one_each = size;
+  each = All-from_get_or (λ row. IfSome row (IsRowWithin rules)) rows None (λ c lt. fits c (row_of rows c) refl);
+}
+  where
+    fits : (c : ℕ) (o : Option Row) → row_of rows c ≡ o → IfSome o (IsRowWithin rules)
+    fits c None e = tt
+    fits c (Some row) e = given_within rules runs c row (recursion_from_All (IsRunWithin rules) runs are.each) (given c row e)
+
+-- the runs that are read are those of the rows
+pub all_read : (rules : RowRules) (count : ℕ) (last : Option Run) (bytes rest : List ℕ) (rows : List (Option Row)) → AreRead rules count 0 last bytes rest rows → AreRowsAt rules count bytes rows rest
+all_read rules count last bytes rest rows read =
+    let own = runs_encode rules.version rows in
+    let text : Run → List ℕ = run_line rules.version rules.format in
+    let same : read.runs ≡ runs_from rules.version 0 rows = one_list rules.version rows read.runs (runs_from rules.version 0 rows) read.are.order own.0 read.tell own.1 in
+    let lines : map text read.runs ≡ row_lines rules.version rules.format rows = ap (map text) same in
+    record {
+      within = rows_within rules read.runs rows read.one_each read.are (λ c row. (read.tell c row).0);
+      counted = ap length (sym lines) ∙ length-map read.runs text ∙ omega (arith, read.counted);
+      text = (read.read).are ∙ ap (λ (x : List (List ℕ)). joined x ++ rest) lines ∙ ap (λ (x : List ℕ). x ++ rest) (sym (joined_bytes (row_lines rules.version rules.format rows)));
+    }

@@ -1,0 +1,3 @@
+-- What only private clauses and proofs name.
+pub mod RunReading
+pub mod ReadRows

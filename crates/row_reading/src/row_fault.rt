@@ -1,0 +1,19 @@
+ghost use Rattle.std.specs.Prelude.{◌≡◌};
+ghost use Rattle.row_reading.specs.declared.row_fault.RowFault.TheVariants.{Memory};
+
+/// Why no rows were read.
+#[derive(Clone, Copy, Debug, PartialEq, Eq)]
+pub enum RowFault {
+    /// The first line that is refused, counted from 1.
+    Malformed { line: u32 },
+    /// There was no memory left.
+    Memory,
+}
+
+impl From<game_core::NoMemory> for RowFault {
+    ghost from_gives = { λ _ e. e ≡ Memory };
+
+    fn from(_refused: game_core::NoMemory) -> RowFault {
+        RowFault::Memory
+    }
+}
