@@ -1,37 +1,69 @@
--- Runs that a plant may have are told whole by their lines.
-use Rattle.std.proofs.Common.{ℕ, ◌^◌, ◌<◌, ◌≤◌, List, [], ◌∷◌, arith}
-use Rattle.std.specs.List.{AllByRecursion}
-use Rattle.std.proofs.lemmas.List.Elements.{recursion_from_All}
+-- The rules of a plant's rows allow the rows that fit it, and no others.
+use Rattle.std.proofs.Common.{◌≡◌, ℕ, ◌-◌, ◌^◌, ◌<◌, ◌≤◌, List, length, get_or, Option, Some, None, refl, sym, ap, subst, ◌∙◌, arith}
+use Rattle.std.specs.Prelude.{IfSome}
 use Rattle.game_core.specs.declared.game.Row.{Row}
-use Rattle.row_runs.specs.declared.run.Run.{Run}
-use Rattle.row_runs.specs.declared.run.TableVersion.{TableVersion}
-use Rattle.row_runs.specs.Runs.{HasCells, AreRuns}
-use Rattle.row_runs.proofs.RunLaws.{forward}
 use Rattle.grid_quantiser.specs.Axes.{cells_of}
 use Rattle.plant_record.specs.declared.aims.GoalKind.{GoalKind}
 use Rattle.plant_record.specs.declared.aims.GoalKind.TheVariants.{Reach, Keep}
-use Rattle.plant_record.specs.Description.{Description, axes_of}
+use Rattle.plant_record.specs.Description.{Description, axes_of, vectors_of}
 use Rattle.plant_record.specs.Limits.{IsWithinLimits}
-use Rattle.controller_table.specs.Tables.{HasFittingRank, IsRowOf}
-use Rattle.controller_table.specs.RowLines.{IsRunOf, AreRunsOf}
-use Rattle.controller_table.specs.inside.TableReading.{IsSpelled, IsSpelledRow}
+use Rattle.row_runs.specs.declared.run.TableVersion.{TableVersion}
+use Rattle.row_reading.specs.RowsTexts.{TellsAll, IsRowWithin, AreRowsWithin}
+use Rattle.row_reading.specs.inside.RunReading.{AreSmall}
+use Rattle.controller_table.specs.TableText.{format_of}
+use Rattle.controller_table.specs.Tables.{HasFittingRank, IsRowOf, RowsFit}
+use Rattle.controller_table.specs.RowLines.{most_rank_of, rules_of}
 
-spelled_at : (goal : GoalKind) (cells : ℕ) (row : Row) → cells ≤ 2 ^ 20 → row.input < 4096 → HasFittingRank goal cells row → IsSpelledRow goal row
-spelled_at Reach cells row few lt h = record { rank = omega (arith, h.0); input = omega arith; tells = h.1 }
-spelled_at Keep cells row few lt h = record { rank = omega (arith, h); input = omega arith; tells = h }
+few_ranks : (goal : GoalKind) (cells : ℕ) → cells ≤ 2 ^ 20 → most_rank_of goal cells < 2 ^ 32
+few_ranks Reach cells le = omega (arith, le)
+few_ranks Keep cells le = omega arith
 
-pub spelled_row : (p : Description) (row : Row) → IsWithinLimits p → IsRowOf p row → IsSpelledRow p.goal row
-spelled_row p row within h = let vectors = within.vectors in spelled_at p.goal (cells_of (axes_of p)) row within.cells (omega (arith, h.input, vectors)) h.rank
+below : (n : ℕ) → n ≤ 2 ^ 20 → n < 2 ^ 32
+below n le = omega (arith, le)
 
-pub spelled_run : (v : TableVersion) (p : Description) (r : Run) → IsWithinLimits p → HasCells v r → IsRunOf p r → IsSpelled v p.goal r
-spelled_run v p r within some h =
-    let cells = within.cells in
-    let ahead = forward v r some in
-    record { first = omega (arith, ahead, h.cells, cells); last = omega (arith, h.cells, cells); cells = some; row = spelled_row p r.row within h.row }
+pub small_rules : (v : TableVersion) (p : Description) → IsWithinLimits p → AreSmall (rules_of v p)
+small_rules v p within = record {
+  cells = below (cells_of (axes_of p)) within.cells;
+  vectors = below (vectors_of p.inputs) (let few = within.vectors in omega (arith, few));
+  most_rank = few_ranks p.goal (cells_of (axes_of p)) within.cells;
+}
 
-all_spelled : (v : TableVersion) (p : Description) (runs : List Run) → IsWithinLimits p → AreRuns v runs → AllByRecursion (IsRunOf p) runs → AllByRecursion (IsSpelled v p.goal) runs
-all_spelled v p [] within order each = tt
-all_spelled v p (r ∷ runs) within order each = (spelled_run v p r within order.0 each.0, all_spelled v p runs within order.2 each.1)
+-- ---- ranks
 
-pub spelled_runs : (v : TableVersion) (p : Description) (runs : List Run) → IsWithinLimits p → AreRunsOf v p runs → AllByRecursion (IsSpelled v p.goal) runs
-spelled_runs v p runs within are = all_spelled v p runs within are.order (recursion_from_All (IsRunOf p) runs are.each)
+rank_told : (goal : GoalKind) (cells : ℕ) (row : Row) → HasFittingRank goal cells row → TellsAll (format_of goal) row
+rank_told Reach cells row h = h.1
+rank_told Keep cells row h = h
+
+rank_most : (goal : GoalKind) (cells : ℕ) (row : Row) → HasFittingRank goal cells row → row.rank ≤ most_rank_of goal cells
+rank_most Reach cells row h = omega (arith, h.0)
+rank_most Keep cells row h = omega (arith, h)
+
+rank_fits : (goal : GoalKind) (cells : ℕ) (row : Row) → 0 < cells → TellsAll (format_of goal) row → row.rank ≤ most_rank_of goal cells → HasFittingRank goal cells row
+rank_fits Reach cells row some told most = (omega (arith, some, most), told)
+rank_fits Keep cells row some told most = told
+
+none_below : (n : ℕ) → 0 ≤ n
+none_below n = omega arith
+
+module _ (v : TableVersion) (p : Description) where
+  row_within : (o : Option Row) → IfSome o (IsRowOf p) → IfSome o (IsRowWithin (rules_of v p))
+  row_within None h = tt
+  row_within (Some row) h = record {
+    told = rank_told p.goal (cells_of (axes_of p)) row h.rank;
+    least = none_below row.rank;
+    most = rank_most p.goal (cells_of (axes_of p)) row h.rank;
+    input = h.input;
+  }
+
+  row_fits : (o : Option Row) → 0 < cells_of (axes_of p) → IfSome o (IsRowWithin (rules_of v p)) → IfSome o (IsRowOf p)
+  row_fits None some h = tt
+  row_fits (Some row) some h = record { rank = rank_fits p.goal (cells_of (axes_of p)) row some h.told h.most; input = h.input }
+
+  pub rows_within : (rows : List (Option Row)) → RowsFit p rows → AreRowsWithin (rules_of v p) rows
+  rows_within rows fit = record { one_each = fit.one_each; each = λ i d lt. row_within (get_or rows i d) (fit.each i d lt) }
+
+  pub rows_fit : (rows : List (Option Row)) → AreRowsWithin (rules_of v p) rows → RowsFit p rows
+  rows_fit rows within = record {
+    one_each = within.one_each;
+    each = λ i d lt. row_fits (get_or rows i d) (let size : length rows ≡ cells_of (axes_of p) = within.one_each in omega (arith, lt, size)) (within.each i d lt);
+  }

@@ -1,11 +1,5 @@
-pub mod Digits
 pub mod Text
-pub mod RunWords
-pub mod LinesRead
 pub mod Fitting
-pub mod MoreRuns
-pub mod Standing
-pub mod RefusedRows
 pub mod RefusedPlant
 pub mod ReadTable
 pub mod SolutionsFit
@@ -14,3 +8,5 @@ pub mod OneRefusal
 pub mod PlantLength
 pub mod ShortTables
 pub mod Copies
+pub mod FrontEnds
+pub mod SomeTable

@@ -1,8 +1,6 @@
 -- A text has one reason to be refused as a table, and none where it is one.
 use Rattle.std.proofs.Common.{inl, inr, ◌≡◌, ◌⊎◌, ℕ, zero, suc, ◌+◌, ◌<◌, ◌≤◌, List, [], ◌∷◌, ◌++◌, length, length-append, take, Option, refl, sym, ap, subst, ◌∙◌, append_assoc, append-nil, arith}
-use Rattle.std.specs.List.{AllByRecursion, concat}
-use Rattle.std.proofs.lemmas.List.{take_all, length-take, take-map, take-append-le}
-use Rattle.std.proofs.lemmas.List.Elements.{All-take}
+use Rattle.std.specs.List.{concat}
 use Rattle.std.proofs.Math.Seq.{take-append_seam}
 use Rattle.game_core.specs.declared.game.Row.{Row}
 use Rattle.grid_quantiser.specs.Axes.{cells_of}
@@ -16,143 +14,25 @@ use Rattle.plant_writing.specs.CanonicalText.{text_of}
 use Rattle.plant_text.specs.CanonicalFronts.{IsFront, IsFrontRefusedFor}
 use Rattle.plant_text.specs.Laws.{OnePlantAtTheFront, OneFrontRefusal, FrontReadOrRefused}
 use Rattle.controller_table.specs.declared.table_fault.TableFault.TheVariants as faults
-use Rattle.row_runs.specs.declared.run.Run.{Run}
 use Rattle.row_runs.specs.declared.run.TableVersion.{TableVersion}
-use Rattle.row_runs.specs.Runs.{MayLead, AreRuns}
-use Rattle.row_runs.specs.RunText.{run_line, count_line, end_line}
-use Rattle.controller_table.specs.TableText.{format_of, version_line, lines_after}
+use Rattle.row_reading.specs.Counting.{line_count}
+use Rattle.row_reading.proofs.Laws.{one_row_refused, rows_or_refused}
+use Rattle.controller_table.specs.TableText.{version_line, lines_after}
 use Rattle.controller_table.specs.Tables.{RowsFit, IsTable}
-use Rattle.controller_table.specs.RowLines.{IsRunOf, AreRunsOf, AreRowLines, AreWhole, MayStand, IsFirstRefusedAfter}
-use Rattle.controller_table.specs.TableRefusals.{IsShortTable, line_count, HasNoVersion, IsPlantRefusedFor, AreRowsRefusedAt, IsFirstRefusedInTable, ExceedsTableLimit}
+use Rattle.controller_table.specs.RowLines.{rules_of, IsFirstRefusedAfter}
+use Rattle.controller_table.specs.TableRefusals.{IsShortTable, HasNoVersion, IsPlantRefusedFor, AreRowsRefusedAt, IsFirstRefusedInTable, ExceedsTableLimit}
 use Rattle.controller_table.specs.Laws.{OneTableRefusal, TableOrRefused, TablesAreShort}
-use Rattle.row_runs.proofs.Lines.{IsLine, one_line}
-use Rattle.row_runs.proofs.RunWords.{count_is_line}
-use Rattle.controller_table.proofs.OneTable.{one_version, whole_lines, row_lines_are_lines, whole_are_lines}
-use Rattle.controller_table.proofs.Standing.{nothing_next}
-
--- ---- the first of some lines
-
-lead_taken : (v : TableVersion) (r : Run) (n : ℕ) (runs : List Run) → MayLead v r runs → MayLead v r (take n runs)
-lead_taken v r zero runs h = tt
-lead_taken v r (suc n) [] h = tt
-lead_taken v r (suc n) (s ∷ runs) h = h
-
-order_taken : (v : TableVersion) (n : ℕ) (runs : List Run) → AreRuns v runs → AreRuns v (take n runs)
-order_taken v zero runs h = tt
-order_taken v (suc n) [] h = tt
-order_taken v (suc n) (r ∷ runs) h = (h.0, lead_taken v r n runs h.1, order_taken v n runs h.2)
-
-runs_taken : (v : TableVersion) (p : Description) (n : ℕ) (runs : List Run) → AreRunsOf v p runs → AreRunsOf v p (take n runs)
-runs_taken v p n runs are = record { order = order_taken v n runs are.order; each = All-take (IsRunOf p) n runs are.each }
-
-rows_taken : (v : TableVersion) (p : Description) (n : ℕ) (lines : List (List ℕ)) → AreRowLines v p lines → AreRowLines v p (take n lines)
-rows_taken v p n lines h = (take n h.0, runs_taken v p n h.0 h.1, ap (take n) h.2 ∙ take-map (run_line v (format_of p.goal)) n h.0)
-
-begun_taken : (v : TableVersion) (p : Description) (n count : ℕ) (rows : List (List ℕ)) → count ≤ cells_of (axes_of p) → length rows ≤ count → AreRowLines v p rows → MayStand v p (take (suc n) (count_line count ∷ rows))
-begun_taken v p n count rows le few h = inr (inl (record {
-  count = count;
-  count_bound = le;
-  rows = take n rows;
-  row_lines = rows_taken v p n rows h;
-  so_far = omega (arith, length-take n rows, few);
-  are = refl;
-}))
-
-le-or-lt : (n m : ℕ) → (n ≤ m) ⊎ (m < n)
-le-or-lt zero m = inl (omega arith)
-le-or-lt (suc n) zero = inr (omega arith)
-le-or-lt (suc n) (suc m) = elim (le-or-lt n m) [ inl le ↦ inl (omega (arith, le)) | inr lt ↦ inr (omega (arith, lt)) ]
-
-whole_taken : (v : TableVersion) (p : Description) (n : ℕ) (rows : List (List ℕ)) → length rows ≤ cells_of (axes_of p) → AreRowLines v p rows → (n ≤ length rows) ⊎ (length rows < n) → MayStand v p (take (suc n) (count_line (length rows) ∷ (rows ++ end_line ∷ [])))
-whole_taken v p n rows le h (inl short) =
-    subst (MayStand v p) (ap (λ (x : List (List ℕ)). count_line (length rows) ∷ x) (sym (take-append-le n rows (end_line ∷ []) short))) (begun_taken v p n (length rows) rows le (omega arith) h)
-whole_taken v p n rows le h (inr long) =
-    let all : take n (rows ++ end_line ∷ []) ≡ rows ++ end_line ∷ [] = take_all n (rows ++ end_line ∷ []) (omega (arith, length-append rows (end_line ∷ []), long)) in
-    subst (MayStand v p) (ap (λ (x : List (List ℕ)). count_line (length rows) ∷ x) (sym all)) (inr (inr (record { rows = rows; row_lines = h; count_bound = le; are = refl })))
-
-stands_taken : (v : TableVersion) (p : Description) (n : ℕ) (lines : List (List ℕ)) → MayStand v p lines → MayStand v p (take n lines)
-stands_taken v p zero lines may = inl refl
-stands_taken v p (suc n) lines may = elim may [
-  | inl none ↦ subst (λ (x : List (List ℕ)). MayStand v p (take (suc n) x)) (sym none) (inl refl)
-  | inr more ↦ elim more [
-    | inl begun ↦ subst (λ (x : List (List ℕ)). MayStand v p (take (suc n) x)) (sym begun.are) (begun_taken v p n begun.count begun.rows begun.count_bound begun.so_far begun.row_lines)
-    | inr whole ↦ subst (λ (x : List (List ℕ)). MayStand v p (take (suc n) x)) (sym whole.are) (whole_taken v p n whole.rows whole.count_bound whole.row_lines (le-or-lt n (length whole.rows)))
-  ]
-]
-
--- the lines up to one of those that may stand
-pub stands_up_to : (v : TableVersion) (p : Description) (ks : List (List ℕ)) (line : List ℕ) (more : List (List ℕ)) → MayStand v p (ks ++ line ∷ more) → MayStand v p (ks ++ line ∷ [])
-stands_up_to v p ks line more may =
-    let cut : take (length (ks ++ line ∷ [])) (ks ++ line ∷ more) ≡ ks ++ line ∷ [] =
-    ap (take (length (ks ++ line ∷ []))) (sym (append_assoc ks (line ∷ []) more)) ∙ take-append_seam (ks ++ line ∷ []) more in
-    subst (MayStand v p) cut (stands_taken v p (length (ks ++ line ∷ [])) (ks ++ line ∷ more) may)
-
-pub stand_are_lines : (v : TableVersion) (p : Description) (lines : List (List ℕ)) → IsWithinLimits p → MayStand v p lines → AllByRecursion IsLine lines
-stand_are_lines v p lines within may = elim may [
-  | inl none ↦ subst (AllByRecursion IsLine) (sym none) tt
-  | inr more ↦ elim more [
-    | inl begun ↦ (let cells = within.cells in subst (AllByRecursion IsLine) (sym begun.are) (count_is_line begun.count (omega (arith, begun.count_bound, cells)), row_lines_are_lines v p begun.rows within begun.row_lines))
-    | inr whole ↦ whole_are_lines v p lines within whole
-  ]
-]
-
--- ---- two lists of lines at the front of one text
-
--- The second list goes on where the first ends.
-pub record GoesOn (ks ls : List (List ℕ)) (s t : List ℕ) : Type 0 where
-  pub line : List ℕ
-  pub more : List (List ℕ)
-  pub longer : ls ≡ ks ++ line ∷ more
-  pub rest : s ≡ line ++ (concat more ++ t)
-
--- Both are one list.
-pub record AreEven (ks ls : List (List ℕ)) (s t : List ℕ) : Type 0 where
-  pub lines : ks ≡ ls
-  pub rest : s ≡ t
-
-pub compared : (ks ls : List (List ℕ)) (s t : List ℕ) → AllByRecursion IsLine ks → AllByRecursion IsLine ls → concat ks ++ s ≡ concat ls ++ t → AreEven ks ls s t ⊎ GoesOn ks ls s t ⊎ GoesOn ls ks t s
-compared [] [] s t h k e = inl (record { lines = refl; rest = e })
-compared [] (l ∷ ls) s t h k e = inr (inl (record { line = l; more = ls; longer = refl; rest = e ∙ append_assoc l (concat ls) t }))
-compared (l ∷ ks) [] s t h k e = inr (inr (record { line = l; more = ks; longer = refl; rest = sym e ∙ append_assoc l (concat ks) s }))
-compared (x ∷ ks) (y ∷ ls) s t h k e =
-    let same = one_line x y (concat ks ++ s) (concat ls ++ t) h.0 k.0 (sym (append_assoc x (concat ks) s) ∙ e ∙ append_assoc y (concat ls) t) in
-    elim (compared ks ls s t h.1 k.1 same.rest) [
-      | inl even ↦ inl (record { lines = ap (λ (z : List ℕ). z ∷ ks) same.line ∙ ap (λ (z : List (List ℕ)). y ∷ z) even.lines; rest = even.rest })
-      | inr apart ↦ elim apart [
-        | inl on ↦ inr (inl (record { line = on.line; more = on.more; longer = ap (λ (z : List ℕ). z ∷ ls) (sym same.line) ∙ ap (λ (z : List (List ℕ)). x ∷ z) on.longer; rest = on.rest }))
-        | inr on ↦ inr (inr (record { line = on.line; more = on.more; longer = ap (λ (z : List ℕ). z ∷ ks) same.line ∙ ap (λ (z : List (List ℕ)). y ∷ z) on.longer; rest = on.rest }))
-      ]
-    ]
+use Rattle.controller_table.proofs.Fitting.{small_rules, rows_within}
+use Rattle.controller_table.proofs.OneTable.{one_version}
 
 -- ---- the lines after the plant
 
--- a refused line isn't passed by lines that may stand
-passes_not : (v : TableVersion) (p : Description) (bytes : List ℕ) (n : ℕ) (lines : List (List ℕ)) (t : List ℕ) (r : IsFirstRefusedAfter v p bytes n) → MayStand v p lines → GoesOn r.lines lines r.rest t → ⊥
-passes_not v p bytes n lines t r may on = r.refused on.line (concat on.more ++ t) on.rest (stands_up_to v p r.lines on.line on.more (subst (MayStand v p) on.longer may))
+one_line_refused : (v : TableVersion) (p : Description) (bytes : List ℕ) (m n : ℕ) → IsWithinLimits p → IsFirstRefusedAfter v p bytes m → IsFirstRefusedAfter v p bytes n → m ≡ n
+one_line_refused v p bytes m n within r s = one_row_refused (rules_of v p) (small_rules v p within) bytes m n r s
 
-pub one_line_refused : (v : TableVersion) (p : Description) (bytes : List ℕ) (m n : ℕ) → IsWithinLimits p → IsFirstRefusedAfter v p bytes m → IsFirstRefusedAfter v p bytes n → m ≡ n
-one_line_refused v p bytes m n within r s =
-    elim (compared r.lines s.lines r.rest s.rest (stand_are_lines v p r.lines within r.stand) (stand_are_lines v p s.lines within s.stand) (sym r.are ∙ s.are)) [
-      | inl even ↦ r.next ∙ ap (λ (x : List (List ℕ)). suc (length x)) even.lines ∙ sym s.next
-      | inr apart ↦ elim apart [
-        | inl on ↦ absurd (passes_not v p bytes m s.lines s.rest r s.stand on)
-        | inr on ↦ absurd (passes_not v p bytes n r.lines r.rest s r.stand on)
-      ]
-    ]
-
-pub whole_not_refused : (v : TableVersion) (p : Description) (rows : List (Option Row)) (n : ℕ) → IsWithinLimits p → RowsFit p rows → IsFirstRefusedAfter v p (concat (lines_after v p.goal rows)) n → ⊥
+whole_not_refused : (v : TableVersion) (p : Description) (rows : List (Option Row)) (n : ℕ) → IsWithinLimits p → RowsFit p rows → IsFirstRefusedAfter v p (concat (lines_after v p.goal rows)) n → ⊥
 whole_not_refused v p rows n within fit r =
-    let whole = whole_lines v p rows fit in
-    let lines = lines_after v p.goal rows in
-    let stand : MayStand v p lines = inr (inr whole) in
-    elim (compared r.lines lines r.rest [] (stand_are_lines v p r.lines within r.stand) (stand_are_lines v p lines within stand) (sym r.are ∙ sym (append-nil (concat lines)))) [
-      | inl even ↦ r.unfinished even.rest (subst (AreWhole v p) (sym even.lines) whole)
-      | inr apart ↦ elim apart [
-        | inl on ↦ passes_not v p (concat lines) n lines [] r stand on
-        | inr on ↦ nothing_next p within v (length whole.rows) whole.rows on.line on.more whole.count_bound refl
-            (subst (MayStand v p) (on.longer ∙ ap (λ (x : List (List ℕ)). x ++ on.line ∷ on.more) whole.are) r.stand)
-      ]
-    ]
+    rows_or_refused (rules_of v p) (small_rules v p within) (concat (lines_after v p.goal rows)) rows n (record { within = rows_within v p rows fit; text = refl }) r
 
 -- ---- the whole text
 

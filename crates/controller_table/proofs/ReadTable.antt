@@ -1,5 +1,5 @@
 -- What is read from the bytes of a table, and why they are refused.
-use Rattle.std.proofs.Common.{inl, inr, ◌≡◌, ℕ, ◌+◌, ◌^◌, ◌≤◌, List, [], ◌∷◌, ◌++◌, length, length-append, take, drop, Option, refl, sym, ap, ◌∙◌, append_assoc, arith}
+use Rattle.std.proofs.Common.{inr, ◌≡◌, ℕ, ◌+◌, ◌^◌, ◌≤◌, List, ◌++◌, take, drop, Option, refl, sym, ap, ◌∙◌, append_assoc, arith}
 use Rattle.std.specs.List.{concat}
 use Rattle.std.proofs.lemmas.List.{take-append-drop}
 use Rattle.std.proofs.Math.Seq.{take-append-add}
@@ -12,12 +12,15 @@ use Rattle.plant_text.specs.CanonicalFronts.{IsFront}
 use Rattle.controller_table.specs.declared.table_fault.TableFault.TheVariants as faults
 use Rattle.row_runs.specs.declared.run.TableVersion.{TableVersion}
 use Rattle.row_runs.specs.declared.run.TableVersion.TheVariants.{First, Second}
-use Rattle.controller_table.specs.TableText.{version_line, lines_after}
-use Rattle.row_runs.specs.RunText.{end_line}
-use Rattle.controller_table.specs.Tables.{RowsFit, IsTableIn}
-use Rattle.controller_table.specs.RowLines.{MayStand, IsFirstRefusedAfter}
-use Rattle.controller_table.specs.TableRefusals.{IsShortTable, line_count, HasNoVersion, IsTableRefusedFor}
+use Rattle.controller_table.specs.TableText.{version_line}
+use Rattle.row_reading.specs.Counting.{line_count}
+use Rattle.row_reading.specs.RowsTexts.{IsRowsText}
+use Rattle.row_reading.proofs.Laws as row_laws
+use Rattle.controller_table.specs.Tables.{IsTableIn}
+use Rattle.controller_table.specs.RowLines.{rules_of, IsFirstRefusedAfter}
+use Rattle.controller_table.specs.TableRefusals.{IsShortTable, HasNoVersion, IsTableRefusedFor}
 use Rattle.controller_table.specs.inside.TableReading.{IsVersionAt}
+use Rattle.controller_table.proofs.Fitting.{small_rules, rows_fit}
 
 pub no_version : (bytes : List ℕ) → ((y : TableVersion × List ℕ) → IsVersionAt bytes y → ⊥) → HasNoVersion bytes
 no_version bytes none v rest e = none (v, rest) e
@@ -33,13 +36,13 @@ after_plant v bytes rest p count are f =
     ∙ ap (λ (x : List ℕ). version_line v ++ x) (sym (take-append-drop count rest) ∙ ap (λ (x : List ℕ). x ++ drop count rest) f.text)
     ∙ sym (append_assoc (version_line v) (text_of p) (drop count rest))
 
-pub table_read : (v : TableVersion) (bytes rest after : List ℕ) (p : Description) (count : ℕ) (rows : List (Option Row)) → bytes ≡ version_line v ++ rest → IsFront rest p count → IsWithinLimits p → after ≡ drop count rest → RowsFit p rows → after ≡ concat (lines_after v p.goal rows) → IsTableIn v bytes p rows
-table_read v bytes rest after p count rows are f within from fit text = (
+pub table_read : (v : TableVersion) (bytes rest after : List ℕ) (p : Description) (count : ℕ) (answer : List (Option Row)) → bytes ≡ version_line v ++ rest → IsFront rest p count → IsWithinLimits p → after ≡ drop count rest → IsRowsText (rules_of v p) after answer → IsTableIn v bytes p answer
+table_read v bytes rest after p count answer are f within from told = (
   record {
     limits = within;
-    fitting = fit;
+    fitting = rows_fit v p answer told.within;
     version = v;
-    text = after_plant v bytes rest p count are f ∙ ap (λ (x : List ℕ). version_line v ++ text_of p ++ x) (sym from ∙ text);
+    text = after_plant v bytes rest p count are f ∙ ap (λ (x : List ℕ). version_line v ++ text_of p ++ x) (sym from ∙ told.text);
   },
   refl,
 )
@@ -62,14 +65,7 @@ rows_refused v bytes rest after p count lines line short are f within from refus
     )
 
 -- the number of a refused line is small
-pub few_lines : (v : TableVersion) (p : Description) (lines : List (List ℕ)) → MayStand v p lines → length lines ≤ cells_of (axes_of p) + 2
-few_lines v p lines may = elim may [
-  | inl none ↦ (let e = ap length none in omega (arith, e))
-  | inr more ↦ elim more [
-    | inl begun ↦ (let e = ap length begun.are in omega (arith, e, begun.so_far, begun.count_bound))
-    | inr whole ↦ (let e = ap length whole.are in let last = length-append whole.rows (end_line ∷ []) in omega (arith, e, last, whole.count_bound))
-  ]
-]
-
 pub line_bound : (v : TableVersion) (p : Description) (bytes : List ℕ) (n : ℕ) → IsWithinLimits p → IsFirstRefusedAfter v p bytes n → n ≤ 2 ^ 20 + 3
-line_bound v p bytes n within r = let cells = within.cells in omega (arith, r.next, few_lines v p r.lines r.stand, cells)
+line_bound v p bytes n within r =
+    let bound : n ≤ cells_of (axes_of p) + 3 = row_laws.line_bound (rules_of v p) (small_rules v p within) bytes n r in
+    omega (arith, within.cells, bound)

@@ -33,6 +33,10 @@ OneTableRefusal = (bytes : List ℕ) (f g : TableFault) → IsTableRefusedFor by
 abbrev pub TableOrRefused : Type 0
 TableOrRefused = (bytes : List ℕ) (p : Description) (rows : List (Option Row)) (f : TableFault) → IsTable bytes p rows → IsTableRefusedFor bytes f → ⊥
 
+-- no text is neither a table nor refused as one
+abbrev pub NoTextIsNeither : Type 0
+NoTextIsNeither = (bytes : List ℕ) → ((p : Description) (rows : List (Option Row)) → IsTable bytes p rows → ⊥) → ((f : TableFault) → IsTableRefusedFor bytes f → ⊥) → ⊥
+
 -- a table's text is within the limit on its bytes
 abbrev pub TablesAreShort : Type 0
 TablesAreShort = (bytes : List ℕ) (p : Description) (rows : List (Option Row)) → IsTable bytes p rows → IsShortTable bytes

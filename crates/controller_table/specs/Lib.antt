@@ -3,6 +3,5 @@ pub mod Tables
 pub mod Choice
 pub mod RowLines
 pub mod TableRefusals
-pub mod Found
 pub mod Laws
 pub mod inside

@@ -1,5 +1,5 @@
 -- Which texts are refused as tables, and why: the first reason that applies.
-use Rattle.std.specs.Prelude.{◌≡◌, ◌⊎◌, ℕ, suc, ◌+◌, ◌≤◌, ◌==◌, List, ◌++◌, length, count_by}
+use Rattle.std.specs.Prelude.{◌≡◌, ◌⊎◌, ℕ, suc, ◌+◌, ◌≤◌, List, ◌++◌, length}
 use Rattle.plant_record.specs.declared.limit_kind.LimitKind.{LimitKind}
 use Rattle.plant_record.specs.declared.limit_kind.LimitKind.TheVariants.{PlantText, TableText, Vectors, Cells, Pairs, Edges}
 use Rattle.plant_text.specs.declared.plant_fault.PlantFault.{PlantFault}
@@ -11,6 +11,7 @@ use Rattle.plant_text.specs.CanonicalFronts.{IsFrontRefusedFor}
 use Rattle.controller_table.specs.declared.table_fault.TableFault.{TableFault}
 use Rattle.controller_table.specs.declared.table_fault.TableFault.TheVariants as faults
 use Rattle.row_runs.specs.declared.run.TableVersion.{TableVersion}
+use Rattle.row_reading.specs.Counting.{line_count}
 use Rattle.controller_table.specs.TableText.{version_line}
 use Rattle.controller_table.specs.RowLines.{IsFirstRefusedAfter}
 use Rattle.base.specs.declared.limits.TheConstants.{TABLE_LIMIT}
@@ -18,10 +19,6 @@ use Rattle.base.specs.declared.limits.TheConstants.{TABLE_LIMIT}
 -- the text has at most 67,108,864 bytes
 abbrev pub IsShortTable : List ℕ → Type 0
 IsShortTable bytes = length bytes ≤ TABLE_LIMIT
-
--- how many lines end in the bytes
-abbrev pub line_count : List ℕ → ℕ
-line_count bytes = count_by (λ b. b == 10) bytes
 
 -- the bytes don't begin with the line of a version
 abbrev pub HasNoVersion : List ℕ → Type 0

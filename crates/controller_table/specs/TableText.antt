@@ -1,13 +1,13 @@
 -- The text of a table, by its version: the plant's text, and lines for the runs of its rows.
-use Rattle.std.specs.Prelude.{ℕ, List, [], ◌∷◌, ◌++◌, length, map, Option, codes}
+use Rattle.std.specs.Prelude.{ℕ, List, [], ◌∷◌, ◌++◌, Option, codes}
 use Rattle.std.specs.List.{concat}
 use Rattle.game_core.specs.declared.game.Row.{Row}
 use Rattle.row_runs.specs.declared.row_format.RowFormat.{RowFormat}
 use Rattle.row_runs.specs.declared.row_format.RowFormat.TheVariants.{InputAboveZero, InputAlone}
 use Rattle.row_runs.specs.declared.run.TableVersion.{TableVersion}
 use Rattle.row_runs.specs.declared.run.TableVersion.TheVariants.{First, Second}
-use Rattle.row_runs.specs.Runs.{runs_from}
-use Rattle.row_runs.specs.RunText.{line, run_line, count_line, end_line}
+use Rattle.row_runs.specs.RunText.{line}
+use Rattle.row_reading.specs.RowsTexts.{counted_lines}
 use Rattle.plant_record.specs.declared.aims.GoalKind.{GoalKind}
 use Rattle.plant_record.specs.declared.aims.GoalKind.TheVariants.{Reach, Keep}
 use Rattle.plant_record.specs.Description.{Description}
@@ -27,18 +27,13 @@ abbrev pub format_of : GoalKind → RowFormat
 format_of Reach = InputAboveZero
 format_of Keep = InputAlone
 
--- the lines of all rows
-abbrev pub row_lines : TableVersion → GoalKind → List (Option Row) → List (List ℕ)
-row_lines version goal rows = map (run_line version (format_of goal)) (runs_from version 0 rows)
-
 abbrev pub version_line : TableVersion → List ℕ
 version_line First = line (codes "table" ∷ codes "1" ∷ [])
 version_line Second = line (codes "table" ∷ codes "2" ∷ [])
 
 -- the lines after the plant's text
 abbrev pub lines_after : TableVersion → GoalKind → List (Option Row) → List (List ℕ)
-lines_after version goal rows =
-    count_line (length (row_lines version goal rows)) ∷ row_lines version goal rows ++ end_line ∷ []
+lines_after version goal rows = counted_lines version (format_of goal) rows
 
 -- the text of a table, one optional row for each cell
 abbrev pub table_text : TableVersion → Description → List (Option Row) → List ℕ

@@ -1,4 +1,2 @@
-pub mod RowNumbers
 pub mod TableReading
-pub mod ReadRows
 pub mod ReadPlant

@@ -2,7 +2,7 @@
 
 ghost use Rattle.plant_record.specs.Limits.{IsWithinLimits};
 ghost use Rattle.controller_table.specs.Tables.{RowsFit};
-ghost use Rattle.controller_table.specs.Laws.{OneTablePerText, OneChoice, OneRank, OneTableRefusal, TableOrRefused, TablesAreShort, ReachSolutionsFit, KeepSolutionsFit};
+ghost use Rattle.controller_table.specs.Laws.{OneTablePerText, OneChoice, OneRank, OneTableRefusal, TableOrRefused, NoTextIsNeither, TablesAreShort, ReachSolutionsFit, KeepSolutionsFit};
 
 use crate::table::Table;
 use plant_record::laws::every_plant_is_within_limits;
@@ -35,6 +35,11 @@ pub fn tables_are_short()
 /// No table is refused.
 pub fn table_or_refused()
     ensures { TableOrRefused }
+{}
+
+/// No text is neither a table nor refused.
+pub fn no_text_is_neither()
+    ensures { NoTextIsNeither }
 {}
 
 /// The rows of the reach solution of a game over a plant's cells and input vectors fit the plant.

@@ -5,22 +5,16 @@
 //! To contracts a `Table` is its version, its plant and its rows.
 #![tactic(auto)]
 
-mod front;
 mod goal_format;
 pub mod laws;
-mod row_numbers;
-mod row_reader;
-mod run_reader;
 mod table;
 mod table_copy;
 mod table_fault;
 mod table_reader;
 mod table_writer;
 
-pub use base::NoMemory;
-pub use front::{after_prefix, line_count};
-pub use goal_format::format_of;
+pub use goal_format::{format_of, rules_of};
 pub use table::Table;
-pub use table_fault::TableFault;
+pub use table_fault::{NoMemory, TableFault};
 pub use table_reader::read_table;
 pub use table_writer::TableWriter;

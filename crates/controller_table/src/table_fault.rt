@@ -1,8 +1,27 @@
-ghost use Rattle.std.specs.Prelude.{◌≡◌};
-ghost use Rattle.controller_table.specs.declared.table_fault.TableFault.TheVariants as faults;
-
-use base::NoMemory;
 use plant_record::LimitKind;
+use std::alloc::AllocError;
+
+/// There was no memory left.
+#[derive(Clone, Copy, Debug, PartialEq, Eq)]
+pub struct NoMemory;
+
+impl From<AllocError> for NoMemory {
+    fn from(_refused: AllocError) -> NoMemory {
+        NoMemory
+    }
+}
+
+impl From<plant_record::NoMemory> for NoMemory {
+    fn from(_refused: plant_record::NoMemory) -> NoMemory {
+        NoMemory
+    }
+}
+
+impl From<game_core::NoMemory> for NoMemory {
+    fn from(_refused: game_core::NoMemory) -> NoMemory {
+        NoMemory
+    }
+}
 
 /// Why no table was read.
 #[derive(Clone, Copy, Debug, PartialEq, Eq)]
@@ -13,12 +32,4 @@ pub enum TableFault {
     Limit { what: LimitKind },
     /// There was no memory left.
     Memory,
-}
-
-impl From<NoMemory> for TableFault {
-    ghost from_gives = { λ _ e. e ≡ faults.Memory };
-
-    fn from(_refused: NoMemory) -> TableFault {
-        TableFault::Memory
-    }
 }

@@ -3,19 +3,20 @@ ghost use Rattle.plant_record.specs.Limits.{IsWithinLimits};
 ghost use Rattle.plant_text.specs.CanonicalFronts.{IsFront};
 ghost use Rattle.controller_table.specs.declared.table_fault.TableFault.TheVariants.{Memory};
 ghost use Rattle.controller_table.specs.Tables.{IsTableIn};
-ghost use Rattle.controller_table.specs.TableRefusals.{IsTableRefusedFor, line_count};
-ghost use Rattle.controller_table.specs.Found.{Finds};
+ghost use Rattle.controller_table.specs.TableRefusals.{IsTableRefusedFor};
+ghost use Rattle.row_reading.specs.Counting.{line_count};
+ghost use Rattle.row_reading.specs.Found.{Finds};
 ghost use Rattle.controller_table.specs.inside.TableReading.{IsVersionAt};
 ghost use Rattle.controller_table.specs.inside.ReadPlant.{IsPlantRefused, of_front};
 ghost use Rattle.base.specs.declared.limits.TheConstants.{TABLE_LIMIT};
 
-use crate::front::{after_prefix, line_count};
-use crate::row_reader::rows_after;
+use crate::goal_format::rules_of;
 use crate::table::Table;
 use crate::table_fault::TableFault;
 use base::limits::TABLE_LIMIT;
 use plant_record::LimitKind;
 use plant_text::{Front, PlantFault, read_front};
+use row_reading::{RowFault, after_prefix, line_count, read_rows};
 use row_runs::TableVersion;
 use std::alloc::Global;
 
@@ -36,10 +37,10 @@ pub fn read_table(alloc: Global, bytes: &[u8]) -> Result<Table, TableFault>
     };
     let Front { plant, length } = plant_in(alloc, rest)?;
     let lines = front_lines(&bytes[..VERSION_LENGTH + length]);
-    match rows_after(alloc, version, &plant, &rest[length..]) {
+    match read_rows(alloc, rules_of(version, &plant), &rest[length..]) {
         Ok(answer) => Ok(Table::new(version, plant, answer)),
-        Err(TableFault::Malformed { line }) => Err(TableFault::Malformed { line: lines + line }),
-        Err(fault) => Err(fault),
+        Err(RowFault::Malformed { line }) => Err(TableFault::Malformed { line: lines + line }),
+        Err(RowFault::Memory) => Err(TableFault::Memory),
     }
 }
 

@@ -9,7 +9,7 @@ use Rattle.std.proofs.lemmas.List.Sums.{sum_by-append}
 use Rattle.plant_record.specs.Numbers.{IsLiteral}
 use Rattle.plant_reading.specs.Separators.{is_separator, is_word}
 use Rattle.plant_reading.proofs.lemmas.NumberBytes.{number_word}
-use Rattle.controller_table.specs.TableRefusals.{line_count}
+use Rattle.row_reading.specs.Counting.{line_count}
 use Rattle.command_line.specs.Command.{AreStateNumbers}
 use Rattle.live_script.specs.Scripts.{publish_line, ask_line}
 use Rattle.live_script.specs.inside.QuestionWords.{spaced}

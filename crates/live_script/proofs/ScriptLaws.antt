@@ -4,7 +4,8 @@ use Rattle.plant_reading.proofs.lemmas.StatementLaws.{one_statement}
 use Rattle.plant_text.proofs.lemmas.CanonicalFronts as fronts
 use Rattle.controller_table.specs.declared.table_fault.TableFault.{TableFault}
 use Rattle.controller_table.specs.declared.table_fault.TableFault.TheVariants as tables
-use Rattle.controller_table.specs.TableRefusals.{IsTableRefusedFor, line_count}
+use Rattle.row_reading.specs.Counting.{line_count}
+use Rattle.controller_table.specs.TableRefusals.{IsTableRefusedFor}
 use Rattle.controller_table.specs.Laws.{OneTableRefusal, TableOrRefused}
 use Rattle.controller_table.proofs.OneRefusal as refusals
 use Rattle.controller_table.proofs.ShortTables as short

@@ -1,16 +1,17 @@
--- No bytes are neither a script nor refused as one, where no text is neither a table nor refused as one.
+-- No bytes are neither a script nor refused as one.
 use Rattle.std.proofs.Common.{◌≡◌, ℕ, zero, suc, ◌+◌, ◌<◌, ◌≤◌, List, [], ◌∷◌, ◌++◌, length, take, drop, inl, inr, refl, sym, ap, subst, ◌∙◌, arith, append_assoc, length-append, length-take, take-append-drop}
 use Rattle.std.proofs.lemmas.Bool.{cases_lt}
 use Rattle.controller_table.specs.declared.table_fault.TableFault.{TableFault}
 use Rattle.controller_table.specs.declared.table_fault.TableFault.TheVariants as tables
-use Rattle.controller_table.specs.TableRefusals.{line_count}
+use Rattle.controller_table.proofs.SomeTable.{no_text_is_neither}
+use Rattle.row_reading.specs.Counting.{line_count}
 use Rattle.live_script.specs.declared.command.ScriptCommand.{ScriptCommand}
 use Rattle.live_script.specs.declared.command.ScriptCommand.TheVariants.{Publish, Ask}
 use Rattle.live_script.specs.declared.script_fault.ScriptFault.{ScriptFault}
 use Rattle.live_script.specs.declared.script_fault.ScriptFault.TheVariants.{Malformed, Limit, ScriptTooLong, TooManyTables, Memory}
 use Rattle.live_script.specs.Scripts.{publish_line, ask_line, Spell, FitsAfter, tables_after, published_tables, SpellAfter, IsShortScript}
 use Rattle.live_script.specs.ScriptRefusals.{Announce, IsMalformedAfter, IsTableRefusedAfter, IsRefusedAfter, IsFirstRefusal, IsScriptRefusedFor}
-use Rattle.live_script.specs.Laws.{NoTextIsNeither, NoScriptIsNeither}
+use Rattle.live_script.specs.Laws.{NoScriptIsNeither}
 use Rattle.live_script.proofs.Counting.{both_counted}
 use Rattle.live_script.proofs.TableLines.{ends_too_early}
 use Rattle.live_script.proofs.ScriptLaws.{some_bytes}
@@ -28,11 +29,11 @@ refused_table n number bytes (tables.Malformed line) h = stops (Malformed (numbe
 refused_table n number bytes (tables.Limit what) h = stops (Limit what) h
 refused_table n number bytes tables.Memory h = absurd h.refused
 
-module _ (no_text : NoTextIsNeither) (n number : ℕ) (most : n ≤ 8) where
+module _ (n number : ℕ) (most : n ≤ 8) where
   -- a table's text of the size that is told
   whole_text : (bytes text rest : List ℕ) → n < 8 → Announce bytes (length text) (text ++ rest) → (Front n number bytes → ⊥) → ⊥
   whole_text bytes text rest few told deny =
-      no_text text
+      no_text_is_neither text
       (λ p rows table. deny (has (Publish (record { version = table.version; plant = p; rows = rows })) (publish_line (length text) ++ text) rest
       (told.are ∙ sym (append_assoc (publish_line (length text)) text rest)) (record { text = text; is_table = (table, refl); are = refl }) few))
       (λ f refused. deny (refused_table n number bytes f (record { few = few; text = text; rest = rest; announced = told; refused = refused })))
@@ -111,9 +112,9 @@ shorter : (bytes first rest : List ℕ) (c : ScriptCommand) → bytes ≡ first 
 shorter bytes [] rest c at spells = absurd (some_bytes [] c spells [] refl)
 shorter bytes (x ∷ first) rest c at spells = omega (arith, ap length at, length-append (x ∷ first) rest)
 
-end_of : NoTextIsNeither → (fuel n number : ℕ) (bytes : List ℕ) → length bytes < fuel → n ≤ 8 → (End n number bytes → ⊥) → ⊥
-end_of no_text zero n number bytes few most deny = omega (arith, few)
-end_of no_text (suc fuel) n number bytes few most deny = front no_text n number most bytes (by_front (λ m k rest lt le d. end_of no_text fuel m k rest lt le d))
+end_of : (fuel n number : ℕ) (bytes : List ℕ) → length bytes < fuel → n ≤ 8 → (End n number bytes → ⊥) → ⊥
+end_of zero n number bytes few most deny = omega (arith, few)
+end_of (suc fuel) n number bytes few most deny = front n number most bytes (by_front (λ m k rest lt le d. end_of fuel m k rest lt le d))
   where
     by_front : ((m k : ℕ) (rest : List ℕ) → length rest < fuel → m ≤ 8 → (End m k rest → ⊥) → ⊥) → Front n number bytes → ⊥
     by_front after (ends none some) = deny (spelt [] none (omega (arith, some)))
@@ -132,10 +133,10 @@ first_refusal bytes TooManyTables short h = (short, h)
 first_refusal bytes Memory short h = absurd h.refused
 
 pub no_script_is_neither : NoScriptIsNeither
-no_script_is_neither no_text bytes no_script no_refusal =
+no_script_is_neither bytes no_script no_refusal =
     elim (cases_lt 67108864 (length bytes)) [
       | inl long ↦ no_refusal ScriptTooLong (λ short. omega (arith, long, short))
-      | inr short ↦ end_of no_text (suc (length bytes)) 0 1 bytes (omega arith) (omega arith) (by_end (omega (arith, short)))
+      | inr short ↦ end_of (suc (length bytes)) 0 1 bytes (omega arith) (omega arith) (by_end (omega (arith, short)))
     ]
   where
     by_end : IsShortScript bytes → End 0 1 bytes → ⊥

@@ -8,7 +8,7 @@ use Rattle.plant_record.specs.Numbers.{IsLiteral}
 use Rattle.controller_table.specs.declared.table_fault.TableFault.{TableFault}
 use Rattle.controller_table.specs.declared.table_fault.TableFault.TheVariants as tables
 use Rattle.controller_table.specs.TableRefusals.{IsTableRefusedFor}
-use Rattle.controller_table.proofs.Digits.{one_number}
+use Rattle.row_reading.proofs.Digits.{one_number}
 use Rattle.live_script.specs.declared.script_fault.ScriptFault.TheVariants.{Memory}
 use Rattle.live_script.specs.Scripts.{publish_line, ask_line}
 use Rattle.live_script.specs.ScriptRefusals.{Announce, IsMalformedAfter, IsRefusedAfter}

@@ -2,7 +2,7 @@
 use Rattle.std.proofs.Common.{◌≡◌, ℕ, ◌+◌, ◌<◌, List, ◌∷◌, ◌++◌, length, refl, ap, sym, ◌∙◌, arith, append_assoc, length-append}
 use Rattle.std.specs.Prelude.{ℤ}
 use Rattle.controller_table.specs.Tables.{TableModel, IsTableIn}
-use Rattle.controller_table.specs.TableRefusals.{line_count}
+use Rattle.row_reading.specs.Counting.{line_count}
 use Rattle.live_script.specs.declared.command.ScriptCommand.TheVariants.{Publish, Ask}
 use Rattle.command_line.specs.Command.{AreStateNumbers}
 use Rattle.live_script.specs.Scripts.{publish_line, ask_line}

@@ -1,10 +1,5 @@
 -- What holds of every live script.
-use Rattle.std.specs.Prelude.{◌≡◌, ℕ, List, Option}
-use Rattle.game_core.specs.declared.game.Row.{Row}
-use Rattle.plant_record.specs.Description.{Description}
-use Rattle.controller_table.specs.declared.table_fault.TableFault.{TableFault}
-use Rattle.controller_table.specs.Tables.{IsTable}
-use Rattle.controller_table.specs.TableRefusals.{IsTableRefusedFor}
+use Rattle.std.specs.Prelude.{◌≡◌, ℕ, List}
 use Rattle.live_script.specs.declared.command.ScriptCommand.{ScriptCommand}
 use Rattle.live_script.specs.declared.script_fault.ScriptFault.{ScriptFault}
 use Rattle.live_script.specs.Scripts.{IsScript}
@@ -23,14 +18,9 @@ OneScriptRefusal = (bytes : List ℕ) (f g : ScriptFault) → IsScriptRefusedFor
 abbrev pub ScriptOrRefused : Type 0
 ScriptOrRefused = (bytes : List ℕ) (commands : List ScriptCommand) (f : ScriptFault) → IsScript bytes commands → IsScriptRefusedFor bytes f → ⊥
 
--- no text is neither a table nor refused as one
-abbrev pub NoTextIsNeither : Type 0
-NoTextIsNeither = (bytes : List ℕ) → ((p : Description) (rows : List (Option Row)) → IsTable bytes p rows → ⊥) → ((f : TableFault) → IsTableRefusedFor bytes f → ⊥) → ⊥
-
--- where that holds, no bytes are neither a script nor refused as one
+-- no bytes are neither a script nor refused as one
 abbrev pub NoScriptIsNeither : Type 0
-NoScriptIsNeither =
-    NoTextIsNeither → (bytes : List ℕ) → ((commands : List ScriptCommand) → IsScript bytes commands → ⊥) → ((f : ScriptFault) → IsScriptRefusedFor bytes f → ⊥) → ⊥
+NoScriptIsNeither = (bytes : List ℕ) → ((commands : List ScriptCommand) → IsScript bytes commands → ⊥) → ((f : ScriptFault) → IsScriptRefusedFor bytes f → ⊥) → ⊥
 
 -- no bytes are a script with two texts of answers
 abbrev pub OneLiveText : Type 0

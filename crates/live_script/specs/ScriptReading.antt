@@ -1,6 +1,6 @@
 -- How a script is read, one command after the other.
 use Rattle.std.specs.Prelude.{◌≡◌, ℕ, ◌+◌, ◌<◌, List, ◌++◌, length}
-use Rattle.controller_table.specs.TableRefusals.{line_count}
+use Rattle.row_reading.specs.Counting.{line_count}
 use Rattle.live_script.specs.declared.command.ScriptCommand.{ScriptCommand}
 use Rattle.live_script.specs.Scripts.{Spell, FitsAfter, tables_after}
 

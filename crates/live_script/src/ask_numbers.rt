@@ -1,6 +1,6 @@
 //! Numbers of at most 18 digits, each in its one spelling.
 
-ghost use Rattle.controller_table.specs.Found.{Finds};
+ghost use Rattle.row_reading.specs.Found.{Finds};
 ghost use Rattle.live_script.specs.inside.QuestionWords.{IsNumberAt};
 
 use crate::cuts::word_at;

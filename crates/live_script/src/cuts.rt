@@ -2,7 +2,7 @@
 
 ghost use Rattle.std.specs.Prelude.{◌≡◌, ℕ, ◌<◌, List, ◌++◌, length, position, true, IfSome};
 ghost use Rattle.plant_reading.specs.Separators.{is_separator, is_word};
-ghost use Rattle.controller_table.specs.Found.{Finds};
+ghost use Rattle.row_reading.specs.Found.{Finds};
 ghost use Rattle.live_script.specs.inside.QuestionWords.{BeginsWithSeparator};
 
 /// The bytes up to the first separator, and the bytes from there on.

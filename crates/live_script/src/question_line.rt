@@ -1,5 +1,5 @@
 ghost use Rattle.std.specs.Prelude.{◌≡◌, ℤ, ℕ, List, ◌∷◌, ◌++◌};
-ghost use Rattle.controller_table.specs.Found.{Finds};
+ghost use Rattle.row_reading.specs.Found.{Finds};
 ghost use Rattle.command_line.specs.Command.{AreStateNumbers};
 ghost use Rattle.live_script.specs.Scripts.{ask_line};
 ghost use Rattle.live_script.specs.inside.QuestionWords.{IsNumberAt};
@@ -7,7 +7,7 @@ ghost use Rattle.live_script.specs.inside.QuestionWords.{IsNumberAt};
 use crate::ask_numbers::number_at;
 use base::limits::STATES_LIMIT;
 use command_line::StateNumbers;
-use controller_table::after_prefix;
+use row_reading::after_prefix;
 
 /// The most numbers of a question: those of the states of a plant.
 const NUMBERS_LIMIT: u32 = STATES_LIMIT as u32;

@@ -1,7 +1,7 @@
 ghost use Rattle.std.specs.Prelude.{◌≡◌, ◌≢◌, ℕ, ℤ, [], ◌^◌, ◌+◌, ◌<◌, ◌≤◌, List, ◌++◌, length, IfOk, IfErr, IfSome, OnErr};
 ghost use Rattle.std.specs.Option.{IfNone};
 ghost use Rattle.controller_table.specs.Tables.{IsTableIn};
-ghost use Rattle.controller_table.specs.Found.{Finds};
+ghost use Rattle.row_reading.specs.Found.{Finds};
 ghost use Rattle.command_line.specs.Command.{AreStateNumbers};
 ghost use Rattle.live_script.specs.declared.script_fault.ScriptFault.TheVariants.{Memory};
 ghost use Rattle.live_script.specs.Scripts.{publish_line, ask_line, IsShortScript};
@@ -16,7 +16,8 @@ use crate::script_fault::ScriptFault;
 use crate::table_line::announced_at;
 use base::limits::{SCRIPT_LIMIT, TABLES_LIMIT};
 use command_line::StateNumbers;
-use controller_table::{Table, TableFault, line_count, read_table};
+use controller_table::{Table, TableFault, read_table};
+use row_reading::line_count;
 use std::alloc::Global;
 use std::marker::Model;
 

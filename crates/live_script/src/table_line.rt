@@ -1,11 +1,11 @@
 ghost use Rattle.std.specs.Prelude.{◌≡◌, ◌≤◌, ℕ, List, pos, MatchOption};
-ghost use Rattle.controller_table.specs.Found.{Finds};
+ghost use Rattle.row_reading.specs.Found.{Finds};
 ghost use Rattle.live_script.specs.ScriptRefusals.{Announce};
 ghost use Rattle.base.specs.declared.limits.TheConstants.{TABLE_LIMIT};
 
 use crate::ask_numbers::number_at;
 use base::limits::TABLE_LIMIT;
-use controller_table::after_prefix;
+use row_reading::after_prefix;
 
 /// The size of the table's text that is announced at the front, and what stands after that line.
 pub(crate) fn announced_at(bytes: &[u8]) -> Option<(usize, &[u8])>

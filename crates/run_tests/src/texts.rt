@@ -2,6 +2,7 @@
 
 use crate::live::tables::REACH;
 use crate::trial::{CLEAN, PLANT, run_on};
+use controller_table::laws::no_text_is_neither;
 use live_script::laws::{
     no_script_is_neither, one_live_text, one_script, one_script_refusal, script_or_refused,
 };
@@ -10,7 +11,7 @@ use std::alloc::Global;
 use std::test::Fail;
 use std::thread::Threads;
 use synth_run::Open;
-use synth_run::laws::{no_table_text_is_neither, some_game_per_plant};
+use synth_run::laws::some_game_per_plant;
 use temporal_games::laws::{
     one_patrol_text, one_stay_text, patrol_solutions_patrol, stay_solutions_settle,
 };
@@ -52,7 +53,7 @@ fn has_two_commands(alloc: Global, bytes: &[u8]) -> bool {
     one_script();
     one_script_refusal();
     script_or_refused();
-    no_table_text_is_neither();
+    no_text_is_neither();
     no_script_is_neither();
     one_live_text();
     let Ok(mut script) = Script::new(bytes) else {

@@ -20,7 +20,8 @@ use Rattle.plant_game.specs.Abstraction.{IsGameOf, AreBoxesOf, pairs_of, pair_of
 use Rattle.plant_game.specs.Marks.{IsMarkAt, AreMarksOf, LiesInSomeTarget}
 use Rattle.abstraction_table.proofs.PairBoxes.{pair_below}
 use Rattle.abstraction_table.proofs.PlantGame.{is_game_of}
-use Rattle.synth_run.proofs.Undeniable.{either, chosen}
+use Rattle.read_texts.proofs.Undeniable.{either}
+use Rattle.synth_run.proofs.Undeniable.{chosen}
 
 -- ---- boxes
 

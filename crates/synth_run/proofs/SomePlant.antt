@@ -19,10 +19,12 @@ use Rattle.plant_text.proofs.lemmas.LinesLead.{spelled_is_plant}
 use Rattle.successor_box.specs.Deviations.{HasNoOverflow, HasNoOverflowAt, IsFirstOverflow}
 use Rattle.plant_game.specs.Abstraction.{AreEdges}
 use Rattle.plant_game.proofs.EdgeCounts.{games_count_their_edges}
+use Rattle.controller_table.proofs.FrontEnds.{whole, LimitsEnd, is_within, has_many_vectors, has_many_cells, has_many_pairs, limits_end}
 use Rattle.synth_run.specs.declared.outcome.Outcome.{Outcome}
 use Rattle.synth_run.specs.declared.outcome.Outcome.TheVariants.{Done, Malformed, Overflow, Limit, TooManyTurns}
 use Rattle.synth_run.specs.IsOutcomeFor.{IsAccepted, IsRefused, IsSolvable, ExceedsEdges, turns_of, IsPlantOutcome, IsPatrolOutcome}
-use Rattle.synth_run.proofs.Undeniable.{either, first_without}
+use Rattle.read_texts.proofs.Undeniable.{either}
+use Rattle.synth_run.proofs.Undeniable.{first_without}
 use Rattle.synth_run.proofs.SomeGame.{some_game}
 
 -- ---- a plant
@@ -114,43 +116,6 @@ lines_end lines deny =
     by_end q reads true e = deny (are_closed q (subst (λ (x : List (List ℕ)). Reads x q) (take_all (length lines) lines (omega arith)) reads) e)
     by_end q reads false e = deny (stop (suc (length lines)) (record { before = length lines; next = refl; part = q; reads = reads; refused = inr (refl, e) }))
 
--- the plant that a closed part holds
-pub whole : (q : PartialPlant) → KeepsRules q → q.ended ≡ true → (p : Description) × IsWhole q p
-whole q rules closed = by q.version q.goal refl refl
-  where
-    by : (version : Option PlantVersion) (goal : Option GoalKind) → q.version ≡ version → q.goal ≡ goal → (p : Description) × IsWhole q p
-    by None goal v g = absurd ((rules.closed closed).1 v)
-    by (Some version) None v g = absurd ((rules.closed closed).0 g)
-    by (Some version) (Some goal) v g = (
-      record { version = version; states = q.states; inputs = q.inputs; noises = q.noises; equations = q.equations; targets = q.targets; obstacles = q.obstacles; goal = goal },
-      record { closed = closed; version = v; states = refl; inputs = refl; noises = refl; equations = refl; targets = refl; obstacles = refl; goal = g },
-    )
-
--- ---- limits
-
-not_both : (m n : ℕ) → m < n → n ≤ m → ⊥
-not_both m n lt le = omega (arith, lt, le)
-
--- a plant is within the limits, or exceeds one of three
-pub data LimitsEnd (p : Description) : Type 0 where
-  is_within : IsWithinLimits p → LimitsEnd p
-  has_many_vectors : Exceeds p Vectors → LimitsEnd p
-  has_many_cells : Exceeds p Cells → LimitsEnd p
-  has_many_pairs : Exceeds p Pairs → LimitsEnd p
-
-pub limits_end : (p : Description) → IsPlant p → LimitsEnd p
-limits_end p plant =
-    elim (cases_lt 4096 (vectors_of p.inputs)) [
-      | inl many ↦ has_many_vectors (not_both 4096 (vectors_of p.inputs) many)
-      | inr vectors ↦ elim (cases_lt (2 ^ 20) (cells_of (axes_of p))) [
-        | inl many ↦ has_many_cells (vectors, not_both (2 ^ 20) (cells_of (axes_of p)) many)
-        | inr cells ↦ elim (cases_lt (2 ^ 22) (cells_of (axes_of p) * vectors_of p.inputs)) [
-          | inl many ↦ has_many_pairs (vectors, cells, not_both (2 ^ 22) (cells_of (axes_of p) * vectors_of p.inputs) many)
-          | inr pairs ↦ is_within (record { plant = plant; vectors = vectors; cells = cells; pairs = pairs })
-        ]
-      ]
-    ]
-
 -- ---- a text
 
 pub data TextEnd (bytes : List ℕ) : Type 0 where
@@ -173,6 +138,6 @@ read_end bytes short (are_closed q reads closed) =
 pub text_end : (bytes : List ℕ) → (TextEnd bytes → ⊥) → ⊥
 text_end bytes deny =
     elim (cases_lt 65536 (length bytes)) [
-      | inl long ↦ deny (is_refused (Limit PlantText) (not_both 65536 (length bytes) long))
+      | inl long ↦ deny (is_refused (Limit PlantText) (λ le. omega (arith, long, le)))
       | inr short ↦ lines_end (lines_of bytes) (λ found. deny (read_end bytes short found))
     ]

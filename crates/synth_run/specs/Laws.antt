@@ -1,13 +1,9 @@
 -- What holds of every run.
-use Rattle.std.specs.Prelude.{◌≡◌, ℕ, ℤ, List, Option}
-use Rattle.game_core.specs.declared.game.Row.{Row}
+use Rattle.std.specs.Prelude.{◌≡◌, ℕ, ℤ, List}
 use Rattle.game_core.specs.Game.{Game}
 use Rattle.plant_record.specs.Description.{Description}
 use Rattle.plant_record.specs.Limits.{IsWithinLimits}
 use Rattle.plant_game.specs.Abstraction.{IsGameOf}
-use Rattle.controller_table.specs.declared.table_fault.TableFault.{TableFault}
-use Rattle.controller_table.specs.Tables.{IsTable}
-use Rattle.controller_table.specs.TableRefusals.{IsTableRefusedFor}
 use Rattle.command_line.specs.declared.command.Command.{Command}
 use Rattle.synth_run.specs.declared.outcome.Outcome.{Outcome}
 use Rattle.synth_run.specs.IsOutcomeFor.{IsOutcomeFor}
@@ -17,10 +13,6 @@ use Rattle.synth_run.specs.Traces.{IsTraceFor}
 -- no plant within the limits lacks a game
 abbrev pub SomeGamePerPlant : Type 0
 SomeGamePerPlant = (p : Description) → IsWithinLimits p → ((g : Game) → IsGameOf p g → ⊥) → ⊥
-
--- no text is neither a table nor refused as one
-abbrev pub NoTableTextIsNeither : Type 0
-NoTableTextIsNeither = (bytes : List ℕ) → ((p : Description) (rows : List (Option Row)) → IsTable bytes p rows → ⊥) → ((f : TableFault) → IsTableRefusedFor bytes f → ⊥) → ⊥
 
 -- a text demands one thing of a command
 abbrev pub OneOutcomePerText : Type 0

@@ -1,6 +1,6 @@
 //! What holds of every run.
 
-ghost use Rattle.synth_run.specs.Laws.{OneTableForBytes, OneStayTextForBytes, OnePatrolTextForBytes, OneTraceForBytes, OneOutcomePerText, SomeOutcomePerText, SomeGamePerPlant, NoTableTextIsNeither};
+ghost use Rattle.synth_run.specs.Laws.{OneTableForBytes, OneStayTextForBytes, OnePatrolTextForBytes, OneTraceForBytes, OneOutcomePerText, SomeOutcomePerText, SomeGamePerPlant};
 
 /// What holds of every demo plant.
 pub mod demo {
@@ -43,9 +43,4 @@ pub fn some_outcome_per_text()
 /// No plant within the limits lacks a game; it has one at most.
 pub fn some_game_per_plant()
     ensures { SomeGamePerPlant }
-{}
-
-/// No text is neither a table nor refused as one; so it is one of them, and never both.
-pub fn no_table_text_is_neither()
-    ensures { NoTableTextIsNeither }
 {}
