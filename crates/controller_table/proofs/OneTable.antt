@@ -1,5 +1,5 @@
 -- Bytes are the table of one plant and of one list of rows.
-use Rattle.std.proofs.Common.{◌≡◌, ℕ, List, ◌++◌, drop, get_or, Option, Some, refl, sym, ap, subst, ◌∙◌, append_assoc, arith}
+use Rattle.std.proofs.Common.{◌≡◌, ℕ, List, ◌++◌, drop, get_or, Option, refl, sym, ap, subst, ◌∙◌, append_assoc, arith}
 use Rattle.std.specs.Prelude.{ℤ}
 use Rattle.std.specs.List.{concat}
 use Rattle.game_core.specs.declared.game.Row.{Row}
@@ -20,6 +20,7 @@ use Rattle.controller_table.specs.Choice.{HasRowAt, Applies}
 use Rattle.controller_table.specs.RowLines.{rules_of}
 use Rattle.controller_table.specs.Laws.{OneTablePerText, OneChoice, OneRank}
 use Rattle.controller_table.proofs.Fitting.{small_rules, rows_within}
+use Rattle.std.proofs.lemmas.Option.{same_Some}
 
 -- ---- the first line
 
@@ -49,17 +50,14 @@ one_table front bytes p q rows others h k =
 
 -- ---- one row at a state
 
-same_some : (a b : Row) → Some a ≡ Some b → a ≡ b
-same_some a b e = cc
-
 one_row : OneTablePerText → (bytes : List ℕ) (p q : Description) (rows others : List (Option Row)) (x : List ℤ) (a b : Row) → IsTable bytes p rows → IsTable bytes q others → HasRowAt p rows x a → HasRowAt q others x b → (p ≡ q) × (a ≡ b)
 one_row one bytes p q rows others x a b h k r s =
     let same = one bytes p q rows others h k in
     let at : row_of rows (cell_of (axes_of p) x) ≡ row_of others (cell_of (axes_of q) x) =
     ap (λ (r : List (Option Row)). row_of r (cell_of (axes_of p) x)) same.1 ∙ ap (λ (d : Description). row_of others (cell_of (axes_of d) x)) same.0 in
-    (same.0, same_some a b (sym r.is ∙ at ∙ s.is))
+    (same.0, same_Some a b (sym r.is ∙ at ∙ s.is))
 
-applied : (goal : GoalKind) (row : Row) (u : ℕ) → Applies goal row u → row.input ≡ u
+pub applied : (goal : GoalKind) (row : Row) (u : ℕ) → Applies goal row u → row.input ≡ u
 applied Reach row u h = h.1
 applied Keep row u h = h
 

@@ -13,8 +13,9 @@ mod table_fault;
 mod table_reader;
 mod table_writer;
 
+pub use base::NoMemory;
 pub use goal_format::{format_of, rules_of};
 pub use table::Table;
-pub use table_fault::{NoMemory, TableFault};
+pub use table_fault::TableFault;
 pub use table_reader::read_table;
 pub use table_writer::TableWriter;

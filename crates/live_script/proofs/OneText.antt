@@ -2,11 +2,9 @@
 use Rattle.std.proofs.Common.{◌≡◌, ℕ, List, [], ◌∷◌, ◌++◌, length, Option, Some, None, refl, sym, ap, ap₂, subst, ◌∙◌}
 use Rattle.std.specs.Prelude.{ℤ}
 use Rattle.game_core.specs.declared.game.Row.{Row}
-use Rattle.plant_record.specs.declared.aims.GoalKind.{GoalKind}
-use Rattle.plant_record.specs.declared.aims.GoalKind.TheVariants.{Reach, Keep}
 use Rattle.plant_record.specs.Description.{Description}
 use Rattle.controller_table.specs.Tables.{TableModel}
-use Rattle.controller_table.specs.Choice.{Applies, Chooses}
+use Rattle.controller_table.specs.Choice.{Chooses}
 use Rattle.live_script.specs.declared.command.ScriptCommand.{ScriptCommand}
 use Rattle.live_script.specs.declared.command.ScriptCommand.TheVariants.{Publish, Ask}
 use Rattle.live_script.specs.Questions.{IsAnswerOf}
@@ -15,10 +13,7 @@ use Rattle.live_script.specs.Laws.{OneLiveText}
 use Rattle.live_script.proofs.ScriptLaws.{one_script}
 use Rattle.std.proofs.lemmas.Option.{same_Some}
 use Rattle.base.proofs.Lists.{same_last}
-
-applied : (goal : GoalKind) (row : Row) (u : ℕ) → Applies goal row u → row.input ≡ u
-applied Reach row u h = h.1
-applied Keep row u h = h
+use Rattle.controller_table.proofs.OneTable.{applied}
 
 one_input : (p : Description) (rows : List (Option Row)) (x : List ℤ) (u v : ℕ) → Chooses p rows x u → Chooses p rows x v → u ≡ v
 one_input p rows x u v h k =

@@ -1,5 +1,5 @@
 -- The runs that are read, with one more.
-use Rattle.std.proofs.Common.{◌≡◌, ℕ, zero, suc, ◌+◌, ◌<◌, List, [], ◌∷◌, ◌++◌, length, length-append, map, replicate, Option, Some, None, refl, sym, ap, subst, ◌∙◌, arith}
+use Rattle.std.proofs.Common.{◌≡◌, ℕ, suc, ◌+◌, List, [], ◌∷◌, ◌++◌, length, length-append, map, replicate, Option, Some, None, refl, sym, ap, subst, ◌∙◌, arith}
 use Rattle.std.proofs.lemmas.List.{map-append, length-map}
 use Rattle.std.proofs.Math.ListN.{length-replicate}
 use Rattle.std.proofs.lemmas.List.Elements.{All-nil, All-push}
@@ -15,9 +15,10 @@ use Rattle.read_texts.specs.Steps.{IsRead}
 use Rattle.read_texts.proofs.Laws as ways
 use Rattle.row_reading.specs.declared.row_rules.RowRules.{RowRules}
 use Rattle.row_reading.specs.RowsTexts.{IsRunWithin}
-use Rattle.row_reading.specs.RowSteps.{Place, Due, MayStandAfter, IsNextRow, RunStep, IsRunRefused}
+use Rattle.row_reading.specs.RowSteps.{Due, MayStandAfter, RunStep, IsRunRefused}
 use Rattle.row_reading.specs.inside.RunReading.{IsNextRunAt}
 use Rattle.row_reading.specs.inside.ReadRows.{last_run, AreRead}
+use Rattle.game_core.proofs.Gathering.{no_row}
 
 -- ---- the last run
 
@@ -36,18 +37,13 @@ last_pushed (x ∷ y ∷ runs) r = last_pushed (y ∷ runs) r
 none_some : (row : Row) → None ≡ Some row → ⊥
 none_some row e = cc
 
-row_in_none : (n k : ℕ) → row_of (replicate n None) k ≡ None
-row_in_none zero k = refl
-row_in_none (suc n) zero = refl
-row_in_none (suc n) (suc k) = row_in_none n k
-
 module _ (rules : RowRules) (count : ℕ) (bytes : List ℕ) where
   pub nothing_read : (rows : List (Option Row)) → rows ≡ replicate rules.cells None → AreRead rules count count None bytes bytes rows
   nothing_read rows are = record {
     one_each = ap length are ∙ length-replicate rules.cells None;
     runs = [];
     are = record { order = tt; each = All-nil (IsRunWithin rules) };
-    tell = λ c row. ((λ e. absurd (none_some row (sym (ap (λ (r : List (Option Row)). row_of r c) are ∙ row_in_none rules.cells c) ∙ e))), (λ given. absurd given));
+    tell = λ c row. ((λ e. absurd (none_some row (sym (ap (λ (r : List (Option Row)). row_of r c) are ∙ no_row rules.cells c) ∙ e))), (λ given. absurd given));
     counted = omega arith;
     last_is = refl;
     read = record { leads = refl; are = refl };

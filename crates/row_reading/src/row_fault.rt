@@ -1,6 +1,8 @@
 ghost use Rattle.std.specs.Prelude.{◌≡◌};
 ghost use Rattle.row_reading.specs.declared.row_fault.RowFault.TheVariants.{Memory};
 
+use base::NoMemory;
+
 /// Why no rows were read.
 #[derive(Clone, Copy, Debug, PartialEq, Eq)]
 pub enum RowFault {
@@ -10,10 +12,10 @@ pub enum RowFault {
     Memory,
 }
 
-impl From<game_core::NoMemory> for RowFault {
+impl From<NoMemory> for RowFault {
     ghost from_gives = { λ _ e. e ≡ Memory };
 
-    fn from(_refused: game_core::NoMemory) -> RowFault {
+    fn from(_refused: NoMemory) -> RowFault {
         RowFault::Memory
     }
 }

@@ -6,11 +6,11 @@ use Rattle.game_core.specs.Strategy.{IsRankTo}
 use Rattle.game_core.specs.Solution.{row_of, LeadsWithinTo}
 use Rattle.plant_record.specs.Description.{Description}
 use Rattle.plant_game.proofs.OneGame.{one_game}
-use Rattle.stay_game.specs.Held.{IsHeld}
-use Rattle.stay_game.specs.Stay.{IsStayedBy, IsStayRow, IsStaySolution}
+use Rattle.temporal_games.specs.Held.{IsHeld}
+use Rattle.temporal_games.specs.Stay.{IsStayedBy, IsStayRow, IsStaySolution}
 use Rattle.temporal_games.specs.StayText.{stay_text}
-use Rattle.patrol_game.specs.Targets.{IsInTarget}
-use Rattle.patrol_game.specs.Patrol.{IsReachedLaterBy, IsPatrolRow, IsPatrol, rows_for}
+use Rattle.temporal_games.specs.Targets.{IsInTarget}
+use Rattle.temporal_games.specs.Patrol.{IsReachedLaterBy, IsPatrolRow, IsPatrol, rows_for}
 use Rattle.temporal_games.specs.PatrolText.{patrol_text}
 use Rattle.synth_run.specs.Headline.{IsStayTableOf, IsPatrolTableOf}
 use Rattle.synth_run.specs.Laws.{OneStayTextForBytes, OnePatrolTextForBytes}

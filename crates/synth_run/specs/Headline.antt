@@ -5,11 +5,11 @@ use Rattle.game_core.specs.Game.{Game}
 use Rattle.plant_record.specs.Description.{Description}
 use Rattle.plant_game.specs.Abstraction.{IsGameOf}
 use Rattle.plant_game.specs.PlantSolution.{IsSolutionOf}
-use Rattle.stay_game.specs.Stay.{IsStaySolution}
+use Rattle.temporal_games.specs.Stay.{IsStaySolution}
 use Rattle.temporal_games.specs.StayText.{IsStayText}
 use Rattle.temporal_games.specs.Settles.{Settles}
-use Rattle.patrol_game.specs.Targets.{IsInTarget}
-use Rattle.patrol_game.specs.Patrol.{IsPatrol}
+use Rattle.temporal_games.specs.Targets.{IsInTarget}
+use Rattle.temporal_games.specs.Patrol.{IsPatrol}
 use Rattle.temporal_games.specs.PatrolText.{IsPatrolText}
 use Rattle.temporal_games.specs.Patrols.{Patrols}
 use Rattle.controller_table.specs.TableText.{written_version, table_text}

@@ -14,10 +14,10 @@ use Rattle.game_core.specs.Solution.{row_of, LeadsWithinTo, IsReachRow, IsReachS
 use Rattle.game_core.specs.Strategy.{Tree, Leaf, Apply, LeadsTo, depth_of}
 use Rattle.game_core.proofs.RankBound.{rank_below}
 use Rattle.plant_record.specs.Description.{Description}
-use Rattle.stay_game.specs.Held.{IsHeld}
-use Rattle.stay_game.specs.Stay.{IsStayedBy, IsStayRow, IsStaySolution}
+use Rattle.temporal_games.specs.Held.{IsHeld}
+use Rattle.temporal_games.specs.Stay.{IsStayedBy, IsStayRow, IsStaySolution}
 use Rattle.game_core.proofs.Carried.{remarked_game}
-use Rattle.stay_game.proofs.Trees.{AreMarksFor, from_wins, to_rank, to_within, from_within}
+use Rattle.temporal_games.proofs.Trees.{AreMarksFor, from_wins, to_rank, to_within, from_within}
 use Rattle.plant_game.specs.Abstraction.{IsGameOf}
 use Rattle.temporal_games.specs.StayText.{IsStayRowOf, StayRowsFit}
 use Rattle.game_core.proofs.Rows.{below_from_row}

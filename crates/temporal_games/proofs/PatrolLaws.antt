@@ -5,8 +5,8 @@ use Rattle.game_core.specs.Game.{Game}
 use Rattle.plant_record.specs.Description.{Description}
 use Rattle.plant_record.specs.Limits.{IsWithinLimits}
 use Rattle.plant_game.specs.Abstraction.{IsGameOf}
-use Rattle.patrol_game.specs.Targets.{IsInTarget}
-use Rattle.patrol_game.specs.Patrol.{IsPatrol}
+use Rattle.temporal_games.specs.Targets.{IsInTarget}
+use Rattle.temporal_games.specs.Patrol.{IsPatrol}
 use Rattle.temporal_games.specs.PatrolText.{patrol_text, IsPatrolText}
 use Rattle.temporal_games.proofs.FittingPatrolRows.{patrol_rows_fit}
 pub use Rattle.temporal_games.proofs.OnePatrolText.{one_patrol_text}

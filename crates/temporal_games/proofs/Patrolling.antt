@@ -13,10 +13,10 @@ use Rattle.plant_record.specs.States.{IsClear}
 use Rattle.plant_record.specs.Steps.{step_of, IsNoise}
 use Rattle.plant_game.specs.Abstraction.{IsGameOf}
 use Rattle.plant_game.specs.Refinement.{IsRefinement}
-use Rattle.patrol_game.specs.Targets.{IsInTarget}
-use Rattle.patrol_game.specs.Visits.{next_turn, VisitsOn, IsArrival}
-use Rattle.patrol_game.specs.Patrol.{IsReachedLaterBy, IsPatrolRow, IsPatrol, rows_for}
-use Rattle.patrol_game.proofs.Laws.{targets_are_told, later_reachers_have_rows}
+use Rattle.temporal_games.specs.Targets.{IsInTarget}
+use Rattle.temporal_games.specs.Visits.{next_turn, VisitsOn, IsArrival}
+use Rattle.temporal_games.specs.Patrol.{IsReachedLaterBy, IsPatrolRow, IsPatrol, rows_for}
+use Rattle.temporal_games.proofs.PatrolRowLaws.{targets_are_told, later_reachers_have_rows}
 use Rattle.plant_game.proofs.GameLaws.{refines, clear_at, lands}
 use Rattle.temporal_games.specs.PatrolText.{IsPatrolText, HasPatrolRow, IsArrivalIn}
 use Rattle.temporal_games.specs.Patrols.{LandsWell, Goes, Patrols}

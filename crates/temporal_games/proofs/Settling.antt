@@ -11,8 +11,8 @@ use Rattle.game_core.specs.Solution.{row_of}
 use Rattle.grid_quantiser.specs.Cells.{IsInDomain, cell_of}
 use Rattle.plant_record.specs.Description.{Description, axes_of}
 use Rattle.plant_record.specs.Steps.{step_of, IsNoise}
-use Rattle.stay_game.specs.Held.{IsHeld}
-use Rattle.stay_game.specs.Stay.{IsStayedBy, IsStayRow, IsStaySolution}
+use Rattle.temporal_games.specs.Held.{IsHeld}
+use Rattle.temporal_games.specs.Stay.{IsStayedBy, IsStayRow, IsStaySolution}
 use Rattle.plant_game.specs.Abstraction.{IsGameOf}
 use Rattle.plant_game.specs.Refinement.{IsRefinement}
 use Rattle.temporal_games.specs.StayText.{IsStayText}

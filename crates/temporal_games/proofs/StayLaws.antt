@@ -4,7 +4,7 @@ use Rattle.game_core.specs.declared.game.Row.{Row}
 use Rattle.game_core.specs.Game.{Game}
 use Rattle.plant_record.specs.Description.{Description}
 use Rattle.plant_record.specs.Limits.{IsWithinLimits}
-use Rattle.stay_game.specs.Stay.{IsStaySolution}
+use Rattle.temporal_games.specs.Stay.{IsStaySolution}
 use Rattle.plant_game.specs.Abstraction.{IsGameOf}
 use Rattle.temporal_games.specs.StayText.{stay_text, IsStayText}
 use Rattle.temporal_games.proofs.FittingStayRows.{stay_rows_fit}

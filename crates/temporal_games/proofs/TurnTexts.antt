@@ -8,7 +8,7 @@ use Rattle.row_runs.specs.declared.row_format.RowFormat.TheVariants.{Both}
 use Rattle.row_runs.specs.declared.run.TableVersion.TheVariants.{Second}
 use Rattle.row_runs.specs.Runs.{runs_from}
 use Rattle.row_runs.specs.RunText.{run_line, run_lines}
-use Rattle.patrol_game.specs.Patrol.{rows_for}
+use Rattle.temporal_games.specs.Patrol.{rows_for}
 use Rattle.temporal_games.specs.PatrolText.{turn_line, turn_lines}
 
 -- the first of some turns, in its pieces

@@ -5,9 +5,9 @@ use Rattle.game_core.specs.Game.{Game}
 use Rattle.plant_record.specs.Description.{Description}
 use Rattle.plant_record.specs.Limits.{IsWithinLimits}
 use Rattle.plant_game.specs.Abstraction.{IsGameOf}
-use Rattle.stay_game.specs.Stay.{IsStaySolution}
-use Rattle.patrol_game.specs.Targets.{IsInTarget}
-use Rattle.patrol_game.specs.Patrol.{IsPatrol}
+use Rattle.temporal_games.specs.Stay.{IsStaySolution}
+use Rattle.temporal_games.specs.Targets.{IsInTarget}
+use Rattle.temporal_games.specs.Patrol.{IsPatrol}
 use Rattle.temporal_games.specs.StayText.{stay_text, IsStayText}
 use Rattle.temporal_games.specs.Settles.{Settles}
 use Rattle.temporal_games.specs.PatrolText.{patrol_text, IsPatrolText}

@@ -4,3 +4,8 @@ pub mod PatrolText
 pub mod Patrols
 pub mod Laws
 pub mod inside
+pub mod Held
+pub mod Stay
+pub mod Targets
+pub mod Visits
+pub mod Patrol

@@ -11,9 +11,9 @@ use Rattle.grid_quantiser.specs.Cells.{IsInDomain, cell_of}
 use Rattle.plant_record.specs.Description.{Description, axes_of, vectors_of}
 use Rattle.plant_record.specs.Limits.{IsWithinLimits}
 use Rattle.plant_writing.specs.CanonicalText.{text_of}
-use Rattle.patrol_game.specs.Targets.{IsInTarget}
-use Rattle.patrol_game.specs.Visits.{next_turn}
-use Rattle.patrol_game.specs.Patrol.{rows_for}
+use Rattle.temporal_games.specs.Targets.{IsInTarget}
+use Rattle.temporal_games.specs.Visits.{next_turn}
+use Rattle.temporal_games.specs.Patrol.{rows_for}
 
 -- the first line
 abbrev pub patrol_line : List ℕ

@@ -7,7 +7,7 @@ use Rattle.plant_record.specs.Steps.{step_of, IsNoise}
 use Rattle.std.specs.Prelude.{◌⊎◌, ℕ, ◌-◌, ◌≤◌, ℤ, List, [], ◌∷◌, length}
 use Rattle.std.specs.List.{All}
 use Rattle.game_core.specs.declared.game.Row.{Row}
-use Rattle.patrol_game.specs.Visits.{next_turn}
+use Rattle.temporal_games.specs.Visits.{next_turn}
 use Rattle.plant_game.specs.Marks.{target_at}
 use Rattle.temporal_games.specs.PatrolText.{HasPatrolRow, IsArrivalIn}
 

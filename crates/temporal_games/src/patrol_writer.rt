@@ -2,9 +2,9 @@ ghost use Rattle.std.specs.Prelude.{◌≡◌, IfOk};
 ghost use Rattle.temporal_games.specs.PatrolText.{patrol_text};
 
 use crate::header::header_of;
+use crate::patrol_rows::PatrolRows;
 use crate::turn_lines::TurnLines;
 use game_core::NoMemory;
-use patrol_game::PatrolRows;
 use plant_record::Plant;
 use row_runs::FramedText;
 use std::alloc::Global;

@@ -3,7 +3,7 @@ ghost use Rattle.std.specs.List.{concat};
 ghost use Rattle.temporal_games.specs.PatrolText.{turn_line, turn_lines};
 ghost use Rattle.temporal_games.specs.inside.Left.{left_of};
 
-use patrol_game::PatrolRows;
+use crate::patrol_rows::PatrolRows;
 use row_runs::{LineText, RowFormat, RunLines, count_runs};
 use std::marker::Model;
 use text_pieces::{Pieces, copy_prefix};

@@ -5,14 +5,13 @@ use Rattle.std.specs.List.{All, AllPairs, Contains, list_all}
 use Rattle.std.specs.Option.{option_map}
 use Rattle.std.specs.Str.{bytes_eq}
 use Rattle.std.specs.Fmt.{decimal}
-use Rattle.std.proofs.lemmas.Bool.{and_parts}
+use Rattle.std.proofs.lemmas.Bool.{and_parts, or_parts}
 use Rattle.std.proofs.lemmas.List.{get_or_default}
 use Rattle.std.proofs.lemmas.Option.{slice_get_within, get_or_from_slice_get}
 use Rattle.plant_record.specs.Names.{is_letter, is_digit, is_name_byte, is_reserved, IsName}
 use Rattle.plant_reading.specs.declared.token_kind.TokenKind.{TokenKind}
 use Rattle.plant_reading.specs.declared.token_kind.TokenKind.TheVariants as kind
 use Rattle.plant_reading.specs.inside.TokenKinds.{AreNames, or_else, symbol_of, function_of, literal_of, position_in, number_kind, leaf_of, kind_of, spelling_of, IsKind}
-use Rattle.plant_reading.proofs.lemmas.Booleans.{neither_of}
 use Rattle.plant_reading.proofs.lemmas.Literals.{same, is_same, differs, first_differs, if_some, map_some, literal_again, literal_takes, digit_first}
 use Rattle.plant_reading.proofs.lemmas.NumberBytes.{no_name}
 
@@ -92,9 +91,9 @@ name_token w name =
     let b = and_parts (list_all is_name_byte w) _ a.1 in
     let c = and_parts (leb (length w) 32) _ b.1 in
     let free = not_true (is_reserved w) c.1 in
-    let no_min = neither_of (bytes_eq w (codes "min")) _ free in
-    let no_max = neither_of (bytes_eq w (codes "max")) _ no_min.1 in
-    let no_abs = neither_of (bytes_eq w (codes "abs")) _ no_max.1 in
+    let no_min = or_parts (bytes_eq w (codes "min")) _ free in
+    let no_max = or_parts (bytes_eq w (codes "max")) _ no_min.1 in
+    let no_abs = or_parts (bytes_eq w (codes "abs")) _ no_max.1 in
     let unlike : (v : List ℕ) → is_letter (get_or v 0 0) ≡ false → bytes_eq w v ≡ false = λ v bare. first_differs is_letter w v a.0 bare in (
       rw (unlike (codes "+") refl, unlike (codes "-") refl, unlike (codes "*") refl, unlike (codes "/") refl, unlike (codes "(") refl, unlike (codes ")") refl, unlike (codes ",") refl, unlike (codes ":") refl) refl,
       rw (no_min.0, no_max.0, no_abs.0, no_abs.1) refl,

@@ -3,7 +3,7 @@ use Rattle.std.specs.Prelude.{IfOk}
 use Rattle.std.specs.declared.result.Result.{Result}
 use Rattle.std.specs.List.{AllZip, range_with_len}
 use Rattle.std.specs.Int.{div_ceil}
-use Rattle.edge_rows.specs.declared.fill.NoMemory.{NoMemory}
+use Rattle.base.specs.declared.no_memory.NoMemory.{NoMemory}
 use Rattle.grid_quantiser.specs.Axes.{cells_of}
 use Rattle.rayon.specs.Numbers.{nat_range}
 use Rattle.abstraction_table.specs.inside.SourceLists.{AreBandRows}

@@ -1,5 +1,0 @@
-use Rattle.patrol_game.proofs.Withdrawing.{IsWithdrawing}
-use Rattle.patrol_game.proofs.arrivals.Arrivals.remove_lost.Given as goal
-
-abbrev pub invariant-loop-c : goal.invariant-loop-c
-invariant-loop-c l = IsWithdrawing l.initial.self-inside.marks.items l.answer l.c l.found l.self-inside.marks.items

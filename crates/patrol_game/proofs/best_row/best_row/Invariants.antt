@@ -1,6 +1,0 @@
-use Rattle.patrol_game.specs.inside.BestRows.{IsBestBelow}
-use Rattle.patrol_game.proofs.best_row.best_row.Given as goal
-
--- the best row so far
-abbrev pub invariant-loop-input : goal.invariant-loop-input
-invariant-loop-input g l = IsBestBelow (g.G.Graph.game l.g) l.answer l.c l.input l.best

@@ -1,4 +1,0 @@
-pub mod Targets
-pub mod Visits
-pub mod Patrol
-pub mod inside
