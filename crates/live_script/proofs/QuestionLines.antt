@@ -2,6 +2,7 @@
 use Rattle.std.proofs.Common.{◌≡◌, ℕ, ◌<◌, List, [], ◌∷◌, ◌++◌, length, drop, map, refl, ap, sym, ◌∙◌, arith, append_assoc, append-nil, to_z, of_z}
 use Rattle.std.specs.Prelude.{ℤ, codes}
 use Rattle.std.specs.Int.{w64, w128}
+use Rattle.std.proofs.lemmas.Int.{to_z-of_z}
 use Rattle.std.specs.List.{All, join_with_byte}
 use Rattle.std.specs.Fmt.{signed_decimal}
 use Rattle.std.proofs.lemmas.Grind.{flat_map-append}
@@ -13,7 +14,7 @@ use Rattle.command_line.specs.Command.{AreStateNumbers}
 use Rattle.live_script.specs.Scripts.{ask_line}
 use Rattle.live_script.specs.inside.QuestionWords.{BeginsWithSeparator, IsNumberAt, spaced, IsReadSoFar}
 use Rattle.live_script.proofs.WordsCut.{one_number_at}
-use Rattle.live_script.proofs.TableLines.{whole}
+use Rattle.base.proofs.Integers.{literal_fits}
 
 -- ---- a question's line
 
@@ -36,8 +37,12 @@ after_word rest other e = ap (drop 3) e
 
 -- ---- a number in 64 bits and in 128
 
+-- a literal is read back from its 64 bits
+pub narrow : (z : ℤ) → IsLiteral z → to_z w64 (of_z w64 z) ≡ z
+narrow z lt = to_z-of_z w64 z (literal_fits z lt)
+
 pub widened : (z wide : ℤ) → IsLiteral z → wide ≡ to_z w64 (of_z w64 z) → to_z w128 (of_z w128 wide) ≡ z
-widened z wide lt is = ap (λ (y : ℤ). to_z w128 (of_z w128 y)) (is ∙ whole z lt) ∙ whole z lt
+widened z wide lt is = ap (λ (y : ℤ). to_z w128 (of_z w128 y)) (is ∙ narrow z lt) ∙ whole z lt
 
 -- ---- the numbers read so far
 

@@ -1,10 +1,7 @@
 -- The lines before the texts of tables.
-use Rattle.std.proofs.Common.{◌≡◌, ℕ, ◌<◌, ◌≤◌, List, [], ◌∷◌, ◌++◌, length, drop, get_or, refl, ap, sym, ◌∙◌, arith, append_assoc, to_z, of_z, inr}
+use Rattle.std.proofs.Common.{◌≡◌, ℕ, ◌<◌, ◌≤◌, List, [], ◌∷◌, ◌++◌, length, drop, get_or, refl, ap, sym, ◌∙◌, arith, append_assoc, inr}
 use Rattle.std.specs.Prelude.{ℤ, pos, codes}
-use Rattle.std.specs.Int.{w64}
-use Rattle.std.proofs.lemmas.Int.{to_z-of_z}
 use Rattle.std.specs.Fmt.{decimal, signed_decimal}
-use Rattle.plant_record.specs.Numbers.{IsLiteral}
 use Rattle.controller_table.specs.declared.table_fault.TableFault.{TableFault}
 use Rattle.controller_table.specs.declared.table_fault.TableFault.TheVariants as tables
 use Rattle.controller_table.specs.TableRefusals.{IsTableRefusedFor}
@@ -16,7 +13,6 @@ use Rattle.live_script.specs.inside.Faults.{of_table}
 use Rattle.live_script.specs.inside.QuestionWords.{BeginsWithSeparator, IsNumberAt, spaced}
 use Rattle.live_script.proofs.WordsCut.{one_number_at}
 use Rattle.live_script.proofs.QuestionLines.{line_opened}
-use Rattle.base.proofs.Integers.{literal_fits}
 
 -- the line that tells a size, and what stands after it
 pub size_opened : (size : ℕ) (after : List ℕ) → publish_line size ++ after ≡ codes "publish " ++ (decimal size ++ 10 ∷ after)
@@ -71,10 +67,6 @@ pub size_read : (bytes number rest : List ℕ) (z : ℤ) (size : ℕ) (after : L
 size_read bytes number rest z size after at found h =
     let told = announced_number bytes number size after at h in
     one_number_at z (pos size) rest (10 ∷ after) found.0 told.0 found.1 told.1 (sym found.2 ∙ told.2)
-
--- a literal is read back from its bits
-pub whole : (z : ℤ) → IsLiteral z → to_z w64 (of_z w64 z) ≡ z
-whole z lt = to_z-of_z w64 z (literal_fits z lt)
 
 -- a table's text that ends too early
 pub ends_too_early : (count size : ℕ) (bytes : List ℕ) → count < 8 → 1 ≤ size → size ≤ 67108864 → length bytes < size → IsMalformedAfter count (publish_line size ++ bytes)

@@ -11,19 +11,8 @@ use Rattle.game_core.specs.Right.{IsBestInput, IsUnwinnable, IsRightPlain, IsRig
 use Rattle.temporal_games.specs.Visits.{ReachesLater}
 use Rattle.temporal_games.specs.Patrol.{IsReachedLaterBy, IsLaterReachRow}
 use Rattle.game_core.proofs.Rows.{successors_below}
-use Rattle.game_core.proofs.Trees.{trees_for}
+use Rattle.game_core.proofs.Trees.{WinsWithin, trees_for}
 use Rattle.game_core.proofs.Right.{below_greatest, greatest_below, have_rows}
-
--- some tree of depth at most k wins from a cell, and one for each of some cells
-record WinsWithin (g : Game) (k c : ℕ) : Type 0 where
-  tree : Tree
-  wins : Wins g tree c
-  depth : depth_of tree ≤ k
-
-record WinEachWithin (g : Game) (k : ℕ) (cells : List ℕ) : Type 0 where
-  trees : Trees
-  wins : WinEach g trees cells
-  depth : greatest_depth trees ≤ k
 
 module _ (g : Game) (a : IsGame g) (rows : List (Option Row)) (h : IsReachSolution g rows) where
   -- a cell from which a tree wins has a row that is no greater than its depth

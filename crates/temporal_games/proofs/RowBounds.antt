@@ -12,13 +12,8 @@ use Rattle.game_core.proofs.Rows.{successors_below, below_from_row}
 use Rattle.temporal_games.specs.Visits.{next_turn, ReachesLater, Visits, VisitsOn, IsArrival}
 use Rattle.temporal_games.specs.Patrol.{IsReachedLaterBy, IsPatrolRow, IsPatrol, rows_for}
 use Rattle.temporal_games.proofs.ForEver.{reaches_later_weaker}
-use Rattle.game_core.proofs.RankBound.{below_of, differs}
+use Rattle.game_core.proofs.RankBound.{HasRowOf, below_of, differs}
 use Rattle.base.proofs.Times.{length_of_distinct_below}
-
--- a cell whose row has rank k
-record HasRowOf (rows : List (Option Row)) (k c : ℕ) : Type 0 where
-  input : ℕ
-  is : row_of rows c ≡ Some (record { rank = k; input = input })
 
 -- cells with rows of all ranks from k down to 1
 record IsChain (rows : List (Option Row)) (k : ℕ) (cells : List ℕ) : Type 0 where

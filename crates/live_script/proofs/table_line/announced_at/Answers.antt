@@ -1,6 +1,7 @@
 use Rattle.std.proofs.Common.{◌∷◌, ◌∙◌}
 use Rattle.std.specs.Prelude.{pos}
-use Rattle.live_script.proofs.TableLines.{announced_number, size_read, whole}
+use Rattle.live_script.proofs.TableLines.{announced_number, size_read}
+use Rattle.live_script.proofs.QuestionLines.{narrow}
 use Rattle.live_script.proofs.table_line.announced_at.Goals as goal
 
 pub returns-in_err-number-2 : goal.returns-in_err-number-2
@@ -12,4 +13,4 @@ returns-in_err-after c = rw c.from_residual-in_err-after.ensures (λ y h.
 
 pub returns-in_err-size : goal.returns-in_err-size
 returns-in_err-size c = rw c.from_residual-in_err-size.ensures (λ y h.
-    c.in_err-size.ensures y.0 h.some h.most (whole c.in_ok-number-2.number c.in_ok-number-2.ensures.0 ∙ (size_read c.args.bytes.now c.in_ok-number.number.now c.in_ok-number-2.rest.now c.in_ok-number-2.number y.0 y.1 c.in_ok-number.ensures c.in_ok-number-2.ensures h).0))
+    c.in_err-size.ensures y.0 h.some h.most (narrow c.in_ok-number-2.number c.in_ok-number-2.ensures.0 ∙ (size_read c.args.bytes.now c.in_ok-number.number.now c.in_ok-number-2.rest.now c.in_ok-number-2.number y.0 y.1 c.in_ok-number.ensures c.in_ok-number-2.ensures h).0))
