@@ -14,7 +14,8 @@
    - each pointer is valid for as many elements as the call is told, and the arguments of a call don't overlap. Where a
      length is 0 the pointer may be NULL; the other pointers may not be;
    - a controller begins as {0}, is changed by these calls alone, and isn't used through a copy;
-   - one thread at a time uses a controller, the one that opened it. Several controllers are independent;
+   - one thread at a time uses a controller. Where another thread goes on, a lock, a thread's start or its join orders the
+     two. Several controllers are independent;
    - malloc, realloc and free are those of one allocator. Only gaffcurrant_open and gaffcurrant_close call them. */
 #ifndef GAFFCURRANT_H
 #define GAFFCURRANT_H

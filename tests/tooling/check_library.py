@@ -40,6 +40,9 @@ def check(report):
         check_headers(report, room, libraries["llvm"])
         programs = {backend: compiled(report, room, f"answer_{backend}", "answer.c", library) for backend, library in libraries.items()}
         programs["the sanitizers"] = compiled(report, room, "answer_sane", "answer.c", libraries["llvm"], SANITIZERS)
+        held = compiled(report, room, "held", "held.c", libraries["llvm"], ["-O2", "-D_GNU_SOURCE"])
+        for name, text in tables.items():
+            check_memory(report, room, name, text, held)
         with ThreadPoolExecutor(os.cpu_count() or 1) as pool:
             list(pool.map(lambda name: check_table(report, room, name, tables[name], programs, libraries["llvm"]), tables))
         check_uses(report, room, libraries)
@@ -121,6 +124,16 @@ def check_table(report, room, name, text, programs, library):
     report.expect(f"library: {name} as control.c answers", answers, told)
 
 
+def check_memory(report, room, name, text, held):
+    """A table that is open takes 8 bytes for each stretch of cells with one row or with none, and 4 for every 64 cells; the plant takes 2 to 33 thousand."""
+    table = read_table(text)
+    cells = table.plant.cells
+    rows = [table.rows.get(cell) for cell in range(cells)]
+    stretches = sum(k == 0 or row != rows[k - 1] for k, row in enumerate(rows))
+    taken = int(ran(held, room / f"{name}.table")[1] or 0) - 8 * stretches - 4 * (cells // 64 + 2)
+    report.holds(f"library: {name}: memory beside the rows", 0 < taken < 40000, f"{taken} bytes")
+
+
 def split(done):
     return done[0], done[1].splitlines(), done[2]
 
@@ -172,6 +185,8 @@ def check_uses(report, room, libraries):
         if valgrind:
             before = (valgrind, "--quiet", "--error-exitcode=9", "--leak-check=full", "--show-leak-kinds=all", "--errors-for-leak-kinds=all")
             report.expect(f"library: uses in valgrind by {backend}", (0, "as the header tells\n", ""), ran(uses, cart, before=before))
+    moved = compiled(report, room, "moved", "moved.c", libraries["llvm"], ["-O2", "-D_GNU_SOURCE", "-pthread"])
+    report.expect("library: a table that changes threads", (0, "the same\n", ""), ran(moved, cart))
     sane = compiled(report, room, "uses_sane", "uses.c", libraries["llvm"], SANITIZERS)
     report.expect("library: uses under the sanitizers", (0, "as the header tells\n", ""), ran(sane, cart))
 

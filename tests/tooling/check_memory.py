@@ -1,4 +1,4 @@
-"""Each public call that takes memory is reached by the program, or named by a crate of tests.
+"""Each public call that takes memory is reached by the program, by a crate of tests, or by the C programs of tests/library.
 
 It reads names and no types: a method is taken for reached where any method of its name is called, a function of a type where the
 type's name stands before it. So it finds calls that nobody makes, and not each of them."""
@@ -6,7 +6,7 @@ type's name stands before it. So it finds calls that nobody makes, and not each 
 import re
 from collections import defaultdict
 
-FN = re.compile(r"^( *)(pub |pub\([^)]*\) )?(?:const |unsafe )*fn (\w+)", re.M)
+FN = re.compile(r'^( *)(pub |pub\([^)]*\) )?(?:const |unsafe |extern "C" )*fn (\w+)', re.M)
 IMPL = re.compile(r"^impl(?:<[^{]*?>)? (?:[\w:<>', ]+ for )?(?:&\w* )?(\w+)[^{]*\{", re.M)
 COMMENT = re.compile(r"//.*")
 NAMED = re.compile(r"(?:(\w+)(?:::<[^;(]*?>)?::|(\.)\s*)?\b([a-z_]\w*)\b")
@@ -43,12 +43,19 @@ def all_functions(top):
     return found
 
 
-def reached(found):
-    """The owners and names that the program and the crates of tests lead to."""
+def exports(top):
+    """The calls of the C library that the C programs of the tests name."""
+    calls = (re.findall(r"\bgaffcurrant_\w+", path.read_text()) for path in top.glob("tests/library/*.c"))
+    return {name for names in calls for name in names}
+
+
+def reached(found, called_by_c):
+    """The owners and names that the program, the crates of tests and these calls lead to."""
     by_name = defaultdict(list)
     for owner, name in found:
         by_name[name].append((owner, name))
     todo = [item for item, places in found.items() for place in places if place[0] == "synth_cli" or place[0].endswith("_tests")]
+    todo += [("", name) for name in called_by_c]
     seen = set()
     while todo:
         item = todo.pop()
@@ -73,7 +80,7 @@ def takers(found):
 def check(report):
     found = all_functions(report.top)
     found["Board", "spare"].append(("cell_counters", True, "pub fn spare(alloc: Global)", ""))
-    seen = reached(found)
+    seen = reached(found, exports(report.top))
     calls = takers(found)
     report.holds("memory: the calls that take memory are found", len(calls) > 40, len(calls))
     for crate, owner, name in calls:

@@ -6,12 +6,13 @@ use Rattle.std.proofs.lemmas.Bool.{cases_lt, cond_below, cond_above}
 use Rattle.std.proofs.lemmas.Nat.{div-mul-add, mul-le}
 use Rattle.std.proofs.lemmas.List.{length-append, length-drop, get_or-drop, drop-drop, length-map, get_or-map, get_or_append_left, get_or-append_right, drop-append-le, drop-map, drop_more}
 use Rattle.std.proofs.lemmas.List.Elements.{All-head, All-tail, All-append, All-map, All-weaker, All-drop, All-get_or}
+use Rattle.mixed_radix.specs.Radix.{size}
 use Rattle.grid_quantiser.specs.declared.axis.Axis.{Axis}
 use Rattle.grid_quantiser.specs.Axes.{IsAxis, no_axis, cells_of}
 use Rattle.grid_quantiser.specs.Indices.{index_along}
 use Rattle.grid_quantiser.proofs.OwnIndices.{index_along_is}
 use Rattle.plant_record.specs.declared.variables.InputVariable.{InputVariable}
-use Rattle.plant_record.specs.Description.{Description, axis_of, axes_of, vectors_of}
+use Rattle.plant_record.specs.Description.{Description, axis_of, axes_of, value_counts, vectors_of}
 use Rattle.plant_record.specs.ValueIndices.{value_count, value_index}
 use Rattle.plant_record.specs.Plants.{IsPlant}
 use Rattle.plant_record.specs.Soundness.{IsSound}
@@ -31,9 +32,9 @@ of_axes : (axes : List Axis) → combinations (map (λ (a : Axis). a.count) axes
 of_axes [] = refl
 of_axes (a ∷ axes) = ap (λ (k : ℕ). a.count * k) (of_axes axes)
 
-of_inputs : (inputs : List InputVariable) → combinations (map (λ (i : InputVariable). length i.values) inputs) ≡ vectors_of inputs
-of_inputs [] = refl
-of_inputs (i ∷ inputs) = ap (λ (k : ℕ). length i.values * k) (of_inputs inputs)
+of_counts : (counts : List ℕ) → combinations counts ≡ size counts
+of_counts [] = refl
+of_counts (n ∷ counts) = ap (λ (k : ℕ). n * k) (of_counts counts)
 
 pub some_combinations : (ns : List ℕ) → All (λ n. 1 ≤ n) ns → 1 ≤ combinations ns
 some_combinations [] each = omega arith
@@ -74,8 +75,8 @@ module _ (p : Description) where
   abbrev counts_along : List ℕ
   counts_along = map (λ (a : Axis). a.count) (axes_of p)
 
-  abbrev value_counts : List ℕ
-  value_counts = map (λ (i : InputVariable). length i.values) p.inputs
+  abbrev values : List ℕ
+  values = value_counts p.inputs
 
   along_long : length counts_along ≡ length p.states
   along_long = length-map (axes_of p) (λ (a : Axis). a.count) ∙ length-map p.states axis_of
@@ -83,33 +84,33 @@ module _ (p : Description) where
   -- one of them
   pub count_along : (k : ℕ) → k < length p.states → get_or (counts_of p) k 0 ≡ (get_or (axes_of p) k no_axis).count
   count_along k state =
-      get_or_append_left counts_along value_counts 0 k (omega (arith, state, along_long)) ∙ get_or-map (λ (a : Axis). a.count) (axes_of p) k no_axis 0 (omega (arith, state, length-map p.states axis_of))
+      get_or_append_left counts_along values 0 k (omega (arith, state, along_long)) ∙ get_or-map (λ (a : Axis). a.count) (axes_of p) k no_axis 0 (omega (arith, state, length-map p.states axis_of))
 
   pub count_among : (k : ℕ) → length p.states ≤ k → get_or (counts_of p) k 0 ≡ value_count p.inputs (k - length p.states)
-  count_among k past = get_or-append_right counts_along value_counts (length p.states) k 0 along_long past
+  count_among k past = get_or-append_right counts_along values (length p.states) k 0 along_long past
 
   pub counts_long : length (counts_of p) ≡ length p.states + length p.inputs
-  counts_long = omega (arith, length-append counts_along value_counts, along_long, length-map p.inputs (λ (i : InputVariable). length i.values))
+  counts_long = omega (arith, length-append counts_along values, along_long, length-map p.inputs (λ (i : InputVariable). length i.values))
 
   pub all_combinations : combinations (counts_of p) ≡ pairs_of p
-  all_combinations = combinations-append counts_along value_counts ∙ ap₂ (λ (m n : ℕ). m * n) (of_axes (axes_of p)) (of_inputs p.inputs)
+  all_combinations = combinations-append counts_along values ∙ ap₂ (λ (m n : ℕ). m * n) (of_axes (axes_of p)) (of_counts values)
 
   -- those of the input variables alone
   pub input_combinations : combinations (drop (length p.states) (counts_of p)) ≡ vectors_of p.inputs
   input_combinations =
       let at : length p.states ≡ length counts_along + 0 = omega (arith, along_long) in
-      ap (λ (i : ℕ). combinations (drop i (counts_of p))) at ∙ ap combinations (drop-append-add counts_along value_counts 0) ∙ of_inputs p.inputs
+      ap (λ (i : ℕ). combinations (drop i (counts_of p))) at ∙ ap combinations (drop-append-add counts_along values 0) ∙ of_counts values
 
   pub some_counts : IsPlant p → IsSound p → All (λ n. 1 ≤ n) (counts_of p)
   some_counts plant sound =
-      All-append (λ (n : ℕ). 1 ≤ n) counts_along value_counts
+      All-append (λ (n : ℕ). 1 ≤ n) counts_along values
       (All-map (λ (n : ℕ). 1 ≤ n) (λ (a : Axis). a.count) (axes_of p) (All-weaker IsAxis (λ (a : Axis). 1 ≤ a.count) (λ a h. h.some_cell) (axes_of p) sound.axes.each))
       (All-map (λ (n : ℕ). 1 ≤ n) (λ (i : InputVariable). length i.values) p.inputs (All-weaker IsInputVariable (λ (i : InputVariable). 1 ≤ length i.values) (λ i h. h.some_value) p.inputs plant.inputs))
 
   pub some_vectors : IsPlant p → 1 ≤ vectors_of p.inputs
   some_vectors plant =
       let each = All-map (λ (n : ℕ). 1 ≤ n) (λ (i : InputVariable). length i.values) p.inputs (All-weaker IsInputVariable (λ (i : InputVariable). 1 ≤ length i.values) (λ i h. h.some_value) p.inputs plant.inputs) in
-      omega (arith, of_inputs p.inputs, some_combinations value_counts each)
+      omega (arith, of_counts values, some_combinations values each)
 
   pub next_combinations : (k : ℕ) → k < length p.states + length p.inputs → combinations (drop k (counts_of p)) ≡ get_or (counts_of p) k 0 * combinations (drop (k + 1) (counts_of p))
   next_combinations k lt = ap combinations (drop_more (counts_of p) k 0 (omega (arith, lt, counts_long)))
@@ -133,9 +134,9 @@ module _ (p : Description) where
         let d : ℕ = cells_of (drop (k + 1) axes) in
         let here : k < length counts_along = omega (arith, state, along_long) in
         let later : combinations (drop (k + 1) (counts_of p)) ≡ v * d =
-        ap combinations (drop-append-le (k + 1) counts_along value_counts (omega (arith, here)))
-        ∙ combinations-append (drop (k + 1) counts_along) value_counts
-        ∙ ap₂ (λ (m n : ℕ). m * n) (ap combinations (drop-map (λ (a : Axis). a.count) (k + 1) axes) ∙ of_axes (drop (k + 1) axes)) (of_inputs p.inputs)
+        ap combinations (drop-append-le (k + 1) counts_along values (omega (arith, here)))
+        ∙ combinations-append (drop (k + 1) counts_along) values
+        ∙ ap₂ (λ (m n : ℕ). m * n) (ap combinations (drop-map (λ (a : Axis). a.count) (k + 1) axes) ∙ of_axes (drop (k + 1) axes)) (of_counts values)
         ∙ mul_comm d v
         in
         ap₂ (λ (t m : ℕ). pair / t % m) later (count_along k state)
@@ -148,13 +149,13 @@ module _ (p : Description) where
     input_digit past =
         let j : ℕ = k - length p.states in
         let m : ℕ = value_count p.inputs j in
-        let l : ℕ = vectors_of (drop (j + 1) p.inputs) in
-        let within : j < length value_counts = omega (arith, past, lt, length-map p.inputs (λ (i : InputVariable). length i.values)) in
+        let l : ℕ = size (drop (j + 1) values) in
+        let within : j < length values = omega (arith, past, lt, length-map p.inputs (λ (i : InputVariable). length i.values)) in
         let at : k + 1 ≡ length counts_along + (j + 1) = omega (arith, past, along_long) in
-        let of_later : combinations (drop (j + 1) value_counts) ≡ l = ap combinations (drop-map (λ (i : InputVariable). length i.values) (j + 1) p.inputs) ∙ of_inputs (drop (j + 1) p.inputs) in
-        let later : combinations (drop (k + 1) (counts_of p)) ≡ l = ap (λ (i : ℕ). combinations (drop i (counts_of p))) at ∙ ap combinations (drop-append-add counts_along value_counts (j + 1)) ∙ of_later in
-        let f = factor value_counts j within in
-        let whole : vectors_of p.inputs ≡ f.0 * (m * l) = sym (of_inputs p.inputs) ∙ f.1 ∙ ap (λ (n : ℕ). f.0 * (m * n)) of_later in
+        let of_later : combinations (drop (j + 1) values) ≡ l = of_counts (drop (j + 1) values) in
+        let later : combinations (drop (k + 1) (counts_of p)) ≡ l = ap (λ (i : ℕ). combinations (drop i (counts_of p))) at ∙ ap combinations (drop-append-add counts_along values (j + 1)) ∙ of_later in
+        let f = factor values j within in
+        let whole : vectors_of p.inputs ≡ f.0 * (m * l) = sym (of_counts values) ∙ f.1 ∙ ap (λ (n : ℕ). f.0 * (m * n)) of_later in
         let some = some_counts plant sound in
         let some_m : 0 < m = omega (arith, count_among k past, All-get_or (λ (n : ℕ). 1 ≤ n) (counts_of p) k 0 (omega (arith, lt, counts_long)) some) in
         let some_l : 0 < l = omega (arith, later, some_combinations (drop (k + 1) (counts_of p)) (All-drop (λ (n : ℕ). 1 ≤ n) (k + 1) (counts_of p) some)) in
@@ -170,7 +171,7 @@ module _ (p : Description) where
   no_slot_along k = index_along_is (axes_of p) k 0 ∙ ap (λ (i : ℕ). i % (get_or (axes_of p) k no_axis).count) (zero-div (cells_of (drop (k + 1) (axes_of p)))) ∙ zero-mod (get_or (axes_of p) k no_axis).count
 
   no_slot_among : (j : ℕ) → value_index p.inputs j 0 ≡ 0
-  no_slot_among j = ap (λ (i : ℕ). i % value_count p.inputs j) (zero-div (vectors_of (drop (j + 1) p.inputs))) ∙ zero-mod (value_count p.inputs j)
+  no_slot_among j = ap (λ (i : ℕ). i % value_count p.inputs j) (zero-div (size (drop (j + 1) values))) ∙ zero-mod (value_count p.inputs j)
 
   -- the first input brings nothing
   pub no_value_index : (c k : ℕ) → length p.states ≤ k → 0 ≡ index_in p c 0 k

@@ -15,7 +15,7 @@ use crate::shapes::build_shapes;
 use crate::sources::build_sources;
 use base::limits::EDGES_LIMIT;
 use game_core::NoMemory;
-use plant_game::find_marks;
+use plant_game::build_marks;
 use plant_record::Plant;
 use std::alloc::Global;
 use std::thread::Threads;
@@ -35,7 +35,7 @@ pub fn build_forward<R: Threads + Sync>(
     ensures boxes { IfOk result (λ o. AreBoxesOf p.now (boxes_forward o)) }
     ensures fault { IfErr result (IsFaultOf p.now) }
 {
-    let boxed = build_game(rt, alloc, &Sampled::of(p, s))?;
+    let boxed = build_game(rt, alloc, &Sampled::new(p, s))?;
     let shapes = build_shapes(alloc, &boxed.grid, &boxed.fans)?;
     Ok(ForwardAbstraction { boxed, shapes })
 }
@@ -98,7 +98,7 @@ fn build_game<R: Threads + Sync>(
     if edges > EDGES_LIMIT {
         return Err(BuildFault::TooManyEdges { edges });
     }
-    let marks = find_marks(alloc, p)?;
+    let marks = build_marks(alloc, p)?;
     Ok(BoxedGame {
         grid,
         inputs: p.vectors(),

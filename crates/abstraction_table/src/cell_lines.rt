@@ -40,7 +40,7 @@ pub(crate) fn boxes_in_line(p: &Plant, tables: &[TermTable], c: u32, boxes: &mut
     }
 }
 
-/// Adds the terms of the first states, as far as they are the same all along a row, and tells how many.
+/// Adds the terms of the first states, as far as they are the same all along a line, and answers how many.
 fn add_early(
     p: &Plant,
     tables: &[TermTable],
@@ -204,8 +204,7 @@ fn add_base(base: PairBox, boxes: &mut [PairBox])
 /// The indices of a cell along the axes, and 0 for each input variable.
 #[inline]
 fn indices_of(p: &Plant, c: u32) -> [u32; INDEX_COLUMNS]
-    requires plant { IsWithinLimits p.now }
-    requires cell { c < cells_of (axes_of p.now) }
+    requires { IsWithinLimits p.now }
     ensures { AreIndicesOf p.now c result }
 {
     let along = p.grid().indices(c);

@@ -13,7 +13,7 @@ use grid_quantiser::{CellBox, Grid};
 use std::alloc::{AllocError, Global};
 
 /// How many cells the boxes of each shape have. A box is its shape, moved by its first cell, and how
-/// far its last cell is from its first tells the shape.
+/// far its last cell is from its first gives the shape.
 #[derive(Drop)]
 pub(crate) struct Fans {
     /// One for each such distance, 0 where no box has it.

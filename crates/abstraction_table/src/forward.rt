@@ -54,7 +54,7 @@ impl Forward for ForwardAbstraction {
         self.boxed.successor(pair, at)
     }
 
-    /// The corners of a box come first, since they mostly tell that not all of its cells pass.
+    /// The corners of a box come first, since they mostly show that not all of its cells pass.
     fn leads_only_to<T: CellTest>(&self, pair: u32, test: &T) -> bool {
         let Some(b) = self.boxes(pair) else {
             return false;

@@ -31,7 +31,7 @@ pub(crate) struct SegmentRange {
 const NO_SEGMENTS: SegmentRange = SegmentRange { from: 0, to: 0 };
 
 /// The segments of the shapes of boxes. A box is its shape, moved by its first cell, and how far its last
-/// cell is from its first tells the shape.
+/// cell is from its first gives the shape.
 #[derive(Drop)]
 pub(crate) struct Shapes {
     /// One for each such distance.

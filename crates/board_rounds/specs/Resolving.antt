@@ -7,12 +7,12 @@ use Rattle.game_core.specs.Solution.{row_of}
 use Rattle.board_rounds.specs.declared.resolving.Resolved.{Resolved}
 use Rattle.board_rounds.specs.Crew.{IsTalliedBy}
 
--- each cell has the row that is told of it
+-- each cell has the row that the accounts show
 pub record AreTold (cells : ℕ) (tells : ℕ → Option Row → Type 0) (rows : List (Option Row)) : Type 0 where
   pub one_each : length rows ≡ cells
   pub each : (c : ℕ) → c < cells → tells c (row_of rows c)
 
--- a game was resolved on the board: no cell is on a list, all hands are taken in, and the accounts tell the tally and the rows
+-- a game was resolved on the board: no cell is on a list, all hands are taken in, and the accounts show the tally and the rows
 pub record IsResolved (cells : ℕ) (holds_before : ℕ → List ℕ → List Account → Type 0) (tells : List Account → ℕ → Option Row → Type 0) (board : BoardModel) (r : Resolved) : Type 0 where
   pub on : r.board ≡ board
   pub at : r.root.board ≡ board

@@ -6,7 +6,7 @@ ghost use Rattle.cell_counters.specs.Accounts.{all_logs, log_count, cell_at};
 
 use cell_counters::{Board, Root};
 
-/// Puts on the list what was logged since, and tells how many slots of the log were put on a list then.
+/// Puts on the list what was logged since, and answers how many slots of the log were put on a list then.
 pub(crate) fn read_log(board: &Board, root: &mut Root, list: &mut Vec<u32>, listed: u32) -> u32
     requires root { (root.old.board ≡ board.now) × (root.old.out ≡ 0) }
     requires slots { (log_count root.old.accounts ≤ board.now.slots) × (board.now.slots ≤ vec_capacity list.old) }

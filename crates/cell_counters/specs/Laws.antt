@@ -1,4 +1,4 @@
--- What lawful accounts tell, for the callers of a board.
+-- What lawful accounts show, for the callers of a board.
 use Rattle.std.specs.Prelude.{◌≡◌, ◌≢◌, ℕ, ◌+◌, ◌-◌, ◌^◌, ◌<◌, ◌≤◌, ◌==◌, List, [], ◌++◌, map, length, count_by, All, IsPermutation}
 use Rattle.std.specs.List.{range_with_len}
 use Rattle.cell_counters.specs.declared.account.TheConstants.{NONE}

@@ -166,7 +166,7 @@ impl Board {
         Hand { seat }
     }
 
-    /// Takes a hand back. Once all are back, the accounts tell all that was done on the board.
+    /// Takes a hand back. Once all are back, the accounts show all that was done on the board.
     pub fn take_in(&self, root: &mut Root, hand: Hand)
         requires root { root.old.board ≡ self.now }
         requires hand { hand.board ≡ self.now }
@@ -281,7 +281,7 @@ impl Board {
     }
 
     /// Loads a counter's word, so that a cut that follows finds it near. It takes no hand and no root: nothing is done on the
-    /// board, and nothing is told.
+    /// board, and nothing is answered.
     pub fn prefetch(&self, counter: u32)
         requires { counter < length self.now.starts }
     {

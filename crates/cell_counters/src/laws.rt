@@ -1,4 +1,4 @@
-//! What lawful accounts tell. Each call does nothing, and ensures its law.
+//! What lawful accounts show. Each call does nothing, and ensures its law.
 ghost use Rattle.cell_counters.specs.Laws.{CountsDown, AnswersOnce, OneIsFirst, NothingDone, NewAnswers, NewFirsts, NewSlots};
 
 /// At most as many cuts as the counter began with answer one number less each time.

@@ -24,7 +24,7 @@ pub struct View {
     pub awaits: Option<u64>,
 }
 
-/// What a table is told when it is made: its counters and then its least words, and how many slots its log has.
+/// What a table is given when it is made: its counters and then its least words, and how many slots its log has.
 #[derive(Drop)]
 pub struct Beginning {
     pub words: Snapshot<Vec<u64>>,

@@ -1,3 +1,5 @@
 pub mod Command
 pub mod LimitLines
+pub mod Statuses
+pub mod Ends
 pub mod inside

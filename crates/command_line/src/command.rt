@@ -73,7 +73,7 @@ fn parse_two(name: &str, workers: &str) -> Option<Command>
     ensures found { IfSome result (IsOfCommand (name.now ∷ workers.now ∷ [])) }
     ensures none { IfNone result ((f : Command) → IsOfCommand (name.now ∷ workers.now ∷ []) f → ⊥) }
 {
-    let workers = workers_of(workers)?;
+    let workers = parse_workers(workers)?;
     if is_synth(name) {
         Some(Command::Synth { workers })
     } else if is_stay(name) {
@@ -89,8 +89,8 @@ fn parse_three(name: &str, number: &str, workers: &str) -> Option<Command>
     ensures found { IfSome result (IsOfCommand (name.now ∷ number.now ∷ workers.now ∷ [])) }
     ensures none { IfNone result ((f : Command) → IsOfCommand (name.now ∷ number.now ∷ workers.now ∷ []) f → ⊥) }
 {
-    let number = demo_number_of(number)?;
-    let workers = workers_of(workers)?;
+    let number = parse_demo_number(number)?;
+    let workers = parse_workers(workers)?;
     if is_demo(name) {
         Some(Command::Demo { number, workers })
     } else {
@@ -104,9 +104,9 @@ fn parse_more(name: &str, samples: &str, seed: &str, numbers: &[&str]) -> Option
     ensures found { IfSome result (IsOfCommand (name.now ∷ samples.now ∷ seed.now ∷ map (λ w. w.now) numbers.now)) }
     ensures none { IfNone result ((f : Command) → IsOfCommand (name.now ∷ samples.now ∷ seed.now ∷ map (λ w. w.now) numbers.now) f → ⊥) }
 {
-    let samples = number_of(samples, SAMPLES_LIMIT)? as u32;
-    let seed = number_of(seed, u64::MAX)?;
-    let start = start_of(numbers)?;
+    let samples = parse_number(samples, SAMPLES_LIMIT)? as u32;
+    let seed = parse_number(seed, u64::MAX)?;
+    let start = parse_start(numbers)?;
     if is_sim(name) {
         Some(Command::Sim {
             samples,
@@ -119,42 +119,42 @@ fn parse_more(name: &str, samples: &str, seed: &str, numbers: &[&str]) -> Option
 }
 
 /// How many workers a word asks for.
-pub fn workers_of(word: &str) -> Option<u32>
+pub fn parse_workers(word: &str) -> Option<u32>
     ensures found { IfSome result (λ n. AreWorkers n × (word.now ≡ decimal n)) }
     ensures none { IfNone result ((n : ℕ) → AreWorkers n → word.now ≡ decimal n → ⊥) }
 {
-    match number_of(word, WORKERS_LIMIT)? {
+    match parse_number(word, WORKERS_LIMIT)? {
         0 => None,
         workers => Some(workers as u32),
     }
 }
 
 /// The number of a demo plant that a word spells.
-fn demo_number_of(word: &str) -> Option<u32>
+fn parse_demo_number(word: &str) -> Option<u32>
     ensures found { IfSome result (λ n. IsDemoNumber n × (word.now ≡ decimal n)) }
     ensures none { IfNone result ((n : ℕ) → IsDemoNumber n → word.now ≡ decimal n → ⊥) }
 {
-    match number_of(word, DEMO_LIMIT)? {
+    match parse_number(word, DEMO_LIMIT)? {
         0 => None,
         number => Some(number as u32),
     }
 }
 
 /// The start whose numbers the words spell.
-fn start_of(arguments: &[&str]) -> Option<StateNumbers>
+fn parse_start(arguments: &[&str]) -> Option<StateNumbers>
     requires { length arguments.now ≤ STATES_LIMIT }
     ensures found { IfSome result (Spell (map (λ w. w.now) arguments.now)) }
     ensures none { IfNone result ((numbers : List ℤ) → Spell (map (λ w. w.now) arguments.now) numbers → ⊥) }
 {
     let mut start = StateNumbers::empty();
     for word in arguments {
-        start.push(state_number_of(word)?);
+        start.push(parse_state_number(word)?);
     }
     Some(start)
 }
 
 /// The number up to a bound that a word spells.
-fn number_of(word: &str, most: u64) -> Option<u64>
+fn parse_number(word: &str, most: u64) -> Option<u64>
     ensures found { IfSome result (λ n. (n ≤ most) × (word.now ≡ decimal n)) }
     ensures none { IfNone result ((n : ℕ) → n ≤ most → word.now ≡ decimal n → ⊥) }
 {
@@ -165,7 +165,7 @@ fn number_of(word: &str, most: u64) -> Option<u64>
 }
 
 /// The number of a state that a word spells.
-fn state_number_of(word: &str) -> Option<i128>
+fn parse_state_number(word: &str) -> Option<i128>
     ensures found { IfSome result (λ n. IsLiteral n × (word.now ≡ signed_decimal n)) }
     ensures none { IfNone result ((n : ℤ) → IsLiteral n → word.now ≡ signed_decimal n → ⊥) }
 {

@@ -1,2 +1,4 @@
 mod Values
 mod HeldValues
+mod Crossing
+mod Moving

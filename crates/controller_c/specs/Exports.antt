@@ -4,7 +4,7 @@ use Rattle.controller_table.specs.declared.table_fault.TableFault.{TableFault}
 use Rattle.controller_table.specs.declared.table_fault.TableFault.TheVariants as faults
 use Rattle.controller_table.specs.Tables.{TableModel, IsTableIn}
 use Rattle.controller_table.specs.TableRefusals.{IsTableRefusedFor}
-use Rattle.table_control.specs.Control.{TellsReply, IsRank, IsUnranked}
+use Rattle.table_control.specs.Control.{EncodesReply, IsRank, IsUnranked}
 use Rattle.table_control.specs.Each.{IsReplyEach}
 
 abbrev pub fault_number : TableFault → ℤ
@@ -32,7 +32,7 @@ IsOpened bytes None status line = IsRefusal bytes status line
 -- what is told at a state, by the numbers in the inputs before and after it
 abbrev pub IsReplied : Option TableModel → List ℤ → List ℤ → List ℤ → ℤ → Type 0
 IsReplied None x before after status = (status ≡ negsuc 2) × (after ≡ before)
-IsReplied (Some t) x before after status = TellsReply t x before after status
+IsReplied (Some t) x before after status = EncodesReply t x before after status
 
 -- what is told at many states, by the inputs and the numbers before and after
 abbrev pub AreReplied : Option TableModel → List ℤ → List ℤ → List ℤ → List ℤ → List ℤ → ℤ → Type 0

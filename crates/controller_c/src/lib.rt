@@ -15,7 +15,7 @@ mod opening;
 mod rank;
 
 use crate::opening::{boxed_table, fault_at, fault_status};
-use crate::rank::tell_rank;
+use crate::rank::copy_rank;
 pub use controller::Controller;
 pub use held::Held;
 use std::alloc::Global;
@@ -131,7 +131,7 @@ pub extern "C" fn gaffcurrant_rank(
 {
     match controller.take(alloc) {
         Some(table) => {
-            let status = tell_rank(&table, state, rank);
+            let status = copy_rank(&table, state, rank);
             controller.put(table);
             status
         }

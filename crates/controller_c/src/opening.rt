@@ -8,19 +8,31 @@ ghost use Rattle.controller_c.specs.Exports.{fault_number, fault_line};
 
 use controller_table::{Table, TableFault, read_table};
 use std::alloc::Global;
+use table_control::{NoMemory, PackedTable};
 
 /// The table that the bytes are, on the heap.
-pub(crate) fn boxed_table(alloc: Global, bytes: &[u8]) -> Result<Box<Table, Global>, TableFault>
+pub(crate) fn boxed_table(
+    alloc: Global,
+    bytes: &[u8],
+) -> Result<Box<PackedTable, Global>, TableFault>
     ensures read { IfOk result (λ b. IsTableIn b.value.version bytes.now b.value.plant b.value.rows) }
     ensures refused { IfErr result (λ fault. fault ≢ Memory → IsTableRefusedFor bytes.now fault) }
 {
     match read_table(alloc, bytes) {
-        Ok(table) => match Box::new(alloc, table) {
+        Ok(table) => match packed_box(alloc, table) {
             Ok(boxed) => Ok(boxed),
             Err(_) => Err(TableFault::Memory),
         },
         Err(fault) => Err(fault),
     }
+}
+
+/// The table on the heap, in less memory.
+fn packed_box(alloc: Global, table: Table) -> Result<Box<PackedTable, Global>, NoMemory>
+    ensures { IfOk result (λ b. b.value ≡ table) }
+{
+    let packed = PackedTable::new(alloc, table)?;
+    Box::new(alloc, packed).map_err(|_| NoMemory)
 }
 
 /// The number of a fault for C.

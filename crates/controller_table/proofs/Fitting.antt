@@ -1,5 +1,5 @@
 -- The rules of a plant's rows allow the rows that fit it, and no others.
-use Rattle.std.proofs.Common.{◌≡◌, ℕ, ◌-◌, ◌^◌, ◌<◌, ◌≤◌, List, length, get_or, Option, Some, None, refl, sym, ap, subst, ◌∙◌, arith}
+use Rattle.std.proofs.Common.{◌≡◌, ℕ, ◌^◌, ◌<◌, ◌≤◌, List, length, get_or, Option, Some, None, arith}
 use Rattle.std.specs.Prelude.{IfSome}
 use Rattle.game_core.specs.declared.game.Row.{Row}
 use Rattle.grid_quantiser.specs.Axes.{cells_of}
@@ -8,7 +8,7 @@ use Rattle.plant_record.specs.declared.aims.GoalKind.TheVariants.{Reach, Keep}
 use Rattle.plant_record.specs.Description.{Description, axes_of, vectors_of}
 use Rattle.plant_record.specs.Limits.{IsWithinLimits}
 use Rattle.row_runs.specs.declared.run.TableVersion.{TableVersion}
-use Rattle.row_reading.specs.RowsTexts.{TellsAll, IsRowWithin, AreRowsWithin}
+use Rattle.row_reading.specs.RowsTexts.{Determines, IsRowWithin, AreRowsWithin}
 use Rattle.row_reading.specs.inside.RunReading.{AreSmall}
 use Rattle.controller_table.specs.TableText.{format_of}
 use Rattle.controller_table.specs.Tables.{HasFittingRank, IsRowOf, RowsFit}
@@ -30,7 +30,7 @@ small_rules v p within = record {
 
 -- ---- ranks
 
-rank_told : (goal : GoalKind) (cells : ℕ) (row : Row) → HasFittingRank goal cells row → TellsAll (format_of goal) row
+rank_told : (goal : GoalKind) (cells : ℕ) (row : Row) → HasFittingRank goal cells row → Determines (format_of goal) row
 rank_told Reach cells row h = h.1
 rank_told Keep cells row h = h
 
@@ -38,7 +38,7 @@ rank_most : (goal : GoalKind) (cells : ℕ) (row : Row) → HasFittingRank goal 
 rank_most Reach cells row h = omega (arith, h.0)
 rank_most Keep cells row h = omega (arith, h)
 
-rank_fits : (goal : GoalKind) (cells : ℕ) (row : Row) → 0 < cells → TellsAll (format_of goal) row → row.rank ≤ most_rank_of goal cells → HasFittingRank goal cells row
+rank_fits : (goal : GoalKind) (cells : ℕ) (row : Row) → 0 < cells → Determines (format_of goal) row → row.rank ≤ most_rank_of goal cells → HasFittingRank goal cells row
 rank_fits Reach cells row some told most = (omega (arith, some, most), told)
 rank_fits Keep cells row some told most = told
 

@@ -1,6 +1,5 @@
 -- Bytes begin with the canonical text of a plant or have a first refused line there, and a plant is within the limits or not.
-use Rattle.std.proofs.Common.{inl, inr, ◌≡◌, ◌⊎◌, ℕ, zero, suc, ◌+◌, ◌*◌, ◌-◌, ◌^◌, ◌<◌, ◌≤◌, Bool, true, false, List, ◌++◌, length, length-append, Option, Some, None, refl, ap, arith}
-use Rattle.std.specs.Prelude.{codes}
+use Rattle.std.proofs.Common.{inl, inr, ◌≡◌, ℕ, ◌*◌, ◌-◌, ◌^◌, ◌<◌, ◌≤◌, true, List, length, Option, Some, None, refl, arith}
 use Rattle.std.proofs.lemmas.Bool.{cases_lt}
 use Rattle.grid_quantiser.specs.Axes.{cells_of}
 use Rattle.plant_record.specs.declared.limit_kind.LimitKind.TheVariants.{Vectors, Cells, Pairs}
@@ -9,13 +8,14 @@ use Rattle.plant_record.specs.declared.version.PlantVersion.{PlantVersion}
 use Rattle.plant_record.specs.Description.{Description, axes_of, vectors_of}
 use Rattle.plant_record.specs.Limits.{IsWithinLimits, Exceeds}
 use Rattle.plant_record.specs.Plants.{IsPlant}
-use Rattle.read_texts.proofs.Undeniable.{either}
+use Rattle.plant_reading.proofs.lemmas.StatementLaws.{one_statement}
+use Rattle.read_texts.specs.Steps.{IsReading}
+use Rattle.read_texts.proofs.Laws.{Outcome, is_read, is_refused, undeniable}
 use Rattle.plant_text.specs.Grammar.{PartialPlant, nothing_yet, IsWhole}
-use Rattle.plant_text.specs.CanonicalFronts.{ExtendsCanonically, IsFirstRefusedAtFront, IsFront}
+use Rattle.plant_text.specs.CanonicalFronts.{FrontStep, IsFrontEnded, IsFirstRefusedAtFront, IsFront}
 use Rattle.plant_text.specs.inside.PartialPlantRules.{KeepsRules}
-use Rattle.plant_text.specs.inside.ReadInFront.{IsReadInFront}
-use Rattle.plant_text.proofs.lemmas.RulesKept.{rules_after}
-use Rattle.plant_text.proofs.lemmas.FrontLineByLine.{at_first_line, at_next_line, read_text, read_orderly, at_front}
+use Rattle.plant_text.proofs.lemmas.FrontGrammar.{IsOnTheWay, at_the_beginning, front_is_grammar}
+use Rattle.plant_text.proofs.lemmas.FrontLineByLine.{read_way, read_front}
 
 -- the plant that a closed part holds
 pub whole : (q : PartialPlant) → KeepsRules q → q.ended ≡ true → (p : Description) × IsWhole q p
@@ -61,50 +61,15 @@ pub data FrontEnd (bytes : List ℕ) : Type 0 where
   stops_at : (n : ℕ) → IsFirstRefusedAtFront bytes n → FrontEnd bytes
   has_plant : (p : Description) (count : ℕ) → IsFront bytes p count → FrontEnd bytes
 
--- A further line is read.
-record IsReadOn (bytes rest : List ℕ) (number : ℕ) : Type 0 where
-  after : List ℕ
-  part : PartialPlant
-  shorter : length after < length rest
-  read : IsReadInFront bytes after (number + 1) part
-
-further : (bytes rest : List ℕ) (n : ℕ) (q : PartialPlant) → IsReadInFront bytes rest n q → (FrontEnd bytes ⊎ IsReadOn bytes rest n → ⊥) → ⊥
-further bytes rest n q up deny = by_end q.ended refl
-  where
-    by_end : (b : Bool) → q.ended ≡ b → ⊥
-    by_end true closed =
-        let held = whole q up.rules closed in
-        deny (inl (has_plant held.0 (length bytes - length rest) (at_front bytes (length bytes - length rest) q held.0 up.rules (read_orderly bytes rest n q up) (omega arith) (read_text bytes rest n q up) held.1)))
-    by_end false goes_on =
-        either ((arguments : List ℕ) × (rest_after : List ℕ) × (r : PartialPlant) × (rest ≡ arguments ++ codes "\n" ++ rest_after) × ExtendsCanonically q arguments r) (λ more. elim more [
-          | inl (arguments, rest_after, r, cut, extends) ↦ (let shorter : length rest_after < length rest = omega (arith, ap length cut, length-append (arguments ++ codes "\n") rest_after, length-append arguments (codes "\n")) in
-              deny (inr (record {
-                after = rest_after;
-                part = r;
-                shorter = shorter;
-                read = at_next_line bytes rest arguments rest_after n q r up cut shorter extends (rules_after q arguments r up.rules (inr extends.stated));
-              })))
-          | inr none ↦ deny (inl (stops_at n (record {
-            lines = up.lines;
-            next = up.numbered;
-            part = q;
-            leads = up.leads;
-            goes_on = goes_on;
-            rest = rest;
-            are = up.are;
-            refused = λ arguments rest_after r cut extends. none (arguments, rest_after, r, cut, extends);
-          })))
-        ])
-
-read_on : (bytes : List ℕ) (fuel : ℕ) (rest : List ℕ) (n : ℕ) (q : PartialPlant) → length rest ≤ fuel → IsReadInFront bytes rest n q → (FrontEnd bytes → ⊥) → ⊥
-read_on bytes zero rest n q few up deny = further bytes rest n q up (λ found. elim found [
-  | inl end ↦ deny end
-  | inr on ↦ (let shorter = on.shorter in omega (arith, few, shorter))
-])
-read_on bytes (suc fuel) rest n q few up deny = further bytes rest n q up (λ found. elim found [
-  | inl end ↦ deny end
-  | inr on ↦ read_on bytes fuel on.after (n + 1) on.part (let shorter = on.shorter in omega (arith, few, shorter)) on.read deny
-])
+read_front_end : (bytes rest : List ℕ) (q : PartialPlant) → IsReading FrontStep IsFrontEnded nothing_yet bytes q rest → FrontEnd bytes
+read_front_end bytes rest q reading =
+    let way = read_way bytes rest reading.pieces q reading.read in
+    let held = whole q way.rules reading.closed in
+    has_plant held.0 (length bytes - length rest) (read_front bytes rest reading.pieces q held.0 reading.read held.1)
 
 pub front_end : (bytes : List ℕ) → (FrontEnd bytes → ⊥) → ⊥
-front_end bytes deny = read_on bytes (length bytes) bytes 1 nothing_yet (omega arith) (at_first_line bytes nothing_yet refl) deny
+front_end bytes deny = undeniable FrontStep IsFrontEnded IsOnTheWay (front_is_grammar one_statement) nothing_yet bytes at_the_beginning by
+  where
+    by : Outcome FrontStep IsFrontEnded IsOnTheWay (front_is_grammar one_statement) nothing_yet bytes → ⊥
+    by (is_read q rest reading) = deny (read_front_end bytes rest q reading)
+    by (is_refused n refused) = deny (stops_at n refused)

@@ -1,12 +1,16 @@
 pub mod Text
 pub mod Fitting
 pub mod RefusedPlant
+pub mod SameRules
+pub mod Headings
 pub mod ReadTable
 pub mod SolutionsFit
 pub mod OneTable
+pub mod FrontEnds
+pub mod HeadedLaws
 pub mod OneRefusal
 pub mod PlantLength
+pub mod RowLengths
 pub mod ShortTables
 pub mod Copies
-pub mod FrontEnds
 pub mod SomeTable

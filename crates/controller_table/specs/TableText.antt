@@ -27,6 +27,7 @@ abbrev pub format_of : GoalKind → RowFormat
 format_of Reach = InputAboveZero
 format_of Keep = InputAlone
 
+-- the first line
 abbrev pub version_line : TableVersion → List ℕ
 version_line First = line (codes "table" ∷ codes "1" ∷ [])
 version_line Second = line (codes "table" ∷ codes "2" ∷ [])

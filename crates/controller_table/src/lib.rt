@@ -6,6 +6,7 @@
 #![tactic(auto)]
 
 mod goal_format;
+mod heading;
 pub mod laws;
 mod table;
 mod table_copy;
@@ -15,6 +16,7 @@ mod table_writer;
 
 pub use base::NoMemory;
 pub use goal_format::{format_of, rules_of};
+pub use heading::{Heading, take_heading};
 pub use table::Table;
 pub use table_fault::TableFault;
 pub use table_reader::read_table;

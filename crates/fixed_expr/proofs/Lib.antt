@@ -9,4 +9,4 @@ pub mod Pieces
 pub mod PointsPassed
 pub mod Laws
 mod Standing
-pub mod RowValues
+pub mod LaneValues

@@ -4,4 +4,4 @@ pub mod Passed
 pub mod Alike
 pub mod Pool
 pub mod Listing
-pub mod RowValues
+pub mod LaneValues

@@ -1,4 +1,4 @@
-//! Values in 64 bits, in many rows at once: several times as fast a value as in one row.
+//! Values in 64 bits, in many lanes at once: several times as fast a value as in one lane.
 
 ghost use Rattle.std.specs.Prelude.{◌≡◌, ℕ, ◌<◌, pos, neg_ℤ, nat_abs, ◌≤ℤ◌, length, IsTrue};
 ghost use Rattle.fixed_expr.specs.declared.lanes.TheConstants.{LANES};
@@ -9,7 +9,7 @@ ghost use Rattle.fixed_expr.specs.DivExpr.{floor_div};
 ghost use Rattle.fixed_expr.specs.Value.{IsWellFormed};
 ghost use Rattle.fixed_expr.specs.LaneEval.{EvaluatesLanes};
 ghost use Rattle.fixed_expr.specs.inside.Listing.{combined, combined_number};
-ghost use Rattle.fixed_expr.specs.inside.RowValues.{value_in, AreNumbers, AnswersNumbers, AnswersValues};
+ghost use Rattle.fixed_expr.specs.inside.LaneValues.{value_in, AreNumbers, AnswersNumbers, AnswersValues};
 
 use crate::curve::Curve;
 use crate::expr::Expr;
@@ -20,70 +20,70 @@ use crate::lanes::{
 use crate::narrow::narrow;
 use crate::operation::{Binary, combine};
 
-/// The values of an expression in many rows: one that is the same in all of them, or those in a list.
+/// The values of an expression in many lanes: one that is the same in all of them, or those in a list.
 #[derive(Clone, Copy)]
-enum RowValues {
+enum LaneValues {
     Alike(i64),
     Listed,
 }
 
-/// The values of an expression in each of `LANES` rows of values of its variables, given by
-/// columns: None where the value of some node in some row, or a divisor, leaves 64 bits. Each level
-/// of the expression takes a frame of the stack, with 8 bytes for each row in it. After None nothing is said of `found`.
+/// The values of an expression in each of `LANES` lanes of values of its variables, given by
+/// columns: None where the value of some node in some lane, or a divisor, leaves 64 bits. Each level
+/// of the expression takes a frame of the stack, with 8 bytes for each lane in it. After None nothing is said of `found`.
 pub fn eval_lanes(e: &Expr, columns: &[[i64; LANES]], found: &mut [i64; LANES]) -> Option<()>
     requires { IsWellFormed (expression_of e.now) (length columns.now) }
     ensures { EvaluatesLanes result (expression_of e.now) columns.now found.new }
 {
-    let values = find_values(e, columns, found)?;
+    let values = eval_values(e, columns, found)?;
     list(values, found);
     Some(())
 }
 
-/// The values of an expression: mostly few variables differ from row to row, and what rests on the others alone is worked
+/// The values of an expression: mostly few variables differ from lane to lane, and what rests on the others alone is worked
 /// out once.
 #[cycle(values)]
 #[tactic(auto, using(crate::proofs::Columns::variable_in_lane))]
-fn find_values(e: &Expr, columns: &[[i64; LANES]], found: &mut [i64; LANES]) -> Option<RowValues>
+fn eval_values(e: &Expr, columns: &[[i64; LANES]], found: &mut [i64; LANES]) -> Option<LaneValues>
     requires { IsWellFormed (expression_of e.now) (length columns.now) }
     ensures { AnswersValues result (expression_of e.now) columns.now found.new }
 {
     match e {
-        Expr::Num(k) => Some(RowValues::Alike(narrow(*k)?)),
+        Expr::Num(k) => Some(LaneValues::Alike(narrow(*k)?)),
         Expr::Var(i) => Some(column_values(&columns[*i as usize], found)),
-        Expr::Add(a, b) => find_combined(Binary::AddOp, a, b, columns, found),
-        Expr::Sub(a, b) => find_combined(Binary::SubOp, a, b, columns, found),
-        Expr::Mul(a, b) => find_combined(Binary::MulOp, a, b, columns, found),
-        Expr::Min(a, b) => find_combined(Binary::MinOp, a, b, columns, found),
-        Expr::Max(a, b) => find_combined(Binary::MaxOp, a, b, columns, found),
+        Expr::Add(a, b) => eval_combined(Binary::AddOp, a, b, columns, found),
+        Expr::Sub(a, b) => eval_combined(Binary::SubOp, a, b, columns, found),
+        Expr::Mul(a, b) => eval_combined(Binary::MulOp, a, b, columns, found),
+        Expr::Min(a, b) => eval_combined(Binary::MinOp, a, b, columns, found),
+        Expr::Max(a, b) => eval_combined(Binary::MaxOp, a, b, columns, found),
         Expr::Neg(a) => {
-            let values = find_values(a, columns, found)?;
+            let values = eval_values(a, columns, found)?;
             negate_values(values, found)
         }
         Expr::Div(a, k) => {
             let divisor = narrow(*k)?;
-            let values = find_values(a, columns, found)?;
+            let values = eval_values(a, columns, found)?;
             Some(divide_values(values, divisor, found))
         }
         Expr::Abs(a) => {
-            let values = find_values(a, columns, found)?;
+            let values = eval_values(a, columns, found)?;
             make_values_absolute(values, found)
         }
         Expr::Lut(a, curve) => {
-            let values = find_values(a, columns, found)?;
+            let values = eval_values(a, columns, found)?;
             Some(look_values_up(values, curve, found))
         }
     }
 }
 
 /// The values of a variable.
-fn column_values(column: &[i64; LANES], found: &mut [i64; LANES]) -> RowValues
+fn column_values(column: &[i64; LANES], found: &mut [i64; LANES]) -> LaneValues
     ensures { AreNumbers result found.new (λ k. at column.now k) }
 {
     if are_alike(column) {
-        return RowValues::Alike(column[0]);
+        return LaneValues::Alike(column[0]);
     }
     copy_lanes(found, column);
-    RowValues::Listed
+    LaneValues::Listed
 }
 
 /// Whether all numbers are the same.
@@ -100,97 +100,97 @@ fn are_alike(column: &[i64; LANES]) -> bool
 
 /// The values of two expressions combined.
 #[cycle(values)]
-fn find_combined(
+fn eval_combined(
     binary: Binary,
     a: &Expr,
     b: &Expr,
     columns: &[[i64; LANES]],
     found: &mut [i64; LANES],
-) -> Option<RowValues>
+) -> Option<LaneValues>
     requires first { IsWellFormed (expression_of a.now) (length columns.now) }
     requires second { IsWellFormed (expression_of b.now) (length columns.now) }
     ensures { AnswersValues result (combined binary (expression_of a.now) (expression_of b.now)) columns.now found.new }
 {
     let mut other = [0; LANES];
-    let left = find_values(a, columns, found)?;
-    let right = find_values(b, columns, &mut other)?;
+    let left = eval_values(a, columns, found)?;
+    let right = eval_values(b, columns, &mut other)?;
     combine_values(binary, left, right, found, &mut other)
 }
 
 fn combine_values(
     binary: Binary,
-    left: RowValues,
-    right: RowValues,
+    left: LaneValues,
+    right: LaneValues,
     found: &mut [i64; LANES],
     other: &mut [i64; LANES],
-) -> Option<RowValues>
+) -> Option<LaneValues>
     ensures { AnswersNumbers result found.new (λ k. combined_number binary (value_in left found.old k) (value_in right other.old k)) }
 {
-    if let (RowValues::Alike(x), RowValues::Alike(y)) = (left, right) {
-        return Some(RowValues::Alike(combine(binary, x, y)?));
+    if let (LaneValues::Alike(x), LaneValues::Alike(y)) = (left, right) {
+        return Some(LaneValues::Alike(combine(binary, x, y)?));
     }
     list(left, found);
     list(right, other);
     combine_lanes(binary, found, other)?;
-    Some(RowValues::Listed)
+    Some(LaneValues::Listed)
 }
 
-fn negate_values(values: RowValues, found: &mut [i64; LANES]) -> Option<RowValues>
+fn negate_values(values: LaneValues, found: &mut [i64; LANES]) -> Option<LaneValues>
     ensures { AnswersNumbers result found.new (λ k. neg_ℤ (value_in values found.old k)) }
 {
     match values {
-        RowValues::Alike(z) => Some(RowValues::Alike(z.checked_neg()?)),
-        RowValues::Listed => {
+        LaneValues::Alike(z) => Some(LaneValues::Alike(z.checked_neg()?)),
+        LaneValues::Listed => {
             neg_lanes(found)?;
-            Some(RowValues::Listed)
+            Some(LaneValues::Listed)
         }
     }
 }
 
-fn make_values_absolute(values: RowValues, found: &mut [i64; LANES]) -> Option<RowValues>
+fn make_values_absolute(values: LaneValues, found: &mut [i64; LANES]) -> Option<LaneValues>
     ensures { AnswersNumbers result found.new (λ k. pos (nat_abs (value_in values found.old k))) }
 {
     match values {
-        RowValues::Alike(z) => Some(RowValues::Alike(z.checked_abs()?)),
-        RowValues::Listed => {
+        LaneValues::Alike(z) => Some(LaneValues::Alike(z.checked_abs()?)),
+        LaneValues::Listed => {
             abs_lanes(found)?;
-            Some(RowValues::Listed)
+            Some(LaneValues::Listed)
         }
     }
 }
 
-fn divide_values(values: RowValues, divisor: i64, found: &mut [i64; LANES]) -> RowValues
+fn divide_values(values: LaneValues, divisor: i64, found: &mut [i64; LANES]) -> LaneValues
     requires { pos 1 ≤ℤ divisor }
     ensures { AreNumbers result found.new (λ k. floor_div (value_in values found.old k) divisor) }
 {
     match values {
-        RowValues::Alike(z) => RowValues::Alike(z.div_euclid(divisor)),
-        RowValues::Listed => {
+        LaneValues::Alike(z) => LaneValues::Alike(z.div_euclid(divisor)),
+        LaneValues::Listed => {
             div_lanes(found, divisor);
-            RowValues::Listed
+            LaneValues::Listed
         }
     }
 }
 
 /// The values of a table.
-fn look_values_up(values: RowValues, curve: &Curve, found: &mut [i64; LANES]) -> RowValues
+fn look_values_up(values: LaneValues, curve: &Curve, found: &mut [i64; LANES]) -> LaneValues
     ensures { AreNumbers result found.new (λ k. curve_value curve.now (value_in values found.old k)) }
 {
     match values {
-        RowValues::Alike(z) => RowValues::Alike(curve.narrow_value(z)),
-        RowValues::Listed => {
+        LaneValues::Alike(z) => LaneValues::Alike(curve.narrow_value(z)),
+        LaneValues::Listed => {
             lut_lanes(found, curve);
-            RowValues::Listed
+            LaneValues::Listed
         }
     }
 }
 
-/// Lists a value that is the same in all rows.
-fn list(values: RowValues, rows: &mut [i64; LANES])
-    ensures { IsColumnOf rows.new (λ k. value_in values rows.old k) }
+/// Lists a value that is the same in all lanes.
+fn list(values: LaneValues, lanes: &mut [i64; LANES])
+    ensures { IsColumnOf lanes.new (λ k. value_in values lanes.old k) }
 {
-    if let RowValues::Alike(z) = values {
-        rows.fill(z);
+    if let LaneValues::Alike(z) = values {
+        lanes.fill(z);
     }
 }
 

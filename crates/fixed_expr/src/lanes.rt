@@ -11,7 +11,7 @@ use crate::curve::Curve;
 use crate::narrow::floor_quotient;
 use base::Divisor;
 
-/// How many rows are evaluated at once.
+/// How many lanes are evaluated at once.
 pub const LANES: usize = 32;
 
 pub fn copy_lanes(found: &mut [i64; LANES], column: &[i64; LANES])

@@ -1,4 +1,4 @@
--- What a sweep tells a caller whose hands are new.
+-- What a sweep shows a caller whose hands are new.
 use Rattle.std.specs.Prelude.{◌≡◌, ℕ, List, [], All, IsPermutation}
 use Rattle.std.specs.List.{concat, range_with_len}
 use Rattle.frontier_pool.specs.Sweeps.{Sweeps}

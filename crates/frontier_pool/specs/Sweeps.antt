@@ -1,4 +1,4 @@
--- What a sweep does, as the lists of what the hands did tell it.
+-- What a sweep does, as the lists of what the hands did show it.
 use Rattle.std.specs.Prelude.{◌≡◌, ℕ, List, [], ◌∷◌, ◌++◌, length, None, IsPermutation}
 use Rattle.std.specs.List.{concat, range_with_len}
 use Rattle.frontier_pool.specs.declared.member.Member.{Member}
@@ -16,6 +16,6 @@ pub record Sweeps (before after : List (List ℕ)) (items : ℕ) : Type 0 where
   pub grown : after ≡ followed before claim_lists
   pub once : IsPermutation (range_with_len 0 items) (concat claim_lists)
 
--- the member has no room: it takes part in no sweep
+-- the member has nothing local: it takes part in no sweep
 abbrev pub IsIdle : {H : Type 0} → Member H → Type 0
 IsIdle m = m.local ≡ None

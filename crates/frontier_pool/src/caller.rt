@@ -70,7 +70,7 @@ fn equip_member<H>(
     Ok(stealer)
 }
 
-/// Takes each member's room back: its deque is dropped, and its seat joined with the caller's.
+/// Takes back what each member had: its deque is dropped, and its seat joined with the caller's.
 pub(crate) fn join_seats<H>(
     claimed: &Shared<(), SeatView, u32, Once>,
     caller: &mut Seat<(), SeatView>,
@@ -91,7 +91,7 @@ pub(crate) fn join_seats<H>(
     }
 }
 
-/// Empties each room.
+/// Takes out what each member had.
 pub(crate) fn forget_locals<H>(members: &mut [Member<H>])
     ensures hands { hands members.new ≡ hands members.old }
     ensures idle { All IsIdle members.new }

@@ -1,4 +1,4 @@
-//! A hand, and room for what it needs during a sweep.
+//! A hand, and what it needs during a sweep.
 ghost use Rattle.std.specs.Prelude.{◌≡◌, None, Some};
 ghost use Rattle.frontier_pool.specs.Sweeps.{IsIdle};
 
@@ -39,7 +39,7 @@ impl<H> Member<H> {
         hand
     }
 
-    /// Fills the room.
+    /// Sets what the member has during a sweep.
     pub(crate) fn set_local(&mut self, local: Local)
         ensures hand { self.new.hand ≡ self.old.hand }
         ensures local { self.new.local ≡ Some local }
@@ -47,7 +47,7 @@ impl<H> Member<H> {
         self.local = Some(local);
     }
 
-    /// Empties the room.
+    /// Takes it out.
     pub(crate) fn leave(&mut self) -> Option<Local>
         ensures local { result ≡ self.old.local }
         ensures hand { self.new.hand ≡ self.old.hand }

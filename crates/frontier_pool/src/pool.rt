@@ -115,7 +115,7 @@ fn run_in_batches<R: Threads + Sync, T: Toil, G: Gate>(
     Ok(())
 }
 
-/// The members do what they find, and the caller takes their rooms back and does the rest.
+/// The members do what they find, and the caller takes back what they had and does the rest.
 fn hold_sweep_context<R: Threads + Sync, T: Toil, G: Gate>(
     rt: &R,
     sweep_context: &SweepContext<'_, T, G>,

@@ -15,7 +15,7 @@ pub struct SeatView {
     pub claim_lists: LinkedList<ClaimList>,
 }
 
-/// Each item is claimed at most once. The table is told how many items there are.
+/// Each item is claimed at most once. The table is given the number of items.
 pub struct Once;
 
 impl TableRule<(), SeatView, u32> for Once {

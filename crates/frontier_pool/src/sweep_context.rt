@@ -55,7 +55,7 @@ impl<T: Toil, G: Gate> SweepContext<'_, T, G> {
         self.steal_all(worker, &mut local.seat, hand);
     }
 
-    /// Pushes the member's batch into its own deque, and tells how many it took. What it hands back is done at once.
+    /// Pushes the member's batch into its own deque, and answers how many it took. What it hands back is done at once.
     fn push_batch(&self, worker: u32, local: &mut Local, hand: &mut T::Hand) -> u32
         requires worker { worker < self.now.members }
         requires seat { MayClaim self.now.claimed.now.table_id local.old.seat }

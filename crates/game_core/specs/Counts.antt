@@ -1,13 +1,13 @@
--- How often numbers stand in lists, and what that tells of the lists.
+-- How often numbers stand in lists, and what that shows of the lists.
 use Rattle.std.specs.Prelude.{◌≡◌, ◌≢◌, ℕ, ◌+◌, ◌<◌, ◌≤◌, ◌⊎◌, Bool, true, false, cond, List, [], filter, length, slice_index, slice_index_or, sum_by, count_by}
 use Rattle.std.specs.List.{All, Contains, range_with_len}
 use Rattle.std.specs.List.Sorted.{IsPermutation}
 pub use Rattle.base.specs.Counts.{times, one_if}
 use Rattle.game_core.specs.Game.{Game, IsGame, AreSources, pairs_of, successors_at}
 
--- What sums and counts over lists of numbers tell.
+-- What sums and counts over lists of numbers show.
 pub record CountsAgree : Type 0 where
-  -- how often each number stands there tells lists up to their order, and sums over two lists meet
+  -- how often each number stands there shows lists up to their order, and sums over two lists meet
   pub same : (xs ys : List ℕ) → ((n : ℕ) → times n xs ≡ times n ys) → IsPermutation xs ys
   pub each_once : (n : ℕ) (xs : List ℕ) → All (λ x. x < n) xs → ((i : ℕ) → i < n → times i xs ≡ 1) → IsPermutation (range_with_len 0 n) xs
   pub from_both_sides : (xs ys : List ℕ) → sum_by (λ x. times x ys) xs ≡ sum_by (λ y. times y xs) ys

@@ -58,7 +58,7 @@ pub fn solutions_are_right()
     ensures { (g : Game) (rows : List (Option Row)) → IsGame g → IsReachSolution g rows → AreRight g rows }
 {}
 
-/// What sums over lists of numbers tell, and how often numbers stand there.
+/// What sums over lists of numbers show, and how often numbers stand there.
 pub fn counts_agree()
     ensures { CountsAgree }
 {}

@@ -1,18 +1,16 @@
 -- A box by how many indices it has along each axis: its cells, and which one is the nth.
-use Rattle.std.proofs.Common.{◌≡◌, ℕ, zero, suc, ◌+◌, ◌-◌, ◌*◌, ◌/◌, ◌%◌, ◌^◌, ◌<◌, ◌≤◌, arith, ap, ap₂, sym, subst, ◌∙◌, List, [], ◌∷◌, length, map, take, get_or}
+use Rattle.std.proofs.Common.{◌≡◌, ℕ, zero, suc, ◌+◌, ◌-◌, ◌*◌, ◌/◌, ◌%◌, ◌^◌, ◌<◌, ◌≤◌, arith, ap, ap₂, sym, subst, ◌∙◌, List, [], ◌∷◌, length, map, get_or}
 use Rattle.std.specs.List.{All}
 use Rattle.std.proofs.lemmas.Nat.{div-add-mod', mod_below}
 use Rattle.std.proofs.lemmas.Grind.{same_number_lists}
 use Rattle.std.proofs.lemmas.List.{length-map, get_or-map}
 use Rattle.std.proofs.Math.Nat.{add-mul}
-use Rattle.mixed_radix.specs.Radix.{size, number, AreDigits, AreDigitsOf}
+use Rattle.mixed_radix.specs.Radix.{size}
 use Rattle.mixed_radix.specs.Boxes.{box_counts, nth}
-use Rattle.mixed_radix.proofs.Boxes.{length-box_counts, box_digits, nth_is}
 use Rattle.grid_quantiser.specs.declared.axis.Axis.{Axis}
 use Rattle.grid_quantiser.specs.Axes.{IsAxis, AreAxes, counts_of, cells_of}
 use Rattle.grid_quantiser.specs.CellBoxes.{IsCellBox, cells_between}
 use Rattle.grid_quantiser.proofs.General.{length-blocks, get_or-blocks}
-use Rattle.grid_quantiser.proofs.Counts.{length-counts_of}
 use Rattle.grid_quantiser.proofs.BoxCells.{between_some, corners_below, box_ordered}
 use Rattle.grid_quantiser.proofs.BoxShapes.{index_is, rest_is, later, some, shape_box}
 
@@ -84,25 +82,3 @@ moved_shape axes f l each below box =
     between_nth axes 0 (l - f) k each some is_box within ∙ ap (λ (d : ℕ). 0 + nth (counts_of axes) (box_counts (counts_of axes) d) k) same
     in
     omega (arith, between_nth axes f l k each below box lt, moved, get_or-map (λ c. f + c) shape k 0 0 within))
-
--- ---- counts that are read
-
-module _ (axes : List Axis) (counts read : List ℕ) (f l : ℕ) (same : counts ≡ counts_of axes) (are : take (length axes) read ≡ box_counts (counts_of axes) (l - f)) where
-  pub read_counts : take (length counts) read ≡ box_counts (counts_of axes) (l - f)
-  read_counts = ap (λ (n : ℕ). take n read) (ap length same ∙ length-counts_of axes) ∙ are
-
-  pub read_size : All IsAxis axes → IsCellBox axes f l → size (take (length counts) read) ≡ length (cells_between axes f l)
-  read_size each box = ap size read_counts ∙ sym (length-between axes f l each box)
-
-  -- the cell that digits below the counts give
-  module _ (i : ℕ) (ds : List ℕ) (c : AreCorners axes f l) (within : i < length (cells_between axes f l)) (of : AreDigitsOf (take (length counts) read) i ds) where
-    in_box : AreDigitsOf (box_counts (counts_of axes) (l - f)) i ds
-    in_box = rw read_counts at of
-
-    pub read_digits : AreDigits counts ds
-    read_digits = rw same (box_digits (counts_of axes) ds (l - f) (omega (arith, c.high)) in_box.are)
-
-    pub read_nth : f + number counts ds ≡ get_or (cells_between axes f l) i 0
-    read_nth =
-        ap (λ (n : ℕ). f + n) (ap (λ (ns : List ℕ). number ns ds) same ∙ nth_is (counts_of axes) (box_counts (counts_of axes) (l - f)) ds i (length-box_counts (counts_of axes) (l - f)) in_box)
-        ∙ sym (between_nth axes f l i c.grid.each c.low c.ordered within)

@@ -1,5 +1,5 @@
 -- The segments of a box that are still to come.
-use Rattle.std.proofs.Common.{◌≡◌, ℕ, suc, ◌+◌, ◌-◌, ◌*◌, ◌/◌, ◌%◌, ◌<◌, ◌≤◌, arith, ap, sym, subst, ◌∙◌, List, [], ◌∷◌, ◌++◌, length, take, drop, get_or}
+use Rattle.std.proofs.Common.{◌≡◌, ℕ, ◌+◌, ◌-◌, ◌*◌, ◌/◌, ◌%◌, ◌<◌, ◌≤◌, arith, ap, sym, subst, ◌∙◌, List, ◌++◌, length, take, drop, get_or}
 use Rattle.std.specs.List.{range_with_len}
 use Rattle.std.proofs.Math.Nat.{mul-le-mul_right, add-mod_right}
 use Rattle.std.proofs.lemmas.Nat.{div-add-mod', div_below}
@@ -16,13 +16,6 @@ use Rattle.grid_quantiser.specs.Segments.{BeginsWithSegment}
 use Rattle.grid_quantiser.proofs.Counts.{length-counts_of}
 use Rattle.grid_quantiser.proofs.BoxCells.{between_some}
 use Rattle.grid_quantiser.proofs.BoxNth.{AreCorners, length-between, between_nth}
-
--- the last of the counts stands last
-pub last_is : (counts : List ℕ) → 1 ≤ length counts → get_or counts (length counts - 1) 0 ≡ last_of counts
-last_is [] some = absurd (omega (arith, some))
-last_is (n ∷ []) some = ap (λ (i : ℕ). get_or (n ∷ []) i 0) (let e : suc 0 - 1 ≡ 0 = omega arith in e)
-last_is (n ∷ m ∷ counts) some =
-    ap (λ (i : ℕ). get_or (n ∷ m ∷ counts) i 0) (let e : suc (suc (length counts)) - 1 ≡ suc (suc (length counts) - 1) = omega arith in e) ∙ last_is (m ∷ counts) (omega arith)
 
 module _ (axes : List Axis) (f l : ℕ) (c : AreCorners axes f l) where
   abbrev cells : List ℕ

@@ -1,4 +1,4 @@
-ghost use Rattle.std.specs.Prelude.{◌≡◌, ◌-◌, ◌^◌, ◌<◌, ◌≤◌, ◌↔◌, length, take, slice_index, IsTrue, IsSome, IfSome};
+ghost use Rattle.std.specs.Prelude.{◌≡◌, ◌-◌, ◌<◌, ◌≤◌, ◌↔◌, length, slice_index, IsTrue, IsSome, IfSome};
 ghost use Rattle.std.specs.List.{Contains};
 ghost use Rattle.base.specs.declared.limits.TheConstants.{CELLS_LIMIT, STATES_LIMIT};
 ghost use Rattle.grid_quantiser.specs.Axes.{counts_of, cells_of, AreAxes};
@@ -8,7 +8,7 @@ ghost use Rattle.grid_quantiser.specs.CellBoxes.{IsAtMost, IsBoxInDomain, Touche
 use crate::axis::Axis;
 use crate::grid::{Grid, Point};
 use base::limits::STATES_LIMIT;
-use mixed_radix::{decode, encode, size};
+use mixed_radix::{box_size, decode, nth};
 
 /// A box of cells of a grid, by the numbers of its lowest and its highest corner.
 #[derive(Clone, Copy, PartialEq, Eq)]
@@ -39,17 +39,7 @@ impl Grid {
         ensures some { 1 ≤ result }
         ensures limit { result ≤ cells_of self.now }
     {
-        let box_counts = self.box_counts(b);
-        u64::from(size(&box_counts[..self.counts().len()]))
-    }
-
-    /// How many indices a box has along each axis.
-    #[inline]
-    pub(crate) fn box_counts(&self, b: CellBox) -> [u32; STATES_LIMIT]
-        requires { IsCellBox self.now b.first b.last }
-        ensures { take (length self.now) result ≡ box_counts (counts_of self.now) (b.last - b.first) }
-    {
-        mixed_radix::box_counts(self.counts(), b.last - b.first)
+        u64::from(box_size(self.counts(), b.last - b.first))
     }
 
     /// How many cells of a box differ in the last state alone.
@@ -60,7 +50,8 @@ impl Grid {
         ensures grid { AreAxes self.now }
         ensures limit { cells_of self.now ≤ CELLS_LIMIT }
     {
-        self.box_counts(b)[self.counts().len() - 1]
+        let counts = self.counts();
+        (b.last - b.first) % counts[counts.len() - 1] + 1
     }
 
     /// Whether a cell is in a box.
@@ -89,10 +80,7 @@ impl Grid {
         ensures nth { result ≡ slice_index (cells_between self.now b.first b.last) i }
         ensures below { result < cells_of self.now }
     {
-        let counts = self.counts();
-        let box_counts = self.box_counts(b);
-        let indices = decode(&box_counts[..counts.len()], i as u32);
-        b.first + encode(counts, &indices)
+        b.first + nth(self.counts(), b.last - b.first, i as u32)
     }
 
     /// Whether all points of a cell lie in the box from `lo` to `hi`.

@@ -1,5 +1,5 @@
 ghost use Rattle.std.specs.Prelude.{◌≡◌, ◌<◌, ◌≤◌, ◌↔◌, ℕ, ℤ, ◌≤ℤ◌, List, length, slice_index, slice_index_or, IsSome, IfSome};
-ghost use Rattle.grid_quantiser.specs.Axes.{no_axis, cells_of};
+ghost use Rattle.grid_quantiser.specs.Axes.{no_axis};
 ghost use Rattle.grid_quantiser.specs.CellBoxes.{IsBoxInDomain, AreCornersMeeting};
 ghost use Rattle.grid_quantiser.specs.Indices.{index_along};
 ghost use Rattle.grid_quantiser.specs.Extents.{IsExtentOf, extended_axis, IsExtentBefore, AreExtentsOf};
@@ -94,7 +94,6 @@ impl Grid {
     /// The index of a cell along each axis. Past the last axis it is 0.
     #[inline]
     pub fn indices(&self, c: u32) -> [u32; STATES_LIMIT]
-        requires { c < cells_of self.now }
         ensures along { (i : ℕ) → i < length self.now → slice_index result i ≡ index_along self.now i c }
         ensures past { (i : ℕ) → length self.now ≤ i → slice_index result i ≡ 0 }
     {

@@ -1,23 +1,31 @@
 -- How a run of a live script ends.
-use Rattle.std.proofs.Common.{inl, inr, ◌≡◌, ◌⊎◌, ℕ, ◌<◌, List, length, take, drop, Option, Some, None, refl, ap, sym, subst, arith, length-take}
-use Rattle.std.specs.Prelude.{IfSome}
+use Rattle.std.proofs.Common.{inl, inr, ◌≡◌, ℕ, Result, Ok, Err, ◌<◌, List, length, take, drop, Option, Some, None, refl, ap, sym, subst, arith, length-take}
+use Rattle.std.specs.Prelude.{IfSome, IfErr}
+use Rattle.std.specs.Result.{IsErrAnd}
 use Rattle.std.proofs.lemmas.Bool.{cases_lt}
 use Rattle.std.proofs.lemmas.List.{take_all}
-use Rattle.run_devices.specs.Devices.{Reading, Writing, GainsWhole, GainsPart, TakesAtMost}
-use Rattle.run_devices.specs.Transfers.{ReadUpTo}
+use Rattle.run_devices.specs.Devices.{next_count, Reading, Writing, GainsWhole, GainsPart, TakesAtMost}
+use Rattle.run_devices.specs.Transfers.{ReadUpTo, IsUntouched}
 use Rattle.live_script.specs.declared.script_fault.ScriptFault.{ScriptFault}
 use Rattle.live_script.specs.declared.script_fault.ScriptFault.TheVariants as scripts
 use Rattle.live_script.specs.Scripts.{IsShortScript}
 use Rattle.live_script.specs.LiveText.{IsLiveText}
 use Rattle.live_script.specs.ScriptRefusals.{IsScriptRefusedFor}
 use Rattle.live_script.proofs.ScriptLaws.{one_script_refusal, script_or_refused}
-use Rattle.live_run.specs.declared.live_outcome.LiveOutcome.{LiveOutcome}
-use Rattle.live_run.specs.declared.live_outcome.LiveOutcome.TheVariants.{Done, Usage, Malformed, Limit, ScriptTooLong, TooManyTables, ReadFault as ReadFailed, WriteFault, NoMemory}
-use Rattle.live_run.specs.LiveCauses.{of_script}
-use Rattle.live_run.specs.LiveStatuses.{status_of}
+use Rattle.run_devices.specs.declared.transfer.ReadFault.{ReadFault}
+use Rattle.run_devices.specs.declared.transfer.ReadFault.TheVariants as reads
+use Rattle.command_line.specs.declared.outcome.Refusal.{Refusal}
+use Rattle.command_line.specs.declared.outcome.Refusal.TheVariants.{Malformed, Limit, ScriptTooLong, TooManyTables}
+use Rattle.command_line.specs.declared.outcome.Failure.TheVariants.{Read, Write, Memory}
+use Rattle.command_line.specs.declared.outcome.Outcome.{Outcome}
+use Rattle.command_line.specs.declared.outcome.Outcome.TheVariants.{Done, Usage, Refused, Failed}
+use Rattle.command_line.specs.Statuses.{status_of}
+use Rattle.live_run.specs.LiveCauses.{of_script, of_read}
 use Rattle.live_run.specs.LiveRuns.{most_read, IsAnswered, IsCutOff, IsLiveEnd, IsCompleteAnswer}
-use Rattle.live_run.specs.inside.Answering.{IsRefusal}
-use Rattle.live_run.specs.inside.LiveWorking.{IsWorkedOut, IsRefusalFor}
+use Rattle.live_run.specs.inside.Answering.{IsUnanswered}
+use Rattle.live_run.specs.declared.live_stop.LiveStop.{LiveStop}
+use Rattle.live_run.specs.declared.live_stop.LiveStop.TheVariants.{Unread, Unanswered}
+use Rattle.live_run.specs.inside.LiveWorking.{IsRead, IsWorkedOut, IsUnread, IsStopped, end_of, IsWrittenOut}
 use Rattle.base.proofs.Options.{IfSome-weaker}
 
 -- ---- what was read stands for the whole script
@@ -48,130 +56,127 @@ refuses_whole scripts.ScriptTooLong bytes lt h = λ short. omega (arith, lt, sho
 refuses_whole scripts.TooManyTables bytes lt h = absurd (long_front bytes lt h.0)
 refuses_whole scripts.Memory bytes lt h = h
 
--- A source was read to its end, or to one byte past a script's limit.
-pub record IsRead (source : Reading) (read : List ℕ) : Type 0 where
-  pub up_to : ReadUpTo source.before source.after most_read read
-  pub never_past : TakesAtMost source.before source.after most_read
-  pub no_fault : source.faults_after ≡ source.faults_before
+-- ---- what is passed on
 
-pub worked_out : (source : Reading) (read text : List ℕ) → IsRead source read → IsLiveText read text → IsWorkedOut text source
-worked_out source read text is answers = record {
-  answers = of_whole (λ script. IsLiveText script text) source.before source.after read is.up_to (answers_whole text) answers;
-  read = to_the_limit source.before source.after read is.up_to;
-  never_past = is.never_past;
-  no_fault = is.no_fault;
-}
-
--- ---- outcomes of faults
-
--- a fault of a script tells itself
-told : (f g : ScriptFault) → of_script f ≡ of_script g → (of_script f ≡ NoMemory → ⊥) → f ≡ g
-told (scripts.Malformed l) (scripts.Malformed m) e some = ap scripts.Malformed (line_of l m e)
-  where
-    line_of : (l m : ℕ) → Malformed l ≡ Malformed m → l ≡ m
-    line_of l m e = cc
-told (scripts.Malformed l) (scripts.Limit w) e some = absurd (cc)
-told (scripts.Malformed l) scripts.ScriptTooLong e some = absurd (cc)
-told (scripts.Malformed l) scripts.TooManyTables e some = absurd (cc)
-told (scripts.Malformed l) scripts.Memory e some = absurd (cc)
-told (scripts.Limit w) (scripts.Malformed m) e some = absurd (cc)
-told (scripts.Limit v) (scripts.Limit w) e some = (let k : Limit v ≡ Limit w = e in cc)
-told (scripts.Limit w) scripts.ScriptTooLong e some = absurd (cc)
-told (scripts.Limit w) scripts.TooManyTables e some = absurd (cc)
-told (scripts.Limit w) scripts.Memory e some = absurd (cc)
-told scripts.ScriptTooLong (scripts.Malformed m) e some = absurd (cc)
-told scripts.ScriptTooLong (scripts.Limit w) e some = absurd (cc)
-told scripts.ScriptTooLong scripts.ScriptTooLong e some = refl
-told scripts.ScriptTooLong scripts.TooManyTables e some = absurd (cc)
-told scripts.ScriptTooLong scripts.Memory e some = absurd (cc)
-told scripts.TooManyTables (scripts.Malformed m) e some = absurd (cc)
-told scripts.TooManyTables (scripts.Limit w) e some = absurd (cc)
-told scripts.TooManyTables scripts.ScriptTooLong e some = absurd (cc)
-told scripts.TooManyTables scripts.TooManyTables e some = refl
-told scripts.TooManyTables scripts.Memory e some = absurd (cc)
-told scripts.Memory g e some = absurd (some refl)
-
--- no fault of a script is one of these
-not_these : (f : ScriptFault) → ((of_script f ≡ Done → ⊥) × (of_script f ≡ Usage → ⊥) × (of_script f ≡ ReadFailed → ⊥) × (of_script f ≡ WriteFault → ⊥))
-not_these (scripts.Malformed l) = (λ e. cc, λ e. cc, λ e. cc, λ e. cc)
-not_these (scripts.Limit w) = (λ e. cc, λ e. cc, λ e. cc, λ e. cc)
-not_these scripts.ScriptTooLong = (λ e. cc, λ e. cc, λ e. cc, λ e. cc)
-not_these scripts.TooManyTables = (λ e. cc, λ e. cc, λ e. cc, λ e. cc)
-not_these scripts.Memory = (λ e. cc, λ e. cc, λ e. cc, λ e. cc)
-
-turned_down_for : (source : Reading) (read : List ℕ) (fault : ScriptFault) → IsRead source read → (of_script fault ≡ NoMemory) ⊎ IsScriptRefusedFor read fault → IsRefusalFor (of_script fault) source
-turned_down_for source read fault is why = record {
-  not_done = (not_these fault).0;
-  not_usage = (not_these fault).1;
-  not_write_fault = (not_these fault).3;
-  refused = λ other same some. elim why [
-    | inl memory ↦ absurd (some memory)
-    | inr refused ↦ subst (λ (f : ScriptFault). IfSome source.before (λ script. IsScriptRefusedFor script f)) (told fault other same some)
-        (of_whole (λ script. IsScriptRefusedFor script fault) source.before source.after read is.up_to (refuses_whole fault) refused)
-  ];
-  read = λ _ _. to_the_limit source.before source.after read is.up_to;
-  never_past = is.never_past;
-  fault = λ e. absurd ((not_these fault).2 e);
-  no_fault = λ _. is.no_fault;
-  sound = λ _. (not_these fault).2;
-}
-
--- what was read is refused, or there was no memory
-pub turned_down : (source : Reading) (read : List ℕ) (outcome : LiveOutcome) → IsRead source read → IsRefusal read outcome → IsRefusalFor outcome source
-turned_down source read outcome is why = elim why [
-  | inl memory ↦ subst (λ (o : LiveOutcome). IsRefusalFor o source) (sym memory) (turned_down_for source read scripts.Memory is (inl refl))
-  | inr refused ↦ subst (λ (o : LiveOutcome). IsRefusalFor o source) (sym refused.1) (turned_down_for source read refused.0 is (inr refused.2))
-]
+pub exits : {A E : Type 0} (r : Result A E) (e : E) (P : E → Type 0) → IsErrAnd r (λ x. x ≡ e) → P e → IfErr r P
+exits (Ok x) e P is h = absurd is
+exits (Err x) e P is h = subst P (sym is) h
 
 -- ---- the ends of a run
 
-pub ends_turned_down : (outcome : LiveOutcome) (source : Reading) (out : Writing) → IsRefusalFor outcome source → out.after ≡ out.before → out.faults_after ≡ out.faults_before → IsLiveEnd outcome source out
-ends_turned_down outcome source out h nothing no_fault = record {
-  not_usage = h.not_usage;
-  answered = λ e. absurd (h.not_done e);
-  cut_off = λ e. absurd (h.not_write_fault e);
-  nothing_written = λ _ _. nothing;
-  read = h.read;
-  never_past = h.never_past;
-  refused = h.refused;
-  read_fault = h.fault;
-  no_read_fault = h.no_fault;
-  sound_source = h.sound;
-  write_fault = λ e. absurd (h.not_write_fault e);
-  no_write_fault = λ _. no_fault;
+-- there was no memory
+ends_without_memory : (source : Reading) (out : Writing) → TakesAtMost source.before source.after most_read → source.faults_after ≡ source.faults_before → IsUntouched out → IsLiveEnd (Failed Memory) source out
+ends_without_memory source out within stood untouched = record {
+  not_usage = λ e. cc;
+  answered = λ e. absurd (let clash : Failed Memory ≡ Done = e in cc);
+  cut_off = λ e. absurd (let clash : Failed Memory ≡ Failed Write = e in cc);
+  read = λ _ some. absurd (some refl);
+  never_past = within;
+  refused = λ refusal e. absurd (let clash : Failed Memory ≡ Refused refusal = e in cc);
+  shown = record {
+    nothing_written = λ _ _. untouched.nothing;
+    read_fault = λ e. absurd (let clash : Failed Memory ≡ Failed Read = e in cc);
+    no_read_fault = λ _. stood;
+    sound_source = λ _ e. cc;
+    write_fault = λ e. absurd (let clash : Failed Memory ≡ Failed Write = e in cc);
+    no_write_fault = λ _. untouched.no_fault;
+  };
 }
 
-pub ends_done : (text : List ℕ) (source : Reading) (out : Writing) → IsWorkedOut text source → GainsWhole out text → IsLiveEnd Done source out
-ends_done text source out h whole = record {
+-- nothing was read, or not all
+ends_unread : (fault : ReadFault) (source : Reading) (out : Writing) → IsUnread fault source → IsUntouched out → IsLiveEnd (of_read fault) source out
+ends_unread reads.Device source out h untouched = record {
   not_usage = λ e. cc;
-  answered = λ _. IfSome-weaker source.before (λ script. IsLiveText script text) (λ script. IsAnswered script out) (λ script answers. (text, answers, whole)) h.answers;
-  cut_off = λ e. absurd (let clash : Done ≡ WriteFault = e in cc);
-  nothing_written = λ not_done _. absurd (not_done refl);
-  read = λ _ _. h.read;
+  answered = λ e. absurd (let clash : Failed Read ≡ Done = e in cc);
+  cut_off = λ e. absurd (let clash : Failed Read ≡ Failed Write = e in cc);
+  read = λ other _. absurd (other refl);
   never_past = h.never_past;
-  refused = λ fault e _. absurd ((not_these fault).0 (sym e));
-  read_fault = λ e. absurd (let clash : Done ≡ ReadFailed = e in cc);
-  no_read_fault = λ _. h.no_fault;
-  sound_source = λ _ e. let clash : Done ≡ ReadFailed = e in cc;
-  write_fault = λ e. absurd (let clash : Done ≡ WriteFault = e in cc);
-  no_write_fault = λ _. whole.no_fault;
+  refused = λ refusal e. absurd (let clash : Failed Read ≡ Refused refusal = e in cc);
+  shown = record {
+    nothing_written = λ _ _. untouched.nothing;
+    read_fault = λ _. h.failed refl;
+    no_read_fault = λ other. absurd (other refl);
+    sound_source = λ is_sound _. h.sound is_sound refl;
+    write_fault = λ e. absurd (let clash : Failed Read ≡ Failed Write = e in cc);
+    no_write_fault = λ _. untouched.no_fault;
+  };
+}
+ends_unread reads.Memory source out h untouched = ends_without_memory source out h.never_past (h.stood (λ e. cc)) untouched
+
+-- the script is refused
+ends_refused : (fault : ScriptFault) (refusal : Refusal) (source : Reading) (read : List ℕ) (out : Writing) → of_script fault ≡ Refused refusal → IsRead source read → IsScriptRefusedFor read fault → IsUntouched out → IsLiveEnd (Refused refusal) source out
+ends_refused fault refusal source read out same is h untouched = record {
+  not_usage = λ e. cc;
+  answered = λ e. absurd (let clash : Refused refusal ≡ Done = e in cc);
+  cut_off = λ e. absurd (let clash : Refused refusal ≡ Failed Write = e in cc);
+  read = λ _ _. to_the_limit source.before source.after read is.up_to;
+  never_past = is.never_past;
+  refused = λ _ _. (fault, sym same, of_whole (λ script. IsScriptRefusedFor script fault) source.before source.after read is.up_to (refuses_whole fault) h);
+  shown = record {
+    nothing_written = λ _ _. untouched.nothing;
+    read_fault = λ e. absurd (let clash : Refused refusal ≡ Failed Read = e in cc);
+    no_read_fault = λ _. is.no_fault;
+    sound_source = λ _ e. cc;
+    write_fault = λ e. absurd (let clash : Refused refusal ≡ Failed Write = e in cc);
+    no_write_fault = λ _. untouched.no_fault;
+  };
 }
 
-pub ends_cut_off : (text : List ℕ) (source : Reading) (out : Writing) → IsWorkedOut text source → GainsPart out text → IsLiveEnd WriteFault source out
-ends_cut_off text source out h part = record {
+-- what was read has no answers
+ends_unanswered : (fault : ScriptFault) (source : Reading) (read : List ℕ) (out : Writing) → IsRead source read → IsUnanswered read fault → IsUntouched out → IsLiveEnd (of_script fault) source out
+ends_unanswered (scripts.Malformed line) source read out is why untouched = ends_refused (scripts.Malformed line) (Malformed line) source read out refl is (why (λ e. cc)) untouched
+ends_unanswered (scripts.Limit what) source read out is why untouched = ends_refused (scripts.Limit what) (Limit what) source read out refl is (why (λ e. cc)) untouched
+ends_unanswered scripts.ScriptTooLong source read out is why untouched = ends_refused scripts.ScriptTooLong ScriptTooLong source read out refl is (why (λ e. cc)) untouched
+ends_unanswered scripts.TooManyTables source read out is why untouched = ends_refused scripts.TooManyTables TooManyTables source read out refl is (why (λ e. cc)) untouched
+ends_unanswered scripts.Memory source read out is why untouched = ends_without_memory source out is.never_past is.no_fault untouched
+
+pub ends_stopped : (stop : LiveStop) (source : Reading) (out : Writing) → IsStopped stop source → IsUntouched out → IsLiveEnd (end_of stop) source out
+ends_stopped (Unread fault) source out h untouched = ends_unread fault source out h untouched
+ends_stopped (Unanswered fault) source out h untouched = ends_unanswered fault source h.script out h.read h.why untouched
+
+ends_done : (text : List ℕ) (source : Reading) (read : List ℕ) (out : Writing) → IsRead source read → IsLiveText read text → GainsWhole out text → IsLiveEnd Done source out
+ends_done text source read out is answers whole = record {
   not_usage = λ e. cc;
-  answered = λ e. absurd (let clash : WriteFault ≡ Done = e in cc);
-  cut_off = λ _. IfSome-weaker source.before (λ script. IsLiveText script text) (λ script. IsCutOff script out) (λ script answers. (text, answers, part)) h.answers;
-  nothing_written = λ _ not_cut. absurd (not_cut refl);
-  read = λ _ _. h.read;
-  never_past = h.never_past;
-  refused = λ fault e _. absurd ((not_these fault).3 (sym e));
-  read_fault = λ e. absurd (let clash : WriteFault ≡ ReadFailed = e in cc);
-  no_read_fault = λ _. h.no_fault;
-  sound_source = λ _ e. let clash : WriteFault ≡ ReadFailed = e in cc;
-  write_fault = λ _. part.fault;
-  no_write_fault = λ no. absurd (no refl);
+  answered = λ _. of_whole (λ script. IsAnswered script out) source.before source.after read is.up_to (λ bytes lt h. (h.0, answers_whole h.0 bytes lt h.1, h.2)) (text, answers, whole);
+  cut_off = λ e. absurd (let clash : Done ≡ Failed Write = e in cc);
+  read = λ _ _. to_the_limit source.before source.after read is.up_to;
+  never_past = is.never_past;
+  refused = λ refusal e. absurd (let clash : Done ≡ Refused refusal = e in cc);
+  shown = record {
+    nothing_written = λ not_done _. absurd (not_done refl);
+    read_fault = λ e. absurd (let clash : Done ≡ Failed Read = e in cc);
+    no_read_fault = λ _. is.no_fault;
+    sound_source = λ _ e. cc;
+    write_fault = λ e. absurd (let clash : Done ≡ Failed Write = e in cc);
+    no_write_fault = λ _. whole.no_fault;
+  };
 }
+
+ends_cut_off : (text : List ℕ) (source : Reading) (read : List ℕ) (out : Writing) → IsRead source read → IsLiveText read text → GainsPart out text → IsLiveEnd (Failed Write) source out
+ends_cut_off text source read out is answers part = record {
+  not_usage = λ e. cc;
+  answered = λ e. absurd (let clash : Failed Write ≡ Done = e in cc);
+  cut_off = λ _. of_whole (λ script. IsCutOff script out) source.before source.after read is.up_to (λ bytes lt h. (h.0, answers_whole h.0 bytes lt h.1, h.2)) (text, answers, part);
+  read = λ _ _. to_the_limit source.before source.after read is.up_to;
+  never_past = is.never_past;
+  refused = λ refusal e. absurd (let clash : Failed Write ≡ Refused refusal = e in cc);
+  shown = record {
+    nothing_written = λ _ other. absurd (other refl);
+    read_fault = λ e. absurd (let clash : Failed Write ≡ Failed Read = e in cc);
+    no_read_fault = λ _. is.no_fault;
+    sound_source = λ _ e. cc;
+    write_fault = λ _. part.fault;
+    no_write_fault = λ other. absurd (other refl);
+  };
+}
+
+pub ends_written_out : (outcome : Outcome) (text : List ℕ) (source : Reading) (out : Writing) → IsWorkedOut text source → IsWrittenOut text outcome out → IsLiveEnd outcome source out
+ends_written_out Done text source out h end = ends_done text source h.script out h.read h.answers end
+ends_written_out Usage text source out h end = absurd end
+ends_written_out (Refused refusal) text source out h end = absurd end
+ends_written_out (Failed Read) text source out h end = absurd end
+ends_written_out (Failed Write) text source out h end = ends_cut_off text source h.script out h.read h.answers end
+ends_written_out (Failed Memory) text source out h end = absurd end
 
 -- ---- completeness
 
@@ -181,21 +186,20 @@ of_refusal script fault refused = record {
   refused = λ other h. inl (ap (λ (f : ScriptFault). status_of (of_script f)) (one_script_refusal script fault other refused h));
 }
 
-pub complete : (outcome : LiveOutcome) (before : Option (List ℕ)) → (outcome ≡ Usage → ⊥) → (outcome ≡ ReadFailed → ⊥) → (outcome ≡ WriteFault → ⊥) → (outcome ≡ Done → IfSome before (λ script. (text : List ℕ) × IsLiveText script text))
-    → ((fault : ScriptFault) → outcome ≡ of_script fault → (outcome ≡ NoMemory → ⊥) → IfSome before (λ script. IsScriptRefusedFor script fault)) → IfSome before (IsCompleteAnswer (status_of outcome))
+pub complete : (outcome : Outcome) (before : Option (List ℕ)) → (outcome ≡ Usage → ⊥) → (outcome ≡ Failed Read → ⊥) → (outcome ≡ Failed Write → ⊥) → (outcome ≡ Done → IfSome before (λ script. (text : List ℕ) × IsLiveText script text))
+    → ((refusal : Refusal) → outcome ≡ Refused refusal → (fault : ScriptFault) × (outcome ≡ of_script fault) × IfSome before (λ script. IsScriptRefusedFor script fault)) → IfSome before (IsCompleteAnswer (status_of outcome))
 complete outcome None usage read write done refused = tt
 complete Done (Some script) usage read write done refused = record {
   answered = λ commands is. inl refl;
   refused = λ fault h. absurd (let d = done refl in script_or_refused script d.1.commands fault d.1.is_script h);
 }
 complete Usage (Some script) usage read write done refused = absurd (usage refl)
-complete (Malformed line) (Some script) usage read write done refused = of_refusal script (scripts.Malformed line) (refused (scripts.Malformed line) refl (λ e. cc))
-complete (Limit what) (Some script) usage read write done refused = of_refusal script (scripts.Limit what) (refused (scripts.Limit what) refl (λ e. cc))
-complete ScriptTooLong (Some script) usage read write done refused = of_refusal script scripts.ScriptTooLong (refused scripts.ScriptTooLong refl (λ e. cc))
-complete TooManyTables (Some script) usage read write done refused = of_refusal script scripts.TooManyTables (refused scripts.TooManyTables refl (λ e. cc))
-complete ReadFailed (Some script) usage read write done refused = absurd (read refl)
-complete WriteFault (Some script) usage read write done refused = absurd (write refl)
-complete NoMemory (Some script) usage read write done refused = record { answered = λ commands is. inr refl; refused = λ fault h. inr refl }
+complete (Refused refusal) (Some script) usage read write done refused =
+    let why = refused refusal refl in
+    subst (λ (o : Outcome). IsCompleteAnswer (status_of o) script) (sym why.1) (of_refusal script why.0 why.2)
+complete (Failed Read) (Some script) usage read write done refused = absurd (read refl)
+complete (Failed Write) (Some script) usage read write done refused = absurd (write refl)
+complete (Failed Memory) (Some script) usage read write done refused = record { answered = λ commands is. inr refl; refused = λ fault h. inr refl }
 
 pub some_text : (script : List ℕ) (out : Writing) → IsAnswered script out → (text : List ℕ) × IsLiveText script text
 some_text script out h = (h.0, h.1)

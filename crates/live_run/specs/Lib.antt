@@ -1,4 +1,3 @@
-pub mod LiveStatuses
 pub mod LiveCauses
 pub mod LiveRuns
 pub mod inside

@@ -1,18 +1,22 @@
--- The outcome of a fault of a layer below.
+-- How a run ends by the fault of a layer below.
 use Rattle.live_script.specs.declared.script_fault.ScriptFault.{ScriptFault}
 use Rattle.live_script.specs.declared.script_fault.ScriptFault.TheVariants as scripts
 use Rattle.run_devices.specs.declared.transfer.ReadFault.{ReadFault}
 use Rattle.run_devices.specs.declared.transfer.ReadFault.TheVariants as reads
-use Rattle.live_run.specs.declared.live_outcome.LiveOutcome.{LiveOutcome}
-use Rattle.live_run.specs.declared.live_outcome.LiveOutcome.TheVariants.{Malformed, Limit, ScriptTooLong, TooManyTables, ReadFault as ReadFailed, NoMemory}
+use Rattle.command_line.specs.declared.outcome.Refusal.TheVariants.{Malformed, Limit, ScriptTooLong, TooManyTables}
+use Rattle.command_line.specs.declared.outcome.Failure.TheVariants.{Read, Memory}
+use Rattle.command_line.specs.declared.outcome.Outcome.{Outcome}
+use Rattle.command_line.specs.declared.outcome.Outcome.TheVariants.{Refused, Failed}
 
-abbrev pub of_script : ScriptFault → LiveOutcome
-of_script (scripts.Malformed line) = Malformed line
-of_script (scripts.Limit what) = Limit what
-of_script scripts.ScriptTooLong = ScriptTooLong
-of_script scripts.TooManyTables = TooManyTables
-of_script scripts.Memory = NoMemory
+-- the end of a run whose script has this fault
+abbrev pub of_script : ScriptFault → Outcome
+of_script (scripts.Malformed line) = Refused (Malformed line)
+of_script (scripts.Limit what) = Refused (Limit what)
+of_script scripts.ScriptTooLong = Refused ScriptTooLong
+of_script scripts.TooManyTables = Refused TooManyTables
+of_script scripts.Memory = Failed Memory
 
-abbrev pub of_read : ReadFault → LiveOutcome
-of_read reads.Device = ReadFailed
-of_read reads.Memory = NoMemory
+-- the end of a run whose source has this fault
+abbrev pub of_read : ReadFault → Outcome
+of_read reads.Device = Failed Read
+of_read reads.Memory = Failed Memory

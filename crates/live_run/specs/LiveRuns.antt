@@ -1,17 +1,20 @@
 -- What a run of a live script gives.
-use Rattle.std.specs.Prelude.{◌≡◌, ◌≢◌, ◌⊎◌, ◌↔◌, ℕ, ◌+◌, List, [], ◌∷◌, drop, Some, IfSome, IsTrue, codes}
+use Rattle.std.specs.Prelude.{◌≡◌, ◌≢◌, ◌⊎◌, ◌↔◌, ℕ, ◌+◌, List, [], ◌∷◌, drop, Some, IfSome, codes}
 use Rattle.std.specs.Fmt.{decimal}
-use Rattle.run_devices.specs.Devices.{next_count, Reading, Writing, GainsWhole, GainsPart, TakesAtMost, Reports, AreUnused}
+use Rattle.run_devices.specs.Devices.{Reading, Writing, GainsWhole, GainsPart, TakesAtMost, AreUnused}
 use Rattle.command_line.specs.Command.{AreWorkers}
+use Rattle.command_line.specs.Statuses.{status_of}
+use Rattle.command_line.specs.Ends.{IsShownBy, IsReported}
+use Rattle.command_line.specs.declared.outcome.Refusal.{Refusal}
+use Rattle.command_line.specs.declared.outcome.Failure.TheVariants.{Read, Write, Memory}
+use Rattle.command_line.specs.declared.outcome.Outcome.{Outcome}
+use Rattle.command_line.specs.declared.outcome.Outcome.TheVariants.{Done, Usage, Refused, Failed}
 use Rattle.live_script.specs.declared.command.ScriptCommand.{ScriptCommand}
 use Rattle.live_script.specs.declared.script_fault.ScriptFault.{ScriptFault}
 use Rattle.live_script.specs.Scripts.{IsScript}
 use Rattle.live_script.specs.LiveText.{IsLiveText}
 use Rattle.live_script.specs.ScriptRefusals.{IsScriptRefusedFor}
-use Rattle.live_run.specs.declared.live_outcome.LiveOutcome.{LiveOutcome}
-use Rattle.live_run.specs.declared.live_outcome.LiveOutcome.TheVariants.{Done, Usage, ReadFault, WriteFault, NoMemory}
 use Rattle.live_run.specs.LiveCauses.{of_script}
-use Rattle.live_run.specs.LiveStatuses.{status_of, line_of}
 use Rattle.base.specs.declared.limits.TheConstants.{SCRIPT_LIMIT}
 
 -- the words are `live` and how many readers answer
@@ -31,35 +34,29 @@ abbrev pub IsCutOff : List ℕ → Writing → Type 0
 IsCutOff script out = (text : List ℕ) × IsLiveText script text × GainsPart out text
 
 -- What a run of the command gives, by how it ends.
-pub record IsLiveEnd (outcome : LiveOutcome) (source : Reading) (out : Writing) : Type 0 where
+pub record IsLiveEnd (outcome : Outcome) (source : Reading) (out : Writing) : Type 0 where
   pub not_usage : outcome ≢ Usage
   -- what was written
   pub answered : outcome ≡ Done → IfSome source.before (λ script. IsAnswered script out)
-  pub cut_off : outcome ≡ WriteFault → IfSome source.before (λ script. IsCutOff script out)
-  pub nothing_written : outcome ≢ Done → outcome ≢ WriteFault → out.after ≡ out.before
+  pub cut_off : outcome ≡ Failed Write → IfSome source.before (λ script. IsCutOff script out)
   -- what was read, and that a refusal is the script's
-  pub read : outcome ≢ ReadFault → outcome ≢ NoMemory → IfSome source.before (λ script. source.after ≡ Some (drop most_read script))
+  pub read : outcome ≢ Failed Read → outcome ≢ Failed Memory → IfSome source.before (λ script. source.after ≡ Some (drop most_read script))
   pub never_past : TakesAtMost source.before source.after most_read
-  pub refused : (fault : ScriptFault) → outcome ≡ of_script fault → outcome ≢ NoMemory → IfSome source.before (λ script. IsScriptRefusedFor script fault)
-  -- a device is told to have failed where its count rose by one, and its count stands everywhere else
-  pub read_fault : outcome ≡ ReadFault → source.faults_after ≡ next_count source.faults_before
-  pub no_read_fault : outcome ≢ ReadFault → source.faults_after ≡ source.faults_before
-  pub sound_source : IsTrue source.is_sound → outcome ≢ ReadFault
-  pub write_fault : outcome ≡ WriteFault → out.faults_after ≡ next_count out.faults_before
-  pub no_write_fault : outcome ≢ WriteFault → out.faults_after ≡ out.faults_before
+  pub refused : (refusal : Refusal) → outcome ≡ Refused refusal → (fault : ScriptFault) × (outcome ≡ of_script fault) × IfSome source.before (λ script. IsScriptRefusedFor script fault)
+  -- what its devices show
+  pub shown : IsShownBy outcome source out
 
 -- What a run of some words gives: what their command does, or `usage` where they are of no command.
-pub record Gives (arguments : List (List ℕ)) (outcome : LiveOutcome) (source : Reading) (out : Writing) : Type 0 where
+pub record Gives (arguments : List (List ℕ)) (outcome : Outcome) (source : Reading) (out : Writing) : Type 0 where
   pub usage : (outcome ≡ Usage) ↔ ((readers : ℕ) → IsLiveCommand arguments readers → ⊥)
   pub unused : outcome ≡ Usage → AreUnused source out
   pub of_command : (readers : ℕ) → IsLiveCommand arguments readers → IsLiveEnd outcome source out
 
 -- A run of some words ends with a status: that of an outcome whose line is reported.
 pub record IsLiveRun (arguments : List (List ℕ)) (status : ℕ) (source : Reading) (out err : Writing) : Type 0 where
-  pub outcome : LiveOutcome
+  pub outcome : Outcome
   pub status_is : status ≡ status_of outcome
-  pub reported : Reports err (line_of outcome)
-  pub silent : line_of outcome ≡ [] → GainsWhole err []
+  pub said : IsReported outcome err
   pub gives : Gives arguments outcome source out
 
 -- whatever a script is to be answered or refused for is told, unless there is no memory

@@ -2,13 +2,12 @@ ghost use Rattle.std.specs.Prelude.{◌≡◌, ◌++◌, None, OnOk, IfOk, IfErr
 ghost use Rattle.command_line.specs.Command.{AreWorkers};
 ghost use Rattle.live_script.specs.LiveText.{IsLiveText, answer_line};
 ghost use Rattle.live_script.specs.Scripts.{FitsAfter};
-ghost use Rattle.live_run.specs.inside.Answering.{IsExecuted, IsRefusal};
+ghost use Rattle.live_run.specs.inside.Answering.{IsExecuted, IsUnanswered};
 
-use crate::live_outcome::LiveOutcome;
 use crate::session::Session;
 use controller_table::NoMemory;
 use itoa::Buffer;
-use live_script::{Script, ScriptCommand};
+use live_script::{Script, ScriptCommand, ScriptFault};
 use std::alloc::Global;
 use std::sync::Wait;
 
@@ -18,10 +17,10 @@ pub(crate) fn answers_to<R: Wait>(
     alloc: Global,
     readers: u32,
     script: &[u8],
-) -> Result<Vec<u8>, LiveOutcome>
+) -> Result<Vec<u8>, ScriptFault>
     requires { AreWorkers readers }
     ensures answers { IfOk result (λ text. IsLiveText script.now text.items) }
-    ensures refused { IfErr result (IsRefusal script.now) }
+    ensures refused { IfErr result (IsUnanswered script.now) }
 {
     let mut session = Session::new(readers);
     let text = answers_in(rt, alloc, &mut session, script);
@@ -35,10 +34,10 @@ fn answers_in<R: Wait>(
     alloc: Global,
     session: &mut Session,
     script: &[u8],
-) -> Result<Vec<u8>, LiveOutcome>
+) -> Result<Vec<u8>, ScriptFault>
     requires { session.old ≡ record { count = 0; table = None } }
     ensures answers { IfOk result (λ text. IsLiveText script.now text.items) }
-    ensures refused { IfErr result (IsRefusal script.now) }
+    ensures refused { IfErr result (IsUnanswered script.now) }
 {
     let mut unread = Script::new(script)?;
     let mut text = Vec::new(alloc);

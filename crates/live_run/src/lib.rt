@@ -7,7 +7,7 @@
 
 mod answering;
 mod live_arguments;
-mod live_outcome;
+mod live_stop;
 mod live_top;
 mod readers;
 mod session;

@@ -3,15 +3,15 @@
 ghost use Rattle.std.specs.Prelude.{◌≡◌, ◌↔◌, ℕ, map, codes, IfSome, IfNone, IsTrue};
 ghost use Rattle.live_run.specs.LiveRuns.{IsLiveCommand};
 
-use command_line::workers_of;
+use command_line::parse_workers;
 
 /// How many readers the words ask for.
-pub(crate) fn readers_in(arguments: &[&str]) -> Option<u32>
+pub(crate) fn parse_readers(arguments: &[&str]) -> Option<u32>
     ensures found { IfSome result (IsLiveCommand (map (λ w. w.now) arguments.now)) }
     ensures none { IfNone result ((readers : ℕ) → IsLiveCommand (map (λ w. w.now) arguments.now) readers → ⊥) }
 {
     if arguments.len() == 2 && is_live(arguments[0]) {
-        workers_of(arguments[1])
+        parse_workers(arguments[1])
     } else {
         None
     }

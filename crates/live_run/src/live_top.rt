@@ -2,12 +2,13 @@ ghost use Rattle.std.specs.Prelude.{◌≡◌, ℕ, map, IfSome, IfOk, IfErr};
 ghost use Rattle.run_devices.specs.Devices.{Rose, reading, writing};
 ghost use Rattle.command_line.specs.Command.{AreWorkers};
 ghost use Rattle.live_run.specs.LiveRuns.{IsLiveCommand, IsLiveEnd, Gives, IsLiveRun, IsAnswered, IsCompleteAnswer};
-ghost use Rattle.live_run.specs.inside.LiveWorking.{IsWorkedOut, IsRefusalFor};
+ghost use Rattle.live_run.specs.inside.LiveWorking.{IsWorkedOut, IsStopped, IsWrittenOut};
 
 use crate::answering::answers_to;
-use crate::live_arguments::readers_in;
-use crate::live_outcome::LiveOutcome;
+use crate::live_arguments::parse_readers;
+use crate::live_stop::LiveStop;
 use base::limits::SCRIPT_LIMIT;
+use command_line::{Failure, Outcome};
 use run_devices::{Sink, Source, read_up_to, write_whole};
 use std::alloc::Global;
 use std::sync::Wait;
@@ -45,12 +46,12 @@ fn outcome_of<R: Wait, S: Source, O: Sink>(
     arguments: &[&str],
     source: &mut S,
     out: &mut O,
-) -> LiveOutcome
+) -> Outcome
     ensures { Gives (map (λ w. w.now) arguments.now) result (reading S.left S.faults S.is_sound source.old source.new) (writing O.got O.faults O.capacity out.old out.new) }
 {
-    match readers_in(arguments) {
+    match parse_readers(arguments) {
         Some(readers) => carry_out(rt, alloc, readers, source, out),
-        None => LiveOutcome::Usage,
+        None => Outcome::Usage,
     }
 }
 
@@ -61,17 +62,13 @@ fn carry_out<R: Wait, S: Source, O: Sink>(
     readers: u32,
     source: &mut S,
     out: &mut O,
-) -> LiveOutcome
+) -> Outcome
     requires { AreWorkers readers }
     ensures { IsLiveEnd result (reading S.left S.faults S.is_sound source.old source.new) (writing O.got O.faults O.capacity out.old out.new) }
 {
-    let text = match answers_on_source(rt, alloc, readers, source) {
-        Ok(text) => text,
-        Err(outcome) => return outcome,
-    };
-    match write_whole(out, &text) {
-        Ok(()) => LiveOutcome::Done,
-        Err(_) => LiveOutcome::WriteFault,
+    match answers_on_source(rt, alloc, readers, source) {
+        Ok(text) => write_out(&text, out),
+        Err(stop) => stop.outcome(),
     }
 }
 
@@ -81,11 +78,22 @@ fn answers_on_source<R: Wait, S: Source>(
     alloc: Global,
     readers: u32,
     source: &mut S,
-) -> Result<Vec<u8>, LiveOutcome>
+) -> Result<Vec<u8>, LiveStop>
     requires { AreWorkers readers }
     ensures answer { IfOk result (λ text. IsWorkedOut text.items (reading S.left S.faults S.is_sound source.old source.new)) }
-    ensures refusal { IfErr result (λ outcome. IsRefusalFor outcome (reading S.left S.faults S.is_sound source.old source.new)) }
+    ensures stopped { IfErr result (λ stop. IsStopped stop (reading S.left S.faults S.is_sound source.old source.new)) }
 {
     let script = read_up_to(alloc, source, SCRIPT_LIMIT + 1)?;
-    answers_to(rt, alloc, readers, &script)
+    let text = answers_to(rt, alloc, readers, &script)?;
+    Ok(text)
+}
+
+/// Writes the answers.
+fn write_out<O: Sink>(text: &[u8], out: &mut O) -> Outcome
+    ensures { IsWrittenOut text.now result (writing O.got O.faults O.capacity out.old out.new) }
+{
+    match write_whole(out, text) {
+        Ok(()) => Outcome::Done,
+        Err(_) => Outcome::Failed(Failure::Write),
+    }
 }

@@ -3,6 +3,7 @@ pub mod QuestionLines
 pub mod TableLines
 pub mod Counting
 pub mod OneCommand
+pub mod ScriptGrammar
 pub mod ScriptLaws
 pub mod SomeEnd
 pub mod OneText

@@ -1,9 +1,11 @@
 -- A script is commands, or has one reason to be refused.
-use Rattle.std.proofs.Common.{◌≡◌, ◌⊎◌, ℕ, suc, ◌+◌, ◌<◌, List, [], ◌∷◌, ◌++◌, length, get_or, refl, ap, sym, ◌∙◌, subst, arith, append_assoc, append-nil, length-append, inl, inr}
+use Rattle.std.proofs.Common.{◌≡◌, ◌⊎◌, ℕ, suc, ◌+◌, ◌<◌, List, [], ◌++◌, length, refl, ap, sym, ◌∙◌, subst, arith, length-append, inl, inr}
 use Rattle.plant_reading.proofs.lemmas.StatementLaws.{one_statement}
 use Rattle.plant_text.proofs.lemmas.CanonicalFronts as fronts
 use Rattle.controller_table.specs.declared.table_fault.TableFault.{TableFault}
 use Rattle.controller_table.specs.declared.table_fault.TableFault.TheVariants as tables
+use Rattle.read_texts.specs.Steps.{joined, IsFirstRefused}
+use Rattle.read_texts.proofs.Laws as texts
 use Rattle.row_reading.specs.Counting.{line_count}
 use Rattle.controller_table.specs.TableRefusals.{IsTableRefusedFor}
 use Rattle.controller_table.specs.Laws.{OneTableRefusal, TableOrRefused}
@@ -13,13 +15,11 @@ use Rattle.live_script.specs.declared.command.ScriptCommand.{ScriptCommand}
 use Rattle.live_script.specs.declared.command.ScriptCommand.TheVariants.{Publish, Ask}
 use Rattle.live_script.specs.declared.script_fault.ScriptFault.{ScriptFault}
 use Rattle.live_script.specs.declared.script_fault.ScriptFault.TheVariants.{Malformed, Limit, ScriptTooLong, TooManyTables, Memory}
-use Rattle.live_script.specs.Scripts.{Spell, FitsAfter, tables_after, published_tables, SpellAfter, IsShortScript, IsScript}
+use Rattle.live_script.specs.Scripts.{Spell, FitsAfter, published_tables, CommandStep, IsScriptEnd, IsShortScript}
 use Rattle.live_script.specs.ScriptRefusals.{Announce, IsMalformedAfter, IsTableRefusedAfter, IsNinthTable, IsRefusedAfter, IsFirstRefusal, IsScriptRefusedFor}
 use Rattle.live_script.specs.Laws.{OneScript, OneScriptRefusal, ScriptOrRefused}
-use Rattle.std.specs.Prelude.{codes}
-use Rattle.live_script.specs.inside.QuestionWords.{spaced}
-use Rattle.live_script.proofs.QuestionLines.{line_opened}
-use Rattle.live_script.proofs.OneCommand.{announces, one_text, one_command}
+use Rattle.live_script.proofs.OneCommand.{announces, one_text}
+use Rattle.live_script.proofs.ScriptGrammar.{HasFewTables, none_published, scripts_are_grammar}
 use Rattle.live_script.proofs.TableLines.{one_announced, not_asked, announced_is_some}
 
 one_table_refusal : OneTableRefusal
@@ -28,83 +28,14 @@ one_table_refusal = refusals.one_refusal (fronts.one_plant_at_the_front one_stat
 table_or_refused : TableOrRefused
 table_or_refused = refusals.table_or_refused (fronts.one_plant_at_the_front one_statement) (fronts.one_front_refusal one_statement) (fronts.front_read_or_refused one_statement) short.tables_are_short
 
--- ---- two lists of commands at the front of the same bytes
-
--- The second goes on where the first ends.
-pub record GoesOn (n : ℕ) (cs ds : List ScriptCommand) (s t : List ℕ) : Type 0 where
-  pub command : ScriptCommand
-  pub first : List ℕ
-  pub rest : List ℕ
-  pub at : s ≡ first ++ rest
-  pub spells : Spell first command
-  pub fits : FitsAfter (n + length (published_tables cs)) command
-
--- Both are one list.
-pub record AreEven (cs ds : List ScriptCommand) (a b s t : List ℕ) : Type 0 where
-  pub commands : cs ≡ ds
-  pub front : a ≡ b
-  pub rest : s ≡ t
-
-one_front : (a b s t : List ℕ) → a ++ s ≡ b ++ t → s ≡ t → a ≡ b
-one_front [] [] s t e r = refl
-one_front [] (y ∷ b) s t e r = absurd (omega (arith, ap length e, ap length r, length-append (y ∷ b) t))
-one_front (x ∷ a) [] s t e r = absurd (omega (arith, ap length e, ap length r, length-append (x ∷ a) s))
-one_front (x ∷ a) (y ∷ b) s t e r =
-    let head : x ≡ y = cc in
-    let tail : a ++ s ≡ b ++ t = cc in
-    ap (λ (z : ℕ). z ∷ a) head ∙ ap (λ (z : List ℕ). y ∷ z) (one_front a b s t tail r)
-
-fits_after : (n : ℕ) (c d : ScriptCommand) (cs : List ScriptCommand) → FitsAfter (tables_after n c + length (published_tables cs)) d → FitsAfter (n + length (published_tables (c ∷ cs))) d
-fits_after n (Publish t) d cs h = let same : n + length (published_tables (Publish t ∷ cs)) ≡ suc n + length (published_tables cs) = omega arith in subst (λ (k : ℕ). FitsAfter k d) (sym same) h
-fits_after n (Ask xs) d cs h = h
-
-pub compared : (n : ℕ) (a b s t : List ℕ) (cs ds : List ScriptCommand) → SpellAfter n a cs → SpellAfter n b ds → a ++ s ≡ b ++ t → AreEven cs ds a b s t ⊎ GoesOn n cs ds s t ⊎ GoesOn n ds cs t s
-compared n a b s t [] [] h k e =
-    let rest : s ≡ t = ap (λ (x : List ℕ). x ++ s) (sym h) ∙ e ∙ ap (λ (x : List ℕ). x ++ t) k in
-    inl (record { commands = refl; front = h ∙ sym k; rest = rest })
-compared n a b s t [] (d ∷ ds) h k e =
-    inr (inl (record {
-      command = d;
-      first = k.0;
-      rest = k.1 ++ t;
-      at = ap (λ (x : List ℕ). x ++ s) (sym h) ∙ e ∙ ap (λ (x : List ℕ). x ++ t) k.2 ∙ append_assoc k.0 k.1 t;
-      spells = k.3;
-      fits = let same : n + 0 ≡ n = omega arith in subst (λ (m : ℕ). FitsAfter m d) (sym same) k.4;
-    }))
-compared n a b s t (c ∷ cs) [] h k e =
-    inr (inr (record {
-      command = c;
-      first = h.0;
-      rest = h.1 ++ s;
-      at = ap (λ (x : List ℕ). x ++ t) (sym k) ∙ sym e ∙ ap (λ (x : List ℕ). x ++ s) h.2 ∙ append_assoc h.0 h.1 s;
-      spells = h.3;
-      fits = let same : n + 0 ≡ n = omega arith in subst (λ (m : ℕ). FitsAfter m c) (sym same) h.4;
-    }))
-compared n a b s t (c ∷ cs) (d ∷ ds) h k e =
-    let whole : h.0 ++ (h.1 ++ s) ≡ k.0 ++ (k.1 ++ t) =
-    sym (append_assoc h.0 h.1 s) ∙ ap (λ (x : List ℕ). x ++ s) (sym h.2) ∙ e ∙ ap (λ (x : List ℕ). x ++ t) k.2 ∙ append_assoc k.0 k.1 t in
-    let one = one_command h.0 k.0 c d (h.1 ++ s) (k.1 ++ t) h.3 k.3 whole in
-    let others : SpellAfter (tables_after n c) k.1 ds = subst (λ (x : ScriptCommand). SpellAfter (tables_after n x) k.1 ds) (sym one.command) k.5 in
-    elim (compared (tables_after n c) h.1 k.1 s t cs ds h.5 others one.rest) [
-      | inl even ↦ inl (record {
-        commands = ap (λ (x : ScriptCommand). x ∷ cs) one.command ∙ ap (λ (x : List ScriptCommand). d ∷ x) even.commands;
-        front = one_front a b s t e even.rest;
-        rest = even.rest;
-      })
-      | inr apart ↦ elim apart [
-        | inl on ↦ inr (inl (record { command = on.command; first = on.first; rest = on.rest; at = on.at; spells = on.spells; fits = fits_after n c on.command cs on.fits }))
-        | inr on ↦ inr (inr (record { command = on.command; first = on.first; rest = on.rest; at = on.at; spells = on.spells; fits = fits_after n d on.command ds (subst (λ (x : ScriptCommand). FitsAfter (tables_after n x + length (published_tables ds)) on.command) one.command on.fits) }))
-      ]
-    ]
-
 -- ---- after what is refused no command stands
 
-announced_at : (bytes : List ℕ) (c : ScriptCommand) (first rest : List ℕ) → bytes ≡ first ++ rest → Spell first c → (size : ℕ) (after : List ℕ) → Announce bytes size after → (P : Type 0)
+take_announced : (bytes : List ℕ) (c : ScriptCommand) (first rest : List ℕ) → bytes ≡ first ++ rest → Spell first c → (size : ℕ) (after : List ℕ) → Announce bytes size after → (P : Type 0)
     → ((text : List ℕ) → size ≡ length text → after ≡ text ++ rest → ((f : TableFault) → IsTableRefusedFor text f → ⊥) → P) → P
-announced_at bytes (Publish t) first rest at spells size after told P then =
+take_announced bytes (Publish t) first rest at spells size after told P then =
     let same = one_announced bytes size (length spells.text) after (spells.text ++ rest) told (subst (λ (x : List ℕ). Announce x (length spells.text) (spells.text ++ rest)) (sym at) (announces t first rest spells)) in
     then spells.text same.0 same.1 (λ f. table_or_refused spells.text t.plant t.rows f spells.is_table.0)
-announced_at bytes (Ask xs) first rest at spells size after told P then =
+take_announced bytes (Ask xs) first rest at spells size after told P then =
     absurd (not_asked bytes size after told xs rest (at ∙ ap (λ (x : List ℕ). x ++ rest) spells.1))
 
 no_command : (n : ℕ) (bytes : List ℕ) → IsMalformedAfter n bytes → (c : ScriptCommand) (first rest : List ℕ) → bytes ≡ first ++ rest → Spell first c → FitsAfter n c → ⊥
@@ -115,7 +46,7 @@ no_command n bytes m (Ask xs) first rest at spells fits = m.no_question xs rest 
 
 no_refused_table : (n : ℕ) (bytes : List ℕ) (f : TableFault) → IsTableRefusedAfter n bytes f → (c : ScriptCommand) (first rest : List ℕ) → bytes ≡ first ++ rest → Spell first c → ⊥
 no_refused_table n bytes f r c first rest at spells =
-    announced_at bytes c first rest at spells (length r.text) (r.text ++ r.rest) r.announced ⊥
+    take_announced bytes c first rest at spells (length r.text) (r.text ++ r.rest) r.announced ⊥
     (λ text size after accepted. accepted f (subst (λ (x : List ℕ). IsTableRefusedFor x f) (one_text r.text text r.rest rest size after).0 r.refused))
 
 no_ninth : (n : ℕ) (bytes : List ℕ) → IsNinthTable n bytes → (c : ScriptCommand) (first rest : List ℕ) → bytes ≡ first ++ rest → Spell first c → FitsAfter n c → ⊥
@@ -199,18 +130,38 @@ of_length script ScriptTooLong h = inl (refl, h)
 of_length script TooManyTables h = inr h
 of_length script Memory h = absurd h
 
-one_first : (script : List ℕ) (f g : ScriptFault) → IsFirstRefusal script f → IsFirstRefusal script g → f ≡ g
-one_first script f g h k = elim (compared 0 h.front k.front h.rest k.rest h.commands k.commands h.spell k.spell (sym h.are ∙ k.are)) [
-  | inl even ↦ one_after (length (published_tables k.commands)) (suc (line_count k.front)) k.rest f g
-      (subst (λ (x : List ScriptCommand × List ℕ × List ℕ). IsRefusedAfter (length (published_tables x.0)) (suc (line_count x.1)) x.2 f) (λ i. (even.commands i, even.front i, even.rest i)) h.refused) k.refused
-  | inr apart ↦ elim apart [
-    | inl on ↦ absurd (stuck (length (published_tables h.commands)) (suc (line_count h.front)) h.rest f h.refused on.command on.first on.rest on.at on.spells (fits_alone (length (published_tables h.commands)) on.command on.fits))
-    | inr on ↦ absurd (stuck (length (published_tables k.commands)) (suc (line_count k.front)) k.rest g k.refused on.command on.first on.rest on.at on.spells (fits_alone (length (published_tables k.commands)) on.command on.fits))
-  ]
+-- no fault follows a script's last command
+ends_well : (n number : ℕ) (f : ScriptFault) → 0 < n → IsRefusedAfter n number [] f → ⊥
+ends_well n number (Malformed line) some refused = elim refused [
+  | inl m ↦ (let none = m.1.unfinished refl in omega (arith, none, some))
+  | inr r ↦ announced_is_some [] (length r.2.text) (r.2.text ++ r.2.rest) r.2.announced refl
 ]
-  where
-    fits_alone : (n : ℕ) (c : ScriptCommand) → FitsAfter (0 + n) c → FitsAfter n c
-    fits_alone n c h = let same : 0 + n ≡ n = omega arith in subst (λ (m : ℕ). FitsAfter m c) same h
+ends_well n number (Limit what) some r = announced_is_some [] (length r.text) (r.text ++ r.rest) r.announced refl
+ends_well n number ScriptTooLong some refused = refused
+ends_well n number TooManyTables some r = announced_is_some [] r.size r.after r.announced refl
+ends_well n number Memory some refused = refused
+
+-- a piece is refused there
+first_refused : (script : List ℕ) (f : ScriptFault) → (h : IsFirstRefusal script f) → IsFirstRefused CommandStep IsScriptEnd [] script (suc (length h.pieces))
+first_refused script f h =
+    let count : ℕ = length (published_tables h.commands) in
+    let number : ℕ = suc (line_count (joined h.pieces)) in
+    record {
+      pieces = h.pieces;
+      next = refl;
+      to = h.commands;
+      rest = h.rest;
+      read = h.read;
+      stuck = λ piece behind more cut step. stuck count number h.rest f h.refused step.0 piece behind cut step.1 step.2;
+      unclosed = λ over. ends_well count number f over.1 (subst (λ (x : List ℕ). IsRefusedAfter count number x f) over.0 h.refused);
+    }
+
+one_first : (script : List ℕ) (f g : ScriptFault) → IsFirstRefusal script f → IsFirstRefusal script g → f ≡ g
+unfolding first_refused
+one_first script f g h k =
+    let even = texts.one_position CommandStep IsScriptEnd HasFewTables scripts_are_grammar [] script (suc (length h.pieces)) (suc (length k.pieces)) none_published (first_refused script f h) (first_refused script g k) in
+    one_after (length (published_tables k.commands)) (suc (line_count (joined k.pieces))) k.rest f g
+    (subst (λ (x : List ScriptCommand × List (List ℕ) × List ℕ). IsRefusedAfter (length (published_tables x.0)) (suc (line_count (joined x.1))) x.2 f) (λ i. (even.state i, even.pieces i, even.rest i)) h.refused) k.refused
 
 pub one_script_refusal : OneScriptRefusal
 one_script_refusal script f g h k = elim (of_length script f h) [
@@ -224,46 +175,11 @@ one_script_refusal script f g h k = elim (of_length script f h) [
   ]
 ]
 
--- ---- a script isn't refused
-
-pub some_bytes : (first : List ℕ) (c : ScriptCommand) → Spell first c → (rest : List ℕ) → [] ≡ first ++ rest → ⊥
-some_bytes first (Publish t) spells rest none = announced_is_some (first ++ rest) (length spells.text) (spells.text ++ rest) (announces t first rest spells) (sym none)
-some_bytes first (Ask xs) spells rest none =
-    let asked : [] ≡ codes "ask" ++ (spaced xs ++ 10 ∷ rest) = none ∙ ap (λ (x : List ℕ). x ++ rest) spells.1 ∙ line_opened xs rest in omega (arith, ap (λ (x : List ℕ). get_or x 0 0) asked)
-
-ends_well : (n number : ℕ) (f : ScriptFault) → 0 < n → IsRefusedAfter n number [] f → ⊥
-ends_well n number (Malformed line) some refused = elim refused [
-  | inl m ↦ (let none = m.1.unfinished refl in omega (arith, none, some))
-  | inr r ↦ announced_is_some [] (length r.2.text) (r.2.text ++ r.2.rest) r.2.announced refl
-]
-ends_well n number (Limit what) some r = announced_is_some [] (length r.text) (r.text ++ r.rest) r.announced refl
-ends_well n number ScriptTooLong some refused = refused
-ends_well n number TooManyTables some r = announced_is_some [] r.size r.after r.announced refl
-ends_well n number Memory some refused = refused
-
-accepted : (script : List ℕ) (commands : List ScriptCommand) (f : ScriptFault) → IsScript script commands → IsFirstRefusal script f → ⊥
-accepted script commands f h k = elim (compared 0 script k.front [] k.rest commands k.commands h.spell k.spell (append-nil script ∙ k.are)) [
-  | inl even ↦ ends_well (length (published_tables commands)) (suc (line_count k.front)) f h.some_table
-      (subst (λ (x : List ScriptCommand × List ℕ). IsRefusedAfter (length (published_tables x.0)) (suc (line_count k.front)) x.1 f) (λ i. (sym even.commands i, sym even.rest i)) k.refused)
-  | inr apart ↦ elim apart [
-    | inl on ↦ some_bytes on.first on.command on.spells on.rest on.at
-    | inr on ↦ stuck (length (published_tables k.commands)) (suc (line_count k.front)) k.rest f k.refused on.command on.first on.rest on.at on.spells (let same : 0 + length (published_tables k.commands) ≡ length (published_tables k.commands) = omega arith in subst (λ (m : ℕ). FitsAfter m on.command) same on.fits)
-  ]
-]
-
 pub script_or_refused : ScriptOrRefused
 script_or_refused script commands f h k = elim (of_length script f k) [
   | inl long ↦ long.1 h.short
-  | inr first ↦ accepted script commands f h first.1
+  | inr first ↦ texts.read_or_refused CommandStep IsScriptEnd HasFewTables scripts_are_grammar [] script commands [] (suc (length first.1.pieces)) none_published h.reading (first_refused script f first.1)
 ]
-
--- ---- a script is one list
 
 pub one_script : OneScript
-one_script script cs ds h k = elim (compared 0 script script [] [] cs ds h.spell k.spell refl) [
-  | inl even ↦ even.commands
-  | inr apart ↦ elim apart [
-    | inl on ↦ absurd (some_bytes on.first on.command on.spells on.rest on.at)
-    | inr on ↦ absurd (some_bytes on.first on.command on.spells on.rest on.at)
-  ]
-]
+one_script script cs ds h k = (texts.one_reading CommandStep IsScriptEnd HasFewTables scripts_are_grammar [] script cs ds [] [] none_published h.reading k.reading).0

@@ -8,6 +8,7 @@ use Rattle.live_script.specs.declared.command.ScriptCommand.TheVariants.{Publish
 use Rattle.live_script.specs.Questions.{IsAnswerOf}
 use Rattle.live_script.specs.Scripts.{IsScript}
 
+-- an answer as a word: the number of the input vector, or a sign for none
 abbrev pub answer_word : Option ℕ → List ℕ
 answer_word None = codes "-"
 answer_word (Some u) = decimal u

@@ -2,13 +2,14 @@
 use Rattle.std.specs.Prelude.{◌≡◌, ◌⊎◌, ℕ, suc, ◌+◌, ◌<◌, ◌≤◌, ℤ, List, [], ◌++◌, length}
 use Rattle.controller_table.specs.declared.table_fault.TableFault.{TableFault}
 use Rattle.controller_table.specs.declared.table_fault.TableFault.TheVariants as tables
+use Rattle.read_texts.specs.Steps.{joined, IsRead}
 use Rattle.row_reading.specs.Counting.{line_count}
 use Rattle.controller_table.specs.TableRefusals.{IsTableRefusedFor}
 use Rattle.live_script.specs.declared.command.ScriptCommand.{ScriptCommand}
 use Rattle.live_script.specs.declared.script_fault.ScriptFault.{ScriptFault}
 use Rattle.live_script.specs.declared.script_fault.ScriptFault.TheVariants.{Malformed, Limit, ScriptTooLong, TooManyTables, Memory}
 use Rattle.command_line.specs.Command.{AreStateNumbers}
-use Rattle.live_script.specs.Scripts.{publish_line, ask_line, published_tables, SpellAfter, IsShortScript}
+use Rattle.live_script.specs.Scripts.{publish_line, ask_line, published_tables, CommandStep, IsShortScript}
 use Rattle.base.specs.declared.limits.TheConstants.{TABLES_LIMIT, TABLE_LIMIT}
 
 -- The bytes begin with the line before a table's text of 1 to 67,108,864 bytes.
@@ -49,12 +50,11 @@ IsRefusedAfter count number bytes Memory = ⊥
 
 -- The script is refused for what stands after the first commands.
 pub record IsFirstRefusal (script : List ℕ) (fault : ScriptFault) : Type 0 where
-  pub front : List ℕ
-  pub rest : List ℕ
-  pub are : script ≡ front ++ rest
+  pub pieces : List (List ℕ)
   pub commands : List ScriptCommand
-  pub spell : SpellAfter 0 front commands
-  pub refused : IsRefusedAfter (length (published_tables commands)) (suc (line_count front)) rest fault
+  pub rest : List ℕ
+  pub read : IsRead CommandStep [] script pieces commands rest
+  pub refused : IsRefusedAfter (length (published_tables commands)) (suc (line_count (joined pieces))) rest fault
 
 -- why a script is refused; want of memory is the script's fault never
 abbrev pub IsScriptRefusedFor : List ℕ → ScriptFault → Type 0

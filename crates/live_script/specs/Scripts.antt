@@ -3,6 +3,7 @@ use Rattle.std.specs.Prelude.{◌≡◌, ℕ, suc, ◌<◌, ◌≤◌, ℤ, List
 use Rattle.std.specs.Fmt.{decimal, signed_decimal}
 use Rattle.plant_record.specs.Spelling.{line}
 use Rattle.controller_table.specs.Tables.{TableModel, IsTableIn}
+use Rattle.read_texts.specs.Steps.{IsReading}
 use Rattle.live_script.specs.declared.command.ScriptCommand.{ScriptCommand}
 use Rattle.live_script.specs.declared.command.ScriptCommand.TheVariants.{Publish, Ask}
 use Rattle.command_line.specs.Command.{AreStateNumbers}
@@ -12,6 +13,7 @@ use Rattle.base.specs.declared.limits.TheConstants.{SCRIPT_LIMIT, TABLES_LIMIT}
 abbrev pub publish_line : ℕ → List ℕ
 publish_line size = line (codes "publish" ∷ decimal size ∷ [])
 
+-- the line of a question
 abbrev pub ask_line : List ℤ → List ℕ
 ask_line numbers = line (codes "ask" ∷ map signed_decimal numbers)
 
@@ -42,11 +44,13 @@ published_tables [] = []
 published_tables (Publish table ∷ commands) = table ∷ published_tables commands
 published_tables (Ask numbers ∷ commands) = published_tables commands
 
--- the bytes spell commands that have their positions after so many tables
-abbrev pub SpellAfter : ℕ → List ℕ → List ScriptCommand → Type 0
-SpellAfter tables bytes [] = bytes ≡ []
-SpellAfter tables bytes (c ∷ commands) =
-    (first rest : List ℕ) × (bytes ≡ first ++ rest) × Spell first c × FitsAfter tables c × SpellAfter (tables_after tables c) rest commands
+-- a piece of a script is a command that has its position after those before it
+abbrev pub CommandStep : List ScriptCommand → List ℕ → List ScriptCommand → Type 0
+CommandStep commands piece more = (c : ScriptCommand) × Spell piece c × FitsAfter (length (published_tables commands)) c × (more ≡ commands ++ c ∷ [])
+
+-- a script is over where no byte is left, after a table
+abbrev pub IsScriptEnd : List ScriptCommand → List ℕ → Type 0
+IsScriptEnd commands rest = (rest ≡ []) × (0 < length (published_tables commands))
 
 -- the script has at most 67,108,864 bytes
 abbrev pub IsShortScript : List ℕ → Type 0
@@ -55,5 +59,4 @@ IsShortScript bytes = length bytes ≤ SCRIPT_LIMIT
 -- The bytes are a script of these commands, a table first.
 pub record IsScript (bytes : List ℕ) (commands : List ScriptCommand) : Type 0 where
   pub short : IsShortScript bytes
-  pub spell : SpellAfter 0 bytes commands
-  pub some_table : 0 < length (published_tables commands)
+  pub reading : IsReading CommandStep IsScriptEnd [] bytes commands []

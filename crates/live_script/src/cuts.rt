@@ -6,7 +6,7 @@ ghost use Rattle.row_reading.specs.Found.{Finds};
 ghost use Rattle.live_script.specs.inside.QuestionWords.{BeginsWithSeparator};
 
 /// The bytes up to the first separator, and the bytes from there on.
-pub(crate) fn word_at(bytes: &[u8]) -> Option<(&[u8], &[u8])>
+pub(crate) fn take_word(bytes: &[u8]) -> Option<(&[u8], &[u8])>
     ensures { Finds (λ r. (r.0.now, r.1.now)) (λ (y : List ℕ × List ℕ). (is_word y.0 ≡ true) × BeginsWithSeparator y.1 × (bytes.now ≡ y.0 ++ y.1)) result }
 {
     let end = first_separator(bytes)?;

@@ -4,7 +4,7 @@ ghost use Rattle.command_line.specs.Command.{AreStateNumbers};
 ghost use Rattle.live_script.specs.Scripts.{ask_line};
 ghost use Rattle.live_script.specs.inside.QuestionWords.{IsNumberAt};
 
-use crate::ask_numbers::number_at;
+use crate::ask_numbers::take_number;
 use base::limits::STATES_LIMIT;
 use command_line::StateNumbers;
 use row_reading::after_prefix;
@@ -13,13 +13,13 @@ use row_reading::after_prefix;
 const NUMBERS_LIMIT: u32 = STATES_LIMIT as u32;
 
 /// The question whose line stands at the front, and what stands after it.
-pub(crate) fn question_at(bytes: &[u8]) -> Option<(StateNumbers, &[u8])>
+pub(crate) fn take_question(bytes: &[u8]) -> Option<(StateNumbers, &[u8])>
     ensures { Finds (λ r. (r.0, r.1.now)) (λ (y : List ℤ × List ℕ). AreStateNumbers y.0 × (bytes.now ≡ ask_line y.0 ++ y.1)) result }
 {
     let mut rest = after_prefix(bytes, b"ask")?;
     let mut question = StateNumbers::empty();
     while question.count() < NUMBERS_LIMIT {
-        let (number, after) = number_after_space(rest)?;
+        let (number, after) = take_spaced_number(rest)?;
         question.push(i128::from(number));
         if let Some(next) = after_prefix(after, b"\n") {
             return Some((question, next));
@@ -30,9 +30,9 @@ pub(crate) fn question_at(bytes: &[u8]) -> Option<(StateNumbers, &[u8])>
 }
 
 /// The number after a space at the front, and the bytes from the separator after it on.
-fn number_after_space(bytes: &[u8]) -> Option<(i64, &[u8])>
+fn take_spaced_number(bytes: &[u8]) -> Option<(i64, &[u8])>
     ensures { Finds (λ r. (r.0, r.1.now)) (λ (y : ℤ × List ℕ). (word : List ℕ) × (bytes.now ≡ 32 ∷ word) × IsNumberAt word y) result }
 {
     let word = after_prefix(bytes, b" ")?;
-    number_at(word)
+    take_number(word)
 }

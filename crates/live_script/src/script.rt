@@ -11,9 +11,9 @@ ghost use Rattle.live_script.specs.inside.Faults.{of_table};
 ghost use Rattle.base.specs.declared.limits.TheConstants.{SCRIPT_LIMIT, TABLES_LIMIT};
 
 use crate::command::ScriptCommand;
-use crate::question_line::question_at;
+use crate::question_line::take_question;
 use crate::script_fault::ScriptFault;
-use crate::table_line::announced_at;
+use crate::table_line::take_announced;
 use base::limits::{SCRIPT_LIMIT, TABLES_LIMIT};
 use command_line::StateNumbers;
 use controller_table::{Table, TableFault, read_table};
@@ -70,8 +70,8 @@ impl<'a> Script<'a> {
         if self.rest.is_empty() && self.tables > 0 {
             return Ok(None);
         }
-        if let Some((size, after)) = announced_at(self.rest) {
-            let (table, text, rest) = table_at(alloc, self.tables, self.line, size, after)?;
+        if let Some((size, after)) = take_announced(self.rest) {
+            let (table, text, rest) = take_table(alloc, self.tables, self.line, size, after)?;
             self.tables += 1;
             self.line += 1 + line_count(text);
             self.rest = rest;
@@ -93,11 +93,11 @@ fn question_after(tables: u32, bytes: &[u8]) -> Option<(StateNumbers, &[u8])>
     if tables == 0 {
         return None;
     }
-    question_at(bytes)
+    take_question(bytes)
 }
 
 /// The table whose text of so many bytes stands after the line that announces it, that text, and what stands after it.
-fn table_at(
+fn take_table(
     alloc: Global,
     tables: u32,
     line: u64,

@@ -1,3 +1,7 @@
+ghost use Rattle.std.specs.Prelude.{◌≡◌};
+ghost use Rattle.live_script.specs.declared.script_fault.ScriptFault.TheVariants.{Memory};
+
+use base::NoMemory;
 use plant_record::LimitKind;
 
 /// Why a script is no more to be read.
@@ -13,4 +17,12 @@ pub enum ScriptFault {
     TooManyTables,
     /// There was no memory left.
     Memory,
+}
+
+impl From<NoMemory> for ScriptFault {
+    ghost from_gives = { λ _ fault. fault ≡ Memory };
+
+    fn from(_refused: NoMemory) -> ScriptFault {
+        ScriptFault::Memory
+    }
 }

@@ -3,16 +3,16 @@ ghost use Rattle.row_reading.specs.Found.{Finds};
 ghost use Rattle.live_script.specs.ScriptRefusals.{Announce};
 ghost use Rattle.base.specs.declared.limits.TheConstants.{TABLE_LIMIT};
 
-use crate::ask_numbers::number_at;
+use crate::ask_numbers::take_number;
 use base::limits::TABLE_LIMIT;
 use row_reading::after_prefix;
 
 /// The size of the table's text that is announced at the front, and what stands after that line.
-pub(crate) fn announced_at(bytes: &[u8]) -> Option<(usize, &[u8])>
+pub(crate) fn take_announced(bytes: &[u8]) -> Option<(usize, &[u8])>
     ensures { Finds (λ r. (r.0, r.1.now)) (λ (y : ℕ × List ℕ). Announce bytes.now y.0 y.1) result }
 {
     let number = after_prefix(bytes, b"publish ")?;
-    let (number, rest) = number_at(number)?;
+    let (number, rest) = take_number(number)?;
     let after = after_prefix(rest, b"\n")?;
     let size = size_of(number)?;
     Some((size, after))

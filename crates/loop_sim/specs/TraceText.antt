@@ -21,6 +21,7 @@ line_text p (Arrived t) = line (codes "arrived" ∷ decimal t ∷ [])
 line_text p (Stopped t) = line (codes "stopped" ∷ decimal t ∷ [])
 line_text p (Lost t x) = line (codes "lost" ∷ decimal t ∷ state_words p x)
 
+-- the line that begins a trace
 abbrev pub first_line : List ℕ
 first_line = line (codes "trace" ∷ codes "1" ∷ [])
 

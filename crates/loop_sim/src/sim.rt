@@ -51,7 +51,7 @@ impl<'a> Sim<'a> {
         row_at(t, x)?;
         Some(Sim {
             table: t,
-            equations: Equations::of(t.plant()),
+            equations: Equations::new(t.plant()),
             stage: Stage::Due(Sample {
                 time: 0,
                 x: start_of(t, x),

@@ -19,7 +19,7 @@ pub(crate) fn write_first(text: &mut LineText)
     ensures { text.new ≡ first_line }
 {
     text.begin();
-    text.put_before(b"trace 1");
+    text.prepend(b"trace 1");
 }
 
 pub(crate) fn write_line(text: &mut LineText, p: &Plant, line: &SimLine)
@@ -39,9 +39,9 @@ fn write_sample(text: &mut LineText, p: &Plant, time: u32, x: &Point, row: Row)
     ensures some { 0 < length text.new }
 {
     text.begin();
-    text.put_row_before(format_of(p.goal()), row);
-    put_state_before(text, &x[..p.grid().states() as usize]);
-    text.put_number_before(time);
+    text.prepend_row(format_of(p.goal()), row);
+    prepend_state(text, &x[..p.grid().states() as usize]);
+    text.prepend_number(time);
 }
 
 fn write_loss(text: &mut LineText, p: &Plant, time: u32, x: &Point)
@@ -49,9 +49,9 @@ fn write_loss(text: &mut LineText, p: &Plant, time: u32, x: &Point)
     ensures some { 0 < length text.new }
 {
     text.begin();
-    put_state_before(text, &x[..p.grid().states() as usize]);
-    text.put_number_before(time);
-    text.put_before(b"lost ");
+    prepend_state(text, &x[..p.grid().states() as usize]);
+    text.prepend_number(time);
+    text.prepend(b"lost ");
 }
 
 /// A word with a space after it, and a time.
@@ -61,19 +61,19 @@ fn write_event(text: &mut LineText, word: &[u8], time: u32)
     ensures some { 0 < length text.new }
 {
     text.begin();
-    text.put_number_before(time);
-    text.put_before(word);
+    text.prepend_number(time);
+    text.prepend(word);
 }
 
 /// Puts the numbers before the rest, each with a space before it.
-fn put_state_before(text: &mut LineText, x: &[i128])
+fn prepend_state(text: &mut LineText, x: &[i128])
     requires { 41 * length x.now + length text.old ≤ LINE_CAPACITY }
     ensures text { text.new ≡ state_text x.now ++ text.old }
     ensures length { length text.new ≤ 41 * length x.now + length text.old }
     ensures grows { length text.old ≤ length text.new }
 {
     for at in (0..x.len()).rev() {
-        text.put_before(Buffer::new().format(x[at]).as_bytes());
-        text.put_before(b" ");
+        text.prepend(Buffer::new().format(x[at]).as_bytes());
+        text.prepend(b" ");
     }
 }

@@ -33,28 +33,7 @@ number-digits counts c below = record {
   number_is = number_is counts c below;
 }
 
-pub digits-number : (counts ds : List ℕ) → AreDigits counts ds → digits counts (number counts ds) ≡ take (length counts) ds
-digits-number [] ds are = refl
-digits-number (n ∷ counts) [] are = absurd (omega (arith, are.long))
-digits-number (n ∷ counts) (d ∷ ds) are =
-    let later : AreDigits counts ds = tail_digits n d counts ds are in
-    let below : number counts ds < size counts = number_below counts ds later in
-    ap (λ (q : ℕ). q ∷ digits counts ((d * size counts + number counts ds) % size counts)) (div-mul-add d (size counts) (number counts ds) below)
-    ∙ ap (λ (r : ℕ). d ∷ digits counts r) (mod-mul-add d (size counts) (number counts ds) below)
-    ∙ ap (λ (es : List ℕ). d ∷ es) (digits-number counts ds later)
-
 -- ---- numbers of two numbers
-
-pub size-append : (counts more : List ℕ) → size (counts ++ more) ≡ size counts * size more
-size-append [] more = omega arith
-size-append (n ∷ counts) more = ap (λ (k : ℕ). n * k) (size-append counts more) ∙ sym (mul_assoc n (size counts) (size more))
-
-pub number-append : (counts more ds es : List ℕ) → length ds ≡ length counts → number (counts ++ more) (ds ++ es) ≡ number counts ds * size more + number more es
-number-append [] more [] es long = omega arith
-number-append [] more (d ∷ ds) es long = absurd (omega (arith, long))
-number-append (n ∷ counts) more [] es long = absurd (omega (arith, long))
-number-append (n ∷ counts) more (d ∷ ds) es long =
-    omega (arith, ap (λ (k : ℕ). d * k) (size-append counts more), number-append counts more ds es (omega (arith, long)))
 
 pub number_parts : (counts ds : List ℕ) (k : ℕ) → k ≤ length counts → length counts ≤ length ds →
     (number counts ds ≡ number (take k counts) (take k ds) * size (drop k counts) + number (drop k counts) (drop k ds)) × (size counts ≡ size (take k counts) * size (drop k counts))
@@ -72,23 +51,25 @@ digits_later [] ds (suc k) are = record { long = omega arith; below = λ j lt. a
 digits_later (n ∷ counts) [] (suc k) are = absurd (omega (arith, are.long))
 digits_later (n ∷ counts) (d ∷ ds) (suc k) are = digits_later counts ds k (tail_digits n d counts ds are)
 
--- a digit is what is left of the quotient by its stride
-pub digit_is : (counts ds : List ℕ) (c k : ℕ) → AreDigitsOf counts c ds → k < length counts → digit counts k c ≡ get_or ds k 0
-digit_is counts ds c k of within =
+-- a digit is what is left of the quotient by its stride, also of a number with whole turns before the digits
+pub digit_after : (counts ds : List ℕ) (c turns k : ℕ) → AreDigits counts ds → turns * size counts + number counts ds ≡ c → k < length counts → digit counts k c ≡ get_or ds k 0
+digit_after counts ds c turns k are is within =
     let n : ℕ = get_or counts k 0 in
     let d : ℕ = get_or ds k 0 in
     let s : ℕ = stride counts k in
-    let first : ℕ = number (take k counts) (take k ds) in
+    let t : ℕ = size (take k counts) in
+    let first : ℕ = turns * t + number (take k counts) (take k ds) in
     let r : ℕ = number (drop (k + 1) counts) (drop (k + 1) ds) in
-    let some : 0 < size counts = omega (arith, number_below counts ds of.are) in
-    let long : k < length ds = omega (arith, of.are.long, within) in
-    let parts : number counts ds ≡ (first * n + d) * s + r =
-    (number_parts counts ds k (omega (arith, within)) of.are.long).0 ∙ rw (drop_more counts k 0 within, drop_more ds k 0 long) (omega arith)
-    in
-    let rest : r < s = number_below (drop (k + 1) counts) (drop (k + 1) ds) (digits_later counts ds (k + 1) of.are) in
-    ap (λ (m : ℕ). m / s % n) (sym of.number_is ∙ parts)
-    ∙ ap (λ (m : ℕ). m % n) (div-mul-add (first * n + d) s r rest)
-    ∙ mod-mul-add first n d (of.are.below k within)
+    let long : k < length ds = omega (arith, are.long, within) in
+    let both = number_parts counts ds k (omega (arith, within)) are.long in
+    let parts : number counts ds ≡ (number (take k counts) (take k ds) * n + d) * s + r = both.0 ∙ rw (drop_more counts k 0 within, drop_more ds k 0 long) (omega arith) in
+    let whole : size counts ≡ t * (n * s) = both.1 ∙ rw (drop_more counts k 0 within) refl in
+    let all : c ≡ (first * n + d) * s + r = omega (arith, is, parts, ap (λ (m : ℕ). turns * m) whole) in
+    let rest : r < s = number_below (drop (k + 1) counts) (drop (k + 1) ds) (digits_later counts ds (k + 1) are) in
+    ap (λ (m : ℕ). m / s % n) all ∙ ap (λ (m : ℕ). m % n) (div-mul-add (first * n + d) s r rest) ∙ mod-mul-add first n d (are.below k within)
+
+pub digit_is : (counts ds : List ℕ) (c k : ℕ) → AreDigitsOf counts c ds → k < length counts → digit counts k c ≡ get_or ds k 0
+digit_is counts ds c k of within = digit_after counts ds c 0 k of.are (omega (arith, of.number_is)) within
 
 -- ---- what a number depends on
 
@@ -100,16 +81,6 @@ number_same (n ∷ counts) (d ∷ ds) [] long_ds long_es same = absurd (omega (a
 number_same (n ∷ counts) (d ∷ ds) (e ∷ es) long_ds long_es same =
     let later = number_same counts ds es (omega (arith, long_ds)) (omega (arith, long_es)) (λ k lt. same (suc k) (omega (arith, lt))) in
     omega (arith, later, ap (λ (m : ℕ). m * size counts) (same 0 (omega arith)))
-
-pub number-set : (counts ds : List ℕ) (k e : ℕ) → k < length counts → length counts ≤ length ds →
-    number counts (set ds k e) + get_or ds k 0 * stride counts k ≡ number counts ds + e * stride counts k
-number-set [] ds k e within long = absurd (omega (arith, within))
-number-set (n ∷ counts) [] k e within long = absurd (omega (arith, long))
-number-set (n ∷ counts) (d ∷ ds) zero e within long = omega arith
-number-set (n ∷ counts) (d ∷ ds) (suc k) e within long =
-    let next : suc k + 1 ≡ suc (k + 1) = omega arith in
-    let later = number-set counts ds k e (omega (arith, within)) (omega (arith, long)) in
-    rw next (omega (arith, later))
 
 -- a number has its digits and no others
 pub the_digits : (counts ds : List ℕ) (c k : ℕ) → AreDigitsOf counts c ds → k < length counts → get_or ds k 0 ≡ get_or (digits counts c) k 0

@@ -1,13 +1,13 @@
 //! Numbers in a mixed radix: digits, each below its count, as one number, the first digit varying slowest.
 //!
 //! The layer above has several small numbers that it wants as one, as the indices of a cell along its axes: `encode`
-//! makes it, and `decode` gives the digits back. A box of numbers, whose digits lie each from that of one number to that
-//! of another, is again such numbers, by `box_counts`.
+//! makes it, and `decode` gives the digits back. The numbers of a box, whose digits lie each from that of one number to
+//! that of another, are counted by `box_size`, and found by `nth`.
 #![tactic(auto)]
 
-ghost use Rattle.std.specs.Prelude.{◌≡◌, ◌/◌, ◌%◌, ◌^◌, ◌<◌, ◌≤◌, ℕ, length, take, slice_index};
-ghost use Rattle.mixed_radix.specs.Radix.{size, number, AreDigits, AreDigitsOf};
-ghost use Rattle.mixed_radix.specs.Boxes.{box_counts};
+ghost use Rattle.std.specs.Prelude.{◌≡◌, ◌/◌, ◌%◌, ◌^◌, ◌<◌, ◌≤◌, ℕ, length, slice_index};
+ghost use Rattle.mixed_radix.specs.Radix.{size, number, digit, AreDigits, AreDigitsOf};
+ghost use Rattle.mixed_radix.specs.Boxes.{box_counts, nth};
 
 /// The most digits of a number.
 pub const DIGITS_LIMIT: usize = 6;
@@ -31,8 +31,9 @@ pub fn encode(counts: &[u32], digits: &[u32]) -> u32
 #[inline]
 pub fn decode(counts: &[u32], number: u32) -> [u32; DIGITS_LIMIT]
     requires few { length counts.now ≤ DIGITS_LIMIT }
-    requires below { number < size counts.now }
-    ensures digits { AreDigitsOf counts.now number result }
+    requires some { 0 < size counts.now }
+    ensures each { (k : ℕ) → k < length counts.now → slice_index result k ≡ digit counts.now k number }
+    ensures digits { number < size counts.now → AreDigitsOf counts.now number result }
     ensures past { (k : ℕ) → length counts.now ≤ k → slice_index result k ≡ 0 }
 {
     let mut digits = [0; DIGITS_LIMIT];
@@ -59,19 +60,45 @@ pub fn size(counts: &[u32]) -> u32
     size
 }
 
-/// How many digits a box has in each position, by how far its last number is after its first.
+/// How many numbers a box has, by how far its last number is after its first.
 #[inline]
-pub fn box_counts(counts: &[u32], distance: u32) -> [u32; DIGITS_LIMIT]
-    requires few { length counts.now ≤ DIGITS_LIMIT }
+pub fn box_size(counts: &[u32], distance: u32) -> u32
     requires below { distance < size counts.now }
     requires fits { size counts.now < 2 ^ 32 }
-    ensures { take (length counts.now) result ≡ box_counts counts.now distance }
+    ensures { result ≡ size (box_counts counts.now distance) }
 {
-    let mut box_counts = decode(counts, distance);
-    for i in 0..counts.len() {
-        box_counts[i] += 1;
+    let mut size: u32 = 1;
+    let mut rest = distance;
+    for k in (0..counts.len()).rev() {
+        let (quotient, steps) = split(rest, counts[k]);
+        size *= steps + 1;
+        rest = quotient;
     }
-    box_counts
+    size
+}
+
+/// How far the `i`-th number of a box is after its first.
+#[inline]
+pub fn nth(counts: &[u32], distance: u32, i: u32) -> u32
+    requires below { distance < size counts.now }
+    requires within { i < size (box_counts counts.now distance) }
+    requires fits { size counts.now < 2 ^ 32 }
+    ensures { result ≡ nth counts.now (box_counts counts.now distance) i }
+{
+    let mut nth: u32 = 0;
+    let mut stride: u32 = 1;
+    let mut rest = distance;
+    let mut left = i;
+    for k in (0..counts.len()).rev() {
+        let count = counts[k];
+        let (quotient, steps) = split(rest, count);
+        let (turns, digit) = split(left, steps + 1);
+        nth += digit * stride;
+        stride *= count;
+        left = turns;
+        rest = quotient;
+    }
+    nth
 }
 
 /// A quotient and what is left. Most are so small that no division is made.

@@ -15,7 +15,7 @@ use plant_record::Plant;
 use std::alloc::{AllocError, Global};
 
 /// The mark of each cell. The obstacles come last, since a cell that touches one is no goal.
-pub fn find_marks(alloc: Global, p: &Plant) -> Result<Vec<Mark>, AllocError>
+pub fn build_marks(alloc: Global, p: &Plant) -> Result<Vec<Mark>, AllocError>
     ensures { IfOk result (λ marks. AreMarksOf p.now marks.items) }
 {
     let mut marks = vec![in alloc; Mark::Plain; p.grid().cells() as usize]?;

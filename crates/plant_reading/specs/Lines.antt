@@ -1,6 +1,5 @@
 -- The lines of a text.
-use Rattle.std.specs.Prelude.{ℕ, codes, ◌==◌, List, [], ◌∷◌, ◌++◌, if◌then◌else◌}
-use Rattle.std.specs.List.{flat_map}
+use Rattle.std.specs.Prelude.{ℕ, ◌==◌, List, [], ◌∷◌, if◌then◌else◌}
 
 -- a byte at the front of the first of the pieces
 abbrev pub with_front_byte : ℕ → List (List ℕ) → List (List ℕ)
@@ -11,7 +10,3 @@ with_front_byte b (piece ∷ pieces) = (b ∷ piece) ∷ pieces
 abbrev pub lines_of : List ℕ → List (List ℕ)
 lines_of [] = []
 lines_of (b ∷ bytes) = if b == 10 then [] ∷ lines_of bytes else with_front_byte b (lines_of bytes)
-
--- lines, each with its line feed
-abbrev pub with_line_feeds : List (List ℕ) → List ℕ
-with_line_feeds lines = flat_map (λ words. words ++ codes "\n") lines

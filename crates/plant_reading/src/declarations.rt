@@ -9,7 +9,7 @@ ghost use Rattle.plant_reading.specs.inside.LineReaders.{HasWholeCells, StartsWi
 
 use crate::line_fault::LineFault;
 use crate::words::blanks::next_word;
-use crate::words::expected::{expect_end, expect_number, name_in, number_in, only_word};
+use crate::words::expected::{expect_end, expect_number, only_word, take_name, take_number};
 use base::limits::VALUES_LIMIT;
 use plant_record::{
     GoalKind, InputVariable, Name, NoiseVariable, PlantVersion, StateVariable, Values,
@@ -18,13 +18,13 @@ use plant_record::{
 use std::alloc::Global;
 
 /// `1` or `2`.
-pub fn version_in(bytes: &[u8]) -> Result<PlantVersion, LineFault>
+pub fn parse_version(bytes: &[u8]) -> Result<PlantVersion, LineFault>
     ensures { Finds (λ v. v) (SpellsVersion (words_of bytes.now)) result }
 {
-    version_of(only_word(bytes)?)
+    parse_version_word(only_word(bytes)?)
 }
 
-fn version_of(word: &[u8]) -> Result<PlantVersion, LineFault>
+fn parse_version_word(word: &[u8]) -> Result<PlantVersion, LineFault>
     ensures { Finds (λ v. v) (λ v. word.now ≡ version_word v) result }
 {
     match word {
@@ -35,11 +35,11 @@ fn version_of(word: &[u8]) -> Result<PlantVersion, LineFault>
 }
 
 /// `NAME LOW HIGH WIDTH`.
-pub fn state_in(alloc: Global, bytes: &[u8]) -> Result<StateVariable, LineFault>
+pub fn parse_state(alloc: Global, bytes: &[u8]) -> Result<StateVariable, LineFault>
     ensures { Finds (λ s. s) (SpellsState (words_of bytes.now)) result }
 {
-    let (name, rest) = name_in(bytes)?;
-    let (low, high, width) = cells_in(rest)?;
+    let (name, rest) = take_name(bytes)?;
+    let (low, high, width) = parse_axis(rest)?;
     let name = Name::new(alloc, name)?;
     Ok(StateVariable {
         name,
@@ -50,11 +50,11 @@ pub fn state_in(alloc: Global, bytes: &[u8]) -> Result<StateVariable, LineFault>
 }
 
 /// `LOW HIGH WIDTH`.
-fn cells_in(bytes: &[u8]) -> Result<(i128, i128, i128), LineFault>
+fn parse_axis(bytes: &[u8]) -> Result<(i128, i128, i128), LineFault>
     ensures { Finds (λ r. (r.0, r.1, r.2)) (SpellsCells (words_of bytes.now)) result }
 {
-    let (low, high, rest) = ends_in(bytes)?;
-    let (width, rest) = number_in(rest)?;
+    let (low, high, rest) = take_ends(bytes)?;
+    let (width, rest) = take_number(rest)?;
     expect_end(rest)?;
     if !has_whole_cells(low, high, width) {
         return Err(LineFault::Malformed);
@@ -78,17 +78,17 @@ fn divides(k: u128, n: u128) -> bool
 }
 
 /// `NAME VALUE ..`.
-pub fn input_in(alloc: Global, bytes: &[u8]) -> Result<InputVariable, LineFault>
+pub fn parse_input(alloc: Global, bytes: &[u8]) -> Result<InputVariable, LineFault>
     ensures { Finds (λ i. i) (SpellsInput (words_of bytes.now)) result }
 {
-    let (name, rest) = name_in(bytes)?;
-    let values = values_in(alloc, rest)?;
+    let (name, rest) = take_name(bytes)?;
+    let values = parse_values(alloc, rest)?;
     let name = Name::new(alloc, name)?;
     Ok(InputVariable { name, values })
 }
 
 /// 1 to 64 numbers.
-fn values_in(alloc: Global, bytes: &[u8]) -> Result<Values, LineFault>
+fn parse_values(alloc: Global, bytes: &[u8]) -> Result<Values, LineFault>
     ensures { Finds (λ v. v) (SpellsValues (words_of bytes.now)) result }
 {
     let mut numbers = Vec::new(alloc);
@@ -107,22 +107,22 @@ fn values_in(alloc: Global, bytes: &[u8]) -> Result<Values, LineFault>
 }
 
 /// `NAME LOW HIGH`.
-pub fn noise_in(alloc: Global, bytes: &[u8]) -> Result<NoiseVariable, LineFault>
+pub fn parse_noise(alloc: Global, bytes: &[u8]) -> Result<NoiseVariable, LineFault>
     ensures { Finds (λ w. w) (SpellsNoise (words_of bytes.now)) result }
 {
-    let (name, rest) = name_in(bytes)?;
-    let (low, high, rest) = ends_in(rest)?;
+    let (name, rest) = take_name(bytes)?;
+    let (low, high, rest) = take_ends(rest)?;
     expect_end(rest)?;
     let name = Name::new(alloc, name)?;
     Ok(NoiseVariable { name, low, high })
 }
 
 /// Two numbers in order, and what stands after them.
-pub fn ends_in(bytes: &[u8]) -> Result<(i128, i128, &[u8]), LineFault>
+pub fn take_ends(bytes: &[u8]) -> Result<(i128, i128, &[u8]), LineFault>
     ensures { Finds (λ r. ((r.0, r.1), words_of r.2.now)) (StartsWithEnds (words_of bytes.now)) result }
 {
-    let (low, rest) = number_in(bytes)?;
-    let (high, rest) = number_in(rest)?;
+    let (low, rest) = take_number(bytes)?;
+    let (high, rest) = take_number(rest)?;
     if !is_ordered(low, high) {
         return Err(LineFault::Malformed);
     }
@@ -136,13 +136,13 @@ fn is_ordered(least: i128, greatest: i128) -> bool
 }
 
 /// `reach` or `keep`.
-pub fn goal_in(bytes: &[u8]) -> Result<GoalKind, LineFault>
+pub fn parse_goal(bytes: &[u8]) -> Result<GoalKind, LineFault>
     ensures { Finds (λ kind. kind) (SpellsGoal (words_of bytes.now)) result }
 {
-    goal_of(only_word(bytes)?)
+    parse_goal_word(only_word(bytes)?)
 }
 
-fn goal_of(word: &[u8]) -> Result<GoalKind, LineFault>
+fn parse_goal_word(word: &[u8]) -> Result<GoalKind, LineFault>
     ensures { Finds (λ kind. kind) (λ kind. word.now ≡ goal_word kind) result }
 {
     match word {

@@ -14,8 +14,8 @@ ghost use Rattle.base.specs.declared.limits.TheConstants.{VARIABLES_LIMIT};
 
 use crate::line_fault::LineFault;
 use crate::operand::Operand;
-use crate::points::{curve_in, divisor_in, literal_in};
-use crate::token_kind::{TokenKind, kinds_in};
+use crate::points::{take_curve, take_divisor, take_literal};
+use crate::token_kind::{TokenKind, parse_kinds};
 use base::limits::{BRACKETS_LIMIT, NODES_LIMIT};
 use fixed_expr::Expr;
 use plant_record::Variables;
@@ -26,7 +26,7 @@ const CALLS_LIMIT: u32 = NODES_LIMIT + BRACKETS_LIMIT;
 
 /// What an expression may have.
 #[derive(Clone, Copy)]
-struct Room {
+struct Budget {
     /// How many variables there are.
     variables: u32,
     /// How deep calls may be nested.
@@ -35,24 +35,24 @@ struct Room {
     brackets: u32,
 }
 
-impl Room {
+impl Budget {
     /// One nested call less.
-    fn below(self) -> Room
+    fn below(self) -> Budget
         requires { 1 ≤ self.calls }
         ensures { result ≡ record { variables = self.variables; calls = self.calls - 1; brackets = self.brackets } }
     {
-        Room {
+        Budget {
             calls: self.calls - 1,
             ..self
         }
     }
 
     /// One bracket less.
-    fn inside(self) -> Room
+    fn inside(self) -> Budget
         requires { 1 ≤ self.brackets }
         ensures { result ≡ record { variables = self.variables; calls = self.calls; brackets = self.brackets - 1 } }
     {
-        Room {
+        Budget {
             brackets: self.brackets - 1,
             ..self
         }
@@ -89,15 +89,15 @@ fn after_comma(tokens: &[TokenKind]) -> Result<&[TokenKind], LineFault>
 /// A sum at the front, and the tokens after it.
 #[cycle(descent)]
 #[tactic(auto, unfolding(crate::specs::inside::ExpressionReading::sum_of))]
-fn sum_in(
+fn take_sum(
     alloc: Global,
-    room: Room,
+    budget: Budget,
     tokens: &[TokenKind],
 ) -> Result<(Operand, &[TokenKind]), LineFault>
-    ensures { Gives (λ x. (expression_of x.0, x.1.now)) result (sum_of room.variables (read_at room.variables room.calls) room.brackets tokens.now) }
+    ensures { Gives (λ x. (expression_of x.0, x.1.now)) result (sum_of budget.variables (read_at budget.variables budget.calls) budget.brackets tokens.now) }
 {
-    let (term, rest) = term_in(alloc, room, tokens)?;
-    after_sum(alloc, room, term, rest)
+    let (term, rest) = take_term(alloc, budget, tokens)?;
+    after_sum(alloc, budget, term, rest)
 }
 
 /// What stands after a sum goes on with it.
@@ -105,20 +105,20 @@ fn sum_in(
 #[tactic(auto, unfolding(crate::specs::inside::ExpressionReading::after_sum))]
 fn after_sum(
     alloc: Global,
-    room: Room,
+    budget: Budget,
     sum: Operand,
     tokens: &[TokenKind],
 ) -> Result<(Operand, &[TokenKind]), LineFault>
-    ensures { Gives (λ x. (expression_of x.0, x.1.now)) result (after_sum room.variables (read_at room.variables room.calls) room.brackets (expression_of sum) tokens.now) }
+    ensures { Gives (λ x. (expression_of x.0, x.1.now)) result (after_sum budget.variables (read_at budget.variables budget.calls) budget.brackets (expression_of sum) tokens.now) }
 {
     match tokens {
         [TokenKind::Plus, rest @ ..] => {
-            let (term, rest) = term_in(alloc, room, rest)?;
-            rest_of_sum(alloc, room, sum.plus(alloc, term)?, rest)
+            let (term, rest) = take_term(alloc, budget, rest)?;
+            rest_of_sum(alloc, budget, sum.add(alloc, term)?, rest)
         }
         [TokenKind::Minus, rest @ ..] => {
-            let (term, rest) = term_in(alloc, room, rest)?;
-            rest_of_sum(alloc, room, sum.less(alloc, term)?, rest)
+            let (term, rest) = take_term(alloc, budget, rest)?;
+            rest_of_sum(alloc, budget, sum.sub(alloc, term)?, rest)
         }
         _ => Ok((sum, tokens)),
     }
@@ -129,30 +129,30 @@ fn after_sum(
 #[tactic(auto, unfolding(crate::specs::inside::ExpressionReading::step))]
 fn rest_of_sum(
     alloc: Global,
-    room: Room,
+    budget: Budget,
     sum: Operand,
     tokens: &[TokenKind],
 ) -> Result<(Operand, &[TokenKind]), LineFault>
-    ensures { Gives (λ x. (expression_of x.0, x.1.now)) result (read_at room.variables room.calls (RestOfSum room.brackets (expression_of sum) tokens.now)) }
+    ensures { Gives (λ x. (expression_of x.0, x.1.now)) result (read_at budget.variables budget.calls (RestOfSum budget.brackets (expression_of sum) tokens.now)) }
 {
-    if room.calls == 0 {
+    if budget.calls == 0 {
         return Err(LineFault::Malformed);
     }
-    after_sum(alloc, room.below(), sum, tokens)
+    after_sum(alloc, budget.below(), sum, tokens)
 }
 
 /// A term at the front.
 #[cycle(descent)]
 #[tactic(auto, unfolding(crate::specs::inside::ExpressionReading::term_of))]
-fn term_in(
+fn take_term(
     alloc: Global,
-    room: Room,
+    budget: Budget,
     tokens: &[TokenKind],
 ) -> Result<(Operand, &[TokenKind]), LineFault>
-    ensures { Gives (λ x. (expression_of x.0, x.1.now)) result (term_of room.variables (read_at room.variables room.calls) room.brackets tokens.now) }
+    ensures { Gives (λ x. (expression_of x.0, x.1.now)) result (term_of budget.variables (read_at budget.variables budget.calls) budget.brackets tokens.now) }
 {
-    let (factor, rest) = factor_in(alloc, room, tokens)?;
-    after_term(alloc, room, factor, rest)
+    let (factor, rest) = take_factor(alloc, budget, tokens)?;
+    after_term(alloc, budget, factor, rest)
 }
 
 /// What stands after a term goes on with it.
@@ -160,20 +160,20 @@ fn term_in(
 #[tactic(auto, unfolding(crate::specs::inside::ExpressionReading::after_term))]
 fn after_term(
     alloc: Global,
-    room: Room,
+    budget: Budget,
     term: Operand,
     tokens: &[TokenKind],
 ) -> Result<(Operand, &[TokenKind]), LineFault>
-    ensures { Gives (λ x. (expression_of x.0, x.1.now)) result (after_term room.variables (read_at room.variables room.calls) room.brackets (expression_of term) tokens.now) }
+    ensures { Gives (λ x. (expression_of x.0, x.1.now)) result (after_term budget.variables (read_at budget.variables budget.calls) budget.brackets (expression_of term) tokens.now) }
 {
     match tokens {
-        [TokenKind::Times, rest @ ..] => {
-            let (factor, rest) = factor_in(alloc, room, rest)?;
-            rest_of_term(alloc, room, term.times(alloc, factor)?, rest)
+        [TokenKind::Star, rest @ ..] => {
+            let (factor, rest) = take_factor(alloc, budget, rest)?;
+            rest_of_term(alloc, budget, term.mul(alloc, factor)?, rest)
         }
-        [TokenKind::Over, rest @ ..] => {
-            let (k, rest) = divisor_in(rest)?;
-            rest_of_term(alloc, room, term.over(alloc, k)?, rest)
+        [TokenKind::Slash, rest @ ..] => {
+            let (k, rest) = take_divisor(rest)?;
+            rest_of_term(alloc, budget, term.div(alloc, k)?, rest)
         }
         _ => Ok((term, tokens)),
     }
@@ -184,58 +184,58 @@ fn after_term(
 #[tactic(auto, unfolding(crate::specs::inside::ExpressionReading::step))]
 fn rest_of_term(
     alloc: Global,
-    room: Room,
+    budget: Budget,
     term: Operand,
     tokens: &[TokenKind],
 ) -> Result<(Operand, &[TokenKind]), LineFault>
-    ensures { Gives (λ x. (expression_of x.0, x.1.now)) result (read_at room.variables room.calls (RestOfTerm room.brackets (expression_of term) tokens.now)) }
+    ensures { Gives (λ x. (expression_of x.0, x.1.now)) result (read_at budget.variables budget.calls (RestOfTerm budget.brackets (expression_of term) tokens.now)) }
 {
-    if room.calls == 0 {
+    if budget.calls == 0 {
         return Err(LineFault::Malformed);
     }
-    after_term(alloc, room.below(), term, tokens)
+    after_term(alloc, budget.below(), term, tokens)
 }
 
 /// A factor at the front.
 #[cycle(descent)]
 #[tactic(auto, unfolding(crate::specs::inside::ExpressionReading::factor_of, crate::specs::inside::ExpressionReading::literal_at))]
-fn factor_in(
+fn take_factor(
     alloc: Global,
-    room: Room,
+    budget: Budget,
     tokens: &[TokenKind],
 ) -> Result<(Operand, &[TokenKind]), LineFault>
-    ensures { Gives (λ x. (expression_of x.0, x.1.now)) result (factor_of room.variables (read_at room.variables room.calls) room.brackets tokens.now) }
+    ensures { Gives (λ x. (expression_of x.0, x.1.now)) result (factor_of budget.variables (read_at budget.variables budget.calls) budget.brackets tokens.now) }
 {
     match tokens {
         [TokenKind::Number(_), ..] => {
-            let (k, rest) = literal_in(tokens)?;
-            Ok((Operand::number(alloc, k)?, rest))
+            let (k, rest) = take_literal(tokens)?;
+            Ok((Operand::num(alloc, k)?, rest))
         }
-        [TokenKind::Variable(i), rest @ ..] if *i < room.variables => Ok((
-            Operand::variable(alloc, *i)?,
+        [TokenKind::Variable(i), rest @ ..] if *i < budget.variables => Ok((
+            Operand::var(alloc, *i)?,
             rest,
         )),
         [TokenKind::Minus, rest @ ..] => {
-            let (factor, rest) = signed(alloc, room, rest)?;
-            Ok((factor.negated(alloc)?, rest))
+            let (factor, rest) = signed(alloc, budget, rest)?;
+            Ok((factor.neg(alloc)?, rest))
         }
-        [TokenKind::Open, rest @ ..] => bracketed(alloc, room, rest),
+        [TokenKind::Open, rest @ ..] => bracketed(alloc, budget, rest),
         [TokenKind::Min, rest @ ..] => {
-            let (a, b, rest) = pair_in(alloc, room, rest)?;
-            Ok((a.least(alloc, b)?, rest))
+            let (a, b, rest) = take_pair(alloc, budget, rest)?;
+            Ok((a.min(alloc, b)?, rest))
         }
         [TokenKind::Max, rest @ ..] => {
-            let (a, b, rest) = pair_in(alloc, room, rest)?;
-            Ok((a.greatest(alloc, b)?, rest))
+            let (a, b, rest) = take_pair(alloc, budget, rest)?;
+            Ok((a.max(alloc, b)?, rest))
         }
         [TokenKind::Abs, rest @ ..] => {
-            let (sum, rest) = bracketed(alloc, room, after_open(rest)?)?;
-            Ok((sum.size(alloc)?, rest))
+            let (sum, rest) = bracketed(alloc, budget, after_open(rest)?)?;
+            Ok((sum.abs(alloc)?, rest))
         }
         [TokenKind::Lut, rest @ ..] => {
-            let (sum, rest) = inside(alloc, room, after_open(rest)?)?;
-            let (curve, rest) = curve_in(alloc, rest)?;
-            Ok((sum.looked_up(alloc, curve)?, rest))
+            let (sum, rest) = inside(alloc, budget, after_open(rest)?)?;
+            let (curve, rest) = take_curve(alloc, rest)?;
+            Ok((sum.lut(alloc, curve)?, rest))
         }
         _ => Err(LineFault::Malformed),
     }
@@ -246,15 +246,15 @@ fn factor_in(
 #[tactic(auto, unfolding(crate::specs::inside::ExpressionReading::step))]
 fn signed(
     alloc: Global,
-    room: Room,
+    budget: Budget,
     tokens: &[TokenKind],
 ) -> Result<(Operand, &[TokenKind]), LineFault>
-    ensures { Gives (λ x. (expression_of x.0, x.1.now)) result (read_at room.variables room.calls (Signed room.brackets tokens.now)) }
+    ensures { Gives (λ x. (expression_of x.0, x.1.now)) result (read_at budget.variables budget.calls (Signed budget.brackets tokens.now)) }
 {
-    if room.calls == 0 {
+    if budget.calls == 0 {
         return Err(LineFault::Malformed);
     }
-    factor_in(alloc, room.below(), tokens)
+    take_factor(alloc, budget.below(), tokens)
 }
 
 /// A sum after a bracket that was opened, by a nested call.
@@ -262,18 +262,18 @@ fn signed(
 #[tactic(auto, unfolding(crate::specs::inside::ExpressionReading::step))]
 fn inside(
     alloc: Global,
-    room: Room,
+    budget: Budget,
     tokens: &[TokenKind],
 ) -> Result<(Operand, &[TokenKind]), LineFault>
-    ensures { Gives (λ x. (expression_of x.0, x.1.now)) result (read_at room.variables room.calls (Inside room.brackets tokens.now)) }
+    ensures { Gives (λ x. (expression_of x.0, x.1.now)) result (read_at budget.variables budget.calls (Inside budget.brackets tokens.now)) }
 {
-    if room.calls == 0 {
+    if budget.calls == 0 {
         return Err(LineFault::Malformed);
     }
-    if room.brackets == 0 {
+    if budget.brackets == 0 {
         return Err(LineFault::Malformed);
     }
-    sum_in(alloc, room.below().inside(), tokens)
+    take_sum(alloc, budget.below().inside(), tokens)
 }
 
 /// The same with the bracket that closes.
@@ -281,27 +281,27 @@ fn inside(
 #[tactic(auto, unfolding(crate::specs::inside::ExpressionReading::bracketed))]
 fn bracketed(
     alloc: Global,
-    room: Room,
+    budget: Budget,
     tokens: &[TokenKind],
 ) -> Result<(Operand, &[TokenKind]), LineFault>
-    ensures { Gives (λ x. (expression_of x.0, x.1.now)) result (bracketed (read_at room.variables room.calls) room.brackets tokens.now) }
+    ensures { Gives (λ x. (expression_of x.0, x.1.now)) result (bracketed (read_at budget.variables budget.calls) budget.brackets tokens.now) }
 {
-    let (sum, rest) = inside(alloc, room, tokens)?;
+    let (sum, rest) = inside(alloc, budget, tokens)?;
     Ok((sum, after_close(rest)?))
 }
 
 /// Two sums in brackets.
 #[cycle(descent)]
 #[tactic(auto, unfolding(crate::specs::inside::ExpressionReading::pair_of))]
-fn pair_in(
+fn take_pair(
     alloc: Global,
-    room: Room,
+    budget: Budget,
     tokens: &[TokenKind],
 ) -> Result<(Operand, Operand, &[TokenKind]), LineFault>
-    ensures { Gives (λ x. (expression_of x.0, expression_of x.1, x.2.now)) result (pair_of (read_at room.variables room.calls) room.brackets tokens.now) }
+    ensures { Gives (λ x. (expression_of x.0, expression_of x.1, x.2.now)) result (pair_of (read_at budget.variables budget.calls) budget.brackets tokens.now) }
 {
-    let (a, rest) = inside(alloc, room, after_open(tokens)?)?;
-    let (b, rest) = bracketed(alloc, room, after_comma(rest)?)?;
+    let (a, rest) = inside(alloc, budget, after_open(tokens)?)?;
+    let (b, rest) = bracketed(alloc, budget, after_comma(rest)?)?;
     Ok((a, b, rest))
 }
 
@@ -310,12 +310,12 @@ fn pair_in(
 fn whole_sum(alloc: Global, variables: u32, tokens: &[TokenKind]) -> Result<Expr, LineFault>
     ensures { Gives expression_of result (whole variables tokens.now) }
 {
-    let room = Room {
+    let budget = Budget {
         variables,
         calls: CALLS_LIMIT,
         brackets: BRACKETS_LIMIT,
     };
-    let (sum, rest) = sum_in(alloc, room, tokens)?;
+    let (sum, rest) = take_sum(alloc, budget, tokens)?;
     if !rest.is_empty() {
         return Err(LineFault::Malformed);
     }
@@ -331,13 +331,17 @@ fn count_of(variables: &Variables) -> u32
 }
 
 /// Reads an expression over the variables.
-pub fn expression_in(alloc: Global, variables: &Variables, rest: &[u8]) -> Result<Expr, LineFault>
+pub fn parse_expression(
+    alloc: Global,
+    variables: &Variables,
+    rest: &[u8],
+) -> Result<Expr, LineFault>
     requires few { length (variable_names variables.now) ≤ VARIABLES_LIMIT }
     requires differ { AllPairs (λ a b. a ≢ b) (variable_names variables.now) }
     requires names { All IsName (variable_names variables.now) }
     ensures found { IfOk result (λ e. AreTokensOf (variable_names variables.now) (flat_map tokens_of (words_of rest.now)) (expression_of e)) }
     ensures refused { result ≡ Err LineFault.Malformed → (e : Expression) → AreTokensOf (variable_names variables.now) (flat_map tokens_of (words_of rest.now)) e → ⊥ }
 {
-    let kinds = kinds_in(alloc, variables, rest)?;
+    let kinds = parse_kinds(alloc, variables, rest)?;
     whole_sum(alloc, count_of(variables), &kinds)
 }

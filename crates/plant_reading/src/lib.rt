@@ -16,7 +16,7 @@ mod token_kind;
 mod words;
 
 pub use line_fault::LineFault;
-pub use statements::{Statement, statement_in};
+pub use statements::{Statement, parse_statement};
 pub use words::blanks::is_skipped;
 pub use words::lines::{next_full_line, next_line};
-pub use words::numbers::number_of;
+pub use words::numbers::parse_number;

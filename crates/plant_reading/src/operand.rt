@@ -52,7 +52,7 @@ fn kept(alloc: Global, expr: Expr, nodes: u32, depth: u32) -> Result<Operand, Li
 }
 
 impl Operand {
-    pub fn number(alloc: Global, k: u64) -> Result<Operand, AllocError>
+    pub fn num(alloc: Global, k: u64) -> Result<Operand, AllocError>
         ensures { IfOk result (λ t. expression_of t ≡ NumExpr (pos k)) }
     {
         let expr = Box::new(alloc, Expr::Num(i128::from(k)))?;
@@ -63,7 +63,7 @@ impl Operand {
         })
     }
 
-    pub fn variable(alloc: Global, i: u32) -> Result<Operand, AllocError>
+    pub fn var(alloc: Global, i: u32) -> Result<Operand, AllocError>
         ensures { IfOk result (λ t. expression_of t ≡ VarExpr i) }
     {
         let expr = Box::new(alloc, Expr::Var(i))?;
@@ -92,19 +92,19 @@ impl Operand {
         (self.nodes + other.nodes + 1, deeper + 1)
     }
 
-    pub fn negated(self, alloc: Global) -> Result<Operand, LineFault>
+    pub fn neg(self, alloc: Global) -> Result<Operand, LineFault>
         ensures { Gives expression_of result (kept (NegExpr (expression_of self))) }
     {
         kept(alloc, Expr::Neg(self.expr), self.nodes + 1, self.depth + 1)
     }
 
-    pub fn size(self, alloc: Global) -> Result<Operand, LineFault>
+    pub fn abs(self, alloc: Global) -> Result<Operand, LineFault>
         ensures { Gives expression_of result (kept (AbsExpr (expression_of self))) }
     {
         kept(alloc, Expr::Abs(self.expr), self.nodes + 1, self.depth + 1)
     }
 
-    pub fn over(self, alloc: Global, k: u64) -> Result<Operand, LineFault>
+    pub fn div(self, alloc: Global, k: u64) -> Result<Operand, LineFault>
         ensures { Gives expression_of result (kept (DivExpr (expression_of self) (pos k))) }
     {
         kept(
@@ -115,7 +115,7 @@ impl Operand {
         )
     }
 
-    pub fn looked_up(self, alloc: Global, curve: Curve) -> Result<Operand, LineFault>
+    pub fn lut(self, alloc: Global, curve: Curve) -> Result<Operand, LineFault>
         ensures { Gives expression_of result (kept (LutExpr (expression_of self) curve)) }
     {
         kept(
@@ -126,35 +126,35 @@ impl Operand {
         )
     }
 
-    pub fn plus(self, alloc: Global, other: Operand) -> Result<Operand, LineFault>
+    pub fn add(self, alloc: Global, other: Operand) -> Result<Operand, LineFault>
         ensures { Gives expression_of result (kept (AddExpr (expression_of self) (expression_of other))) }
     {
         let (nodes, depth) = self.with(&other);
         kept(alloc, Expr::Add(self.expr, other.expr), nodes, depth)
     }
 
-    pub fn less(self, alloc: Global, other: Operand) -> Result<Operand, LineFault>
+    pub fn sub(self, alloc: Global, other: Operand) -> Result<Operand, LineFault>
         ensures { Gives expression_of result (kept (SubExpr (expression_of self) (expression_of other))) }
     {
         let (nodes, depth) = self.with(&other);
         kept(alloc, Expr::Sub(self.expr, other.expr), nodes, depth)
     }
 
-    pub fn times(self, alloc: Global, other: Operand) -> Result<Operand, LineFault>
+    pub fn mul(self, alloc: Global, other: Operand) -> Result<Operand, LineFault>
         ensures { Gives expression_of result (kept (MulExpr (expression_of self) (expression_of other))) }
     {
         let (nodes, depth) = self.with(&other);
         kept(alloc, Expr::Mul(self.expr, other.expr), nodes, depth)
     }
 
-    pub fn least(self, alloc: Global, other: Operand) -> Result<Operand, LineFault>
+    pub fn min(self, alloc: Global, other: Operand) -> Result<Operand, LineFault>
         ensures { Gives expression_of result (kept (MinExpr (expression_of self) (expression_of other))) }
     {
         let (nodes, depth) = self.with(&other);
         kept(alloc, Expr::Min(self.expr, other.expr), nodes, depth)
     }
 
-    pub fn greatest(self, alloc: Global, other: Operand) -> Result<Operand, LineFault>
+    pub fn max(self, alloc: Global, other: Operand) -> Result<Operand, LineFault>
         ensures { Gives expression_of result (kept (MaxExpr (expression_of self) (expression_of other))) }
     {
         let (nodes, depth) = self.with(&other);

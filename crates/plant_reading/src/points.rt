@@ -14,7 +14,7 @@ use std::alloc::Global;
 
 /// A number, and the tokens after it.
 #[tactic(auto, unfolding(crate::specs::inside::ExpressionReading::literal_at))]
-pub fn literal_in(tokens: &[TokenKind]) -> Result<(u64, &[TokenKind]), LineFault>
+pub fn take_literal(tokens: &[TokenKind]) -> Result<(u64, &[TokenKind]), LineFault>
     ensures number { Gives (λ x. (x.0, x.1.now)) result (literal_at tokens.now) }
     ensures short { IfOk result (λ x. x.0 < NUMBER_LIMIT) }
 {
@@ -26,11 +26,11 @@ pub fn literal_in(tokens: &[TokenKind]) -> Result<(u64, &[TokenKind]), LineFault
 
 /// A number of at least 1.
 #[tactic(auto, unfolding(crate::specs::inside::ExpressionReading::divisor_at))]
-pub fn divisor_in(tokens: &[TokenKind]) -> Result<(u64, &[TokenKind]), LineFault>
+pub fn take_divisor(tokens: &[TokenKind]) -> Result<(u64, &[TokenKind]), LineFault>
     ensures number { Gives (λ x. (x.0, x.1.now)) result (divisor_at tokens.now) }
     ensures short { IfOk result (λ x. x.0 < NUMBER_LIMIT) }
 {
-    let (k, rest) = literal_in(tokens)?;
+    let (k, rest) = take_literal(tokens)?;
     if k == 0 {
         return Err(LineFault::Malformed);
     }
@@ -39,17 +39,17 @@ pub fn divisor_in(tokens: &[TokenKind]) -> Result<(u64, &[TokenKind]), LineFault
 
 /// A number with its sign.
 #[tactic(auto, unfolding(crate::specs::inside::ExpressionReading::signed_at))]
-fn signed_in(tokens: &[TokenKind]) -> Result<(i128, &[TokenKind]), LineFault>
+fn take_signed(tokens: &[TokenKind]) -> Result<(i128, &[TokenKind]), LineFault>
     ensures number { Gives (λ x. (x.0, x.1.now)) result (signed_at tokens.now) }
     ensures short { IfOk result (λ x. nat_abs x.0 < NUMBER_LIMIT) }
 {
     match tokens {
         [TokenKind::Minus, rest @ ..] => {
-            let (k, rest) = divisor_in(rest)?;
+            let (k, rest) = take_divisor(rest)?;
             Ok((-i128::from(k), rest))
         }
         _ => {
-            let (k, rest) = literal_in(tokens)?;
+            let (k, rest) = take_literal(tokens)?;
             Ok((i128::from(k), rest))
         }
     }
@@ -66,19 +66,19 @@ fn after_colon(tokens: &[TokenKind]) -> Result<&[TokenKind], LineFault>
 
 /// A point.
 #[tactic(auto, unfolding(crate::specs::inside::ExpressionReading::point_at))]
-fn point_in(tokens: &[TokenKind]) -> Result<((i128, i128), &[TokenKind]), LineFault>
+fn take_point(tokens: &[TokenKind]) -> Result<((i128, i128), &[TokenKind]), LineFault>
     ensures point { Gives (λ x. (x.0, x.1.now)) result (point_at tokens.now) }
     ensures short { IfOk result (λ x. IsShort x.0) }
 {
-    let (x, rest) = signed_in(tokens)?;
+    let (x, rest) = take_signed(tokens)?;
     let rest = after_colon(rest)?;
-    let (y, rest) = signed_in(rest)?;
+    let (y, rest) = take_signed(rest)?;
     Ok(((x, y), rest))
 }
 
 /// At most so many points after others, each after a comma, and the bracket that closes.
 #[tactic(auto, unfolding(crate::specs::inside::ExpressionReading::points_at))]
-fn points_in(
+fn take_points(
     points: Vec<(i128, i128)>,
     limit: usize,
     tokens: &[TokenKind],
@@ -90,10 +90,10 @@ fn points_in(
     match tokens {
         [TokenKind::Close, rest @ ..] => Ok((points, rest)),
         [TokenKind::Comma, rest @ ..] if limit > 0 => {
-            let (point, rest) = point_in(rest)?;
+            let (point, rest) = take_point(rest)?;
             let mut points = points;
             points.push(point)?;
-            points_in(points, limit - 1, rest)
+            take_points(points, limit - 1, rest)
         }
         _ => Err(LineFault::Malformed),
     }
@@ -126,9 +126,9 @@ fn curve_through(alloc: Global, points: &[(i128, i128)]) -> Result<Curve, LineFa
 
 /// 2 to 32 points that rise with the bracket that closes, and the tokens after that.
 #[tactic(auto, unfolding(crate::specs::inside::ExpressionReading::curve_at))]
-pub fn curve_in(alloc: Global, tokens: &[TokenKind]) -> Result<(Curve, &[TokenKind]), LineFault>
+pub fn take_curve(alloc: Global, tokens: &[TokenKind]) -> Result<(Curve, &[TokenKind]), LineFault>
     ensures { Gives (λ x. (x.0, x.1.now)) result (curve_at tokens.now) }
 {
-    let (points, rest) = points_in(Vec::new(alloc), POINTS_LIMIT, tokens)?;
+    let (points, rest) = take_points(Vec::new(alloc), POINTS_LIMIT, tokens)?;
     Ok((curve_through(alloc, &points)?, rest))
 }

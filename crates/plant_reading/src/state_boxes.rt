@@ -6,13 +6,13 @@ ghost use Rattle.plant_reading.specs.inside.WordReaders.{Finds};
 ghost use Rattle.plant_reading.specs.inside.LineReaders.{SpellsBox};
 ghost use Rattle.base.specs.declared.limits.TheConstants.{STATES_LIMIT};
 
-use crate::declarations::ends_in;
+use crate::declarations::take_ends;
 use crate::line_fault::LineFault;
 use crate::words::expected::expect_end;
 use plant_record::StateBox;
 
 /// `LOW HIGH` for each state in turn. The positions past the states are 0.
-pub fn box_in(bytes: &[u8], states: usize) -> Result<StateBox, LineFault>
+pub fn parse_box(bytes: &[u8], states: usize) -> Result<StateBox, LineFault>
     requires { states ≤ STATES_LIMIT }
     ensures { Finds (λ b. b) (SpellsBox states (words_of bytes.now)) result }
 {
@@ -20,7 +20,7 @@ pub fn box_in(bytes: &[u8], states: usize) -> Result<StateBox, LineFault>
     let mut high = [0; 6];
     let mut rest = bytes;
     for i in 0..states {
-        let (least, greatest, after) = ends_in(rest)?;
+        let (least, greatest, after) = take_ends(rest)?;
         low[i] = least;
         high[i] = greatest;
         rest = after;

@@ -11,10 +11,10 @@ ghost use Rattle.plant_reading.specs.Statements.{Statement as Stated, States};
 ghost use Rattle.plant_reading.specs.Words.{words_of};
 ghost use Rattle.base.specs.declared.limits.TheConstants.{STATES_LIMIT, VARIABLES_LIMIT};
 
-use crate::declarations::{goal_in, input_in, noise_in, state_in, version_in};
-use crate::expression::expression_in;
+use crate::declarations::{parse_goal, parse_input, parse_noise, parse_state, parse_version};
+use crate::expression::parse_expression;
 use crate::line_fault::LineFault;
-use crate::state_boxes::box_in;
+use crate::state_boxes::parse_box;
 use crate::words::blanks::next_word;
 use crate::words::expected::{expect_end, expect_word};
 use fixed_expr::Expr;
@@ -81,7 +81,7 @@ fn text_of(keyword: Keyword) -> &'static [u8]
     }
 }
 
-fn keyword_of(word: &[u8]) -> Result<Keyword, LineFault>
+fn parse_keyword(word: &[u8]) -> Result<Keyword, LineFault>
     ensures { Finds (λ k. k) (λ k. word.now ≡ keyword_text k) result }
 {
     for keyword in KEYWORDS {
@@ -93,7 +93,7 @@ fn keyword_of(word: &[u8]) -> Result<Keyword, LineFault>
 }
 
 /// The statement of a line.
-pub fn statement_in<'a>(
+pub fn parse_statement<'a>(
     alloc: Global,
     variables: &Variables,
     line: &'a [u8],
@@ -108,7 +108,7 @@ pub fn statement_in<'a>(
     let Some((word, rest)) = next_word(line) else {
         return Err(LineFault::Malformed);
     };
-    let keyword = keyword_of(word)?;
+    let keyword = parse_keyword(word)?;
     statement_after(alloc, variables, keyword, rest)
 }
 
@@ -126,14 +126,14 @@ fn statement_after<'a>(
     ensures { Finds statement_of (States (variable_names variables.now) (length variables.now.states.items) (keyword_text keyword ∷ words_of bytes.now)) result }
 {
     match keyword {
-        Keyword::Plant => Ok(Statement::Version(version_in(bytes)?)),
-        Keyword::State => Ok(Statement::State(state_in(alloc, bytes)?)),
-        Keyword::Input => Ok(Statement::Input(input_in(alloc, bytes)?)),
-        Keyword::Noise => Ok(Statement::Noise(noise_in(alloc, bytes)?)),
+        Keyword::Plant => Ok(Statement::Version(parse_version(bytes)?)),
+        Keyword::State => Ok(Statement::State(parse_state(alloc, bytes)?)),
+        Keyword::Input => Ok(Statement::Input(parse_input(alloc, bytes)?)),
+        Keyword::Noise => Ok(Statement::Noise(parse_noise(alloc, bytes)?)),
         Keyword::Next => equation_after(alloc, variables, bytes),
-        Keyword::Target => Ok(Statement::Target(box_in(bytes, variables.states.len())?)),
-        Keyword::Obstacle => Ok(Statement::Obstacle(box_in(bytes, variables.states.len())?)),
-        Keyword::Goal => Ok(Statement::Goal(goal_in(bytes)?)),
+        Keyword::Target => Ok(Statement::Target(parse_box(bytes, variables.states.len())?)),
+        Keyword::Obstacle => Ok(Statement::Obstacle(parse_box(bytes, variables.states.len())?)),
+        Keyword::Goal => Ok(Statement::Goal(parse_goal(bytes)?)),
         Keyword::End => {
             expect_end(bytes)?;
             Ok(Statement::End)
@@ -156,6 +156,6 @@ fn equation_after<'a>(
         return Err(LineFault::Malformed);
     };
     let rest = expect_word(rest, b"=")?;
-    let equation = expression_in(alloc, variables, rest)?;
+    let equation = parse_expression(alloc, variables, rest)?;
     Ok(Statement::Next { state, equation })
 }

@@ -3,10 +3,10 @@
 ghost use Rattle.std.specs.Prelude.{◌≡◌, ◌≤◌, length, IfOk};
 ghost use Rattle.plant_record.specs.Parts.{variable_names};
 ghost use Rattle.plant_reading.specs.inside.LineTokens.{tokens_in};
-ghost use Rattle.plant_reading.specs.inside.TokenKinds.{AreNames, symbol_of, function_of, literal_of, leaf_of, kind_of, kinds_among};
+ghost use Rattle.plant_reading.specs.inside.TokenKinds.{AreNames, parse_symbol, parse_function, parse_literal, leaf_of, kind_of, kinds_among};
 ghost use Rattle.base.specs.declared.limits.TheConstants.{VARIABLES_LIMIT};
 
-use crate::words::numbers::number_of;
+use crate::words::numbers::parse_number;
 use crate::words::tokens::next_token;
 use plant_record::Variables;
 use std::alloc::{AllocError, Global};
@@ -18,8 +18,8 @@ pub enum TokenKind {
     Variable(u32),
     Plus,
     Minus,
-    Times,
-    Over,
+    Star,
+    Slash,
     Open,
     Close,
     Comma,
@@ -32,14 +32,14 @@ pub enum TokenKind {
     Other,
 }
 
-fn symbol_of(token: &[u8]) -> Option<TokenKind>
-    ensures { result ≡ symbol_of token.now }
+fn parse_symbol(token: &[u8]) -> Option<TokenKind>
+    ensures { result ≡ parse_symbol token.now }
 {
     match token {
         b"+" => Some(TokenKind::Plus),
         b"-" => Some(TokenKind::Minus),
-        b"*" => Some(TokenKind::Times),
-        b"/" => Some(TokenKind::Over),
+        b"*" => Some(TokenKind::Star),
+        b"/" => Some(TokenKind::Slash),
         b"(" => Some(TokenKind::Open),
         b")" => Some(TokenKind::Close),
         b"," => Some(TokenKind::Comma),
@@ -48,8 +48,8 @@ fn symbol_of(token: &[u8]) -> Option<TokenKind>
     }
 }
 
-fn function_of(token: &[u8]) -> Option<TokenKind>
-    ensures { result ≡ function_of token.now }
+fn parse_function(token: &[u8]) -> Option<TokenKind>
+    ensures { result ≡ parse_function token.now }
 {
     match token {
         b"min" => Some(TokenKind::Min),
@@ -61,10 +61,10 @@ fn function_of(token: &[u8]) -> Option<TokenKind>
 }
 
 /// The number that a token spells in its one spelling.
-fn literal_of(token: &[u8]) -> Option<u64>
-    ensures { result ≡ literal_of token.now }
+fn parse_literal(token: &[u8]) -> Option<u64>
+    ensures { result ≡ parse_literal token.now }
 {
-    let z = number_of(token)?;
+    let z = parse_number(token)?;
     if z < 0 {
         return None;
     }
@@ -79,7 +79,7 @@ fn leaf_of(variables: &Variables, token: &[u8]) -> TokenKind
 {
     match variables.position_of(token) {
         Some(i) => TokenKind::Variable(i),
-        None => match literal_of(token) {
+        None => match parse_literal(token) {
             Some(k) => TokenKind::Number(k),
             None => TokenKind::Other,
         },
@@ -91,17 +91,17 @@ fn kind_of(variables: &Variables, token: &[u8]) -> TokenKind
     requires names { AreNames (variable_names variables.now) }
     ensures { result ≡ kind_of (variable_names variables.now) token.now }
 {
-    if let Some(symbol) = symbol_of(token) {
+    if let Some(symbol) = parse_symbol(token) {
         return symbol;
     }
-    match function_of(token) {
+    match parse_function(token) {
         Some(function) => function,
         None => leaf_of(variables, token),
     }
 }
 
 /// The kinds of a line's tokens.
-pub fn kinds_in(
+pub fn parse_kinds(
     alloc: Global,
     variables: &Variables,
     bytes: &[u8],

@@ -1,5 +1,6 @@
 -- What a plant text describes: a sampled plant with its inputs, disturbances, targets and obstacles.
-use Rattle.std.specs.Prelude.{ℕ, ◌*◌, ◌/◌, ◌%◌, ℤ, pos, nat_abs, ◌+ℤ◌, ◌-ℤ◌, List, [], ◌∷◌, ◌++◌, length, map, slice_index_or}
+use Rattle.std.specs.Prelude.{ℕ, ◌/◌, ℤ, pos, nat_abs, ◌+ℤ◌, ◌-ℤ◌, List, [], ◌∷◌, ◌++◌, length, map, slice_index_or}
+use Rattle.mixed_radix.specs.Radix.{size, digits}
 use Rattle.grid_quantiser.specs.declared.axis.Axis.{Axis}
 use Rattle.fixed_expr.specs.Expression.{Expression}
 use Rattle.plant_record.specs.declared.variables.StateVariable.{StateVariable}
@@ -40,12 +41,20 @@ axis_of s = record { lo = s.low; width = s.width; count = count_of s }
 abbrev pub axes_of : Description → List Axis
 axes_of p = map axis_of p.states
 
+-- how many values each input variable has
+abbrev pub value_counts : List InputVariable → List ℕ
+value_counts inputs = map (λ (i : InputVariable). length i.values) inputs
+
 -- how many input vectors there are: the combinations of the input variables' values
 abbrev pub vectors_of : List InputVariable → ℕ
-vectors_of [] = 1
-vectors_of (i ∷ inputs) = length i.values * vectors_of inputs
+vectors_of inputs = size (value_counts inputs)
+
+-- the values at these indices, one of each variable
+abbrev pub values_of : List InputVariable → List ℕ → List ℤ
+values_of [] indices = []
+values_of (i ∷ inputs) [] = []
+values_of (i ∷ inputs) (k ∷ indices) = slice_index_or i.values k (pos 0) ∷ values_of inputs indices
 
 -- the input vector of a number, the first variable varying slowest
 abbrev pub vector_of : List InputVariable → ℕ → List ℤ
-vector_of [] u = []
-vector_of (i ∷ inputs) u = slice_index_or i.values (u / vectors_of inputs) (pos 0) ∷ vector_of inputs (u % vectors_of inputs)
+vector_of inputs u = values_of inputs (digits (value_counts inputs) u)

@@ -1,5 +1,5 @@
 -- How large a number a plant text may hold.
-use Rattle.std.specs.Prelude.{◌^◌, ◌<◌, ℤ, nat_abs}
+use Rattle.std.specs.Prelude.{◌<◌, ℤ, nat_abs}
 use Rattle.base.specs.declared.limits.TheConstants.{NUMBER_LIMIT}
 
 -- a number of at most 18 digits

@@ -9,7 +9,7 @@ use Rattle.base.specs.declared.limits.TheConstants.{STATES_LIMIT}
 abbrev pub AreEnds : ℤ → ℤ → Type 0
 AreEnds low high = IsLiteral low × IsLiteral high × (low ≤ℤ high)
 
--- The corners of a box of n states; the places past the states are 0.
+-- The corners of a box of n states; what stands past the states is 0.
 pub record IsStateBox (n : ℕ) (b : StateBox) : Type 0 where
   pub low_rest : b.low ≡ take n b.low ++ replicate (STATES_LIMIT - n) (pos 0)
   pub high_rest : b.high ≡ take n b.high ++ replicate (STATES_LIMIT - n) (pos 0)

@@ -1,17 +1,18 @@
--- The places of an input vector, as those of a cell along its axes.
-use Rattle.std.specs.Prelude.{◌≡◌, ℕ, ◌+◌, ◌/◌, ◌%◌, ◌<◌, pos, List, drop, length, map, slice_index_or}
+-- The indices of an input vector, as those of a cell along its axes.
+use Rattle.std.specs.Prelude.{◌≡◌, ℕ, ◌<◌, pos, List, length, slice_index_or}
+use Rattle.mixed_radix.specs.Radix.{digit}
 use Rattle.plant_record.specs.declared.variables.InputVariable.{InputVariable}
-use Rattle.plant_record.specs.Description.{vectors_of, vector_of}
+use Rattle.plant_record.specs.Description.{value_counts, vectors_of, vector_of}
 
 -- how many values an input variable has
 abbrev pub value_count : List InputVariable → ℕ → ℕ
-value_count inputs j = slice_index_or (map (λ (i : InputVariable). length i.values) inputs) j 0
+value_count inputs j = slice_index_or (value_counts inputs) j 0
 
--- the place of an input vector's value among those of a variable
+-- the index of an input vector's value among those of a variable
 abbrev pub value_index : List InputVariable → ℕ → ℕ → ℕ
-value_index inputs j u = u / vectors_of (drop (j + 1) inputs) % value_count inputs j
+value_index inputs j u = digit (value_counts inputs) j u
 
--- the value of a variable in an input vector rests on its place alone
+-- the value of a variable in an input vector depends on its index alone
 abbrev pub InputsDependOnTheirIndices : Type 0
 InputsDependOnTheirIndices =
     (inputs : List InputVariable) (j u v : ℕ) → j < length inputs → u < vectors_of inputs → v < vectors_of inputs →

@@ -41,12 +41,12 @@ impl<'a> Model for Equations<'a> {
 
 impl<'a> Equations<'a> {
     /// The equations of a plant, made ready for `step`. It takes no memory.
-    pub fn of(p: &'a Plant) -> Equations<'a>
+    pub fn new(p: &'a Plant) -> Equations<'a>
         ensures { result ≡ p.now }
     {
         let width = p.input_variables() as usize;
         let rows = input_rows(p);
-        let operations = Operations::of(p.equations(), p.states() as usize, width, &rows);
+        let operations = Operations::new(p.equations(), p.states() as usize, width, &rows);
         Equations {
             plant: p,
             operations,

@@ -16,7 +16,7 @@ pub fn vectors_have_one_each()
     ensures { VectorsHaveOneEach }
 {}
 
-/// The value of a variable in an input vector rests on its place among the variable's values alone.
+/// The value of a variable in an input vector depends on its index among the variable's values alone.
 pub fn inputs_depend_on_their_indices()
     ensures { InputsDependOnTheirIndices }
 {}

@@ -34,7 +34,7 @@ pub fn step_along(p: &Plant, x: &Point, input: u32, noise: &Point, state: u32) -
     eval(p.equation(state), &values[..p.variables() as usize])
 }
 
-/// The values of the variables, and 0 in the places past them.
+/// The values of the variables, and 0 past them.
 pub(crate) fn values_at(p: &Plant, x: &Point, input: u32, noise: &Point) -> [i128; VARIABLES_LIMIT]
     requires { input < vectors_of p.now.inputs }
     ensures { take (length (names_of p.now)) result ≡ values_at p.now x.now input noise.now }

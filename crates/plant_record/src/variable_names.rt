@@ -1,4 +1,4 @@
-//! The names of a plant's variables, by their places.
+//! The names of a plant's variables, by their positions.
 
 ghost use Rattle.std.specs.Prelude.{◌≡◌, ◌<◌, length, slice_get, Some};
 ghost use Rattle.plant_record.specs.Description.{names_over};
@@ -6,7 +6,7 @@ ghost use Rattle.plant_record.specs.Description.{names_over};
 use crate::variables::{InputVariable, Name, NoiseVariable, StateVariable};
 use std::marker::Model;
 
-/// The names of variables, by their places: those of the states come first, then those of the
+/// The names of variables, by their positions: those of the states come first, then those of the
 /// inputs, then those of the noises.
 #[derive(Drop)]
 pub struct Names<'a> {
@@ -25,7 +25,7 @@ impl<'a> Model for Names<'a> {
 }
 
 impl<'a> Names<'a> {
-    /// The name of the variable of a place.
+    /// The name of the variable at a position.
     pub fn name(&self, variable: u32) -> &'a Name
         requires { variable < length self.now }
         ensures { slice_get self.now variable ≡ Some result.now }

@@ -127,7 +127,7 @@ impl Variables {
         }
     }
 
-    /// The place of the variable of this name.
+    /// The position of the variable of this name.
     pub fn position_of(&self, name: &[u8]) -> Option<u32>
         requires { length (names_over self.now.states.items self.now.inputs.items self.now.noises.items) ≤ VARIABLES_LIMIT }
         ensures found { IfSome result (λ i. slice_get (names_over self.now.states.items self.now.inputs.items self.now.noises.items) i ≡ Some name.now) }

@@ -3,12 +3,13 @@ pub mod CanonicalFronts
 pub mod CanonicalLines
 pub mod CanonicalParts
 pub mod CanonicalTrees
-pub mod CanonicalWays
 pub mod CanonicalWords
 pub mod ExpressionTokens
+pub mod FrontGrammar
 pub mod FrontLineByLine
 pub mod LineByLine
 pub mod LineFaults
+pub mod LineGrammar
 pub mod LinesLead
 pub mod Lists
 pub mod PlantLines

@@ -1,5 +1,5 @@
 -- The canonical text of a plant at the front of some bytes, and the first line that isn't of one.
-use Rattle.std.specs.Prelude.{◌≡◌, ℕ, suc, ◌≤◌, false, List, [], ◌∷◌, ◌++◌, length, take, codes}
+use Rattle.std.specs.Prelude.{◌≡◌, ℕ, ◌≤◌, true, List, [], ◌∷◌, ◌++◌, length, take, codes}
 use Rattle.plant_text.specs.declared.plant_fault.PlantFault.{PlantFault}
 use Rattle.plant_text.specs.declared.plant_fault.PlantFault.TheVariants as faults
 use Rattle.plant_record.specs.Description.{Description}
@@ -9,7 +9,7 @@ use Rattle.plant_record.specs.Spelling.{line, version_word, goal_word}
 use Rattle.plant_writing.specs.CanonicalText.{text_of, state_line, input_line, noise_line, equation_line, box_line}
 use Rattle.plant_reading.specs.Statements.{Statement, Version, State, Input, Noise, Next, Target, Obstacle, Goal, End}
 use Rattle.plant_text.specs.Grammar.{PartialPlant, nothing_yet, names_in, IsStated}
-use Rattle.plant_reading.specs.Lines.{with_line_feeds}
+use Rattle.read_texts.specs.Steps.{IsFirstRefused}
 
 -- a statement's line in the canonical text, where the variables have these names and the first n are states
 abbrev pub statement_line : List (List ℕ) → ℕ → Statement → List ℕ
@@ -41,22 +41,17 @@ pub record ExtendsCanonically (q : PartialPlant) (words : List ℕ) (r : Partial
   pub spelling : words ++ codes "\n" ≡ statement_line (names_in q) (length q.states) stated.statement
   pub order : IsInOrder q stated.statement
 
--- lines lead in this way from one part to another
-abbrev pub LeadsCanonically : PartialPlant → List (List ℕ) → PartialPlant → Type 0
-LeadsCanonically q [] r = r ≡ q
-LeadsCanonically q (words ∷ lines) r = (m : PartialPlant) × ExtendsCanonically q words m × LeadsCanonically m lines r
+-- a piece of the bytes is such a line with its line feed
+abbrev pub FrontStep : PartialPlant → List ℕ → PartialPlant → Type 0
+FrontStep q piece r = (line : List ℕ) × (piece ≡ line ++ codes "\n") × ExtendsCanonically q line r
 
--- The n-th line, from 1, is the first that isn't one of a canonical plant text, or that has no line feed, or
--- that isn't there.
-pub record IsFirstRefusedAtFront (bytes : List ℕ) (n : ℕ) : Type 0 where
-  pub lines : List (List ℕ)
-  pub next : n ≡ suc (length lines)
-  pub part : PartialPlant
-  pub leads : LeadsCanonically nothing_yet lines part
-  pub goes_on : part.ended ≡ false
-  pub rest : List ℕ
-  pub are : bytes ≡ with_line_feeds lines ++ rest
-  pub refused : (words after : List ℕ) (r : PartialPlant) → rest ≡ words ++ codes "\n" ++ after → ExtendsCanonically part words r → ⊥
+-- the front is over after its line `end`
+abbrev pub IsFrontEnded : PartialPlant → List ℕ → Type 0
+IsFrontEnded q rest = q.ended ≡ true
+
+-- the n-th line, from 1, is the first that isn't one of a canonical plant text, or that has no line feed, or that isn't there
+abbrev pub IsFirstRefusedAtFront : List ℕ → ℕ → Type 0
+IsFirstRefusedAtFront bytes n = IsFirstRefused FrontStep IsFrontEnded nothing_yet bytes n
 
 -- the first so many bytes are the canonical text of a plant
 pub record IsFront (bytes : List ℕ) (p : Description) (count : ℕ) : Type 0 where

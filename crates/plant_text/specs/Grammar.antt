@@ -1,5 +1,5 @@
 -- The grammar of plant texts: which lines spell which plant, and which line is refused.
-use Rattle.std.specs.Prelude.{◌≡◌, ◌≢◌, ◌⊎◌, ℕ, suc, ◌<◌, ◌≤◌, Bool, true, false, List, [], ◌∷◌, ◌++◌, length, take, Option, Some, None, slice_index_or}
+use Rattle.std.specs.Prelude.{◌≡◌, ◌≢◌, ◌⊎◌, ℕ, ◌<◌, ◌≤◌, Bool, true, false, List, [], ◌∷◌, ◌++◌, length, Option, Some, None, slice_index_or}
 use Rattle.std.specs.List.{Contains}
 use Rattle.fixed_expr.specs.Expression.{Expression}
 use Rattle.plant_record.specs.declared.variables.StateVariable.{StateVariable}
@@ -15,6 +15,7 @@ use Rattle.plant_record.specs.Description.{Description, names_over}
 use Rattle.plant_reading.specs.Lines.{lines_of}
 use Rattle.plant_reading.specs.Words.{words_of, is_skipped}
 use Rattle.plant_reading.specs.Statements.{Statement, Version, State, Input, Noise, Next, Target, Obstacle, Goal, End, States}
+use Rattle.read_texts.specs.Steps.{IsReading, IsFirstRefused}
 use Rattle.base.specs.declared.limits.TheConstants.{BOXES_LIMIT, INPUTS_LIMIT, NOISES_LIMIT, STATES_LIMIT}
 
 -- The part of a plant that some lines spell.
@@ -33,6 +34,7 @@ pub record PartialPlant : Type 0 where
 abbrev pub nothing_yet : PartialPlant
 nothing_yet = record { version = None; states = []; inputs = []; noises = []; equations = []; targets = []; obstacles = []; goal = None; ended = false }
 
+-- the names of the variables that are declared so far
 abbrev pub names_in : PartialPlant → List (List ℕ)
 names_in q = names_over q.states q.inputs q.noises
 
@@ -79,14 +81,13 @@ pub record IsStated (q : PartialPlant) (line : List ℕ) (r : PartialPlant) : Ty
 abbrev pub Extends : PartialPlant → List ℕ → PartialPlant → Type 0
 Extends q line r = ((is_skipped line ≡ true) × (r ≡ q)) ⊎ IsStated q line r
 
--- lines lead from one part to another
-abbrev pub Leads : PartialPlant → List (List ℕ) → PartialPlant → Type 0
-Leads q [] r = r ≡ q
-Leads q (line ∷ lines) r = (m : PartialPlant) × Extends q line m × Leads m lines r
+-- a piece of a text's lines is one line, which leads from one part to the next
+abbrev pub LineStep : PartialPlant → List (List ℕ) → PartialPlant → Type 0
+LineStep q piece r = (line : List ℕ) × (piece ≡ line ∷ []) × Extends q line r
 
--- lines spell a part
-abbrev pub Reads : List (List ℕ) → PartialPlant → Type 0
-Reads lines q = Leads nothing_yet lines q
+-- a text is over where no line is left and its `end` stands
+abbrev pub IsEnded : PartialPlant → List (List ℕ) → Type 0
+IsEnded q rest = (rest ≡ []) × (q.ended ≡ true)
 
 -- a part is closed by its last line, and holds this plant
 pub record IsWhole (q : PartialPlant) (p : Description) : Type 0 where
@@ -102,13 +103,8 @@ pub record IsWhole (q : PartialPlant) (p : Description) : Type 0 where
 
 -- the bytes are a text of the plant
 abbrev pub Spells : List ℕ → Description → Type 0
-Spells bytes p = (q : PartialPlant) × Reads (lines_of bytes) q × IsWhole q p
+Spells bytes p = (q : PartialPlant) × IsReading LineStep IsEnded nothing_yet (lines_of bytes) q [] × IsWhole q p
 
--- The n-th line, from 1, is the first that doesn't fit after the lines before it, or the text ends before
--- its `end` and n is one more than its lines.
-pub record IsFirstRefused (lines : List (List ℕ)) (n : ℕ) : Type 0 where
-  pub before : ℕ
-  pub next : n ≡ suc before
-  pub part : PartialPlant
-  pub reads : Reads (take before lines) part
-  pub refused : ((before < length lines) × ((r : PartialPlant) → Reads (take n lines) r → ⊥)) ⊎ ((before ≡ length lines) × (part.ended ≡ false))
+-- the n-th line, from 1, is the first that is refused; where the text ends before its `end`, n is one more than its lines
+abbrev pub IsLineRefused : List (List ℕ) → ℕ → Type 0
+IsLineRefused lines n = IsFirstRefused LineStep IsEnded nothing_yet lines n

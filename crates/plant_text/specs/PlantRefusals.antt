@@ -6,7 +6,7 @@ use Rattle.plant_text.specs.declared.plant_fault.PlantFault.{PlantFault}
 use Rattle.plant_text.specs.declared.plant_fault.PlantFault.TheVariants as faults
 use Rattle.plant_record.specs.Description.{Description}
 use Rattle.plant_reading.specs.Lines.{lines_of}
-use Rattle.plant_text.specs.Grammar.{Spells, IsFirstRefused}
+use Rattle.plant_text.specs.Grammar.{Spells, IsLineRefused}
 use Rattle.plant_record.specs.Limits.{Exceeds}
 use Rattle.base.specs.declared.limits.TheConstants.{TEXT_LIMIT}
 
@@ -25,6 +25,6 @@ ExceedsLimit bytes Edges = ⊥
 
 -- why a plant text is refused; want of memory is the text's fault never
 abbrev pub IsRefusedFor : List ℕ → PlantFault → Type 0
-IsRefusedFor bytes (faults.Malformed line) = IsShort bytes × IsFirstRefused (lines_of bytes) line
+IsRefusedFor bytes (faults.Malformed line) = IsShort bytes × IsLineRefused (lines_of bytes) line
 IsRefusedFor bytes (faults.Limit what) = ExceedsLimit bytes what
 IsRefusedFor bytes faults.Memory = ⊥

@@ -20,7 +20,7 @@ use crate::statement_writer::is_canonical;
 use crate::version_rules::has_no_lut;
 use base::limits::{BOXES_LIMIT, INPUTS_LIMIT, NOISES_LIMIT, STATES_LIMIT};
 use fixed_expr::Expr;
-use plant_reading::{LineFault, Statement, is_skipped, statement_in};
+use plant_reading::{LineFault, Statement, is_skipped, parse_statement};
 use plant_record::{
     GoalKind, LimitKind, Name, Plant, PlantParts, PlantVersion, StateBox, Variables,
 };
@@ -67,7 +67,7 @@ impl Draft {
         if is_skipped(line) {
             return Ok(());
         }
-        let statement = statement_in(alloc, &self.variables, line)?;
+        let statement = parse_statement(alloc, &self.variables, line)?;
         if !self.fits(&statement) {
             return Err(LineFault::Malformed);
         }
@@ -87,7 +87,7 @@ impl Draft {
         ensures rules { OnOk result (KeepsRules (partial_of self.new)) }
         ensures refused { result ≡ Err Malformed → (r : PartialPlant) → ExtendsCanonically (partial_of self.old) line.now r → ⊥ }
     {
-        let statement = statement_in(alloc, &self.variables, line)?;
+        let statement = parse_statement(alloc, &self.variables, line)?;
         self.check_canonical(&statement, line, scratch)?;
         self.add(statement)
     }

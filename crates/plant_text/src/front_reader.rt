@@ -1,11 +1,10 @@
-ghost use Rattle.std.specs.Prelude.{◌≡◌, ◌≢◌, ◌+◌, ◌≤◌, length, take, IfOk, IfErr, true};
+ghost use Rattle.std.specs.Prelude.{◌≡◌, ◌≢◌, ◌+◌, ◌^◌, ◌<◌, ◌≤◌, length, take, IfOk, IfErr, true};
 ghost use Rattle.plant_text.specs.declared.plant_fault.PlantFault.TheVariants.{Memory};
 ghost use Rattle.plant_record.specs.Limits.{IsWithinLimits};
 ghost use Rattle.plant_text.specs.CanonicalFronts.{IsFront, IsFrontRefusedFor};
 ghost use Rattle.plant_text.specs.inside.PartialPlantText.{partial_text, IsOrderly};
 ghost use Rattle.plant_text.specs.inside.PartialPlantRules.{KeepsRules};
 ghost use Rattle.plant_text.specs.inside.DraftsInMemory.{partial_of};
-ghost use Rattle.base.specs.declared.limits.TheConstants.{TABLE_LIMIT};
 
 use crate::draft::Draft;
 use crate::plant_fault::{PlantFault, at_line};
@@ -22,9 +21,9 @@ pub struct Front {
 }
 
 /// Reads the canonical plant text with which some bytes begin, up to its line `end` and no further,
-/// or answers why there is none. The bytes are at most as many as a table text may have, 67,108,864.
+/// or answers why there is none. So many bytes have lines that 32 bits count.
 pub fn read_front(alloc: Global, bytes: &[u8]) -> Result<Front, PlantFault>
-    requires { length bytes.now ≤ TABLE_LIMIT }
+    requires { length bytes.now < 2 ^ 31 }
     ensures read { IfOk result (λ f. IsFront bytes.now f.plant f.length × IsWithinLimits f.plant) }
     ensures refused { IfErr result (λ fault. fault ≢ Memory → IsFrontRefusedFor bytes.now fault) }
 {
@@ -37,7 +36,7 @@ pub fn read_front(alloc: Global, bytes: &[u8]) -> Result<Front, PlantFault>
 
 /// Reads canonical lines up to the line `end`. Answers also how many bytes they are.
 fn read_lines(alloc: Global, bytes: &[u8]) -> Result<(Draft, usize), PlantFault>
-    requires { length bytes.now ≤ TABLE_LIMIT }
+    requires { length bytes.now < 2 ^ 31 }
     ensures rules { IfOk result (λ r. KeepsRules (partial_of r.0)) }
     ensures closed { IfOk result (λ r. r.0.ended ≡ true) }
     ensures orderly { IfOk result (λ r. IsOrderly (partial_of r.0)) }

@@ -1,7 +1,8 @@
-ghost use Rattle.std.specs.Prelude.{◌≡◌, ◌≢◌, ◌<◌, IfOk, IfErr, true};
+ghost use Rattle.std.specs.Prelude.{◌≡◌, ◌≢◌, ◌<◌, [], IfOk, IfErr, true};
 ghost use Rattle.plant_text.specs.declared.plant_fault.PlantFault.TheVariants.{Memory};
 ghost use Rattle.plant_reading.specs.Lines.{lines_of};
-ghost use Rattle.plant_text.specs.Grammar.{Reads, Spells};
+ghost use Rattle.read_texts.specs.Steps.{IsReading};
+ghost use Rattle.plant_text.specs.Grammar.{nothing_yet, LineStep, IsEnded, Spells};
 ghost use Rattle.plant_record.specs.Limits.{IsWithinLimits};
 ghost use Rattle.plant_text.specs.PlantRefusals.{IsShort, IsRefusedFor};
 ghost use Rattle.plant_text.specs.inside.PartialPlantRules.{KeepsRules};
@@ -34,7 +35,7 @@ pub fn read_plant(alloc: Global, bytes: &[u8]) -> Result<Plant, PlantFault>
 /// Reads the lines of a text, the last of which is `end` but for those that are passed over.
 fn read_lines(alloc: Global, bytes: &[u8]) -> Result<Draft, PlantFault>
     requires { IsShort bytes.now }
-    ensures read { IfOk result (λ d. Reads (lines_of bytes.now) (partial_of d)) }
+    ensures read { IfOk result (λ d. IsReading LineStep IsEnded nothing_yet (lines_of bytes.now) (partial_of d) []) }
     ensures rules { IfOk result (λ d. KeepsRules (partial_of d)) }
     ensures closed { IfOk result (λ d. d.ended ≡ true) }
     ensures refused { IfErr result (λ fault. fault ≢ Memory → IsRefusedFor bytes.now fault) }

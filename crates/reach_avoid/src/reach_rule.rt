@@ -1,4 +1,4 @@
-//! The rule of a reach game: the cut that leaves nothing of a pair bids on the pair's cell, and the cell's word tells its row.
+//! The rule of a reach game: the cut that leaves nothing of a pair makes an offer to the pair's cell, and the cell's word has its row.
 ghost use Rattle.std.specs.Prelude.{◌≡◌, ◌^◌, ◌<◌, ◌≤◌, Some};
 ghost use Rattle.game_core.specs.declared.game.Row.{Row};
 ghost use Rattle.game_core.specs.Game.{IsGraph, pairs_of};
@@ -104,7 +104,7 @@ fn is_goal(mark: Mark) -> bool
     }
 }
 
-/// The row that a word tells.
+/// The row that a word has.
 fn decoded_row(word: u64) -> Option<Row>
     requires { (row : Row) → row_in word ≡ Some row → row.rank < 2 ^ 32 }
     ensures { result ≡ row_in word }

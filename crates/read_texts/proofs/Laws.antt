@@ -6,9 +6,9 @@ use Rattle.read_texts.specs.Steps.{joined, Leads, IsRead, IsStuck, IsReading, Is
 
 -- ---- ways
 
-joined-append : {A : Type 0} (xs ys : List (List A)) → joined (xs ++ ys) ≡ joined xs ++ joined ys
-joined-append [] ys = refl
-joined-append (x ∷ xs) ys = ap (λ (z : _). x ++ z) (joined-append xs ys) ∙ sym (append_assoc x (joined xs) (joined ys))
+pub joined_more : {A : Type 0} (pieces : List (List A)) (piece : List A) → joined (pieces ++ piece ∷ []) ≡ joined pieces ++ piece
+joined_more [] piece = append-nil piece
+joined_more (x ∷ pieces) piece = ap (λ (z : _). x ++ z) (joined_more pieces piece) ∙ sym (append_assoc x (joined pieces) piece)
 
 pub joined_bytes : (xs : List (List ℕ)) → concat xs ≡ joined xs
 joined_bytes [] = refl
@@ -35,14 +35,13 @@ split_last Step q r (x ∷ pieces) piece leads =
     let l = split_last Step leads.0 r pieces piece leads.2 in
     (l.0, (leads.0, leads.1, l.1), l.2)
 
-pub read_on : {S A : Type 0} (Step : S → List A → S → Type 0) (from to r : S) (text rest piece behind : List A) (pieces : List (List A)) → IsRead Step from text pieces to rest → rest ≡ piece ++ behind → Step to piece r → IsRead Step from text (pieces ++ piece ∷ []) r behind
-read_on {A = A} Step from to r text rest piece behind pieces read cut step = record {
+pub read_on : {S A : Type 0} (Step : S → List A → S → Type 0) (from to r : S) (text rest piece after : List A) (pieces : List (List A)) → IsRead Step from text pieces to rest → rest ≡ piece ++ after → Step to piece r → IsRead Step from text (pieces ++ piece ∷ []) r after
+read_on {A = A} Step from to r text rest piece after pieces read cut step = record {
   leads = one_more Step from to r pieces piece read.leads step;
   are = read.are
       ∙ ap (λ (x : List A). joined pieces ++ x) cut
-      ∙ sym (append_assoc (joined pieces) piece behind)
-      ∙ ap (λ (x : List A). (joined pieces ++ x) ++ behind) (sym (append-nil piece))
-      ∙ ap (λ (x : List A). x ++ behind) (sym (joined-append pieces (piece ∷ [])));
+      ∙ sym (append_assoc (joined pieces) piece after)
+      ∙ ap (λ (x : List A). x ++ after) (sym (joined_more pieces piece));
 }
 
 -- The second way goes on where the first ends.
@@ -81,9 +80,9 @@ module _ {S A : Type 0} (Step : S → List A → S → Type 0) (Closed : S → L
   one_way q (x ∷ first) (y ∷ second) m n rest others is a b e =
       let both : x ++ (joined first ++ rest) ≡ y ++ (joined second ++ others) = sym (append_assoc x (joined first) rest) ∙ e ∙ append_assoc y (joined second) others in
       let same : x ≡ y = grammar.one_piece q a.0 b.0 x y (joined first ++ rest) (joined second ++ others) is a.1 b.1 both in
-      let behind : joined first ++ rest ≡ joined second ++ others = append_cancel_left x (joined first ++ rest) (joined second ++ others) (both ∙ ap (λ (z : List A). z ++ (joined second ++ others)) (sym same)) in
+      let after : joined first ++ rest ≡ joined second ++ others = append_cancel_left x (joined first ++ rest) (joined second ++ others) (both ∙ ap (λ (z : List A). z ++ (joined second ++ others)) (sym same)) in
       let state : b.0 ≡ a.0 = grammar.one_state q b.0 a.0 x is (subst (λ (z : List A). Step q z b.0) (sym same) b.1) a.1 in
-      elim (one_way a.0 first second m n rest others (grammar.met q a.0 x is a.1) a.2 (subst (λ (z : S). Leads Step z second n) state b.2) behind) [
+      elim (one_way a.0 first second m n rest others (grammar.met q a.0 x is a.1) a.2 (subst (λ (z : S). Leads Step z second n) state b.2) after) [
         | inl g ↦ inl (further Step x y first second m n rest others same g)
         | inr g ↦ inr (further Step y x second first n m others rest (sym same) g)
       ]
@@ -122,12 +121,12 @@ module _ {S A : Type 0} (Step : S → List A → S → Type 0) (Closed : S → L
       (e.state, e.rest)
 
   -- ONE FIRST REFUSAL, at one place and in one state
-  pub one_place : (q : S) (text : List A) (i j : ℕ) → IsMet q → (r : IsFirstRefused Step Closed q text i) → (s : IsFirstRefused Step Closed q text j) → AreEven r.pieces s.pieces r.to s.to r.rest s.rest
-  one_place q text i j is r s = one_end q text r.pieces s.pieces r.to s.to r.rest s.rest is r.read s.read r.stuck s.stuck
+  pub one_position : (q : S) (text : List A) (i j : ℕ) → IsMet q → (r : IsFirstRefused Step Closed q text i) → (s : IsFirstRefused Step Closed q text j) → AreEven r.pieces s.pieces r.to s.to r.rest s.rest
+  one_position q text i j is r s = one_end q text r.pieces s.pieces r.to s.to r.rest s.rest is r.read s.read r.stuck s.stuck
 
   pub one_refusal : (q : S) (text : List A) (i j : ℕ) → IsMet q → IsFirstRefused Step Closed q text i → IsFirstRefused Step Closed q text j → i ≡ j
   one_refusal q text i j is r s =
-      let e = one_place q text i j is r s in
+      let e = one_position q text i j is r s in
       r.next ∙ ap (λ (x : List (List A)). suc (length x)) e.pieces ∙ sym s.next
 
   -- NEVER BOTH
@@ -140,7 +139,7 @@ module _ {S A : Type 0} (Step : S → List A → S → Type 0) (Closed : S → L
 
   -- a piece leads on, or the text is closed, or neither
   pub data Look (q : S) (rest : List A) : Type 0 where
-    leads_on : (piece behind : List A) (r : S) → rest ≡ piece ++ behind → Step q piece r → Look q rest
+    leads_on : (piece after : List A) (r : S) → rest ≡ piece ++ after → Step q piece r → Look q rest
     is_closed : Closed q rest → Look q rest
     is_stuck : IsStuck Step q rest → (Closed q rest → ⊥) → Look q rest
 
@@ -149,26 +148,26 @@ module _ {S A : Type 0} (Step : S → List A → S → Type 0) (Closed : S → L
     is_read : (to : S) (rest : List A) → IsReading Step Closed q text to rest → Outcome q text
     is_refused : (n : ℕ) → IsFirstRefused Step Closed q text n → Outcome q text
 
-  shorter : (q m : S) (piece behind rest : List A) → IsMet q → rest ≡ piece ++ behind → Step q piece m → length behind < length rest
-  shorter q m [] behind rest is cut step = absurd (grammar.some q m behind is step)
-  shorter q m (b ∷ piece) behind rest is cut step = omega (arith, ap length cut, length-append (b ∷ piece) behind)
+  shorter : (q m : S) (piece after rest : List A) → IsMet q → rest ≡ piece ++ after → Step q piece m → length after < length rest
+  shorter q m [] after rest is cut step = absurd (grammar.some q m after is step)
+  shorter q m (b ∷ piece) after rest is cut step = omega (arith, ap length cut, length-append (b ∷ piece) after)
 
   -- One proof for both: where looking is a decision, Goal is the outcome; where it can't be denied alone, Goal is ⊥.
   module _ (Goal : Type 0) (look : (q : S) (rest : List A) → IsMet q → (Look q rest → Goal) → Goal) where
     -- at a look: reading ends, or goes on
-    at_look : (from : S) (text : List A) (pieces : List (List A)) (to : S) (rest : List A) → IsRead Step from text pieces to rest → (Outcome from text → Goal) → ((piece behind : List A) (r : S) → rest ≡ piece ++ behind → Step to piece r → Goal) → Look to rest → Goal
+    at_look : (from : S) (text : List A) (pieces : List (List A)) (to : S) (rest : List A) → IsRead Step from text pieces to rest → (Outcome from text → Goal) → ((piece after : List A) (r : S) → rest ≡ piece ++ after → Step to piece r → Goal) → Look to rest → Goal
     at_look from text pieces to rest read then on (is_closed closed) = then (is_read to rest (record { pieces = pieces; read = read; closed = closed }))
     at_look from text pieces to rest read then on (is_stuck stuck unclosed) = then (is_refused (suc (length pieces)) (record { pieces = pieces; next = refl; to = to; rest = rest; read = read; stuck = stuck; unclosed = unclosed }))
-    at_look from text pieces to rest read then on (leads_on piece behind r cut step) = on piece behind r cut step
+    at_look from text pieces to rest read then on (leads_on piece after r cut step) = on piece after r cut step
 
     read_from : (from : S) (text : List A) (fuel : ℕ) (pieces : List (List A)) (to : S) (rest : List A) → IsMet from → length rest ≤ fuel → IsRead Step from text pieces to rest → (Outcome from text → Goal) → Goal
     read_from from text zero pieces to rest is few read then =
         let here : IsMet to = met from pieces to is read.leads in
-        look to rest here (at_look from text pieces to rest read then (λ piece behind r cut step. absurd (omega (arith, few, shorter to r piece behind rest here cut step))))
+        look to rest here (at_look from text pieces to rest read then (λ piece after r cut step. absurd (omega (arith, few, shorter to r piece after rest here cut step))))
     read_from from text (suc n) pieces to rest is few read then =
         let here : IsMet to = met from pieces to is read.leads in
-        look to rest here (at_look from text pieces to rest read then (λ piece behind r cut step.
-        read_from from text n (pieces ++ piece ∷ []) r behind is (omega (arith, few, shorter to r piece behind rest here cut step)) (read_on {A = A} Step from to r text rest piece behind pieces read cut step) then))
+        look to rest here (at_look from text pieces to rest read then (λ piece after r cut step.
+        read_from from text n (pieces ++ piece ∷ []) r after is (omega (arith, few, shorter to r piece after rest here cut step)) (read_on {A = A} Step from to r text rest piece after pieces read cut step) then))
 
     pub some_outcome : (from : S) (text : List A) → IsMet from → (Outcome from text → Goal) → Goal
     some_outcome from text is then = read_from from text (length text) [] from text is (omega arith) (record { leads = refl; are = refl }) then
@@ -182,4 +181,4 @@ module _ {S A : Type 0} (Step : S → List A → S → Type 0) (Closed : S → L
   undeniable from text is deny = some_outcome ⊥ look from text is deny
     where
       look : (q : S) (rest : List A) → IsMet q → (Look q rest → ⊥) → ⊥
-      look q rest here deny = deny (is_stuck (λ piece behind r cut step. deny (leads_on piece behind r cut step)) (λ closed. deny (is_closed closed)))
+      look q rest here deny = deny (is_stuck (λ piece after r cut step. deny (leads_on piece after r cut step)) (λ closed. deny (is_closed closed)))

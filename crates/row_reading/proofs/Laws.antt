@@ -15,7 +15,7 @@ use Rattle.read_texts.specs.Steps.{IsRead, IsReading, IsFirstRefused, IsStuck}
 use Rattle.read_texts.proofs.Laws as texts
 use Rattle.row_reading.specs.declared.row_rules.RowRules.{RowRules}
 use Rattle.row_reading.specs.RowsTexts.{IsRunWithin, AreRowsWithin, row_lines, counted_lines, IsRowsText}
-use Rattle.row_reading.specs.RowSteps.{Place, Begin, Due, Done, RowStep, IsOver, IsRowRefused}
+use Rattle.row_reading.specs.RowSteps.{RowState, Begin, Due, Done, RowStep, IsOver, IsRowRefused}
 use Rattle.row_reading.specs.inside.RunReading.{IsSpelled, AreSmall}
 use Rattle.row_reading.specs.inside.ReadRows.{AreRunsWithin}
 use Rattle.row_reading.proofs.RunWords.{run_same}
@@ -29,7 +29,7 @@ heads : (x y : List ℕ) (xs ys : List (List ℕ)) → x ∷ xs ≡ y ∷ ys →
 heads x y xs ys e = cc
 
 module _ (rules : RowRules) (small : AreSmall rules) where
-  abbrev Met : Place → Type 0
+  abbrev Met : RowState → Type 0
   Met q = Unit {0}
 
   abbrev line_of : Run → List ℕ
@@ -75,4 +75,4 @@ module _ (rules : RowRules) (small : AreSmall rules) where
       lines_tell rows others h.within k.within (same_front (lines rows) (lines others) end_line (tails (count_line (length (lines rows))) (count_line (length (lines others))) (lines rows ++ end_line ∷ []) (lines others ++ end_line ∷ []) even.pieces))
     where
       stops : IsStuck (RowStep rules) Done []
-      stops piece behind r cut step = step
+      stops piece after r cut step = step

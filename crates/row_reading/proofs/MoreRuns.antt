@@ -78,6 +78,6 @@ module _ (rules : RowRules) (count : ℕ) (bytes : List ℕ) where
       to = Due (suc due) last;
       rest = rest;
       read = read.read;
-      stuck = λ piece behind q cut step. none (step.0, behind) (piece, step.1, cut);
+      stuck = λ piece bytes_after q cut step. none (step.0, bytes_after) (piece, step.1, cut);
       unclosed = λ closed. closed;
     }

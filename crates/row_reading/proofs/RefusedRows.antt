@@ -9,15 +9,15 @@ use Rattle.read_texts.specs.Steps.{joined, Leads, IsRead}
 use Rattle.read_texts.proofs.Laws.{joined_bytes, both_ways, other_steps}
 use Rattle.row_reading.specs.declared.row_rules.RowRules.{RowRules}
 use Rattle.row_reading.specs.RowsTexts.{row_lines, counted_lines, IsRowsText, AreRowsAt}
-use Rattle.row_reading.specs.RowSteps.{Place, Begin, Due, Done, RunStep, RowStep, IsOver, IsRowRefused, IsRunRefused}
+use Rattle.row_reading.specs.RowSteps.{RowState, Begin, Due, Done, RunStep, RowStep, IsOver, IsRowRefused, IsRunRefused}
 use Rattle.row_reading.proofs.RowGrammar.{IsDue, stays_due, row_step, stuck_too, not_over}
 use Rattle.row_reading.proofs.RowsRead.{counted_lead, all_lead, few_lines}
 
-few_pieces : (rules : RowRules) (n : ℕ) (last : Option Run) (pieces : List (List ℕ)) (to : Place) → Leads (RunStep rules) (Due n last) pieces to → length pieces ≤ n
+few_pieces : (rules : RowRules) (n : ℕ) (last : Option Run) (pieces : List (List ℕ)) (to : RowState) → Leads (RunStep rules) (Due n last) pieces to → length pieces ≤ n
 few_pieces rules n last [] to leads = omega arith
 few_pieces rules zero last (x ∷ pieces) to leads = absurd leads.1
 few_pieces rules (suc n) last (x ∷ pieces) to leads =
-    let less = few_pieces rules n (Some leads.1.0) pieces to (subst (λ (q : Place). Leads (RunStep rules) q pieces to) leads.1.2 leads.2) in
+    let less = few_pieces rules n (Some leads.1.0) pieces to (subst (λ (q : RowState). Leads (RunStep rules) q pieces to) leads.1.2 leads.2) in
     omega (arith, less)
 
 pub few_refused : (rules : RowRules) (count : ℕ) (bytes : List ℕ) (n : ℕ) → IsRunRefused rules count bytes n → n ≤ count + 1
@@ -31,7 +31,7 @@ module _ (rules : RowRules) (bytes : List ℕ) where
     to = Begin;
     rest = bytes;
     read = record { leads = refl; are = refl };
-    stuck = λ piece behind q cut step. none (step.0, behind) (step.1, cut ∙ ap (λ (x : List ℕ). x ++ behind) step.2);
+    stuck = λ piece after q cut step. none (step.0, after) (step.1, cut ∙ ap (λ (x : List ℕ). x ++ after) step.2);
     unclosed = λ over. over;
   }
 
@@ -70,7 +70,7 @@ module _ (rules : RowRules) (bytes : List ℕ) where
         to = Due 0 (counted_lead rules rows at.within).0;
         rest = rest;
         read = record { leads = (counted_lead rules rows at.within).1; are = sym begun };
-        stuck = λ piece behind q cut step. none behind (cut ∙ ap (λ (x : List ℕ). x ++ behind) step.0);
+        stuck = λ piece after q cut step. none after (cut ∙ ap (λ (x : List ℕ). x ++ after) step.0);
         unclosed = λ over. over;
       }
 
@@ -95,7 +95,7 @@ module _ (rules : RowRules) (bytes : List ℕ) where
         to = Done;
         rest = rest_after;
         read = record { leads = all_lead rules rows at.within; are = ended rest_after cut };
-        stuck = λ piece behind q from step. step;
+        stuck = λ piece after q from step. step;
         unclosed = some;
       }
 

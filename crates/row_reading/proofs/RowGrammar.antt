@@ -10,7 +10,7 @@ use Rattle.row_runs.proofs.RunWords.{count_is_line, end_is_line}
 use Rattle.read_texts.specs.Steps.{Leads, IsStuck, IsGrammar}
 use Rattle.row_reading.specs.declared.row_rules.RowRules.{RowRules}
 use Rattle.row_reading.specs.RowsTexts.{IsRunWithin}
-use Rattle.row_reading.specs.RowSteps.{Place, Begin, Due, Done, MayStandAfter, IsNextRow, RunStep, AreAll, RowStep, IsOver}
+use Rattle.row_reading.specs.RowSteps.{RowState, Begin, Due, Done, MayStandAfter, IsNextRow, RunStep, AreAll, RowStep, IsOver}
 use Rattle.row_reading.specs.inside.RunReading.{IsSpelled, AreSmall}
 use Rattle.row_reading.proofs.RunWords.{count_same, run_is_line, run_same}
 
@@ -38,85 +38,85 @@ module _ (rules : RowRules) (small : AreSmall rules) where
   row_same last r s line h k =
       run_same rules.version rules.format r s (spelled_run rules r small h.cells h.within) (spelled_run rules s small k.cells k.within) (sym h.line_is ∙ k.line_is)
 
-  step_is_line : (q m : Place) (x : List ℕ) → RowStep rules q x m → IsLine x
+  step_is_line : (q m : RowState) (x : List ℕ) → RowStep rules q x m → IsLine x
   step_is_line Begin m x h = subst IsLine (sym h.2) (count_is_line h.0 (few h.0 h.1))
   step_is_line (Due zero last) m x h = subst IsLine (sym h.0) end_is_line
   step_is_line (Due (suc n) last) m x h = row_is_line last h.0 x h.1
   step_is_line Done m x h = absurd h
 
-  one_state : (q m n : Place) (x : List ℕ) → RowStep rules q x m → RowStep rules q x n → m ≡ n
+  one_state : (q m n : RowState) (x : List ℕ) → RowStep rules q x m → RowStep rules q x n → m ≡ n
   one_state Begin m n x a b = a.3 ∙ ap (λ (k : ℕ). Due k None) (count_same a.0 b.0 (few a.0 a.1) (few b.0 b.1) (sym a.2 ∙ b.2)) ∙ sym b.3
   one_state (Due zero last) m n x a b = a.1 ∙ sym b.1
   one_state (Due (suc k) last) m n x a b = a.2 ∙ ap (λ (r : Run). Due k (Some r)) (row_same last a.0 b.0 x a.1 b.1) ∙ sym b.2
   one_state Done m n x a b = absurd a
 
-  stops : (q : Place) (rest : List ℕ) → IsOver q rest → IsStuck (RowStep rules) q rest
-  stops Begin rest over piece behind r cut step = over
-  stops (Due n last) rest over piece behind r cut step = over
-  stops Done rest over piece behind r cut step = step
+  stops : (q : RowState) (rest : List ℕ) → IsOver q rest → IsStuck (RowStep rules) q rest
+  stops Begin rest over piece after r cut step = over
+  stops (Due n last) rest over piece after r cut step = over
+  stops Done rest over piece after r cut step = step
 
   pub rows_are_grammar : IsGrammar (RowStep rules) IsOver (λ q. Unit {0})
   rows_are_grammar = record {
     one_piece = λ q m n x y rest others met a b e. (one_line x y rest others (step_is_line q m x a) (step_is_line q n y b) e).line;
     one_state = λ q m n x met a b. one_state q m n x a b;
     met = λ q m x met step. tt;
-    some = λ q m behind met step. some_byte (step_is_line q m [] step);
+    some = λ q m after met step. some_byte (step_is_line q m [] step);
     ends = λ q rest met over. stops q rest over;
   }
 
 -- ---- while rows are due
 
-abbrev pub IsDue : Place → Type 0
+abbrev pub IsDue : RowState → Type 0
 IsDue Begin = ⊥
 IsDue (Due n last) = Unit {0}
 IsDue Done = ⊥
 
 module _ (rules : RowRules) where
-  due_next : (q m : Place) (x : List ℕ) → RunStep rules q x m → IsDue m
+  due_next : (q m : RowState) (x : List ℕ) → RunStep rules q x m → IsDue m
   due_next Begin m x h = absurd h
   due_next (Due zero last) m x h = absurd h
   due_next (Due (suc n) last) m x h = subst IsDue (sym h.2) tt
   due_next Done m x h = absurd h
 
-  pub stays_due : (q r : Place) (pieces : List (List ℕ)) → IsDue q → Leads (RunStep rules) q pieces r → IsDue r
+  pub stays_due : (q r : RowState) (pieces : List (List ℕ)) → IsDue q → Leads (RunStep rules) q pieces r → IsDue r
   stays_due q r [] due leads = subst IsDue (sym leads) due
   stays_due q r (x ∷ pieces) due leads = stays_due leads.0 r pieces (due_next q leads.0 x leads.1) leads.2
 
-  pub row_step : (q m : Place) (x : List ℕ) → RunStep rules q x m → RowStep rules q x m
+  pub row_step : (q m : RowState) (x : List ℕ) → RunStep rules q x m → RowStep rules q x m
   row_step Begin m x h = absurd h
   row_step (Due zero last) m x h = absurd h
   row_step (Due (suc n) last) m x h = h
   row_step Done m x h = absurd h
 
-  pub stuck_too : (q : Place) (rest : List ℕ) → IsDue q → (AreAll q rest → ⊥) → IsStuck (RunStep rules) q rest → IsStuck (RowStep rules) q rest
+  pub stuck_too : (q : RowState) (rest : List ℕ) → IsDue q → (AreAll q rest → ⊥) → IsStuck (RunStep rules) q rest → IsStuck (RowStep rules) q rest
   stuck_too Begin rest due unclosed stuck = absurd due
   stuck_too (Due zero last) rest due unclosed stuck = absurd (unclosed tt)
   stuck_too (Due (suc n) last) rest due unclosed stuck = stuck
   stuck_too Done rest due unclosed stuck = absurd due
 
-  pub not_over : (q : Place) (rest : List ℕ) → IsDue q → IsOver q rest → ⊥
+  pub not_over : (q : RowState) (rest : List ℕ) → IsDue q → IsOver q rest → ⊥
   not_over Begin rest due over = over
   not_over (Due n last) rest due over = over
   not_over Done rest due over = due
 
   -- ---- how many lines there may be
 
-  few_done : (pieces : List (List ℕ)) (to : Place) → Leads (RowStep rules) Done pieces to → length pieces ≡ 0
+  few_done : (pieces : List (List ℕ)) (to : RowState) → Leads (RowStep rules) Done pieces to → length pieces ≡ 0
   few_done [] to leads = refl
   few_done (x ∷ pieces) to leads = absurd leads.1
 
-  few_due : (n : ℕ) (last : Option Run) (pieces : List (List ℕ)) (to : Place) → Leads (RowStep rules) (Due n last) pieces to → length pieces ≤ n + 1
+  few_due : (n : ℕ) (last : Option Run) (pieces : List (List ℕ)) (to : RowState) → Leads (RowStep rules) (Due n last) pieces to → length pieces ≤ n + 1
   few_due n last [] to leads = omega arith
   few_due zero last (x ∷ pieces) to leads =
-      let none = few_done pieces to (subst (λ (q : Place). Leads (RowStep rules) q pieces to) leads.1.1 leads.2) in
+      let none = few_done pieces to (subst (λ (q : RowState). Leads (RowStep rules) q pieces to) leads.1.1 leads.2) in
       omega (arith, none)
   few_due (suc n) last (x ∷ pieces) to leads =
-      let less = few_due n (Some leads.1.0) pieces to (subst (λ (q : Place). Leads (RowStep rules) q pieces to) leads.1.2 leads.2) in
+      let less = few_due n (Some leads.1.0) pieces to (subst (λ (q : RowState). Leads (RowStep rules) q pieces to) leads.1.2 leads.2) in
       omega (arith, less)
 
-  pub few_lines : (pieces : List (List ℕ)) (to : Place) → Leads (RowStep rules) Begin pieces to → length pieces ≤ rules.cells + 2
+  pub few_lines : (pieces : List (List ℕ)) (to : RowState) → Leads (RowStep rules) Begin pieces to → length pieces ≤ rules.cells + 2
   few_lines [] to leads = omega arith
   few_lines (x ∷ pieces) to leads =
-      let less = few_due leads.1.0 None pieces to (subst (λ (q : Place). Leads (RowStep rules) q pieces to) leads.1.3 leads.2) in
+      let less = few_due leads.1.0 None pieces to (subst (λ (q : RowState). Leads (RowStep rules) q pieces to) leads.1.3 leads.2) in
       let most = leads.1.1 in
       omega (arith, less, most)

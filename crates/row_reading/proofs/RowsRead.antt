@@ -17,7 +17,7 @@ use Rattle.read_texts.specs.Steps.{joined, Leads, IsRead}
 use Rattle.read_texts.proofs.Laws.{joined_bytes, both_ways}
 use Rattle.row_reading.specs.declared.row_rules.RowRules.{RowRules}
 use Rattle.row_reading.specs.RowsTexts.{IsRowWithin, IsRunWithin, AreRowsWithin, row_lines, counted_lines, IsRowsText, AreRowsAt}
-use Rattle.row_reading.specs.RowSteps.{Place, Begin, Due, Done, MayStandAfter, RunStep, RowStep}
+use Rattle.row_reading.specs.RowSteps.{RowState, Begin, Due, Done, MayStandAfter, RunStep, RowStep}
 use Rattle.row_reading.specs.inside.ReadRows.{AreRunsWithin, AreRead}
 
 -- ---- the runs of rows that rules allow

@@ -14,7 +14,7 @@ use Rattle.row_runs.specs.declared.run.Run.{Run}
 use Rattle.row_runs.specs.declared.run.TableVersion.{TableVersion}
 use Rattle.row_runs.specs.declared.run.TableVersion.TheVariants.{First, Second}
 use Rattle.row_runs.specs.RunText.{rank_field, input_field, run_line, count_line}
-use Rattle.row_reading.specs.RowsTexts.{TellsAll}
+use Rattle.row_reading.specs.RowsTexts.{Determines}
 use Rattle.row_reading.specs.inside.RunReading.{IsSpelled, IsSpelledRow, row_format, last_words}
 use Rattle.row_runs.proofs.Cuts.{one_cut}
 use Rattle.row_runs.proofs.Lines.{IsLine, no_feed}
@@ -88,7 +88,7 @@ told : (rank u v : ℕ) (b : Bool) → eqb rank 0 ≡ b → u < 2 ^ 32 → v < 2
 told rank u v true at hu hv zu zv e = let zero_is = eqb-true rank 0 at in zu zero_is ∙ sym (zv zero_is)
 told rank u v false at hu hv zu zv e = decimal_injective u v (omega arith) (omega arith) e
 
-same_input : (format : RowFormat) (rank u v : ℕ) → u < 2 ^ 32 → v < 2 ^ 32 → TellsAll format (record { rank = rank; input = u }) → TellsAll format (record { rank = rank; input = v }) → input_field format (record { rank = rank; input = u }) ≡ input_field format (record { rank = rank; input = v }) → u ≡ v
+same_input : (format : RowFormat) (rank u v : ℕ) → u < 2 ^ 32 → v < 2 ^ 32 → Determines format (record { rank = rank; input = u }) → Determines format (record { rank = rank; input = v }) → input_field format (record { rank = rank; input = u }) ≡ input_field format (record { rank = rank; input = v }) → u ≡ v
 same_input InputAboveZero rank u v hu hv zu zv e = told rank u v (eqb rank 0) refl hu hv zu zv e
 same_input InputAlone rank u v hu hv zu zv e = decimal_injective u v (omega arith) (omega arith) e
 same_input Both rank u v hu hv zu zv e = decimal_injective u v (omega arith) (omega arith) e
@@ -97,7 +97,7 @@ same_row : (format : RowFormat) (a b : Row) → IsSpelledRow format a → IsSpel
 same_row format a b s t ranks inputs =
     let rank : a.rank ≡ b.rank = same_rank format a b s t ranks in
     let moved : input_field format (record { rank = b.rank; input = a.input }) ≡ input_field format b = subst (λ (k : ℕ). input_field format (record { rank = k; input = a.input }) ≡ input_field format b) rank inputs in
-    let tells : TellsAll format (record { rank = b.rank; input = a.input }) = subst (λ (k : ℕ). TellsAll format (record { rank = k; input = a.input })) rank s.tells in
+    let tells : Determines format (record { rank = b.rank; input = a.input }) = subst (λ (k : ℕ). Determines format (record { rank = k; input = a.input })) rank s.tells in
     let input : a.input ≡ b.input = same_input format b.rank a.input b.input s.input t.input tells t.tells moved in
     ap (λ (k : ℕ). record { rank = k; input = a.input }) rank ∙ ap (λ (u : ℕ). record { rank = b.rank; input = u }) input
 

@@ -12,12 +12,12 @@ use Rattle.row_runs.specs.declared.run.TableVersion.{TableVersion}
 use Rattle.row_runs.specs.Runs.{AreRuns, MayLead, Gives, EncodeRows, runs_from}
 use Rattle.row_runs.specs.RunText.{run_line, count_line, end_line}
 use Rattle.row_runs.proofs.RunLaws.{runs_encode, one_list}
-use Rattle.row_runs.proofs.Telling.{begin_later, gives_above}
+use Rattle.row_runs.proofs.Encoding.{begin_later, gives_above}
 use Rattle.read_texts.specs.Steps.{joined, Leads, IsRead, IsReading}
 use Rattle.read_texts.proofs.Laws.{Outcome, is_read, is_refused, joined_bytes, undeniable}
 use Rattle.row_reading.specs.declared.row_rules.RowRules.{RowRules}
 use Rattle.row_reading.specs.RowsTexts.{IsRunWithin, row_lines, counted_lines, IsRowsText}
-use Rattle.row_reading.specs.RowSteps.{Place, Begin, Due, Done, MayStandAfter, RowStep, IsOver, IsRowRefused}
+use Rattle.row_reading.specs.RowSteps.{RowState, Begin, Due, Done, MayStandAfter, RowStep, IsOver, IsRowRefused}
 use Rattle.row_reading.specs.inside.RunReading.{AreSmall}
 use Rattle.row_reading.specs.inside.ReadRows.{AreRunsWithin}
 use Rattle.row_reading.proofs.RowGrammar.{rows_are_grammar}
@@ -144,12 +144,12 @@ module _ (rules : RowRules) where
   due_told : (n : ℕ) (last : Option Run) (lines : List (List ℕ)) → Leads (RowStep rules) (Due n last) lines Done → AreTold n last lines
   due_told n last [] leads = absurd (not_done n last leads)
   due_told zero last (x ∷ lines) leads =
-      let none = none_after lines (subst (λ (q : Place). Leads (RowStep rules) q lines Done) leads.1.1 leads.2) in
+      let none = none_after lines (subst (λ (q : RowState). Leads (RowStep rules) q lines Done) leads.1.1 leads.2) in
       record { runs = []; order = tt; follows = none_follows last; each = tt; counted = refl; are = ap (λ (y : List ℕ). y ∷ lines) leads.1.0 ∙ ap (λ (ys : List (List ℕ)). end_line ∷ ys) none }
   due_told (suc n) last (x ∷ lines) leads =
       let r : Run = leads.1.0 in
       let next = leads.1.1 in
-      let more = due_told n (Some r) lines (subst (λ (q : Place). Leads (RowStep rules) q lines Done) leads.1.2 leads.2) in
+      let more = due_told n (Some r) lines (subst (λ (q : RowState). Leads (RowStep rules) q lines Done) leads.1.2 leads.2) in
       record {
         runs = r ∷ more.runs;
         order = (next.cells, more.follows, more.order);
@@ -186,10 +186,10 @@ module _ (rules : RowRules) where
   lines_told bytes [] read = absurd (not_begin read.leads)
   lines_told bytes (x ∷ lines) read =
       let n : ℕ = (read.leads).1.0 in
-      let told = due_told n None lines (subst (λ (q : Place). Leads (RowStep rules) q lines Done) (read.leads).1.3 (read.leads).2) in
+      let told = due_told n None lines (subst (λ (q : RowState). Leads (RowStep rules) q lines Done) (read.leads).1.3 (read.leads).2) in
       rows_told n bytes lines (read.are ∙ ap (λ (y : List ℕ). joined (y ∷ lines) ++ []) (read.leads).1.2) told
 
-  text_told : (bytes : List ℕ) (to : Place) (rest : List ℕ) (lines : List (List ℕ)) → IsOver to rest → IsRead (RowStep rules) Begin bytes lines to rest → (rows : List (Option Row)) × IsRowsText rules bytes rows
+  text_told : (bytes : List ℕ) (to : RowState) (rest : List ℕ) (lines : List (List ℕ)) → IsOver to rest → IsRead (RowStep rules) Begin bytes lines to rest → (rows : List (Option Row)) × IsRowsText rules bytes rows
   text_told bytes Begin rest lines over read = absurd over
   text_told bytes (Due n last) rest lines over read = absurd over
   text_told bytes Done rest lines over read = lines_told bytes lines (subst (λ (x : List ℕ). IsRead (RowStep rules) Begin bytes lines Done x) over read)

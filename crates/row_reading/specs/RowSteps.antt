@@ -11,10 +11,10 @@ use Rattle.row_reading.specs.declared.row_rules.RowRules.{RowRules}
 use Rattle.row_reading.specs.RowsTexts.{IsRunWithin}
 
 -- nothing stands yet; so many rows are due after the last one; all stand
-pub data Place : Type 0 where
-  Begin : Place
-  Due : (rows : ℕ) (last : Option Run) → Place
-  Done : Place
+pub data RowState : Type 0 where
+  Begin : RowState
+  Due : (rows : ℕ) (last : Option Run) → RowState
+  Done : RowState
 
 -- a run may stand after the last one, if there is one
 abbrev pub MayStandAfter : TableVersion → Option Run → Run → Type 0
@@ -29,28 +29,28 @@ pub record IsNextRow (rules : RowRules) (last : Option Run) (r : Run) (line : Li
   pub line_is : line ≡ run_line rules.version rules.format r
 
 -- while rows are due, a row line leads on
-abbrev pub RunStep : RowRules → Place → List ℕ → Place → Type 0
+abbrev pub RunStep : RowRules → RowState → List ℕ → RowState → Type 0
 RunStep rules Begin line to = ⊥
 RunStep rules (Due zero last) line to = ⊥
 RunStep rules (Due (suc n) last) line to = (r : Run) × IsNextRow rules last r line × (to ≡ Due n (Some r))
 RunStep rules Done line to = ⊥
 
 -- no row is due any more
-abbrev pub AreAll : Place → List ℕ → Type 0
+abbrev pub AreAll : RowState → List ℕ → Type 0
 AreAll Begin rest = ⊥
 AreAll (Due zero last) rest = Unit {0}
 AreAll (Due (suc n) last) rest = ⊥
 AreAll Done rest = ⊥
 
 -- a line leads from one place to the next
-abbrev pub RowStep : RowRules → Place → List ℕ → Place → Type 0
+abbrev pub RowStep : RowRules → RowState → List ℕ → RowState → Type 0
 RowStep rules Begin line to = (n : ℕ) × (n ≤ rules.cells) × (line ≡ count_line n) × (to ≡ Due n None)
 RowStep rules (Due zero last) line to = (line ≡ end_line) × (to ≡ Done)
 RowStep rules (Due (suc n) last) line to = RunStep rules (Due (suc n) last) line to
 RowStep rules Done line to = ⊥
 
 -- the rows are told after the end, with no bytes left
-abbrev pub IsOver : Place → List ℕ → Type 0
+abbrev pub IsOver : RowState → List ℕ → Type 0
 IsOver Begin rest = ⊥
 IsOver (Due n last) rest = ⊥
 IsOver Done rest = rest ≡ []

@@ -11,14 +11,14 @@ use Rattle.row_runs.specs.RunText.{run_line, count_line, end_line}
 use Rattle.row_reading.specs.declared.row_rules.RowRules.{RowRules}
 
 -- what the words of a row don't tell is 0
-abbrev pub TellsAll : RowFormat → Row → Type 0
-TellsAll InputAboveZero row = row.rank ≡ 0 → row.input ≡ 0
-TellsAll InputAlone row = row.rank ≡ 0
-TellsAll Both row = Unit {0}
+abbrev pub Determines : RowFormat → Row → Type 0
+Determines InputAboveZero row = row.rank ≡ 0 → row.input ≡ 0
+Determines InputAlone row = row.rank ≡ 0
+Determines Both row = Unit {0}
 
 -- A row that a cell may have.
 pub record IsRowWithin (rules : RowRules) (row : Row) : Type 0 where
-  pub told : TellsAll rules.format row
+  pub told : Determines rules.format row
   pub least : rules.least_rank ≤ row.rank
   pub most : row.rank ≤ rules.most_rank
   pub input : row.input < rules.vectors

@@ -14,6 +14,6 @@ mod run_reader;
 
 pub use front::{after_prefix, line_count};
 pub use row_fault::RowFault;
-pub use row_numbers::number_to;
-pub use row_reader::{read_rows, rows_in};
+pub use row_numbers::take_number;
+pub use row_reader::{read_rows, take_rows};
 pub use row_rules::RowRules;

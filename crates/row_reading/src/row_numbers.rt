@@ -6,7 +6,7 @@ ghost use Rattle.row_reading.specs.Found.{Finds};
 ghost use Rattle.row_reading.specs.Numbers.{IsNumberTo};
 
 /// The number that is spelled up to this byte, which is no digit, and what stands after that byte.
-pub fn number_to(bytes: &[u8], stop: u8) -> Option<(u32, &[u8])>
+pub fn take_number(bytes: &[u8], stop: u8) -> Option<(u32, &[u8])>
     requires { is_digit stop ≡ false }
     ensures { Finds (λ r. (r.0, r.1.now)) (IsNumberTo stop bytes.now) result }
 {

@@ -9,9 +9,9 @@ ghost use Rattle.row_reading.specs.RowSteps.{IsRowRefused, IsRunRefused, IsRefus
 
 use crate::front::after_prefix;
 use crate::row_fault::RowFault;
-use crate::row_numbers::number_to;
+use crate::row_numbers::take_number;
 use crate::row_rules::RowRules;
-use crate::run_reader::run_in;
+use crate::run_reader::take_run_within;
 use game_core::Answer;
 use row_runs::fill_run;
 use std::alloc::Global;
@@ -22,10 +22,10 @@ pub fn read_rows(alloc: Global, rules: RowRules, bytes: &[u8]) -> Result<Answer,
     ensures read { IfOk result (λ answer. IsRowsText rules bytes.now answer) }
     ensures refused { IfErr result (λ fault. IsRefusedAt (IsRowRefused rules bytes.now) fault) }
 {
-    let Some((count, rest)) = count_in(bytes, rules.cells) else {
+    let Some((count, rest)) = take_count(bytes, rules.cells) else {
         return Err(RowFault::Malformed { line: 1 });
     };
-    match rows_in(alloc, rules, count, rest) {
+    match take_rows(alloc, rules, count, rest) {
         Ok((answer, rest)) => match after_prefix(rest, b"end\n") {
             Some([]) => Ok(answer),
             Some(_) => Err(RowFault::Malformed { line: count + 3 }),
@@ -37,7 +37,7 @@ pub fn read_rows(alloc: Global, rules: RowRules, bytes: &[u8]) -> Result<Answer,
 }
 
 /// The rows of so many lines at the front, and what stands after them.
-pub fn rows_in(
+pub fn take_rows(
     alloc: Global,
     rules: RowRules,
     count: u32,
@@ -51,7 +51,7 @@ pub fn rows_in(
     let mut rest = bytes;
     let mut before = None;
     for at in 0..count {
-        let Some((run, after)) = run_in(rules, before, rest) else {
+        let Some((run, after)) = take_run_within(rules, before, rest) else {
             return Err(RowFault::Malformed { line: at + 1 });
         };
         fill_run(&mut answer, run);
@@ -62,11 +62,11 @@ pub fn rows_in(
 }
 
 /// The number of row lines, which is at most this, and what stands after its line.
-fn count_in(bytes: &[u8], most: u32) -> Option<(u32, &[u8])>
+fn take_count(bytes: &[u8], most: u32) -> Option<(u32, &[u8])>
     ensures { Finds (λ r. (r.0, r.1.now)) (λ (y : ℕ × List ℕ). (y.0 ≤ most) × (bytes.now ≡ count_line y.0 ++ y.1)) result }
 {
     let number = after_prefix(bytes, b"rows ")?;
-    let (count, after) = number_to(number, b'\n')?;
+    let (count, after) = take_number(number, b'\n')?;
     if count <= most {
         Some((count, after))
     } else {

@@ -8,17 +8,21 @@ ghost use Rattle.row_reading.specs.Found.{Finds};
 ghost use Rattle.row_reading.specs.inside.RunReading.{AreSmall, IsLastAt, IsRowAt, IsRunAt, IsNextRunAt};
 
 use crate::front::after_prefix;
-use crate::row_numbers::number_to;
+use crate::row_numbers::take_number;
 use crate::row_rules::RowRules;
 use game_core::Row;
 use row_runs::{RowFormat, Run, TableVersion};
 
 /// The run at the front that may come after the one before it, and what stands after its line.
-pub(crate) fn run_in(rules: RowRules, before: Option<Run>, bytes: &[u8]) -> Option<(Run, &[u8])>
+pub(crate) fn take_run_within(
+    rules: RowRules,
+    before: Option<Run>,
+    bytes: &[u8],
+) -> Option<(Run, &[u8])>
     requires { AreSmall rules }
     ensures { Finds (λ r. (r.0, r.1.now)) (IsNextRunAt rules before bytes.now) result }
 {
-    let (run, after) = run_at(rules.version, rules.format, bytes)?;
+    let (run, after) = take_run(rules.version, rules.format, bytes)?;
     if may_follow(rules.version, before, run) && is_within(rules, run) {
         Some((run, after))
     } else {
@@ -27,29 +31,29 @@ pub(crate) fn run_in(rules: RowRules, before: Option<Run>, bytes: &[u8]) -> Opti
 }
 
 /// The run whose line stands at the front, and what stands after it.
-fn run_at(version: TableVersion, format: RowFormat, bytes: &[u8]) -> Option<(Run, &[u8])>
+fn take_run(version: TableVersion, format: RowFormat, bytes: &[u8]) -> Option<(Run, &[u8])>
     ensures { Finds (λ r. (r.0, r.1.now)) (IsRunAt version format bytes.now) result }
 {
-    let (first, more) = number_to(bytes, b' ')?;
-    let (last, words) = last_at(version, first, more)?;
-    let (row, after) = row_at(format, words)?;
+    let (first, more) = take_number(bytes, b' ')?;
+    let (last, words) = take_last(version, first, more)?;
+    let (row, after) = take_row(format, words)?;
     Some((Run { first, last, row }, after))
 }
 
 /// The last cell of the run with this first one, and what stands after its space.
-fn last_at(version: TableVersion, first: u32, words: &[u8]) -> Option<(u32, &[u8])>
+fn take_last(version: TableVersion, first: u32, words: &[u8]) -> Option<(u32, &[u8])>
     ensures { Finds (λ r. (r.0, r.1.now)) (IsLastAt version first words.now) result }
 {
     match version {
         TableVersion::First => Some((first, words)),
-        TableVersion::Second => last_from(first, words),
+        TableVersion::Second => take_last_from(first, words),
     }
 }
 
-fn last_from(first: u32, words: &[u8]) -> Option<(u32, &[u8])>
+fn take_last_from(first: u32, words: &[u8]) -> Option<(u32, &[u8])>
     ensures { Finds (λ r. (r.0, r.1.now)) (IsLastAt TableVersion.Second first words.now) result }
 {
-    let (last, after) = number_to(words, b' ')?;
+    let (last, after) = take_number(words, b' ')?;
     if first <= last {
         Some((last, after))
     } else {
@@ -58,41 +62,41 @@ fn last_from(first: u32, words: &[u8]) -> Option<(u32, &[u8])>
 }
 
 /// The row whose words stand at the front, and what stands after their line.
-fn row_at(format: RowFormat, words: &[u8]) -> Option<(Row, &[u8])>
+fn take_row(format: RowFormat, words: &[u8]) -> Option<(Row, &[u8])>
     ensures { Finds (λ r. (r.0, r.1.now)) (IsRowAt format words.now) result }
 {
     match format {
-        RowFormat::InputAboveZero => ranked_row_at(words),
-        RowFormat::InputAlone => unranked_row_at(words),
-        RowFormat::Both => full_row_at(words),
+        RowFormat::InputAboveZero => take_ranked_row(words),
+        RowFormat::InputAlone => take_unranked_row(words),
+        RowFormat::Both => take_full_row(words),
     }
 }
 
-fn ranked_row_at(words: &[u8]) -> Option<(Row, &[u8])>
+fn take_ranked_row(words: &[u8]) -> Option<(Row, &[u8])>
     ensures { Finds (λ r. (r.0, r.1.now)) (IsRowAt RowFormat.InputAboveZero words.now) result }
 {
-    let (rank, word) = number_to(words, b' ')?;
+    let (rank, word) = take_number(words, b' ')?;
     if rank == 0 {
         let after = after_prefix(word, b"-\n")?;
         return Some((Row { rank, input: 0 }, after));
     }
-    let (input, after) = number_to(word, b'\n')?;
+    let (input, after) = take_number(word, b'\n')?;
     Some((Row { rank, input }, after))
 }
 
-fn unranked_row_at(words: &[u8]) -> Option<(Row, &[u8])>
+fn take_unranked_row(words: &[u8]) -> Option<(Row, &[u8])>
     ensures { Finds (λ r. (r.0, r.1.now)) (IsRowAt RowFormat.InputAlone words.now) result }
 {
     let word = after_prefix(words, b"- ")?;
-    let (input, after) = number_to(word, b'\n')?;
+    let (input, after) = take_number(word, b'\n')?;
     Some((Row { rank: 0, input }, after))
 }
 
-fn full_row_at(words: &[u8]) -> Option<(Row, &[u8])>
+fn take_full_row(words: &[u8]) -> Option<(Row, &[u8])>
     ensures { Finds (λ r. (r.0, r.1.now)) (IsRowAt RowFormat.Both words.now) result }
 {
-    let (rank, word) = number_to(words, b' ')?;
-    let (input, after) = number_to(word, b'\n')?;
+    let (rank, word) = take_number(words, b' ')?;
+    let (input, after) = take_number(word, b'\n')?;
     Some((Row { rank, input }, after))
 }
 

@@ -1,4 +1,4 @@
-pub mod Telling
+pub mod Encoding
 pub mod Uniqueness
 pub mod NextRun
 pub mod NextRows

@@ -7,7 +7,7 @@ use Rattle.game_core.specs.Solution.{row_of}
 use Rattle.row_runs.specs.declared.run.TableVersion.{TableVersion}
 use Rattle.row_runs.specs.Runs.{HasCells, AreRuns, Gives}
 use Rattle.row_runs.specs.inside.AddedRuns.{MayEnd, OneRunMore}
-use Rattle.row_runs.proofs.Telling.{forward, later}
+use Rattle.row_runs.proofs.Encoding.{forward, later}
 use Rattle.std.proofs.lemmas.Option.{same_Some}
 
 pub are_more : (v : TableVersion) (runs : List Run) (r : Run) → AreRuns v runs → HasCells v r → MayEnd v runs r → AreRuns v (runs ++ r ∷ [])
@@ -56,19 +56,19 @@ gives_either (x ∷ runs) r c row given = elim given [
 ]
 
 pub one_more : OneRunMore
-one_more v runs r rows after are cells end tell filled = (are_more v runs r are cells end, λ c row. (to c row, back c row))
+one_more v runs r rows after are cells end encode filled = (are_more v runs r are cells end, λ c row. (to c row, back c row))
   where
     to : (c : ℕ) (row : Row) → row_of after c ≡ Some row → Gives (runs ++ r ∷ []) c row
     to c row is = elim (cases_lt c r.first) [
-      | inl early ↦ gives_more runs r c row ((tell c row).0 (sym (filled.elsewhere c (inl early)) ∙ is))
+      | inl early ↦ gives_more runs r c row ((encode c row).0 (sym (filled.elsewhere c (inl early)) ∙ is))
       | inr late ↦ elim (cases_lt r.last c) [
-        | inl past ↦ gives_more runs r c row ((tell c row).0 (sym (filled.elsewhere c (inr past)) ∙ is))
+        | inl past ↦ gives_more runs r c row ((encode c row).0 (sym (filled.elsewhere c (inr past)) ∙ is))
         | inr here ↦ gives_last runs r c row late here (same_Some r.row row (sym (filled.within c late here) ∙ is))
       ]
     ]
 
     back : (c : ℕ) (row : Row) → Gives (runs ++ r ∷ []) c row → row_of after c ≡ Some row
     back c row given = elim (gives_either runs r c row given) [
-      | inl before ↦ filled.elsewhere c (inl (gives_below v runs r c row are end before)) ∙ (tell c row).1 before
+      | inl before ↦ filled.elsewhere c (inl (gives_below v runs r c row are end before)) ∙ (encode c row).1 before
       | inr here ↦ filled.within c here.0 here.1 ∙ ap (λ (x : Row). Some x) here.2
     ]

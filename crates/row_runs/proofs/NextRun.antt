@@ -7,7 +7,7 @@ use Rattle.row_runs.specs.declared.run.Run.{Run}
 use Rattle.game_core.specs.Solution.{row_of}
 use Rattle.row_runs.specs.declared.run.TableVersion.TheVariants.{Second}
 use Rattle.row_runs.specs.Runs.{runs_from, MayLead, AreRuns, Gives}
-use Rattle.row_runs.proofs.Telling.{gives_above, AreOf, runs_are}
+use Rattle.row_runs.proofs.Encoding.{gives_above, AreOf, runs_are}
 use Rattle.row_runs.proofs.Uniqueness.{same_runs}
 use Rattle.std.proofs.lemmas.Option.{same_Some}
 
@@ -33,12 +33,12 @@ module _ (c first last : ℕ) (row : Row) (rows : List (Option Row)) (from : c �
   row_given k d x h given =
       let above = gives_above Second k (runs_from Second k (drop k rows)) d x h.are h.begin given in
       let at : k + (d - k) ≡ d = omega (arith, above) in
-      ap (row_of rows) (sym at) ∙ sym (get_or-drop k rows (d - k) None) ∙ (h.tell (d - k) x).1 (subst (λ (n : ℕ). Gives (runs_from Second k (drop k rows)) n x) (sym at) given)
+      ap (row_of rows) (sym at) ∙ sym (get_or-drop k rows (d - k) None) ∙ (h.encode (d - k) x).1 (subst (λ (n : ℕ). Gives (runs_from Second k (drop k rows)) n x) (sym at) given)
 
   given_row : (k d : ℕ) (x : Row) → AreOf Second k (drop k rows) (runs_from Second k (drop k rows)) → k ≤ d → row_of rows d ≡ Some x → Gives (runs_from Second k (drop k rows)) d x
   given_row k d x h above is =
       let at : k + (d - k) ≡ d = omega (arith, above) in
-      subst (λ (n : ℕ). Gives (runs_from Second k (drop k rows)) n x) at ((h.tell (d - k) x).0 (get_or-drop k rows (d - k) None ∙ ap (row_of rows) at ∙ is))
+      subst (λ (n : ℕ). Gives (runs_from Second k (drop k rows)) n x) at ((h.encode (d - k) x).0 (get_or-drop k rows (d - k) None ∙ ap (row_of rows) at ∙ is))
 
   lead : (runs : List Run) → AreRuns Second runs → ((d : ℕ) (x : Row) → Gives runs d x → (suc last ≤ d) × (row_of rows d ≡ Some x)) → MayLead Second run runs
   lead [] are told = tt

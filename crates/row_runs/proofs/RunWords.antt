@@ -18,7 +18,7 @@ use Rattle.row_runs.specs.RunText.{run_line, count_line, end_line}
 use Rattle.row_runs.proofs.Cuts.{one_cut}
 use Rattle.row_runs.proofs.Lines.{IsLine, no_feed}
 use Rattle.row_runs.proofs.SameRows.{differ}
-use Rattle.row_runs.proofs.Telling.{runs_encode}
+use Rattle.row_runs.proofs.Encoding.{runs_encode}
 use Rattle.base.proofs.Lists.{same_tail, same_head}
 
 -- ---- words

@@ -5,7 +5,7 @@ use Rattle.game_core.specs.Solution.{row_of}
 use Rattle.row_runs.specs.declared.run.Run.{Run}
 use Rattle.row_runs.specs.Runs.{runs_from, EncodeRows}
 use Rattle.row_runs.specs.Laws.{RunsDiffer}
-use Rattle.row_runs.proofs.Telling.{runs_encode}
+use Rattle.row_runs.proofs.Encoding.{runs_encode}
 
 -- one list has a row of the other, wherever that has one
 abbrev Agree : List (Option Row) → List (Option Row) → Type 0

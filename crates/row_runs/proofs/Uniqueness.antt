@@ -7,7 +7,7 @@ use Rattle.row_runs.specs.declared.run.TableVersion.{TableVersion}
 use Rattle.row_runs.specs.declared.run.TableVersion.TheVariants.{First, Second}
 use Rattle.row_runs.specs.Runs.{HasCells, AreRuns, Gives}
 use Rattle.row_runs.specs.Laws.{OneListOfRuns}
-use Rattle.row_runs.proofs.Telling.{gives_above, begin_later, forward}
+use Rattle.row_runs.proofs.Encoding.{gives_above, begin_later, forward}
 
 -- one list gives what the other gives
 abbrev GiveAs : List Run → List Run → Type 0
@@ -84,7 +84,7 @@ same_runs v (r ∷ runs) (s ∷ others) are also alike back =
     ap₂ (λ (x : Run) (xs : List Run). x ∷ xs) head tail
 
 pub one_list : OneListOfRuns
-one_list v rows runs others are also tell told =
+one_list v rows runs others are also encode told =
     same_runs v runs others are also
-    (λ c row given. (told c row).0 ((tell c row).1 given))
-    (λ c row given. (tell c row).0 ((told c row).1 given))
+    (λ c row given. (told c row).0 ((encode c row).1 given))
+    (λ c row given. (encode c row).0 ((told c row).1 given))

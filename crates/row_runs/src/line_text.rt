@@ -49,7 +49,7 @@ impl LineText {
         ensures length { length self.new ≡ 1 }
     {
         self.clear();
-        self.put_before(b"\n");
+        self.prepend(b"\n");
     }
 
     fn clear(&mut self)
@@ -60,7 +60,7 @@ impl LineText {
     }
 
     /// Puts bytes before the rest.
-    pub fn put_before(&mut self, text: &[u8])
+    pub fn prepend(&mut self, text: &[u8])
         requires { length text.now + length self.old ≤ LINE_CAPACITY }
         ensures text { self.new ≡ text.now ++ self.old }
         ensures length { length self.new ≡ length text.now + length self.old }
@@ -71,7 +71,7 @@ impl LineText {
     }
 
     /// Puts a number's digits before the rest.
-    pub fn put_number_before(&mut self, number: u32)
+    pub fn prepend_number(&mut self, number: u32)
         requires { 10 + length self.old ≤ LINE_CAPACITY }
         ensures text { self.new ≡ decimal number ++ self.old }
         ensures length { length self.new ≤ 10 + length self.old }
@@ -80,15 +80,15 @@ impl LineText {
     }
 
     /// Puts the words of a row before the rest, with a space before each.
-    pub fn put_row_before(&mut self, words: RowFormat, row: Row)
+    pub fn prepend_row(&mut self, words: RowFormat, row: Row)
         requires { 22 + length self.old ≤ LINE_CAPACITY }
         ensures text { self.new ≡ 32 ∷ (rank_field words row ++ 32 ∷ (input_field words row ++ self.old)) }
         ensures length { length self.new ≤ 22 + length self.old }
     {
-        self.put_input_before(words, row);
-        self.put_before(b" ");
-        self.put_rank_before(words, row);
-        self.put_before(b" ");
+        self.prepend_input(words, row);
+        self.prepend(b" ");
+        self.prepend_rank(words, row);
+        self.prepend(b" ");
     }
 
     /// The line of a run.
@@ -97,10 +97,10 @@ impl LineText {
         ensures some { 0 < length self.new }
     {
         self.begin();
-        self.put_row_before(words, run.row);
-        self.put_number_before(run.last);
-        self.put_before(b" ");
-        self.put_number_before(run.first);
+        self.prepend_row(words, run.row);
+        self.prepend_number(run.last);
+        self.prepend(b" ");
+        self.prepend_number(run.first);
     }
 
     /// The line that tells how many lines of runs follow.
@@ -108,29 +108,29 @@ impl LineText {
         ensures { self.new ≡ count_line runs }
     {
         self.begin();
-        self.put_number_before(runs);
-        self.put_before(b"rows ");
+        self.prepend_number(runs);
+        self.prepend(b"rows ");
     }
 
-    fn put_input_before(&mut self, words: RowFormat, row: Row)
+    fn prepend_input(&mut self, words: RowFormat, row: Row)
         requires { 10 + length self.old ≤ LINE_CAPACITY }
         ensures text { self.new ≡ input_field words row ++ self.old }
         ensures length { length self.new ≤ 10 + length self.old }
     {
         match words {
-            RowFormat::InputAboveZero if row.rank == 0 => self.put_before(b"-"),
-            _ => self.put_number_before(row.input),
+            RowFormat::InputAboveZero if row.rank == 0 => self.prepend(b"-"),
+            _ => self.prepend_number(row.input),
         }
     }
 
-    fn put_rank_before(&mut self, words: RowFormat, row: Row)
+    fn prepend_rank(&mut self, words: RowFormat, row: Row)
         requires { 10 + length self.old ≤ LINE_CAPACITY }
         ensures text { self.new ≡ rank_field words row ++ self.old }
         ensures length { length self.new ≤ 10 + length self.old }
     {
         match words {
-            RowFormat::InputAlone => self.put_before(b"-"),
-            RowFormat::InputAboveZero | RowFormat::Both => self.put_number_before(row.rank),
+            RowFormat::InputAlone => self.prepend(b"-"),
+            RowFormat::InputAboveZero | RowFormat::Both => self.prepend_number(row.rank),
         }
     }
 

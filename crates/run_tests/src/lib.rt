@@ -10,6 +10,8 @@ mod live;
 #[cfg(test)]
 mod meeting;
 #[cfg(test)]
+mod reading;
+#[cfg(test)]
 mod texts;
 #[cfg(test)]
 mod trial;

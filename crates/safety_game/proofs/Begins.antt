@@ -33,8 +33,8 @@ module _ (g : Game) where
   none_gone : (pair : ℕ) → gone_in g 0 pair ≡ 0
   none_gone pair = count_none (fell_before g 0) (successors_at g pair) (λ i d lt. refl)
 
-  none_hit : (c : ℕ) → cell_cuts_at g 0 c ≡ 0
-  none_hit c = count_none (is_cell_cut g 0) (pairs_at g c) (λ i d lt. unhit (get_or (pairs_at g c) i d))
+  none_cut : (c : ℕ) → cell_cuts_at g 0 c ≡ 0
+  none_cut c = count_none (is_cell_cut g 0) (pairs_at g c) (λ i d lt. unhit (get_or (pairs_at g c) i d))
     where
       unhit : (pair : ℕ) → is_cell_cut g 0 pair ≡ false
       unhit pair =
@@ -55,7 +55,7 @@ module _ (g : Game) where
     falls_first c clear = by_test (has_fallen g 0 c) refl
       where
         by_test : (b : Bool) → has_fallen g 0 c ≡ b → (enabled_at g c == 0) ≡ b
-        by_test true e = let le = cell_cuts_by_fall g 0 c clear e in let none = none_hit c in eq-eqb (enabled_at g c) 0 (omega arith)
+        by_test true e = let le = cell_cuts_by_fall g 0 c clear e in let none = none_cut c in eq-eqb (enabled_at g c) 0 (omega arith)
         by_test false e = ne_eqb (enabled_at g c) 0 (λ z. absurd (let f = falls_by_cell_cuts g 0 c (omega arith) in cc))
 
     -- before any round nothing is cut
@@ -66,7 +66,7 @@ module _ (g : Game) where
         cells = λ c lt. (enabled_at g c, nothing_done.0 (pairs_of g + c) (enabled_at g c) (let few = few_enabled g c in let most = a.inputs_bound in omega arith));
       };
       cuts = λ pair lt. sym (none_gone pair);
-      cell_cuts = λ c lt. sym (none_hit c);
+      cell_cuts = λ c lt. sym (none_cut c);
       no_other_cut = All-nil (λ (c : Cut). c.counter < pairs_of g + g.cells);
       no_offer = refl;
       came = λ c lt. let z : times c [] ≡ 0 = refl in omega arith;

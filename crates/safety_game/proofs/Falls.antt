@@ -94,8 +94,8 @@ module _ (g : Game) where
       sum_by-le-sum_by (λ s. one_if (fell_before g d s)) (λ s. one_if (fell_before g (suc d) s)) (successors_at g pair)
       (λ s. one_if_le (fell_before g d s) (fell_before g (suc d) s) (fell_stays d s))
 
-  pub hit_stays : (d pair : ℕ) → is_cell_cut g d pair ≡ true → is_cell_cut g (suc d) pair ≡ true
-  hit_stays d pair e =
+  pub cut_stays : (d pair : ℕ) → is_cell_cut g d pair ≡ true → is_cell_cut g (suc d) pair ≡ true
+  cut_stays d pair e =
       let clear = not (is_obstacle (mark_of g (pair / g.inputs))) in
       let parts = and_parts clear (nat_lt 0 (gone_in g d pair)) e in
       let some' = ltb-true 0 (gone_in g d pair) parts.1 in
@@ -103,7 +103,7 @@ module _ (g : Game) where
       and_from clear (nat_lt 0 (gone_in g (suc d) pair)) parts.0 (lt-ltb 0 (gone_in g (suc d) pair) (omega arith))
 
   pub hits_grow : (d c : ℕ) → cell_cuts_at g d c ≤ cell_cuts_at g (suc d) c
-  hits_grow d c = sum_by-le-sum_by (λ p. one_if (is_cell_cut g d p)) (λ p. one_if (is_cell_cut g (suc d) p)) (pairs_at g c) (λ p. one_if_le (is_cell_cut g d p) (is_cell_cut g (suc d) p) (hit_stays d p))
+  hits_grow d c = sum_by-le-sum_by (λ p. one_if (is_cell_cut g d p)) (λ p. one_if (is_cell_cut g (suc d) p)) (pairs_at g c) (λ p. one_if_le (is_cell_cut g d p) (is_cell_cut g (suc d) p) (cut_stays d p))
 
   pub cell_cuts_few : (d c : ℕ) → cell_cuts_at g d c ≤ enabled_at g c
   cell_cuts_few d c = sum_by-le-sum_by (λ p. one_if (is_cell_cut g d p)) (λ p. one_if (is_enabled g p)) (pairs_at g c) (λ p. one_if_le (is_cell_cut g d p) (is_enabled g p) (touched_enabled g (fell_before g d) p))

@@ -68,8 +68,8 @@ module _ (g : Game) (a : IsGraph g) (d : ℕ) (accounts : List Account) (was : A
       and_from (nat_lt 0 (length (successors_at g pair))) (cut_count pair accounts == 0) (lt-ltb 0 (length (successors_at g pair)) some') (eq-eqb (cut_count pair accounts) 0 (was.cuts pair lt ∙ none))
 
   -- a cell without a row fell
-  hit_if : (c u : ℕ) → c < g.cells → u < g.inputs → is_obstacle (mark_of g c) ≡ false → is_whole g accounts (pair_of g c u) ≡ false → is_enabled g (pair_of g c u) ≡ true → is_cell_cut g d (pair_of g c u) ≡ true
-  hit_if c u lt lu clear broken enabled =
+  cut_if : (c u : ℕ) → c < g.cells → u < g.inputs → is_obstacle (mark_of g c) ≡ false → is_whole g accounts (pair_of g c u) ≡ false → is_enabled g (pair_of g c u) ≡ true → is_cell_cut g d (pair_of g c u) ≡ true
+  cut_if c u lt lu clear broken enabled =
       let pair = pair_of g c u in
       let here : not (is_obstacle (mark_of g (pair / g.inputs))) ≡ true = ap (λ c. not (is_obstacle (mark_of g c))) (cell_of g c u lu) ∙ ap not clear in
       elim (cases_lt 0 (gone_in g d pair)) [
@@ -85,7 +85,7 @@ module _ (g : Game) (a : IsGraph g) (d : ℕ) (accounts : List Account) (was : A
         | inr clear ↦
             falls_by_cell_cuts g d c (counts_agree.lesser (λ pair. one_if (is_enabled g pair)) (λ pair. one_if (is_cell_cut g d pair)) (pairs_at g c)
             (All-pairs_at g (λ pair. one_if (is_enabled g pair) ≤ one_if (is_cell_cut g d pair)) c (λ u lu.
-            one_if_le (is_enabled g (pair_of g c u)) (is_cell_cut g d (pair_of g c u)) (hit_if c u lt lu clear (none u lu)))))
+            one_if_le (is_enabled g (pair_of g c u)) (is_cell_cut g d (pair_of g c u)) (cut_if c u lt lu clear (none u lu)))))
       ]
 
   -- a cell with a row stands

@@ -75,7 +75,7 @@ impl<G: Graph> Keep<'_, G> {
         }
     }
 
-    /// Cuts a pair, and tells whether that was a blow to its cell: the pair's first cut, and the cell no obstacle.
+    /// Cuts a pair, and answers whether that cut its cell: the pair's first cut, and the cell no obstacle.
     fn cut_first(&self, board: &Board, worker: &mut Worker, pair: u32) -> bool
         requires board { IsBoardOf (G.game self.now.graph.now) board.now }
         requires worker { worker.old.board ≡ board.now }

@@ -1,10 +1,9 @@
 -- The values of the variables of the pairs in a block's lanes.
-use Rattle.std.proofs.Common.{◌≡◌, ℕ, ◌+◌, ◌-◌, ◌/◌, ◌<◌, ◌≤◌, List, [], length, map, drop, get_or, sym, ap, subst, ◌∙◌, arith}
+use Rattle.std.proofs.Common.{◌≡◌, ℕ, ◌+◌, ◌-◌, ◌<◌, ◌≤◌, List, [], length, map, get_or, sym, ap, subst, ◌∙◌, arith}
 use Rattle.std.specs.Prelude.{ℤ, pos}
 use Rattle.std.proofs.lemmas.Bool.{cond_below, cond_above}
 use Rattle.std.proofs.lemmas.List.{length-map, get_or-map, get_or-take, ext_get_or}
 use Rattle.std.proofs.lemmas.List.Elements.{All-get_or}
-use Rattle.std.proofs.lemmas.Nat.{mod_below}
 use Rattle.fixed_expr.specs.Expression.{NumExpr}
 use Rattle.fixed_expr.specs.Value.{StaysInRange}
 use Rattle.grid_quantiser.specs.Axes.{IsAxis, no_axis, cells_of}
@@ -19,7 +18,7 @@ use Rattle.successor_box.specs.SuccessorBoxes.{noise_centre, central_values}
 use Rattle.successor_box.specs.Deviations.{HasNoOverflow}
 use Rattle.successor_box.specs.PairExtents.{IsPairInLane}
 use Rattle.successor_box.specs.inside.Area.{variables_of}
-use Rattle.fixed_expr.specs.LaneEval.{row_of}
+use Rattle.fixed_expr.specs.LaneEval.{lane_of}
 use Rattle.successor_box.proofs.AlikePairs.{central_state, central_noise}
 use Rattle.successor_box.proofs.Below.{centres_are_near, centres_depend_on_their_indices}
 use Rattle.successor_box.proofs.CellOffsets.{central_count}
@@ -60,7 +59,7 @@ module _ (p : Description) (c u : ℕ) where
   noise_value k past lt = sym (central_noise p c u k past ∙ get_or-take (length p.noises) (map noise_centre p.noises) (k - length p.states - length p.inputs) (pos 0) (omega (arith, past, lt)))
 
   -- a lane of columns that hold them
-  pub lane_is : (columns : List (List ℤ)) (lane : ℕ) → length columns ≡ variables_of p → ((k : ℕ) → k < variables_of p → get_or (get_or columns k []) lane (pos 0) ≡ get_or (central_values p c u) k (pos 0)) → row_of columns lane ≡ central_values p c u
+  pub lane_is : (columns : List (List ℤ)) (lane : ℕ) → length columns ≡ variables_of p → ((k : ℕ) → k < variables_of p → get_or (get_or columns k []) lane (pos 0) ≡ get_or (central_values p c u) k (pos 0)) → lane_of columns lane ≡ central_values p c u
   lane_is columns lane all each =
       let at : List ℤ → ℤ = λ (column : List ℤ). get_or column lane (pos 0) in
       let long : length (map at columns) ≡ length (central_values p c u) = length-map columns at ∙ all ∙ sym (central_count p c u) in

@@ -2,7 +2,7 @@
 ghost use Rattle.std.specs.Prelude.{◌≡◌, ℕ, ◌^◌, ◌≤◌, ◌<◌, pos, length, slice_index_or};
 ghost use Rattle.fixed_expr.specs.declared.lanes.TheConstants.{LANES};
 ghost use Rattle.fixed_expr.specs.Expression.{expression_of};
-ghost use Rattle.fixed_expr.specs.LaneEval.{row_of};
+ghost use Rattle.fixed_expr.specs.LaneEval.{lane_of};
 ghost use Rattle.fixed_expr.specs.Value.{IsWellFormed, StaysInRange, value_of};
 ghost use Rattle.plant_record.specs.declared.version.PlantVersion.TheVariants.{One};
 ghost use Rattle.plant_record.specs.Limits.{IsWithinLimits};
@@ -184,8 +184,8 @@ fn with_digit(numbers: &[u32; LANES], count: u32, digits: &[u32; LANES]) -> [u32
 fn values_in_lanes(e: &Expr, columns: &[[i64; LANES]]) -> [i128; LANES]
     requires formed { IsWellFormed (expression_of e.now) (length columns.now) }
     requires few { length columns.now ≤ VARIABLES_LIMIT }
-    requires fits { (j : ℕ) → j < LANES → StaysInRange (expression_of e.now) (row_of columns.now j) }
-    ensures { HoldsInLanes (pos 0) (λ j. value_of (expression_of e.now) (row_of columns.now j)) result }
+    requires fits { (j : ℕ) → j < LANES → StaysInRange (expression_of e.now) (lane_of columns.now j) }
+    ensures { HoldsInLanes (pos 0) (λ j. value_of (expression_of e.now) (lane_of columns.now j)) result }
 {
     let mut narrow = [0; LANES];
     match eval_lanes(e, columns, &mut narrow) {
@@ -211,8 +211,8 @@ fn widened(narrow: &[i64; LANES]) -> [i128; LANES]
 fn wide_values_in_lanes(e: &Expr, columns: &[[i64; LANES]]) -> [i128; LANES]
     requires formed { IsWellFormed (expression_of e.now) (length columns.now) }
     requires few { length columns.now ≤ VARIABLES_LIMIT }
-    requires fits { (j : ℕ) → j < LANES → StaysInRange (expression_of e.now) (row_of columns.now j) }
-    ensures { HoldsInLanes (pos 0) (λ j. value_of (expression_of e.now) (row_of columns.now j)) result }
+    requires fits { (j : ℕ) → j < LANES → StaysInRange (expression_of e.now) (lane_of columns.now j) }
+    ensures { HoldsInLanes (pos 0) (λ j. value_of (expression_of e.now) (lane_of columns.now j)) result }
 {
     let mut values = [0; LANES];
     for j in 0..LANES {
@@ -226,8 +226,8 @@ fn value_in_lane(e: &Expr, columns: &[[i64; LANES]], j: usize) -> i128
     requires formed { IsWellFormed (expression_of e.now) (length columns.now) }
     requires few { length columns.now ≤ VARIABLES_LIMIT }
     requires lane { j < LANES }
-    requires fits { StaysInRange (expression_of e.now) (row_of columns.now j) }
-    ensures { result ≡ value_of (expression_of e.now) (row_of columns.now j) }
+    requires fits { StaysInRange (expression_of e.now) (lane_of columns.now j) }
+    ensures { result ≡ value_of (expression_of e.now) (lane_of columns.now j) }
 {
     let mut values = [0; VARIABLES_LIMIT];
     for k in 0..columns.len() {

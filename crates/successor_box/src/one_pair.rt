@@ -19,7 +19,7 @@ pub fn successors(p: &Plant, s: &Slopes, c: u32, input: u32) -> Option<CellBox>
     requires input { input < vectors_of p.now.inputs }
     ensures { IsBoxOf p.now c input result }
 {
-    let sampled = Sampled::of(p, s);
+    let sampled = Sampled::new(p, s);
     let mut extents = [None; STATES_LIMIT];
     for state in 0..p.equations().len() {
         extents[state] = sampled.extent(c, input, state as u32);

@@ -21,7 +21,7 @@ pub struct Sampled<'a> {
 
 impl<'a> Sampled<'a> {
     /// A plant with what `find_slopes` found of it.
-    pub fn of(plant: &'a Plant, slopes: &'a Slopes) -> Sampled<'a>
+    pub fn new(plant: &'a Plant, slopes: &'a Slopes) -> Sampled<'a>
         requires slopes { slopes.now ≡ deviations_of plant.now }
         requires fits { HasNoOverflow plant.now }
         ensures plant { result.plant.now ≡ plant.now }

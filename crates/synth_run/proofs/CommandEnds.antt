@@ -1,122 +1,65 @@
--- Which outcomes each command can have.
-use Rattle.std.proofs.Common.{inl, inr, ◌≡◌, ℕ, List, refl}
+-- How each command can end.
+use Rattle.std.proofs.Common.{inl, inr, ◌≡◌, ℕ, List, Option, sym, subst}
+use Rattle.plant_record.specs.declared.limit_kind.LimitKind.{LimitKind}
+use Rattle.plant_record.specs.Description.{Description}
+use Rattle.game_core.specs.declared.game.Row.{Row}
 use Rattle.command_line.specs.declared.command.Command.{Command}
 use Rattle.command_line.specs.declared.command.Command.TheVariants.{Synth, Check, Upgrade, Sim, Demo, Stay, Patrol}
-use Rattle.synth_run.specs.declared.outcome.Outcome.{Outcome}
-use Rattle.synth_run.specs.declared.outcome.Outcome.TheVariants.{Done, Invalid, NoRow, Usage, Malformed, Overflow, Limit, TooManyTurns, ReadFault, WriteFault, NoMemory}
-use Rattle.synth_run.specs.IsOutcomeFor.{IsOutcomeFor}
-use Rattle.synth_run.specs.RunClauses.{CanEnd}
+use Rattle.command_line.specs.declared.outcome.Refusal.{Refusal}
+use Rattle.synth_run.specs.IsOutcomeFor.{IsReadRefusal, IsOverflow, IsPlantRefusal, IsTextRefusal, IsRowsRefusal, IsStartRefusal, IsTableRefusal, IsRefusalFor}
+use Rattle.synth_run.specs.RunClauses.{IsCommonRefusal, CanRefuse}
 
--- ---- whatever the text is
+common : (r s : Refusal) → r ≡ s → IsCommonRefusal s → IsCommonRefusal r
+common r s e h = subst IsCommonRefusal (sym e) h
 
-pub can_end_done : (command : Command) → CanEnd command Done
-can_end_done (Synth workers) = tt
-can_end_done Check = inr tt
-can_end_done Upgrade = tt
-can_end_done (Sim samples seed start) = inr tt
-can_end_done (Demo number workers) = inl refl
-can_end_done (Stay workers) = tt
-can_end_done (Patrol workers) = inr tt
+read_is_common : (malformed : ℕ → Type 0) (beyond : LimitKind → Type 0) (r : Refusal) → IsReadRefusal malformed beyond r → IsCommonRefusal r
+read_is_common malformed beyond r h = elim h [
+  | inl f ↦ common r _ f.1 tt
+  | inr f ↦ common r _ f.1 tt
+]
 
-pub can_end_cut_off : (command : Command) → CanEnd command WriteFault
-can_end_cut_off (Synth workers) = tt
-can_end_cut_off Check = inr tt
-can_end_cut_off Upgrade = tt
-can_end_cut_off (Sim samples seed start) = inr tt
-can_end_cut_off (Demo number workers) = inr (inl refl)
-can_end_cut_off (Stay workers) = tt
-can_end_cut_off (Patrol workers) = inr tt
+overflow_is_common : (p : Description) (r : Refusal) → IsOverflow p r → IsCommonRefusal r
+overflow_is_common p r f = common r _ f.2 tt
 
-pub can_end_without_memory : (command : Command) → CanEnd command NoMemory
-can_end_without_memory (Synth workers) = tt
-can_end_without_memory Check = inr tt
-can_end_without_memory Upgrade = tt
-can_end_without_memory (Sim samples seed start) = inr tt
-can_end_without_memory (Demo number workers) = inr (inr refl)
-can_end_without_memory (Stay workers) = tt
-can_end_without_memory (Patrol workers) = inr tt
+plant_is_common : (p : Description) (r : Refusal) → IsPlantRefusal p r → IsCommonRefusal r
+plant_is_common p r h = elim h [
+  | inl f ↦ overflow_is_common p r f
+  | inr f ↦ common r _ f.0 tt
+]
 
--- ---- as a text demands
+text_is_common : (bytes : List ℕ) (r : Refusal) → IsTextRefusal IsPlantRefusal bytes r → IsCommonRefusal r
+text_is_common bytes r h = elim h [
+  | inl refused ↦ read_is_common _ _ r refused
+  | inr accepted ↦ plant_is_common accepted.0 r accepted.2
+]
 
-demanded_end : (command : Command) (bytes : List ℕ) (outcome : Outcome) → IsOutcomeFor command bytes outcome → CanEnd command outcome
-demanded_end (Synth workers) bytes Done h = tt
-demanded_end (Synth workers) bytes (Invalid cell) h = absurd (elim h [ inl refused ↦ refused | inr accepted ↦ accepted.2 ])
-demanded_end (Synth workers) bytes NoRow h = absurd (elim h [ inl refused ↦ refused | inr accepted ↦ accepted.2 ])
-demanded_end (Synth workers) bytes Usage h = tt
-demanded_end (Synth workers) bytes (Malformed line) h = tt
-demanded_end (Synth workers) bytes (Overflow i u) h = tt
-demanded_end (Synth workers) bytes (Limit what) h = tt
-demanded_end (Synth workers) bytes TooManyTurns h = absurd (elim h [ inl refused ↦ refused | inr accepted ↦ accepted.2 ])
-demanded_end (Synth workers) bytes ReadFault h = tt
-demanded_end (Synth workers) bytes WriteFault h = tt
-demanded_end (Synth workers) bytes NoMemory h = tt
-demanded_end Check bytes Done h = inr tt
-demanded_end Check bytes (Invalid cell) h = inl (cell, refl)
-demanded_end Check bytes NoRow h = absurd (elim h [ inl refused ↦ refused | inr table ↦ table.outcomes_for ])
-demanded_end Check bytes Usage h = inr tt
-demanded_end Check bytes (Malformed line) h = inr tt
-demanded_end Check bytes (Overflow i u) h = inr tt
-demanded_end Check bytes (Limit what) h = inr tt
-demanded_end Check bytes TooManyTurns h = absurd (elim h [ inl refused ↦ refused | inr table ↦ table.outcomes_for ])
-demanded_end Check bytes ReadFault h = inr tt
-demanded_end Check bytes WriteFault h = inr tt
-demanded_end Check bytes NoMemory h = inr tt
-demanded_end Upgrade bytes Done h = tt
-demanded_end Upgrade bytes (Invalid cell) h = absurd (elim h [ inl refused ↦ refused | inr table ↦ table.outcomes_for ])
-demanded_end Upgrade bytes NoRow h = absurd (elim h [ inl refused ↦ refused | inr table ↦ table.outcomes_for ])
-demanded_end Upgrade bytes Usage h = tt
-demanded_end Upgrade bytes (Malformed line) h = tt
-demanded_end Upgrade bytes (Overflow i u) h = tt
-demanded_end Upgrade bytes (Limit what) h = tt
-demanded_end Upgrade bytes TooManyTurns h = absurd (elim h [ inl refused ↦ refused | inr table ↦ table.outcomes_for ])
-demanded_end Upgrade bytes ReadFault h = tt
-demanded_end Upgrade bytes WriteFault h = tt
-demanded_end Upgrade bytes NoMemory h = tt
-demanded_end (Sim samples seed start) bytes Done h = inr tt
-demanded_end (Sim samples seed start) bytes (Invalid cell) h = absurd (elim h [ inl refused ↦ refused | inr table ↦ table.outcomes_for ])
-demanded_end (Sim samples seed start) bytes NoRow h = inl refl
-demanded_end (Sim samples seed start) bytes Usage h = inr tt
-demanded_end (Sim samples seed start) bytes (Malformed line) h = inr tt
-demanded_end (Sim samples seed start) bytes (Overflow i u) h = inr tt
-demanded_end (Sim samples seed start) bytes (Limit what) h = inr tt
-demanded_end (Sim samples seed start) bytes TooManyTurns h = absurd (elim h [ inl refused ↦ refused | inr table ↦ table.outcomes_for ])
-demanded_end (Sim samples seed start) bytes ReadFault h = inr tt
-demanded_end (Sim samples seed start) bytes WriteFault h = inr tt
-demanded_end (Sim samples seed start) bytes NoMemory h = inr tt
-demanded_end (Demo number workers) bytes outcome h = inl h
-demanded_end (Stay workers) bytes Done h = tt
-demanded_end (Stay workers) bytes (Invalid cell) h = absurd (elim h [ inl refused ↦ refused | inr accepted ↦ accepted.2 ])
-demanded_end (Stay workers) bytes NoRow h = absurd (elim h [ inl refused ↦ refused | inr accepted ↦ accepted.2 ])
-demanded_end (Stay workers) bytes Usage h = tt
-demanded_end (Stay workers) bytes (Malformed line) h = tt
-demanded_end (Stay workers) bytes (Overflow i u) h = tt
-demanded_end (Stay workers) bytes (Limit what) h = tt
-demanded_end (Stay workers) bytes TooManyTurns h = absurd (elim h [ inl refused ↦ refused | inr accepted ↦ accepted.2 ])
-demanded_end (Stay workers) bytes ReadFault h = tt
-demanded_end (Stay workers) bytes WriteFault h = tt
-demanded_end (Stay workers) bytes NoMemory h = tt
-demanded_end (Patrol workers) bytes Done h = inr tt
-demanded_end (Patrol workers) bytes (Invalid cell) h = absurd (elim h [ inl refused ↦ refused | inr accepted ↦ accepted.2 ])
-demanded_end (Patrol workers) bytes NoRow h = absurd (elim h [ inl refused ↦ refused | inr accepted ↦ accepted.2 ])
-demanded_end (Patrol workers) bytes Usage h = inr tt
-demanded_end (Patrol workers) bytes (Malformed line) h = inr tt
-demanded_end (Patrol workers) bytes (Overflow i u) h = inr tt
-demanded_end (Patrol workers) bytes (Limit what) h = inr tt
-demanded_end (Patrol workers) bytes TooManyTurns h = inl refl
-demanded_end (Patrol workers) bytes ReadFault h = inr tt
-demanded_end (Patrol workers) bytes WriteFault h = inr tt
-demanded_end (Patrol workers) bytes NoMemory h = inr tt
+-- a table's refusal, by that of its plant and rows
+by_table : (Refuses : Description → List (Option Row) → Refusal → Type 0) (Goal : Type 0) (bytes : List ℕ) (r : Refusal) → (IsCommonRefusal r → Goal) → ((p : Description) (rows : List (Option Row)) → Refuses p rows r → Goal) → IsTableRefusal Refuses bytes r → Goal
+by_table Refuses Goal bytes r from_common from_rows h = elim h [
+  | inl refused ↦ from_common (read_is_common _ _ r refused)
+  | inr t ↦ from_rows t.0 t.1 t.3
+]
 
--- what the bytes demand, or want of memory
-pub can_end_declined : (command : Command) (bytes : List ℕ) (outcome : Outcome) → ((outcome ≡ NoMemory → ⊥) → IsOutcomeFor command bytes outcome) → CanEnd command outcome
-can_end_declined command bytes Done h = demanded_end command bytes Done (h (λ e. cc))
-can_end_declined command bytes (Invalid cell) h = demanded_end command bytes (Invalid cell) (h (λ e. cc))
-can_end_declined command bytes NoRow h = demanded_end command bytes NoRow (h (λ e. cc))
-can_end_declined command bytes Usage h = demanded_end command bytes Usage (h (λ e. cc))
-can_end_declined command bytes (Malformed line) h = demanded_end command bytes (Malformed line) (h (λ e. cc))
-can_end_declined command bytes (Overflow i u) h = demanded_end command bytes (Overflow i u) (h (λ e. cc))
-can_end_declined command bytes (Limit what) h = demanded_end command bytes (Limit what) (h (λ e. cc))
-can_end_declined command bytes TooManyTurns h = demanded_end command bytes TooManyTurns (h (λ e. cc))
-can_end_declined command bytes ReadFault h = demanded_end command bytes ReadFault (h (λ e. cc))
-can_end_declined command bytes WriteFault h = demanded_end command bytes WriteFault (h (λ e. cc))
-can_end_declined command bytes NoMemory h = can_end_without_memory command
+-- a command refuses a text as it can
+pub can_refuse : (command : Command) (bytes : List ℕ) (r : Refusal) → IsRefusalFor command bytes r → CanRefuse command r
+can_refuse (Synth workers) bytes r h = text_is_common bytes r h
+can_refuse Check bytes r h =
+    by_table IsRowsRefusal (CanRefuse Check r) bytes r (λ c. inr c) (λ p rows f. elim f [
+      | inl plant ↦ inr (plant_is_common p r plant)
+      | inr wrong ↦ inl (wrong.0, wrong.1)
+    ]) h
+can_refuse Upgrade bytes r h = by_table (λ p rows r. IsOverflow p r) (CanRefuse Upgrade r) bytes r (λ c. c) (λ p rows f. overflow_is_common p r f) h
+can_refuse (Sim samples seed start) bytes r h =
+    by_table (IsStartRefusal start) (CanRefuse (Sim samples seed start) r) bytes r (λ c. inr c) (λ p rows f. elim f [
+      | inl overflow ↦ inr (overflow_is_common p r overflow)
+      | inr none ↦ inl none.0
+    ]) h
+can_refuse (Demo number workers) bytes r h = absurd h
+can_refuse (Stay workers) bytes r h = text_is_common bytes r h
+can_refuse (Patrol workers) bytes r h = elim h [
+  | inl refused ↦ inr (read_is_common _ _ r refused)
+  | inr accepted ↦ elim accepted.2 [
+    | inl plant ↦ inr (plant_is_common accepted.0 r plant)
+    | inr turns ↦ inl turns.0
+  ]
+]

@@ -1,21 +1,24 @@
 -- How a run of a command ends.
 use Rattle.std.proofs.Common.{◌≡◌, Option, None, refl, sym, subst}
 use Rattle.cell_counters.specs.BoardModels.{BoardModel, RootModel}
-use Rattle.run_devices.specs.Devices.{Reading, Writing, GainsWhole, GainsPart}
+use Rattle.run_devices.specs.Devices.{Reading, Writing, GainsWhole, GainsPart, TakesAtMost}
 use Rattle.run_devices.specs.Transfers.{IsUntouched}
 use Rattle.command_line.specs.declared.command.Command.{Command}
 use Rattle.command_line.specs.declared.command.Command.TheVariants.{Synth, Check, Upgrade, Sim, Demo, Stay, Patrol}
-use Rattle.synth_run.specs.declared.outcome.Outcome.{Outcome}
-use Rattle.synth_run.specs.declared.outcome.Outcome.TheVariants.{Done, WriteFault, NoMemory}
+use Rattle.command_line.specs.declared.outcome.Failure.TheVariants.{Read, Write, Memory}
+use Rattle.command_line.specs.declared.outcome.Outcome.{Outcome}
+use Rattle.command_line.specs.declared.outcome.Outcome.TheVariants.{Done, Usage, Refused, Failed}
+use Rattle.synth_run.specs.declared.stop.Stop.{Stop}
+use Rattle.synth_run.specs.declared.stop.Stop.TheVariants as stops
 use Rattle.synth_run.specs.declared.text.Text.{Text}
 use Rattle.synth_run.specs.Headline.{IsAnswer}
 use Rattle.synth_run.specs.Played.{SolvesNothing}
 use Rattle.synth_run.specs.RunClauses.{IsAnswered, IsCutOff, IsRunOf}
-use Rattle.synth_run.specs.Sources.{bytes_for}
+use Rattle.synth_run.specs.Sources.{bytes_for, most_read, LeavesAlone}
 use Rattle.synth_run.specs.inside.SolvedGames.{IsToBeLeft}
 use Rattle.synth_run.specs.inside.Texts.{bytes_of}
-use Rattle.synth_run.specs.inside.Working.{IsWorkedOut, IsRefusalFor, IsWrittenOut, IsLeftAfter}
-use Rattle.synth_run.proofs.CommandEnds.{can_end_done, can_end_cut_off, can_end_without_memory}
+use Rattle.synth_run.specs.inside.Causes.{outcome_of}
+use Rattle.synth_run.specs.inside.Working.{IsWorkedOut, IsStopped, IsWrittenOut, IsLeftAfter}
 use Rattle.base.proofs.Options.{IfSome-weaker}
 
 solves_none : (command : Command) → SolvesNothing command None
@@ -27,37 +30,84 @@ solves_none (Demo number workers) = tt
 solves_none (Stay workers) = refl
 solves_none (Patrol workers) = refl
 
--- there is no answer, and nothing is written
-pub ends_turned_down : (command : Command) (outcome : Outcome) (source : Reading) (out : Writing) → IsRefusalFor command outcome source → IsUntouched out → IsRunOf command outcome source out None
-ends_turned_down command outcome source out h untouched = record {
-  not_usage = h.not_usage;
-  can_end = h.can_end;
-  answered = λ e. absurd (h.not_done e);
-  cut_off = λ e. absurd (h.not_write_fault e);
-  nothing_written = λ _ _. untouched.nothing;
-  leaves = λ e. absurd (h.not_done e);
-  leaves_a_game = λ e. absurd (h.not_done e);
+-- there is no memory left, and nothing is written
+ends_without_memory : (command : Command) (source : Reading) (out : Writing) → TakesAtMost source.before source.after (most_read command) → LeavesAlone command source → source.faults_after ≡ source.faults_before → IsUntouched out → IsRunOf command (Failed Memory) source out None
+ends_without_memory command source out within alone no_fault untouched = record {
+  can_end = tt;
+  answered = λ e. absurd (let clash : Failed Memory ≡ Done = e in cc);
+  cut_off = λ e. absurd (let clash : Failed Memory ≡ Failed Write = e in cc);
+  leaves = λ e. absurd (let clash : Failed Memory ≡ Done = e in cc);
+  leaves_a_game = λ e. absurd (let clash : Failed Memory ≡ Done = e in cc);
   leaves_nothing = λ _. refl;
   solves_nothing = solves_none command;
-  read = h.read;
+  read = λ _ some. absurd (some refl);
+  never_past = within;
+  leaves_alone = alone;
+  cause = λ texts. absurd texts;
+  shown = record {
+    nothing_written = λ _ _. untouched.nothing;
+    read_fault = λ e. absurd (let clash : Failed Memory ≡ Failed Read = e in cc);
+    no_read_fault = λ _. no_fault;
+    sound_source = λ _ e. cc;
+    write_fault = λ e. absurd (let clash : Failed Memory ≡ Failed Write = e in cc);
+    no_write_fault = λ _. untouched.no_fault;
+  };
+}
+
+-- there is no answer, and nothing is written
+pub ends_stopped : (command : Command) (stop : Stop) (source : Reading) (out : Writing) → IsStopped command stop source → IsUntouched out → IsRunOf command (outcome_of stop) source out None
+ends_stopped command (stops.Refused refusal) source out h untouched = record {
+  can_end = h.can_end;
+  answered = λ e. absurd (let clash : Refused refusal ≡ Done = e in cc);
+  cut_off = λ e. absurd (let clash : Refused refusal ≡ Failed Write = e in cc);
+  leaves = λ e. absurd (let clash : Refused refusal ≡ Done = e in cc);
+  leaves_a_game = λ e. absurd (let clash : Refused refusal ≡ Done = e in cc);
+  leaves_nothing = λ _. refl;
+  solves_nothing = solves_none command;
+  read = λ _ _. h.read (λ e. cc) (λ e. cc);
   never_past = h.never_past;
   leaves_alone = h.leaves_alone;
-  cause = h.cause;
-  read_fault = h.fault;
-  no_read_fault = h.no_fault;
-  sound_source = h.sound;
-  write_fault = λ e. absurd (h.not_write_fault e);
-  no_write_fault = λ _. untouched.no_fault;
+  cause = λ _. h.cause refusal refl;
+  shown = record {
+    nothing_written = λ _ _. untouched.nothing;
+    read_fault = λ e. absurd (let clash : Refused refusal ≡ Failed Read = e in cc);
+    no_read_fault = λ _. h.no_fault (λ e. cc);
+    sound_source = λ _ e. cc;
+    write_fault = λ e. absurd (let clash : Refused refusal ≡ Failed Write = e in cc);
+    no_write_fault = λ _. untouched.no_fault;
+  };
 }
+ends_stopped command (stops.Failed Read) source out h untouched = record {
+  can_end = h.can_end;
+  answered = λ e. absurd (let clash : Failed Read ≡ Done = e in cc);
+  cut_off = λ e. absurd (let clash : Failed Read ≡ Failed Write = e in cc);
+  leaves = λ e. absurd (let clash : Failed Read ≡ Done = e in cc);
+  leaves_a_game = λ e. absurd (let clash : Failed Read ≡ Done = e in cc);
+  leaves_nothing = λ _. refl;
+  solves_nothing = solves_none command;
+  read = λ other _. absurd (other refl);
+  never_past = h.never_past;
+  leaves_alone = h.leaves_alone;
+  cause = λ texts. absurd texts;
+  shown = record {
+    nothing_written = λ _ _. untouched.nothing;
+    read_fault = λ _. h.fault refl;
+    no_read_fault = λ other. absurd (other refl);
+    sound_source = λ is_sound _. h.sound is_sound refl;
+    write_fault = λ e. absurd (let clash : Failed Read ≡ Failed Write = e in cc);
+    no_write_fault = λ _. untouched.no_fault;
+  };
+}
+ends_stopped command (stops.Failed Write) source out h untouched = absurd (h.not_write refl)
+ends_stopped command (stops.Failed Memory) source out h untouched =
+    ends_without_memory command source out h.never_past h.leaves_alone (h.no_fault (λ e. cc)) untouched
 
 -- the whole answer is written
 ends_done : (command : Command) (text : Text) (source : Reading) (out : Writing) (played : Option (BoardModel × RootModel)) → IsWorkedOut command text source → IsToBeLeft command played source → GainsWhole out (bytes_of text) → IsRunOf command Done source out played
 ends_done command text source out played h left whole = record {
-  not_usage = λ e. cc;
-  can_end = can_end_done command;
+  can_end = tt;
   answered = λ _. IfSome-weaker (bytes_for command source.before) (λ bytes. IsAnswer command bytes (bytes_of text)) (λ bytes. IsAnswered command bytes out) (λ bytes answer. (bytes_of text, answer, whole)) h.answer;
-  cut_off = λ e. absurd (let clash : Done ≡ WriteFault = e in cc);
-  nothing_written = λ not_done _. absurd (not_done refl);
+  cut_off = λ e. absurd (let clash : Done ≡ Failed Write = e in cc);
   leaves = λ _. left.leaves;
   leaves_a_game = λ _. left.leaves_a_game;
   leaves_nothing = λ not_done. absurd (not_done refl);
@@ -66,64 +116,47 @@ ends_done command text source out played h left whole = record {
   never_past = h.never_past;
   leaves_alone = h.leaves_alone;
   cause = λ _. h.cause;
-  read_fault = λ e. absurd (cc);
-  no_read_fault = λ _. h.no_fault;
-  sound_source = λ _ e. cc;
-  write_fault = λ e. absurd (let clash : Done ≡ WriteFault = e in cc);
-  no_write_fault = λ _. whole.no_fault;
+  shown = record {
+    nothing_written = λ not_done _. absurd (not_done refl);
+    read_fault = λ e. absurd (let clash : Done ≡ Failed Read = e in cc);
+    no_read_fault = λ _. h.no_fault;
+    sound_source = λ _ e. cc;
+    write_fault = λ e. absurd (let clash : Done ≡ Failed Write = e in cc);
+    no_write_fault = λ _. whole.no_fault;
+  };
 }
 
 -- a write fails within the answer
-ends_cut_off : (command : Command) (text : Text) (source : Reading) (out : Writing) → IsWorkedOut command text source → GainsPart out (bytes_of text) → IsRunOf command WriteFault source out None
+ends_cut_off : (command : Command) (text : Text) (source : Reading) (out : Writing) → IsWorkedOut command text source → GainsPart out (bytes_of text) → IsRunOf command (Failed Write) source out None
 ends_cut_off command text source out h part = record {
-  not_usage = λ e. cc;
-  can_end = can_end_cut_off command;
-  answered = λ e. absurd (let clash : WriteFault ≡ Done = e in cc);
+  can_end = tt;
+  answered = λ e. absurd (let clash : Failed Write ≡ Done = e in cc);
   cut_off = λ _. IfSome-weaker (bytes_for command source.before) (λ bytes. IsAnswer command bytes (bytes_of text)) (λ bytes. IsCutOff command bytes out) (λ bytes answer. (bytes_of text, answer, part)) h.answer;
-  nothing_written = λ _ other. absurd (other refl);
-  leaves = λ e. absurd (let clash : WriteFault ≡ Done = e in cc);
-  leaves_a_game = λ e. absurd (let clash : WriteFault ≡ Done = e in cc);
+  leaves = λ e. absurd (let clash : Failed Write ≡ Done = e in cc);
+  leaves_a_game = λ e. absurd (let clash : Failed Write ≡ Done = e in cc);
   leaves_nothing = λ _. refl;
   solves_nothing = solves_none command;
   read = λ _ _. h.read;
   never_past = h.never_past;
   leaves_alone = h.leaves_alone;
   cause = λ texts. absurd texts;
-  read_fault = λ e. absurd (cc);
-  no_read_fault = λ _. h.no_fault;
-  sound_source = λ _ e. cc;
-  write_fault = λ _. part.fault;
-  no_write_fault = λ other. absurd (other refl);
-}
-
--- there is no memory for writing the answer
-ends_without_memory : (command : Command) (text : Text) (source : Reading) (out : Writing) → IsWorkedOut command text source → IsUntouched out → IsRunOf command NoMemory source out None
-ends_without_memory command text source out h untouched = record {
-  not_usage = λ e. cc;
-  can_end = can_end_without_memory command;
-  answered = λ e. absurd (let clash : NoMemory ≡ Done = e in cc);
-  cut_off = λ e. absurd (let clash : NoMemory ≡ WriteFault = e in cc);
-  nothing_written = λ _ _. untouched.nothing;
-  leaves = λ e. absurd (let clash : NoMemory ≡ Done = e in cc);
-  leaves_a_game = λ e. absurd (let clash : NoMemory ≡ Done = e in cc);
-  leaves_nothing = λ _. refl;
-  solves_nothing = solves_none command;
-  read = λ _ some. absurd (some refl);
-  never_past = h.never_past;
-  leaves_alone = h.leaves_alone;
-  cause = λ texts. absurd texts;
-  read_fault = λ e. absurd (cc);
-  no_read_fault = λ _. h.no_fault;
-  sound_source = λ _ e. cc;
-  write_fault = λ e. absurd (let clash : NoMemory ≡ WriteFault = e in cc);
-  no_write_fault = λ _. untouched.no_fault;
+  shown = record {
+    nothing_written = λ _ other. absurd (other refl);
+    read_fault = λ e. absurd (let clash : Failed Write ≡ Failed Read = e in cc);
+    no_read_fault = λ _. h.no_fault;
+    sound_source = λ _ e. cc;
+    write_fault = λ _. part.fault;
+    no_write_fault = λ other. absurd (other refl);
+  };
 }
 
 pub ends_written_out : (command : Command) (text : Text) (source : Reading) (out : Writing) (played left : Option (BoardModel × RootModel)) (outcome : Outcome) → IsWorkedOut command text source → IsToBeLeft command played source → IsWrittenOut text outcome out → IsLeftAfter outcome played left → IsRunOf command outcome source out left
 ends_written_out command text source out played left Done h to_leave end after =
     subst (λ (l : Option (BoardModel × RootModel)). IsRunOf command Done source out l) (sym (after.all refl)) (ends_done command text source out played h to_leave end)
-ends_written_out command text source out played left WriteFault h to_leave end after =
-    subst (λ (l : Option (BoardModel × RootModel)). IsRunOf command WriteFault source out l) (sym (after.nothing (λ e. cc))) (ends_cut_off command text source out h end)
-ends_written_out command text source out played left NoMemory h to_leave end after =
-    subst (λ (l : Option (BoardModel × RootModel)). IsRunOf command NoMemory source out l) (sym (after.nothing (λ e. cc))) (ends_without_memory command text source out h end)
-ends_written_out command text source out played left outcome h to_leave end after = absurd end
+ends_written_out command text source out played left (Failed Write) h to_leave end after =
+    subst (λ (l : Option (BoardModel × RootModel)). IsRunOf command (Failed Write) source out l) (sym (after.nothing (λ e. cc))) (ends_cut_off command text source out h end)
+ends_written_out command text source out played left (Failed Memory) h to_leave end after =
+    subst (λ (l : Option (BoardModel × RootModel)). IsRunOf command (Failed Memory) source out l) (sym (after.nothing (λ e. cc))) (ends_without_memory command source out h.never_past h.leaves_alone h.no_fault end)
+ends_written_out command text source out played left Usage h to_leave end after = absurd end
+ends_written_out command text source out played left (Refused refusal) h to_leave end after = absurd end
+ends_written_out command text source out played left (Failed Read) h to_leave end after = absurd end

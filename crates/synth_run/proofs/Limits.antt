@@ -1,6 +1,6 @@
 -- A source that is read to one byte past the limit of its text.
 use Rattle.std.proofs.Common.{inl, inr, ◌≡◌, ℕ, ◌<◌, List, length, take, drop, Option, Some, None, subst, arith, length-take}
-use Rattle.std.specs.Prelude.{◌⊎◌, IfSome}
+use Rattle.std.specs.Prelude.{IfSome}
 use Rattle.std.proofs.lemmas.Bool.{cases_lt}
 use Rattle.plant_record.specs.declared.limit_kind.LimitKind.{LimitKind}
 use Rattle.plant_record.specs.declared.limit_kind.LimitKind.TheVariants.{PlantText, TableText, Vectors, Cells, Pairs, Edges}
@@ -14,12 +14,10 @@ use Rattle.controller_table.specs.TableRefusals.{IsShortTable, IsTableRefusedFor
 use Rattle.controller_table.specs.Laws.{TablesAreShort}
 use Rattle.command_line.specs.declared.command.Command.{Command}
 use Rattle.command_line.specs.declared.command.Command.TheVariants.{Synth, Check, Upgrade, Sim, Demo, Stay, Patrol}
-use Rattle.synth_run.specs.declared.outcome.Outcome.{Outcome}
-use Rattle.synth_run.specs.declared.outcome.Outcome.TheVariants.{Done, Invalid, NoRow, Usage, Malformed, Overflow, Limit, TooManyTurns, ReadFault, WriteFault, NoMemory}
+use Rattle.command_line.specs.declared.outcome.Refusal.{Refusal}
 use Rattle.run_devices.specs.Transfers.{ReadUpTo}
 use Rattle.synth_run.specs.Sources.{most_read}
-use Rattle.synth_run.specs.Traces.{IsRangeOutcome, IsTraceOutcome}
-use Rattle.synth_run.specs.IsOutcomeFor.{IsPlantOutcome, IsPatrolOutcome, IsTableOutcome, IsRefusal, IsAccepted, IsRefused, IsRefusedTable, IsTableWithOutcome, IsOutcomeFor}
+use Rattle.synth_run.specs.IsOutcomeFor.{IsReadRefusal, IsRefused, IsRefusedTable, IsOverflow, IsPlantRefusal, IsPatrolRefusal, IsTextRefusal, IsRowsRefusal, IsStartRefusal, IsTableRefusal, IsRefusalFor}
 use Rattle.synth_run.specs.Headline.{IsAnswer}
 use Rattle.std.proofs.lemmas.List.{take_all}
 
@@ -43,24 +41,17 @@ read_to_the_limit most (Some bytes) after read up_to = up_to.1
 -- ---- refusals
 
 -- a refusal of one text is one of another, where its line or its limit is
-passes : (m n : ℕ → Type 0) (b c : LimitKind → Type 0) → ((line : ℕ) → m line → n line) → ((what : LimitKind) → b what → c what) → (outcome : Outcome) → IsRefusal m b outcome → IsRefusal n c outcome
-passes m n b c line limit Done h = h
-passes m n b c line limit (Invalid cell) h = h
-passes m n b c line limit NoRow h = h
-passes m n b c line limit Usage h = h
-passes m n b c line limit (Malformed l) h = line l h
-passes m n b c line limit (Overflow i u) h = h
-passes m n b c line limit (Limit what) h = limit what h
-passes m n b c line limit TooManyTurns h = h
-passes m n b c line limit ReadFault h = h
-passes m n b c line limit WriteFault h = h
-passes m n b c line limit NoMemory h = h
+passes : (m n : ℕ → Type 0) (b c : LimitKind → Type 0) → ((line : ℕ) → m line → n line) → ((what : LimitKind) → b what → c what) → (r : Refusal) → IsReadRefusal m b r → IsReadRefusal n c r
+passes m n b c line limit r h = elim h [
+  | inl f ↦ inl (f.0, f.1, line f.0 f.2)
+  | inr f ↦ inr (f.0, f.1, limit f.0 f.2)
+]
 
 -- a front of a longer text isn't short
 pub long_front : (bytes : List ℕ) → 65537 < length bytes → IsShort (take 65537 bytes) → ⊥
 long_front bytes lt short = omega (arith, lt, short, length-take 65537 bytes)
 
-refused_of_longer : (bytes : List ℕ) (outcome : Outcome) → 65537 < length bytes → IsRefused (take 65537 bytes) outcome → IsRefused bytes outcome
+refused_of_longer : (bytes : List ℕ) (outcome : Refusal) → 65537 < length bytes → IsRefused (take 65537 bytes) outcome → IsRefused bytes outcome
 refused_of_longer bytes outcome lt h = passes _ _ _ _ (λ line h. absurd (long_front bytes lt h.0)) limit outcome h
   where
     limit : (what : LimitKind) → IsRefusedFor (take 65537 bytes) (plants.Limit what) → IsRefusedFor bytes (plants.Limit what)
@@ -74,7 +65,7 @@ refused_of_longer bytes outcome lt h = passes _ _ _ _ (λ line h. absurd (long_f
 long_table_front : (bytes : List ℕ) → 67108865 < length bytes → IsShortTable (take 67108865 bytes) → ⊥
 long_table_front bytes lt short = omega (arith, lt, short, length-take 67108865 bytes)
 
-refused_table_of_longer : (bytes : List ℕ) (outcome : Outcome) → 67108865 < length bytes → IsRefusedTable (take 67108865 bytes) outcome → IsRefusedTable bytes outcome
+refused_table_of_longer : (bytes : List ℕ) (outcome : Refusal) → 67108865 < length bytes → IsRefusedTable (take 67108865 bytes) outcome → IsRefusedTable bytes outcome
 refused_table_of_longer bytes outcome lt h = passes _ _ _ _ (λ line h. absurd (long_table_front bytes lt h.0)) limit outcome h
   where
     limit : (what : LimitKind) → IsTableRefusedFor (take 67108865 bytes) (tables.Limit what) → IsTableRefusedFor bytes (tables.Limit what)
@@ -87,57 +78,51 @@ refused_table_of_longer bytes outcome lt h = passes _ _ _ _ (λ line h. absurd (
 
 -- ---- commands
 
--- What a text demands of a command as far as it is read, and how it is answered, holds of the whole text if it is longer.
+-- What refuses a text as far as it is read, and how it is answered, holds of the whole text if it is longer.
 pub record PassesOn (command : Command) : Type 0 where
-  pub outcomes_for : (outcome : Outcome) (bytes : List ℕ) → most_read command < length bytes → IsOutcomeFor command (take (most_read command) bytes) outcome → IsOutcomeFor command bytes outcome
+  pub refusals : (r : Refusal) (bytes : List ℕ) → most_read command < length bytes → IsRefusalFor command (take (most_read command) bytes) r → IsRefusalFor command bytes r
   pub answers : (text bytes : List ℕ) → most_read command < length bytes → IsAnswer command (take (most_read command) bytes) text → IsAnswer command bytes text
 
-plant_of_longer :
-    (Outcomes : Description → Type 0) (bytes : List ℕ) (outcome : Outcome) → 65537 < length bytes
-    → IsRefused (take 65537 bytes) outcome ⊎ ((p : Description) × IsAccepted (take 65537 bytes) p × Outcomes p)
-    → IsRefused bytes outcome ⊎ ((p : Description) × IsAccepted bytes p × Outcomes p)
-plant_of_longer Outcomes bytes outcome lt h =
+plant_of_longer : (Refuses : Description → Refusal → Type 0) (bytes : List ℕ) (r : Refusal) → 65537 < length bytes → IsTextRefusal Refuses (take 65537 bytes) r → IsTextRefusal Refuses bytes r
+plant_of_longer Refuses bytes r lt h =
     elim h [
-      | inl refused ↦ inl (refused_of_longer bytes outcome lt refused)
+      | inl refused ↦ inl (refused_of_longer bytes r lt refused)
       | inr plant ↦ absurd (long_front bytes lt plant.1.short)
     ]
 
 no_table_front : TablesAreShort → (bytes : List ℕ) (p : Description) (rows : List (Option Row)) → 67108865 < length bytes → IsTable (take 67108865 bytes) p rows → ⊥
 no_table_front short bytes p rows lt table = long_table_front bytes lt (short (take 67108865 bytes) p rows table)
 
-table_of_longer :
-    TablesAreShort → (Outcomes : Description → List (Option Row) → Type 0) (bytes : List ℕ) (outcome : Outcome) → 67108865 < length bytes
-    → IsRefusedTable (take 67108865 bytes) outcome ⊎ IsTableWithOutcome Outcomes (take 67108865 bytes)
-    → IsRefusedTable bytes outcome ⊎ IsTableWithOutcome Outcomes bytes
-table_of_longer short Outcomes bytes outcome lt h =
+table_of_longer : TablesAreShort → (Refuses : Description → List (Option Row) → Refusal → Type 0) (bytes : List ℕ) (r : Refusal) → 67108865 < length bytes → IsTableRefusal Refuses (take 67108865 bytes) r → IsTableRefusal Refuses bytes r
+table_of_longer short Refuses bytes r lt h =
     elim h [
-      | inl refused ↦ inl (refused_table_of_longer bytes outcome lt refused)
-      | inr table ↦ absurd (no_table_front short bytes table.plant table.rows lt table.table)
+      | inl refused ↦ inl (refused_table_of_longer bytes r lt refused)
+      | inr table ↦ absurd (no_table_front short bytes table.0 table.1 lt table.2)
     ]
 
 pub passes_on : TablesAreShort → (command : Command) → PassesOn command
 passes_on short (Synth workers) = record {
-  outcomes_for = λ outcome bytes lt h. plant_of_longer (λ p. IsPlantOutcome p outcome) bytes outcome lt h;
+  refusals = λ r bytes lt h. plant_of_longer IsPlantRefusal bytes r lt h;
   answers = λ text bytes lt h. absurd (long_front bytes lt h.1.short);
 }
 passes_on short Check = record {
-  outcomes_for = λ outcome bytes lt h. table_of_longer short (λ p rows. IsTableOutcome p rows outcome) bytes outcome lt h;
+  refusals = λ r bytes lt h. table_of_longer short IsRowsRefusal bytes r lt h;
   answers = λ text bytes lt h. absurd (no_table_front short bytes h.0.plant h.0.rows lt h.0.table);
 }
 passes_on short Upgrade = record {
-  outcomes_for = λ outcome bytes lt h. table_of_longer short (λ p rows. IsRangeOutcome p outcome) bytes outcome lt h;
+  refusals = λ r bytes lt h. table_of_longer short (λ p rows s. IsOverflow p s) bytes r lt h;
   answers = λ text bytes lt h. absurd (no_table_front short bytes h.plant h.rows lt h.table);
 }
 passes_on short (Sim samples seed start) = record {
-  outcomes_for = λ outcome bytes lt h. table_of_longer short (λ p rows. IsTraceOutcome p rows start outcome) bytes outcome lt h;
+  refusals = λ r bytes lt h. table_of_longer short (IsStartRefusal start) bytes r lt h;
   answers = λ text bytes lt h. absurd (no_table_front short bytes h.plant h.rows lt h.table);
 }
-passes_on short (Demo number workers) = record { outcomes_for = λ outcome bytes lt h. h; answers = λ text bytes lt h. h }
+passes_on short (Demo number workers) = record { refusals = λ r bytes lt h. h; answers = λ text bytes lt h. h }
 passes_on short (Stay workers) = record {
-  outcomes_for = λ outcome bytes lt h. plant_of_longer (λ p. IsPlantOutcome p outcome) bytes outcome lt h;
+  refusals = λ r bytes lt h. plant_of_longer IsPlantRefusal bytes r lt h;
   answers = λ text bytes lt h. absurd (long_front bytes lt h.1.short);
 }
 passes_on short (Patrol workers) = record {
-  outcomes_for = λ outcome bytes lt h. plant_of_longer (λ p. IsPatrolOutcome p outcome) bytes outcome lt h;
+  refusals = λ r bytes lt h. plant_of_longer IsPatrolRefusal bytes r lt h;
   answers = λ text bytes lt h. absurd (long_front bytes lt h.1.short);
 }

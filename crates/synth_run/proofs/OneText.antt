@@ -8,10 +8,10 @@ use Rattle.plant_record.specs.Description.{Description}
 use Rattle.plant_game.proofs.OneGame.{one_game}
 use Rattle.temporal_games.specs.Held.{IsHeld}
 use Rattle.temporal_games.specs.Stay.{IsStayedBy, IsStayRow, IsStaySolution}
-use Rattle.temporal_games.specs.StayText.{stay_text}
-use Rattle.temporal_games.specs.Targets.{IsInTarget}
-use Rattle.temporal_games.specs.Patrol.{IsReachedLaterBy, IsPatrolRow, IsPatrol, rows_for}
-use Rattle.temporal_games.specs.PatrolText.{patrol_text}
+use Rattle.temporal_texts.specs.StayText.{stay_text}
+use Rattle.temporal_texts.specs.Targets.{IsInTarget}
+use Rattle.temporal_texts.specs.PatrolText.{rows_for, patrol_text}
+use Rattle.temporal_games.specs.Patrol.{IsReachedLaterBy, IsPatrolRow, IsPatrol}
 use Rattle.synth_run.specs.Headline.{IsStayTableOf, IsPatrolTableOf}
 use Rattle.synth_run.specs.Laws.{OneStayTextForBytes, OnePatrolTextForBytes}
 use Rattle.synth_run.proofs.Below.{one_plant_per_text}

@@ -1,9 +1,9 @@
--- A text demands one thing.
+-- A text demands one thing: it is answered, or refused for one reason.
 use Rattle.std.proofs.Common.{inl, inr, ◌≡◌, ℕ, ◌^◌, ◌<◌, ◌≤◌, List, Option, Some, None, sym, ap, subst, ◌∙◌, refl, arith}
 use Rattle.std.specs.Prelude.{◌⊎◌, ℤ}
 use Rattle.std.proofs.lemmas.Bool.{cases_order}
 use Rattle.plant_record.specs.declared.limit_kind.LimitKind.{LimitKind}
-use Rattle.plant_record.specs.declared.limit_kind.LimitKind.TheVariants.{PlantText, TableText, Vectors, Cells, Pairs, Edges}
+use Rattle.plant_text.specs.declared.plant_fault.PlantFault.{PlantFault}
 use Rattle.plant_text.specs.declared.plant_fault.PlantFault.TheVariants as plants
 use Rattle.plant_record.specs.declared.aims.GoalKind.{GoalKind}
 use Rattle.plant_record.specs.declared.aims.GoalKind.TheVariants.{Reach, Keep}
@@ -17,20 +17,81 @@ use Rattle.game_core.proofs.Right.{solutions_are_right}
 use Rattle.plant_game.specs.PlantSolution.{Solves, IsSolutionOf}
 use Rattle.plant_game.proofs.EdgeCounts.{one_edge_count}
 use Rattle.plant_game.proofs.OneGame.{one_game}
+use Rattle.controller_table.specs.declared.table_fault.TableFault.{TableFault}
 use Rattle.controller_table.specs.declared.table_fault.TableFault.TheVariants as tables
+use Rattle.controller_table.specs.Tables.{IsTable}
 use Rattle.controller_table.specs.TableRefusals.{IsTableRefusedFor}
 use Rattle.table_check.specs.Verdicts.{IsFirstWithout}
+use Rattle.command_line.specs.declared.command.Command.{Command}
 use Rattle.command_line.specs.declared.command.Command.TheVariants.{Synth, Check, Upgrade, Sim, Demo, Stay, Patrol}
-use Rattle.synth_run.specs.declared.outcome.Outcome.{Outcome}
-use Rattle.synth_run.specs.declared.outcome.Outcome.TheVariants.{Done, Invalid, NoRow, Usage, Malformed, Overflow, Limit, TooManyTurns, ReadFault, WriteFault, NoMemory}
-use Rattle.synth_run.specs.IsOutcomeFor.{IsAccepted, IsRefusal, IsRefused, IsSolvable, HasEdges, ExceedsEdges, turns_of, IsPlantOutcome, IsPatrolOutcome, IsRightFor, IsFirstWrong, IsTableOutcome, IsRefusedTable, IsTableWithOutcome}
-use Rattle.synth_run.specs.Traces.{HasRowFor, HasNoRowFor, IsRangeOutcome, IsTraceOutcome}
-use Rattle.synth_run.specs.inside.Causes.{of_plant, of_table}
+use Rattle.command_line.specs.declared.outcome.Refusal.{Refusal}
+use Rattle.command_line.specs.declared.outcome.Refusal.TheVariants.{Malformed, Overflow, Limit, TooManyTurns, Invalid, NoRow}
+use Rattle.command_line.specs.declared.outcome.Failure.TheVariants.{Read, Write, Memory}
+use Rattle.command_line.specs.declared.outcome.Outcome.TheVariants.{Done, Usage, Refused, Failed}
+use Rattle.synth_run.specs.declared.stop.Stop.{Stop}
+use Rattle.synth_run.specs.declared.stop.Stop.TheVariants as stops
+use Rattle.synth_run.specs.IsOutcomeFor.{IsAccepted, SpellPlantWith, IsReadRefusal, IsRefused, IsSolvable, HasEdges, IsOverflow, HasTooManyEdges, IsPlantRefusal, turns_of, IsPatrollable, IsPatrolRefusal, IsTextRefusal, IsRightFor, IsFirstWrong, AreRight, IsRowsRefusal, IsStartRefusal, AreTableWith, IsRefusedTable, IsTableRefusal, IsAnswerable, IsRefusalFor}
+use Rattle.synth_run.specs.Traces.{HasRowFor, HasNoRowFor}
+use Rattle.synth_run.specs.inside.Causes.{IsStopFor, without_memory}
 use Rattle.demo_plants.specs.Demo.{demo_plant_of}
 use Rattle.demo_plants.specs.Laws.{IsSolvableDemo}
 use Rattle.synth_run.specs.Laws.{OneOutcomePerText}
 use Rattle.synth_run.proofs.Below.{one_plant_per_text, one_refusal, read_or_refused, one_table_per_text, one_table_refusal, table_or_refused}
 use Rattle.table_check.proofs.Verdicts.{one_first}
+
+-- ---- what passes isn't refused, and what is refused has one reason
+
+record IsExact (Passes : Type 0) (Refuses : Refusal → Type 0) : Type 0 where
+  one : (r s : Refusal) → Refuses r → Refuses s → r ≡ s
+  never_both : Passes → (r : Refusal) → Refuses r → ⊥
+
+exact_by : {P Q : Type 0} {R S : Refusal → Type 0} → IsExact P R → (Q → P) → ((r : Refusal) → S r → R r) → IsExact Q S
+exact_by exact passes refuses = record {
+  one = λ r s f g. exact.one r s (refuses r f) (refuses s g);
+  never_both = λ q r f. exact.never_both (passes q) r (refuses r f);
+}
+
+-- one reason more, of what passes so far
+one_more : (P Q : Type 0) (R S : Refusal → Type 0) → IsExact P R → ((r : Refusal) → S r → P) → ((r s : Refusal) → S r → S s → r ≡ s) → (Q → (r : Refusal) → S r → ⊥) → IsExact (P × Q) (λ r. R r ⊎ S r)
+one_more P Q R S exact passed one both = record {
+  one = λ r s f g. elim f [
+    | inl first ↦ elim g [
+      | inl also ↦ exact.one r s first also
+      | inr later ↦ absurd (exact.never_both (passed s later) r first)
+    ]
+    | inr later ↦ elim g [
+      | inl first ↦ absurd (exact.never_both (passed r later) s first)
+      | inr also ↦ one r s later also
+    ]
+  ];
+  never_both = λ (p, q) r f. elim f [
+    | inl first ↦ exact.never_both p r first
+    | inr later ↦ both q r later
+  ];
+}
+
+-- what is read as one thing, or refused, and then that thing's reasons
+read_then : {A : Type 0} (Reads : A → Type 0) (R : Refusal → Type 0) (Passes : A → Type 0) (Refuses : A → Refusal → Type 0)
+    → ((a b : A) → Reads a → Reads b → a ≡ b) → ((r s : Refusal) → R r → R s → r ≡ s) → ((a : A) → Reads a → (r : Refusal) → R r → ⊥)
+    → ((a : A) → Reads a → IsExact (Passes a) (Refuses a)) → IsExact ((a : A) × Reads a × Passes a) (λ r. R r ⊎ ((a : A) × Reads a × Refuses a r))
+read_then {A = A} Reads R Passes Refuses one_thing one either exact = record {
+  one = λ r s f g. elim f [
+    | inl refused ↦ elim g [
+      | inl also ↦ one r s refused also
+      | inr read ↦ absurd (either read.0 read.1 r refused)
+    ]
+    | inr read ↦ elim g [
+      | inl refused ↦ absurd (either read.0 read.1 s refused)
+      | inr also ↦ (exact also.0 also.1).one r s (subst (λ (a : A). Refuses a r) (one_thing read.0 also.0 read.1 also.1) read.2) also.2
+    ]
+  ];
+  never_both = λ passed r f. elim f [
+    | inl refused ↦ either passed.0 passed.1 r refused
+    | inr read ↦ (exact read.0 read.1).never_both (subst Passes (one_thing passed.0 read.0 passed.1 read.1) passed.2) r read.2
+  ];
+}
+
+-- ---- a plant
 
 -- no earlier equation or input overflows than the first
 no_earlier : (p : Description) (i u j v : ℕ) → IsFirstOverflow p i u → IsFirstOverflow p j v → j < i → ⊥
@@ -68,176 +129,41 @@ same_overflow p i u j v f g =
 fits_or_not : (p : Description) (i u : ℕ) → HasNoOverflow p → IsFirstOverflow p i u → ⊥
 fits_or_not p i u fits first = first.overflow (fits i u first.equation first.input)
 
--- the plant of the edges that are too many
-exceeding : (p : Description) (what : LimitKind) → ExceedsEdges p what → (what ≡ Edges) × ((edges : ℕ) × HasEdges p edges × (2 ^ 25 < edges))
-exceeding p PlantText e = absurd e
-exceeding p TableText e = absurd e
-exceeding p Vectors e = absurd e
-exceeding p Cells e = absurd e
-exceeding p Pairs e = absurd e
-exceeding p Edges e = (refl, e)
-
 few_or_many : (p : Description) (m n : ℕ) → IsPlant p → HasEdges p m → HasEdges p n → m ≤ 2 ^ 25 → 2 ^ 25 < n → ⊥
 few_or_many p m n plant f g few many = let same : m ≡ n = one_edge_count p m n plant f.counted g.counted in omega (arith, same, few, many)
 
-one_plant_outcome : (p : Description) (a b : Outcome) → IsPlant p → IsPlantOutcome p a → IsPlantOutcome p b → a ≡ b
-one_plant_outcome p Done Done plant f g = refl
-one_plant_outcome p Done (Overflow i u) plant f g = absurd (fits_or_not p i u f.1.fits g)
-one_plant_outcome p Done (Limit what) plant f g = let many = (exceeding p what g).1 in absurd (few_or_many p f.0 many.0 plant f.1 many.1 f.2 many.2)
-one_plant_outcome p (Overflow i u) Done plant f g = absurd (fits_or_not p i u g.1.fits f)
-one_plant_outcome p (Overflow i u) (Overflow j v) plant f g = same_overflow p i u j v f g
-one_plant_outcome p (Overflow i u) (Limit what) plant f g = let many = (exceeding p what g).1 in absurd (fits_or_not p i u many.1.fits f)
-one_plant_outcome p (Limit what) Done plant f g = let many = (exceeding p what f).1 in absurd (few_or_many p g.0 many.0 plant g.1 many.1 g.2 many.2)
-one_plant_outcome p (Limit what) (Overflow i u) plant f g = let many = (exceeding p what f).1 in absurd (fits_or_not p i u many.1.fits g)
-one_plant_outcome p (Limit what) (Limit other) plant f g = ap Limit ((exceeding p what f).0 ∙ sym (exceeding p other g).0)
-one_plant_outcome p (Invalid c) b plant f g = absurd f
-one_plant_outcome p NoRow b plant f g = absurd f
-one_plant_outcome p Usage b plant f g = absurd f
-one_plant_outcome p (Malformed n) b plant f g = absurd f
-one_plant_outcome p TooManyTurns b plant f g = absurd f
-one_plant_outcome p ReadFault b plant f g = absurd f
-one_plant_outcome p WriteFault b plant f g = absurd f
-one_plant_outcome p NoMemory b plant f g = absurd f
-one_plant_outcome p Done (Invalid c) plant f g = absurd g
-one_plant_outcome p Done NoRow plant f g = absurd g
-one_plant_outcome p Done Usage plant f g = absurd g
-one_plant_outcome p Done (Malformed n) plant f g = absurd g
-one_plant_outcome p Done TooManyTurns plant f g = absurd g
-one_plant_outcome p Done ReadFault plant f g = absurd g
-one_plant_outcome p Done WriteFault plant f g = absurd g
-one_plant_outcome p Done NoMemory plant f g = absurd g
-one_plant_outcome p (Overflow i u) (Invalid c) plant f g = absurd g
-one_plant_outcome p (Overflow i u) NoRow plant f g = absurd g
-one_plant_outcome p (Overflow i u) Usage plant f g = absurd g
-one_plant_outcome p (Overflow i u) (Malformed n) plant f g = absurd g
-one_plant_outcome p (Overflow i u) TooManyTurns plant f g = absurd g
-one_plant_outcome p (Overflow i u) ReadFault plant f g = absurd g
-one_plant_outcome p (Overflow i u) WriteFault plant f g = absurd g
-one_plant_outcome p (Overflow i u) NoMemory plant f g = absurd g
-one_plant_outcome p (Limit what) (Invalid c) plant f g = absurd g
-one_plant_outcome p (Limit what) NoRow plant f g = absurd g
-one_plant_outcome p (Limit what) Usage plant f g = absurd g
-one_plant_outcome p (Limit what) (Malformed n) plant f g = absurd g
-one_plant_outcome p (Limit what) TooManyTurns plant f g = absurd g
-one_plant_outcome p (Limit what) ReadFault plant f g = absurd g
-one_plant_outcome p (Limit what) WriteFault plant f g = absurd g
-one_plant_outcome p (Limit what) NoMemory plant f g = absurd g
+range_exact : (p : Description) → IsExact (HasNoOverflow p) (IsOverflow p)
+range_exact p = record {
+  one = λ r s f g. f.2 ∙ same_overflow p f.0 f.1 g.0 g.1 f.3 g.3 ∙ sym g.2;
+  never_both = λ fits r f. fits_or_not p f.0 f.1 fits f.3;
+}
 
--- nothing refuses a demo plant, so that only want of memory keeps it from its line
-pub no_refusal : (n : ℕ) → IsSolvableDemo n → (outcome : Outcome) → (outcome ≡ Done → ⊥) → ((outcome ≡ NoMemory → ⊥) → IsPlantOutcome (demo_plant_of n) outcome) → outcome ≡ NoMemory
-no_refusal n s Done failed h = absurd (failed refl)
-no_refusal n s (Invalid c) failed h = absurd (h (λ e. cc))
-no_refusal n s NoRow failed h = absurd (h (λ e. cc))
-no_refusal n s Usage failed h = absurd (h (λ e. cc))
-no_refusal n s (Malformed line) failed h = absurd (h (λ e. cc))
-no_refusal n s (Overflow i u) failed h = absurd (fits_or_not (demo_plant_of n) i u s.no_overflow (h (λ e. cc)))
-no_refusal n s (Limit what) failed h = absurd (let many = (exceeding (demo_plant_of n) what (h (λ e. cc))).1 in s.edges many.0 many.1.counted many.2)
-no_refusal n s ReadFault failed h = absurd (h (λ e. cc))
-no_refusal n s TooManyTurns failed h = absurd (h (λ e. cc))
-no_refusal n s WriteFault failed h = absurd (h (λ e. cc))
-no_refusal n s NoMemory failed h = refl
-
--- A refused text, by the fault of its reader.
-record IsFaulty {Fault : Type 0} (Refused : Fault → Type 0) (told : Fault → Outcome) (outcome : Outcome) : Type 0 where
-  fault : Fault
-  refused : Refused fault
-  is : outcome ≡ told fault
-
-faulty : {Fault : Type 0} (Refused : Fault → Type 0) (told : Fault → Outcome) (malformed : ℕ → Fault) (limit : LimitKind → Fault)
-    → ((line : ℕ) → Malformed line ≡ told (malformed line)) → ((what : LimitKind) → Limit what ≡ told (limit what))
-    → (outcome : Outcome) → IsRefusal (λ line. Refused (malformed line)) (λ what. Refused (limit what)) outcome → IsFaulty Refused told outcome
-faulty Refused told malformed limit line what Done h = absurd h
-faulty Refused told malformed limit line what (Invalid c) h = absurd h
-faulty Refused told malformed limit line what NoRow h = absurd h
-faulty Refused told malformed limit line what Usage h = absurd h
-faulty Refused told malformed limit line what (Malformed n) h = record { fault = malformed n; refused = h; is = line n }
-faulty Refused told malformed limit line what (Overflow i u) h = absurd h
-faulty Refused told malformed limit line what (Limit kind) h = record { fault = limit kind; refused = h; is = what kind }
-faulty Refused told malformed limit line what ReadFault h = absurd h
-faulty Refused told malformed limit line what TooManyTurns h = absurd h
-faulty Refused told malformed limit line what WriteFault h = absurd h
-faulty Refused told malformed limit line what NoMemory h = absurd h
-
--- two refusals of a text are one, where its reader has one fault
-one_fault : {Fault : Type 0} (Refused : Fault → Type 0) (told : Fault → Outcome) (a b : Outcome) → ((f g : Fault) → Refused f → Refused g → f ≡ g) → IsFaulty Refused told a → IsFaulty Refused told b → a ≡ b
-one_fault Refused told a b one f g = f.is ∙ ap told (one f.fault g.fault f.refused g.refused) ∙ sym g.is
-
-faulty_plant : (bytes : List ℕ) (outcome : Outcome) → IsRefused bytes outcome → IsFaulty (IsRefusedFor bytes) of_plant outcome
-faulty_plant bytes outcome h = faulty (IsRefusedFor bytes) of_plant (λ line. plants.Malformed line) (λ what. plants.Limit what) (λ line. refl) (λ what. refl) outcome h
-
--- plant texts demand one thing where their plants do
-one_demand_of_plants : (Outcomes : Description → Outcome → Type 0) → ((p : Description) (a b : Outcome) → IsPlant p → Outcomes p a → Outcomes p b → a ≡ b) → (bytes : List ℕ) (a b : Outcome)
-    → IsRefused bytes a ⊎ ((p : Description) × IsAccepted bytes p × Outcomes p a) → IsRefused bytes b ⊎ ((p : Description) × IsAccepted bytes p × Outcomes p b) → a ≡ b
-one_demand_of_plants Outcomes one bytes a b f g =
-    elim f [
-      | inl refused ↦ elim g [
-        | inl other ↦ one_fault (IsRefusedFor bytes) of_plant a b (one_refusal bytes) (faulty_plant bytes a refused) (faulty_plant bytes b other)
-        | inr accepted ↦ (let x = faulty_plant bytes a refused in absurd (read_or_refused bytes accepted.0 x.fault accepted.1.spells accepted.1.short accepted.1.limits x.refused))
-      ]
-      | inr accepted ↦ elim g [
-        | inl other ↦ (let y = faulty_plant bytes b other in absurd (read_or_refused bytes accepted.0 y.fault accepted.1.spells accepted.1.short accepted.1.limits y.refused))
-        | inr also ↦ (let same : accepted.0 ≡ also.0 = one_plant_per_text bytes accepted.0 also.0 accepted.1.spells also.1.spells in one also.0 a b also.1.limits.plant (subst (λ (p : Description). Outcomes p a) same accepted.2) also.2)
-      ]
-    ]
-
--- ---- patrols
-
--- what a plant demands of a patrol: its answer, or that its turns are too many, or what refuses it in any case
-data PatrolEnd (p : Description) (outcome : Outcome) : Type 0 where
-  has_few_turns : outcome ≡ Done → IsSolvable p → turns_of p ≤ 2 ^ 22 → PatrolEnd p outcome
-  has_many_turns : outcome ≡ TooManyTurns → IsSolvable p → 2 ^ 22 < turns_of p → PatrolEnd p outcome
-  is_unsolvable : (outcome ≡ Done → ⊥) → IsPlantOutcome p outcome → PatrolEnd p outcome
-
-patrol_end : (p : Description) (outcome : Outcome) → IsPatrolOutcome p outcome → PatrolEnd p outcome
-patrol_end p Done h = has_few_turns refl h.0 h.1
-patrol_end p (Invalid cell) h = absurd h
-patrol_end p NoRow h = absurd h
-patrol_end p Usage h = absurd h
-patrol_end p (Malformed line) h = absurd h
-patrol_end p (Overflow i u) h = is_unsolvable (λ e. cc) h
-patrol_end p (Limit what) h = is_unsolvable (λ e. cc) h
-patrol_end p TooManyTurns h = has_many_turns refl h.0 h.1
-patrol_end p ReadFault h = absurd h
-patrol_end p WriteFault h = absurd h
-patrol_end p NoMemory h = absurd h
+plant_exact : (p : Description) → IsPlant p → IsExact (IsSolvable p) (IsPlantRefusal p)
+plant_exact p plant =
+    exact_by
+    (one_more (HasNoOverflow p) (IsSolvable p) (IsOverflow p) (HasTooManyEdges p) (range_exact p) (λ r f. f.1.1.fits) (λ r s f g. f.0 ∙ sym g.0)
+    (λ solvable r f. few_or_many p solvable.0 f.1.0 plant solvable.1 f.1.1 solvable.2 f.1.2))
+    (λ solvable. (solvable.1.fits, solvable)) (λ r f. f)
 
 few_or_many_turns : (p : Description) → turns_of p ≤ 2 ^ 22 → 2 ^ 22 < turns_of p → ⊥
 few_or_many_turns p few many = omega (arith, few, many)
 
-one_patrol_end : (p : Description) (a b : Outcome) → IsPlant p → PatrolEnd p a → PatrolEnd p b → a ≡ b
-one_patrol_end p a b plant (has_few_turns e s few) (has_few_turns k t also) = e ∙ sym k
-one_patrol_end p a b plant (has_few_turns e s few) (has_many_turns k t many) = absurd (few_or_many_turns p few many)
-one_patrol_end p a b plant (has_few_turns e s few) (is_unsolvable k g) = absurd (k (sym (one_plant_outcome p Done b plant s g)))
-one_patrol_end p a b plant (has_many_turns e s many) (has_few_turns k t few) = absurd (few_or_many_turns p few many)
-one_patrol_end p a b plant (has_many_turns e s many) (has_many_turns k t also) = e ∙ sym k
-one_patrol_end p a b plant (has_many_turns e s many) (is_unsolvable k g) = absurd (k (sym (one_plant_outcome p Done b plant s g)))
-one_patrol_end p a b plant (is_unsolvable e h) (has_few_turns k t few) = absurd (e (one_plant_outcome p a Done plant h t))
-one_patrol_end p a b plant (is_unsolvable e h) (has_many_turns k t many) = absurd (e (one_plant_outcome p a Done plant h t))
-one_patrol_end p a b plant (is_unsolvable e h) (is_unsolvable k g) = one_plant_outcome p a b plant h g
+patrol_exact : (p : Description) → IsPlant p → IsExact (IsPatrollable p) (IsPatrolRefusal p)
+patrol_exact p plant =
+    one_more (IsSolvable p) (turns_of p ≤ 2 ^ 22) (IsPlantRefusal p) (λ r. (r ≡ TooManyTurns) × IsSolvable p × (2 ^ 22 < turns_of p)) (plant_exact p plant) (λ r f. f.1) (λ r s f g. f.0 ∙ sym g.0)
+    (λ few r f. few_or_many_turns p few f.2)
 
--- ---- tables
+-- nothing refuses a demo plant, so that only want of memory keeps it from its line
+pub no_refusal : (n : ℕ) → IsSolvableDemo n → (stop : Stop) → IsStopFor (IsPlantRefusal (demo_plant_of n)) stop → stop ≡ without_memory
+no_refusal n s (stops.Refused r) h = absurd (elim h [
+  | inl f ↦ fits_or_not (demo_plant_of n) f.0 f.1 s.no_overflow f.3
+  | inr many ↦ s.edges many.1.0 many.1.1.counted many.1.2
+])
+no_refusal n s (stops.Failed Read) h = absurd h
+no_refusal n s (stops.Failed Write) h = absurd h
+no_refusal n s (stops.Failed Memory) h = refl
 
--- what a table demands: a verdict on its rows, or what refuses its plant
-data TableEnd (p : Description) (rows : List (Option Row)) (outcome : Outcome) : Type 0 where
-  is_valid : outcome ≡ Done → IsSolvable p → IsSolutionOf p rows → TableEnd p rows outcome
-  is_invalid : (cell : ℕ) → outcome ≡ Invalid cell → IsSolvable p → IsFirstWrong p rows cell → TableEnd p rows outcome
-  is_refused : (outcome ≡ Done → ⊥) → IsPlantOutcome p outcome → TableEnd p rows outcome
-
-table_end : (p : Description) (rows : List (Option Row)) (outcome : Outcome) → IsTableOutcome p rows outcome → TableEnd p rows outcome
-table_end p rows Done h = is_valid refl h.0 h.1
-table_end p rows (Invalid cell) h = is_invalid cell refl h.0 h.1
-table_end p rows NoRow h = absurd h
-table_end p rows Usage h = absurd h
-table_end p rows (Malformed line) h = absurd h
-table_end p rows (Overflow i u) h = is_refused (λ e. cc) h
-table_end p rows (Limit what) h = is_refused (λ e. cc) h
-table_end p rows ReadFault h = absurd h
-table_end p rows TooManyTurns h = absurd h
-table_end p rows WriteFault h = absurd h
-table_end p rows NoMemory h = absurd h
-
-faulty_table : (bytes : List ℕ) (outcome : Outcome) → IsRefusedTable bytes outcome → IsFaulty (IsTableRefusedFor bytes) of_table outcome
-faulty_table bytes outcome h = faulty (IsTableRefusedFor bytes) of_table (λ line. tables.Malformed line) (λ what. tables.Limit what) (λ line. refl) (λ what. refl) outcome h
+-- ---- rows
 
 one_wrong : (p : Description) (rows : List (Option Row)) (b c : ℕ) → IsPlant p → IsFirstWrong p rows b → IsFirstWrong p rows c → b ≡ c
 one_wrong p rows b c plant f g =
@@ -257,89 +183,11 @@ no_wrong p rows c plant solution wrong =
     let first : IsFirstWithout (IsRightFor p.goal solution.game rows) solution.game.cells c = subst (λ (h : Game). IsFirstWithout (IsRightFor p.goal h rows) h.cells c) same wrong.wrong in
     first.without (each_right p.goal solution.game rows c solution.abstraction.game solution.solution first.inside)
 
-one_table_end : (p : Description) (rows : List (Option Row)) (a b : Outcome) → IsPlant p → TableEnd p rows a → TableEnd p rows b → a ≡ b
-one_table_end p rows a b plant (is_valid e s h) (is_valid k t g) = e ∙ sym k
-one_table_end p rows a b plant (is_valid e s h) (is_invalid c k t g) = absurd (no_wrong p rows c plant h g)
-one_table_end p rows a b plant (is_valid e s h) (is_refused k g) = absurd (k (sym (one_plant_outcome p Done b plant s g)))
-one_table_end p rows a b plant (is_invalid c e s h) (is_valid k t g) = absurd (no_wrong p rows c plant g h)
-one_table_end p rows a b plant (is_invalid c e s h) (is_invalid d k t g) = e ∙ ap Invalid (one_wrong p rows c d plant h g) ∙ sym k
-one_table_end p rows a b plant (is_invalid c e s h) (is_refused k g) = absurd (k (sym (one_plant_outcome p Done b plant s g)))
-one_table_end p rows a b plant (is_refused e h) (is_valid k t g) = absurd (e (one_plant_outcome p a Done plant h t))
-one_table_end p rows a b plant (is_refused e h) (is_invalid d k t g) = absurd (e (one_plant_outcome p a Done plant h t))
-one_table_end p rows a b plant (is_refused e h) (is_refused k g) = one_plant_outcome p a b plant h g
-
--- tables demand one thing where their plants and rows do
-one_demand_of_tables : (Outcomes : Description → List (Option Row) → Outcome → Type 0)
-    → ((p : Description) (rows : List (Option Row)) (a b : Outcome) → IsPlant p → Outcomes p rows a → Outcomes p rows b → a ≡ b)
-    → (bytes : List ℕ) (a b : Outcome) → IsRefusedTable bytes a ⊎ IsTableWithOutcome (λ p rows. Outcomes p rows a) bytes → IsRefusedTable bytes b ⊎ IsTableWithOutcome (λ p rows. Outcomes p rows b) bytes → a ≡ b
-one_demand_of_tables Outcomes one bytes a b f g =
-    elim f [
-      | inl refused ↦ elim g [
-        | inl other ↦ one_fault (IsTableRefusedFor bytes) of_table a b (one_table_refusal bytes) (faulty_table bytes a refused) (faulty_table bytes b other)
-        | inr table ↦ (let x = faulty_table bytes a refused in absurd (table_or_refused bytes table.plant table.rows x.fault table.table x.refused))
-      ]
-      | inr table ↦ elim g [
-        | inl other ↦ (let y = faulty_table bytes b other in absurd (table_or_refused bytes table.plant table.rows y.fault table.table y.refused))
-        | inr also ↦ (let same = one_table_per_text bytes table.plant also.plant table.rows also.rows table.table also.table in one also.plant also.rows a b also.table.limits.plant
-            (subst (λ (q : Description). Outcomes q also.rows a) same.0 (subst (λ (r : List (Option Row)). Outcomes table.plant r a) same.1 table.outcomes_for))
-            also.outcomes_for)
-      ]
-    ]
-
--- ---- traces
-
--- what a table's plant demands of its numbers
-one_range_end : (p : Description) (a b : Outcome) → IsRangeOutcome p a → IsRangeOutcome p b → a ≡ b
-one_range_end p Done Done f g = refl
-one_range_end p Done (Overflow i u) f g = absurd (fits_or_not p i u f g)
-one_range_end p (Overflow i u) Done f g = absurd (fits_or_not p i u g f)
-one_range_end p (Overflow i u) (Overflow j v) f g = same_overflow p i u j v f g
-one_range_end p (Invalid c) b f g = absurd f
-one_range_end p NoRow b f g = absurd f
-one_range_end p Usage b f g = absurd f
-one_range_end p (Malformed n) b f g = absurd f
-one_range_end p (Limit what) b f g = absurd f
-one_range_end p TooManyTurns b f g = absurd f
-one_range_end p ReadFault b f g = absurd f
-one_range_end p WriteFault b f g = absurd f
-one_range_end p NoMemory b f g = absurd f
-one_range_end p Done (Invalid c) f g = absurd g
-one_range_end p Done NoRow f g = absurd g
-one_range_end p Done Usage f g = absurd g
-one_range_end p Done (Malformed n) f g = absurd g
-one_range_end p Done (Limit what) f g = absurd g
-one_range_end p Done TooManyTurns f g = absurd g
-one_range_end p Done ReadFault f g = absurd g
-one_range_end p Done WriteFault f g = absurd g
-one_range_end p Done NoMemory f g = absurd g
-one_range_end p (Overflow i u) (Invalid c) f g = absurd g
-one_range_end p (Overflow i u) NoRow f g = absurd g
-one_range_end p (Overflow i u) Usage f g = absurd g
-one_range_end p (Overflow i u) (Malformed n) f g = absurd g
-one_range_end p (Overflow i u) (Limit what) f g = absurd g
-one_range_end p (Overflow i u) TooManyTurns f g = absurd g
-one_range_end p (Overflow i u) ReadFault f g = absurd g
-one_range_end p (Overflow i u) WriteFault f g = absurd g
-one_range_end p (Overflow i u) NoMemory f g = absurd g
-
--- what a table demands for a start: a trace, or that there is no row for it, or what refuses its plant
-data TraceEnd (p : Description) (rows : List (Option Row)) (start : List ℤ) (outcome : Outcome) : Type 0 where
-  is_driven : outcome ≡ Done → HasNoOverflow p → HasRowFor p rows start → TraceEnd p rows start outcome
-  has_no_row : outcome ≡ NoRow → HasNoOverflow p → HasNoRowFor p rows start → TraceEnd p rows start outcome
-  overflows : (i u : ℕ) → outcome ≡ Overflow i u → IsFirstOverflow p i u → TraceEnd p rows start outcome
-
-trace_end : (p : Description) (rows : List (Option Row)) (start : List ℤ) (outcome : Outcome) → IsTraceOutcome p rows start outcome → TraceEnd p rows start outcome
-trace_end p rows start Done h = is_driven refl h.0 h.1
-trace_end p rows start (Invalid cell) h = absurd h
-trace_end p rows start NoRow h = has_no_row refl h.0 h.1
-trace_end p rows start Usage h = absurd h
-trace_end p rows start (Malformed line) h = absurd h
-trace_end p rows start (Overflow i u) h = overflows i u refl h
-trace_end p rows start (Limit what) h = absurd h
-trace_end p rows start ReadFault h = absurd h
-trace_end p rows start TooManyTurns h = absurd h
-trace_end p rows start WriteFault h = absurd h
-trace_end p rows start NoMemory h = absurd h
+rows_exact : (p : Description) (rows : List (Option Row)) → IsPlant p → IsExact (AreRight p rows) (IsRowsRefusal p rows)
+rows_exact p rows plant =
+    one_more (IsSolvable p) (IsSolutionOf p rows) (IsPlantRefusal p) (λ r. (cell : ℕ) × (r ≡ Invalid cell) × IsSolvable p × IsFirstWrong p rows cell) (plant_exact p plant) (λ r f. f.2)
+    (λ r s f g. f.1 ∙ ap Invalid (one_wrong p rows f.0 g.0 plant f.3 g.3) ∙ sym g.1)
+    (λ solution r f. no_wrong p rows f.0 plant solution f.3)
 
 row_or_none : (p : Description) (rows : List (Option Row)) (start : List ℤ) → HasRowFor p rows start → HasNoRowFor p rows start → ⊥
 row_or_none p rows start row none =
@@ -348,28 +196,90 @@ row_or_none p rows start row none =
       | inr past ↦ (let clash : Some row.row ≡ None = sym row.has ∙ past in cc)
     ]
 
-one_trace_end : (p : Description) (rows : List (Option Row)) (start : List ℤ) (a b : Outcome) → TraceEnd p rows start a → TraceEnd p rows start b → a ≡ b
-one_trace_end p rows start a b (is_driven e fits row) (is_driven k others also) = e ∙ sym k
-one_trace_end p rows start a b (is_driven e fits row) (has_no_row k others none) = absurd (row_or_none p rows start row none)
-one_trace_end p rows start a b (is_driven e fits row) (overflows i u k first) = absurd (fits_or_not p i u fits first)
-one_trace_end p rows start a b (has_no_row e fits none) (is_driven k others row) = absurd (row_or_none p rows start row none)
-one_trace_end p rows start a b (has_no_row e fits none) (has_no_row k others also) = e ∙ sym k
-one_trace_end p rows start a b (has_no_row e fits none) (overflows i u k first) = absurd (fits_or_not p i u fits first)
-one_trace_end p rows start a b (overflows i u e first) (is_driven k fits row) = absurd (fits_or_not p i u fits first)
-one_trace_end p rows start a b (overflows i u e first) (has_no_row k fits none) = absurd (fits_or_not p i u fits first)
-one_trace_end p rows start a b (overflows i u e first) (overflows j v k other) = e ∙ same_overflow p i u j v first other ∙ sym k
+start_exact : (p : Description) (rows : List (Option Row)) (start : List ℤ) → IsExact (HasNoOverflow p × HasRowFor p rows start) (IsStartRefusal start p rows)
+start_exact p rows start =
+    one_more (HasNoOverflow p) (HasRowFor p rows start) (IsOverflow p) (λ r. (r ≡ NoRow) × HasNoOverflow p × HasNoRowFor p rows start) (range_exact p) (λ r f. f.1) (λ r s f g. f.0 ∙ sym g.0)
+    (λ row r f. row_or_none p rows start row f.2)
+
+-- ---- texts
+
+-- A refused text, by the fault of its reader.
+record IsFaulty {Fault : Type 0} (IsFault : Fault → Type 0) (refusal_of : Fault → Refusal) (r : Refusal) : Type 0 where
+  fault : Fault
+  refused : IsFault fault
+  is : r ≡ refusal_of fault
+
+faulty : {Fault : Type 0} (IsFault : Fault → Type 0) (refusal_of : Fault → Refusal) (malformed : ℕ → Fault) (limit : LimitKind → Fault)
+    → ((line : ℕ) → Malformed line ≡ refusal_of (malformed line)) → ((what : LimitKind) → Limit what ≡ refusal_of (limit what))
+    → (r : Refusal) → IsReadRefusal (λ line. IsFault (malformed line)) (λ what. IsFault (limit what)) r → IsFaulty IsFault refusal_of r
+faulty IsFault refusal_of malformed limit line what r h = elim h [
+  | inl f ↦ record { fault = malformed f.0; refused = f.2; is = f.1 ∙ line f.0 }
+  | inr f ↦ record { fault = limit f.0; refused = f.2; is = f.1 ∙ what f.0 }
+]
+
+-- two refusals of a text are one, where its reader has one fault
+one_fault : {Fault : Type 0} (IsFault : Fault → Type 0) (refusal_of : Fault → Refusal) (r s : Refusal) → ((f g : Fault) → IsFault f → IsFault g → f ≡ g) → IsFaulty IsFault refusal_of r → IsFaulty IsFault refusal_of s → r ≡ s
+one_fault IsFault refusal_of r s one f g = f.is ∙ ap refusal_of (one f.fault g.fault f.refused g.refused) ∙ sym g.is
+
+abbrev refusal_of_plant : PlantFault → Refusal
+refusal_of_plant (plants.Malformed line) = Malformed line
+refusal_of_plant (plants.Limit what) = Limit what
+refusal_of_plant plants.Memory = NoRow
+
+faulty_plant : (bytes : List ℕ) (r : Refusal) → IsRefused bytes r → IsFaulty (IsRefusedFor bytes) refusal_of_plant r
+faulty_plant bytes r h = faulty (IsRefusedFor bytes) refusal_of_plant (λ line. plants.Malformed line) (λ what. plants.Limit what) (λ line. refl) (λ what. refl) r h
+
+abbrev refusal_of_table : TableFault → Refusal
+refusal_of_table (tables.Malformed line) = Malformed line
+refusal_of_table (tables.Limit what) = Limit what
+refusal_of_table tables.Memory = NoRow
+
+faulty_table : (bytes : List ℕ) (r : Refusal) → IsRefusedTable bytes r → IsFaulty (IsTableRefusedFor bytes) refusal_of_table r
+faulty_table bytes r h = faulty (IsTableRefusedFor bytes) refusal_of_table (λ line. tables.Malformed line) (λ what. tables.Limit what) (λ line. refl) (λ what. refl) r h
+
+-- plant texts demand one thing where their plants do
+text_exact : (Passes : Description → Type 0) (Refuses : Description → Refusal → Type 0) → ((p : Description) → IsPlant p → IsExact (Passes p) (Refuses p)) → (bytes : List ℕ) → IsExact (SpellPlantWith Passes bytes) (IsTextRefusal Refuses bytes)
+text_exact Passes Refuses exact bytes =
+    read_then (IsAccepted bytes) (IsRefused bytes) Passes Refuses (λ p q f g. one_plant_per_text bytes p q f.spells g.spells)
+    (λ r s f g. one_fault (IsRefusedFor bytes) refusal_of_plant r s (one_refusal bytes) (faulty_plant bytes r f) (faulty_plant bytes s g))
+    (λ p accepted r f. let x = faulty_plant bytes r f in read_or_refused bytes p x.fault accepted.spells accepted.short accepted.limits x.refused)
+    (λ p accepted. exact p accepted.limits.plant)
+
+-- tables demand one thing where their plants and rows do
+table_exact : (Passes : Description → List (Option Row) → Type 0) (Refuses : Description → List (Option Row) → Refusal → Type 0)
+    → ((p : Description) (rows : List (Option Row)) → IsPlant p → IsExact (Passes p rows) (Refuses p rows)) → (bytes : List ℕ) → IsExact (AreTableWith Passes bytes) (IsTableRefusal Refuses bytes)
+table_exact Passes Refuses exact bytes =
+    exact_by
+    (read_then {A = Description × List (Option Row)} (λ t. IsTable bytes t.0 t.1) (IsRefusedTable bytes) (λ t. Passes t.0 t.1) (λ t. Refuses t.0 t.1)
+    (λ t u f g. let same = one_table_per_text bytes t.0 u.0 t.1 u.1 f g in λ i. (same.0 i, same.1 i))
+    (λ r s f g. one_fault (IsTableRefusedFor bytes) refusal_of_table r s (one_table_refusal bytes) (faulty_table bytes r f) (faulty_table bytes s g))
+    (λ t table r f. let x = faulty_table bytes r f in table_or_refused bytes t.0 t.1 x.fault table x.refused)
+    (λ t table. exact t.0 t.1 table.limits.plant))
+    (λ t. ((t.0, t.1), t.2, t.3))
+    (λ r f. elim f [
+      | inl refused ↦ inl refused
+      | inr t ↦ inr ((t.0, t.1), t.2, t.3)
+    ])
 
 -- ---- commands
 
+command_exact : (command : Command) (bytes : List ℕ) → IsExact (IsAnswerable command bytes) (IsRefusalFor command bytes)
+command_exact (Synth workers) bytes = text_exact IsSolvable IsPlantRefusal plant_exact bytes
+command_exact Check bytes = table_exact AreRight IsRowsRefusal rows_exact bytes
+command_exact Upgrade bytes = table_exact (λ p rows. HasNoOverflow p) (λ p rows r. IsOverflow p r) (λ p rows plant. range_exact p) bytes
+command_exact (Sim samples seed start) bytes = table_exact (λ p rows. HasNoOverflow p × HasRowFor p rows start) (IsStartRefusal start) (λ p rows plant. start_exact p rows start) bytes
+command_exact (Demo number workers) bytes = record { one = λ r s f g. absurd f; never_both = λ passes r f. f }
+command_exact (Stay workers) bytes = text_exact IsSolvable IsPlantRefusal plant_exact bytes
+command_exact (Patrol workers) bytes = text_exact IsPatrollable IsPatrolRefusal patrol_exact bytes
+
 pub one_outcome : OneOutcomePerText
-one_outcome (Synth workers) bytes a b f g = one_demand_of_plants IsPlantOutcome one_plant_outcome bytes a b f g
-one_outcome Check bytes a b f g =
-    one_demand_of_tables IsTableOutcome (λ p rows c d well h k. one_table_end p rows c d well (table_end p rows c h) (table_end p rows d k)) bytes a b f g
-one_outcome Upgrade bytes a b f g =
-    one_demand_of_tables (λ p rows outcome. IsRangeOutcome p outcome) (λ p rows c d well h k. one_range_end p c d h k) bytes a b f g
-one_outcome (Sim samples seed start) bytes a b f g =
-    one_demand_of_tables (λ p rows outcome. IsTraceOutcome p rows start outcome) (λ p rows c d well h k. one_trace_end p rows start c d (trace_end p rows start c h) (trace_end p rows start d k)) bytes a b f g
-one_outcome (Demo n workers) bytes a b f g = f ∙ sym g
-one_outcome (Stay workers) bytes a b f g = one_demand_of_plants IsPlantOutcome one_plant_outcome bytes a b f g
-one_outcome (Patrol workers) bytes a b f g =
-    one_demand_of_plants IsPatrolOutcome (λ p c d well h k. one_patrol_end p c d well (patrol_end p c h) (patrol_end p d k)) bytes a b f g
+one_outcome command bytes Done Done f g = refl
+one_outcome command bytes Done (Refused s) f g = absurd ((command_exact command bytes).never_both f s g)
+one_outcome command bytes (Refused r) Done f g = absurd ((command_exact command bytes).never_both g r f)
+one_outcome command bytes (Refused r) (Refused s) f g = ap Refused ((command_exact command bytes).one r s f g)
+one_outcome command bytes Usage b f g = absurd f
+one_outcome command bytes (Failed failure) b f g = absurd f
+one_outcome command bytes Done Usage f g = absurd g
+one_outcome command bytes Done (Failed failure) f g = absurd g
+one_outcome command bytes (Refused r) Usage f g = absurd g
+one_outcome command bytes (Refused r) (Failed failure) f g = absurd g

@@ -11,7 +11,3 @@ on_ok_both (Err e) P Q R both p q = tt
 pub exits : {A E : Type 0} (r : Result A E) (e : E) (P : E → Type 0) → IsErrAnd r (λ x. x ≡ e) → P e → IfErr r P
 exits (Ok x) e P is h = absurd is
 exits (Err x) e P is h = subst P (sym is) h
-
-pub if_err_both : {A E : Type 0} (r : Result A E) (P Q R : E → Type 0) → ((e : E) → P e → Q e → R e) → IfErr r P → IfErr r Q → IfErr r R
-if_err_both (Ok x) P Q R both p q = tt
-if_err_both (Err e) P Q R both p q = both e p q

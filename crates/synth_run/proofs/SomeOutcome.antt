@@ -18,23 +18,29 @@ use Rattle.table_check.specs.Verdicts.{HasItsKeepRow}
 use Rattle.loop_sim.specs.Trace.{row_at}
 use Rattle.controller_table.specs.Tables.{IsTable}
 use Rattle.command_line.specs.declared.command.Command.TheVariants.{Synth, Check, Upgrade, Sim, Demo, Stay, Patrol}
-use Rattle.synth_run.specs.declared.outcome.Outcome.{Outcome}
-use Rattle.synth_run.specs.declared.outcome.Outcome.TheVariants.{Done, Invalid, NoRow, Overflow, Limit}
+use Rattle.command_line.specs.declared.command.Command.{Command}
+use Rattle.command_line.specs.declared.outcome.Refusal.{Refusal}
+use Rattle.command_line.specs.declared.outcome.Refusal.TheVariants.{Invalid, NoRow, Overflow, Limit}
+use Rattle.command_line.specs.declared.outcome.Outcome.TheVariants.{Done, Refused}
 use Rattle.plant_record.specs.declared.limit_kind.LimitKind.TheVariants.{Edges}
-use Rattle.synth_run.specs.IsOutcomeFor.{IsAccepted, IsRefused, IsPlantOutcome, IsPatrolOutcome, IsRightFor, IsTableOutcome, IsRefusedTable, IsTableWithOutcome}
-use Rattle.synth_run.specs.Traces.{HasRowFor, HasNoRowFor, IsRangeOutcome, IsTraceOutcome}
+use Rattle.successor_box.specs.Deviations.{HasNoOverflow}
+use Rattle.synth_run.specs.IsOutcomeFor.{SpellPlantWith, IsSolvable, IsOverflow, IsPlantRefusal, IsPatrollable, IsPatrolRefusal, IsTextRefusal, IsRightFor, AreRight, IsRowsRefusal, IsStartRefusal, AreTableWith, IsTableRefusal, IsAnswerable, IsRefusalFor}
+use Rattle.synth_run.specs.Traces.{HasRowFor, HasNoRowFor}
 use Rattle.synth_run.specs.Laws.{SomeOutcomePerText}
 use Rattle.synth_run.proofs.Undeniable.{first_without}
 use Rattle.synth_run.proofs.SomeGame.{some_game}
-use Rattle.synth_run.proofs.SomePlant.{some_overflow, PlantEnd, is_solvable, overflows, has_many_edges, plant_end, plant_demanded, patrol_demanded, TextEnd, is_refused, is_accepted, text_end}
+use Rattle.synth_run.proofs.SomePlant.{some_overflow, PlantEnd, is_solvable, overflows, has_many_edges, plant_end, IsDecided, plant_decided, patrol_decided, TextEnd, is_refused, is_accepted, text_end}
 use Rattle.synth_run.proofs.SomeTable.{TableEnd, is_refused_table, is_table, table_end}
 
 -- ---- a plant text
 
-by_text : (bytes : List ℕ) (Outcomes : Description → Outcome → Type 0) → ((p : Description) → PlantEnd p → (outcome : Outcome) × Outcomes p outcome)
-    → ((outcome : Outcome) → IsRefused bytes outcome ⊎ ((p : Description) × IsAccepted bytes p × Outcomes p outcome) → ⊥) → TextEnd bytes → ⊥
-by_text bytes Outcomes cause deny (is_refused outcome h) = deny outcome (inl h)
-by_text bytes Outcomes cause deny (is_accepted p h) = plant_end p h.limits (λ end. let d = cause p end in deny d.0 (inr (p, h, d.1)))
+by_text : (bytes : List ℕ) (Passes : Description → Type 0) (Refuses : Description → Refusal → Type 0) → ((p : Description) → PlantEnd p → IsDecided (Passes p) (Refuses p))
+    → (IsDecided (SpellPlantWith Passes bytes) (IsTextRefusal Refuses bytes) → ⊥) → TextEnd bytes → ⊥
+by_text bytes Passes Refuses decided deny (is_refused r h) = deny (inr (r, inl h))
+by_text bytes Passes Refuses decided deny (is_accepted p h) = plant_end p h.limits (λ end. elim (decided p end) [
+  | inl passes ↦ deny (inl (p, h, passes))
+  | inr (r, refuses) ↦ deny (inr (r, inr (p, h, refuses)))
+])
 
 -- ---- a table
 
@@ -60,30 +66,33 @@ solved : (goal : GoalKind) (g : Game) (rows : List (Option Row)) → IsGame g �
 solved Reach g rows game size each = right_rows_are_the_solution g rows game (record { one_each = size; each = each })
 solved Keep g rows game size each = keep_solved g rows size each
 
-verdict : (bytes : List ℕ) (p : Description) (rows : List (Option Row)) → IsTable bytes p rows → PlantEnd p → ((outcome : Outcome) × IsTableOutcome p rows outcome → ⊥) → ⊥
-verdict bytes p rows table (overflows i u first) deny = deny (Overflow i u, first)
-verdict bytes p rows table (has_many_edges many) deny = deny (Limit Edges, many)
+verdict : (bytes : List ℕ) (p : Description) (rows : List (Option Row)) → IsTable bytes p rows → PlantEnd p → (IsDecided (AreRight p rows) (IsRowsRefusal p rows) → ⊥) → ⊥
+verdict bytes p rows table (overflows i u first) deny = deny (inr (Overflow i u, inl (inl (i, u, refl, first))))
+verdict bytes p rows table (has_many_edges many) deny = deny (inr (Limit Edges, inl (inr (refl, many))))
 verdict bytes p rows table (is_solvable s) deny =
     some_game p table.limits (λ game. by_game game.0 game.1)
   where
     by_game : (g : Game) → IsGameOf p g → ⊥
     by_game g is = first_without (IsRightFor p.goal g rows) g.cells (λ found. elim found [
-      | inl all ↦ deny (Done, (s, record { game = g; abstraction = is; solution = solved p.goal g rows is.game (table.fitting.one_each ∙ sym is.cells) all }))
-      | inr (c, wrong) ↦ deny (Invalid c, (s, record { game = g; abstraction = is; wrong = wrong }))
+      | inl all ↦ deny (inl (s, record { game = g; abstraction = is; solution = solved p.goal g rows is.game (table.fitting.one_each ∙ sym is.cells) all }))
+      | inr (c, wrong) ↦ deny (inr (Invalid c, inr (c, refl, s, record { game = g; abstraction = is; wrong = wrong })))
     ])
 
-by_table : (bytes : List ℕ) (Outcomes : Description → List (Option Row) → Outcome → Type 0)
-    → ((p : Description) (rows : List (Option Row)) → IsTable bytes p rows → ((outcome : Outcome) × Outcomes p rows outcome → ⊥) → ⊥)
-    → ((outcome : Outcome) → IsRefusedTable bytes outcome ⊎ IsTableWithOutcome (λ p rows. Outcomes p rows outcome) bytes → ⊥) → TableEnd bytes → ⊥
-by_table bytes Outcomes cause deny (is_refused_table outcome h) = deny outcome (inl h)
-by_table bytes Outcomes cause deny (is_table p rows h) = cause p rows h (λ d. deny d.0 (inr (record { plant = p; rows = rows; table = h; outcomes_for = d.1 })))
+by_table : (bytes : List ℕ) (Passes : Description → List (Option Row) → Type 0) (Refuses : Description → List (Option Row) → Refusal → Type 0)
+    → ((p : Description) (rows : List (Option Row)) → IsTable bytes p rows → (IsDecided (Passes p rows) (Refuses p rows) → ⊥) → ⊥)
+    → (IsDecided (AreTableWith Passes bytes) (IsTableRefusal Refuses bytes) → ⊥) → TableEnd bytes → ⊥
+by_table bytes Passes Refuses decided deny (is_refused_table r h) = deny (inr (r, inl h))
+by_table bytes Passes Refuses decided deny (is_table p rows h) = decided p rows h (λ d. elim d [
+  | inl passes ↦ deny (inl (p, rows, h, passes))
+  | inr (r, refuses) ↦ deny (inr (r, inr (p, rows, h, refuses)))
+])
 
 -- ---- a table that is written anew, or drives its plant
 
-range : (p : Description) → ((outcome : Outcome) × IsRangeOutcome p outcome → ⊥) → ⊥
+range : (p : Description) → (IsDecided (HasNoOverflow p) (IsOverflow p) → ⊥) → ⊥
 range p deny = some_overflow p (λ found. elim found [
-  | inl fits ↦ deny (Done, fits)
-  | inr (i, u, first) ↦ deny (Overflow i u, first)
+  | inl fits ↦ deny (inl fits)
+  | inr (i, u, first) ↦ deny (inr (Overflow i u, (i, u, refl, first)))
 ])
 
 row_or_none : (p : Description) (rows : List (Option Row)) (start : List ℤ) → HasRowFor p rows start ⊎ HasNoRowFor p rows start
@@ -97,22 +106,28 @@ row_or_none p rows start =
     by_row same None e = inr (inr e)
     by_row same (Some row) e = inl (record { one_each = same; row = row; has = e })
 
-driven : (p : Description) (rows : List (Option Row)) (start : List ℤ) → ((outcome : Outcome) × IsTraceOutcome p rows start outcome → ⊥) → ⊥
+driven : (p : Description) (rows : List (Option Row)) (start : List ℤ) → (IsDecided (HasNoOverflow p × HasRowFor p rows start) (IsStartRefusal start p rows) → ⊥) → ⊥
 driven p rows start deny = some_overflow p (λ found. elim found [
   | inl fits ↦ elim (row_or_none p rows start) [
-    | inl has ↦ deny (Done, (fits, has))
-    | inr none ↦ deny (NoRow, (fits, none))
+    | inl has ↦ deny (inl (fits, has))
+    | inr none ↦ deny (inr (NoRow, inr (refl, fits, none)))
   ]
-  | inr (i, u, first) ↦ deny (Overflow i u, first)
+  | inr (i, u, first) ↦ deny (inr (Overflow i u, inl (i, u, refl, first)))
 ])
 
 -- ---- commands
 
+decided : (command : Command) (bytes : List ℕ) → (IsDecided (IsAnswerable command bytes) (IsRefusalFor command bytes) → ⊥) → ⊥
+decided (Synth workers) bytes deny = text_end bytes (by_text bytes IsSolvable IsPlantRefusal plant_decided deny)
+decided Check bytes deny = table_end bytes (by_table bytes AreRight IsRowsRefusal (λ p rows table refute. plant_end p table.limits (λ end. verdict bytes p rows table end refute)) deny)
+decided Upgrade bytes deny = table_end bytes (by_table bytes (λ p rows. HasNoOverflow p) (λ p rows r. IsOverflow p r) (λ p rows table refute. range p refute) deny)
+decided (Sim samples seed start) bytes deny = table_end bytes (by_table bytes (λ p rows. HasNoOverflow p × HasRowFor p rows start) (IsStartRefusal start) (λ p rows table refute. driven p rows start refute) deny)
+decided (Demo number workers) bytes deny = deny (inl tt)
+decided (Stay workers) bytes deny = text_end bytes (by_text bytes IsSolvable IsPlantRefusal plant_decided deny)
+decided (Patrol workers) bytes deny = text_end bytes (by_text bytes IsPatrollable IsPatrolRefusal patrol_decided deny)
+
 pub some_outcome : SomeOutcomePerText
-some_outcome (Synth workers) bytes deny = text_end bytes (by_text bytes IsPlantOutcome plant_demanded deny)
-some_outcome Check bytes deny = table_end bytes (by_table bytes IsTableOutcome (λ p rows table refute. plant_end p table.limits (λ end. verdict bytes p rows table end refute)) deny)
-some_outcome Upgrade bytes deny = table_end bytes (by_table bytes (λ p rows outcome. IsRangeOutcome p outcome) (λ p rows table refute. range p refute) deny)
-some_outcome (Sim samples seed start) bytes deny = table_end bytes (by_table bytes (λ p rows outcome. IsTraceOutcome p rows start outcome) (λ p rows table refute. driven p rows start refute) deny)
-some_outcome (Demo number workers) bytes deny = deny Done refl
-some_outcome (Stay workers) bytes deny = text_end bytes (by_text bytes IsPlantOutcome plant_demanded deny)
-some_outcome (Patrol workers) bytes deny = text_end bytes (by_text bytes IsPatrolOutcome patrol_demanded deny)
+some_outcome command bytes deny = decided command bytes (λ d. elim d [
+  | inl answerable ↦ deny Done answerable
+  | inr (r, refuses) ↦ deny (Refused r) refuses
+])

@@ -1,5 +1,5 @@
 -- No table text is neither refused nor a table.
-use Rattle.std.proofs.Common.{ℕ, List, Option}
+use Rattle.std.proofs.Common.{inl, inr, ℕ, List, Option, refl}
 use Rattle.game_core.specs.declared.game.Row.{Row}
 use Rattle.plant_record.specs.Description.{Description}
 use Rattle.controller_table.specs.declared.table_fault.TableFault.{TableFault}
@@ -7,17 +7,17 @@ use Rattle.controller_table.specs.declared.table_fault.TableFault.TheVariants as
 use Rattle.controller_table.specs.Tables.{IsTable}
 use Rattle.controller_table.specs.TableRefusals.{IsTableRefusedFor}
 use Rattle.controller_table.proofs.SomeTable as texts
-use Rattle.synth_run.specs.declared.outcome.Outcome.{Outcome}
-use Rattle.synth_run.specs.declared.outcome.Outcome.TheVariants.{Malformed, Limit}
+use Rattle.command_line.specs.declared.outcome.Refusal.{Refusal}
+use Rattle.command_line.specs.declared.outcome.Refusal.TheVariants.{Malformed, Limit}
 use Rattle.synth_run.specs.IsOutcomeFor.{IsRefusedTable}
 
 pub data TableEnd (bytes : List ℕ) : Type 0 where
-  is_refused_table : (outcome : Outcome) → IsRefusedTable bytes outcome → TableEnd bytes
+  is_refused_table : (r : Refusal) → IsRefusedTable bytes r → TableEnd bytes
   is_table : (p : Description) (rows : List (Option Row)) → IsTable bytes p rows → TableEnd bytes
 
 refused_table : (bytes : List ℕ) (f : TableFault) → IsTableRefusedFor bytes f → TableEnd bytes
-refused_table bytes (tables.Malformed line) h = is_refused_table (Malformed line) h
-refused_table bytes (tables.Limit what) h = is_refused_table (Limit what) h
+refused_table bytes (tables.Malformed line) h = is_refused_table (Malformed line) (inl (line, refl, h))
+refused_table bytes (tables.Limit what) h = is_refused_table (Limit what) (inr (what, refl, h))
 refused_table bytes tables.Memory h = absurd h
 
 pub table_end : (bytes : List ℕ) → (TableEnd bytes → ⊥) → ⊥

@@ -6,7 +6,7 @@ use Rattle.plant_record.specs.Description.{Description}
 use Rattle.plant_record.specs.Limits.{IsWithinLimits}
 use Rattle.plant_game.specs.Abstraction.{IsGameOf}
 use Rattle.temporal_games.specs.Stay.{IsStaySolution}
-use Rattle.temporal_games.specs.StayText.{stay_text}
+use Rattle.temporal_texts.specs.StayText.{stay_text}
 use Rattle.temporal_games.proofs.StayLaws.{solution_has_stay_text, stay_text_settles}
 use Rattle.synth_run.specs.Headline.{IsStayTableOf}
 

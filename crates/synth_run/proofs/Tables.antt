@@ -1,5 +1,5 @@
 -- The facts that make a table, and those that judge one.
-use Rattle.std.proofs.Common.{◌≡◌, ℕ, List, Option, refl, sym, subst, length}
+use Rattle.std.proofs.Common.{inl, inr, ◌≡◌, ℕ, List, Option, refl, sym, subst, length}
 use Rattle.std.specs.Prelude.{sum_by}
 use Rattle.game_core.specs.declared.game.Row.{Row}
 use Rattle.game_core.specs.Game.{Game, IsGraph}
@@ -14,11 +14,17 @@ use Rattle.controller_table.specs.declared.table_fault.TableFault.{TableFault}
 use Rattle.controller_table.specs.declared.table_fault.TableFault.TheVariants as tables
 use Rattle.controller_table.specs.Laws.{IsGraphOver}
 use Rattle.controller_table.specs.TableRefusals.{IsTableRefusedFor}
-use Rattle.controller_table.specs.Tables.{RowsFit}
+use Rattle.controller_table.specs.Tables.{RowsFit, IsTable}
 use Rattle.controller_table.proofs.SolutionsFit.{keep_fits}
-use Rattle.synth_run.specs.declared.outcome.Outcome.TheVariants.{NoMemory}
-use Rattle.synth_run.specs.inside.Causes.{of_table}
-use Rattle.synth_run.specs.IsOutcomeFor.{IsSolvable, IsRefusedTable}
+use Rattle.plant_text.specs.declared.plant_fault.PlantFault.{PlantFault}
+use Rattle.plant_text.specs.declared.plant_fault.PlantFault.TheVariants as plants
+use Rattle.plant_text.specs.PlantRefusals.{IsRefusedFor}
+use Rattle.command_line.specs.declared.outcome.Refusal.{Refusal}
+use Rattle.command_line.specs.declared.outcome.Failure.TheVariants.{Read, Write, Memory}
+use Rattle.synth_run.specs.declared.stop.Stop.{Stop}
+use Rattle.synth_run.specs.declared.stop.Stop.TheVariants.{Refused, Failed}
+use Rattle.synth_run.specs.inside.Causes.{of_plant, of_table, IsStopFor}
+use Rattle.synth_run.specs.IsOutcomeFor.{IsAccepted, IsSolvable, IsTextRefusal, IsTableRefusal}
 use Rattle.synth_run.proofs.Below.{reach_fits}
 
 -- a plant with a graph in memory
@@ -34,8 +40,28 @@ pub solution_fits : (p : Description) (g : Game) (rows : List (Option Row)) (goa
 solution_fits p g rows Reach same graph solution = reach_fits p g rows (sym same) graph solution
 solution_fits p g rows Keep same graph solution = keep_fits p g rows (sym same) graph solution
 
--- what a reader of tables refuses is refused
-pub refused_by_fault : (bytes : List ℕ) (fault : TableFault) → ((fault ≡ tables.Memory → ⊥) → IsTableRefusedFor bytes fault) → (of_table fault ≡ NoMemory → ⊥) → IsRefusedTable bytes (of_table fault)
-refused_by_fault bytes (tables.Malformed line) refused some = refused (λ e. cc)
-refused_by_fault bytes (tables.Limit what) refused some = refused (λ e. cc)
-refused_by_fault bytes tables.Memory refused some = absurd (some refl)
+-- what a reader of tables refuses is refused, whatever is asked of the table's plant and rows
+pub table_stop : (Refuses : Description → List (Option Row) → Refusal → Type 0) (bytes : List ℕ) (fault : TableFault) → ((fault ≡ tables.Memory → ⊥) → IsTableRefusedFor bytes fault) → IsStopFor (IsTableRefusal Refuses bytes) (of_table fault)
+table_stop Refuses bytes (tables.Malformed line) refused = inl (inl (line, refl, refused (λ e. cc)))
+table_stop Refuses bytes (tables.Limit what) refused = inl (inr (what, refl, refused (λ e. cc)))
+table_stop Refuses bytes tables.Memory refused = tt
+
+-- what is asked of them refuses the table
+pub rows_stop : (Refuses : Description → List (Option Row) → Refusal → Type 0) (bytes : List ℕ) (p : Description) (rows : List (Option Row)) (stop : Stop) → IsTable bytes p rows → IsStopFor (Refuses p rows) stop → IsStopFor (IsTableRefusal Refuses bytes) stop
+rows_stop Refuses bytes p rows (Refused r) table h = inr (p, rows, table, h)
+rows_stop Refuses bytes p rows (Failed Read) table h = h
+rows_stop Refuses bytes p rows (Failed Write) table h = h
+rows_stop Refuses bytes p rows (Failed Memory) table h = h
+
+-- what a reader of plants refuses is refused
+pub text_stop : (Refuses : Description → Refusal → Type 0) (bytes : List ℕ) (fault : PlantFault) → ((fault ≡ plants.Memory → ⊥) → IsRefusedFor bytes fault) → IsStopFor (IsTextRefusal Refuses bytes) (of_plant fault)
+text_stop Refuses bytes (plants.Malformed line) refused = inl (inl (line, refl, refused (λ e. cc)))
+text_stop Refuses bytes (plants.Limit what) refused = inl (inr (what, refl, refused (λ e. cc)))
+text_stop Refuses bytes plants.Memory refused = tt
+
+-- what refuses the plant refuses its text
+pub plant_stop : (Refuses : Description → Refusal → Type 0) (bytes : List ℕ) (p : Description) (stop : Stop) → IsAccepted bytes p → IsStopFor (Refuses p) stop → IsStopFor (IsTextRefusal Refuses bytes) stop
+plant_stop Refuses bytes p (Refused r) accepted h = inr (p, accepted, h)
+plant_stop Refuses bytes p (Failed Read) accepted h = h
+plant_stop Refuses bytes p (Failed Write) accepted h = h
+plant_stop Refuses bytes p (Failed Memory) accepted h = h

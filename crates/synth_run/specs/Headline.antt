@@ -6,12 +6,12 @@ use Rattle.plant_record.specs.Description.{Description}
 use Rattle.plant_game.specs.Abstraction.{IsGameOf}
 use Rattle.plant_game.specs.PlantSolution.{IsSolutionOf}
 use Rattle.temporal_games.specs.Stay.{IsStaySolution}
-use Rattle.temporal_games.specs.StayText.{IsStayText}
-use Rattle.temporal_games.specs.Settles.{Settles}
-use Rattle.temporal_games.specs.Targets.{IsInTarget}
+use Rattle.temporal_texts.specs.StayText.{IsStayText}
+use Rattle.temporal_texts.specs.Settles.{Settles}
+use Rattle.temporal_texts.specs.Targets.{IsInTarget}
 use Rattle.temporal_games.specs.Patrol.{IsPatrol}
-use Rattle.temporal_games.specs.PatrolText.{IsPatrolText}
-use Rattle.temporal_games.specs.Patrols.{Patrols}
+use Rattle.temporal_texts.specs.PatrolText.{IsPatrolText}
+use Rattle.temporal_texts.specs.Patrols.{Patrols}
 use Rattle.controller_table.specs.TableText.{written_version, table_text}
 use Rattle.controller_table.specs.Tables.{RowsFit, IsTable}
 use Rattle.successor_box.specs.Deviations.{HasNoOverflow}
@@ -19,8 +19,7 @@ use Rattle.plant_refine.specs.Controls.{Controls}
 use Rattle.command_line.specs.declared.command.Command.{Command}
 use Rattle.command_line.specs.declared.command.Command.TheVariants.{Synth, Check, Upgrade, Sim, Demo, Stay, Patrol}
 use Rattle.demo_plants.specs.Demo.{IsDemoLine}
-use Rattle.synth_run.specs.declared.outcome.Outcome.TheVariants.{Done}
-use Rattle.synth_run.specs.IsOutcomeFor.{IsAccepted, IsSolvable, IsPatrolOutcome}
+use Rattle.synth_run.specs.IsOutcomeFor.{IsAccepted, IsSolvable, IsPatrollable}
 use Rattle.synth_run.specs.Traces.{IsTraceFor}
 
 -- The text is the table of the solution of a plant's game.
@@ -94,7 +93,7 @@ pub record IsPatrolTableOf (p : Description) (text : List ℕ) : Type 0 where
 
 -- the bytes spell a plant that nothing refuses, with few enough turns, and the text is that of its patrol
 abbrev pub IsPatrolTableFor : List ℕ → List ℕ → Type 0
-IsPatrolTableFor bytes text = (p : Description) × IsAccepted bytes p × IsPatrolOutcome p Done × IsPatrolTableOf p text
+IsPatrolTableFor bytes text = (p : Description) × IsAccepted bytes p × IsPatrollable p × IsPatrolTableOf p text
 
 -- the answer of a command for some bytes: that of `synth` is the plant's one table, whatever the number of workers, that of
 -- `check` is `valid` where the bytes are one, that of `upgrade` is the text of the table that the bytes are, that of `sim`

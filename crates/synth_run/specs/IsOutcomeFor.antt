@@ -1,7 +1,7 @@
 -- What a text demands: to be refused for the first reason that applies, or to be answered.
-use Rattle.std.specs.Prelude.{◌≡◌, ◌⊎◌, ℕ, ◌*◌, ◌^◌, ◌<◌, ◌≤◌, ℤ, List, length, Option}
+use Rattle.std.specs.Prelude.{◌≡◌, ◌⊎◌, ℕ, ◌*◌, ◌<◌, ◌≤◌, ℤ, List, length, Option}
 use Rattle.plant_record.specs.declared.limit_kind.LimitKind.{LimitKind}
-use Rattle.plant_record.specs.declared.limit_kind.LimitKind.TheVariants.{PlantText, TableText, Vectors, Cells, Pairs, Edges}
+use Rattle.plant_record.specs.declared.limit_kind.LimitKind.TheVariants.{Edges}
 use Rattle.plant_text.specs.declared.plant_fault.PlantFault.TheVariants as plants
 use Rattle.plant_record.specs.declared.aims.GoalKind.{GoalKind}
 use Rattle.plant_record.specs.declared.aims.GoalKind.TheVariants.{Reach, Keep}
@@ -20,11 +20,13 @@ use Rattle.controller_table.specs.declared.table_fault.TableFault.TheVariants as
 use Rattle.controller_table.specs.Tables.{IsTable}
 use Rattle.controller_table.specs.TableRefusals.{IsTableRefusedFor}
 use Rattle.table_check.specs.Verdicts.{IsFirstWithout, HasItsKeepRow}
-use Rattle.synth_run.specs.Traces.{IsRangeOutcome, IsTraceOutcome}
 use Rattle.command_line.specs.declared.command.Command.{Command}
 use Rattle.command_line.specs.declared.command.Command.TheVariants.{Synth, Check, Upgrade, Sim, Demo, Stay, Patrol}
-use Rattle.synth_run.specs.declared.outcome.Outcome.{Outcome}
-use Rattle.synth_run.specs.declared.outcome.Outcome.TheVariants.{Done, Invalid, NoRow, Usage, Malformed, Overflow, Limit, TooManyTurns, ReadFault, WriteFault, NoMemory}
+use Rattle.command_line.specs.declared.outcome.Refusal.{Refusal}
+use Rattle.command_line.specs.declared.outcome.Refusal.TheVariants.{Malformed, Overflow, Limit, TooManyTurns, Invalid, NoRow}
+use Rattle.command_line.specs.declared.outcome.Outcome.{Outcome}
+use Rattle.command_line.specs.declared.outcome.Outcome.TheVariants.{Done, Usage, Refused, Failed}
+use Rattle.synth_run.specs.Traces.{HasRowFor, HasNoRowFor}
 use Rattle.base.specs.declared.limits.TheConstants.{EDGES_LIMIT, TURNS_LIMIT}
 
 -- ---- a plant within the limits on input vectors, cells and pairs
@@ -38,64 +40,36 @@ pub record HasEdges (p : Description) (edges : ℕ) : Type 0 where
 abbrev pub IsSolvable : Description → Type 0
 IsSolvable p = (edges : ℕ) × HasEdges p edges × (edges ≤ EDGES_LIMIT)
 
--- the one limit that only the game shows
-abbrev pub ExceedsEdges : Description → LimitKind → Type 0
-ExceedsEdges p PlantText = ⊥
-ExceedsEdges p TableText = ⊥
-ExceedsEdges p Vectors = ⊥
-ExceedsEdges p Cells = ⊥
-ExceedsEdges p Pairs = ⊥
-ExceedsEdges p Edges = (edges : ℕ) × HasEdges p edges × (EDGES_LIMIT < edges)
+-- a number leaves the range: the first, by equation and input vector
+abbrev pub IsOverflow : Description → Refusal → Type 0
+IsOverflow p refusal = (equation input : ℕ) × (refusal ≡ Overflow equation input) × IsFirstOverflow p equation input
 
--- what a plant within the limits demands: to be solved, or to be refused
-abbrev pub IsPlantOutcome : Description → Outcome → Type 0
-IsPlantOutcome p Done = IsSolvable p
-IsPlantOutcome p (Invalid cell) = ⊥
-IsPlantOutcome p NoRow = ⊥
-IsPlantOutcome p Usage = ⊥
-IsPlantOutcome p (Malformed line) = ⊥
-IsPlantOutcome p (Overflow equation input) = IsFirstOverflow p equation input
-IsPlantOutcome p (Limit what) = ExceedsEdges p what
-IsPlantOutcome p TooManyTurns = ⊥
-IsPlantOutcome p ReadFault = ⊥
-IsPlantOutcome p WriteFault = ⊥
-IsPlantOutcome p NoMemory = ⊥
+-- none does, and the game has too many edges
+abbrev pub HasTooManyEdges : Description → Refusal → Type 0
+HasTooManyEdges p refusal = (refusal ≡ Limit Edges) × ((edges : ℕ) × HasEdges p edges × (EDGES_LIMIT < edges))
+
+-- why such a plant is refused
+abbrev pub IsPlantRefusal : Description → Refusal → Type 0
+IsPlantRefusal p refusal = IsOverflow p refusal ⊎ HasTooManyEdges p refusal
 
 -- how many pairs of a turn and a cell a patrol of a plant's targets has
 abbrev pub turns_of : Description → ℕ
 turns_of p = cells_of (axes_of p) * length p.targets
 
--- what a plant within the limits demands of a patrol: the same, and where nothing else refuses it, that these pairs aren't too many
-abbrev pub IsPatrolOutcome : Description → Outcome → Type 0
-IsPatrolOutcome p Done = IsSolvable p × (turns_of p ≤ TURNS_LIMIT)
-IsPatrolOutcome p (Invalid cell) = ⊥
-IsPatrolOutcome p NoRow = ⊥
-IsPatrolOutcome p Usage = ⊥
-IsPatrolOutcome p (Malformed line) = ⊥
-IsPatrolOutcome p (Overflow equation input) = IsPlantOutcome p (Overflow equation input)
-IsPatrolOutcome p (Limit what) = IsPlantOutcome p (Limit what)
-IsPatrolOutcome p TooManyTurns = IsSolvable p × (TURNS_LIMIT < turns_of p)
-IsPatrolOutcome p ReadFault = ⊥
-IsPatrolOutcome p WriteFault = ⊥
-IsPatrolOutcome p NoMemory = ⊥
+-- nothing refuses the plant, and these pairs aren't too many
+abbrev pub IsPatrollable : Description → Type 0
+IsPatrollable p = IsSolvable p × (turns_of p ≤ TURNS_LIMIT)
 
--- ---- the refusal of a text
-
--- an outcome tells why a text is refused: for a line that is malformed, or for a limit
-abbrev pub IsRefusal : (ℕ → Type 0) → (LimitKind → Type 0) → Outcome → Type 0
-IsRefusal malformed beyond Done = ⊥
-IsRefusal malformed beyond (Invalid cell) = ⊥
-IsRefusal malformed beyond NoRow = ⊥
-IsRefusal malformed beyond Usage = ⊥
-IsRefusal malformed beyond (Malformed line) = malformed line
-IsRefusal malformed beyond (Overflow equation input) = ⊥
-IsRefusal malformed beyond (Limit what) = beyond what
-IsRefusal malformed beyond TooManyTurns = ⊥
-IsRefusal malformed beyond ReadFault = ⊥
-IsRefusal malformed beyond WriteFault = ⊥
-IsRefusal malformed beyond NoMemory = ⊥
+-- why a plant is refused a patrol: for what refuses it in any case, else for too many of these pairs
+abbrev pub IsPatrolRefusal : Description → Refusal → Type 0
+IsPatrolRefusal p refusal = IsPlantRefusal p refusal ⊎ ((refusal ≡ TooManyTurns) × IsSolvable p × (TURNS_LIMIT < turns_of p))
 
 -- ---- the text of a plant
+
+-- a reader refuses a text: for a line that is malformed, or for a limit
+abbrev pub IsReadRefusal : (ℕ → Type 0) → (LimitKind → Type 0) → Refusal → Type 0
+IsReadRefusal malformed beyond refusal =
+    ((line : ℕ) × (refusal ≡ Malformed line) × malformed line) ⊎ ((what : LimitKind) × (refusal ≡ Limit what) × beyond what)
 
 -- The bytes spell a plant within the limits on a text, on input vectors, on cells and on pairs.
 pub record IsAccepted (bytes : List ℕ) (p : Description) : Type 0 where
@@ -103,17 +77,17 @@ pub record IsAccepted (bytes : List ℕ) (p : Description) : Type 0 where
   pub spells : Spells bytes p
   pub limits : IsWithinLimits p
 
+-- the bytes spell a plant within the limits of which this holds
+abbrev pub SpellPlantWith : (Description → Type 0) → List ℕ → Type 0
+SpellPlantWith Holds bytes = (p : Description) × IsAccepted bytes p × Holds p
+
 -- the grammar or a limit refuses the bytes
-abbrev pub IsRefused : List ℕ → Outcome → Type 0
-IsRefused bytes outcome = IsRefusal (λ line. IsRefusedFor bytes (plants.Malformed line)) (λ what. IsRefusedFor bytes (plants.Limit what)) outcome
+abbrev pub IsRefused : List ℕ → Refusal → Type 0
+IsRefused bytes refusal = IsReadRefusal (λ line. IsRefusedFor bytes (plants.Malformed line)) (λ what. IsRefusedFor bytes (plants.Limit what)) refusal
 
--- what a plant text demands: a refusal of its bytes, or what the plant that it spells demands
-abbrev pub IsPlantTextOutcome : List ℕ → Outcome → Type 0
-IsPlantTextOutcome bytes outcome = IsRefused bytes outcome ⊎ ((p : Description) × IsAccepted bytes p × IsPlantOutcome p outcome)
-
--- what a plant text demands of a patrol: a refusal of its bytes, or what the plant that it spells demands of one
-abbrev pub IsPatrolTextOutcome : List ℕ → Outcome → Type 0
-IsPatrolTextOutcome bytes outcome = IsRefused bytes outcome ⊎ ((p : Description) × IsAccepted bytes p × IsPatrolOutcome p outcome)
+-- why a plant text is refused: for its bytes, else for the plant that they spell
+abbrev pub IsTextRefusal : (Description → Refusal → Type 0) → List ℕ → Refusal → Type 0
+IsTextRefusal IsRefusalOf bytes refusal = IsRefused bytes refusal ⊎ SpellPlantWith (λ p. IsRefusalOf p refusal) bytes
 
 -- ---- the text of a table
 
@@ -129,55 +103,55 @@ pub record IsFirstWrong (p : Description) (rows : List (Option Row)) (cell : ℕ
   pub abstraction : IsGameOf p game
   pub wrong : IsFirstWithout (IsRightFor p.goal game rows) game.cells cell
 
--- what a plant within the limits demands with rows: to be refused, or that the rows are told to be its solution or not
-abbrev pub IsTableOutcome : Description → List (Option Row) → Outcome → Type 0
-IsTableOutcome p rows Done = IsSolvable p × IsSolutionOf p rows
-IsTableOutcome p rows (Invalid cell) = IsSolvable p × IsFirstWrong p rows cell
-IsTableOutcome p rows NoRow = ⊥
-IsTableOutcome p rows Usage = ⊥
-IsTableOutcome p rows (Malformed line) = ⊥
-IsTableOutcome p rows (Overflow equation input) = IsPlantOutcome p (Overflow equation input)
-IsTableOutcome p rows (Limit what) = IsPlantOutcome p (Limit what)
-IsTableOutcome p rows TooManyTurns = ⊥
-IsTableOutcome p rows ReadFault = ⊥
-IsTableOutcome p rows WriteFault = ⊥
-IsTableOutcome p rows NoMemory = ⊥
+-- the rows are the solution of a plant that nothing refuses
+abbrev pub AreRight : Description → List (Option Row) → Type 0
+AreRight p rows = IsSolvable p × IsSolutionOf p rows
+
+-- why rows are refused: for their plant, else for the first cell whose row isn't right
+abbrev pub IsRowsRefusal : Description → List (Option Row) → Refusal → Type 0
+IsRowsRefusal p rows refusal = IsPlantRefusal p refusal ⊎ ((cell : ℕ) × (refusal ≡ Invalid cell) × IsSolvable p × IsFirstWrong p rows cell)
+
+-- why a table is refused to drive its plant: for a number that leaves the range, else since there is no row for the start
+abbrev pub IsStartRefusal : List ℤ → Description → List (Option Row) → Refusal → Type 0
+IsStartRefusal start p rows refusal = IsOverflow p refusal ⊎ ((refusal ≡ NoRow) × HasNoOverflow p × HasNoRowFor p rows start)
+
+-- the bytes are a table, of a plant within the limits and of rows of which this holds
+abbrev pub AreTableWith : (Description → List (Option Row) → Type 0) → List ℕ → Type 0
+AreTableWith Holds bytes = (p : Description) × (rows : List (Option Row)) × IsTable bytes p rows × Holds p rows
 
 -- the grammar of tables or a limit refuses the bytes
-abbrev pub IsRefusedTable : List ℕ → Outcome → Type 0
-IsRefusedTable bytes outcome = IsRefusal (λ line. IsTableRefusedFor bytes (tables.Malformed line)) (λ what. IsTableRefusedFor bytes (tables.Limit what)) outcome
+abbrev pub IsRefusedTable : List ℕ → Refusal → Type 0
+IsRefusedTable bytes refusal = IsReadRefusal (λ line. IsTableRefusedFor bytes (tables.Malformed line)) (λ what. IsTableRefusedFor bytes (tables.Limit what)) refusal
 
--- A table of a plant within the limits, and what its plant and rows demand.
-pub record IsTableWithOutcome (Outcomes : Description → List (Option Row) → Type 0) (bytes : List ℕ) : Type 0 where
-  pub plant : Description
-  pub rows : List (Option Row)
-  pub table : IsTable bytes plant rows
-  pub outcomes_for : Outcomes plant rows
-
--- what a table text demands: a refusal of its bytes, or what its plant demands with its rows
-abbrev pub IsTableTextOutcome : List ℕ → Outcome → Type 0
-IsTableTextOutcome bytes outcome = IsRefusedTable bytes outcome ⊎ IsTableWithOutcome (λ p rows. IsTableOutcome p rows outcome) bytes
-
--- ---- the text of a table that is to drive its plant from a start
-
--- what a table text demands of a start: a refusal of its bytes, or what its plant demands of the start with its rows
-abbrev pub IsTraceTextOutcome : List ℤ → List ℕ → Outcome → Type 0
-IsTraceTextOutcome start bytes outcome = IsRefusedTable bytes outcome ⊎ IsTableWithOutcome (λ p rows. IsTraceOutcome p rows start outcome) bytes
-
--- ---- the text of a table that is to be written anew
-
--- what a table text demands where nothing is asked of its rows: a refusal of its bytes, or what its plant demands of its numbers
-abbrev pub IsUpgradeTextOutcome : List ℕ → Outcome → Type 0
-IsUpgradeTextOutcome bytes outcome = IsRefusedTable bytes outcome ⊎ IsTableWithOutcome (λ p rows. IsRangeOutcome p outcome) bytes
+-- why a table text is refused: for its bytes, else for the plant and the rows that they are
+abbrev pub IsTableRefusal : (Description → List (Option Row) → Refusal → Type 0) → List ℕ → Refusal → Type 0
+IsTableRefusal IsRefusalOf bytes refusal = IsRefusedTable bytes refusal ⊎ AreTableWith (λ p rows. IsRefusalOf p rows refusal) bytes
 
 -- ---- the text of a command
 
--- what the bytes demand of a command: nothing refuses a demo plant
+-- the bytes are to be answered
+abbrev pub IsAnswerable : Command → List ℕ → Type 0
+IsAnswerable (Synth workers) bytes = SpellPlantWith IsSolvable bytes
+IsAnswerable Check bytes = AreTableWith AreRight bytes
+IsAnswerable Upgrade bytes = AreTableWith (λ p rows. HasNoOverflow p) bytes
+IsAnswerable (Sim samples seed start) bytes = AreTableWith (λ p rows. HasNoOverflow p × HasRowFor p rows start) bytes
+IsAnswerable (Demo number workers) bytes = Unit {0}
+IsAnswerable (Stay workers) bytes = SpellPlantWith IsSolvable bytes
+IsAnswerable (Patrol workers) bytes = SpellPlantWith IsPatrollable bytes
+
+-- why they are refused: nothing refuses a demo plant
+abbrev pub IsRefusalFor : Command → List ℕ → Refusal → Type 0
+IsRefusalFor (Synth workers) bytes refusal = IsTextRefusal IsPlantRefusal bytes refusal
+IsRefusalFor Check bytes refusal = IsTableRefusal IsRowsRefusal bytes refusal
+IsRefusalFor Upgrade bytes refusal = IsTableRefusal (λ p rows r. IsOverflow p r) bytes refusal
+IsRefusalFor (Sim samples seed start) bytes refusal = IsTableRefusal (IsStartRefusal start) bytes refusal
+IsRefusalFor (Demo number workers) bytes refusal = ⊥
+IsRefusalFor (Stay workers) bytes refusal = IsTextRefusal IsPlantRefusal bytes refusal
+IsRefusalFor (Patrol workers) bytes refusal = IsTextRefusal IsPatrolRefusal bytes refusal
+
+-- what the bytes demand: to be answered, or to be refused so
 abbrev pub IsOutcomeFor : Command → List ℕ → Outcome → Type 0
-IsOutcomeFor (Synth workers) bytes outcome = IsPlantTextOutcome bytes outcome
-IsOutcomeFor Check bytes outcome = IsTableTextOutcome bytes outcome
-IsOutcomeFor Upgrade bytes outcome = IsUpgradeTextOutcome bytes outcome
-IsOutcomeFor (Sim samples seed start) bytes outcome = IsTraceTextOutcome start bytes outcome
-IsOutcomeFor (Demo number workers) bytes outcome = outcome ≡ Done
-IsOutcomeFor (Stay workers) bytes outcome = IsPlantTextOutcome bytes outcome
-IsOutcomeFor (Patrol workers) bytes outcome = IsPatrolTextOutcome bytes outcome
+IsOutcomeFor command bytes Done = IsAnswerable command bytes
+IsOutcomeFor command bytes Usage = ⊥
+IsOutcomeFor command bytes (Refused refusal) = IsRefusalFor command bytes refusal
+IsOutcomeFor command bytes (Failed failure) = ⊥

@@ -5,7 +5,7 @@ use Rattle.plant_record.specs.Description.{Description}
 use Rattle.plant_record.specs.Limits.{IsWithinLimits}
 use Rattle.plant_game.specs.Abstraction.{IsGameOf}
 use Rattle.command_line.specs.declared.command.Command.{Command}
-use Rattle.synth_run.specs.declared.outcome.Outcome.{Outcome}
+use Rattle.command_line.specs.declared.outcome.Outcome.{Outcome}
 use Rattle.synth_run.specs.IsOutcomeFor.{IsOutcomeFor}
 use Rattle.synth_run.specs.Headline.{IsTableFor, IsStayTableFor, IsPatrolTableFor}
 use Rattle.synth_run.specs.Traces.{IsTraceFor}

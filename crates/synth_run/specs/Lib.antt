@@ -3,7 +3,6 @@ pub mod Traces
 pub mod IsOutcomeFor
 pub mod Headline
 pub mod Played
-pub mod Statuses
 pub mod RunClauses
 pub mod Laws
 pub mod inside

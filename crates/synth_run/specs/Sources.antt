@@ -5,6 +5,16 @@ use Rattle.command_line.specs.declared.command.Command.{Command}
 use Rattle.command_line.specs.declared.command.Command.TheVariants.{Synth, Check, Upgrade, Sim, Demo, Stay, Patrol}
 use Rattle.base.specs.declared.limits.TheConstants.{TABLE_LIMIT, TEXT_LIMIT}
 
+-- the command works on what its source gives; `demo` works on nothing
+abbrev pub Reads : Command → Type 0
+Reads (Synth workers) = Unit {0}
+Reads Check = Unit {0}
+Reads Upgrade = Unit {0}
+Reads (Sim samples seed start) = Unit {0}
+Reads (Demo number workers) = ⊥
+Reads (Stay workers) = Unit {0}
+Reads (Patrol workers) = Unit {0}
+
 -- the bytes that a command works on, from what the source tells; `demo` works on none
 abbrev pub bytes_for : Command → Option (List ℕ) → Option (List ℕ)
 bytes_for (Synth workers) told = told
@@ -32,20 +42,8 @@ pub record IsLeftAlone (source : Reading) : Type 0 where
 
 -- a source that a command has no use for is left alone
 abbrev pub LeavesAlone : Command → Reading → Type 0
-LeavesAlone (Synth workers) source = Unit {0}
-LeavesAlone Check source = Unit {0}
-LeavesAlone Upgrade source = Unit {0}
-LeavesAlone (Sim samples seed start) source = Unit {0}
-LeavesAlone (Demo number workers) source = IsLeftAlone source
-LeavesAlone (Stay workers) source = Unit {0}
-LeavesAlone (Patrol workers) source = Unit {0}
+LeavesAlone command source = (Reads command → ⊥) → IsLeftAlone source
 
 -- no read of a command failed, by its source's count of faults; `demo` makes none, whatever the count
 abbrev pub NoReadFailed : Command → ℕ → ℕ → Type 0
-NoReadFailed (Synth workers) before after = Rose before after → ⊥
-NoReadFailed Check before after = Rose before after → ⊥
-NoReadFailed Upgrade before after = Rose before after → ⊥
-NoReadFailed (Sim samples seed start) before after = Rose before after → ⊥
-NoReadFailed (Demo number workers) before after = Unit {0}
-NoReadFailed (Stay workers) before after = Rose before after → ⊥
-NoReadFailed (Patrol workers) before after = Rose before after → ⊥
+NoReadFailed command before after = Reads command → Rose before after → ⊥

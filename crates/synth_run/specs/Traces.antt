@@ -1,14 +1,12 @@
--- What a table demands of a start, and what is written of the plant that it drives from there.
+-- Whether a table has a row for a start, and what is written of the plant that it drives from there.
 use Rattle.std.specs.Prelude.{◌≡◌, ◌≢◌, ◌⊎◌, ℕ, ℤ, List, length, Option, Some, None}
 use Rattle.grid_quantiser.specs.Cells.{point_of}
 use Rattle.plant_record.specs.Description.{Description}
-use Rattle.successor_box.specs.Deviations.{HasNoOverflow, IsFirstOverflow}
+use Rattle.successor_box.specs.Deviations.{HasNoOverflow}
 use Rattle.game_core.specs.declared.game.Row.{Row}
 use Rattle.controller_table.specs.Tables.{IsTable}
 use Rattle.loop_sim.specs.Trace.{row_at}
 use Rattle.loop_sim.specs.TraceText.{trace_text}
-use Rattle.synth_run.specs.declared.outcome.Outcome.{Outcome}
-use Rattle.synth_run.specs.declared.outcome.Outcome.TheVariants.{Done, Invalid, NoRow, Usage, Malformed, Overflow, Limit, TooManyTurns, ReadFault, WriteFault, NoMemory}
 
 -- The numbers are as many as the plant's states, and as a state they lie in a cell with a row.
 pub record HasRowFor (p : Description) (rows : List (Option Row)) (start : List ℤ) : Type 0 where
@@ -19,36 +17,6 @@ pub record HasRowFor (p : Description) (rows : List (Option Row)) (start : List 
 -- they aren't as many, or as a state they lie outside the domain or in a cell without a row
 abbrev pub HasNoRowFor : Description → List (Option Row) → List ℤ → Type 0
 HasNoRowFor p rows start = (length start ≢ length p.states) ⊎ (row_at p rows (point_of start) ≡ None)
-
--- what a plant within the limits demands of its numbers, whatever its goal and however many edges it has: that they
--- stay in the range, or to be refused for the first that doesn't
-abbrev pub IsRangeOutcome : Description → Outcome → Type 0
-IsRangeOutcome p Done = HasNoOverflow p
-IsRangeOutcome p (Invalid cell) = ⊥
-IsRangeOutcome p NoRow = ⊥
-IsRangeOutcome p Usage = ⊥
-IsRangeOutcome p (Malformed line) = ⊥
-IsRangeOutcome p (Overflow equation input) = IsFirstOverflow p equation input
-IsRangeOutcome p (Limit what) = ⊥
-IsRangeOutcome p TooManyTurns = ⊥
-IsRangeOutcome p ReadFault = ⊥
-IsRangeOutcome p WriteFault = ⊥
-IsRangeOutcome p NoMemory = ⊥
-
--- what a plant within the limits demands with rows of a start: to be refused, or to be driven from there, or to be told that there is
--- no row for it
-abbrev pub IsTraceOutcome : Description → List (Option Row) → List ℤ → Outcome → Type 0
-IsTraceOutcome p rows start Done = IsRangeOutcome p Done × HasRowFor p rows start
-IsTraceOutcome p rows start (Invalid cell) = ⊥
-IsTraceOutcome p rows start NoRow = IsRangeOutcome p Done × HasNoRowFor p rows start
-IsTraceOutcome p rows start Usage = ⊥
-IsTraceOutcome p rows start (Malformed line) = ⊥
-IsTraceOutcome p rows start (Overflow equation input) = IsRangeOutcome p (Overflow equation input)
-IsTraceOutcome p rows start (Limit what) = ⊥
-IsTraceOutcome p rows start TooManyTurns = ⊥
-IsTraceOutcome p rows start ReadFault = ⊥
-IsTraceOutcome p rows start WriteFault = ⊥
-IsTraceOutcome p rows start NoMemory = ⊥
 
 -- The text is the trace, from the start, of the plant under the rows of the table that the bytes are, under noises that
 -- the seed decides, with at most so many samples after the first.

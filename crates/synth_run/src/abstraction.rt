@@ -1,12 +1,12 @@
-//! The game of a plant as it is seen ahead, or what the plant demands in its place.
+//! The game of a plant as it is seen ahead, or why the plant is refused.
 
-ghost use Rattle.std.specs.Prelude.{◌≢◌, IfOk, IfErr};
+ghost use Rattle.std.specs.Prelude.{IfOk, IfErr};
 ghost use Rattle.plant_game.specs.Abstraction.{IsGameOf};
 ghost use Rattle.abstraction_table.specs.Table.{forward_game};
-ghost use Rattle.synth_run.specs.declared.outcome.Outcome.TheVariants.{Done, NoMemory};
-ghost use Rattle.synth_run.specs.IsOutcomeFor.{IsAccepted, IsPlantTextOutcome, IsPlantOutcome, IsSolvable};
+ghost use Rattle.synth_run.specs.IsOutcomeFor.{IsAccepted, IsTextRefusal, IsPlantRefusal, IsSolvable};
+ghost use Rattle.synth_run.specs.inside.Causes.{IsStopFor};
 
-use crate::outcome::Outcome;
+use crate::stop::Stop;
 use abstraction_table::{ForwardAbstraction, build_forward};
 use plant_record::Plant;
 use plant_text::read_plant;
@@ -19,11 +19,10 @@ pub fn forward_of<R: Threads + Sync>(
     rt: &R,
     alloc: Global,
     plant: &Plant,
-) -> Result<ForwardAbstraction, Outcome>
+) -> Result<ForwardAbstraction, Stop>
     ensures game { IfOk result (λ game. IsGameOf plant.now (forward_game game)) }
     ensures solvable { IfOk result (λ _. IsSolvable plant.now) }
-    ensures cause { IfErr result (λ outcome. outcome ≢ NoMemory → IsPlantOutcome plant.now outcome) }
-    ensures failed { IfErr result (λ outcome. outcome ≢ Done) }
+    ensures refused { IfErr result (IsStopFor (IsPlantRefusal plant.now)) }
 {
     let slopes = find_slopes(alloc, plant)?;
     let game = build_forward(rt, alloc, plant, &slopes)?;
@@ -35,12 +34,11 @@ pub fn forward_of_text<R: Threads + Sync>(
     rt: &R,
     alloc: Global,
     bytes: &[u8],
-) -> Result<(Plant, ForwardAbstraction), Outcome>
+) -> Result<(Plant, ForwardAbstraction), Stop>
     ensures accepted { IfOk result (λ made. IsAccepted bytes.now made.0) }
     ensures game { IfOk result (λ made. IsGameOf made.0 (forward_game made.1)) }
     ensures solvable { IfOk result (λ made. IsSolvable made.0) }
-    ensures cause { IfErr result (λ outcome. outcome ≢ NoMemory → IsPlantTextOutcome bytes.now outcome) }
-    ensures failed { IfErr result (λ outcome. outcome ≢ Done) }
+    ensures refused { IfErr result (IsStopFor (IsTextRefusal IsPlantRefusal bytes.now)) }
 {
     let plant = read_plant(alloc, bytes)?;
     let game = forward_of(rt, alloc, &plant)?;

@@ -7,23 +7,17 @@
 #![tactic(auto)]
 
 mod abstraction;
-mod checking;
-mod demo;
+mod commands;
 pub mod laws;
-mod outcome;
-mod patrolling;
-mod settling;
-mod simulating;
 mod solved_game;
-mod solving;
+mod stop;
 mod text;
 mod top;
-mod upgrading;
+mod work;
 
-pub use command_line::{Command, StateNumbers};
+pub use command_line::{Command, Failure, Outcome, Refusal, StateNumbers};
 pub use demo_plants::demo_plant;
 pub use frontier_pool::{Gate, Open};
-pub use outcome::Outcome;
 pub use run_devices::{
     CleanSource, CountSink, Failed, MemorySink, MemorySource, NoMemory, Sink, Source,
 };

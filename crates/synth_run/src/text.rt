@@ -1,24 +1,64 @@
 //! What a command writes, and how it is written.
 
-ghost use Rattle.std.specs.Prelude.{OnOk, IfErr};
+ghost use Rattle.std.specs.Prelude.{◌≡◌, OnOk, IfErr};
 ghost use Rattle.controller_table.specs.TableText.{written_version, table_text};
 ghost use Rattle.controller_table.specs.Tables.{RowsFit};
-ghost use Rattle.temporal_games.specs.StayText.{stay_text};
-ghost use Rattle.temporal_games.specs.PatrolText.{patrol_text};
+ghost use Rattle.temporal_texts.specs.StayText.{stay_text};
+ghost use Rattle.temporal_texts.specs.PatrolText.{patrol_text};
 ghost use Rattle.run_devices.specs.Devices.{GainsWhole, writing};
 ghost use Rattle.synth_run.specs.inside.Texts.{bytes_of, trace_of, IsReady, CanBeWritten};
 ghost use Rattle.run_devices.specs.Transfers.{StopsBy};
 
-use crate::simulating::Simulation;
-use crate::solving::SolvedPlant;
 use controller_table::{Table, TableWriter};
 use game_core::Answer;
+use grid_quantiser::Point;
+use loop_sim::TraceWriter;
+use plant_record::Plant;
 use run_devices::{Sink, WriteFault, write_buffered, write_whole};
 use std::alloc::{AllocError, Global};
+use successor_box::Slopes;
 use temporal_games::{PatrolRows, PatrolWriter, StayWriter};
 
 /// How many bytes are asked for before a trace is written: more than its writer takes of the stack.
 const TRACE_STACK: usize = 1 << 18;
+
+/// A plant with the rows of its solution: those of its table, of reach and stay, or of a patrol.
+#[derive(Drop)]
+pub struct SolvedPlant<A> {
+    pub plant: Plant,
+    pub rows: A,
+}
+
+/// A plant in closed loop with its table, from a state.
+#[derive(Drop)]
+pub struct Simulation {
+    pub table: Table,
+    pub slopes: Slopes,
+    pub start: Point,
+    /// Decides the noises.
+    pub seed: u64,
+    /// How many samples may follow the first.
+    pub samples: u32,
+}
+
+impl Simulation {
+    /// The writer of its trace.
+    pub fn writer(&self) -> TraceWriter<'_>
+        requires { IsReady self.now }
+        ensures { result ≡ trace_of self.now }
+    {
+        match TraceWriter::new(
+            &self.table,
+            &self.slopes,
+            &self.start,
+            self.seed,
+            self.samples,
+        ) {
+            Some(writer) => writer,
+            None => unreachable!(),
+        }
+    }
+}
 
 /// What a command writes.
 #[derive(Drop)]

@@ -1,27 +1,29 @@
-ghost use Rattle.std.specs.Prelude.{◌≡◌, ℕ, ◌≤◌, List, map, None, IfSome, IfOk, IfErr};
+ghost use Rattle.std.specs.Prelude.{◌≡◌, ℕ, List, map, IfSome, IfOk, IfErr};
 ghost use Rattle.run_devices.specs.Devices.{Rose, reading, writing};
-ghost use Rattle.command_line.specs.Command.{AreWorkers, IsOfCommand, IsDemoNumber};
+ghost use Rattle.command_line.specs.Command.{IsOfCommand};
 ghost use Rattle.synth_run.specs.Sources.{bytes_for, most_read, NoReadFailed};
 ghost use Rattle.synth_run.specs.RunClauses.{Gives, IsRun, IsRunOf, IsAnswered, IsCompleteAnswer};
 ghost use Rattle.command_line.specs.declared.command.Command.{Command};
-ghost use Rattle.synth_run.specs.inside.Making.{IsReadFor, IsMade, IsRefusalOf};
+ghost use Rattle.synth_run.specs.IsOutcomeFor.{IsRefusalFor};
+ghost use Rattle.synth_run.specs.inside.Causes.{IsStopFor};
+ghost use Rattle.synth_run.specs.inside.Making.{IsReadFor, IsMade};
 ghost use Rattle.synth_run.specs.inside.SolvedGames.{IsToBeLeft};
 ghost use Rattle.synth_run.specs.inside.Texts.{CanBeWritten};
-ghost use Rattle.synth_run.specs.inside.Working.{IsWorkedOut, IsRefusalFor, IsWrittenOut, IsLeftAfter};
-ghost use Rattle.base.specs.declared.limits.TheConstants.{SAMPLES_LIMIT};
+ghost use Rattle.synth_run.specs.inside.Working.{IsWorkedOut, IsStopped, IsWrittenOut, IsLeftAfter};
 
-use crate::checking::check_text;
-use crate::demo::solved_line;
-use crate::outcome::Outcome;
-use crate::patrolling::solve_patrol;
-use crate::settling::solve_stay;
-use crate::simulating::simulate_text;
-use crate::solving::solve_text;
+use crate::commands::check::check;
+use crate::commands::demo::demo;
+use crate::commands::patrol::patrol;
+use crate::commands::sim::sim;
+use crate::commands::stay::stay;
+use crate::commands::synth::synth;
+use crate::commands::upgrade::upgrade;
+use crate::stop::Stop;
 use crate::text::Text;
-use crate::upgrading::upgrade_text;
+use crate::work::Work;
 use base::limits::{TABLE_LIMIT, TEXT_LIMIT};
 use cell_counters::{Board, Root};
-use command_line::{Command, StateNumbers, parse_command};
+use command_line::{Command, Failure, Outcome, parse_command};
 use frontier_pool::Gate;
 use run_devices::{Sink, Source, WriteFault, read_up_to};
 use std::alloc::Global;
@@ -95,23 +97,7 @@ fn carry_out<R: Threads + Sync, S: Source, O: Sink, G: Gate>(
             let outcome = write_out(alloc, &text, out);
             (outcome, left_after(outcome, played))
         }
-        Err(outcome) => (outcome, None),
-    }
-}
-
-/// What a command has worked out: its text, and the board and the root of the game that it solved.
-#[derive(Drop)]
-struct Work {
-    text: Text,
-    played: Option<(Board, Root)>,
-}
-
-impl Work {
-    /// A text for which no game was solved.
-    fn of_text(text: Text) -> Work
-        ensures { result ≡ record { text = text; played = None } }
-    {
-        Work { text, played: None }
+        Err(stop) => (stop.outcome(), None),
     }
 }
 
@@ -122,20 +108,20 @@ fn work_of<R: Threads + Sync, S: Source, G: Gate>(
     command: Command,
     source: &mut S,
     gate: &G,
-) -> Result<Work, Outcome>
+) -> Result<Work, Stop>
     requires { (arguments : List (List ℕ)) × IsOfCommand arguments command }
     ensures answer { IfOk result (λ work. IsWorkedOut command work.text (reading S.left S.faults S.is_sound source.old source.new)) }
     ensures played { IfOk result (λ work. IsToBeLeft command work.played (reading S.left S.faults S.is_sound source.old source.new)) }
-    ensures refusal { IfErr result (λ outcome. IsRefusalFor command outcome (reading S.left S.faults S.is_sound source.old source.new)) }
+    ensures stopped { IfErr result (λ stop. IsStopped command stop (reading S.left S.faults S.is_sound source.old source.new)) }
 {
     let bytes = read_for(alloc, &command, source)?;
     work_on(rt, alloc, command, &bytes, gate)
 }
 
 /// The bytes that a command works on. `demo` works on none, and leaves its source alone.
-fn read_for<S: Source>(alloc: Global, command: &Command, source: &mut S) -> Result<Vec<u8>, Outcome>
+fn read_for<S: Source>(alloc: Global, command: &Command, source: &mut S) -> Result<Vec<u8>, Stop>
     ensures read { IfOk result (λ bytes. IsReadFor command.now bytes.items (reading S.left S.faults S.is_sound source.old source.new)) }
-    ensures refusal { IfErr result (λ outcome. IsRefusalFor command.now outcome (reading S.left S.faults S.is_sound source.old source.new)) }
+    ensures stopped { IfErr result (λ stop. IsStopped command.now stop (reading S.left S.faults S.is_sound source.old source.new)) }
 {
     if let Command::Demo { .. } = command {
         return Ok(Vec::new(alloc));
@@ -162,10 +148,10 @@ fn work_on<R: Threads + Sync, G: Gate>(
     command: Command,
     bytes: &[u8],
     gate: &G,
-) -> Result<Work, Outcome>
+) -> Result<Work, Stop>
     requires { (arguments : List (List ℕ)) × IsOfCommand arguments command }
     ensures made { IfOk result (λ work. IsMade command bytes.now work.text work.played) }
-    ensures declined { IfErr result (IsRefusalOf command bytes.now) }
+    ensures refused { IfErr result (IsStopFor (IsRefusalFor command bytes.now)) }
 {
     match command {
         Command::Synth { workers } => synth(rt, alloc, bytes, workers, gate),
@@ -182,111 +168,6 @@ fn work_on<R: Threads + Sync, G: Gate>(
     }
 }
 
-/// The table of the plant that the bytes spell.
-fn synth<R: Threads + Sync, G: Gate>(
-    rt: &R,
-    alloc: Global,
-    bytes: &[u8],
-    workers: u32,
-    gate: &G,
-) -> Result<Work, Outcome>
-    requires { AreWorkers workers }
-    ensures made { IfOk result (λ work. IsMade (Command.Synth workers) bytes.now work.text work.played) }
-    ensures declined { IfErr result (IsRefusalOf (Command.Synth workers) bytes.now) }
-{
-    let (solved, played) = solve_text(rt, alloc, bytes, workers, gate)?;
-    Ok(Work {
-        text: Text::Table(solved),
-        played: Some(played),
-    })
-}
-
-/// That the table that the bytes are is valid.
-fn check<R: Threads + Sync>(rt: &R, alloc: Global, bytes: &[u8]) -> Result<Work, Outcome>
-    ensures made { IfOk result (λ work. IsMade Command.Check bytes.now work.text work.played) }
-    ensures declined { IfErr result (IsRefusalOf Command.Check bytes.now) }
-{
-    check_text(rt, alloc, bytes)?;
-    Ok(Work::of_text(Text::Line(b"valid\n")))
-}
-
-/// The table that the bytes are, to be written anew.
-fn upgrade(alloc: Global, bytes: &[u8]) -> Result<Work, Outcome>
-    ensures made { IfOk result (λ work. IsMade Command.Upgrade bytes.now work.text work.played) }
-    ensures declined { IfErr result (IsRefusalOf Command.Upgrade bytes.now) }
-{
-    let table = upgrade_text(alloc, bytes)?;
-    Ok(Work::of_text(Text::Upgraded(table)))
-}
-
-/// The trace of the table that the bytes are.
-fn sim(
-    alloc: Global,
-    bytes: &[u8],
-    samples: u32,
-    seed: u64,
-    start: &StateNumbers,
-) -> Result<Work, Outcome>
-    requires { samples ≤ SAMPLES_LIMIT }
-    ensures made { IfOk result (λ work. IsMade (Command.Sim samples seed start.now) bytes.now work.text work.played) }
-    ensures declined { IfErr result (IsRefusalOf (Command.Sim samples seed start.now) bytes.now) }
-{
-    let simulation = simulate_text(alloc, bytes, samples, seed, start)?;
-    Ok(Work::of_text(Text::Trace(simulation)))
-}
-
-/// The line of a demo plant, whatever the bytes are.
-fn demo<R: Threads + Sync, G: Gate>(
-    rt: &R,
-    alloc: Global,
-    number: u32,
-    workers: u32,
-    gate: &G,
-) -> Result<Work, Outcome>
-    requires number { IsDemoNumber number }
-    requires workers { AreWorkers workers }
-    ensures made { IfOk result (λ work. (bytes : List ℕ) → IsMade (Command.Demo number workers) bytes work.text work.played) }
-    ensures declined { IfErr result (λ outcome. (bytes : List ℕ) → IsRefusalOf (Command.Demo number workers) bytes outcome) }
-{
-    let (line, played) = solved_line(rt, alloc, number, workers, gate)?;
-    Ok(Work {
-        text: Text::Summary(line),
-        played: Some(played),
-    })
-}
-
-/// The stay text of the plant that the bytes spell.
-fn stay<R: Threads + Sync, G: Gate>(
-    rt: &R,
-    alloc: Global,
-    bytes: &[u8],
-    workers: u32,
-    gate: &G,
-) -> Result<Work, Outcome>
-    requires { AreWorkers workers }
-    ensures made { IfOk result (λ work. IsMade (Command.Stay workers) bytes.now work.text work.played) }
-    ensures declined { IfErr result (IsRefusalOf (Command.Stay workers) bytes.now) }
-{
-    let solved = solve_stay(rt, alloc, bytes, workers, gate)?;
-    Ok(Work::of_text(Text::Stay(solved)))
-}
-
-/// The patrol text of the plant that the bytes spell.
-fn patrol<R: Threads + Sync, G: Gate>(
-    rt: &R,
-    alloc: Global,
-    bytes: &[u8],
-    workers: u32,
-    gate: &G,
-) -> Result<Work, Outcome>
-    requires { AreWorkers workers }
-    ensures made { IfOk result (λ work. IsMade (Command.Patrol workers) bytes.now work.text work.played) }
-    ensures declined { IfErr result (IsRefusalOf (Command.Patrol workers) bytes.now) }
-{
-    let solved = solve_patrol(rt, alloc, bytes, workers, gate)?;
-    Ok(Work::of_text(Text::Patrol(solved)))
-}
-
 /// Writes what was worked out.
 fn write_out<O: Sink>(alloc: Global, text: &Text, out: &mut O) -> Outcome
     requires { CanBeWritten text.now }
@@ -294,8 +175,8 @@ fn write_out<O: Sink>(alloc: Global, text: &Text, out: &mut O) -> Outcome
 {
     match text.write(alloc, out) {
         Ok(()) => Outcome::Done,
-        Err(WriteFault::Device) => Outcome::WriteFault,
-        Err(WriteFault::Memory) => Outcome::NoMemory,
+        Err(WriteFault::Device) => Outcome::Failed(Failure::Write),
+        Err(WriteFault::Memory) => Outcome::Failed(Failure::Memory),
     }
 }
 

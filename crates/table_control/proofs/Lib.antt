@@ -3,4 +3,5 @@ pub mod Fitting
 mod Literals
 mod Pieces
 mod Replies
+mod Vectors
 pub mod ByText

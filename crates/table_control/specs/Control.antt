@@ -70,8 +70,8 @@ abbrev pub IsReplyByText : TableModel → List ℤ → List ℤ → Reply → Ty
 IsReplyByText t x after reply = (bytes : List ℕ) → IsTable bytes t.plant t.rows → IsReplyBy bytes x after reply
 
 -- a number that tells a reply, and the text's reply, by the numbers in the inputs before and after it
-abbrev pub TellsReply : TableModel → List ℤ → List ℤ → List ℤ → ℤ → Type 0
-TellsReply t x before after number =
+abbrev pub EncodesReply : TableModel → List ℤ → List ℤ → List ℤ → ℤ → Type 0
+EncodesReply t x before after number =
     (reply : Reply) × (number ≡ reply_number reply) × IsReply t x before after reply × IsReplyByText t x after reply
 
 -- The state's cell has a row of this rank.

@@ -1,7 +1,7 @@
 -- Many states at once: their numbers stand one state after another, and so do the inputs.
 use Rattle.std.specs.Prelude.{◌≡◌, ℕ, ◌*◌, ◌<◌, ℤ, pos, List, length, take, drop, slice_index_or, Bool, true, false}
 use Rattle.controller_table.specs.Tables.{TableModel}
-use Rattle.table_control.specs.Control.{TellsReply}
+use Rattle.table_control.specs.Control.{EncodesReply}
 
 -- the k-th of the pieces of this size
 abbrev pub piece : ℕ → ℕ → List ℤ → List ℤ
@@ -13,13 +13,13 @@ pub record AreSizedEach (t : TableModel) (count : ℕ) (xs before : List ℤ) : 
   pub inputs : length before ≡ count * length t.plant.inputs
 
 -- the k-th number tells the reply at the k-th state
-abbrev pub TellsReplyAt : TableModel → List ℤ → List ℤ → List ℤ → List ℤ → ℕ → Type 0
-TellsReplyAt t states before after numbers k =
-    TellsReply t (piece (length t.plant.states) k states) (piece (length t.plant.inputs) k before) (piece (length t.plant.inputs) k after) (slice_index_or numbers k (pos 0))
+abbrev pub EncodesReplyAt : TableModel → List ℤ → List ℤ → List ℤ → List ℤ → ℕ → Type 0
+EncodesReplyAt t states before after numbers k =
+    EncodesReply t (piece (length t.plant.states) k states) (piece (length t.plant.inputs) k before) (piece (length t.plant.inputs) k after) (slice_index_or numbers k (pos 0))
 
 -- each does
 abbrev pub AreReplies : TableModel → List ℤ → List ℤ → List ℤ → List ℤ → Type 0
-AreReplies t states before after numbers = (k : ℕ) → k < length numbers → TellsReplyAt t states before after numbers k
+AreReplies t states before after numbers = (k : ℕ) → k < length numbers → EncodesReplyAt t states before after numbers k
 
 -- each number is told, or the sizes are wrong and nothing is changed
 abbrev pub IsReplyEach : TableModel → List ℤ → List ℤ → List ℤ → List ℤ → List ℤ → Bool → Type 0

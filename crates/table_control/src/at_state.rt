@@ -5,15 +5,15 @@ ghost use Rattle.plant_record.specs.declared.aims.GoalKind.TheVariants.{Reach};
 ghost use Rattle.plant_record.specs.Description.{vector_of, vectors_of};
 ghost use Rattle.table_control.specs.Control.{AreSized, IsReply, IsReplyByText};
 
+use crate::packed_table::PackedTable;
 use crate::reply::Reply;
 use crate::rows::row_at;
-use controller_table::Table;
 use controller_table::laws::one_table_per_text;
 use plant_record::laws::every_plant_is_within_limits;
 use plant_record::{GoalKind, Plant};
 
 /// Puts what is to be applied at the state into the inputs.
-pub fn control(table: &Table, state: &[i64], input: &mut [i64]) -> Reply
+pub fn control(table: &PackedTable, state: &[i64], input: &mut [i64]) -> Reply
     ensures reply { IsReply table.now state.now input.old input.new result }
     ensures text { IsReplyByText table.now state.now input.new result }
 {
@@ -21,7 +21,7 @@ pub fn control(table: &Table, state: &[i64], input: &mut [i64]) -> Reply
     reply_at(table, state, input)
 }
 
-fn reply_at(table: &Table, state: &[i64], input: &mut [i64]) -> Reply
+fn reply_at(table: &PackedTable, state: &[i64], input: &mut [i64]) -> Reply
     ensures { IsReply table.now state.now input.old input.new result }
 {
     if !are_sized(table, state, input) {
@@ -37,7 +37,7 @@ fn reply_at(table: &Table, state: &[i64], input: &mut [i64]) -> Reply
     Reply::Apply
 }
 
-fn are_sized(table: &Table, state: &[i64], input: &[i64]) -> bool
+fn are_sized(table: &PackedTable, state: &[i64], input: &[i64]) -> bool
     ensures { IsTrue result ↔ AreSized table.now state.now input.now }
 {
     let plant = table.plant();
@@ -53,14 +53,18 @@ fn is_reach(goal: GoalKind) -> bool
     }
 }
 
-/// Puts the values of an input vector into the inputs.
+/// Puts the values of an input vector into the inputs, the last one first.
 fn apply(plant: &Plant, vector: u32, input: &mut [i64])
     requires vector { vector < vectors_of plant.now.inputs }
     requires sizes { length input.old ≡ length plant.now.inputs }
     ensures { input.new ≡ vector_of plant.now.inputs vector }
 {
     every_plant_is_within_limits(plant);
-    for j in 0..plant.input_variables() {
-        input[j as usize] = plant.input_value(vector, j) as i64;
+    let inputs = plant.input_list();
+    let mut rest = vector as usize;
+    for j in (0..inputs.len()).rev() {
+        let values = inputs[j].values.as_slice();
+        input[j] = values[rest % values.len()] as i64;
+        rest /= values.len();
     }
 }

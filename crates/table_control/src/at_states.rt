@@ -4,12 +4,17 @@ ghost use Rattle.std.specs.Prelude.{◌≡◌, ◌↔◌, ◌*◌, length, IsTru
 ghost use Rattle.table_control.specs.Each.{AreSizedEach, AreReplies, IsReplyEach};
 
 use crate::at_state::control;
-use controller_table::Table;
+use crate::packed_table::PackedTable;
 
 /// Puts what is to be applied at each state into its inputs, and the number of the reply there into the replies. The
 /// states' numbers stand one state after another, and so do the inputs. False where these aren't as many numbers as
 /// the replies' states and inputs have.
-pub fn control_each(table: &Table, states: &[i64], inputs: &mut [i64], replies: &mut [i32]) -> bool
+pub fn control_each(
+    table: &PackedTable,
+    states: &[i64],
+    inputs: &mut [i64],
+    replies: &mut [i32],
+) -> bool
     ensures { IsReplyEach table.now states.now inputs.old inputs.new replies.old replies.new result }
 {
     if !are_sized_each(table, states, inputs, replies.len()) {
@@ -19,7 +24,7 @@ pub fn control_each(table: &Table, states: &[i64], inputs: &mut [i64], replies: 
     true
 }
 
-fn are_sized_each(table: &Table, states: &[i64], inputs: &[i64], count: usize) -> bool
+fn are_sized_each(table: &PackedTable, states: &[i64], inputs: &[i64], count: usize) -> bool
     ensures { IsTrue result ↔ AreSizedEach table.now count states.now inputs.now }
 {
     let plant = table.plant();
@@ -37,7 +42,7 @@ fn is_product(length: usize, count: usize, size: u32) -> bool
     }
 }
 
-fn reply_each(table: &Table, states: &[i64], inputs: &mut [i64], replies: &mut [i32])
+fn reply_each(table: &PackedTable, states: &[i64], inputs: &mut [i64], replies: &mut [i32])
     requires { AreSizedEach table.now (length replies.old) states.now inputs.old }
     ensures long { length replies.new ≡ length replies.old }
     ensures each { AreReplies table.now states.now inputs.old inputs.new replies.new }

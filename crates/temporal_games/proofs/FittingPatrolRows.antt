@@ -9,10 +9,10 @@ use Rattle.game_core.specs.Solution.{row_of}
 use Rattle.grid_quantiser.specs.Axes.{cells_of}
 use Rattle.plant_record.specs.Description.{Description, axes_of}
 use Rattle.plant_game.specs.Abstraction.{IsGameOf}
-use Rattle.temporal_games.specs.Targets.{IsInTarget}
-use Rattle.temporal_games.specs.Patrol.{IsPatrol, rows_for}
+use Rattle.temporal_texts.specs.Targets.{IsInTarget}
+use Rattle.temporal_texts.specs.PatrolText.{rows_for, IsPatrolRowOf, PatrolRowsFit}
+use Rattle.temporal_games.specs.Patrol.{IsPatrol}
 use Rattle.temporal_games.proofs.PatrolRowLaws.{rows_are_within}
-use Rattle.temporal_games.specs.PatrolText.{IsPatrolRowOf, PatrolRowsFit}
 
 pub patrol_rows_fit : (p : Description) (g : Game) (rows : List (List (Option Row))) → IsGameOf p g → IsPatrol g (IsInTarget p) (length p.targets) rows → PatrolRowsFit p rows
 patrol_rows_fit p g rows a s = record {

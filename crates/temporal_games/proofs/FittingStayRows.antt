@@ -19,7 +19,7 @@ use Rattle.temporal_games.specs.Stay.{IsStayedBy, IsStayRow, IsStaySolution}
 use Rattle.game_core.proofs.Carried.{remarked_game}
 use Rattle.temporal_games.proofs.Trees.{AreMarksFor, from_wins, to_rank, to_within, from_within}
 use Rattle.plant_game.specs.Abstraction.{IsGameOf}
-use Rattle.temporal_games.specs.StayText.{IsStayRowOf, StayRowsFit}
+use Rattle.temporal_texts.specs.StayText.{IsStayRowOf, StayRowsFit}
 use Rattle.game_core.proofs.Rows.{below_from_row}
 
 -- the mark of a cell that is no end

@@ -2,7 +2,8 @@
 use Rattle.std.proofs.Common.{ℕ, zero, suc, ◌<◌}
 use Rattle.game_core.specs.Game.{Game, IsGame}
 use Rattle.game_core.specs.Strategy.{Apply}
-use Rattle.temporal_games.specs.Visits.{next_turn, ReachesLater, Visits}
+use Rattle.temporal_texts.specs.Targets.{next_turn}
+use Rattle.temporal_games.specs.Visits.{ReachesLater, Visits}
 use Rattle.game_core.proofs.Carried.{weaker}
 
 pub reaches_later_weaker : (g : Game) (E F : ℕ → Type 0) → IsGame g → ((s : ℕ) → s < g.cells → E s → F s) → (c : ℕ) → c < g.cells → ReachesLater E g c → ReachesLater F g c

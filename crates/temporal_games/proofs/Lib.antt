@@ -1,9 +1,6 @@
-pub mod OneStayText
 pub mod Settling
 pub mod FittingStayRows
 pub mod StayLaws
-pub mod TurnTexts
-pub mod OnePatrolText
 pub mod Patrolling
 pub mod FittingPatrolRows
 pub mod PatrolLaws
@@ -13,7 +10,6 @@ pub mod StayRows
 pub mod LaterReachRows
 pub mod BestRows
 pub mod TurnRows
-pub mod NextTurns
 pub mod ForEver
 pub mod Patrols
 pub mod Steps

@@ -1,15 +1,15 @@
 -- What holds of every patrol text: for the proofs of the crates above.
-use Rattle.std.proofs.Common.{ℕ, List, length, Option, refl}
+use Rattle.std.proofs.Common.{List, length, Option, refl}
 use Rattle.game_core.specs.declared.game.Row.{Row}
 use Rattle.game_core.specs.Game.{Game}
 use Rattle.plant_record.specs.Description.{Description}
 use Rattle.plant_record.specs.Limits.{IsWithinLimits}
 use Rattle.plant_game.specs.Abstraction.{IsGameOf}
-use Rattle.temporal_games.specs.Targets.{IsInTarget}
+use Rattle.temporal_texts.specs.Targets.{IsInTarget}
 use Rattle.temporal_games.specs.Patrol.{IsPatrol}
-use Rattle.temporal_games.specs.PatrolText.{patrol_text, IsPatrolText}
+use Rattle.temporal_texts.specs.PatrolText.{patrol_text, IsPatrolText}
 use Rattle.temporal_games.proofs.FittingPatrolRows.{patrol_rows_fit}
-pub use Rattle.temporal_games.proofs.OnePatrolText.{one_patrol_text}
+pub use Rattle.temporal_texts.proofs.OnePatrolText.{one_patrol_text}
 pub use Rattle.temporal_games.proofs.Patrolling.{patrol_text_patrols}
 
 -- the text of the solution is one

@@ -13,14 +13,14 @@ use Rattle.plant_record.specs.States.{IsClear}
 use Rattle.plant_record.specs.Steps.{step_of, IsNoise}
 use Rattle.plant_game.specs.Abstraction.{IsGameOf}
 use Rattle.plant_game.specs.Refinement.{IsRefinement}
-use Rattle.temporal_games.specs.Targets.{IsInTarget}
-use Rattle.temporal_games.specs.Visits.{next_turn, VisitsOn, IsArrival}
-use Rattle.temporal_games.specs.Patrol.{IsReachedLaterBy, IsPatrolRow, IsPatrol, rows_for}
+use Rattle.temporal_texts.specs.Targets.{IsInTarget, next_turn}
+use Rattle.temporal_games.specs.Visits.{VisitsOn, IsArrival}
+use Rattle.temporal_texts.specs.PatrolText.{rows_for, IsPatrolText, HasPatrolRow, IsArrivalIn}
+use Rattle.temporal_games.specs.Patrol.{IsReachedLaterBy, IsPatrolRow, IsPatrol}
 use Rattle.temporal_games.proofs.PatrolRowLaws.{targets_are_told, later_reachers_have_rows}
 use Rattle.plant_game.proofs.GameLaws.{refines, clear_at, lands}
-use Rattle.temporal_games.specs.PatrolText.{IsPatrolText, HasPatrolRow, IsArrivalIn}
-use Rattle.temporal_games.specs.Patrols.{LandsWell, Goes, Patrols}
-use Rattle.temporal_games.proofs.OnePatrolText.{one_patrol_text}
+use Rattle.temporal_texts.specs.Patrols.{LandsWell, Goes, Patrols}
+use Rattle.temporal_texts.proofs.OnePatrolText.{one_patrol_text}
 use Rattle.game_core.proofs.Rows.{below_from_row}
 
 -- the subtree for one of the cells

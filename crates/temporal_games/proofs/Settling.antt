@@ -15,10 +15,10 @@ use Rattle.temporal_games.specs.Held.{IsHeld}
 use Rattle.temporal_games.specs.Stay.{IsStayedBy, IsStayRow, IsStaySolution}
 use Rattle.plant_game.specs.Abstraction.{IsGameOf}
 use Rattle.plant_game.specs.Refinement.{IsRefinement}
-use Rattle.temporal_games.specs.StayText.{IsStayText}
-use Rattle.temporal_games.specs.Settles.{IsUnderWay, Holds, Settles}
+use Rattle.temporal_texts.specs.StayText.{IsStayText}
+use Rattle.temporal_texts.specs.Settles.{IsUnderWay, Holds, Settles}
 use Rattle.plant_game.proofs.GameLaws.{refines, clear_at, in_target, lands}
-use Rattle.temporal_games.proofs.OneStayText.{one_stay_text}
+use Rattle.temporal_texts.proofs.OneStayText.{one_stay_text}
 use Rattle.game_core.proofs.Rows.{below_from_row}
 
 clear_of : (g : Game) (c : ℕ) (t : Tree) → LeadsTo (IsHeld g) g t c → mark_of g c ≢ Obstacle

@@ -1,14 +1,14 @@
 -- What holds of every stay text: for the proofs of the crates above.
-use Rattle.std.proofs.Common.{ℕ, List, Option, refl}
+use Rattle.std.proofs.Common.{List, Option, refl}
 use Rattle.game_core.specs.declared.game.Row.{Row}
 use Rattle.game_core.specs.Game.{Game}
 use Rattle.plant_record.specs.Description.{Description}
 use Rattle.plant_record.specs.Limits.{IsWithinLimits}
 use Rattle.temporal_games.specs.Stay.{IsStaySolution}
 use Rattle.plant_game.specs.Abstraction.{IsGameOf}
-use Rattle.temporal_games.specs.StayText.{stay_text, IsStayText}
+use Rattle.temporal_texts.specs.StayText.{stay_text, IsStayText}
 use Rattle.temporal_games.proofs.FittingStayRows.{stay_rows_fit}
-pub use Rattle.temporal_games.proofs.OneStayText.{one_stay_text}
+pub use Rattle.temporal_texts.proofs.OneStayText.{one_stay_text}
 pub use Rattle.temporal_games.proofs.Settling.{stay_text_settles}
 
 -- the text of the solution is one

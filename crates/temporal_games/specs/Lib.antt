@@ -1,11 +1,6 @@
-pub mod StayText
-pub mod Settles
-pub mod PatrolText
-pub mod Patrols
 pub mod Laws
 pub mod inside
 pub mod Held
 pub mod Stay
-pub mod Targets
 pub mod Visits
 pub mod Patrol

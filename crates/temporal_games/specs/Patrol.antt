@@ -1,10 +1,11 @@
 -- The solution of patrol: for each turn the rank of each cell from which the targets can be visited in turn for ever,
 -- and the input to apply there.
-use Rattle.std.specs.Prelude.{◌≡◌, ℕ, ◌<◌, ◌≤◌, List, [], length, Option, Some, None, slice_index_or}
+use Rattle.std.specs.Prelude.{◌≡◌, ℕ, ◌<◌, ◌≤◌, List, length, Option, Some, None}
 use Rattle.game_core.specs.declared.game.Row.{Row}
 use Rattle.game_core.specs.Game.{Game}
 use Rattle.game_core.specs.Strategy.{Trees, Apply, LeadsTo, depth_of}
 use Rattle.game_core.specs.Solution.{row_of}
+use Rattle.temporal_texts.specs.PatrolText.{rows_for}
 use Rattle.temporal_games.specs.Visits.{ReachesLater, VisitsOn, IsArrival}
 
 -- The least depth of a strategy that begins with an input, and the least input with which one of that depth begins.
@@ -22,10 +23,6 @@ IsLaterReachRow End g c (Some row) = IsReachedLaterBy End g c row
 abbrev pub IsPatrolRow : Game → (ℕ → ℕ → Type 0) → ℕ → ℕ → ℕ → Option Row → Type 0
 IsPatrolRow g In turns j c None = VisitsOn g In turns j c → ⊥
 IsPatrolRow g In turns j c (Some row) = VisitsOn g In turns j c × IsReachedLaterBy (IsArrival g In turns j) g c row
-
--- the rows of a turn
-abbrev pub rows_for : List (List (Option Row)) → ℕ → List (Option Row)
-rows_for rows j = slice_index_or rows j []
 
 -- The solution of patrol: for each turn one optional row for each cell.
 pub record IsPatrol (g : Game) (In : ℕ → ℕ → Type 0) (turns : ℕ) (rows : List (List (Option Row))) : Type 0 where

@@ -1,5 +1,4 @@
 -- What only private clauses and proofs name.
-pub mod Left
 pub mod StayMarks
 pub mod PatrolSearch
 pub mod BestRows

@@ -1,12 +1,11 @@
 //! Patrol, by the solver of the reach game under other marks, among the cells that the solver of the keep game keeps.
 ghost use Rattle.std.specs.Prelude.{◌≤◌, ◌*◌, length, IfOk};
 ghost use Rattle.plant_game.specs.Abstraction.{IsGameOf};
-ghost use Rattle.temporal_games.specs.Targets.{IsInTarget};
+ghost use Rattle.temporal_texts.specs.Targets.{IsInTarget};
 ghost use Rattle.temporal_games.specs.Patrol.{IsPatrol};
 ghost use Rattle.temporal_games.specs.inside.PatrolSearch.{IsAtStart};
 ghost use Rattle.base.specs.declared.limits.TheConstants.{TURNS_LIMIT, WORKERS_LIMIT};
 
-use crate::patrol_rows::PatrolRows;
 use crate::turns::PatrolSearch;
 use frontier_pool::Gate;
 use game_core::{Graph, NoMemory};
@@ -14,6 +13,7 @@ use plant_record::Plant;
 use safety_game::keep;
 use std::alloc::Global;
 use std::thread::Threads;
+use temporal_texts::PatrolRows;
 
 /// Solves patrol of a plant's game by 1 to 64 workers: for each turn its rows. The gate is passed before each cell of each
 /// round of each solution (tested: `Gate`).

@@ -8,7 +8,6 @@ ghost use Rattle.base.specs.declared.limits.TheConstants.{WORKERS_LIMIT};
 
 use crate::arrivals::Arrivals;
 use crate::best_row::best_row;
-use crate::patrol_rows::PatrolRows;
 use frontier_pool::Gate;
 use game_core::{Answer, Graph, Mark, NoMemory, Remark};
 use plant_record::Plant;
@@ -16,6 +15,7 @@ use reach_avoid::solve;
 use std::alloc::Global;
 use std::marker::Model;
 use std::thread::Threads;
+use temporal_texts::PatrolRows;
 
 /// For each turn its arrivals, its rows, and whether it is to be solved again.
 #[derive(Drop)]

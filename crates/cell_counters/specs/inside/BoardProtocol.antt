@@ -1,4 +1,4 @@
--- The rule of the table below a board, and what a step tells.
+-- The rule of the table below a board, and what a step shows.
 use Rattle.std.specs.Prelude.{◌≡◌, ◌≢◌, ℕ, ◌+◌, ◌-◌, ◌%◌, ◌^◌, ◌<◌, ◌≤◌, ◌==◌, ◌⊎◌, Option, Some, None, cond, List, [], ◌∷◌, ◌++◌, length, take, drop, slice_index, nat_lt, All, IsPermutation}
 use Rattle.std.specs.List.{flat_map, range_with_len}
 use Rattle.atomic_table.specs.Table.{State, Step, Me}
@@ -165,26 +165,26 @@ pub record IsHand (me : Seated) : Type 0 where
   pub idle : me.0.awaits ≡ None
   pub one : me.0.accounts ≡ account_of me.0 ∷ []
 
--- what a cut tells: the account has one more, which answered what it left
+-- what a cut shows: the account has one more, which answered what it left
 abbrev pub Cuts : Step (Unit {0}) → Seated → ℕ → Seated → Type 0
 Cuts s me found after = after ≡ (with_account me.0 (with_cut (account_of me.0) s.word ((found + (2 ^ 64 - 1)) % 2 ^ 64)), me.1)
 
--- what an offer tells: it is first where it found the word free, and then the word began free and the account has no earlier offer on it
+-- what an offer shows: it is first where it found the word free, and then the word began free and the account has no earlier offer on it
 abbrev pub Offers : Step (Unit {0}) → Seated → ℕ → Seated → Type 0
 Offers s me found after =
     let word = s.word - length me.0.began.starts in
     (after ≡ (with_account me.0 (with_offer (account_of me.0) word s.first (found == NONE)), me.1))
     × (found ≡ NONE → (slice_index me.0.began.least word ≡ NONE) × (offers_on word (account_of me.0) ≡ []))
 
--- what a note tells
+-- what a note shows
 abbrev pub Notes : ℕ → Step (Unit {0}) → Seated → ℕ → Seated → Type 0
 Notes item s me found after = after ≡ (with_account me.0 (with_note (account_of me.0) item), me.1)
 
--- what a draw tells
+-- what a draw shows
 abbrev pub Draws : ℕ → Step (Unit {0}) → Seated → ℕ → Seated → Type 0
 Draws cell s me found after = after ≡ (view_after_draw me.0 cell found, me.1)
 
--- what a store tells
+-- what a store shows
 abbrev pub Stores : Step (Unit {0}) → Seated → ℕ → Seated → Type 0
 Stores s me found after = after ≡ (view_after_store me.0, me.1)
 
@@ -201,7 +201,7 @@ pub record Explains (n : Setup) (accounts : List Account) (word found : ℕ) : T
   pub cell : tail_of n < word → word < slot_of n n.slots → found < 2 ^ 32
   pub slot : (k : ℕ) → k < filled_slots accounts n.slots → word ≡ slot_of n k → log_count accounts < 2 ^ 64 → found ≡ cell_at k (all_logs accounts)
 
--- what a look by the root tells: no more were taken in than were made, and where none is out, its accounts explain the word
+-- what a look by the root shows: no more were taken in than were made, and where none is out, its accounts explain the word
 pub record Looks (s : Step (Unit {0})) (me : Seated) (found : ℕ) (after : Seated) : Type 0 where
   pub same : after ≡ me
   pub made : length me.0.accounts ≤ me.0.made

@@ -8,9 +8,9 @@ use Rattle.controller_c.proofs.gaffcurrant_rank.Goals as goal
 pub returns-in-Some-clause-rank : goal.returns-in-Some-clause-rank
 returns-in-Some-clause-rank c =
     let x = c.args.state.now in
-    let rank = c.tell_rank-status.new.rank in
-    let status = c.tell_rank-status.result in
+    let rank = c.copy_rank-status.new.rank in
+    let status = c.copy_rank-status.result in
     let fits : FitsSigned w32 status = search rules in
     rw (to_z-of_z w32 status fits)
     (subst (λ (o : Option TableModel). IsRanked o x rank status) (sym c.in-Some.ensures.taken)
-    (subst (λ (t : TableModel). IsRanked (Some t) x rank status) c.deref.ensures c.tell_rank-status.ensures))
+    (subst (λ (t : TableModel). IsRanked (Some t) x rank status) c.deref.ensures c.copy_rank-status.ensures))

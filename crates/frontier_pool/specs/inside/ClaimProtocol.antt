@@ -1,4 +1,4 @@
--- The rule of the table below a sweep, and what a step tells.
+-- The rule of the table below a sweep, and what a step shows.
 use Rattle.std.specs.Prelude.{◌≡◌, ℕ, zero, suc, ◌+◌, ◌≤◌, List, [], ◌∷◌, ◌++◌, length, slice_index, sum_by}
 use Rattle.atomic_table.specs.Table.{State, Step, Me}
 use Rattle.frontier_pool.specs.declared.rule.ClaimList.{ClaimList}
@@ -71,7 +71,7 @@ with_claim v item (suc before) = v
 abbrev pub Seated : Type 0
 Seated = Me (Unit {0}) SeatView
 
--- what a claim tells
+-- what a claim shows
 abbrev pub Claims : Step (Unit {0}) → Seated → ℕ → Seated → Type 0
 Claims s me found after = after ≡ (with_claim me.0 s.word found, me.1)
 
@@ -79,7 +79,7 @@ Claims s me found after = after ≡ (with_claim me.0 s.word found, me.1)
 abbrev pub IsAlone : SeatView → Type 0
 IsAlone v = v.made ≡ length v.claim_lists
 
--- what a claim by the caller tells: where it has all parts, the item stands in them once
+-- what a claim by the caller shows: where it has all parts, the item stands in them once
 pub record MakesFinalClaim (s : Step (Unit {0})) (me : Seated) (found : ℕ) (after : Seated) : Type 0 where
   pub claim : Claims s me found after
   pub once : IsAlone me.0 → claims s.word after.0 ≡ 1

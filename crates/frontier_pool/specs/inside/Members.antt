@@ -37,12 +37,12 @@ pub record IsSeat (table : TableId) (claim_list : List ℕ) (seat : SeatOf) : Ty
   pub worker : seat.table_id ≡ table
   pub me : seat.me ≡ (with_items member_view claim_list, [])
 
--- the room has such a seat
+-- the member has such a seat
 abbrev pub HasSeat : TableId → List ℕ → Option Local → Type 0
 HasSeat table claim_list None = ⊥
 HasSeat table claim_list (Some local) = IsSeat table claim_list local.seat
 
--- the parts of a room's seat
+-- the claims of a member's seat
 abbrev pub claim_lists_in : Option Local → List ClaimList
 claim_lists_in None = []
 claim_lists_in (Some local) = local.seat.me.0.claim_lists

@@ -58,7 +58,7 @@ with_one_less pair p = record { left = slice_set p.left pair (slice_index p.left
 abbrev pub after_cut : Game → ℕ → ℕ → Progress → Progress
 after_cut g pair rank p = if slice_index p.left pair - 1 == 0 then with_pair_done g pair rank (with_one_less pair p) else with_one_less pair p
 
--- a row tells the truth: rank 0 stands at a goal, and a higher one leads to lower ones
+-- a row is true: rank 0 stands at a goal, and a higher one leads to lower ones
 abbrev pub IsSoundRow : Game → List (Option Row) → ℕ → ℕ → ℕ → Type 0
 IsSoundRow g rows c zero u = (mark_of g c ≡ Goal) × (u ≡ 0)
 IsSoundRow g rows c (suc k) u = (mark_of g c ≢ Obstacle) × IsEnabled g c u × All (HasRowBelow rows (suc k)) (successors_of g c u)
@@ -98,7 +98,7 @@ pub record IsCounted (g : Game) (cut : ℕ → ℕ → Bool) (left : List ℕ) :
   pub one_each : length left ≡ pairs_of g
   pub counts : (pair : ℕ) → pair < pairs_of g → slice_index left pair ≡ count_by (λ s. not (cut pair s)) (successors_at g pair)
 
--- the rows are right as far as the cut successors tell
+-- the rows are right as far as the cut successors show
 pub record IsTold (g : Game) (cut : ℕ → ℕ → Bool) (top : ℕ) (rows : List (Option Row)) : Type 0 where
   pub one_each : length rows ≡ g.cells
   pub goals : (c : ℕ) → c < g.cells → mark_of g c ≡ Goal → IsGoalRow rows c

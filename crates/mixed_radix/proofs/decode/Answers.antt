@@ -2,11 +2,13 @@ use Rattle.std.proofs.Common.{◌≡◌, ◌≢◌, ℕ, ◌+◌, ◌-◌, ◌*�
 use Rattle.std.proofs.lemmas.Bool.{cases_lt}
 use Rattle.std.proofs.lemmas.List.{length-set, get_or-replicate, get_or_past}
 use Rattle.std.proofs.lemmas.Nat.{div-add-mod', mod_below}
+use Rattle.mixed_radix.specs.Radix.{AreDigits}
 use Rattle.mixed_radix.proofs.Steps.{joined, joined_all, some_count, rest_step, whole_number}
+use Rattle.mixed_radix.proofs.Numbers.{digit_after}
 use Rattle.mixed_radix.proofs.decode.Goals as goal
 
 pub split-quotient-requires : goal.split-quotient-requires
-split-quotient-requires c = omega (arith, some_count c.args.counts.now (c.loop-i.i - 1) (omega arith) (omega (arith, c.requires.below)))
+split-quotient-requires c = omega (arith, some_count c.args.counts.now (c.loop-i.i - 1) (omega arith) c.requires.some)
 
 zeros : (k : ℕ) → ◌≡◌ {A = ℕ} (get_or (replicate 6 0) k 0) 0
 zeros k = elim (cases_lt k 6) [ inl within ↦ get_or-replicate 6 k 0 0 within | inr past ↦ get_or_past (replicate 6 0) k 0 past ]
@@ -40,7 +42,7 @@ loop-i-preserved c =
     let back : i + 1 ≡ c.loop-i.i = omega arith in
     let within : i < length counts = omega arith in
     let short : i < length ds = omega (arith, so_far.six, c.requires.few) in
-    let count : 0 < get_or counts i 0 = some_count counts i within (omega (arith, c.requires.below)) in
+    let count : 0 < get_or counts i 0 = some_count counts i within c.requires.some in
     let is : c.split-quotient.result.0 * get_or counts i 0 + c.split-quotient.result.1 ≡ c.loop-i.rest =
     rw (parts.quotient, parts.left) (div-add-mod' c.loop-i.rest (get_or counts i 0))
     in
@@ -55,14 +57,18 @@ loop-i-preserved c =
 pub returns-clause-past : goal.returns-clause-past
 returns-clause-past c = c.loop-i.invariant.past
 
+pub returns-clause-each : goal.returns-clause-each
+returns-clause-each c =
+    let so_far = c.loop-i.invariant in
+    let done : c.loop-i.i ≡ 0 = omega arith in
+    let are : AreDigits c.args.counts.now c.loop-i.digits = record { long = omega (arith, so_far.six, c.requires.few); below = λ k lt. so_far.below k (omega (arith, done)) lt } in
+    λ k within. sym (digit_after c.args.counts.now c.loop-i.digits c.args.number c.loop-i.rest k are (ap (joined c.args.counts.now c.loop-i.digits c.loop-i.rest) (sym done) ∙ so_far.whole) within)
+
 pub returns-clause-digits : goal.returns-clause-digits
-returns-clause-digits c =
+returns-clause-digits c = λ below.
     let so_far = c.loop-i.invariant in
     let done : c.loop-i.i ≡ 0 = omega arith in
     record {
-      are = record {
-        long = omega (arith, so_far.six, c.requires.few);
-        below = λ k lt. so_far.below k (omega (arith, done)) lt;
-      };
-      number_is = whole_number c.args.counts.now c.loop-i.digits c.loop-i.rest c.args.number c.requires.below (ap (joined c.args.counts.now c.loop-i.digits c.loop-i.rest) (sym done) ∙ so_far.whole);
+      are = record { long = omega (arith, so_far.six, c.requires.few); below = λ k lt. so_far.below k (omega (arith, done)) lt };
+      number_is = whole_number c.args.counts.now c.loop-i.digits c.loop-i.rest c.args.number below (ap (joined c.args.counts.now c.loop-i.digits c.loop-i.rest) (sym done) ∙ so_far.whole);
     }

@@ -131,10 +131,10 @@ unfolding points_at
 points_again n before [] rest few short = ap (λ (ps : List (ℤ × ℤ)). Some (ps, rest)) (sym (append-nil before))
 points_again zero before (p ∷ more) rest few short = absurd (omega (arith, few))
 points_again (suc n) before (p ∷ more) rest few short =
-    let behind = flat_map point_kinds more ++ kind.Close ∷ rest in
-    let is : flat_map point_kinds (p ∷ more) ++ kind.Close ∷ rest ≡ kind.Comma ∷ (pair_kinds p ++ behind) = ap (λ (us : List TokenKind). kind.Comma ∷ us) (append_assoc (pair_kinds p) (flat_map point_kinds more) (kind.Close ∷ rest)) in
-    let later : points_at n (before ++ p ∷ []) behind ≡ Some ((before ++ p ∷ []) ++ more, rest) = points_again n (before ++ p ∷ []) more rest (omega (arith, few)) (All-tail IsShort p more short) in
-    ap (points_at (suc n) before) is ∙ rw (point_again p behind (All-head IsShort p more short)) (later ∙ ap (λ (ps : List (ℤ × ℤ)). Some (ps, rest)) (append_assoc before (p ∷ []) more))
+    let after = flat_map point_kinds more ++ kind.Close ∷ rest in
+    let is : flat_map point_kinds (p ∷ more) ++ kind.Close ∷ rest ≡ kind.Comma ∷ (pair_kinds p ++ after) = ap (λ (us : List TokenKind). kind.Comma ∷ us) (append_assoc (pair_kinds p) (flat_map point_kinds more) (kind.Close ∷ rest)) in
+    let later : points_at n (before ++ p ∷ []) after ≡ Some ((before ++ p ∷ []) ++ more, rest) = points_again n (before ++ p ∷ []) more rest (omega (arith, few)) (All-tail IsShort p more short) in
+    ap (points_at (suc n) before) is ∙ rw (point_again p after (All-head IsShort p more short)) (later ∙ ap (λ (ps : List (ℤ × ℤ)). Some (ps, rest)) (append_assoc before (p ∷ []) more))
 
 pub curve_takes : (ts : List TokenKind) (x : List (ℤ × ℤ) × List TokenKind) → curve_at ts ≡ Some x → (flat_map point_kinds x.0 ++ kind.Close ∷ x.1 ≡ ts) × IsCurve x.0
 unfolding curve_at

@@ -11,7 +11,7 @@ use Rattle.std.proofs.lemmas.Option.{slice_get_within, get_or_from_slice_get}
 use Rattle.plant_record.specs.Names.{is_letter, is_digit, is_name_byte, is_reserved, IsName}
 use Rattle.plant_reading.specs.declared.token_kind.TokenKind.{TokenKind}
 use Rattle.plant_reading.specs.declared.token_kind.TokenKind.TheVariants as kind
-use Rattle.plant_reading.specs.inside.TokenKinds.{AreNames, or_else, symbol_of, function_of, literal_of, position_in, number_kind, leaf_of, kind_of, spelling_of, IsKind}
+use Rattle.plant_reading.specs.inside.TokenKinds.{AreNames, or_else, parse_symbol, parse_function, parse_literal, position_in, number_kind, leaf_of, kind_of, spelling_of, IsKind}
 use Rattle.plant_reading.proofs.lemmas.Literals.{same, is_same, differs, first_differs, if_some, map_some, literal_again, literal_takes, digit_first}
 use Rattle.plant_reading.proofs.lemmas.NumberBytes.{no_name}
 
@@ -67,13 +67,13 @@ leaf_named names w i ok e =
     let position : position_in names w ≡ Some i = ap (position_in names) (sym (get_or_from_slice_get names i w [] e)) ∙ position_again names i ok.differ within in
     rw position refl
 
-pub leaf_unnamed : (names : List (List ℕ)) (w : List ℕ) (o : Option ℕ) → (Contains names w → ⊥) → o ≡ literal_of w → number_kind o ≡ leaf_of names w
+pub leaf_unnamed : (names : List (List ℕ)) (w : List ℕ) (o : Option ℕ) → (Contains names w → ⊥) → o ≡ parse_literal w → number_kind o ≡ leaf_of names w
 leaf_unnamed names w o h e = rw (placed_nowhere names w h, e) refl
 
 -- ---- what is spelled so has the kind
 
 -- a token that begins with a digit is no symbol and no function's name
-number_token : (w : List ℕ) → is_digit (get_or w 0 0) ≡ true → (symbol_of w ≡ None) × (function_of w ≡ None)
+number_token : (w : List ℕ) → is_digit (get_or w 0 0) ≡ true → (parse_symbol w ≡ None) × (parse_function w ≡ None)
 number_token w d =
     let unlike : (v : List ℕ) → is_digit (get_or v 0 0) ≡ false → bytes_eq w v ≡ false = λ v bare. first_differs is_digit w v d bare in (
       rw (unlike (codes "+") refl, unlike (codes "-") refl, unlike (codes "*") refl, unlike (codes "/") refl, unlike (codes "(") refl, unlike (codes ")") refl, unlike (codes ",") refl, unlike (codes ":") refl) refl,
@@ -85,7 +85,7 @@ not_true true e = absurd cc
 not_true false e = refl
 
 -- nor is a name
-name_token : (w : List ℕ) → IsName w → (symbol_of w ≡ None) × (function_of w ≡ None)
+name_token : (w : List ℕ) → IsName w → (parse_symbol w ≡ None) × (parse_function w ≡ None)
 name_token w name =
     let a = and_parts (is_letter (get_or w 0 0)) _ name in
     let b = and_parts (list_all is_name_byte w) _ a.1 in
@@ -118,36 +118,36 @@ found names w v s t o h later e =
       | inr l ↦ later l
     ]
 
-symbol_takes : (names : List (List ℕ)) (w : List ℕ) (t : TokenKind) → symbol_of w ≡ Some t → w ≡ spelling_of names t
+symbol_takes : (names : List (List ℕ)) (w : List ℕ) (t : TokenKind) → parse_symbol w ≡ Some t → w ≡ spelling_of names t
 symbol_takes names w t e =
-    found names w (codes "+") kind.Plus t _ refl (found names w (codes "-") kind.Minus t _ refl (found names w (codes "*") kind.Times t _ refl (found names w (codes "/") kind.Over t _ refl
+    found names w (codes "+") kind.Plus t _ refl (found names w (codes "-") kind.Minus t _ refl (found names w (codes "*") kind.Star t _ refl (found names w (codes "/") kind.Slash t _ refl
     (found names w (codes "(") kind.Open t _ refl (found names w (codes ")") kind.Close t _ refl (found names w (codes ",") kind.Comma t _ refl (found names w (codes ":") kind.Colon t None refl (λ none. absurd cc)))))))) e
 
-function_takes : (names : List (List ℕ)) (w : List ℕ) (t : TokenKind) → function_of w ≡ Some t → w ≡ spelling_of names t
+function_takes : (names : List (List ℕ)) (w : List ℕ) (t : TokenKind) → parse_function w ≡ Some t → w ≡ spelling_of names t
 function_takes names w t e =
     found names w (codes "min") kind.Min t _ refl (found names w (codes "max") kind.Max t _ refl (found names w (codes "abs") kind.Abs t _ refl (found names w (codes "lut") kind.Lut t None refl (λ none. absurd cc)))) e
 
-number_takes : (names : List (List ℕ)) (w : List ℕ) (o : Option ℕ) → literal_of w ≡ o → IsKind (length names) (number_kind o) → w ≡ spelling_of names (number_kind o)
+number_takes : (names : List (List ℕ)) (w : List ℕ) (o : Option ℕ) → parse_literal w ≡ o → IsKind (length names) (number_kind o) → w ≡ spelling_of names (number_kind o)
 number_takes names w None e h = absurd h
 number_takes names w (Some k) e h = (literal_takes w k e).1
 
 abbrev placed : List ℕ → Option ℕ → TokenKind
-placed w o = or_else o (number_kind (literal_of w)) (λ i. kind.Variable i)
+placed w o = or_else o (number_kind (parse_literal w)) (λ i. kind.Variable i)
 
 leaf_takes : (names : List (List ℕ)) (w : List ℕ) (o : Option ℕ) → position_in names w ≡ o → IsKind (length names) (placed w o) → w ≡ spelling_of names (placed w o)
-leaf_takes names w None e h = number_takes names w (literal_of w) refl h
+leaf_takes names w None e h = number_takes names w (parse_literal w) refl h
 leaf_takes names w (Some i) e h = sym (position_takes names w i e).1
 
 abbrev named : List (List ℕ) → List ℕ → Option TokenKind → TokenKind
 named names w o = or_else o (leaf_of names w) (λ t. t)
 
-word_takes : (names : List (List ℕ)) (w : List ℕ) (o : Option TokenKind) → function_of w ≡ o → IsKind (length names) (named names w o) → w ≡ spelling_of names (named names w o)
+word_takes : (names : List (List ℕ)) (w : List ℕ) (o : Option TokenKind) → parse_function w ≡ o → IsKind (length names) (named names w o) → w ≡ spelling_of names (named names w o)
 word_takes names w (Some t) e h = function_takes names w t e
 word_takes names w None e h = leaf_takes names w (position_in names w) refl h
 
-any_takes : (names : List (List ℕ)) (w : List ℕ) (o : Option TokenKind) → symbol_of w ≡ o → IsKind (length names) (or_else o (named names w (function_of w)) (λ t. t)) → w ≡ spelling_of names (or_else o (named names w (function_of w)) (λ t. t))
+any_takes : (names : List (List ℕ)) (w : List ℕ) (o : Option TokenKind) → parse_symbol w ≡ o → IsKind (length names) (or_else o (named names w (parse_function w)) (λ t. t)) → w ≡ spelling_of names (or_else o (named names w (parse_function w)) (λ t. t))
 any_takes names w (Some t) e h = symbol_takes names w t e
-any_takes names w None e h = word_takes names w (function_of w) refl h
+any_takes names w None e h = word_takes names w (parse_function w) refl h
 
 pub kind_takes : (names : List (List ℕ)) (w : List ℕ) → IsKind (length names) (kind_of names w) → w ≡ spelling_of names (kind_of names w)
-kind_takes names w h = any_takes names w (symbol_of w) refl h
+kind_takes names w h = any_takes names w (parse_symbol w) refl h

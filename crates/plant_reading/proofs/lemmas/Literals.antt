@@ -12,7 +12,7 @@ use Rattle.std.proofs.lemmas.Slice.Eq.{bytes_eq-Decides}
 use Rattle.plant_record.specs.Names.{is_digit}
 use Rattle.plant_record.specs.Numbers.{IsLiteral}
 use Rattle.plant_reading.specs.Words.{IsSpellingOf}
-use Rattle.plant_reading.specs.inside.TokenKinds.{literal_of}
+use Rattle.plant_reading.specs.inside.TokenKinds.{parse_literal}
 use Rattle.plant_reading.proofs.lemmas.NumberBytes.{decimal_digits, first_digit}
 use Rattle.plant_reading.proofs.lemmas.NumberWords.{one_number}
 
@@ -41,16 +41,16 @@ map_some f (Some a) y e = (a, refl, cc)
 
 -- ---- literals
 
-pub literal_again : (k : ℕ) → k < 10 ^ 18 → literal_of (decimal k) ≡ Some k
-unfolding literal_of
+pub literal_again : (k : ℕ) → k < 10 ^ 18 → parse_literal (decimal k) ≡ Some k
+unfolding parse_literal
 literal_again k lt =
     let value : digits_value 10 (decimal k) ≡ k = (decimal_is_IsNumeral k (omega arith)).1 in
     let alike : bytes_eq (decimal k) (decimal k) ≡ true = is_same (decimal k) (decimal k) refl in
     let small : ltb k (10 ^ 18) ≡ true = lt-ltb _ _ lt in
     rw (value, alike, small) refl
 
-pub literal_takes : (w : List ℕ) (k : ℕ) → literal_of w ≡ Some k → (k < 10 ^ 18) × (w ≡ decimal k)
-unfolding literal_of
+pub literal_takes : (w : List ℕ) (k : ℕ) → parse_literal w ≡ Some k → (k < 10 ^ 18) × (w ≡ decimal k)
+unfolding parse_literal
 literal_takes w k e =
     let n = digits_value 10 w in
     elim (if_some (bytes_eq (decimal n) w && ltb n (10 ^ 18)) n None k e) [
@@ -60,23 +60,23 @@ literal_takes w k e =
       | inr none ↦ absurd cc
     ]
 
-no_literal : (w : List ℕ) → ((k : ℕ) → k < 10 ^ 18 → w ≡ decimal k → ⊥) → literal_of w ≡ None
-no_literal w h = none_if (literal_of w) (λ k e. let t = literal_takes w k e in h k t.0 t.1)
+no_literal : (w : List ℕ) → ((k : ℕ) → k < 10 ^ 18 → w ≡ decimal k → ⊥) → parse_literal w ≡ None
+no_literal w h = none_if (parse_literal w) (λ k e. let t = literal_takes w k e in h k t.0 t.1)
   where
     none_if : (o : Option ℕ) → ((k : ℕ) → o ≡ Some k → ⊥) → o ≡ None
     none_if None h = refl
     none_if (Some k) h = absurd (h k refl)
 
 -- what a number of the least spelling is read as
-pub literal_written : (w : List ℕ) (z : ℤ) → pos 0 ≤ℤ z → IsLiteral z → w ≡ signed_decimal z → literal_of w ≡ Some (nat_abs z)
-literal_written w (pos k) sign lt e = ap literal_of e ∙ literal_again k lt
+pub literal_written : (w : List ℕ) (z : ℤ) → pos 0 ≤ℤ z → IsLiteral z → w ≡ signed_decimal z → parse_literal w ≡ Some (nat_abs z)
+literal_written w (pos k) sign lt e = ap parse_literal e ∙ literal_again k lt
 literal_written w (negsuc k) sign lt e = absurd (omega (arith, ints))
 
 -- no number, where the token is the spelling of none, or of one below 0
-pub unspelled : (w : List ℕ) → ((z : ℤ) → IsSpellingOf z w → ⊥) → literal_of w ≡ None
+pub unspelled : (w : List ℕ) → ((z : ℤ) → IsSpellingOf z w → ⊥) → parse_literal w ≡ None
 unspelled w none = no_literal w (λ k lt e. none (pos k) (lt, e))
 
-pub below_zero : (w : List ℕ) (z : ℤ) → IsSpellingOf z w → z ≤ℤ negsuc 0 → literal_of w ≡ None
+pub below_zero : (w : List ℕ) (z : ℤ) → IsSpellingOf z w → z ≤ℤ negsuc 0 → parse_literal w ≡ None
 below_zero w z spelled below = no_literal w (λ k lt e. let same : z ≡ pos k = one_number z (pos k) spelled.0 lt (sym spelled.1 ∙ e) in omega (arith, ints, below, same))
 
 pub digit_first : (k : ℕ) → k < 10 ^ 18 → is_digit (get_or (decimal k) 0 0) ≡ true

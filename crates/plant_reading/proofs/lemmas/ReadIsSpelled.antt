@@ -68,15 +68,15 @@ less m b start ts rest a x e p q h =
     let k = kept_is (SubExpr a x) e h in
     record { tree = SubTree p.tree q.tree; grammatical = (p.grammatical, q.grammatical, q.level); level = omega arith; means = cc (p.means, q.means, k.0); yields = between (kinds_of p.tree) (kinds_of q.tree) rest ts start kind.Minus p.yields q.yields; brackets = omega (arith, p.brackets, q.brackets); small = k.1 }
 
-times : (m b : ℕ) (start ts rest : List TokenKind) (a x e : Expression) → Spells m 2 b start (a, kind.Times ∷ ts) → Spells m 3 b ts (x, rest) → kept (MulExpr a x) ≡ Some e → Spells m 2 b start (e, rest)
+times : (m b : ℕ) (start ts rest : List TokenKind) (a x e : Expression) → Spells m 2 b start (a, kind.Star ∷ ts) → Spells m 3 b ts (x, rest) → kept (MulExpr a x) ≡ Some e → Spells m 2 b start (e, rest)
 times m b start ts rest a x e p q h =
     let k = kept_is (MulExpr a x) e h in
-    record { tree = MulTree p.tree q.tree; grammatical = (p.grammatical, p.level, q.grammatical, q.level); level = omega arith; means = cc (p.means, q.means, k.0); yields = between (kinds_of p.tree) (kinds_of q.tree) rest ts start kind.Times p.yields q.yields; brackets = omega (arith, p.brackets, q.brackets); small = k.1 }
+    record { tree = MulTree p.tree q.tree; grammatical = (p.grammatical, p.level, q.grammatical, q.level); level = omega arith; means = cc (p.means, q.means, k.0); yields = between (kinds_of p.tree) (kinds_of q.tree) rest ts start kind.Star p.yields q.yields; brackets = omega (arith, p.brackets, q.brackets); small = k.1 }
 
-over : (m b k : ℕ) (start ts rest : List TokenKind) (a e : Expression) → Spells m 2 b start (a, kind.Over ∷ ts) → (ts ≡ kind.Number k ∷ rest) × (1 ≤ k) × (k < 10 ^ 18) → kept (DivExpr a (pos k)) ≡ Some e → Spells m 2 b start (e, rest)
+over : (m b k : ℕ) (start ts rest : List TokenKind) (a e : Expression) → Spells m 2 b start (a, kind.Slash ∷ ts) → (ts ≡ kind.Number k ∷ rest) × (1 ≤ k) × (k < 10 ^ 18) → kept (DivExpr a (pos k)) ≡ Some e → Spells m 2 b start (e, rest)
 over m b k start ts rest a e p d h =
     let i = kept_is (DivExpr a (pos k)) e h in
-    record { tree = DivTree p.tree k; grammatical = (p.grammatical, p.level, d.1, d.2); level = omega arith; means = cc (p.means, i.0); yields = between (kinds_of p.tree) (kind.Number k ∷ []) rest ts start kind.Over p.yields (sym d.0); brackets = p.brackets; small = i.1 }
+    record { tree = DivTree p.tree k; grammatical = (p.grammatical, p.level, d.1, d.2); level = omega arith; means = cc (p.means, i.0); yields = between (kinds_of p.tree) (kind.Number k ∷ []) rest ts start kind.Slash p.yields (sym d.0); brackets = p.brackets; small = i.1 }
 
 -- ---- factors
 
@@ -95,9 +95,9 @@ comma_takes ts rest e = absurd cc
 -- the same with the bracket that closes
 record Closed (m b : ℕ) (ts : List TokenKind) (y : Expression × List TokenKind) : Type 0 where
   some : 1 ≤ b
-  behind : List TokenKind
-  close : behind ≡ kind.Close ∷ y.1
-  sum : Spells m 1 (b - 1) ts (y.0, behind)
+  after : List TokenKind
+  close : after ≡ kind.Close ∷ y.1
+  sum : Spells m 1 (b - 1) ts (y.0, after)
 
 closed_sound : (m b : ℕ) (r : Ask → Read) (ts : List TokenKind) (y : Expression × List TokenKind) → IsSound m r → bracketed r b ts ≡ Some y → Closed m b ts y
 unfolding bracketed
@@ -106,11 +106,11 @@ closed_sound m b r ts y s e =
     let c = then_some (after_close a.0.1) (λ rest. Some (a.0.0, rest)) y a.2 in
     let q : ◌≡◌ {A = Expression × List TokenKind} (a.0.0, c.0) y = cc c.2 in
     let i = s (Inside b ts) a.0 a.1 in
-    subst (Closed m b ts) q (record { some = i.some; behind = a.0.1; close = close_takes a.0.1 c.0 c.1; sum = i.sum })
+    subst (Closed m b ts) q (record { some = i.some; after = a.0.1; close = close_takes a.0.1 c.0 c.1; sum = i.sum })
 
 -- the tokens of a sum and the bracket that closes
-with_close : (u rest behind ts : List TokenKind) → u ++ behind ≡ ts → behind ≡ kind.Close ∷ rest → (u ++ kind.Close ∷ []) ++ rest ≡ ts
-with_close u rest behind ts is close = append_assoc u (kind.Close ∷ []) rest ∙ ap (λ (us : List TokenKind). u ++ us) (sym close) ∙ is
+with_close : (u rest after ts : List TokenKind) → u ++ after ≡ ts → after ≡ kind.Close ∷ rest → (u ++ kind.Close ∷ []) ++ rest ≡ ts
+with_close u rest after ts is close = append_assoc u (kind.Close ∷ []) rest ∙ ap (λ (us : List TokenKind). u ++ us) (sym close) ∙ is
 
 -- Two sums in brackets.
 record Pair (m b : ℕ) (ts : List TokenKind) (y : Expression × Expression × List TokenKind) : Type 0 where
@@ -135,9 +135,9 @@ pair_sound m b r ts y s e =
     subst (Pair m b ts) q (record { some = i.some; rest = k.0; inner = o.0; opened = open_takes ts o.0 o.1; first = first; second = closed_sound m b r k.0 c.0 s c.1 })
 
 -- the tokens of two sums in brackets
-pair_spelled : (u v rest ts inner behind mid : List TokenKind) → ts ≡ kind.Open ∷ inner → u ++ kind.Comma ∷ mid ≡ inner → v ++ behind ≡ mid → behind ≡ kind.Close ∷ rest → (kind.Open ∷ (u ++ kind.Comma ∷ (v ++ kind.Close ∷ []))) ++ rest ≡ ts
-pair_spelled u v rest ts inner behind mid opened first second close =
-    ap (λ (us : List TokenKind). kind.Open ∷ us) (between u (v ++ kind.Close ∷ []) rest mid inner kind.Comma first (with_close v rest behind mid second close)) ∙ sym opened
+pair_spelled : (u v rest ts inner after mid : List TokenKind) → ts ≡ kind.Open ∷ inner → u ++ kind.Comma ∷ mid ≡ inner → v ++ after ≡ mid → after ≡ kind.Close ∷ rest → (kind.Open ∷ (u ++ kind.Comma ∷ (v ++ kind.Close ∷ []))) ++ rest ≡ ts
+pair_spelled u v rest ts inner after mid opened first second close =
+    ap (λ (us : List TokenKind). kind.Open ∷ us) (between u (v ++ kind.Close ∷ []) rest mid inner kind.Comma first (with_close v rest after mid second close)) ∙ sym opened
 
 least : (m b : ℕ) (ts : List TokenKind) (y : Expression × Expression × List TokenKind) (e : Expression) → Pair m b ts y → kept (MinExpr y.0 y.1) ≡ Some e → Spells m 3 b (kind.Min ∷ ts) (e, y.2)
 least m b ts y e p h =
@@ -145,7 +145,7 @@ least m b ts y e p h =
     let f = p.first in
     let c = p.second in
     let g = c.sum in
-    record { tree = MinTree f.tree g.tree; grammatical = (f.grammatical, g.grammatical); level = omega arith; means = cc (f.means, g.means, k.0); yields = ap (λ (us : List TokenKind). kind.Min ∷ us) (pair_spelled (kinds_of f.tree) (kinds_of g.tree) y.2 ts p.inner c.behind p.rest p.opened f.yields g.yields c.close); brackets = omega (arith, p.some, f.brackets, g.brackets); small = k.1 }
+    record { tree = MinTree f.tree g.tree; grammatical = (f.grammatical, g.grammatical); level = omega arith; means = cc (f.means, g.means, k.0); yields = ap (λ (us : List TokenKind). kind.Min ∷ us) (pair_spelled (kinds_of f.tree) (kinds_of g.tree) y.2 ts p.inner c.after p.rest p.opened f.yields g.yields c.close); brackets = omega (arith, p.some, f.brackets, g.brackets); small = k.1 }
 
 greatest : (m b : ℕ) (ts : List TokenKind) (y : Expression × Expression × List TokenKind) (e : Expression) → Pair m b ts y → kept (MaxExpr y.0 y.1) ≡ Some e → Spells m 3 b (kind.Max ∷ ts) (e, y.2)
 greatest m b ts y e p h =
@@ -153,11 +153,11 @@ greatest m b ts y e p h =
     let f = p.first in
     let c = p.second in
     let g = c.sum in
-    record { tree = MaxTree f.tree g.tree; grammatical = (f.grammatical, g.grammatical); level = omega arith; means = cc (f.means, g.means, k.0); yields = ap (λ (us : List TokenKind). kind.Max ∷ us) (pair_spelled (kinds_of f.tree) (kinds_of g.tree) y.2 ts p.inner c.behind p.rest p.opened f.yields g.yields c.close); brackets = omega (arith, p.some, f.brackets, g.brackets); small = k.1 }
+    record { tree = MaxTree f.tree g.tree; grammatical = (f.grammatical, g.grammatical); level = omega arith; means = cc (f.means, g.means, k.0); yields = ap (λ (us : List TokenKind). kind.Max ∷ us) (pair_spelled (kinds_of f.tree) (kinds_of g.tree) y.2 ts p.inner c.after p.rest p.opened f.yields g.yields c.close); brackets = omega (arith, p.some, f.brackets, g.brackets); small = k.1 }
 
 -- the tokens of a table behind its word
-table_spelled : (u v rest inner behind ts : List TokenKind) → v ++ kind.Close ∷ rest ≡ behind → u ++ behind ≡ inner → ts ≡ kind.Open ∷ inner → (kind.Lut ∷ kind.Open ∷ (u ++ (v ++ kind.Close ∷ []))) ++ rest ≡ kind.Lut ∷ ts
-table_spelled u v rest inner behind ts points sum opened =
+table_spelled : (u v rest inner after ts : List TokenKind) → v ++ kind.Close ∷ rest ≡ after → u ++ after ≡ inner → ts ≡ kind.Open ∷ inner → (kind.Lut ∷ kind.Open ∷ (u ++ (v ++ kind.Close ∷ []))) ++ rest ≡ kind.Lut ∷ ts
+table_spelled u v rest inner after ts points sum opened =
     ap (λ (us : List TokenKind). kind.Lut ∷ us) (ap (λ (us : List TokenKind). kind.Open ∷ us) (append_assoc u (v ++ kind.Close ∷ []) rest ∙ ap (λ (us : List TokenKind). u ++ us) (append_assoc v (kind.Close ∷ []) rest ∙ points) ∙ sum) ∙ sym opened)
 
 factor_sound : (m b : ℕ) (r : Ask → Read) (ts : List TokenKind) (y : Expression × List TokenKind) → IsSound m r → factor_of m r b ts ≡ Some y → Spells m 3 b ts y
@@ -180,7 +180,7 @@ factor_sound m b r (kind.Minus ∷ ts) y s e =
 factor_sound m b r (kind.Open ∷ ts) y s e =
     let c = closed_sound m b r ts y s e in
     let f = c.sum in
-    record { tree = ParenTree f.tree; grammatical = f.grammatical; level = omega arith; means = f.means; yields = ap (λ (us : List TokenKind). kind.Open ∷ us) (with_close (kinds_of f.tree) y.1 c.behind ts f.yields c.close); brackets = omega (arith, c.some, f.brackets); small = f.small }
+    record { tree = ParenTree f.tree; grammatical = f.grammatical; level = omega arith; means = f.means; yields = ap (λ (us : List TokenKind). kind.Open ∷ us) (with_close (kinds_of f.tree) y.1 c.after ts f.yields c.close); brackets = omega (arith, c.some, f.brackets); small = f.small }
 factor_sound m b r (kind.Min ∷ ts) y s e =
     let x = then_some (pair_of r b ts) (λ x. kept (MinExpr x.0 x.1) >>= λ c. Some (c, x.2)) y e in
     let h = then_some (kept (MinExpr x.0.0 x.0.1)) (λ c. Some (c, x.0.2)) y x.2 in
@@ -200,7 +200,7 @@ factor_sound m b r (kind.Abs ∷ ts) y s e =
     let c = closed_sound m b r o.0 a.0 s a.1 in
     let f = c.sum in
     let opened = open_takes ts o.0 o.1 in
-    subst (Spells m 3 b (kind.Abs ∷ ts)) q (record { tree = AbsTree f.tree; grammatical = f.grammatical; level = omega arith; means = cc (f.means, k.0); yields = ap (λ (us : List TokenKind). kind.Abs ∷ us) (ap (λ (us : List TokenKind). kind.Open ∷ us) (with_close (kinds_of f.tree) a.0.1 c.behind o.0 f.yields c.close) ∙ sym opened); brackets = omega (arith, c.some, f.brackets); small = k.1 })
+    subst (Spells m 3 b (kind.Abs ∷ ts)) q (record { tree = AbsTree f.tree; grammatical = f.grammatical; level = omega arith; means = cc (f.means, k.0); yields = ap (λ (us : List TokenKind). kind.Abs ∷ us) (ap (λ (us : List TokenKind). kind.Open ∷ us) (with_close (kinds_of f.tree) a.0.1 c.after o.0 f.yields c.close) ∙ sym opened); brackets = omega (arith, c.some, f.brackets); small = k.1 })
 factor_sound m b r (kind.Lut ∷ ts) y s e =
     let o = then_some (after_open ts) (λ o. r (Inside b o) >>= λ a. curve_at a.1 >>= λ p. kept (LutExpr a.0 p.0) >>= λ c. Some (c, p.1)) y e in
     let a = then_some (r (Inside b o.0)) (λ a. curve_at a.1 >>= λ p. kept (LutExpr a.0 p.0) >>= λ c. Some (c, p.1)) y o.2 in
@@ -219,11 +219,11 @@ factor_sound m b r ts y s e = absurd cc
 
 after_term_sound : (m b : ℕ) (r : Ask → Read) (a : Expression) (ts : List TokenKind) (y : Expression × List TokenKind) → IsSound m r → after_term m r b a ts ≡ Some y → (start : List TokenKind) → Spells m 2 b start (a, ts) → Spells m 2 b start y
 unfolding after_term
-after_term_sound m b r a (kind.Times ∷ ts) y s e start p =
+after_term_sound m b r a (kind.Star ∷ ts) y s e start p =
     let x = then_some (factor_of m r b ts) (λ x. kept (MulExpr a x.0) >>= λ c. r (RestOfTerm b c x.1)) y e in
     let k = then_some (kept (MulExpr a x.0.0)) (λ c. r (RestOfTerm b c x.0.1)) y x.2 in
     s (RestOfTerm b k.0 x.0.1) y k.2 start (times m b start ts x.0.1 a x.0.0 k.0 p (factor_sound m b r ts x.0 s x.1) k.1)
-after_term_sound m b r a (kind.Over ∷ ts) y s e start p =
+after_term_sound m b r a (kind.Slash ∷ ts) y s e start p =
     let x = then_some (divisor_at ts) (λ x. kept (DivExpr a (pos x.0)) >>= λ c. r (RestOfTerm b c x.1)) y e in
     let k = then_some (kept (DivExpr a (pos x.0.0))) (λ c. r (RestOfTerm b c x.0.1)) y x.2 in
     s (RestOfTerm b k.0 x.0.1) y k.2 start (over m b x.0.0 start ts x.0.1 a k.0 p (divisor_takes ts x.0 x.1) k.1)

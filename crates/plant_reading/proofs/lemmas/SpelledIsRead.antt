@@ -25,8 +25,8 @@ kept_small e s =
 abbrev pub Stops : ℕ → List TokenKind → Type 0
 Stops l (kind.Plus ∷ ts) = 2 ≤ l
 Stops l (kind.Minus ∷ ts) = 2 ≤ l
-Stops l (kind.Times ∷ ts) = 3 ≤ l
-Stops l (kind.Over ∷ ts) = 3 ≤ l
+Stops l (kind.Star ∷ ts) = 3 ≤ l
+Stops l (kind.Slash ∷ ts) = 3 ≤ l
 Stops l ts = Unit {0}
 
 sum_stops : (m b : ℕ) (r : Ask → Read) (a : Expression) (ts : List TokenKind) → Stops 1 ts → after_sum m r b a ts ≡ Some (a, ts)
@@ -37,8 +37,8 @@ sum_stops m b r a ts h = refl
 
 term_stops : (m b : ℕ) (r : Ask → Read) (a : Expression) (ts : List TokenKind) → Stops 2 ts → after_term m r b a ts ≡ Some (a, ts)
 unfolding after_term
-term_stops m b r a (kind.Times ∷ ts) h = absurd (omega arith)
-term_stops m b r a (kind.Over ∷ ts) h = absurd (omega arith)
+term_stops m b r a (kind.Star ∷ ts) h = absurd (omega arith)
+term_stops m b r a (kind.Slash ∷ ts) h = absurd (omega arith)
 term_stops m b r a ts h = refl
 
 points_stop : (l : ℕ) (points : List (ℤ × ℤ)) (rest : List TokenKind) → Stops l (flat_map point_kinds points ++ kind.Close ∷ rest)
@@ -132,16 +132,16 @@ times_takes : (m : ℕ) (a c : Syntax) → TakesTerm m a → TakesFactor m c →
 unfolding after_term step
 times_takes m a c f g s b e n rest y br h cost need =
     let made = MulExpr (meaning_of a) (meaning_of c) in
-    rw (append_assoc (kinds_of a) (kind.Times ∷ kinds_of c) rest)
-    (f b (n - nodes_of (meaning_of a)) n (kind.Times ∷ (kinds_of c ++ rest)) y (omega arith)
+    rw (append_assoc (kinds_of a) (kind.Star ∷ kinds_of c) rest)
+    (f b (n - nodes_of (meaning_of a)) n (kind.Star ∷ (kinds_of c ++ rest)) y (omega arith)
     (λ k le. rw (g b k rest (omega arith) (omega arith), kept_small made s, read_more m k (RestOfTerm b made rest) (omega arith)) (h (k - 1) (omega arith))) (omega arith) (omega arith))
 
 over_takes : (m : ℕ) (a : Syntax) (i : ℕ) → TakesTerm m a → 1 ≤ i → i < 10 ^ 18 → IsSmall (DivExpr (meaning_of a) (pos i)) → TakesTerm m (DivTree a i)
 unfolding after_term step
 over_takes m a i f some short s b e n rest y br h cost need =
     let made = DivExpr (meaning_of a) (pos i) in
-    rw (append_assoc (kinds_of a) (kind.Over ∷ kind.Number i ∷ []) rest)
-    (f b (n - nodes_of (meaning_of a)) n (kind.Over ∷ kind.Number i ∷ rest) y br
+    rw (append_assoc (kinds_of a) (kind.Slash ∷ kind.Number i ∷ []) rest)
+    (f b (n - nodes_of (meaning_of a)) n (kind.Slash ∷ kind.Number i ∷ rest) y br
     (λ k le. rw (divisor_again i rest some short, kept_small made s, read_more m k (RestOfTerm b made rest) (omega arith)) (h (k - 1) (omega arith))) (omega arith) (omega arith))
 
 plus_takes : (m : ℕ) (a c : Syntax) → TakesSum m a → TakesTerm m c → IsSmall (AddExpr (meaning_of a) (meaning_of c)) → TakesSum m (AddTree a c)

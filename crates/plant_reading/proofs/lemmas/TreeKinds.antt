@@ -45,8 +45,8 @@ module _ (names : List (List ℕ)) where
   yields_same (NegTree a) = then kind.Minus _ _ (yields_same a)
   yields_same (AddTree a b) = both (kinds_of a) (kind.Plus ∷ kinds_of b) _ _ (yields_same a) (then kind.Plus _ _ (yields_same b))
   yields_same (SubTree a b) = both (kinds_of a) (kind.Minus ∷ kinds_of b) _ _ (yields_same a) (then kind.Minus _ _ (yields_same b))
-  yields_same (MulTree a b) = both (kinds_of a) (kind.Times ∷ kinds_of b) _ _ (yields_same a) (then kind.Times _ _ (yields_same b))
-  yields_same (DivTree a k) = both (kinds_of a) (kind.Over ∷ kind.Number k ∷ []) _ _ (yields_same a) refl
+  yields_same (MulTree a b) = both (kinds_of a) (kind.Star ∷ kinds_of b) _ _ (yields_same a) (then kind.Star _ _ (yields_same b))
+  yields_same (DivTree a k) = both (kinds_of a) (kind.Slash ∷ kind.Number k ∷ []) _ _ (yields_same a) refl
   yields_same (MinTree a b) = ap (λ (z : List (List ℕ)). codes "min" ∷ codes "(" ∷ z) (append_assoc (yield_of names a) (codes "," ∷ yield_of names b) (codes ")" ∷ []))
       ∙ then kind.Min _ (kind.Open ∷ (kinds_of a ++ kind.Comma ∷ (kinds_of b ++ kind.Close ∷ []))) (then kind.Open _ _ (both (kinds_of a) (kind.Comma ∷ (kinds_of b ++ kind.Close ∷ [])) _ _ (yields_same a) (then kind.Comma _ _ (closed _ (kinds_of b) (yields_same b)))))
   yields_same (MaxTree a b) = ap (λ (z : List (List ℕ)). codes "max" ∷ codes "(" ∷ z) (append_assoc (yield_of names a) (codes "," ∷ yield_of names b) (codes ")" ∷ []))
@@ -83,8 +83,8 @@ module _ (m : ℕ) where
   kinds_are (NegTree a) g = (tt, kinds_are a g.0)
   kinds_are (AddTree a b) g = are_both (kinds_of a) (kind.Plus ∷ kinds_of b) (kinds_are a g.0) (tt, kinds_are b g.1)
   kinds_are (SubTree a b) g = are_both (kinds_of a) (kind.Minus ∷ kinds_of b) (kinds_are a g.0) (tt, kinds_are b g.1)
-  kinds_are (MulTree a b) g = are_both (kinds_of a) (kind.Times ∷ kinds_of b) (kinds_are a g.0) (tt, kinds_are b g.2)
-  kinds_are (DivTree a k) g = are_both (kinds_of a) (kind.Over ∷ kind.Number k ∷ []) (kinds_are a g.0) (tt, (g.3, tt))
+  kinds_are (MulTree a b) g = are_both (kinds_of a) (kind.Star ∷ kinds_of b) (kinds_are a g.0) (tt, kinds_are b g.2)
+  kinds_are (DivTree a k) g = are_both (kinds_of a) (kind.Slash ∷ kind.Number k ∷ []) (kinds_are a g.0) (tt, (g.3, tt))
   kinds_are (MinTree a b) g = (tt, (tt, are_both (kinds_of a) (kind.Comma ∷ (kinds_of b ++ kind.Close ∷ [])) (kinds_are a g.0) (tt, are_closed (kinds_of b) (kinds_are b g.1))))
   kinds_are (MaxTree a b) g = (tt, (tt, are_both (kinds_of a) (kind.Comma ∷ (kinds_of b ++ kind.Close ∷ [])) (kinds_are a g.0) (tt, are_closed (kinds_of b) (kinds_are b g.1))))
   kinds_are (AbsTree a) g = (tt, (tt, are_closed (kinds_of a) (kinds_are a g)))

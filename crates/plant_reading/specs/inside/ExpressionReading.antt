@@ -166,11 +166,11 @@ factor_of m r b ts = None
 
 -- what stands after a term goes on with it, or it ends there
 unfoldable pub after_term : ℕ → (Ask → Read) → ℕ → Expression → List TokenKind → Read
-after_term m r b a (kind.Times ∷ ts) = do
+after_term m r b a (kind.Star ∷ ts) = do
   x ← factor_of m r b ts
   e ← kept (MulExpr a x.0)
   r (RestOfTerm b e x.1)
-after_term m r b a (kind.Over ∷ ts) = do
+after_term m r b a (kind.Slash ∷ ts) = do
   k ← divisor_at ts
   e ← kept (DivExpr a (pos k.0))
   r (RestOfTerm b e k.1)

@@ -23,27 +23,27 @@ or_else None d f = d
 or_else (Some x) d f = f x
 
 -- the kind of a symbol, and that of a function's name
-abbrev pub symbol_of : List ℕ → Option TokenKind
-symbol_of token =
+abbrev pub parse_symbol : List ℕ → Option TokenKind
+parse_symbol token =
     if bytes_eq token (codes "+") then Some kind.Plus
     else (if bytes_eq token (codes "-") then Some kind.Minus
-    else (if bytes_eq token (codes "*") then Some kind.Times
-    else (if bytes_eq token (codes "/") then Some kind.Over
+    else (if bytes_eq token (codes "*") then Some kind.Star
+    else (if bytes_eq token (codes "/") then Some kind.Slash
     else (if bytes_eq token (codes "(") then Some kind.Open
     else (if bytes_eq token (codes ")") then Some kind.Close
     else (if bytes_eq token (codes ",") then Some kind.Comma
     else (if bytes_eq token (codes ":") then Some kind.Colon else None)))))))
 
-abbrev pub function_of : List ℕ → Option TokenKind
-function_of token =
+abbrev pub parse_function : List ℕ → Option TokenKind
+parse_function token =
     if bytes_eq token (codes "min") then Some kind.Min
     else (if bytes_eq token (codes "max") then Some kind.Max
     else (if bytes_eq token (codes "abs") then Some kind.Abs
     else (if bytes_eq token (codes "lut") then Some kind.Lut else None)))
 
 -- the number that a token spells in its one spelling
-unfoldable pub literal_of : List ℕ → Option ℕ
-literal_of token = if bytes_eq (decimal (digits_value 10 token)) token && nat_lt (digits_value 10 token) NUMBER_LIMIT then Some (digits_value 10 token) else None
+unfoldable pub parse_literal : List ℕ → Option ℕ
+parse_literal token = if bytes_eq (decimal (digits_value 10 token)) token && nat_lt (digits_value 10 token) NUMBER_LIMIT then Some (digits_value 10 token) else None
 
 -- the position of a name
 abbrev pub position_in : List (List ℕ) → List ℕ → Option ℕ
@@ -56,11 +56,11 @@ number_kind o = or_else o kind.Other (λ k. kind.Number k)
 
 -- a variable or a number
 abbrev pub leaf_of : List (List ℕ) → List ℕ → TokenKind
-leaf_of names token = or_else (position_in names token) (number_kind (literal_of token)) (λ i. kind.Variable i)
+leaf_of names token = or_else (position_in names token) (number_kind (parse_literal token)) (λ i. kind.Variable i)
 
 -- a symbol, a function's name, or a leaf
 abbrev pub kind_of : List (List ℕ) → List ℕ → TokenKind
-kind_of names token = or_else (symbol_of token) (or_else (function_of token) (leaf_of names token) (λ t. t)) (λ t. t)
+kind_of names token = or_else (parse_symbol token) (or_else (parse_function token) (leaf_of names token) (λ t. t)) (λ t. t)
 
 -- the kinds of tokens, over variables of these names
 abbrev pub kinds_among : List (List ℕ) → List (List ℕ) → List TokenKind
@@ -74,8 +74,8 @@ spelling_of names (kind.Number k) = decimal k
 spelling_of names (kind.Variable i) = slice_index_or names i []
 spelling_of names kind.Plus = codes "+"
 spelling_of names kind.Minus = codes "-"
-spelling_of names kind.Times = codes "*"
-spelling_of names kind.Over = codes "/"
+spelling_of names kind.Star = codes "*"
+spelling_of names kind.Slash = codes "/"
 spelling_of names kind.Open = codes "("
 spelling_of names kind.Close = codes ")"
 spelling_of names kind.Comma = codes ","

@@ -8,10 +8,10 @@ ghost use Rattle.plant_reading.specs.inside.WordReaders.{Finds, StartsWithName, 
 use crate::line_fault::LineFault;
 use crate::words::blanks::next_word;
 use crate::words::names::is_name;
-use crate::words::numbers::number_of;
+use crate::words::numbers::parse_number;
 
 /// The next word, which has to be a name.
-pub fn name_in(bytes: &[u8]) -> Result<(&[u8], &[u8]), LineFault>
+pub fn take_name(bytes: &[u8]) -> Result<(&[u8], &[u8]), LineFault>
     ensures { Finds (λ r. (r.0.now, words_of r.1.now)) (StartsWithName (words_of bytes.now)) result }
 {
     match next_word(bytes) {
@@ -21,7 +21,7 @@ pub fn name_in(bytes: &[u8]) -> Result<(&[u8], &[u8]), LineFault>
 }
 
 /// The next word, which has to be a number.
-pub fn number_in(bytes: &[u8]) -> Result<(i128, &[u8]), LineFault>
+pub fn take_number(bytes: &[u8]) -> Result<(i128, &[u8]), LineFault>
     ensures { Finds (λ r. (r.0, words_of r.1.now)) (StartsWithNumber (words_of bytes.now)) result }
 {
     match next_word(bytes) {
@@ -34,7 +34,7 @@ pub fn number_in(bytes: &[u8]) -> Result<(i128, &[u8]), LineFault>
 pub fn expect_number(word: &[u8]) -> Result<i128, LineFault>
     ensures { Finds (λ z. z) (λ z. IsSpellingOf z word.now) result }
 {
-    match number_of(word) {
+    match parse_number(word) {
         Some(z) => Ok(i128::from(z)),
         None => Err(LineFault::Malformed),
     }

@@ -10,7 +10,7 @@ use itoa::Buffer;
 use std::str;
 
 /// The number that a word spells in its one spelling, with at most 18 digits: None where it spells none.
-pub fn number_of(word: &[u8]) -> Option<i64>
+pub fn parse_number(word: &[u8]) -> Option<i64>
     ensures { MatchOption result ((z : ℤ) → IsSpellingOf z word.now → ⊥) (λ z. IsSpellingOf z word.now) }
 {
     match parsed(word) {

@@ -1,4 +1,4 @@
--- The place of a name among those of states, inputs and noises.
+-- The position of a name among those of states, inputs and noises.
 use Rattle.std.proofs.lemmas.Bool.{cases_Bool}
 use Rattle.std.proofs.Common.{◌≡◌, ℕ, zero, suc, ◌+◌, Bool, true, List, [], ◌∷◌, ◌++◌, length, get_or, Option, Some, None, refl, sym, ap, ◌∙◌, arith, inl, inr}
 use Rattle.std.specs.Prelude.{position, slice_get, map, Contains}

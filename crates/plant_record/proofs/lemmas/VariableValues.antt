@@ -1,4 +1,4 @@
--- The values of the variables, place by place.
+-- The values of the variables, position by position.
 use Rattle.std.proofs.Common.{◌≡◌, ℕ, suc, ◌+◌, ◌-◌, ◌<◌, ◌≤◌, List, [], ◌∷◌, ◌++◌, length, get_or, set, take, map, refl, sym, ap, ◌∙◌, arith}
 use Rattle.std.specs.Prelude.{ℤ, pos}
 use Rattle.std.proofs.lemmas.List.{length-map, length-append, length-take-le, get_or-take, get_or_append_left, get_or-append_right, take_more, take_more_set}
@@ -60,7 +60,7 @@ noise_value p x w u i six ge lt =
     sym (get_or-append_right (take (length p.states) x ++ vector_of p.inputs u) (take (length p.noises) w) (length p.states + length p.inputs) i (pos 0) (input_count p x w u six) ge
     ∙ get_or-take (length p.noises) w (i - (length p.states + length p.inputs)) (pos 0) (omega (arith, lt, ge, names_count p)))
 
--- one place more
+-- one position more
 pub values_more : (positions values : List ℤ) (i : ℕ) (v : ℤ) → i < length positions → i < length values → take i positions ≡ take i values → v ≡ get_or values i (pos 0)
     → take (i + 1) (set positions i v) ≡ take (i + 1) values
 values_more positions values i v lt lt' so_far v-is =

@@ -3,10 +3,12 @@ use Rattle.std.proofs.Common.{◌≡◌, ℕ, ◌+◌, ◌-◌, ◌<◌, ◌≤�
 use Rattle.std.specs.Prelude.{codes, ◌==◌, position}
 use Rattle.std.proofs.Math.Seq.{take-append_seam}
 use Rattle.plant_record.specs.Description.{Description}
-use Rattle.plant_reading.specs.Lines.{lines_of, with_line_feeds}
+use Rattle.plant_reading.specs.Lines.{lines_of}
 use Rattle.plant_writing.specs.CanonicalText.{text_of}
+use Rattle.read_texts.specs.Steps.{joined, Leads, IsRead, IsStuck}
+use Rattle.read_texts.proofs.Laws.{read_on}
 use Rattle.plant_text.specs.Grammar.{PartialPlant, nothing_yet, IsWhole}
-use Rattle.plant_text.specs.CanonicalFronts.{ExtendsCanonically, LeadsCanonically, IsFirstRefusedAtFront, IsFront}
+use Rattle.plant_text.specs.CanonicalFronts.{ExtendsCanonically, FrontStep, IsFirstRefusedAtFront, IsFront}
 use Rattle.plant_text.specs.inside.PartialPlantText.{partial_text, IsOrderly}
 use Rattle.plant_text.specs.inside.PartialPlantRules.{KeepsRules}
 use Rattle.plant_text.specs.inside.ReadInFront.{IsReadInFront}
@@ -14,24 +16,15 @@ use Rattle.plant_reading.proofs.lemmas.WhereCut.{feed_has_position}
 use Rattle.plant_text.proofs.lemmas.RulesKept.{rules_of_nothing}
 use Rattle.plant_text.proofs.lemmas.LinesLead.{whole_is_plant}
 use Rattle.plant_text.proofs.lemmas.CanonicalParts.{text_extended}
-use Rattle.plant_text.proofs.lemmas.Lists.{flat_map_one_more}
-use Rattle.plant_text.proofs.lemmas.CanonicalWays.{IsOnTheWay, at_the_beginning, onwards, all_the_way, line_at}
+use Rattle.plant_text.proofs.lemmas.FrontGrammar.{IsOnTheWay, at_the_beginning, onwards, all_the_way, line_at}
 use Rattle.base.proofs.Lists.{same_head}
 
 -- ---- onwards
 
-led_on : (q : PartialPlant) (lines : List (List ℕ)) (m : PartialPlant) (line : List ℕ) (r : PartialPlant) → LeadsCanonically q lines m → ExtendsCanonically m line r → LeadsCanonically q (lines ++ line ∷ []) r
-led_on q [] m line r leads extends = (r, subst (λ (x : PartialPlant). ExtendsCanonically x line r) leads extends, refl)
-led_on q (first ∷ lines) m line r leads extends = (leads.0, leads.1, led_on leads.0 lines m line r leads.2 extends)
-
-fed_on : (lines : List (List ℕ)) (line : List ℕ) → with_line_feeds (lines ++ line ∷ []) ≡ with_line_feeds lines ++ (line ++ codes "\n")
-fed_on lines line = flat_map_one_more (λ (words : List ℕ). words ++ codes "\n") lines line
-
 pub at_first_line : (bytes : List ℕ) (q : PartialPlant) → q ≡ nothing_yet → IsReadInFront bytes bytes 1 q
 at_first_line bytes q e = record {
-  lines = [];
-  are = refl;
-  leads = e;
+  pieces = [];
+  read = record { leads = e; are = refl };
   rules = subst KeepsRules (sym e) rules_of_nothing;
   numbered = refl;
   few = omega arith;
@@ -39,53 +32,53 @@ at_first_line bytes q e = record {
 
 pub at_next_line : (bytes rest line after : List ℕ) (n : ℕ) (q r : PartialPlant) → IsReadInFront bytes rest n q → rest ≡ line ++ codes "\n" ++ after → length after < length rest → ExtendsCanonically q line r → KeepsRules r → IsReadInFront bytes after (n + 1) r
 at_next_line bytes rest line after n q r up cut shorter extends rules = record {
-  lines = up.lines ++ line ∷ [];
-  are = up.are
-      ∙ ap (λ (x : List ℕ). with_line_feeds up.lines ++ x) cut
-      ∙ sym (append_assoc (with_line_feeds up.lines) (line ++ codes "\n") after)
-      ∙ ap (λ (x : List ℕ). x ++ after) (sym (fed_on up.lines line));
-  leads = led_on nothing_yet up.lines q line r up.leads extends;
+  pieces = up.pieces ++ (line ++ codes "\n") ∷ [];
+  read = read_on FrontStep nothing_yet q r bytes rest (line ++ codes "\n") after up.pieces up.read cut (line, refl, extends);
   rules = rules;
-  numbered = omega (arith, up.numbered, length-append up.lines (line ∷ []));
-  few = omega (arith, up.few, shorter, length-append up.lines (line ∷ []));
+  numbered = omega (arith, up.numbered, length-append up.pieces ((line ++ codes "\n") ∷ []));
+  few = omega (arith, up.few, shorter, length-append up.pieces ((line ++ codes "\n") ∷ []));
 }
 
 -- ---- where no line leads on
 
-refused_at : (bytes rest : List ℕ) (n : ℕ) (q : PartialPlant) → IsReadInFront bytes rest n q → q.ended ≡ false → ((words rest_after : List ℕ) (r : PartialPlant) → rest ≡ words ++ codes "\n" ++ rest_after → ExtendsCanonically q words r → ⊥)
-    → IsFirstRefusedAtFront bytes n
-refused_at bytes rest n q up goes_on refused = record { lines = up.lines; next = up.numbered; part = q; leads = up.leads; goes_on = goes_on; rest = rest; are = up.are; refused = refused }
+module _ (bytes rest : List ℕ) (n : ℕ) (q : PartialPlant) (up : IsReadInFront bytes rest n q) (goes_on : q.ended ≡ false) where
+  refused_at : IsStuck FrontStep q rest → IsFirstRefusedAtFront bytes n
+  refused_at stuck = record { pieces = up.pieces; next = up.numbered; to = q; rest = rest; read = up.read; stuck = stuck; unclosed = λ ended. (let open_still = goes_on in cc) }
 
-pub refused_here : (bytes rest line after : List ℕ) (n : ℕ) (q : PartialPlant) → IsReadInFront bytes rest n q → q.ended ≡ false → lines_of rest ≡ line ∷ lines_of after → ((r : PartialPlant) → ExtendsCanonically q line r → ⊥) → IsFirstRefusedAtFront bytes n
-refused_here bytes rest line after n q up goes_on cut refused =
-    refused_at bytes rest n q up goes_on
-    (λ words rest_after r at e.
-    refused r (subst (λ (x : List ℕ). ExtendsCanonically q x r) (same_head words line (lines_of rest_after) (lines_of after) (sym (ap lines_of at ∙ line_at q words rest_after r up.rules e) ∙ cut)) e))
+  cut_at : (line piece behind : List ℕ) → rest ≡ piece ++ behind → piece ≡ line ++ codes "\n" → rest ≡ line ++ codes "\n" ++ behind
+  cut_at line piece behind at is = at ∙ ap (λ (x : List ℕ). x ++ behind) is
 
-pub no_line_left : (bytes rest : List ℕ) (n : ℕ) (q : PartialPlant) → IsReadInFront bytes rest n q → q.ended ≡ false → None ≡ position (λ b. b == 10) rest → IsFirstRefusedAtFront bytes n
-no_line_left bytes rest n q up goes_on none =
-    refused_at bytes rest n q up goes_on (λ words rest_after r at e. feed_has_position words rest_after (none ∙ ap (position (λ b. b == 10)) (at ∙ append_assoc words (10 ∷ []) rest_after)))
+  pub refused_here : (line after : List ℕ) → lines_of rest ≡ line ∷ lines_of after → ((r : PartialPlant) → ExtendsCanonically q line r → ⊥) → IsFirstRefusedAtFront bytes n
+  refused_here line after cut refused =
+      refused_at (λ piece behind r at step. (
+      let here = ap lines_of (cut_at step.0 piece behind at step.1) ∙ line_at q step.0 behind r up.rules step.2 in
+      refused r (subst (λ (x : List ℕ). ExtendsCanonically q x r) (same_head step.0 line (lines_of behind) (lines_of after) (sym here ∙ cut)) step.2)))
+
+  pub no_line_left : None ≡ position (λ b. b == 10) rest → IsFirstRefusedAtFront bytes n
+  no_line_left none =
+      refused_at (λ piece behind r at step. feed_has_position step.0 behind (none ∙ ap (position (λ b. b == 10)) (cut_at step.0 piece behind at step.1 ∙ append_assoc step.0 (10 ∷ []) behind)))
 
 -- ---- the text
 
-text_led : (q : PartialPlant) (lines : List (List ℕ)) (r : PartialPlant) → IsOnTheWay q → LeadsCanonically q lines r → partial_text r ≡ partial_text q ++ with_line_feeds lines
+text_led : (q : PartialPlant) (pieces : List (List ℕ)) (r : PartialPlant) → IsOnTheWay q → Leads FrontStep q pieces r → partial_text r ≡ partial_text q ++ joined pieces
 text_led q [] r w leads = ap partial_text leads ∙ sym (append-nil (partial_text q))
-text_led q (line ∷ lines) r w leads =
-    let e = leads.1 in
-    let here : partial_text leads.0 ≡ partial_text q ++ (line ++ codes "\n") =
-    ap partial_text e.stated.leads_to ∙ text_extended q w.rules w.orderly e.stated.statement e.stated.fits e.order ∙ ap (λ (x : List ℕ). partial_text q ++ x) (sym e.spelling) in
-    text_led leads.0 lines r (onwards q line leads.0 w e) leads.2 ∙ ap (λ (x : List ℕ). x ++ with_line_feeds lines) here ∙ append_assoc (partial_text q) (line ++ codes "\n") (with_line_feeds lines)
+text_led q (piece ∷ pieces) r w leads =
+    let e = leads.1.2 in
+    let here : partial_text leads.0 ≡ partial_text q ++ piece =
+    ap partial_text e.stated.leads_to ∙ text_extended q w.rules w.orderly e.stated.statement e.stated.fits e.order ∙ ap (λ (x : List ℕ). partial_text q ++ x) (sym e.spelling ∙ sym leads.1.1) in
+    text_led leads.0 pieces r (onwards q leads.1.0 leads.0 w e) leads.2 ∙ ap (λ (x : List ℕ). x ++ joined pieces) here ∙ append_assoc (partial_text q) piece (joined pieces)
 
--- what is read is the text of the part
-pub read_text : (bytes rest : List ℕ) (n : ℕ) (q : PartialPlant) → IsReadInFront bytes rest n q → take (length bytes - length rest) bytes ≡ partial_text q
-read_text bytes rest n q up =
-    let text : partial_text q ≡ with_line_feeds up.lines = text_led nothing_yet up.lines q at_the_beginning up.leads in
-    let count : length bytes ≡ length (with_line_feeds up.lines) + length rest = ap length up.are ∙ length-append (with_line_feeds up.lines) rest in
-    let here : length bytes - length rest ≡ length (with_line_feeds up.lines) = omega (arith, count) in
-    ap (λ (k : ℕ). take k bytes) here ∙ ap (take (length (with_line_feeds up.lines))) up.are ∙ take-append_seam (with_line_feeds up.lines) rest ∙ sym text
+module _ (bytes rest : List ℕ) (pieces : List (List ℕ)) (q : PartialPlant) (read : IsRead FrontStep nothing_yet bytes pieces q rest) where
+  -- what is read is the text of the part
+  pub read_text : take (length bytes - length rest) bytes ≡ partial_text q
+  read_text =
+      let text : partial_text q ≡ joined pieces = text_led nothing_yet pieces q at_the_beginning read.leads in
+      let count : length bytes ≡ length (joined pieces) + length rest = ap length read.are ∙ length-append (joined pieces) rest in
+      let here : length bytes - length rest ≡ length (joined pieces) = omega (arith, count) in
+      ap (λ (k : ℕ). take k bytes) here ∙ ap (take (length (joined pieces))) read.are ∙ take-append_seam (joined pieces) rest ∙ sym text
 
-pub read_orderly : (bytes rest : List ℕ) (n : ℕ) (q : PartialPlant) → IsReadInFront bytes rest n q → IsOrderly q
-read_orderly bytes rest n q up = (all_the_way nothing_yet up.lines q at_the_beginning up.leads).orderly
+  pub read_way : IsOnTheWay q
+  read_way = all_the_way nothing_yet pieces q at_the_beginning read.leads
 
 -- the text of a part that is whole is that of its plant
 whole_text : (q : PartialPlant) (p : Description) → IsWhole q p → partial_text q ≡ text_of p
@@ -96,3 +89,8 @@ pub at_front : (bytes : List ℕ) (count : ℕ) (q : PartialPlant) (p : Descript
 at_front bytes count q p k o within text w =
     let plant = whole_is_plant q p k w in
     record { plant = plant; within = within; text = text ∙ whole_text q p w }
+
+pub read_front : (bytes rest : List ℕ) (pieces : List (List ℕ)) (q : PartialPlant) (p : Description) → IsRead FrontStep nothing_yet bytes pieces q rest → IsWhole q p → IsFront bytes p (length bytes - length rest)
+read_front bytes rest pieces q p read w =
+    let way = read_way bytes rest pieces q read in
+    at_front bytes (length bytes - length rest) q p way.rules way.orderly (omega arith) (read_text bytes rest pieces q read) w

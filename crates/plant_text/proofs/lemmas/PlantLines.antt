@@ -23,11 +23,11 @@ use Rattle.plant_record.specs.Plants.{IsPlant}
 use Rattle.plant_writing.specs.CanonicalText.{text_of, state_line, input_line, noise_line, equation_line, equation_lines, box_line}
 use Rattle.plant_record.specs.Spelling.{line, version_word, end_words, goal_word}
 use Rattle.plant_writing.specs.ExpressionText.{expression_text}
-use Rattle.plant_reading.specs.Lines.{with_line_feeds}
 use Rattle.plant_reading.specs.Words.{words_of}
 use Rattle.plant_reading.specs.Statements.{Statement, Version, State, Input, Noise, Next, Target, Obstacle, Goal, End, States}
 use Rattle.plant_text.specs.Grammar.{PartialPlant, nothing_yet, names_in, FitsAfter, with_statement, IsWhole}
-use Rattle.plant_text.specs.CanonicalFronts.{statement_line, IsInOrder, LeadsCanonically}
+use Rattle.read_texts.specs.Steps.{joined, Leads}
+use Rattle.plant_text.specs.CanonicalFronts.{statement_line, IsInOrder, FrontStep}
 use Rattle.plant_reading.proofs.lemmas.PutTogether.{IsDarkWord, words_front, words_joined}
 use Rattle.plant_text.proofs.lemmas.CanonicalWords.{name_dark, number_dark, numbers_dark, box_dark, goal_dark}
 use Rattle.plant_text.proofs.lemmas.CanonicalTrees.{tokens_spell}
@@ -36,19 +36,19 @@ use Rattle.plant_record.proofs.lemmas.VariableValues.{names_count}
 use Rattle.plant_text.proofs.lemmas.Lists.{is_new, next, capacity, all_of}
 use Rattle.std.proofs.lemmas.Option.{same_Some}
 
--- A text is that of lines that lead canonically from one part to another.
+-- A text is that of pieces that lead from one part to another.
 pub record LeadsBy (q : PartialPlant) (text : List ℕ) (r : PartialPlant) : Type 0 where
-  pub lines : List (List ℕ)
-  pub are : with_line_feeds lines ≡ text
-  pub leads : LeadsCanonically q lines r
+  pub pieces : List (List ℕ)
+  pub are : joined pieces ≡ text
+  pub leads : Leads FrontStep q pieces r
 
 -- a line that states something, in front of others
 stated : (q : PartialPlant) (body rest : List ℕ) (statement : Statement) (r : PartialPlant) → States (names_in q) (length q.states) (words_of body) statement → FitsAfter q statement → body ++ codes "\n" ≡ statement_line (names_in q) (length q.states) statement
     → IsInOrder q statement → LeadsBy (with_statement q statement) rest r → LeadsBy q ((body ++ codes "\n") ++ rest) r
 stated q body rest statement r says fits spelled order more = record {
-  lines = body ∷ more.lines;
+  pieces = (body ++ codes "\n") ∷ more.pieces;
   are = ap (λ (x : List ℕ). (body ++ codes "\n") ++ x) more.are;
-  leads = (with_statement q statement, record { stated = record { statement = statement; states = says; fits = fits; leads_to = refl }; spelling = spelled; order = order }, more.leads);
+  leads = (with_statement q statement, (body, refl, record { stated = record { statement = statement; states = says; fits = fits; leads_to = refl }; spelling = spelled; order = order }), more.leads);
 }
 
 -- the parts on the way
@@ -215,7 +215,7 @@ some_goal : (goal : GoalKind) → Some goal ≢ None
 some_goal goal = λ e. cc
 
 no_more : {q : PartialPlant} → LeadsBy q [] q
-no_more = record { lines = []; are = refl; leads = refl }
+no_more = record { pieces = []; are = refl; leads = refl }
 
 goal_leads : (p : Description) → IsPlant p → LeadsBy (part p.version p.states p.inputs p.noises p.equations p.targets p.obstacles None) (line (codes "goal" ∷ goal_word p.goal ∷ []) ++ (line (codes "end" ∷ []) ++ [])) (whole_plant_part p)
 goal_leads p h =

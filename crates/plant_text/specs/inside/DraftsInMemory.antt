@@ -4,6 +4,7 @@ use Rattle.fixed_expr.specs.Expression.{expression_of}
 use Rattle.plant_text.specs.declared.draft.Draft.{Draft}
 use Rattle.plant_text.specs.Grammar.{PartialPlant}
 
+-- what is read so far, as a draft holds it
 abbrev pub partial_of : Draft → PartialPlant
 partial_of d = record {
   version = d.version;

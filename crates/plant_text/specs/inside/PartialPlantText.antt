@@ -7,14 +7,17 @@ use Rattle.plant_record.specs.Spelling.{line, version_word, goal_word}
 use Rattle.plant_writing.specs.CanonicalText.{state_line, input_line, noise_line, equation_lines, box_line}
 use Rattle.plant_text.specs.Grammar.{PartialPlant, names_in}
 
+-- the line of the version, once it is read
 abbrev pub version_text : Option PlantVersion → List ℕ
 version_text None = []
 version_text (Some v) = line (codes "plant" ∷ version_word v ∷ [])
 
+-- the line of the goal, once it is read
 abbrev pub goal_text : Option GoalKind → List ℕ
 goal_text None = []
 goal_text (Some kind) = line (codes "goal" ∷ goal_word kind ∷ [])
 
+-- the last line, once it is read
 abbrev pub end_text : Bool → List ℕ
 end_text ended = if ended then line (codes "end" ∷ []) else []
 

@@ -18,7 +18,7 @@ use Rattle.reach_avoid.specs.ReachBoards.{word_at}
 use Rattle.reach_avoid.specs.ReachReckoned.{word_and_value, due_offer}
 use Rattle.base.specs.declared.limits.TheConstants.{VECTORS_LIMIT}
 
--- the row that a word tells
+-- the row that a word has
 abbrev pub row_in : ℕ → Option Row
 row_in word = if (word == 0) || (word == NONE) then None else Some (record { rank = (word - 1) / VECTORS_LIMIT; input = (word - 1) % VECTORS_LIMIT })
 
@@ -31,7 +31,7 @@ least_from start (v ∷ rest) = least_from (min start v) rest
 abbrev pub word_after : Game → List Account → ℕ → ℕ
 word_after g accounts c = least_from (word_at (mark_of g c)) (values (all_offers c accounts))
 
--- the rows that these accounts tell
+-- the rows that these accounts show
 abbrev pub decoded_rows : Game → List Account → List (Option Row)
 decoded_rows g accounts = map (λ c. row_in (word_after g accounts c)) (range_with_len 0 g.cells)
 
@@ -62,7 +62,7 @@ pub record IsLawfulFor (g : Game) (accounts : List Account) : Type 0 where
   pub pairs : (pair : ℕ) → pair < pairs_of g → (now : ℕ) × IsLawfulCounter accounts pair (length (successors_at g pair)) now
   pub cells : (c : ℕ) → c < g.cells → (now : ℕ) × IsLawfulLeast accounts c (word_at (mark_of g c)) now
 
--- an offer on the word of a cell, of a value that tells a row
+-- an offer on the word of a cell, of a value that is a row
 pub record IsDueOffer (g : Game) (o : Offer) : Type 0 where
   pub word : o.word < g.cells
   pub some : 0 < o.value

@@ -10,14 +10,14 @@ use Rattle.row_runs.specs.Runs.{HasCells}
 use Rattle.row_runs.specs.RunText.{rank_field, input_field, run_line}
 use Rattle.row_reading.specs.declared.row_rules.RowRules.{RowRules}
 use Rattle.row_reading.specs.Numbers.{IsNumberTo}
-use Rattle.row_reading.specs.RowsTexts.{TellsAll, IsRunWithin}
+use Rattle.row_reading.specs.RowsTexts.{Determines, IsRunWithin}
 use Rattle.row_reading.specs.RowSteps.{IsNextRow}
 
 -- Numbers of 32 bits that a line tells.
 pub record IsSpelledRow (format : RowFormat) (row : Row) : Type 0 where
   pub rank : row.rank < 2 ^ 32
   pub input : row.input < 2 ^ 32
-  pub tells : TellsAll format row
+  pub tells : Determines format row
 
 pub record IsSpelled (version : TableVersion) (format : RowFormat) (r : Run) : Type 0 where
   pub first : r.first < 2 ^ 32

@@ -90,6 +90,6 @@ IsRowDecoded g accounts c (Some row) =
     (mark_of g c ≢ Obstacle) × (row.rank ≡ 0) × (row.input < g.inputs) × (is_whole g accounts (pair_of g c row.input) ≡ true)
     × ((u : ℕ) → u < row.input → is_whole g accounts (pair_of g c u) ≡ false)
 
--- the rows that these accounts tell
+-- the rows that these accounts show
 abbrev pub AreRowsDecoded : Game → List Account → List (Option Row) → Type 0
 AreRowsDecoded g accounts rows = AreTold g.cells (IsRowDecoded g accounts) rows

@@ -9,7 +9,7 @@ use Rattle.game_core.specs.Game.{Game, mark_of, pairs_of, successors_at}
 abbrev pub is_first_cut : Game → ℕ → ℕ → Bool
 is_first_cut g pair left = (left == length (successors_at g pair) - 1) && not (is_obstacle (mark_of g (pair / g.inputs)))
 
--- a worker has cut a pair, and tells whether that was a blow to its cell
+-- a worker has cut a pair, and answers whether that cut its cell
 pub record CutsFirst (g : Game) (pair : ℕ) (before after : HandModel) (first_cut : Bool) : Type 0 where
   pub left : ℕ
   pub taken : after ≡ record before { account = with_cut before.account pair left }

@@ -1,4 +1,4 @@
--- The outcome of a fault of a layer below.
+-- Why a command has no answer, by the fault of a layer below.
 use Rattle.plant_record.specs.declared.limit_kind.LimitKind.TheVariants.{Edges}
 use Rattle.plant_text.specs.declared.plant_fault.PlantFault.{PlantFault}
 use Rattle.plant_text.specs.declared.plant_fault.PlantFault.TheVariants as plants
@@ -10,27 +10,53 @@ use Rattle.abstraction_table.specs.declared.build_fault.BuildFault.{BuildFault}
 use Rattle.abstraction_table.specs.declared.build_fault.BuildFault.TheVariants as builds
 use Rattle.run_devices.specs.declared.transfer.ReadFault.{ReadFault}
 use Rattle.run_devices.specs.declared.transfer.ReadFault.TheVariants as reads
-use Rattle.synth_run.specs.declared.outcome.Outcome.{Outcome}
-use Rattle.synth_run.specs.declared.outcome.Outcome.TheVariants.{Malformed, Overflow, Limit, ReadFault as ReadFailed, NoMemory}
+use Rattle.command_line.specs.declared.outcome.Failure.TheVariants.{Read, Write, Memory}
+use Rattle.command_line.specs.declared.outcome.Refusal.{Refusal}
+use Rattle.command_line.specs.declared.outcome.Refusal.TheVariants.{Malformed, Overflow, Limit}
+use Rattle.command_line.specs.declared.outcome.Outcome.{Outcome}
+use Rattle.command_line.specs.declared.outcome.Outcome.TheVariants as ends
+use Rattle.synth_run.specs.declared.stop.Stop.{Stop}
+use Rattle.synth_run.specs.declared.stop.Stop.TheVariants.{Refused, Failed}
 
-abbrev pub of_plant : PlantFault → Outcome
-of_plant (plants.Malformed line) = Malformed line
-of_plant (plants.Limit what) = Limit what
-of_plant plants.Memory = NoMemory
+-- there is no memory left
+abbrev pub without_memory : Stop
+without_memory = Failed Memory
 
-abbrev pub of_table : TableFault → Outcome
-of_table (tables.Malformed line) = Malformed line
-of_table (tables.Limit what) = Limit what
-of_table tables.Memory = NoMemory
+-- of the reader of plants
+abbrev pub of_plant : PlantFault → Stop
+of_plant (plants.Malformed line) = Refused (Malformed line)
+of_plant (plants.Limit what) = Refused (Limit what)
+of_plant plants.Memory = without_memory
 
-abbrev pub of_slopes : SlopeFault → Outcome
-of_slopes (slopes.Overflow equation input) = Overflow equation input
-of_slopes slopes.Memory = NoMemory
+-- of the reader of tables
+abbrev pub of_table : TableFault → Stop
+of_table (tables.Malformed line) = Refused (Malformed line)
+of_table (tables.Limit what) = Refused (Limit what)
+of_table tables.Memory = without_memory
 
-abbrev pub of_build : BuildFault → Outcome
-of_build (builds.TooManyEdges edges) = Limit Edges
-of_build builds.Memory = NoMemory
+-- of the search for overflows
+abbrev pub of_slopes : SlopeFault → Stop
+of_slopes (slopes.Overflow equation input) = Refused (Overflow equation input)
+of_slopes slopes.Memory = without_memory
 
-abbrev pub of_read : ReadFault → Outcome
-of_read reads.Device = ReadFailed
-of_read reads.Memory = NoMemory
+-- of the builder of the game
+abbrev pub of_build : BuildFault → Stop
+of_build (builds.TooManyEdges edges) = Refused (Limit Edges)
+of_build builds.Memory = without_memory
+
+-- of the source
+abbrev pub of_read : ReadFault → Stop
+of_read reads.Device = Failed Read
+of_read reads.Memory = without_memory
+
+-- how a run ends without an answer
+abbrev pub outcome_of : Stop → Outcome
+outcome_of (Refused refusal) = ends.Refused refusal
+outcome_of (Failed failure) = ends.Failed failure
+
+-- what was read is refused so, or there is no memory
+abbrev pub IsStopFor : (Refusal → Type 0) → Stop → Type 0
+IsStopFor IsRefusal (Refused refusal) = IsRefusal refusal
+IsStopFor IsRefusal (Failed Read) = ⊥
+IsStopFor IsRefusal (Failed Write) = ⊥
+IsStopFor IsRefusal (Failed Memory) = Unit {0}

@@ -1,16 +1,13 @@
 -- What a command makes of the bytes that it works on.
-use Rattle.std.specs.Prelude.{◌≡◌, ◌≢◌, ℕ, List, take, Option, IfSome}
+use Rattle.std.specs.Prelude.{◌≡◌, ℕ, List, take, Option, IfSome}
 use Rattle.cell_counters.specs.BoardModels.{BoardModel, RootModel}
 use Rattle.command_line.specs.declared.command.Command.{Command}
 use Rattle.run_devices.specs.Devices.{Reading, TakesAtMost}
-use Rattle.synth_run.specs.declared.outcome.Outcome.{Outcome}
-use Rattle.synth_run.specs.declared.outcome.Outcome.TheVariants.{Done, NoMemory}
 use Rattle.synth_run.specs.declared.text.Text.{Text}
 use Rattle.synth_run.specs.Sources.{bytes_for, most_read, LeavesAlone}
-use Rattle.synth_run.specs.IsOutcomeFor.{IsOutcomeFor}
 use Rattle.synth_run.specs.Headline.{IsAnswer}
 use Rattle.synth_run.specs.Played.{IsPlayed}
-use Rattle.synth_run.specs.RunClauses.{IsRead, CanEnd}
+use Rattle.synth_run.specs.RunClauses.{IsRead}
 use Rattle.synth_run.specs.inside.Texts.{bytes_of, CanBeWritten}
 
 -- A command has the bytes that it works on: what it is given, up to one byte past the limit of its text.
@@ -26,9 +23,3 @@ pub record IsMade (command : Command) (bytes : List ℕ) (text : Text) (played :
   pub can_be_written : CanBeWritten text
   pub answer : IsAnswer command bytes (bytes_of text)
   pub leaves : IsPlayed command bytes played
-
--- There is no answer to bytes: they demand to end so, or there is no memory.
-pub record IsRefusalOf (command : Command) (bytes : List ℕ) (outcome : Outcome) : Type 0 where
-  pub not_done : outcome ≢ Done
-  pub can_end : CanEnd command outcome
-  pub cause : outcome ≢ NoMemory → IsOutcomeFor command bytes outcome

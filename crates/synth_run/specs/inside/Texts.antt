@@ -4,11 +4,11 @@ use Rattle.game_core.specs.declared.game.Row.{Row}
 use Rattle.successor_box.specs.Deviations.{HasNoOverflow, deviations_of}
 use Rattle.controller_table.specs.TableText.{written_version, table_text}
 use Rattle.controller_table.specs.Tables.{RowsFit}
-use Rattle.temporal_games.specs.StayText.{stay_text}
-use Rattle.temporal_games.specs.PatrolText.{patrol_text}
+use Rattle.temporal_texts.specs.StayText.{stay_text}
+use Rattle.temporal_texts.specs.PatrolText.{patrol_text}
 use Rattle.loop_sim.specs.Trace.{row_at}
 use Rattle.loop_sim.specs.TraceText.{trace_text}
-use Rattle.synth_run.specs.declared.simulating.Simulation.{Simulation}
+use Rattle.synth_run.specs.declared.text.Simulation.{Simulation}
 use Rattle.synth_run.specs.declared.text.Text.{Text}
 use Rattle.synth_run.specs.declared.text.Text.TheVariants.{Table, Upgraded, Line, Trace, Summary, Stay, Patrol}
 use Rattle.base.specs.declared.limits.TheConstants.{SAMPLES_LIMIT}
@@ -26,6 +26,7 @@ pub record IsReady (s : Simulation) : Type 0 where
   pub row : Row
   pub begins : row_at s.table.plant s.table.rows s.start ≡ Some row
 
+-- the bytes of what a command writes
 abbrev pub bytes_of : Text → List ℕ
 bytes_of (Table solved) = table_text written_version solved.plant solved.rows
 bytes_of (Upgraded table) = table_text written_version table.plant table.rows

@@ -8,9 +8,10 @@ use Rattle.game_core.specs.Game.{Game, mark_of}
 use Rattle.game_core.specs.Keep.{IsKeepSolution}
 use Rattle.game_core.specs.Solution.{row_of, HasRow}
 use Rattle.plant_record.specs.Description.{Description}
-use Rattle.temporal_games.specs.Targets.{IsInTarget}
-use Rattle.temporal_games.specs.Visits.{next_turn, Visits}
-use Rattle.temporal_games.specs.Patrol.{IsLaterReachRow, rows_for}
+use Rattle.temporal_texts.specs.Targets.{IsInTarget, next_turn}
+use Rattle.temporal_games.specs.Visits.{Visits}
+use Rattle.temporal_texts.specs.PatrolText.{rows_for}
+use Rattle.temporal_games.specs.Patrol.{IsLaterReachRow}
 
 -- For each turn the marks with its arrivals as goals, the rows of its last game, and whether it is to be solved again.
 pub record PatrolProgress : Type 0 where
@@ -18,9 +19,11 @@ pub record PatrolProgress : Type 0 where
   pub rows : List (List (Option Row))
   pub due : List Bool
 
+-- the marks of a turn
 abbrev pub marks_for : List (List Mark) → ℕ → List Mark
 marks_for marks j = slice_index_or marks j []
 
+-- the mark of a cell
 abbrev pub mark_at : List Mark → ℕ → Mark
 mark_at marks c = slice_index_or marks c Plain
 
@@ -28,6 +31,7 @@ mark_at marks c = slice_index_or marks c Plain
 abbrev pub IsMarked : List (List Mark) → ℕ → ℕ → Type 0
 IsMarked marks j c = mark_at (marks_for marks j) c ≡ Goal
 
+-- a turn is to be solved again
 abbrev pub is_due : List Bool → ℕ → Bool
 is_due due j = slice_index_or due j false
 
@@ -66,14 +70,17 @@ is_gone Goal (Some row) = false
 is_gone Obstacle row = false
 is_gone Plain row = false
 
+-- the marks without the arrivals that have no row
 abbrev pub withdrawn : List Mark → List (Option Row) → List Mark
 withdrawn marks rows = map (λ c. withdrawn_mark (mark_at marks c) (row_of rows c)) (range_with_len 0 (length marks))
 
+-- the mark of a goal
 abbrev pub is_goal : Mark → Bool
 is_goal Goal = true
 is_goal Obstacle = false
 is_goal Plain = false
 
+-- 1 for true, 0 for false
 abbrev pub one_if : Bool → ℕ
 one_if b = cond b 1 0
 

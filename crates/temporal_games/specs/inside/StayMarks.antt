@@ -13,6 +13,7 @@ hold_mark Goal = Plain
 hold_mark Obstacle = Obstacle
 hold_mark Plain = Obstacle
 
+-- the marks of the game of staying
 abbrev pub marks_to_hold : Game → List Mark
 marks_to_hold g = map (λ c. hold_mark (mark_of g c)) (range_with_len 0 g.cells)
 
@@ -29,6 +30,7 @@ end_mark Obstacle (Some row) = Goal
 end_mark Goal (Some row) = Goal
 end_mark Plain (Some row) = Goal
 
+-- the marks of the game of coming to where one can stay
 abbrev pub marks_to_reach : Game → List (Option Row) → List Mark
 marks_to_reach g held = map (λ c. end_mark (mark_of g c) (row_of held c)) (range_with_len 0 g.cells)
 

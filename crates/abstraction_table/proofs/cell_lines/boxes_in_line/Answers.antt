@@ -70,9 +70,6 @@ add_early-early-requires-clause-start c =
 pub overflow_step-cell : goal.overflow_step-cell
 overflow_step-cell c = c.vectors-inputs.ensures.some
 
-pub indices_of-indices-requires-clause-cell : goal.indices_of-indices-requires-clause-cell
-indices_of-indices-requires-clause-cell c = let row = c.requires.row.2 in omega (arith, row.some, row.within)
-
 pub add_early-early-requires-clause-cell : goal.add_early-early-requires-clause-cell
 add_early-early-requires-clause-cell c = let row = c.requires.row.2 in (c.args.c, omega (arith, row.some, row.within), c.indices_of-indices.ensures)
 

@@ -11,9 +11,6 @@ use Rattle.abstraction_table.proofs.cell_lines.indices_of.Goals as goal
 zeros : (k : ℕ) → ◌≡◌ {A = ℕ} (get_or (replicate 9 0) k 0) 0
 zeros k = elim (cases_lt k 9) [ inl within ↦ get_or-replicate 9 k 0 0 within | inr past ↦ get_or_past (replicate 9 0) k 0 past ]
 
-pub indices-along-requires : goal.indices-along-requires
-indices-along-requires c = rw c.grid.ensures c.requires.cell
-
 pub loop-state-init : goal.loop-state-init
 loop-state-init c = record { nine = refl; done = λ k lt. absurd (omega (arith, lt)); left = λ k from. zeros k }
 

@@ -1,10 +1,10 @@
 use Rattle.fixed_expr.specs.Expression.{expression_of}
-use Rattle.fixed_expr.specs.inside.RowValues.{value_in}
-use Rattle.fixed_expr.proofs.RowValues.{combined_answer}
+use Rattle.fixed_expr.specs.inside.LaneValues.{value_in}
+use Rattle.fixed_expr.proofs.LaneValues.{combined_answer}
 use Rattle.fixed_expr.proofs.lane_eval.+values.Goals as goal
 
-pub find_combined-returns : goal.find_combined-returns
-find_combined-returns t c =
+pub eval_combined-returns : goal.eval_combined-returns
+eval_combined-returns t c =
     let first = c.in_ok-left.ensures in
     let second = c.in_ok-right.ensures in
-    combined_answer c.args.binary (expression_of c.args.a.now) (expression_of c.args.b.now) c.args.columns.now (value_in c.in_ok-left.left c.find_values.new.found) (value_in c.in_ok-right.right c.find_values-2.new.found) first.0 first.1 second.0 second.1 c.combine_values.result c.combine_values.new.found c.combine_values.ensures
+    combined_answer c.args.binary (expression_of c.args.a.now) (expression_of c.args.b.now) c.args.columns.now (value_in c.in_ok-left.left c.eval_values.new.found) (value_in c.in_ok-right.right c.eval_values-2.new.found) first.0 first.1 second.0 second.1 c.combine_values.result c.combine_values.new.found c.combine_values.ensures

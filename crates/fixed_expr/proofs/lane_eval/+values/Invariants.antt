@@ -2,8 +2,8 @@ use Rattle.std.proofs.Common.{◌+◌, ◌*◌}
 use Rattle.fixed_expr.specs.Expression.{expression_of, nodes_of}
 use Rattle.fixed_expr.proofs.lane_eval.+values.Given as goal
 
-abbrev pub decreases-find_values : goal.decreases-find_values
-decreases-find_values l = 2 * nodes_of (expression_of l.e.now)
+abbrev pub decreases-eval_values : goal.decreases-eval_values
+decreases-eval_values l = 2 * nodes_of (expression_of l.e.now)
 
-abbrev pub decreases-find_combined : goal.decreases-find_combined
-decreases-find_combined l = 2 * (nodes_of (expression_of l.a.now) + nodes_of (expression_of l.b.now)) + 1
+abbrev pub decreases-eval_combined : goal.decreases-eval_combined
+decreases-eval_combined l = 2 * (nodes_of (expression_of l.a.now) + nodes_of (expression_of l.b.now)) + 1

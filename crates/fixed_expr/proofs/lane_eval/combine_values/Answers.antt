@@ -1,8 +1,8 @@
 use Rattle.std.proofs.Common.{rules}
 use Rattle.std.specs.Int.{w64}
 use Rattle.std.specs.Prelude.{FitsSigned}
-use Rattle.fixed_expr.specs.inside.RowValues.{value_in}
-use Rattle.fixed_expr.proofs.RowValues.{lanes_hold, lanes_leave, alike_hold, alike_leave}
+use Rattle.fixed_expr.specs.inside.LaneValues.{value_in}
+use Rattle.fixed_expr.proofs.LaneValues.{lanes_hold, lanes_leave, alike_hold, alike_leave}
 use Rattle.fixed_expr.proofs.lane_eval.combine_values.Goals as goal
 
 pub returns-in-Alike-Alike : goal.returns-in-Alike-Alike
@@ -23,8 +23,8 @@ returns-in_err-combine c =
 
 pub returns-in_err-combine_lanes : goal.returns-in_err-combine_lanes
 returns-in_err-combine_lanes c =
-    rw c.from_residual-in_err-combine_lanes.ensures (lanes_leave c.args.binary (value_in c.args.left c.args.found.now) (value_in c.args.right c.args.other.now) c.list.new.rows c.list-2.new.rows c.list.ensures c.list-2.ensures c.in_err-combine_lanes.ensures)
+    rw c.from_residual-in_err-combine_lanes.ensures (lanes_leave c.args.binary (value_in c.args.left c.args.found.now) (value_in c.args.right c.args.other.now) c.list.new.lanes c.list-2.new.lanes c.list.ensures c.list-2.ensures c.in_err-combine_lanes.ensures)
 
 pub returns : goal.returns
 returns c =
-    lanes_hold c.args.binary (value_in c.args.left c.args.found.now) (value_in c.args.right c.args.other.now) c.list.new.rows c.list-2.new.rows c.list.ensures c.list-2.ensures c.combine_lanes.new.found c.in_ok-combine_lanes.ensures
+    lanes_hold c.args.binary (value_in c.args.left c.args.found.now) (value_in c.args.right c.args.other.now) c.list.new.lanes c.list-2.new.lanes c.list.ensures c.list-2.ensures c.combine_lanes.new.found c.in_ok-combine_lanes.ensures

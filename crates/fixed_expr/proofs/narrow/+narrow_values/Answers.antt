@@ -3,7 +3,7 @@ use Rattle.std.specs.Int.{w64}
 use Rattle.std.specs.Prelude.{FitsSigned}
 use Rattle.std.proofs.lemmas.Int.{to_z-of_z}
 use Rattle.fixed_expr.specs.Expression.{expression_of}
-use Rattle.fixed_expr.proofs.RowValues.{parts_of, whole_answer}
+use Rattle.fixed_expr.proofs.LaneValues.{parts_of, whole_answer}
 use Rattle.fixed_expr.proofs.narrow.+narrow_values.Goals as goal
 
 pub eval_combined-returns-in_err-left : goal.eval_combined-returns-in_err-left

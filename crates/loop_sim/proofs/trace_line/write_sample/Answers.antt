@@ -10,4 +10,4 @@ returns-clause-text c =
     let p = c.args.p.now in
     let x = c.args.x.now in
     let front : take c.states.result x ≡ take (length p.states) x = ap (λ (n : ℕ). take n x) (c.states.ensures.count ∙ ap length c.grid.ensures ∙ length-map p.states axis_of) in
-    rw (c.put_number_before.ensures.text, c.put_state_before.ensures.text, c.put_row_before.ensures.text, c.begin.ensures.text, front, c.format_of.ensures, c.goal.ensures) (sample_parts p c.args.time x c.args.row)
+    rw (c.prepend_number.ensures.text, c.prepend_state.ensures.text, c.prepend_row.ensures.text, c.begin.ensures.text, front, c.format_of.ensures, c.goal.ensures) (sample_parts p c.args.time x c.args.row)

@@ -9,12 +9,12 @@ use Rattle.plant_reading.proofs.lemmas.RefusalsPassOn.{exits}
 use Rattle.plant_reading.proofs.lemmas.KeywordsDiffer.{only_version, only_end}
 use Rattle.plant_reading.proofs.statements.statement_after.Goals as goal
 
-pub returns-in_err-version_in-in-Plant : goal.returns-in_err-version_in-in-Plant
-returns-in_err-version_in-in-Plant c =
+pub returns-in_err-parse_version-in-Plant : goal.returns-in_err-parse_version-in-Plant
+returns-in_err-parse_version-in-Plant c =
     let names = variable_names c.args.variables.now in
     let n = length c.args.variables.now.states.items in
     rw c.in-Plant.is
-    (exits statement_of (States names n (codes "plant" ∷ words_of c.args.bytes.now)) (SpellsVersion (words_of c.args.bytes.now)) c.in_err-version_in-in-Plant.field-0.0 _ c.from_residual.ensures.1 c.in_err-version_in-in-Plant.ensures
+    (exits statement_of (States names n (codes "plant" ∷ words_of c.args.bytes.now)) (SpellsVersion (words_of c.args.bytes.now)) c.in_err-parse_version-in-Plant.field-0.0 _ c.from_residual.ensures.1 c.in_err-parse_version-in-Plant.ensures
     (λ s h. only_version names n (words_of c.args.bytes.now) s h))
 
 pub returns-in_err-expect_end-in-End : goal.returns-in_err-expect_end-in-End

@@ -1,7 +1,7 @@
 use Rattle.std.proofs.Common.{Err, ap, sym, ◌∙◌}
 use Rattle.plant_text.specs.CanonicalFronts.{IsFrontRefusedFor}
 use Rattle.plant_text.specs.inside.DraftsInMemory.{partial_of}
-use Rattle.plant_text.proofs.lemmas.FrontLineByLine.{at_first_line, at_next_line, refused_here, no_line_left, read_text, read_orderly}
+use Rattle.plant_text.proofs.lemmas.FrontLineByLine.{at_first_line, at_next_line, refused_here, no_line_left, read_text, read_way}
 use Rattle.plant_text.proofs.lemmas.LineFaults.{told_reason}
 use Rattle.plant_text.proofs.front_reader.read_lines.Goals as goal
 
@@ -15,7 +15,7 @@ returns-in_default-clause-refused c = λ _.
 pub returns-in-Err-clause-refused : goal.returns-in-Err-clause-refused
 returns-in-Err-clause-refused c =
     told_reason (IsFrontRefusedFor c.args.bytes.now) c.in-Err.fault c.at_line.result c.loop-alloc.number c.at_line.ensures.malformed c.at_line.ensures.memory (λ is.
-    refused_here c.args.bytes.now c.loop-alloc.rest.now c.in-Some.line.now c.in-Some.after.now c.loop-alloc.number (partial_of c.loop-alloc.draft) c.loop-alloc.invariant (sym c.has_ended.ensures ∙ c.loop-alloc-test.true) c.in-Some.ensures.line
+    refused_here c.args.bytes.now c.loop-alloc.rest.now c.loop-alloc.number (partial_of c.loop-alloc.draft) c.loop-alloc.invariant (sym c.has_ended.ensures ∙ c.loop-alloc-test.true) c.in-Some.line.now c.in-Some.after.now c.in-Some.ensures.line
     (c.in-Err.ensures.refused (ap Err is)))
 
 pub loop-alloc-preserved : goal.loop-alloc-preserved
@@ -24,7 +24,11 @@ loop-alloc-preserved c =
     c.in_default-read_canonical_line.ensures.read c.in_default-read_canonical_line.ensures.rules
 
 pub returns-clause-orderly : goal.returns-clause-orderly
-returns-clause-orderly c = read_orderly c.args.bytes.now c.loop-alloc.rest.now c.loop-alloc.number (partial_of c.loop-alloc.draft) c.loop-alloc.invariant
+returns-clause-orderly c =
+    let up = c.loop-alloc.invariant in
+    (read_way c.args.bytes.now c.loop-alloc.rest.now up.pieces (partial_of c.loop-alloc.draft) up.read).orderly
 
 pub returns-clause-text : goal.returns-clause-text
-returns-clause-text c = read_text c.args.bytes.now c.loop-alloc.rest.now c.loop-alloc.number (partial_of c.loop-alloc.draft) c.loop-alloc.invariant
+returns-clause-text c =
+    let up = c.loop-alloc.invariant in
+    read_text c.args.bytes.now c.loop-alloc.rest.now up.pieces (partial_of c.loop-alloc.draft) up.read

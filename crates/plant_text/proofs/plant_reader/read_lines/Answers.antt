@@ -2,9 +2,7 @@ use Rattle.std.proofs.Common.{arith, Err, ap}
 use Rattle.plant_reading.specs.Lines.{lines_of}
 use Rattle.plant_text.specs.PlantRefusals.{IsRefusedFor}
 use Rattle.plant_text.specs.inside.DraftsInMemory.{partial_of}
-use Rattle.plant_text.proofs.lemmas.LinesLead.{read_once}
 use Rattle.plant_text.proofs.lemmas.LineByLine.{at_first_line, at_next_line, refused_here, all_read, ends_early}
-use Rattle.plant_reading.proofs.lemmas.StatementLaws.{one_statement, skipped}
 use Rattle.plant_text.proofs.lemmas.LineFaults.{told_reason}
 use Rattle.plant_text.proofs.plant_reader.read_lines.Goals as goal
 
@@ -18,7 +16,7 @@ pub returns-in-Err-clause-refused : goal.returns-in-Err-clause-refused
 returns-in-Err-clause-refused c =
     told_reason (IsRefusedFor c.args.bytes.now) c.in-Err.fault c.at_line.result c.loop-line.number c.at_line.ensures.malformed c.at_line.ensures.memory (λ is. (
       c.requires,
-      refused_here (read_once one_statement skipped) c.args.bytes.now c.loop-line.rest.now c.in-Some.line.now c.in-Some.after.now c.loop-line.number (partial_of c.loop-line.draft) c.loop-line.invariant c.in-Some.ensures.line (c.in-Err.ensures.refused (ap Err is)),
+      refused_here c.args.bytes.now c.loop-line.rest.now c.loop-line.number (partial_of c.loop-line.draft) c.loop-line.invariant c.in-Some.line.now c.in-Some.after.now c.in-Some.ensures.line (c.in-Err.ensures.refused (ap Err is)),
     ))
 
 pub overflow_add-number : goal.overflow_add-number
@@ -38,7 +36,8 @@ returns-then-not-has_ended-clause-refused c = λ _. (
 )
 
 pub returns-clause-read : goal.returns-clause-read
-returns-clause-read c = all_read c.args.bytes.now c.loop-line.rest.now c.loop-line.number (partial_of c.loop-line.draft) c.loop-line.invariant (ap lines_of c.in_default.ensures.ended)
+returns-clause-read c =
+    all_read c.args.bytes.now c.loop-line.rest.now c.loop-line.number (partial_of c.loop-line.draft) c.loop-line.invariant (ap lines_of c.in_default.ensures.ended) (let e = c.has_ended.ensures in let f = c.if-not-has_ended.false in cc)
 
 pub returns-clause-rules : goal.returns-clause-rules
 returns-clause-rules c = c.loop-line.invariant.rules

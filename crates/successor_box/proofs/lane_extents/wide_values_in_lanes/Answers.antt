@@ -5,7 +5,7 @@ use Rattle.std.proofs.lemmas.Int.{to_z-of_z}
 use Rattle.std.proofs.lemmas.List.{length-set}
 use Rattle.fixed_expr.specs.Expression.{expression_of}
 use Rattle.fixed_expr.specs.Value.{value_of}
-use Rattle.fixed_expr.specs.LaneEval.{row_of}
+use Rattle.fixed_expr.specs.LaneEval.{lane_of}
 use Rattle.successor_box.proofs.Filling.{index_more}
 use Rattle.successor_box.proofs.lane_extents.wide_values_in_lanes.Goals as goal
 
@@ -18,7 +18,7 @@ loop-j-preserved c =
     rw (to_z-of_z w128 x fits)
     (record {
       long = length-set values j x ∙ c.loop-j.invariant.long;
-      each = index_more (λ (i : ℕ) (y : ℤ). y ≡ value_of (expression_of c.args.e.now) (row_of c.args.columns.now i)) (pos 0) values j x (omega arith) c.loop-j.invariant.each c.value_in_lane.ensures;
+      each = index_more (λ (i : ℕ) (y : ℤ). y ≡ value_of (expression_of c.args.e.now) (lane_of c.args.columns.now i)) (pos 0) values j x (omega arith) c.loop-j.invariant.each c.value_in_lane.ensures;
     })
 
 pub returns : goal.returns

@@ -7,10 +7,10 @@ use Rattle.successor_box.proofs.PairExtents.{extents_of_box}
 use Rattle.successor_box.proofs.one_pair.successors.Goals as goal
 
 pub extent-requires-clause-state : goal.extent-requires-clause-state
-extent-requires-clause-state c = let each = equations_count _ _ c.equations-state-end.ensures.same in rw c.of-sampled.ensures.plant (omega (arith, each))
+extent-requires-clause-state c = let each = equations_count _ _ c.equations-state-end.ensures.same in rw c.new-sampled.ensures.plant (omega (arith, each))
 
 pub extent-requires-clause-pair : goal.extent-requires-clause-pair
-extent-requires-clause-pair c = rw c.of-sampled.ensures.plant (c.requires.cell, c.requires.input)
+extent-requires-clause-pair c = rw c.new-sampled.ensures.plant (c.requires.cell, c.requires.input)
 
 pub loop-state-preserved : goal.loop-state-preserved
 loop-state-preserved c =
@@ -22,7 +22,7 @@ loop-state-preserved c =
       six = omega (arith, length-set c.loop-state.extents c.loop-state.state c.extent.result);
       each = below_more _ _
           (λ i before. let other : i ≢ c.loop-state.state = omega arith in rw get_or-set_other (so_far.each i before))
-          (rw get_or-set_same (rw c.of-sampled.ensures.plant at c.extent.ensures));
+          (rw get_or-set_same (rw c.new-sampled.ensures.plant at c.extent.ensures));
     }
 
 pub box_with-requires : goal.box_with-requires

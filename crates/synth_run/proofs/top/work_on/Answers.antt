@@ -1,8 +1,10 @@
-use Rattle.std.proofs.Common.{ℕ, List}
+use Rattle.std.proofs.Common.{◌≡◌, ℕ, List, sym, subst}
 use Rattle.command_line.specs.declared.command.Command.TheVariants.{Demo}
-use Rattle.synth_run.specs.declared.outcome.Outcome.{Outcome}
-use Rattle.synth_run.specs.declared.top.Work.{Work}
-use Rattle.synth_run.specs.inside.Making.{IsMade, IsRefusalOf}
+use Rattle.synth_run.specs.declared.stop.Stop.{Stop}
+use Rattle.synth_run.specs.declared.work.Work.{Work}
+use Rattle.synth_run.specs.IsOutcomeFor.{IsRefusalFor}
+use Rattle.synth_run.specs.inside.Causes.{IsStopFor, without_memory}
+use Rattle.synth_run.specs.inside.Making.{IsMade}
 use Rattle.synth_run.proofs.top.work_on.Goals as goal
 use Rattle.std.proofs.lemmas.Result.{IfOk-weaker, IfErr-weaker}
 
@@ -31,9 +33,9 @@ returns-in-Demo-clause-made g c =
     (IfOk-weaker c.demo.result (λ (work : Work). (bytes : List ℕ) → IsMade command bytes work.text work.played) (λ (work : Work). IsMade command c.args.bytes.now work.text work.played)
     (λ work made. made c.args.bytes.now) c.demo.ensures.made)
 
-pub returns-in-Demo-clause-declined : goal.returns-in-Demo-clause-declined
-returns-in-Demo-clause-declined g c =
+pub returns-in-Demo-clause-refused : goal.returns-in-Demo-clause-refused
+returns-in-Demo-clause-refused g c =
     let command = Demo c.in-Demo.number c.in-Demo.workers in
     rw c.in-Demo.is
-    (IfErr-weaker c.demo.result (λ (outcome : Outcome). (bytes : List ℕ) → IsRefusalOf command bytes outcome) (IsRefusalOf command c.args.bytes.now)
-    (λ outcome declined. declined c.args.bytes.now) c.demo.ensures.declined)
+    (IfErr-weaker c.demo.result (λ (stop : Stop). stop ≡ without_memory) (IsStopFor (IsRefusalFor command c.args.bytes.now))
+    (λ stop memory. subst (λ (s : Stop). IsStopFor (IsRefusalFor command c.args.bytes.now) s) (sym memory) tt) c.demo.ensures.memory)

@@ -1,5 +1,5 @@
 use Rattle.std.proofs.Common.{◌≡◌, ℕ, ◌*◌, ◌<◌, length, drop}
-use Rattle.table_control.specs.Each.{TellsReplyAt}
+use Rattle.table_control.specs.Each.{EncodesReplyAt}
 use Rattle.table_control.proofs.at_states.reply_each.Given as goal
 
 -- the replies at the first states, and the inputs of the later ones as they were
@@ -7,6 +7,6 @@ abbrev pub invariant-loop-k : goal.invariant-loop-k
 invariant-loop-k l = record {
   long : length l.replies ≡ length l.fn.replies;
   wide : length l.inputs ≡ length l.fn.inputs;
-  done : (j : ℕ) → j < l.k → TellsReplyAt l.table l.states l.fn.inputs l.inputs l.replies j;
+  done : (j : ℕ) → j < l.k → EncodesReplyAt l.table l.states l.fn.inputs l.inputs l.replies j;
   later : drop (l.k * l.inputs_each) l.inputs ≡ drop (l.k * l.inputs_each) l.fn.inputs;
 }

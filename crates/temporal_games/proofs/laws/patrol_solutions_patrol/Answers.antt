@@ -1,4 +1,4 @@
-use Rattle.temporal_games.specs.PatrolText.{patrol_text}
+use Rattle.temporal_texts.specs.PatrolText.{patrol_text}
 use Rattle.temporal_games.proofs.PatrolLaws.{solution_has_patrol_text, patrol_text_patrols}
 use Rattle.temporal_games.proofs.laws.patrol_solutions_patrol.Goals as goal
 

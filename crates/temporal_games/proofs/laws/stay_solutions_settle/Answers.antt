@@ -1,4 +1,4 @@
-use Rattle.temporal_games.specs.StayText.{stay_text}
+use Rattle.temporal_texts.specs.StayText.{stay_text}
 use Rattle.temporal_games.proofs.StayLaws.{solution_has_stay_text, stay_text_settles}
 use Rattle.temporal_games.proofs.laws.stay_solutions_settle.Goals as goal
 

@@ -2,7 +2,7 @@ use Rattle.std.proofs.Common.{◌<◌, ◌≤◌, arith, ap, sym, refl, ◌∙�
 use Rattle.std.specs.Int.{w128}
 use Rattle.std.proofs.lemmas.Int.{to_z-of_z}
 use Rattle.std.proofs.lemmas.List.{length-set}
-use Rattle.mixed_radix.specs.Radix.{digits, AreDigitsOf}
+use Rattle.mixed_radix.specs.Radix.{digits}
 use Rattle.mixed_radix.proofs.Numbers.{length-digits, the_digits}
 use Rattle.grid_quantiser.specs.Axes.{no_axis, counts_of}
 use Rattle.grid_quantiser.specs.Cells.{point_of}
@@ -13,14 +13,10 @@ use Rattle.grid_quantiser.proofs.grid.Grid.point.Goals as goal
 pub loop-i-init : goal.loop-i-init
 loop-i-init c = record { six = refl; each = λ k lt. absurd (omega (arith, lt)); rest = λ k le. six_defaults (pos 0) k }
 
--- the digits that the call finds are the indices on the axes that it sees
-found : (c : goal.After-decode-indices) → AreDigitsOf (counts_of c.axes-axes.result.now) c.args.c c.decode-indices.result
-found c = rw (c.axes-axes.ensures.same, ← c.counts.ensures.same) c.decode-indices.ensures.digits
-
 pub number-requires-clause-within : goal.number-requires-clause-within
 number-requires-clause-within c =
     let axes = c.axes-axes.result.now in
-    let of = rw (c.counts.ensures.same, ← c.axes-axes.ensures.same) at c.decode-indices.ensures.digits in
+    let of = (rw (c.counts.ensures.same, ← c.axes-axes.ensures.same) at c.decode-indices.ensures.digits) (rw c.axes-axes.ensures.same c.requires) in
     omega (arith, c.from.ensures, of.are.below c.loop-i.i (omega (arith, c.loop-i-test.true, length-counts_of axes)), each_count axes c.loop-i.i)
 
 pub loop-i-preserved : goal.loop-i-preserved
@@ -42,7 +38,7 @@ returns c =
     let axes = c.axes-axes.result.now in
     let counts = counts_of axes in
     let f = coordinate_of c.args.cell_point in
-    let of = rw (c.counts.ensures.same, ← c.axes-axes.ensures.same) at c.decode-indices.ensures.digits in
+    let of = (rw (c.counts.ensures.same, ← c.axes-axes.ensures.same) at c.decode-indices.ensures.digits) (rw c.axes-axes.ensures.same c.requires) in
     let so_far = c.loop-i.invariant in
     let ds = digits counts c.args.c in
     let enough : length axes ≤ length ds = omega (arith, length-digits counts c.args.c, length-counts_of axes) in

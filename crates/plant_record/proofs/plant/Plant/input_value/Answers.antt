@@ -2,7 +2,7 @@ use Rattle.std.proofs.Common.{◌/◌, ◌%◌, rules, length, get_or, pos}
 use Rattle.std.specs.Prelude.{FitsSigned}
 use Rattle.std.specs.Int.{w128}
 use Rattle.std.proofs.lemmas.Int.{to_z-of_z}
-use Rattle.plant_record.proofs.lemmas.InputVectors.{value_read}
+use Rattle.plant_record.proofs.lemmas.ValueIndices.{value_read}
 use Rattle.plant_record.proofs.plant.Plant.input_value.Goals as goal
 
 pub returns : goal.returns

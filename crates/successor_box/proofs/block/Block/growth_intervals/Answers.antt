@@ -5,7 +5,7 @@ use Rattle.std.proofs.lemmas.Int.{to_z-of_z}
 use Rattle.std.proofs.lemmas.List.{length-set}
 use Rattle.std.proofs.lemmas.Option.{get_or_from_slice_get}
 use Rattle.fixed_expr.specs.Expression.{Expression, NumExpr, expression_of}
-use Rattle.fixed_expr.specs.LaneEval.{row_of}
+use Rattle.fixed_expr.specs.LaneEval.{lane_of}
 use Rattle.fixed_expr.specs.Value.{value_of}
 use Rattle.interval_eval.specs.declared.interval.Interval.{Interval}
 use Rattle.plant_record.specs.Description.{vectors_of}
@@ -38,7 +38,7 @@ values_in_lanes-next-requires-clause-fits c = λ lane lt.
     let sound = sound_plant p c.args.self.now.sampled.within.plant in
     let pair = c.requires.pairs lane lt in
     let equation : expression_of c.equation.result.now ≡ equation_at p i = sym (get_or_from_slice_get p.equations i (expression_of c.equation.result.now) (NumExpr (pos 0)) c.equation.ensures) in
-    let values : row_of c.args.self.now.columns.now lane ≡ central_values p pair.0 pair.1 = lane_is p pair.0 pair.1 c.args.self.now.columns.now lane c.args.self.now.centres.long (c.args.self.now.centres.each lane pair.0 pair.1 lt pair.2) in
+    let values : lane_of c.args.self.now.columns.now lane ≡ central_values p pair.0 pair.1 = lane_is p pair.0 pair.1 c.args.self.now.columns.now lane c.args.self.now.centres.long (c.args.self.now.centres.each lane pair.0 pair.1 lt pair.2) in
     rw (equation, values) (stays_at p pair.0 pair.1 sound c.args.self.now.sampled.fits pair.2.cell pair.2.input i c.requires.state)
 
 pub growth-requires-clause-next : goal.growth-requires-clause-next
@@ -51,7 +51,7 @@ growth-requires-clause-next c =
     let cell : ℕ = pair.0 in
     let u : ℕ = pair.1 in
     let equation : expression_of c.equation.result.now ≡ equation_at p i = sym (get_or_from_slice_get p.equations i (expression_of c.equation.result.now) (NumExpr (pos 0)) c.equation.ensures) in
-    let values : row_of c.args.self.now.columns.now lane ≡ central_values p cell u = lane_is p cell u c.args.self.now.columns.now lane c.args.self.now.centres.long (c.args.self.now.centres.each lane cell u lt pair.2) in
+    let values : lane_of c.args.self.now.columns.now lane ≡ central_values p cell u = lane_is p cell u c.args.self.now.columns.now lane c.args.self.now.centres.long (c.args.self.now.centres.each lane cell u lt pair.2) in
     let number : get_or c.args.self.now.inputs.now lane 0 ≡ u = c.args.self.now.numbers lane cell u lt pair.2 in
     let x : ℤ = get_or c.values_in_lanes-next.result lane (pos 0) in
     let fits : FitsSigned w128 x = search rules in
@@ -73,7 +73,7 @@ loop-j-preserved c =
       long = length-set growth_intervals lane ends ∙ c.loop-j.invariant.long;
       each = index_more (λ (j : ℕ) (r : Interval). (cell u : ℕ) → IsPairInLane p c.args.self.now.indices.now j cell u → r ≡ growth_of p cell u e) no_range growth_intervals lane ends (omega arith) c.loop-j.invariant.each (λ cell u is.
           let equation : expression_of c.equation.result.now ≡ e = sym (get_or_from_slice_get p.equations i (expression_of c.equation.result.now) (NumExpr (pos 0)) c.equation.ensures) in
-          let values : row_of c.args.self.now.columns.now lane ≡ central_values p cell u = lane_is p cell u c.args.self.now.columns.now lane c.args.self.now.centres.long (c.args.self.now.centres.each lane cell u lt is) in
+          let values : lane_of c.args.self.now.columns.now lane ≡ central_values p cell u = lane_is p cell u c.args.self.now.columns.now lane c.args.self.now.centres.long (c.args.self.now.centres.each lane cell u lt is) in
           let x : ℤ = get_or c.values_in_lanes-next.result lane (pos 0) in
           let fits : FitsSigned w128 x = search rules in
           let value : x ≡ value_of e (central_values p cell u) = c.values_in_lanes-next.ensures lane lt ∙ ap₂ value_of equation values in

@@ -1,8 +1,0 @@
-use Rattle.std.proofs.Common.{[]}
-use Rattle.command_line.proofs.Words.{where_none}
-use Rattle.command_line.proofs.Spellings.{no_spelling}
-use Rattle.command_line.proofs.command.start_of.Goals as goal
-
-pub returns-in_err-state_number_of-clause-none : goal.returns-in_err-state_number_of-clause-none
-returns-in_err-state_number_of-clause-none c =
-    where_none c.from_residual.result _ (no_spelling c.args.arguments.now c.loop-word.word-index (record { ref_ptr = (0, 0); now = [] }) c.loop-word-test.true c.in_err-state_number_of.ensures.none)

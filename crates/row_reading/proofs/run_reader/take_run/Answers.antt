@@ -1,0 +1,12 @@
+use Rattle.row_reading.proofs.LinesRead.{no_first, no_last, no_row}
+use Rattle.row_reading.proofs.run_reader.take_run.Goals as goal
+
+pub returns-in_err-first : goal.returns-in_err-first
+returns-in_err-first c = rw c.from_residual.ensures (no_first c.args.version c.args.format c.args.bytes.now c.in_err-first.ensures)
+
+pub returns-in_err-last : goal.returns-in_err-last
+returns-in_err-last c = rw c.from_residual-in_err-last.ensures (no_last c.args.version c.args.format c.args.bytes.now c.in_ok-first.first c.in_ok-first.more.now c.in_ok-first.ensures c.in_err-last.ensures)
+
+pub returns-in_err-row : goal.returns-in_err-row
+returns-in_err-row c =
+    rw c.from_residual-in_err-row.ensures (no_row c.args.version c.args.format c.args.bytes.now c.in_ok-first.first c.in_ok-first.more.now c.in_ok-first.ensures c.in_ok-last.last c.in_ok-last.words.now c.in_ok-last.ensures c.in_err-row.ensures)

@@ -1,0 +1,85 @@
+//! Stay texts and patrol texts that are read.
+
+use controller_table::TableFault;
+use game_core::Row;
+use std::alloc::Global;
+use std::test::Fail;
+use temporal_texts::laws::{
+    no_patrol_text_is_neither, no_stay_text_is_neither, one_patrol_refusal, one_stay_refusal,
+    patrol_text_or_refused, patrol_trajectories_go_on, stay_text_or_refused,
+    stay_trajectories_settle,
+};
+use temporal_texts::{PatrolFault, read_patrol, read_stay};
+
+/// The plant of the trials, which may also stand still.
+const STAY: &[u8] =
+    b"stay 1\nplant 1\nstate x 0 14 3\ninput u -3 0 3\nnext x = x + u\ntarget 12 14\ngoal reach\nend\nrows 5\n0 0 4 2\n1 1 3 2\n2 2 2 2\n3 3 1 2\n4 4 0 1\nend\n";
+
+/// A rank as great as the number of cells.
+const FAR_STAY: &[u8] =
+    b"stay 1\nplant 1\nstate x 0 14 3\ninput u -3 0 3\nnext x = x + u\ntarget 12 14\ngoal reach\nend\nrows 1\n0 0 5 2\nend\n";
+
+/// The plant of the trials, with a target at either end.
+const PATROL: &[u8] =
+    b"patrol 1\nplant 1\nstate x 0 14 3\ninput u -3 3\nnext x = x + u\ntarget 0 2\ntarget 12 14\ngoal reach\nend\nturn 0 rows 5\n0 0 2 1\n1 1 1 0\n2 2 2 0\n3 3 3 0\n4 4 4 0\nturn 1 rows 5\n0 0 4 1\n1 1 3 1\n2 2 2 1\n3 3 1 1\n4 4 2 0\nend\n";
+
+/// The second turn has the number of the first.
+const SAME_TURN: &[u8] =
+    b"patrol 1\nplant 1\nstate x 0 14 3\ninput u -3 3\nnext x = x + u\ntarget 0 2\ntarget 12 14\ngoal reach\nend\nturn 0 rows 1\n1 1 1 0\nturn 0 rows 0\nend\n";
+
+/// More than 4,194,304 cells over its 5 targets.
+const LONG_PATROL: &[u8] =
+    b"patrol 1\nplant 1\nstate x 0 1048575 1\ninput u 1\nnext x = x + u\ntarget 0 1\ntarget 0 2\ntarget 0 3\ntarget 0 4\ntarget 0 5\ngoal reach\nend\n";
+
+/// Whether the stay text has its five rows, and that with a greater rank is refused at its row's line.
+fn has_stay_rows(alloc: Global) -> bool {
+    one_stay_refusal();
+    stay_text_or_refused();
+    no_stay_text_is_neither();
+    stay_trajectories_settle();
+    let Ok(stay) = read_stay(alloc, STAY) else {
+        return false;
+    };
+    let rows = stay.rows();
+    rows.cells() == 5
+        && rows.row(0) == Some(Row { rank: 4, input: 2 })
+        && rows.row(4) == Some(Row { rank: 0, input: 1 })
+        && matches!(
+            read_stay(alloc, FAR_STAY),
+            Err(TableFault::Malformed { line: 10 })
+        )
+}
+
+/// Whether the patrol text has its two turns, and the others are refused at the second turn's line and for their turns.
+fn has_patrol_rows(alloc: Global) -> bool {
+    one_patrol_refusal();
+    patrol_text_or_refused();
+    no_patrol_text_is_neither();
+    patrol_trajectories_go_on();
+    let Ok(patrol) = read_patrol(alloc, PATROL) else {
+        return false;
+    };
+    if patrol.turns() != 2 {
+        return false;
+    }
+    let rows = patrol.rows().turn(1);
+    rows.cells() == 5
+        && rows.row(4) == Some(Row { rank: 2, input: 0 })
+        && matches!(
+            read_patrol(alloc, SAME_TURN),
+            Err(PatrolFault::Malformed { line: 12 })
+        )
+        && matches!(read_patrol(alloc, LONG_PATROL), Err(PatrolFault::Turns))
+}
+
+#[test]
+fn stay_texts_are_read(rt: HostRuntime) -> Result<(), Fail> {
+    assert!(rt; has_stay_rows(rt.alloc()));
+    Ok(())
+}
+
+#[test]
+fn patrol_texts_are_read(rt: HostRuntime) -> Result<(), Fail> {
+    assert!(rt; has_patrol_rows(rt.alloc()));
+    Ok(())
+}

@@ -1,0 +1,32 @@
+use Rattle.std.proofs.Common.{inr, ◌≡◌, ℕ, refl, sym, subst}
+use Rattle.table_check.specs.declared.verdict.Verdict.TheVariants.{Valid, Invalid}
+use Rattle.command_line.specs.declared.outcome.Refusal.TheVariants as refusals
+use Rattle.synth_run.specs.declared.stop.Stop.{Stop}
+use Rattle.synth_run.specs.declared.stop.Stop.TheVariants.{Refused}
+use Rattle.synth_run.specs.IsOutcomeFor.{IsRowsRefusal}
+use Rattle.synth_run.specs.inside.Causes.{IsStopFor}
+use Rattle.synth_run.proofs.Reporting.{on_ok_both}
+use Rattle.synth_run.proofs.commands.check.check_table.Goals as goal
+use Rattle.std.proofs.lemmas.Result.{IfErr-weaker}
+
+pub returns-clause-solvable : goal.returns-clause-solvable
+returns-clause-solvable g c =
+    let verdict = c.in_ok-verdict.verdict in
+    on_ok_both c.refuse_invalid.result (verdict ≡ Valid) (verdict ≡ Valid) _ (λ _ _. c.in_ok-verdict.ensures.solvable) c.refuse_invalid.ensures.valid c.refuse_invalid.ensures.valid
+
+pub returns-clause-solution : goal.returns-clause-solution
+returns-clause-solution g c =
+    let judged = c.in_ok-verdict.ensures.verdict in
+    let verdict = c.in_ok-verdict.verdict in
+    on_ok_both c.refuse_invalid.result (verdict ≡ Valid) (verdict ≡ Valid) _
+    (λ valid _. record { game = judged.game; abstraction = judged.abstraction; solution = judged.judged.valid.0 valid }) c.refuse_invalid.ensures.valid c.refuse_invalid.ensures.valid
+
+pub returns-clause-refused : goal.returns-clause-refused
+returns-clause-refused g c =
+    let judged = c.in_ok-verdict.ensures.verdict in
+    let verdict = c.in_ok-verdict.verdict in
+    let table = c.args.table.now in
+    IfErr-weaker c.refuse_invalid.result (λ stop. (cell : ℕ) × (verdict ≡ Invalid cell) × (stop ≡ Refused (refusals.Invalid cell))) _
+    (λ stop found. subst (λ (s : Stop). IsStopFor (IsRowsRefusal table.plant table.rows) s) (sym found.2)
+    (inr (found.0, refl, c.in_ok-verdict.ensures.solvable, record { game = judged.game; abstraction = judged.abstraction; wrong = (judged.judged.invalid found.0).0 found.1 })))
+    c.refuse_invalid.ensures.invalid

@@ -1,0 +1,28 @@
+use Rattle.std.proofs.Common.{◌≡◌, ℕ, refl, sym, subst}
+use Rattle.game_core.specs.Game.{Game}
+use Rattle.plant_record.specs.declared.aims.GoalKind.TheVariants.{Reach}
+use Rattle.plant_game.specs.Abstraction.{IsGameOf}
+use Rattle.demo_plants.specs.Demo.{demo_plant_of}
+use Rattle.synth_run.specs.inside.Causes.{without_memory}
+use Rattle.synth_run.specs.declared.stop.Stop.{Stop}
+use Rattle.synth_run.proofs.Leaving.{left, solved_on}
+use Rattle.synth_run.proofs.Reporting.{exits}
+use Rattle.synth_run.proofs.commands.demo.demo.Goals as goal
+
+is_to_reach : (n : ℕ) → Reach ≡ (demo_plant_of n).goal
+unfolding demo_plant_of
+is_to_reach n = refl
+
+-- the game with its reversed edges is the demo plant's as well
+pub demo_line-requires-clause-game : goal.demo_line-requires-clause-game
+demo_line-requires-clause-game g c = subst (λ (h : Game). IsGameOf (demo_plant_of c.args.number) h) (sym c.in_ok-solved.ensures.game) c.in_ok-forward.ensures.game
+
+pub returns-clause-made : goal.returns-clause-made
+returns-clause-made g c =
+    let n = c.args.number in
+    let solved = c.in_ok-solved.solved in
+    let on = solved_on (demo_plant_of n) Reach solved (is_to_reach n) (subst (λ (h : Game). IsGameOf (demo_plant_of n) h) (sym c.in_ok-solved.ensures.game) c.in_ok-forward.ensures.game) c.in_ok-solved.ensures.solved in
+    λ bytes. record { can_be_written = tt; answer = c.in_ok-line.ensures; leaves = left (demo_plant_of n) solved.board solved.root on }
+
+pub returns-in_err-forward-clause-memory : goal.returns-in_err-forward-clause-memory
+returns-in_err-forward-clause-memory g c = exits c.from_residual.result c.in_err-forward.field-0.0 (λ (stop : Stop). stop ≡ without_memory) c.from_residual.ensures.1 c.in_err-forward.ensures.memory

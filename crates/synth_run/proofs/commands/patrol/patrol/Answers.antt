@@ -1,0 +1,40 @@
+use Rattle.std.proofs.Common.{inr, ◌*◌, ◌^◌, ◌<◌, ◌≤◌, ℕ, length, refl, sym, subst, arith}
+use Rattle.plant_game.specs.Abstraction.{IsGameOf}
+use Rattle.abstraction_table.specs.Table.{game_of}
+use Rattle.synth_run.specs.declared.stop.Stop.{Stop}
+use Rattle.synth_run.specs.IsOutcomeFor.{turns_of, IsPatrolRefusal, IsTextRefusal}
+use Rattle.synth_run.specs.inside.Causes.{IsStopFor}
+use Rattle.synth_run.proofs.PatrolTables.{patrol_table, patrol_stop}
+use Rattle.synth_run.proofs.Reporting.{exits}
+use Rattle.synth_run.proofs.commands.patrol.patrol.Goals as goal
+
+pub patrol-requires-clause-size : goal.patrol-requires-clause-size
+patrol-requires-clause-size g c = λ κs within.
+    let p = c.in_ok-plant.plant in
+    let few : turns_of p ≤ 4194304 = omega (arith, c.turns_of.ensures, c.in_ok-limit_turns.ensures.few) in
+    subst (λ (n : ℕ). n * length p.targets ≤ 4194304) (sym (subst (IsGameOf p) (sym c.in_ok-game.ensures.game) c.in_ok-plant.ensures.game).cells) few
+
+pub returns-clause-made : goal.returns-clause-made
+returns-clause-made g c =
+    let p = c.in_ok-plant.plant in
+    let accepted = c.in_ok-plant.ensures.accepted in
+    let few : turns_of p ≤ 2 ^ 22 = omega (arith, c.turns_of.ensures, c.in_ok-limit_turns.ensures.few) in
+    rw c.of_text.ensures
+    (record {
+      can_be_written = tt;
+      answer = (p, accepted, (c.in_ok-plant.ensures.solvable, few), patrol_table p (game_of c.in_ok-game.game) c.in_ok-rows.rows accepted.limits (subst (IsGameOf p) (sym c.in_ok-game.ensures.game) c.in_ok-plant.ensures.game) c.in_ok-rows.ensures);
+      leaves = refl;
+    })
+
+pub returns-in_err-limit_turns-clause-refused : goal.returns-in_err-limit_turns-clause-refused
+returns-in_err-limit_turns-clause-refused g c =
+    let p = c.in_ok-plant.plant in
+    let refused = c.in_err-limit_turns.ensures.many in
+    let many : 2 ^ 22 < turns_of p = omega (arith, c.turns_of.ensures, refused.1) in
+    exits c.from_residual-in_err-limit_turns.result c.in_err-limit_turns.field-0.0 _ c.from_residual-in_err-limit_turns.ensures.1
+    (subst (λ (stop : Stop). IsStopFor (IsTextRefusal IsPatrolRefusal c.args.bytes.now) stop) (sym refused.0) (inr (p, c.in_ok-plant.ensures.accepted, inr (refl, c.in_ok-plant.ensures.solvable, many))))
+
+pub returns-in_err-plant-clause-refused : goal.returns-in_err-plant-clause-refused
+returns-in_err-plant-clause-refused g c =
+    let stop = c.in_err-plant.field-0.0 in
+    exits c.from_residual.result stop _ c.from_residual.ensures.1 (patrol_stop c.args.bytes.now stop c.in_err-plant.ensures.refused)

@@ -1,5 +1,0 @@
-use Rattle.std.proofs.Common.{append_assoc, append-nil}
-use Rattle.synth_run.proofs.outcome.report_overflow.Goals as goal
-
-pub returns : goal.returns
-returns g c = simp append_assoc (simp (c.as_bytes-equation.ensures.value, c.format.ensures.text, c.as_bytes-input.ensures.value, c.format-2.ensures.text, append-nil) at c.report_pieces.ensures)

@@ -1,0 +1,59 @@
+//! The line of a demo plant, from its number.
+
+ghost use Rattle.std.specs.Prelude.{◌≡◌, ℕ, List, IfOk, IfErr};
+ghost use Rattle.command_line.specs.declared.command.Command.{Command};
+ghost use Rattle.command_line.specs.Command.{IsDemoNumber, AreWorkers};
+ghost use Rattle.demo_plants.specs.Demo.{demo_plant_of};
+ghost use Rattle.plant_game.specs.Abstraction.{IsGameOf};
+ghost use Rattle.abstraction_table.specs.Table.{forward_game};
+ghost use Rattle.synth_run.specs.inside.Causes.{without_memory};
+ghost use Rattle.synth_run.specs.inside.Making.{IsMade};
+
+use crate::abstraction::forward_of;
+use crate::solved_game::solve_game;
+use crate::stop::Stop;
+use crate::text::Text;
+use crate::work::Work;
+use abstraction_table::ForwardAbstraction;
+use demo_plants::{demo_line, demo_plant};
+use frontier_pool::Gate;
+use plant_record::GoalKind;
+use std::alloc::Global;
+use std::thread::Threads;
+
+/// The line of a demo plant, which nothing refuses, whatever the bytes are; and the board on which its game was solved, with
+/// its root.
+pub fn demo<R: Threads + Sync, G: Gate>(
+    rt: &R,
+    alloc: Global,
+    number: u32,
+    workers: u32,
+    gate: &G,
+) -> Result<Work, Stop>
+    requires number { IsDemoNumber number }
+    requires workers { AreWorkers workers }
+    ensures made { IfOk result (λ work. (bytes : List ℕ) → IsMade (Command.Demo number workers) bytes work.text work.played) }
+    ensures memory { IfErr result (λ stop. stop ≡ without_memory) }
+{
+    let forward = demo_forward(rt, alloc, number)?;
+    let solved = solve_game(rt, alloc, GoalKind::Reach, forward, workers, gate)?;
+    let line = demo_line(alloc, number, &solved.game, &solved.answer)?;
+    Ok(Work {
+        text: Text::Summary(line),
+        played: Some((solved.board, solved.root)),
+    })
+}
+
+/// The game of the n-th demo plant as it is seen ahead.
+fn demo_forward<R: Threads + Sync>(
+    rt: &R,
+    alloc: Global,
+    n: u32,
+) -> Result<ForwardAbstraction, Stop>
+    requires { IsDemoNumber n }
+    ensures game { IfOk result (λ forward. IsGameOf (demo_plant_of n) (forward_game forward)) }
+    ensures memory { IfErr result (λ stop. stop ≡ without_memory) }
+{
+    let plant = demo_plant(alloc, n)?;
+    forward_of(rt, alloc, &plant)
+}

@@ -1,0 +1,60 @@
+//! From the bytes of a plant's text to the text of a patrol of its targets in turn.
+
+ghost use Rattle.std.specs.Prelude.{◌≡◌, ◌<◌, ◌≤◌, IfOk, IfErr, OnOk};
+ghost use Rattle.command_line.specs.declared.command.Command.{Command};
+ghost use Rattle.command_line.specs.declared.outcome.Refusal.TheVariants.{TooManyTurns};
+ghost use Rattle.command_line.specs.Command.{AreWorkers};
+ghost use Rattle.synth_run.specs.declared.stop.Stop.TheVariants.{Refused};
+ghost use Rattle.synth_run.specs.IsOutcomeFor.{turns_of, IsRefusalFor};
+ghost use Rattle.synth_run.specs.inside.Causes.{IsStopFor};
+ghost use Rattle.synth_run.specs.inside.Making.{IsMade};
+ghost use Rattle.base.specs.declared.limits.TheConstants.{TURNS_LIMIT};
+
+use crate::abstraction::forward_of_text;
+use crate::stop::Stop;
+use crate::text::{SolvedPlant, Text};
+use crate::work::Work;
+use abstraction_table::add_sources;
+use base::limits::TURNS_LIMIT;
+use command_line::Refusal;
+use frontier_pool::Gate;
+use plant_record::Plant;
+use std::alloc::Global;
+use std::thread::Threads;
+
+/// The patrol text of the plant that the bytes spell.
+pub fn patrol<R: Threads + Sync, G: Gate>(
+    rt: &R,
+    alloc: Global,
+    bytes: &[u8],
+    workers: u32,
+    gate: &G,
+) -> Result<Work, Stop>
+    requires { AreWorkers workers }
+    ensures made { IfOk result (λ work. IsMade (Command.Patrol workers) bytes.now work.text work.played) }
+    ensures refused { IfErr result (IsStopFor (IsRefusalFor (Command.Patrol workers) bytes.now)) }
+{
+    let (plant, forward) = forward_of_text(rt, alloc, bytes)?;
+    limit_turns(turns_of(&plant))?;
+    let game = add_sources(rt, alloc, forward)?;
+    let rows = temporal_games::patrol(rt, alloc, &game, &plant, workers, gate)?;
+    Ok(Work::of_text(Text::Patrol(SolvedPlant { plant, rows })))
+}
+
+/// Refuses more pairs of a turn and a cell than the limit.
+fn limit_turns(turns: u64) -> Result<(), Stop>
+    ensures few { OnOk result (turns ≤ TURNS_LIMIT) }
+    ensures many { IfErr result (λ stop. (stop ≡ Refused TooManyTurns) × (TURNS_LIMIT < turns)) }
+{
+    if turns > TURNS_LIMIT {
+        return Err(Stop::Refused(Refusal::TooManyTurns));
+    }
+    Ok(())
+}
+
+/// How many pairs of a turn and a cell there are.
+fn turns_of(plant: &Plant) -> u64
+    ensures { result ≡ turns_of plant.now }
+{
+    u64::from(plant.grid().cells()) * u64::from(plant.targets())
+}

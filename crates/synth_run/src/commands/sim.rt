@@ -1,0 +1,79 @@
+//! From the bytes of a table's text to the plant in closed loop with it.
+
+ghost use Rattle.std.specs.Prelude.{◌≡◌, ◌≤◌, IfSome, IfNone, IfOk, IfErr, OnOk};
+ghost use Rattle.successor_box.specs.Deviations.{HasNoOverflow, deviations_of};
+ghost use Rattle.command_line.specs.declared.command.Command.{Command};
+ghost use Rattle.command_line.specs.declared.outcome.Refusal.TheVariants.{NoRow};
+ghost use Rattle.synth_run.specs.declared.stop.Stop.TheVariants.{Refused};
+ghost use Rattle.synth_run.specs.IsOutcomeFor.{IsRefusalFor, IsStartRefusal};
+ghost use Rattle.synth_run.specs.Traces.{HasRowFor, HasNoRowFor};
+ghost use Rattle.synth_run.specs.inside.Causes.{IsStopFor};
+ghost use Rattle.synth_run.specs.inside.Making.{IsMade};
+ghost use Rattle.base.specs.declared.limits.TheConstants.{SAMPLES_LIMIT};
+
+use crate::stop::Stop;
+use crate::text::{Simulation, Text};
+use crate::work::Work;
+use command_line::{Refusal, StateNumbers};
+use controller_table::{Table, read_table};
+use game_core::Row;
+use loop_sim::row_at;
+use std::alloc::Global;
+use successor_box::{Slopes, find_slopes};
+
+/// The trace of the table that the bytes are.
+pub fn sim(
+    alloc: Global,
+    bytes: &[u8],
+    samples: u32,
+    seed: u64,
+    start: &StateNumbers,
+) -> Result<Work, Stop>
+    requires { samples ≤ SAMPLES_LIMIT }
+    ensures made { IfOk result (λ work. IsMade (Command.Sim samples seed start.now) bytes.now work.text work.played) }
+    ensures refused { IfErr result (IsStopFor (IsRefusalFor (Command.Sim samples seed start.now) bytes.now)) }
+{
+    let table = read_table(alloc, bytes)?;
+    let slopes = slopes_of(alloc, &table, start)?;
+    Ok(Work::of_text(Text::Trace(Simulation {
+        table,
+        slopes,
+        start: start.point(),
+        seed,
+        samples,
+    })))
+}
+
+/// The slopes of a table's plant, where the table has a row for the start.
+fn slopes_of(alloc: Global, table: &Table, start: &StateNumbers) -> Result<Slopes, Stop>
+    ensures slopes { IfOk result (λ slopes. slopes ≡ deviations_of table.now.plant) }
+    ensures fits { OnOk result (HasNoOverflow table.now.plant) }
+    ensures begins { OnOk result (HasRowFor table.now.plant table.now.rows start.now) }
+    ensures refused { IfErr result (IsStopFor (IsStartRefusal start.now table.now.plant table.now.rows)) }
+{
+    let slopes = find_slopes(alloc, table.plant())?;
+    refuse_no_row(table, start)?;
+    Ok(slopes)
+}
+
+/// Refuses a start at which a table has no row.
+fn refuse_no_row(table: &Table, start: &StateNumbers) -> Result<(), Stop>
+    ensures found { OnOk result (HasRowFor table.now.plant table.now.rows start.now) }
+    ensures none { IfErr result (λ stop. (stop ≡ Refused NoRow) × HasNoRowFor table.now.plant table.now.rows start.now) }
+{
+    match row_for(table, start) {
+        Some(_) => Ok(()),
+        None => Err(Stop::Refused(Refusal::NoRow)),
+    }
+}
+
+/// The row of the cell in which a start lies.
+fn row_for(table: &Table, start: &StateNumbers) -> Option<Row>
+    ensures found { IfSome result (λ _. HasRowFor table.now.plant table.now.rows start.now) }
+    ensures none { IfNone result (HasNoRowFor table.now.plant table.now.rows start.now) }
+{
+    if start.count() != table.plant().states() {
+        return None;
+    }
+    row_at(table, &start.point())
+}

@@ -1,0 +1,35 @@
+//! From the bytes of a plant's text to the text of reach and stay.
+
+ghost use Rattle.std.specs.Prelude.{IfOk, IfErr};
+ghost use Rattle.command_line.specs.declared.command.Command.{Command};
+ghost use Rattle.command_line.specs.Command.{AreWorkers};
+ghost use Rattle.synth_run.specs.IsOutcomeFor.{IsRefusalFor};
+ghost use Rattle.synth_run.specs.inside.Causes.{IsStopFor};
+ghost use Rattle.synth_run.specs.inside.Making.{IsMade};
+
+use crate::abstraction::forward_of_text;
+use crate::stop::Stop;
+use crate::text::{SolvedPlant, Text};
+use crate::work::Work;
+use abstraction_table::add_sources;
+use frontier_pool::Gate;
+use std::alloc::Global;
+use std::thread::Threads;
+
+/// The stay text of the plant that the bytes spell.
+pub fn stay<R: Threads + Sync, G: Gate>(
+    rt: &R,
+    alloc: Global,
+    bytes: &[u8],
+    workers: u32,
+    gate: &G,
+) -> Result<Work, Stop>
+    requires { AreWorkers workers }
+    ensures made { IfOk result (λ work. IsMade (Command.Stay workers) bytes.now work.text work.played) }
+    ensures refused { IfErr result (IsStopFor (IsRefusalFor (Command.Stay workers) bytes.now)) }
+{
+    let (plant, forward) = forward_of_text(rt, alloc, bytes)?;
+    let game = add_sources(rt, alloc, forward)?;
+    let rows = temporal_games::stay(rt, alloc, &game, workers, gate)?;
+    Ok(Work::of_text(Text::Stay(SolvedPlant { plant, rows })))
+}

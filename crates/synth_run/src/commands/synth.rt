@@ -1,0 +1,38 @@
+//! From the bytes of a plant's text to the table of its solution.
+
+ghost use Rattle.std.specs.Prelude.{IfOk, IfErr};
+ghost use Rattle.command_line.specs.declared.command.Command.{Command};
+ghost use Rattle.command_line.specs.Command.{AreWorkers};
+ghost use Rattle.synth_run.specs.IsOutcomeFor.{IsRefusalFor};
+ghost use Rattle.synth_run.specs.inside.Causes.{IsStopFor};
+ghost use Rattle.synth_run.specs.inside.Making.{IsMade};
+
+use crate::abstraction::forward_of_text;
+use crate::solved_game::solve_game;
+use crate::stop::Stop;
+use crate::text::{SolvedPlant, Text};
+use crate::work::Work;
+use frontier_pool::Gate;
+use std::alloc::Global;
+use std::thread::Threads;
+
+/// The table of the plant that the bytes spell, and the board on which its game was solved, with its root.
+pub fn synth<R: Threads + Sync, G: Gate>(
+    rt: &R,
+    alloc: Global,
+    bytes: &[u8],
+    workers: u32,
+    gate: &G,
+) -> Result<Work, Stop>
+    requires { AreWorkers workers }
+    ensures made { IfOk result (λ work. IsMade (Command.Synth workers) bytes.now work.text work.played) }
+    ensures refused { IfErr result (IsStopFor (IsRefusalFor (Command.Synth workers) bytes.now)) }
+{
+    let (plant, forward) = forward_of_text(rt, alloc, bytes)?;
+    let solved = solve_game(rt, alloc, plant.goal(), forward, workers, gate)?;
+    let rows = solved.answer;
+    Ok(Work {
+        text: Text::Table(SolvedPlant { plant, rows }),
+        played: Some((solved.board, solved.root)),
+    })
+}

@@ -1,0 +1,24 @@
+//! From the bytes of a table's text to the table that is to be written anew.
+
+ghost use Rattle.std.specs.Prelude.{IfOk, IfErr};
+ghost use Rattle.command_line.specs.declared.command.Command.{Command};
+ghost use Rattle.synth_run.specs.IsOutcomeFor.{IsRefusalFor};
+ghost use Rattle.synth_run.specs.inside.Causes.{IsStopFor};
+ghost use Rattle.synth_run.specs.inside.Making.{IsMade};
+
+use crate::stop::Stop;
+use crate::text::Text;
+use crate::work::Work;
+use controller_table::read_table;
+use std::alloc::Global;
+use successor_box::find_slopes;
+
+/// The table that the bytes are, of a plant whose numbers stay in the range.
+pub fn upgrade(alloc: Global, bytes: &[u8]) -> Result<Work, Stop>
+    ensures made { IfOk result (λ work. IsMade Command.Upgrade bytes.now work.text work.played) }
+    ensures refused { IfErr result (IsStopFor (IsRefusalFor Command.Upgrade bytes.now)) }
+{
+    let table = read_table(alloc, bytes)?;
+    find_slopes(alloc, table.plant())?;
+    Ok(Work::of_text(Text::Upgraded(table)))
+}

@@ -1,0 +1,15 @@
+pub mod OneStayText
+pub mod StayRules
+pub mod StayRefusals
+pub mod TurnTexts
+pub mod OnePatrolText
+pub mod PatrolRules
+pub mod TurnLine
+pub mod TurnGrammar
+pub mod TurnsRead
+pub mod SomeTurns
+pub mod ShortTexts
+pub mod PatrolRefusals
+pub mod NextTurns
+pub mod Trajectories
+pub mod TextLaws

@@ -1,0 +1,50 @@
+-- The rules of a plant's stay rows allow the rows that fit it, and no others.
+use Rattle.std.proofs.Common.{◌≡◌, ℕ, ◌-◌, ◌^◌, ◌<◌, ◌≤◌, List, length, get_or, Option, Some, None, arith}
+use Rattle.std.specs.Prelude.{IfSome}
+use Rattle.game_core.specs.declared.game.Row.{Row}
+use Rattle.grid_quantiser.specs.Axes.{cells_of}
+use Rattle.plant_record.specs.Description.{Description, axes_of, vectors_of}
+use Rattle.plant_record.specs.Limits.{IsWithinLimits}
+use Rattle.row_reading.specs.RowsTexts.{IsRowWithin, AreRowsWithin}
+use Rattle.row_reading.specs.inside.RunReading.{AreSmall}
+use Rattle.temporal_texts.specs.StayText.{IsStayRowOf, StayRowsFit}
+use Rattle.temporal_texts.specs.StayRefusals.{stay_rules}
+
+below : (n : ℕ) → n ≤ 2 ^ 20 → n < 2 ^ 32
+below n le = omega (arith, le)
+
+less : (n : ℕ) → n ≤ 2 ^ 20 → n - 1 < 2 ^ 32
+less n le = omega (arith, le)
+
+pub small_rules : (p : Description) → IsWithinLimits p → AreSmall (stay_rules p)
+small_rules p within = record {
+  cells = below (cells_of (axes_of p)) within.cells;
+  vectors = below (vectors_of p.inputs) (let few = within.vectors in omega (arith, few));
+  most_rank = less (cells_of (axes_of p)) within.cells;
+}
+
+none_below : (n : ℕ) → 0 ≤ n
+none_below n = omega arith
+
+module _ (p : Description) where
+  row_within : (o : Option Row) → IfSome o (IsStayRowOf p) → IfSome o (IsRowWithin (stay_rules p))
+  row_within None h = tt
+  row_within (Some row) h = record {
+    told = tt;
+    least = none_below row.rank;
+    most = let rank = h.rank in omega (arith, rank);
+    input = h.input;
+  }
+
+  row_fits : (o : Option Row) → 0 < cells_of (axes_of p) → IfSome o (IsRowWithin (stay_rules p)) → IfSome o (IsStayRowOf p)
+  row_fits None some h = tt
+  row_fits (Some row) some h = record { rank = let most = h.most in omega (arith, some, most); input = h.input }
+
+  pub rows_within : (rows : List (Option Row)) → StayRowsFit p rows → AreRowsWithin (stay_rules p) rows
+  rows_within rows fit = record { one_each = fit.one_each; each = λ i d lt. row_within (get_or rows i d) (fit.each i d lt) }
+
+  pub rows_fit : (rows : List (Option Row)) → AreRowsWithin (stay_rules p) rows → StayRowsFit p rows
+  rows_fit rows within = record {
+    one_each = within.one_each;
+    each = λ i d lt. row_fits (get_or rows i d) (let size : length rows ≡ cells_of (axes_of p) = within.one_each in omega (arith, lt, size)) (within.each i d lt);
+  }

@@ -1,0 +1,5 @@
+use Rattle.temporal_texts.proofs.TextLaws as laws
+use Rattle.temporal_texts.proofs.laws.one_patrol_refusal.Goals as goal
+
+pub returns : goal.returns
+returns c = laws.one_patrol_refusal

@@ -1,0 +1,11 @@
+pub mod Targets
+pub mod StayText
+pub mod StayRefusals
+pub mod Settles
+pub mod PatrolText
+pub mod TurnSteps
+pub mod PatrolRefusals
+pub mod Patrols
+pub mod TextTrajectories
+pub mod Laws
+pub mod inside

@@ -1,0 +1,72 @@
+-- The text of a plant with its rows of patrol, turn by turn.
+use Rattle.std.specs.Prelude.{◌≡◌, ℕ, suc, ◌<◌, ◌≤◌, ℤ, List, [], ◌∷◌, ◌++◌, length, Option, Some, IfSome, slice_index_or, codes}
+use Rattle.std.specs.List.{All, concat}
+use Rattle.std.specs.Fmt.{decimal}
+use Rattle.game_core.specs.declared.game.Row.{Row}
+use Rattle.game_core.specs.Solution.{row_of}
+use Rattle.row_runs.specs.declared.row_format.RowFormat.TheVariants.{Both}
+use Rattle.row_runs.specs.RunText.{line, run_lines, end_line}
+use Rattle.grid_quantiser.specs.Axes.{cells_of}
+use Rattle.grid_quantiser.specs.Cells.{IsInDomain, cell_of}
+use Rattle.plant_record.specs.Description.{Description, axes_of, vectors_of}
+use Rattle.plant_record.specs.Limits.{IsWithinLimits}
+use Rattle.plant_writing.specs.CanonicalText.{text_of}
+use Rattle.temporal_texts.specs.Targets.{IsInTarget, next_turn}
+
+-- the first line
+abbrev pub patrol_line : List ℕ
+patrol_line = line (codes "patrol" ∷ codes "1" ∷ [])
+
+-- the line before the runs of a turn: its number, and how many lines of runs follow
+abbrev pub turn_line : ℕ → ℕ → List ℕ
+turn_line j n = line (codes "turn" ∷ decimal j ∷ codes "rows" ∷ decimal n ∷ [])
+
+-- the lines of the turns from j on: the lines of runs have the rank and the input
+abbrev pub turn_lines : ℕ → List (List (Option Row)) → List (List ℕ)
+turn_lines j [] = []
+turn_lines j (rows ∷ rest) = turn_line j (length (run_lines Both rows)) ∷ run_lines Both rows ++ turn_lines (suc j) rest
+
+-- the text of a plant and of one optional row for each turn and cell
+abbrev pub patrol_text : Description → List (List (Option Row)) → List ℕ
+patrol_text p rows = patrol_line ++ text_of p ++ concat (turn_lines 0 rows ++ end_line ∷ [])
+
+-- the rows of a turn
+abbrev pub rows_for : List (List (Option Row)) → ℕ → List (Option Row)
+rows_for rows j = slice_index_or rows j []
+
+-- What a patrol text tells.
+pub record PatrolModel : Type 0 where
+  pub plant : Description
+  pub rows : List (List (Option Row))
+
+-- A row that a cell of the plant may have: at least one sample and no more than there are cells, and one of the input vectors.
+pub record IsPatrolRowOf (p : Description) (row : Row) : Type 0 where
+  pub some : 1 ≤ row.rank
+  pub rank : row.rank ≤ cells_of (axes_of p)
+  pub input : row.input < vectors_of p.inputs
+
+-- For each target of the plant one optional row for each cell.
+pub record PatrolRowsFit (p : Description) (rows : List (List (Option Row))) : Type 0 where
+  pub one_list_each : length rows ≡ length p.targets
+  pub one_row_each : All (λ (r : List (Option Row)). length r ≡ cells_of (axes_of p)) rows
+  pub each : All (λ (r : List (Option Row)). All (λ row. IfSome row (IsPatrolRowOf p)) r) rows
+
+-- The bytes are the patrol text of a plant within the limits and of rows that fit it.
+pub record IsPatrolText (bytes : List ℕ) (p : Description) (rows : List (List (Option Row))) : Type 0 where
+  pub limits : IsWithinLimits p
+  pub fitting : PatrolRowsFit p rows
+  pub text : bytes ≡ patrol_text p rows
+
+-- The bytes are a patrol text in which the state's cell has this row for a turn.
+pub record HasPatrolRow (bytes : List ℕ) (j : ℕ) (x : List ℤ) (row : Row) : Type 0 where
+  pub plant : Description
+  pub rows : List (List (Option Row))
+  pub table : IsPatrolText bytes plant rows
+  pub turn : j < length plant.targets
+  pub inside : IsInDomain (axes_of plant) x
+  pub is : row_of (rows_for rows j) (cell_of (axes_of plant) x) ≡ Some row
+
+-- The bytes are a patrol text of a plant in which the state's cell is an arrival: it lies in target j and has a row for the next turn.
+pub record IsArrivalIn (bytes : List ℕ) (p : Description) (j : ℕ) (x : List ℤ) (row : Row) : Type 0 where
+  pub target : IsInTarget p j (cell_of (axes_of p) x)
+  pub next : HasPatrolRow bytes (next_turn (length p.targets) j) x row

@@ -1,0 +1,4 @@
+-- What only private clauses and proofs name.
+pub mod Left
+pub mod Faults
+pub mod ReadTurns

@@ -1,0 +1,90 @@
+ghost use Rattle.std.specs.Prelude.{◌≡◌, ◌<◌, length, IfSome};
+ghost use Rattle.grid_quantiser.specs.Axes.{cells_of};
+ghost use Rattle.game_core.specs.Solution.{row_of};
+ghost use Rattle.plant_record.specs.Description.{axes_of};
+ghost use Rattle.plant_record.specs.Limits.{IsWithinLimits};
+ghost use Rattle.temporal_texts.specs.PatrolText.{IsPatrolRowOf, PatrolRowsFit, rows_for};
+ghost use Rattle.temporal_texts.specs.PatrolRefusals.{HasFewTurns};
+
+use crate::patrol_rows::PatrolRows;
+use game_core::Row;
+use plant_record::Plant;
+use std::marker::Model;
+
+/// What a patrol text tells: a plant with few enough turns, and for each turn a row that fits it for some of its cells.
+#[derive(Drop)]
+pub struct PatrolTable {
+    plant: Plant,
+    rows: PatrolRows,
+}
+
+impl Model for PatrolTable {
+    ghost use Rattle.std.specs.Coded.{codes};
+    ghost use Rattle.fixed_expr.specs.inside.Postfix.{expression_code};
+    ghost use Rattle.plant_record.specs.Limits.{IsWithinLimits};
+    ghost use Rattle.temporal_texts.specs.PatrolText.{PatrolModel, PatrolRowsFit};
+    ghost use Rattle.temporal_texts.specs.PatrolRefusals.{HasFewTurns};
+
+    ghost Value = { PatrolModel };
+
+    ghost coded = { Prim.hlevel (codes, expression_code) };
+
+    ghost view = { λ t. record { plant = t.plant; rows = t.rows } };
+
+    ghost invariant = { λ t. IsWithinLimits t.plant × HasFewTurns t.plant × PatrolRowsFit t.plant t.rows };
+}
+
+impl PatrolTable {
+    pub(crate) fn new(plant: Plant, rows: PatrolRows) -> PatrolTable
+        requires limits { IsWithinLimits plant }
+        requires few { HasFewTurns plant }
+        requires fit { PatrolRowsFit plant rows }
+        ensures { result ≡ record { plant = plant; rows = rows } }
+    {
+        PatrolTable { plant, rows }
+    }
+
+    /// The plant whose cells have the rows.
+    pub fn plant(&self) -> &Plant
+        ensures plant { result.now ≡ self.now.plant }
+        ensures limits { IsWithinLimits result.now }
+        ensures few { HasFewTurns result.now }
+    {
+        &self.plant
+    }
+
+    /// The rows of all turns.
+    pub fn rows(&self) -> &PatrolRows
+        ensures rows { result.now ≡ self.now.rows }
+        ensures fit { PatrolRowsFit self.now.plant result.now }
+    {
+        &self.rows
+    }
+
+    /// How many turns there are: as many as targets.
+    pub fn turns(&self) -> u32
+        ensures { result ≡ length self.now.plant.targets }
+    {
+        self.rows.turns()
+    }
+
+    /// None where the cell has no row for the turn.
+    pub fn row(&self, turn: u32, cell: u32) -> Option<Row>
+        requires turn { turn < length self.now.plant.targets }
+        requires cell { cell < cells_of (axes_of self.now.plant) }
+        ensures row { result ≡ row_of (rows_for self.now.rows turn) cell }
+        ensures fit { IfSome result (IsPatrolRowOf self.now.plant) }
+    {
+        self.rows.row(turn, cell)
+    }
+
+    /// The plant and the rows alone.
+    pub fn into_parts(self) -> (Plant, PatrolRows)
+        ensures parts { record { plant = result.0; rows = result.1 } ≡ self }
+        ensures limits { IsWithinLimits result.0 }
+        ensures few { HasFewTurns result.0 }
+        ensures fit { PatrolRowsFit result.0 result.1 }
+    {
+        (self.plant, self.rows)
+    }
+}

@@ -1,0 +1,76 @@
+ghost use Rattle.std.specs.Prelude.{◌≡◌, ◌<◌, IfSome};
+ghost use Rattle.grid_quantiser.specs.Axes.{cells_of};
+ghost use Rattle.game_core.specs.Solution.{row_of};
+ghost use Rattle.plant_record.specs.Description.{axes_of};
+ghost use Rattle.plant_record.specs.Limits.{IsWithinLimits};
+ghost use Rattle.temporal_texts.specs.StayText.{IsStayRowOf, StayRowsFit};
+
+use game_core::{Answer, Row};
+use plant_record::Plant;
+use std::marker::Model;
+
+/// What a stay text tells: a plant, and for some of its cells a row that fits it.
+#[derive(Drop)]
+pub struct StayTable {
+    plant: Plant,
+    answer: Answer,
+}
+
+impl Model for StayTable {
+    ghost use Rattle.std.specs.Coded.{codes};
+    ghost use Rattle.fixed_expr.specs.inside.Postfix.{expression_code};
+    ghost use Rattle.plant_record.specs.Limits.{IsWithinLimits};
+    ghost use Rattle.temporal_texts.specs.StayText.{StayModel, StayRowsFit};
+
+    ghost Value = { StayModel };
+
+    ghost coded = { Prim.hlevel (codes, expression_code) };
+
+    ghost view = { λ t. record { plant = t.plant; rows = t.answer } };
+
+    ghost invariant = { λ t. IsWithinLimits t.plant × StayRowsFit t.plant t.answer };
+}
+
+impl StayTable {
+    pub(crate) fn new(plant: Plant, answer: Answer) -> StayTable
+        requires limits { IsWithinLimits plant }
+        requires fit { StayRowsFit plant answer }
+        ensures { result ≡ record { plant = plant; rows = answer } }
+    {
+        StayTable { plant, answer }
+    }
+
+    /// The plant whose cells have the rows.
+    pub fn plant(&self) -> &Plant
+        ensures plant { result.now ≡ self.now.plant }
+        ensures limits { IsWithinLimits result.now }
+    {
+        &self.plant
+    }
+
+    /// The rows of all cells.
+    pub fn rows(&self) -> &Answer
+        ensures rows { result.now ≡ self.now.rows }
+        ensures fit { StayRowsFit self.now.plant result.now }
+    {
+        &self.answer
+    }
+
+    /// None where the cell has no row.
+    pub fn row(&self, cell: u32) -> Option<Row>
+        requires { cell < cells_of (axes_of self.now.plant) }
+        ensures row { result ≡ row_of self.now.rows cell }
+        ensures fit { IfSome result (IsStayRowOf self.now.plant) }
+    {
+        self.answer.row(cell)
+    }
+
+    /// The plant and the rows alone.
+    pub fn into_parts(self) -> (Plant, Answer)
+        ensures parts { record { plant = result.0; rows = result.1 } ≡ self }
+        ensures limits { IsWithinLimits result.0 }
+        ensures fit { StayRowsFit result.0 result.1 }
+    {
+        (self.plant, self.answer)
+    }
+}

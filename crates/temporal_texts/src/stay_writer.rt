@@ -1,0 +1,45 @@
+ghost use Rattle.std.specs.Prelude.{◌≡◌, IfOk};
+ghost use Rattle.temporal_texts.specs.StayText.{stay_text};
+
+use crate::header::header_of;
+use game_core::{Answer, NoMemory};
+use plant_record::Plant;
+use row_runs::{FramedText, RowFormat, RunLines};
+use std::alloc::Global;
+use std::marker::Model;
+use text_pieces::Pieces;
+
+/// Writes the text of reach and stay piece by piece. Seen as the bytes that are still to come.
+#[derive(Drop)]
+pub struct StayWriter<'a> {
+    text: FramedText<RunLines<'a>>,
+}
+
+impl<'a> Model for StayWriter<'a> {
+    ghost use Rattle.std.specs.Prelude.{List, ℕ};
+
+    ghost Value = { List ℕ };
+
+    ghost view = { λ w. w.text };
+}
+
+impl<'a> StayWriter<'a> {
+    /// The writer of a plant's text. It takes all its memory here.
+    pub fn new(alloc: Global, p: &Plant, a: &'a Answer) -> Result<StayWriter<'a>, NoMemory>
+        ensures { IfOk result (λ w. w ≡ stay_text p.now a.now) }
+    {
+        let header = header_of(alloc, b"stay 1\n", p)?;
+        let lines = RunLines::counted(RowFormat::Both, a);
+        Ok(StayWriter {
+            text: FramedText::new(header, lines),
+        })
+    }
+}
+
+impl Pieces for StayWriter<'_> {
+    ghost left = { λ w. w };
+
+    fn copy_some(&mut self, buf: &mut [u8]) -> usize {
+        self.text.copy_some(buf)
+    }
+}
