@@ -96,6 +96,17 @@ def check_sweep(report, model):
     report.expect("sweep takes one of both", (2, "", 1), (status, output, error.count("\n")))
 
 
+def all_of(terminal):
+    """What was written to a terminal whose other end is closed. One read may give a part of it."""
+    pieces = []
+    try:
+        while piece := os.read(terminal, 4096):
+            pieces.append(piece)
+    except OSError:  # all is read
+        pass
+    return b"".join(pieces)
+
+
 def check_progress(report, model):
     """What takes over two seconds says so on a terminal, and nothing in a file; here a program that takes its time."""
     slow = report.room / "slow"
@@ -105,7 +116,7 @@ def check_progress(report, model):
     mine, its = pty.openpty()
     done = subprocess.run(command, stdout=subprocess.PIPE, stderr=its, check=False, env=slowly)
     os.close(its)
-    said = os.read(mine, 4096).decode()
+    said = all_of(mine).decode()
     os.close(mine)
     report.holds("sweep says on a terminal how far it is", "\rsweep: 1 of 1, 2 s so far " in said and said.endswith("\r\033[K"), repr(said))
     report.expect("sweep to a file", (0, 2, b""), (done.returncode, done.stdout.count(b"\n"), subprocess.run(command, capture_output=True, check=False, env=slowly).stderr))
